@@ -1,0 +1,38 @@
+-- The capabilities of a device, and the sizes that they give, in bytes.
+use Rattle.std.specs.Prelude.{ℕ, ◌-◌, ◌%◌, ◌≤◌, None}
+use Rattle.net_base.specs.Checksum.{all_checksums}
+use Rattle.net_base.specs.declared.phy.medium.Medium.{Medium}
+use Rattle.net_base.specs.declared.phy.medium.Medium.TheVariants.{Ethernet, Ip}
+use Rattle.net_base.specs.declared.phy.device_capabilities.DeviceCapabilities.{DeviceCapabilities}
+
+-- the header that stands before an IP packet
+abbrev pub header_len : Medium → ℕ
+header_len Ethernet = 14
+header_len Ip = 0
+
+-- a frame has room for the header of its medium
+abbrev pub HasIpMtu : DeviceCapabilities → Type 0
+HasIpMtu c = header_len c.medium ≤ c.max_transmission_unit
+
+-- the longest IP packet: a frame without that header
+abbrev pub ip_mtu_of : DeviceCapabilities → ℕ
+ip_mtu_of c = c.max_transmission_unit - header_len c.medium
+
+-- an IP packet has room for an IP header of n bytes
+abbrev pub FitsIpHeader : DeviceCapabilities → ℕ → Type 0
+FitsIpHeader c n = HasIpMtu c × (n ≤ ip_mtu_of c)
+
+-- the longest payload of a fragment: what is left beside an IP header of n bytes, down to a multiple of 8
+abbrev pub fragment_size_of : DeviceCapabilities → ℕ → ℕ
+fragment_size_of c n = (ip_mtu_of c - n) - (ip_mtu_of c - n) % 8
+
+-- a device of which nothing is known
+abbrev pub default_capabilities : DeviceCapabilities
+default_capabilities =
+    record {
+      medium = Ethernet;
+      max_transmission_unit = 0;
+      max_burst_size = None;
+      checksum = all_checksums;
+      segmentation = record { tcpv4 = None; tcpv6 = None };
+    }

@@ -1,0 +1,7 @@
+pub mod Checksum
+pub mod Device
+pub mod DeviceCapabilities
+pub mod Generator
+pub mod Loopback
+pub mod PacketMeta
+pub mod Time

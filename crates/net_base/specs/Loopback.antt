@@ -1,0 +1,25 @@
+-- A loopback device, as its users see it.
+use Rattle.std.specs.Prelude.{ℕ, List, map, Vec, None}
+use Rattle.net_base.specs.Checksum.{no_checksums}
+use Rattle.net_base.specs.declared.phy.medium.Medium.{Medium}
+use Rattle.net_base.specs.declared.phy.device_capabilities.DeviceCapabilities.{DeviceCapabilities}
+
+-- the medium, and the frames to come, the next first
+pub record Frames : Type 0 where
+  pub medium : Medium
+  pub frames : List (List ℕ)
+
+-- the bytes of each buffer
+abbrev pub bytes_of : {A : Type 0} → List (Vec ℕ A) → List (List ℕ)
+bytes_of {A} buffers = map (λ (b : Vec ℕ A). b.items) buffers
+
+-- frames of 65535 bytes, no checksums, no limit on bursts and no segmentation
+abbrev pub loopback_capabilities : Medium → DeviceCapabilities
+loopback_capabilities m =
+    record {
+      medium = m;
+      max_transmission_unit = 65535;
+      max_burst_size = None;
+      checksum = no_checksums;
+      segmentation = record { tcpv4 = None; tcpv6 = None };
+    }

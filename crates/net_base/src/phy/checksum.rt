@@ -1,0 +1,32 @@
+ghost use Rattle.std.specs.Prelude.{◌≡◌};
+ghost use Rattle.net_base.specs.Checksum.{verifies, computes};
+
+/// What the stack does about the checksums of one protocol; the device does the rest.
+#[derive(Debug, Clone, Copy, Default)]
+pub enum Checksum {
+    /// Verifies them when receiving and computes them when sending.
+    #[default]
+    Both,
+    /// Verifies them when receiving.
+    Rx,
+    /// Computes them when sending.
+    Tx,
+    /// Leaves them alone.
+    None,
+}
+
+impl Checksum {
+    /// Whether checksums are verified when receiving.
+    pub fn rx(&self) -> bool
+        ensures { result ≡ verifies self.now }
+    {
+        matches!(self, Checksum::Both | Checksum::Rx)
+    }
+
+    /// Whether checksums are computed when sending.
+    pub fn tx(&self) -> bool
+        ensures { result ≡ computes self.now }
+    {
+        matches!(self, Checksum::Both | Checksum::Tx)
+    }
+}

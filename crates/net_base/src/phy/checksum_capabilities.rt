@@ -1,0 +1,30 @@
+ghost use Rattle.std.specs.Prelude.{◌≡◌};
+ghost use Rattle.net_base.specs.Checksum.{no_checksums};
+
+use crate::phy::Checksum;
+
+/// What the stack does about the checksums of each protocol. By default it verifies and computes
+/// all of them.
+#[derive(Debug, Clone, Default, Drop)]
+pub struct ChecksumCapabilities {
+    pub ipv4: Checksum,
+    pub udp: Checksum,
+    pub tcp: Checksum,
+    pub icmpv4: Checksum,
+    pub icmpv6: Checksum,
+}
+
+impl ChecksumCapabilities {
+    /// The capabilities under which the stack verifies and computes no checksum of any protocol.
+    pub fn ignored() -> ChecksumCapabilities
+        ensures { result ≡ no_checksums }
+    {
+        ChecksumCapabilities {
+            ipv4: Checksum::None,
+            udp: Checksum::None,
+            tcp: Checksum::None,
+            icmpv4: Checksum::None,
+            icmpv6: Checksum::None,
+        }
+    }
+}

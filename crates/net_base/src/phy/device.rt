@@ -1,0 +1,67 @@
+ghost use Rattle.std.specs.Prelude.{◌≡◌, ℕ, List, length, replicate, MatchOption, IfOk, OnErr};
+ghost use Rattle.std.specs.Fn.{FnOnceReturnsAtMut, FnOnceTakesAtMut};
+ghost use Rattle.net_base.specs.declared.phy.device_capabilities.DeviceCapabilities.{DeviceCapabilities};
+
+use crate::phy::{DeviceCapabilities, RxToken, TxToken};
+use crate::time::Instant;
+use std::alloc::AllocError;
+
+/// A device that hands over the frames that came in, and sends frames out.
+///
+/// Tokens are owned: several can be held at once, and a transmit token can be spent on any device
+/// that has its type. Each device says what a frame that is taken off it, and a frame that is sent,
+/// change of it.
+pub trait Device {
+    /// A frame that the device has handed over.
+    type RxToken: RxToken;
+
+    /// The right to send one frame.
+    type TxToken: TxToken;
+
+    /// A frame was taken off the device: what the device was, the frame, what it is.
+    ghost taken: { Self → List ℕ → Self → Type 0 };
+
+    /// Holds of a device that has no frame to hand over. By default nothing is said of one.
+    ghost is_idle: { Self → Type 0 } = { λ _. Unit {0} };
+
+    /// A frame was sent: what the device was, the frame, what it is.
+    ghost sent: { Self → List ℕ → Self → Type 0 };
+
+    /// What the device can do.
+    ghost abilities: { Self → DeviceCapabilities };
+
+    /// Takes the next frame off the device: a token that holds it, and a token to send one frame
+    /// with. `None` leaves the device as it was, and is answered only where it has no frame to hand
+    /// over.
+    ///
+    /// The timestamp is the moment of the call. Any moment is allowed.
+    fn receive(&mut self, timestamp: Instant) -> Option<(Self::RxToken, Self::TxToken)>
+        ensures { MatchOption result (is_idle self.old × (self.new ≡ self.old))
+            (λ tokens. taken self.old (Self.RxToken.bytes tokens.0) self.new) };
+
+    /// A token to send one frame with, if the device has room. The device stays as it was.
+    ///
+    /// The timestamp is the moment of the call. Any moment is allowed.
+    fn transmit(&mut self, timestamp: Instant) -> Option<Self::TxToken>
+        ensures { self.new ≡ self.old };
+
+    /// What the device can do.
+    fn capabilities(&self) -> DeviceCapabilities
+        ensures { result ≡ abilities self.now };
+
+    /// Sends one frame: runs `f` once on `len` zero bytes, sends what `f` made of them, and answers
+    /// what `f` answered.
+    ///
+    /// Where memory is refused, `f` is not run and the device stays as it was. The token is spent
+    /// in both cases.
+    fn send<R, F: FnOnce(&mut [u8]) -> R + Drop>(
+        &mut self,
+        token: Self::TxToken,
+        len: usize,
+        f: F,
+    ) -> Result<R, AllocError>
+        requires { FnOnceTakesAtMut F.FnOnce f (replicate len 0) }
+        ensures ok { IfOk result (λ r. (frame : List ℕ) × (length frame ≡ len)
+            × FnOnceReturnsAtMut F.FnOnce f (replicate len 0) r frame × sent self.old frame self.new) }
+        ensures err { OnErr result (self.new ≡ self.old) };
+}

@@ -1,0 +1,72 @@
+ghost use Rattle.std.specs.Prelude.{◌≡◌, ◌↔◌, IsTrue};
+ghost use Rattle.net_base.specs.DeviceCapabilities.{HasIpMtu, ip_mtu_of, FitsIpHeader, fragment_size_of};
+
+use crate::phy::{
+    ChecksumCapabilities, IPV4_FRAGMENT_PAYLOAD_ALIGNMENT, Medium, SegmentationCapabilities,
+};
+
+/// The bytes of an Ethernet header.
+const ETHERNET_HEADER_LEN: usize = 14;
+
+/// What a device can do. Nothing here is enforced: it is what a layer above should keep to.
+///
+/// By default the medium is Ethernet, the longest frame has 0 bytes, bursts have no limit, the
+/// stack handles all checksums and the device cuts no segments.
+#[derive(Debug, Clone, Default, Drop)]
+pub struct DeviceCapabilities {
+    /// What the frames of the device are.
+    pub medium: Medium,
+    /// The bytes of the longest frame. On Ethernet the 14 bytes of the Ethernet header are counted,
+    /// and the frame check sequence is not.
+    pub max_transmission_unit: usize,
+    /// How many frames may be sent or received at once; `None` where there is no limit.
+    pub max_burst_size: Option<usize>,
+    /// What the stack does about checksums, which the device may take off it.
+    pub checksum: ChecksumCapabilities,
+    /// The segmentation that the device may take off the stack.
+    pub segmentation: SegmentationCapabilities,
+}
+
+impl DeviceCapabilities {
+    /// Whether the longest frame has room for the header of its medium, which `ip_mtu` needs.
+    pub fn has_ip_mtu(&self) -> bool
+        ensures { IsTrue result ↔ HasIpMtu self.now }
+    {
+        match self.medium {
+            Medium::Ethernet => self.max_transmission_unit >= ETHERNET_HEADER_LEN,
+            Medium::Ip => true,
+        }
+    }
+
+    /// The bytes of the longest IP packet: those of the longest frame, less 14 on Ethernet.
+    pub fn ip_mtu(&self) -> usize
+        requires { HasIpMtu self.now }
+        ensures { result ≡ ip_mtu_of self.now }
+    {
+        match self.medium {
+            Medium::Ethernet => self.max_transmission_unit - ETHERNET_HEADER_LEN,
+            Medium::Ip => self.max_transmission_unit,
+        }
+    }
+
+    /// Whether the longest IP packet has room for an IP header of so many bytes, which
+    /// `max_ipv4_fragment_size` needs.
+    pub fn fits_ip_header(&self, ip_header_len: usize) -> bool
+        ensures { IsTrue result ↔ FitsIpHeader self.now ip_header_len }
+    {
+        self.has_ip_mtu() && ip_header_len <= self.ip_mtu()
+    }
+
+    /// The bytes of the longest payload of an IPv4 fragment behind an IP header of so many bytes:
+    /// what is left of the longest IP packet, down to a multiple of 8.
+    pub fn max_ipv4_fragment_size(&self, ip_header_len: usize) -> usize
+        requires { FitsIpHeader self.now ip_header_len }
+        ensures { result ≡ fragment_size_of self.now ip_header_len }
+    {
+        let payload_mtu = self.ip_mtu() - ip_header_len;
+        payload_mtu - payload_mtu % IPV4_FRAGMENT_PAYLOAD_ALIGNMENT
+    }
+}
+
+#[cfg(test)]
+mod tests;

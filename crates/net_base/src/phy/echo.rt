@@ -1,0 +1,26 @@
+ghost use Rattle.std.specs.Prelude.{◌≡◌, ℕ, List, OnErr, Ok, true, false};
+ghost use Rattle.net_base.specs.Device.{Echoed};
+
+use crate::phy::{Device, RxToken};
+use crate::time::Instant;
+use std::alloc::AllocError;
+
+/// Takes one frame off the device and sends that very frame back. Answers whether there was one;
+/// where there was none, the device stays as it was.
+///
+/// Where memory is refused, the frame was taken and nothing was sent.
+pub fn echo_once<D: Device>(device: &mut D, timestamp: Instant) -> Result<bool, AllocError>
+    ensures idle { result ≡ Ok false → D.is_idle device.old × (device.new ≡ device.old) }
+    ensures echoed { result ≡ Ok true → Echoed D.taken D.sent device.old device.new }
+    ensures err { OnErr result ((frame : List ℕ) × D.taken device.old frame device.new) }
+{
+    let Some((rx, tx)) = device.receive(timestamp) else {
+        return Ok(false);
+    };
+    let frame = rx.frame();
+    device.send(tx, frame.len(), |buffer| buffer.copy_from_slice(frame))?;
+    Ok(true)
+}
+
+#[cfg(test)]
+mod tests;

@@ -1,0 +1,133 @@
+//! A device that receives what it sends.
+
+ghost use Rattle.std.specs.Prelude.{◌≡◌, ℕ, List, [], ◌∷◌, ◌++◌, MatchOption, IsSome};
+ghost use Rattle.net_base.specs.Loopback.{loopback_capabilities};
+
+use crate::phy::{self, ChecksumCapabilities, Device, DeviceCapabilities, Medium};
+use crate::time::Instant;
+use std::alloc::{AllocError, Allocator, Global};
+use std::collections::VecDeque;
+use std::marker::Model;
+
+/// A device that receives what it sends, in the order in which it was sent.
+///
+/// Contracts see its medium and the list of its frames, the next first. It keeps its allocator,
+/// from which `send` takes the room in its queue and the bytes of each frame. Frames of any length
+/// are sent, also those beyond the `max_transmission_unit` of its capabilities.
+#[derive_where(Debug)]
+#[derive(Drop)]
+pub struct Loopback<A: Allocator + Copy = Global> {
+    queue: VecDeque<Vec<u8, A>, A>,
+    medium: Medium,
+}
+
+impl<A: Allocator + Copy> Model for Loopback<A> {
+    ghost use Rattle.net_base.specs.Loopback.{Frames, bytes_of};
+
+    ghost Value = { Frames };
+
+    ghost view = { λ d. record { medium = d.medium; frames = bytes_of d.queue.items } };
+}
+
+impl<A: Allocator + Copy> Loopback<A> {
+    /// A device with no frames, which keeps `alloc` for those to come and takes no memory yet.
+    pub fn new(alloc: A, medium: Medium) -> Loopback<A>
+        ensures { result ≡ record { medium = medium; frames = [] } }
+    {
+        Loopback {
+            queue: VecDeque::new(alloc),
+            medium,
+        }
+    }
+}
+
+impl<A: Allocator + Copy> Device for Loopback<A> {
+    type RxToken = RxToken<A>;
+
+    type TxToken = TxToken;
+
+    ghost taken = { λ old frame new. old ≡ record new { frames = frame ∷ new.frames } };
+
+    ghost is_idle = { λ d. d.frames ≡ [] };
+
+    ghost abilities = { λ d. loopback_capabilities d.medium };
+
+    ghost sent = { λ old frame new. new ≡ record old { frames = old.frames ++ frame ∷ [] } };
+
+    /// Takes the first frame off the device. `None` exactly where it has none. The timestamp is not
+    /// read.
+    fn receive(&mut self, _timestamp: Instant) -> Option<(RxToken<A>, TxToken)>
+        ensures { MatchOption result ((self.old.frames ≡ []) × (self.new ≡ self.old))
+            (λ tokens. self.old ≡ record self.new { frames = tokens.0 ∷ self.new.frames }) }
+    {
+        let buffer = self.queue.pop_front()?;
+        Some((RxToken { buffer }, TxToken(())))
+    }
+
+    /// Always answers a token. The timestamp is not read.
+    fn transmit(&mut self, _timestamp: Instant) -> Option<TxToken>
+        ensures available { IsSome result }
+        ensures unchanged { self.new ≡ self.old }
+    {
+        Some(TxToken(()))
+    }
+
+    /// The given medium, frames of 65535 bytes, no checksums, bursts without a limit and no
+    /// segmentation.
+    fn capabilities(&self) -> DeviceCapabilities {
+        DeviceCapabilities {
+            max_transmission_unit: 65535,
+            medium: self.medium,
+            checksum: ChecksumCapabilities::ignored(),
+            ..DeviceCapabilities::default()
+        }
+    }
+
+    /// Puts a frame behind the others. The room in the queue and the bytes of the frame are taken
+    /// before `f` is run.
+    fn send<R, F: FnOnce(&mut [u8]) -> R + Drop>(
+        &mut self,
+        _token: TxToken,
+        len: usize,
+        f: F,
+    ) -> Result<R, AllocError> {
+        self.queue.reserve(1)?;
+        let mut frame = vec![in *self.queue.allocator(); 0u8; len]?;
+        let answer = f(frame.as_mut_slice());
+        self.queue.push_back_reserved(frame);
+        Ok(answer)
+    }
+}
+
+/// A frame that a loopback device has handed over. Contracts see its bytes.
+#[derive(Drop)]
+pub struct RxToken<A: Allocator + Copy = Global> {
+    buffer: Vec<u8, A>,
+}
+
+impl<A: Allocator + Copy> Model for RxToken<A> {
+    ghost Value = { List ℕ };
+
+    ghost view = { λ t. t.buffer.items };
+}
+
+impl<A: Allocator + Copy> phy::RxToken for RxToken<A> {
+    ghost bytes = { λ t. t };
+
+    fn consume<R, F: FnOnce(&[u8]) -> R>(self, f: F) -> R {
+        f(self.frame())
+    }
+
+    fn frame(&self) -> &[u8] {
+        self.buffer.as_slice()
+    }
+}
+
+/// The right to send one frame on a loopback device.
+#[derive(Debug, Drop)]
+pub struct TxToken(());
+
+impl phy::TxToken for TxToken {}
+
+#[cfg(test)]
+mod tests;

@@ -1,0 +1,44 @@
+ghost use Rattle.std.specs.Prelude.{◌≡◌, ◌<◌, MatchOption};
+
+use std::marker::Model;
+
+/// A `u16` other than 0.
+#[derive(Debug, PartialEq, Eq, Hash, Clone, Copy)]
+pub struct NonZeroU16 {
+    value: u16,
+}
+
+impl Model for NonZeroU16 {
+    ghost use Rattle.std.specs.Prelude.{ℕ, ◌<◌};
+
+    ghost Value = { ℕ };
+
+    ghost view = { λ n. n.value };
+
+    ghost invariant = { λ n. 0 < n.value };
+
+    ghost inverse = { λ n. record { value = n } };
+}
+
+impl NonZeroU16 {
+    /// The number, or `None` exactly for 0.
+    pub fn new(value: u16) -> Option<NonZeroU16>
+        ensures { MatchOption result (value ≡ 0) (λ n. (n ≡ value) × (0 < value)) }
+    {
+        if value == 0 {
+            return None;
+        }
+        Some(NonZeroU16 { value })
+    }
+
+    /// The number, which is not 0.
+    pub fn get(self) -> u16
+        ensures value { result ≡ self }
+        ensures positive { 0 < result }
+    {
+        self.value
+    }
+}
+
+#[cfg(test)]
+mod tests;

@@ -1,0 +1,8 @@
+use super::*;
+
+#[test]
+fn all_but_zero(rt: HostRuntime) {
+    assert!(rt; NonZeroU16::new(0).is_none());
+    assert!(rt; NonZeroU16::new(1).is_some_and(|n| n.get() == 1));
+    assert!(rt; NonZeroU16::new(u16::MAX).is_some_and(|n| n.get() == u16::MAX));
+}

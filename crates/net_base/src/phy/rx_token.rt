@@ -1,0 +1,34 @@
+ghost use Rattle.std.specs.Prelude.{◌≡◌, ℕ, List};
+ghost use Rattle.std.specs.Fn.{FnOnceReturnsAt, FnOnceTakesAt};
+ghost use Rattle.net_base.specs.PacketMeta.{no_metadata};
+
+use crate::phy::PacketMeta;
+
+/// A frame that a device has handed over. The frame of a token that is dropped is lost.
+pub trait RxToken: Drop {
+    /// The bytes of the frame.
+    ghost bytes: { Self → List ℕ };
+
+    /// Holds of a token whose frame has no metadata. By default every token is one.
+    ghost is_plain: { Self → Type 0 } = { λ _. Unit {0} };
+
+    /// Runs `f` once on the frame, and answers what `f` answered.
+    fn consume<R, F: FnOnce(&[u8]) -> R>(self, f: F) -> R
+        requires { FnOnceTakesAt F.FnOnce f (bytes self) }
+        ensures { FnOnceReturnsAt F.FnOnce f (bytes self) result };
+
+    /// The bytes of the frame, which the token keeps.
+    fn frame(&self) -> &[u8]
+        ensures { result.now ≡ bytes self.now };
+
+    /// What goes along with the frame: by default nothing, the default value. A token that has
+    /// metadata writes its own method, with a contract of its own.
+    fn meta(&self) -> PacketMeta
+        ensures { is_plain self.now → result ≡ no_metadata }
+    {
+        PacketMeta::default()
+    }
+}
+
+#[cfg(test)]
+mod tests;

@@ -1,0 +1,53 @@
+ghost use Rattle.std.specs.Prelude.{◌≡◌};
+ghost use Rattle.net_base.specs.PacketMeta.{no_metadata};
+
+use super::*;
+
+/// A token whose frame has metadata.
+#[derive(Drop)]
+struct Marked {
+    frame: [u8; 2],
+    meta: PacketMeta,
+}
+
+impl RxToken for Marked {
+    ghost bytes = { λ t. t.frame };
+
+    ghost is_plain = { λ t. t.meta ≡ no_metadata };
+
+    fn consume<R, F: FnOnce(&[u8]) -> R>(self, f: F) -> R {
+        f(&self.frame)
+    }
+
+    fn frame(&self) -> &[u8] {
+        &self.frame
+    }
+
+    fn meta(&self) -> PacketMeta
+        ensures { result ≡ self.now.meta }
+    {
+        self.meta
+    }
+}
+
+fn first_byte_and_meta<T: RxToken>(token: T) -> (Option<u8>, PacketMeta)
+    ensures { T.is_plain token → result.1 ≡ no_metadata }
+{
+    let meta = token.meta();
+    (token.consume(|bytes| bytes.first().copied()), meta)
+}
+
+#[test]
+fn a_token_can_carry_metadata(rt: HostRuntime) {
+    let meta = PacketMeta {
+        id: 7,
+        ..PacketMeta::default()
+    };
+    let token = Marked {
+        frame: *b"ab",
+        meta,
+    };
+    let (first, shown) = first_byte_and_meta(token);
+    assert!(rt; first == Some(b'a'));
+    assert!(rt; shown == meta);
+}

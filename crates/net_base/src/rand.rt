@@ -1,0 +1,80 @@
+//! A generator of random words, and the source ports that are drawn from it.
+
+ghost use Rattle.std.specs.Prelude.{◌≡◌, ℕ};
+ghost use Rattle.net_base.specs.Generator.{successor, word, draw, IsPort};
+
+use std::marker::Model;
+
+pub mod laws;
+
+/// The last of the reserved ports.
+const LAST_RESERVED_PORT: u16 = 1024;
+
+/// A generator of random words. Contracts see its state, a number below 2^64.
+///
+/// The words are no secret: who knows one state knows all that follow.
+#[derive(Debug, Drop)]
+pub struct Rand {
+    state: u64,
+}
+
+impl Model for Rand {
+    ghost Value = { ℕ };
+
+    ghost view = { λ r. r.state };
+}
+
+impl Rand {
+    const MULTIPLIER: u64 = 0xbb2efcec3c39611d;
+
+    const INCREMENT: u64 = 0x7590ef39;
+
+    /// A generator whose state is the seed. Any seed is allowed.
+    pub fn new(seed: u64) -> Rand
+        ensures { result ≡ seed }
+    {
+        Rand { state: seed }
+    }
+
+    /// Moves to the next state, and answers its word of 32 bits.
+    pub fn rand_u32(&mut self) -> u32
+        ensures state { self.new ≡ successor self.old }
+        ensures value { result ≡ word self.new }
+    {
+        let state = self
+            .state
+            .wrapping_mul(Self::MULTIPLIER)
+            .wrapping_add(Self::INCREMENT);
+        self.state = state;
+        let shift = 29 - (state >> 61);
+        ((state >> shift) & 0xffff_ffff) as u32
+    }
+
+    /// Moves to the next state, and answers its draw of 16 bits: the two halves of its word,
+    /// combined by exclusive or.
+    pub fn rand_u16(&mut self) -> u16
+        ensures state { self.new ≡ successor self.old }
+        ensures value { result ≡ draw self.new }
+    {
+        let n = self.rand_u32();
+        ((n ^ (n >> 16)) & 0xffff) as u16
+    }
+
+    /// Draws 16 bits until a draw is above 1024, answers that draw, and stays at its state.
+    ///
+    /// It returns from every state, after at most 2^64 draws: `laws::full_period` says that each
+    /// state lies ahead of each other, so one whose draw is above 1024 does.
+    pub fn rand_source_port(&mut self) -> u16
+        ensures { IsPort self.old result self.new }
+    {
+        loop {
+            let port = self.rand_u16();
+            if port > LAST_RESERVED_PORT {
+                return port;
+            }
+        }
+    }
+}
+
+#[cfg(test)]
+mod tests;

@@ -1,0 +1,331 @@
+ghost use Rattle.std.specs.Prelude.{◌≡◌, ◌↔◌, IsTrue, Some, ◌+◌, ◌-◌, ◌*◌, ◌/◌, ◌%◌, ◌^◌, ◌<◌, ◌≤◌};
+ghost use Rattle.std.specs.Duration.{as_nanos};
+ghost use Rattle.net_base.specs.Time.{IsLength, length_millis, length_text};
+
+use std::fmt;
+use std::marker::Model;
+use std::ops::{
+    Add, AddAssign, Div, DivAssign, Mul, MulAssign, Shl, ShlAssign, Shr, ShrAssign, Sub, SubAssign,
+};
+
+/// A length of time, in microseconds. By default it is zero.
+///
+/// Contracts see the microseconds, a number from 0 to 2^64 - 1. Quotients are cut to whole numbers.
+#[derive(Debug, Default, Copy, Clone, PartialEq, Eq, PartialOrd, Ord)]
+pub struct Duration {
+    micros: u64,
+}
+
+impl Model for Duration {
+    ghost use Rattle.std.specs.Prelude.{ℕ};
+
+    ghost Value = { ℕ };
+
+    ghost view = { λ d. d.micros };
+
+    ghost inverse = { λ m. record { micros = m } };
+}
+
+impl Duration {
+    /// No time.
+    pub const ZERO: Duration = Duration { micros: 0 };
+
+    /// The greatest length, of 2^64 - 1 microseconds.
+    pub const MAX: Duration = Duration { micros: u64::MAX };
+
+    /// A length of so many microseconds.
+    pub fn from_micros(micros: u64) -> Duration
+        ensures { result ≡ micros }
+    {
+        Duration { micros }
+    }
+
+    /// Whether so many milliseconds are a length, which `from_millis` needs.
+    pub fn fits_millis(millis: u64) -> bool
+        ensures { IsTrue result ↔ IsLength (millis * 1_000) }
+    {
+        millis.checked_mul(1_000).is_some()
+    }
+
+    /// A length of so many milliseconds.
+    pub fn from_millis(millis: u64) -> Duration
+        requires { IsLength (millis * 1_000) }
+        ensures { result ≡ millis * 1_000 }
+    {
+        Duration {
+            micros: millis * 1_000,
+        }
+    }
+
+    /// Whether so many seconds are a length, which `from_secs` needs.
+    pub fn fits_secs(secs: u64) -> bool
+        ensures { IsTrue result ↔ IsLength (secs * 1_000_000) }
+    {
+        secs.checked_mul(1_000_000).is_some()
+    }
+
+    /// A length of so many seconds.
+    pub fn from_secs(secs: u64) -> Duration
+        requires { IsLength (secs * 1_000_000) }
+        ensures { result ≡ secs * 1_000_000 }
+    {
+        Duration {
+            micros: secs * 1_000_000,
+        }
+    }
+
+    /// The whole milliseconds beyond the whole seconds.
+    pub fn millis(&self) -> u64
+        ensures { result ≡ length_millis self.now }
+    {
+        self.micros / 1_000 % 1_000
+    }
+
+    /// The microseconds beyond the whole seconds.
+    pub fn micros(&self) -> u64
+        ensures { result ≡ self.now % 1_000_000 }
+    {
+        self.micros % 1_000_000
+    }
+
+    /// The whole seconds.
+    pub fn secs(&self) -> u64
+        ensures { result ≡ self.now / 1_000_000 }
+    {
+        self.micros / 1_000_000
+    }
+
+    /// The whole milliseconds.
+    pub fn total_millis(&self) -> u64
+        ensures { result ≡ self.now / 1_000 }
+    {
+        self.micros / 1_000
+    }
+
+    /// All of the microseconds.
+    pub fn total_micros(&self) -> u64
+        ensures { result ≡ self.now }
+    {
+        self.micros
+    }
+
+    /// Whether the whole microseconds of a duration of the standard library are a length, which
+    /// `from_core` needs.
+    pub fn fits_core(duration: std::time::Duration) -> bool
+        ensures { IsTrue result ↔ IsLength (as_nanos duration / 1_000) }
+    {
+        u64::try_from(duration.as_micros()).is_ok()
+    }
+
+    /// The whole microseconds of a duration of the standard library; its nanoseconds beyond them
+    /// are left out.
+    pub fn from_core(duration: std::time::Duration) -> Duration
+        requires { IsLength (as_nanos duration / 1_000) }
+        ensures { result ≡ as_nanos duration / 1_000 }
+    {
+        Duration {
+            micros: duration.as_micros() as u64,
+        }
+    }
+
+    /// Whether the sum is a length, which `+` and `+=` need.
+    pub fn can_add(&self, duration: Duration) -> bool
+        ensures { IsTrue result ↔ IsLength (self.now + duration) }
+    {
+        self.micros.checked_add(duration.micros).is_some()
+    }
+
+    /// Whether the difference is a length, which `-` and `-=` need.
+    pub fn can_sub(&self, duration: Duration) -> bool
+        ensures { IsTrue result ↔ (duration ≤ self.now) }
+    {
+        duration.micros <= self.micros
+    }
+
+    /// Whether the product is a length, which `*` and `*=` need.
+    pub fn can_mul(&self, factor: u32) -> bool
+        ensures { IsTrue result ↔ IsLength (self.now * factor) }
+    {
+        self.micros.checked_mul(u64::from(factor)).is_some()
+    }
+}
+
+/// `{secs}.{millis}s`, the milliseconds filled on the left by the digit 0 to three places:
+/// `4.934s`.
+impl fmt::Display for Duration {
+    ghost output = { λ d. Some (length_text d) };
+
+    fn fmt<W: fmt::Write>(&self, f: &mut fmt::Formatter<W>) -> fmt::Result {
+        let secs = self.secs();
+        let millis = self.millis();
+        write!(f, "{secs}.{millis:03}s")
+    }
+}
+
+/// The sum. `can_add` tells whether it is a length.
+impl Add for Duration {
+    type Output = Duration;
+
+    ghost can_add = { λ d e. IsLength (d + e) };
+
+    ghost add_gives = { λ d e r. r ≡ d + e };
+
+    fn add(self, rhs: Duration) -> Duration {
+        Duration {
+            micros: self.micros + rhs.micros,
+        }
+    }
+}
+
+/// Adds a length. `can_add` tells whether the sum is one.
+impl AddAssign for Duration {
+    ghost can_add_assign = { λ d e. IsLength (d + e) };
+
+    ghost add_assign_gives = { λ d e r. r ≡ d + e };
+
+    fn add_assign(&mut self, rhs: Duration) {
+        self.micros += rhs.micros;
+    }
+}
+
+/// The difference. `can_sub` tells whether it is a length.
+impl Sub for Duration {
+    type Output = Duration;
+
+    ghost can_sub = { λ d e. e ≤ d };
+
+    ghost sub_gives = { λ d e r. r ≡ d - e };
+
+    fn sub(self, rhs: Duration) -> Duration {
+        Duration {
+            micros: self.micros - rhs.micros,
+        }
+    }
+}
+
+/// Takes a length off. `can_sub` tells whether the difference is one.
+impl SubAssign for Duration {
+    ghost can_sub_assign = { λ d e. e ≤ d };
+
+    ghost sub_assign_gives = { λ d e r. r ≡ d - e };
+
+    fn sub_assign(&mut self, rhs: Duration) {
+        self.micros -= rhs.micros;
+    }
+}
+
+/// The product. `can_mul` tells whether it is a length.
+impl Mul<u32> for Duration {
+    type Output = Duration;
+
+    ghost can_mul = { λ d k. IsLength (d * k) };
+
+    ghost mul_gives = { λ d k r. r ≡ d * k };
+
+    fn mul(self, rhs: u32) -> Duration {
+        Duration {
+            micros: self.micros * u64::from(rhs),
+        }
+    }
+}
+
+/// Multiplies the length. `can_mul` tells whether the product is one.
+impl MulAssign<u32> for Duration {
+    ghost can_mul_assign = { λ d k. IsLength (d * k) };
+
+    ghost mul_assign_gives = { λ d k r. r ≡ d * k };
+
+    fn mul_assign(&mut self, rhs: u32) {
+        self.micros *= u64::from(rhs);
+    }
+}
+
+/// The quotient. The divisor may not be 0.
+impl Div<u32> for Duration {
+    type Output = Duration;
+
+    ghost can_div = { λ _ k. 0 < k };
+
+    ghost div_gives = { λ d k r. r ≡ d / k };
+
+    fn div(self, rhs: u32) -> Duration {
+        Duration {
+            micros: self.micros / u64::from(rhs),
+        }
+    }
+}
+
+/// Divides the length. The divisor may not be 0.
+impl DivAssign<u32> for Duration {
+    ghost can_div_assign = { λ _ k. 0 < k };
+
+    ghost div_assign_gives = { λ d k r. r ≡ d / k };
+
+    fn div_assign(&mut self, rhs: u32) {
+        self.micros /= u64::from(rhs);
+    }
+}
+
+/// The low 64 bits of the microseconds, shifted left. The shift is below 64.
+impl Shl<u32> for Duration {
+    type Output = Duration;
+
+    ghost can_shl = { λ _ k. k < 64 };
+
+    ghost shl_gives = { λ d k r. r ≡ d * 2 ^ k % 2 ^ 64 };
+
+    fn shl(self, rhs: u32) -> Duration {
+        Duration {
+            micros: self.micros << rhs,
+        }
+    }
+}
+
+/// Shifts the microseconds left, and keeps the low 64 bits. The shift is below 64.
+impl ShlAssign<u32> for Duration {
+    ghost can_shl_assign = { λ _ k. k < 64 };
+
+    ghost shl_assign_gives = { λ d k r. r ≡ d * 2 ^ k % 2 ^ 64 };
+
+    fn shl_assign(&mut self, rhs: u32) {
+        self.micros <<= rhs;
+    }
+}
+
+/// The microseconds, shifted right. The shift is below 64.
+impl Shr<u32> for Duration {
+    type Output = Duration;
+
+    ghost can_shr = { λ _ k. k < 64 };
+
+    ghost shr_gives = { λ d k r. r ≡ d / 2 ^ k };
+
+    fn shr(self, rhs: u32) -> Duration {
+        Duration {
+            micros: self.micros >> rhs,
+        }
+    }
+}
+
+/// Shifts the microseconds right. The shift is below 64.
+impl ShrAssign<u32> for Duration {
+    ghost can_shr_assign = { λ _ k. k < 64 };
+
+    ghost shr_assign_gives = { λ d k r. r ≡ d / 2 ^ k };
+
+    fn shr_assign(&mut self, rhs: u32) {
+        self.micros >>= rhs;
+    }
+}
+
+/// The same length, as a duration of the standard library.
+impl From<Duration> for std::time::Duration {
+    ghost from_gives = { λ d r. as_nanos r ≡ d * 1_000 };
+
+    fn from(duration: Duration) -> std::time::Duration {
+        std::time::Duration::from_micros(duration.micros)
+    }
+}
+
+#[cfg(test)]
+mod tests;

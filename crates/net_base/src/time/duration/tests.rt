@@ -1,0 +1,89 @@
+use super::*;
+use std::alloc::AllocError;
+
+#[test]
+fn prints_and_splits_lengths(rt: HostRuntime) -> Result<(), AllocError> {
+    let shown = Duration::MAX.to_string(rt.alloc())?;
+    assert_eq!(rt; shown.as_str(), "18446744073709.551s");
+    let duration = Duration::from_millis(4_934);
+    let shown = duration.to_string(rt.alloc())?;
+    assert_eq!(rt; shown.as_str(), "4.934s");
+    assert_eq!(rt; duration.secs(), 4);
+    assert_eq!(rt; duration.millis(), 934);
+    assert_eq!(rt; duration.micros(), 934_000);
+    assert_eq!(rt; duration.total_millis(), 4_934);
+    assert_eq!(rt; duration.total_micros(), 4_934_000);
+    Ok(())
+}
+
+#[test]
+fn calculates(rt: HostRuntime) {
+    assert_eq!(rt; (Duration::from_millis(53) / 4).total_micros(), 13_250);
+    assert!(rt; Duration::from_millis(13) * 22 == Duration::from_millis(286));
+    assert_eq!(rt;
+        (Duration::MAX << 1).total_micros(),
+        18_446_744_073_709_551_614
+    );
+    assert_eq!(rt; (Duration::MAX >> 63).total_micros(), 1);
+    assert!(rt; !Duration::from_millis(0).can_sub(Duration::from_millis(1)));
+    assert!(rt; !Duration::MAX.can_add(Duration::from_micros(1)));
+    assert!(rt; Duration::MAX.can_mul(1) && !Duration::MAX.can_mul(2));
+    assert!(rt;
+        Duration::from_micros(1) + Duration::from_micros(2) - Duration::from_micros(3)
+            == Duration::ZERO
+    );
+    assert!(rt; Duration::default() == Duration::ZERO);
+    assert!(rt; Duration::ZERO < Duration::MAX);
+}
+
+#[test]
+fn calculates_in_place(rt: HostRuntime) {
+    let mut duration = Duration::from_millis(4);
+    duration += Duration::from_millis(6);
+    assert_eq!(rt; duration.total_millis(), 10);
+    duration -= Duration::from_millis(3);
+    assert_eq!(rt; duration.total_millis(), 7);
+    duration *= 6;
+    assert_eq!(rt; duration.total_millis(), 42);
+    duration /= 2;
+    assert_eq!(rt; duration.total_millis(), 21);
+    duration <<= 2;
+    assert_eq!(rt; duration.total_millis(), 84);
+    duration >>= 1;
+    assert_eq!(rt; duration.total_millis(), 42);
+}
+
+#[test]
+fn has_limits(rt: HostRuntime) {
+    assert!(rt;
+        Duration::fits_secs(18_446_744_073_709) && !Duration::fits_secs(18_446_744_073_710)
+    );
+    assert!(rt;
+        Duration::fits_millis(18_446_744_073_709_551)
+            && !Duration::fits_millis(18_446_744_073_709_552)
+    );
+    assert_eq!(rt;
+        Duration::from_secs(18_446_744_073_709).secs(),
+        18_446_744_073_709
+    );
+    assert!(rt;
+        Duration::MAX
+            .clone()
+            .is_ok_and(|copy| copy == Duration::MAX)
+    );
+}
+
+#[test]
+fn converts_durations_of_the_standard_library(rt: HostRuntime) {
+    let last = std::time::Duration::new(18_446_744_073_709, 551_615_999);
+    assert!(rt; Duration::fits_core(last));
+    assert!(rt; Duration::from_core(last) == Duration::MAX);
+    assert!(rt; !Duration::fits_core(std::time::Duration::new(18_446_744_073_709, 551_616_000)));
+    let short = std::time::Duration::new(1, 999);
+    assert!(rt; Duration::fits_core(short));
+    assert_eq!(rt; Duration::from_core(short).total_micros(), 1_000_000);
+    let both = std::time::Duration::new(4, 934_000_000);
+    assert!(rt; Duration::fits_core(both));
+    assert!(rt; Duration::from_core(both) == Duration::from_millis(4_934));
+    assert!(rt; std::time::Duration::from(Duration::from_millis(4_934)) == both);
+}

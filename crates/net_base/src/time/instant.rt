@@ -1,0 +1,215 @@
+ghost use Rattle.std.specs.Prelude.{◌≡◌, ◌↔◌, IsTrue, Some, pos, ◌+ℤ◌, ◌-ℤ◌, ◌*ℤ◌, int_div};
+ghost use Rattle.net_base.specs.Time.{IsMoment, moment_secs, moment_micros, moment_millis, moment_text, distance};
+
+use crate::time::Duration;
+use std::fmt;
+use std::marker::Model;
+use std::ops::{Add, AddAssign, Sub, SubAssign};
+
+/// A moment, in microseconds since an origin of the user's own, such as the start of the system. A
+/// moment below zero lies before the origin.
+///
+/// Contracts see the microseconds, a whole number from -2^63 to 2^63 - 1. Quotients are cut towards
+/// zero.
+#[derive(Debug, Copy, Clone, PartialEq, Eq, PartialOrd, Ord)]
+pub struct Instant {
+    micros: i64,
+}
+
+impl Model for Instant {
+    ghost use Rattle.std.specs.Prelude.{ℤ};
+
+    ghost Value = { ℤ };
+
+    ghost view = { λ i. i.micros };
+
+    ghost inverse = { λ m. record { micros = m } };
+}
+
+impl Instant {
+    /// The origin.
+    pub const ZERO: Instant = Instant { micros: 0 };
+
+    /// The moment so many microseconds after the origin.
+    pub fn from_micros(micros: i64) -> Instant
+        ensures { result ≡ micros }
+    {
+        Instant { micros }
+    }
+
+    /// As `from_micros`.
+    pub fn from_micros_const(micros: i64) -> Instant
+        ensures { result ≡ micros }
+    {
+        Instant::from_micros(micros)
+    }
+
+    /// Whether so many milliseconds after the origin there is a moment, which `from_millis` needs.
+    pub fn fits_millis(millis: i64) -> bool
+        ensures { IsTrue result ↔ IsMoment (millis *ℤ pos 1_000) }
+    {
+        millis.checked_mul(1_000).is_some()
+    }
+
+    /// The moment so many milliseconds after the origin.
+    pub fn from_millis(millis: i64) -> Instant
+        requires { IsMoment (millis *ℤ pos 1_000) }
+        ensures { result ≡ millis *ℤ pos 1_000 }
+    {
+        Instant {
+            micros: millis * 1_000,
+        }
+    }
+
+    /// As `from_millis`.
+    pub fn from_millis_const(millis: i64) -> Instant
+        requires { IsMoment (millis *ℤ pos 1_000) }
+        ensures { result ≡ millis *ℤ pos 1_000 }
+    {
+        Instant::from_millis(millis)
+    }
+
+    /// Whether so many seconds after the origin there is a moment, which `from_secs` needs.
+    pub fn fits_secs(secs: i64) -> bool
+        ensures { IsTrue result ↔ IsMoment (secs *ℤ pos 1_000_000) }
+    {
+        secs.checked_mul(1_000_000).is_some()
+    }
+
+    /// The moment so many seconds after the origin.
+    pub fn from_secs(secs: i64) -> Instant
+        requires { IsMoment (secs *ℤ pos 1_000_000) }
+        ensures { result ≡ secs *ℤ pos 1_000_000 }
+    {
+        Instant {
+            micros: secs * 1_000_000,
+        }
+    }
+
+    /// The whole milliseconds beyond the whole seconds, with the sign of the moment.
+    pub fn millis(&self) -> i64
+        ensures { result ≡ moment_millis self.now }
+    {
+        self.micros() / 1_000
+    }
+
+    /// The microseconds beyond the whole seconds, with the sign of the moment.
+    pub fn micros(&self) -> i64
+        ensures { result ≡ moment_micros self.now }
+    {
+        self.micros % 1_000_000
+    }
+
+    /// The whole seconds since the origin.
+    pub fn secs(&self) -> i64
+        ensures { result ≡ moment_secs self.now }
+    {
+        self.micros / 1_000_000
+    }
+
+    /// The whole milliseconds since the origin.
+    pub fn total_millis(&self) -> i64
+        ensures { result ≡ int_div self.now (pos 1_000) }
+    {
+        self.micros / 1_000
+    }
+
+    /// The microseconds since the origin.
+    pub fn total_micros(&self) -> i64
+        ensures { result ≡ self.now }
+    {
+        self.micros
+    }
+
+    /// Whether there is a moment so much later, which `+` and `+=` need.
+    pub fn can_add(&self, duration: Duration) -> bool
+        ensures { IsTrue result ↔ IsMoment (self.now +ℤ pos duration) }
+    {
+        i64::try_from(i128::from(self.micros) + i128::from(duration.total_micros())).is_ok()
+    }
+
+    /// Whether there is a moment so much earlier, which `-` and `-=` need.
+    pub fn can_sub(&self, duration: Duration) -> bool
+        ensures { IsTrue result ↔ IsMoment (self.now -ℤ pos duration) }
+    {
+        i64::try_from(i128::from(self.micros) - i128::from(duration.total_micros())).is_ok()
+    }
+}
+
+/// `{secs}.{millis}s`, the milliseconds filled on the left by the digit 0 to three places. The
+/// milliseconds of a negative moment keep their sign, which takes one of the places: `0.0-5s`.
+impl fmt::Display for Instant {
+    ghost output = { λ i. Some (moment_text i) };
+
+    fn fmt<W: fmt::Write>(&self, f: &mut fmt::Formatter<W>) -> fmt::Result {
+        let secs = self.secs();
+        let millis = self.millis();
+        write!(f, "{secs}.{millis:0>3}s")
+    }
+}
+
+/// The moment so much later. `can_add` tells whether there is one.
+impl Add<Duration> for Instant {
+    type Output = Instant;
+
+    ghost can_add = { λ i d. IsMoment (i +ℤ pos d) };
+
+    ghost add_gives = { λ i d r. r ≡ i +ℤ pos d };
+
+    fn add(self, rhs: Duration) -> Instant {
+        Instant {
+            micros: (i128::from(self.micros) + i128::from(rhs.total_micros())) as i64,
+        }
+    }
+}
+
+/// Moves to the moment so much later. `can_add` tells whether there is one.
+impl AddAssign<Duration> for Instant {
+    ghost can_add_assign = { λ i d. IsMoment (i +ℤ pos d) };
+
+    ghost add_assign_gives = { λ i d r. r ≡ i +ℤ pos d };
+
+    fn add_assign(&mut self, rhs: Duration) {
+        *self = *self + rhs;
+    }
+}
+
+/// The moment so much earlier. `can_sub` tells whether there is one.
+impl Sub<Duration> for Instant {
+    type Output = Instant;
+
+    ghost can_sub = { λ i d. IsMoment (i -ℤ pos d) };
+
+    ghost sub_gives = { λ i d r. r ≡ i -ℤ pos d };
+
+    fn sub(self, rhs: Duration) -> Instant {
+        Instant {
+            micros: (i128::from(self.micros) - i128::from(rhs.total_micros())) as i64,
+        }
+    }
+}
+
+/// Moves to the moment so much earlier. `can_sub` tells whether there is one.
+impl SubAssign<Duration> for Instant {
+    ghost can_sub_assign = { λ i d. IsMoment (i -ℤ pos d) };
+
+    ghost sub_assign_gives = { λ i d r. r ≡ i -ℤ pos d };
+
+    fn sub_assign(&mut self, rhs: Duration) {
+        *self = *self - rhs;
+    }
+}
+
+/// How far the moments are apart, whichever is the later one. Any two moments have a distance.
+impl Sub<Instant> for Instant {
+    type Output = Duration;
+
+    ghost sub_gives = { λ i j r. r ≡ distance i j };
+
+    fn sub(self, rhs: Instant) -> Duration {
+        Duration::from_micros(self.micros.abs_diff(rhs.micros))
+    }
+}
+
+#[cfg(test)]
+mod tests;

@@ -1,0 +1,71 @@
+use super::*;
+use std::alloc::{AllocError, Global};
+
+fn shows(alloc: Global, instant: Instant, text: &str) -> Result<bool, AllocError> {
+    Ok(instant.to_string(alloc)?.as_str() == text)
+}
+
+#[test]
+fn prints_moments(rt: HostRuntime) -> Result<(), AllocError> {
+    for (millis, text) in [
+        (74, "0.074s"),
+        (5_674, "5.674s"),
+        (5_000, "5.000s"),
+        (-5, "0.0-5s"),
+        (-1_500, "-1.-500s"),
+    ] {
+        assert!(rt; Instant::fits_millis(millis));
+        assert!(rt; shows(rt.alloc(), Instant::from_millis(millis), text)?);
+    }
+    let least = Instant::from_micros(i64::MIN);
+    assert!(rt; shows(rt.alloc(), least, "-9223372036854.-775s")?);
+    Ok(())
+}
+
+#[test]
+fn splits_moments(rt: HostRuntime) {
+    for (millis, secs, part_millis, part_micros) in [
+        (5_674, 5, 674, 674_000),
+        (-5, 0, -5, -5_000),
+        (-1_500, -1, -500, -500_000),
+    ] {
+        assert!(rt; Instant::fits_millis(millis));
+        let instant = Instant::from_millis_const(millis);
+        assert_eq!(rt; instant.secs(), secs);
+        assert_eq!(rt; instant.millis(), part_millis);
+        assert_eq!(rt; instant.micros(), part_micros);
+        assert_eq!(rt; instant.total_millis(), millis);
+    }
+}
+
+#[test]
+fn adds_up_to_the_ends(rt: HostRuntime) {
+    let least = Instant::from_micros(i64::MIN);
+    let greatest = Instant::from_micros_const(i64::MAX);
+    assert!(rt; least.can_add(Duration::MAX));
+    assert!(rt; least + Duration::MAX == greatest);
+    assert!(rt; greatest.can_sub(Duration::MAX));
+    assert!(rt; greatest - Duration::MAX == least);
+    assert!(rt; !least.can_sub(Duration::from_micros(1)));
+    assert!(rt; !Instant::ZERO.can_add(Duration::MAX));
+    assert_eq!(rt; (greatest - least).total_micros(), u64::MAX);
+    assert_eq!(rt; (least - greatest).total_micros(), u64::MAX);
+    assert!(rt; Instant::from_millis(7) - Duration::from_millis(5) == Instant::from_millis(2));
+    let mut moment = Instant::from_millis(4);
+    moment += Duration::from_millis(6);
+    assert_eq!(rt; moment.total_micros(), 10_000);
+    moment -= Duration::from_millis(11);
+    assert_eq!(rt; moment.total_micros(), -1_000);
+    assert!(rt; moment < Instant::ZERO && Instant::ZERO < greatest);
+}
+
+#[test]
+fn whole_seconds_have_a_limit(rt: HostRuntime) {
+    assert!(rt; Instant::fits_secs(-9_223_372_036_854) && !Instant::fits_secs(-9_223_372_036_855));
+    assert_eq!(rt; Instant::from_secs(-3).total_micros(), -3_000_000);
+    assert!(rt;
+        Instant::from_secs(1)
+            .clone()
+            .is_ok_and(|copy| copy == Instant::from_secs(1))
+    );
+}

@@ -1,0 +1,49 @@
+//! What holds of all moments and lengths. No function here does anything.
+
+ghost use Rattle.std.specs.Prelude.{◌≡◌, ◌↔◌, ◌<◌, ◌<ℤ◌, IsTrue, Some};
+ghost use Rattle.std.specs.Ordering.{MatchOrdering};
+ghost use Rattle.net_base.specs.Time.{distance};
+
+use crate::time::{Duration, Instant};
+
+/// The order of moments is that of their microseconds, and two moments are equal exactly if they
+/// are the same.
+pub fn instant_order(x: &Instant, y: &Instant)
+    ensures order { MatchOrdering (⟦<Instant as Ord>⟧.cmp x.now y.now)
+        (x.now <ℤ y.now) (x.now ≡ y.now) (y.now <ℤ x.now) }
+    ensures partial { ⟦<Instant as PartialOrd>⟧.partial_cmp x.now y.now
+        ≡ Some (⟦<Instant as Ord>⟧.cmp x.now y.now) }
+    ensures equality { IsTrue (⟦<Instant as PartialEq>⟧.eq x.now y.now) ↔ (x.now ≡ y.now) }
+{}
+
+/// The order of lengths is that of their microseconds, and two lengths are equal exactly if they
+/// are the same.
+pub fn duration_order(x: &Duration, y: &Duration)
+    ensures order { MatchOrdering (⟦<Duration as Ord>⟧.cmp x.now y.now)
+        (x.now < y.now) (x.now ≡ y.now) (y.now < x.now) }
+    ensures partial { ⟦<Duration as PartialOrd>⟧.partial_cmp x.now y.now
+        ≡ Some (⟦<Duration as Ord>⟧.cmp x.now y.now) }
+    ensures equality { IsTrue (⟦<Duration as PartialEq>⟧.eq x.now y.now) ↔ (x.now ≡ y.now) }
+{}
+
+/// The distance of two moments is the same both ways.
+pub fn distance_both_ways(x: &Instant, y: &Instant)
+    ensures { distance x.now y.now ≡ distance y.now x.now }
+{}
+
+/// A clone of a moment is the same moment, and is never refused.
+pub fn instant_clone(instant: &Instant, clone: &Instant)
+    ensures same { ⟦<Instant as Clone>⟧.is_clone instant.now clone.now → clone.now ≡ instant.now }
+    ensures never_refused { ⟦<Instant as Clone>⟧.is_infallible instant.now }
+{}
+
+/// A clone of a length is the same length, and is never refused.
+pub fn duration_clone(duration: &Duration, clone: &Duration)
+    ensures same { ⟦<Duration as Clone>⟧.is_clone duration.now clone.now → clone.now ≡ duration.now }
+    ensures never_refused { ⟦<Duration as Clone>⟧.is_infallible duration.now }
+{}
+
+/// The default length is zero.
+pub fn duration_default(duration: &Duration)
+    ensures { ⟦<Duration as Default>⟧.is_default duration.now → duration.now ≡ 0 }
+{}

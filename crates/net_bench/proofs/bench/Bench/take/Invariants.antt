@@ -1,0 +1,12 @@
+use Rattle.std.proofs.Common.{length}
+use Rattle.net_bench.proofs.RunProgress.{Taken}
+use Rattle.net_bench.proofs.bench.Bench.take.Given as goal
+
+-- the bytes before the rest led here
+abbrev pub invariant-lines : goal.invariant-lines
+invariant-lines g l =
+    let old = l.fn.self in
+    Taken g.S.Session.rules l.bytes l.rest old.number old.session old.line.items l.self.number l.self.session l.self.line.items (g.W.Write.contents l.fn.writer) (g.W.Write.contents l.writer)
+
+abbrev pub decreases-lines : goal.decreases-lines
+decreases-lines g l = length l.rest

@@ -1,0 +1,10 @@
+pub mod Text
+pub mod Transcript
+pub mod Progress
+pub mod RingMode
+pub mod AsmMode
+pub mod Modes
+pub mod RingLines
+pub mod AsmLines
+pub mod Words
+pub mod Kinds

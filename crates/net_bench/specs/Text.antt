@@ -1,0 +1,60 @@
+-- The text of the bench: lines, words, numbers and hex words.
+use Rattle.std.specs.Prelude.{ℕ, ◌+◌, ◌-◌, ◌^◌, ◌==◌, ◌&&◌, ◌||◌, nat_lt, min, if◌then◌else◌, Bool, List, [], ◌∷◌, length, slice_index, codes, bytes_eq, Option, Some, None}
+use Rattle.std.specs.List.{slice_split, list_all}
+use Rattle.std.specs.Result.{result_ok}
+use Rattle.std.specs.Char.{is_ascii_digit}
+use Rattle.std.specs.Str.Parse.{digits_value}
+use Rattle.hex.specs.Hex.{decode_of, encode_lower}
+
+-- what stands between the line feeds of a text, and after the last of them
+abbrev pub parts_of : List ℕ → List (List ℕ)
+parts_of text = slice_split (λ b. b == 10) text
+
+-- all but the last
+abbrev pub without_last : List (List ℕ) → List (List ℕ)
+without_last [] = []
+without_last (part ∷ []) = []
+without_last (part ∷ next ∷ parts) = part ∷ without_last (next ∷ parts)
+
+-- all, but without the last where that is empty
+abbrev pub without_empty_last : List (List ℕ) → List (List ℕ)
+without_empty_last [] = []
+without_empty_last ([] ∷ []) = []
+without_empty_last ((b ∷ part) ∷ []) = (b ∷ part) ∷ []
+without_empty_last (part ∷ next ∷ parts) = part ∷ without_empty_last (next ∷ parts)
+
+-- the lines of an input: bytes after its last line feed are a line too, unless there are none
+abbrev pub lines_of : List ℕ → List (List ℕ)
+lines_of input = without_empty_last (parts_of input)
+
+-- the lines whose line feed stands in the text
+abbrev pub ended_lines : List ℕ → List (List ℕ)
+ended_lines text = without_last (parts_of text)
+
+-- the number of the line after line n: it stays at the greatest number
+abbrev pub next_number : ℕ → ℕ
+next_number n = min (n + 1) (2 ^ 64 - 1)
+
+-- the words of a line, parted by exactly one space: a space too many makes an empty word, which no command has
+abbrev pub words_of : List ℕ → List (List ℕ)
+words_of line = slice_split (λ b. b == 32) line
+
+-- decimal digits, with no leading 0 unless the word is 0
+abbrev pub is_numeral : List ℕ → Bool
+is_numeral word = nat_lt 0 (length word) && list_all is_ascii_digit word && (nat_lt 48 (slice_index word 0) || length word == 1)
+
+-- the number that a numeral writes, up to 2^64 - 1
+abbrev pub number_of : List ℕ → Option ℕ
+number_of word = if is_numeral word && nat_lt (digits_value 10 word) (2 ^ 64) then Some (digits_value 10 word) else None
+
+-- bytes: a dash for none, or one or more pairs of hex digits in either case
+abbrev pub bytes_of : List ℕ → Option (List ℕ)
+bytes_of word =
+    if bytes_eq word (codes "-") then Some []
+    else if nat_lt 0 (length word) then result_ok (decode_of word)
+    else None
+
+-- bytes as a reply shows them: a dash for none, or pairs of lower case hex digits
+abbrev pub hex_text : List ℕ → List ℕ
+hex_text [] = codes "-"
+hex_text (b ∷ bytes) = encode_lower (b ∷ bytes)

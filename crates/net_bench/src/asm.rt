@@ -1,0 +1,191 @@
+//! Mode `asm`: ranges are added to a set of positions, and its front is removed.
+ghost use Rattle.std.specs.Prelude.{◌≡◌, [], ◌∷◌, ◌++◌, ◌≤◌, codes, decimal, IfOk, MatchResult, Ok, Err, string_bytes, option_map};
+ghost use Rattle.net_storage.specs.Positions.{nothing};
+ghost use Rattle.net_bench.specs.Text.{words_of};
+ghost use Rattle.net_bench.specs.AsmMode.{asm_rules, asm_command, asm_does};
+ghost use Rattle.net_bench.specs.AsmMode.{Add, AddThenRemoveFront, RemoveFront, Print};
+ghost use Rattle.net_bench.specs.AsmLines.{asm_command_seen};
+
+use crate::fault::Fault;
+use crate::session::Session;
+use crate::words::Words;
+use crate::{text, words};
+use net_storage::Assembler;
+use std::alloc::{AllocError, Global};
+use std::marker::Model;
+
+/// The reply to a range that the assembler refuses.
+const REFUSED: &str = "refused too many holes\n";
+
+/// A line of the mode. A range is its offset and its size.
+#[derive(Drop)]
+pub enum AsmLine {
+    /// `a NUM NUM`: the range comes in.
+    Add(usize, usize),
+    /// `t NUM NUM`: the range comes in, and the front goes out.
+    AddThenRemoveFront(usize, usize),
+    /// `f`: the front goes out.
+    RemoveFront,
+    /// `p`: the runs are shown.
+    Print,
+}
+
+/// An assembler that lines add ranges to.
+#[derive(Drop)]
+pub struct AsmSession<const N: usize> {
+    assembler: Assembler<N>,
+}
+
+impl<const N: usize> Model for AsmSession<N> {
+    ghost use Rattle.std.specs.Coded.{coded_ℕ};
+    ghost use Rattle.std.specs.FinSet as set;
+    ghost use Rattle.net_storage.specs.Positions.{Positions};
+
+    ghost Value = { Positions };
+
+    ghost coded = { set.code coded_ℕ };
+
+    ghost view = { λ s. s.assembler };
+}
+
+/// What one word says.
+fn plain_line(verb: &[u8]) -> Option<AsmLine>
+    ensures { option_map asm_command_seen result ≡ asm_command (verb.now ∷ []) }
+{
+    if verb == b"f".as_slice() {
+        return Some(AsmLine::RemoveFront);
+    }
+    if verb == b"p".as_slice() {
+        return Some(AsmLine::Print);
+    }
+    None
+}
+
+/// What three words say.
+fn range_line(verb: &[u8], offset: &[u8], size: &[u8]) -> Option<AsmLine>
+    ensures { option_map asm_command_seen result ≡ asm_command (verb.now ∷ offset.now ∷ size.now ∷ []) }
+{
+    if verb == b"a".as_slice() {
+        let offset = text::number(offset)?;
+        let size = text::number(size)?;
+        return Some(AsmLine::Add(offset as usize, size as usize));
+    }
+    if verb == b"t".as_slice() {
+        let offset = text::number(offset)?;
+        let size = text::number(size)?;
+        return Some(AsmLine::AddThenRemoveFront(offset as usize, size as usize));
+    }
+    None
+}
+
+/// What a line says.
+fn asm_line(line: &[u8]) -> Option<AsmLine>
+    ensures { option_map asm_command_seen result ≡ asm_command (words_of line.now) }
+{
+    match words::split_words(line) {
+        Words::One(verb) => plain_line(verb),
+        Words::Three(verb, offset, size) => range_line(verb, offset, size),
+        Words::Two(_, _) | Words::More => None,
+    }
+}
+
+impl<const N: usize> AsmSession<N> {
+    /// The empty set.
+    pub fn new() -> AsmSession<N>
+        requires { 1 ≤ N }
+        ensures { result ≡ nothing }
+    {
+        AsmSession {
+            assembler: Assembler::new(),
+        }
+    }
+
+    /// Adds a range.
+    fn add(
+        &mut self,
+        alloc: Global,
+        offset: usize,
+        size: usize,
+    ) -> Result<Result<String, Fault>, AllocError>
+        ensures { IfOk result (λ outcome. MatchResult outcome
+            (λ reply. asm_does N self.old (Add offset size) ≡ Ok (self.new, string_bytes reply))
+            (λ fault. asm_does N self.old (Add offset size) ≡ Err fault)) }
+    {
+        if !Assembler::<N>::fits(offset, size) {
+            return Ok(Err(Fault::RangeTooLong));
+        }
+        let reply = match self.assembler.add(offset, size) {
+            Ok(()) => "ok\n",
+            Err(_) => REFUSED,
+        };
+        Ok(Ok(String::from_str(alloc, reply)?))
+    }
+
+    /// Adds a range, and removes the front then.
+    fn add_then_remove_front(
+        &mut self,
+        alloc: Global,
+        offset: usize,
+        size: usize,
+    ) -> Result<Result<String, Fault>, AllocError>
+        ensures { IfOk result (λ outcome. MatchResult outcome
+            (λ reply. asm_does N self.old (AddThenRemoveFront offset size) ≡ Ok (self.new, string_bytes reply))
+            (λ fault. asm_does N self.old (AddThenRemoveFront offset size) ≡ Err fault)) }
+    {
+        if !Assembler::<N>::fits(offset, size) {
+            return Ok(Err(Fault::RangeTooLong));
+        }
+        match self.assembler.add_then_remove_front(offset, size) {
+            Ok(front) => Ok(Ok(front_text(alloc, front)?)),
+            Err(_) => Ok(Ok(String::from_str(alloc, REFUSED)?)),
+        }
+    }
+
+    /// Removes the front.
+    fn remove_front(&mut self, alloc: Global) -> Result<String, AllocError>
+        ensures { IfOk result (λ reply. asm_does N self.old RemoveFront ≡ Ok (self.new, string_bytes reply)) }
+    {
+        front_text(alloc, self.assembler.remove_front())
+    }
+
+    /// Shows the runs.
+    fn print(&self, alloc: Global) -> Result<String, AllocError>
+        ensures { IfOk result (λ reply. asm_does N self.now Print ≡ Ok (self.now, string_bytes reply)) }
+    {
+        let assembler = &self.assembler;
+        format!(in alloc; "{assembler}\n")
+    }
+}
+
+/// The reply that says how long the front was.
+fn front_text(alloc: Global, length: usize) -> Result<String, AllocError>
+    ensures { IfOk result (λ text. string_bytes text ≡ codes "front " ++ decimal length ++ codes "\n") }
+{
+    format!(in alloc; "front {length}\n")
+}
+
+impl<const N: usize> Session for AsmSession<N> {
+    ghost rules = { asm_rules N };
+
+    ghost closing = { λ _. [] };
+
+    fn run_line(
+        &mut self,
+        alloc: Global,
+        line: &[u8],
+    ) -> Result<Result<String, Fault>, AllocError> {
+        match asm_line(line) {
+            Some(AsmLine::Add(offset, size)) => self.add(alloc, offset, size),
+            Some(AsmLine::AddThenRemoveFront(offset, size)) => {
+                self.add_then_remove_front(alloc, offset, size)
+            }
+            Some(AsmLine::RemoveFront) => Ok(Ok(self.remove_front(alloc)?)),
+            Some(AsmLine::Print) => Ok(Ok(self.print(alloc)?)),
+            None => Ok(Err(Fault::BadCommand)),
+        }
+    }
+
+    fn closing_text(&self) -> &'static str {
+        ""
+    }
+}

@@ -1,0 +1,217 @@
+//! Lines in, replies out, for any mode.
+ghost use Rattle.std.specs.Prelude.{◌≡◌, ℕ, List, [], ◌∷◌, ◌++◌, length, take, ◌<◌, ◌≤◌, ◌==◌, IfSome, IfOk, IfErr, OnOk, None, position, vec_capacity};
+ghost use Rattle.std.specs.Io.KnownBytes.{Appends};
+ghost use Rattle.net_bench.specs.Text.{lines_of, next_number};
+ghost use Rattle.net_bench.specs.Transcript.{line_step, transcript, Ends, Leaves};
+ghost use Rattle.net_bench.specs.Progress.{HasNoFeed, Goes};
+
+use crate::error::BenchError;
+use crate::fault::Fault;
+use crate::session::Session;
+use std::alloc::Global;
+use std::io::{Read, Write};
+
+/// The most bytes of a line, without its line feed.
+const MAX_LINE: usize = 4096;
+
+/// How many bytes are asked for at once.
+const CHUNK: usize = 8192;
+
+/// Where the first line feed stands.
+fn feed_at(bytes: &[u8]) -> Option<usize>
+    ensures { result ≡ position (λ b. b == 10) bytes.now }
+{
+    bytes.iter().position(|b| *b == b'\n')
+}
+
+/// Writes all of the text. An error ends it after a beginning of the text.
+fn write_text<W: Write>(writer: &mut W, text: &[u8]) -> Result<(), BenchError>
+    ensures ok { OnOk result (Appends (W.contents writer.old) (W.contents writer.new) text.now) }
+    ensures err { IfErr result (λ e. (e ≡ BenchError.WriteFailed)
+        × ((k : ℕ) × Appends (W.contents writer.old) (W.contents writer.new) (take k text.now))) }
+{
+    let mut written = 0;
+    while written < text.len() {
+        match writer.write(&text[written..]) {
+            Ok(0) | Err(_) => return Err(BenchError::WriteFailed),
+            Ok(count) => written += count,
+        }
+    }
+    Ok(())
+}
+
+/// Runs a line of this number, and writes its reply.
+fn answer<S: Session, W: Write>(
+    alloc: Global,
+    session: &mut S,
+    number: u64,
+    line: &[u8],
+    writer: &mut W,
+) -> Result<(), BenchError>
+    ensures ok { OnOk result ((reply : List ℕ)
+        × (line_step S.rules session.old line.now ≡ Ok (session.new, reply))
+        × Appends (W.contents writer.old) (W.contents writer.new) reply) }
+    ensures err { IfErr result (λ e. (more : List (List ℕ)) →
+        Ends (transcript S.rules S.closing number session.old) (line.now ∷ more)
+        (W.contents writer.old) (W.contents writer.new) e) }
+{
+    if line.len() > MAX_LINE {
+        return Err(Fault::LineTooLong.at(number));
+    }
+    let Ok(outcome) = session.run_line(alloc, line) else {
+        return Err(BenchError::OutOfMemory);
+    };
+    match outcome {
+        Ok(reply) => write_text(writer, reply.as_bytes()),
+        Err(fault) => Err(fault.at(number)),
+    }
+}
+
+/// A run under way: the mode's state, the number of the line that comes next, and what has come of it.
+#[derive(Drop)]
+struct Bench<S> {
+    alloc: Global,
+    session: S,
+    number: u64,
+    line: Vec<u8>,
+    ghost short: { length line.items ≤ 4096 },
+    ghost unended: { HasNoFeed line.items },
+    ghost room: { 4096 ≤ vec_capacity line },
+}
+
+impl<S: Session> Bench<S> {
+    /// A run whose first line comes next. All memory for lines is taken here.
+    fn new(alloc: Global, session: S) -> Result<Bench<S>, BenchError>
+    where
+        S: Drop,
+        ensures ok { IfOk result (λ bench. (bench.session ≡ session) × (bench.number ≡ 1) × (bench.line.items ≡ [])) }
+        ensures err { IfErr result (λ e. e ≡ BenchError.OutOfMemory) }
+    {
+        match Vec::with_capacity(alloc, MAX_LINE) {
+            Ok(line) => Ok(Bench {
+                alloc,
+                session,
+                number: 1,
+                line,
+            }),
+            Err(_) => Err(BenchError::OutOfMemory),
+        }
+    }
+
+    /// Keeps the beginning of a line, for the bytes that come after it.
+    fn keep(&mut self, bytes: &[u8]) -> Result<(), BenchError>
+        requires { HasNoFeed bytes.now }
+        ensures ok { OnOk result ((self.new.line.items ≡ self.old.line.items ++ bytes.now)
+            × (self.new.number ≡ self.old.number) × (self.new.session ≡ self.old.session)) }
+        ensures err { IfErr result (λ e. (e ≡ BenchError.LineTooLong self.old.number)
+            × (4096 < length (self.old.line.items ++ bytes.now))) }
+    {
+        if bytes.len() > MAX_LINE - self.line.len() {
+            return Err(Fault::LineTooLong.at(self.number));
+        }
+        self.line.extend_from_slice(bytes).unwrap();
+        Ok(())
+    }
+
+    /// Runs the line that these bytes end, and writes its reply.
+    fn end_line<W: Write>(&mut self, bytes: &[u8], writer: &mut W) -> Result<(), BenchError>
+        requires { HasNoFeed bytes.now }
+        ensures ok { OnOk result ((reply : List ℕ)
+            × (line_step S.rules self.old.session (self.old.line.items ++ bytes.now) ≡ Ok (self.new.session, reply))
+            × (self.new.number ≡ next_number self.old.number)
+            × (self.new.line.items ≡ [])
+            × Appends (W.contents writer.old) (W.contents writer.new) reply) }
+        ensures err { IfErr result (λ e. (more : List (List ℕ)) →
+            Ends (transcript S.rules S.closing self.old.number self.old.session)
+            ((self.old.line.items ++ bytes.now) ∷ more)
+            (W.contents writer.old) (W.contents writer.new) e) }
+    {
+        if self.line.is_empty() {
+            answer(self.alloc, &mut self.session, self.number, bytes, writer)?;
+        } else {
+            self.keep(bytes)?;
+            answer(
+                self.alloc,
+                &mut self.session,
+                self.number,
+                &self.line,
+                writer,
+            )?;
+            self.line.clear();
+        }
+        self.number = self.number.saturating_add(1);
+        Ok(())
+    }
+
+    /// Takes the next bytes of the input.
+    fn take<W: Write>(&mut self, bytes: &[u8], writer: &mut W) -> Result<(), BenchError>
+        ensures ok { OnOk result ((text : List ℕ)
+            × Goes S.rules bytes.now self.old.number self.old.session self.old.line.items
+            self.new.number self.new.session self.new.line.items text
+            × Appends (W.contents writer.old) (W.contents writer.new) text) }
+        ensures err { IfErr result (λ e. (more : List ℕ) →
+            Ends (transcript S.rules S.closing self.old.number self.old.session)
+            (lines_of (self.old.line.items ++ (bytes.now ++ more)))
+            (W.contents writer.old) (W.contents writer.new) e) }
+    {
+        let mut rest = bytes;
+        'lines: while let Some(at) = feed_at(rest) {
+            self.end_line(&rest[..at], writer)?;
+            rest = &rest[at + 1..];
+        }
+        self.keep(rest)
+    }
+
+    /// Writes the closing text.
+    fn close<W: Write>(&self, writer: &mut W) -> Result<(), BenchError>
+        ensures ok { OnOk result (Appends (W.contents writer.old) (W.contents writer.new) (S.closing self.now.session)) }
+        ensures err { IfErr result (λ e. (e ≡ BenchError.WriteFailed) × ((k : ℕ)
+            × Appends (W.contents writer.old) (W.contents writer.new) (take k (S.closing self.now.session)))) }
+    {
+        write_text(writer, self.session.closing_text().as_bytes())
+    }
+
+    /// Runs what has come of the last line, if anything has, and writes the closing text.
+    fn finish<W: Write>(&mut self, writer: &mut W) -> Result<(), BenchError>
+        ensures ok { OnOk result (
+            let all = transcript S.rules S.closing self.old.number self.old.session in
+            let lines = lines_of self.old.line.items in
+            (all.fault lines ≡ None) × Appends (W.contents writer.old) (W.contents writer.new) (all.text lines)) }
+        ensures err { IfErr result (λ e.
+            Ends (transcript S.rules S.closing self.old.number self.old.session) (lines_of self.old.line.items)
+            (W.contents writer.old) (W.contents writer.new) e) }
+    {
+        if self.line.is_empty() {
+            return self.close(writer);
+        }
+        self.end_line(&[], writer)?;
+        self.close(writer)
+    }
+}
+
+/// Runs the lines that the reader gives, from their first to their last, and writes the replies.
+pub fn run_lines<S: Session + Drop, R: Read, W: Write>(
+    alloc: Global,
+    session: S,
+    reader: &mut R,
+    writer: &mut W,
+) -> Result<(), BenchError>
+    ensures ok { OnOk result (IfSome (R.remaining reader.old) (λ input.
+        let all = transcript S.rules S.closing 1 session in
+        let lines = lines_of input in
+        (all.fault lines ≡ None) × Appends (W.contents writer.old) (W.contents writer.new) (all.text lines))) }
+    ensures err { IfErr result (λ e. IfSome (R.remaining reader.old) (λ input.
+        Leaves (transcript S.rules S.closing 1 session) input (R.remaining reader.new)
+        (W.contents writer.old) (W.contents writer.new) e)) }
+{
+    let mut bench = Bench::new(alloc, session)?;
+    let mut chunk = [0u8; CHUNK];
+    'reads: for _ in 0..u64::MAX {
+        match reader.read(&mut chunk) {
+            Ok(0) => return bench.finish(writer),
+            Ok(count) => bench.take(&chunk[..count], writer)?,
+            Err(_) => return Err(BenchError::ReadFailed),
+        }
+    }
+    Err(BenchError::ReadFailed)
+}

@@ -1,0 +1,45 @@
+//! A bench for the storage types: command lines come in, and a reply line goes out for each.
+#![tactic(auto)]
+
+mod asm;
+mod bench;
+mod error;
+mod fault;
+mod mode;
+mod ring;
+mod run;
+mod serve;
+mod session;
+#[cfg(test)]
+mod streams;
+mod text;
+mod words;
+
+use std::env;
+use std::process::ExitCode;
+
+/// The words after the program's name, or none where they can't be read.
+fn command_words(rt: &HostRuntime) -> Vec<String> {
+    let mut words = Vec::new(rt.alloc());
+    let Ok(all) = env::args(rt) else {
+        return words;
+    };
+    for word in all.skip(1) {
+        if words.push(word).is_err() {
+            return Vec::new(rt.alloc());
+        }
+    }
+    words
+}
+
+fn main(rt: HostRuntime) -> ExitCode {
+    let words = command_words(&rt);
+    let status = serve::serve(
+        rt.alloc(),
+        &words,
+        &mut rt.stdin(),
+        &mut rt.stdout(),
+        &mut rt.stderr(),
+    );
+    ExitCode::from(status)
+}

@@ -1,0 +1,136 @@
+//! Mode `ring`: bytes go in and come out in order.
+ghost use Rattle.std.specs.Prelude.{◌≡◌, ◌-◌, [], ◌∷◌, ◌++◌, IfOk, string_bytes, option_map, length, min, take, drop};
+ghost use Rattle.net_bench.specs.Text.{words_of};
+ghost use Rattle.net_bench.specs.RingMode.{ring_rules, ring_command, ring_does, empty_queue};
+ghost use Rattle.net_bench.specs.RingMode.{Write, Read};
+ghost use Rattle.net_bench.specs.RingLines.{ring_command_seen};
+
+use crate::fault::Fault;
+use crate::session::Session;
+use crate::words::Words;
+use crate::{text, words};
+use net_storage::{ManagedSlice, RingBuffer};
+use std::alloc::{AllocError, Global};
+use std::marker::Model;
+
+/// A line of the mode.
+#[derive(Drop)]
+pub enum RingLine {
+    /// `w HEX`: these bytes come in.
+    Write(Vec<u8>),
+    /// `r NUM`: at most so many bytes go out.
+    Read(u64),
+}
+
+/// A ring of bytes that lines fill and empty.
+#[derive(Drop)]
+pub struct RingSession {
+    ring: RingBuffer<'static, u8>,
+}
+
+impl Model for RingSession {
+    ghost use Rattle.net_bench.specs.RingMode.{Queue};
+
+    ghost Value = { Queue };
+
+    ghost use Rattle.std.specs.Prelude.{◌≡◌, length};
+    ghost use Rattle.net_storage.specs.Ring.{capacity, queue};
+
+    // The queue and the capacity of the ring; where in the storage it is read is forgotten.
+    ghost view = { λ s. record { capacity = capacity s.ring; bytes = queue s.ring } };
+
+    ghost invariant = { λ s. length (queue s.ring) ≡ s.ring.held };
+}
+
+/// What two words say.
+fn ring_words(alloc: Global, verb: &[u8], word: &[u8]) -> Result<Option<RingLine>, AllocError>
+    ensures { IfOk result (λ found. option_map ring_command_seen found ≡ ring_command (verb.now ∷ word.now ∷ [])) }
+{
+    if verb == b"w".as_slice() {
+        return Ok(text::bytes(alloc, word)?.map(RingLine::Write));
+    }
+    if verb == b"r".as_slice() {
+        return Ok(text::number(word).map(RingLine::Read));
+    }
+    Ok(None)
+}
+
+/// What a line says.
+fn ring_line(alloc: Global, line: &[u8]) -> Result<Option<RingLine>, AllocError>
+    ensures { IfOk result (λ found. option_map ring_command_seen found ≡ ring_command (words_of line.now)) }
+{
+    match words::split_words(line) {
+        Words::Two(verb, word) => ring_words(alloc, verb, word),
+        Words::One(_) | Words::Three(_, _, _) | Words::More => Ok(None),
+    }
+}
+
+impl RingSession {
+    /// An empty ring over so many bytes of storage, all 0.
+    pub fn new(alloc: Global, capacity: usize) -> Result<RingSession, AllocError>
+        ensures { IfOk result (λ session. session ≡ empty_queue capacity) }
+    {
+        let storage = vec![in alloc; 0u8; capacity]?;
+        Ok(RingSession {
+            ring: RingBuffer::new(ManagedSlice::from(storage)),
+        })
+    }
+
+    /// Takes in as many bytes as there is room for, and answers how many.
+    fn put(&mut self, bytes: &[u8]) -> usize
+        ensures count { result ≡ min (length bytes.now) (self.old.capacity - length self.old.bytes) }
+        ensures queue { self.new ≡ record self.old { bytes = self.old.bytes ++ take result bytes.now } }
+    {
+        self.ring.enqueue_slice(bytes)
+    }
+
+    /// Takes in what there is room for, and says how much that was.
+    fn write(&mut self, alloc: Global, bytes: &[u8]) -> Result<String, AllocError>
+        ensures { IfOk result (λ reply. ring_does self.old (Write bytes.now) ≡ (self.new, string_bytes reply)) }
+    {
+        let count = self.put(bytes);
+        format!(in alloc; "took {count}\n")
+    }
+
+    /// Takes the front off.
+    fn take(&mut self, alloc: Global, number: u64) -> Result<Vec<u8>, AllocError>
+        ensures { IfOk result (λ bytes. let count = min number (length self.old.bytes) in
+            (bytes.items ≡ take count self.old.bytes) × (self.new ≡ record self.old { bytes = drop count self.old.bytes })) }
+    {
+        let count = (self.ring.len() as u64).min(number) as usize;
+        let mut bytes = vec![in alloc; 0u8; count]?;
+        let _ = self.ring.dequeue_slice(&mut bytes);
+        Ok(bytes)
+    }
+
+    /// Takes the front off, and shows it.
+    fn read(&mut self, alloc: Global, number: u64) -> Result<String, AllocError>
+        ensures { IfOk result (λ reply. ring_does self.old (Read number) ≡ (self.new, string_bytes reply)) }
+    {
+        let bytes = self.take(alloc, number)?;
+        let text = text::shown(alloc, &bytes)?;
+        format!(in alloc; "read {text}\n")
+    }
+}
+
+impl Session for RingSession {
+    ghost rules = { ring_rules };
+
+    ghost closing = { λ _. [] };
+
+    fn run_line(
+        &mut self,
+        alloc: Global,
+        line: &[u8],
+    ) -> Result<Result<String, Fault>, AllocError> {
+        match ring_line(alloc, line)? {
+            Some(RingLine::Write(bytes)) => Ok(Ok(self.write(alloc, &bytes)?)),
+            Some(RingLine::Read(number)) => Ok(Ok(self.read(alloc, number)?)),
+            None => Ok(Err(Fault::BadCommand)),
+        }
+    }
+
+    fn closing_text(&self) -> &'static str {
+        ""
+    }
+}

@@ -1,0 +1,42 @@
+//! A run, from the bytes that are read to the bytes that are written.
+ghost use Rattle.std.specs.Prelude.{◌≡◌, IfSome, IfErr, OnOk, None};
+ghost use Rattle.std.specs.Io.KnownBytes.{Appends};
+ghost use Rattle.net_bench.specs.Transcript.{Leaves};
+ghost use Rattle.net_bench.specs.Modes.{out, fault, transcript_of};
+
+use crate::asm::AsmSession;
+use crate::bench::run_lines;
+use crate::error::BenchError;
+use crate::mode::{Kind, Mode, RunLimit};
+use crate::ring::RingSession;
+use std::alloc::Global;
+use std::io::{Read, Write};
+
+#[cfg(test)]
+mod tests;
+
+/// Runs the lines that the reader gives, and writes the replies. It returns where the reader ends or
+/// fails, or at the first fault. Where reader and writer tell their bytes, as those over memory do:
+pub fn run<R: Read, W: Write>(
+    alloc: Global,
+    mode: Mode,
+    reader: &mut R,
+    writer: &mut W,
+) -> Result<(), BenchError>
+    // no line has a fault, and the output text was written;
+    ensures ok { OnOk result (IfSome (R.remaining reader.old) (λ input.
+        (fault mode input ≡ None)
+        × Appends (W.contents writer.old) (W.contents writer.new) (out mode input))) }
+    // or what the table of errors says.
+    ensures err { IfErr result (λ e. IfSome (R.remaining reader.old) (λ input.
+        Leaves (transcript_of mode) input (R.remaining reader.new) (W.contents writer.old) (W.contents writer.new) e)) }
+{
+    match mode.kind() {
+        Kind::Ring(capacity) => match RingSession::new(alloc, capacity) {
+            Ok(session) => run_lines(alloc, session, reader, writer),
+            Err(_) => Err(BenchError::OutOfMemory),
+        },
+        Kind::Asm(RunLimit::Four) => run_lines(alloc, AsmSession::<4>::new(), reader, writer),
+        Kind::Asm(RunLimit::ThirtyTwo) => run_lines(alloc, AsmSession::<32>::new(), reader, writer),
+    }
+}

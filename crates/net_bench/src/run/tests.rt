@@ -1,0 +1,350 @@
+//! Runs over memory, with readers and writers that give and take little, and that fail.
+use super::*;
+use crate::streams::{Sink, Source, command_words};
+use std::alloc::AllocError;
+use std::process::Abort;
+use std::test::Fail;
+
+/// The mode that the words of this line name.
+fn mode(alloc: Global, line: &str) -> Result<Mode, Fail> {
+    let words = command_words(alloc, line)?;
+    match Mode::from_words(&words) {
+        Some(mode) => Ok(mode),
+        None => Err(Fail::from(AllocError)),
+    }
+}
+
+/// The text of how a run ended.
+fn ended(alloc: Global, outcome: Result<(), BenchError>) -> Result<String, AllocError> {
+    match outcome {
+        Ok(()) => String::from_str(alloc, "Ok"),
+        Err(error) => format!(in alloc; "{error}"),
+    }
+}
+
+/// Each row: the mode, the input, the output and how the run ends. Each is run by readers and writers that give
+/// and take one byte, three bytes or all bytes a call.
+fn check_rows(
+    rt: &impl Abort,
+    alloc: Global,
+    rows: &[(&str, &[u8], &[u8], &str)],
+) -> Result<(), Fail> {
+    for (words, input, output, end) in rows {
+        for most in [1, 3, usize::MAX] {
+            let mode = mode(alloc, words)?;
+            let mut source = Source::new(input);
+            source.most = most;
+            let mut sink = Sink::new(alloc)?;
+            sink.most = most;
+            let outcome = run(alloc, mode, &mut source, &mut sink);
+            let text = ended(alloc, outcome)?;
+            assert_eq!(rt; text.as_str(), *end, "{words}, {most} bytes a call");
+            assert_eq!(rt;
+                sink.bytes.as_slice(),
+                *output,
+                "{words}, {most} bytes a call"
+            );
+        }
+    }
+    Ok(())
+}
+
+#[test]
+fn answers_ring_lines(rt: HostRuntime) -> Result<(), Fail> {
+    let rows: [(&str, &[u8], &[u8], &str); 12] = [
+        (
+            "ring 4",
+            b"w 616263\nr 2\nw 646566\nr 9\nr 1\n",
+            b"took 3\nread 6162\ntook 3\nread 63646566\nread -\n",
+            "Ok",
+        ),
+        (
+            "ring 4",
+            b"w 616263\nw 646566\nr 9\n",
+            b"took 3\ntook 1\nread 61626364\n",
+            "Ok",
+        ),
+        ("ring 0", b"w 61\nr 1\n", b"took 0\nread -\n", "Ok"),
+        ("ring 8", b"", b"", "Ok"),
+        ("ring 65536", b"w 61\nr 2\n", b"took 1\nread 61\n", "Ok"),
+        (
+            "ring 12",
+            b"w 6162636465666768696a6b6c\nr 8\nw 61626364\nr 8\nr 1\n",
+            b"took 12\nread 6162636465666768\ntook 4\nread 696a6b6c61626364\nread -\n",
+            "Ok",
+        ),
+        ("ring 8", b"w 4a4B\nr 2\n", b"took 2\nread 4a4b\n", "Ok"),
+        (
+            "ring 8",
+            b"w -\nr 0\nr 18446744073709551615\n",
+            b"took 0\nread -\nread -\n",
+            "Ok",
+        ),
+        ("ring 8", b"w 6162", b"took 2\n", "Ok"),
+        (
+            "ring 8",
+            b"w 61\nx 1\nw 62\n",
+            b"took 1\n",
+            "line 2: bad command",
+        ),
+        ("ring 8", b"w 61\nw 616", b"took 1\n", "line 2: bad command"),
+        (
+            "ring 8",
+            b"w 61\n\nr 1\n",
+            b"took 1\n",
+            "line 2: bad command",
+        ),
+    ];
+    check_rows(&rt, rt.alloc(), &rows)
+}
+
+#[test]
+fn answers_asm_lines(rt: HostRuntime) -> Result<(), Fail> {
+    let rows: [(&str, &[u8], &[u8], &str); 8] = [
+        (
+            "asm 4",
+            b"a 100 10\na 50 10\na 40 30\np\n",
+            b"ok\nok\nok\n[ (40) 30 (30) 10 ]\n",
+            "Ok",
+        ),
+        (
+            "asm 4",
+            b"a 50 10\nt 0 50\np\nf\n",
+            b"ok\nfront 60\n[ ]\nfront 0\n",
+            "Ok",
+        ),
+        (
+            "asm 4",
+            b"a 10 3\na 20 3\na 30 3\na 40 3\na 1 3\nt 1 3\nt 0 3\np\n",
+            b"ok\nok\nok\nok\nrefused too many holes\nrefused too many holes\nfront 3\n[ (7) 3 (7) 3 (7) 3 (7) 3 ]\n",
+            "Ok",
+        ),
+        (
+            "asm 4",
+            b"a 0 2\na 10 1\na 20 1\na 30 1\nt 40 1\nt 40 0\np\n",
+            b"ok\nok\nok\nok\nrefused too many holes\nfront 2\n[ (8) 1 (9) 1 (9) 1 ]\n",
+            "Ok",
+        ),
+        (
+            "asm 4",
+            b"a 18446744073709551615 0\na 18446744073709551614 1\np\nt 0 18446744073709551615\np\na 18446744073709551615 1\n",
+            b"ok\nok\n[ (18446744073709551614) 1 ]\nfront 18446744073709551615\n[ ]\n",
+            "line 6: range too long",
+        ),
+        (
+            "asm 32",
+            b"a 10 3\na 20 3\na 30 3\na 40 3\na 1 3\np",
+            b"ok\nok\nok\nok\nok\n[ (1) 3 (6) 3 (7) 3 (7) 3 (7) 3 ]\n",
+            "Ok",
+        ),
+        (
+            "asm 4",
+            b"f\na 18446744073709551616 1\n",
+            b"front 0\n",
+            "line 2: bad command",
+        ),
+        ("asm 4", b"", b"", "Ok"),
+    ];
+    check_rows(&rt, rt.alloc(), &rows)
+}
+
+#[test]
+fn refuses_lines_of_no_command(rt: HostRuntime) -> Result<(), Fail> {
+    let lines: [&[u8]; 14] = [
+        b"w 61\r\n",
+        b"w  61\n",
+        b" w 61\n",
+        b"w 61 \n",
+        b"w\n",
+        b"w \n",
+        b"w 6\n",
+        b"w 6g\n",
+        b"w\t61\n",
+        b"r 18446744073709551616\n",
+        b"r 01\n",
+        b"r +1\n",
+        b"r -\n",
+        b"r 1 2\n",
+    ];
+    for line in lines {
+        check_rows(
+            &rt,
+            rt.alloc(),
+            &[("ring 8", line, b"", "line 1: bad command")],
+        )?;
+    }
+    let lines: [&[u8]; 5] = [b"a 1\n", b"a 1 2 3\n", b"x 1 2\n", b"f 1\n", b"w 61\n"];
+    for line in lines {
+        check_rows(
+            &rt,
+            rt.alloc(),
+            &[("asm 4", line, b"", "line 1: bad command")],
+        )?;
+    }
+    Ok(())
+}
+
+#[test]
+fn finds_long_lines(rt: HostRuntime) -> Result<(), Fail> {
+    let mut input = vec![in rt.alloc(); b'6'; 8195]?;
+    input[0] = b'w';
+    input[1] = b' ';
+    input[4096] = b'\n';
+    input[4097] = b'w';
+    input[4098] = b' ';
+    check_rows(
+        &rt,
+        rt.alloc(),
+        &[("ring 4096", &input, b"took 2047\n", "line 2: line too long")],
+    )
+}
+
+#[test]
+fn finds_a_long_line_as_soon_as_its_bytes_were_read(rt: HostRuntime) -> Result<(), Fail> {
+    for (length, end) in [(4096, "read failed"), (4097, "line 1: line too long")] {
+        let input = vec![in rt.alloc(); b'w'; length]?;
+        let mut source = Source::new(&input);
+        source.fails = 1;
+        let mut sink = Sink::new(rt.alloc())?;
+        let outcome = run(
+            rt.alloc(),
+            mode(rt.alloc(), "ring 8")?,
+            &mut source,
+            &mut sink,
+        );
+        let text = ended(rt.alloc(), outcome)?;
+        assert_eq!(rt; text.as_str(), end);
+        assert!(rt; sink.bytes.is_empty());
+    }
+    Ok(())
+}
+
+#[test]
+fn reads_fail_in_turn(rt: HostRuntime) -> Result<(), Fail> {
+    let input = b"w 61\nr 1".as_slice();
+    for fails in 0..10 {
+        let mut source = Source::new(input);
+        source.most = 1;
+        source.fails = fails;
+        let mut sink = Sink::new(rt.alloc())?;
+        let outcome = run(
+            rt.alloc(),
+            mode(rt.alloc(), "ring 8")?,
+            &mut source,
+            &mut sink,
+        );
+        let text = ended(rt.alloc(), outcome)?;
+        let (end, output) = if fails < 5 {
+            ("read failed", b"".as_slice())
+        } else if fails < 9 {
+            ("read failed", b"took 1\n".as_slice())
+        } else {
+            ("Ok", b"took 1\nread 61\n".as_slice())
+        };
+        assert_eq!(rt; text.as_str(), end, "read {fails} fails");
+        assert_eq!(rt; sink.bytes.as_slice(), output, "read {fails} fails");
+    }
+    Ok(())
+}
+
+#[test]
+fn writes_fail_in_turn(rt: HostRuntime) -> Result<(), Fail> {
+    let input = b"w 6162\nr 1\nr 1\n".as_slice();
+    let output = b"took 2\nread 61\nread 62\n".as_slice();
+    for most in [0, 1, 5, 100] {
+        for fails in 0..30 {
+            let mut source = Source::new(input);
+            let mut sink = Sink::new(rt.alloc())?;
+            sink.most = most;
+            sink.fails = fails;
+            let outcome = run(
+                rt.alloc(),
+                mode(rt.alloc(), "ring 8")?,
+                &mut source,
+                &mut sink,
+            );
+            let text = ended(rt.alloc(), outcome)?;
+            let whole = sink.bytes.as_slice() == output;
+            assert_eq!(rt; text.as_str(), if whole { "Ok" } else { "write failed" });
+            assert!(rt; output.starts_with(&sink.bytes));
+            let tried = if whole {
+                sink.calls
+            } else {
+                sink.calls.saturating_sub(1)
+            };
+            assert!(rt;
+                sink.bytes.len() <= tried.saturating_mul(most),
+                "after a failed write none is tried"
+            );
+        }
+    }
+    Ok(())
+}
+
+#[test]
+fn writes_a_beginning_of_a_reply(rt: HostRuntime) -> Result<(), Fail> {
+    let mut source = Source::new(b"w 6162\n");
+    let mut sink = Sink::new(rt.alloc())?;
+    sink.most = 5;
+    sink.fails = 1;
+    let outcome = run(
+        rt.alloc(),
+        mode(rt.alloc(), "ring 8")?,
+        &mut source,
+        &mut sink,
+    );
+    let text = ended(rt.alloc(), outcome)?;
+    assert_eq!(rt; text.as_str(), "write failed");
+    assert_eq!(rt; sink.bytes.as_slice(), b"took ".as_slice());
+    assert_eq!(rt; sink.calls, 2);
+    Ok(())
+}
+
+/// Where a request for memory is refused, whole replies of a beginning of the lines were written. No request is
+/// refused in this test unless it is run so.
+#[test]
+fn leaves_whole_replies_where_memory_is_refused(rt: HostRuntime) -> Result<(), Fail> {
+    let mode = mode(rt.alloc(), "ring 4")?;
+    let mut source = Source::new(b"w 6162\nr 1\nr 9\n");
+    let mut sink = Sink::new(rt.alloc())?;
+    let outcome = run(rt.alloc(), mode, &mut source, &mut sink);
+    match outcome {
+        Ok(()) => assert_eq!(rt;
+            sink.bytes.as_slice(),
+            b"took 2\nread 61\nread 62\n".as_slice()
+        ),
+        Err(BenchError::OutOfMemory) => {
+            let written = sink.bytes.as_slice();
+            let whole = written.is_empty()
+                || written == b"took 2\n".as_slice()
+                || written == b"took 2\nread 61\n".as_slice();
+            assert!(rt; whole);
+        }
+        Err(_) => return Err(Fail::from(AllocError)),
+    }
+    Ok(())
+}
+
+#[test]
+fn shows_each_error(rt: HostRuntime) -> Result<(), Fail> {
+    let texts = [
+        (
+            BenchError::BadCommand(18446744073709551615),
+            "line 18446744073709551615: bad command",
+        ),
+        (BenchError::RangeTooLong(2), "line 2: range too long"),
+        (BenchError::LineTooLong(3), "line 3: line too long"),
+        (
+            BenchError::TooManySchedules(4),
+            "line 4: too many schedules",
+        ),
+        (BenchError::OutOfMemory, "out of memory"),
+        (BenchError::ReadFailed, "read failed"),
+        (BenchError::WriteFailed, "write failed"),
+    ];
+    for (error, text) in texts {
+        let shown = format!(in rt.alloc(); "{error}")?;
+        assert_eq!(rt; shown.as_str(), text);
+    }
+    Ok(())
+}

@@ -1,0 +1,64 @@
+//! The program, from its words and streams to its exit status.
+ghost use Rattle.std.specs.Prelude.{◌≡◌, map, IfSome, None, ◌↔◌, string_bytes, ◌≤◌};
+ghost use Rattle.std.specs.Io.KnownBytes.{Appends, Keeps};
+ghost use Rattle.net_bench.specs.Transcript.{Leaves};
+ghost use Rattle.net_bench.specs.Modes.{out, fault, form_of, transcript_of};
+ghost use Rattle.net_bench.specs.declared.error.BenchError.{BenchError};
+
+use crate::error::BenchError;
+use crate::mode::Mode;
+use crate::run::run;
+use std::alloc::Global;
+use std::io::{Read, Write};
+
+#[cfg(test)]
+mod tests;
+
+/// What standard error says of words that name no mode.
+const USAGE: &str = "usage: net_bench ring CAP | asm N | stream CAP N\n";
+
+/// Runs the mode that the words name and flushes the writer once; a flush that fails after a run without
+/// a fault is a failed write. It writes what belongs on standard error to `errors`, whose own failure changes
+/// nothing. The exit status is 0 after a run and a flush that answered Ok, 1 after an error, and 2 where the
+/// words name no mode: then nothing is read, and nothing is written but to `errors`.
+pub fn serve<R: Read, W: Write, E: Write>(
+    alloc: Global,
+    words: &[String],
+    reader: &mut R,
+    writer: &mut W,
+    errors: &mut E,
+) -> u8
+    ensures status { result ≤ 2 }
+    ensures usage { (result ≡ 2) ↔ (form_of (map string_bytes words.now) ≡ None) }
+    ensures unread { result ≡ 2 → Keeps (R.remaining reader.old) (R.remaining reader.new)
+        × Keeps (W.contents writer.old) (W.contents writer.new) }
+    ensures ok { result ≡ 0 → IfSome (form_of (map string_bytes words.now)) (λ form.
+        IfSome (R.remaining reader.old) (λ input. (fault form input ≡ None)
+        × Appends (W.contents writer.old) (W.contents writer.new) (out form input))) }
+    ensures quiet { result ≡ 0 → Keeps (E.contents errors.old) (E.contents errors.new) }
+    ensures err { result ≡ 1 → IfSome (form_of (map string_bytes words.now)) (λ form.
+        IfSome (R.remaining reader.old) (λ input. (e : BenchError)
+        × Leaves (transcript_of form) input (R.remaining reader.new)
+        (W.contents writer.old) (W.contents writer.new) e)) }
+{
+    let Some(mode) = Mode::from_words(words) else {
+        let _ = errors.write_all(USAGE.as_bytes());
+        return 2;
+    };
+    let outcome = run(alloc, mode, reader, writer);
+    let flushed = writer.flush();
+    let Err(error) = outcome else {
+        if flushed.is_ok() {
+            return 0;
+        }
+        tell(errors, BenchError::WriteFailed);
+        return 1;
+    };
+    tell(errors, error);
+    1
+}
+
+/// Writes an error as a line.
+fn tell<E: Write>(errors: &mut E, error: BenchError) {
+    let _ = writeln!(errors, "{error}");
+}

@@ -1,0 +1,125 @@
+//! The program's statuses, and what it says on standard error.
+use super::*;
+use crate::streams::{Sink, Source, command_words};
+use std::test::Fail;
+
+const USAGE_LINE: &[u8] = b"usage: net_bench ring CAP | asm N | stream CAP N\n";
+
+#[test]
+fn answers_each_status(rt: HostRuntime) -> Result<(), Fail> {
+    let cases: [(&str, &[u8], &[u8], u8, &[u8]); 6] = [
+        ("ring 8", b"w 61\n", b"took 1\n", 0, b""),
+        ("ring 8", b"", b"", 0, b""),
+        (
+            "ring 8",
+            b"w 61\nx 1\nw 62\n",
+            b"took 1\n",
+            1,
+            b"line 2: bad command\n",
+        ),
+        (
+            "asm 4",
+            b"a 0 1\na 18446744073709551615 1\n",
+            b"ok\n",
+            1,
+            b"line 2: range too long\n",
+        ),
+        ("ring 65536", b"r 1", b"read -\n", 0, b""),
+        ("ring 0", b"w 61", b"took 0\n", 0, b""),
+    ];
+    for (line, input, output, status, told) in cases {
+        let words = command_words(rt.alloc(), line)?;
+        let mut source = Source::new(input);
+        let mut sink = Sink::new(rt.alloc())?;
+        let mut errors = Sink::new(rt.alloc())?;
+        let answer = serve(rt.alloc(), &words, &mut source, &mut sink, &mut errors);
+        assert_eq!(rt; answer, status, "{line}");
+        assert_eq!(rt; sink.bytes.as_slice(), output, "{line}");
+        assert_eq!(rt; errors.bytes.as_slice(), told, "{line}");
+        assert_eq!(rt; sink.flushes, 1, "{line}");
+    }
+    Ok(())
+}
+
+#[test]
+fn says_how_it_is_used(rt: HostRuntime) -> Result<(), Fail> {
+    let lines = [
+        "",
+        "ring",
+        "ring 65537",
+        "ring 08",
+        "ring -1",
+        "ring 8 9",
+        "Ring 8",
+        "asm 5",
+        "asm 04",
+        "asm",
+        "stream 16 4",
+    ];
+    for line in lines {
+        let words = command_words(rt.alloc(), line)?;
+        let mut source = Source::new(b"w 61\n");
+        let mut sink = Sink::new(rt.alloc())?;
+        let mut errors = Sink::new(rt.alloc())?;
+        let answer = serve(rt.alloc(), &words, &mut source, &mut sink, &mut errors);
+        assert_eq!(rt; answer, 2, "{line}");
+        assert_eq!(rt; errors.bytes.as_slice(), USAGE_LINE, "{line}");
+        assert_eq!(rt; source.calls, 0, "{line}");
+        assert_eq!(rt; sink.calls, 0, "{line}");
+    }
+    let none = Vec::new(rt.alloc());
+    let mut errors = Sink::new(rt.alloc())?;
+    let answer = serve(
+        rt.alloc(),
+        &none,
+        &mut Source::new(b""),
+        &mut Sink::new(rt.alloc())?,
+        &mut errors,
+    );
+    assert_eq!(rt; answer, 2);
+    assert_eq!(rt; errors.bytes.as_slice(), USAGE_LINE);
+    Ok(())
+}
+
+#[test]
+fn says_which_stream_failed(rt: HostRuntime) -> Result<(), Fail> {
+    let words = command_words(rt.alloc(), "ring 8")?;
+    for (read_fails, write_fails, flush_fails, told) in [
+        (1, usize::MAX, false, b"read failed\n".as_slice()),
+        (usize::MAX, 0, false, b"write failed\n".as_slice()),
+        (usize::MAX, usize::MAX, true, b"write failed\n".as_slice()),
+        (1, usize::MAX, true, b"read failed\n".as_slice()),
+    ] {
+        let mut source = Source::new(b"w 61\n");
+        source.fails = read_fails;
+        let mut sink = Sink::new(rt.alloc())?;
+        sink.fails = write_fails;
+        sink.flush_fails = flush_fails;
+        let mut errors = Sink::new(rt.alloc())?;
+        let answer = serve(rt.alloc(), &words, &mut source, &mut sink, &mut errors);
+        assert_eq!(rt; answer, 1);
+        assert_eq!(rt; errors.bytes.as_slice(), told);
+        assert_eq!(rt; sink.flushes, 1);
+    }
+    Ok(())
+}
+
+#[test]
+fn keeps_its_status_where_standard_error_fails(rt: HostRuntime) -> Result<(), Fail> {
+    for (line, status) in [("ring 8", 1), ("ring", 2)] {
+        let words = command_words(rt.alloc(), line)?;
+        let mut sink = Sink::new(rt.alloc())?;
+        let mut errors = Sink::new(rt.alloc())?;
+        errors.fails = 0;
+        let answer = serve(
+            rt.alloc(),
+            &words,
+            &mut Source::new(b"w 61\nx\n"),
+            &mut sink,
+            &mut errors,
+        );
+        assert_eq!(rt; answer, status, "{line}");
+        assert!(rt; errors.bytes.is_empty(), "{line}");
+    }
+    Ok(())
+}

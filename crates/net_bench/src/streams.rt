@@ -1,0 +1,103 @@
+//! Readers and writers over memory, for tests.
+ghost use Rattle.std.specs.Prelude.{Some};
+
+use std::alloc::{AllocError, Global};
+use std::io;
+use std::io::{Read, Write};
+
+/// A reader over bytes: it gives at most `most` bytes a call, and its call number `fails`, counted from 0,
+/// fails.
+#[derive(Drop)]
+pub struct Source<'a> {
+    pub bytes: &'a [u8],
+    pub most: usize,
+    pub calls: usize,
+    pub fails: usize,
+}
+
+impl<'a> Source<'a> {
+    /// A reader that gives all that is asked for, and never fails.
+    pub fn new(bytes: &'a [u8]) -> Source<'a> {
+        Source {
+            bytes,
+            most: usize::MAX,
+            calls: 0,
+            fails: usize::MAX,
+        }
+    }
+}
+
+impl Read for Source<'_> {
+    ghost remaining = { λ s. Some s.bytes.now };
+
+    fn read(&mut self, buf: &mut [u8]) -> io::Result<usize> {
+        let call = self.calls;
+        self.calls = call.saturating_add(1);
+        if call == self.fails {
+            return Err(io::Error::from(io::ErrorKind::Other));
+        }
+        let count = buf.len().min(self.bytes.len()).min(self.most.max(1));
+        let (front, rest) = self.bytes.split_at(count);
+        buf[..count].copy_from_slice(front);
+        self.bytes = rest;
+        Ok(count)
+    }
+}
+
+/// A writer that keeps what it takes: at most `most` bytes a call;
+/// its call number `fails`, counted from 0, fails, and so does its flush where `flush_fails`.
+#[derive(Drop)]
+pub struct Sink {
+    pub bytes: Vec<u8>,
+    pub most: usize,
+    pub calls: usize,
+    pub fails: usize,
+    pub flushes: usize,
+    pub flush_fails: bool,
+}
+
+impl Sink {
+    /// A writer that takes all, and never fails. Its memory for 8,192 bytes is taken here.
+    pub fn new(alloc: Global) -> Result<Sink, AllocError> {
+        Ok(Sink {
+            bytes: Vec::with_capacity(alloc, 8192)?,
+            most: usize::MAX,
+            calls: 0,
+            fails: usize::MAX,
+            flushes: 0,
+            flush_fails: false,
+        })
+    }
+}
+
+impl Write for Sink {
+    ghost contents = { λ s. Some s.bytes.items };
+
+    fn write(&mut self, buf: &[u8]) -> io::Result<usize> {
+        let call = self.calls;
+        self.calls = call.saturating_add(1);
+        if call == self.fails {
+            return Err(io::Error::from(io::ErrorKind::Other));
+        }
+        let count = buf.len().min(self.most);
+        self.bytes.extend_from_slice(&buf[..count])?;
+        Ok(count)
+    }
+
+    fn flush(&mut self) -> io::Result<()> {
+        self.flushes = self.flushes.saturating_add(1);
+        if self.flush_fails {
+            return Err(io::Error::from(io::ErrorKind::Other));
+        }
+        Ok(())
+    }
+}
+
+/// The words of a command line.
+pub fn command_words(alloc: Global, line: &str) -> Result<Vec<String>, AllocError> {
+    let mut words = Vec::new(alloc);
+    for word in line.split(' ') {
+        words.push(String::from_str(alloc, word)?)?;
+    }
+    Ok(words)
+}

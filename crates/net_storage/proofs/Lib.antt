@@ -1,0 +1,18 @@
+pub mod Rotations
+pub mod Relend
+pub mod RingFacts
+pub mod ResetFacts
+mod OneField
+pub mod PacketFacts
+pub mod PacketSteps
+pub mod PacketOrder
+mod LendInside
+mod ResultParts
+mod WalkedQueue
+pub mod Positions
+pub mod Runs
+pub mod Contigs
+pub mod Moves
+pub mod AssemblerText
+pub mod MaximalRuns
+pub mod AssemblerLaws

@@ -1,0 +1,515 @@
+-- What the clauses of a ring's calls say, from its storage.
+use Rattle.std.proofs.Common.{◌≢◌, zero, suc, get_or, ◌≡◌, ℕ, ◌+◌, ◌-◌, ◌<◌, ◌≤◌, ◌⊎◌, List, [], ◌∷◌, ◌++◌, length, take, drop, min, refl, sym, ap, ap₂, ◌∙◌, subst, inl, inr, arith, length-append, length-drop, add-zero, nat_lt, if◌then◌else◌}
+use Rattle.std.proofs.Common.{append_assoc}
+use Rattle.std.proofs.lemmas.List.{drop-take, take_at, drop_at, take-take, drop-drop, length-take-le, take-append-drop, take_all, drop_all, append-nil, nil_from_length}
+use Rattle.std.proofs.lemmas.Bool.{false≢true, cases_lt, ne_eqb, eq-eqb}
+use Rattle.std.specs.Prelude.{Result, IsOk, IsErr, is_ok}
+use Rattle.std.specs.declared.result.Result.TheVariants.{Ok, Err}
+use Rattle.net_storage.specs.Overwrite.{overwrite}
+use Rattle.net_storage.specs.Ring.{RingState, rot, ring, capacity, window, queue, spare, place, write_at, WellFormed, written, written_round, taken_in, taken_off, restarted, contiguous_window, contiguous_held, spare_place, spare_run, held_place, held_run, Enqueued, Dequeued, SpareWritten, QueueWritten, EnqueuedFrom, DequeuedFrom}
+use Rattle.net_storage.proofs.Rotations.{IsPlace, cut, length-rot, overwrite_at, length-overwrite, place_is, run-rot, read_at_le, whole, length-queue, length-spare, spare-written, queue-written, taking_in, taking_off, take_sum}
+
+module _ {T : Type 0} where
+  -- ---- lists
+  -- a write over the first elements
+  overwrite_front : (s ws : List T) (k : ℕ) → k ≤ length ws → length ws ≤ length s → (take k (overwrite s 0 ws) ≡ take k ws) × (drop (length ws) (overwrite s 0 ws) ≡ drop (length ws) s)
+  overwrite_front s ws k e le =
+      let c = cut (length ws) s le in let m = c.0 in let z = c.1 in
+      let is : overwrite s 0 ws ≡ ws ++ z = ap (λ (l : List T). overwrite l 0 ws) c.2 ∙ overwrite_at [] m z ws 0 refl c.3 in
+      let low : take k (ws ++ z) ≡ take k ws = sym (take-take k (length ws) (ws ++ z) e) ∙ ap (take k) (take_at ws z (length ws) refl) in
+      (ap (take k) is ∙ low, ap (drop (length ws)) is ∙ drop_at ws z (length ws) refl ∙ sym (ap (drop (length ws)) c.2 ∙ drop_at m z (length ws) c.3))
+
+  pub overwrite_none : (s : List T) (i : ℕ) → overwrite s i [] ≡ s
+  overwrite_none s i = ap (take (length s)) (take-append-drop i s) ∙ take_all (length s) s (omega arith)
+
+  pub overwrite_whole : (s ws : List T) → length ws ≡ length s → overwrite s 0 ws ≡ ws
+  overwrite_whole s ws e = sym (take_all (length s) (overwrite s 0 ws) (omega (arith, length-overwrite s 0 ws))) ∙ (overwrite_front s ws (length s) (omega (arith, e)) (omega (arith, e))).0 ∙ take_all (length s) ws (omega (arith, e))
+
+  overwrite_twice : (s a b : List T) (i : ℕ) → i + length a + length b ≤ length s → overwrite (overwrite s i a) (i + length a) b ≡ overwrite s i (a ++ b)
+  overwrite_twice s a b i le =
+      let c1 = cut i s (omega arith) in let f = c1.0 in let v = c1.1 in let lf : length f ≡ i = c1.3 in let lv : length v ≡ length s - i = c1.4 in
+      let c2 = cut (length a) v (omega arith) in let m = c2.0 in let u = c2.1 in let lm : length m ≡ length a = c2.3 in let lu : length u ≡ length v - length a = c2.4 in
+      let c3 = cut (length b) u (omega arith) in let n = c3.0 in let z = c3.1 in let ln : length n ≡ length b = c3.3 in
+      let whole : s ≡ f ++ (m ++ (n ++ z)) = c1.2 ∙ ap (λ (l : List T). f ++ l) (c2.2 ∙ ap (λ (l : List T). m ++ l) c3.2) in
+      let one : overwrite (f ++ (m ++ (n ++ z))) i a ≡ (f ++ a) ++ (n ++ z) = overwrite_at f m (n ++ z) a i lf lm ∙ sym (append_assoc f a (n ++ z)) in
+      let long : length (f ++ a) ≡ i + length a = omega (arith, length-append f a) in
+      let two : overwrite ((f ++ a) ++ (n ++ z)) (i + length a) b ≡ f ++ ((a ++ b) ++ z) = overwrite_at (f ++ a) n z b (i + length a) long ln ∙ append_assoc f a (b ++ z) ∙ ap (λ (l : List T). f ++ l) (sym (append_assoc a b z)) in
+      let both : length (m ++ n) ≡ length (a ++ b) = omega (arith, length-append m n, length-append a b) in
+      let all : overwrite (f ++ (m ++ (n ++ z))) i (a ++ b) ≡ f ++ ((a ++ b) ++ z) = ap (λ (l : List T). overwrite (f ++ l) i (a ++ b)) (sym (append_assoc m n z)) ∙ overwrite_at f (m ++ n) z (a ++ b) i lf both in
+      let P : List T → Type 0 = λ l. overwrite (overwrite l i a) (i + length a) b ≡ overwrite l i (a ++ b) in
+      subst P (sym whole) (ap (λ (l : List T). overwrite l (i + length a) b) one ∙ two ∙ sym all)
+
+  -- what reaches past the end of a list is not written
+  overwrite_cut : (s ws : List T) (i : ℕ) → i ≤ length s → length s ≤ i + length ws → overwrite s i ws ≡ overwrite s i (take (length s - i) ws)
+  overwrite_cut s ws i le past =
+      let m : ℕ = length s - i in
+      let c1 = cut i s le in let f = c1.0 in let v = c1.1 in let lf : length f ≡ i = c1.3 in let lv : length v ≡ m = c1.4 in
+      let c2 = cut m ws (omega arith) in let a = c2.0 in let b = c2.1 in let la : length a ≡ m = c2.3 in
+      let whole : s ≡ f ++ v = c1.2 in
+      let lfv : length (f ++ v) ≡ i + m = omega (arith, length-append f v, lf, lv) in
+      let lws : length ws ≡ m + length b = ap length c2.2 ∙ length-append a b ∙ ap (λ (n : ℕ). n + length b) la in
+      let none : drop (length ws) v ≡ [] = drop_all (length ws) v (omega (arith, lws, lv)) in
+      let lfa : length (f ++ a) ≡ i + m = omega (arith, length-append f a, lf, la) in
+      let left : overwrite (f ++ v) i ws ≡ f ++ a =
+      ap (take (length (f ++ v))) (ap₂ ◌++◌ (take_at f v i lf) (ap (λ (l : List T). ws ++ drop (length ws) l) (drop_at f v i lf) ∙ ap (λ (l : List T). ws ++ l) none ∙ append-nil ws ∙ c2.2))
+      ∙ ap (λ (n : ℕ). take n (f ++ (a ++ b))) lfv ∙ ap (take (i + m)) (sym (append_assoc f a b)) ∙ take_at (f ++ a) b (i + m) lfa in
+      let right : overwrite (f ++ v) i a ≡ f ++ a = ap (λ (l : List T). overwrite (f ++ l) i a) (sym (append-nil v)) ∙ overwrite_at f v [] a i lf (omega (arith, la, lv)) ∙ ap (λ (l : List T). f ++ l) (append-nil a) in
+      ap (λ (l : List T). overwrite l i ws) whole ∙ left ∙ sym (ap (λ (l : List T). overwrite l i a) whole ∙ right) ∙ ap (overwrite s i) (sym (ap (take m) c2.2 ∙ take_at a b m la))
+
+  -- a write in two parts, the second at the beginning
+  pub round_is : (s ws : List T) (i k : ℕ) → i ≤ length s → k ≡ min (length ws) (length s - i) → overwrite (overwrite s i (take k ws)) 0 (drop k ws) ≡ overwrite (overwrite s i ws) 0 (drop (length s - i) ws)
+  round_is s ws i k le e = elim (cases_lt (length s - i) (length ws)) [
+    | inl past ↦
+        let n : k ≡ length s - i = omega (arith, e, past) in
+        ap (λ (n : ℕ). overwrite (overwrite s i (take n ws)) 0 (drop n ws)) n ∙ ap (λ (l : List T). overwrite l 0 (drop (length s - i) ws)) (sym (overwrite_cut s ws i le (omega (arith, past))))
+    | inr within ↦
+        let n : k ≡ length ws = omega (arith, e, within) in
+        ap (λ (n : ℕ). overwrite (overwrite s i (take n ws)) 0 (drop n ws)) n
+        ∙ ap₂ (λ (a b : List T). overwrite (overwrite s i a) 0 b) (take_all (length ws) ws (omega arith)) (drop_all (length ws) ws (omega arith) ∙ sym (drop_all (length s - i) ws within))
+  ]
+
+  -- what a run of the storage is shown as
+  pub run_is : (b : List T) (p k : ℕ) → p + k ≤ length b → (now : List T) → now ≡ take (p + k - p) (drop p b) → (length now ≡ k) × (now ≡ take k (drop p b))
+  run_is b p k le now e =
+      let n : p + k - p ≡ k = omega arith in
+      let is : now ≡ take k (drop p b) = e ∙ ap (λ (j : ℕ). take j (drop p b)) n in
+      (ap length is ∙ length-take-le k (drop p b) (omega (arith, length-drop p b)), is)
+
+  pub take_one : (s : List T) (i : ℕ) (x : T) → i < length s → x ≡ get_or s i x → take 1 (drop i s) ≡ x ∷ []
+  take_one [] i x h e = absurd (omega arith)
+  take_one (y ∷ ys) zero x h e = ap (λ (z : T). z ∷ []) (sym e)
+  take_one (y ∷ ys) (suc i) x h e = take_one ys i x (omega arith) e
+
+  first_of : (xs : List T) (x : T) → x ∷ [] ≡ take 1 xs → xs ≡ x ∷ drop 1 xs
+  first_of xs x e = sym (take-append-drop 1 xs) ∙ ap (λ (l : List T). l ++ drop 1 xs) (sym e)
+
+  -- ---- a ring
+  module _ (g : RingState T) (wf : WellFormed g) where
+    pub written_wf : (p : ℕ) (ws : List T) → WellFormed (written g p ws)
+    written_wf p ws = subst (λ (n : ℕ). ((g.read_at ≡ 0) ⊎ (g.read_at < n)) × (g.held ≤ n)) (sym (length-overwrite g.storage p ws)) wf
+
+    pub place_le : (j : ℕ) → j ≤ capacity g → place g j ≤ capacity g
+    place_le j le = elim (place_is g j) [ inl h ↦ omega (arith, h.0, h.1, read_at_le g wf) | inr h ↦ omega (arith, h.0, h.1, read_at_le g wf) ]
+
+    pub front_place : IsPlace (capacity g) g.read_at 0 g.read_at
+    front_place = elim wf.0 [
+      | inl e ↦ elim (cases_lt 0 (length g.storage)) [ inl h ↦ inl (omega (arith, e, h), omega arith) | inr h ↦ inr (omega (arith, e, h), omega (arith, e, h)) ]
+      | inr h ↦ inl (omega (arith, h), omega arith)
+    ]
+
+    pub back_place : IsPlace (capacity g) g.read_at (g.held + 0) (write_at g)
+    back_place = subst (λ (j : ℕ). IsPlace (capacity g) g.read_at j (write_at g)) (sym (add-zero g.held)) (place_is g g.held)
+
+    -- ---- runs of the storage, by queue and spare part
+    pub spare_value : (i k p : ℕ) → i + k ≤ window g → p + k ≤ capacity g → IsPlace (capacity g) g.read_at (g.held + i) p → take k (drop p g.storage) ≡ take k (drop i (spare g))
+    spare_value i k p hi hp at = run-rot g.storage g.read_at (g.held + i) p k (read_at_le g wf) (omega (arith, wf.1)) hp at ∙ ap (take k) (sym (drop-drop i g.held (rot g.storage g.read_at)))
+
+    pub held_value : (i k p : ℕ) → i + k ≤ g.held → p + k ≤ capacity g → IsPlace (capacity g) g.read_at i p → take k (drop p g.storage) ≡ take k (drop i (queue g))
+    held_value i k p hi hp at =
+        let all = rot g.storage g.read_at in
+        let whole : queue g ≡ take (i + (g.held - i)) all = ap (λ (j : ℕ). take j all) (omega arith) in
+        let low : take k (drop i (queue g)) ≡ take k (drop i all) =
+        ap (λ (l : List T). take k (drop i l)) whole ∙ ap (take k) (drop-take i (g.held - i) all) ∙ take-take k (g.held - i) (drop i all) (omega arith) in
+        run-rot g.storage g.read_at i p k (read_at_le g wf) (omega (arith, wf.1)) hp at ∙ sym low
+
+    -- ---- writes
+    pub spare_law : (i p : ℕ) (ws : List T) → i + length ws ≤ window g → p + length ws ≤ capacity g → IsPlace (capacity g) g.read_at (g.held + i) p → SpareWritten g i ws (written g p ws)
+    spare_law i p ws hi hp at = let w = spare-written g wf i p ws hi hp at in (w.0, w.1, refl)
+
+    pub held_law : (i p : ℕ) (ws : List T) → i + length ws ≤ g.held → p + length ws ≤ capacity g → IsPlace (capacity g) g.read_at i p → QueueWritten g i ws (written g p ws)
+    held_law i p ws hi hp at = let w = queue-written g wf i p ws hi hp at in (w.0, w.1, refl)
+
+    -- ---- elements that are taken in
+    pub enqueued_from : (k : ℕ) (ws : List T) → k ≤ length ws → length ws ≤ contiguous_window g → EnqueuedFrom g k ws (written (taken_in k g) (write_at g) ws)
+    enqueued_from k ws le room =
+        let p = write_at g in
+        let fits : p + length ws ≤ capacity g = omega (arith, room, place_le g.held wf.1) in
+        let w = spare_law 0 p ws (omega (arith, room)) fits back_place in
+        let t = taking_in (written g p ws) (written_wf p ws) k (omega (arith, room, le, length-overwrite g.storage p ws)) in
+        let f = overwrite_front (spare g) ws k le (omega (arith, room, length-spare g wf)) in
+        (t.0 ∙ ap₂ ◌++◌ w.0 (ap (take k) w.1 ∙ f.0), t.1 ∙ ap (drop k) w.1, refl)
+
+    pub enqueued_law : (k : ℕ) → k ≤ contiguous_window g → (ws : List T) → length ws ≡ k → Enqueued g ws (written (taken_in k g) (write_at g) ws)
+    enqueued_law k le ws e =
+        let all = enqueued_from k ws (omega (arith, e)) (omega (arith, e, le)) in
+        let f = overwrite_front (spare g) ws k (omega (arith, e)) (omega (arith, e, le, length-spare g wf)) in
+        (all.0 ∙ ap (λ (l : List T). queue g ++ l) (take_all k ws (omega (arith, e))), all.1 ∙ ap (λ (n : ℕ). drop n (overwrite (spare g) 0 ws)) (sym e) ∙ f.1, refl)
+
+    pub taken_in_law : (k : ℕ) → k ≤ window g → Enqueued g (take k (spare g)) (taken_in k g)
+    taken_in_law k le =
+        let t = taking_in g wf k le in
+        let long : length (take k (spare g)) ≡ k = length-take-le k (spare g) (omega (arith, le, length-spare g wf)) in
+        (t.0, t.1 ∙ ap (λ (n : ℕ). drop n (spare g)) (sym long), refl)
+
+    -- ---- elements that are taken off
+    pub dequeued_from : (k : ℕ) (ws : List T) → k ≤ length ws → length ws ≤ contiguous_held g → DequeuedFrom g k ws (written (taken_off k g) g.read_at ws)
+    dequeued_from k ws le room =
+        let w = written g g.read_at ws in
+        let wwf = written_wf g.read_at ws in
+        let same : taken_off k w ≡ written (taken_off k g) g.read_at ws =
+        ap (λ n. ring (overwrite g.storage g.read_at ws) (if nat_lt k (n - g.read_at) then g.read_at + k else k - (n - g.read_at)) (g.held - k)) (length-overwrite g.storage g.read_at ws) in
+        let q = held_law 0 g.read_at ws (omega (arith, room)) (omega (arith, room, read_at_le g wf)) front_place in
+        let f = overwrite_front (queue g) ws k le (omega (arith, room, length-queue g wf)) in
+        let t = taking_off w wwf k (omega (arith, room, le)) in
+        let whole : DequeuedFrom g k ws (taken_off k w) = (t.0 ∙ ap (drop k) q.0, t.1 ∙ ap₂ ◌++◌ q.1 (ap (take k) q.0 ∙ f.0), ap (λ o. o.read_at) same) in
+        subst (DequeuedFrom g k ws) same whole
+
+    pub dequeued_law : (k : ℕ) → k ≤ contiguous_held g → (ws : List T) → length ws ≡ k → Dequeued g k ws (written (taken_off k g) g.read_at ws)
+    dequeued_law k le ws e =
+        let all = dequeued_from k ws (omega (arith, e)) (omega (arith, e, le)) in
+        let f = overwrite_front (queue g) ws k (omega (arith, e)) (omega (arith, e, le, length-queue g wf)) in
+        (all.0 ∙ ap (λ (n : ℕ). drop n (overwrite (queue g) 0 ws)) (sym e) ∙ f.1 ∙ ap (λ (n : ℕ). drop n (queue g)) e, all.1 ∙ ap (λ (l : List T). spare g ++ l) (take_all k ws (omega (arith, e))), refl)
+
+    pub taken_off_law : (k : ℕ) → k ≤ g.held → Dequeued g k (take k (queue g)) (taken_off k g)
+    taken_off_law k le = let t = taking_off g wf k le in (t.0, t.1, refl)
+
+    -- ---- a write round the storage's end
+    round_once : (i p : ℕ) (ws : List T) → i + length ws ≤ window g → p + length ws ≤ capacity g → IsPlace (capacity g) g.read_at (g.held + i) p → SpareWritten g i ws (written_round g p ws)
+    round_once i p ws le room at =
+        let none : drop (length g.storage - p) ws ≡ [] = drop_all (length g.storage - p) ws (omega (arith, room)) in
+        let still : written_round g p ws ≡ written g p ws = ap (λ l. written (written g p ws) 0 l) none ∙ ap (λ b. ring b g.read_at g.held) (overwrite_none (overwrite g.storage p ws) 0) in
+        subst (SpareWritten g i ws) (sym still) (spare_law i p ws le room at)
+
+    round_twice : (i p : ℕ) (a b : List T) → i + length a + length b ≤ window g → p + length a ≡ capacity g → 0 < length b → IsPlace (capacity g) g.read_at (g.held + i) p → SpareWritten g i (a ++ b) (written (written g p a) 0 b)
+    round_twice i p a b le full some at =
+        let s = spare_law i p a (omega (arith, le)) (omega (arith, full)) at in
+        let w = written g p a in
+        let long = length-overwrite g.storage p a in
+        let next : IsPlace (capacity g) g.read_at (g.held + (i + length a)) 0 = elim at [ inl h ↦ inr (omega (arith, h.0, h.1, full, read_at_le g wf), omega (arith, h.0, h.1, full, read_at_le g wf)) | inr h ↦ absurd (omega (arith, h.0, h.1, full, le, some, read_at_le g wf, wf.1)) ] in
+        let t = spare-written w (written_wf p a) (i + length a) 0 b (omega (arith, long, le)) (omega (arith, long, le, wf.1)) (subst (λ (n : ℕ). IsPlace n g.read_at (g.held + (i + length a)) 0) (sym long) next) in
+        (t.0 ∙ s.0, t.1 ∙ ap (λ (l : List T). overwrite l (i + length a) b) s.1 ∙ overwrite_twice (spare g) a b i (omega (arith, le, length-spare g wf)), refl)
+
+    pub round_law : (i p : ℕ) (ws : List T) → i + length ws ≤ window g → p ≤ capacity g → IsPlace (capacity g) g.read_at (g.held + i) p → SpareWritten g i ws (written_round g p ws)
+    round_law i p ws le within at = elim (cases_lt (length g.storage - p) (length ws)) [
+      | inr once ↦ round_once i p ws le (omega (arith, once, within)) at
+      | inl past ↦
+          let m : ℕ = length g.storage - p in
+          let n : m ≡ min (length ws) (length g.storage - p) = omega (arith, past) in
+          let la : length (take m ws) ≡ m = length-take-le m ws (omega (arith, past)) in
+          let lb : length (drop m ws) ≡ length ws - m = length-drop m ws in
+          let two = round_twice i p (take m ws) (drop m ws) (omega (arith, le, la, lb, past)) (omega (arith, la, within)) (omega (arith, lb, past)) at in
+          let same : written (written g p (take m ws)) 0 (drop m ws) ≡ written_round g p ws = ap (λ b. ring b g.read_at g.held) (round_is g.storage ws p m within n) in
+          subst (SpareWritten g i ws) same (subst (λ (l : List T). SpareWritten g i l (written (written g p (take m ws)) 0 (drop m ws))) (take-append-drop m ws) two)
+    ]
+
+    -- ---- a place that is found within the window, or within the queue
+    pub spare_at : (i : ℕ) → i ≤ window g → IsPlace (capacity g) g.read_at (g.held + i) (spare_place g i)
+    spare_at i le =
+        let same : g.held + min i (window g) ≡ g.held + i = omega (arith, le) in
+        subst (λ (j : ℕ). IsPlace (capacity g) g.read_at j (spare_place g i)) same (place_is g (g.held + min i (window g)))
+
+    pub held_at : (i : ℕ) → i ≤ g.held → IsPlace (capacity g) g.read_at i (held_place g i)
+    held_at i le =
+        let same : min i g.held ≡ i = omega (arith, le) in
+        subst (λ (j : ℕ). IsPlace (capacity g) g.read_at j (held_place g i)) same (place_is g (min i g.held))
+
+    spare_place_le : (i : ℕ) → spare_place g i ≤ capacity g
+    spare_place_le i = place_le (g.held + min i (window g)) (omega (arith, wf.1))
+
+    held_place_le : (i : ℕ) → held_place g i ≤ capacity g
+    held_place_le i = place_le (min i g.held) (omega (arith, wf.1))
+
+    pub spare_run_value : (i n : ℕ) → take (spare_run g i n) (drop (spare_place g i) g.storage) ≡ take (spare_run g i n) (drop i (spare g))
+    spare_run_value i n = elim (cases_lt (window g) i) [
+      | inr h ↦ spare_value i (spare_run g i n) (spare_place g i) (omega (arith, h)) (omega (arith, spare_place_le i)) (spare_at i h)
+      | inl h ↦ let none : spare_run g i n ≡ 0 = omega (arith, h) in ap (λ (k : ℕ). take k (drop (spare_place g i) g.storage)) none ∙ sym (ap (λ (k : ℕ). take k (drop i (spare g))) none)
+    ]
+
+    pub held_run_value : (i n : ℕ) → take (held_run g i n) (drop (held_place g i) g.storage) ≡ take (held_run g i n) (drop i (queue g))
+    held_run_value i n = elim (cases_lt g.held i) [
+      | inr h ↦ held_value i (held_run g i n) (held_place g i) (omega (arith, h)) (omega (arith, held_place_le i)) (held_at i h)
+      | inl h ↦ let none : held_run g i n ≡ 0 = omega (arith, h) in ap (λ (k : ℕ). take k (drop (held_place g i) g.storage)) none ∙ sym (ap (λ (k : ℕ). take k (drop i (queue g))) none)
+    ]
+
+    nothing_spare : (i p : ℕ) → SpareWritten g i [] (written g p [])
+    nothing_spare i p =
+        let still : written g p [] ≡ g = ap (λ b. ring b g.read_at g.held) (overwrite_none g.storage p) in
+        subst (SpareWritten g i []) (sym still) (refl, sym (overwrite_none (spare g) i), refl)
+
+    nothing_held : (i p : ℕ) → QueueWritten g i [] (written g p [])
+    nothing_held i p =
+        let still : written g p [] ≡ g = ap (λ b. ring b g.read_at g.held) (overwrite_none g.storage p) in
+        subst (QueueWritten g i []) (sym still) (sym (overwrite_none (queue g) i), refl, refl)
+
+    pub spare_run_law : (i n : ℕ) (ws : List T) → length ws ≡ spare_run g i n → SpareWritten g i ws (written g (spare_place g i) ws)
+    spare_run_law i n ws e = elim (cases_lt (window g) i) [
+      | inr h ↦ spare_law i (spare_place g i) ws (omega (arith, h, e)) (omega (arith, e, spare_place_le i)) (spare_at i h)
+      | inl h ↦ let none : ws ≡ [] = nil_from_length ws (omega (arith, e, h)) in subst (λ (l : List T). SpareWritten g i l (written g (spare_place g i) l)) (sym none) (nothing_spare i (spare_place g i))
+    ]
+
+    pub held_run_law : (i n : ℕ) (ws : List T) → length ws ≡ held_run g i n → QueueWritten g i ws (written g (held_place g i) ws)
+    held_run_law i n ws e = elim (cases_lt g.held i) [
+      | inr h ↦ held_law i (held_place g i) ws (omega (arith, h, e)) (omega (arith, e, held_place_le i)) (held_at i h)
+      | inl h ↦ let none : ws ≡ [] = nil_from_length ws (omega (arith, e, h)) in subst (λ (l : List T). QueueWritten g i l (written g (held_place g i) l)) (sym none) (nothing_held i (held_place g i))
+    ]
+
+    -- the clause of `write_unallocated`
+    pub round_at : (i : ℕ) (ws : List T) → length ws ≤ window g - i → SpareWritten g i ws (written_round g (spare_place g i) ws)
+    round_at i ws le = elim (cases_lt (window g) i) [
+      | inr h ↦ round_law i (spare_place g i) ws (omega (arith, h, le)) (spare_place_le i) (spare_at i h)
+      | inl h ↦
+          let none : ws ≡ [] = nil_from_length ws (omega (arith, le, h)) in
+          let p = spare_place g i in
+          let nothing : drop (length g.storage - p) [] ≡ [] = drop_all (length g.storage - p) [] (omega arith) in
+          let still : written_round g p [] ≡ written g p [] = ap (λ l. written (written g p []) 0 l) nothing ∙ ap (λ b. ring b g.read_at g.held) (overwrite_none (overwrite g.storage p []) 0) in
+          subst (λ (l : List T). SpareWritten g i l (written_round g p l)) (sym none) (subst (SpareWritten g i []) (sym still) (nothing_spare i p))
+    ]
+
+    -- ---- one element
+    pub read_fits : g.held ≢ 0 → g.read_at < capacity g
+    read_fits h = elim wf.0 [ inl e ↦ omega (arith, e, wf.1, h) | inr l ↦ omega (arith, l) ]
+
+    pub write_fits : window g ≢ 0 → write_at g < capacity g
+    write_fits h = elim (place_is g g.held) [ inl p ↦ omega (arith, p.0, p.1, wf.1, h) | inr p ↦ omega (arith, p.0, p.1, wf.1, h, read_at_le g wf) ]
+
+    pub queue_front : (x : T) → x ≡ get_or g.storage g.read_at x → g.held ≢ 0 → queue g ≡ x ∷ drop 1 (queue g)
+    queue_front x e h =
+        let fits = read_fits h in
+        first_of (queue g) x (sym (take_one g.storage g.read_at x fits e) ∙ held_value 0 1 g.read_at (omega (arith, h)) (omega (arith, fits)) front_place)
+
+    pub spare_front : (x : T) → x ≡ get_or g.storage (write_at g) x → window g ≢ 0 → spare g ≡ x ∷ drop 1 (spare g)
+    spare_front x e h =
+        let fits = write_fits h in
+        first_of (spare g) x (sym (take_one g.storage (write_at g) x fits e) ∙ spare_value 0 1 (write_at g) (omega (arith, h)) (omega (arith, fits)) back_place)
+
+    pub enqueued_one : (w : T) → window g ≢ 0 → Enqueued g (w ∷ []) (written (taken_in 1 g) (write_at g) (w ∷ []))
+    enqueued_one w h = enqueued_law 1 (omega (arith, write_fits h, h)) (w ∷ []) refl
+
+    pub dequeued_one : (w : T) → g.held ≢ 0 → Dequeued g 1 (w ∷ []) (written (taken_off 1 g) g.read_at (w ∷ []))
+    dequeued_one w h = dequeued_law 1 (omega (arith, read_fits h, h)) (w ∷ []) refl
+
+    pub next_written : (w : T) → window g ≢ 0 → SpareWritten g 0 (w ∷ []) (written g (write_at g) (w ∷ []))
+    next_written w h = spare_law 0 (write_at g) (w ∷ []) (omega (arith, h)) (omega (arith, write_fits h)) back_place
+
+    pub front_written : (w : T) → g.held ≢ 0 → QueueWritten g 0 (w ∷ []) (written g g.read_at (w ∷ []))
+    front_written w h = held_law 0 g.read_at (w ∷ []) (omega (arith, h)) (omega (arith, read_fits h)) front_place
+
+    -- what a closure that was run on the next free element leaves, by its answer
+    pub next_either : {A E : Type 0} (w : T) → window g ≢ 0 → (answer : Result A E) (h : RingState T) → h ≡ written (if is_ok answer then taken_in 1 g else g) (write_at g) (w ∷ [])
+        → (IsOk answer → Enqueued g (w ∷ []) h) × (IsErr answer → SpareWritten g 0 (w ∷ []) h)
+    next_either w some (Ok x) h e = (λ _. subst (Enqueued g (w ∷ [])) (sym e) (enqueued_one w some), λ no. absurd (false≢true no))
+    next_either w some (Err x) h e = (λ no. absurd (false≢true no), λ _. subst (SpareWritten g 0 (w ∷ [])) (sym e) (next_written w some))
+
+    -- and on the first element of the queue
+    pub front_either : {A E : Type 0} (w : T) → g.held ≢ 0 → (answer : Result A E) (h : RingState T) → h ≡ written (if is_ok answer then taken_off 1 g else g) g.read_at (w ∷ [])
+        → (IsOk answer → Dequeued g 1 (w ∷ []) h) × (IsErr answer → QueueWritten g 0 (w ∷ []) h)
+    front_either w some (Ok x) h e = (λ _. subst (Dequeued g 1 (w ∷ [])) (sym e) (dequeued_one w some), λ no. absurd (false≢true no))
+    front_either w some (Err x) h e = (λ no. absurd (false≢true no), λ _. subst (QueueWritten g 0 (w ∷ [])) (sym e) (front_written w some))
+
+  -- ---- clauses that a call proves of the fields' ring v, said of the caller's ring g
+  module _ (v g : RingState T) (is : v ≡ g) (wf' : WellFormed v) where
+    pub well : WellFormed g
+    well = subst WellFormed is wf'
+
+    -- one write leaves the ring well-formed
+    pub once_wf : (p : ℕ) (a st : List T) → st ≡ overwrite v.storage p a → WellFormed (ring st v.read_at v.held)
+    once_wf p a st e = subst (λ l. WellFormed (ring l v.read_at v.held)) (sym e) (written_wf v wf' p a)
+
+    -- so does a write to the queue after which elements were taken off
+    pub off_wf : (k p m : ℕ) (a st : List T) → p ≡ place g k → k ≤ capacity g → m ≤ v.held → st ≡ overwrite v.storage v.read_at a → WellFormed (ring st p m)
+    off_wf k p m a st ep le few e =
+        let long : length st ≡ length v.storage = ap length e ∙ length-overwrite v.storage v.read_at a in
+        let size : length v.storage ≡ length g.storage = ap (λ o. length o.storage) is in
+        let at : (p ≡ 0) ⊎ (p < length st) = elim (place_is g k) [
+          | inl h ↦ inr (omega (arith, ep, h.0, h.1, long, size))
+          | inr h ↦ elim (well).0 [ inl z ↦ inl (omega (arith, ep, h.0, h.1, z, le)) | inr l ↦ inr (omega (arith, ep, h.0, h.1, l, le, long, size)) ]
+        ] in
+        (at, omega (arith, few, wf'.1, long))
+
+    -- and one after which elements were taken in
+    pub in_wf : (p n : ℕ) (a st : List T) → n ≤ window g → st ≡ overwrite v.storage p a → WellFormed (ring st v.read_at (v.held + n))
+    in_wf p n a st le e =
+        let w = once_wf p a st e in
+        let long : length st ≡ length v.storage = ap length e ∙ length-overwrite v.storage p a in
+        (w.0, omega (arith, wf'.1, long, ap (λ o. o.held) is, ap (λ o. length o.storage) is, le))
+
+    -- a place that is found after a write
+    pub place_after : (n p q : ℕ) (a st : List T) → st ≡ overwrite v.storage q a → p ≡ place (ring st v.read_at v.held) n → p ≡ place g n
+    place_after n p q a st e ep =
+        let long : length st ≡ length g.storage = ap length e ∙ length-overwrite v.storage q a ∙ ap (λ o. length o.storage) is in
+        ep ∙ ap₂ (λ m r. if nat_lt n (m - r) then r + n else n - (m - r)) long (ap (λ o. o.read_at) is)
+
+    pub taken_in_clause : (k : ℕ) → k ≤ window g → Enqueued g (take k (spare g)) (taken_in k v)
+    taken_in_clause k le = subst (Enqueued g (take k (spare g))) (ap (taken_in k) (sym is)) (taken_in_law g well k le)
+
+    pub taken_off_clause : (k : ℕ) (p : ℕ) → p ≡ place g k → k ≤ g.held → Dequeued g k (take k (queue g)) (ring v.storage p (v.held - k))
+    taken_off_clause k p ep le = subst (Dequeued g k (take k (queue g))) (sym (ap (λ o. ring o.storage p (o.held - k)) is ∙ ap (λ j. ring g.storage j (g.held - k)) ep)) (taken_off_law g well k le)
+
+    same_held : v.held ≡ g.held
+    same_held = ap (λ o. o.held) is
+
+    same_storage : v.storage ≡ g.storage
+    same_storage = ap (λ o. o.storage) is
+
+    -- `write_unallocated`: a is written from the place p on, and the rest of the data at the beginning
+    pub round_clause : (i o n p k : ℕ) (src a b st : List T) → o ≡ min i (window g) → n ≡ min (length src) (window g - o) → p ≡ place g (v.held + o) → k ≡ min n (capacity g - p)
+        → a ≡ take k src → b ≡ take (n - k) (drop k src) → st ≡ overwrite (overwrite v.storage p a) 0 b
+        → (ring st v.read_at v.held ≡ written_round g (spare_place g i) (take n src)) × SpareWritten g i (take n src) (ring st v.read_at v.held) × (length st ≡ capacity g)
+    round_clause i o n p k src a b st eo en ep ek ea eb es =
+        let ws : List T = take n src in
+        let at : p ≡ spare_place g i = ep ∙ ap₂ (λ h j. place g (h + j)) same_held eo in
+        let long : length ws ≡ n = length-take-le n src (omega (arith, en)) in
+        let within : p ≤ capacity g = omega (arith, ep, place_le g well (v.held + o) (omega (arith, same_held, eo, (well).1))) in
+        let one : a ≡ take k ws = ea ∙ sym (take-take k n src (omega (arith, ek))) in
+        let two : b ≡ drop k ws = eb ∙ sym (drop-take k (n - k) src) ∙ ap (λ (m : ℕ). drop k (take m src)) (omega (arith, ek)) in
+        let parts : st ≡ overwrite (overwrite g.storage p (take k ws)) 0 (drop k ws) = es ∙ ap₂ (λ x y. overwrite (overwrite v.storage p x) 0 y) one two ∙ ap (λ l. overwrite (overwrite l p (take k ws)) 0 (drop k ws)) same_storage in
+        let all : st ≡ overwrite (overwrite g.storage p ws) 0 (drop (length g.storage - p) ws) = parts ∙ round_is g.storage ws p k within (omega (arith, ek, long)) in
+        let exact : ring st v.read_at v.held ≡ written_round g (spare_place g i) ws =
+        ap (λ l. ring l v.read_at v.held) all ∙ ap (λ o. ring (overwrite (overwrite g.storage p ws) 0 (drop (length g.storage - p) ws)) o.read_at o.held) is ∙ ap (λ q. written_round g q ws) at in
+        let size : length st ≡ capacity g = ap length all ∙ length-overwrite (overwrite g.storage p ws) 0 (drop (length g.storage - p) ws) ∙ length-overwrite g.storage p ws in
+        (exact, subst (SpareWritten g i ws) (sym exact) (round_at g well i ws (omega (arith, long, en, eo))), size)
+
+    -- two writes leave the ring well-formed
+    pub twice_wf : (p q : ℕ) (a b st : List T) → st ≡ overwrite (overwrite v.storage p a) q b → WellFormed (ring st v.read_at v.held)
+    twice_wf p q a b st e = subst (λ l. WellFormed (ring l v.read_at v.held)) (sym e) (written_wf (written v p a) (written_wf v wf' p a) q b)
+
+    read_on : (o n p k : ℕ) (b : List T) → n ≤ g.held - o → o ≤ g.held → p ≡ place g o → k ≡ min n (capacity g - p) → b ≡ take (n - k - 0) (drop 0 g.storage) → b ≡ take (n - k) (drop k (drop o (queue g)))
+    read_on o n p k b le lo ep ek eb = elim (cases_lt k n) [
+      | inl more ↦
+          let within = place_le g well o (omega (arith, lo, (well).1)) in
+          let at : IsPlace (capacity g) g.read_at o p = subst (IsPlace (capacity g) g.read_at o) (sym ep) (place_is g o) in
+          let full : p + k ≡ capacity g = omega (arith, ek, more, within, ep) in
+          let next : IsPlace (capacity g) g.read_at (o + k) 0 = elim at [ inl h ↦ inr (omega (arith, h.0, h.1, full, read_at_le g well), omega (arith, h.0, h.1, full, read_at_le g well)) | inr h ↦ absurd (omega (arith, h.0, h.1, full, more, le, read_at_le g well, (well).1)) ] in
+          let n' : n - k - 0 ≡ n - k = omega arith in
+          eb ∙ ap (λ (j : ℕ). take j g.storage) n' ∙ held_value g well (o + k) (n - k) 0 (omega (arith, more, le)) (omega (arith, le, (well).1)) next ∙ ap (take (n - k)) (sym (drop-drop k o (queue g)))
+      | inr none ↦
+          let z : n - k - 0 ≡ 0 = omega (arith, none) in
+          let y : n - k ≡ 0 = omega (arith, none) in
+          eb ∙ ap (λ (j : ℕ). take j g.storage) z ∙ sym (ap (λ (j : ℕ). take j (drop k (drop o (queue g)))) y)
+    ]
+
+    clamped : (i o n : ℕ) → o ≡ min i g.held → n ≤ g.held - o → take n (drop o (queue g)) ≡ take n (drop i (queue g))
+    clamped i o n eo le = elim (cases_lt g.held i) [
+      | inr h ↦ let same : o ≡ i = omega (arith, eo, h) in ap (λ (j : ℕ). take n (drop j (queue g))) same
+      | inl h ↦ let none : n ≡ 0 = omega (arith, eo, h, le) in ap (λ (j : ℕ). take j (drop o (queue g))) none ∙ sym (ap (λ (j : ℕ). take j (drop i (queue g))) none)
+    ]
+
+    -- `read_allocated`: a is read from the place p on, and the rest of what is read at the beginning
+    pub read_clause : (i o n p k : ℕ) (to a b : List T) → o ≡ min i g.held → n ≡ min (length to) (g.held - o) → p ≡ place g o → k ≡ min n (capacity g - p)
+        → a ≡ take (p + k - p) (drop p v.storage) → b ≡ take (n - k - 0) (drop 0 v.storage)
+        → take k (a ++ drop k to) ++ (b ++ drop (n - k) (drop k (a ++ drop k to))) ≡ take n (drop i (queue g)) ++ drop n to
+    read_clause i o n p k to a b eo en ep ek ea eb =
+        let lo : o ≤ g.held = omega (arith, eo) in
+        let le : n ≤ g.held - o = omega (arith, en) in
+        let within : p ≤ capacity g = omega (arith, ep, place_le g well o (omega (arith, lo, (well).1))) in
+        let at : IsPlace (capacity g) g.read_at o p = subst (IsPlace (capacity g) g.read_at o) (sym ep) (place_is g o) in
+        let r = run_is g.storage p k (omega (arith, ek, within)) a (ea ∙ ap (λ l. take (p + k - p) (drop p l)) same_storage) in
+        let one : a ≡ take k (drop o (queue g)) = r.1 ∙ held_value g well o k p (omega (arith, ek, le, lo)) (omega (arith, ek, within)) at in
+        let two : b ≡ take (n - k) (drop k (drop o (queue g))) = read_on o n p k b le lo ep ek (eb ∙ ap (λ l. take (n - k - 0) (drop 0 l)) same_storage) in
+        let m : k + (n - k) ≡ n = omega (arith, ek) in
+        let both : a ++ b ≡ take n (drop i (queue g)) = ap₂ ◌++◌ one two ∙ sym (take_sum k (n - k) (drop o (queue g))) ∙ ap (λ (j : ℕ). take j (drop o (queue g))) m ∙ clamped i o n eo le in
+        let rest : drop (n - k) (drop k (a ++ drop k to)) ≡ drop n to = ap (drop (n - k)) (drop_at a (drop k to) k r.0) ∙ drop-drop (n - k) k to ∙ ap (λ (j : ℕ). drop j to) m in
+        ap₂ ◌++◌ (take_at a (drop k to) k r.0) (ap (λ (l : List T). b ++ l) rest) ∙ sym (append_assoc a b (drop n to)) ∙ ap (λ (l : List T). l ++ drop n to) both
+
+    -- ---- what stays once a part that was lent comes back as w
+    pub left_at : (p q : ℕ) → p ≡ q → (st w : List T) → st ≡ overwrite v.storage p w → ring st v.read_at v.held ≡ written g q w
+    left_at p q ep st w e = ap (λ b. ring b v.read_at v.held) e ∙ ap (λ o. written o p w) is ∙ ap (λ j. written g j w) ep
+
+    pub left_in : (k m p : ℕ) → k ≡ m → p ≡ write_at g → (st w : List T) → st ≡ overwrite v.storage p w → ring st v.read_at (v.held + k) ≡ written (taken_in m g) (write_at g) w
+    left_in k m p ek ep st w e = ap (λ b. ring b v.read_at (v.held + k)) e ∙ ap (λ o. written (taken_in k o) p w) is ∙ ap₂ (λ i j. written (taken_in i g) j w) ek ep
+
+    pub left_off : (k m p : ℕ) → k ≡ m → p ≡ place g k → (st w : List T) → st ≡ overwrite v.storage v.read_at w → ring st p (v.held - k) ≡ written (taken_off m g) g.read_at w
+    left_off k m p ek ep st w e =
+        ap (λ b. ring b p (v.held - k)) e ∙ ap (λ o. ring (overwrite o.storage o.read_at w) p (o.held - k)) is ∙ ap (λ j. ring (overwrite g.storage g.read_at w) j (g.held - k)) ep
+        ∙ ap (λ i. written (taken_off i g) g.read_at w) ek
+
+    -- ---- what a part that is lent or shown holds, at first: its length is k
+    shown : (p k : ℕ) → p + k ≤ capacity g → (now : List T) → now ≡ take (p + k - p) (drop p v.storage) → (length now ≡ k) × (now ≡ take k (drop p g.storage))
+    shown p k le now e = run_is g.storage p k le now (e ∙ ap (λ l. take (p + k - p) (drop p l)) same_storage)
+
+    pub shown_spare : (i n p k : ℕ) → p ≡ spare_place g i → k ≡ spare_run g i n → p + k ≤ capacity g → (now : List T) → now ≡ take (p + k - p) (drop p v.storage)
+        → (length now ≡ spare_run g i n) × (now ≡ take (length now) (drop i (spare g))) × (now ≡ take (length now) (drop (spare_place g i) g.storage))
+    shown_spare i n p k ep ek le now e =
+        let r = shown p k le now e in
+        let size : length now ≡ spare_run g i n = r.0 ∙ ek in
+        let stored : now ≡ take (spare_run g i n) (drop (spare_place g i) g.storage) = r.1 ∙ ap₂ (λ j q. take j (drop q g.storage)) ek ep in
+        (size, stored ∙ spare_run_value g well i n ∙ ap (λ j. take j (drop i (spare g))) (sym size), stored ∙ ap (λ j. take j (drop (spare_place g i) g.storage)) (sym size))
+
+    pub shown_held : (i n p k : ℕ) → p ≡ held_place g i → k ≡ held_run g i n → p + k ≤ capacity g → (now : List T) → now ≡ take (p + k - p) (drop p v.storage)
+        → (length now ≡ held_run g i n) × (now ≡ take (length now) (drop i (queue g))) × (now ≡ take (length now) (drop (held_place g i) g.storage))
+    shown_held i n p k ep ek le now e =
+        let r = shown p k le now e in
+        let size : length now ≡ held_run g i n = r.0 ∙ ek in
+        let stored : now ≡ take (held_run g i n) (drop (held_place g i) g.storage) = r.1 ∙ ap₂ (λ j q. take j (drop q g.storage)) ek ep in
+        (size, stored ∙ held_run_value g well i n ∙ ap (λ j. take j (drop i (queue g))) (sym size), stored ∙ ap (λ j. take j (drop (held_place g i) g.storage)) (sym size))
+
+    pub shown_next : (p k : ℕ) → p ≡ write_at g → k ≤ contiguous_window g → (now : List T) → now ≡ take (p + k - p) (drop p v.storage)
+        → (length now ≡ k) × (now ≡ take (length now) (spare g)) × (now ≡ take (length now) (drop (write_at g) g.storage))
+    shown_next p k ep le now e =
+        let fits : write_at g + k ≤ capacity g = omega (arith, le, place_le g well g.held (well).1) in
+        let r = shown p k (omega (arith, ep, fits)) now e in
+        let stored : now ≡ take k (drop (write_at g) g.storage) = r.1 ∙ ap (λ q. take k (drop q g.storage)) ep in
+        (r.0, stored ∙ spare_value g well 0 k (write_at g) (omega (arith, le)) fits (back_place g well) ∙ ap (λ j. take j (spare g)) (sym r.0), stored ∙ ap (λ j. take j (drop (write_at g) g.storage)) (sym r.0))
+
+    pub shown_front : (k : ℕ) → k ≤ contiguous_held g → (now : List T) → now ≡ take (v.read_at + k - v.read_at) (drop v.read_at v.storage)
+        → (length now ≡ k) × (now ≡ take (length now) (queue g)) × (now ≡ take (length now) (drop g.read_at g.storage))
+    shown_front k le now e =
+        let fits : g.read_at + k ≤ capacity g = omega (arith, le, read_at_le g well) in
+        let at : v.read_at ≡ g.read_at = ap (λ o. o.read_at) is in
+        let r = shown v.read_at k (omega (arith, at, fits)) now e in
+        let stored : now ≡ take k (drop g.read_at g.storage) = r.1 ∙ ap (λ q. take k (drop q g.storage)) at in
+        (r.0, stored ∙ held_value g well 0 k g.read_at (omega (arith, le)) fits (front_place g well) ∙ ap (λ j. take j (queue g)) (sym r.0), stored ∙ ap (λ j. take j (drop g.read_at g.storage)) (sym r.0))
+
+    -- the longest row of free elements, and the longest row at the front of the queue
+    pub lent_next : (p k : ℕ) → p ≡ write_at g → k ≡ contiguous_window g → (now : List T) → now ≡ take (p + k - p) (drop p v.storage) → (now ≡ take (contiguous_window g) (spare g)) × (length now ≡ contiguous_window g)
+    lent_next p k ep ek now e =
+        let all = shown_next p k ep (omega (arith, ek)) now e in
+        let size : length now ≡ contiguous_window g = all.0 ∙ ek in
+        (all.1 ∙ ap (λ j. take j (spare g)) size, size)
+
+    pub lent_front : (k : ℕ) → k ≡ contiguous_held g → (now : List T) → now ≡ take (v.read_at + k - v.read_at) (drop v.read_at v.storage) → (now ≡ take (contiguous_held g) (queue g)) × (length now ≡ contiguous_held g)
+    lent_front k ek now e =
+        let all = shown_front k (omega (arith, ek)) now e in
+        let size : length now ≡ contiguous_held g = all.0 ∙ ek in
+        (all.1 ∙ ap (λ j. take j (queue g)) size, size)
+
+    -- and what stays of them, n of the elements w being taken in, or off
+    pub left_in_from : (n p : ℕ) → p ≡ write_at g → (st w : List T) → st ≡ overwrite v.storage p w → length w ≡ contiguous_window g → n ≤ contiguous_window g
+        → (ring st v.read_at (v.held + n) ≡ written (taken_in n g) (write_at g) w) × EnqueuedFrom g n w (ring st v.read_at (v.held + n))
+    left_in_from n p ep st w e long le =
+        let exact = left_in n n p refl ep st w e in
+        (exact, subst (EnqueuedFrom g n w) (sym exact) (enqueued_from g well n w (omega (arith, long, le)) (omega (arith, long))))
+
+    pub left_off_from : (n p : ℕ) → p ≡ place g n → (st w : List T) → st ≡ overwrite v.storage v.read_at w → length w ≡ contiguous_held g → n ≤ contiguous_held g
+        → (ring st p (v.held - n) ≡ written (taken_off n g) g.read_at w) × DequeuedFrom g n w (ring st p (v.held - n))
+    left_off_from n p ep st w e long le =
+        let exact = left_off n n p refl ep st w e in
+        (exact, subst (DequeuedFrom g n w) (sym exact) (dequeued_from g well n w (omega (arith, long, le)) (omega (arith, long))))
+
+  -- `enqueue_slice`: a write to the front of the spare part of r, which is then taken in
+  pub enqueue_clause : (r g w h : RingState T) (ws : List T) (n : ℕ) → r ≡ g → SpareWritten r 0 ws w → h ≡ taken_in n w → length ws ≡ n → n ≤ window g → Enqueued g ws h
+  enqueue_clause r g w h ws n is s e l le =
+      let t = subst (λ (o : RingState T). SpareWritten o 0 ws w) is s in
+      let long : length (spare g) ≡ window g = omega (arith, length-drop g.held (rot g.storage g.read_at), length-rot g.storage g.read_at) in
+      let f = overwrite_front (spare g) ws n (omega (arith, l)) (omega (arith, l, long, le)) in
+      let q : queue (taken_in n w) ≡ queue g ++ ws = take_sum w.held n (rot w.storage w.read_at) ∙ ap₂ ◌++◌ t.0 (ap (take n) t.1 ∙ f.0 ∙ take_all n ws (omega (arith, l))) in
+      let p : spare (taken_in n w) ≡ drop (length ws) (spare g) = sym (drop-drop n w.held (rot w.storage w.read_at)) ∙ ap (drop n) t.1 ∙ ap (λ i. drop i (overwrite (spare g) 0 ws)) (sym l) ∙ f.1 in
+      subst (Enqueued g ws) (sym e) (q, p, t.2)
+
+  -- ---- laws
+  pub restarted_is : (g : RingState T) → (queue (restarted g) ≡ queue g) × ((restarted g).held ≡ g.held) × ((restarted g).storage ≡ g.storage)
+  restarted_is g = elim (cases_lt 0 g.held) [
+    | inl h ↦ let e : restarted g ≡ g = ap (λ t. if t then ring g.storage 0 0 else g) (ne_eqb g.held 0 (omega (arith, h))) in (ap (λ o. queue o) e, ap (λ o. o.held) e, ap (λ o. o.storage) e)
+    | inr h ↦
+        let z : g.held ≡ 0 = omega (arith, h) in
+        let e : restarted g ≡ ring g.storage 0 0 = ap (λ t. if t then ring g.storage 0 0 else g) (eq-eqb g.held 0 z) in
+        (ap (λ o. queue o) e ∙ sym (ap (λ n. take n (rot g.storage g.read_at)) z), ap (λ o. o.held) e ∙ sym z, ap (λ o. o.storage) e)
+  ]
+
+  -- the storage, from the rotated list
+  abbrev back : List T → ℕ → List T
+  back l r = drop (length l - r) l ++ take (length l - r) l
+
+  back_is : (g : RingState T) → WellFormed g → g.storage ≡ back (queue g ++ spare g) g.read_at
+  back_is g wf =
+      let r = g.read_at in
+      let b = g.storage in
+      let n : length (rot b r) - r ≡ length (drop r b) = omega (arith, length-rot b r, length-drop r b) in
+      let e : back (rot b r) r ≡ take r b ++ drop r b = ap (λ (m : ℕ). drop m (rot b r) ++ take m (rot b r)) n ∙ ap₂ ◌++◌ (drop_at (drop r b) (take r b) (length (drop r b)) refl) (take_at (drop r b) (take r b) (length (drop r b)) refl) in
+      sym (ap (λ l. back l r) (sym (whole g wf)) ∙ e ∙ take-append-drop r b)
+
+  pub parts_are : (g h : RingState T) → WellFormed g → WellFormed h → g.read_at ≡ h.read_at → queue g ≡ queue h → spare g ≡ spare h → g ≡ h
+  parts_are g h wg wh er eq es =
+      let n : g.held ≡ h.held = sym (length-queue g wg) ∙ ap length eq ∙ length-queue h wh in
+      let b : g.storage ≡ h.storage = back_is g wg ∙ ap₂ (λ l r. back l r) (ap₂ ◌++◌ eq es) er ∙ sym (back_is h wh) in
+      ap (λ l. ring l g.read_at g.held) b ∙ ap₂ (λ r m. ring h.storage r m) er n

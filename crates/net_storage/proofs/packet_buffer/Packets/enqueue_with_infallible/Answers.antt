@@ -1,0 +1,87 @@
+use Rattle.std.proofs.Common.{refl, sym, ap, ◌∙◌, subst, arith}
+use Rattle.std.specs.Fn.{FnOnceReturnsAtMut}
+use denote.MutBor.{at_last}
+use Rattle.net_storage.specs.Ring.{window, spare_place}
+use Rattle.net_storage.specs.Packets.{placement, placed, last_written, last_cut, IsRoom}
+use Rattle.net_storage.proofs.PacketSteps.{free_room, byte_room, fill_room, fill_holds, fill_left}
+use Rattle.net_storage.proofs.Rotations.{length-overwrite}
+use Rattle.net_storage.proofs.packet_buffer.Packets.enqueue_with_infallible.Goals as goal
+
+pub f-count-requires : goal.f-count-requires
+f-count-requires g c =
+    let m = c.self.inside.slots in
+    let b = c.self.inside.bytes in
+    let e = ap (λ q. placement q c.args.max_size) c.self.view_is ∙ sym c.in-Some.ensures in
+    let now = c.get_unallocated.result.now in
+    let room = subst (λ q. IsRoom q c.args.max_size c.args.header now) c.self.view_is
+    (fill_room m b c.self.invariant c.in-Some.gap c.args.max_size e c.args.header c.restart.new.bytes c.restart.ensures.ring now c.get_unallocated.ensures.stored c.get_unallocated.ensures.count) in
+    c.requires.callable now room c.get_unallocated.result refl
+
+pub overflow_add-gap : goal.overflow_add-gap
+overflow_add-gap g c =
+    let m = c.self.inside.slots in
+    let b = c.self.inside.bytes in
+    let e = ap (λ q. placement q c.args.max_size) c.self.view_is ∙ sym c.in-Some.ensures in
+    let now = c.get_unallocated.result.now in
+    let room = subst (λ q. IsRoom q c.args.max_size c.args.header now) c.self.view_is
+    (fill_room m b c.self.invariant c.in-Some.gap c.args.max_size e c.args.header c.restart.new.bytes c.restart.ensures.ring now c.get_unallocated.ensures.stored c.get_unallocated.ensures.count) in
+    let after = c.f-count.new.arg2 in
+    let met : FnOnceReturnsAtMut g.F.FnOnce c.args.f now c.f-count.result after = record { shown = c.get_unallocated.result; shows = refl; left = at_last c.get_unallocated.result after; leaves = refl; met = c.f-count.ensures } in
+    let le = c.requires.count now after c.f-count.result room met in
+    let space = byte_room m b c.self.invariant c.in-Some.gap c.args.max_size e in
+    let is = ap window c.restart.ensures.ring in
+    record { fits = omega (arith, le, space, is, c.restart.ensures.fits) }
+
+pub enqueue_unallocated-requires : goal.enqueue_unallocated-requires
+enqueue_unallocated-requires g c =
+    let m = c.self.inside.slots in
+    let b = c.self.inside.bytes in
+    let e = ap (λ q. placement q c.args.max_size) c.self.view_is ∙ sym c.in-Some.ensures in
+    let now = c.get_unallocated.result.now in
+    let room = subst (λ q. IsRoom q c.args.max_size c.args.header now) c.self.view_is
+    (fill_room m b c.self.invariant c.in-Some.gap c.args.max_size e c.args.header c.restart.new.bytes c.restart.ensures.ring now c.get_unallocated.ensures.stored c.get_unallocated.ensures.count) in
+    let after = c.f-count.new.arg2 in
+    let met : FnOnceReturnsAtMut g.F.FnOnce c.args.f now c.f-count.result after = record { shown = c.get_unallocated.result; shows = refl; left = at_last c.get_unallocated.result after; leaves = refl; met = c.f-count.ensures } in
+    let le = c.requires.count now after c.f-count.result room met in
+    let space = byte_room m b c.self.invariant c.in-Some.gap c.args.max_size e in
+    let is = ap window c.restart.ensures.ring in
+    let long = length-overwrite c.restart.new.bytes.storage (spare_place c.restart.new.bytes c.in-Some.gap) after in
+    omega (arith, le, space, is, long)
+
+pub push_slots-requires-clause-free : goal.push_slots-requires-clause-free
+push_slots-requires-clause-free g c =
+    let m = c.self.inside.slots in
+    let b = c.self.inside.bytes in
+    let e = ap (λ q. placement q c.args.max_size) c.self.view_is ∙ sym c.in-Some.ensures in
+    free_room m b c.self.invariant c.in-Some.gap c.args.max_size e
+
+pub invariant_of-self : goal.invariant_of-self
+invariant_of-self g c =
+    let m = c.self.inside.slots in
+    let b = c.self.inside.bytes in
+    let e = ap (λ q. placement q c.args.max_size) c.self.view_is ∙ sym c.in-Some.ensures in
+    let now = c.get_unallocated.result.now in
+    let room = subst (λ q. IsRoom q c.args.max_size c.args.header now) c.self.view_is
+    (fill_room m b c.self.invariant c.in-Some.gap c.args.max_size e c.args.header c.restart.new.bytes c.restart.ensures.ring now c.get_unallocated.ensures.stored c.get_unallocated.ensures.count) in
+    let after = c.f-count.new.arg2 in
+    let met : FnOnceReturnsAtMut g.F.FnOnce c.args.f now c.f-count.result after = record { shown = c.get_unallocated.result; shows = refl; left = at_last c.get_unallocated.result after; leaves = refl; met = c.f-count.ensures } in
+    let le = c.requires.count now after c.f-count.result room met in
+    fill_holds m b c.self.invariant c.in-Some.gap c.args.max_size e c.args.header c.restart.new.bytes c.restart.ensures.ring c.f-count.result le after c.push_slots.new.slots c.push_slots.ensures.queue c.push_slots.ensures.well_formed c.enqueue_unallocated.new.self c.enqueue_unallocated.ensures.ring
+
+pub returns-clause-called : goal.returns-clause-called
+returns-clause-called g c =
+    let m = c.self.inside.slots in
+    let b = c.self.inside.bytes in
+    let e = ap (λ q. placement q c.args.max_size) c.self.view_is ∙ sym c.in-Some.ensures in
+    let now = c.get_unallocated.result.now in
+    let room = subst (λ q. IsRoom q c.args.max_size c.args.header now) c.self.view_is
+    (fill_room m b c.self.invariant c.in-Some.gap c.args.max_size e c.args.header c.restart.new.bytes c.restart.ensures.ring now c.get_unallocated.ensures.stored c.get_unallocated.ensures.count) in
+    let after = c.f-count.new.arg2 in
+    let met : FnOnceReturnsAtMut g.F.FnOnce c.args.f now c.f-count.result after = record { shown = c.get_unallocated.result; shows = refl; left = at_last c.get_unallocated.result after; leaves = refl; met = c.f-count.ensures } in
+    let le = c.requires.count now after c.f-count.result room met in
+    let left = fill_left m b c.self.invariant c.in-Some.gap c.args.max_size e c.args.header c.restart.new.bytes c.restart.ensures.ring c.f-count.result le after c.push_slots.new.slots c.push_slots.ensures.queue c.push_slots.ensures.well_formed c.enqueue_unallocated.new.self c.enqueue_unallocated.ensures.ring c.push_slots.ensures.capacity in (
+      after,
+      subst (λ run. FnOnceReturnsAtMut g.F.FnOnce c.args.f run c.f-count.result after) room.1 met,
+      c.f-count.auto.arg2 ∙ room.2,
+      left ∙ ap (λ q. last_cut c.f-count.result (last_written (placed q c.args.max_size c.args.header) after)) c.self.view_is,
+    )

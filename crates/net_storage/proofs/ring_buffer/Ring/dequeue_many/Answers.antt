@@ -1,0 +1,23 @@
+use Rattle.std.proofs.Common.{◌≡◌, ◌-◌, ◌∙◌, refl, ap, min, arith}
+use Rattle.net_storage.specs.Ring.{contiguous_held, place}
+use Rattle.net_storage.proofs.RingFacts.{well, left_off, shown_front, dequeued_law}
+use Rattle.net_storage.proofs.ring_buffer.Ring.dequeue_many.Goals as goal
+
+pub returns : goal.returns
+returns g c =
+    let old = c.args.self.now in
+    let is = c.self.view_is in
+    let k = c.min-count.result in
+    let held = c.min.ensures ∙ ap (λ n. min c.self.inside.length (n - c.self.inside.read_at)) c.capacity.ensures.capacity ∙ ap contiguous_held is in
+    let count : k ≡ min c.args.size (contiguous_held old) = c.min-count.ensures ∙ ap (min c.args.size) held in
+    let next = c.place-self-inside.ensures.place ∙ ap (λ o. place o k) is in
+    let lent = shown_front _ _ is c.self.invariant k (omega (arith, count)) _ c.part_mut.ensures.value in (
+      (refl, λ w. left_off _ _ is c.self.invariant k _ _ count next _ w (g.met.S.Elements.part_written c.self.inside.storage c.self.inside.read_at w)),
+      record {
+        writes_back = tt;
+        count = lent.0 ∙ count;
+        value = lent.1;
+        stored = lent.2;
+        dequeued = dequeued_law _ (well _ _ is c.self.invariant) _ (omega arith);
+      },
+    )

@@ -1,0 +1,52 @@
+use Rattle.std.proofs.Common.{rules, Bool, ◌≡◌, ◌≢◌, ◌∷◌, [], refl, ap, sym, ◌∙◌, is_ok, if◌then◌else◌, slice_index_or, arith}
+use denote.MutBor.{at_last}
+use Rattle.net_storage.specs.Ring.{RingState, taken_off, written}
+use Rattle.net_storage.proofs.RingFacts.{well, queue_front, left_off, left_at, front_either, once_wf, off_wf}
+use Rattle.net_storage.proofs.ring_buffer.Ring.dequeue_one_with.Goals as goal
+use Rattle.net_storage.proofs.ring_buffer.Ring.dequeue_one_with.Goals.{then-is_ok, else-is_ok}
+
+pub f-answer-requires : goal.f-answer-requires
+f-answer-requires g c =
+    let old = c.args.self.now in
+    let is = c.self.view_is in
+    let x = c.item_mut.result.now in
+    let some : old.held ≢ 0 = search rules in
+    let here = c.item_mut.ensures.value ∙ ap (λ o. slice_index_or o.storage o.read_at x) is in
+    c.requires.callable x (queue_front old (well _ _ is c.self.invariant) x here some) c.item_mut.result refl
+
+some : (g : _) (c : goal.Joined-is_ok g) → c.args.self.now.held ≢ 0
+some g c = search rules
+
+pub invariant_of-self : goal.invariant_of-self
+invariant_of-self g c =
+    let old = c.args.self.now in
+    let is = c.self.view_is in
+    let some : old.held ≢ 0 = search rules in
+    off_wf _ old is c.self.invariant 1 _ _ (c.f-answer.new.arg2 ∷ []) _ c.place-next.ensures.place (omega (arith, some, (well _ old is c.self.invariant).1)) (omega arith) (g.met.S.Elements.item_written c.self.inside.storage c.self.inside.read_at c.f-answer.new.arg2)
+
+pub invariant_of-self-else-is_ok : goal.invariant_of-self-else-is_ok
+invariant_of-self-else-is_ok g c = once_wf _ _ c.self.view_is c.self.invariant c.self.inside.read_at (c.f-answer.new.arg2 ∷ []) _ (g.met.S.Elements.item_written c.self.inside.storage c.self.inside.read_at c.f-answer.new.arg2)
+
+pub returns-clause-called : goal.returns-clause-called
+returns-clause-called g c =
+    let old = c.args.self.now in
+    let is = c.self.view_is in
+    let wf = well _ _ is c.self.invariant in
+    let x = c.item_mut.result.now in
+    let y = c.f-answer.new.arg2 in
+    let here = c.item_mut.ensures.value ∙ ap (λ o. slice_index_or o.storage o.read_at x) is in
+    let law = g.met.S.Elements.item_written c.self.inside.storage c.self.inside.read_at y in
+    let after : Bool → RingState _ = λ t. written (if t then taken_off 1 old else old) old.read_at (y ∷ []) in
+    let left : c.if-is_ok.self ≡ written (if is_ok c.f-answer.result then taken_off 1 old else old) old.read_at (y ∷ []) = elim c.if-is_ok.branch [
+      | then-is_ok w ↦ w.self-is ∙ left_off _ old is c.self.invariant 1 1 _ refl c.place-next.ensures.place _ (y ∷ []) law ∙ ap after (sym (sym c.is_ok.ensures.value ∙ w.if-is_ok.true))
+      | else-is_ok w ↦ w.self-is ∙ left_at _ old is c.self.invariant _ _ (ap (λ o. o.read_at) is) _ (y ∷ []) law ∙ ap after (sym (sym c.is_ok.ensures.value ∙ w.if-is_ok.false))
+    ] in
+    let by_answer = front_either old wf y (some g c) c.f-answer.result _ left in (
+      x,
+      y,
+      record { shown = c.item_mut.result; shows = refl; left = at_last c.item_mut.result y; leaves = refl; met = c.f-answer.ensures },
+      queue_front old wf x here (some g c),
+      left,
+      by_answer.0,
+      by_answer.1,
+    )

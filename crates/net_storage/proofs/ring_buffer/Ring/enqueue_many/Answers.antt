@@ -1,0 +1,22 @@
+use Rattle.std.proofs.Common.{◌≡◌, ◌∙◌, refl, ap, min, arith}
+use Rattle.net_storage.specs.Ring.{restarted, contiguous_window, place}
+use Rattle.net_storage.proofs.RingFacts.{well, left_in, shown_next, enqueued_law}
+use Rattle.net_storage.proofs.ring_buffer.Ring.enqueue_many.Goals as goal
+
+pub returns : goal.returns
+returns g c =
+    let old = restarted c.args.self.now in
+    let is = c.self.view_is ∙ c.restart.ensures in
+    let k = c.min-count.result in
+    let count : k ≡ min c.args.size (contiguous_window old) = c.min-count.ensures ∙ ap (min c.args.size) (c.contiguous_window.ensures.count ∙ ap contiguous_window is) in
+    let at = c.place-from.ensures.place ∙ ap (λ o. place o o.held) is in
+    let lent = shown_next _ _ is c.self.invariant _ k at (omega (arith, count)) _ c.part_mut.ensures.value in (
+      (refl, λ w. left_in _ _ is c.self.invariant k _ _ count at _ w (g.met.S.Elements.part_written c.self.inside.storage c.place-from.result w)),
+      record {
+        writes_back = tt;
+        count = lent.0 ∙ count;
+        value = lent.1;
+        stored = lent.2;
+        enqueued = enqueued_law _ (well _ _ is c.self.invariant) _ (omega arith);
+      },
+    )

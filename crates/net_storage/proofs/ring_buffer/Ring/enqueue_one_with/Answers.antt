@@ -1,0 +1,44 @@
+use Rattle.std.proofs.Common.{rules, Bool, ◌≡◌, ◌≢◌, ◌∷◌, [], refl, ap, sym, ◌∙◌, is_ok, if◌then◌else◌, slice_index_or}
+use denote.MutBor.{at_last}
+use Rattle.net_storage.specs.Ring.{RingState, write_at, place, window, taken_in, written}
+use Rattle.net_storage.proofs.RingFacts.{well, spare_front, left_in, left_at, next_either}
+use Rattle.net_storage.proofs.ring_buffer.Ring.enqueue_one_with.Goals as goal
+use Rattle.net_storage.proofs.ring_buffer.Ring.enqueue_one_with.Goals.{then-is_ok, else-is_ok}
+
+pub f-answer-requires : goal.f-answer-requires
+f-answer-requires g c =
+    let old = c.args.self.now in
+    let is = c.self.view_is in
+    let x = c.item_mut.result.now in
+    let some : window old ≢ 0 = search rules in
+    let at = c.place-at.ensures.place ∙ ap (λ o. place old o.held) is in
+    let here = c.item_mut.ensures.value ∙ ap (λ o. slice_index_or o.storage c.place-at.result x) is ∙ ap (λ i. slice_index_or old.storage i x) at in
+    c.requires.callable x (spare_front old (well _ _ is c.self.invariant) x here some) c.item_mut.result refl
+
+some : (g : _) (c : goal.Joined-is_ok g) → window c.args.self.now ≢ 0
+some g c = search rules
+
+pub returns-clause-called : goal.returns-clause-called
+returns-clause-called g c =
+    let old = c.args.self.now in
+    let is = c.self.view_is in
+    let wf = well _ _ is c.self.invariant in
+    let x = c.item_mut.result.now in
+    let y = c.f-answer.new.arg2 in
+    let at = c.place-at.ensures.place ∙ ap (λ o. place old o.held) is in
+    let here = c.item_mut.ensures.value ∙ ap (λ o. slice_index_or o.storage c.place-at.result x) is ∙ ap (λ i. slice_index_or old.storage i x) at in
+    let law = g.met.S.Elements.item_written c.self.inside.storage c.place-at.result y in
+    let after : Bool → RingState _ = λ t. written (if t then taken_in 1 old else old) (write_at old) (y ∷ []) in
+    let left : c.if-is_ok.self ≡ written (if is_ok c.f-answer.result then taken_in 1 old else old) (write_at old) (y ∷ []) = elim c.if-is_ok.branch [
+      | then-is_ok w ↦ w.self-is ∙ left_in _ old is c.self.invariant 1 1 _ refl at _ (y ∷ []) law ∙ ap after (sym (sym c.is_ok.ensures.value ∙ w.if-is_ok.true))
+      | else-is_ok w ↦ w.self-is ∙ left_at _ old is c.self.invariant _ _ at _ (y ∷ []) law ∙ ap after (sym (sym c.is_ok.ensures.value ∙ w.if-is_ok.false))
+    ] in
+    let by_answer = next_either old wf y (some g c) c.f-answer.result _ left in (
+      x,
+      y,
+      record { shown = c.item_mut.result; shows = refl; left = at_last c.item_mut.result y; leaves = refl; met = c.f-answer.ensures },
+      spare_front old wf x here (some g c),
+      left,
+      by_answer.0,
+      by_answer.1,
+    )

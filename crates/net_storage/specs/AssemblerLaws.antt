@@ -1,0 +1,102 @@
+-- Laws of sets of positions and of what the contracts of an assembler's calls say.
+use Rattle.std.specs.Prelude.{◌≡◌, ◌↔◌, ◌⊎◌, ℕ, zero, suc, ◌+◌, ◌<◌, ◌≤◌, Bool, List, [], ◌∷◌, length, drop, Option, Some, None, Result, Ok, IsTrue, IsFalse, IsOk, IsErr, OnOk, OnErr, MatchResult}
+use Rattle.std.specs.Iterator.{YieldsFirst}
+use Rattle.net_storage.specs.declared.assembler.error.TooManyHolesError.{TooManyHolesError}
+use Rattle.net_storage.specs.Positions.{Positions, contains, nothing, with_range, runs, front, shift_down, maximal_runs, are_same, IsFront, AreMaximalRuns}
+use Rattle.net_storage.specs.Assembler.{MakesTooManyRuns}
+
+-- what the contract of `add` says of a call
+pub record Adds (limit : ℕ) (old : Positions) (offset size : ℕ) (result : Result (Unit {0}) TooManyHolesError) (new : Positions) : Type 0 where
+  pub ok : OnOk result (new ≡ with_range old offset size)
+  pub err : OnErr result (new ≡ old)
+  pub refused : IsErr result ↔ MakesTooManyRuns limit old offset size
+  pub bound : runs new ≤ limit
+
+-- what the contract of `remove_front` says of a call
+pub record RemovesFront (limit : ℕ) (old : Positions) (result : ℕ) (new : Positions) : Type 0 where
+  pub count : result ≡ front old
+  pub rest : new ≡ shift_down old (front old)
+  pub bound : runs new ≤ limit
+
+-- what the contract of `add_then_remove_front` says of a call
+pub record AddsThenRemovesFront (limit : ℕ) (old : Positions) (offset size : ℕ) (result : Result ℕ TooManyHolesError) (new : Positions) : Type 0 where
+  pub answer : MatchResult result (λ n. (n ≡ front (with_range old offset size)) × (new ≡ shift_down (with_range old offset size) n)) (λ _. new ≡ old)
+  pub refused : IsErr result ↔ ((0 < offset) × MakesTooManyRuns limit old offset size)
+  pub bound : runs new ≤ limit
+
+-- what the contract of `==` says of a call
+pub record Compares (s t : Positions) (result : Bool) : Type 0 where
+  pub test : result ≡ are_same s t
+  pub same : IsTrue result ↔ (s ≡ t)
+
+-- what the contract of `iter_data` says of a call
+pub record Iterates (limit : ℕ) (s : Positions) (result : List (ℕ × ℕ)) : Type 0 where
+  pub listed : result ≡ maximal_runs s
+  pub bound : length result ≤ limit
+
+-- what calls of `next`, one after another, answer and leave by its contract
+abbrev pub Answers : List (ℕ × ℕ) → List (Option (ℕ × ℕ)) → List (ℕ × ℕ) → Type 0
+Answers left [] last = left ≡ last
+Answers left (answer ∷ answers) last = (rest : List (ℕ × ℕ)) × YieldsFirst (λ runs. runs) left answer rest × Answers rest answers last
+
+-- the items of a list as n answers, and `None` from its end on
+abbrev pub answers_of : List (ℕ × ℕ) → ℕ → List (Option (ℕ × ℕ))
+answers_of left zero = []
+answers_of [] (suc n) = None ∷ answers_of [] n
+answers_of (run ∷ left) (suc n) = Some run ∷ answers_of left n
+
+-- sets are equal exactly if they have the same members
+abbrev pub EqualSets : Type 0
+EqualSets = (s t : Positions) → (s ≡ t) ↔ ((p : ℕ) → contains s p ≡ contains t p)
+
+-- the members of the empty set, of a set with a range, and of a set that was moved down
+abbrev pub MembersOfNothing : Type 0
+MembersOfNothing = (p : ℕ) → IsFalse (contains nothing p)
+
+abbrev pub MembersWithRange : Type 0
+MembersWithRange = (s : Positions) (offset size p : ℕ) → IsTrue (contains (with_range s offset size) p) ↔ (IsTrue (contains s p) ⊎ ((offset ≤ p) × (p < offset + size)))
+
+abbrev pub MembersMovedDown : Type 0
+MembersMovedDown = (s : Positions) (m p : ℕ) → contains (shift_down s m) p ≡ contains s (p + m)
+
+-- the front of a set is the least position that is not in it
+abbrev pub FrontIsLeastMissing : Type 0
+FrontIsLeastMissing = (s : Positions) → IsFront s (front s)
+
+-- the list of maximal runs is what its name says, for every set
+abbrev pub MaximalRunsOfEverySet : Type 0
+MaximalRunsOfEverySet = (s : Positions) → AreMaximalRuns s (maximal_runs s)
+
+-- two assemblers are equal exactly if their sets have the same members
+abbrev pub EqualAssemblers : Type 0
+EqualAssemblers = (s t : Positions) (equal : Bool) → Compares s t equal → IsTrue equal ↔ ((p : ℕ) → contains s p ≡ contains t p)
+
+-- to add an accepted range again is accepted and changes nothing
+abbrev pub AddingAgain : Type 0
+AddingAgain = (limit offset size : ℕ) (s once twice : Positions) (again : Result (Unit {0}) TooManyHolesError) →
+    Adds limit s offset size (Ok tt) once → Adds limit once offset size again twice → (again ≡ Ok tt) × (twice ≡ once)
+
+-- two ranges that are accepted in both orders leave equal assemblers
+abbrev pub AddingInBothOrders : Type 0
+AddingInBothOrders = (limit a m b n : ℕ) (s one two ab ba : Positions) (equal : Bool) →
+    Adds limit s a m (Ok tt) one → Adds limit one b n (Ok tt) ab →
+    Adds limit s b n (Ok tt) two → Adds limit two a m (Ok tt) ba →
+    Compares ab ba equal → IsTrue equal
+
+-- `add_then_remove_front` answers and leaves what `add` and then `remove_front` do, wherever that `add` is accepted
+abbrev pub AddingThenRemoving : Type 0
+AddingThenRemoving = (limit offset size count : ℕ) (s all rest both : Positions) (result : Result ℕ TooManyHolesError) →
+    Adds limit s offset size (Ok tt) all → RemovesFront limit all count rest →
+    AddsThenRemovesFront limit s offset size result both → (result ≡ Ok count) × (both ≡ rest)
+
+-- with offset 0 it is never refused
+abbrev pub FrontIsNeverRefused : Type 0
+FrontIsNeverRefused = (limit size : ℕ) (s both : Positions) (result : Result ℕ TooManyHolesError) →
+    AddsThenRemovesFront limit s 0 size result both → IsOk result
+
+-- `iter_data` gives the maximal runs, at most as many as the limit, and ends: however often `next` is called, it
+-- answers the runs in turn and then None
+abbrev pub IteratesMaximalRuns : Type 0
+IteratesMaximalRuns = (limit : ℕ) (s : Positions) (left last : List (ℕ × ℕ)) (answers : List (Option (ℕ × ℕ))) →
+    Iterates limit s left → Answers left answers last →
+    AreMaximalRuns s left × (length left ≤ limit) × (answers ≡ answers_of left (length answers)) × (last ≡ drop (length answers) left)

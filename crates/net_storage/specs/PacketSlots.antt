@@ -1,0 +1,33 @@
+-- A queue of packets by the two rings that it is kept in.
+use Rattle.std.specs.Prelude.{◌≡◌, ℕ, zero, suc, ◌+◌, List, [], ◌∷◌, ◌++◌}
+use Rattle.std.specs.Prelude.{Option}
+use Rattle.std.specs.declared.option.Option.TheVariants.{Some, None}
+use Rattle.net_storage.specs.Ring.{RingState, capacity, queue, WellFormed}
+use Rattle.net_storage.specs.Packets.{Packet, PacketQueue, packet, bytes_of, ArePlaced}
+use Rattle.net_storage.specs.declared.packet_metadata.PacketMetadata.{PacketMetadata}
+
+module _ {H : Type 0} where
+  abbrev pub slot : ℕ → Option H → PacketMetadata H
+  slot s h = record { size = s; header = h }
+
+  -- a gap of size 0 has no slot
+  abbrev pub gap_slot : ℕ → List (PacketMetadata H)
+  gap_slot zero = []
+  gap_slot (suc g) = slot (suc g) None ∷ []
+
+  -- the slots of packets: a gap has one with no header, before that of its packet
+  abbrev pub slots : List (Packet H) → List (PacketMetadata H)
+  slots [] = []
+  slots (p ∷ ps) = gap_slot p.gap ++ (slot p.size (Some p.header) ∷ slots ps)
+
+  -- the packets of slots, after gap bytes of gaps
+  abbrev pub packets_in : ℕ → List (PacketMetadata H) → List (Packet H)
+  packets_in gap [] = []
+  packets_in gap (m ∷ ms) = elim m.header [ None ↦ packets_in (gap + m.size) ms | Some h ↦ packet h m.size gap ∷ packets_in 0 ms ]
+
+  -- the rings hold these packets
+  abbrev pub Holds : RingState (PacketMetadata H) → RingState ℕ → List (Packet H) → Type 0
+  Holds m b ps = WellFormed m × WellFormed b × (queue m ≡ slots ps) × (b.held ≡ bytes_of ps) × ArePlaced (capacity b) b.read_at 0 ps
+
+  abbrev pub packet_queue : RingState (PacketMetadata H) → RingState ℕ → PacketQueue H
+  packet_queue m b = record { slots = capacity m; storage = b.storage; read_at = b.read_at; packets = packets_in 0 (queue m) }

@@ -1,0 +1,176 @@
+-- A queue of packets over a storage of bytes, and what each call makes of it.
+use Rattle.std.specs.Prelude.{◌≡◌, ◌≢◌, ℕ, zero, suc, ◌+◌, ◌-◌, ◌≤◌, nat_le, nat_lt, if◌then◌else◌, List, [], ◌∷◌, ◌++◌, length, take, drop, ⊤}
+use Rattle.std.specs.Prelude.{Option}
+use Rattle.std.specs.declared.option.Option.TheVariants.{Some, None}
+use Rattle.net_storage.specs.Overwrite.{overwrite}
+use Rattle.net_storage.specs.Ring.{RingState, ring, window, place, restarted, contiguous_window, WellFormed}
+
+-- a packet: its header, how many bytes it has, and how many bytes of the storage are skipped before it
+pub record Packet (H : Type 0) : Type 0 where
+  pub header : H
+  pub size : ℕ
+  pub gap : ℕ
+
+-- a queue of packets: how many slots it has, its storage, the place where that is read, and its packets in order
+pub record PacketQueue (H : Type 0) : Type 0 where
+  pub slots : ℕ
+  pub storage : List ℕ
+  pub read_at : ℕ
+  pub packets : List (Packet H)
+
+-- a packet uses a slot, and a gap one more
+abbrev pub slots_for : ℕ → ℕ
+slots_for zero = 1
+slots_for (suc gap) = 2
+
+-- the gap before a packet of s bytes, where c bytes are free in a row and w in all
+abbrev pub gap_for : ℕ → ℕ → ℕ → Option ℕ
+gap_for s c w = if nat_le s c then Some 0 else if nat_le s (w - c) then Some c else None
+
+-- that gap, where free slots are enough for it
+abbrev pub if_slots : ℕ → Option ℕ → Option ℕ
+if_slots free None = None
+if_slots free (Some gap) = if nat_le (slots_for gap) free then Some gap else None
+
+-- the place that is i places after the place r of c, round the end
+abbrev pub place_in : ℕ → ℕ → ℕ → ℕ
+place_in c r i = if nat_lt i (c - r) then r + i else i - (c - r)
+
+module _ {H : Type 0} where
+  abbrev pub packet : H → ℕ → ℕ → Packet H
+  packet h s g = record { header = h; size = s; gap = g }
+
+  -- the bytes of the storage that packets take, their gaps counted
+  abbrev pub bytes_of : List (Packet H) → ℕ
+  bytes_of [] = 0
+  bytes_of (p ∷ ps) = p.gap + p.size + bytes_of ps
+
+  -- the slots that packets use, their gaps counted
+  abbrev pub slots_of : List (Packet H) → ℕ
+  slots_of [] = 0
+  slots_of (p ∷ ps) = slots_for p.gap + slots_of ps
+
+  -- the ring that the bytes are
+  abbrev pub byte_ring : PacketQueue H → RingState ℕ
+  byte_ring q = ring q.storage q.read_at (bytes_of q.packets)
+
+  -- a packet that comes o bytes after the place r of c: it doesn't reach past the storage's end, and a gap ends there
+  abbrev pub IsPlaced : ℕ → ℕ → ℕ → Packet H → Type 0
+  IsPlaced c r o p = (place_in c r (o + p.gap) + p.size ≤ c) × (p.gap ≢ 0 → place_in c r o + p.gap ≡ c)
+
+  -- packets of which the first comes o bytes after the place r of c
+  abbrev pub ArePlaced : ℕ → ℕ → ℕ → List (Packet H) → Type 0
+  ArePlaced c r o [] = ⊤
+  ArePlaced c r o (p ∷ ps) = IsPlaced c r o p × ArePlaced c r (o + p.gap + p.size) ps
+
+  -- what holds of every queue: its bytes are a ring, in which each packet lies in a row and each gap ends at the storage's end; there is a slot for each packet and gap
+  abbrev pub WellPlaced : PacketQueue H → Type 0
+  WellPlaced q = WellFormed (byte_ring q) × ArePlaced (length q.storage) q.read_at 0 q.packets × (slots_of q.packets ≤ q.slots)
+
+  -- the queue with ws written over its storage from the place p on
+  abbrev pub with_bytes : PacketQueue H → ℕ → List ℕ → PacketQueue H
+  with_bytes q p ws = record { slots = q.slots; storage = overwrite q.storage p ws; read_at = q.read_at; packets = q.packets }
+
+  -- the size of the first packet
+  abbrev pub first_size : List (Packet H) → ℕ
+  first_size [] = 0
+  first_size (p ∷ ps) = p.size
+
+  -- ---- a packet comes last
+  -- the gap before a packet of s bytes, where there are room and slots for it
+  abbrev pub placement : PacketQueue H → ℕ → Option ℕ
+  placement q s =
+      let g = restarted (byte_ring q) in
+      if_slots (q.slots - slots_of q.packets) (gap_for s (contiguous_window g) (window g))
+
+  -- a packet of s bytes came last, after a gap
+  abbrev pub pushed : PacketQueue H → ℕ → ℕ → H → PacketQueue H
+  pushed q gap s h = record { slots = q.slots; storage = q.storage; read_at = (restarted (byte_ring q)).read_at; packets = q.packets ++ (packet h s gap ∷ []) }
+
+  abbrev pub pushed_if : PacketQueue H → Option ℕ → ℕ → H → PacketQueue H
+  pushed_if q None s h = q
+  pushed_if q (Some gap) s h = pushed q gap s h
+
+  -- a packet of s bytes came last where it could be placed; its bytes are the storage's
+  abbrev pub placed : PacketQueue H → ℕ → H → PacketQueue H
+  placed q s h = pushed_if q (placement q s) s h
+
+  -- the packets before the last one, and the last one alone
+  abbrev pub before_last : List (Packet H) → List (Packet H)
+  before_last ps = take (length ps - 1) ps
+
+  abbrev pub last : List (Packet H) → List (Packet H)
+  last ps = drop (length ps - 1) ps
+
+  -- where the last packet's bytes begin
+  abbrev pub last_place : PacketQueue H → ℕ
+  last_place q = place (byte_ring q) (bytes_of q.packets - first_size (last q.packets))
+
+  abbrev pub last_bytes : PacketQueue H → List ℕ
+  last_bytes q = take (first_size (last q.packets)) (drop (last_place q) q.storage)
+
+  -- the last packet's bytes are ws
+  abbrev pub last_written : PacketQueue H → List ℕ → PacketQueue H
+  last_written q ws = with_bytes q (last_place q) ws
+
+  abbrev pub resized : ℕ → List (Packet H) → List (Packet H)
+  resized k [] = []
+  resized k (p ∷ ps) = packet p.header k p.gap ∷ ps
+
+  -- the last packet has the first k of its bytes
+  abbrev pub last_cut : ℕ → PacketQueue H → PacketQueue H
+  last_cut k q = record { slots = q.slots; storage = q.storage; read_at = q.read_at; packets = before_last q.packets ++ resized k (last q.packets) }
+
+  -- the list run is what a packet of s bytes is given, if it is placed
+  abbrev pub IsRoom : PacketQueue H → ℕ → H → List ℕ → Type 0
+  IsRoom q s h run = (placement q s ≢ None) × (run ≡ last_bytes (placed q s h)) × (length run ≡ s)
+
+  -- ---- the first packet
+  -- the gap before the first packet
+  abbrev pub first_gap : List (Packet H) → ℕ
+  first_gap [] = 0
+  first_gap (p ∷ ps) = p.gap
+
+  abbrev pub close_up : List (Packet H) → List (Packet H)
+  close_up [] = []
+  close_up (p ∷ ps) = packet p.header p.size 0 ∷ ps
+
+  -- the gap before the first packet is gone
+  abbrev pub skipped : PacketQueue H → PacketQueue H
+  skipped q = record { slots = q.slots; storage = q.storage; read_at = place (byte_ring q) (first_gap q.packets); packets = close_up q.packets }
+
+  -- the first packet has the header h and s bytes
+  abbrev pub IsFirst : List (Packet H) → H → ℕ → Type 0
+  IsFirst ps h s = ps ≡ packet h s (first_gap ps) ∷ drop 1 ps
+
+  -- the bytes of the first packet, whose gap is gone
+  abbrev pub first_bytes : PacketQueue H → List ℕ
+  first_bytes q = take (first_size q.packets) (drop q.read_at q.storage)
+
+  -- the first packet has the header h and the bytes ws
+  abbrev pub IsFront : PacketQueue H → H → List ℕ → Type 0
+  IsFront q h ws = IsFirst q.packets h (length ws) × (ws ≡ first_bytes (skipped q))
+
+  abbrev pub headed : H → List (Packet H) → List (Packet H)
+  headed h [] = []
+  headed h (p ∷ ps) = packet h p.size p.gap ∷ ps
+
+  -- the first packet, whose gap is gone, has the header h and the bytes ws
+  abbrev pub first_written : PacketQueue H → H → List ℕ → PacketQueue H
+  first_written q h ws = record { slots = q.slots; storage = overwrite q.storage q.read_at ws; read_at = q.read_at; packets = headed h q.packets }
+
+  -- the first packet, whose gap is gone, was taken off
+  abbrev pub popped : PacketQueue H → PacketQueue H
+  popped q = record { slots = q.slots; storage = q.storage; read_at = place (byte_ring q) (first_size q.packets); packets = drop 1 q.packets }
+
+  -- the first packet and its gap were taken off
+  abbrev pub taken : PacketQueue H → PacketQueue H
+  taken q = popped (skipped q)
+
+  -- where the s bytes before the read place begin
+  abbrev pub freed_place : PacketQueue H → ℕ → ℕ
+  freed_place q s = place (byte_ring q) (length q.storage - s)
+
+  -- the s bytes before the read place lie in a row, and none of them is held
+  abbrev pub AreFreed : PacketQueue H → ℕ → Type 0
+  AreFreed q s = (s ≤ window (byte_ring q)) × (freed_place q s + s ≤ length q.storage)

@@ -1,0 +1,101 @@
+-- Finite sets of positions, ranges of positions, and the maximal runs of a set.
+use Rattle.std.specs.Prelude.{◌≡◌, ℕ, zero, suc, ◌+◌, ◌-◌, ◌<◌, ◌≤◌, ◌^◌, max, Bool, cond, not, ◌&&◌, ◌||◌, ◌==◌, List, [], ◌∷◌, ◌++◌, map, filter, length, nat_le, nat_lt, nat_eq, IsTrue, IsFalse, All, AllPairs, count_by}
+use Rattle.std.specs.List.{range_with_len}
+use Rattle.std.specs.Ordering.{nat_cmp}
+use Rattle.std.specs.Cmp.Lexicographic.{pointwise}
+use Rattle.std.specs.FinSet.{FinSet}
+use Rattle.std.specs.FinMap.{keys, contains_key, from_entries, empty}
+
+-- a finite set of positions: two with the same members are equal
+abbrev pub Positions : Type 0
+Positions = FinSet nat_cmp
+
+-- whether p is in s
+abbrev pub contains : Positions → ℕ → Bool
+contains s p = contains_key s p
+
+-- the positions of a set, rising
+abbrev pub positions : Positions → List ℕ
+positions s = keys s
+
+-- the set of a list's positions
+unfoldable pub set_of_list : List ℕ → Positions
+set_of_list ks = from_entries (map (λ k. (k, tt)) ks)
+
+-- no position
+abbrev pub nothing : Positions
+nothing = empty
+
+-- the range (o, n) and its end are numbers of 64 bits
+abbrev pub IsRange : ℕ → ℕ → Type 0
+IsRange o n = o + n < 2 ^ 64
+
+-- s with the range (o, n): with the positions from o to o + n - 1
+unfoldable pub with_range : Positions → ℕ → ℕ → Positions
+with_range s o n = set_of_list (positions s ++ range_with_len o n)
+
+-- p is 0, or p - 1 is not in s: where p is in s, a maximal run begins at p
+unfoldable pub begins_run : Positions → ℕ → Bool
+begins_run s p = (p == 0) || not (contains s (p - 1))
+
+-- the first positions of the maximal runs, rising
+unfoldable pub run_starts : Positions → List ℕ
+run_starts s = filter (begins_run s) (positions s)
+
+-- how many maximal runs a set has: the number of p in s with p = 0 or p - 1 not in s
+unfoldable pub runs : Positions → ℕ
+runs s = length (run_starts s)
+
+-- above each member of a list
+abbrev pub bound_of : List ℕ → ℕ
+bound_of [] = 0
+bound_of (k ∷ ks) = max (k + 1) (bound_of ks)
+
+-- the least position from p on that is not in s, where p + n is above all of s
+abbrev pub missing_within : Positions → ℕ → ℕ → ℕ
+missing_within s p zero = p
+missing_within s p (suc n) = cond (contains s p) (missing_within s (p + 1) n) p
+
+-- the least position from p on that is not in s
+unfoldable pub first_missing : Positions → ℕ → ℕ
+first_missing s p = missing_within s p (bound_of (positions s))
+
+-- the least position that is not in s, and so the length of the run at 0
+unfoldable pub front : Positions → ℕ
+front s = first_missing s 0
+
+-- the maximal runs (start, end), end not included, rising
+unfoldable pub maximal_runs : Positions → List (ℕ × ℕ)
+maximal_runs s = map (λ p. (p, first_missing s p)) (run_starts s)
+
+-- (a, b) is a maximal run of s: all from a to b - 1 are in s, b is not, and a is 0 or a - 1 is not in s
+pub record IsMaximalRun (s : Positions) (run : ℕ × ℕ) : Type 0 where
+  pub some : run.0 < run.1
+  pub inside : (p : ℕ) → run.0 ≤ p → p < run.1 → IsTrue (contains s p)
+  pub ended : IsFalse (contains s run.1)
+  pub begun : 0 < run.0 → IsFalse (contains s (run.0 - 1))
+
+-- whether p lies in a run
+abbrev pub lies_in : ℕ → ℕ × ℕ → Bool
+lies_in p run = nat_le run.0 p && nat_lt p run.1
+
+-- the list of the maximal runs of s: each is one, each position of s lies in exactly one, they rise with a gap
+-- between neighbours, and there are as many as s has maximal runs
+pub record AreMaximalRuns (s : Positions) (list : List (ℕ × ℕ)) : Type 0 where
+  pub maximal : All (IsMaximalRun s) list
+  pub complete : (p : ℕ) → IsTrue (contains s p) → count_by (lies_in p) list ≡ 1
+  pub rising : AllPairs (λ q r. q.1 < r.0) list
+  pub number : length list ≡ runs s
+
+-- n is the least position that is not in s
+pub record IsFront (s : Positions) (n : ℕ) : Type 0 where
+  pub missing : IsFalse (contains s n)
+  pub present : (p : ℕ) → p < n → IsTrue (contains s p)
+
+-- p - m for each p in s with p >= m
+unfoldable pub shift_down : Positions → ℕ → Positions
+shift_down s m = set_of_list (map (λ p. p - m) (filter (nat_le m) (positions s)))
+
+-- whether two sets have the same positions
+abbrev pub are_same : Positions → Positions → Bool
+are_same s t = pointwise nat_eq (positions s) (positions t)

@@ -1,0 +1,8 @@
+-- The fields of a ring buffer, as a ring.
+use Rattle.std.specs.Prelude.{List}
+use Rattle.net_storage.specs.Ring.{RingState, ring}
+use Rattle.net_storage.specs.declared.ring_buffer.Ring.TheInside.{Inside}
+
+module _ {T S : Type 0} where
+  abbrev pub view_of : (S → List T) → Inside T S → RingState T
+  view_of elements a = ring (elements a.storage) a.read_at a.length

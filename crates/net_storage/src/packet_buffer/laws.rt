@@ -1,0 +1,22 @@
+//! Laws of packet queues, over their definitions alone: the functions do nothing.
+ghost use Rattle.std.specs.Prelude.{◌≡◌, ◌≢◌, ◌≤◌, ◌++◌, ◌∷◌, [], ℕ, List, length, take, drop};
+ghost use Rattle.std.specs.declared.option.Option.TheVariants.{None};
+ghost use Rattle.net_storage.specs.Packets.{PacketQueue, WellPlaced, IsFront, placement, placed, last_written, last_cut, skipped, first_size, first_written, popped, taken};
+ghost use Rattle.net_storage.specs.PacketHistory.{contents};
+
+/// Packets leave in the order in which they were accepted, each with the header and the bytes last written by who put it or by a closure that
+/// refused it: on the list of the headers and bytes that a queue holds, a packet that is accepted comes to the end, a refusing closure writes
+/// the first one anew, the first one is what is shown and taken off, and dropping a gap changes nothing.
+pub fn packets_leave_in_order<H>()
+    ensures accepted { (q : PacketQueue H) (size : ℕ) (header : H) (ws : List ℕ) → WellPlaced q → placement q size ≢ None → length ws ≡ size
+        → contents (last_written (placed q size header) ws) ≡ contents q ++ (header, ws) ∷ [] }
+    ensures accepted_with { (q : PacketQueue H) (size count : ℕ) (header : H) (ws : List ℕ) → WellPlaced q → placement q size ≢ None → length ws ≡ size → count ≤ size
+        → contents (last_cut count (last_written (placed q size header) ws)) ≡ contents q ++ (header, take count ws) ∷ [] }
+    ensures gap_dropped { (q : PacketQueue H) → WellPlaced q → contents (skipped q) ≡ contents q }
+    ensures shown { (q : PacketQueue H) (header : H) (ws : List ℕ) → WellPlaced q → IsFront q header ws → contents q ≡ (header, ws) ∷ drop 1 (contents q) }
+    ensures refused { (q : PacketQueue H) (header : H) (ws : List ℕ) → WellPlaced q → q.packets ≢ [] → length ws ≡ first_size q.packets
+        → contents (first_written (skipped q) header ws) ≡ (header, ws) ∷ drop 1 (contents q) }
+    ensures left { (q : PacketQueue H) → WellPlaced q → contents (taken q) ≡ drop 1 (contents q) }
+    ensures left_with { (q : PacketQueue H) (header : H) (ws : List ℕ) → WellPlaced q → length ws ≡ first_size q.packets
+        → contents (popped (first_written (skipped q) header ws)) ≡ drop 1 (contents q) }
+{}

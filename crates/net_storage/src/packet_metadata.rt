@@ -1,0 +1,16 @@
+//! The slots of a packet queue.
+
+/// A slot of a packet queue: size and header of a packet, or the size of a gap. A size is in bytes.
+#[derive(Debug, Clone, Copy, Drop)]
+pub struct PacketMetadata<H> {
+    pub(crate) size: usize,
+    pub(crate) header: Option<H>,
+}
+
+impl<H> PacketMetadata<H> {
+    /// A slot that holds nothing, to fill the storage of the slots with.
+    pub const EMPTY: PacketMetadata<H> = PacketMetadata {
+        size: 0,
+        header: None,
+    };
+}
