@@ -6,6 +6,7 @@ mod OneField
 pub mod PacketFacts
 pub mod PacketSteps
 pub mod PacketOrder
+pub mod PacketRuns
 mod LendInside
 mod ResultParts
 mod WalkedQueue

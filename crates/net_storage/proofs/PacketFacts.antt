@@ -147,6 +147,10 @@ module _ {H : Type 0} where
   bytes_append [] p = omega arith
   bytes_append (q ∷ ps) p = omega (arith, bytes_append ps p)
 
+  pub slots_of_append : (ps : List (Packet H)) (p : Packet H) → slots_of (ps ++ (p ∷ [])) ≡ slots_of ps + slots_for p.gap
+  slots_of_append [] p = omega arith
+  slots_of_append (q ∷ ps) p = omega (arith, slots_of_append ps p)
+
   pub placed_append : (c r o : ℕ) (ps : List (Packet H)) (p : Packet H) → ArePlaced c r o ps → IsPlaced c r (o + bytes_of ps) p → ArePlaced c r o (ps ++ (p ∷ []))
   placed_append c r o [] p a i = let e : o + 0 ≡ o = omega arith in (subst (λ (n : ℕ). IsPlaced c r n p) e i, tt)
   placed_append c r o (q ∷ ps) p a i =
@@ -176,6 +180,21 @@ module _ {H : Type 0} where
         (omega (arith, one, one_is, a.0.0), λ z. let w = a.0.1 z in omega (arith, two, w)),
         placed_from c r k (o + p.gap + p.size) ps wf (omega (arith, le)) (subst (λ (j : ℕ). ArePlaced c r j ps) n a.1),
       )
+
+  -- the same packets once the gap before the first one is gone
+  pub placed_skip : (c r : ℕ) (p : Packet H) (ps : List (Packet H)) → (r ≡ 0) ⊎ (r < c) → bytes_of (p ∷ ps) ≤ c → ArePlaced c r 0 (p ∷ ps) → ArePlaced c (place_in c r p.gap) 0 (packet p.header p.size 0 ∷ ps)
+  placed_skip c r p ps wf le a =
+      let at = place_place c r p.gap (0 + 0) wf (omega (arith, le)) in
+      let z : p.gap + (0 + 0) ≡ 0 + p.gap = omega arith in
+      let at_is = ap (place_in c r) z in
+      let n : 0 + p.gap + p.size ≡ p.gap + (0 + 0 + p.size) = omega arith in
+      ((omega (arith, at, at_is, a.0.0), λ k. absurd (k refl)), placed_from c r p.gap (0 + 0 + p.size) ps wf (omega (arith, le)) (subst (λ (j : ℕ). ArePlaced c r j ps) n a.1))
+
+  -- and once the first one, which has no gap, is gone
+  pub placed_pop : (c r : ℕ) (p : Packet H) (ps : List (Packet H)) → (r ≡ 0) ⊎ (r < c) → bytes_of (p ∷ ps) ≤ c → p.gap ≡ 0 → ArePlaced c r 0 (p ∷ ps) → ArePlaced c (place_in c r p.size) 0 ps
+  placed_pop c r p ps wf le z a =
+      let k : 0 + p.gap + p.size ≡ p.size + 0 = omega (arith, z) in
+      placed_from c r p.size 0 ps wf (omega (arith, le)) (subst (λ (j : ℕ). ArePlaced c r j ps) k a.1)
 
   module _ (m : RingState (PacketMetadata H)) (b : RingState ℕ) (ps : List (Packet H)) (h : Holds m b ps) where
     pub held_is : m.held ≡ slots_of ps

@@ -14,7 +14,7 @@ use Rattle.net_storage.proofs.RingFacts.{written_wf, spare_law, held_law, held_v
 use Rattle.net_storage.proofs.PacketFacts.{bytes_append, length-slots, place_wf}
 use Rattle.net_storage.proofs.PacketSteps.{viewed, here, wfg, held_g, byte_room, put_is, cut_is, same, closed}
 
-some_of : (o : Option ℕ) → o ≢ None → (n : ℕ) × (o ≡ Some n)
+pub some_of : (o : Option ℕ) → o ≢ None → (n : ℕ) × (o ≡ Some n)
 some_of None h = absurd (h refl)
 some_of (Some n) h = (n, refl)
 
@@ -50,7 +50,7 @@ module _ {H : Type 0} where
   abbrev mk : ℕ → List ℕ → ℕ → List (Packet H) → PacketQueue H
   mk n st r ps = record { slots = n; storage = st; read_at = r; packets = ps }
 
-  contents_append : (ps : List (Packet H)) (p : Packet H) (bs x ws : List ℕ) → length bs ≡ bytes_of ps → length x ≡ p.gap → contents_of (ps ++ (p ∷ [])) (bs ++ (x ++ ws)) ≡ contents_of ps bs ++ ((p.header, take p.size ws) ∷ [])
+  pub contents_append : (ps : List (Packet H)) (p : Packet H) (bs x ws : List ℕ) → length bs ≡ bytes_of ps → length x ≡ p.gap → contents_of (ps ++ (p ∷ [])) (bs ++ (x ++ ws)) ≡ contents_of ps bs ++ ((p.header, take p.size ws) ∷ [])
   contents_append [] p bs x ws n l =
       let none : bs ≡ [] = nil_from_length bs n in
       ap (λ (y : List ℕ). contents_of (p ∷ []) (y ++ (x ++ ws))) none ∙ ap (λ (y : List ℕ). (p.header, take p.size y) ∷ []) (drop_at x ws p.gap l)
@@ -69,10 +69,10 @@ module _ {H : Type 0} where
     abbrev fill : List (PacketMetadata H)
     fill = replicate (q.slots - slots_of q.packets) (slot 0 None)
 
-    abbrev m : RingState (PacketMetadata H)
+    abbrev pub m : RingState (PacketMetadata H)
     m = ring (slots q.packets ++ fill) 0 (slots_of q.packets)
 
-    abbrev b : RingState ℕ
+    abbrev pub b : RingState ℕ
     b = byte_ring q
 
     long : length (slots q.packets ++ fill) ≡ q.slots

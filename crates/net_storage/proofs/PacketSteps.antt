@@ -13,7 +13,7 @@ use Rattle.net_storage.specs.PacketSlots.{slot, gap_slot, slots, packets_in, Hol
 use Rattle.net_storage.specs.declared.packet_metadata.PacketMetadata.{PacketMetadata}
 use Rattle.net_storage.proofs.Rotations.{length-overwrite, length-queue, taking_off, run-rot, cut, overwrite_at, read_at_le}
 use Rattle.net_storage.proofs.RingFacts.{front_place}
-use Rattle.net_storage.proofs.PacketFacts.{round, slots_append, bytes_append, placed_append, placed_anew, placed_here, slots_some, restart_cases, restart_wf, held_is, place_zero, place_le_in, place_place, place_wf, placed_from, gap_slot_one, gap_slot_none}
+use Rattle.net_storage.proofs.PacketFacts.{round, slots_append, slots_of_append, bytes_append, placed_append, placed_anew, placed_here, placed_skip, placed_pop, slots_some, restart_cases, restart_wf, held_is, place_zero, place_le_in, place_wf, gap_slot_one, gap_slot_none}
 
 module _ (b : RingState ℕ) where
   pub restart_held : (restarted b).held ≡ b.held
@@ -99,21 +99,39 @@ module _ {H : Type 0} where
       | inr k ↦ subst (λ (o : RingState ℕ). ArePlaced (capacity o) o.read_at 0 held_packets) (sym k.1) h.4
     ]
 
-    module _ (hd : H) (k : ℕ) (le : k ≤ s) (m2 : RingState (PacketMetadata H)) (em : queue m2 ≡ queue m ++ (gap_slot gap ++ (slot k (Some hd) ∷ []))) (wfm : WellFormed m2) where
-      pub push_holds : Holds m2 (taken_in (gap + k) g) (held_packets ++ (packet hd k gap ∷ []))
-      push_holds =
-          let slots_all : queue m2 ≡ slots (held_packets ++ (packet hd k gap ∷ [])) =
-          em ∙ ap (λ (l : List (PacketMetadata H)). l ++ (gap_slot gap ++ (slot k (Some hd) ∷ []))) h.2 ∙ sym (slots_append held_packets (packet hd k gap)) in
-          let all = bytes_append held_packets (packet hd k gap) in
-          let at : IsPlaced room g.read_at (0 + bytes_of held_packets) (packet hd k gap) =
-          subst (λ (n : ℕ). IsPlaced room g.read_at n (packet hd k gap)) (let z : g.held ≡ 0 + bytes_of held_packets = omega (arith, held_g) in z) (omega (arith, here.0, le), here.1) in
-          (wfm, (wfg.0, omega (arith, here.2, le)), slots_all, omega (arith, held_g, all), placed_append room g.read_at 0 held_packets (packet hd k gap) placed_g at)
+    module _ (hd : H) (k : ℕ) where
+      abbrev one_more : List (Packet H)
+      one_more = held_packets ++ (packet hd k gap ∷ [])
 
-      pub push_left : (cm : capacity m2 ≡ capacity m) → packet_queue m2 (taken_in (gap + k) g) ≡ pushed before gap k hd
-      push_left cm =
-          viewed m2 (taken_in (gap + k) g) (held_packets ++ (packet hd k gap ∷ [])) push_holds
-          ∙ ap₂ (λ (n : ℕ) (st : List ℕ). mk n st g.read_at (held_packets ++ (packet hd k gap ∷ []))) cm (restart_storage b)
-          ∙ ap (λ (o : RingState ℕ). mk (capacity m) b.storage (restarted o).read_at (held_packets ++ (packet hd k gap ∷ []))) (sym same)
+      pub push_is : mk (capacity m) g.storage g.read_at one_more ≡ pushed before gap k hd
+      push_is =
+          ap (λ (st : List ℕ). mk (capacity m) st g.read_at one_more) (restart_storage b)
+          ∙ ap (λ (o : RingState ℕ). mk (capacity m) b.storage (restarted o).read_at one_more) (sym same)
+
+      module _ (le : k ≤ s) where
+        push_placed : ArePlaced room g.read_at 0 one_more
+        push_placed =
+            let at : IsPlaced room g.read_at (0 + bytes_of held_packets) (packet hd k gap) =
+            subst (λ (n : ℕ). IsPlaced room g.read_at n (packet hd k gap)) (let z : g.held ≡ 0 + bytes_of held_packets = omega (arith, held_g) in z) (omega (arith, here.0, le), here.1) in
+            placed_append room g.read_at 0 held_packets (packet hd k gap) placed_g at
+
+        pub push_well : WellPlaced (pushed before gap k hd)
+        push_well =
+            let n = held_is m b held_packets h in
+            let all = bytes_append held_packets (packet hd k gap) in
+            let more = slots_of_append held_packets (packet hd k gap) in
+            subst WellPlaced push_is ((wfg.0, omega (arith, here.2, le, all, held_g)), push_placed, omega (arith, more, n, free_room, h.0.1))
+
+        module _ (m2 : RingState (PacketMetadata H)) (em : queue m2 ≡ queue m ++ (gap_slot gap ++ (slot k (Some hd) ∷ []))) (wfm : WellFormed m2) where
+          pub push_holds : Holds m2 (taken_in (gap + k) g) one_more
+          push_holds =
+              let slots_all : queue m2 ≡ slots one_more =
+              em ∙ ap (λ (l : List (PacketMetadata H)). l ++ (gap_slot gap ++ (slot k (Some hd) ∷ []))) h.2 ∙ sym (slots_append held_packets (packet hd k gap)) in
+              let all = bytes_append held_packets (packet hd k gap) in
+              (wfm, (wfg.0, omega (arith, here.2, le)), slots_all, omega (arith, held_g, all), push_placed)
+
+          pub push_left : (cm : capacity m2 ≡ capacity m) → packet_queue m2 (taken_in (gap + k) g) ≡ pushed before gap k hd
+          push_left cm = viewed m2 (taken_in (gap + k) g) one_more push_holds ∙ ap (λ (n : ℕ). mk n g.storage g.read_at one_more) cm ∙ push_is
 
     -- ---- a packet comes last, and bytes are written to it
     module _ (hd : H) where
@@ -259,21 +277,16 @@ module _ {H : Type 0} where
   pub skip_holds : (m : RingState (PacketMetadata H)) (b : RingState ℕ) (ps : List (Packet H)) → Holds m b ps → 0 < first_gap ps → Holds (taken_off 1 m) (taken_off (first_gap ps) b) (close_up ps)
   skip_holds m b [] h pos = absurd (omega arith)
   skip_holds m b (p ∷ ps) h pos =
-      let c = capacity b in let r = b.read_at in
       let wf = h.1 in
       let some : queue m ≡ slot p.gap None ∷ (slot p.size (Some p.header) ∷ slots ps) = h.2 ∙ ap (λ l. l ++ (slot p.size (Some p.header) ∷ slots ps)) (gap_slot_one p.gap pos) in
       let many : 1 ≤ m.held = omega (arith, length-queue m h.0, ap length some) in
       let off = taking_off m h.0 1 many in
-      let all : b.held ≡ p.gap + p.size + bytes_of ps = h.3 in
-      let at = place_place c r p.gap (0 + 0) wf.0 (omega (arith, all, wf.1)) in
-      let z : p.gap + (0 + 0) ≡ 0 + p.gap = omega arith in
-      let at_is = ap (place_in c r) z in
-      let n : 0 + p.gap + p.size ≡ p.gap + (0 + 0 + p.size) = omega arith in (
+      let all : b.held ≡ p.gap + p.size + bytes_of ps = h.3 in (
         (place_wf (capacity m) m.read_at 1 h.0.0 (omega (arith, many, h.0.1)), omega (arith, h.0.1)),
-        (place_wf c r p.gap wf.0 (omega (arith, all, wf.1)), omega (arith, wf.1)),
+        (place_wf (capacity b) b.read_at p.gap wf.0 (omega (arith, all, wf.1)), omega (arith, wf.1)),
         off.0 ∙ ap (drop 1) some,
         omega (arith, all),
-        ((omega (arith, at, at_is, h.4.0.0), λ k. absurd (k refl)), placed_from c r p.gap (0 + 0 + p.size) ps wf.0 (omega (arith, all, wf.1)) (subst (λ (j : ℕ). ArePlaced c r j ps) n h.4.1)),
+        placed_skip (capacity b) b.read_at p ps wf.0 (omega (arith, all, wf.1)) h.4,
       )
 
   pub close_gap : (ps : List (Packet H)) → first_gap (close_up ps) ≡ 0
@@ -323,14 +336,13 @@ module _ {H : Type 0} where
       → Holds m2 (taken_off (first_size ps) b) (drop 1 ps)
   pop_go m2 b [] wfm em wf n a z =
       (wfm, (place_wf (capacity b) b.read_at 0 wf.0 (omega arith), omega (arith, wf.1)), em, omega (arith, n), tt)
-  pop_go m2 b (p ∷ ps) wfm em wf n a z =
-      let k : 0 + p.gap + p.size ≡ p.size + 0 = omega (arith, z) in (
-        wfm,
-        (place_wf (capacity b) b.read_at p.size wf.0 (omega (arith, n, wf.1)), omega (arith, wf.1)),
-        em,
-        omega (arith, n, z),
-        placed_from (capacity b) b.read_at p.size 0 ps wf.0 (omega (arith, n, wf.1)) (subst (λ (j : ℕ). ArePlaced (capacity b) b.read_at j ps) k a.1),
-      )
+  pop_go m2 b (p ∷ ps) wfm em wf n a z = (
+    wfm,
+    (place_wf (capacity b) b.read_at p.size wf.0 (omega (arith, n, wf.1)), omega (arith, wf.1)),
+    em,
+    omega (arith, n, z),
+    placed_pop (capacity b) b.read_at p ps wf.0 (omega (arith, n, wf.1)) z a,
+  )
 
   module _ (m : RingState (PacketMetadata H)) (b : RingState ℕ) (h : Holds m b (packets_in 0 (queue m))) (z : first_gap (packets_in 0 (queue m)) ≡ 0) where
     abbrev front : ℕ

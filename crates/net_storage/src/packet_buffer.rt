@@ -351,6 +351,7 @@ impl<H: Drop, M: Elements<PacketMetadata<H>>, B: Elements<u8>> Packets<H, M, B> 
     pub fn peek(&mut self) -> Result<(&H, &[u8]), Empty>
         ensures* skips { sem 𝓛 (ends_as H.row M.row B.row M.Elements B.Elements self.entry (skipped self.old)) }
         ensures empty { IsErr result ↔ (length self.old.packets ≡ 0) }
+        ensures unchanged { OnErr result (skipped self.old ≡ self.old) }
         ensures first { IfOk result (λ r. IsFirst self.old.packets r.0.now (length r.1.now)) }
         ensures bytes { IfOk result (λ r. r.1.now ≡ first_bytes (skipped self.old)) }
     {

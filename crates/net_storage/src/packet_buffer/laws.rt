@@ -2,7 +2,7 @@
 ghost use Rattle.std.specs.Prelude.{◌≡◌, ◌≢◌, ◌≤◌, ◌++◌, ◌∷◌, [], ℕ, List, length, take, drop};
 ghost use Rattle.std.specs.declared.option.Option.TheVariants.{None};
 ghost use Rattle.net_storage.specs.Packets.{PacketQueue, WellPlaced, IsFront, placement, placed, last_written, last_cut, skipped, first_size, first_written, popped, taken};
-ghost use Rattle.net_storage.specs.PacketHistory.{contents};
+ghost use Rattle.net_storage.specs.PacketHistory.{contents, no_packets, Step, Run, history};
 
 /// Packets leave in the order in which they were accepted, each with the header and the bytes last written by who put it or by a closure that
 /// refused it: on the list of the headers and bytes that a queue holds, a packet that is accepted comes to the end, a refusing closure writes
@@ -19,4 +19,13 @@ pub fn packets_leave_in_order<H>()
     ensures left { (q : PacketQueue H) → WellPlaced q → contents (taken q) ≡ drop 1 (contents q) }
     ensures left_with { (q : PacketQueue H) (header : H) (ws : List ℕ) → WellPlaced q → length ws ≡ first_size q.packets
         → contents (popped (first_written (skipped q) header ws)) ≡ drop 1 (contents q) }
+{}
+
+/// The packet that leaves k-th is the one that was accepted k-th. Over any calls, in any order, from a queue with no packets on, the packets
+/// that left, in order, followed by those that are still held, are exactly the packets that were accepted, in order. Each left, or is held,
+/// with the header and the bytes last written to it, by who put it or by a closure that refused it. What `reset` drops counts as never
+/// accepted.
+pub fn accepted_packets_leave_in_turn<H>()
+    ensures { (slots : ℕ) (storage : List ℕ) (steps : List (Step H)) (r : PacketQueue H) → Run steps (no_packets slots storage) r
+        → (history steps).left ++ contents r ≡ (history steps).accepted }
 {}

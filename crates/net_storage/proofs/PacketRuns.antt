@@ -1,0 +1,265 @@
+-- Over whole runs, a queue's packets leave in the order in which they came.
+use Rattle.std.proofs.Common.{◌≢◌, ◌≡◌, ℕ, ◌+◌, ◌-◌, ◌≤◌, List, [], ◌∷◌, ◌++◌, length, take, drop, refl, sym, ap, ap₂, ◌∙◌, subst, inl, inr, arith, ◌⊎◌, ◌<◌, append_assoc, length-append}
+use Rattle.std.proofs.lemmas.List.{append-nil, take_all, take_at, drop_at}
+use Rattle.std.proofs.Math.Seq.{set-append_seam}
+use Rattle.std.specs.Prelude.{set}
+use Rattle.std.specs.declared.option.Option.TheVariants.{Some, None}
+use Rattle.net_storage.specs.Overwrite.{overwrite}
+use Rattle.net_storage.specs.Ring.{queue, place}
+use Rattle.net_storage.specs.Packets.{Packet, PacketQueue, packet, bytes_of, slots_of, byte_ring, place_in, ArePlaced, placement, pushed, pushed_if, placed, last, last_place, last_bytes, last_written, last_cut, resized, first_gap, first_size, close_up, skipped, headed, first_written, popped, taken, freed_place, AreFreed, with_bytes, WellPlaced}
+use Rattle.net_storage.specs.PacketHistory.{contents_of, contents, no_packets, Step, Reset, Placed, LastWritten, Enqueued, EnqueuedWith, Peeked, Refused, DequeuedWith, Taken, FreedWritten, Dequeued, Log, Makes, Run, with_last_bytes, logged, logged_all, history}
+use Rattle.net_storage.proofs.Rotations.{IsPlace, length-overwrite, length-queue, cut, overwrite_at, place_is}
+use Rattle.net_storage.proofs.RingFacts.{held_law, spare_law}
+use Rattle.net_storage.proofs.PacketFacts.{bytes_append, place_cases, place_place, place_wf, placed_skip, placed_pop, slots_for_pos}
+use Rattle.net_storage.proofs.PacketSteps.{closed, last_append, before_append, last_fits, front_fits, push_well, close_gap}
+use Rattle.net_storage.proofs.PacketOrder.{some_of, contents_append}
+use Rattle.net_storage.proofs.PacketOrder as order
+
+-- what is written over a part of a list as it stands there changes nothing
+overwrite_same : (xs : List ℕ) (i n : ℕ) → i + n ≤ length xs → overwrite xs i (take n (drop i xs)) ≡ xs
+overwrite_same xs i n fits =
+    let c1 = cut i xs (omega (arith, fits)) in let a = c1.0 in let v = c1.1 in
+    let c2 = cut n v (omega (arith, c1.4, fits)) in let part = c2.0 in let z = c2.1 in
+    let whole : xs ≡ a ++ (part ++ z) = c1.2 ∙ ap (λ (l : List ℕ). a ++ l) c2.2 in
+    let read : take n (drop i xs) ≡ part = ap (take n) (ap (drop i) c1.2 ∙ drop_at a v i c1.3) ∙ ap (take n) c2.2 ∙ take_at part z n c2.3 in
+    ap₂ (λ (l ws : List ℕ). overwrite l i ws) whole read ∙ overwrite_at a part z part i c1.3 refl ∙ sym whole
+
+-- a list that is not empty ends in an element
+ends_in : {X : Type 0} (xs : List X) → xs ≢ [] → (ys : List X) × (y : X) × (xs ≡ ys ++ (y ∷ []))
+ends_in [] some = absurd (some refl)
+ends_in (x ∷ []) some = ([], x, refl)
+ends_in (x ∷ (o ∷ xs)) some =
+    let rest = ends_in (o ∷ xs) (λ e. let n = ap length e in absurd (omega (arith, n))) in
+    (x ∷ rest.0, rest.1, ap (λ l. x ∷ l) rest.2)
+
+module _ {H : Type 0} where
+  abbrev mk : ℕ → List ℕ → ℕ → List (Packet H) → PacketQueue H
+  mk n st r ps = record { slots = n; storage = st; read_at = r; packets = ps }
+
+  -- ---- each step leaves the packets well placed
+  with_bytes_well : (q : PacketQueue H) → WellPlaced q → (p : ℕ) (ws : List ℕ) → WellPlaced (with_bytes q p ws)
+  with_bytes_well q ok p ws =
+      subst (λ (n : ℕ). (((q.read_at ≡ 0) ⊎ (q.read_at < n)) × (bytes_of q.packets ≤ n)) × ArePlaced n q.read_at 0 q.packets × (slots_of q.packets ≤ q.slots)) (sym (length-overwrite q.storage p ws)) ok
+
+  skipped_go : (n : ℕ) (st : List ℕ) (r : ℕ) (ps : List (Packet H)) → WellPlaced (mk n st r ps) → WellPlaced (skipped (mk n st r ps))
+  skipped_go n st r [] ok = ((place_wf (length st) r 0 ok.0.0 (omega arith), ok.0.1), tt, ok.2)
+  skipped_go n st r (p ∷ ps) ok =
+      let some = slots_for_pos p.gap in
+      let at = place_wf (length st) r p.gap ok.0.0 (omega (arith, ok.0.1)) in
+      ((at, omega (arith, ok.0.1)), placed_skip (length st) r p ps ok.0.0 ok.0.1 ok.1, omega (arith, some, ok.2))
+
+  popped_go : (n : ℕ) (st : List ℕ) (r : ℕ) (ps : List (Packet H)) → first_gap ps ≡ 0 → WellPlaced (mk n st r ps) → WellPlaced (popped (mk n st r ps))
+  popped_go n st r [] z ok = ((place_wf (length st) r 0 ok.0.0 (omega arith), ok.0.1), tt, ok.2)
+  popped_go n st r (p ∷ ps) z ok =
+      let at = place_wf (length st) r p.size ok.0.0 (omega (arith, ok.0.1)) in
+      ((at, omega (arith, ok.0.1)), placed_pop (length st) r p ps ok.0.0 ok.0.1 z ok.1, omega (arith, ok.2))
+
+  headed_go : (n : ℕ) (st : List ℕ) (r : ℕ) (ps : List (Packet H)) (hd : H) → WellPlaced (mk n st r ps) → WellPlaced (mk n st r (headed hd ps)) × (first_gap (headed hd ps) ≡ first_gap ps)
+  headed_go n st r [] hd ok = (ok, refl)
+  headed_go n st r (p ∷ ps) hd ok = (ok, refl)
+
+  module _ (q : PacketQueue H) (ok : WellPlaced q) where
+    skipped_well : WellPlaced (skipped q)
+    skipped_well = skipped_go q.slots q.storage q.read_at q.packets ok
+
+    taken_well : WellPlaced (taken q)
+    taken_well = popped_go q.slots q.storage _ (close_up q.packets) (close_gap q.packets) skipped_well
+
+    module _ (hd : H) (ws : List ℕ) where
+      written_headed : WellPlaced (first_written (skipped q) hd ws) × (first_gap (first_written (skipped q) hd ws).packets ≡ first_gap (close_up q.packets))
+      written_headed =
+          let at = (skipped q).read_at in
+          headed_go q.slots (overwrite q.storage at ws) at (close_up q.packets) hd (with_bytes_well (skipped q) skipped_well at ws)
+
+      written_off : WellPlaced (popped (first_written (skipped q) hd ws))
+      written_off = popped_go q.slots _ _ (headed hd (close_up q.packets)) (written_headed.1 ∙ close_gap q.packets) written_headed.0
+
+    -- a packet that comes last
+    module _ (s : ℕ) (hd : H) (gap : ℕ) (e : placement q s ≡ Some gap) where
+      pushed_well : (k : ℕ) → k ≤ s → WellPlaced (pushed q gap k hd)
+      pushed_well k le =
+          let m = order.m q ok in let b = order.b q ok in
+          let is = order.is_queue q ok in
+          let h = closed m b q.packets (order.holds q ok) in
+          subst (λ (o : PacketQueue H). WellPlaced (pushed o gap k hd)) is (push_well m b h gap s (ap (λ (o : PacketQueue H). placement o s) is ∙ e) hd k le)
+
+      placed_is : placed q s hd ≡ pushed q gap s hd
+      placed_is = ap (λ o. pushed_if q o s hd) e
+
+      cut_is : (k : ℕ) (ws : List ℕ) → with_bytes (pushed q gap k hd) (last_place (pushed q gap s hd)) ws ≡ last_cut k (last_written (placed q s hd) ws)
+      cut_is k ws =
+          let all = pushed q gap s hd in
+          ap₂ (λ (front back : List (Packet H)). mk q.slots (overwrite q.storage (last_place all) ws) all.read_at (front ++ back))
+          (sym (before_append q.packets (packet hd s gap))) (sym (ap (resized k) (last_append q.packets (packet hd s gap))))
+          ∙ ap (λ o. last_cut k (last_written o ws)) (sym placed_is)
+
+    module _ (s : ℕ) (hd : H) (some : placement q s ≢ None) where
+      placed_well : WellPlaced (placed q s hd)
+      placed_well = let g = some_of (placement q s) some in subst WellPlaced (sym (placed_is s hd g.0 g.1)) (pushed_well s hd g.0 g.1 s (omega arith))
+
+      cut_well : (k : ℕ) → k ≤ s → (ws : List ℕ) → WellPlaced (last_cut k (last_written (placed q s hd) ws))
+      cut_well k le ws =
+          let g = some_of (placement q s) some in
+          subst WellPlaced (cut_is s hd g.0 g.1 k ws) (with_bytes_well (pushed q g.0 k hd) (pushed_well s hd g.0 g.1 k le) (last_place (pushed q g.0 s hd)) ws)
+
+  keeps : (step : Step H) (q r : PacketQueue H) → WellPlaced q → Makes step q r → WellPlaced r
+  keeps Reset q r ok is = subst WellPlaced (sym is) ((inl refl, omega arith), tt, omega arith)
+  keeps (Placed hd ws) q r ok does = subst WellPlaced (sym does.1) (placed_well q ok (length ws) hd does.0)
+  keeps (LastWritten ws) q r ok does = subst WellPlaced (sym does.2) (with_bytes_well q ok (last_place q) ws)
+  keeps (Enqueued hd ws) q r ok does = subst WellPlaced (sym does.1) (let o = placed q (length ws) hd in with_bytes_well o (placed_well q ok (length ws) hd does.0) (last_place o) ws)
+  keeps (EnqueuedWith hd ws count) q r ok does = subst WellPlaced (sym does.2) (cut_well q ok (length ws) hd does.0 count does.1 ws)
+  keeps Peeked q r ok is = subst WellPlaced (sym is) (skipped_well q ok)
+  keeps (Refused hd ws) q r ok does = subst WellPlaced (sym does.2) (written_headed q ok hd ws).0
+  keeps (DequeuedWith hd ws after written) q r ok does = subst WellPlaced (sym does.2) (written_off q ok after written)
+  keeps (Taken hd ws) q r ok does = subst WellPlaced (sym does.1) (taken_well q ok)
+  keeps (FreedWritten ws) q r ok does = subst WellPlaced (sym does.1) (with_bytes_well q ok (freed_place q (length ws)) ws)
+  keeps (Dequeued hd ws written) q r ok does = subst WellPlaced (sym does.2) (with_bytes_well (taken q) (taken_well q ok) (skipped q).read_at written)
+
+  -- ---- what a step makes of the contents
+  placed_contents : (q : PacketQueue H) → WellPlaced q → (hd : H) (ws : List ℕ) → placement q (length ws) ≢ None → ws ≡ last_bytes (placed q (length ws) hd)
+      → contents (placed q (length ws) hd) ≡ contents q ++ ((hd, ws) ∷ [])
+  placed_contents q ok hd ws some is =
+      let o = placed q (length ws) hd in
+      let w = placed_well q ok (length ws) hd some in
+      let f = last_fits (length o.storage) o.read_at 0 o.packets w.0.0 (omega (arith, w.0.1)) w.1 in
+      let z : 0 + bytes_of o.packets - first_size (last o.packets) ≡ bytes_of o.packets - first_size (last o.packets) = omega arith in
+      let at = ap (place_in (length o.storage) o.read_at) z in
+      let same : last_written o ws ≡ o =
+      ap (last_written o) is ∙ ap (λ (st : List ℕ). mk o.slots st o.read_at o.packets) (overwrite_same o.storage (last_place o) (first_size (last o.packets)) (omega (arith, at, f.1))) in
+      ap contents (sym same) ∙ order.accepted q ok (length ws) hd ws some refl
+
+  -- the last packet is written again
+  last_go : (n : ℕ) (st : List ℕ) (r : ℕ) (ps : List (Packet H)) (p : Packet H) (ws : List ℕ) → let q = mk n st r (ps ++ (p ∷ [])) in WellPlaced q → length ws ≡ first_size (last q.packets)
+      → (front : List (H × List ℕ)) × (old : List ℕ) × (contents q ≡ front ++ ((p.header, old) ∷ [])) × (contents (last_written q ws) ≡ front ++ ((p.header, ws) ∷ []))
+  last_go n st r ps p ws ok long =
+      let q = mk n st r (ps ++ (p ∷ [])) in
+      let c = byte_ring q in
+      let bs = queue c in
+      let sum = bytes_append ps p in
+      let size : length ws ≡ p.size = long ∙ ap first_size (last_append ps p) in
+      let f = last_fits (length st) r 0 q.packets ok.0.0 (omega (arith, ok.0.1)) ok.1 in
+      let i : ℕ = bytes_of q.packets - first_size (last q.packets) in
+      let z : 0 + bytes_of q.packets - first_size (last q.packets) ≡ i = omega arith in
+      let at = ap (place_in (length st) r) z in
+      let w = (held_law c ok.0 i (last_place q) ws (omega (arith, long, f.0)) (omega (arith, long, at, f.1)) (place_is c i)).0 in
+      let all = length-queue c ok.0 in
+      let c1 = cut (bytes_of ps) bs (omega (arith, all, sum)) in let a = c1.0 in let v = c1.1 in
+      let c2 = cut p.gap v (omega (arith, all, sum, c1.4)) in let x = c2.0 in let old = c2.1 in
+      let whole : bs ≡ a ++ (x ++ old) = c1.2 ∙ ap (λ (l : List ℕ). a ++ l) c2.2 in
+      let ax = length-append a x in
+      let here : length (a ++ x) ≡ i = omega (arith, ax, c1.3, c2.3, sum, long, size) in
+      let row : length old ≡ length ws = omega (arith, c2.4, c1.4, all, sum, size) in
+      let over : overwrite bs i ws ≡ a ++ (x ++ ws) =
+      ap (λ (l : List ℕ). overwrite l i ws) (whole ∙ sym (append_assoc a x old) ∙ ap (λ (l : List ℕ). (a ++ x) ++ l) (sym (append-nil old)))
+      ∙ overwrite_at (a ++ x) old [] ws i here row ∙ ap (λ (l : List ℕ). (a ++ x) ++ l) (append-nil ws) ∙ append_assoc a x ws in
+      let full : take p.size ws ≡ ws = take_all p.size ws (omega (arith, size)) in (
+        contents_of ps a,
+        take p.size old,
+        ap (contents_of q.packets) whole ∙ contents_append ps p a x old c1.3 c2.3,
+        ap (contents_of q.packets) (w ∙ over) ∙ contents_append ps p a x ws c1.3 c2.3 ∙ ap (λ (l : List ℕ). contents_of ps a ++ ((p.header, l) ∷ [])) full,
+      )
+
+  last_contents : (q : PacketQueue H) → WellPlaced q → (ws : List ℕ) → q.packets ≢ [] → length ws ≡ first_size (last q.packets)
+      → (front : List (H × List ℕ)) × (hd : H) × (old : List ℕ) × (contents q ≡ front ++ ((hd, old) ∷ [])) × (contents (last_written q ws) ≡ front ++ ((hd, ws) ∷ []))
+  last_contents q ok ws some long =
+      let end = ends_in q.packets some in
+      let is : q ≡ mk q.slots q.storage q.read_at (end.0 ++ (end.1 ∷ [])) = ap (mk q.slots q.storage q.read_at) end.2 in
+      let l = last_go q.slots q.storage q.read_at end.0 end.1 ws (subst WellPlaced is ok) (long ∙ ap (λ ps. first_size (last ps)) end.2) in
+      (l.0, end.1.header, l.1, ap contents is ∙ l.2, ap (λ o. contents (last_written o ws)) is ∙ l.3)
+
+  freed_contents : (q : PacketQueue H) → WellPlaced q → (ws : List ℕ) → AreFreed q (length ws) → contents (with_bytes q (freed_place q (length ws)) ws) ≡ contents q
+  freed_contents q ok ws f =
+      let c = byte_ring q in
+      let s = length ws in
+      let i : ℕ = length q.storage - bytes_of q.packets - s in
+      let z : length q.storage - s ≡ c.held + i = omega (arith, f.0, ok.0.1) in
+      let at = ap (place c) z in
+      let w = spare_law c ok.0 i (freed_place q s) ws (omega (arith, f.0)) f.1 (subst (λ (j : ℕ). IsPlace (length q.storage) q.read_at j (freed_place q s)) z (place_is c (length q.storage - s))) in
+      ap (contents_of q.packets) w.0
+
+  close_size : (ps : List (Packet H)) → first_size (close_up ps) ≡ first_size ps
+  close_size [] = refl
+  close_size (p ∷ ps) = refl
+
+  -- the bytes of a packet that was taken off lie before the read place
+  rest_bytes : (ps : List (Packet H)) → bytes_of (drop 1 ps) + first_size ps ≤ bytes_of ps
+  rest_bytes [] = omega arith
+  rest_bytes (p ∷ ps) = omega arith
+
+  off_go : (n : ℕ) (st : List ℕ) (r : ℕ) (ps : List (Packet H)) → WellPlaced (mk n st r ps) → first_gap ps ≡ 0 → let o = popped (mk n st r ps) in (freed_place o (first_size ps) ≡ r) × AreFreed o (first_size ps)
+  off_go n st r ps ok z =
+      let c = length st in
+      let s = first_size ps in
+      let rest = rest_bytes ps in
+      let f = front_fits c r ps ok.0.0 ok.0.1 ok.1 z in
+      let back : s + (c - s) ≡ c = omega (arith, f.1) in
+      let round : freed_place (popped (mk n st r ps)) s ≡ r =
+      place_place c r s (c - s) ok.0.0 (omega (arith, f.1)) ∙ ap (place_in c r) back ∙ (elim (place_cases c r c) [ inl h ↦ absurd (omega (arith, h.0)) | inr h ↦ omega (arith, h.1, f.1) ]) in
+      (round, (omega (arith, rest, ok.0.1), omega (arith, round, f.1)))
+
+  off_contents : (q : PacketQueue H) → WellPlaced q → (ws : List ℕ) → length ws ≡ first_size q.packets → contents (with_bytes (taken q) (skipped q).read_at ws) ≡ contents (taken q)
+  off_contents q ok ws long =
+      let f = off_go q.slots q.storage (skipped q).read_at (close_up q.packets) (skipped_well q ok) (close_gap q.packets) in
+      let size : first_size (close_up q.packets) ≡ length ws = close_size q.packets ∙ sym long in
+      ap (λ (p : ℕ). contents (with_bytes (taken q) p ws)) (sym f.0 ∙ ap (freed_place (taken q)) size)
+      ∙ freed_contents (taken q) (taken_well q ok) ws (subst (λ (s : ℕ). AreFreed (taken q) s) size f.1)
+
+  -- ---- the log of a run
+  last_entry : (ps : List (H × List ℕ)) (hd : H) (old ws : List ℕ) → with_last_bytes ws (ps ++ ((hd, old) ∷ [])) ≡ ps ++ ((hd, ws) ∷ [])
+  last_entry [] hd old ws = refl
+  last_entry (p ∷ []) hd old ws = refl
+  last_entry (p ∷ (o ∷ ps)) hd old ws = ap (λ l. p ∷ l) (last_entry (o ∷ ps) hd old ws)
+
+  -- the packets that left, followed by those that are held, are those that came
+  abbrev InTurn : Log H → PacketQueue H → Type 0
+  InTurn log q = log.left ++ contents q ≡ log.accepted
+
+  more : (log : Log H) (q r : PacketQueue H) (p : H × List ℕ) → InTurn log q → contents r ≡ contents q ++ (p ∷ []) → log.left ++ contents r ≡ log.accepted ++ (p ∷ [])
+  more log q r p turn is = ap (λ l. log.left ++ l) is ∙ sym (append_assoc log.left (contents q) (p ∷ [])) ∙ ap (λ l. l ++ (p ∷ [])) turn
+
+  off : (log : Log H) (q r : PacketQueue H) (p : H × List ℕ) → InTurn log q → contents q ≡ p ∷ drop 1 (contents q) → contents r ≡ drop 1 (contents q) → (log.left ++ (p ∷ [])) ++ contents r ≡ log.accepted
+  off log q r p turn first is = append_assoc log.left (p ∷ []) (contents r) ∙ ap (λ l. log.left ++ (p ∷ l)) is ∙ ap (λ l. log.left ++ l) (sym first) ∙ turn
+
+  first_entry : (ps : List (Packet H)) (bs : List ℕ) → ps ≢ [] → (p : H × List ℕ) × (contents_of ps bs ≡ p ∷ drop 1 (contents_of ps bs))
+  first_entry [] bs some = absurd (some refl)
+  first_entry (p ∷ ps) bs some = (_, refl)
+
+  anew : (log : Log H) (q r : PacketQueue H) (p : H × List ℕ) → InTurn log q → q.packets ≢ [] → contents r ≡ p ∷ drop 1 (contents q) → log.left ++ contents r ≡ set log.accepted (length log.left) p
+  anew log q r p turn some is =
+      let f = first_entry q.packets (queue (byte_ring q)) some in
+      ap (λ l. log.left ++ l) is ∙ sym (set-append_seam log.left f.0 (drop 1 (contents q)) p) ∙ ap (λ l. set (log.left ++ l) (length log.left) p) (sym f.1) ∙ ap (λ l. set l (length log.left) p) turn
+
+  again : (log : Log H) (q r : PacketQueue H) (ws : List ℕ) (front : List (H × List ℕ)) (hd : H) (old : List ℕ) → InTurn log q → contents q ≡ front ++ ((hd, old) ∷ []) → contents r ≡ front ++ ((hd, ws) ∷ []) → log.left ++ contents r ≡ with_last_bytes ws log.accepted
+  again log q r ws front hd old turn was is =
+      ap (λ l. log.left ++ l) is ∙ sym (append_assoc log.left front ((hd, ws) ∷ [])) ∙ sym (last_entry (log.left ++ front) hd old ws)
+      ∙ ap (with_last_bytes ws) (append_assoc log.left front ((hd, old) ∷ []) ∙ ap (λ l. log.left ++ l) (sym was) ∙ turn)
+
+  step_turn : (step : Step H) (log : Log H) (q r : PacketQueue H) → WellPlaced q → Makes step q r → InTurn log q → InTurn (logged step log) r
+  step_turn Reset log q r ok is turn = ap (λ o. log.left ++ contents o) is ∙ append-nil log.left
+  step_turn (Placed hd ws) log q r ok does turn =
+      more log q r (hd, ws) turn (ap contents does.1 ∙ placed_contents q ok hd ws does.0 (does.2 ∙ ap last_bytes does.1))
+  step_turn (LastWritten ws) log q r ok does turn =
+      let l = last_contents q ok ws does.0 does.1 in
+      again log q r ws l.0 l.1 l.2 turn l.3 (ap contents does.2 ∙ l.4)
+  step_turn (Enqueued hd ws) log q r ok does turn = more log q r (hd, ws) turn (ap contents does.1 ∙ order.accepted q ok (length ws) hd ws does.0 refl)
+  step_turn (EnqueuedWith hd ws count) log q r ok does turn =
+      more log q r (hd, take count ws) turn (ap contents does.2 ∙ order.accepted_with q ok (length ws) hd ws does.0 refl count does.1)
+  step_turn Peeked log q r ok is turn = ap (λ l. log.left ++ l) (ap contents is ∙ order.gap_dropped q ok) ∙ turn
+  step_turn (Refused hd ws) log q r ok does turn = anew log q r (hd, ws) turn does.0 (ap contents does.2 ∙ order.refused q ok hd ws does.0 does.1)
+  step_turn (DequeuedWith hd ws after written) log q r ok does turn =
+      let size = ap first_size does.0.0 in
+      off log q r (hd, ws) turn (order.shown q ok hd ws does.0) (ap contents does.2 ∙ order.left_with q ok after written (does.1 ∙ sym size))
+  step_turn (Taken hd ws) log q r ok does turn = off log q r (hd, ws) turn (order.shown q ok hd ws does.0) (ap contents does.1 ∙ order.left q ok)
+  step_turn (FreedWritten ws) log q r ok does turn = ap (λ l. log.left ++ l) (ap contents does.1 ∙ freed_contents q ok ws does.0) ∙ turn
+  step_turn (Dequeued hd ws written) log q r ok does turn =
+      let size = ap first_size does.0.0 in
+      off log q r (hd, ws) turn (order.shown q ok hd ws does.0) (ap contents does.2 ∙ off_contents q ok written (does.1 ∙ sym size) ∙ order.left q ok)
+
+  run_turn : (steps : List (Step H)) (log : Log H) (q r : PacketQueue H) → WellPlaced q → Run steps q r → InTurn log q → InTurn (logged_all steps log) r
+  run_turn [] log q r ok run turn = ap (λ o. log.left ++ contents o) run ∙ turn
+  run_turn (step ∷ steps) log q r ok run turn =
+      run_turn steps (logged step log) run.0 r (keeps step q run.0 ok run.1) run.2 (step_turn step log q run.0 ok run.1 turn)
+
+  pub in_turn : (slots : ℕ) (storage : List ℕ) (steps : List (Step H)) (r : PacketQueue H) → Run steps (no_packets slots storage) r → InTurn (history steps) r
+  in_turn slots storage steps r run =
+      run_turn steps (record { accepted = []; left = [] }) (no_packets slots storage) r ((inl refl, omega arith), tt, omega arith) run refl
