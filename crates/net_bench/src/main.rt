@@ -13,6 +13,8 @@ mod session;
 #[cfg(test)]
 mod streams;
 mod text;
+#[cfg(test)]
+mod two_lists;
 mod words;
 
 use std::env;

@@ -1,0 +1,99 @@
+//! A device of net_base's trait that is no loopback, for tests.
+ghost use Rattle.std.specs.Prelude.{◌≡◌, ◌∷◌, ◌++◌, [], List, ℕ};
+ghost use Rattle.net_base.specs.Loopback.{loopback_capabilities};
+ghost use Rattle.net_base.specs.declared.phy.medium.Medium.TheVariants.{Ip};
+
+use net_base::phy::{
+    ChecksumCapabilities, Device, DeviceCapabilities, Medium, RxToken, TxToken,
+};
+use net_base::time::Instant;
+use std::alloc::{AllocError, Allocator, Global};
+use std::collections::VecDeque;
+use std::marker::Model;
+
+mod tests;
+
+/// A device of two lists: frames to come, and frames that were sent. It keeps the moment at which it was last asked for a frame.
+#[derive(Drop)]
+pub struct TwoLists<A: Allocator + Copy = Global> {
+    pub to_come: VecDeque<Vec<u8, A>, A>,
+    pub sent: VecDeque<Vec<u8, A>, A>,
+    pub asked_at: Instant,
+}
+
+impl<A: Allocator + Copy> Model for TwoLists<A> {
+    ghost use Rattle.std.specs.Prelude.{ℕ, List};
+    ghost use Rattle.net_base.specs.Loopback.{bytes_of};
+
+    ghost Value = { List (List ℕ) × List (List ℕ) };
+
+    ghost view = { λ d. (bytes_of d.to_come.items, bytes_of d.sent.items) };
+}
+
+/// A frame that has come.
+#[derive(Drop)]
+pub struct Came<A: Allocator + Copy>(Vec<u8, A>);
+
+/// The right to send a frame.
+#[derive(Drop)]
+pub struct Leave;
+
+impl<A: Allocator + Copy> RxToken for Came<A> {
+    ghost bytes = { λ t. t.0.items };
+
+    fn consume<R, F: FnOnce(&[u8]) -> R>(self, f: F) -> R {
+        f(self.0.as_slice())
+    }
+
+    fn frame(&self) -> &[u8] {
+        self.0.as_slice()
+    }
+}
+
+impl TxToken for Leave {}
+
+impl<A: Allocator + Copy> Device for TwoLists<A> {
+    type RxToken = Came<A>;
+
+    type TxToken = Leave;
+
+    ghost taken = { λ old frame new. (old.0 ≡ frame ∷ new.0) × (old.1 ≡ new.1) };
+
+    ghost is_idle = { λ d. d.0 ≡ [] };
+
+    ghost sent = { λ old frame new. (new.0 ≡ old.0) × (new.1 ≡ old.1 ++ frame ∷ []) };
+
+    ghost abilities = { λ _. loopback_capabilities Ip };
+
+    fn receive(&mut self, timestamp: Instant) -> Option<(Came<A>, Leave)> {
+        self.asked_at = timestamp;
+        let frame = self.to_come.pop_front()?;
+        Some((Came(frame), Leave))
+    }
+
+    fn transmit(&mut self, _timestamp: Instant) -> Option<Leave> {
+        Some(Leave)
+    }
+
+    fn capabilities(&self) -> DeviceCapabilities {
+        DeviceCapabilities {
+            medium: Medium::Ip,
+            max_transmission_unit: 65535,
+            checksum: ChecksumCapabilities::ignored(),
+            ..DeviceCapabilities::default()
+        }
+    }
+
+    fn send<R, F: FnOnce(&mut [u8]) -> R + Drop>(
+        &mut self,
+        _token: Leave,
+        len: usize,
+        f: F,
+    ) -> Result<R, AllocError> {
+        self.sent.reserve(1)?;
+        let mut frame = vec![in *self.sent.allocator(); 0u8; len]?;
+        let answer = f(frame.as_mut_slice());
+        self.sent.push_back_reserved(frame);
+        Ok(answer)
+    }
+}
