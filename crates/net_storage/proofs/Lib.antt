@@ -10,6 +10,7 @@ pub mod PacketRuns
 mod LendInside
 mod ResultParts
 mod WalkedQueue
+mod PassedNumber
 pub mod Positions
 pub mod Runs
 pub mod Contigs

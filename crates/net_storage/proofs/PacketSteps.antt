@@ -3,17 +3,17 @@ use Rattle.std.proofs.Common.{◌≢◌, ◌≡◌, ℕ, suc, zero, ◌+◌, ◌
 use Rattle.std.proofs.Common.{length-drop, length-take}
 use Rattle.std.proofs.lemmas.List.{take_at, drop_at, nil_from_length, take_all, take-take, length-take-le}
 use Rattle.std.proofs.lemmas.Option.{none-some, cond_some}
-use Rattle.std.specs.Prelude.{true}
+use Rattle.std.specs.Prelude.{true, Option}
 use Rattle.std.specs.List.{slice_get}
 use Rattle.std.specs.declared.option.Option.TheVariants.{Some, None}
 use Rattle.net_storage.specs.Overwrite.{overwrite}
 use Rattle.net_storage.specs.Ring.{RingState, ring, rot, capacity, window, queue, place, WellFormed, restarted, taken_in, taken_off, written, contiguous_window, contiguous_held, held_place, held_run, spare_place, spare_run}
-use Rattle.net_storage.specs.Packets.{Packet, PacketQueue, packet, bytes_of, slots_of, slots_for, byte_ring, place_in, IsPlaced, ArePlaced, gap_for, placement, pushed, placed, pushed_if, last, before_last, last_place, last_bytes, last_written, last_cut, resized, IsRoom, first_gap, first_size, close_up, skipped, IsFirst, first_bytes, IsFront, headed, first_written, popped, freed_place, AreFreed, WellPlaced}
+use Rattle.net_storage.specs.Packets.{Packet, PacketQueue, packet, bytes_of, slots_of, slots_for, byte_ring, place_in, IsPlaced, ArePlaced, gap_for, placement, pushed, placed, pushed_if, last, before_last, last_place, last_bytes, last_written, last_cut, resized, IsRoom, first_gap, first_size, close_up, skipped, IsFirst, first_bytes, IsFront, headed, first_written, popped, freed_place, AreFreed, WellPlaced, with_bytes}
 use Rattle.net_storage.specs.PacketSlots.{slot, gap_slot, slots, packets_in, Holds, packet_queue}
 use Rattle.net_storage.specs.declared.packet_metadata.PacketMetadata.{PacketMetadata}
 use Rattle.net_storage.proofs.Rotations.{length-overwrite, length-queue, taking_off, run-rot, cut, overwrite_at, read_at_le}
 use Rattle.net_storage.proofs.RingFacts.{front_place}
-use Rattle.net_storage.proofs.PacketFacts.{round, slots_append, slots_of_append, bytes_append, placed_append, placed_anew, placed_here, placed_skip, placed_pop, slots_some, restart_cases, restart_wf, held_is, place_zero, place_le_in, place_wf, gap_slot_one, gap_slot_none}
+use Rattle.net_storage.proofs.PacketFacts.{round, slots_append, slots_of_append, bytes_append, placed_append, placed_anew, placed_here, placed_skip, placed_pop, slots_some, restart_cases, restart_wf, held_is, place_zero, place_le_in, place_wf, gap_slot_one, gap_slot_none, place_cases}
 
 module _ (b : RingState ℕ) where
   pub restart_held : (restarted b).held ≡ b.held
@@ -307,6 +307,13 @@ module _ {H : Type 0} where
         let ps = packets_in 0 (queue m) in
         closed (taken_off 1 m) (taken_off (first_gap ps) b) (close_up ps) (skip_holds m b ps h pos)
 
+    -- the same by what the two steps left
+    pub skip_keeps : (gap : ℕ) (q : PacketQueue H) (m2 : RingState (PacketMetadata H)) (b2 : RingState ℕ) → packet_queue m b ≡ q → gap ≡ first_gap q.packets → 0 < gap → m2 ≡ taken_off 1 m → b2 ≡ taken_off gap b → Holds m2 b2 (packets_in 0 (queue m2))
+    skip_keeps gap q m2 b2 is size some off freed =
+        let all : gap ≡ first_gap (packets_in 0 (queue m)) = size ∙ ap (λ o. first_gap o.packets) (sym is) in
+        subst (λ n. Holds n b2 (packets_in 0 (queue n))) (sym off)
+        (subst (λ o. Holds (taken_off 1 m) o (packets_in 0 (queue (taken_off 1 m)))) (sym (freed ∙ ap (λ n. taken_off n b) all)) (skip_kept (omega (arith, all, some))))
+
   -- ---- the first packet, whose gap is gone
   front_slots : (ps : List (Packet H)) (p : Packet H) → p.gap ≡ 0 → slots (p ∷ ps) ≡ slot p.size (Some p.header) ∷ slots ps
   front_slots ps p z = ap (λ l. l ++ (slot p.size (Some p.header) ∷ slots ps)) (gap_slot_none p.gap z)
@@ -419,6 +426,13 @@ module _ {X : Type 0} where
       none-some y (i ∙ ap (λ o. slice_get o 0) (e ∙ ap (take (suc n)) q))
 
 module _ {H : Type 0} where
+  -- the first slot's header is written over
+  pub put_keeps : (q l n : List (PacketMetadata H)) (x : PacketMetadata H) (s : ℕ) (h : Option H) (hd : H) → l ≡ take (length l) q → length l ≤ 1 → 0 < length l → x ≡ get_or l 0 x → q ≡ slot s h ∷ drop 1 q
+      → n ≡ overwrite q 0 (set l 0 (slot x.size (Some hd))) → n ≡ slot s (Some hd) ∷ drop 1 q
+  put_keeps q l n x s h hd e one some i f en =
+      let put = first_put q l n x (slot x.size (Some hd)) (slot s h) e one some i f en in
+      put.1 ∙ ap (λ m. slot m.size (Some hd) ∷ drop 1 q) put.0
+
   -- the last slot's size is that of the last packet
   end_go : (ps : List (Packet H)) (q : List (PacketMetadata H)) (l : List (PacketMetadata H)) (k n : ℕ) → q ≡ slots ps → k ≡ length q - 1 → l ≡ take n (drop k q)
       → (x : PacketMetadata H) → Some x ≡ slice_get l 0 → x.size ≡ first_size (last ps)
@@ -470,6 +484,18 @@ module _ {H : Type 0} where
       ((h.1.0, omega (arith, k, h.1.1)), h.4, omega (arith, n, h.0.1))
 
   -- ---- the bytes before the read place
+  -- of freed bytes the last ones are freed
+  pub freed_less : (q : PacketQueue H) (s k : ℕ) → AreFreed q s → k ≤ s → AreFreed q k
+  freed_less q s k f le =
+      let c = length q.storage in
+      let r = q.read_at in (
+        omega (arith, f.0, le),
+        elim (place_cases c r (c - s)) [
+          | inl a ↦ elim (place_cases c r (c - k)) [ inl b ↦ omega (arith, f.0, f.1, le, a.0, a.1, b.0, b.1) | inr b ↦ omega (arith, f.0, f.1, le, a.0, a.1, b.0, b.1) ]
+          | inr a ↦ elim (place_cases c r (c - k)) [ inl b ↦ absurd (omega (arith, le, a.0, b.0)) | inr b ↦ omega (arith, f.0, le, b.0, b.1) ]
+        ],
+      )
+
   module _ (m : RingState (PacketMetadata H)) (b : RingState ℕ) (h : Holds m b (packets_in 0 (queue m))) (s : ℕ) (f : AreFreed (packet_queue m b) s) where
     pub freed_room : s ≤ window b
     freed_room = let n = h.3 in omega (arith, f.0, n)
@@ -482,6 +508,15 @@ module _ {H : Type 0} where
 
     pub freed_run : spare_run b (window b - s) s ≡ s
     freed_run = let at = freed_at in let n = h.3 in omega (arith, f.0, f.1, n, at)
+
+    -- they are lent from the place p on
+    module _ (q : PacketQueue H) (is : packet_queue m b ≡ q) (p : ℕ) (at : p ≡ freed_place (packet_queue m b) s) where
+      pub freed_ends : (ws : List ℕ) → packet_queue m (written b p ws) ≡ with_bytes q (freed_place q s) ws
+      freed_ends ws = ap (λ (p : ℕ). packet_queue m (written b p ws)) at ∙ ap (λ (o : PacketQueue H). with_bytes o (freed_place o s) ws) is
+
+      pub freed_value : (now : List ℕ) → now ≡ take (length now) (drop p b.storage) → length now ≡ s → now ≡ take s (drop (freed_place q s) q.storage)
+      freed_value now stored long =
+          stored ∙ ap₂ (λ (n p : ℕ). take n (drop p b.storage)) long at ∙ ap (λ (o : PacketQueue H). take s (drop (freed_place o s) o.storage)) is
 
 -- ---- a write to a part of which the rest stays as it was
 over_part : (st ws : List ℕ) (r n : ℕ) → r + n ≤ length st → length ws ≤ n → overwrite st r (ws ++ drop (length ws) (take n (drop r st))) ≡ overwrite st r ws

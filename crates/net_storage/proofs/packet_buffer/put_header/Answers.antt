@@ -1,8 +1,7 @@
-use Rattle.std.proofs.Common.{ap, ◌∙◌, arith, ◌∷◌, drop}
-use Rattle.std.specs.declared.option.Option.TheVariants.{Some}
+use Rattle.std.proofs.Common.{◌∙◌, arith, set}
+use Rattle.std.proofs.lemmas.List.{length-set}
 use Rattle.net_storage.specs.Ring.{queue}
-use Rattle.net_storage.specs.PacketSlots.{slot}
-use Rattle.net_storage.proofs.PacketSteps.{first_put}
+use Rattle.net_storage.proofs.PacketSteps.{put_keeps}
 use Rattle.net_storage.proofs.packet_buffer.put_header.Goals as goal
 
 pub returns-in-Some-clause-queue : goal.returns-in-Some-clause-queue
@@ -11,8 +10,5 @@ returns-in-Some-clause-queue g c = λ size h e.
     let l = c.get_allocated_mut.result.now in
     let n = c.get_allocated_mut.ensures.count in
     let item = c.in-Some.ensures.item in
-    let new = slot c.in-Some.slot.now.size (Some c.args.header) in
-    let long = Rattle.std.proofs.lemmas.List.length-set l 0 new in
-    let put = first_put (queue old) l _ c.in-Some.slot.now new (slot size h) c.get_allocated_mut.ensures.value (omega (arith, n)) item.3.0 item.1 e
-    (c.get_allocated_mut.ensures.written _ (long ∙ n)).0 in
-    put.1 ∙ ap (λ m. slot m.size (Some c.args.header) ∷ drop 1 (queue old)) put.0
+    let wrote = λ (x : _). (c.get_allocated_mut.ensures.written (set l 0 x) (length-set l 0 x ∙ n)).0 in
+    put_keeps (queue old) l _ c.in-Some.slot.now size h c.args.header c.get_allocated_mut.ensures.value (omega (arith, n)) item.3.0 item.1 e (search wrote)

@@ -6,7 +6,7 @@ use Prim.Native.Nat.{ℕ, ◌<◌, ◌^◌}
 use lib.ListN.{length, take as take-list, drop as drop-list}
 use lib.Dec.{T, lit<}
 use seplogic.Ra.Ura.{Ura}
-use mir.Syntax.{Fn, named, erased, mut, w8, w64, ty_int, ty_ref}
+use mir.Syntax.{Fn, Opd as Operand, named, erased, mut, w8, w64, ty_int, ty_ref}
 use mir.MapTy.{inst_fn}
 use mir.Val.{Val, vint, vptr, vstruct, of_list, has_ty, WT}
 use base.Logic.{SProp, ent, sep, emp, id⊢}
@@ -46,7 +46,8 @@ use denote.Triple.Statement.{Contract}
 use denote.Triple.Table.{framed}
 use denote.Triple.Call.{calls_at}
 use denote.Triple.Walked.{Stays, stay_dropped, walk_of, ends_at, Goes-spent_ref}
-use Rattle.std.proofs.VecSteps.Shapes.{after, front, arm_body}
+use Rattle.std.proofs.VecSteps.Shapes.{after, head, front, arm_body}
+use Rattle.std.proofs.Common.{arith}
 use Rattle.std.proofs.raw_atomic.Walks.{proved_at}
 use Rattle.std.proofs.mem.Facts.{says_two}
 use Rattle.std.proofs.ResultValues.{ok_of, err_of, and_tt}
@@ -56,6 +57,8 @@ use Rattle.net_storage.specs.Packets.{skipped, taken, freed_place, AreFreed, IsF
 use Rattle.net_storage.specs.contracts.error.Empty as EM
 use Rattle.net_storage.proofs.LendInside.{lent, Back, lends_inside, comes_inside}
 use Rattle.net_storage.proofs.ResultParts.{no_fields, alone, ok_or_err, ok_had, err_had, pair_had, pair_of, pair_val, pair_typed}
+use Rattle.net_storage.proofs.PacketSteps.{freed_less}
+use Rattle.net_storage.proofs.PassedNumber.{second_passed, number_of, number_fits, number}
 use Rattle.net_storage.proofs.WalkedQueue.{Given, args, Header, Self, Q, Live, others, Asked, asked}
 use Rattle.net_storage.specs.contracts.packet_buffer.Packets.take as take
 use Rattle.net_storage.proofs.packet_buffer.Packets.take.Symbol.{name as #take}
@@ -71,6 +74,10 @@ use Rattle.net_storage.proofs.packet_buffer.Packets.dequeue.Code as code
 module _ (G : Given) where
   abbrev function : Fn
   function = inst_fn (args G) code.function
+
+  -- what `freed_mut` is passed for the size
+  abbrev passed : Operand
+  passed = second_passed (head (after 5 function.body))
 
   abbrev ended : Ended
   ended = F.ended G.H G.N G.B G.slots G.slots_by G.bytes G.bytes_by G.drops_by
@@ -202,6 +209,7 @@ module _ (G : Given) {M : Type 1} {𝓤 : Ura M} (𝓛 : Logic 𝓤) (𝓜 : Mod
           | inl c ↦
               let h : G.H.Denot = c.0.0 in
               let s : ℕ = c.0.1 in
+              let k : ℕ = number_of s (passed G) in
               let is_y : ws.0 ≡ y = subst (λ t. OnOk t (ws.0 ≡ y)) c.1 is_taken in
               let front_is : IsFirst x.packets h s = subst (λ t. IfOk t (λ u. IsFirst x.packets u.0 u.1)) c.1 is_first in
               let lies : AreFreed y s × (freed_place y s ≡ from) = subst (λ m. AreFreed m s × (freed_place m s ≡ from)) is_y (subst (λ t. IfOk t (λ u. AreFreed ws.0 u.1 × (freed_place ws.0 u.1 ≡ from))) c.1 is_freed) in
@@ -219,15 +227,17 @@ module _ (G : Given) {M : Type 1} {𝓤 : Ura M} (𝓛 : Logic 𝓤) (𝓜 : Mod
               sets_last ! (of_opd ! (get_in ! (vrt ! refl (fld ! refl (fld ! refl (stop !)))) (sub ! 1 refl (in_variant ! 0 0 refl refl (whole !))))) refl (tt, record { fits = is_s.1 }) $
               exec ! 𝓣.C 𝓣.Λ En (after 3 (function G).body) (at_ret En Post) $
               sets ! (of_opd ! (get ! refl)) refl good $ sets ! (addr ! (through ! refl (stop !))) refl (tt, tt) $
-              nothing ! $ owned ! usize (Is usize) (uint_Makes 𝓛 w64) s _ (refl, is_s.1) $ fjoin ! $ move ! (2 ∷ 0 ∷ []) $ fjoin ! $ move ! (2 ∷ 3 ∷ []) $ join ! $ join ! $
-              use0 𝓛 (raw (fact 𝓤 (AreFreed y s))) (fact_i 𝓤 _ (emp 𝓤) lies.0) $ use1 𝓛 (raw (Asked G 𝓤 κs (fact 𝓤 (AreFreed y s)))) (asked G 𝓛 κs live-in (fact 𝓤 (AreFreed y s))) $
-              move ! (1 ∷ 0 ∷ []) $ join ! $ use1 𝓛 (raw (Freed.pre (to_freed s))) (id⊢ 𝓤 _) $
-              calls_at ! (framed 𝓤 H 𝓜 𝓣) Freed freed-met (to_freed s) (and_then ! (get ! refl) (and_then ! (get ! refl) (no_more !))) (λ u.
-              use1 𝓛 (later (some (λ (m : MutBor (List ℕ)). ((‵ (flft κs.0 qs.0) ⊛ others G 𝓤 κs qs) ⊛ ‵ (Part.own_val m (u ∷ []))) ⊛ some (λ (ws : Unit {0} × (Unit {0} × Unit {0})). ‵ (lasts (freed.ended G.H G.N G.B G.slots G.slots_by G.bytes G.bytes_by G.drops_by) (to_freed s).0.0 (to_freed s).0.3 ws)
-              ⊛ ‵ (follow (freed_place y s) m) ⊛ raw (fact 𝓤 (m.now ≡ take-list s (drop-list (freed_place y s) y.storage))) ⊛ raw (fact 𝓤 (length m.now ≡ s)))))) (id⊢ 𝓤 (Freed.post (to_freed s) u)) $
+              nothing ! $ owned ! usize (Is usize) (uint_Makes 𝓛 w64) k _ (refl, number_fits 3 s (passed G) tt is_s.1) $ fjoin ! $ move ! (2 ∷ 0 ∷ []) $ fjoin ! $ move ! (2 ∷ 3 ∷ []) $ join ! $ join ! $
+              use0 𝓛 (raw (fact 𝓤 (AreFreed y k))) (fact_i 𝓤 _ (emp 𝓤) (freed_less y s k lies.0 (omega arith))) $ use1 𝓛 (raw (Asked G 𝓤 κs (fact 𝓤 (AreFreed y k)))) (asked G 𝓛 κs live-in (fact 𝓤 (AreFreed y k))) $
+              move ! (1 ∷ 0 ∷ []) $ join ! $ use1 𝓛 (raw (Freed.pre (to_freed k))) (id⊢ 𝓤 _) $
+              calls_at ! (framed 𝓤 H 𝓜 𝓣) Freed freed-met (to_freed k) (and_then ! (get ! refl) (and_then ! (number ! 3 s (passed G) tt (get ! refl)) (no_more !))) (λ u.
+              use1 𝓛 (later (some (λ (m : MutBor (List ℕ)). ((‵ (flft κs.0 qs.0) ⊛ others G 𝓤 κs qs) ⊛ ‵ (Part.own_val m (u ∷ []))) ⊛ some (λ (ws : Unit {0} × (Unit {0} × Unit {0})). ‵ (lasts (freed.ended G.H G.N G.B G.slots G.slots_by G.bytes G.bytes_by G.drops_by) (to_freed k).0.0 (to_freed k).0.3 ws)
+              ⊛ ‵ (follow (freed_place y k) m) ⊛ raw (fact 𝓤 (m.now ≡ take-list k (drop-list (freed_place y k) y.storage))) ⊛ raw (fact 𝓤 (length m.now ≡ k)))))) (id⊢ 𝓤 (Freed.post (to_freed k) u)) $
               await ! tt $ pick ! (λ m. split ! $ split ! $ move ! (2 ∷ []) $ pick ! (λ _. split3 ! $ drop ! $ move ! (1 ∷ []) $ split ! $ heard ! _ (λ value. heard ! _ (λ size.
               -- [what self follows; the tokens; the part; the header]
-              rewrite ! 0 (λ (k : ℕ). ‵ (follow k m)) lies.1 refl $ move ! (2 ∷ []) $ peeks ! Part (Is Part) (shows 𝓛 Part) m (u ∷ []) (λ ok.
+              -- the size that the clause `front` says
+              let sized : length m.now ≡ s = omega (arith, size) in
+              rewrite ! 0 (λ (p : ℕ). ‵ (follow p m)) lies.1 refl $ move ! (2 ∷ []) $ peeks ! Part (Is Part) (shows 𝓛 Part) m (u ∷ []) (λ ok.
               let w : Val = slice_val m.ref_ptr (length m.now) in
               let fits : length m.now < 2 ^ 64 = ok.0.1.0 in
               let both = pair_typed (layout G.H) (slice_ty (ty_ref erased mut (ty_int w8))) hv w good (tt, (tt, (record { fits = fits }, tt))) in
@@ -235,7 +245,7 @@ module _ (G : Given) {M : Type 1} {𝓤 : Ura M} (𝓛 : Logic 𝓤) (𝓜 : Mod
               lands_as ! (ap only ok.0.0) refl (tt, (tt, (record { fits = fits }, tt))) $ sets ! (agg ! (and_then ! (get ! refl) (and_then ! (get ! refl) (no_more !)))) refl both $
               sets ! (agg ! (and_then ! (lit ! tt) (and_then ! (get ! refl) (no_more !)))) refl (and_tt _ both.0, (record { fits = lit< tt }, (both.1, tt))) $
               rewrite ! 0 (λ (l : List Val). ‵ (Part.own_val m l)) ok.0.0 refl $ returns ! (look_at ! 0 refl) $ free_all ! refl $ keep ! (3 ∷ 0 ∷ 1 ∷ 2 ∷ []) $
-              by ! (lends h hv m w (λ e. subst T (sym (subst (λ t. IsErr t) c.1 (empty.1 e))) tt) (subst (IsFirst x.packets h) (sym size) front_is, value ∙ (λ i. take-list (sym sizes i) (drop-list (lies.1 i) x.storage))))))))))))))
+              by ! (lends h hv m w (λ e. subst T (sym (subst (λ t. IsErr t) c.1 (empty.1 e))) tt) (subst (IsFirst x.packets h) (sym sized) front_is, value ∙ (λ i. take-list (sym sizes i) (drop-list (lies.1 i) x.storage))))))))))))))
           | inr c ↦
               let is_x : ws.0 ≡ x = subst (λ t. OnErr t (ws.0 ≡ x)) c.1 unchanged in
               rewrite ! 0 (λ (m : Q G). ‵ (mine m)) is_x refl $ rewrite ! 3 (λ (t : Answer.Denot). ‵ (Answer.own_val t (v ∷ []))) c.1 refl $ move ! (3 ∷ []) $

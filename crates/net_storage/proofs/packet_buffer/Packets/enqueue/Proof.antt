@@ -6,7 +6,7 @@ use Prim.Native.Nat.{ℕ, ◌<◌, ◌^◌}
 use lib.ListN.{length}
 use lib.Dec.{T, lit<}
 use seplogic.Ra.Ura.{Ura}
-use mir.Syntax.{Fn, named, w64}
+use mir.Syntax.{Fn, Opd as Operand, named, w64}
 use mir.MapTy.{inst_fn}
 use mir.Val.{Val, vint, vptr, of_list, has_ty, WT}
 use base.Logic.{SProp, ent, sep, emp, id⊢}
@@ -45,7 +45,8 @@ use denote.Triple.Statement.{Contract}
 use denote.Triple.Table.{framed}
 use denote.Triple.Call.{calls_at}
 use denote.Triple.Walked.{Stays, stay_dropped, walk_of, ends_at, Goes-spent_ref, Goes-dropped}
-use Rattle.std.proofs.VecSteps.Shapes.{after, front, arm_body}
+use Rattle.std.proofs.VecSteps.Shapes.{after, head, front, arm_body}
+use Rattle.std.proofs.Common.{arith}
 use Rattle.std.proofs.raw_atomic.Walks.{proved_at}
 use Rattle.std.proofs.mem.Facts.{says_three}
 use Rattle.std.proofs.ResultValues.{ok_of, err_of}
@@ -56,6 +57,7 @@ use Rattle.net_storage.specs.Packets.{placement, pushed_if, placed, last as last
 use Rattle.net_storage.specs.contracts.error.Full as FU
 use Rattle.net_storage.proofs.LendInside.{lent, Back, lends_inside, comes_inside}
 use Rattle.net_storage.proofs.ResultParts.{no_fields, alone, ok_or_err, ok_had, err_had}
+use Rattle.net_storage.proofs.PassedNumber.{second_passed, number_of, number_fits, number}
 use Rattle.net_storage.proofs.WalkedQueue.{Given, args, Header, Self, Q, Live, others, Asked, asked}
 use Rattle.net_storage.specs.contracts.packet_buffer.Packets.place as place
 use Rattle.net_storage.proofs.packet_buffer.Packets.place.Symbol.{name as #place}
@@ -71,6 +73,10 @@ use Rattle.net_storage.proofs.packet_buffer.Packets.enqueue.Code as code
 module _ (G : Given) where
   abbrev function : Fn
   function = inst_fn (args G) code.function
+
+  -- what `place` is passed for the size
+  abbrev passed : Operand
+  passed = second_passed (head (after 2 function.body))
 
   abbrev ended : Ended
   ended = F.ended G.H G.N G.B G.slots G.slots_by G.bytes G.bytes_by G.drops_by
@@ -99,9 +105,13 @@ module _ (G : Given) {M : Type 1} {𝓤 : Ura M} (𝓛 : Logic 𝓤) (𝓜 : Mod
     abbrev x : Q G
     x = self.now
 
+    -- the size that `place` is passed
+    abbrev k : ℕ
+    k = number_of n (passed G)
+
     -- the queue with the packet in it, if it could be placed
     abbrev y : Q G
-    y = placed x n h
+    y = placed x k h
 
     abbrev bound : (walk_of 𝓛 (ended G) (stayed G) held).Ghost
     bound = ((κs, qs, bounds, (self, (n, (h, tt))), (mut_vals self, (vint w64 n ∷ [], (hv ∷ [], tt)))), tt)
@@ -121,8 +131,8 @@ module _ (G : Given) {M : Type 1} {𝓤 : Ura M} (𝓛 : Logic 𝓤) (𝓜 : Mod
     abbrev ends_as : Q G → Fml
     ends_as m = fres self.ghost_name ((Self G).coded.code m)
 
-    abbrev follow : MutBor (List ℕ) → Fml
-    follow r = follows (Self G) (Array u8 0) self.ghost_name r.ghost_name (last_written y)
+    abbrev follow : Q G → MutBor (List ℕ) → Fml
+    follow m r = follows (Self G) (Array u8 0) self.ghost_name r.ghost_name (last_written m)
 
     module _ (p : ℕ × Share × GName) where
       abbrev κ' : List ℕ
@@ -137,8 +147,8 @@ module _ (G : Given) {M : Type 1} {𝓤 : Ura M} (𝓛 : Logic 𝓤) (𝓜 : Mod
           (κ', κs.1),
           (p.1, qs.1),
           (⊑_trans κ' κs.0 κs.1.0 in_κ bounds.0, (⊑_trans κ' κs.0 κs.1.1.0 in_κ bounds.1.0, (⊑_trans κ' κs.0 κs.1.1.1.0 in_κ bounds.1.1.0, tt))),
-          (record self { ghost_name = p.2 }, (n, (h, tt))),
-          (mut_vals self, (vint w64 n ∷ [], (hv ∷ [], tt))),
+          (record self { ghost_name = p.2 }, (k, (h, tt))),
+          (mut_vals self, (vint w64 k ∷ [], (hv ∷ [], tt))),
         ),
         tt,
       )
@@ -157,11 +167,11 @@ module _ (G : Given) {M : Type 1} {𝓤 : Ura M} (𝓛 : Logic 𝓤) (𝓜 : Mod
         nothing ! $ nothing ! $ fjoin ! $ nothing ! $ fjoin ! $ nothing ! $ fjoin ! $ join ! $ move ! (2 ∷ 3 ∷ []) $ join ! $ join ! $ frame ! $ says_three ! (((λ _. none), (λ _. refl)), tt, tt) $ done !
 
     -- the end at `Ok`, where self follows the part
-    lends : (r : MutBor (List ℕ)) (w : Val) → placement x n ≢ None → r.now ≡ last_bytes y → length r.now ≡ n
-        → ent 𝓤 (sep 𝓤 (sem 𝓛 (Part.own_val r (w ∷ []))) (sep 𝓤 (sem 𝓛 (follow r)) (sep 𝓤 (𝓛.A.lft κs.0 qs.0) (mean 𝓛 (others G 𝓤 κs qs))))) (Post (live 0 (of_list (w ∷ []))))
+    lends : (r : MutBor (List ℕ)) (w : Val) → placement x n ≢ None → r.now ≡ last_bytes (placed x n h) → length r.now ≡ n
+        → ent 𝓤 (sep 𝓤 (sem 𝓛 (Part.own_val r (w ∷ []))) (sep 𝓤 (sem 𝓛 (follow (placed x n h) r)) (sep 𝓤 (𝓛.A.lft κs.0 qs.0) (mean 𝓛 (others G 𝓤 κs qs))))) (Post (live 0 (of_list (w ∷ []))))
     unfolding follows_by
     lends r w is_placed value size =
-        qed 𝓛 (‵ (Part.own_val r (w ∷ [])) ∷ ‵ (follow r) ∷ ‵ (flft κs.0 qs.0) ∷ others G 𝓤 κs qs ∷ []) ∵
+        qed 𝓛 (‵ (Part.own_val r (w ∷ [])) ∷ ‵ (follow (placed x n h) r) ∷ ‵ (flft κs.0 qs.0) ∷ others G 𝓤 κs qs ∷ []) ∵
         use1 𝓛 (‵ ((RS.the_row Part FU.the_row).own_val (Ok r) (live 0 (of_list (w ∷ [])) ∷ []))) (ok_of 𝓛 Part FU.the_row r w) $
         suffices ! _ (ends_at 𝓛 (ended G) (stayed G) held bound (live 0 (of_list (w ∷ []))) (Ok r) (tt, (tt, (tt, tt))) (tt, (tt, (tt, tt)))) $
         nothing ! $ nothing ! $ fjoin ! $ nothing ! $ fjoin ! $ nothing ! $ fjoin ! $ join ! $ move ! (2 ∷ 3 ∷ []) $ join ! $ join ! $ frame ! $
@@ -181,12 +191,12 @@ module _ (G : Given) {M : Type 1} {𝓤 : Ura M} (𝓛 : Logic 𝓤) (𝓜 : Mod
         use2 𝓛 (later (some (λ (p : ℕ × Share × GName). ‵ (lent 𝓛 κs.0 (Self G) qs.0 self (κ' p) p.2 x) ⊛ ‵ (flft (κ' p) p.1) ⊛ raw (Back 𝓛 κs.0 (Self G) qs.0 self p))))
         (lends_inside 𝓛 κs.0 (Self G) qs.0 self x) $ await ! tt $ pick ! (λ p. split3 ! $
         -- [self, lent; its token; the way back; the header; the other tokens]
-        move ! (3 ∷ []) $ nothing ! $ move ! (1 ∷ 0 ∷ []) $ fjoin ! $ owned ! usize (Is usize) (uint_Makes 𝓛 w64) n _ (refl, fits-n) $ fjoin ! $ move ! (1 ∷ 0 ∷ []) $ fjoin ! $
+        move ! (3 ∷ []) $ nothing ! $ move ! (1 ∷ 0 ∷ []) $ fjoin ! $ owned ! usize (Is usize) (uint_Makes 𝓛 w64) k _ (refl, number_fits 2 n (passed G) tt fits-n) $ fjoin ! $ move ! (1 ∷ 0 ∷ []) $ fjoin ! $
         move ! (1 ∷ 3 ∷ []) $ join ! $ join ! $ nothing ! $ use1 𝓛 (raw (Asked G 𝓤 κs (emp 𝓤))) (asked G 𝓛 κs live-in (emp 𝓤)) $ move ! (1 ∷ 0 ∷ []) $ join ! $ use1 𝓛 (raw (Place.pre (to_place p))) (id⊢ 𝓤 _) $
-        calls_at ! (framed 𝓤 H 𝓜 𝓣) Place place-met (to_place p) (and_then ! (get ! refl) (and_then ! (get ! refl) (and_then ! (get ! refl) (no_more !)))) (λ v.
+        calls_at ! (framed 𝓤 H 𝓜 𝓣) Place place-met (to_place p) (and_then ! (get ! refl) (and_then ! (number ! 2 n (passed G) tt (get ! refl)) (and_then ! (get ! refl) (no_more !)))) (λ v.
         use1 𝓛 (later (some (λ (r : Answer.Denot). ((‵ (flft (κ' p) p.1) ⊛ others G 𝓤 κs qs) ⊛ ‵ (Answer.own_val r (v ∷ []))) ⊛
         some (λ (ws : Q G × (Unit {0} × (Unit {0} × Unit {0}))). ‵ (lasts (place.ended G.H G.N G.B G.slots G.slots_by G.bytes G.bytes_by G.drops_by) (to_place p).0.0 (to_place p).0.3 ws)
-        ⊛ raw (fact 𝓤 (IsErr r ↔ (placement x n ≡ None))) ⊛ raw (fact 𝓤 (ws.0 ≡ y)) ⊛ raw (fact 𝓤 (OnOk r (first_size (last-of ws.0.packets) ≡ n))))))) (id⊢ 𝓤 (Place.post (to_place p) v)) $
+        ⊛ raw (fact 𝓤 (IsErr r ↔ (placement x k ≡ None))) ⊛ raw (fact 𝓤 (ws.0 ≡ y)) ⊛ raw (fact 𝓤 (OnOk r (first_size (last-of ws.0.packets) ≡ k))))))) (id⊢ 𝓤 (Place.post (to_place p) v)) $
         await ! tt $ pick ! (λ r. split ! $ split ! $ move ! (2 ∷ []) $ pick ! (λ ws. split3 ! $ move ! (1 ∷ []) $ heard ! _ (λ full. move ! (1 ∷ []) $ split ! $ heard ! _ (λ is_y. heard ! _ (λ is_sized. fsplit ! $ fsplit ! $
         rewrite ! 0 (λ (m : Q G). ‵ (fres p.2 ((Self G).coded.code m))) is_y refl $ move ! (3 ∷ []) $ split ! $
         -- [the token; the other tokens; the loan's last value; its borrow; nothing; the answer; the way back]
@@ -195,8 +205,8 @@ module _ (G : Given) {M : Type 1} {𝓤 : Ura M} (𝓛 : Logic 𝓤) (𝓜 : Mod
         -- [self; the token; the other tokens; the answer]
         elim (ok_or_err r) [
           | inl c ↦
-              let is_placed : placement x n ≢ None = λ e. subst T (sym (subst (λ t. IsErr t) c.1 (full.1 e))) tt in
-              let sizes : first_size (last-of y.packets) ≡ n = subst (λ m. first_size (last-of m.packets) ≡ n) is_y (subst (λ t. OnOk t (first_size (last-of ws.0.packets) ≡ n)) c.1 is_sized) in
+              let is_placed : placement x k ≢ None = λ e. subst T (sym (subst (λ t. IsErr t) c.1 (full.1 e))) tt in
+              let sizes : first_size (last-of y.packets) ≡ k = subst (λ m. first_size (last-of m.packets) ≡ k) is_y (subst (λ t. OnOk t (first_size (last-of ws.0.packets) ≡ k)) c.1 is_sized) in
               rewrite ! 3 (λ (t : Answer.Denot). ‵ (Answer.own_val t (v ∷ []))) c.1 refl $ move ! (3 ∷ []) $ ok_had ! unit FU.the_row c.0 v (λ us is_v. peeks ! unit (Is unit) (shows 𝓛 unit) c.0 us (λ is_unit. drop ! $
               lands_as ! (is_v ∙ ap (λ (l : List Val). live 0 (of_list (l ++ []))) is_unit) refl (tt, (record { fits = lit< tt }, (tt, tt))) $
               first ! $ switches_on ! (get_tag ! (vrt ! refl (fld ! refl (stop !))) (whole !)) $ exec ! 𝓣.C 𝓣.Λ En (arm_body 0 (front (after 3 (function G).body))) Then $
@@ -206,19 +216,21 @@ module _ (G : Given) {M : Type 1} {𝓤 : Ura M} (𝓛 : Logic 𝓤) (𝓜 : Mod
               nothing ! $ use1 𝓛 (raw (Asked G 𝓤 κs (emp 𝓤))) (asked G 𝓛 κs live-in (emp 𝓤)) $ move ! (1 ∷ 0 ∷ []) $ join ! $ use1 𝓛 (raw (Last.pre to_last)) (id⊢ 𝓤 _) $
               calls_at ! (framed 𝓤 H 𝓜 𝓣) Last last-met to_last (and_then ! (get ! refl) (no_more !)) (λ u.
               use1 𝓛 (later (some (λ (m : MutBor (List ℕ)). ((‵ (flft κs.0 qs.0) ⊛ others G 𝓤 κs qs) ⊛ ‵ (Part.own_val m (u ∷ []))) ⊛ some (λ (ws : Unit {0} × Unit {0}). ‵ (lasts (last.ended G.H G.N G.B G.slots G.slots_by G.bytes G.bytes_by G.drops_by) to_last.0.0 to_last.0.3 ws)
-              ⊛ ‵ (follow m) ⊛ raw (fact 𝓤 (m.now ≡ last_bytes y)) ⊛ raw (fact 𝓤 (length m.now ≡ first_size (last-of y.packets))))))) (id⊢ 𝓤 (Last.post to_last u)) $
+              ⊛ ‵ (follow y m) ⊛ raw (fact 𝓤 (m.now ≡ last_bytes y)) ⊛ raw (fact 𝓤 (length m.now ≡ first_size (last-of y.packets))))))) (id⊢ 𝓤 (Last.post to_last u)) $
               await ! tt $ pick ! (λ m. split ! $ split ! $ move ! (2 ∷ []) $ pick ! (λ _. split3 ! $ drop ! $ move ! (1 ∷ []) $ split ! $ heard ! _ (λ value. heard ! _ (λ size.
               -- [what self follows; the tokens; the part]
               move ! (2 ∷ []) $ peeks ! Part (Is Part) (shows 𝓛 Part) m (u ∷ []) (λ ok.
               let w : Val = slice_val m.ref_ptr (length m.now) in
               let fits : length m.now < 2 ^ 64 = ok.0.1.0 in
+              -- the clause `size`
+              let sized : length m.now ≡ n = omega (arith, size, sizes) in
               lands_as ! (ap only ok.0.0) refl (tt, (tt, (record { fits = fits }, tt))) $
               sets ! (agg ! (and_then ! (lit ! tt) (and_then ! (get ! refl) (no_more !)))) refl (tt, (record { fits = lit< tt }, ((tt, (record { fits = fits }, tt)), tt))) $
               rewrite ! 0 (λ (l : List Val). ‵ (Part.own_val m l)) ok.0.0 refl $ returns ! (look_at ! 0 refl) $ free_all ! refl $ keep ! (0 ∷ 1 ∷ 2 ∷ []) $
-              by ! (lends m w is_placed value (size ∙ sizes))))))))))
+              by ! (lends m w is_placed value sized)))))))))
           | inr c ↦
-              let none : placement x n ≡ None = full.0 (subst (λ t. IsErr t) (sym c.1) refl) in
-              rewrite ! 0 (λ (m : Q G). ‵ (mine m)) (ap (λ m. pushed_if x m n h) none) refl $
+              let none : placement x k ≡ None = full.0 (subst (λ t. IsErr t) (sym c.1) refl) in
+              rewrite ! 0 (λ (m : Q G). ‵ (mine m)) (ap (λ m. pushed_if x m k h) none) refl $
               rewrite ! 3 (λ (t : Answer.Denot). ‵ (Answer.own_val t (v ∷ []))) c.1 refl $ move ! (3 ∷ []) $ err_had ! unit FU.the_row c.0 v (λ us is_v. peeks ! FU.the_row (Is FU.the_row) (shows 𝓛 FU.the_row) c.0 us (λ is_error. drop ! $
               lands_as ! (is_v ∙ ap (λ (l : List Val). live 1 (of_list (l ++ []))) is_error.1.0) refl (tt, (record { fits = lit< tt }, (tt, tt))) $
               first ! $ switches_on ! (get_tag ! (vrt ! refl (fld ! refl (stop !))) (whole !)) $ exec ! 𝓣.C 𝓣.Λ En (arm_body 1 (front (after 3 (function G).body))) Then $

@@ -1,8 +1,10 @@
-use Rattle.std.proofs.Common.{refl, sym, ap, ◌∙◌, subst, arith}
+use Rattle.std.proofs.Common.{◌≡◌, ◌+◌, ◌++◌, ◌∷◌, [], refl, sym, ap, ◌∙◌, subst, arith, rules}
+use Rattle.std.specs.declared.option.Option.TheVariants.{Some}
 use Rattle.std.specs.Fn.{FnOnceReturnsAtMut}
 use denote.MutBor.{at_last}
-use Rattle.net_storage.specs.Ring.{window, spare_place}
+use Rattle.net_storage.specs.Ring.{window, queue, spare_place, taken_in, written}
 use Rattle.net_storage.specs.Packets.{placement, placed, last_written, last_cut, IsRoom}
+use Rattle.net_storage.specs.PacketSlots.{slot, gap_slot}
 use Rattle.net_storage.proofs.PacketSteps.{free_room, byte_room, fill_room, fill_holds, fill_left}
 use Rattle.net_storage.proofs.Rotations.{length-overwrite}
 use Rattle.net_storage.proofs.packet_buffer.Packets.enqueue_with_infallible.Goals as goal
@@ -66,7 +68,7 @@ invariant_of-self g c =
     let after = c.f-count.new.arg2 in
     let met : FnOnceReturnsAtMut g.F.FnOnce c.args.f now c.f-count.result after = record { shown = c.get_unallocated.result; shows = refl; left = at_last c.get_unallocated.result after; leaves = refl; met = c.f-count.ensures } in
     let le = c.requires.count now after c.f-count.result room met in
-    fill_holds m b c.self.invariant c.in-Some.gap c.args.max_size e c.args.header c.restart.new.bytes c.restart.ensures.ring c.f-count.result le after c.push_slots.new.slots c.push_slots.ensures.queue c.push_slots.ensures.well_formed c.enqueue_unallocated.new.self c.enqueue_unallocated.ensures.ring
+    fill_holds m b c.self.invariant c.in-Some.gap c.args.max_size e c.args.header c.restart.new.bytes c.restart.ensures.ring _ (omega (arith, le)) after c.push_slots.new.slots c.push_slots.ensures.queue c.push_slots.ensures.well_formed c.enqueue_unallocated.new.self c.enqueue_unallocated.ensures.ring
 
 pub returns-clause-called : goal.returns-clause-called
 returns-clause-called g c =
@@ -79,9 +81,11 @@ returns-clause-called g c =
     let after = c.f-count.new.arg2 in
     let met : FnOnceReturnsAtMut g.F.FnOnce c.args.f now c.f-count.result after = record { shown = c.get_unallocated.result; shows = refl; left = at_last c.get_unallocated.result after; leaves = refl; met = c.f-count.ensures } in
     let le = c.requires.count now after c.f-count.result room met in
-    let left = fill_left m b c.self.invariant c.in-Some.gap c.args.max_size e c.args.header c.restart.new.bytes c.restart.ensures.ring c.f-count.result le after c.push_slots.new.slots c.push_slots.ensures.queue c.push_slots.ensures.well_formed c.enqueue_unallocated.new.self c.enqueue_unallocated.ensures.ring c.push_slots.ensures.capacity in (
-      after,
-      subst (λ run. FnOnceReturnsAtMut g.F.FnOnce c.args.f run c.f-count.result after) room.1 met,
-      c.f-count.auto.arg2 ∙ room.2,
-      left ∙ ap (λ q. last_cut c.f-count.result (last_written (placed q c.args.max_size c.args.header) after)) c.self.view_is,
-    )
+    let count = c.f-count.result in
+    let b1 = c.restart.new.bytes in
+    let put : queue c.push_slots.new.slots ≡ queue m ++ (gap_slot c.in-Some.gap ++ (slot count (Some c.args.header) ∷ [])) = search rules in
+    let filled : c.enqueue_unallocated.new.self ≡ taken_in (c.in-Some.gap + count) (written b1 (spare_place b1 c.in-Some.gap) after) = search rules in
+    let left = fill_left m b c.self.invariant c.in-Some.gap c.args.max_size e c.args.header b1 c.restart.ensures.ring count le after c.push_slots.new.slots put c.push_slots.ensures.well_formed c.enqueue_unallocated.new.self filled c.push_slots.ensures.capacity
+    ∙ ap (λ q. last_cut count (last_written (placed q c.args.max_size c.args.header) after)) c.self.view_is in
+    let gives = subst (λ run. FnOnceReturnsAtMut g.F.FnOnce c.args.f run count after) room.1 met in
+    (after, search gives, c.f-count.auto.arg2 ∙ room.2, search left)
