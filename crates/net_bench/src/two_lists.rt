@@ -3,9 +3,7 @@ ghost use Rattle.std.specs.Prelude.{◌≡◌, ◌∷◌, ◌++◌, [], List, �
 ghost use Rattle.net_base.specs.Loopback.{loopback_capabilities};
 ghost use Rattle.net_base.specs.declared.phy.medium.Medium.TheVariants.{Ip};
 
-use net_base::phy::{
-    ChecksumCapabilities, Device, DeviceCapabilities, Medium, RxToken, TxToken,
-};
+use net_base::phy::{ChecksumCapabilities, Device, DeviceCapabilities, Medium, RxToken, TxToken};
 use net_base::time::Instant;
 use std::alloc::{AllocError, Allocator, Global};
 use std::collections::VecDeque;

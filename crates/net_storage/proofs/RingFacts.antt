@@ -69,10 +69,9 @@ module _ {T : Type 0} where
   ]
 
   -- what a run of the storage is shown as
-  pub run_is : (b : List T) (p k : ℕ) → p + k ≤ length b → (now : List T) → now ≡ take (p + k - p) (drop p b) → (length now ≡ k) × (now ≡ take k (drop p b))
-  run_is b p k le now e =
-      let n : p + k - p ≡ k = omega arith in
-      let is : now ≡ take k (drop p b) = e ∙ ap (λ (j : ℕ). take j (drop p b)) n in
+  pub run_is : (b : List T) (p m k : ℕ) → m ≡ k → p + k ≤ length b → (now : List T) → now ≡ take m (drop p b) → (length now ≡ k) × (now ≡ take k (drop p b))
+  run_is b p m k em le now e =
+      let is : now ≡ take k (drop p b) = e ∙ ap (λ (j : ℕ). take j (drop p b)) em in
       (ap length is ∙ length-take-le k (drop p b) (omega (arith, length-drop p b)), is)
 
   pub take_one : (s : List T) (i : ℕ) (x : T) → i < length s → x ≡ get_or s i x → take 1 (drop i s) ≡ x ∷ []
@@ -83,7 +82,10 @@ module _ {T : Type 0} where
   first_of : (xs : List T) (x : T) → x ∷ [] ≡ take 1 xs → xs ≡ x ∷ drop 1 xs
   first_of xs x e = sym (take-append-drop 1 xs) ∙ ap (λ (l : List T). l ++ drop 1 xs) (sym e)
 
-  -- ---- a ring
+  -- ---- a ring, which is its three parts
+  pub ring_is : (a b : RingState T) → a.storage ≡ b.storage → a.read_at ≡ b.read_at → a.held ≡ b.held → a ≡ b
+  ring_is a b es er eh = ap (λ l. ring l a.read_at a.held) es ∙ ap₂ (λ r n. ring b.storage r n) er eh
+
   module _ (g : RingState T) (wf : WellFormed g) where
     pub written_wf : (p : ℕ) (ws : List T) → WellFormed (written g p ws)
     written_wf p ws = subst (λ (n : ℕ). ((g.read_at ≡ 0) ⊎ (g.read_at < n)) × (g.held ≤ n)) (sym (length-overwrite g.storage p ws)) wf
@@ -329,12 +331,6 @@ module _ {T : Type 0} where
         let long : length st ≡ length g.storage = ap length e ∙ length-overwrite v.storage q a ∙ ap (λ o. length o.storage) is in
         ep ∙ ap₂ (λ m r. if nat_lt n (m - r) then r + n else n - (m - r)) long (ap (λ o. o.read_at) is)
 
-    pub taken_in_clause : (k : ℕ) → k ≤ window g → Enqueued g (take k (spare g)) (taken_in k v)
-    taken_in_clause k le = subst (Enqueued g (take k (spare g))) (ap (taken_in k) (sym is)) (taken_in_law g well k le)
-
-    pub taken_off_clause : (k : ℕ) (p : ℕ) → p ≡ place g k → k ≤ g.held → Dequeued g k (take k (queue g)) (ring v.storage p (v.held - k))
-    taken_off_clause k p ep le = subst (Dequeued g k (take k (queue g))) (sym (ap (λ o. ring o.storage p (o.held - k)) is ∙ ap (λ j. ring g.storage j (g.held - k)) ep)) (taken_off_law g well k le)
-
     same_held : v.held ≡ g.held
     same_held = ap (λ o. o.held) is
 
@@ -342,9 +338,9 @@ module _ {T : Type 0} where
     same_storage = ap (λ o. o.storage) is
 
     -- `write_unallocated`: a is written from the place p on, and the rest of the data at the beginning
-    pub round_clause : (i o n p k : ℕ) (src a b st : List T) → o ≡ min i (window g) → n ≡ min (length src) (window g - o) → p ≡ place g (v.held + o) → k ≡ min n (capacity g - p)
+    pub round_clause : (i o n p k : ℕ) (src a b st : List T) → o ≡ min i (window g) → n ≤ length src → p ≡ place g (v.held + o) → k ≡ min n (capacity g - p)
         → a ≡ take k src → b ≡ take (n - k) (drop k src) → st ≡ overwrite (overwrite v.storage p a) 0 b
-        → (ring st v.read_at v.held ≡ written_round g (spare_place g i) (take n src)) × SpareWritten g i (take n src) (ring st v.read_at v.held) × (length st ≡ capacity g)
+        → ring st v.read_at v.held ≡ written_round g (spare_place g i) (take n src)
     round_clause i o n p k src a b st eo en ep ek ea eb es =
         let ws : List T = take n src in
         let at : p ≡ spare_place g i = ep ∙ ap₂ (λ h j. place g (h + j)) same_held eo in
@@ -354,28 +350,23 @@ module _ {T : Type 0} where
         let two : b ≡ drop k ws = eb ∙ sym (drop-take k (n - k) src) ∙ ap (λ (m : ℕ). drop k (take m src)) (omega (arith, ek)) in
         let parts : st ≡ overwrite (overwrite g.storage p (take k ws)) 0 (drop k ws) = es ∙ ap₂ (λ x y. overwrite (overwrite v.storage p x) 0 y) one two ∙ ap (λ l. overwrite (overwrite l p (take k ws)) 0 (drop k ws)) same_storage in
         let all : st ≡ overwrite (overwrite g.storage p ws) 0 (drop (length g.storage - p) ws) = parts ∙ round_is g.storage ws p k within (omega (arith, ek, long)) in
-        let exact : ring st v.read_at v.held ≡ written_round g (spare_place g i) ws =
-        ap (λ l. ring l v.read_at v.held) all ∙ ap (λ o. ring (overwrite (overwrite g.storage p ws) 0 (drop (length g.storage - p) ws)) o.read_at o.held) is ∙ ap (λ q. written_round g q ws) at in
-        let size : length st ≡ capacity g = ap length all ∙ length-overwrite (overwrite g.storage p ws) 0 (drop (length g.storage - p) ws) ∙ length-overwrite g.storage p ws in
-        (exact, subst (SpareWritten g i ws) (sym exact) (round_at g well i ws (omega (arith, long, en, eo))), size)
+        ap (λ l. ring l v.read_at v.held) all ∙ ap (λ o. ring (overwrite (overwrite g.storage p ws) 0 (drop (length g.storage - p) ws)) o.read_at o.held) is ∙ ap (λ q. written_round g q ws) at
 
     -- two writes leave the ring well-formed
     pub twice_wf : (p q : ℕ) (a b st : List T) → st ≡ overwrite (overwrite v.storage p a) q b → WellFormed (ring st v.read_at v.held)
     twice_wf p q a b st e = subst (λ l. WellFormed (ring l v.read_at v.held)) (sym e) (written_wf (written v p a) (written_wf v wf' p a) q b)
 
-    read_on : (o n p k : ℕ) (b : List T) → n ≤ g.held - o → o ≤ g.held → p ≡ place g o → k ≡ min n (capacity g - p) → b ≡ take (n - k - 0) (drop 0 g.storage) → b ≡ take (n - k) (drop k (drop o (queue g)))
+    read_on : (o n p k : ℕ) (b : List T) → n ≤ g.held - o → o ≤ g.held → p ≡ place g o → k ≡ min n (capacity g - p) → b ≡ take (n - k) g.storage → b ≡ take (n - k) (drop k (drop o (queue g)))
     read_on o n p k b le lo ep ek eb = elim (cases_lt k n) [
       | inl more ↦
           let within = place_le g well o (omega (arith, lo, (well).1)) in
           let at : IsPlace (capacity g) g.read_at o p = subst (IsPlace (capacity g) g.read_at o) (sym ep) (place_is g o) in
           let full : p + k ≡ capacity g = omega (arith, ek, more, within, ep) in
           let next : IsPlace (capacity g) g.read_at (o + k) 0 = elim at [ inl h ↦ inr (omega (arith, h.0, h.1, full, read_at_le g well), omega (arith, h.0, h.1, full, read_at_le g well)) | inr h ↦ absurd (omega (arith, h.0, h.1, full, more, le, read_at_le g well, (well).1)) ] in
-          let n' : n - k - 0 ≡ n - k = omega arith in
-          eb ∙ ap (λ (j : ℕ). take j g.storage) n' ∙ held_value g well (o + k) (n - k) 0 (omega (arith, more, le)) (omega (arith, le, (well).1)) next ∙ ap (take (n - k)) (sym (drop-drop k o (queue g)))
+          eb ∙ held_value g well (o + k) (n - k) 0 (omega (arith, more, le)) (omega (arith, le, (well).1)) next ∙ ap (take (n - k)) (sym (drop-drop k o (queue g)))
       | inr none ↦
-          let z : n - k - 0 ≡ 0 = omega (arith, none) in
           let y : n - k ≡ 0 = omega (arith, none) in
-          eb ∙ ap (λ (j : ℕ). take j g.storage) z ∙ sym (ap (λ (j : ℕ). take j (drop k (drop o (queue g)))) y)
+          eb ∙ ap (λ (j : ℕ). take j g.storage) y ∙ sym (ap (λ (j : ℕ). take j (drop k (drop o (queue g)))) y)
     ]
 
     clamped : (i o n : ℕ) → o ≡ min i g.held → n ≤ g.held - o → take n (drop o (queue g)) ≡ take n (drop i (queue g))
@@ -385,21 +376,27 @@ module _ {T : Type 0} where
     ]
 
     -- `read_allocated`: a is read from the place p on, and the rest of what is read at the beginning
-    pub read_clause : (i o n p k : ℕ) (to a b : List T) → o ≡ min i g.held → n ≡ min (length to) (g.held - o) → p ≡ place g o → k ≡ min n (capacity g - p)
-        → a ≡ take (p + k - p) (drop p v.storage) → b ≡ take (n - k - 0) (drop 0 v.storage)
+    pub read_clause : (i o n p k l : ℕ) (to a b : List T) → l ≡ k → o ≡ min i g.held → n ≤ g.held - o → p ≡ place g o → k ≡ min n (capacity g - p)
+        → a ≡ take l (drop p v.storage) → b ≡ take (n - k) v.storage
         → take k (a ++ drop k to) ++ (b ++ drop (n - k) (drop k (a ++ drop k to))) ≡ take n (drop i (queue g)) ++ drop n to
-    read_clause i o n p k to a b eo en ep ek ea eb =
+    read_clause i o n p k l to a b el eo le ep ek ea eb =
         let lo : o ≤ g.held = omega (arith, eo) in
-        let le : n ≤ g.held - o = omega (arith, en) in
         let within : p ≤ capacity g = omega (arith, ep, place_le g well o (omega (arith, lo, (well).1))) in
         let at : IsPlace (capacity g) g.read_at o p = subst (IsPlace (capacity g) g.read_at o) (sym ep) (place_is g o) in
-        let r = run_is g.storage p k (omega (arith, ek, within)) a (ea ∙ ap (λ l. take (p + k - p) (drop p l)) same_storage) in
+        let r = run_is g.storage p l k el (omega (arith, ek, within)) a (ea ∙ ap (λ s. take l (drop p s)) same_storage) in
         let one : a ≡ take k (drop o (queue g)) = r.1 ∙ held_value g well o k p (omega (arith, ek, le, lo)) (omega (arith, ek, within)) at in
-        let two : b ≡ take (n - k) (drop k (drop o (queue g))) = read_on o n p k b le lo ep ek (eb ∙ ap (λ l. take (n - k - 0) (drop 0 l)) same_storage) in
+        let two : b ≡ take (n - k) (drop k (drop o (queue g))) = read_on o n p k b le lo ep ek (eb ∙ ap (take (n - k)) same_storage) in
         let m : k + (n - k) ≡ n = omega (arith, ek) in
         let both : a ++ b ≡ take n (drop i (queue g)) = ap₂ ◌++◌ one two ∙ sym (take_sum k (n - k) (drop o (queue g))) ∙ ap (λ (j : ℕ). take j (drop o (queue g))) m ∙ clamped i o n eo le in
         let rest : drop (n - k) (drop k (a ++ drop k to)) ≡ drop n to = ap (drop (n - k)) (drop_at a (drop k to) k r.0) ∙ drop-drop (n - k) k to ∙ ap (λ (j : ℕ). drop j to) m in
         ap₂ ◌++◌ (take_at a (drop k to) k r.0) (ap (λ (l : List T). b ++ l) rest) ∙ sym (append_assoc a b (drop n to)) ∙ ap (λ (l : List T). l ++ drop n to) both
+
+    -- ---- elements that are taken in or off, and none that is written
+    pub taken_in_is : (k m : ℕ) → k ≡ m → ring v.storage v.read_at (v.held + k) ≡ taken_in m g
+    taken_in_is k m ek = ap (taken_in k) is ∙ ap (λ n. taken_in n g) ek
+
+    pub taken_off_is : (k m p : ℕ) → k ≡ m → p ≡ place g m → ring v.storage p (v.held - k) ≡ taken_off m g
+    taken_off_is k m p ek ep = ap (λ o. ring o.storage p (o.held - k)) is ∙ ap₂ (λ j n. ring g.storage j (g.held - n)) ep ek
 
     -- ---- what stays once a part that was lent comes back as w
     pub left_at : (p q : ℕ) → p ≡ q → (st w : List T) → st ≡ overwrite v.storage p w → ring st v.read_at v.held ≡ written g q w
@@ -413,67 +410,62 @@ module _ {T : Type 0} where
         ap (λ b. ring b p (v.held - k)) e ∙ ap (λ o. ring (overwrite o.storage o.read_at w) p (o.held - k)) is ∙ ap (λ j. ring (overwrite g.storage g.read_at w) j (g.held - k)) ep
         ∙ ap (λ i. written (taken_off i g) g.read_at w) ek
 
-    -- ---- what a part that is lent or shown holds, at first: its length is k
-    shown : (p k : ℕ) → p + k ≤ capacity g → (now : List T) → now ≡ take (p + k - p) (drop p v.storage) → (length now ≡ k) × (now ≡ take k (drop p g.storage))
-    shown p k le now e = run_is g.storage p k le now (e ∙ ap (λ l. take (p + k - p) (drop p l)) same_storage)
+    -- ---- what a part that is lent or shown holds, at first: m elements from the place p on
+    shown : (p m k : ℕ) → m ≡ k → p + k ≤ capacity g → (now : List T) → now ≡ take m (drop p v.storage) → (length now ≡ k) × (now ≡ take k (drop p g.storage))
+    shown p m k em le now e = run_is g.storage p m k em le now (e ∙ ap (λ l. take m (drop p l)) same_storage)
 
-    pub shown_spare : (i n p k : ℕ) → p ≡ spare_place g i → k ≡ spare_run g i n → p + k ≤ capacity g → (now : List T) → now ≡ take (p + k - p) (drop p v.storage)
+    pub shown_spare : (i n p m : ℕ) → p ≡ spare_place g i → m ≡ spare_run g i n → (now : List T) → now ≡ take m (drop p v.storage)
         → (length now ≡ spare_run g i n) × (now ≡ take (length now) (drop i (spare g))) × (now ≡ take (length now) (drop (spare_place g i) g.storage))
-    shown_spare i n p k ep ek le now e =
-        let r = shown p k le now e in
-        let size : length now ≡ spare_run g i n = r.0 ∙ ek in
-        let stored : now ≡ take (spare_run g i n) (drop (spare_place g i) g.storage) = r.1 ∙ ap₂ (λ j q. take j (drop q g.storage)) ek ep in
-        (size, stored ∙ spare_run_value g well i n ∙ ap (λ j. take j (drop i (spare g))) (sym size), stored ∙ ap (λ j. take j (drop (spare_place g i) g.storage)) (sym size))
+    shown_spare i n p m ep em now e =
+        let r = shown p m (spare_run g i n) em (omega (arith, ep, spare_place_le g well i)) now e in
+        let stored : now ≡ take (spare_run g i n) (drop (spare_place g i) g.storage) = r.1 ∙ ap (λ q. take (spare_run g i n) (drop q g.storage)) ep in
+        (r.0, stored ∙ spare_run_value g well i n ∙ ap (λ j. take j (drop i (spare g))) (sym r.0), stored ∙ ap (λ j. take j (drop (spare_place g i) g.storage)) (sym r.0))
 
-    pub shown_held : (i n p k : ℕ) → p ≡ held_place g i → k ≡ held_run g i n → p + k ≤ capacity g → (now : List T) → now ≡ take (p + k - p) (drop p v.storage)
+    pub shown_held : (i n p m : ℕ) → p ≡ held_place g i → m ≡ held_run g i n → (now : List T) → now ≡ take m (drop p v.storage)
         → (length now ≡ held_run g i n) × (now ≡ take (length now) (drop i (queue g))) × (now ≡ take (length now) (drop (held_place g i) g.storage))
-    shown_held i n p k ep ek le now e =
-        let r = shown p k le now e in
-        let size : length now ≡ held_run g i n = r.0 ∙ ek in
-        let stored : now ≡ take (held_run g i n) (drop (held_place g i) g.storage) = r.1 ∙ ap₂ (λ j q. take j (drop q g.storage)) ek ep in
-        (size, stored ∙ held_run_value g well i n ∙ ap (λ j. take j (drop i (queue g))) (sym size), stored ∙ ap (λ j. take j (drop (held_place g i) g.storage)) (sym size))
+    shown_held i n p m ep em now e =
+        let r = shown p m (held_run g i n) em (omega (arith, ep, held_place_le g well i)) now e in
+        let stored : now ≡ take (held_run g i n) (drop (held_place g i) g.storage) = r.1 ∙ ap (λ q. take (held_run g i n) (drop q g.storage)) ep in
+        (r.0, stored ∙ held_run_value g well i n ∙ ap (λ j. take j (drop i (queue g))) (sym r.0), stored ∙ ap (λ j. take j (drop (held_place g i) g.storage)) (sym r.0))
 
-    pub shown_next : (p k : ℕ) → p ≡ write_at g → k ≤ contiguous_window g → (now : List T) → now ≡ take (p + k - p) (drop p v.storage)
+    pub shown_next : (p m k : ℕ) → p ≡ write_at g → m ≡ k → k ≤ contiguous_window g → (now : List T) → now ≡ take m (drop p v.storage)
         → (length now ≡ k) × (now ≡ take (length now) (spare g)) × (now ≡ take (length now) (drop (write_at g) g.storage))
-    shown_next p k ep le now e =
+    shown_next p m k ep em le now e =
         let fits : write_at g + k ≤ capacity g = omega (arith, le, place_le g well g.held (well).1) in
-        let r = shown p k (omega (arith, ep, fits)) now e in
+        let r = shown p m k em (omega (arith, ep, fits)) now e in
         let stored : now ≡ take k (drop (write_at g) g.storage) = r.1 ∙ ap (λ q. take k (drop q g.storage)) ep in
         (r.0, stored ∙ spare_value g well 0 k (write_at g) (omega (arith, le)) fits (back_place g well) ∙ ap (λ j. take j (spare g)) (sym r.0), stored ∙ ap (λ j. take j (drop (write_at g) g.storage)) (sym r.0))
 
-    pub shown_front : (k : ℕ) → k ≤ contiguous_held g → (now : List T) → now ≡ take (v.read_at + k - v.read_at) (drop v.read_at v.storage)
+    pub shown_front : (p m k : ℕ) → p ≡ g.read_at → m ≡ k → k ≤ contiguous_held g → (now : List T) → now ≡ take m (drop p v.storage)
         → (length now ≡ k) × (now ≡ take (length now) (queue g)) × (now ≡ take (length now) (drop g.read_at g.storage))
-    shown_front k le now e =
+    shown_front p m k ep em le now e =
         let fits : g.read_at + k ≤ capacity g = omega (arith, le, read_at_le g well) in
-        let at : v.read_at ≡ g.read_at = ap (λ o. o.read_at) is in
-        let r = shown v.read_at k (omega (arith, at, fits)) now e in
-        let stored : now ≡ take k (drop g.read_at g.storage) = r.1 ∙ ap (λ q. take k (drop q g.storage)) at in
+        let r = shown p m k em (omega (arith, ep, fits)) now e in
+        let stored : now ≡ take k (drop g.read_at g.storage) = r.1 ∙ ap (λ q. take k (drop q g.storage)) ep in
         (r.0, stored ∙ held_value g well 0 k g.read_at (omega (arith, le)) fits (front_place g well) ∙ ap (λ j. take j (queue g)) (sym r.0), stored ∙ ap (λ j. take j (drop g.read_at g.storage)) (sym r.0))
 
     -- the longest row of free elements, and the longest row at the front of the queue
-    pub lent_next : (p k : ℕ) → p ≡ write_at g → k ≡ contiguous_window g → (now : List T) → now ≡ take (p + k - p) (drop p v.storage) → (now ≡ take (contiguous_window g) (spare g)) × (length now ≡ contiguous_window g)
-    lent_next p k ep ek now e =
-        let all = shown_next p k ep (omega (arith, ek)) now e in
-        let size : length now ≡ contiguous_window g = all.0 ∙ ek in
-        (all.1 ∙ ap (λ j. take j (spare g)) size, size)
+    pub lent_next : (p m : ℕ) → p ≡ write_at g → m ≡ contiguous_window g → (now : List T) → now ≡ take m (drop p v.storage) → (now ≡ take (contiguous_window g) (spare g)) × (length now ≡ contiguous_window g)
+    lent_next p m ep em now e =
+        let all = shown_next p m (contiguous_window g) ep em (omega arith) now e in
+        (all.1 ∙ ap (λ j. take j (spare g)) all.0, all.0)
 
-    pub lent_front : (k : ℕ) → k ≡ contiguous_held g → (now : List T) → now ≡ take (v.read_at + k - v.read_at) (drop v.read_at v.storage) → (now ≡ take (contiguous_held g) (queue g)) × (length now ≡ contiguous_held g)
-    lent_front k ek now e =
-        let all = shown_front k (omega (arith, ek)) now e in
-        let size : length now ≡ contiguous_held g = all.0 ∙ ek in
-        (all.1 ∙ ap (λ j. take j (queue g)) size, size)
+    pub lent_front : (p m : ℕ) → p ≡ g.read_at → m ≡ contiguous_held g → (now : List T) → now ≡ take m (drop p v.storage) → (now ≡ take (contiguous_held g) (queue g)) × (length now ≡ contiguous_held g)
+    lent_front p m ep em now e =
+        let all = shown_front p m (contiguous_held g) ep em (omega arith) now e in
+        (all.1 ∙ ap (λ j. take j (queue g)) all.0, all.0)
 
     -- and what stays of them, n of the elements w being taken in, or off
-    pub left_in_from : (n p : ℕ) → p ≡ write_at g → (st w : List T) → st ≡ overwrite v.storage p w → length w ≡ contiguous_window g → n ≤ contiguous_window g
-        → (ring st v.read_at (v.held + n) ≡ written (taken_in n g) (write_at g) w) × EnqueuedFrom g n w (ring st v.read_at (v.held + n))
-    left_in_from n p ep st w e long le =
-        let exact = left_in n n p refl ep st w e in
+    pub left_in_from : (k n p : ℕ) → k ≡ n → p ≡ write_at g → (st w : List T) → st ≡ overwrite v.storage p w → length w ≡ contiguous_window g → n ≤ contiguous_window g
+        → (ring st v.read_at (v.held + k) ≡ written (taken_in n g) (write_at g) w) × EnqueuedFrom g n w (ring st v.read_at (v.held + k))
+    left_in_from k n p ek ep st w e long le =
+        let exact = left_in k n p ek ep st w e in
         (exact, subst (EnqueuedFrom g n w) (sym exact) (enqueued_from g well n w (omega (arith, long, le)) (omega (arith, long))))
 
-    pub left_off_from : (n p : ℕ) → p ≡ place g n → (st w : List T) → st ≡ overwrite v.storage v.read_at w → length w ≡ contiguous_held g → n ≤ contiguous_held g
-        → (ring st p (v.held - n) ≡ written (taken_off n g) g.read_at w) × DequeuedFrom g n w (ring st p (v.held - n))
-    left_off_from n p ep st w e long le =
-        let exact = left_off n n p refl ep st w e in
+    pub left_off_from : (k n p : ℕ) → k ≡ n → p ≡ place g n → (st w : List T) → st ≡ overwrite v.storage v.read_at w → length w ≡ contiguous_held g → n ≤ contiguous_held g
+        → (ring st p (v.held - k) ≡ written (taken_off n g) g.read_at w) × DequeuedFrom g n w (ring st p (v.held - k))
+    left_off_from k n p ek ep st w e long le =
+        let exact = left_off k n p ek (ep ∙ ap (place g) (sym ek)) st w e in
         (exact, subst (DequeuedFrom g n w) (sym exact) (dequeued_from g well n w (omega (arith, long, le)) (omega (arith, long))))
 
   -- `enqueue_slice`: a write to the front of the spare part of r, which is then taken in
@@ -512,4 +504,4 @@ module _ {T : Type 0} where
   parts_are g h wg wh er eq es =
       let n : g.held ≡ h.held = sym (length-queue g wg) ∙ ap length eq ∙ length-queue h wh in
       let b : g.storage ≡ h.storage = back_is g wg ∙ ap₂ (λ l r. back l r) (ap₂ ◌++◌ eq es) er ∙ sym (back_is h wh) in
-      ap (λ l. ring l g.read_at g.held) b ∙ ap₂ (λ r m. ring h.storage r m) er n
+      ring_is g h b er n

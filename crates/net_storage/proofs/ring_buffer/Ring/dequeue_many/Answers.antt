@@ -8,10 +8,10 @@ returns g c =
     let old = c.args.self.now in
     let is = c.self.view_is in
     let k = c.min-count.result in
-    let held = c.min.ensures ∙ ap (λ n. min c.self.inside.length (n - c.self.inside.read_at)) c.capacity.ensures.capacity ∙ ap contiguous_held is in
-    let count : k ≡ min c.args.size (contiguous_held old) = c.min-count.ensures ∙ ap (min c.args.size) held in
-    let next = c.place-self-inside.ensures.place ∙ ap (λ o. place o k) is in
-    let lent = shown_front _ _ is c.self.invariant k (omega (arith, count)) _ c.part_mut.ensures.value in (
+    let held : min c.self.inside.length (c.capacity.result - c.self.inside.read_at) ≡ contiguous_held old = ap (λ n. min c.self.inside.length (n - c.self.inside.read_at)) c.capacity.ensures.capacity ∙ ap contiguous_held is in
+    let count : k ≡ min c.args.size (contiguous_held old) = omega (arith, held) in
+    let next : c.place-self-inside.result ≡ place old k = omega (arith, ap (λ o. place o k) is) in
+    let lent = shown_front _ _ is c.self.invariant _ _ k (ap (λ o. o.read_at) is) (omega arith) (omega (arith, count)) _ c.part_mut.ensures.value in (
       (refl, λ w. left_off _ _ is c.self.invariant k _ _ count next _ w (g.met.S.Elements.part_written c.self.inside.storage c.self.inside.read_at w)),
       record {
         writes_back = tt;

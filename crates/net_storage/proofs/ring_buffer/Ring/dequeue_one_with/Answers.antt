@@ -1,7 +1,9 @@
-use Rattle.std.proofs.Common.{rules, Bool, ◌≡◌, ◌≢◌, ◌∷◌, [], refl, ap, sym, ◌∙◌, is_ok, if◌then◌else◌, slice_index_or, arith}
+use Rattle.std.proofs.Common.{rules, Bool, length, true, false, ◌≡◌, ◌≢◌, ◌∷◌, [], refl, ap, sym, ◌∙◌, is_ok, if◌then◌else◌, slice_index_or, arith}
 use denote.MutBor.{at_last}
 use Rattle.net_storage.specs.Ring.{RingState, taken_off, written}
-use Rattle.net_storage.proofs.RingFacts.{well, queue_front, left_off, left_at, front_either, once_wf, off_wf}
+use Rattle.net_storage.specs.Overwrite.{overwrite}
+use Rattle.net_storage.proofs.Rotations.{length-overwrite}
+use Rattle.net_storage.proofs.RingFacts.{well, queue_front, front_either, ring_is}
 use Rattle.net_storage.proofs.ring_buffer.Ring.dequeue_one_with.Goals as goal
 use Rattle.net_storage.proofs.ring_buffer.Ring.dequeue_one_with.Goals.{then-is_ok, else-is_ok}
 
@@ -19,13 +21,18 @@ some g c = search rules
 
 pub invariant_of-self : goal.invariant_of-self
 invariant_of-self g c =
-    let old = c.args.self.now in
-    let is = c.self.view_is in
-    let some : old.held ≢ 0 = search rules in
-    off_wf _ old is c.self.invariant 1 _ _ (c.f-answer.new.arg2 ∷ []) _ c.place-next.ensures.place (omega (arith, some, (well _ old is c.self.invariant).1)) (omega arith) (g.met.S.Elements.item_written c.self.inside.storage c.self.inside.read_at c.f-answer.new.arg2)
+    let s = c.self.inside.storage in
+    let long = ap length (g.met.S.Elements.item_written s c.self.inside.read_at c.f-answer.new.arg2) ∙ length-overwrite (g.S.Elements.elements s) c.self.inside.read_at (c.f-answer.new.arg2 ∷ []) in
+    let size = ap (λ o. length o.storage) c.self.view_is in
+    let read = ap (λ o. o.read_at) c.self.view_is in
+    let held = ap (λ o. o.held) c.self.view_is in
+    grind (arith, long, size, read, held)
 
 pub invariant_of-self-else-is_ok : goal.invariant_of-self-else-is_ok
-invariant_of-self-else-is_ok g c = once_wf _ _ c.self.view_is c.self.invariant c.self.inside.read_at (c.f-answer.new.arg2 ∷ []) _ (g.met.S.Elements.item_written c.self.inside.storage c.self.inside.read_at c.f-answer.new.arg2)
+invariant_of-self-else-is_ok g c =
+    let s = c.self.inside.storage in
+    let long = ap length (g.met.S.Elements.item_written s c.self.inside.read_at c.f-answer.new.arg2) ∙ length-overwrite (g.S.Elements.elements s) c.self.inside.read_at (c.f-answer.new.arg2 ∷ []) in
+    grind (arith, long)
 
 pub returns-clause-called : goal.returns-clause-called
 returns-clause-called g c =
@@ -36,10 +43,13 @@ returns-clause-called g c =
     let y = c.f-answer.new.arg2 in
     let here = c.item_mut.ensures.value ∙ ap (λ o. slice_index_or o.storage o.read_at x) is in
     let law = g.met.S.Elements.item_written c.self.inside.storage c.self.inside.read_at y in
+    let read = ap (λ o. o.read_at) is in
+    let held = ap (λ o. o.held) is in
+    let stored = law ∙ ap (λ o. overwrite o.storage o.read_at (y ∷ [])) is in
     let after : Bool → RingState _ = λ t. written (if t then taken_off 1 old else old) old.read_at (y ∷ []) in
     let left : c.if-is_ok.self ≡ written (if is_ok c.f-answer.result then taken_off 1 old else old) old.read_at (y ∷ []) = elim c.if-is_ok.branch [
-      | then-is_ok w ↦ w.self-is ∙ left_off _ old is c.self.invariant 1 1 _ refl c.place-next.ensures.place _ (y ∷ []) law ∙ ap after (sym (sym c.is_ok.ensures.value ∙ w.if-is_ok.true))
-      | else-is_ok w ↦ w.self-is ∙ left_at _ old is c.self.invariant _ _ (ap (λ o. o.read_at) is) _ (y ∷ []) law ∙ ap after (sym (sym c.is_ok.ensures.value ∙ w.if-is_ok.false))
+      | then-is_ok w ↦ ring_is _ (after true) (ap (λ o. o.storage) w.self-is ∙ stored) (omega (arith, ap (λ o. o.read_at) w.self-is)) (omega (arith, ap (λ o. o.held) w.self-is, held)) ∙ ap after (sym (sym c.is_ok.ensures.value ∙ w.if-is_ok.true))
+      | else-is_ok w ↦ ring_is _ (after false) (ap (λ o. o.storage) w.self-is ∙ stored) (omega (arith, ap (λ o. o.read_at) w.self-is, read)) (omega (arith, ap (λ o. o.held) w.self-is, held)) ∙ ap after (sym (sym c.is_ok.ensures.value ∙ w.if-is_ok.false))
     ] in
     let by_answer = front_either old wf y (some g c) c.f-answer.result _ left in (
       x,

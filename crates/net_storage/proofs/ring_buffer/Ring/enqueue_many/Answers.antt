@@ -8,9 +8,10 @@ returns g c =
     let old = restarted c.args.self.now in
     let is = c.self.view_is ∙ c.restart.ensures in
     let k = c.min-count.result in
-    let count : k ≡ min c.args.size (contiguous_window old) = c.min-count.ensures ∙ ap (min c.args.size) (c.contiguous_window.ensures.count ∙ ap contiguous_window is) in
+    let room : c.contiguous_window.result ≡ contiguous_window old = c.contiguous_window.ensures.count ∙ ap contiguous_window is in
+    let count : k ≡ min c.args.size (contiguous_window old) = omega (arith, room) in
     let at = c.place-from.ensures.place ∙ ap (λ o. place o o.held) is in
-    let lent = shown_next _ _ is c.self.invariant _ k at (omega (arith, count)) _ c.part_mut.ensures.value in (
+    let lent = shown_next _ _ is c.self.invariant _ _ k at (omega arith) (omega (arith, count)) _ c.part_mut.ensures.value in (
       (refl, λ w. left_in _ _ is c.self.invariant k _ _ count at _ w (g.met.S.Elements.part_written c.self.inside.storage c.place-from.result w)),
       record {
         writes_back = tt;

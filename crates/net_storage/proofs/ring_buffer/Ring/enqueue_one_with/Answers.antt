@@ -1,7 +1,8 @@
-use Rattle.std.proofs.Common.{rules, Bool, ◌≡◌, ◌≢◌, ◌∷◌, [], refl, ap, sym, ◌∙◌, is_ok, if◌then◌else◌, slice_index_or}
+use Rattle.std.proofs.Common.{rules, Bool, true, false, ◌≡◌, ◌≢◌, ◌∷◌, [], refl, ap, sym, ◌∙◌, is_ok, if◌then◌else◌, slice_index_or, arith}
 use denote.MutBor.{at_last}
 use Rattle.net_storage.specs.Ring.{RingState, write_at, place, window, taken_in, written}
-use Rattle.net_storage.proofs.RingFacts.{well, spare_front, left_in, left_at, next_either}
+use Rattle.net_storage.specs.Overwrite.{overwrite}
+use Rattle.net_storage.proofs.RingFacts.{well, spare_front, next_either, ring_is}
 use Rattle.net_storage.proofs.ring_buffer.Ring.enqueue_one_with.Goals as goal
 use Rattle.net_storage.proofs.ring_buffer.Ring.enqueue_one_with.Goals.{then-is_ok, else-is_ok}
 
@@ -28,10 +29,13 @@ returns-clause-called g c =
     let at = c.place-at.ensures.place ∙ ap (λ o. place old o.held) is in
     let here = c.item_mut.ensures.value ∙ ap (λ o. slice_index_or o.storage c.place-at.result x) is ∙ ap (λ i. slice_index_or old.storage i x) at in
     let law = g.met.S.Elements.item_written c.self.inside.storage c.place-at.result y in
+    let read = ap (λ o. o.read_at) is in
+    let held = ap (λ o. o.held) is in
+    let stored = law ∙ ap (λ o. overwrite o.storage c.place-at.result (y ∷ [])) is ∙ ap (λ p. overwrite old.storage p (y ∷ [])) at in
     let after : Bool → RingState _ = λ t. written (if t then taken_in 1 old else old) (write_at old) (y ∷ []) in
     let left : c.if-is_ok.self ≡ written (if is_ok c.f-answer.result then taken_in 1 old else old) (write_at old) (y ∷ []) = elim c.if-is_ok.branch [
-      | then-is_ok w ↦ w.self-is ∙ left_in _ old is c.self.invariant 1 1 _ refl at _ (y ∷ []) law ∙ ap after (sym (sym c.is_ok.ensures.value ∙ w.if-is_ok.true))
-      | else-is_ok w ↦ w.self-is ∙ left_at _ old is c.self.invariant _ _ at _ (y ∷ []) law ∙ ap after (sym (sym c.is_ok.ensures.value ∙ w.if-is_ok.false))
+      | then-is_ok w ↦ ring_is _ (after true) (ap (λ o. o.storage) w.self-is ∙ stored) (omega (arith, ap (λ o. o.read_at) w.self-is, read)) (omega (arith, ap (λ o. o.held) w.self-is, held)) ∙ ap after (sym (sym c.is_ok.ensures.value ∙ w.if-is_ok.true))
+      | else-is_ok w ↦ ring_is _ (after false) (ap (λ o. o.storage) w.self-is ∙ stored) (omega (arith, ap (λ o. o.read_at) w.self-is, read)) (omega (arith, ap (λ o. o.held) w.self-is, held)) ∙ ap after (sym (sym c.is_ok.ensures.value ∙ w.if-is_ok.false))
     ] in
     let by_answer = next_either old wf y (some g c) c.f-answer.result _ left in (
       x,

@@ -1,18 +1,16 @@
 use Rattle.std.proofs.Common.{◌≡◌, ◌-◌, ◌++◌, length, take, min, ap, ◌∙◌, arith}
 use Rattle.std.proofs.lemmas.List.{length-take-le}
-use Rattle.net_storage.specs.Ring.{restarted, window, Enqueued}
+use Rattle.net_storage.specs.Ring.{restarted, window, taken_in}
 use Rattle.net_storage.proofs.RingFacts.{enqueue_clause, restarted_is}
 use Rattle.net_storage.proofs.ring_buffer.Ring.enqueue_slice.Goals as goal
 
-enqueued : (g : _) (c : goal.After-enqueue_unallocated g) → Enqueued (restarted c.args.self.now) (take c.write_unallocated-count.result c.args.«data».now) c.enqueue_unallocated.new.self
-enqueued g c =
+pub returns-clause-enqueued : goal.returns-clause-enqueued
+returns-clause-enqueued g c =
     let n = c.write_unallocated-count.result in
     let bound : n ≡ min (length c.args.«data».now) (window (restarted c.args.self.now) - 0) = c.write_unallocated-count.ensures.count ∙ ap (λ o. min (length c.args.«data».now) (window o - 0)) c.restart.ensures in
-    enqueue_clause _ (restarted c.args.self.now) _ _ (take n c.args.«data».now) n c.restart.ensures c.write_unallocated-count.ensures.written c.enqueue_unallocated.ensures.ring
+    let counted : c.enqueue_unallocated.new.self ≡ taken_in n c.write_unallocated-count.new.self = c.enqueue_unallocated.ensures.ring ∙ ap (λ k. taken_in k c.write_unallocated-count.new.self) (omega arith) in
+    enqueue_clause _ (restarted c.args.self.now) _ _ (take n c.args.«data».now) n c.restart.ensures c.write_unallocated-count.ensures.written counted
     (length-take-le n c.args.«data».now (omega (arith, bound))) (omega (arith, bound))
 
-pub returns-clause-enqueued : goal.returns-clause-enqueued
-returns-clause-enqueued g c = enqueued g c
-
 pub returns-clause-queue : goal.returns-clause-queue
-returns-clause-queue g c = (enqueued g c).0 ∙ ap (λ l. l ++ take c.write_unallocated-count.result c.args.«data».now) (restarted_is c.args.self.now).0
+returns-clause-queue g c = (returns-clause-enqueued g c).0 ∙ ap (λ l. l ++ take c.write_unallocated-count.result c.args.«data».now) (restarted_is c.args.self.now).0

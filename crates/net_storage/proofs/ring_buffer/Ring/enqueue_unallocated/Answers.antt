@@ -1,5 +1,12 @@
-use Rattle.net_storage.proofs.RingFacts.{taken_in_clause}
+use Rattle.std.proofs.Common.{sym, subst, take, arith}
+use Rattle.net_storage.specs.Ring.{spare, Enqueued}
+use Rattle.net_storage.proofs.RingFacts.{well, taken_in_is, taken_in_law}
 use Rattle.net_storage.proofs.ring_buffer.Ring.enqueue_unallocated.Goals as goal
 
+pub returns-clause-ring : goal.returns-clause-ring
+returns-clause-ring g c = taken_in_is _ _ c.self.view_is c.self.invariant _ c.args.count (omega arith)
+
 pub returns-clause-enqueued : goal.returns-clause-enqueued
-returns-clause-enqueued g c = taken_in_clause _ _ c.self.view_is c.self.invariant c.args.count c.requires
+returns-clause-enqueued g c =
+    let old = c.args.self.now in
+    subst (Enqueued old (take c.args.count (spare old))) (sym (returns-clause-ring g c)) (taken_in_law old (well _ _ c.self.view_is c.self.invariant) c.args.count c.requires)

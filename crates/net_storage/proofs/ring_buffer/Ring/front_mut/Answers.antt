@@ -1,4 +1,4 @@
-use Rattle.std.proofs.Common.{◌∷◌, [], ◌∙◌, refl, ap, slice_index_or}
+use Rattle.std.proofs.Common.{◌≡◌, ◌∷◌, [], ◌∙◌, refl, ap, slice_index_or, arith}
 use Rattle.net_storage.specs.Ring.{place}
 use Rattle.net_storage.proofs.RingFacts.{well, left_off, queue_front, dequeued_one}
 use Rattle.net_storage.proofs.ring_buffer.Ring.front_mut.Goals as goal
@@ -6,10 +6,10 @@ use Rattle.net_storage.proofs.ring_buffer.Ring.front_mut.Goals as goal
 pub returns : goal.returns
 returns g c =
     let is = c.self.view_is in
-    let next = c.place-self-inside.ensures.place ∙ ap (λ o. place o 1) is in
+    let next : c.place-self-inside.result ≡ place c.args.self.now 1 = omega (arith, ap (λ o. place o 1) is) in
     let x = c.item_mut.result.now in
     let here = c.item_mut.ensures.value ∙ ap (λ o. slice_index_or o.storage o.read_at x) is in (
-      (refl, λ w. left_off _ _ is c.self.invariant 1 1 _ refl next _ (w ∷ []) (g.met.S.Elements.item_written c.self.inside.storage c.self.inside.read_at w)),
+      (refl, λ w. left_off _ _ is c.self.invariant _ 1 _ (omega arith) next _ (w ∷ []) (g.met.S.Elements.item_written c.self.inside.storage c.self.inside.read_at w)),
       record {
         writes_back = tt;
         value = queue_front _ (well _ _ is c.self.invariant) x here c.requires;

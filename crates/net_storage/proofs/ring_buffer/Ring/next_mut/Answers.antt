@@ -1,4 +1,4 @@
-use Rattle.std.proofs.Common.{◌∷◌, [], ◌∙◌, refl, ap, slice_index_or}
+use Rattle.std.proofs.Common.{◌∷◌, [], ◌∙◌, refl, ap, slice_index_or, arith}
 use Rattle.net_storage.specs.Ring.{write_at}
 use Rattle.net_storage.proofs.RingFacts.{well, left_in, spare_front, enqueued_one}
 use Rattle.net_storage.proofs.ring_buffer.Ring.next_mut.Goals as goal
@@ -10,7 +10,7 @@ returns g c =
     let at = c.place-at.ensures.place ∙ ap write_at is in
     let x = c.item_mut.result.now in
     let here = c.item_mut.ensures.value ∙ ap (λ o. slice_index_or o.storage c.place-at.result x) is ∙ ap (λ i. slice_index_or old.storage i x) at in (
-      (refl, λ w. left_in _ _ is c.self.invariant 1 1 _ refl at _ (w ∷ []) (g.met.S.Elements.item_written c.self.inside.storage c.place-at.result w)),
+      (refl, λ w. left_in _ _ is c.self.invariant _ 1 _ (omega arith) at _ (w ∷ []) (g.met.S.Elements.item_written c.self.inside.storage c.place-at.result w)),
       record {
         writes_back = tt;
         value = spare_front _ (well _ _ is c.self.invariant) x here c.requires;
