@@ -4,8 +4,8 @@ use Rattle.std.proofs.lemmas.List.{take_more, drop_more, append_assoc, length-ta
 use Rattle.std.proofs.Math.Seq.{take-set-lt}
 use Rattle.net_storage.specs.declared.assembler.contig.Contig.{Contig}
 use Rattle.net_storage.specs.Contigs.{runs_from, extent, Rising, add_run, lessen, first_hole, front_of_runs}
-use Rattle.net_storage.proofs.Runs.{lowered, step_before, step_behind, step_meets, rising-add_run, front-set_of_runs, set_of_runs_injective, or_false, without_front, set-without_front, rising-without_front, contains-shift_down, contains-set_of_runs, in_runs-lowered, rising-lowered, not_in_runs, runs-set_of_runs, set-add_run, runs-add_run}
-use Rattle.net_storage.proofs.Positions.{either, same_positions, contains-with_range, first_missing-is}
+use Rattle.net_storage.proofs.Runs.{lowered, step_before, step_behind, step_meets, rising-add_run, front-set_of_runs, set_of_runs_injective, or_false, without_front, set-without_front, rising-without_front, contains-set_of_runs, in_runs-lowered, rising-lowered, not_in_runs, runs-set_of_runs, set-add_run, runs-add_run}
+use Rattle.net_storage.proofs.Positions.{either, same_positions, contains-with_range, contains-shift_down, first_missing-is}
 use Rattle.net_storage.specs.Positions.{Positions, contains, nothing, front, with_range, runs, shift_down, set_of_list}
 use Rattle.net_storage.specs.Contigs.{set_of_runs}
 use Rattle.std.proofs.lemmas.Bool.Decides.{nat_tests}

@@ -9,8 +9,8 @@ use Rattle.std.proofs.lemmas.List.Kept.{AllPairs-cons}
 use Rattle.std.proofs.lemmas.List.Sums.{sum_by-cons}
 use Rattle.net_storage.specs.Positions.{Positions, contains, positions, begins_run, run_starts, first_missing, maximal_runs, lies_in, IsMaximalRun, AreMaximalRuns}
 use Rattle.net_storage.specs.Contigs.{Rising}
-use Rattle.net_storage.proofs.Positions.{has, contains-positions, Rises, positions_rise, rises-has, either, by_or, not_true, first_missing-misses, first_missing-has, first_missing-le}
-use Rattle.net_storage.proofs.Runs.{in_runs, not_in_runs, begins-true, begins-false, runs-maximal_runs}
+use Rattle.net_storage.proofs.Positions.{has, contains-positions, Rises, positions_rise, rises-has, either, by_or, not_true, first_missing-misses, first_missing-has, first_missing-le, begins-true, begins-false, runs-maximal_runs}
+use Rattle.net_storage.proofs.Runs.{in_runs, not_in_runs}
 
 -- the run of s that begins at p
 abbrev run_at : Positions → ℕ → ℕ × ℕ

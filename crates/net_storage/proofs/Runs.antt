@@ -1,12 +1,11 @@
 -- Rising lists of runs, and the sets of positions that they stand for.
-use Rattle.std.proofs.Common.{◌≡◌, ℕ, zero, suc, ◌+◌, ◌-◌, ◌<◌, ◌≤◌, max, min, Bool, true, false, cond, not, ◌&&◌, ◌||◌, ◌==◌, List, [], ◌∷◌, ◌++◌, map, filter, length, nat_le, nat_lt, nat_eq, refl, sym, ap, subst, ◌∙◌, arith}
-use Rattle.std.proofs.lemmas.List.{length-map}
+use Rattle.std.proofs.Common.{◌≡◌, ℕ, zero, suc, ◌+◌, ◌-◌, ◌<◌, ◌≤◌, max, min, Bool, true, false, cond, ◌&&◌, ◌||◌, List, [], ◌∷◌, ◌++◌, map, filter, length, nat_le, nat_lt, nat_eq, refl, sym, ap, subst, ◌∙◌, arith}
 use Rattle.std.proofs.lemmas.Bool.{false≢true, eq-eqb, cases_lt, cases_eq, lt-ltb, le-ltb, ne_eqb}
 use Rattle.std.specs.List.{range_with_len}
 use Rattle.std.proofs.lemmas.Bool.Decides.{nat_tests}
 use Rattle.net_storage.specs.Positions.{Positions, contains, positions, with_range, begins_run, run_starts, runs, first_missing, front, maximal_runs, shift_down}
 use Rattle.net_storage.specs.Contigs.{Rising, run_positions, set_of_runs, add_run, front_of_runs}
-use Rattle.net_storage.proofs.Positions.{has, has-append, has-range_with_len, contains-set_of_list, contains-positions, contains-with_range, same_positions, Rises, positions-set_of_list, by_or, not_true, either, first_missing-is}
+use Rattle.net_storage.proofs.Positions.{has, has-append, has-range_with_len, contains-set_of_list, contains-with_range, same_positions, Rises, positions-set_of_list, by_or, not_true, either, first_missing-is, begins-true, begins-false, contains-shift_down, runs-maximal_runs}
 
 -- whether a position is in one of the runs
 abbrev pub in_runs : List (ℕ × ℕ) → ℕ → Bool
@@ -48,18 +47,6 @@ rises-run_positions : (low : ℕ) (rs : List (ℕ × ℕ)) → Rising low rs →
 rises-run_positions low [] h = tt
 rises-run_positions low (r ∷ rs) h = rises-range (r.1 - r.0) r.0 r.1 low (run_positions rs) (omega (arith, h.1)) h.0 (rises_from r.1 (r.1 + 1) (run_positions rs) (omega arith) (rises-run_positions (r.1 + 1) rs h.2))
 
-or_true : (b : Bool) → (b || true) ≡ true
-or_true true = refl
-or_true false = refl
-
-pub begins-true : (s : Positions) (p : ℕ) → (0 < p → contains s (p - 1) ≡ false) → begins_run s p ≡ true
-unfolding begins_run
-begins-true s p h = either (cases_eq p 0) (λ e. ap (λ b. b || not (contains s (p - 1))) (eq-eqb p 0 e)) (λ e. ap (λ b. (p == 0) || not b) (h (omega arith)) ∙ or_true (p == 0))
-
-pub begins-false : (s : Positions) (p : ℕ) → 0 < p → contains s (p - 1) ≡ true → begins_run s p ≡ false
-unfolding begins_run
-begins-false s p l h = ap (λ b. (p == 0) || not b) h ∙ grind (arith, nat_tests)
-
 filter_inner : (s : Positions) (n b : ℕ) (ks : List ℕ) → ((q : ℕ) → b ≤ q → q < b + n → begins_run s q ≡ false) → filter (begins_run s) (range_with_len b n ++ ks) ≡ filter (begins_run s) ks
 filter_inner s zero b ks h = refl
 filter_inner s (suc n) b ks h = ap (λ t. cond t (b ∷ filter (begins_run s) (range_with_len (b + 1) n ++ ks)) (filter (begins_run s) (range_with_len (b + 1) n ++ ks))) (h b (omega arith) (omega arith)) ∙ filter_inner s n (b + 1) ks (λ q l m. h q (omega arith) (omega arith))
@@ -100,10 +87,6 @@ maximal_runs-set_of_runs rs h =
     let s = set_of_runs rs in
     ap (λ ks. map (λ p. (p, first_missing s p)) (filter (begins_run s) ks)) (positions-set_of_runs rs h)
     ∙ runs_shown s 0 rs h (λ q _. contains-set_of_runs rs q)
-
-pub runs-maximal_runs : (s : Positions) → runs s ≡ length (maximal_runs s)
-unfolding maximal_runs runs
-runs-maximal_runs s = sym (length-map (run_starts s) (λ p. (p, first_missing s p)))
 
 pub runs-set_of_runs : (rs : List (ℕ × ℕ)) → Rising 0 rs → runs (set_of_runs rs) ≡ length rs
 runs-set_of_runs rs h = runs-maximal_runs (set_of_runs rs) ∙ ap length (maximal_runs-set_of_runs rs h)
@@ -189,24 +172,6 @@ front-set_of_runs (r ∷ rs) h =
     ∙ ap (λ b. cond b r.1 0) (sym (eq-eqb r.0 0 e)))
     (λ e. first_missing-is s 0 0 (omega arith) (contains-set_of_runs (r ∷ rs) 0 ∙ not_in_runs r.0 (r ∷ rs) 0 (omega arith, h.1, h.2) (omega arith)) (λ q l m. absurd (omega arith))
     ∙ ap (λ b. cond b r.1 0) (sym (ne_eqb r.0 0 e)))
-
-shifted_eq : (m k q : ℕ) → nat_le m k ≡ true → (q == k - m) ≡ (q + m == k)
-shifted_eq m k q e = grind (arith, nat_tests)
-
-shifted_ne : (m k q : ℕ) → nat_le m k ≡ false → (q + m == k) ≡ false
-shifted_ne m k q e = grind (arith, nat_tests)
-
-has-shifted : (m : ℕ) (ks : List ℕ) (q : ℕ) → has (map (λ p. p - m) (filter (nat_le m) ks)) q ≡ has ks (q + m)
-has-shifted m [] q = refl
-has-shifted m (k ∷ ks) q =
-    elim (nat_le m k) as (λ b. nat_le m k ≡ b → has (map (λ p. p - m) (cond b (k ∷ filter (nat_le m) ks) (filter (nat_le m) ks))) q ≡ has (k ∷ ks) (q + m)) [
-      | true ↦ λ e. (λ i. shifted_eq m k q e i || has-shifted m ks q i)
-      | false ↦ λ e. has-shifted m ks q ∙ ap (λ b. b || has ks (q + m)) (sym (shifted_ne m k q e))
-    ] refl
-
-pub contains-shift_down : (s : Positions) (m q : ℕ) → contains (shift_down s m) q ≡ contains s (q + m)
-unfolding shift_down
-contains-shift_down s m q = contains-set_of_list _ q ∙ has-shifted m (positions s) q ∙ sym (contains-positions s (q + m))
 
 pub rising-lowered : (m low high : ℕ) (rs : List (ℕ × ℕ)) → m + low ≤ high → Rising high rs → Rising low (lowered m rs)
 rising-lowered m low high [] l h = tt
