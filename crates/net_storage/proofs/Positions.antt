@@ -1,6 +1,7 @@
--- What membership, runs and shifts of a set of positions come to.
-use Rattle.std.proofs.Common.{◌≡◌, ℕ, zero, suc, ◌+◌, ◌<◌, ◌≤◌, Bool, true, false, cond, ◌&&◌, ◌||◌, ◌==◌, List, [], ◌∷◌, ◌++◌, map, nat_le, nat_lt, refl, sym, ap, subst, ◌∙◌, ◌⊎◌, inl, inr, arith, Decides}
+-- What membership, runs and shifts of a set of positions come to, whatever holds the set.
+use Rattle.std.proofs.Common.{◌≡◌, ℕ, zero, suc, ◌+◌, ◌-◌, ◌<◌, ◌≤◌, Bool, true, false, cond, not, ◌&&◌, ◌||◌, ◌==◌, List, [], ◌∷◌, ◌++◌, map, filter, length, nat_le, nat_lt, refl, sym, ap, subst, ◌∙◌, ◌⊎◌, inl, inr, arith, Decides}
 use Rattle.std.proofs.lemmas.Bool.{false≢true}
+use Rattle.std.proofs.lemmas.List.{length-map}
 use Rattle.std.proofs.lemmas.Bool.{eqb-true, eq-eqb, cases_lt, cases_eq}
 use Rattle.std.specs.List.{range_with_len, list_any}
 use Rattle.std.specs.Prelude.{T, is_some, Option, Some, None}
@@ -9,7 +10,7 @@ use Rattle.std.specs.Cmp.{nat_cmp_total, unsigned_tied}
 use Rattle.std.specs.FinMap.{entries, contains_key-keys, get-from_entries, get-empty, same_map, nat_cmp-IsAntisymmetric, entries_sorted}
 use Rattle.std.specs.FinMap.Entries.{is_sorted, below_all, is_some-find}
 use Rattle.std.proofs.lemmas.Bool.Decides.{nat_tests}
-use Rattle.net_storage.specs.Positions.{Positions, contains, positions, set_of_list, nothing, with_range, bound_of, missing_within, first_missing, are_same}
+use Rattle.net_storage.specs.Positions.{Positions, contains, positions, set_of_list, nothing, with_range, begins_run, run_starts, runs, maximal_runs, shift_down, bound_of, missing_within, first_missing, are_same}
 use Rattle.std.specs.Cmp.Lexicographic.{bytes_decides}
 
 -- membership in a list
@@ -191,6 +192,43 @@ first_missing-is s p e h misses all =
     let not_below : m < e → ⊥ = λ l. false≢true (sym (first_missing-misses s p) ∙ all m least l) in
     let not_above : e < m → ⊥ = λ l. false≢true (sym misses ∙ first_missing-has s p e h l) in
     either (cases_lt m e) (λ l. absurd (not_below l)) (λ l. either (cases_lt e m) (λ k. absurd (not_above k)) (λ k. omega arith))
+
+-- where a run begins
+or_true : (b : Bool) → (b || true) ≡ true
+or_true true = refl
+or_true false = refl
+
+pub begins-true : (s : Positions) (p : ℕ) → (0 < p → contains s (p - 1) ≡ false) → begins_run s p ≡ true
+unfolding begins_run
+begins-true s p h = either (cases_eq p 0) (λ e. ap (λ b. b || not (contains s (p - 1))) (eq-eqb p 0 e)) (λ e. ap (λ b. (p == 0) || not b) (h (omega arith)) ∙ or_true (p == 0))
+
+pub begins-false : (s : Positions) (p : ℕ) → 0 < p → contains s (p - 1) ≡ true → begins_run s p ≡ false
+unfolding begins_run
+begins-false s p l h = ap (λ b. (p == 0) || not b) h ∙ grind (arith, nat_tests)
+
+-- positions counted from m on
+shifted_eq : (m k q : ℕ) → nat_le m k ≡ true → (q == k - m) ≡ (q + m == k)
+shifted_eq m k q e = grind (arith, nat_tests)
+
+shifted_ne : (m k q : ℕ) → nat_le m k ≡ false → (q + m == k) ≡ false
+shifted_ne m k q e = grind (arith, nat_tests)
+
+has-shifted : (m : ℕ) (ks : List ℕ) (q : ℕ) → has (map (λ p. p - m) (filter (nat_le m) ks)) q ≡ has ks (q + m)
+has-shifted m [] q = refl
+has-shifted m (k ∷ ks) q =
+    elim (nat_le m k) as (λ b. nat_le m k ≡ b → has (map (λ p. p - m) (cond b (k ∷ filter (nat_le m) ks) (filter (nat_le m) ks))) q ≡ has (k ∷ ks) (q + m)) [
+      | true ↦ λ e. (λ i. shifted_eq m k q e i || has-shifted m ks q i)
+      | false ↦ λ e. has-shifted m ks q ∙ ap (λ b. b || has ks (q + m)) (sym (shifted_ne m k q e))
+    ] refl
+
+pub contains-shift_down : (s : Positions) (m q : ℕ) → contains (shift_down s m) q ≡ contains s (q + m)
+unfolding shift_down
+contains-shift_down s m q = contains-set_of_list _ q ∙ has-shifted m (positions s) q ∙ sym (contains-positions s (q + m))
+
+-- there is one maximal run for each start
+pub runs-maximal_runs : (s : Positions) → runs s ≡ length (maximal_runs s)
+unfolding maximal_runs runs
+runs-maximal_runs s = sym (length-map (run_starts s) (λ p. (p, first_missing s p)))
 
 pub are_same_decides : (s t : Positions) → Decides (are_same s t) (s ≡ t)
 are_same_decides s t =
