@@ -1,4 +1,5 @@
-ghost use Rattle.std.specs.Prelude.{◌≡◌, ℕ, List, length, replicate, MatchOption, IfOk, OnErr, IfNone};
+ghost use Rattle.std.specs.Prelude.{◌≡◌, ℕ, List, length, replicate};
+ghost use Rattle.std.specs.Prelude.{MatchOption, IfNone, IfOk, OnErr};
 ghost use Rattle.std.specs.Fn.{FnOnceReturnsAtMut, FnOnceTakesAtMut};
 ghost use Rattle.net_base.specs.declared.phy.device_capabilities.DeviceCapabilities.{DeviceCapabilities};
 
@@ -37,6 +38,10 @@ pub trait Device {
     /// with. `None` leaves the device as it was, and is answered only where it has no frame to hand
     /// over.
     ///
+    /// The second token is there so that a frame can be answered at once: a stack that replies to
+    /// an ICMP echo sends back the bytes that it holds in the first token, and neither keeps a copy
+    /// of them nor finds the device without room to send.
+    ///
     /// The timestamp is the moment of the call. Any moment is allowed.
     fn receive(&mut self, timestamp: Instant) -> Option<(Self::RxToken, Self::TxToken)>
         ensures { MatchOption result (is_idle self.old × (self.new ≡ self.old))
@@ -67,6 +72,7 @@ pub trait Device {
     ) -> Result<R, AllocError>
         requires { FnOnceTakesAtMut F.FnOnce f (replicate len 0) }
         ensures ok { IfOk result (λ r. (frame : List ℕ) × (length frame ≡ len)
-            × FnOnceReturnsAtMut F.FnOnce f (replicate len 0) r frame × sent self.old frame self.new) }
+            × FnOnceReturnsAtMut F.FnOnce f (replicate len 0) r frame
+            × sent self.old frame self.new) }
         ensures err { OnErr result (self.new ≡ self.old) };
 }

@@ -3,11 +3,16 @@
 ghost use Rattle.std.specs.Prelude.{◌≡◌, ℕ, List, [], ◌∷◌, ◌++◌, MatchOption};
 ghost use Rattle.net_base.specs.Loopback.{loopback_capabilities};
 
-use crate::phy::{self, ChecksumCapabilities, Device, DeviceCapabilities, Medium};
+use crate::phy::{
+    self, ChecksumCapabilities, Device, DeviceCapabilities, Medium, SegmentationCapabilities,
+};
 use crate::time::Instant;
 use std::alloc::{AllocError, Allocator, Global};
 use std::collections::VecDeque;
 use std::marker::Model;
+
+/// The longest frame that the capabilities name, in bytes.
+const LONGEST_FRAME: usize = 65_535;
 
 /// A device that receives what it sends, in the order in which it was sent.
 ///
@@ -75,10 +80,11 @@ impl<A: Allocator + Copy> Device for Loopback<A> {
     /// segmentation.
     fn capabilities(&self) -> DeviceCapabilities {
         DeviceCapabilities {
-            max_transmission_unit: 65535,
             medium: self.medium,
+            max_transmission_unit: LONGEST_FRAME,
+            max_burst_size: None,
             checksum: ChecksumCapabilities::ignored(),
-            ..DeviceCapabilities::default()
+            segmentation: SegmentationCapabilities::default(),
         }
     }
 
