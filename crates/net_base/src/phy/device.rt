@@ -62,8 +62,8 @@ pub trait Device {
     /// Sends one frame: runs `f` once on `len` zero bytes, sends what `f` made of them, and answers
     /// what `f` answered.
     ///
-    /// Where memory is refused, `f` is not run and the device stays as it was. The token is spent
-    /// in both cases.
+    /// Where memory is refused, `f` is let go without being run, hence its bound `Drop`, and the
+    /// device stays as it was. The token is spent in both cases.
     fn send<R, F: FnOnce(&mut [u8]) -> R + Drop>(
         &mut self,
         token: Self::TxToken,
