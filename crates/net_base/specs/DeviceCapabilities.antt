@@ -3,6 +3,7 @@ use Rattle.std.specs.Prelude.{ℕ, ◌-◌, ◌%◌, ◌≤◌, None}
 use Rattle.net_base.specs.Checksum.{all_checksums}
 use Rattle.net_base.specs.declared.phy.medium.Medium.{Medium}
 use Rattle.net_base.specs.declared.phy.medium.Medium.TheVariants.{Ethernet, Ip}
+use Rattle.net_base.specs.declared.phy.segmentation_capabilities.SegmentationCapabilities.{SegmentationCapabilities}
 use Rattle.net_base.specs.declared.phy.device_capabilities.DeviceCapabilities.{DeviceCapabilities}
 
 -- the header that stands before an IP packet
@@ -22,9 +23,14 @@ ip_mtu_of c = c.max_transmission_unit - header_len c.medium
 abbrev pub FitsIpHeader : DeviceCapabilities → ℕ → Type 0
 FitsIpHeader c n = HasIpMtu c × (n ≤ ip_mtu_of c)
 
--- the longest payload of a fragment: what is left beside an IP header of n bytes, down to a multiple of 8
+-- the longest payload of a fragment: what is left beside an IP header of n bytes, down to a
+-- multiple of 8
 abbrev pub fragment_size_of : DeviceCapabilities → ℕ → ℕ
 fragment_size_of c n = (ip_mtu_of c - n) - (ip_mtu_of c - n) % 8
+
+-- no segments are cut
+abbrev pub no_segmentation : SegmentationCapabilities
+no_segmentation = record { tcpv4 = None; tcpv6 = None }
 
 -- a device of which nothing is known
 abbrev pub default_capabilities : DeviceCapabilities
@@ -34,5 +40,5 @@ default_capabilities =
       max_transmission_unit = 0;
       max_burst_size = None;
       checksum = all_checksums;
-      segmentation = record { tcpv4 = None; tcpv6 = None };
+      segmentation = no_segmentation;
     }

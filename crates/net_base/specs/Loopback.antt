@@ -1,6 +1,7 @@
 -- A loopback device, as its users see it.
 use Rattle.std.specs.Prelude.{ℕ, List, map, Vec, None}
 use Rattle.net_base.specs.Checksum.{no_checksums}
+use Rattle.net_base.specs.DeviceCapabilities.{no_segmentation}
 use Rattle.net_base.specs.declared.phy.medium.Medium.{Medium}
 use Rattle.net_base.specs.declared.phy.device_capabilities.DeviceCapabilities.{DeviceCapabilities}
 
@@ -21,5 +22,5 @@ loopback_capabilities m =
       max_transmission_unit = 65535;
       max_burst_size = None;
       checksum = no_checksums;
-      segmentation = record { tcpv4 = None; tcpv6 = None };
+      segmentation = no_segmentation;
     }

@@ -1,4 +1,5 @@
-//! Network devices: their frames, tokens and capabilities, and a device that receives what it sends.
+//! Network devices: their frames, tokens and capabilities, and a device that receives what it
+//! sends.
 
 mod checksum;
 mod checksum_capabilities;
@@ -13,6 +14,8 @@ mod non_zero_usize;
 mod packet_meta;
 mod rx_token;
 mod segmentation_capabilities;
+#[cfg(test)]
+mod tests;
 mod tx_token;
 
 pub use checksum::Checksum;

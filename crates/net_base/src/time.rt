@@ -3,6 +3,8 @@
 mod duration;
 mod instant;
 pub mod laws;
+#[cfg(test)]
+mod tests;
 
 pub use duration::Duration;
 pub use instant::Instant;

@@ -1,4 +1,5 @@
-ghost use Rattle.std.specs.Prelude.{◌≡◌, ℕ, List, length, replicate, MatchOption, IfOk, OnErr};
+ghost use Rattle.std.specs.Prelude.{◌≡◌, ℕ, List, length, replicate};
+ghost use Rattle.std.specs.Prelude.{MatchOption, IfNone, IfOk, OnErr};
 ghost use Rattle.std.specs.Fn.{FnOnceReturnsAtMut, FnOnceTakesAtMut};
 ghost use Rattle.net_base.specs.declared.phy.device_capabilities.DeviceCapabilities.{DeviceCapabilities};
 
@@ -24,6 +25,9 @@ pub trait Device {
     /// Holds of a device that has no frame to hand over. By default nothing is said of one.
     ghost is_idle: { Self → Type 0 } = { λ _. Unit {0} };
 
+    /// Holds of a device that has no room to send a frame. By default nothing is said of one.
+    ghost is_busy: { Self → Type 0 } = { λ _. Unit {0} };
+
     /// A frame was sent: what the device was, the frame, what it is.
     ghost sent: { Self → List ℕ → Self → Type 0 };
 
@@ -34,16 +38,22 @@ pub trait Device {
     /// with. `None` leaves the device as it was, and is answered only where it has no frame to hand
     /// over.
     ///
+    /// The second token is there so that a frame can be answered at once: a stack that replies to
+    /// an ICMP echo sends back the bytes that it holds in the first token, and neither keeps a copy
+    /// of them nor finds the device without room to send.
+    ///
     /// The timestamp is the moment of the call. Any moment is allowed.
     fn receive(&mut self, timestamp: Instant) -> Option<(Self::RxToken, Self::TxToken)>
         ensures { MatchOption result (is_idle self.old × (self.new ≡ self.old))
             (λ tokens. taken self.old (Self.RxToken.bytes tokens.0) self.new) };
 
-    /// A token to send one frame with, if the device has room. The device stays as it was.
+    /// A token to send one frame with. `None` is answered only where the device has no room to send
+    /// one. The device stays as it was in both cases.
     ///
     /// The timestamp is the moment of the call. Any moment is allowed.
     fn transmit(&mut self, timestamp: Instant) -> Option<Self::TxToken>
-        ensures { self.new ≡ self.old };
+        ensures none { IfNone result (is_busy self.old) }
+        ensures unchanged { self.new ≡ self.old };
 
     /// What the device can do.
     fn capabilities(&self) -> DeviceCapabilities
@@ -52,8 +62,8 @@ pub trait Device {
     /// Sends one frame: runs `f` once on `len` zero bytes, sends what `f` made of them, and answers
     /// what `f` answered.
     ///
-    /// Where memory is refused, `f` is not run and the device stays as it was. The token is spent
-    /// in both cases.
+    /// Where memory is refused, `f` is let go without being run, hence its bound `Drop`, and the
+    /// device stays as it was. The token is spent in both cases.
     fn send<R, F: FnOnce(&mut [u8]) -> R + Drop>(
         &mut self,
         token: Self::TxToken,
@@ -62,6 +72,7 @@ pub trait Device {
     ) -> Result<R, AllocError>
         requires { FnOnceTakesAtMut F.FnOnce f (replicate len 0) }
         ensures ok { IfOk result (λ r. (frame : List ℕ) × (length frame ≡ len)
-            × FnOnceReturnsAtMut F.FnOnce f (replicate len 0) r frame × sent self.old frame self.new) }
+            × FnOnceReturnsAtMut F.FnOnce f (replicate len 0) r frame
+            × sent self.old frame self.new) }
         ensures err { OnErr result (self.new ≡ self.old) };
 }

@@ -1,5 +1,6 @@
 ghost use Rattle.std.specs.Prelude.{◌≡◌, ◌↔◌, IsTrue};
-ghost use Rattle.net_base.specs.DeviceCapabilities.{HasIpMtu, ip_mtu_of, FitsIpHeader, fragment_size_of};
+ghost use Rattle.net_base.specs.DeviceCapabilities.{HasIpMtu, ip_mtu_of};
+ghost use Rattle.net_base.specs.DeviceCapabilities.{FitsIpHeader, fragment_size_of};
 
 use crate::phy::{
     ChecksumCapabilities, IPV4_FRAGMENT_PAYLOAD_ALIGNMENT, Medium, SegmentationCapabilities,
@@ -17,7 +18,8 @@ pub struct DeviceCapabilities {
     /// What the frames of the device are.
     pub medium: Medium,
     /// The bytes of the longest frame. On Ethernet the 14 bytes of the Ethernet header are counted,
-    /// and the frame check sequence is not.
+    /// and the frame check sequence is not: it is the IP MTU plus 14. Where an operating system
+    /// names the MTU of an Ethernet device it means the IP MTU, mostly 1500, which is 1514 here.
     pub max_transmission_unit: usize,
     /// How many frames may be sent or received at once; `None` where there is no limit.
     pub max_burst_size: Option<usize>,
@@ -63,8 +65,8 @@ impl DeviceCapabilities {
         requires { FitsIpHeader self.now ip_header_len }
         ensures { result ≡ fragment_size_of self.now ip_header_len }
     {
-        let payload_mtu = self.ip_mtu() - ip_header_len;
-        payload_mtu - payload_mtu % IPV4_FRAGMENT_PAYLOAD_ALIGNMENT
+        let room = self.ip_mtu() - ip_header_len;
+        room / IPV4_FRAGMENT_PAYLOAD_ALIGNMENT * IPV4_FRAGMENT_PAYLOAD_ALIGNMENT
     }
 }
 

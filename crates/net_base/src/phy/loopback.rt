@@ -1,13 +1,18 @@
 //! A device that receives what it sends.
 
-ghost use Rattle.std.specs.Prelude.{◌≡◌, ℕ, List, [], ◌∷◌, ◌++◌, MatchOption, IsSome};
+ghost use Rattle.std.specs.Prelude.{◌≡◌, ℕ, List, [], ◌∷◌, ◌++◌, MatchOption};
 ghost use Rattle.net_base.specs.Loopback.{loopback_capabilities};
 
-use crate::phy::{self, ChecksumCapabilities, Device, DeviceCapabilities, Medium};
+use crate::phy::{
+    self, ChecksumCapabilities, Device, DeviceCapabilities, Medium, SegmentationCapabilities,
+};
 use crate::time::Instant;
 use std::alloc::{AllocError, Allocator, Global};
 use std::collections::VecDeque;
 use std::marker::Model;
+
+/// The longest frame that the capabilities name, in bytes.
+const LONGEST_FRAME: usize = 65_535;
 
 /// A device that receives what it sends, in the order in which it was sent.
 ///
@@ -50,6 +55,8 @@ impl<A: Allocator + Copy> Device for Loopback<A> {
 
     ghost is_idle = { λ d. d.frames ≡ [] };
 
+    ghost is_busy = { λ _. ⊥ };
+
     ghost abilities = { λ d. loopback_capabilities d.medium };
 
     ghost sent = { λ old frame new. new ≡ record old { frames = old.frames ++ frame ∷ [] } };
@@ -65,10 +72,7 @@ impl<A: Allocator + Copy> Device for Loopback<A> {
     }
 
     /// Always answers a token. The timestamp is not read.
-    fn transmit(&mut self, _timestamp: Instant) -> Option<TxToken>
-        ensures available { IsSome result }
-        ensures unchanged { self.new ≡ self.old }
-    {
+    fn transmit(&mut self, _timestamp: Instant) -> Option<TxToken> {
         Some(TxToken(()))
     }
 
@@ -76,10 +80,11 @@ impl<A: Allocator + Copy> Device for Loopback<A> {
     /// segmentation.
     fn capabilities(&self) -> DeviceCapabilities {
         DeviceCapabilities {
-            max_transmission_unit: 65535,
             medium: self.medium,
+            max_transmission_unit: LONGEST_FRAME,
+            max_burst_size: None,
             checksum: ChecksumCapabilities::ignored(),
-            ..DeviceCapabilities::default()
+            segmentation: SegmentationCapabilities::default(),
         }
     }
 

@@ -151,7 +151,7 @@ impl Duration {
 }
 
 /// `{secs}.{millis}s`, the milliseconds filled on the left by the digit 0 to three places:
-/// `4.934s`.
+/// `4.934s`. Options such as a width change nothing.
 impl fmt::Display for Duration {
     ghost output = { λ d. Some (length_text d) };
 

@@ -1,5 +1,6 @@
 ghost use Rattle.std.specs.Prelude.{◌≡◌, ◌↔◌, IsTrue, Some, pos, ◌+ℤ◌, ◌-ℤ◌, ◌*ℤ◌, int_div};
-ghost use Rattle.net_base.specs.Time.{IsMoment, moment_secs, moment_micros, moment_millis, moment_text, distance};
+ghost use Rattle.net_base.specs.Time.{IsMoment, moment_secs, moment_micros, moment_millis};
+ghost use Rattle.net_base.specs.Time.{moment_text, distance};
 
 use crate::time::Duration;
 use std::fmt;
@@ -138,6 +139,7 @@ impl Instant {
 
 /// `{secs}.{millis}s`, the milliseconds filled on the left by the digit 0 to three places. The
 /// milliseconds of a negative moment keep their sign, which takes one of the places: `0.0-5s`.
+/// Options such as a width change nothing.
 impl fmt::Display for Instant {
     ghost output = { λ i. Some (moment_text i) };
 

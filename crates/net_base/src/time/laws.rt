@@ -1,10 +1,31 @@
-//! What holds of all moments and lengths. No function here does anything.
+//! What holds of all moments and lengths, and of the constants. No function here changes anything.
 
-ghost use Rattle.std.specs.Prelude.{◌≡◌, ◌↔◌, ◌<◌, ◌<ℤ◌, IsTrue, Some};
+ghost use Rattle.std.specs.Prelude.{◌≡◌, ◌↔◌, ◌-◌, ◌^◌, ◌<◌, ◌<ℤ◌, pos, IsTrue, Some};
 ghost use Rattle.std.specs.Ordering.{MatchOrdering};
 ghost use Rattle.net_base.specs.Time.{distance};
 
 use crate::time::{Duration, Instant};
+
+/// The origin is 0 microseconds.
+pub fn instant_zero() -> Instant
+    ensures { result ≡ pos 0 }
+{
+    Instant::ZERO
+}
+
+/// No time is 0 microseconds.
+pub fn duration_zero() -> Duration
+    ensures { result ≡ 0 }
+{
+    Duration::ZERO
+}
+
+/// The greatest length is 2^64 - 1 microseconds.
+pub fn duration_max() -> Duration
+    ensures { result ≡ 2 ^ 64 - 1 }
+{
+    Duration::MAX
+}
 
 /// The order of moments is that of their microseconds, and two moments are equal exactly if they
 /// are the same.
@@ -39,7 +60,8 @@ pub fn instant_clone(instant: &Instant, clone: &Instant)
 
 /// A clone of a length is the same length, and is never refused.
 pub fn duration_clone(duration: &Duration, clone: &Duration)
-    ensures same { ⟦<Duration as Clone>⟧.is_clone duration.now clone.now → clone.now ≡ duration.now }
+    ensures same { ⟦<Duration as Clone>⟧.is_clone duration.now clone.now
+        → clone.now ≡ duration.now }
     ensures never_refused { ⟦<Duration as Clone>⟧.is_infallible duration.now }
 {}
 

@@ -1,13 +1,33 @@
 use super::*;
-use std::alloc::AllocError;
+use crate::time::tests::{joined, shows};
+use std::alloc::{AllocError, Global};
+
+/// Whether the length's text is that of its seconds and milliseconds.
+fn prints(alloc: Global, micros: u64) -> Result<bool, AllocError> {
+    let text = joined(alloc, micros / 1_000_000, micros % 1_000_000 / 1_000)?;
+    shows(alloc, Duration::from_micros(micros), text.as_str())
+}
+
+#[test]
+fn prints_each_fraction_and_each_size(rt: HostRuntime) -> Result<(), AllocError> {
+    for millis in 0..=1_100u64 {
+        assert!(rt;
+            prints(rt.alloc(), millis * 1_000)?,
+            "at {millis} milliseconds"
+        );
+    }
+    for digits in 0..64u32 {
+        let micros = u64::MAX >> digits;
+        assert!(rt; prints(rt.alloc(), micros)?, "at {micros}");
+    }
+    Ok(())
+}
 
 #[test]
 fn prints_and_splits_lengths(rt: HostRuntime) -> Result<(), AllocError> {
-    let shown = Duration::MAX.to_string(rt.alloc())?;
-    assert_eq!(rt; shown.as_str(), "18446744073709.551s");
+    assert!(rt; shows(rt.alloc(), Duration::MAX, "18446744073709.551s")?);
     let duration = Duration::from_millis(4_934);
-    let shown = duration.to_string(rt.alloc())?;
-    assert_eq!(rt; shown.as_str(), "4.934s");
+    assert!(rt; shows(rt.alloc(), duration, "4.934s")?);
     assert_eq!(rt; duration.secs(), 4);
     assert_eq!(rt; duration.millis(), 934);
     assert_eq!(rt; duration.micros(), 934_000);

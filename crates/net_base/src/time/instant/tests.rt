@@ -1,9 +1,6 @@
 use super::*;
+use crate::time::tests::{joined, shows};
 use std::alloc::{AllocError, Global};
-
-fn shows(alloc: Global, instant: Instant, text: &str) -> Result<bool, AllocError> {
-    Ok(instant.to_string(alloc)?.as_str() == text)
-}
 
 #[test]
 fn prints_moments(rt: HostRuntime) -> Result<(), AllocError> {
@@ -19,6 +16,28 @@ fn prints_moments(rt: HostRuntime) -> Result<(), AllocError> {
     }
     let least = Instant::from_micros(i64::MIN);
     assert!(rt; shows(rt.alloc(), least, "-9223372036854.-775s")?);
+    Ok(())
+}
+
+/// Whether the moment's text is that of its seconds and milliseconds.
+fn prints(alloc: Global, micros: i64) -> Result<bool, AllocError> {
+    let text = joined(alloc, micros / 1_000_000, micros % 1_000_000 / 1_000)?;
+    shows(alloc, Instant::from_micros(micros), text.as_str())
+}
+
+#[test]
+fn prints_each_fraction_and_each_size(rt: HostRuntime) -> Result<(), AllocError> {
+    for millis in -1_100..=1_100i64 {
+        assert!(rt;
+            prints(rt.alloc(), millis.saturating_mul(1_000))?,
+            "at {millis} milliseconds"
+        );
+    }
+    for digits in 0..64u32 {
+        let micros = i64::MAX >> digits;
+        assert!(rt; prints(rt.alloc(), micros)?, "at {micros}");
+        assert!(rt; prints(rt.alloc(), -micros - 1)?, "at -{micros} - 1");
+    }
     Ok(())
 }
 

@@ -1,0 +1,53 @@
+//! What the tests of devices share.
+
+ghost use Rattle.std.specs.Prelude.{◌≡◌, [], ◌∷◌, ◌++◌, OnOk, OnErr, IsTrue};
+
+use crate::phy::{Device, Loopback, RxToken};
+use crate::time::Instant;
+use linked_list_allocator::LocalHeap;
+use std::alloc::{AllocError, Allocator};
+
+/// Sends the bytes as one frame.
+pub fn send_bytes<A: Allocator + Copy>(
+    device: &mut Loopback<A>,
+    bytes: &[u8],
+) -> Result<(), AllocError>
+    ensures ok { OnOk result
+        (device.new ≡ record device.old { frames = device.old.frames ++ bytes.now ∷ [] }) }
+    ensures err { OnErr result (device.new ≡ device.old) }
+{
+    let token = device.transmit(Instant::ZERO).unwrap();
+    device.send(token, bytes.len(), |buffer| buffer.copy_from_slice(bytes))
+}
+
+/// Takes the next frame off, and answers whether it is the bytes.
+pub fn next_is<A: Allocator + Copy>(device: &mut Loopback<A>, bytes: &[u8]) -> bool
+    ensures { IsTrue result → device.old.frames ≡ bytes.now ∷ device.new.frames }
+{
+    match device.receive(Instant::ZERO) {
+        Some((frame, _token)) => frame.frame() == bytes,
+        None => false,
+    }
+}
+
+/// Takes all memory of the heap but one hole of `room` bytes.
+pub fn fill_but(heap: &LocalHeap, room: usize) -> Result<Vec<u8, &LocalHeap>, AllocError> {
+    Vec::with_capacity(heap, heap.free().saturating_sub(room))
+}
+
+/// Writes a frame's length into its first bytes.
+pub fn write_length(frame: &mut [u8]) {
+    let length = frame.len().to_le_bytes();
+    for (byte, mark) in frame.iter_mut().zip(length) {
+        *byte = mark;
+    }
+}
+
+/// Takes the next frame off, and answers whether it has that length and begins with it.
+pub fn next_has_length(device: &mut Loopback, length: usize) -> bool {
+    device.receive(Instant::ZERO).is_some_and(|(token, _token)| {
+        let frame = token.frame();
+        let marks = length.to_le_bytes();
+        frame.len() == length && frame.iter().zip(&marks).all(|(byte, mark)| byte == mark)
+    })
+}

@@ -1,0 +1,29 @@
+//! What the tests of moments and lengths share.
+
+use std::alloc::{AllocError, Global};
+use std::fmt::Display;
+
+/// The text of whole seconds and of the milliseconds beyond them, which are filled on the left by
+/// the digit 0 to three places.
+pub fn joined<T: Display + Drop>(alloc: Global, secs: T, millis: T) -> Result<String, AllocError> {
+    let mut text = secs.to_string(alloc)?;
+    let fraction = millis.to_string(alloc)?;
+    text.push_str(".")?;
+    for _ in fraction.len()..3 {
+        text.push_str("0")?;
+    }
+    text.push_str(fraction.as_str())?;
+    text.push_str("s")?;
+    Ok(text)
+}
+
+/// Whether the value has that text, whatever options are set.
+pub fn shows<T: Display + Drop>(alloc: Global, value: T, text: &str) -> Result<bool, AllocError> {
+    Ok(
+        value.to_string(alloc)?.as_str() == text
+            && format!(in alloc; "{value:>30}")?.as_str() == text
+            && format!(in alloc; "{value:*^8}")?.as_str() == text
+            && format!(in alloc; "{value:<+09}")?.as_str() == text
+            && format!(in alloc; "{value:#.2}")?.as_str() == text,
+    )
+}
