@@ -1,6 +1,6 @@
 use Rattle.std.proofs.Common.{◌≡◌, ◌∙◌, ◌+◌, min, refl, ap, arith}
-use Rattle.net_storage.specs.Ring.{capacity, place, held_place, held_run}
-use Rattle.net_storage.proofs.RingFacts.{well, left_at, shown_held, held_run_law}
+use Rattle.net_storage.specs.Ring.{capacity, storage_index, held_index, contiguous_held_from}
+use Rattle.net_storage.proofs.RingFacts.{well, left_at, shown_held, held_part_law}
 use Rattle.net_storage.proofs.ring_buffer.Ring.get_allocated_mut.Goals as goal
 
 pub returns : goal.returns
@@ -10,8 +10,8 @@ returns g c =
     let span = c.span-span.ensures in
     let held = ap (λ o. o.held) is in
     let size = ap (λ o. capacity o) is in
-    let at : c.span-span.result.from ≡ held_place old c.args.offset = span.from ∙ ap (λ o. place o (0 + min c.args.offset c.self.inside.length)) is ∙ ap (place old) (omega (arith, held)) in
-    let count : c.span-span.result.contiguous ≡ held_run old c.args.offset c.args.size = omega (arith, span.count, span.contiguous, at, held, size) in
+    let at : c.span-span.result.from ≡ held_index old c.args.offset = span.from ∙ ap (λ o. storage_index o (0 + min c.args.offset c.self.inside.length)) is ∙ ap (storage_index old) (omega (arith, held)) in
+    let count : c.span-span.result.contiguous ≡ contiguous_held_from old c.args.offset c.args.size = omega (arith, span.count, span.contiguous, at, held, size) in
     let lent = shown_held _ _ is c.self.invariant c.args.offset c.args.size _ _ at (omega (arith, count)) _ c.part_mut.ensures.value in (
       (refl, λ w. left_at _ _ is c.self.invariant _ _ at _ w (g.met.S.Elements.part_written c.self.inside.storage c.span-span.result.from w)),
       record {
@@ -19,6 +19,6 @@ returns g c =
         count = lent.0;
         value = lent.1;
         stored = lent.2;
-        written = held_run_law _ (well _ _ is c.self.invariant) c.args.offset c.args.size;
+        written = held_part_law _ (well _ _ is c.self.invariant) c.args.offset c.args.size;
       },
     )

@@ -1,7 +1,7 @@
 use Rattle.std.proofs.Common.{rules, ◌≡◌, ◌∙◌, ap, length, min, ◌-◌, take, drop, arith}
-use Rattle.net_storage.specs.Ring.{place, window, spare_place}
+use Rattle.net_storage.specs.Ring.{storage_index, window, spare_index}
 use Rattle.net_storage.specs.Overwrite.{overwrite}
-use Rattle.net_storage.proofs.RingFacts.{round_clause, once_clause, ahead_clause, twice_wf}
+use Rattle.net_storage.proofs.RingFacts.{wrapping_clause, once_clause, ahead_clause, twice_wf}
 use Rattle.net_storage.proofs.ring_buffer.Ring.write_unallocated.Goals as goal
 
 pub invariant_of-self : goal.invariant_of-self
@@ -23,9 +23,9 @@ returns-then-contiguous-count-clause-ring g c =
     let span = c.span-from.ensures in
     let room = c.window.ensures.window in
     let held = ap (λ o. o.held) c.self.view_is in
-    let at : c.span-from.result.from ≡ spare_place c.args.self.now c.args.offset = span.from ∙ ap (place c.args.self.now) (omega (arith, held, room)) in
+    let at : c.span-from.result.from ≡ spare_index c.args.self.now c.args.offset = span.from ∙ ap (storage_index c.args.self.now) (omega (arith, held, room)) in
     let rest : b ≡ take (c.span-from.result.count - c.span-from.result.contiguous) (drop c.span-from.result.contiguous c.args.«data».now) = search rules in
-    round_clause _ _ c.self.view_is c.self.invariant c.args.offset c.span-from.result.count c.span-from.result.from c.span-from.result.contiguous c.args.«data».now _ _ _
+    wrapping_clause _ _ c.self.view_is c.self.invariant c.args.offset c.span-from.result.count c.span-from.result.from c.span-from.result.contiguous c.args.«data».now _ _ _
     (omega (arith, span.count, room)) at span.contiguous c.copy_from_slice.ensures.after rest two
 
 pub returns-then-contiguous-count-clause-written : goal.returns-then-contiguous-count-clause-written
@@ -37,7 +37,7 @@ returns-else-contiguous-count-clause-ring g c =
     let span = c.span-from.ensures in
     let room = c.window.ensures.window in
     let held = ap (λ o. o.held) c.self.view_is in
-    let at : c.span-from.result.from ≡ spare_place c.args.self.now c.args.offset = span.from ∙ ap (place c.args.self.now) (omega (arith, held, room)) in
+    let at : c.span-from.result.from ≡ spare_index c.args.self.now c.args.offset = span.from ∙ ap (storage_index c.args.self.now) (omega (arith, held, room)) in
     once_clause _ _ c.self.view_is c.self.invariant c.args.offset c.span-from.result.count c.span-from.result.from c.span-from.result.contiguous c.args.«data».now _ _
     (omega (arith, span.count, room)) at span.contiguous c.if-contiguous-count.false c.copy_from_slice.ensures.after (g.met.S.Elements.part_written c.self.inside.storage c.span-from.result.from c.copy_from_slice.new.self)
 
