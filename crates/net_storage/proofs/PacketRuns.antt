@@ -5,10 +5,10 @@ use Rattle.std.proofs.Math.Seq.{set-append_seam}
 use Rattle.std.specs.Prelude.{set}
 use Rattle.std.specs.declared.option.Option.TheVariants.{Some, None}
 use Rattle.net_storage.specs.Overwrite.{overwrite}
-use Rattle.net_storage.specs.Ring.{queue, place}
+use Rattle.net_storage.specs.Ring.{queue, storage_index}
 use Rattle.net_storage.specs.Packets.{Packet, PacketQueue, packet, bytes_of, slots_of, byte_ring, place_in, ArePlaced, placement, pushed, pushed_if, placed, last, last_place, last_bytes, last_written, last_cut, resized, first_gap, first_size, close_up, skipped, headed, first_written, popped, taken, freed_place, AreFreed, with_bytes, WellPlaced}
 use Rattle.net_storage.specs.PacketHistory.{contents_of, contents, no_packets, Step, Reset, Placed, LastWritten, Enqueued, EnqueuedWith, Peeked, Refused, DequeuedWith, Taken, FreedWritten, Dequeued, Log, Makes, Run, with_last_bytes, logged, logged_all, history}
-use Rattle.net_storage.proofs.Rotations.{IsPlace, length-overwrite, length-queue, cut, overwrite_at, place_is}
+use Rattle.net_storage.proofs.Rotations.{IsStorageIndex, length-overwrite, length-queue, cut, overwrite_at, storage_index_is}
 use Rattle.net_storage.proofs.RingFacts.{held_law, spare_law}
 use Rattle.net_storage.proofs.PacketFacts.{bytes_append, place_cases, place_place, place_wf, placed_skip, placed_pop, slots_for_pos}
 use Rattle.net_storage.proofs.PacketSteps.{closed, last_append, before_append, last_fits, front_fits, push_well, close_gap}
@@ -141,7 +141,7 @@ module _ {H : Type 0} where
       let i : ℕ = bytes_of q.packets - first_size (last q.packets) in
       let z : 0 + bytes_of q.packets - first_size (last q.packets) ≡ i = omega arith in
       let at = ap (place_in (length st) r) z in
-      let w = (held_law c ok.0 i (last_place q) ws (omega (arith, long, f.0)) (omega (arith, long, at, f.1)) (place_is c i)).0 in
+      let w = (held_law c ok.0 i (last_place q) ws (omega (arith, long, f.0)) (omega (arith, long, at, f.1)) (storage_index_is c i)).0 in
       let all = length-queue c ok.0 in
       let c1 = cut (bytes_of ps) bs (omega (arith, all, sum)) in let a = c1.0 in let v = c1.1 in
       let c2 = cut p.gap v (omega (arith, all, sum, c1.4)) in let x = c2.0 in let old = c2.1 in
@@ -173,15 +173,15 @@ module _ {H : Type 0} where
       let s = length ws in
       let i : ℕ = length q.storage - bytes_of q.packets - s in
       let z : length q.storage - s ≡ c.held + i = omega (arith, f.0, ok.0.1) in
-      let at = ap (place c) z in
-      let w = spare_law c ok.0 i (freed_place q s) ws (omega (arith, f.0)) f.1 (subst (λ (j : ℕ). IsPlace (length q.storage) q.read_at j (freed_place q s)) z (place_is c (length q.storage - s))) in
+      let at = ap (storage_index c) z in
+      let w = spare_law c ok.0 i (freed_place q s) ws (omega (arith, f.0)) f.1 (subst (λ (j : ℕ). IsStorageIndex (length q.storage) q.read_at j (freed_place q s)) z (storage_index_is c (length q.storage - s))) in
       ap (contents_of q.packets) w.0
 
   close_size : (ps : List (Packet H)) → first_size (close_up ps) ≡ first_size ps
   close_size [] = refl
   close_size (p ∷ ps) = refl
 
-  -- the bytes of a packet that was taken off lie before the read place
+  -- the bytes of a packet that was taken off lie before the read index
   rest_bytes : (ps : List (Packet H)) → bytes_of (drop 1 ps) + first_size ps ≤ bytes_of ps
   rest_bytes [] = omega arith
   rest_bytes (p ∷ ps) = omega arith

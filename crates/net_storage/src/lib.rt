@@ -1,4 +1,5 @@
-//! Storage for packets and streams: rings, packet queues, and the assembler of data that comes out of order.
+//! Storage for packets and streams: rings, packet queues, and the assembler of data that comes out
+//! of order.
 #![tactic(auto)]
 
 pub mod assembler;

@@ -9,7 +9,7 @@ use std::ops::IndexMut;
 #[cfg(test)]
 mod tests;
 
-/// Elements in a row, parts of which can be shown and lent: what a ring keeps its elements in.
+/// A list of elements, parts of which can be shown and lent: what a ring keeps its elements in.
 pub trait Elements<T> {
     // The elements, in order.
     ghost elements: { Self → List T };
@@ -32,18 +32,24 @@ pub trait Elements<T> {
     /// Lends the elements from the index `from` up to `to`.
     fn part_mut(&mut self, from: usize, to: usize) -> &mut [T]
         requires { (from ≤ to) × (to ≤ length (elements self.old)) }
-        ensures* writes_back { sem 𝓛 (Lends Self.row (Array T.row 0) self.entry result (with_part self.old from)) }
+        ensures* writes_back { sem 𝓛 (Lends Self.row (Array T.row 0) self.entry result
+            (with_part self.old from)) }
         ensures value { result.now ≡ take (to - from) (drop from (elements self.old)) };
 
     /// Lends the element at the index `at`.
     fn item_mut(&mut self, at: usize) -> &mut T
         requires { at < length (elements self.old) }
-        ensures* writes_back { sem 𝓛 (Lends Self.row T.row self.entry result (with_item self.old at)) }
+        ensures* writes_back { sem 𝓛 (Lends Self.row T.row self.entry result
+            (with_item self.old at)) }
         ensures value { result.now ≡ slice_index_or (elements self.old) at result.now };
 
-    ghost part_written: { (s : Self) (i : ℕ) (ws : List T) → elements (with_part s i ws) ≡ overwrite (elements s) i ws };
+    // The elements after a list was written over a part.
+    ghost part_written: { (s : Self) (i : ℕ) (ws : List T) →
+        elements (with_part s i ws) ≡ overwrite (elements s) i ws };
 
-    ghost item_written: { (s : Self) (i : ℕ) (w : T) → elements (with_item s i w) ≡ overwrite (elements s) i (w ∷ []) };
+    // The elements after one was replaced.
+    ghost item_written: { (s : Self) (i : ℕ) (w : T) →
+        elements (with_item s i w) ≡ overwrite (elements s) i (w ∷ []) };
 }
 
 impl<'a, T> Elements<T> for &'a mut [T] {
@@ -203,6 +209,10 @@ impl<'a, T> ManagedSlice<'a, T> {
     }
 
     /// Lends all elements.
+    ///
+    /// A caller's proof does not learn what was written, here or by the calls of [`Elements`] on a
+    /// `ManagedSlice` itself. It learns it of a type parameter `S: Elements<T>`, also where `S` is
+    /// a `ManagedSlice`: a function that has to know what it wrote takes that.
     pub fn as_mut_slice(&mut self) -> &mut [T]
         ensures* writes_back { sem 𝓛 (lends_elements T.row self.entry result) }
         ensures value { result.now ≡ elements self.old }
@@ -214,6 +224,8 @@ impl<'a, T> ManagedSlice<'a, T> {
     }
 }
 
+// The two arms of `as_mut_slice`, each a function of its own since an arm lends by the clause of
+// one call.
 fn lent_whole<'s, 'a, T>(slice: &'s mut &'a mut [T]) -> &'s mut [T]
     ensures* writes_back { sem 𝓛 (lends_lent T.row slice.entry result) }
     ensures value { result.now ≡ slice.old.now }

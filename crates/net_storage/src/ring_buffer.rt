@@ -1,9 +1,10 @@
 //! A ring of elements over storage that is lent or owned.
-ghost use Rattle.std.specs.Prelude.{◌≡◌, ◌≢◌, ◌≤◌, ◌<◌, ◌-◌, ◌+◌, ◌^◌, ◌==◌, ◌↔◌, length, take, drop, ◌++◌, [], ◌∷◌, min, List, IsErr, IsOk, OnErr, IfOk, is_ok, if◌then◌else◌};
+ghost use Rattle.std.specs.Prelude.{◌≡◌, ◌≢◌, ◌≤◌, ◌<◌, ◌-◌, ◌+◌, ◌^◌, ◌==◌, ◌↔◌, length, take, drop, ◌++◌, [], ◌∷◌, min, List, IsErr, OnErr, IfOk};
 ghost use Rattle.std.specs.Borrow.{sem};
-ghost use Rattle.std.specs.Fn.{FnOnceReturnsAtMut, FnOnceTakesAtMut};
+ghost use Rattle.std.specs.Fn.{FnOnceTakesAtMut};
 ghost use Rattle.std.specs.List.{AllZip};
-ghost use Rattle.net_storage.specs.Ring.{ring, capacity, window, queue, spare, place, write_at, contiguous_window, contiguous_held, spare_place, spare_run, held_place, held_run, written, written_round, taken_in, taken_off, restarted, WellFormed, Enqueued, Dequeued, SpareWritten, QueueWritten, EnqueuedFrom, DequeuedFrom};
+ghost use Rattle.net_storage.specs.Ring.{ring, capacity, window, queue, spare, storage_index, write_at, contiguous_window, contiguous_held, contiguous_spare, contiguous_queue, spare_index, contiguous_window_from, held_index, contiguous_held_from, written, written_wrapping, with_enqueued, with_dequeued, restarted, WellFormed, Enqueued, Dequeued, SpareWritten, QueueWritten};
+ghost use Rattle.net_storage.specs.RingCalls.{TakesFirstOf, RanOnNext, RanOnFirst, CountsWithin, RanOnSpare, RanOnQueue};
 
 use crate::error::{Empty, Full};
 use crate::managed::{Elements, ManagedSlice};
@@ -16,17 +17,28 @@ pub mod laws;
 #[cfg(test)]
 mod tests;
 
-/// A ring of elements over any storage; `RingBuffer` is the one over a `ManagedSlice`.
+/// A ring of elements over any storage; [`RingBuffer`] is the one over a [`ManagedSlice`].
 ///
-/// Contracts see a ring as its storage, the place where it is read and the number of elements it holds.
-/// Its queue is what it holds, in order; the rest of the storage is its spare part. Nothing is copied
-/// but by the calls whose element type is `Copy`: the others lend parts of the storage.
+/// Contracts see a ring as its storage, the index where it is read and the number of elements it
+/// holds. Its queue is what it holds, in order; the rest of the storage is its spare part. Both
+/// parts wrap at the storage's end. Nothing is copied but by the calls whose element type is
+/// `Copy`: the others lend parts of the storage, as `&mut` wherever they can, so that a packet can
+/// be filled in or changed where it stands.
 #[derive(Debug)]
 pub struct Ring<T, S: Elements<T>> {
     storage: S,
     read_at: usize,
     length: usize,
     elements: PhantomData<T>,
+}
+
+// Elements of a ring from some offset on: the index of the first one in the storage, how many there
+// are, and how many of them are contiguous. The others stand at the storage's beginning.
+#[derive(Clone, Copy)]
+struct Span {
+    from: usize,
+    count: usize,
+    contiguous: usize,
 }
 
 /// A ring of elements over storage that is lent or owned.
@@ -123,15 +135,16 @@ impl<T, S: Elements<T>> Ring<T, S> {
         self.capacity() - self.len()
     }
 
-    /// How many elements can be enqueued without going round the storage's end.
+    /// How many elements can be enqueued before the storage's end.
     ///
-    /// Of an empty ring `enqueue_many` can take more, since it first moves the read place to the
-    /// storage's beginning.
+    /// Into an empty ring `enqueue_many` can enqueue more, since it first moves the read index to
+    /// the storage's beginning.
     pub fn contiguous_window(&self) -> usize
         ensures count { result ≡ contiguous_window self.now }
-        ensures within { (result ≤ window self.now) × (write_at self.now + result ≤ capacity self.now) }
+        ensures within { (result ≤ window self.now)
+            × (write_at self.now + result ≤ capacity self.now) }
     {
-        let to_end = self.capacity() - self.place(self.length);
+        let to_end = self.capacity() - self.storage_index(self.length);
         self.window().min(to_end)
     }
 
@@ -151,11 +164,12 @@ impl<T, S: Elements<T>> Ring<T, S> {
         self.window() == 0
     }
 
-    // The place that is `offset` places after the one where the ring is read, round the storage's end.
+    // The index in the storage of what is `offset` elements after the read index, wrapping at the
+    // storage's end.
     #[inline]
-    fn place(&self, offset: usize) -> usize
+    fn storage_index(&self, offset: usize) -> usize
         requires { offset ≤ capacity self.now }
-        ensures place { result ≡ place self.now offset }
+        ensures index { result ≡ storage_index self.now offset }
         ensures within { (result ≤ capacity self.now) × (capacity self.now < 2 ^ 64) }
     {
         let to_end = self.capacity() - self.read_at;
@@ -166,9 +180,32 @@ impl<T, S: Elements<T>> Ring<T, S> {
         }
     }
 
-    // An empty ring is read from the storage's beginning on, so that the most elements lie in a row.
+    // Of the `limit` elements that begin `start` elements after the read index: at most `size` from
+    // the one at `offset` on, and none where `offset` is past the limit.
     #[inline]
-    fn restart(&mut self)
+    fn span(&self, start: usize, limit: usize, offset: usize, size: usize) -> Span
+        requires { start + limit ≤ capacity self.now }
+        ensures from { result.from ≡ storage_index self.now (start + min offset limit) }
+        ensures count { result.count ≡ min size (limit - offset) }
+        ensures contiguous { result.contiguous ≡ min result.count (capacity self.now - result.from) }
+        ensures within { (result.from ≤ capacity self.now) × (capacity self.now < 2 ^ 64) }
+    {
+        let capacity = self.capacity();
+        let offset = offset.min(limit);
+        let from = self.storage_index(start + offset);
+        let count = size.min(limit - offset);
+        let contiguous = count.min(capacity - from);
+        Span {
+            from,
+            count,
+            contiguous,
+        }
+    }
+
+    // An empty ring is read from the storage's beginning on: then all its free elements are
+    // contiguous.
+    #[inline]
+    pub(crate) fn restart(&mut self)
         ensures { self.new ≡ restarted self.old }
     {
         if self.length == 0 {
@@ -205,20 +242,21 @@ impl<T, S: Elements<T>> Ring<T, S> {
 
     /// Runs `f` on the next free element, and enqueues it if `f` answers `Ok`.
     ///
-    /// What `f` wrote stays in the storage in both cases. A full ring answers `Full` and does not run `f`.
+    /// What `f` wrote stays in the storage in both cases. A full ring answers `Full` and does not
+    /// run `f`.
     pub fn enqueue_one_with<R, E, F: FnOnce(&mut T) -> Result<R, E>>(
         &mut self,
         f: F,
     ) -> Result<Result<R, E>, Full>
-        requires callable { (x : T) → spare self.old ≡ x ∷ drop 1 (spare self.old) → FnOnceTakesAtMut F.FnOnce f x }
+        requires callable { TakesFirstOf F.FnOnce f (spare self.old) }
         ensures full { IsErr result ↔ (window self.old ≡ 0) }
         ensures unchanged { OnErr result (self.new ≡ self.old) }
-        ensures called { IfOk result (λ answer. (x : T) × (y : T) × FnOnceReturnsAtMut F.FnOnce f x answer y × (spare self.old ≡ x ∷ drop 1 (spare self.old)) × (self.new ≡ written (if is_ok answer then taken_in 1 self.old else self.old) (write_at self.old) (y ∷ [])) × (IsOk answer → Enqueued self.old (y ∷ []) self.new) × (IsErr answer → SpareWritten self.old 0 (y ∷ []) self.new)) }
+        ensures called { IfOk result (λ answer. RanOnNext F.FnOnce f self.old answer self.new) }
     {
         if self.is_full() {
             return Err(Full);
         }
-        let at = self.place(self.length);
+        let at = self.storage_index(self.length);
         let answer = f(self.storage.item_mut(at));
         if answer.is_ok() {
             self.length += 1;
@@ -228,45 +266,52 @@ impl<T, S: Elements<T>> Ring<T, S> {
 
     /// Enqueues the next free element, as it stands, and lends it. A full ring answers `Full`.
     pub fn enqueue_one(&mut self) -> Result<&mut T, Full>
-        ensures* writes_back { sem 𝓛 (lends_one_if T.row S.row S.Elements self.entry (taken_in 1 self.old) (write_at self.old) result) }
+        ensures* writes_back { sem 𝓛 (lends_one_if T.row S.row S.Elements self.entry
+            (with_enqueued 1 self.old) (write_at self.old) result) }
         ensures full { IsErr result ↔ (window self.old ≡ 0) }
         ensures value { IfOk result (λ r. spare self.old ≡ r.now ∷ drop 1 (spare self.old)) }
-        ensures enqueued { window self.old ≢ 0 → (w : T) → Enqueued self.old (w ∷ []) (written (taken_in 1 self.old) (write_at self.old) (w ∷ [])) }
+        ensures enqueued { window self.old ≢ 0 → (w : T) → Enqueued self.old (w ∷ [])
+            (written (with_enqueued 1 self.old) (write_at self.old) (w ∷ [])) }
     {
         if self.is_full() {
             return Err(Full);
         }
-        Ok(self.next_mut())
+        Ok(self.enqueue_next())
     }
 
-    fn next_mut(&mut self) -> &mut T
+    // `enqueue_one` where there is room. It stands alone since `enqueue_one` lends by the clause of
+    // one call.
+    fn enqueue_next(&mut self) -> &mut T
         requires { window self.old ≢ 0 }
-        ensures* writes_back { sem 𝓛 (lends_one T.row S.row S.Elements self.entry (taken_in 1 self.old) (write_at self.old) result) }
+        ensures* writes_back { sem 𝓛 (lends_one T.row S.row S.Elements self.entry
+            (with_enqueued 1 self.old) (write_at self.old) result) }
         ensures value { spare self.old ≡ result.now ∷ drop 1 (spare self.old) }
-        ensures enqueued { (w : T) → Enqueued self.old (w ∷ []) (written (taken_in 1 self.old) (write_at self.old) (w ∷ [])) }
+        ensures enqueued { (w : T) → Enqueued self.old (w ∷ [])
+            (written (with_enqueued 1 self.old) (write_at self.old) (w ∷ [])) }
     {
-        let at = self.place(self.length);
+        let at = self.storage_index(self.length);
         self.length += 1;
         self.storage.item_mut(at)
     }
 
     /// Runs `f` on the first element of the queue, and dequeues it if `f` answers `Ok`.
     ///
-    /// What `f` wrote stays in the storage in both cases. An empty ring answers `Empty` and does not run `f`.
+    /// What `f` wrote stays in the storage in both cases. An empty ring answers `Empty` and does
+    /// not run `f`.
     pub fn dequeue_one_with<R, E, F: FnOnce(&mut T) -> Result<R, E>>(
         &mut self,
         f: F,
     ) -> Result<Result<R, E>, Empty>
-        requires callable { (x : T) → queue self.old ≡ x ∷ drop 1 (queue self.old) → FnOnceTakesAtMut F.FnOnce f x }
+        requires callable { TakesFirstOf F.FnOnce f (queue self.old) }
         ensures empty { IsErr result ↔ (self.old.held ≡ 0) }
         ensures unchanged { OnErr result (self.new ≡ self.old) }
-        ensures called { IfOk result (λ answer. (x : T) × (y : T) × FnOnceReturnsAtMut F.FnOnce f x answer y × (queue self.old ≡ x ∷ drop 1 (queue self.old)) × (self.new ≡ written (if is_ok answer then taken_off 1 self.old else self.old) self.old.read_at (y ∷ [])) × (IsOk answer → Dequeued self.old 1 (y ∷ []) self.new) × (IsErr answer → QueueWritten self.old 0 (y ∷ []) self.new)) }
+        ensures called { IfOk result (λ answer. RanOnFirst F.FnOnce f self.old answer self.new) }
     {
         if self.is_empty() {
             return Err(Empty);
         }
         let at = self.read_at;
-        let next = self.place(1);
+        let next = self.storage_index(1);
         let answer = f(self.storage.item_mut(at));
         if answer.is_ok() {
             self.read_at = next;
@@ -277,25 +322,30 @@ impl<T, S: Elements<T>> Ring<T, S> {
 
     /// Dequeues the first element of the queue, and lends it. An empty ring answers `Empty`.
     pub fn dequeue_one(&mut self) -> Result<&mut T, Empty>
-        ensures* writes_back { sem 𝓛 (lends_one_if T.row S.row S.Elements self.entry (taken_off 1 self.old) self.old.read_at result) }
+        ensures* writes_back { sem 𝓛 (lends_one_if T.row S.row S.Elements self.entry
+            (with_dequeued 1 self.old) self.old.read_at result) }
         ensures empty { IsErr result ↔ (self.old.held ≡ 0) }
         ensures value { IfOk result (λ r. queue self.old ≡ r.now ∷ drop 1 (queue self.old)) }
-        ensures dequeued { self.old.held ≢ 0 → (w : T) → Dequeued self.old 1 (w ∷ []) (written (taken_off 1 self.old) self.old.read_at (w ∷ [])) }
+        ensures dequeued { self.old.held ≢ 0 → (w : T) → Dequeued self.old 1 (w ∷ [])
+            (written (with_dequeued 1 self.old) self.old.read_at (w ∷ [])) }
     {
         if self.is_empty() {
             return Err(Empty);
         }
-        Ok(self.front_mut())
+        Ok(self.dequeue_first())
     }
 
-    fn front_mut(&mut self) -> &mut T
+    // `dequeue_one` where something is held, for the same reason.
+    fn dequeue_first(&mut self) -> &mut T
         requires { self.old.held ≢ 0 }
-        ensures* writes_back { sem 𝓛 (lends_one T.row S.row S.Elements self.entry (taken_off 1 self.old) self.old.read_at result) }
+        ensures* writes_back { sem 𝓛 (lends_one T.row S.row S.Elements self.entry
+            (with_dequeued 1 self.old) self.old.read_at result) }
         ensures value { queue self.old ≡ result.now ∷ drop 1 (queue self.old) }
-        ensures dequeued { (w : T) → Dequeued self.old 1 (w ∷ []) (written (taken_off 1 self.old) self.old.read_at (w ∷ [])) }
+        ensures dequeued { (w : T) → Dequeued self.old 1 (w ∷ [])
+            (written (with_dequeued 1 self.old) self.old.read_at (w ∷ [])) }
     {
         let at = self.read_at;
-        self.read_at = self.place(1);
+        self.read_at = self.storage_index(1);
         self.length -= 1;
         self.storage.item_mut(at)
     }
@@ -303,174 +353,180 @@ impl<T, S: Elements<T>> Ring<T, S> {
 
 /// Many elements at a time: where there is none, the part that is lent is empty.
 impl<T, S: Elements<T>> Ring<T, S> {
-    ghost use Rattle.net_storage.specs.RingLends.{lends_run};
+    ghost use Rattle.net_storage.specs.RingLends.{lends_many};
 
-    /// Runs `f` on the longest row of free elements that comes next, and enqueues as many of them as `f` counts.
+    /// Runs `f` on the contiguous free elements that come next, and enqueues as many of them as `f`
+    /// counts.
     ///
-    /// An empty ring first moves its read place to the storage's beginning. What `f` wrote stays in the storage,
-    /// also behind the elements that it counted. It must count no more than the elements that it is lent.
+    /// An empty ring first moves its read index to the storage's beginning. What `f` wrote stays in
+    /// the storage, also behind the elements that it counted. It must count no more than the
+    /// elements that it is lent.
     pub fn enqueue_many_with<R, F: FnOnce(&mut [T]) -> (usize, R)>(&mut self, f: F) -> (usize, R)
-        requires callable { let g = restarted self.old in FnOnceTakesAtMut F.FnOnce f (take (contiguous_window g) (spare g)) }
-        requires count { let g = restarted self.old in (r : _) (ws : List T) → FnOnceReturnsAtMut F.FnOnce f (take (contiguous_window g) (spare g)) r ws → r.0 ≤ contiguous_window g }
-        ensures called { let g = restarted self.old in (ws : List T) × FnOnceReturnsAtMut F.FnOnce f (take (contiguous_window g) (spare g)) result ws × (length ws ≡ contiguous_window g) × (self.new ≡ written (taken_in result.0 g) (write_at g) ws) × EnqueuedFrom g result.0 ws self.new }
+        requires callable { FnOnceTakesAtMut F.FnOnce f (contiguous_spare (restarted self.old)) }
+        requires count { CountsWithin F.FnOnce f (contiguous_spare (restarted self.old))
+            (contiguous_window (restarted self.old)) }
+        ensures called { RanOnSpare F.FnOnce f (restarted self.old) result self.new }
     {
         self.restart();
-        let from = self.place(self.length);
+        let from = self.storage_index(self.length);
         let to = from + self.contiguous_window();
         let answer = f(self.storage.part_mut(from, to));
         self.length += answer.0;
         answer
     }
 
-    /// Enqueues at most `size` elements, as they stand, and lends them: as many as lie in a row.
+    /// Enqueues at most `size` elements, as they stand, and lends them: as many as are contiguous.
     ///
-    /// An empty ring first moves its read place to the storage's beginning.
+    /// An empty ring first moves its read index to the storage's beginning.
     pub fn enqueue_many(&mut self, size: usize) -> &mut [T]
-        ensures* writes_back { sem 𝓛 (lends_run T.row S.row S.Elements self.entry (taken_in (min size (contiguous_window (restarted self.old))) (restarted self.old)) (write_at (restarted self.old)) result) }
+        ensures* writes_back { sem 𝓛 (lends_many T.row S.row S.Elements self.entry
+            (with_enqueued (min size (contiguous_window (restarted self.old))) (restarted self.old))
+            (write_at (restarted self.old)) result) }
         ensures count { length result.now ≡ min size (contiguous_window (restarted self.old)) }
         ensures value { result.now ≡ take (length result.now) (spare (restarted self.old)) }
-        ensures stored { let g = restarted self.old in result.now ≡ take (length result.now) (drop (write_at g) g.storage) }
-        ensures enqueued { let g = restarted self.old in let k = min size (contiguous_window g) in (ws : List T) → length ws ≡ k → Enqueued g ws (written (taken_in k g) (write_at g) ws) }
+        ensures stored { let g = restarted self.old in
+            result.now ≡ take (length result.now) (drop (write_at g) g.storage) }
+        ensures enqueued { let g = restarted self.old in let k = min size (contiguous_window g) in
+            (ws : List T) → length ws ≡ k → Enqueued g ws
+            (written (with_enqueued k g) (write_at g) ws) }
     {
         self.restart();
         let count = size.min(self.contiguous_window());
-        let from = self.place(self.length);
+        let from = self.storage_index(self.length);
         self.length += count;
         self.storage.part_mut(from, from + count)
     }
 
-    /// Runs `f` on the longest row of elements at the front of the queue, and dequeues as many of them as `f` counts.
+    /// Runs `f` on the contiguous elements at the front of the queue, and dequeues as many of them
+    /// as `f` counts.
     ///
-    /// What `f` wrote stays in the storage. It must count no more than the elements that it is lent.
+    /// What `f` wrote stays in the storage. It must count no more than the elements that it is
+    /// lent.
     pub fn dequeue_many_with<R, F: FnOnce(&mut [T]) -> (usize, R)>(&mut self, f: F) -> (usize, R)
-        requires callable { FnOnceTakesAtMut F.FnOnce f (take (contiguous_held self.old) (queue self.old)) }
-        requires count { (r : _) (ws : List T) → FnOnceReturnsAtMut F.FnOnce f (take (contiguous_held self.old) (queue self.old)) r ws → r.0 ≤ contiguous_held self.old }
-        ensures called { (ws : List T) × FnOnceReturnsAtMut F.FnOnce f (take (contiguous_held self.old) (queue self.old)) result ws × (length ws ≡ contiguous_held self.old) × (self.new ≡ written (taken_off result.0 self.old) self.old.read_at ws) × DequeuedFrom self.old result.0 ws self.new }
+        requires callable { FnOnceTakesAtMut F.FnOnce f (contiguous_queue self.old) }
+        requires count { CountsWithin F.FnOnce f (contiguous_queue self.old)
+            (contiguous_held self.old) }
+        ensures called { RanOnQueue F.FnOnce f self.old result self.new }
     {
         let from = self.read_at;
         let to = from + self.length.min(self.capacity() - from);
         let answer = f(self.storage.part_mut(from, to));
-        self.read_at = self.place(answer.0);
+        self.read_at = self.storage_index(answer.0);
         self.length -= answer.0;
         answer
     }
 
-    /// Dequeues at most `size` elements, and lends them: as many as lie in a row.
+    /// Dequeues at most `size` elements, and lends them: as many as are contiguous.
     pub fn dequeue_many(&mut self, size: usize) -> &mut [T]
-        ensures* writes_back { sem 𝓛 (lends_run T.row S.row S.Elements self.entry (taken_off (min size (contiguous_held self.old)) self.old) self.old.read_at result) }
+        ensures* writes_back { sem 𝓛 (lends_many T.row S.row S.Elements self.entry
+            (with_dequeued (min size (contiguous_held self.old)) self.old)
+            self.old.read_at result) }
         ensures count { length result.now ≡ min size (contiguous_held self.old) }
         ensures value { result.now ≡ take (length result.now) (queue self.old) }
-        ensures stored { result.now ≡ take (length result.now) (drop self.old.read_at self.old.storage) }
-        ensures dequeued { let k = min size (contiguous_held self.old) in (ws : List T) → length ws ≡ k → Dequeued self.old k ws (written (taken_off k self.old) self.old.read_at ws) }
+        ensures stored { result.now
+            ≡ take (length result.now) (drop self.old.read_at self.old.storage) }
+        ensures dequeued { let k = min size (contiguous_held self.old) in
+            (ws : List T) → length ws ≡ k → Dequeued self.old k ws
+            (written (with_dequeued k self.old) self.old.read_at ws) }
     {
         let from = self.read_at;
         let count = size.min(self.length.min(self.capacity() - from));
-        self.read_at = self.place(count);
+        self.read_at = self.storage_index(count);
         self.length -= count;
         self.storage.part_mut(from, from + count)
     }
 
-    /// Lends at most `size` free elements from the one at `offset` on: as many as lie in a row.
+    /// Lends at most `size` free elements from the one at `offset` on: as many as are contiguous.
     ///
     /// None where `offset` is past the window. The ring holds as many elements after as before.
     pub fn get_unallocated(&mut self, offset: usize, size: usize) -> &mut [T]
-        ensures* writes_back { sem 𝓛 (lends_run T.row S.row S.Elements self.entry self.old (spare_place self.old offset) result) }
-        ensures count { length result.now ≡ spare_run self.old offset size }
+        ensures* writes_back { sem 𝓛 (lends_many T.row S.row S.Elements self.entry
+            self.old (spare_index self.old offset) result) }
+        ensures count { length result.now ≡ contiguous_window_from self.old offset size }
         ensures value { result.now ≡ take (length result.now) (drop offset (spare self.old)) }
-        ensures stored { result.now ≡ take (length result.now) (drop (spare_place self.old offset) self.old.storage) }
-        ensures written { (ws : List T) → length ws ≡ spare_run self.old offset size → SpareWritten self.old offset ws (written self.old (spare_place self.old offset) ws) }
+        ensures stored { result.now
+            ≡ take (length result.now) (drop (spare_index self.old offset) self.old.storage) }
+        ensures written { (ws : List T) → length ws ≡ contiguous_window_from self.old offset size →
+            SpareWritten self.old offset ws (written self.old (spare_index self.old offset) ws) }
     {
-        let (from, count) = self.spare_run(offset, size);
-        self.storage.part_mut(from, from + count)
-    }
-
-    // Where the free element at `offset` stands, and how many lie in a row there, of at most `size`.
-    fn spare_run(&self, offset: usize, size: usize) -> (usize, usize)
-        ensures place { result.0 ≡ spare_place self.now offset }
-        ensures count { result.1 ≡ spare_run self.now offset size }
-        ensures within { (result.0 + result.1 ≤ capacity self.now) × (capacity self.now < 2 ^ 64) }
-    {
-        let capacity = self.capacity();
-        let window = self.window();
-        let offset = offset.min(window);
-        let from = self.place(self.length + offset);
-        (from, size.min((window - offset).min(capacity - from)))
+        let span = self.span(self.length, self.window(), offset, size);
+        self.storage
+            .part_mut(span.from, span.from + span.contiguous)
     }
 
     /// Enqueues `count` elements, as they stand. There must be as many free ones: `window` tells.
     pub fn enqueue_unallocated(&mut self, count: usize)
         requires { count ≤ window self.old }
-        ensures ring { self.new ≡ taken_in count self.old }
+        ensures ring { self.new ≡ with_enqueued count self.old }
         ensures enqueued { Enqueued self.old (take count (spare self.old)) self.new }
         ensures of_spare { spare self.new ≡ drop count (spare self.old) }
     {
+        // Called for its clauses alone: by them the sum below does not wrap.
         let _capacity = self.capacity();
         self.length += count;
     }
 
-    /// Shows at most `size` elements of the queue from the one at `offset` on: as many as lie in a row.
+    /// Shows at most `size` elements of the queue from the one at `offset` on: as many as are
+    /// contiguous.
     ///
     /// None where `offset` is past the queue.
     pub fn get_allocated(&self, offset: usize, size: usize) -> &[T]
-        ensures count { length result.now ≡ held_run self.now offset size }
+        ensures count { length result.now ≡ contiguous_held_from self.now offset size }
         ensures not_empty { offset < self.now.held → 0 < size → 0 < length result.now }
         ensures value { result.now ≡ take (length result.now) (drop offset (queue self.now)) }
-        ensures stored { result.now ≡ take (length result.now) (drop (held_place self.now offset) self.now.storage) }
+        ensures stored { result.now
+            ≡ take (length result.now) (drop (held_index self.now offset) self.now.storage) }
     {
-        let (from, count) = self.held_run(offset, size);
-        self.storage.part(from, from + count)
+        let span = self.span(0, self.length, offset, size);
+        self.storage.part(span.from, span.from + span.contiguous)
     }
 
-    /// Lends at most `size` elements of the queue from the one at `offset` on: as many as lie in a row.
+    /// Lends at most `size` elements of the queue from the one at `offset` on: as many as are
+    /// contiguous.
     ///
-    /// As `get_allocated`, for elements that are changed in place; the ring holds as many after as before.
+    /// As `get_allocated`, for elements that are changed where they stand; the ring holds as many
+    /// after as before.
     pub fn get_allocated_mut(&mut self, offset: usize, size: usize) -> &mut [T]
-        ensures* writes_back { sem 𝓛 (lends_run T.row S.row S.Elements self.entry self.old (held_place self.old offset) result) }
-        ensures count { length result.now ≡ held_run self.old offset size }
+        ensures* writes_back { sem 𝓛 (lends_many T.row S.row S.Elements self.entry
+            self.old (held_index self.old offset) result) }
+        ensures count { length result.now ≡ contiguous_held_from self.old offset size }
         ensures value { result.now ≡ take (length result.now) (drop offset (queue self.old)) }
-        ensures stored { result.now ≡ take (length result.now) (drop (held_place self.old offset) self.old.storage) }
-        ensures written { (ws : List T) → length ws ≡ held_run self.old offset size → QueueWritten self.old offset ws (written self.old (held_place self.old offset) ws) }
+        ensures stored { result.now
+            ≡ take (length result.now) (drop (held_index self.old offset) self.old.storage) }
+        ensures written { (ws : List T) → length ws ≡ contiguous_held_from self.old offset size →
+            QueueWritten self.old offset ws (written self.old (held_index self.old offset) ws) }
     {
-        let (from, count) = self.held_run(offset, size);
-        self.storage.part_mut(from, from + count)
-    }
-
-    // Where the element of the queue at `offset` stands, and how many lie in a row there, of at most `size`.
-    fn held_run(&self, offset: usize, size: usize) -> (usize, usize)
-        ensures place { result.0 ≡ held_place self.now offset }
-        ensures count { result.1 ≡ held_run self.now offset size }
-        ensures within { (result.0 + result.1 ≤ capacity self.now) × (capacity self.now < 2 ^ 64) }
-    {
-        let capacity = self.capacity();
-        let held = self.len();
-        let offset = offset.min(held);
-        let from = self.place(offset);
-        (from, size.min((held - offset).min(capacity - from)))
+        let span = self.span(0, self.length, offset, size);
+        self.storage
+            .part_mut(span.from, span.from + span.contiguous)
     }
 
     /// Dequeues `count` elements. The ring must hold as many: `len` tells.
     pub fn dequeue_allocated(&mut self, count: usize)
         requires { count ≤ self.old.held }
-        ensures ring { self.new ≡ taken_off count self.old }
+        ensures ring { self.new ≡ with_dequeued count self.old }
         ensures dequeued { Dequeued self.old count (take count (queue self.old)) self.new }
     {
-        let next = self.place(count);
+        let next = self.storage_index(count);
         self.read_at = next;
         self.length -= count;
     }
 }
 
-/// Elements that are copied in and out, round the storage's end too.
+/// Elements that are copied in and out, wrapping at the storage's end.
 impl<T: Copy, S: Elements<T>> Ring<T, S> {
     /// Enqueues as many elements of `data` as there is room for, and answers how many.
     ///
-    /// An empty ring first moves its read place to the storage's beginning, also where nothing is taken.
+    /// An empty ring first moves its read index to the storage's beginning, also where nothing is
+    /// enqueued.
     pub fn enqueue_slice(&mut self, data: &[T]) -> usize
         ensures count { result ≡ min (length «data».now) (window self.old) }
-        ensures ring { let g = restarted self.old in self.new ≡ taken_in result (written_round g (write_at g) (take result «data».now)) }
+        ensures ring { let g = restarted self.old in self.new
+            ≡ with_enqueued result (written_wrapping g (write_at g) (take result «data».now)) }
         ensures enqueued { Enqueued (restarted self.old) (take result «data».now) self.new }
         ensures queue { queue self.new ≡ queue self.old ++ take result «data».now }
-        ensures same { (self.new.held ≡ self.old.held + result) × (capacity self.new ≡ capacity self.old) }
+        ensures same { (self.new.held ≡ self.old.held + result)
+            × (capacity self.new ≡ capacity self.old) }
     {
         self.restart();
         let count = self.write_unallocated(0, data);
@@ -484,10 +540,11 @@ impl<T: Copy, S: Elements<T>> Ring<T, S> {
         ensures count { result ≡ min (length «data».old) self.old.held }
         ensures of_queue { result ≡ min (length «data».old) (length (queue self.old)) }
         ensures given { «data».new ≡ take result (queue self.old) ++ drop result «data».old }
-        ensures ring { self.new ≡ taken_off result self.old }
+        ensures ring { self.new ≡ with_dequeued result self.old }
         ensures dequeued { Dequeued self.old result (take result (queue self.old)) self.new }
         ensures queue { queue self.new ≡ drop result (queue self.old) }
-        ensures same { (self.new.held ≡ self.old.held - result) × (capacity self.new ≡ capacity self.old) }
+        ensures same { (self.new.held ≡ self.old.held - result)
+            × (capacity self.new ≡ capacity self.old) }
     {
         let count = self.read_allocated(0, data);
         self.dequeue_allocated(count);
@@ -498,41 +555,45 @@ impl<T: Copy, S: Elements<T>> Ring<T, S> {
     /// `offset` on, and answers how many; 0 where `offset` is past the window. Nothing is enqueued.
     pub fn write_unallocated(&mut self, offset: usize, data: &[T]) -> usize
         ensures count { result ≡ min (length «data».now) (window self.old - offset) }
-        ensures ring { self.new ≡ written_round self.old (spare_place self.old offset) (take result «data».now) }
+        ensures ring { self.new
+            ≡ written_wrapping self.old (spare_index self.old offset) (take result «data».now) }
         ensures written { SpareWritten self.old offset (take result «data».now) self.new }
         ensures same { (self.new.held ≡ self.old.held) × (capacity self.new ≡ capacity self.old) }
     {
-        let capacity = self.capacity();
-        let window = self.window();
-        let offset = offset.min(window);
-        let count = data.len().min(window - offset);
-        let from = self.place(self.length + offset);
-        let first = count.min(capacity - from);
+        let Span {
+            from,
+            count,
+            contiguous,
+        } = self.span(self.length, self.window(), offset, data.len());
         self.storage
-            .part_mut(from, from + first)
-            .copy_from_slice(&data[..first]);
-        self.storage
-            .part_mut(0, count - first)
-            .copy_from_slice(&data[first..count]);
+            .part_mut(from, from + contiguous)
+            .copy_from_slice(&data[..contiguous]);
+        if contiguous < count {
+            self.storage
+                .part_mut(0, count - contiguous)
+                .copy_from_slice(&data[contiguous..count]);
+        }
         count
     }
 
-    /// Copies as many elements of the queue as `data` has room for, from the one at `offset` on, to the
-    /// beginning of `data`, and answers how many; 0 where `offset` is past the queue. The rest of `data`
-    /// stays as it is, and nothing is dequeued.
+    /// Copies as many elements of the queue as `data` has room for, from the one at `offset` on, to
+    /// the beginning of `data`, and answers how many; 0 where `offset` is past the queue. The rest
+    /// of `data` stays as it is, and nothing is dequeued.
     pub fn read_allocated(&mut self, offset: usize, data: &mut [T]) -> usize
         ensures count { result ≡ min (length «data».old) (self.old.held - offset) }
-        ensures given { «data».new ≡ take result (drop offset (queue self.old)) ++ drop result «data».old }
+        ensures given { «data».new
+            ≡ take result (drop offset (queue self.old)) ++ drop result «data».old }
         ensures same { self.new ≡ self.old }
     {
-        let capacity = self.capacity();
-        let held = self.len();
-        let offset = offset.min(held);
-        let count = data.len().min(held - offset);
-        let from = self.place(offset);
-        let first = count.min(capacity - from);
-        data[..first].copy_from_slice(self.storage.part(from, from + first));
-        data[first..count].copy_from_slice(self.storage.part(0, count - first));
+        let Span {
+            from,
+            count,
+            contiguous,
+        } = self.span(0, self.length, offset, data.len());
+        data[..contiguous].copy_from_slice(self.storage.part(from, from + contiguous));
+        if contiguous < count {
+            data[contiguous..count].copy_from_slice(self.storage.part(0, count - contiguous));
+        }
         count
     }
 }

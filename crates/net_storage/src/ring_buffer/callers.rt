@@ -1,7 +1,7 @@
 //! Callers of a ring, proved from its contracts alone.
 ghost use Rattle.std.specs.Prelude.{◌≡◌, ◌≢◌, ◌<◌, ◌≤◌, ◌↔◌, ◌++◌, [], ◌∷◌, length, take, drop, min, ℕ, List, IsErr, OnOk, OnErr, IfOk, vec_len};
 ghost use Rattle.net_storage.specs.Managed.{elements};
-ghost use Rattle.net_storage.specs.Ring.{ring, capacity, window, queue, spare, contiguous_window, contiguous_held, spare_run, held_run, restarted, Enqueued, Dequeued, SpareWritten, QueueWritten};
+ghost use Rattle.net_storage.specs.Ring.{ring, capacity, window, queue, spare, contiguous_window, contiguous_held, contiguous_window_from, contiguous_held_from, restarted, Enqueued, Dequeued, SpareWritten, QueueWritten};
 
 use super::{Empty, Full, ManagedSlice, RingBuffer};
 use std::marker::Model;
@@ -27,7 +27,7 @@ pub fn enqueue_one_byte(ring: &mut RingBuffer<'_, u8>, byte: u8) -> Result<(), F
 
 // A byte is written to a free element, and stands there.
 pub fn stage(ring: &mut RingBuffer<'_, u8>, offset: usize, byte: u8)
-    requires { 0 < spare_run ring.old offset 1 }
+    requires { 0 < contiguous_window_from ring.old offset 1 }
     ensures { SpareWritten ring.old offset (byte ∷ []) ring.new }
 {
     ring.get_unallocated(offset, 1)[0] = byte;
@@ -35,21 +35,21 @@ pub fn stage(ring: &mut RingBuffer<'_, u8>, offset: usize, byte: u8)
 
 // A byte of the queue is written over.
 pub fn patch(ring: &mut RingBuffer<'_, u8>, offset: usize, byte: u8)
-    requires { 0 < held_run ring.old offset 1 }
+    requires { 0 < contiguous_held_from ring.old offset 1 }
     ensures { QueueWritten ring.old offset (byte ∷ []) ring.new }
 {
     ring.get_allocated_mut(offset, 1)[0] = byte;
 }
 
-// The first byte of the queue is taken off, and zero is left in its place.
+// The first byte of the queue is dequeued, and zero is left where it stood.
 pub fn dequeue_byte(ring: &mut RingBuffer<'_, u8>) -> u8
     requires { 0 < contiguous_held ring.old }
     ensures parts { Dequeued ring.old 1 (0 ∷ []) ring.new }
     ensures byte { take 1 (queue ring.old) ≡ result ∷ [] }
 {
-    let run = ring.dequeue_many(1);
-    let byte = run[0];
-    run[0] = 0;
+    let part = ring.dequeue_many(1);
+    let byte = part[0];
+    part[0] = 0;
     byte
 }
 
@@ -88,13 +88,13 @@ pub fn write_and_refuse(ring: &mut RingBuffer<'_, u8>, byte: u8)
     });
 }
 
-// A closure that is run only where its slice is long enough.
+// A closure that is run only where its slice has an element.
 pub fn enqueue_first(ring: &mut RingBuffer<'_, u8>, byte: u8)
     requires { 0 < contiguous_window (restarted ring.old) }
     ensures { queue ring.new ≡ queue (restarted ring.old) ++ (byte ∷ []) }
 {
-    ring.enqueue_many_with(|run| {
-        run[0] = byte;
+    ring.enqueue_many_with(|part| {
+        part[0] = byte;
         (1, ())
     });
 }

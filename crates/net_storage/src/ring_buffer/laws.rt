@@ -1,28 +1,42 @@
 //! Laws of rings and of their storage, over the definitions alone: the functions do nothing.
-ghost use Rattle.std.specs.Prelude.{◌≡◌, ◌+◌, List, length};
+ghost use Rattle.std.specs.Prelude.{◌≡◌, ◌+◌, List, length, take, drop, ℕ};
 ghost use Rattle.net_storage.specs.Managed.{elements, with_part};
+ghost use Rattle.net_storage.specs.Overwrite.{overwrite, OverwrittenAt};
 ghost use Rattle.net_storage.specs.Ring.{RingState, capacity, window, queue, spare, restarted, WellFormed};
 
 use crate::managed::ManagedSlice;
 
-/// A ring is no more than its read place, its queue and its spare part: two rings that agree in
+/// A ring is no more than its read index, its queue and its spare part: two rings that agree in
 /// these are the same.
 pub fn ring_is_its_parts<T>()
-    ensures { (g h : RingState T) → WellFormed g → WellFormed h → g.read_at ≡ h.read_at → queue g ≡ queue h → spare g ≡ spare h → g ≡ h }
+    ensures { (g h : RingState T) → WellFormed g → WellFormed h →
+        g.read_at ≡ h.read_at → queue g ≡ queue h → spare g ≡ spare h → g ≡ h }
 {}
 
 /// What a ring holds and what it has room for are its capacity, and the lengths of its two parts.
 pub fn held_and_window_are_capacity<T>()
-    ensures { (g : RingState T) → WellFormed g → (g.held + window g ≡ capacity g) × (length (queue g) ≡ g.held) × (length (spare g) ≡ window g) }
+    ensures { (g : RingState T) → WellFormed g → (g.held + window g ≡ capacity g)
+        × (length (queue g) ≡ g.held) × (length (spare g) ≡ window g) }
 {}
 
-/// Moving the read place of an empty ring to the storage's beginning changes neither the queue nor the
-/// counts.
+/// Moving the read index of an empty ring to the storage's beginning changes neither the queue nor
+/// the counts.
 pub fn restarting_keeps_the_queue<T>()
-    ensures { (g : RingState T) → (queue (restarted g) ≡ queue g) × ((restarted g).held ≡ g.held) × ((restarted g).storage ≡ g.storage) }
+    ensures { (g : RingState T) → (queue (restarted g) ≡ queue g)
+        × ((restarted g).held ≡ g.held) × ((restarted g).storage ≡ g.storage) }
 {}
 
 /// What was written over the whole of a storage is what it then holds.
 pub fn storage_is_what_was_written<T>(storage: &ManagedSlice<'_, T>)
-    ensures { (ws : List T) → length ws ≡ length (elements storage.now) → elements (with_part storage.now 0 ws) ≡ ws }
+    ensures { (ws : List T) → length ws ≡ length (elements storage.now) →
+        elements (with_part storage.now 0 ws) ≡ ws }
+{}
+
+/// A list that was written over has as many elements as before; at each index it has the element
+/// that was written there, and the old one where none was; and where a part of it was written over
+/// itself it is as it was.
+pub fn overwritten<T>()
+    ensures count { (xs ws : List T) (i : ℕ) → length (overwrite xs i ws) ≡ length xs }
+    ensures element { (xs ws : List T) (i k : ℕ) (x : T) → OverwrittenAt xs i ws k x }
+    ensures same { (xs : List T) (i n : ℕ) → overwrite xs i (take n (drop i xs)) ≡ xs }
 {}

@@ -9,6 +9,13 @@ use super::*;
 use std::process::Abort;
 use std::test::Fail;
 
+// An empty ring over elements that are lent.
+fn ring_over<T>(elements: &mut [T]) -> RingBuffer<'_, T>
+    ensures { result ≡ ring elements.old 0 0 }
+{
+    RingBuffer::new(ManagedSlice::Borrowed(elements))
+}
+
 // Copies as much of the text as the part has room for.
 fn fill(part: &mut [u8], text: &[u8])
     ensures { length part.new ≡ length part.old }
@@ -18,9 +25,9 @@ fn fill(part: &mut [u8], text: &[u8])
 }
 
 #[test]
-fn slices_go_round_the_end(rt: HostRuntime) -> Result<(), Fail> {
+fn slices_wrap_at_the_end(rt: HostRuntime) -> Result<(), Fail> {
     let mut buffer = [0u8; 12];
-    let mut ring = RingBuffer::new(ManagedSlice::Borrowed(&mut buffer));
+    let mut ring = ring_over(&mut buffer);
     let mut out = [0u8; 8];
     assert!(rt; ring.is_empty());
     assert_eq!(rt; ring.enqueue_slice(b"abcdefghijkl"), 12);
@@ -36,9 +43,9 @@ fn slices_go_round_the_end(rt: HostRuntime) -> Result<(), Fail> {
 }
 
 #[test]
-fn the_queue_is_read_round_the_end(rt: HostRuntime) -> Result<(), Fail> {
+fn reading_the_queue_wraps_at_the_end(rt: HostRuntime) -> Result<(), Fail> {
     let mut buffer = [0u8; 12];
-    let mut ring = RingBuffer::new(ManagedSlice::Borrowed(&mut buffer));
+    let mut ring = ring_over(&mut buffer);
     fill(ring.enqueue_many(12), b"abcdefghijkl");
     ring.dequeue_many(6);
     fill(ring.enqueue_many(3), b"mno");
@@ -53,9 +60,9 @@ fn the_queue_is_read_round_the_end(rt: HostRuntime) -> Result<(), Fail> {
 }
 
 #[test]
-fn free_elements_are_written_round_the_end(rt: HostRuntime) -> Result<(), Fail> {
+fn writing_free_elements_wraps_at_the_end(rt: HostRuntime) -> Result<(), Fail> {
     let mut buffer = [0u8; 12];
-    let mut ring = RingBuffer::new(ManagedSlice::Borrowed(&mut buffer));
+    let mut ring = ring_over(&mut buffer);
     ring.enqueue_many(6);
     ring.dequeue_many(6);
     assert_eq!(rt; ring.write_unallocated(0, b"ghi"), 3);
@@ -78,7 +85,7 @@ fn eight_twice(rt: &impl Abort, ring: &mut RingBuffer<'_, u8>) -> Result<(), Fai
 #[test]
 fn lent_and_owned_storage_are_alike(rt: HostRuntime) -> Result<(), Fail> {
     let mut buffer = [0u8; 12];
-    let mut lent = RingBuffer::new(ManagedSlice::Borrowed(&mut buffer));
+    let mut lent = ring_over(&mut buffer);
     eight_twice(&rt, &mut lent)?;
     let vector = [0u8; 12].to_vec(rt.alloc())?;
     let mut owned = RingBuffer::from(ManagedSlice::from(vector));
@@ -88,7 +95,7 @@ fn lent_and_owned_storage_are_alike(rt: HostRuntime) -> Result<(), Fail> {
 #[test]
 fn the_queue_is_shown_up_to_the_end(rt: HostRuntime) -> Result<(), Fail> {
     let mut buffer = [0u8; 12];
-    let mut ring = RingBuffer::new(ManagedSlice::Borrowed(&mut buffer));
+    let mut ring = ring_over(&mut buffer);
     ring.enqueue_slice(b"abcd");
     ring.enqueue_slice(b"efghijkl");
     ring.dequeue_many(4);
@@ -101,9 +108,9 @@ fn the_queue_is_shown_up_to_the_end(rt: HostRuntime) -> Result<(), Fail> {
 }
 
 #[test]
-fn a_ring_without_room_for_any(rt: HostRuntime) -> Result<(), Fail> {
+fn a_ring_over_an_empty_slice(rt: HostRuntime) -> Result<(), Fail> {
     let mut buffer: [u8; 0] = [];
-    let mut ring = RingBuffer::new(ManagedSlice::Borrowed(&mut buffer));
+    let mut ring = ring_over(&mut buffer);
     assert_eq!(rt; ring.get_unallocated(0, 0).len(), 0);
     assert_eq!(rt; ring.get_allocated(0, 0).len(), 0);
     ring.dequeue_allocated(0);
@@ -117,7 +124,7 @@ fn a_ring_without_room_for_any(rt: HostRuntime) -> Result<(), Fail> {
 #[test]
 fn an_empty_ring_starts_again(rt: HostRuntime) -> Result<(), Fail> {
     let mut buffer = [0u8; 8];
-    let mut ring = RingBuffer::new(ManagedSlice::Borrowed(&mut buffer));
+    let mut ring = ring_over(&mut buffer);
     ring.enqueue_many(2);
     ring.enqueue_many(2);
     assert_eq!(rt; ring.dequeue_many(4).len(), 4);
@@ -131,9 +138,9 @@ fn an_empty_ring_starts_again(rt: HostRuntime) -> Result<(), Fail> {
 }
 
 #[test]
-fn elements_of_size_zero(rt: HostRuntime) -> Result<(), Fail> {
+fn zero_sized_elements(rt: HostRuntime) -> Result<(), Fail> {
     let mut buffer = [(); 3];
-    let mut ring = RingBuffer::new(ManagedSlice::Borrowed(&mut buffer));
+    let mut ring = ring_over(&mut buffer);
     assert_eq!(rt; ring.enqueue_many(5).len(), 3);
     assert_eq!(rt; ring.window(), 0);
     assert!(rt; ring.enqueue_one().is_err());
@@ -151,31 +158,31 @@ fn elements_of_size_zero(rt: HostRuntime) -> Result<(), Fail> {
 #[test]
 fn closures_count_what_they_enqueue(rt: HostRuntime) -> Result<(), Fail> {
     let mut buffer = [0u8; 12];
-    let mut ring = RingBuffer::new(ManagedSlice::Borrowed(&mut buffer));
-    let first = ring.enqueue_many_with(|run| {
-        fill(run, b"ab");
-        (run.len().min(2), (run.len(), true))
+    let mut ring = ring_over(&mut buffer);
+    let first = ring.enqueue_many_with(|part| {
+        fill(part, b"ab");
+        (part.len().min(2), (part.len(), true))
     });
     assert_eq!(rt; first, (2, (12, true)));
-    let second = ring.enqueue_many_with(|run| {
-        fill(run, b"cdXX");
-        (run.len().min(2), run.len())
+    let second = ring.enqueue_many_with(|part| {
+        fill(part, b"cdXX");
+        (part.len().min(2), part.len())
     });
     assert_eq!(rt; second, (2, 10));
-    let third = ring.enqueue_many_with(|run| {
-        fill(run, b"efgh");
-        (run.len().min(4), run.len())
+    let third = ring.enqueue_many_with(|part| {
+        fill(part, b"efgh");
+        (part.len().min(4), part.len())
     });
     assert_eq!(rt; third, (4, 8));
     assert_eq!(rt; &*ring.dequeue_many(4), b"abcd".as_slice());
-    let fourth = ring.enqueue_many_with(|run| {
-        fill(run, b"ijkl");
-        (run.len().min(4), run.len())
+    let fourth = ring.enqueue_many_with(|part| {
+        fill(part, b"ijkl");
+        (part.len().min(4), part.len())
     });
     assert_eq!(rt; fourth, (4, 4));
-    let fifth = ring.enqueue_many_with(|run| {
-        fill(run, b"abcd");
-        (run.len().min(4), run.len())
+    let fifth = ring.enqueue_many_with(|part| {
+        fill(part, b"abcd");
+        (part.len().min(4), part.len())
     });
     assert_eq!(rt; fifth, (4, 4));
     assert_eq!(rt; ring.get_allocated(0, 12), b"efghijkl".as_slice());
@@ -186,7 +193,7 @@ fn closures_count_what_they_enqueue(rt: HostRuntime) -> Result<(), Fail> {
 #[test]
 fn free_elements_keep_what_was_written_ahead(rt: HostRuntime) -> Result<(), Fail> {
     let mut buffer = [b'.'; 12];
-    let mut ring = RingBuffer::new(ManagedSlice::Borrowed(&mut buffer));
+    let mut ring = ring_over(&mut buffer);
     assert_eq!(rt; ring.get_unallocated(16, 4).len(), 0);
     let ahead = ring.get_unallocated(0, 4);
     assert_eq!(rt; ahead.len(), 4);
@@ -202,7 +209,7 @@ fn free_elements_keep_what_was_written_ahead(rt: HostRuntime) -> Result<(), Fail
 #[test]
 fn what_a_refusing_closure_wrote_stays_free(rt: HostRuntime) -> Result<(), Fail> {
     let mut buffer = [0u8; 2];
-    let mut ring = RingBuffer::new(ManagedSlice::Borrowed(&mut buffer));
+    let mut ring = ring_over(&mut buffer);
     let answer = ring.enqueue_one_with(|free| -> Result<(), ()> {
         *free = 7;
         Err(())
@@ -220,7 +227,7 @@ fn what_a_refusing_closure_wrote_stays_free(rt: HostRuntime) -> Result<(), Fail>
 #[test]
 fn what_a_refusing_closure_wrote_stays_queued(rt: HostRuntime) -> Result<(), Fail> {
     let mut buffer = [0u8; 2];
-    let mut ring = RingBuffer::new(ManagedSlice::Borrowed(&mut buffer));
+    let mut ring = ring_over(&mut buffer);
     assert_eq!(rt; ring.enqueue_slice(b"ab"), 2);
     let answer = ring.dequeue_one_with(|front| -> Result<(), ()> {
         *front = b'z';
@@ -241,7 +248,7 @@ fn what_a_refusing_closure_wrote_stays_queued(rt: HostRuntime) -> Result<(), Fai
 #[test]
 fn offsets_past_the_end_find_nothing(rt: HostRuntime) -> Result<(), Fail> {
     let mut buffer = [0u8; 4];
-    let mut ring = RingBuffer::new(ManagedSlice::Borrowed(&mut buffer));
+    let mut ring = ring_over(&mut buffer);
     let far = 18446744073709551615;
     assert_eq!(rt; ring.get_unallocated(far, 1).len(), 0);
     assert_eq!(rt; ring.write_unallocated(far, b"a"), 0);
@@ -261,7 +268,7 @@ fn offsets_past_the_end_find_nothing(rt: HostRuntime) -> Result<(), Fail> {
 #[test]
 fn bytes_written_ahead_are_enqueued(rt: HostRuntime) -> Result<(), Fail> {
     let mut buffer = [0u8; 8];
-    let mut ring = RingBuffer::new(ManagedSlice::Borrowed(&mut buffer));
+    let mut ring = ring_over(&mut buffer);
     assert_eq!(rt; ring.enqueue_many(4).len(), 4);
     assert_eq!(rt; ring.dequeue_many(4).len(), 4);
     assert_eq!(rt; ring.write_unallocated(0, b"xy"), 2);
@@ -273,9 +280,9 @@ fn bytes_written_ahead_are_enqueued(rt: HostRuntime) -> Result<(), Fail> {
 }
 
 #[test]
-fn enqueuing_moves_the_read_place_of_an_empty_ring(rt: HostRuntime) -> Result<(), Fail> {
+fn enqueuing_moves_the_read_index_of_an_empty_ring(rt: HostRuntime) -> Result<(), Fail> {
     let mut buffer = [0u8; 8];
-    let mut ring = RingBuffer::new(ManagedSlice::Borrowed(&mut buffer));
+    let mut ring = ring_over(&mut buffer);
     assert_eq!(rt; ring.enqueue_many(4).len(), 4);
     assert_eq!(rt; ring.dequeue_many(4).len(), 4);
     assert_eq!(rt; ring.write_unallocated(0, b"xy"), 2);
@@ -297,7 +304,7 @@ impl Resettable for Slot {
 #[test]
 fn every_element_is_reset(rt: HostRuntime) -> Result<(), Fail> {
     let mut buffer = [Slot(5); 3];
-    let mut ring = RingBuffer::new(ManagedSlice::Borrowed(&mut buffer));
+    let mut ring = ring_over(&mut buffer);
     assert!(rt; ring.enqueue_one().is_ok());
     ring.reset();
     assert_eq!(rt; ring.len(), 0);
@@ -308,17 +315,17 @@ fn every_element_is_reset(rt: HostRuntime) -> Result<(), Fail> {
 #[test]
 fn a_closure_may_count_nothing(rt: HostRuntime) -> Result<(), Fail> {
     let mut buffer = [0u8; 4];
-    let mut ring = RingBuffer::new(ManagedSlice::Borrowed(&mut buffer));
-    let answer = ring.enqueue_many_with(|run| {
-        fill(run, b"ab");
+    let mut ring = ring_over(&mut buffer);
+    let answer = ring.enqueue_many_with(|part| {
+        fill(part, b"ab");
         (0, ())
     });
     assert_eq!(rt; answer, (0, ()));
     assert_eq!(rt; ring.len(), 0);
     assert_eq!(rt; &*ring.get_unallocated(0, 2), b"ab".as_slice());
     assert_eq!(rt; ring.enqueue_slice(b"abcd"), 4);
-    let answer = ring.dequeue_many_with(|run| {
-        fill(run, b"x");
+    let answer = ring.dequeue_many_with(|part| {
+        fill(part, b"x");
         (0, ())
     });
     assert_eq!(rt; answer, (0, ()));
@@ -331,7 +338,7 @@ fn a_closure_may_count_nothing(rt: HostRuntime) -> Result<(), Fail> {
 #[test]
 fn refusals_run_no_closure(rt: HostRuntime) -> Result<(), Fail> {
     let mut buffer = [0u8; 1];
-    let mut ring = RingBuffer::new(ManagedSlice::Borrowed(&mut buffer));
+    let mut ring = ring_over(&mut buffer);
     let mut ran = false;
     let answer = ring.dequeue_one_with(|_| -> Result<(), ()> {
         ran = true;
@@ -352,7 +359,7 @@ fn refusals_run_no_closure(rt: HostRuntime) -> Result<(), Fail> {
 #[test]
 fn callers_write_and_read_back(rt: HostRuntime) -> Result<(), Fail> {
     let mut buffer = [0u8; 4];
-    let mut ring = RingBuffer::new(ManagedSlice::Borrowed(&mut buffer));
+    let mut ring = ring_over(&mut buffer);
     assert_eq!(rt; enqueue_one_byte(&mut ring, b'a'), Ok(()));
     assert_eq!(rt; enqueue_one_byte(&mut ring, b'b'), Ok(()));
     write_and_refuse(&mut ring, b'c');

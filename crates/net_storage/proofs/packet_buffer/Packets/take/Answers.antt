@@ -1,6 +1,6 @@
 use Rattle.std.proofs.Common.{sym, ap, ◌∙◌, subst}
 use Rattle.std.specs.declared.option.Option.TheVariants.{Some}
-use Rattle.net_storage.specs.Ring.{queue, taken_off}
+use Rattle.net_storage.specs.Ring.{queue, with_dequeued}
 use Rattle.net_storage.specs.Packets.{first_gap}
 use Rattle.net_storage.specs.PacketSlots.{packets_in, slot, Holds}
 use Rattle.net_storage.proofs.PacketSteps.{close_gap, front_slot, front_long, pop_holds, closed}
@@ -16,5 +16,5 @@ invariant_of-self-2 g c =
     let f = front_slot m b c.self.invariant z (slot c.in_ok-size.size (Some c.in_ok-size.header)) at in
     let size = front_long m b c.self.invariant z (slot c.in_ok-size.size (Some c.in_ok-size.header)) at in
     let left = c.in_ok-size.ensures.left in
-    let is = c.dequeue_allocated.ensures.ring ∙ ap (λ n. taken_off n b) size in
+    let is = c.dequeue_allocated.ensures.ring ∙ ap (λ n. with_dequeued n b) size in
     subst (λ o. Holds m2 o (packets_in 0 (queue m2))) (sym is) (closed m2 _ _ (pop_holds m b c.self.invariant z m2 (left.0 ∙ f.3) left.1))

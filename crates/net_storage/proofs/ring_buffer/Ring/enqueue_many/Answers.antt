@@ -1,5 +1,5 @@
 use Rattle.std.proofs.Common.{◌≡◌, ◌∙◌, refl, ap, min, arith}
-use Rattle.net_storage.specs.Ring.{restarted, contiguous_window, place}
+use Rattle.net_storage.specs.Ring.{restarted, contiguous_window, storage_index}
 use Rattle.net_storage.proofs.RingFacts.{well, left_in, shown_next, enqueued_law}
 use Rattle.net_storage.proofs.ring_buffer.Ring.enqueue_many.Goals as goal
 
@@ -10,9 +10,9 @@ returns g c =
     let k = c.min-count.result in
     let room : c.contiguous_window.result ≡ contiguous_window old = c.contiguous_window.ensures.count ∙ ap contiguous_window is in
     let count : k ≡ min c.args.size (contiguous_window old) = omega (arith, room) in
-    let at = c.place-from.ensures.place ∙ ap (λ o. place o o.held) is in
+    let at = c.storage_index-from.ensures.index ∙ ap (λ o. storage_index o o.held) is in
     let lent = shown_next _ _ is c.self.invariant _ _ k at (omega arith) (omega (arith, count)) _ c.part_mut.ensures.value in (
-      (refl, λ w. left_in _ _ is c.self.invariant k _ _ count at _ w (g.met.S.Elements.part_written c.self.inside.storage c.place-from.result w)),
+      (refl, λ w. left_in _ _ is c.self.invariant k _ _ count at _ w (g.met.S.Elements.part_written c.self.inside.storage c.storage_index-from.result w)),
       record {
         writes_back = tt;
         count = lent.0 ∙ count;

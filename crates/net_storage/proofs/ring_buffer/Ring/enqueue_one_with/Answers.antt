@@ -1,6 +1,6 @@
 use Rattle.std.proofs.Common.{rules, Bool, true, false, ◌≡◌, ◌≢◌, ◌∷◌, [], refl, ap, sym, ◌∙◌, is_ok, if◌then◌else◌, slice_index_or, arith}
 use denote.MutBor.{at_last}
-use Rattle.net_storage.specs.Ring.{RingState, write_at, place, window, taken_in, written}
+use Rattle.net_storage.specs.Ring.{RingState, write_at, storage_index, window, with_enqueued, written}
 use Rattle.net_storage.specs.Overwrite.{overwrite}
 use Rattle.net_storage.proofs.RingFacts.{well, spare_front, next_either, ring_is}
 use Rattle.net_storage.proofs.ring_buffer.Ring.enqueue_one_with.Goals as goal
@@ -12,8 +12,8 @@ f-answer-requires g c =
     let is = c.self.view_is in
     let x = c.item_mut.result.now in
     let some : window old ≢ 0 = search rules in
-    let at = c.place-at.ensures.place ∙ ap (λ o. place old o.held) is in
-    let here = c.item_mut.ensures.value ∙ ap (λ o. slice_index_or o.storage c.place-at.result x) is ∙ ap (λ i. slice_index_or old.storage i x) at in
+    let at = c.storage_index-at.ensures.index ∙ ap (λ o. storage_index old o.held) is in
+    let here = c.item_mut.ensures.value ∙ ap (λ o. slice_index_or o.storage c.storage_index-at.result x) is ∙ ap (λ i. slice_index_or old.storage i x) at in
     c.requires.callable x (spare_front old (well _ _ is c.self.invariant) x here some) c.item_mut.result refl
 
 some : (g : _) (c : goal.Joined-is_ok g) → window c.args.self.now ≢ 0
@@ -26,14 +26,14 @@ returns-clause-called g c =
     let wf = well _ _ is c.self.invariant in
     let x = c.item_mut.result.now in
     let y = c.f-answer.new.arg2 in
-    let at = c.place-at.ensures.place ∙ ap (λ o. place old o.held) is in
-    let here = c.item_mut.ensures.value ∙ ap (λ o. slice_index_or o.storage c.place-at.result x) is ∙ ap (λ i. slice_index_or old.storage i x) at in
-    let law = g.met.S.Elements.item_written c.self.inside.storage c.place-at.result y in
+    let at = c.storage_index-at.ensures.index ∙ ap (λ o. storage_index old o.held) is in
+    let here = c.item_mut.ensures.value ∙ ap (λ o. slice_index_or o.storage c.storage_index-at.result x) is ∙ ap (λ i. slice_index_or old.storage i x) at in
+    let law = g.met.S.Elements.item_written c.self.inside.storage c.storage_index-at.result y in
     let read = ap (λ o. o.read_at) is in
     let held = ap (λ o. o.held) is in
-    let stored = law ∙ ap (λ o. overwrite o.storage c.place-at.result (y ∷ [])) is ∙ ap (λ p. overwrite old.storage p (y ∷ [])) at in
-    let after : Bool → RingState _ = λ t. written (if t then taken_in 1 old else old) (write_at old) (y ∷ []) in
-    let left : c.if-is_ok.self ≡ written (if is_ok c.f-answer.result then taken_in 1 old else old) (write_at old) (y ∷ []) = elim c.if-is_ok.branch [
+    let stored = law ∙ ap (λ o. overwrite o.storage c.storage_index-at.result (y ∷ [])) is ∙ ap (λ p. overwrite old.storage p (y ∷ [])) at in
+    let after : Bool → RingState _ = λ t. written (if t then with_enqueued 1 old else old) (write_at old) (y ∷ []) in
+    let left : c.if-is_ok.self ≡ written (if is_ok c.f-answer.result then with_enqueued 1 old else old) (write_at old) (y ∷ []) = elim c.if-is_ok.branch [
       | then-is_ok w ↦ ring_is _ (after true) (ap (λ o. o.storage) w.self-is ∙ stored) (omega (arith, ap (λ o. o.read_at) w.self-is, read)) (omega (arith, ap (λ o. o.held) w.self-is, held)) ∙ ap after (sym (sym c.is_ok.ensures.value ∙ w.if-is_ok.true))
       | else-is_ok w ↦ ring_is _ (after false) (ap (λ o. o.storage) w.self-is ∙ stored) (omega (arith, ap (λ o. o.read_at) w.self-is, read)) (omega (arith, ap (λ o. o.held) w.self-is, held)) ∙ ap after (sym (sym c.is_ok.ensures.value ∙ w.if-is_ok.false))
     ] in

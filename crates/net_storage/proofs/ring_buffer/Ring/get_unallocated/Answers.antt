@@ -1,22 +1,24 @@
-use Rattle.std.proofs.Common.{◌≡◌, refl, ap, arith}
-use Rattle.net_storage.specs.Ring.{spare_place, spare_run}
-use Rattle.net_storage.proofs.RingFacts.{well, left_at, shown_spare, spare_run_law}
+use Rattle.std.proofs.Common.{◌≡◌, ◌∙◌, ◌+◌, min, refl, ap, arith}
+use Rattle.net_storage.specs.Ring.{capacity, storage_index, spare_index, contiguous_window_from}
+use Rattle.net_storage.proofs.RingFacts.{well, left_at, shown_spare, spare_part_law}
 use Rattle.net_storage.proofs.ring_buffer.Ring.get_unallocated.Goals as goal
 
 pub returns : goal.returns
 returns g c =
     let old = c.args.self.now in
     let is = c.self.view_is in
-    let run = c.spare_run-from.ensures in
-    let at : c.spare_run-from.result.0 ≡ spare_place old c.args.offset = omega (arith, run.place, ap (λ o. spare_place o c.args.offset) is) in
-    let count : c.spare_run-from.result.1 ≡ spare_run old c.args.offset c.args.size = omega (arith, run.count, ap (λ o. spare_run o c.args.offset c.args.size) is) in
+    let span = c.span-span.ensures in
+    let held = ap (λ o. o.held) is in
+    let size = ap (λ o. capacity o) is in
+    let at : c.span-span.result.from ≡ spare_index old c.args.offset = span.from ∙ ap (λ o. storage_index o (c.self.inside.length + min c.args.offset c.window.result)) is ∙ ap (storage_index old) (omega (arith, held, size, c.window.ensures.window)) in
+    let count : c.span-span.result.contiguous ≡ contiguous_window_from old c.args.offset c.args.size = omega (arith, span.count, span.contiguous, at, held, size, c.window.ensures.window) in
     let lent = shown_spare _ _ is c.self.invariant c.args.offset c.args.size _ _ at (omega (arith, count)) _ c.part_mut.ensures.value in (
-      (refl, λ w. left_at _ _ is c.self.invariant _ _ at _ w (g.met.S.Elements.part_written c.self.inside.storage c.spare_run-from.result.0 w)),
+      (refl, λ w. left_at _ _ is c.self.invariant _ _ at _ w (g.met.S.Elements.part_written c.self.inside.storage c.span-span.result.from w)),
       record {
         writes_back = tt;
         count = lent.0;
         value = lent.1;
         stored = lent.2;
-        written = spare_run_law _ (well _ _ is c.self.invariant) c.args.offset c.args.size;
+        written = spare_part_law _ (well _ _ is c.self.invariant) c.args.offset c.args.size;
       },
     )

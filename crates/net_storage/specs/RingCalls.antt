@@ -1,0 +1,57 @@
+-- What the calls of a ring that run a closure ask of it, and what they leave.
+use Rattle.std.specs.Prelude.{◌≡◌, ◌≤◌, ℕ, List, [], ◌∷◌, length, drop, Result, IsOk, IsErr, is_ok, if◌then◌else◌}
+use Rattle.std.specs.Borrow.{MutBor}
+use Rattle.std.specs.Fn.{Once, FnOnceTakesAtMut, FnOnceReturnsAtMut}
+use Rattle.net_storage.specs.Ring.{RingState, queue, spare, write_at, contiguous_window, contiguous_held, contiguous_spare, contiguous_queue, written, with_enqueued, with_dequeued, Enqueued, Dequeued, SpareWritten, QueueWritten, EnqueuedFrom, DequeuedFrom}
+
+-- ---- the closure is lent one element
+module _ {F T R E : Type 0}
+    (g : Once F (MutBor T × Unit {0}) (Result R E × (MutBor T × Unit {0}))) where
+  -- f may be run on the first element of xs, if there is one
+  abbrev pub TakesFirstOf : F → List T → Type 0
+  TakesFirstOf f xs = (x : T) → xs ≡ x ∷ drop 1 xs → FnOnceTakesAtMut g f x
+
+  -- f was run on the next free element x, left y there and gave the answer: at `Ok` y came to the
+  -- end of the queue, and at `Err` it stands at the front of the spare part
+  abbrev pub RanOnNext : F → RingState T → Result R E → RingState T → Type 0
+  RanOnNext f old answer new = (x : T) × (y : T)
+      × FnOnceReturnsAtMut g f x answer y
+      × (spare old ≡ x ∷ drop 1 (spare old))
+      × (new ≡ written (if is_ok answer then with_enqueued 1 old else old) (write_at old) (y ∷ []))
+      × (IsOk answer → Enqueued old (y ∷ []) new)
+      × (IsErr answer → SpareWritten old 0 (y ∷ []) new)
+
+  -- f was run on the first element x of the queue, left y there and gave the answer: at `Ok` y left
+  -- the queue, and at `Err` it stands at its front
+  abbrev pub RanOnFirst : F → RingState T → Result R E → RingState T → Type 0
+  RanOnFirst f old answer new = (x : T) × (y : T)
+      × FnOnceReturnsAtMut g f x answer y
+      × (queue old ≡ x ∷ drop 1 (queue old))
+      × (new ≡ written (if is_ok answer then with_dequeued 1 old else old) old.read_at (y ∷ []))
+      × (IsOk answer → Dequeued old 1 (y ∷ []) new)
+      × (IsErr answer → QueueWritten old 0 (y ∷ []) new)
+
+-- ---- the closure is lent contiguous elements, and answers how many of them it counts, and more
+module _ {F T R : Type 0}
+    (g : Once F (MutBor (List T) × Unit {0}) ((ℕ × R) × (MutBor (List T) × Unit {0}))) where
+  -- run on the elements xs, f counts at most n
+  abbrev pub CountsWithin : F → List T → ℕ → Type 0
+  CountsWithin f xs n = (r : ℕ × R) (ws : List T) → FnOnceReturnsAtMut g f xs r ws → r.0 ≤ n
+
+  -- f was run on the contiguous spare elements, left ws there and gave the answer: the first ones
+  -- of ws, as many as it counts, came to the end of the queue
+  abbrev pub RanOnSpare : F → RingState T → ℕ × R → RingState T → Type 0
+  RanOnSpare f old answer new = (ws : List T)
+      × FnOnceReturnsAtMut g f (contiguous_spare old) answer ws
+      × (length ws ≡ contiguous_window old)
+      × (new ≡ written (with_enqueued answer.0 old) (write_at old) ws)
+      × EnqueuedFrom old answer.0 ws new
+
+  -- f was run on the contiguous elements at the front of the queue, left ws there and gave the
+  -- answer: the first ones of ws, as many as it counts, left the queue
+  abbrev pub RanOnQueue : F → RingState T → ℕ × R → RingState T → Type 0
+  RanOnQueue f old answer new = (ws : List T)
+      × FnOnceReturnsAtMut g f (contiguous_queue old) answer ws
+      × (length ws ≡ contiguous_held old)
+      × (new ≡ written (with_dequeued answer.0 old) old.read_at ws)
+      × DequeuedFrom old answer.0 ws new
