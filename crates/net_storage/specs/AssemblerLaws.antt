@@ -8,7 +8,8 @@ use Rattle.net_storage.specs.Assembler.{MakesTooManyRuns}
 use Rattle.net_storage.specs.Turns.{binary_digits}
 
 -- what the contract of `add` says of a call
-pub record Adds (limit : ℕ) (old : Positions) (offset size : ℕ) (result : Result (Unit {0}) TooManyHolesError) (new : Positions) : Type 0 where
+pub record Adds (limit : ℕ) (old : Positions) (offset size : ℕ)
+    (result : Result (Unit {0}) TooManyHolesError) (new : Positions) : Type 0 where
   pub ok : OnOk result (new ≡ with_range old offset size)
   pub err : OnErr result (new ≡ old)
   pub refused : IsErr result ↔ MakesTooManyRuns limit old offset size
@@ -21,8 +22,11 @@ pub record RemovesFront (limit : ℕ) (old : Positions) (result : ℕ) (new : Po
   pub bound : runs new ≤ limit
 
 -- what the contract of `add_then_remove_front` says of a call
-pub record AddsThenRemovesFront (limit : ℕ) (old : Positions) (offset size : ℕ) (result : Result ℕ TooManyHolesError) (new : Positions) : Type 0 where
-  pub answer : MatchResult result (λ n. (n ≡ front (with_range old offset size)) × (new ≡ shift_down (with_range old offset size) n)) (λ _. new ≡ old)
+pub record AddsThenRemovesFront (limit : ℕ) (old : Positions) (offset size : ℕ)
+    (result : Result ℕ TooManyHolesError) (new : Positions) : Type 0 where
+  pub answer : let all = with_range old offset size in MatchResult result
+      (λ n. (n ≡ front all) × (new ≡ shift_down all n))
+      (λ _. new ≡ old)
   pub refused : IsErr result ↔ ((0 < offset) × MakesTooManyRuns limit old offset size)
   pub bound : runs new ≤ limit
 
@@ -39,7 +43,8 @@ pub record Iterates (limit : ℕ) (s : Positions) (result : List (ℕ × ℕ)) :
 -- what calls of `next`, one after another, answer and leave by its contract
 abbrev pub CallsNext : List (ℕ × ℕ) → List (Option (ℕ × ℕ)) → List (ℕ × ℕ) → Type 0
 CallsNext left [] last = left ≡ last
-CallsNext left (answer ∷ answers) last = (rest : List (ℕ × ℕ)) × YieldsFirst (λ runs. runs) left answer rest × CallsNext rest answers last
+CallsNext left (answer ∷ answers) last =
+    (rest : List (ℕ × ℕ)) × YieldsFirst (λ runs. runs) left answer rest × CallsNext rest answers last
 
 -- the first n runs of a list, and `None` from its end on
 abbrev pub yielded : List (ℕ × ℕ) → ℕ → List (Option (ℕ × ℕ))
@@ -89,7 +94,8 @@ MaximalRunsOfEverySet = (s : Positions) → AreMaximalRuns s (maximal_runs s)
 abbrev pub EqualMaximalRuns : Type 0
 EqualMaximalRuns = (s t : Positions) → (maximal_runs s ≡ maximal_runs t) ↔ (s ≡ t)
 
--- the run with number k is a maximal run, and there is none exactly where the set has no more than k
+-- the run with number k is a maximal run, and there is none exactly where the set has no more than
+-- k
 abbrev pub MaximalRunsByNumber : Type 0
 MaximalRunsByNumber = (s : Positions) (k : ℕ) →
     ((run : ℕ × ℕ) → slice_get (maximal_runs s) k ≡ Some run → IsMaximalRun s run)
@@ -110,12 +116,15 @@ EnoughBinaryDigits = (n b : ℕ) → (n < 2 ^ b) ↔ (binary_digits n ≤ b)
 
 -- two assemblers are equal exactly if their sets have the same members
 abbrev pub EqualAssemblers : Type 0
-EqualAssemblers = (s t : Positions) (equal : Bool) → Compares s t equal → IsTrue equal ↔ ((p : ℕ) → contains s p ≡ contains t p)
+EqualAssemblers = (s t : Positions) (equal : Bool) → Compares s t equal →
+    IsTrue equal ↔ ((p : ℕ) → contains s p ≡ contains t p)
 
 -- to add an accepted range again is accepted and changes nothing
 abbrev pub AddingAgain : Type 0
-AddingAgain = (limit offset size : ℕ) (s once twice : Positions) (again : Result (Unit {0}) TooManyHolesError) →
-    Adds limit s offset size (Ok tt) once → Adds limit once offset size again twice → (again ≡ Ok tt) × (twice ≡ once)
+AddingAgain = (limit offset size : ℕ) (s once twice : Positions)
+    (again : Result (Unit {0}) TooManyHolesError) →
+    Adds limit s offset size (Ok tt) once → Adds limit once offset size again twice →
+    (again ≡ Ok tt) × (twice ≡ once)
 
 -- two ranges that are accepted in both orders leave equal assemblers
 abbrev pub AddingInBothOrders : Type 0
@@ -124,9 +133,11 @@ AddingInBothOrders = (limit a m b n : ℕ) (s one two ab ba : Positions) (equal 
     Adds limit s b n (Ok tt) two → Adds limit two a m (Ok tt) ba →
     Compares ab ba equal → IsTrue equal
 
--- `add_then_remove_front` answers and leaves what `add` and then `remove_front` do, wherever that `add` is accepted
+-- `add_then_remove_front` answers and leaves what `add` and then `remove_front` do, wherever that
+-- `add` is accepted
 abbrev pub AddingThenRemoving : Type 0
-AddingThenRemoving = (limit offset size count : ℕ) (s all rest both : Positions) (result : Result ℕ TooManyHolesError) →
+AddingThenRemoving = (limit offset size count : ℕ) (s all rest both : Positions)
+    (result : Result ℕ TooManyHolesError) →
     Adds limit s offset size (Ok tt) all → RemovesFront limit all count rest →
     AddsThenRemovesFront limit s offset size result both → (result ≡ Ok count) × (both ≡ rest)
 
@@ -135,9 +146,11 @@ abbrev pub FrontIsNeverRefused : Type 0
 FrontIsNeverRefused = (limit size : ℕ) (s both : Positions) (result : Result ℕ TooManyHolesError) →
     AddsThenRemovesFront limit s 0 size result both → IsOk result
 
--- `iter_data` gives the maximal runs, at most as many as the limit, and ends: however often `next` is called, it
--- answers the runs in turn and then None
+-- `iter_data` gives the maximal runs, at most as many as the limit, and ends: however often `next`
+-- is called, it answers the runs in turn and then None
 abbrev pub IteratesMaximalRuns : Type 0
-IteratesMaximalRuns = (limit : ℕ) (s : Positions) (left last : List (ℕ × ℕ)) (answers : List (Option (ℕ × ℕ))) →
+IteratesMaximalRuns = (limit : ℕ) (s : Positions) (left last : List (ℕ × ℕ))
+    (answers : List (Option (ℕ × ℕ))) →
     Iterates limit s left → CallsNext left answers last →
-    AreMaximalRuns s left × (length left ≤ limit) × (answers ≡ yielded left (length answers)) × (last ≡ drop (length answers) left)
+    AreMaximalRuns s left × (length left ≤ limit)
+    × (answers ≡ yielded left (length answers)) × (last ≡ drop (length answers) left)

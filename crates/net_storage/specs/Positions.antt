@@ -68,7 +68,8 @@ front s = first_missing s 0
 unfoldable pub maximal_runs : Positions → List (ℕ × ℕ)
 maximal_runs s = map (λ p. (p, first_missing s p)) (run_starts s)
 
--- (a, b) is a maximal run of s: all from a to b - 1 are in s, b is not, and a is 0 or a - 1 is not in s
+-- (a, b) is a maximal run of s: all from a to b - 1 are in s, b is not, and a is 0 or a - 1 is not
+-- in s
 pub record IsMaximalRun (s : Positions) (run : ℕ × ℕ) : Type 0 where
   pub some : run.0 < run.1
   pub inside : (p : ℕ) → run.0 ≤ p → p < run.1 → IsTrue (contains s p)
@@ -79,8 +80,8 @@ pub record IsMaximalRun (s : Positions) (run : ℕ × ℕ) : Type 0 where
 abbrev pub lies_in : ℕ → ℕ × ℕ → Bool
 lies_in p run = nat_le run.0 p && nat_lt p run.1
 
--- the list of the maximal runs of s: each is one, each position of s lies in exactly one, they rise with a gap
--- between neighbours, and there are as many as s has maximal runs
+-- the list of the maximal runs of s: each is one, each position of s lies in exactly one, they rise
+-- with a gap between neighbours, and there are as many as s has maximal runs
 pub record AreMaximalRuns (s : Positions) (list : List (ℕ × ℕ)) : Type 0 where
   pub maximal : All (IsMaximalRun s) list
   pub complete : (p : ℕ) → IsTrue (contains s p) → count_by (lies_in p) list ≡ 1
