@@ -57,6 +57,7 @@ impl<T, S: Elements<T>> Model for Ring<T, S> {
     ghost invariant = { λ a. WellFormed (view_of S.elements a) };
 }
 
+// Written by hand: the storage alone has to be `Drop`, and nothing is asked of `T`.
 impl<T, S: Elements<T> + Drop> Drop for Ring<T, S> {
     fn drop(self) {
         let Ring {
@@ -187,7 +188,8 @@ impl<T, S: Elements<T>> Ring<T, S> {
         requires { start + limit ≤ capacity self.now }
         ensures from { result.from ≡ storage_index self.now (start + min offset limit) }
         ensures count { result.count ≡ min size (limit - offset) }
-        ensures contiguous { result.contiguous ≡ min result.count (capacity self.now - result.from) }
+        ensures contiguous { result.contiguous
+            ≡ min result.count (capacity self.now - result.from) }
         ensures within { (result.from ≤ capacity self.now) × (capacity self.now < 2 ^ 64) }
     {
         let capacity = self.capacity();
@@ -228,6 +230,7 @@ impl<T: Resettable, S: Elements<T>> Ring<T, S> {
     }
 }
 
+// The loop of `reset` stands alone, so that its invariant speaks of a list and of no ring.
 fn reset_each<T: Resettable>(elements: &mut [T])
     ensures { AllZip T.IsReset elements.old elements.new }
 {
