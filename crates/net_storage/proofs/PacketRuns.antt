@@ -6,8 +6,8 @@ use Rattle.std.specs.Prelude.{set}
 use Rattle.std.specs.declared.option.Option.TheVariants.{Some, None}
 use Rattle.net_storage.specs.Overwrite.{overwrite}
 use Rattle.net_storage.specs.Ring.{queue, place}
-use Rattle.net_storage.specs.Packets.{Packet, PacketQueue, packet, bytes_of, slots_of, byte_ring, place_in, ArePlaced, placement, pushed, pushed_if, placed, last, last_place, last_bytes, last_written, last_cut, resized, first_gap, first_size, close_up, skipped, headed, first_written, popped, taken, freed_place, AreFreed, with_bytes, WellPlaced}
-use Rattle.net_storage.specs.PacketHistory.{contents_of, contents, no_packets, Step, Reset, Placed, LastWritten, Enqueued, EnqueuedWith, Peeked, Refused, DequeuedWith, Taken, FreedWritten, Dequeued, Log, Makes, Run, with_last_bytes, logged, logged_all, history}
+use Rattle.net_storage.specs.Packets.{Packet, PacketQueue, packet, bytes_of, slots_used, byte_ring, place_in, ArePlaced, placement, pushed, pushed_if, placed_if_room, only_last, last_place, last_bytes, last_written, last_cut, with_first_size, first_gap, first_size, without_first_gap, skipped, with_first_header, first_written, popped, dequeued, freed_place, AreFreed, with_bytes, WellPlaced}
+use Rattle.net_storage.specs.PacketHistory.{contents_of, contents, no_packets, Call, Reset, Place, WriteLast, Enqueue, EnqueueWith, Peek, DequeueErr, DequeueOk, Take, WriteFreed, Dequeue, Log, Makes, MakesAll, with_last_bytes, logged, logged_all, history}
 use Rattle.net_storage.proofs.Rotations.{IsPlace, length-overwrite, length-queue, cut, overwrite_at, place_is}
 use Rattle.net_storage.proofs.RingFacts.{held_law, spare_law}
 use Rattle.net_storage.proofs.PacketFacts.{bytes_append, place_cases, place_place, place_wf, placed_skip, placed_pop, slots_for_pos}
@@ -34,12 +34,12 @@ ends_in (x ∷ (o ∷ xs)) some =
 
 module _ {H : Type 0} where
   abbrev mk : ℕ → List ℕ → ℕ → List (Packet H) → PacketQueue H
-  mk n st r ps = record { slots = n; storage = st; read_at = r; packets = ps }
+  mk n st r ps = record { slot_count = n; storage = st; read_at = r; packets = ps }
 
   -- ---- each step leaves the packets well placed
   with_bytes_well : (q : PacketQueue H) → WellPlaced q → (p : ℕ) (ws : List ℕ) → WellPlaced (with_bytes q p ws)
   with_bytes_well q ok p ws =
-      subst (λ (n : ℕ). (((q.read_at ≡ 0) ⊎ (q.read_at < n)) × (bytes_of q.packets ≤ n)) × ArePlaced n q.read_at 0 q.packets × (slots_of q.packets ≤ q.slots)) (sym (length-overwrite q.storage p ws)) ok
+      subst (λ (n : ℕ). (((q.read_at ≡ 0) ⊎ (q.read_at < n)) × (bytes_of q.packets ≤ n)) × ArePlaced n q.read_at 0 q.packets × (slots_used q.packets ≤ q.slot_count)) (sym (length-overwrite q.storage p ws)) ok
 
   skipped_go : (n : ℕ) (st : List ℕ) (r : ℕ) (ps : List (Packet H)) → WellPlaced (mk n st r ps) → WellPlaced (skipped (mk n st r ps))
   skipped_go n st r [] ok = ((place_wf (length st) r 0 ok.0.0 (omega arith), ok.0.1), tt, ok.2)
@@ -54,25 +54,25 @@ module _ {H : Type 0} where
       let at = place_wf (length st) r p.size ok.0.0 (omega (arith, ok.0.1)) in
       ((at, omega (arith, ok.0.1)), placed_pop (length st) r p ps ok.0.0 ok.0.1 z ok.1, omega (arith, ok.2))
 
-  headed_go : (n : ℕ) (st : List ℕ) (r : ℕ) (ps : List (Packet H)) (hd : H) → WellPlaced (mk n st r ps) → WellPlaced (mk n st r (headed hd ps)) × (first_gap (headed hd ps) ≡ first_gap ps)
+  headed_go : (n : ℕ) (st : List ℕ) (r : ℕ) (ps : List (Packet H)) (hd : H) → WellPlaced (mk n st r ps) → WellPlaced (mk n st r (with_first_header hd ps)) × (first_gap (with_first_header hd ps) ≡ first_gap ps)
   headed_go n st r [] hd ok = (ok, refl)
   headed_go n st r (p ∷ ps) hd ok = (ok, refl)
 
   module _ (q : PacketQueue H) (ok : WellPlaced q) where
     skipped_well : WellPlaced (skipped q)
-    skipped_well = skipped_go q.slots q.storage q.read_at q.packets ok
+    skipped_well = skipped_go q.slot_count q.storage q.read_at q.packets ok
 
-    taken_well : WellPlaced (taken q)
-    taken_well = popped_go q.slots q.storage _ (close_up q.packets) (close_gap q.packets) skipped_well
+    taken_well : WellPlaced (dequeued q)
+    taken_well = popped_go q.slot_count q.storage _ (without_first_gap q.packets) (close_gap q.packets) skipped_well
 
     module _ (hd : H) (ws : List ℕ) where
-      written_headed : WellPlaced (first_written (skipped q) hd ws) × (first_gap (first_written (skipped q) hd ws).packets ≡ first_gap (close_up q.packets))
+      written_headed : WellPlaced (first_written (skipped q) hd ws) × (first_gap (first_written (skipped q) hd ws).packets ≡ first_gap (without_first_gap q.packets))
       written_headed =
           let at = (skipped q).read_at in
-          headed_go q.slots (overwrite q.storage at ws) at (close_up q.packets) hd (with_bytes_well (skipped q) skipped_well at ws)
+          headed_go q.slot_count (overwrite q.storage at ws) at (without_first_gap q.packets) hd (with_bytes_well (skipped q) skipped_well at ws)
 
       written_off : WellPlaced (popped (first_written (skipped q) hd ws))
-      written_off = popped_go q.slots _ _ (headed hd (close_up q.packets)) (written_headed.1 ∙ close_gap q.packets) written_headed.0
+      written_off = popped_go q.slot_count _ _ (with_first_header hd (without_first_gap q.packets)) (written_headed.1 ∙ close_gap q.packets) written_headed.0
 
     -- a packet that comes last
     module _ (s : ℕ) (hd : H) (gap : ℕ) (e : placement q s ≡ Some gap) where
@@ -83,53 +83,53 @@ module _ {H : Type 0} where
           let h = closed m b q.packets (order.holds q ok) in
           subst (λ (o : PacketQueue H). WellPlaced (pushed o gap k hd)) is (push_well m b h gap s (ap (λ (o : PacketQueue H). placement o s) is ∙ e) hd k le)
 
-      placed_is : placed q s hd ≡ pushed q gap s hd
+      placed_is : placed_if_room q s hd ≡ pushed q gap s hd
       placed_is = ap (λ o. pushed_if q o s hd) e
 
-      cut_is : (k : ℕ) (ws : List ℕ) → with_bytes (pushed q gap k hd) (last_place (pushed q gap s hd)) ws ≡ last_cut k (last_written (placed q s hd) ws)
+      cut_is : (k : ℕ) (ws : List ℕ) → with_bytes (pushed q gap k hd) (last_place (pushed q gap s hd)) ws ≡ last_cut k (last_written (placed_if_room q s hd) ws)
       cut_is k ws =
           let all = pushed q gap s hd in
-          ap₂ (λ (front back : List (Packet H)). mk q.slots (overwrite q.storage (last_place all) ws) all.read_at (front ++ back))
-          (sym (before_append q.packets (packet hd s gap))) (sym (ap (resized k) (last_append q.packets (packet hd s gap))))
+          ap₂ (λ (front back : List (Packet H)). mk q.slot_count (overwrite q.storage (last_place all) ws) all.read_at (front ++ back))
+          (sym (before_append q.packets (packet hd s gap))) (sym (ap (with_first_size k) (last_append q.packets (packet hd s gap))))
           ∙ ap (λ o. last_cut k (last_written o ws)) (sym placed_is)
 
     module _ (s : ℕ) (hd : H) (some : placement q s ≢ None) where
-      placed_well : WellPlaced (placed q s hd)
+      placed_well : WellPlaced (placed_if_room q s hd)
       placed_well = let g = some_of (placement q s) some in subst WellPlaced (sym (placed_is s hd g.0 g.1)) (pushed_well s hd g.0 g.1 s (omega arith))
 
-      cut_well : (k : ℕ) → k ≤ s → (ws : List ℕ) → WellPlaced (last_cut k (last_written (placed q s hd) ws))
+      cut_well : (k : ℕ) → k ≤ s → (ws : List ℕ) → WellPlaced (last_cut k (last_written (placed_if_room q s hd) ws))
       cut_well k le ws =
           let g = some_of (placement q s) some in
           subst WellPlaced (cut_is s hd g.0 g.1 k ws) (with_bytes_well (pushed q g.0 k hd) (pushed_well s hd g.0 g.1 k le) (last_place (pushed q g.0 s hd)) ws)
 
-  keeps : (step : Step H) (q r : PacketQueue H) → WellPlaced q → Makes step q r → WellPlaced r
+  keeps : (call : Call H) (q r : PacketQueue H) → WellPlaced q → Makes call q r → WellPlaced r
   keeps Reset q r ok is = subst WellPlaced (sym is) ((inl refl, omega arith), tt, omega arith)
-  keeps (Placed hd ws) q r ok does = subst WellPlaced (sym does.1) (placed_well q ok (length ws) hd does.0)
-  keeps (LastWritten ws) q r ok does = subst WellPlaced (sym does.2) (with_bytes_well q ok (last_place q) ws)
-  keeps (Enqueued hd ws) q r ok does = subst WellPlaced (sym does.1) (let o = placed q (length ws) hd in with_bytes_well o (placed_well q ok (length ws) hd does.0) (last_place o) ws)
-  keeps (EnqueuedWith hd ws count) q r ok does = subst WellPlaced (sym does.2) (cut_well q ok (length ws) hd does.0 count does.1 ws)
-  keeps Peeked q r ok is = subst WellPlaced (sym is) (skipped_well q ok)
-  keeps (Refused hd ws) q r ok does = subst WellPlaced (sym does.2) (written_headed q ok hd ws).0
-  keeps (DequeuedWith hd ws after written) q r ok does = subst WellPlaced (sym does.2) (written_off q ok after written)
-  keeps (Taken hd ws) q r ok does = subst WellPlaced (sym does.1) (taken_well q ok)
-  keeps (FreedWritten ws) q r ok does = subst WellPlaced (sym does.1) (with_bytes_well q ok (freed_place q (length ws)) ws)
-  keeps (Dequeued hd ws written) q r ok does = subst WellPlaced (sym does.2) (with_bytes_well (taken q) (taken_well q ok) (skipped q).read_at written)
+  keeps (Place hd ws) q r ok does = subst WellPlaced (sym does.1) (placed_well q ok (length ws) hd does.0)
+  keeps (WriteLast ws) q r ok does = subst WellPlaced (sym does.2) (with_bytes_well q ok (last_place q) ws)
+  keeps (Enqueue hd ws) q r ok does = subst WellPlaced (sym does.1) (let o = placed_if_room q (length ws) hd in with_bytes_well o (placed_well q ok (length ws) hd does.0) (last_place o) ws)
+  keeps (EnqueueWith hd ws count) q r ok does = subst WellPlaced (sym does.2) (cut_well q ok (length ws) hd does.0 count does.1 ws)
+  keeps Peek q r ok is = subst WellPlaced (sym is) (skipped_well q ok)
+  keeps (DequeueErr hd ws) q r ok does = subst WellPlaced (sym does.2) (written_headed q ok hd ws).0
+  keeps (DequeueOk hd ws after written) q r ok does = subst WellPlaced (sym does.2) (written_off q ok after written)
+  keeps (Take hd ws) q r ok does = subst WellPlaced (sym does.1) (taken_well q ok)
+  keeps (WriteFreed ws) q r ok does = subst WellPlaced (sym does.1) (with_bytes_well q ok (freed_place q (length ws)) ws)
+  keeps (Dequeue hd ws written) q r ok does = subst WellPlaced (sym does.2) (with_bytes_well (dequeued q) (taken_well q ok) (skipped q).read_at written)
 
   -- ---- what a step makes of the contents
-  placed_contents : (q : PacketQueue H) → WellPlaced q → (hd : H) (ws : List ℕ) → placement q (length ws) ≢ None → ws ≡ last_bytes (placed q (length ws) hd)
-      → contents (placed q (length ws) hd) ≡ contents q ++ ((hd, ws) ∷ [])
+  placed_contents : (q : PacketQueue H) → WellPlaced q → (hd : H) (ws : List ℕ) → placement q (length ws) ≢ None → ws ≡ last_bytes (placed_if_room q (length ws) hd)
+      → contents (placed_if_room q (length ws) hd) ≡ contents q ++ ((hd, ws) ∷ [])
   placed_contents q ok hd ws some is =
-      let o = placed q (length ws) hd in
+      let o = placed_if_room q (length ws) hd in
       let w = placed_well q ok (length ws) hd some in
       let f = last_fits (length o.storage) o.read_at 0 o.packets w.0.0 (omega (arith, w.0.1)) w.1 in
-      let z : 0 + bytes_of o.packets - first_size (last o.packets) ≡ bytes_of o.packets - first_size (last o.packets) = omega arith in
+      let z : 0 + bytes_of o.packets - first_size (only_last o.packets) ≡ bytes_of o.packets - first_size (only_last o.packets) = omega arith in
       let at = ap (place_in (length o.storage) o.read_at) z in
       let same : last_written o ws ≡ o =
-      ap (last_written o) is ∙ ap (λ (st : List ℕ). mk o.slots st o.read_at o.packets) (overwrite_same o.storage (last_place o) (first_size (last o.packets)) (omega (arith, at, f.1))) in
+      ap (last_written o) is ∙ ap (λ (st : List ℕ). mk o.slot_count st o.read_at o.packets) (overwrite_same o.storage (last_place o) (first_size (only_last o.packets)) (omega (arith, at, f.1))) in
       ap contents (sym same) ∙ order.accepted q ok (length ws) hd ws some refl
 
   -- the last packet is written again
-  last_go : (n : ℕ) (st : List ℕ) (r : ℕ) (ps : List (Packet H)) (p : Packet H) (ws : List ℕ) → let q = mk n st r (ps ++ (p ∷ [])) in WellPlaced q → length ws ≡ first_size (last q.packets)
+  last_go : (n : ℕ) (st : List ℕ) (r : ℕ) (ps : List (Packet H)) (p : Packet H) (ws : List ℕ) → let q = mk n st r (ps ++ (p ∷ [])) in WellPlaced q → length ws ≡ first_size (only_last q.packets)
       → (front : List (H × List ℕ)) × (old : List ℕ) × (contents q ≡ front ++ ((p.header, old) ∷ [])) × (contents (last_written q ws) ≡ front ++ ((p.header, ws) ∷ []))
   last_go n st r ps p ws ok long =
       let q = mk n st r (ps ++ (p ∷ [])) in
@@ -138,8 +138,8 @@ module _ {H : Type 0} where
       let sum = bytes_append ps p in
       let size : length ws ≡ p.size = long ∙ ap first_size (last_append ps p) in
       let f = last_fits (length st) r 0 q.packets ok.0.0 (omega (arith, ok.0.1)) ok.1 in
-      let i : ℕ = bytes_of q.packets - first_size (last q.packets) in
-      let z : 0 + bytes_of q.packets - first_size (last q.packets) ≡ i = omega arith in
+      let i : ℕ = bytes_of q.packets - first_size (only_last q.packets) in
+      let z : 0 + bytes_of q.packets - first_size (only_last q.packets) ≡ i = omega arith in
       let at = ap (place_in (length st) r) z in
       let w = (held_law c ok.0 i (last_place q) ws (omega (arith, long, f.0)) (omega (arith, long, at, f.1)) (place_is c i)).0 in
       let all = length-queue c ok.0 in
@@ -159,12 +159,12 @@ module _ {H : Type 0} where
         ap (contents_of q.packets) (w ∙ over) ∙ contents_append ps p a x ws c1.3 c2.3 ∙ ap (λ (l : List ℕ). contents_of ps a ++ ((p.header, l) ∷ [])) full,
       )
 
-  last_contents : (q : PacketQueue H) → WellPlaced q → (ws : List ℕ) → q.packets ≢ [] → length ws ≡ first_size (last q.packets)
+  last_contents : (q : PacketQueue H) → WellPlaced q → (ws : List ℕ) → q.packets ≢ [] → length ws ≡ first_size (only_last q.packets)
       → (front : List (H × List ℕ)) × (hd : H) × (old : List ℕ) × (contents q ≡ front ++ ((hd, old) ∷ [])) × (contents (last_written q ws) ≡ front ++ ((hd, ws) ∷ []))
   last_contents q ok ws some long =
       let end = ends_in q.packets some in
-      let is : q ≡ mk q.slots q.storage q.read_at (end.0 ++ (end.1 ∷ [])) = ap (mk q.slots q.storage q.read_at) end.2 in
-      let l = last_go q.slots q.storage q.read_at end.0 end.1 ws (subst WellPlaced is ok) (long ∙ ap (λ ps. first_size (last ps)) end.2) in
+      let is : q ≡ mk q.slot_count q.storage q.read_at (end.0 ++ (end.1 ∷ [])) = ap (mk q.slot_count q.storage q.read_at) end.2 in
+      let l = last_go q.slot_count q.storage q.read_at end.0 end.1 ws (subst WellPlaced is ok) (long ∙ ap (λ ps. first_size (only_last ps)) end.2) in
       (l.0, end.1.header, l.1, ap contents is ∙ l.2, ap (λ o. contents (last_written o ws)) is ∙ l.3)
 
   freed_contents : (q : PacketQueue H) → WellPlaced q → (ws : List ℕ) → AreFreed q (length ws) → contents (with_bytes q (freed_place q (length ws)) ws) ≡ contents q
@@ -177,7 +177,7 @@ module _ {H : Type 0} where
       let w = spare_law c ok.0 i (freed_place q s) ws (omega (arith, f.0)) f.1 (subst (λ (j : ℕ). IsPlace (length q.storage) q.read_at j (freed_place q s)) z (place_is c (length q.storage - s))) in
       ap (contents_of q.packets) w.0
 
-  close_size : (ps : List (Packet H)) → first_size (close_up ps) ≡ first_size ps
+  close_size : (ps : List (Packet H)) → first_size (without_first_gap ps) ≡ first_size ps
   close_size [] = refl
   close_size (p ∷ ps) = refl
 
@@ -197,12 +197,12 @@ module _ {H : Type 0} where
       place_place c r s (c - s) ok.0.0 (omega (arith, f.1)) ∙ ap (place_in c r) back ∙ (elim (place_cases c r c) [ inl h ↦ absurd (omega (arith, h.0)) | inr h ↦ omega (arith, h.1, f.1) ]) in
       (round, (omega (arith, rest, ok.0.1), omega (arith, round, f.1)))
 
-  off_contents : (q : PacketQueue H) → WellPlaced q → (ws : List ℕ) → length ws ≡ first_size q.packets → contents (with_bytes (taken q) (skipped q).read_at ws) ≡ contents (taken q)
+  off_contents : (q : PacketQueue H) → WellPlaced q → (ws : List ℕ) → length ws ≡ first_size q.packets → contents (with_bytes (dequeued q) (skipped q).read_at ws) ≡ contents (dequeued q)
   off_contents q ok ws long =
-      let f = off_go q.slots q.storage (skipped q).read_at (close_up q.packets) (skipped_well q ok) (close_gap q.packets) in
-      let size : first_size (close_up q.packets) ≡ length ws = close_size q.packets ∙ sym long in
-      ap (λ (p : ℕ). contents (with_bytes (taken q) p ws)) (sym f.0 ∙ ap (freed_place (taken q)) size)
-      ∙ freed_contents (taken q) (taken_well q ok) ws (subst (λ (s : ℕ). AreFreed (taken q) s) size f.1)
+      let f = off_go q.slot_count q.storage (skipped q).read_at (without_first_gap q.packets) (skipped_well q ok) (close_gap q.packets) in
+      let size : first_size (without_first_gap q.packets) ≡ length ws = close_size q.packets ∙ sym long in
+      ap (λ (p : ℕ). contents (with_bytes (dequeued q) p ws)) (sym f.0 ∙ ap (freed_place (dequeued q)) size)
+      ∙ freed_contents (dequeued q) (taken_well q ok) ws (subst (λ (s : ℕ). AreFreed (dequeued q) s) size f.1)
 
   -- ---- the log of a run
   last_entry : (ps : List (H × List ℕ)) (hd : H) (old ws : List ℕ) → with_last_bytes ws (ps ++ ((hd, old) ∷ [])) ≡ ps ++ ((hd, ws) ∷ [])
@@ -234,32 +234,32 @@ module _ {H : Type 0} where
       ap (λ l. log.left ++ l) is ∙ sym (append_assoc log.left front ((hd, ws) ∷ [])) ∙ sym (last_entry (log.left ++ front) hd old ws)
       ∙ ap (with_last_bytes ws) (append_assoc log.left front ((hd, old) ∷ []) ∙ ap (λ l. log.left ++ l) (sym was) ∙ turn)
 
-  step_turn : (step : Step H) (log : Log H) (q r : PacketQueue H) → WellPlaced q → Makes step q r → InTurn log q → InTurn (logged step log) r
-  step_turn Reset log q r ok is turn = ap (λ o. log.left ++ contents o) is ∙ append-nil log.left
-  step_turn (Placed hd ws) log q r ok does turn =
+  call_turn : (call : Call H) (log : Log H) (q r : PacketQueue H) → WellPlaced q → Makes call q r → InTurn log q → InTurn (logged call log) r
+  call_turn Reset log q r ok is turn = ap (λ o. log.left ++ contents o) is ∙ append-nil log.left
+  call_turn (Place hd ws) log q r ok does turn =
       more log q r (hd, ws) turn (ap contents does.1 ∙ placed_contents q ok hd ws does.0 (does.2 ∙ ap last_bytes does.1))
-  step_turn (LastWritten ws) log q r ok does turn =
+  call_turn (WriteLast ws) log q r ok does turn =
       let l = last_contents q ok ws does.0 does.1 in
       again log q r ws l.0 l.1 l.2 turn l.3 (ap contents does.2 ∙ l.4)
-  step_turn (Enqueued hd ws) log q r ok does turn = more log q r (hd, ws) turn (ap contents does.1 ∙ order.accepted q ok (length ws) hd ws does.0 refl)
-  step_turn (EnqueuedWith hd ws count) log q r ok does turn =
+  call_turn (Enqueue hd ws) log q r ok does turn = more log q r (hd, ws) turn (ap contents does.1 ∙ order.accepted q ok (length ws) hd ws does.0 refl)
+  call_turn (EnqueueWith hd ws count) log q r ok does turn =
       more log q r (hd, take count ws) turn (ap contents does.2 ∙ order.accepted_with q ok (length ws) hd ws does.0 refl count does.1)
-  step_turn Peeked log q r ok is turn = ap (λ l. log.left ++ l) (ap contents is ∙ order.gap_dropped q ok) ∙ turn
-  step_turn (Refused hd ws) log q r ok does turn = anew log q r (hd, ws) turn does.0 (ap contents does.2 ∙ order.refused q ok hd ws does.0 does.1)
-  step_turn (DequeuedWith hd ws after written) log q r ok does turn =
+  call_turn Peek log q r ok is turn = ap (λ l. log.left ++ l) (ap contents is ∙ order.gap_dropped q ok) ∙ turn
+  call_turn (DequeueErr hd ws) log q r ok does turn = anew log q r (hd, ws) turn does.0 (ap contents does.2 ∙ order.refused q ok hd ws does.0 does.1)
+  call_turn (DequeueOk hd ws after written) log q r ok does turn =
       let size = ap first_size does.0.0 in
       off log q r (hd, ws) turn (order.shown q ok hd ws does.0) (ap contents does.2 ∙ order.left_with q ok after written (does.1 ∙ sym size))
-  step_turn (Taken hd ws) log q r ok does turn = off log q r (hd, ws) turn (order.shown q ok hd ws does.0) (ap contents does.1 ∙ order.left q ok)
-  step_turn (FreedWritten ws) log q r ok does turn = ap (λ l. log.left ++ l) (ap contents does.1 ∙ freed_contents q ok ws does.0) ∙ turn
-  step_turn (Dequeued hd ws written) log q r ok does turn =
+  call_turn (Take hd ws) log q r ok does turn = off log q r (hd, ws) turn (order.shown q ok hd ws does.0) (ap contents does.1 ∙ order.left q ok)
+  call_turn (WriteFreed ws) log q r ok does turn = ap (λ l. log.left ++ l) (ap contents does.1 ∙ freed_contents q ok ws does.0) ∙ turn
+  call_turn (Dequeue hd ws written) log q r ok does turn =
       let size = ap first_size does.0.0 in
       off log q r (hd, ws) turn (order.shown q ok hd ws does.0) (ap contents does.2 ∙ off_contents q ok written (does.1 ∙ sym size) ∙ order.left q ok)
 
-  run_turn : (steps : List (Step H)) (log : Log H) (q r : PacketQueue H) → WellPlaced q → Run steps q r → InTurn log q → InTurn (logged_all steps log) r
-  run_turn [] log q r ok run turn = ap (λ o. log.left ++ contents o) run ∙ turn
-  run_turn (step ∷ steps) log q r ok run turn =
-      run_turn steps (logged step log) run.0 r (keeps step q run.0 ok run.1) run.2 (step_turn step log q run.0 ok run.1 turn)
+  calls_turn : (calls : List (Call H)) (log : Log H) (q r : PacketQueue H) → WellPlaced q → MakesAll calls q r → InTurn log q → InTurn (logged_all calls log) r
+  calls_turn [] log q r ok run turn = ap (λ o. log.left ++ contents o) run ∙ turn
+  calls_turn (call ∷ calls) log q r ok run turn =
+      calls_turn calls (logged call log) run.0 r (keeps call q run.0 ok run.1) run.2 (call_turn call log q run.0 ok run.1 turn)
 
-  pub in_turn : (slots : ℕ) (storage : List ℕ) (steps : List (Step H)) (r : PacketQueue H) → Run steps (no_packets slots storage) r → InTurn (history steps) r
-  in_turn slots storage steps r run =
-      run_turn steps (record { accepted = []; left = [] }) (no_packets slots storage) r ((inl refl, omega arith), tt, omega arith) run refl
+  pub in_turn : (slots : ℕ) (storage : List ℕ) (calls : List (Call H)) (r : PacketQueue H) → MakesAll calls (no_packets slots storage) r → InTurn (history calls) r
+  in_turn slots storage calls r run =
+      calls_turn calls (record { accepted = []; left = [] }) (no_packets slots storage) r ((inl refl, omega arith), tt, omega arith) run refl

@@ -16,9 +16,9 @@ module _ {H : Type 0} where
   gap_slot (suc g) = slot (suc g) None ∷ []
 
   -- the slots of packets: a gap has one with no header, before that of its packet
-  abbrev pub slots : List (Packet H) → List (PacketMetadata H)
-  slots [] = []
-  slots (p ∷ ps) = gap_slot p.gap ++ (slot p.size (Some p.header) ∷ slots ps)
+  abbrev pub packet_slots : List (Packet H) → List (PacketMetadata H)
+  packet_slots [] = []
+  packet_slots (p ∷ ps) = gap_slot p.gap ++ (slot p.size (Some p.header) ∷ packet_slots ps)
 
   -- the packets of slots, after gap bytes of gaps
   abbrev pub packets_in : ℕ → List (PacketMetadata H) → List (Packet H)
@@ -27,7 +27,7 @@ module _ {H : Type 0} where
 
   -- the rings hold these packets
   abbrev pub Holds : RingState (PacketMetadata H) → RingState ℕ → List (Packet H) → Type 0
-  Holds m b ps = WellFormed m × WellFormed b × (queue m ≡ slots ps) × (b.held ≡ bytes_of ps) × ArePlaced (capacity b) b.read_at 0 ps
+  Holds m b ps = WellFormed m × WellFormed b × (queue m ≡ packet_slots ps) × (b.held ≡ bytes_of ps) × ArePlaced (capacity b) b.read_at 0 ps
 
   abbrev pub packet_queue : RingState (PacketMetadata H) → RingState ℕ → PacketQueue H
-  packet_queue m b = record { slots = capacity m; storage = b.storage; read_at = b.read_at; packets = packets_in 0 (queue m) }
+  packet_queue m b = record { slot_count = capacity m; storage = b.storage; read_at = b.read_at; packets = packets_in 0 (queue m) }

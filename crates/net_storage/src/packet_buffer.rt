@@ -4,7 +4,7 @@ ghost use Rattle.std.specs.Borrow.{sem};
 ghost use Rattle.std.specs.Fn.{FnOnceReturnsAtMut, FnOnceTakesAtMut};
 ghost use Rattle.std.specs.declared.option.Option.TheVariants.{Some, None};
 ghost use Rattle.net_storage.specs.Ring.{capacity, window, queue, contiguous_window, restarted, WellFormed};
-ghost use Rattle.net_storage.specs.Packets.{bytes_of, slots_of, byte_ring, placement, pushed, placed, last, last_bytes, last_written, last_cut, IsRoom, skipped, first_gap, first_size, first_bytes, first_written, IsFirst, IsFront, popped, taken, freed_place, AreFreed, gap_for, slots_for, if_slots, with_bytes, WellPlaced};
+ghost use Rattle.net_storage.specs.Packets.{bytes_of, slots_used, byte_ring, placement, pushed, placed_if_room, only_last, last_bytes, last_written, last_cut, IsRoom, skipped, first_gap, first_size, first_bytes, first_written, IsFirstSized, IsFirst, popped, dequeued, freed_place, AreFreed, gap_for, slots_for, if_slots, with_bytes, WellPlaced};
 ghost use Rattle.net_storage.specs.PacketSlots.{gap_slot, slot};
 ghost use Rattle.net_storage.specs.PacketCalls.{TakesPacket, GivesAtPacket};
 
@@ -53,7 +53,7 @@ impl<H, M: Elements<PacketMetadata<H>>, B: Elements<u8>> Model for Packets<H, M,
 impl<H, M: Elements<PacketMetadata<H>>, B: Elements<u8>> Packets<H, M, B> {
     /// A queue with no packets, which has as many slots as `slots` has elements, and room for as many bytes as `bytes` has.
     pub fn new(slots: M, bytes: B) -> Self
-        ensures { result ≡ record { slots = length (M.elements slots); storage = B.elements bytes; read_at = 0; packets = [] } }
+        ensures { result ≡ record { slot_count = length (M.elements slots); storage = B.elements bytes; read_at = 0; packets = [] } }
     {
         Packets {
             slots: Ring::new(slots),
@@ -72,7 +72,7 @@ impl<H, M: Elements<PacketMetadata<H>>, B: Elements<u8>> Packets<H, M, B> {
     /// Whether no slot is free. A queue that is not full can still refuse a packet for want of bytes, or of a slot for its gap.
     #[inline]
     pub fn is_full(&self) -> bool
-        ensures { result ≡ (self.now.slots - slots_of self.now.packets == 0) }
+        ensures { result ≡ (self.now.slot_count - slots_used self.now.packets == 0) }
     {
         self.slots.is_full()
     }
@@ -80,7 +80,7 @@ impl<H, M: Elements<PacketMetadata<H>>, B: Elements<u8>> Packets<H, M, B> {
     /// The number of slots.
     #[inline]
     pub fn packet_capacity(&self) -> usize
-        ensures slots { result ≡ self.now.slots }
+        ensures slots { result ≡ self.now.slot_count }
         ensures well_placed { WellPlaced self.now }
     {
         self.slots.capacity()
@@ -105,7 +105,7 @@ impl<H, M: Elements<PacketMetadata<H>>, B: Elements<u8>> Packets<H, M, B> {
     /// The number of slots used: one for each packet and one for each gap. smoltcp has no such call.
     #[inline]
     pub fn slots_used(&self) -> usize
-        ensures { result ≡ slots_of self.now.packets }
+        ensures { result ≡ slots_used self.now.packets }
     {
         self.slots.len()
     }
@@ -114,7 +114,7 @@ impl<H, M: Elements<PacketMetadata<H>>, B: Elements<u8>> Packets<H, M, B> {
     ///
     /// smoltcp keeps this call to itself.
     pub fn reset(&mut self)
-        ensures { self.new ≡ record { slots = self.old.slots; storage = self.old.storage; read_at = 0; packets = [] } }
+        ensures { self.new ≡ record { slot_count = self.old.slot_count; storage = self.old.storage; read_at = 0; packets = [] } }
     {
         self.slots.clear();
         self.bytes.clear();
@@ -145,7 +145,7 @@ impl<H, M: Elements<PacketMetadata<H>>, B: Elements<u8>> Packets<H, M, B> {
 
     // The size of the last packet, or 0.
     fn last_size(&self) -> usize
-        ensures { result ≡ first_size (last self.now.packets) }
+        ensures { result ≡ first_size (only_last self.now.packets) }
     {
         let used = self.slots.len();
         match self.slots.get_allocated(used.saturating_sub(1), 1).first() {
@@ -182,7 +182,7 @@ impl<H, M: Elements<PacketMetadata<H>>, B: Elements<u8>> Packets<H, M, B> {
     fn front(&self) -> Result<(&H, &[u8]), Empty>
         requires { first_gap self.now.packets ≡ 0 }
         ensures empty { IsErr result ↔ (length self.now.packets ≡ 0) }
-        ensures first { IfOk result (λ r. IsFirst self.now.packets r.0.now (length r.1.now)) }
+        ensures first { IfOk result (λ r. IsFirstSized self.now.packets r.0.now (length r.1.now)) }
         ensures bytes { IfOk result (λ r. r.1.now ≡ first_bytes self.now) }
     {
         let Some(slot) = self.slots.get_allocated(0, 1).first() else {
@@ -223,8 +223,8 @@ impl<H: Drop, M: Elements<PacketMetadata<H>>, B: Elements<u8>> Packets<H, M, B> 
     /// callers know exactly what they leave.
     pub fn place(&mut self, size: usize, header: H) -> Result<(), Full>
         ensures full { IsErr result ↔ (placement self.old size ≡ None) }
-        ensures placed { self.new ≡ placed self.old size header }
-        ensures size { OnOk result (first_size (last self.new.packets) ≡ size) }
+        ensures placed { self.new ≡ placed_if_room self.old size header }
+        ensures size { OnOk result (first_size (only_last self.new.packets) ≡ size) }
     {
         let Some(gap) = self.placement(size) else {
             return Err(Full);
@@ -237,7 +237,7 @@ impl<H: Drop, M: Elements<PacketMetadata<H>>, B: Elements<u8>> Packets<H, M, B> 
     pub fn last_mut(&mut self) -> &mut [u8]
         ensures* writes_back { sem 𝓛 (lends_bytes H.row M.row B.row M.Elements B.Elements self.entry result (last_written self.old)) }
         ensures value { result.now ≡ last_bytes self.old }
-        ensures size { length result.now ≡ first_size (last self.old.packets) }
+        ensures size { length result.now ≡ first_size (only_last self.old.packets) }
     {
         let size = self.last_size();
         self.run_mut(size)
@@ -245,10 +245,10 @@ impl<H: Drop, M: Elements<PacketMetadata<H>>, B: Elements<u8>> Packets<H, M, B> 
 
     // The last `size` bytes, which are those of the last packet.
     fn run_mut(&mut self, size: usize) -> &mut [u8]
-        requires { size ≡ first_size (last self.old.packets) }
+        requires { size ≡ first_size (only_last self.old.packets) }
         ensures* writes_back { sem 𝓛 (lends_bytes H.row M.row B.row M.Elements B.Elements self.entry result (last_written self.old)) }
         ensures value { result.now ≡ last_bytes self.old }
-        ensures size { length result.now ≡ first_size (last self.old.packets) }
+        ensures size { length result.now ≡ first_size (only_last self.old.packets) }
     {
         let before = self.bytes.len() - size;
         self.bytes.get_allocated_mut(before, size)
@@ -269,8 +269,8 @@ impl<H: Drop, M: Elements<PacketMetadata<H>>, B: Elements<u8>> Packets<H, M, B> 
         requires count { (run ws : List ℕ) (k : ℕ) → IsRoom self.old max_size header run → FnOnceReturnsAtMut F.FnOnce f run k ws → k ≤ max_size }
         ensures full { IsErr result ↔ (placement self.old max_size ≡ None) }
         ensures unchanged { OnErr result (self.new ≡ self.old) }
-        ensures called { IfOk result (λ k. (ws : List ℕ) × FnOnceReturnsAtMut F.FnOnce f (last_bytes (placed self.old max_size header)) k ws × (length ws ≡ max_size)
-            × (self.new ≡ last_cut k (last_written (placed self.old max_size header) ws))) }
+        ensures called { IfOk result (λ k. (ws : List ℕ) × FnOnceReturnsAtMut F.FnOnce f (last_bytes (placed_if_room self.old max_size header)) k ws × (length ws ≡ max_size)
+            × (self.new ≡ last_cut k (last_written (placed_if_room self.old max_size header) ws))) }
     {
         let Some(gap) = self.placement(max_size) else {
             return Err(Full);
@@ -296,8 +296,8 @@ impl<H: Drop, M: Elements<PacketMetadata<H>>, B: Elements<u8>> Packets<H, M, B> 
     pub fn take(&mut self) -> Result<(H, usize), Empty>
         ensures empty { IsErr result ↔ (length self.old.packets ≡ 0) }
         ensures unchanged { OnErr result (self.new ≡ self.old) }
-        ensures first { IfOk result (λ r. IsFirst self.old.packets r.0 r.1) }
-        ensures taken { OnOk result (self.new ≡ taken self.old) }
+        ensures first { IfOk result (λ r. IsFirstSized self.old.packets r.0 r.1) }
+        ensures dequeued { OnOk result (self.new ≡ dequeued self.old) }
         ensures freed { IfOk result (λ r. AreFreed self.new r.1 × (freed_place self.new r.1 ≡ (skipped self.old).read_at)) }
     {
         self.skip();
@@ -326,10 +326,10 @@ impl<H: Drop, M: Elements<PacketMetadata<H>>, B: Elements<u8>> Packets<H, M, B> 
         &mut self,
         f: F,
     ) -> Result<Result<R, E>, Empty>
-        requires { (header : H) (run : List ℕ) → IsFront self.old header run → TakesPacket F.FnOnce f header run }
+        requires { (header : H) (run : List ℕ) → IsFirst self.old header run → TakesPacket F.FnOnce f header run }
         ensures empty { IsErr result ↔ (length self.old.packets ≡ 0) }
         ensures unchanged { OnErr result (self.new ≡ self.old) }
-        ensures called { IfOk result (λ answer. (header : H) × (after : H) × (run : List ℕ) × (ws : List ℕ) × IsFront self.old header run × GivesAtPacket F.FnOnce f header run answer after ws × (length ws ≡ length run)
+        ensures called { IfOk result (λ answer. (header : H) × (after : H) × (run : List ℕ) × (ws : List ℕ) × IsFirst self.old header run × GivesAtPacket F.FnOnce f header run answer after ws × (length ws ≡ length run)
             × (self.new ≡ if is_ok answer then popped (first_written (skipped self.old) after ws) else first_written (skipped self.old) after ws)) }
     {
         self.skip();
@@ -352,7 +352,7 @@ impl<H: Drop, M: Elements<PacketMetadata<H>>, B: Elements<u8>> Packets<H, M, B> 
         ensures* skips { sem 𝓛 (ends_as H.row M.row B.row M.Elements B.Elements self.entry (skipped self.old)) }
         ensures empty { IsErr result ↔ (length self.old.packets ≡ 0) }
         ensures unchanged { OnErr result (skipped self.old ≡ self.old) }
-        ensures first { IfOk result (λ r. IsFirst self.old.packets r.0.now (length r.1.now)) }
+        ensures first { IfOk result (λ r. IsFirstSized self.old.packets r.0.now (length r.1.now)) }
         ensures bytes { IfOk result (λ r. r.1.now ≡ first_bytes (skipped self.old)) }
     {
         self.skip();
@@ -364,9 +364,9 @@ impl<H: Drop, M: Elements<PacketMetadata<H>>, B: Elements<u8>> Packets<H, M, B> 
     /// Answers `Full`, and drops the header and changes nothing, where no `size` bytes are free in a row, or a slot is missing for the packet
     /// or its gap. smoltcp can leave padding behind when it refuses.
     pub fn enqueue(&mut self, size: usize, header: H) -> Result<&mut [u8], Full>
-        ensures* writes_back { sem 𝓛 (lends_bytes_if H.row M.row B.row M.Elements B.Elements self.entry result (last_written (placed self.old size header))) }
+        ensures* writes_back { sem 𝓛 (lends_bytes_if H.row M.row B.row M.Elements B.Elements self.entry result (last_written (placed_if_room self.old size header))) }
         ensures full { IsErr result ↔ (placement self.old size ≡ None) }
-        ensures value { IfOk result (λ r. r.now ≡ last_bytes (placed self.old size header)) }
+        ensures value { IfOk result (λ r. r.now ≡ last_bytes (placed_if_room self.old size header)) }
         ensures size { IfOk result (λ r. length r.now ≡ size) }
     {
         let Ok(()) = self.place(size, header) else {
@@ -379,9 +379,9 @@ impl<H: Drop, M: Elements<PacketMetadata<H>>, B: Elements<u8>> Packets<H, M, B> 
     ///
     /// Answers `Empty`, and changes nothing, where no packet is held.
     pub fn dequeue(&mut self) -> Result<(H, &mut [u8]), Empty>
-        ensures* writes_back { sem 𝓛 (lends_packet_if H.row M.row B.row M.Elements B.Elements self.entry result (with_bytes (taken self.old) (skipped self.old).read_at)) }
+        ensures* writes_back { sem 𝓛 (lends_packet_if H.row M.row B.row M.Elements B.Elements self.entry result (with_bytes (dequeued self.old) (skipped self.old).read_at)) }
         ensures empty { IsErr result ↔ (length self.old.packets ≡ 0) }
-        ensures front { IfOk result (λ r. IsFront self.old r.0 r.1.now) }
+        ensures front { IfOk result (λ r. IsFirst self.old r.0 r.1.now) }
     {
         let Ok((header, size)) = self.take() else {
             return Err(Empty);

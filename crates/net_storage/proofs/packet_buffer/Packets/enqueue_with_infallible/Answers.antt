@@ -3,7 +3,7 @@ use Rattle.std.specs.declared.option.Option.TheVariants.{Some}
 use Rattle.std.specs.Fn.{FnOnceReturnsAtMut}
 use denote.MutBor.{at_last}
 use Rattle.net_storage.specs.Ring.{window, queue, spare_place, taken_in, written}
-use Rattle.net_storage.specs.Packets.{placement, placed, last_written, last_cut, IsRoom}
+use Rattle.net_storage.specs.Packets.{placement, placed_if_room, last_written, last_cut, IsRoom}
 use Rattle.net_storage.specs.PacketSlots.{slot, gap_slot}
 use Rattle.net_storage.proofs.PacketSteps.{free_room, byte_room, fill_room, fill_holds, fill_left}
 use Rattle.net_storage.proofs.Rotations.{length-overwrite}
@@ -86,6 +86,6 @@ returns-clause-called g c =
     let put : queue c.push_slots.new.slots ≡ queue m ++ (gap_slot c.in-Some.gap ++ (slot count (Some c.args.header) ∷ [])) = search rules in
     let filled : c.enqueue_unallocated.new.self ≡ taken_in (c.in-Some.gap + count) (written b1 (spare_place b1 c.in-Some.gap) after) = search rules in
     let left = fill_left m b c.self.invariant c.in-Some.gap c.args.max_size e c.args.header b1 c.restart.ensures.ring count le after c.push_slots.new.slots put c.push_slots.ensures.well_formed c.enqueue_unallocated.new.self filled c.push_slots.ensures.capacity
-    ∙ ap (λ q. last_cut count (last_written (placed q c.args.max_size c.args.header) after)) c.self.view_is in
+    ∙ ap (λ q. last_cut count (last_written (placed_if_room q c.args.max_size c.args.header) after)) c.self.view_is in
     let gives = subst (λ run. FnOnceReturnsAtMut g.F.FnOnce c.args.f run count after) room.1 met in
     (after, search gives, c.f-count.auto.arg2 ∙ room.2, search left)
