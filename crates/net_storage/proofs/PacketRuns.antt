@@ -1,13 +1,13 @@
 -- Over whole runs, a queue's packets leave in the order in which they came.
-use Rattle.std.proofs.Common.{◌≢◌, ◌≡◌, ℕ, ◌+◌, ◌-◌, ◌≤◌, List, [], ◌∷◌, ◌++◌, length, take, drop, refl, sym, ap, ap₂, ◌∙◌, subst, inl, inr, arith, ◌⊎◌, ◌<◌, append_assoc, length-append}
-use Rattle.std.proofs.lemmas.List.{append-nil, take_all, take_at, drop_at}
+use Rattle.std.proofs.Common.{◌≢◌, ◌≡◌, ℕ, ◌+◌, ◌-◌, ◌≤◌, List, [], ◌∷◌, ◌++◌, length, take, drop, refl, sym, ap, ap₂, ◌∙◌, subst, inl, inr, arith, ◌⊎◌, ◌<◌, append_assoc, length-append, length-drop, suc, ◌↔◌, Bool, true, false, if◌then◌else◌}
+use Rattle.std.proofs.lemmas.List.{append-nil, take_all, take_at, drop_at, nil_from_length, length-take-le}
 use Rattle.std.proofs.Math.Seq.{set-append_seam}
 use Rattle.std.specs.Prelude.{set}
 use Rattle.std.specs.declared.option.Option.TheVariants.{Some, None}
 use Rattle.net_storage.specs.Overwrite.{overwrite}
 use Rattle.net_storage.specs.Ring.{queue, place}
-use Rattle.net_storage.specs.Packets.{Packet, PacketQueue, packet, bytes_of, slots_used, byte_ring, place_in, ArePlaced, placement, pushed, pushed_if, placed_if_room, only_last, last_place, last_bytes, last_written, last_cut, with_first_size, first_gap, first_size, without_first_gap, skipped, with_first_header, first_written, popped, dequeued, freed_place, AreFreed, with_bytes, WellPlaced}
-use Rattle.net_storage.specs.PacketHistory.{contents_of, contents, no_packets, Call, Reset, Place, WriteLast, Enqueue, EnqueueWith, Peek, DequeueErr, DequeueOk, Take, WriteFreed, Dequeue, Log, Makes, MakesAll, with_last_bytes, logged, logged_all, history}
+use Rattle.net_storage.specs.Packets.{Packet, PacketQueue, no_packets, packet, bytes_of, slots_used, byte_ring, place_in, ArePlaced, placement, pushed, pushed_if, placed_if_room, only_last, last_place, last_bytes, last_written, last_cut, with_first_size, first_gap, first_size, without_first_gap, skipped, with_first_header, first_written, popped, dequeued, handed, freed_place, freed_bytes, AreFreed, with_bytes, first_bytes, IsFirst, IsFirstSized, WellPlaced}
+use Rattle.net_storage.specs.PacketHistory.{contents_of, contents, Call, Reset, Place, WriteLast, Enqueue, EnqueueWith, Peek, DequeueErr, DequeueOk, Take, WriteFreed, Dequeue, Log, Makes, MakesAll, with_last_bytes, logged, logged_all, history}
 use Rattle.net_storage.proofs.Rotations.{IsPlace, length-overwrite, length-queue, cut, overwrite_at, place_is}
 use Rattle.net_storage.proofs.RingFacts.{held_law, spare_law}
 use Rattle.net_storage.proofs.PacketFacts.{bytes_append, place_cases, place_place, place_wf, placed_skip, placed_pop, slots_for_pos}
@@ -167,7 +167,7 @@ module _ {H : Type 0} where
       let l = last_go q.slot_count q.storage q.read_at end.0 end.1 ws (subst WellPlaced is ok) (long ∙ ap (λ ps. first_size (only_last ps)) end.2) in
       (l.0, end.1.header, l.1, ap contents is ∙ l.2, ap (λ o. contents (last_written o ws)) is ∙ l.3)
 
-  freed_contents : (q : PacketQueue H) → WellPlaced q → (ws : List ℕ) → AreFreed q (length ws) → contents (with_bytes q (freed_place q (length ws)) ws) ≡ contents q
+  pub freed_contents : (q : PacketQueue H) → WellPlaced q → (ws : List ℕ) → AreFreed q (length ws) → contents (with_bytes q (freed_place q (length ws)) ws) ≡ contents q
   freed_contents q ok ws f =
       let c = byte_ring q in
       let s = length ws in
@@ -197,19 +197,88 @@ module _ {H : Type 0} where
       place_place c r s (c - s) ok.0.0 (omega (arith, f.1)) ∙ ap (place_in c r) back ∙ (elim (place_cases c r c) [ inl h ↦ absurd (omega (arith, h.0)) | inr h ↦ omega (arith, h.1, f.1) ]) in
       (round, (omega (arith, rest, ok.0.1), omega (arith, round, f.1)))
 
-  off_contents : (q : PacketQueue H) → WellPlaced q → (ws : List ℕ) → length ws ≡ first_size q.packets → contents (with_bytes (dequeued q) (skipped q).read_at ws) ≡ contents (dequeued q)
+  pub off_contents : (q : PacketQueue H) → WellPlaced q → (ws : List ℕ) → length ws ≡ first_size q.packets → contents (with_bytes (dequeued q) (skipped q).read_at ws) ≡ contents (dequeued q)
   off_contents q ok ws long =
       let f = off_go q.slot_count q.storage (skipped q).read_at (without_first_gap q.packets) (skipped_well q ok) (close_gap q.packets) in
       let size : first_size (without_first_gap q.packets) ≡ length ws = close_size q.packets ∙ sym long in
       ap (λ (p : ℕ). contents (with_bytes (dequeued q) p ws)) (sym f.0 ∙ ap (freed_place (dequeued q)) size)
       ∙ freed_contents (dequeued q) (taken_well q ok) ws (subst (λ (s : ℕ). AreFreed (dequeued q) s) size f.1)
 
-  -- ---- the log of a run
+  -- ---- laws that users call for
   last_entry : (ps : List (H × List ℕ)) (hd : H) (old ws : List ℕ) → with_last_bytes ws (ps ++ ((hd, old) ∷ [])) ≡ ps ++ ((hd, ws) ∷ [])
   last_entry [] hd old ws = refl
   last_entry (p ∷ []) hd old ws = refl
   last_entry (p ∷ (o ∷ ps)) hd old ws = ap (λ l. p ∷ l) (last_entry (o ∷ ps) hd old ws)
 
+  -- there are as many contents as packets
+  length-contents_of : (ps : List (Packet H)) (bs : List ℕ) → length (contents_of ps bs) ≡ length ps
+  length-contents_of [] bs = refl
+  length-contents_of (p ∷ ps) bs = ap suc (length-contents_of ps (drop (p.gap + p.size) bs))
+
+  pub contents_count : (q : PacketQueue H) → length (contents q) ≡ length q.packets
+  contents_count q = length-contents_of q.packets (queue (byte_ring q))
+
+  pub contents_none : (q : PacketQueue H) → (contents q ≡ []) ↔ (length q.packets ≡ 0)
+  contents_none q =
+      let n = contents_count q in
+      (λ e. sym n ∙ ap length e, λ z. nil_from_length (contents q) (n ∙ z))
+
+  pub placed_stands : (q : PacketQueue H) → WellPlaced q → (s : ℕ) (hd : H) → placement q s ≢ None → contents (placed_if_room q s hd) ≡ contents q ++ ((hd, last_bytes (placed_if_room q s hd)) ∷ [])
+  placed_stands q ok s hd some =
+      let g = some_of (placement q s) some in
+      let o = placed_if_room q s hd in
+      let w = placed_well q ok s hd some in
+      let f = last_fits (length o.storage) o.read_at 0 o.packets w.0.0 (omega (arith, w.0.1)) w.1 in
+      let z : 0 + bytes_of o.packets - first_size (only_last o.packets) ≡ bytes_of o.packets - first_size (only_last o.packets) = omega arith in
+      let at = ap (place_in (length o.storage) o.read_at) z in
+      let long = length-drop (last_place o) o.storage in
+      let size : first_size (only_last o.packets) ≡ s = ap (λ (p : PacketQueue H). first_size (only_last p.packets)) (placed_is q ok s hd g.0 g.1) ∙ ap first_size (last_append q.packets (packet hd s g.0)) in
+      let n : length (last_bytes o) ≡ s = length-take-le (first_size (only_last o.packets)) (drop (last_place o) o.storage) (omega (arith, at, f.1, long)) ∙ size in
+      ap (λ (m : ℕ). contents (placed_if_room q m hd)) (sym n)
+      ∙ placed_contents q ok hd (last_bytes o) (subst (λ (m : ℕ). placement q m ≢ None) (sym n) some) (ap (λ (m : ℕ). last_bytes (placed_if_room q m hd)) (sym n))
+
+  pub last_is_written : (q : PacketQueue H) → WellPlaced q → (ws : List ℕ) → q.packets ≢ [] → length ws ≡ first_size (only_last q.packets) → contents (last_written q ws) ≡ with_last_bytes ws (contents q)
+  last_is_written q ok ws some long =
+      let l = last_contents q ok ws some long in
+      l.4 ∙ sym (last_entry l.0 l.1 l.2 ws) ∙ ap (with_last_bytes ws) (sym l.3)
+
+  -- what was taken off stands before the read place
+  taken_bytes : (q : PacketQueue H) → WellPlaced q → (s : ℕ) → s ≡ first_size q.packets → (freed_bytes (dequeued q) s ≡ first_bytes (skipped q)) × (length (freed_bytes (dequeued q) s) ≡ s)
+  taken_bytes q ok s is =
+      let f = off_go q.slot_count q.storage (skipped q).read_at (without_first_gap q.packets) (skipped_well q ok) (close_gap q.packets) in
+      let size : first_size (without_first_gap q.packets) ≡ s = close_size q.packets ∙ sym is in
+      let fits = subst (λ (n : ℕ). AreFreed (dequeued q) n) size f.1 in
+      let at : freed_place (dequeued q) s ≡ (skipped q).read_at = sym (ap (freed_place (dequeued q)) size) ∙ f.0 in
+      let long = length-drop (freed_place (dequeued q) s) q.storage in (
+        ap₂ (λ (p n : ℕ). take n (drop p q.storage)) at (sym size),
+        length-take-le s (drop (freed_place (dequeued q) s) q.storage) (omega (arith, long, fits.1)),
+      )
+
+  pub taken_contents : (q : PacketQueue H) → WellPlaced q → (hd : H) (s : ℕ) → IsFirstSized q.packets hd s → contents q ≡ (hd, freed_bytes (dequeued q) s) ∷ contents (dequeued q)
+  taken_contents q ok hd s first =
+      let t = taken_bytes q ok s (sym (ap first_size first)) in
+      let sized = subst (λ (n : ℕ). IsFirstSized q.packets hd n) (sym t.1) first in
+      order.shown q ok hd (freed_bytes (dequeued q) s) (sized, t.0) ∙ ap (λ l. (hd, freed_bytes (dequeued q) s) ∷ l) (sym (order.left q ok))
+
+  pub peeked_contents : (q : PacketQueue H) → WellPlaced q → contents (dequeued (skipped q)) ≡ drop 1 (contents q)
+  peeked_contents q ok = order.left (skipped q) (skipped_well q ok) ∙ ap (drop 1) (order.gap_dropped q ok)
+
+  still_go : (ps : List (Packet H)) → length (without_first_gap ps) ≡ length ps
+  still_go [] = refl
+  still_go (p ∷ ps) = refl
+
+  pub still_there : (q : PacketQueue H) → length (skipped q).packets ≡ length q.packets
+  still_there q = still_go q.packets
+
+  some_first : (ps : List (Packet H)) (hd : H) (n : ℕ) → IsFirstSized ps hd n → ps ≢ []
+  some_first [] hd n e z = let k = ap length e in omega (arith, k)
+  some_first (p ∷ ps) hd n e z = let k = ap length z in omega (arith, k)
+
+  pub kept_contents : (q : PacketQueue H) → WellPlaced q → (hd : H) (ws : List ℕ) (gone : Bool) → IsFirst q hd ws → contents (handed gone q hd ws) ≡ (if gone then drop 1 (contents q) else contents q)
+  kept_contents q ok hd ws true f = order.left_with q ok hd ws (sym (ap first_size f.0))
+  kept_contents q ok hd ws false f = order.refused q ok hd ws (some_first q.packets hd (length ws) f.0) (sym (ap first_size f.0)) ∙ sym (order.shown q ok hd ws f)
+
+  -- ---- the log of a run
   -- the packets that left, followed by those that are held, are those that came
   abbrev InTurn : Log H → PacketQueue H → Type 0
   InTurn log q = log.left ++ contents q ≡ log.accepted

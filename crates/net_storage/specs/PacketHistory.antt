@@ -2,7 +2,7 @@
 use Rattle.std.specs.Prelude.{◌≡◌, ◌≢◌, ◌≤◌, ℕ, ◌+◌, List, [], ◌∷◌, ◌++◌, length, take, drop, set}
 use Rattle.std.specs.declared.option.Option.TheVariants.{None}
 use Rattle.net_storage.specs.Ring.{queue}
-use Rattle.net_storage.specs.Packets.{Packet, PacketQueue, byte_ring, placement, placed_if_room, only_last, last_bytes, last_written, last_cut, first_size, skipped, first_written, IsFirst, popped, dequeued, freed_place, AreFreed, with_bytes}
+use Rattle.net_storage.specs.Packets.{Packet, PacketQueue, no_packets, byte_ring, placement, placed_if_room, only_last, last_bytes, last_written, last_cut, first_size, skipped, first_written, IsFirst, popped, dequeued, freed_place, AreFreed, with_bytes}
 
 module _ {H : Type 0} where
   -- the headers and bytes of packets whose bytes, gaps among them, are bs
@@ -14,12 +14,8 @@ module _ {H : Type 0} where
   abbrev pub contents : PacketQueue H → List (H × List ℕ)
   contents q = contents_of q.packets (queue (byte_ring q))
 
-  -- a queue with no packets, as `new` and `reset` leave it
-  abbrev pub no_packets : ℕ → List ℕ → PacketQueue H
-  no_packets slots storage = record { slot_count = slots; storage = storage; read_at = 0; packets = [] }
-
--- ---- runs
--- what one call did, with the headers and bytes that it was given, wrote or handed out. A call that answers `Full` or `Empty` changes nothing and is no step; nor is `last_mut` where no packet is held
+-- ---- calls
+-- what one call did, with the headers and bytes that it was given, wrote or handed out. A call that answers `Full` or `Empty` changes nothing and is no call here; nor is `last_mut` where no packet is held
 pub data Call (H : Type 0) : Type 0 where
   -- `reset`
   Reset : Call H
@@ -45,7 +41,7 @@ pub data Call (H : Type 0) : Type 0 where
   Dequeue : H → List ℕ → List ℕ → Call H
 
 module _ {H : Type 0} where
-  -- the step makes r of q, as the contract of its call says
+  -- the call makes r of q, as its contract says
   abbrev pub Makes : Call H → PacketQueue H → PacketQueue H → Type 0
   Makes Reset q r = r ≡ no_packets q.slot_count q.storage
   Makes (Place header bytes) q r = (placement q (length bytes) ≢ None) × (r ≡ placed_if_room q (length bytes) header) × (bytes ≡ last_bytes r)
@@ -59,7 +55,7 @@ module _ {H : Type 0} where
   Makes (WriteFreed bytes) q r = AreFreed q (length bytes) × (r ≡ with_bytes q (freed_place q (length bytes)) bytes)
   Makes (Dequeue header bytes written) q r = IsFirst q header bytes × (length written ≡ length bytes) × (r ≡ with_bytes (dequeued q) (skipped q).read_at written)
 
-  -- the steps, one after another, make r of q
+  -- the calls, one after another, make r of q
   abbrev pub MakesAll : List (Call H) → PacketQueue H → PacketQueue H → Type 0
   MakesAll [] q r = r ≡ q
   MakesAll (call ∷ calls) q r = (next : PacketQueue H) × Makes call q next × MakesAll calls next r
@@ -84,7 +80,7 @@ module _ {H : Type 0} where
   abbrev pub log_left : H → List ℕ → Log H → Log H
   log_left header bytes log = record { accepted = log.accepted; left = log.left ++ ((header, bytes) ∷ []) }
 
-  -- the log after a step. What `reset` drops counts as never accepted. The packet that a closure refuses is the first one that has not left
+  -- the log after a call. What `reset` drops counts as never accepted. The packet that a closure refuses is the first one that has not left
   abbrev pub logged : Call H → Log H → Log H
   logged Reset log = record { accepted = log.left; left = log.left }
   logged (Place header bytes) log = log_accepted header bytes log
@@ -98,11 +94,11 @@ module _ {H : Type 0} where
   logged (WriteFreed bytes) log = log
   logged (Dequeue header bytes written) log = log_left header bytes log
 
-  -- the log after steps, one after another
+  -- the log after calls, one after another
   abbrev pub logged_all : List (Call H) → Log H → Log H
   logged_all [] log = log
   logged_all (call ∷ calls) log = logged_all calls (logged call log)
 
-  -- the log of steps from a queue with no packets on
+  -- the log of calls from a queue with no packets on
   abbrev pub history : List (Call H) → Log H
   history calls = logged_all calls (record { accepted = []; left = [] })

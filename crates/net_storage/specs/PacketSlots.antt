@@ -1,5 +1,5 @@
 -- A queue of packets by the two rings that it is kept in.
-use Rattle.std.specs.Prelude.{◌≡◌, ℕ, zero, suc, ◌+◌, List, [], ◌∷◌, ◌++◌}
+use Rattle.std.specs.Prelude.{◌≡◌, ℕ, zero, suc, ◌+◌, List, [], ◌∷◌, ◌++◌, drop}
 use Rattle.std.specs.Prelude.{Option}
 use Rattle.std.specs.declared.option.Option.TheVariants.{Some, None}
 use Rattle.net_storage.specs.Ring.{RingState, capacity, queue, WellFormed}
@@ -31,3 +31,11 @@ module _ {H : Type 0} where
 
   abbrev pub packet_queue : RingState (PacketMetadata H) → RingState ℕ → PacketQueue H
   packet_queue m b = record { slot_count = capacity m; storage = b.storage; read_at = b.read_at; packets = packets_in 0 (queue m) }
+
+  -- the first slot has this size and header
+  abbrev pub IsFirstSlot : RingState (PacketMetadata H) → ℕ → Option H → Type 0
+  IsFirstSlot m s h = queue m ≡ slot s h ∷ drop 1 (queue m)
+
+  -- n is m, but its first slot has this size and header
+  abbrev pub HasFirstSlot : RingState (PacketMetadata H) → ℕ → Option H → RingState (PacketMetadata H) → Type 0
+  HasFirstSlot m s h n = (queue n ≡ slot s h ∷ drop 1 (queue m)) × WellFormed n × (capacity n ≡ capacity m)

@@ -1,5 +1,5 @@
 -- A queue of packets over a storage of bytes, and what each call makes of it.
-use Rattle.std.specs.Prelude.{◌≡◌, ◌≢◌, ℕ, zero, suc, ◌+◌, ◌-◌, ◌≤◌, nat_le, nat_lt, if◌then◌else◌, List, [], ◌∷◌, ◌++◌, length, take, drop, ⊤}
+use Rattle.std.specs.Prelude.{◌≡◌, ◌≢◌, Bool, ℕ, zero, suc, ◌+◌, ◌-◌, ◌≤◌, nat_le, nat_lt, if◌then◌else◌, List, [], ◌∷◌, ◌++◌, length, take, drop, ⊤}
 use Rattle.std.specs.Prelude.{Option}
 use Rattle.std.specs.declared.option.Option.TheVariants.{Some, None}
 use Rattle.net_storage.specs.Overwrite.{overwrite}
@@ -66,6 +66,10 @@ module _ {H : Type 0} where
   -- what holds of every queue: its bytes are a ring, in which each packet lies in a row and each gap ends at the storage's end; there is a slot for each packet and gap
   abbrev pub WellPlaced : PacketQueue H → Type 0
   WellPlaced q = WellFormed (byte_ring q) × ArePlaced (length q.storage) q.read_at 0 q.packets × (slots_used q.packets ≤ q.slot_count)
+
+  -- a queue with no packets, as `new` and `reset` leave it
+  abbrev pub no_packets : ℕ → List ℕ → PacketQueue H
+  no_packets slot_count storage = record { slot_count = slot_count; storage = storage; read_at = 0; packets = [] }
 
   -- the queue with ws written over its storage from the place p on
   abbrev pub with_bytes : PacketQueue H → ℕ → List ℕ → PacketQueue H
@@ -163,6 +167,10 @@ module _ {H : Type 0} where
   abbrev pub popped : PacketQueue H → PacketQueue H
   popped q = record { slot_count = q.slot_count; storage = q.storage; read_at = place (byte_ring q) (first_size q.packets); packets = drop 1 q.packets }
 
+  -- the first packet was handed out and has the header h and the bytes ws: it is gone where gone is true, and else stays first, without its gap
+  abbrev pub handed : Bool → PacketQueue H → H → List ℕ → PacketQueue H
+  handed gone q h ws = if gone then popped (first_written (skipped q) h ws) else first_written (skipped q) h ws
+
   -- the first packet and its gap were taken off
   abbrev pub dequeued : PacketQueue H → PacketQueue H
   dequeued q = popped (skipped q)
@@ -171,6 +179,14 @@ module _ {H : Type 0} where
   abbrev pub freed_place : PacketQueue H → ℕ → ℕ
   freed_place q s = place (byte_ring q) (length q.storage - s)
 
+  -- these bytes
+  abbrev pub freed_bytes : PacketQueue H → ℕ → List ℕ
+  freed_bytes q s = take s (drop (freed_place q s) q.storage)
+
   -- the s bytes before the read place lie in a row, and none of them is held
   abbrev pub AreFreed : PacketQueue H → ℕ → Type 0
   AreFreed q s = (s ≤ window (byte_ring q)) × (freed_place q s + s ≤ length q.storage)
+
+  -- the s bytes before the read place are such, and begin at the place p
+  abbrev pub IsFreedAt : PacketQueue H → ℕ → ℕ → Type 0
+  IsFreedAt q s p = AreFreed q s × (freed_place q s ≡ p)

@@ -1,12 +1,11 @@
 //! A queue of packets, each with a header, over storage that is lent or owned.
 ghost use Rattle.std.specs.Prelude.{◌≡◌, ◌≢◌, ◌≤◌, ◌<◌, ◌^◌, ◌-◌, ◌+◌, ◌==◌, ◌↔◌, ◌∷◌, ◌++◌, [], ℕ, List, IsErr, IfOk, OnErr, OnOk, length, take, drop, is_ok, if◌then◌else◌};
 ghost use Rattle.std.specs.Borrow.{sem};
-ghost use Rattle.std.specs.Fn.{FnOnceReturnsAtMut, FnOnceTakesAtMut};
 ghost use Rattle.std.specs.declared.option.Option.TheVariants.{Some, None};
 ghost use Rattle.net_storage.specs.Ring.{capacity, window, queue, contiguous_window, restarted, WellFormed};
-ghost use Rattle.net_storage.specs.Packets.{bytes_of, slots_used, byte_ring, placement, pushed, placed_if_room, only_last, last_bytes, last_written, last_cut, IsRoom, skipped, first_gap, first_size, first_bytes, first_written, IsFirstSized, IsFirst, popped, dequeued, freed_place, AreFreed, gap_for, slots_for, if_slots, with_bytes, WellPlaced};
-ghost use Rattle.net_storage.specs.PacketSlots.{gap_slot, slot};
-ghost use Rattle.net_storage.specs.PacketCalls.{TakesPacket, GivesAtPacket};
+ghost use Rattle.net_storage.specs.Packets.{bytes_of, slots_used, no_packets, byte_ring, placement, pushed, placed_if_room, only_last, last_bytes, last_written, skipped, first_gap, first_size, first_bytes, IsFirstSized, IsFirst, dequeued, freed_place, freed_bytes, AreFreed, IsFreedAt, gap_for, slots_for, if_slots, with_bytes};
+ghost use Rattle.net_storage.specs.PacketSlots.{gap_slot, slot, IsFirstSlot, HasFirstSlot};
+ghost use Rattle.net_storage.specs.PacketCalls.{TakesRoom, CountsAtMost, WrotePacket, TakesPacket, GivesAtPacket, TakesFirst, HandedPacket};
 
 use crate::error::{Empty, Full};
 use crate::managed::{Elements, ManagedSlice};
@@ -53,7 +52,7 @@ impl<H, M: Elements<PacketMetadata<H>>, B: Elements<u8>> Model for Packets<H, M,
 impl<H, M: Elements<PacketMetadata<H>>, B: Elements<u8>> Packets<H, M, B> {
     /// A queue with no packets, which has as many slots as `slots` has elements, and room for as many bytes as `bytes` has.
     pub fn new(slots: M, bytes: B) -> Self
-        ensures { result ≡ record { slot_count = length (M.elements slots); storage = B.elements bytes; read_at = 0; packets = [] } }
+        ensures { result ≡ no_packets (length (M.elements slots)) (B.elements bytes) }
     {
         Packets {
             slots: Ring::new(slots),
@@ -80,8 +79,7 @@ impl<H, M: Elements<PacketMetadata<H>>, B: Elements<u8>> Packets<H, M, B> {
     /// The number of slots.
     #[inline]
     pub fn packet_capacity(&self) -> usize
-        ensures slots { result ≡ self.now.slot_count }
-        ensures well_placed { WellPlaced self.now }
+        ensures { result ≡ self.now.slot_count }
     {
         self.slots.capacity()
     }
@@ -114,7 +112,7 @@ impl<H, M: Elements<PacketMetadata<H>>, B: Elements<u8>> Packets<H, M, B> {
     ///
     /// smoltcp keeps this call to itself.
     pub fn reset(&mut self)
-        ensures { self.new ≡ record { slot_count = self.old.slot_count; storage = self.old.storage; read_at = 0; packets = [] } }
+        ensures { self.new ≡ no_packets self.old.slot_count self.old.storage }
     {
         self.slots.clear();
         self.bytes.clear();
@@ -235,7 +233,10 @@ impl<H: Drop, M: Elements<PacketMetadata<H>>, B: Elements<u8>> Packets<H, M, B> 
 
     /// Lends the bytes of the packet that came last, or none where no packet is held.
     pub fn last_mut(&mut self) -> &mut [u8]
-        ensures* writes_back { sem 𝓛 (lends_bytes H.row M.row B.row M.Elements B.Elements self.entry result (last_written self.old)) }
+        ensures* writes_back {
+            sem 𝓛 (lends_bytes H.row M.row B.row M.Elements B.Elements self.entry result
+                (last_written self.old))
+        }
         ensures value { result.now ≡ last_bytes self.old }
         ensures size { length result.now ≡ first_size (only_last self.old.packets) }
     {
@@ -246,7 +247,10 @@ impl<H: Drop, M: Elements<PacketMetadata<H>>, B: Elements<u8>> Packets<H, M, B> 
     // The last `size` bytes, which are those of the last packet.
     fn run_mut(&mut self, size: usize) -> &mut [u8]
         requires { size ≡ first_size (only_last self.old.packets) }
-        ensures* writes_back { sem 𝓛 (lends_bytes H.row M.row B.row M.Elements B.Elements self.entry result (last_written self.old)) }
+        ensures* writes_back {
+            sem 𝓛 (lends_bytes H.row M.row B.row M.Elements B.Elements self.entry result
+                (last_written self.old))
+        }
         ensures value { result.now ≡ last_bytes self.old }
         ensures size { length result.now ≡ first_size (only_last self.old.packets) }
     {
@@ -265,12 +269,11 @@ impl<H: Drop, M: Elements<PacketMetadata<H>>, B: Elements<u8>> Packets<H, M, B> 
         header: H,
         f: F,
     ) -> Result<usize, Full>
-        requires callable { (run : List ℕ) → IsRoom self.old max_size header run → FnOnceTakesAtMut F.FnOnce f run }
-        requires count { (run ws : List ℕ) (k : ℕ) → IsRoom self.old max_size header run → FnOnceReturnsAtMut F.FnOnce f run k ws → k ≤ max_size }
+        requires callable { TakesRoom F.FnOnce f self.old max_size header }
+        requires count { CountsAtMost F.FnOnce f self.old max_size header }
         ensures full { IsErr result ↔ (placement self.old max_size ≡ None) }
         ensures unchanged { OnErr result (self.new ≡ self.old) }
-        ensures called { IfOk result (λ k. (ws : List ℕ) × FnOnceReturnsAtMut F.FnOnce f (last_bytes (placed_if_room self.old max_size header)) k ws × (length ws ≡ max_size)
-            × (self.new ≡ last_cut k (last_written (placed_if_room self.old max_size header) ws))) }
+        ensures wrote { IfOk result (λ k. WrotePacket F.FnOnce f self.old max_size header k self.new) }
     {
         let Some(gap) = self.placement(max_size) else {
             return Err(Full);
@@ -298,10 +301,11 @@ impl<H: Drop, M: Elements<PacketMetadata<H>>, B: Elements<u8>> Packets<H, M, B> 
         ensures unchanged { OnErr result (self.new ≡ self.old) }
         ensures first { IfOk result (λ r. IsFirstSized self.old.packets r.0 r.1) }
         ensures dequeued { OnOk result (self.new ≡ dequeued self.old) }
-        ensures freed { IfOk result (λ r. AreFreed self.new r.1 × (freed_place self.new r.1 ≡ (skipped self.old).read_at)) }
+        ensures freed { IfOk result (λ r. IsFreedAt self.new r.1 (skipped self.old).read_at) }
     {
         self.skip();
-        let (size, header) = pop_slot(&mut self.slots)?;
+        let (size, header) = lift_header(&mut self.slots)?;
+        self.slots.dequeue_allocated(1);
         self.bytes.dequeue_allocated(size);
         Ok((header, size))
     }
@@ -310,8 +314,11 @@ impl<H: Drop, M: Elements<PacketMetadata<H>>, B: Elements<u8>> Packets<H, M, B> 
     /// a row and none of them is held, as after a call of [`Packets::take`] that answered `size`.
     pub fn freed_mut(&mut self, size: usize) -> &mut [u8]
         requires { AreFreed self.old size }
-        ensures* writes_back { sem 𝓛 (lends_bytes H.row M.row B.row M.Elements B.Elements self.entry result (with_bytes self.old (freed_place self.old size))) }
-        ensures value { result.now ≡ take size (drop (freed_place self.old size) self.old.storage) }
+        ensures* writes_back {
+            sem 𝓛 (lends_bytes H.row M.row B.row M.Elements B.Elements self.entry result
+                (with_bytes self.old (freed_place self.old size)))
+        }
+        ensures value { result.now ≡ freed_bytes self.old size }
         ensures size { length result.now ≡ size }
     {
         let before = self.bytes.window() - size;
@@ -326,11 +333,10 @@ impl<H: Drop, M: Elements<PacketMetadata<H>>, B: Elements<u8>> Packets<H, M, B> 
         &mut self,
         f: F,
     ) -> Result<Result<R, E>, Empty>
-        requires { (header : H) (run : List ℕ) → IsFirst self.old header run → TakesPacket F.FnOnce f header run }
+        requires { TakesFirst F.FnOnce f self.old }
         ensures empty { IsErr result ↔ (length self.old.packets ≡ 0) }
         ensures unchanged { OnErr result (self.new ≡ self.old) }
-        ensures called { IfOk result (λ answer. (header : H) × (after : H) × (run : List ℕ) × (ws : List ℕ) × IsFirst self.old header run × GivesAtPacket F.FnOnce f header run answer after ws × (length ws ≡ length run)
-            × (self.new ≡ if is_ok answer then popped (first_written (skipped self.old) after ws) else first_written (skipped self.old) after ws)) }
+        ensures handed { IfOk result (λ answer. HandedPacket F.FnOnce f self.old answer self.new) }
     {
         self.skip();
         let (size, header) = lift_header(&mut self.slots)?;
@@ -349,7 +355,10 @@ impl<H: Drop, M: Elements<PacketMetadata<H>>, B: Elements<u8>> Packets<H, M, B> 
     ///
     /// Answers `Empty`, and changes nothing, where no packet is held.
     pub fn peek(&mut self) -> Result<(&H, &[u8]), Empty>
-        ensures* skips { sem 𝓛 (ends_as H.row M.row B.row M.Elements B.Elements self.entry (skipped self.old)) }
+        ensures* skips {
+            sem 𝓛 (ends_as H.row M.row B.row M.Elements B.Elements self.entry
+                (skipped self.old))
+        }
         ensures empty { IsErr result ↔ (length self.old.packets ≡ 0) }
         ensures unchanged { OnErr result (skipped self.old ≡ self.old) }
         ensures first { IfOk result (λ r. IsFirstSized self.old.packets r.0.now (length r.1.now)) }
@@ -364,7 +373,10 @@ impl<H: Drop, M: Elements<PacketMetadata<H>>, B: Elements<u8>> Packets<H, M, B> 
     /// Answers `Full`, and drops the header and changes nothing, where no `size` bytes are free in a row, or a slot is missing for the packet
     /// or its gap. smoltcp can leave padding behind when it refuses.
     pub fn enqueue(&mut self, size: usize, header: H) -> Result<&mut [u8], Full>
-        ensures* writes_back { sem 𝓛 (lends_bytes_if H.row M.row B.row M.Elements B.Elements self.entry result (last_written (placed_if_room self.old size header))) }
+        ensures* writes_back {
+            sem 𝓛 (lends_bytes_if H.row M.row B.row M.Elements B.Elements self.entry result
+                (last_written (placed_if_room self.old size header)))
+        }
         ensures full { IsErr result ↔ (placement self.old size ≡ None) }
         ensures value { IfOk result (λ r. r.now ≡ last_bytes (placed_if_room self.old size header)) }
         ensures size { IfOk result (λ r. length r.now ≡ size) }
@@ -379,7 +391,10 @@ impl<H: Drop, M: Elements<PacketMetadata<H>>, B: Elements<u8>> Packets<H, M, B> 
     ///
     /// Answers `Empty`, and changes nothing, where no packet is held.
     pub fn dequeue(&mut self) -> Result<(H, &mut [u8]), Empty>
-        ensures* writes_back { sem 𝓛 (lends_packet_if H.row M.row B.row M.Elements B.Elements self.entry result (with_bytes (dequeued self.old) (skipped self.old).read_at)) }
+        ensures* writes_back {
+            sem 𝓛 (lends_packet_if H.row M.row B.row M.Elements B.Elements self.entry result
+                (with_bytes (dequeued self.old) (skipped self.old).read_at))
+        }
         ensures empty { IsErr result ↔ (length self.old.packets ≡ 0) }
         ensures front { IfOk result (λ r. IsFirst self.old r.0 r.1.now) }
     {
@@ -478,35 +493,16 @@ fn push_slot<H: Drop, M: Elements<PacketMetadata<H>>>(
     }
 }
 
-// The size and the header of the first slot, which goes.
-fn pop_slot<H: Drop, M: Elements<PacketMetadata<H>>>(
-    slots: &mut Ring<PacketMetadata<H>, M>,
-) -> Result<(usize, H), Empty>
-    requires well_formed { WellFormed slots.old }
-    requires header { (size : ℕ) → queue slots.old ≢ slot size None ∷ drop 1 (queue slots.old) }
-    ensures empty { IsErr result ↔ (slots.old.held ≡ 0) }
-    ensures unchanged { OnErr result (slots.new ≡ slots.old) }
-    ensures first { IfOk result (λ r. queue slots.old ≡ slot r.0 (Some r.1) ∷ drop 1 (queue slots.old)) }
-    ensures left { OnOk result ((queue slots.new ≡ drop 1 (queue slots.old)) × WellFormed slots.new × (capacity slots.new ≡ capacity slots.old)) }
-{
-    let place = slots.dequeue_one()?;
-    let size = place.size;
-    let Some(header) = place.header.take() else {
-        return Err(Empty);
-    };
-    Ok((size, header))
-}
-
 // The size and the header of the first slot, which stays without its header.
 fn lift_header<H: Drop, M: Elements<PacketMetadata<H>>>(
     slots: &mut Ring<PacketMetadata<H>, M>,
 ) -> Result<(usize, H), Empty>
     requires well_formed { WellFormed slots.old }
-    requires header { (size : ℕ) → queue slots.old ≢ slot size None ∷ drop 1 (queue slots.old) }
+    requires header { (size : ℕ) → IsFirstSlot slots.old size None → ⊥ }
     ensures empty { IsErr result ↔ (slots.old.held ≡ 0) }
     ensures unchanged { OnErr result (slots.new ≡ slots.old) }
-    ensures first { IfOk result (λ r. queue slots.old ≡ slot r.0 (Some r.1) ∷ drop 1 (queue slots.old)) }
-    ensures left { IfOk result (λ r. (queue slots.new ≡ slot r.0 None ∷ drop 1 (queue slots.old)) × WellFormed slots.new × (capacity slots.new ≡ capacity slots.old)) }
+    ensures first { IfOk result (λ r. IsFirstSlot slots.old r.0 (Some r.1)) }
+    ensures left { IfOk result (λ r. HasFirstSlot slots.old r.0 None slots.new) }
 {
     let answer = slots.dequeue_one_with(|slot| {
         let header = slot.header.take();
@@ -527,7 +523,10 @@ fn put_header<H: Drop, M: Elements<PacketMetadata<H>>>(
     header: H,
 )
     requires { WellFormed slots.old }
-    ensures queue { (size : ℕ) (h : _) → queue slots.old ≡ slot size h ∷ drop 1 (queue slots.old) → queue slots.new ≡ slot size (Some header) ∷ drop 1 (queue slots.old) }
+    ensures queue {
+        (size : ℕ) (h : _) → IsFirstSlot slots.old size h
+            → queue slots.new ≡ slot size (Some header) ∷ drop 1 (queue slots.old)
+    }
     ensures well_formed { WellFormed slots.new }
     ensures capacity { capacity slots.new ≡ capacity slots.old }
 {
