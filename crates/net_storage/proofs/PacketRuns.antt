@@ -260,6 +260,10 @@ module _ {H : Type 0} where
       let sized = subst (λ (n : ℕ). IsFirstSized q.packets hd n) (sym t.1) first in
       order.shown q ok hd (freed_bytes (dequeued q) s) (sized, t.0) ∙ ap (λ l. (hd, freed_bytes (dequeued q) s) ∷ l) (sym (order.left q ok))
 
+  -- what stands before the read place is written over itself
+  pub freed_stay : (q : PacketQueue H) (s : ℕ) (ws : List ℕ) → AreFreed q s → ws ≡ freed_bytes q s → with_bytes q (freed_place q s) ws ≡ q
+  freed_stay q s ws f is = ap (with_bytes q (freed_place q s)) is ∙ ap (λ (st : List ℕ). mk q.slot_count st q.read_at q.packets) (overwrite_same q.storage (freed_place q s) s f.1)
+
   pub peeked_contents : (q : PacketQueue H) → WellPlaced q → contents (dequeued (skipped q)) ≡ drop 1 (contents q)
   peeked_contents q ok = order.left (skipped q) (skipped_well q ok) ∙ ap (drop 1) (order.gap_dropped q ok)
 

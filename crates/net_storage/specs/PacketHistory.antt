@@ -2,7 +2,7 @@
 use Rattle.std.specs.Prelude.{◌≡◌, ◌≢◌, ◌≤◌, ℕ, ◌+◌, List, [], ◌∷◌, ◌++◌, length, take, drop, set}
 use Rattle.std.specs.declared.option.Option.TheVariants.{None}
 use Rattle.net_storage.specs.Ring.{queue}
-use Rattle.net_storage.specs.Packets.{Packet, PacketQueue, no_packets, byte_ring, placement, placed_if_room, only_last, last_bytes, last_written, last_cut, first_size, skipped, first_written, IsFirst, popped, dequeued, freed_place, AreFreed, with_bytes}
+use Rattle.net_storage.specs.Packets.{Packet, PacketQueue, no_packets, byte_ring, placement, placed_if_room, only_last, last_bytes, last_written, last_cut, enqueued, first_size, skipped, first_written, IsFirst, popped, dequeued, freed_place, AreFreed, with_bytes}
 
 module _ {H : Type 0} where
   -- the headers and bytes of packets whose bytes, gaps among them, are bs
@@ -46,7 +46,7 @@ module _ {H : Type 0} where
   Makes Reset q r = r ≡ no_packets q.slot_count q.storage
   Makes (Place header bytes) q r = (placement q (length bytes) ≢ None) × (r ≡ placed_if_room q (length bytes) header) × (bytes ≡ last_bytes r)
   Makes (WriteLast bytes) q r = (q.packets ≢ []) × (length bytes ≡ first_size (only_last q.packets)) × (r ≡ last_written q bytes)
-  Makes (Enqueue header bytes) q r = (placement q (length bytes) ≢ None) × (r ≡ last_written (placed_if_room q (length bytes) header) bytes)
+  Makes (Enqueue header bytes) q r = (placement q (length bytes) ≢ None) × (r ≡ enqueued q header bytes)
   Makes (EnqueueWith header bytes count) q r = (placement q (length bytes) ≢ None) × (count ≤ length bytes) × (r ≡ last_cut count (last_written (placed_if_room q (length bytes) header) bytes))
   Makes Peek q r = r ≡ skipped q
   Makes (DequeueErr after written) q r = (q.packets ≢ []) × (length written ≡ first_size q.packets) × (r ≡ first_written (skipped q) after written)

@@ -37,6 +37,7 @@ abbrev pub place_in : ℕ → ℕ → ℕ → ℕ
 place_in c r i = if nat_lt i (c - r) then r + i else i - (c - r)
 
 module _ {H : Type 0} where
+  -- the packet with the header h, s bytes and a gap of g bytes
   abbrev pub packet : H → ℕ → ℕ → Packet H
   packet h s g = record { header = h; size = s; gap = g }
 
@@ -91,6 +92,7 @@ module _ {H : Type 0} where
   abbrev pub pushed : PacketQueue H → ℕ → ℕ → H → PacketQueue H
   pushed q gap s h = record { slot_count = q.slot_count; storage = q.storage; read_at = (restarted (byte_ring q)).read_at; packets = q.packets ++ (packet h s gap ∷ []) }
 
+  -- the same, where there is a gap for it
   abbrev pub pushed_if : PacketQueue H → Option ℕ → ℕ → H → PacketQueue H
   pushed_if q None s h = q
   pushed_if q (Some gap) s h = pushed q gap s h
@@ -99,10 +101,11 @@ module _ {H : Type 0} where
   abbrev pub placed_if_room : PacketQueue H → ℕ → H → PacketQueue H
   placed_if_room q s h = pushed_if q (placement q s) s h
 
-  -- the packets before the last one, and the last one alone
+  -- the packets before the last one
   abbrev pub before_last : List (Packet H) → List (Packet H)
   before_last ps = take (length ps - 1) ps
 
+  -- the last of the packets alone, in a list
   abbrev pub only_last : List (Packet H) → List (Packet H)
   only_last ps = drop (length ps - 1) ps
 
@@ -110,6 +113,7 @@ module _ {H : Type 0} where
   abbrev pub last_place : PacketQueue H → ℕ
   last_place q = place (byte_ring q) (bytes_of q.packets - first_size (only_last q.packets))
 
+  -- the last packet's bytes
   abbrev pub last_bytes : PacketQueue H → List ℕ
   last_bytes q = take (first_size (only_last q.packets)) (drop (last_place q) q.storage)
 
@@ -117,6 +121,11 @@ module _ {H : Type 0} where
   abbrev pub last_written : PacketQueue H → List ℕ → PacketQueue H
   last_written q ws = with_bytes q (last_place q) ws
 
+  -- a packet with the header h and the bytes ws came last, where it could be placed
+  abbrev pub enqueued : PacketQueue H → H → List ℕ → PacketQueue H
+  enqueued q h ws = last_written (placed_if_room q (length ws) h) ws
+
+  -- the first of the packets has k bytes
   abbrev pub with_first_size : ℕ → List (Packet H) → List (Packet H)
   with_first_size k [] = []
   with_first_size k (p ∷ ps) = packet p.header k p.gap ∷ ps
@@ -135,6 +144,7 @@ module _ {H : Type 0} where
   first_gap [] = 0
   first_gap (p ∷ ps) = p.gap
 
+  -- the first of the packets has no gap
   abbrev pub without_first_gap : List (Packet H) → List (Packet H)
   without_first_gap [] = []
   without_first_gap (p ∷ ps) = packet p.header p.size 0 ∷ ps
@@ -155,6 +165,7 @@ module _ {H : Type 0} where
   abbrev pub IsFirst : PacketQueue H → H → List ℕ → Type 0
   IsFirst q h ws = IsFirstSized q.packets h (length ws) × (ws ≡ first_bytes (skipped q))
 
+  -- the first of the packets has the header h
   abbrev pub with_first_header : H → List (Packet H) → List (Packet H)
   with_first_header h [] = []
   with_first_header h (p ∷ ps) = packet h p.size p.gap ∷ ps

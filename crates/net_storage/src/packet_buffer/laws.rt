@@ -1,4 +1,5 @@
-//! Laws of packet queues. No function here does anything: each is called for what its contract says.
+//! Laws of packet queues. No function here does anything: each is called for what its contract
+//! says.
 ghost use Rattle.std.specs.Prelude.{◌≡◌, ◌≢◌, ◌≤◌, ◌++◌, ◌∷◌, ◌↔◌, [], ℕ, List, Bool, length, take, drop, if◌then◌else◌};
 ghost use Rattle.std.specs.declared.option.Option.TheVariants.{None};
 ghost use Rattle.net_storage.specs.Packets.{PacketQueue, WellPlaced, no_packets, IsFirst, IsFirstSized, placement, placed_if_room, only_last, last_bytes, last_written, last_cut, skipped, first_size, first_written, popped, handed, dequeued, with_bytes, freed_place, freed_bytes, AreFreed};
@@ -8,8 +9,8 @@ use crate::managed::Elements;
 use crate::packet_buffer::Packets;
 use crate::packet_metadata::PacketMetadata;
 
-/// Every queue is well placed: its packets fit into its storage, each in a row, its gaps end at the storage's end, and there is a slot for
-/// each packet and gap. The other laws speak of such queues.
+/// Every queue is well placed: its packets fit into its storage, each in a row, its gaps end at the
+/// storage's end, and there is a slot for each packet and gap. The other laws speak of such queues.
 pub fn well_placed<H, M: Elements<PacketMetadata<H>>, B: Elements<u8>>(queue: &Packets<H, M, B>)
     ensures { WellPlaced queue.now }
 {
@@ -22,9 +23,10 @@ pub fn contents_are_packets<H>()
     ensures none { (q : PacketQueue H) → (contents q ≡ []) ↔ (length q.packets ≡ 0) }
 {}
 
-/// Packets leave in the order in which they were accepted, each with the header and the bytes last written by who put it or by a closure that
-/// refused it: on the list of the headers and bytes that a queue holds, a packet that is accepted comes to the end, a refusing closure writes
-/// the first one anew, the first one is what is shown and taken off, and dropping a gap changes nothing.
+/// Packets leave in the order in which they were accepted, each with the header and the bytes last
+/// written by who put it or by a closure that refused it: on the list of the headers and bytes that
+/// a queue holds, a packet that is accepted comes to the end, a refusing closure writes the first
+/// one anew, the first one is what is shown and taken off, and dropping a gap changes nothing.
 pub fn packets_leave_in_order<H>()
     ensures accepted {
         (q : PacketQueue H) (size : ℕ) (header : H) (ws : List ℕ)
@@ -59,10 +61,12 @@ pub fn packets_leave_in_order<H>()
     }
 {}
 
-/// What `place` and `last_mut`, and `take` and `freed_mut`, make of a queue's contents where they are used apart.
+/// What `place` and `last_mut`, and `take` and `freed_mut`, make of a queue's contents where they
+/// are used apart.
 ///
-/// A placed packet has the bytes that stand in the storage, until they are written. What `freed_mut` shows after `take` are the bytes of the
-/// packet that was taken off, and a write there changes no content. The same holds of the bytes that `dequeue` lends.
+/// A placed packet has the bytes that stand in the storage, until they are written. What
+/// `freed_mut` shows after `take` are the bytes of the packet that was taken off, and a write there
+/// changes no content. The same holds of the bytes that `dequeue` lends.
 pub fn the_two_steps_apart<H>()
     ensures placed {
         (q : PacketQueue H) (size : ℕ) (header : H) → WellPlaced q → placement q size ≢ None
@@ -89,8 +93,9 @@ pub fn the_two_steps_apart<H>()
     }
 {}
 
-/// A packet that was only looked at: after `peek` the same packet is taken off, and a closure that leaves the header and the bytes of the first
-/// packet as they were leaves the contents, less the packet where it answered `Ok`.
+/// A packet that was only looked at: after `peek` the same packet is taken off, and a closure that
+/// leaves the header and the bytes of the first packet as they were leaves the contents, less the
+/// packet where it answered `Ok`.
 pub fn looking_changes_nothing<H>()
     ensures peeked {
         (q : PacketQueue H) → WellPlaced q
@@ -105,10 +110,11 @@ pub fn looking_changes_nothing<H>()
     }
 {}
 
-/// The packet that leaves k-th is the one that was accepted k-th. Over any calls, in any order, from a queue with no packets on, the packets
-/// that left, in order, followed by those that are still held, are exactly the packets that were accepted, in order. Each left, or is held,
-/// with the header and the bytes last written to it, by who put it or by a closure that refused it. What `reset` drops counts as never
-/// accepted.
+/// The packet that leaves k-th is the one that was accepted k-th. Over any calls, in any order,
+/// from a queue with no packets on, the packets that left, in order, followed by those that are
+/// still held, are exactly the packets that were accepted, in order. Each left, or is held, with
+/// the header and the bytes last written to it, by who put it or by a closure that refused it. What
+/// `reset` drops counts as never accepted.
 pub fn accepted_packets_leave_in_turn<H>()
     ensures {
         (slot_count : ℕ) (storage : List ℕ) (calls : List (Call H)) (r : PacketQueue H)
