@@ -1,4 +1,4 @@
-ghost use Rattle.std.specs.Prelude.{◌≡◌, ℕ, List, length, replicate, MatchOption, IfOk, OnErr};
+ghost use Rattle.std.specs.Prelude.{◌≡◌, ℕ, List, length, replicate, MatchOption, IfOk, OnErr, IfNone};
 ghost use Rattle.std.specs.Fn.{FnOnceReturnsAtMut, FnOnceTakesAtMut};
 ghost use Rattle.net_base.specs.declared.phy.device_capabilities.DeviceCapabilities.{DeviceCapabilities};
 
@@ -24,6 +24,9 @@ pub trait Device {
     /// Holds of a device that has no frame to hand over. By default nothing is said of one.
     ghost is_idle: { Self → Type 0 } = { λ _. Unit {0} };
 
+    /// Holds of a device that has no room to send a frame. By default nothing is said of one.
+    ghost is_busy: { Self → Type 0 } = { λ _. Unit {0} };
+
     /// A frame was sent: what the device was, the frame, what it is.
     ghost sent: { Self → List ℕ → Self → Type 0 };
 
@@ -39,11 +42,13 @@ pub trait Device {
         ensures { MatchOption result (is_idle self.old × (self.new ≡ self.old))
             (λ tokens. taken self.old (Self.RxToken.bytes tokens.0) self.new) };
 
-    /// A token to send one frame with, if the device has room. The device stays as it was.
+    /// A token to send one frame with. `None` is answered only where the device has no room to send
+    /// one. The device stays as it was in both cases.
     ///
     /// The timestamp is the moment of the call. Any moment is allowed.
     fn transmit(&mut self, timestamp: Instant) -> Option<Self::TxToken>
-        ensures { self.new ≡ self.old };
+        ensures none { IfNone result (is_busy self.old) }
+        ensures unchanged { self.new ≡ self.old };
 
     /// What the device can do.
     fn capabilities(&self) -> DeviceCapabilities

@@ -1,6 +1,6 @@
 //! A device that receives what it sends.
 
-ghost use Rattle.std.specs.Prelude.{◌≡◌, ℕ, List, [], ◌∷◌, ◌++◌, MatchOption, IsSome};
+ghost use Rattle.std.specs.Prelude.{◌≡◌, ℕ, List, [], ◌∷◌, ◌++◌, MatchOption};
 ghost use Rattle.net_base.specs.Loopback.{loopback_capabilities};
 
 use crate::phy::{self, ChecksumCapabilities, Device, DeviceCapabilities, Medium};
@@ -50,6 +50,8 @@ impl<A: Allocator + Copy> Device for Loopback<A> {
 
     ghost is_idle = { λ d. d.frames ≡ [] };
 
+    ghost is_busy = { λ _. ⊥ };
+
     ghost abilities = { λ d. loopback_capabilities d.medium };
 
     ghost sent = { λ old frame new. new ≡ record old { frames = old.frames ++ frame ∷ [] } };
@@ -65,10 +67,7 @@ impl<A: Allocator + Copy> Device for Loopback<A> {
     }
 
     /// Always answers a token. The timestamp is not read.
-    fn transmit(&mut self, _timestamp: Instant) -> Option<TxToken>
-        ensures available { IsSome result }
-        ensures unchanged { self.new ≡ self.old }
-    {
+    fn transmit(&mut self, _timestamp: Instant) -> Option<TxToken> {
         Some(TxToken(()))
     }
 
