@@ -1,6 +1,7 @@
 -- What the clauses of a ring's calls say, from its storage.
 use Rattle.std.proofs.Common.{◌≢◌, zero, suc, get_or, ◌≡◌, ℕ, ◌+◌, ◌-◌, ◌<◌, ◌≤◌, ◌⊎◌, List, [], ◌∷◌, ◌++◌, length, take, drop, min, refl, sym, ap, ap₂, ◌∙◌, subst, inl, inr, arith, length-append, length-drop, add-zero, nat_lt, if◌then◌else◌}
-use Rattle.std.proofs.Common.{append_assoc}
+use Rattle.std.proofs.Common.{append_assoc, ⊎_elim, lt-ltb, le-ltb}
+use Rattle.std.proofs.lemmas.Bool.{cond-true, cond-false}
 use Rattle.std.proofs.lemmas.List.{drop-take, take_at, drop_at, take-take, drop-drop, length-take-le, take-append-drop, take_all, drop_all, append-nil, nil_from_length}
 use Rattle.std.proofs.lemmas.Bool.{false≢true, cases_lt, ne_eqb, eq-eqb}
 use Rattle.std.specs.Prelude.{Result, IsOk, IsErr, is_ok}
@@ -505,3 +506,14 @@ module _ {T : Type 0} where
       let n : g.held ≡ h.held = sym (length-queue g wg) ∙ ap length eq ∙ length-queue h wh in
       let b : g.storage ≡ h.storage = back_is g wg ∙ ap₂ (λ l r. back l r) (ap₂ ◌++◌ eq es) er ∙ sym (back_is h wh) in
       ring_is g h b er n
+
+-- the place of an element that a ring can hold lies below the storage's end
+place_below : (c r j : ℕ) → j < c → (if nat_lt j (c - r) then r + j else j - (c - r)) < c
+place_below c r j l =
+    ⊎_elim (λ (a : j < c - r). subst (λ (p : ℕ). p < c) (sym (cond-true _ _ _ (lt-ltb j (c - r) a))) (omega arith))
+    (λ (b : c - r ≤ j). subst (λ (p : ℕ). p < c) (sym (cond-false _ _ _ (le-ltb j (c - r) b))) (omega arith))
+    (cases_lt j (c - r))
+
+-- where an element is held, some lie in a row there
+pub held_run_some : {T : Type 0} (g : RingState T) (i n : ℕ) → g.held ≤ length g.storage → i < g.held → 0 < n → 0 < held_run g i n
+held_run_some g i n room l m = let below = place_below (length g.storage) g.read_at (min i g.held) (omega arith) in omega arith

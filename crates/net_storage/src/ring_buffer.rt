@@ -402,6 +402,7 @@ impl<T, S: Elements<T>> Ring<T, S> {
         requires { count ≤ window self.old }
         ensures ring { self.new ≡ taken_in count self.old }
         ensures enqueued { Enqueued self.old (take count (spare self.old)) self.new }
+        ensures of_spare { spare self.new ≡ drop count (spare self.old) }
     {
         let _capacity = self.capacity();
         self.length += count;
@@ -412,6 +413,7 @@ impl<T, S: Elements<T>> Ring<T, S> {
     /// None where `offset` is past the queue.
     pub fn get_allocated(&self, offset: usize, size: usize) -> &[T]
         ensures count { length result.now ≡ held_run self.now offset size }
+        ensures not_empty { offset < self.now.held → 0 < size → 0 < length result.now }
         ensures value { result.now ≡ take (length result.now) (drop offset (queue self.now)) }
         ensures stored { result.now ≡ take (length result.now) (drop (held_place self.now offset) self.now.storage) }
     {
@@ -480,9 +482,11 @@ impl<T: Copy, S: Elements<T>> Ring<T, S> {
     /// beginning of `data`, and answers how many. The rest of `data` stays as it is.
     pub fn dequeue_slice(&mut self, data: &mut [T]) -> usize
         ensures count { result ≡ min (length «data».old) self.old.held }
+        ensures of_queue { result ≡ min (length «data».old) (length (queue self.old)) }
         ensures given { «data».new ≡ take result (queue self.old) ++ drop result «data».old }
         ensures ring { self.new ≡ taken_off result self.old }
         ensures dequeued { Dequeued self.old result (take result (queue self.old)) self.new }
+        ensures queue { queue self.new ≡ drop result (queue self.old) }
         ensures same { (self.new.held ≡ self.old.held - result) × (capacity self.new ≡ capacity self.old) }
     {
         let count = self.read_allocated(0, data);

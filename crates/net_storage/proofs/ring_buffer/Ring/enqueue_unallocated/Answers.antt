@@ -1,5 +1,6 @@
-use Rattle.std.proofs.Common.{sym, subst, take, arith}
+use Rattle.std.proofs.Common.{ap, sym, subst, take, ◌∙◌, arith}
 use Rattle.net_storage.specs.Ring.{spare, Enqueued}
+use Rattle.net_storage.proofs.Rotations.{taking_in}
 use Rattle.net_storage.proofs.RingFacts.{well, taken_in_is, taken_in_law}
 use Rattle.net_storage.proofs.ring_buffer.Ring.enqueue_unallocated.Goals as goal
 
@@ -10,3 +11,8 @@ pub returns-clause-enqueued : goal.returns-clause-enqueued
 returns-clause-enqueued g c =
     let old = c.args.self.now in
     subst (Enqueued old (take c.args.count (spare old))) (sym (returns-clause-ring g c)) (taken_in_law old (well _ _ c.self.view_is c.self.invariant) c.args.count c.requires)
+
+pub returns-clause-of_spare : goal.returns-clause-of_spare
+returns-clause-of_spare g c =
+    let old = c.args.self.now in
+    ap spare (returns-clause-ring g c) ∙ (taking_in old (well _ _ c.self.view_is c.self.invariant) c.args.count c.requires).1
