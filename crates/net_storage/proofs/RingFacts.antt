@@ -339,19 +339,30 @@ module _ {T : Type 0} where
     same_storage = ap (λ o. o.storage) is
 
     -- `write_unallocated`: a is written from the place p on, and the rest of the data at the beginning
-    pub round_clause : (i o n p k : ℕ) (src a b st : List T) → o ≡ min i (window g) → n ≤ length src → p ≡ place g (v.held + o) → k ≡ min n (capacity g - p)
+    pub round_clause : (i n p k : ℕ) (src a b st : List T) → n ≡ min (length src) (window g - i) → p ≡ spare_place g i → k ≡ min n (capacity g - p)
         → a ≡ take k src → b ≡ take (n - k) (drop k src) → st ≡ overwrite (overwrite v.storage p a) 0 b
         → ring st v.read_at v.held ≡ written_round g (spare_place g i) (take n src)
-    round_clause i o n p k src a b st eo en ep ek ea eb es =
+    round_clause i n p k src a b st en at ek ea eb es =
         let ws : List T = take n src in
-        let at : p ≡ spare_place g i = ep ∙ ap₂ (λ h j. place g (h + j)) same_held eo in
         let long : length ws ≡ n = length-take-le n src (omega (arith, en)) in
-        let within : p ≤ capacity g = omega (arith, ep, place_le g well (v.held + o) (omega (arith, same_held, eo, (well).1))) in
+        let within : p ≤ capacity g = omega (arith, at, spare_place_le g well i) in
         let one : a ≡ take k ws = ea ∙ sym (take-take k n src (omega (arith, ek))) in
         let two : b ≡ drop k ws = eb ∙ sym (drop-take k (n - k) src) ∙ ap (λ (m : ℕ). drop k (take m src)) (omega (arith, ek)) in
         let parts : st ≡ overwrite (overwrite g.storage p (take k ws)) 0 (drop k ws) = es ∙ ap₂ (λ x y. overwrite (overwrite v.storage p x) 0 y) one two ∙ ap (λ l. overwrite (overwrite l p (take k ws)) 0 (drop k ws)) same_storage in
         let all : st ≡ overwrite (overwrite g.storage p ws) 0 (drop (length g.storage - p) ws) = parts ∙ round_is g.storage ws p k within (omega (arith, ek, long)) in
         ap (λ l. ring l v.read_at v.held) all ∙ ap (λ o. ring (overwrite (overwrite g.storage p ws) 0 (drop (length g.storage - p) ws)) o.read_at o.held) is ∙ ap (λ q. written_round g q ws) at
+
+    -- the same where all of the data comes before the storage's end
+    pub once_clause : (i n p k : ℕ) (src a st : List T) → n ≡ min (length src) (window g - i) → p ≡ spare_place g i → k ≡ min n (capacity g - p) → n ≤ k
+        → a ≡ take k src → st ≡ overwrite v.storage p a
+        → ring st v.read_at v.held ≡ written_round g (spare_place g i) (take n src)
+    once_clause i n p k src a st en at ek le ea es =
+        let none : n - k ≡ 0 = omega (arith, le) in
+        round_clause i n p k src a [] st en at ek ea (sym (ap (λ (m : ℕ). take m (drop k src)) none)) (es ∙ sym (overwrite_none (overwrite v.storage p a) 0))
+
+    -- and what it leaves of the two parts
+    pub ahead_clause : (i n : ℕ) (src : List T) (h : RingState T) → n ≡ min (length src) (window g - i) → h ≡ written_round g (spare_place g i) (take n src) → SpareWritten g i (take n src) h
+    ahead_clause i n src h en e = subst (SpareWritten g i (take n src)) (sym e) (round_at g well i (take n src) (omega (arith, en, length-take-le n src (omega (arith, en)))))
 
     -- two writes leave the ring well-formed
     pub twice_wf : (p q : ℕ) (a b st : List T) → st ≡ overwrite (overwrite v.storage p a) q b → WellFormed (ring st v.read_at v.held)
@@ -376,21 +387,39 @@ module _ {T : Type 0} where
       | inl h ↦ let none : n ≡ 0 = omega (arith, eo, h, le) in ap (λ (j : ℕ). take j (drop o (queue g))) none ∙ sym (ap (λ (j : ℕ). take j (drop i (queue g))) none)
     ]
 
-    -- `read_allocated`: a is read from the place p on, and the rest of what is read at the beginning
-    pub read_clause : (i o n p k l : ℕ) (to a b : List T) → l ≡ k → o ≡ min i g.held → n ≤ g.held - o → p ≡ place g o → k ≡ min n (capacity g - p)
-        → a ≡ take l (drop p v.storage) → b ≡ take (n - k) v.storage
-        → take k (a ++ drop k to) ++ (b ++ drop (n - k) (drop k (a ++ drop k to))) ≡ take n (drop i (queue g)) ++ drop n to
-    read_clause i o n p k l to a b el eo le ep ek ea eb =
-        let lo : o ≤ g.held = omega (arith, eo) in
+    -- what is read from the place p on, up to the storage's end
+    read_first : (o n p k l : ℕ) (a : List T) → l ≡ k → n ≤ g.held - o → o ≤ g.held → p ≡ place g o → k ≡ min n (capacity g - p) → a ≡ take l (drop p v.storage)
+        → (length a ≡ k) × (a ≡ take k (drop o (queue g)))
+    read_first o n p k l a el le lo ep ek ea =
         let within : p ≤ capacity g = omega (arith, ep, place_le g well o (omega (arith, lo, (well).1))) in
         let at : IsPlace (capacity g) g.read_at o p = subst (IsPlace (capacity g) g.read_at o) (sym ep) (place_is g o) in
         let r = run_is g.storage p l k el (omega (arith, ek, within)) a (ea ∙ ap (λ s. take l (drop p s)) same_storage) in
-        let one : a ≡ take k (drop o (queue g)) = r.1 ∙ held_value g well o k p (omega (arith, ek, le, lo)) (omega (arith, ek, within)) at in
-        let two : b ≡ take (n - k) (drop k (drop o (queue g))) = read_on o n p k b le lo ep ek (eb ∙ ap (take (n - k)) same_storage) in
+        (r.0, r.1 ∙ held_value g well o k p (omega (arith, ek, le, lo)) (omega (arith, ek, within)) at)
+
+    -- `read_allocated`: a is read from the place p on, and the rest of what is read at the beginning
+    pub read_clause : (i n p k l : ℕ) (to a b : List T) → l ≡ k → n ≤ g.held - i → p ≡ held_place g i → k ≡ min n (capacity g - p)
+        → a ≡ take l (drop p v.storage) → b ≡ take (n - k) v.storage
+        → take k (a ++ drop k to) ++ (b ++ drop (n - k) (drop k (a ++ drop k to))) ≡ take n (drop i (queue g)) ++ drop n to
+    read_clause i n p k l to a b el le ep ek ea eb =
+        let o : ℕ = min i g.held in
+        let lo : o ≤ g.held = omega arith in
+        let few : n ≤ g.held - o = omega (arith, le) in
+        let r = read_first o n p k l a el few lo ep ek ea in
+        let two : b ≡ take (n - k) (drop k (drop o (queue g))) = read_on o n p k b few lo ep ek (eb ∙ ap (take (n - k)) same_storage) in
         let m : k + (n - k) ≡ n = omega (arith, ek) in
-        let both : a ++ b ≡ take n (drop i (queue g)) = ap₂ ◌++◌ one two ∙ sym (take_sum k (n - k) (drop o (queue g))) ∙ ap (λ (j : ℕ). take j (drop o (queue g))) m ∙ clamped i o n eo le in
+        let both : a ++ b ≡ take n (drop i (queue g)) = ap₂ ◌++◌ r.1 two ∙ sym (take_sum k (n - k) (drop o (queue g))) ∙ ap (λ (j : ℕ). take j (drop o (queue g))) m ∙ clamped i o n refl few in
         let rest : drop (n - k) (drop k (a ++ drop k to)) ≡ drop n to = ap (drop (n - k)) (drop_at a (drop k to) k r.0) ∙ drop-drop (n - k) k to ∙ ap (λ (j : ℕ). drop j to) m in
         ap₂ ◌++◌ (take_at a (drop k to) k r.0) (ap (λ (l : List T). b ++ l) rest) ∙ sym (append_assoc a b (drop n to)) ∙ ap (λ (l : List T). l ++ drop n to) both
+
+    -- the same where all of it comes before the storage's end
+    pub read_once_clause : (i n p k l : ℕ) (to a : List T) → l ≡ k → n ≤ g.held - i → p ≡ held_place g i → k ≡ min n (capacity g - p) → n ≤ k
+        → a ≡ take l (drop p v.storage) → a ++ drop k to ≡ take n (drop i (queue g)) ++ drop n to
+    read_once_clause i n p k l to a el le ep ek all ea =
+        let o : ℕ = min i g.held in
+        let few : n ≤ g.held - o = omega (arith, le) in
+        let r = read_first o n p k l a el few (omega arith) ep ek ea in
+        let m : k ≡ n = omega (arith, ek, all) in
+        ap (λ (l : List T). l ++ drop k to) r.1 ∙ ap (λ (j : ℕ). take j (drop o (queue g)) ++ drop j to) m ∙ ap (λ (l : List T). l ++ drop n to) (clamped i o n refl few)
 
     -- ---- elements that are taken in or off, and none that is written
     pub taken_in_is : (k m : ℕ) → k ≡ m → ring v.storage v.read_at (v.held + k) ≡ taken_in m g

@@ -1,5 +1,13 @@
-use Rattle.std.specs.Prelude.{ℕ, List, ◌++◌, length, take, drop}
+-- Lists that are written over.
+use Rattle.std.specs.Prelude.{◌≡◌, ℕ, ◌+◌, ◌-◌, ◌<◌, ◌&&◌, nat_le, nat_lt, if◌then◌else◌, List, ◌++◌, length, take, drop, slice_index_or}
 
--- xs with ws written over its elements from the index i on. What reaches past the end is cut off
-abbrev pub overwrite : {X : Type 0} → List X → ℕ → List X → List X
-overwrite xs i ws = take (length xs) (take i xs ++ (ws ++ drop (length ws) (drop i xs)))
+module _ {X : Type 0} where
+  -- xs with ws written over its elements from the index i on. What reaches past the end is cut off
+  abbrev pub overwrite : List X → ℕ → List X → List X
+  overwrite xs i ws = take (length xs) (take i xs ++ (ws ++ drop (length ws) (drop i xs)))
+
+  -- the element k is that of ws which was written there, and else the one that xs has. x is what
+  -- a read past a list's end gives, so that the statement holds of each element there is
+  abbrev pub OverwrittenAt : List X → ℕ → List X → ℕ → X → Type 0
+  OverwrittenAt xs i ws k x = k < length xs → slice_index_or (overwrite xs i ws) k x
+      ≡ (if nat_le i k && nat_lt k (i + length ws) then slice_index_or ws (k - i) x else slice_index_or xs k x)

@@ -29,6 +29,15 @@ pub struct Ring<T, S: Elements<T>> {
     elements: PhantomData<T>,
 }
 
+// Elements of a ring: where they begin in the storage, how many there are, and how many of them are
+// contiguous. The others stand at the storage's beginning.
+#[derive(Clone, Copy)]
+struct Span {
+    from: usize,
+    count: usize,
+    contiguous: usize,
+}
+
 /// A ring of elements over storage that is lent or owned.
 pub type RingBuffer<'a, T> = Ring<T, ManagedSlice<'a, T>>;
 
@@ -163,6 +172,28 @@ impl<T, S: Elements<T>> Ring<T, S> {
             self.read_at + offset
         } else {
             offset - to_end
+        }
+    }
+
+    // Of the `limit` elements that begin `start` places after the read place: at most `size` from
+    // the one at `offset` on, and none where `offset` is past the limit.
+    #[inline]
+    fn span(&self, start: usize, limit: usize, offset: usize, size: usize) -> Span
+        requires { start + limit ≤ capacity self.now }
+        ensures from { result.from ≡ place self.now (start + min offset limit) }
+        ensures count { result.count ≡ min size (limit - offset) }
+        ensures contiguous { result.contiguous ≡ min result.count (capacity self.now - result.from) }
+        ensures within { (result.from ≤ capacity self.now) × (capacity self.now < 2 ^ 64) }
+    {
+        let capacity = self.capacity();
+        let offset = offset.min(limit);
+        let from = self.place(start + offset);
+        let count = size.min(limit - offset);
+        let contiguous = count.min(capacity - from);
+        Span {
+            from,
+            count,
+            contiguous,
         }
     }
 
@@ -380,21 +411,9 @@ impl<T, S: Elements<T>> Ring<T, S> {
         ensures stored { result.now ≡ take (length result.now) (drop (spare_place self.old offset) self.old.storage) }
         ensures written { (ws : List T) → length ws ≡ spare_run self.old offset size → SpareWritten self.old offset ws (written self.old (spare_place self.old offset) ws) }
     {
-        let (from, count) = self.spare_run(offset, size);
-        self.storage.part_mut(from, from + count)
-    }
-
-    // Where the free element at `offset` stands, and how many lie in a row there, of at most `size`.
-    fn spare_run(&self, offset: usize, size: usize) -> (usize, usize)
-        ensures place { result.0 ≡ spare_place self.now offset }
-        ensures count { result.1 ≡ spare_run self.now offset size }
-        ensures within { (result.0 + result.1 ≤ capacity self.now) × (capacity self.now < 2 ^ 64) }
-    {
-        let capacity = self.capacity();
-        let window = self.window();
-        let offset = offset.min(window);
-        let from = self.place(self.length + offset);
-        (from, size.min((window - offset).min(capacity - from)))
+        let span = self.span(self.length, self.window(), offset, size);
+        self.storage
+            .part_mut(span.from, span.from + span.contiguous)
     }
 
     /// Enqueues `count` elements, as they stand. There must be as many free ones: `window` tells.
@@ -417,8 +436,8 @@ impl<T, S: Elements<T>> Ring<T, S> {
         ensures value { result.now ≡ take (length result.now) (drop offset (queue self.now)) }
         ensures stored { result.now ≡ take (length result.now) (drop (held_place self.now offset) self.now.storage) }
     {
-        let (from, count) = self.held_run(offset, size);
-        self.storage.part(from, from + count)
+        let span = self.span(0, self.length, offset, size);
+        self.storage.part(span.from, span.from + span.contiguous)
     }
 
     /// Lends at most `size` elements of the queue from the one at `offset` on: as many as lie in a row.
@@ -431,21 +450,9 @@ impl<T, S: Elements<T>> Ring<T, S> {
         ensures stored { result.now ≡ take (length result.now) (drop (held_place self.old offset) self.old.storage) }
         ensures written { (ws : List T) → length ws ≡ held_run self.old offset size → QueueWritten self.old offset ws (written self.old (held_place self.old offset) ws) }
     {
-        let (from, count) = self.held_run(offset, size);
-        self.storage.part_mut(from, from + count)
-    }
-
-    // Where the element of the queue at `offset` stands, and how many lie in a row there, of at most `size`.
-    fn held_run(&self, offset: usize, size: usize) -> (usize, usize)
-        ensures place { result.0 ≡ held_place self.now offset }
-        ensures count { result.1 ≡ held_run self.now offset size }
-        ensures within { (result.0 + result.1 ≤ capacity self.now) × (capacity self.now < 2 ^ 64) }
-    {
-        let capacity = self.capacity();
-        let held = self.len();
-        let offset = offset.min(held);
-        let from = self.place(offset);
-        (from, size.min((held - offset).min(capacity - from)))
+        let span = self.span(0, self.length, offset, size);
+        self.storage
+            .part_mut(span.from, span.from + span.contiguous)
     }
 
     /// Dequeues `count` elements. The ring must hold as many: `len` tells.
@@ -502,18 +509,19 @@ impl<T: Copy, S: Elements<T>> Ring<T, S> {
         ensures written { SpareWritten self.old offset (take result «data».now) self.new }
         ensures same { (self.new.held ≡ self.old.held) × (capacity self.new ≡ capacity self.old) }
     {
-        let capacity = self.capacity();
-        let window = self.window();
-        let offset = offset.min(window);
-        let count = data.len().min(window - offset);
-        let from = self.place(self.length + offset);
-        let first = count.min(capacity - from);
+        let Span {
+            from,
+            count,
+            contiguous,
+        } = self.span(self.length, self.window(), offset, data.len());
         self.storage
-            .part_mut(from, from + first)
-            .copy_from_slice(&data[..first]);
-        self.storage
-            .part_mut(0, count - first)
-            .copy_from_slice(&data[first..count]);
+            .part_mut(from, from + contiguous)
+            .copy_from_slice(&data[..contiguous]);
+        if contiguous < count {
+            self.storage
+                .part_mut(0, count - contiguous)
+                .copy_from_slice(&data[contiguous..count]);
+        }
         count
     }
 
@@ -525,14 +533,15 @@ impl<T: Copy, S: Elements<T>> Ring<T, S> {
         ensures given { «data».new ≡ take result (drop offset (queue self.old)) ++ drop result «data».old }
         ensures same { self.new ≡ self.old }
     {
-        let capacity = self.capacity();
-        let held = self.len();
-        let offset = offset.min(held);
-        let count = data.len().min(held - offset);
-        let from = self.place(offset);
-        let first = count.min(capacity - from);
-        data[..first].copy_from_slice(self.storage.part(from, from + first));
-        data[first..count].copy_from_slice(self.storage.part(0, count - first));
+        let Span {
+            from,
+            count,
+            contiguous,
+        } = self.span(0, self.length, offset, data.len());
+        data[..contiguous].copy_from_slice(self.storage.part(from, from + contiguous));
+        if contiguous < count {
+            data[contiguous..count].copy_from_slice(self.storage.part(0, count - contiguous));
+        }
         count
     }
 }

@@ -1,6 +1,7 @@
 //! Laws of rings and of their storage, over the definitions alone: the functions do nothing.
-ghost use Rattle.std.specs.Prelude.{◌≡◌, ◌+◌, List, length};
+ghost use Rattle.std.specs.Prelude.{◌≡◌, ◌+◌, List, length, take, drop, ℕ};
 ghost use Rattle.net_storage.specs.Managed.{elements, with_part};
+ghost use Rattle.net_storage.specs.Overwrite.{overwrite, OverwrittenAt};
 ghost use Rattle.net_storage.specs.Ring.{RingState, capacity, window, queue, spare, restarted, WellFormed};
 
 use crate::managed::ManagedSlice;
@@ -25,4 +26,13 @@ pub fn restarting_keeps_the_queue<T>()
 /// What was written over the whole of a storage is what it then holds.
 pub fn storage_is_what_was_written<T>(storage: &ManagedSlice<'_, T>)
     ensures { (ws : List T) → length ws ≡ length (elements storage.now) → elements (with_part storage.now 0 ws) ≡ ws }
+{}
+
+/// A list that was written over has as many elements as before; at each index it has the element
+/// that was written there, and the old one where none was; and where a part of it was written over
+/// itself it is as it was.
+pub fn overwritten<T>()
+    ensures count { (xs ws : List T) (i : ℕ) → length (overwrite xs i ws) ≡ length xs }
+    ensures element { (xs ws : List T) (i k : ℕ) (x : T) → OverwrittenAt xs i ws k x }
+    ensures same { (xs : List T) (i n : ℕ) → overwrite xs i (take n (drop i xs)) ≡ xs }
 {}

@@ -1,5 +1,5 @@
-use Rattle.std.proofs.Common.{◌≡◌, refl, ap, arith}
-use Rattle.net_storage.specs.Ring.{held_place, held_run}
+use Rattle.std.proofs.Common.{◌≡◌, ◌∙◌, ◌+◌, min, refl, ap, arith}
+use Rattle.net_storage.specs.Ring.{capacity, place, held_place, held_run}
 use Rattle.net_storage.proofs.RingFacts.{well, left_at, shown_held, held_run_law}
 use Rattle.net_storage.proofs.ring_buffer.Ring.get_allocated_mut.Goals as goal
 
@@ -7,11 +7,13 @@ pub returns : goal.returns
 returns g c =
     let old = c.args.self.now in
     let is = c.self.view_is in
-    let run = c.held_run-from.ensures in
-    let at : c.held_run-from.result.0 ≡ held_place old c.args.offset = omega (arith, run.place, ap (λ o. held_place o c.args.offset) is) in
-    let count : c.held_run-from.result.1 ≡ held_run old c.args.offset c.args.size = omega (arith, run.count, ap (λ o. held_run o c.args.offset c.args.size) is) in
+    let span = c.span-span.ensures in
+    let held = ap (λ o. o.held) is in
+    let size = ap (λ o. capacity o) is in
+    let at : c.span-span.result.from ≡ held_place old c.args.offset = span.from ∙ ap (λ o. place o (0 + min c.args.offset c.self.inside.length)) is ∙ ap (place old) (omega (arith, held)) in
+    let count : c.span-span.result.contiguous ≡ held_run old c.args.offset c.args.size = omega (arith, span.count, span.contiguous, at, held, size) in
     let lent = shown_held _ _ is c.self.invariant c.args.offset c.args.size _ _ at (omega (arith, count)) _ c.part_mut.ensures.value in (
-      (refl, λ w. left_at _ _ is c.self.invariant _ _ at _ w (g.met.S.Elements.part_written c.self.inside.storage c.held_run-from.result.0 w)),
+      (refl, λ w. left_at _ _ is c.self.invariant _ _ at _ w (g.met.S.Elements.part_written c.self.inside.storage c.span-span.result.from w)),
       record {
         writes_back = tt;
         count = lent.0;

@@ -1,5 +1,5 @@
-use Rattle.std.proofs.Common.{◌≡◌, refl, ap, arith}
-use Rattle.net_storage.specs.Ring.{spare_place, spare_run}
+use Rattle.std.proofs.Common.{◌≡◌, ◌∙◌, ◌+◌, min, refl, ap, arith}
+use Rattle.net_storage.specs.Ring.{capacity, place, spare_place, spare_run}
 use Rattle.net_storage.proofs.RingFacts.{well, left_at, shown_spare, spare_run_law}
 use Rattle.net_storage.proofs.ring_buffer.Ring.get_unallocated.Goals as goal
 
@@ -7,11 +7,13 @@ pub returns : goal.returns
 returns g c =
     let old = c.args.self.now in
     let is = c.self.view_is in
-    let run = c.spare_run-from.ensures in
-    let at : c.spare_run-from.result.0 ≡ spare_place old c.args.offset = omega (arith, run.place, ap (λ o. spare_place o c.args.offset) is) in
-    let count : c.spare_run-from.result.1 ≡ spare_run old c.args.offset c.args.size = omega (arith, run.count, ap (λ o. spare_run o c.args.offset c.args.size) is) in
+    let span = c.span-span.ensures in
+    let held = ap (λ o. o.held) is in
+    let size = ap (λ o. capacity o) is in
+    let at : c.span-span.result.from ≡ spare_place old c.args.offset = span.from ∙ ap (λ o. place o (c.self.inside.length + min c.args.offset c.window.result)) is ∙ ap (place old) (omega (arith, held, size, c.window.ensures.window)) in
+    let count : c.span-span.result.contiguous ≡ spare_run old c.args.offset c.args.size = omega (arith, span.count, span.contiguous, at, held, size, c.window.ensures.window) in
     let lent = shown_spare _ _ is c.self.invariant c.args.offset c.args.size _ _ at (omega (arith, count)) _ c.part_mut.ensures.value in (
-      (refl, λ w. left_at _ _ is c.self.invariant _ _ at _ w (g.met.S.Elements.part_written c.self.inside.storage c.spare_run-from.result.0 w)),
+      (refl, λ w. left_at _ _ is c.self.invariant _ _ at _ w (g.met.S.Elements.part_written c.self.inside.storage c.span-span.result.from w)),
       record {
         writes_back = tt;
         count = lent.0;

@@ -1,11 +1,25 @@
-use Rattle.std.proofs.Common.{rules, ◌≡◌, ◌∙◌, ap, min, ◌-◌, take, arith}
-use Rattle.net_storage.proofs.RingFacts.{read_clause}
+use Rattle.std.proofs.Common.{rules, ◌≡◌, ◌≤◌, ◌∙◌, ap, min, ◌-◌, take, arith}
+use Rattle.net_storage.specs.Ring.{place, capacity, held_place}
+use Rattle.net_storage.proofs.RingFacts.{read_clause, read_once_clause}
 use Rattle.net_storage.proofs.ring_buffer.Ring.read_allocated.Goals as goal
 
-pub returns-clause-given : goal.returns-clause-given
-returns-clause-given g c =
-    let held = c.len-held.ensures.held in
-    let rest : c.copy_from_slice-2.new.self ≡ take (c.min-count.result - c.min-first.result) (g.S.Elements.elements c.self.inside.storage) = search rules in
-    read_clause _ _ c.self.view_is c.self.invariant c.args.offset c.min-offset.result c.min-count.result c.place-from.result c.min-first.result _ c.args.«data».now _ _
-    (omega arith) (c.min-offset.ensures ∙ ap (min c.args.offset) held) (omega arith) c.place-from.ensures.place
-    (c.min-first.ensures ∙ ap (λ n. min c.min-count.result (n - c.place-from.result)) c.capacity-capacity.ensures.capacity) (c.copy_from_slice.ensures.after ∙ c.part.ensures) rest
+pub returns-then-contiguous-count-clause-given : goal.returns-then-contiguous-count-clause-given
+returns-then-contiguous-count-clause-given g c =
+    let old = c.args.self.now in
+    let span = c.span-from.ensures in
+    let held = ap (λ o. o.held) c.self.view_is in
+    let n = c.span-from.result.count in
+    let k = c.span-from.result.contiguous in
+    let at : c.span-from.result.from ≡ held_place old c.args.offset = span.from ∙ ap (place old) (omega (arith, held)) in
+    let rest : c.copy_from_slice-then-contiguous-count.new.self ≡ take (n - k) (g.S.Elements.elements c.self.inside.storage) = search rules in
+    read_clause _ _ c.self.view_is c.self.invariant c.args.offset n c.span-from.result.from k _ c.args.«data».now _ _
+    (omega arith) (omega (arith, span.count, held)) at span.contiguous (c.copy_from_slice.ensures.after ∙ c.part.ensures) rest
+
+pub returns-else-contiguous-count-clause-given : goal.returns-else-contiguous-count-clause-given
+returns-else-contiguous-count-clause-given g c =
+    let old = c.args.self.now in
+    let span = c.span-from.ensures in
+    let held = ap (λ o. o.held) c.self.view_is in
+    let at : c.span-from.result.from ≡ held_place old c.args.offset = span.from ∙ ap (place old) (omega (arith, held)) in
+    read_once_clause _ _ c.self.view_is c.self.invariant c.args.offset c.span-from.result.count c.span-from.result.from c.span-from.result.contiguous _ c.args.«data».now _
+    (omega arith) (omega (arith, span.count, held)) at span.contiguous c.if-contiguous-count.false (c.copy_from_slice.ensures.after ∙ c.part.ensures)
