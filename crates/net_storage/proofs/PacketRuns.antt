@@ -8,21 +8,13 @@ use Rattle.net_storage.specs.Overwrite.{overwrite}
 use Rattle.net_storage.specs.Ring.{queue, place}
 use Rattle.net_storage.specs.Packets.{Packet, PacketQueue, no_packets, packet, bytes_of, slots_used, byte_ring, place_in, ArePlaced, placement, pushed, pushed_if, placed_if_room, only_last, last_place, last_bytes, last_written, last_cut, with_first_size, first_gap, first_size, without_first_gap, skipped, with_first_header, first_written, popped, dequeued, handed, freed_place, freed_bytes, AreFreed, with_bytes, first_bytes, IsFirst, IsFirstSized, WellPlaced}
 use Rattle.net_storage.specs.PacketHistory.{contents_of, contents, Call, Reset, Place, WriteLast, Enqueue, EnqueueWith, Peek, DequeueErr, DequeueOk, Take, WriteFreed, Dequeue, Log, Makes, MakesAll, with_last_bytes, logged, logged_all, history}
+use Rattle.net_storage.proofs.Overwrites.{overwrite-same}
 use Rattle.net_storage.proofs.Rotations.{IsPlace, length-overwrite, length-queue, cut, overwrite_at, place_is}
 use Rattle.net_storage.proofs.RingFacts.{held_law, spare_law}
 use Rattle.net_storage.proofs.PacketFacts.{bytes_append, place_cases, place_place, place_wf, placed_skip, placed_pop, slots_for_pos}
 use Rattle.net_storage.proofs.PacketSteps.{closed, last_append, before_append, last_fits, front_fits, push_well, close_gap}
 use Rattle.net_storage.proofs.PacketOrder.{some_of, contents_append}
 use Rattle.net_storage.proofs.PacketOrder as order
-
--- what is written over a part of a list as it stands there changes nothing
-overwrite_same : (xs : List ℕ) (i n : ℕ) → i + n ≤ length xs → overwrite xs i (take n (drop i xs)) ≡ xs
-overwrite_same xs i n fits =
-    let c1 = cut i xs (omega (arith, fits)) in let a = c1.0 in let v = c1.1 in
-    let c2 = cut n v (omega (arith, c1.4, fits)) in let part = c2.0 in let z = c2.1 in
-    let whole : xs ≡ a ++ (part ++ z) = c1.2 ∙ ap (λ (l : List ℕ). a ++ l) c2.2 in
-    let read : take n (drop i xs) ≡ part = ap (take n) (ap (drop i) c1.2 ∙ drop_at a v i c1.3) ∙ ap (take n) c2.2 ∙ take_at part z n c2.3 in
-    ap₂ (λ (l ws : List ℕ). overwrite l i ws) whole read ∙ overwrite_at a part z part i c1.3 refl ∙ sym whole
 
 -- a list that is not empty ends in an element
 ends_in : {X : Type 0} (xs : List X) → xs ≢ [] → (ys : List X) × (y : X) × (xs ≡ ys ++ (y ∷ []))
@@ -120,12 +112,8 @@ module _ {H : Type 0} where
       → contents (placed_if_room q (length ws) hd) ≡ contents q ++ ((hd, ws) ∷ [])
   placed_contents q ok hd ws some is =
       let o = placed_if_room q (length ws) hd in
-      let w = placed_well q ok (length ws) hd some in
-      let f = last_fits (length o.storage) o.read_at 0 o.packets w.0.0 (omega (arith, w.0.1)) w.1 in
-      let z : 0 + bytes_of o.packets - first_size (only_last o.packets) ≡ bytes_of o.packets - first_size (only_last o.packets) = omega arith in
-      let at = ap (place_in (length o.storage) o.read_at) z in
       let same : last_written o ws ≡ o =
-      ap (last_written o) is ∙ ap (λ (st : List ℕ). mk o.slot_count st o.read_at o.packets) (overwrite_same o.storage (last_place o) (first_size (only_last o.packets)) (omega (arith, at, f.1))) in
+      ap (last_written o) is ∙ ap (λ (st : List ℕ). mk o.slot_count st o.read_at o.packets) (overwrite-same o.storage (last_place o) (first_size (only_last o.packets))) in
       ap contents (sym same) ∙ order.accepted q ok (length ws) hd ws some refl
 
   -- the last packet is written again
@@ -261,8 +249,8 @@ module _ {H : Type 0} where
       order.shown q ok hd (freed_bytes (dequeued q) s) (sized, t.0) ∙ ap (λ l. (hd, freed_bytes (dequeued q) s) ∷ l) (sym (order.left q ok))
 
   -- what stands before the read place is written over itself
-  pub freed_stay : (q : PacketQueue H) (s : ℕ) (ws : List ℕ) → AreFreed q s → ws ≡ freed_bytes q s → with_bytes q (freed_place q s) ws ≡ q
-  freed_stay q s ws f is = ap (with_bytes q (freed_place q s)) is ∙ ap (λ (st : List ℕ). mk q.slot_count st q.read_at q.packets) (overwrite_same q.storage (freed_place q s) s f.1)
+  pub freed_stay : (q : PacketQueue H) (s : ℕ) (ws : List ℕ) → ws ≡ freed_bytes q s → with_bytes q (freed_place q s) ws ≡ q
+  freed_stay q s ws is = ap (with_bytes q (freed_place q s)) is ∙ ap (λ (st : List ℕ). mk q.slot_count st q.read_at q.packets) (overwrite-same q.storage (freed_place q s) s)
 
   pub peeked_contents : (q : PacketQueue H) → WellPlaced q → contents (dequeued (skipped q)) ≡ drop 1 (contents q)
   peeked_contents q ok = order.left (skipped q) (skipped_well q ok) ∙ ap (drop 1) (order.gap_dropped q ok)

@@ -6,7 +6,7 @@ use Rattle.net_storage.proofs.packet_buffer.Packets.pop_slice.Goals as goal
 
 pub returns-clause-made : goal.returns-clause-made
 returns-clause-made g c =
-    freed_stay c.take.new.self c.in_ok-header.size c.freed_mut.result.now c.in_ok-header.ensures.freed.0 c.freed_mut.ensures.value
+    freed_stay c.take.new.self c.in_ok-header.size c.freed_mut.result.now c.freed_mut.ensures.value
     ∙ c.in_ok-header.ensures.dequeued
 
 pub returns-clause-popped : goal.returns-clause-popped
@@ -17,7 +17,7 @@ returns-clause-popped g c =
     let size = c.in_ok-header.size in
     let bytes = c.freed_mut.result.now in
     let is : r ≡ dequeued q = c.in_ok-header.ensures.dequeued in
-    let left : with_bytes r (freed_place r size) bytes ≡ dequeued q = freed_stay r size bytes c.in_ok-header.ensures.freed.0 c.freed_mut.ensures.value ∙ is in
+    let left : with_bytes r (freed_place r size) bytes ≡ dequeued q = freed_stay r size bytes c.freed_mut.ensures.value ∙ is in
     let shown : contents q ≡ (h, bytes) ∷ contents (dequeued q) =
     c.the_two_steps_apart.ensures.taken q h size c.well_placed.ensures c.in_ok-header.ensures.first
     ∙ ap (λ (l : List ℕ). (h, l) ∷ contents (dequeued q)) (sym (c.freed_mut.ensures.value ∙ ap (λ o. freed_bytes o size) is)) in
