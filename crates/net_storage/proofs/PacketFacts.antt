@@ -4,7 +4,7 @@ use Rattle.std.proofs.lemmas.Bool.{cases_lt, le-leb, lt-leb, lt-ltb, le-ltb, cas
 use Rattle.std.proofs.lemmas.Option.{none-some, cond_some}
 use Rattle.std.specs.Prelude.{Option, true}
 use Rattle.std.specs.declared.option.Option.TheVariants.{Some, None}
-use Rattle.net_storage.specs.Ring.{RingState, ring, capacity, window, queue, write_at, WellFormed, restarted, taken_in, taken_off, written, Enqueued}
+use Rattle.net_storage.specs.Ring.{RingState, ring, capacity, window, queue, write_at, WellFormed, restarted, with_enqueued, with_dequeued, written, Enqueued}
 use Rattle.net_storage.specs.Packets.{Packet, packet, bytes_of, slots_used, slots_for, place_in, IsPlaced, ArePlaced, gap_for, if_slots}
 use Rattle.net_storage.specs.PacketSlots.{slot, gap_slot, packet_slots, packets_in, Holds}
 use Rattle.net_storage.specs.declared.packet_metadata.PacketMetadata.{PacketMetadata}
@@ -216,7 +216,7 @@ module _ {H : Type 0} where
   gap_slot_none gap e = ap (λ (n : ℕ). gap_slot {H = H} n) e
 
 -- ---- what the ring of slots is after a slot came last
-pub pushed_slot : {T : Type 0} (g h : RingState T) (w : T) → WellFormed g → window g ≢ 0 → h ≡ written (taken_in 1 g) (write_at g) (w ∷ []) → Enqueued g (w ∷ []) h
+pub pushed_slot : {T : Type 0} (g h : RingState T) (w : T) → WellFormed g → window g ≢ 0 → h ≡ written (with_enqueued 1 g) (write_at g) (w ∷ []) → Enqueued g (w ∷ []) h
     → (queue h ≡ queue g ++ (w ∷ [])) × WellFormed h × (window h ≡ window g - 1) × (capacity h ≡ capacity g)
 pushed_slot g h w wf some e q =
     let cap : capacity h ≡ capacity g = ap capacity e ∙ length-overwrite g.storage (write_at g) (w ∷ []) in
@@ -225,7 +225,7 @@ pushed_slot g h w wf some e q =
     (q.0, (elim wf.0 [ inl z ↦ inl (r ∙ z) | inr l ↦ inr (omega (arith, r, cap, l)) ], omega (arith, n, cap, some)), omega (arith, n, cap), cap)
 
 -- and after the first one was taken off as it is
-pub off_wf : {T : Type 0} (g : RingState T) (x : T) (xs : List T) → WellFormed g → queue g ≡ x ∷ xs → WellFormed (taken_off 1 g)
+pub off_wf : {T : Type 0} (g : RingState T) (x : T) (xs : List T) → WellFormed g → queue g ≡ x ∷ xs → WellFormed (with_dequeued 1 g)
 off_wf g x xs wf e =
     let long = length-queue g wf in
     let n = ap length e in

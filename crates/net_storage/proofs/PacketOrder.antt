@@ -4,13 +4,13 @@ use Rattle.std.proofs.lemmas.List.{take_at, drop_at, nil_from_length, take_all, 
 use Rattle.std.specs.Prelude.{Option, replicate}
 use Rattle.std.specs.declared.option.Option.TheVariants.{Some, None}
 use Rattle.net_storage.specs.Overwrite.{overwrite}
-use Rattle.net_storage.specs.Ring.{RingState, ring, capacity, window, queue, spare, place, WellFormed, restarted, taken_in, written}
+use Rattle.net_storage.specs.Ring.{RingState, ring, capacity, window, queue, spare, storage_index, WellFormed, restarted, with_enqueued, written}
 use Rattle.net_storage.specs.Packets.{Packet, PacketQueue, packet, bytes_of, slots_used, byte_ring, place_in, ArePlaced, placement, placed_if_room, last_written, last_cut, first_gap, first_size, without_first_gap, skipped, IsFirstSized, IsFirst, with_first_header, first_written, popped, dequeued, WellPlaced}
 use Rattle.net_storage.specs.PacketSlots.{slot, packet_slots, packets_in, Holds, packet_queue}
 use Rattle.net_storage.specs.PacketHistory.{contents_of, contents}
 use Rattle.net_storage.specs.declared.packet_metadata.PacketMetadata.{PacketMetadata}
-use Rattle.net_storage.proofs.Rotations.{length-overwrite, length-queue, length-spare, taking_in, taking_off, take_sum, cut, overwrite_at, place_is}
-use Rattle.net_storage.proofs.RingFacts.{written_wf, spare_law, held_law, held_value, restarted_is, front_place}
+use Rattle.net_storage.proofs.Rotations.{length-overwrite, length-queue, length-spare, with_enqueued_parts, with_dequeued_parts, take_sum, cut, overwrite_at, storage_index_is}
+use Rattle.net_storage.proofs.RingFacts.{written_wf, spare_law, held_law, held_value, restarted_is, read_index_is}
 use Rattle.net_storage.proofs.PacketFacts.{bytes_append, length-slots, place_wf}
 use Rattle.net_storage.proofs.PacketSteps.{viewed, here, wfg, held_g, byte_room, put_is, cut_is, same, closed}
 
@@ -36,13 +36,13 @@ over_front xs ws s fits long =
     (ap (take s) over ∙ take_at ws z s long, ap (drop s) over ∙ drop_at ws z s long ∙ sym (ap (drop s) c.2 ∙ drop_at part z s c.3))
 
 -- the queue of a ring to whose spare part ws was written past a gap, and of which k bytes came in with the gap
-filled_queue : (g : RingState ℕ) (wf : WellFormed g) (gap k : ℕ) (ws : List ℕ) → gap + length ws ≤ window g → place g (g.held + gap) + length ws ≤ capacity g → k ≤ length ws
-    → queue (taken_in (gap + k) (written g (place g (g.held + gap)) ws)) ≡ queue g ++ (take gap (spare g) ++ take k ws)
+filled_queue : (g : RingState ℕ) (wf : WellFormed g) (gap k : ℕ) (ws : List ℕ) → gap + length ws ≤ window g → storage_index g (g.held + gap) + length ws ≤ capacity g → k ≤ length ws
+    → queue (with_enqueued (gap + k) (written g (storage_index g (g.held + gap)) ws)) ≡ queue g ++ (take gap (spare g) ++ take k ws)
 filled_queue g wf gap k ws room fits le =
-    let p = place g (g.held + gap) in
-    let w = spare_law g wf gap p ws room fits (place_is g (g.held + gap)) in
+    let p = storage_index g (g.held + gap) in
+    let w = spare_law g wf gap p ws room fits (storage_index_is g (g.held + gap)) in
     let long = length-overwrite g.storage p ws in
-    let t = taking_in (written g p ws) (written_wf g wf p ws) (gap + k) (omega (arith, room, le, long)) in
+    let t = with_enqueued_parts (written g p ws) (written_wf g wf p ws) (gap + k) (omega (arith, room, le, long)) in
     let s = length-spare g wf in
     t.0 ∙ ap₂ ◌++◌ w.0 (ap (take (gap + k)) w.1 ∙ take_over (spare g) ws gap k (omega (arith, room, s)) le)
 
@@ -100,7 +100,7 @@ module _ {H : Type 0} where
     g = restarted b
 
     abbrev at : ℕ
-    at = place g (g.held + gap)
+    at = storage_index g (g.held + gap)
 
     accepted_go : contents (mk (capacity m) (overwrite g.storage at ws) g.read_at (kept ++ (packet hd k gap ∷ []))) ≡ contents (packet_queue m b) ++ ((hd, take k ws) ∷ [])
     accepted_go =
@@ -154,28 +154,28 @@ module _ {H : Type 0} where
 
   -- the queue of bytes once a gap is gone
   skip_queue : (st : List ℕ) (r : ℕ) (p : Packet H) (ps : List (Packet H)) → WellFormed (bytes st r (p ∷ ps))
-      → (queue (bytes st (place (bytes st r (p ∷ ps)) p.gap) (packet p.header p.size 0 ∷ ps)) ≡ drop p.gap (queue (bytes st r (p ∷ ps)))) × WellFormed (bytes st (place (bytes st r (p ∷ ps)) p.gap) (packet p.header p.size 0 ∷ ps))
+      → (queue (bytes st (storage_index (bytes st r (p ∷ ps)) p.gap) (packet p.header p.size 0 ∷ ps)) ≡ drop p.gap (queue (bytes st r (p ∷ ps)))) × WellFormed (bytes st (storage_index (bytes st r (p ∷ ps)) p.gap) (packet p.header p.size 0 ∷ ps))
   skip_queue st r p ps wf =
       let c = bytes st r (p ∷ ps) in
       let n : p.gap + p.size + bytes_of ps - p.gap ≡ 0 + p.size + bytes_of ps = omega arith in (
-        sym (ap (λ (i : ℕ). queue (ring st (place c p.gap) i)) n) ∙ (taking_off c wf p.gap (omega arith)).0,
+        sym (ap (λ (i : ℕ). queue (ring st (storage_index c p.gap) i)) n) ∙ (with_dequeued_parts c wf p.gap (omega arith)).0,
         (place_wf (length st) r p.gap wf.0 (omega (arith, wf.1)), omega (arith, wf.1)),
       )
 
   -- the queue of bytes once the first packet is gone, where it has no gap
   pop_queue : (st : List ℕ) (r : ℕ) (h : H) (s : ℕ) (ps : List (Packet H)) → WellFormed (bytes st r (packet h s 0 ∷ ps))
-      → queue (bytes st (place (bytes st r (packet h s 0 ∷ ps)) s) ps) ≡ drop s (queue (bytes st r (packet h s 0 ∷ ps)))
+      → queue (bytes st (storage_index (bytes st r (packet h s 0 ∷ ps)) s) ps) ≡ drop s (queue (bytes st r (packet h s 0 ∷ ps)))
   pop_queue st r h s ps wf =
       let c = bytes st r (packet h s 0 ∷ ps) in
       let n : 0 + s + bytes_of ps - s ≡ bytes_of ps = omega arith in
-      sym (ap (λ (i : ℕ). queue (ring st (place c s) i)) n) ∙ (taking_off c wf s (omega arith)).0
+      sym (ap (λ (i : ℕ). queue (ring st (storage_index c s) i)) n) ∙ (with_dequeued_parts c wf s (omega arith)).0
 
   -- the queue of bytes once the first packet, which has no gap, is written
   write_queue : (st : List ℕ) (r : ℕ) (h : H) (s : ℕ) (ps : List (Packet H)) (ws : List ℕ) → WellFormed (bytes st r (packet h s 0 ∷ ps)) → r + s ≤ length st → length ws ≡ s
       → (queue (bytes (overwrite st r ws) r (packet h s 0 ∷ ps)) ≡ overwrite (queue (bytes st r (packet h s 0 ∷ ps))) 0 ws) × WellFormed (bytes (overwrite st r ws) r (packet h s 0 ∷ ps))
   write_queue st r h s ps ws wf fits long =
       let c = bytes st r (packet h s 0 ∷ ps) in
-      ((held_law c wf 0 r ws (omega (arith, long)) (omega (arith, long, fits)) (front_place c wf)).0, written_wf c wf r ws)
+      ((held_law c wf 0 r ws (omega (arith, long)) (omega (arith, long, fits)) (read_index_is c wf)).0, written_wf c wf r ws)
 
   contents_skip : (h : H) (s gap : ℕ) (ps : List (Packet H)) (bs : List ℕ) → contents_of (packet h s 0 ∷ ps) (drop gap bs) ≡ contents_of (packet h s gap ∷ ps) bs
   contents_skip h s gap ps bs =
@@ -185,23 +185,23 @@ module _ {H : Type 0} where
       ∙ ap (λ (l : List ℕ). (h, take s (drop gap bs)) ∷ contents_of ps l) (drop-drop (0 + s) gap bs ∙ ap (λ (i : ℕ). drop i bs) n)
 
   skipped_go : (st : List ℕ) (r : ℕ) (ps : List (Packet H)) → WellFormed (bytes st r ps)
-      → contents_of (without_first_gap ps) (queue (bytes st (place (bytes st r ps) (first_gap ps)) (without_first_gap ps))) ≡ contents_of ps (queue (bytes st r ps))
+      → contents_of (without_first_gap ps) (queue (bytes st (storage_index (bytes st r ps) (first_gap ps)) (without_first_gap ps))) ≡ contents_of ps (queue (bytes st r ps))
   skipped_go st r [] wf = refl
   skipped_go st r (p ∷ ps) wf =
       ap (contents_of (packet p.header p.size 0 ∷ ps)) (skip_queue st r p ps wf).0 ∙ contents_skip p.header p.size p.gap ps (queue (bytes st r (p ∷ ps)))
 
   -- where the first packet's bytes are
   first_run : (st : List ℕ) (r : ℕ) (p : Packet H) (ps : List (Packet H)) → WellFormed (bytes st r (p ∷ ps)) → ArePlaced (length st) r 0 (p ∷ ps)
-      → (place (bytes st r (p ∷ ps)) p.gap + p.size ≤ length st) × (take p.size (drop (place (bytes st r (p ∷ ps)) p.gap) st) ≡ take p.size (drop p.gap (queue (bytes st r (p ∷ ps)))))
+      → (storage_index (bytes st r (p ∷ ps)) p.gap + p.size ≤ length st) × (take p.size (drop (storage_index (bytes st r (p ∷ ps)) p.gap) st) ≡ take p.size (drop p.gap (queue (bytes st r (p ∷ ps)))))
   first_run st r p ps wf a =
       let c = bytes st r (p ∷ ps) in
       let z : 0 + p.gap ≡ p.gap = omega arith in
       let at = ap (place_in (length st) r) z in
-      let fits : place c p.gap + p.size ≤ length st = omega (arith, at, a.0.0) in
-      (fits, held_value c wf p.gap p.size (place c p.gap) (omega arith) fits (place_is c p.gap))
+      let fits : storage_index c p.gap + p.size ≤ length st = omega (arith, at, a.0.0) in
+      (fits, held_value c wf p.gap p.size (storage_index c p.gap) (omega arith) fits (storage_index_is c p.gap))
 
   shown_go : (st : List ℕ) (r : ℕ) (ps : List (Packet H)) → WellFormed (bytes st r ps) → ArePlaced (length st) r 0 ps → (hd : H) (ws : List ℕ) → IsFirstSized ps hd (length ws)
-      → ws ≡ take (first_size (without_first_gap ps)) (drop (place (bytes st r ps) (first_gap ps)) st) → contents_of ps (queue (bytes st r ps)) ≡ (hd, ws) ∷ drop 1 (contents_of ps (queue (bytes st r ps)))
+      → ws ≡ take (first_size (without_first_gap ps)) (drop (storage_index (bytes st r ps) (first_gap ps)) st) → contents_of ps (queue (bytes st r ps)) ≡ (hd, ws) ∷ drop 1 (contents_of ps (queue (bytes st r ps)))
   shown_go st r [] wf a hd ws e f = absurd (let n = ap length e in omega (arith, n))
   shown_go st r (p ∷ ps) wf a hd ws e f =
       let head : p.header ≡ hd = ap (λ l. (head_or p l).header) e in
@@ -218,13 +218,13 @@ module _ {H : Type 0} where
   contents_rest h s ps bs = let n : 0 + s ≡ s = omega arith in ap (λ (i : ℕ). contents_of ps (drop i bs)) n
 
   refused_go : (st : List ℕ) (r : ℕ) (ps : List (Packet H)) → WellFormed (bytes st r ps) → ArePlaced (length st) r 0 ps → ps ≢ [] → (hd : H) (ws : List ℕ) → length ws ≡ first_size ps
-      → contents_of (with_first_header hd (without_first_gap ps)) (queue (bytes (overwrite st (place (bytes st r ps) (first_gap ps)) ws) (place (bytes st r ps) (first_gap ps)) (with_first_header hd (without_first_gap ps)))) ≡ (hd, ws) ∷ drop 1 (contents_of ps (queue (bytes st r ps)))
+      → contents_of (with_first_header hd (without_first_gap ps)) (queue (bytes (overwrite st (storage_index (bytes st r ps) (first_gap ps)) ws) (storage_index (bytes st r ps) (first_gap ps)) (with_first_header hd (without_first_gap ps)))) ≡ (hd, ws) ∷ drop 1 (contents_of ps (queue (bytes st r ps)))
   refused_go st r [] wf a some hd ws long = absurd (some refl)
   refused_go st r (p ∷ ps) wf a some hd ws long =
       let c = bytes st r (p ∷ ps) in
       let sk = skip_queue st r p ps wf in
       let fits = (first_run st r p ps wf a).0 in
-      let w = write_queue st (place c p.gap) p.header p.size ps ws sk.1 fits long in
+      let w = write_queue st (storage_index c p.gap) p.header p.size ps ws sk.1 fits long in
       let n = length-drop p.gap (queue c) in
       let q = length-queue c wf in
       ap (contents_of (packet hd p.size 0 ∷ ps)) (w.0 ∙ ap (λ (l : List ℕ). overwrite l 0 ws) sk.0)
@@ -232,26 +232,26 @@ module _ {H : Type 0} where
       ∙ ap (λ l. (hd, ws) ∷ l) (sym (contents_rest p.header p.size ps (drop p.gap (queue c))) ∙ ap (drop 1) (contents_skip p.header p.size p.gap ps (queue c)))
 
   left_go : (st : List ℕ) (r : ℕ) (ps : List (Packet H)) → WellFormed (bytes st r ps)
-      → contents_of (drop 1 (without_first_gap ps)) (queue (bytes st (place (bytes st (place (bytes st r ps) (first_gap ps)) (without_first_gap ps)) (first_size (without_first_gap ps))) (drop 1 (without_first_gap ps)))) ≡ drop 1 (contents_of ps (queue (bytes st r ps)))
+      → contents_of (drop 1 (without_first_gap ps)) (queue (bytes st (storage_index (bytes st (storage_index (bytes st r ps) (first_gap ps)) (without_first_gap ps)) (first_size (without_first_gap ps))) (drop 1 (without_first_gap ps)))) ≡ drop 1 (contents_of ps (queue (bytes st r ps)))
   left_go st r [] wf = refl
   left_go st r (p ∷ ps) wf =
       let c = bytes st r (p ∷ ps) in
       let sk = skip_queue st r p ps wf in
-      ap (contents_of ps) (pop_queue st (place c p.gap) p.header p.size ps sk.1 ∙ ap (drop p.size) sk.0)
+      ap (contents_of ps) (pop_queue st (storage_index c p.gap) p.header p.size ps sk.1 ∙ ap (drop p.size) sk.0)
       ∙ sym (contents_rest p.header p.size ps (drop p.gap (queue c))) ∙ ap (drop 1) (contents_skip p.header p.size p.gap ps (queue c))
 
-  left_with_go : (st : List ℕ) (r : ℕ) (ps : List (Packet H)) → WellFormed (bytes st r ps) → ArePlaced (length st) r 0 ps → (hd : H) (ws : List ℕ) → length ws ≡ first_size ps → (o : List ℕ) → o ≡ overwrite st (place (bytes st r ps) (first_gap ps)) ws
-      → contents_of (drop 1 (with_first_header hd (without_first_gap ps))) (queue (bytes o (place (bytes o (place (bytes st r ps) (first_gap ps)) (with_first_header hd (without_first_gap ps))) (first_size (with_first_header hd (without_first_gap ps)))) (drop 1 (with_first_header hd (without_first_gap ps))))) ≡ drop 1 (contents_of ps (queue (bytes st r ps)))
+  left_with_go : (st : List ℕ) (r : ℕ) (ps : List (Packet H)) → WellFormed (bytes st r ps) → ArePlaced (length st) r 0 ps → (hd : H) (ws : List ℕ) → length ws ≡ first_size ps → (o : List ℕ) → o ≡ overwrite st (storage_index (bytes st r ps) (first_gap ps)) ws
+      → contents_of (drop 1 (with_first_header hd (without_first_gap ps))) (queue (bytes o (storage_index (bytes o (storage_index (bytes st r ps) (first_gap ps)) (with_first_header hd (without_first_gap ps))) (first_size (with_first_header hd (without_first_gap ps)))) (drop 1 (with_first_header hd (without_first_gap ps))))) ≡ drop 1 (contents_of ps (queue (bytes st r ps)))
   left_with_go st r [] wf a hd ws long o is = refl
   left_with_go st r (p ∷ ps) wf a hd ws long o is =
       let c = bytes st r (p ∷ ps) in
-      let from = place c p.gap in
+      let from = storage_index c p.gap in
       let sk = skip_queue st r p ps wf in
       let fits = (first_run st r p ps wf a).0 in
       let w = write_queue st from p.header p.size ps ws sk.1 fits long in
       let n = length-drop p.gap (queue c) in
       let q = length-queue c wf in
-      ap (λ (l : List ℕ). contents_of ps (queue (bytes l (place (bytes l from (packet hd p.size 0 ∷ ps)) p.size) ps))) is
+      ap (λ (l : List ℕ). contents_of ps (queue (bytes l (storage_index (bytes l from (packet hd p.size 0 ∷ ps)) p.size) ps))) is
       ∙ ap (contents_of ps) (pop_queue (overwrite st from ws) from p.header p.size ps w.1 ∙ ap (drop p.size) (w.0 ∙ ap (λ (l : List ℕ). overwrite l 0 ws) sk.0) ∙ (over_front (drop p.gap (queue c)) ws p.size (omega (arith, n, q)) long).1)
       ∙ sym (contents_rest p.header p.size ps (drop p.gap (queue c))) ∙ ap (drop 1) (contents_skip p.header p.size p.gap ps (queue c))
 

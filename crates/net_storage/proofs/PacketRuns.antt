@@ -5,11 +5,11 @@ use Rattle.std.proofs.Math.Seq.{set-append_seam}
 use Rattle.std.specs.Prelude.{set}
 use Rattle.std.specs.declared.option.Option.TheVariants.{Some, None}
 use Rattle.net_storage.specs.Overwrite.{overwrite}
-use Rattle.net_storage.specs.Ring.{queue, place}
+use Rattle.net_storage.specs.Ring.{queue, storage_index}
 use Rattle.net_storage.specs.Packets.{Packet, PacketQueue, no_packets, packet, bytes_of, slots_used, byte_ring, place_in, ArePlaced, placement, pushed, pushed_if, placed_if_room, only_last, last_place, last_bytes, last_written, last_cut, with_first_size, first_gap, first_size, without_first_gap, skipped, with_first_header, first_written, popped, dequeued, handed, freed_place, freed_bytes, AreFreed, with_bytes, first_bytes, IsFirst, IsFirstSized, WellPlaced}
 use Rattle.net_storage.specs.PacketHistory.{contents_of, contents, Call, Reset, Place, WriteLast, Enqueue, EnqueueWith, Peek, DequeueErr, DequeueOk, Take, WriteFreed, Dequeue, Log, Makes, MakesAll, with_last_bytes, logged, logged_all, history}
 use Rattle.net_storage.proofs.Overwrites.{overwrite-same}
-use Rattle.net_storage.proofs.Rotations.{IsPlace, length-overwrite, length-queue, cut, overwrite_at, place_is}
+use Rattle.net_storage.proofs.Rotations.{IsStorageIndex, length-overwrite, length-queue, cut, overwrite_at, storage_index_is}
 use Rattle.net_storage.proofs.RingFacts.{held_law, spare_law}
 use Rattle.net_storage.proofs.PacketFacts.{bytes_append, place_cases, place_place, place_wf, placed_skip, placed_pop, slots_for_pos}
 use Rattle.net_storage.proofs.PacketSteps.{closed, last_append, before_append, last_fits, front_fits, push_well, close_gap}
@@ -129,7 +129,7 @@ module _ {H : Type 0} where
       let i : ℕ = bytes_of q.packets - first_size (only_last q.packets) in
       let z : 0 + bytes_of q.packets - first_size (only_last q.packets) ≡ i = omega arith in
       let at = ap (place_in (length st) r) z in
-      let w = (held_law c ok.0 i (last_place q) ws (omega (arith, long, f.0)) (omega (arith, long, at, f.1)) (place_is c i)).0 in
+      let w = (held_law c ok.0 i (last_place q) ws (omega (arith, long, f.0)) (omega (arith, long, at, f.1)) (storage_index_is c i)).0 in
       let all = length-queue c ok.0 in
       let c1 = cut (bytes_of ps) bs (omega (arith, all, sum)) in let a = c1.0 in let v = c1.1 in
       let c2 = cut p.gap v (omega (arith, all, sum, c1.4)) in let x = c2.0 in let old = c2.1 in
@@ -161,15 +161,15 @@ module _ {H : Type 0} where
       let s = length ws in
       let i : ℕ = length q.storage - bytes_of q.packets - s in
       let z : length q.storage - s ≡ c.held + i = omega (arith, f.0, ok.0.1) in
-      let at = ap (place c) z in
-      let w = spare_law c ok.0 i (freed_place q s) ws (omega (arith, f.0)) f.1 (subst (λ (j : ℕ). IsPlace (length q.storage) q.read_at j (freed_place q s)) z (place_is c (length q.storage - s))) in
+      let at = ap (storage_index c) z in
+      let w = spare_law c ok.0 i (freed_place q s) ws (omega (arith, f.0)) f.1 (subst (λ (j : ℕ). IsStorageIndex (length q.storage) q.read_at j (freed_place q s)) z (storage_index_is c (length q.storage - s))) in
       ap (contents_of q.packets) w.0
 
   close_size : (ps : List (Packet H)) → first_size (without_first_gap ps) ≡ first_size ps
   close_size [] = refl
   close_size (p ∷ ps) = refl
 
-  -- the bytes of a packet that was taken off lie before the read place
+  -- the bytes of a packet that was taken off lie before the read index
   rest_bytes : (ps : List (Packet H)) → bytes_of (drop 1 ps) + first_size ps ≤ bytes_of ps
   rest_bytes [] = omega arith
   rest_bytes (p ∷ ps) = omega arith
@@ -230,7 +230,7 @@ module _ {H : Type 0} where
       let l = last_contents q ok ws some long in
       l.4 ∙ sym (last_entry l.0 l.1 l.2 ws) ∙ ap (with_last_bytes ws) (sym l.3)
 
-  -- what was taken off stands before the read place
+  -- what was taken off stands before the read index
   taken_bytes : (q : PacketQueue H) → WellPlaced q → (s : ℕ) → s ≡ first_size q.packets → (freed_bytes (dequeued q) s ≡ first_bytes (skipped q)) × (length (freed_bytes (dequeued q) s) ≡ s)
   taken_bytes q ok s is =
       let f = off_go q.slot_count q.storage (skipped q).read_at (without_first_gap q.packets) (skipped_well q ok) (close_gap q.packets) in
@@ -248,7 +248,7 @@ module _ {H : Type 0} where
       let sized = subst (λ (n : ℕ). IsFirstSized q.packets hd n) (sym t.1) first in
       order.shown q ok hd (freed_bytes (dequeued q) s) (sized, t.0) ∙ ap (λ l. (hd, freed_bytes (dequeued q) s) ∷ l) (sym (order.left q ok))
 
-  -- what stands before the read place is written over itself
+  -- what stands before the read index is written over itself
   pub freed_stay : (q : PacketQueue H) (s : ℕ) (ws : List ℕ) → ws ≡ freed_bytes q s → with_bytes q (freed_place q s) ws ≡ q
   freed_stay q s ws is = ap (with_bytes q (freed_place q s)) is ∙ ap (λ (st : List ℕ). mk q.slot_count st q.read_at q.packets) (overwrite-same q.storage (freed_place q s) s)
 

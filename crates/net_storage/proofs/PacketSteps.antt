@@ -7,12 +7,12 @@ use Rattle.std.specs.Prelude.{true, Option}
 use Rattle.std.specs.List.{slice_get}
 use Rattle.std.specs.declared.option.Option.TheVariants.{Some, None}
 use Rattle.net_storage.specs.Overwrite.{overwrite}
-use Rattle.net_storage.specs.Ring.{RingState, ring, rot, capacity, window, queue, place, WellFormed, restarted, taken_in, taken_off, written, contiguous_window, contiguous_held, held_place, held_run, spare_place, spare_run}
+use Rattle.net_storage.specs.Ring.{RingState, ring, rotation, capacity, window, queue, storage_index, WellFormed, restarted, with_enqueued, with_dequeued, written, contiguous_window, contiguous_held, held_index, contiguous_held_from, spare_index, contiguous_window_from}
 use Rattle.net_storage.specs.Packets.{Packet, PacketQueue, packet, bytes_of, slots_used, slots_for, byte_ring, place_in, IsPlaced, ArePlaced, gap_for, placement, pushed, placed_if_room, pushed_if, only_last, before_last, last_place, last_bytes, last_written, last_cut, with_first_size, IsRoom, first_gap, first_size, without_first_gap, skipped, IsFirstSized, first_bytes, IsFirst, with_first_header, first_written, popped, freed_place, AreFreed, WellPlaced, with_bytes}
 use Rattle.net_storage.specs.PacketSlots.{slot, gap_slot, packet_slots, packets_in, Holds, packet_queue}
 use Rattle.net_storage.specs.declared.packet_metadata.PacketMetadata.{PacketMetadata}
-use Rattle.net_storage.proofs.Rotations.{length-overwrite, length-queue, taking_off, run-rot, cut, overwrite_at, read_at_le}
-use Rattle.net_storage.proofs.RingFacts.{front_place}
+use Rattle.net_storage.proofs.Rotations.{length-overwrite, length-queue, with_dequeued_parts, part-rotation, cut, overwrite_at, read_at_le}
+use Rattle.net_storage.proofs.RingFacts.{read_index_is}
 use Rattle.net_storage.proofs.PacketFacts.{round, slots_append, slots_of_append, bytes_append, placed_append, placed_anew, placed_here, placed_skip, placed_pop, slots_some, restart_cases, restart_wf, held_is, place_zero, place_le_in, place_wf, gap_slot_one, gap_slot_none, place_cases}
 
 module _ (b : RingState ℕ) where
@@ -123,15 +123,15 @@ module _ {H : Type 0} where
             subst WellPlaced push_is ((wfg.0, omega (arith, here.2, le, all, held_g)), push_placed, omega (arith, more, n, free_room, h.0.1))
 
         module _ (m2 : RingState (PacketMetadata H)) (em : queue m2 ≡ queue m ++ (gap_slot gap ++ (slot k (Some hd) ∷ []))) (wfm : WellFormed m2) where
-          pub push_holds : Holds m2 (taken_in (gap + k) g) one_more
+          pub push_holds : Holds m2 (with_enqueued (gap + k) g) one_more
           push_holds =
               let slots_all : queue m2 ≡ packet_slots one_more =
               em ∙ ap (λ (l : List (PacketMetadata H)). l ++ (gap_slot gap ++ (slot k (Some hd) ∷ []))) h.2 ∙ sym (slots_append held_packets (packet hd k gap)) in
               let all = bytes_append held_packets (packet hd k gap) in
               (wfm, (wfg.0, omega (arith, here.2, le)), slots_all, omega (arith, held_g, all), push_placed)
 
-          pub push_left : (cm : capacity m2 ≡ capacity m) → packet_queue m2 (taken_in (gap + k) g) ≡ pushed before gap k hd
-          push_left cm = viewed m2 (taken_in (gap + k) g) one_more push_holds ∙ ap (λ (n : ℕ). mk n g.storage g.read_at one_more) cm ∙ push_is
+          pub push_left : (cm : capacity m2 ≡ capacity m) → packet_queue m2 (with_enqueued (gap + k) g) ≡ pushed before gap k hd
+          push_left cm = viewed m2 (with_enqueued (gap + k) g) one_more push_holds ∙ ap (λ (n : ℕ). mk n g.storage g.read_at one_more) cm ∙ push_is
 
     -- ---- a packet comes last, and bytes are written to it
     module _ (hd : H) where
@@ -170,37 +170,37 @@ module _ {H : Type 0} where
           ∙ ap (last_cut k) (put_is ws)
 
       module _ (b1 : RingState ℕ) (is : b1 ≡ g) where
-        fill_at : spare_place b1 gap ≡ place_in room g.read_at (g.held + gap)
+        fill_at : spare_index b1 gap ≡ place_in room g.read_at (g.held + gap)
         fill_at =
             let z : g.held + min gap (window g) ≡ g.held + gap = omega (arith, byte_room) in
-            ap (λ o. spare_place o gap) is ∙ ap (place_in room g.read_at) z
+            ap (λ o. spare_index o gap) is ∙ ap (place_in room g.read_at) z
 
-        fill_place : spare_place b1 gap ≡ last_place (placed_if_room before s hd)
+        fill_place : spare_index b1 gap ≡ last_place (placed_if_room before s hd)
         fill_place = fill_at ∙ sym push_place ∙ ap last_place (sym pushed_is)
 
-        pub fill_run : spare_run b1 gap s ≡ s
+        pub fill_run : contiguous_window_from b1 gap s ≡ s
         fill_run =
             let from = fill_at in
             let w = ap window is in
             let c = ap capacity is in
             omega (arith, from, w, c, byte_room, here.0)
 
-        pub fill_room : (now : List ℕ) → now ≡ take (length now) (drop (spare_place b1 gap) b1.storage) → length now ≡ spare_run b1 gap s → IsRoom before s hd now
+        pub fill_room : (now : List ℕ) → now ≡ take (length now) (drop (spare_index b1 gap) b1.storage) → length now ≡ contiguous_window_from b1 gap s → IsRoom before s hd now
         fill_room now stored count =
             let long : length now ≡ s = count ∙ fill_run in
             let size : first_size (only_last (placed_if_room before s hd).packets) ≡ s = ap (λ o. first_size (only_last o.packets)) pushed_is ∙ end_size in
             let st : (placed_if_room before s hd).storage ≡ b1.storage = ap (λ o. o.storage) pushed_is ∙ sym (restart_storage b) ∙ ap (λ o. o.storage) (sym is) in
-            let one : last_bytes (placed_if_room before s hd) ≡ take s (drop (spare_place b1 gap) b1.storage) =
+            let one : last_bytes (placed_if_room before s hd) ≡ take s (drop (spare_index b1 gap) b1.storage) =
             ap (λ (n : ℕ). take n (drop (last_place (placed_if_room before s hd)) (placed_if_room before s hd).storage)) size
             ∙ ap₂ (λ (p : ℕ) (l : List ℕ). take s (drop p l)) (sym fill_place) st in
-            ((λ n. none-some gap (sym n ∙ e)), stored ∙ ap (λ (n : ℕ). take n (drop (spare_place b1 gap) b1.storage)) long ∙ sym one, long)
+            ((λ n. none-some gap (sym n ∙ e)), stored ∙ ap (λ (n : ℕ). take n (drop (spare_index b1 gap) b1.storage)) long ∙ sym one, long)
 
-        module _ (k : ℕ) (le : k ≤ s) (ws : List ℕ) (m2 : RingState (PacketMetadata H)) (em : queue m2 ≡ queue m ++ (gap_slot gap ++ (slot k (Some hd) ∷ []))) (wfm : WellFormed m2) (b3 : RingState ℕ) (after : b3 ≡ taken_in (gap + k) (written b1 (spare_place b1 gap) ws)) where
-          after_is : b3 ≡ written (taken_in (gap + k) g) at ws
-          after_is = after ∙ ap₂ (λ (o : RingState ℕ) (p : ℕ). taken_in (gap + k) (written o p ws)) is fill_at
+        module _ (k : ℕ) (le : k ≤ s) (ws : List ℕ) (m2 : RingState (PacketMetadata H)) (em : queue m2 ≡ queue m ++ (gap_slot gap ++ (slot k (Some hd) ∷ []))) (wfm : WellFormed m2) (b3 : RingState ℕ) (after : b3 ≡ with_enqueued (gap + k) (written b1 (spare_index b1 gap) ws)) where
+          after_is : b3 ≡ written (with_enqueued (gap + k) g) at ws
+          after_is = after ∙ ap₂ (λ (o : RingState ℕ) (p : ℕ). with_enqueued (gap + k) (written o p ws)) is fill_at
 
-          holds : Holds m2 (written (taken_in (gap + k) g) at ws) (held_packets ++ (packet hd k gap ∷ []))
-          holds = written_holds m2 (taken_in (gap + k) g) (held_packets ++ (packet hd k gap ∷ [])) (push_holds hd k le m2 em wfm) at ws
+          holds : Holds m2 (written (with_enqueued (gap + k) g) at ws) (held_packets ++ (packet hd k gap ∷ []))
+          holds = written_holds m2 (with_enqueued (gap + k) g) (held_packets ++ (packet hd k gap ∷ [])) (push_holds hd k le m2 em wfm) at ws
 
           pub fill_holds : Holds m2 b3 (packets_in 0 (queue m2))
           fill_holds = subst (λ (o : RingState ℕ). Holds m2 o (packets_in 0 (queue m2))) (sym after_is) (closed m2 _ _ holds)
@@ -262,25 +262,25 @@ module _ {H : Type 0} where
     pub end_held : end ≤ b.held
     end_held = omega (arith, h.3, ends.0)
 
-    pub end_place : held_place b (b.held - end) ≡ last_place (packet_queue m b)
+    pub end_place : held_index b (b.held - end) ≡ last_place (packet_queue m b)
     end_place =
         let z : min (b.held - end) b.held ≡ bytes_of (packets_in 0 (queue m)) - end = omega (arith, h.3) in
         ap (place_in (capacity b) b.read_at) z
 
-    pub end_run : held_run b (b.held - end) end ≡ end
+    pub end_run : contiguous_held_from b (b.held - end) end ≡ end
     end_run =
         let z : min (b.held - end) b.held ≡ 0 + bytes_of (packets_in 0 (queue m)) - end = omega (arith, h.3) in
         let at = ap (place_in (capacity b) b.read_at) z in
         omega (arith, at, ends.0, ends.1, h.3)
 
   -- ---- the gap before the first packet goes
-  pub skip_holds : (m : RingState (PacketMetadata H)) (b : RingState ℕ) (ps : List (Packet H)) → Holds m b ps → 0 < first_gap ps → Holds (taken_off 1 m) (taken_off (first_gap ps) b) (without_first_gap ps)
+  pub skip_holds : (m : RingState (PacketMetadata H)) (b : RingState ℕ) (ps : List (Packet H)) → Holds m b ps → 0 < first_gap ps → Holds (with_dequeued 1 m) (with_dequeued (first_gap ps) b) (without_first_gap ps)
   skip_holds m b [] h pos = absurd (omega arith)
   skip_holds m b (p ∷ ps) h pos =
       let wf = h.1 in
       let some : queue m ≡ slot p.gap None ∷ (slot p.size (Some p.header) ∷ packet_slots ps) = h.2 ∙ ap (λ l. l ++ (slot p.size (Some p.header) ∷ packet_slots ps)) (gap_slot_one p.gap pos) in
       let many : 1 ≤ m.held = omega (arith, length-queue m h.0, ap length some) in
-      let off = taking_off m h.0 1 many in
+      let off = with_dequeued_parts m h.0 1 many in
       let all : b.held ≡ p.gap + p.size + bytes_of ps = h.3 in (
         (place_wf (capacity m) m.read_at 1 h.0.0 (omega (arith, many, h.0.1)), omega (arith, h.0.1)),
         (place_wf (capacity b) b.read_at p.gap wf.0 (omega (arith, all, wf.1)), omega (arith, wf.1)),
@@ -302,17 +302,17 @@ module _ {H : Type 0} where
   close_first (p ∷ ps) x s e = ap (with_gap p.gap) e
 
   module _ (m : RingState (PacketMetadata H)) (b : RingState ℕ) (h : Holds m b (packets_in 0 (queue m))) where
-    pub skip_kept : 0 < first_gap (packets_in 0 (queue m)) → Holds (taken_off 1 m) (taken_off (first_gap (packets_in 0 (queue m))) b) (packets_in 0 (queue (taken_off 1 m)))
+    pub skip_kept : 0 < first_gap (packets_in 0 (queue m)) → Holds (with_dequeued 1 m) (with_dequeued (first_gap (packets_in 0 (queue m))) b) (packets_in 0 (queue (with_dequeued 1 m)))
     skip_kept pos =
         let ps = packets_in 0 (queue m) in
-        closed (taken_off 1 m) (taken_off (first_gap ps) b) (without_first_gap ps) (skip_holds m b ps h pos)
+        closed (with_dequeued 1 m) (with_dequeued (first_gap ps) b) (without_first_gap ps) (skip_holds m b ps h pos)
 
     -- the same by what the two steps left
-    pub skip_keeps : (gap : ℕ) (q : PacketQueue H) (m2 : RingState (PacketMetadata H)) (b2 : RingState ℕ) → packet_queue m b ≡ q → gap ≡ first_gap q.packets → 0 < gap → m2 ≡ taken_off 1 m → b2 ≡ taken_off gap b → Holds m2 b2 (packets_in 0 (queue m2))
+    pub skip_keeps : (gap : ℕ) (q : PacketQueue H) (m2 : RingState (PacketMetadata H)) (b2 : RingState ℕ) → packet_queue m b ≡ q → gap ≡ first_gap q.packets → 0 < gap → m2 ≡ with_dequeued 1 m → b2 ≡ with_dequeued gap b → Holds m2 b2 (packets_in 0 (queue m2))
     skip_keeps gap q m2 b2 is size some off freed =
         let all : gap ≡ first_gap (packets_in 0 (queue m)) = size ∙ ap (λ o. first_gap o.packets) (sym is) in
         subst (λ n. Holds n b2 (packets_in 0 (queue n))) (sym off)
-        (subst (λ o. Holds (taken_off 1 m) o (packets_in 0 (queue (taken_off 1 m)))) (sym (freed ∙ ap (λ n. taken_off n b) all)) (skip_kept (omega (arith, all, some))))
+        (subst (λ o. Holds (with_dequeued 1 m) o (packets_in 0 (queue (with_dequeued 1 m)))) (sym (freed ∙ ap (λ n. with_dequeued n b) all)) (skip_kept (omega (arith, all, some))))
 
   -- ---- the first packet, whose gap is gone
   front_slots : (ps : List (Packet H)) (p : Packet H) → p.gap ≡ 0 → packet_slots (p ∷ ps) ≡ slot p.size (Some p.header) ∷ packet_slots ps
@@ -340,7 +340,7 @@ module _ {H : Type 0} where
       (omega arith, omega (arith, is, at, a.0.0))
 
   pop_go : (m2 : RingState (PacketMetadata H)) (b : RingState ℕ) (ps : List (Packet H)) → WellFormed m2 → queue m2 ≡ packet_slots (drop 1 ps) → WellFormed b → b.held ≡ bytes_of ps → ArePlaced (capacity b) b.read_at 0 ps → first_gap ps ≡ 0
-      → Holds m2 (taken_off (first_size ps) b) (drop 1 ps)
+      → Holds m2 (with_dequeued (first_size ps) b) (drop 1 ps)
   pop_go m2 b [] wfm em wf n a z =
       (wfm, (place_wf (capacity b) b.read_at 0 wf.0 (omega arith), omega (arith, wf.1)), em, omega (arith, n), tt)
   pop_go m2 b (p ∷ ps) wfm em wf n a z = (
@@ -361,10 +361,10 @@ module _ {H : Type 0} where
     pub front_in_row : front ≤ contiguous_held b
     front_in_row = omega (arith, h.3, fits.0, fits.1)
 
-    pub front_at : held_place b 0 ≡ b.read_at
+    pub front_at : held_index b 0 ≡ b.read_at
     front_at = let n : min 0 b.held ≡ 0 = omega arith in ap (place_in (capacity b) b.read_at) n ∙ place_zero (capacity b) b.read_at h.1.0
 
-    pub front_run : held_run b 0 front ≡ front
+    pub front_run : contiguous_held_from b 0 front ≡ front
     front_run = let at = front_at in omega (arith, h.3, fits.0, fits.1, at)
 
     -- the first slot is that of the first packet
@@ -387,7 +387,7 @@ module _ {H : Type 0} where
         subst (λ (o : PacketQueue H). IsFirstSized o.packets hd n) is whole
 
     -- the first packet goes
-    pub pop_holds : (m2 : RingState (PacketMetadata H)) → queue m2 ≡ packet_slots (drop 1 (packets_in 0 (queue m))) → WellFormed m2 → Holds m2 (taken_off front b) (drop 1 (packets_in 0 (queue m)))
+    pub pop_holds : (m2 : RingState (PacketMetadata H)) → queue m2 ≡ packet_slots (drop 1 (packets_in 0 (queue m))) → WellFormed m2 → Holds m2 (with_dequeued front b) (drop 1 (packets_in 0 (queue m)))
     pop_holds m2 em wfm = pop_go m2 b (packets_in 0 (queue m)) wfm em h.1 h.3 h.4 z
 
 -- ---- the first element of a list that was read
@@ -458,7 +458,7 @@ module _ {H : Type 0} where
       let many = length-append s.0 (s.1 ∷ []) in
       absurd (last_unread s.0 s.1 l k n (omega (arith, ek, long, many)) (some (omega (arith, long, many))) (el ∙ ap (λ o. take n (drop k o)) whole) i)
 
-  module _ (m : RingState (PacketMetadata H)) (b : RingState ℕ) (h : Holds m b (packets_in 0 (queue m))) (k n : ℕ) (ek : k ≡ m.held - 1) (en : n ≡ held_run m k 1) (l : List (PacketMetadata H)) (el : l ≡ take n (drop k (queue m))) where
+  module _ (m : RingState (PacketMetadata H)) (b : RingState ℕ) (h : Holds m b (packets_in 0 (queue m))) (k n : ℕ) (ek : k ≡ m.held - 1) (en : n ≡ contiguous_held_from m k 1) (l : List (PacketMetadata H)) (el : l ≡ take n (drop k (queue m))) where
     back : k ≡ length (queue m) - 1
     back = let long = length-queue m h.0 in omega (arith, long, ek)
 
@@ -483,7 +483,7 @@ module _ {H : Type 0} where
       let k = h.3 in
       ((h.1.0, omega (arith, k, h.1.1)), h.4, omega (arith, n, h.0.1))
 
-  -- ---- the bytes before the read place
+  -- ---- the bytes before the read index
   -- of freed bytes the last ones are freed
   pub freed_less : (q : PacketQueue H) (s k : ℕ) → AreFreed q s → k ≤ s → AreFreed q k
   freed_less q s k f le =
@@ -500,13 +500,13 @@ module _ {H : Type 0} where
     pub freed_room : s ≤ window b
     freed_room = let n = h.3 in omega (arith, f.0, n)
 
-    pub freed_at : spare_place b (window b - s) ≡ freed_place (packet_queue m b) s
+    pub freed_at : spare_index b (window b - s) ≡ freed_place (packet_queue m b) s
     freed_at =
         let n = h.3 in
         let z : b.held + min (window b - s) (window b) ≡ length b.storage - s = omega (arith, f.0, n, h.1.1) in
         ap (place_in (capacity b) b.read_at) z
 
-    pub freed_run : spare_run b (window b - s) s ≡ s
+    pub freed_run : contiguous_window_from b (window b - s) s ≡ s
     freed_run = let at = freed_at in let n = h.3 in omega (arith, f.0, f.1, n, at)
 
     -- they are lent from the place p on
@@ -534,12 +534,12 @@ over_part st ws r n fits le =
     ∙ ap (λ (l : List ℕ). a ++ l) (append_assoc ws two z)
     ∙ sym (ap (λ (l : List ℕ). overwrite l r ws) parts ∙ overwrite_at a one (two ++ z) ws r c1.3 c3.3)
 
--- what a ring lends from its read place on
+-- what a ring lends from its read index on
 lent_is : (b : RingState ℕ) → WellFormed b → take (contiguous_held b) (queue b) ≡ take (contiguous_held b) (drop b.read_at b.storage)
 lent_is b wf =
     let r = read_at_le b wf in
-    take-take (contiguous_held b) b.held (rot b.storage b.read_at) (omega arith)
-    ∙ sym (run-rot b.storage b.read_at 0 b.read_at (contiguous_held b) r (omega (arith, wf.1)) (omega (arith, r)) (front_place b wf))
+    take-take (contiguous_held b) b.held (rotation b.storage b.read_at) (omega arith)
+    ∙ sym (part-rotation b.storage b.read_at 0 b.read_at (contiguous_held b) r (omega (arith, wf.1)) (omega (arith, r)) (read_index_is b wf))
 
 module _ {H : Type 0} where
   headed_go : (m2 : RingState (PacketMetadata H)) (b : RingState ℕ) (ps : List (Packet H)) (hd : H) → first_gap ps ≡ 0 → 0 < length ps → queue m2 ≡ slot (first_size ps) (Some hd) ∷ packet_slots (drop 1 ps) → WellFormed m2
@@ -586,27 +586,27 @@ module _ {H : Type 0} where
         let n : length (take s lent) ≡ s = length-take-le s lent lift_fits in
         (close_first old.packets hd (length (take s lent)) (front_first m b h z (slot s (Some hd)) e hd refl (length (take s lent)) (n ∙ size_is) (skipped old) is), lift_bytes ∙ ap first_bytes is)
 
-    module _ (after ws : List ℕ) (left : after ≡ ws ++ drop s lent) (long : length ws ≡ s) (k : ℕ) (b2 : RingState ℕ) (is : b2 ≡ written (taken_off k b) b.read_at after) where
+    module _ (after ws : List ℕ) (left : after ≡ ws ++ drop s lent) (long : length ws ≡ s) (k : ℕ) (b2 : RingState ℕ) (is : b2 ≡ written (with_dequeued k b) b.read_at after) where
       over : overwrite b.storage b.read_at after ≡ overwrite b.storage b.read_at ws
       over =
           let fits : b.read_at + contiguous_held b ≤ length b.storage = let r = read_at_le b h.1 in omega (arith, r) in
           ap (overwrite b.storage b.read_at) (left ∙ ap (λ (n : ℕ). ws ++ drop n lent) (sym long) ∙ ap (λ (l : List ℕ). ws ++ drop (length ws) l) (lent_is b h.1))
           ∙ over_part b.storage ws b.read_at (contiguous_held b) fits (omega (arith, long, row))
 
-      bytes_are : b2 ≡ written (taken_off k b) b.read_at ws
-      bytes_are = is ∙ ap (λ (st : List ℕ). ring st (place b k) (b.held - k)) over
+      bytes_are : b2 ≡ written (with_dequeued k b) b.read_at ws
+      bytes_are = is ∙ ap (λ (st : List ℕ). ring st (storage_index b k) (b.held - k)) over
 
       -- it is taken off
       module _ (all : k ≡ s) (m2 : RingState (PacketMetadata H)) (em : queue m2 ≡ drop 1 (queue m)) (wfm : WellFormed m2) where
         long_is : length b.storage ≡ length (overwrite b.storage b.read_at ws)
         long_is = sym (length-overwrite b.storage b.read_at ws)
 
-        off_is : b2 ≡ taken_off (first_size kept) (written b b.read_at ws)
+        off_is : b2 ≡ with_dequeued (first_size kept) (written b b.read_at ws)
         off_is =
-            bytes_are ∙ ap (λ (n : ℕ). written (taken_off n b) b.read_at ws) (all ∙ size_is)
+            bytes_are ∙ ap (λ (n : ℕ). written (with_dequeued n b) b.read_at ws) (all ∙ size_is)
             ∙ ap (λ (c : ℕ). ring (overwrite b.storage b.read_at ws) (place_in c b.read_at (first_size kept)) (b.held - first_size kept)) long_is
 
-        off_holds : Holds m2 (taken_off (first_size kept) (written b b.read_at ws)) (drop 1 kept)
+        off_holds : Holds m2 (with_dequeued (first_size kept) (written b b.read_at ws)) (drop 1 kept)
         off_holds = pop_holds m (written b b.read_at ws) (written_holds m b kept h b.read_at ws) z m2 (em ∙ first_is.3) wfm
 
         pub off_kept : Holds m2 b2 (packets_in 0 (queue m2))
@@ -622,7 +622,7 @@ module _ {H : Type 0} where
       module _ (none : k ≡ 0) (new : H) (m2 : RingState (PacketMetadata H)) (em : queue m2 ≡ slot s (Some new) ∷ drop 1 (queue m)) (wfm : WellFormed m2) where
         on_is : b2 ≡ written b b.read_at ws
         on_is =
-            bytes_are ∙ ap (λ (n : ℕ). written (taken_off n b) b.read_at ws) none
+            bytes_are ∙ ap (λ (n : ℕ). written (with_dequeued n b) b.read_at ws) none
             ∙ ap₂ (λ (r n : ℕ). ring (overwrite b.storage b.read_at ws) r n) (place_zero (capacity b) b.read_at h.1.0) (let n : b.held - 0 ≡ b.held = omega arith in n)
 
         on_holds : Holds m2 (written b b.read_at ws) (with_first_header new kept)

@@ -3,7 +3,7 @@ use Rattle.std.specs.Prelude.{◌≡◌, ◌≢◌, Bool, ℕ, zero, suc, ◌+�
 use Rattle.std.specs.Prelude.{Option}
 use Rattle.std.specs.declared.option.Option.TheVariants.{Some, None}
 use Rattle.net_storage.specs.Overwrite.{overwrite}
-use Rattle.net_storage.specs.Ring.{RingState, ring, window, place, restarted, contiguous_window, WellFormed}
+use Rattle.net_storage.specs.Ring.{RingState, ring, window, storage_index, restarted, contiguous_window, WellFormed}
 
 -- a packet: its header, how many bytes it has, and how many bytes of the storage are skipped before it
 pub record Packet (H : Type 0) : Type 0 where
@@ -111,7 +111,7 @@ module _ {H : Type 0} where
 
   -- where the last packet's bytes begin
   abbrev pub last_place : PacketQueue H → ℕ
-  last_place q = place (byte_ring q) (bytes_of q.packets - first_size (only_last q.packets))
+  last_place q = storage_index (byte_ring q) (bytes_of q.packets - first_size (only_last q.packets))
 
   -- the last packet's bytes
   abbrev pub last_bytes : PacketQueue H → List ℕ
@@ -151,7 +151,7 @@ module _ {H : Type 0} where
 
   -- the gap before the first packet is gone
   abbrev pub skipped : PacketQueue H → PacketQueue H
-  skipped q = record { slot_count = q.slot_count; storage = q.storage; read_at = place (byte_ring q) (first_gap q.packets); packets = without_first_gap q.packets }
+  skipped q = record { slot_count = q.slot_count; storage = q.storage; read_at = storage_index (byte_ring q) (first_gap q.packets); packets = without_first_gap q.packets }
 
   -- the first packet has the header h and s bytes
   abbrev pub IsFirstSized : List (Packet H) → H → ℕ → Type 0
@@ -176,7 +176,7 @@ module _ {H : Type 0} where
 
   -- the first packet, whose gap is gone, was taken off
   abbrev pub popped : PacketQueue H → PacketQueue H
-  popped q = record { slot_count = q.slot_count; storage = q.storage; read_at = place (byte_ring q) (first_size q.packets); packets = drop 1 q.packets }
+  popped q = record { slot_count = q.slot_count; storage = q.storage; read_at = storage_index (byte_ring q) (first_size q.packets); packets = drop 1 q.packets }
 
   -- the first packet was handed out and has the header h and the bytes ws: it is gone where gone is true, and else stays first, without its gap
   abbrev pub handed : Bool → PacketQueue H → H → List ℕ → PacketQueue H
@@ -186,18 +186,18 @@ module _ {H : Type 0} where
   abbrev pub dequeued : PacketQueue H → PacketQueue H
   dequeued q = popped (skipped q)
 
-  -- where the s bytes before the read place begin
+  -- where the s bytes before the read index begin
   abbrev pub freed_place : PacketQueue H → ℕ → ℕ
-  freed_place q s = place (byte_ring q) (length q.storage - s)
+  freed_place q s = storage_index (byte_ring q) (length q.storage - s)
 
   -- these bytes
   abbrev pub freed_bytes : PacketQueue H → ℕ → List ℕ
   freed_bytes q s = take s (drop (freed_place q s) q.storage)
 
-  -- the s bytes before the read place lie in a row, and none of them is held
+  -- the s bytes before the read index lie in a row, and none of them is held
   abbrev pub AreFreed : PacketQueue H → ℕ → Type 0
   AreFreed q s = (s ≤ window (byte_ring q)) × (freed_place q s + s ≤ length q.storage)
 
-  -- the s bytes before the read place are such, and begin at the place p
+  -- the s bytes before the read index are such, and begin at the place p
   abbrev pub IsFreedAt : PacketQueue H → ℕ → ℕ → Type 0
   IsFreedAt q s p = AreFreed q s × (freed_place q s ≡ p)

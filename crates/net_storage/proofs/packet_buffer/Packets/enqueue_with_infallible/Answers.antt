@@ -2,7 +2,7 @@ use Rattle.std.proofs.Common.{◌≡◌, ◌+◌, ◌++◌, ◌∷◌, [], refl,
 use Rattle.std.specs.declared.option.Option.TheVariants.{Some}
 use Rattle.std.specs.Fn.{FnOnceReturnsAtMut}
 use denote.MutBor.{at_last}
-use Rattle.net_storage.specs.Ring.{window, queue, spare_place, taken_in, written}
+use Rattle.net_storage.specs.Ring.{window, queue, spare_index, with_enqueued, written}
 use Rattle.net_storage.specs.Packets.{placement, placed_if_room, last_written, last_cut, IsRoom}
 use Rattle.net_storage.specs.PacketSlots.{slot, gap_slot}
 use Rattle.net_storage.proofs.PacketSteps.{free_room, byte_room, fill_room, fill_holds, fill_left}
@@ -47,7 +47,7 @@ enqueue_unallocated-requires g c =
     let le = c.requires.count now after c.f-count.result room met in
     let space = byte_room m b c.self.invariant c.in-Some.gap c.args.max_size e in
     let is = ap window c.restart.ensures.ring in
-    let long = length-overwrite c.restart.new.bytes.storage (spare_place c.restart.new.bytes c.in-Some.gap) after in
+    let long = length-overwrite c.restart.new.bytes.storage (spare_index c.restart.new.bytes c.in-Some.gap) after in
     omega (arith, le, space, is, long)
 
 pub push_slots-requires-clause-free : goal.push_slots-requires-clause-free
@@ -84,7 +84,7 @@ returns-clause-wrote g c =
     let count = c.f-count.result in
     let b1 = c.restart.new.bytes in
     let put : queue c.push_slots.new.slots ≡ queue m ++ (gap_slot c.in-Some.gap ++ (slot count (Some c.args.header) ∷ [])) = search rules in
-    let filled : c.enqueue_unallocated.new.self ≡ taken_in (c.in-Some.gap + count) (written b1 (spare_place b1 c.in-Some.gap) after) = search rules in
+    let filled : c.enqueue_unallocated.new.self ≡ with_enqueued (c.in-Some.gap + count) (written b1 (spare_index b1 c.in-Some.gap) after) = search rules in
     let left = fill_left m b c.self.invariant c.in-Some.gap c.args.max_size e c.args.header b1 c.restart.ensures.ring count le after c.push_slots.new.slots put c.push_slots.ensures.well_formed c.enqueue_unallocated.new.self filled c.push_slots.ensures.capacity
     ∙ ap (λ q. last_cut count (last_written (placed_if_room q c.args.max_size c.args.header) after)) c.self.view_is in
     record { room = now; bytes = after; is_room = room; met = search met; size = c.f-count.auto.arg2 ∙ room.2; at_most = search le; made = search left }

@@ -1,5 +1,5 @@
 use Rattle.std.proofs.Common.{◌≡◌, refl, sym, ap, ◌∙◌, ◌-◌, subst, arith, length, rules}
-use Rattle.net_storage.specs.Ring.{queue, spare_place, spare_run, window}
+use Rattle.net_storage.specs.Ring.{queue, spare_index, contiguous_window_from, window}
 use Rattle.net_storage.specs.Packets.{freed_place, AreFreed}
 use Rattle.net_storage.specs.PacketSlots.{packet_queue, packets_in}
 use Rattle.net_storage.proofs.PacketSteps.{freed_room, freed_at, freed_run, freed_ends, freed_value, written_holds}
@@ -22,8 +22,8 @@ returns g c =
     let now = c.get_unallocated.result.now in
     let f = subst (λ q. AreFreed q size) (sym c.self.view_is) c.requires in
     let free : c.window.result ≡ window b = search rules in
-    let at : spare_place b (c.window.result - size) ≡ freed_place (packet_queue m b) size = ap (λ n. spare_place b (n - size)) free ∙ freed_at m b c.self.invariant size f in
-    let run : spare_run b (c.window.result - size) size ≡ size = ap (λ n. spare_run b (n - size) size) free ∙ freed_run m b c.self.invariant size f in
+    let at : spare_index b (c.window.result - size) ≡ freed_place (packet_queue m b) size = ap (λ n. spare_index b (n - size)) free ∙ freed_at m b c.self.invariant size f in
+    let run : contiguous_window_from b (c.window.result - size) size ≡ size = ap (λ n. contiguous_window_from b (n - size) size) free ∙ freed_run m b c.self.invariant size f in
     let long : length now ≡ size = omega (arith, run, c.get_unallocated.ensures.count) in (
       (refl, freed_ends m b c.self.invariant size f c.args.self.now c.self.view_is _ (search at)),
       record {

@@ -1,5 +1,5 @@
 use Rattle.std.proofs.Common.{sym, ap, ◌∙◌, subst, arith, ◌+◌, ◌≤◌}
-use Rattle.net_storage.specs.Ring.{RingState, queue, restarted, taken_in}
+use Rattle.net_storage.specs.Ring.{RingState, queue, restarted, with_enqueued}
 use Rattle.net_storage.specs.Packets.{placement, pushed}
 use Rattle.net_storage.specs.PacketSlots.{packet_queue, packets_in, Holds}
 use Rattle.net_storage.proofs.PacketSteps.{free_room, byte_room, push_holds, push_left, closed}
@@ -29,10 +29,10 @@ invariant_of-self g c =
     let b = c.self.inside.bytes in
     let m2 = c.push_slots.new.slots in
     let e = ap (λ q. placement q c.args.size) c.self.view_is ∙ c.requires in
-    let is = c.enqueue_unallocated.ensures.ring ∙ ap (taken_in (c.args.gap + c.args.size)) c.restart.ensures.ring in
+    let is = c.enqueue_unallocated.ensures.ring ∙ ap (with_enqueued (c.args.gap + c.args.size)) c.restart.ensures.ring in
     let le : c.args.size ≤ c.args.size = omega arith in
     let after = push_holds m b c.self.invariant c.args.gap c.args.size e c.args.header c.args.size le m2 c.push_slots.ensures.queue c.push_slots.ensures.well_formed in
-    subst (λ o. Holds m2 o (packets_in 0 (queue m2))) (sym is) (closed m2 (taken_in (c.args.gap + c.args.size) (restarted b)) _ after)
+    subst (λ o. Holds m2 o (packets_in 0 (queue m2))) (sym is) (closed m2 (with_enqueued (c.args.gap + c.args.size) (restarted b)) _ after)
 
 pub returns : goal.returns
 returns g c =
@@ -40,7 +40,7 @@ returns g c =
     let b = c.self.inside.bytes in
     let m2 = c.push_slots.new.slots in
     let e = ap (λ q. placement q c.args.size) c.self.view_is ∙ c.requires in
-    let is = c.enqueue_unallocated.ensures.ring ∙ ap (taken_in (c.args.gap + c.args.size)) c.restart.ensures.ring in
+    let is = c.enqueue_unallocated.ensures.ring ∙ ap (with_enqueued (c.args.gap + c.args.size)) c.restart.ensures.ring in
     let le : c.args.size ≤ c.args.size = omega arith in
     ap (packet_queue m2) is
     ∙ push_left m b c.self.invariant c.args.gap c.args.size e c.args.header c.args.size le m2 c.push_slots.ensures.queue c.push_slots.ensures.well_formed c.push_slots.ensures.capacity

@@ -1,5 +1,5 @@
 use Rattle.std.proofs.Common.{refl, sym, ap, ap₂, ◌∙◌, arith, ◌-◌, take, drop}
-use Rattle.net_storage.specs.Ring.{queue, held_place, held_run, written}
+use Rattle.net_storage.specs.Ring.{queue, held_index, contiguous_held_from, written}
 use Rattle.net_storage.specs.Packets.{only_last, first_size, last_written, last_bytes}
 use Rattle.net_storage.specs.PacketSlots.{packet_queue, packets_in}
 use Rattle.net_storage.proofs.PacketSteps.{end_held, end_run, end_place, written_holds}
@@ -13,7 +13,7 @@ overflow_sub-before g c =
 
 pub invariant_of-self-lent : goal.invariant_of-self-lent
 invariant_of-self-lent g c = λ w.
-    written_holds c.self.inside.slots c.self.inside.bytes (packets_in 0 (queue c.self.inside.slots)) c.self.invariant (held_place c.self.inside.bytes (c.len.result - c.args.size)) w
+    written_holds c.self.inside.slots c.self.inside.bytes (packets_in 0 (queue c.self.inside.slots)) c.self.invariant (held_index c.self.inside.bytes (c.len.result - c.args.size)) w
 
 pub returns : goal.returns
 returns g c =
@@ -21,8 +21,8 @@ returns g c =
     let b = c.self.inside.bytes in
     let k = c.requires ∙ ap (λ q. first_size (only_last q.packets)) (sym c.self.view_is) in
     let from = ap₂ ◌-◌ c.len.ensures.held k in
-    let count = c.get_allocated_mut.ensures.count ∙ ap₂ (held_run b) from k ∙ end_run m b c.self.invariant in
-    let at = ap (held_place b) from ∙ end_place m b c.self.invariant in (
+    let count = c.get_allocated_mut.ensures.count ∙ ap₂ (contiguous_held_from b) from k ∙ end_run m b c.self.invariant in
+    let at = ap (held_index b) from ∙ end_place m b c.self.invariant in (
       (refl, λ w. ap (λ p. packet_queue m (written b p w)) at ∙ ap (λ q. last_written q w) c.self.view_is),
       record {
         writes_back = tt;

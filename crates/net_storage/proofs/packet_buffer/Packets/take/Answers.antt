@@ -1,6 +1,6 @@
 use Rattle.std.proofs.Common.{sym, ap, ◌∙◌, subst, drop}
 use Rattle.std.specs.declared.option.Option.TheVariants.{Some, None}
-use Rattle.net_storage.specs.Ring.{queue, taken_off, WellFormed}
+use Rattle.net_storage.specs.Ring.{queue, with_dequeued, WellFormed}
 use Rattle.net_storage.specs.Packets.{first_gap}
 use Rattle.net_storage.specs.PacketSlots.{packets_in, slot, Holds}
 use Rattle.net_storage.proofs.PacketFacts.{off_wf}
@@ -19,5 +19,5 @@ invariant_of-self-2 g c =
     let lifted = c.in_ok-size.ensures.left in
     let em = c.dequeue_allocated.ensures.dequeued.0 ∙ ap (drop 1) lifted.0 in
     let wfm = subst WellFormed (sym c.dequeue_allocated.ensures.ring) (off_wf c.lift_header.new.slots (slot c.in_ok-size.size None) (drop 1 (queue m)) lifted.1 lifted.0) in
-    let is = c.dequeue_allocated-2.ensures.ring ∙ ap (λ n. taken_off n b) size in
+    let is = c.dequeue_allocated-2.ensures.ring ∙ ap (λ n. with_dequeued n b) size in
     subst (λ o. Holds m2 o (packets_in 0 (queue m2))) (sym is) (closed m2 _ _ (pop_holds m b c.self.invariant z m2 (em ∙ f.3) wfm))
