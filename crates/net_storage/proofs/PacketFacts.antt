@@ -5,8 +5,8 @@ use Rattle.std.proofs.lemmas.Option.{none-some, cond_some}
 use Rattle.std.specs.Prelude.{Option, true}
 use Rattle.std.specs.declared.option.Option.TheVariants.{Some, None}
 use Rattle.net_storage.specs.Ring.{RingState, ring, capacity, window, queue, write_at, WellFormed, restarted, with_enqueued, with_dequeued, written, Enqueued}
-use Rattle.net_storage.specs.Packets.{Packet, packet, bytes_of, slots_of, slots_for, place_in, IsPlaced, ArePlaced, gap_for, if_slots}
-use Rattle.net_storage.specs.PacketSlots.{slot, gap_slot, slots, packets_in, Holds}
+use Rattle.net_storage.specs.Packets.{Packet, packet, bytes_of, slots_used, slots_for, place_in, IsPlaced, ArePlaced, gap_for, if_slots}
+use Rattle.net_storage.specs.PacketSlots.{slot, gap_slot, packet_slots, packets_in, Holds}
 use Rattle.net_storage.specs.declared.packet_metadata.PacketMetadata.{PacketMetadata}
 use Rattle.net_storage.proofs.Rotations.{length-queue, length-overwrite}
 
@@ -120,34 +120,34 @@ module _ {H : Type 0} where
   gap_in zero s h ms = refl
   gap_in (suc g) s h ms = let e : 0 + suc g ≡ suc g = omega arith in ap (λ (n : ℕ). packet h s n ∷ packets_in 0 ms) e
 
-  pub round : (ps : List (Packet H)) → packets_in 0 (slots ps) ≡ ps
+  pub round : (ps : List (Packet H)) → packets_in 0 (packet_slots ps) ≡ ps
   round [] = refl
-  round (p ∷ ps) = gap_in p.gap p.size p.header (slots ps) ∙ ap (λ (l : List (Packet H)). p ∷ l) (round ps)
+  round (p ∷ ps) = gap_in p.gap p.size p.header (packet_slots ps) ∙ ap (λ (l : List (Packet H)). p ∷ l) (round ps)
 
   pub length-gap : (g : ℕ) (m : PacketMetadata H) (ms : List (PacketMetadata H)) → length (gap_slot g ++ (m ∷ ms)) ≡ slots_for g + length ms
   length-gap zero m ms = omega arith
   length-gap (suc g) m ms = omega arith
 
-  pub length-slots : (ps : List (Packet H)) → length (slots ps) ≡ slots_of ps
+  pub length-slots : (ps : List (Packet H)) → length (packet_slots ps) ≡ slots_used ps
   length-slots [] = refl
-  length-slots (p ∷ ps) = length-gap p.gap (slot p.size (Some p.header)) (slots ps) ∙ ap (λ (n : ℕ). slots_for p.gap + n) (length-slots ps)
+  length-slots (p ∷ ps) = length-gap p.gap (slot p.size (Some p.header)) (packet_slots ps) ∙ ap (λ (n : ℕ). slots_for p.gap + n) (length-slots ps)
 
-  pub slots_pos : (ps : List (Packet H)) → length ps ≤ slots_of ps
+  pub slots_pos : (ps : List (Packet H)) → length ps ≤ slots_used ps
   slots_pos [] = omega arith
   slots_pos (p ∷ ps) = omega (arith, slots_pos ps, slots_for_pos p.gap)
 
   -- ---- a packet more
-  pub slots_append : (ps : List (Packet H)) (p : Packet H) → slots (ps ++ (p ∷ [])) ≡ slots ps ++ (gap_slot p.gap ++ (slot p.size (Some p.header) ∷ []))
+  pub slots_append : (ps : List (Packet H)) (p : Packet H) → packet_slots (ps ++ (p ∷ [])) ≡ packet_slots ps ++ (gap_slot p.gap ++ (slot p.size (Some p.header) ∷ []))
   slots_append [] p = refl
   slots_append (q ∷ ps) p =
       let m = slot q.size (Some q.header) in
-      ap (λ (l : List (PacketMetadata H)). gap_slot q.gap ++ (m ∷ l)) (slots_append ps p) ∙ sym (append_assoc (gap_slot q.gap) (m ∷ slots ps) (gap_slot p.gap ++ (slot p.size (Some p.header) ∷ [])))
+      ap (λ (l : List (PacketMetadata H)). gap_slot q.gap ++ (m ∷ l)) (slots_append ps p) ∙ sym (append_assoc (gap_slot q.gap) (m ∷ packet_slots ps) (gap_slot p.gap ++ (slot p.size (Some p.header) ∷ [])))
 
   pub bytes_append : (ps : List (Packet H)) (p : Packet H) → bytes_of (ps ++ (p ∷ [])) ≡ bytes_of ps + p.gap + p.size
   bytes_append [] p = omega arith
   bytes_append (q ∷ ps) p = omega (arith, bytes_append ps p)
 
-  pub slots_of_append : (ps : List (Packet H)) (p : Packet H) → slots_of (ps ++ (p ∷ [])) ≡ slots_of ps + slots_for p.gap
+  pub slots_of_append : (ps : List (Packet H)) (p : Packet H) → slots_used (ps ++ (p ∷ [])) ≡ slots_used ps + slots_for p.gap
   slots_of_append [] p = omega arith
   slots_of_append (q ∷ ps) p = omega (arith, slots_of_append ps p)
 
@@ -197,10 +197,10 @@ module _ {H : Type 0} where
       placed_from c r p.size 0 ps wf (omega (arith, le)) (subst (λ (j : ℕ). ArePlaced c r j ps) k a.1)
 
   module _ (m : RingState (PacketMetadata H)) (b : RingState ℕ) (ps : List (Packet H)) (h : Holds m b ps) where
-    pub held_is : m.held ≡ slots_of ps
+    pub held_is : m.held ≡ slots_used ps
     held_is = sym (length-queue m h.0) ∙ ap length h.2 ∙ length-slots ps
 
-  empty_go : (n : ℕ) (xs : List (Packet H)) → n ≡ slots_of xs → (n == 0) ≡ (length xs == 0)
+  empty_go : (n : ℕ) (xs : List (Packet H)) → n ≡ slots_used xs → (n == 0) ≡ (length xs == 0)
   empty_go n [] e = ap (λ (k : ℕ). k == 0) e
   empty_go n (x ∷ xs) e = let p = slots_pos (x ∷ xs) in ne_eqb n 0 (λ z. absurd (omega (arith, p, e, z))) ∙ sym (ne_eqb (length (x ∷ xs)) 0 (λ z. absurd (omega (arith, z))))
 

@@ -5,8 +5,8 @@ use Rattle.std.specs.Prelude.{Option, replicate}
 use Rattle.std.specs.declared.option.Option.TheVariants.{Some, None}
 use Rattle.net_storage.specs.Overwrite.{overwrite}
 use Rattle.net_storage.specs.Ring.{RingState, ring, capacity, window, queue, spare, storage_index, WellFormed, restarted, with_enqueued, written}
-use Rattle.net_storage.specs.Packets.{Packet, PacketQueue, packet, bytes_of, slots_of, byte_ring, place_in, ArePlaced, placement, placed, last_written, last_cut, first_gap, first_size, close_up, skipped, IsFirst, IsFront, headed, first_written, popped, taken, WellPlaced}
-use Rattle.net_storage.specs.PacketSlots.{slot, slots, packets_in, Holds, packet_queue}
+use Rattle.net_storage.specs.Packets.{Packet, PacketQueue, packet, bytes_of, slots_used, byte_ring, place_in, ArePlaced, placement, placed_if_room, last_written, last_cut, first_gap, first_size, without_first_gap, skipped, IsFirstSized, IsFirst, with_first_header, first_written, popped, dequeued, WellPlaced}
+use Rattle.net_storage.specs.PacketSlots.{slot, packet_slots, packets_in, Holds, packet_queue}
 use Rattle.net_storage.specs.PacketHistory.{contents_of, contents}
 use Rattle.net_storage.specs.declared.packet_metadata.PacketMetadata.{PacketMetadata}
 use Rattle.net_storage.proofs.Rotations.{length-overwrite, length-queue, length-spare, with_enqueued_parts, with_dequeued_parts, take_sum, cut, overwrite_at, storage_index_is}
@@ -48,7 +48,7 @@ filled_queue g wf gap k ws room fits le =
 
 module _ {H : Type 0} where
   abbrev mk : ℕ → List ℕ → ℕ → List (Packet H) → PacketQueue H
-  mk n st r ps = record { slots = n; storage = st; read_at = r; packets = ps }
+  mk n st r ps = record { slot_count = n; storage = st; read_at = r; packets = ps }
 
   pub contents_append : (ps : List (Packet H)) (p : Packet H) (bs x ws : List ℕ) → length bs ≡ bytes_of ps → length x ≡ p.gap → contents_of (ps ++ (p ∷ [])) (bs ++ (x ++ ws)) ≡ contents_of ps bs ++ ((p.header, take p.size ws) ∷ [])
   contents_append [] p bs x ws n l =
@@ -67,23 +67,23 @@ module _ {H : Type 0} where
   -- ---- the rings of a queue
   module _ (q : PacketQueue H) (ok : WellPlaced q) where
     abbrev fill : List (PacketMetadata H)
-    fill = replicate (q.slots - slots_of q.packets) (slot 0 None)
+    fill = replicate (q.slot_count - slots_used q.packets) (slot 0 None)
 
     abbrev pub m : RingState (PacketMetadata H)
-    m = ring (slots q.packets ++ fill) 0 (slots_of q.packets)
+    m = ring (packet_slots q.packets ++ fill) 0 (slots_used q.packets)
 
     abbrev pub b : RingState ℕ
     b = byte_ring q
 
-    long : length (slots q.packets ++ fill) ≡ q.slots
+    long : length (packet_slots q.packets ++ fill) ≡ q.slot_count
     long =
-        let a = length-append (slots q.packets) fill in
+        let a = length-append (packet_slots q.packets) fill in
         let n = length-slots q.packets in
-        let r = length-replicate (q.slots - slots_of q.packets) (slot {H = H} 0 None) in
+        let r = length-replicate (q.slot_count - slots_used q.packets) (slot {H = H} 0 None) in
         omega (arith, a, n, r, ok.2)
 
-    queue_is : queue m ≡ slots q.packets
-    queue_is = ap (take (slots_of q.packets)) (append-nil (slots q.packets ++ fill)) ∙ take_at (slots q.packets) fill (slots_of q.packets) (length-slots q.packets)
+    queue_is : queue m ≡ packet_slots q.packets
+    queue_is = ap (take (slots_used q.packets)) (append-nil (packet_slots q.packets ++ fill)) ∙ take_at (packet_slots q.packets) fill (slots_used q.packets) (length-slots q.packets)
 
     pub holds : Holds m b q.packets
     holds = ((inl refl, omega (arith, long, ok.2)), ok.0, queue_is, refl, ok.1)
@@ -125,23 +125,23 @@ module _ {H : Type 0} where
       gap_is : (n : ℕ) × (placement (packet_queue m b) s ≡ Some n)
       gap_is = some_of (placement (packet_queue m b) s) (subst (λ (o : PacketQueue H). placement o s ≢ None) (sym is) some)
 
-      put_go : contents (last_written (placed q s hd) ws) ≡ contents q ++ ((hd, ws) ∷ [])
+      put_go : contents (last_written (placed_if_room q s hd) ws) ≡ contents q ++ ((hd, ws) ∷ [])
       put_go =
           let gap = gap_is.0 in let e = gap_is.1 in
           let all : take s ws ≡ ws = take_all s ws (omega (arith, long)) in
-          subst (λ (o : PacketQueue H). contents (last_written (placed o s hd) ws) ≡ contents o ++ ((hd, ws) ∷ [])) is
+          subst (λ (o : PacketQueue H). contents (last_written (placed_if_room o s hd) ws) ≡ contents o ++ ((hd, ws) ∷ [])) is
           (sym (ap contents (put_is m b h gap s e hd ws)) ∙ accepted_go m b h gap s e hd s (omega arith) ws long ∙ ap (λ (l : List ℕ). contents (packet_queue m b) ++ ((hd, l) ∷ [])) all)
 
-      cut_go : (k : ℕ) → k ≤ s → contents (last_cut k (last_written (placed q s hd) ws)) ≡ contents q ++ ((hd, take k ws) ∷ [])
+      cut_go : (k : ℕ) → k ≤ s → contents (last_cut k (last_written (placed_if_room q s hd) ws)) ≡ contents q ++ ((hd, take k ws) ∷ [])
       cut_go k le =
           let gap = gap_is.0 in let e = gap_is.1 in
-          subst (λ (o : PacketQueue H). contents (last_cut k (last_written (placed o s hd) ws)) ≡ contents o ++ ((hd, take k ws) ∷ [])) is
+          subst (λ (o : PacketQueue H). contents (last_cut k (last_written (placed_if_room o s hd) ws)) ≡ contents o ++ ((hd, take k ws) ∷ [])) is
           (sym (ap contents (cut_is m b h gap s e hd k ws)) ∙ accepted_go m b h gap s e hd k le ws long)
 
-    pub accepted : contents (last_written (placed q s hd) ws) ≡ contents q ++ ((hd, ws) ∷ [])
+    pub accepted : contents (last_written (placed_if_room q s hd) ws) ≡ contents q ++ ((hd, ws) ∷ [])
     accepted = put_go (m q ok) (b q ok) (closed (m q ok) (b q ok) q.packets (holds q ok)) (is_queue q ok)
 
-    pub accepted_with : (k : ℕ) → k ≤ s → contents (last_cut k (last_written (placed q s hd) ws)) ≡ contents q ++ ((hd, take k ws) ∷ [])
+    pub accepted_with : (k : ℕ) → k ≤ s → contents (last_cut k (last_written (placed_if_room q s hd) ws)) ≡ contents q ++ ((hd, take k ws) ∷ [])
     accepted_with = cut_go (m q ok) (b q ok) (closed (m q ok) (b q ok) q.packets (holds q ok)) (is_queue q ok)
 
   -- ---- the first packet
@@ -185,7 +185,7 @@ module _ {H : Type 0} where
       ∙ ap (λ (l : List ℕ). (h, take s (drop gap bs)) ∷ contents_of ps l) (drop-drop (0 + s) gap bs ∙ ap (λ (i : ℕ). drop i bs) n)
 
   skipped_go : (st : List ℕ) (r : ℕ) (ps : List (Packet H)) → WellFormed (bytes st r ps)
-      → contents_of (close_up ps) (queue (bytes st (storage_index (bytes st r ps) (first_gap ps)) (close_up ps))) ≡ contents_of ps (queue (bytes st r ps))
+      → contents_of (without_first_gap ps) (queue (bytes st (storage_index (bytes st r ps) (first_gap ps)) (without_first_gap ps))) ≡ contents_of ps (queue (bytes st r ps))
   skipped_go st r [] wf = refl
   skipped_go st r (p ∷ ps) wf =
       ap (contents_of (packet p.header p.size 0 ∷ ps)) (skip_queue st r p ps wf).0 ∙ contents_skip p.header p.size p.gap ps (queue (bytes st r (p ∷ ps)))
@@ -200,8 +200,8 @@ module _ {H : Type 0} where
       let fits : storage_index c p.gap + p.size ≤ length st = omega (arith, at, a.0.0) in
       (fits, held_value c wf p.gap p.size (storage_index c p.gap) (omega arith) fits (storage_index_is c p.gap))
 
-  shown_go : (st : List ℕ) (r : ℕ) (ps : List (Packet H)) → WellFormed (bytes st r ps) → ArePlaced (length st) r 0 ps → (hd : H) (ws : List ℕ) → IsFirst ps hd (length ws)
-      → ws ≡ take (first_size (close_up ps)) (drop (storage_index (bytes st r ps) (first_gap ps)) st) → contents_of ps (queue (bytes st r ps)) ≡ (hd, ws) ∷ drop 1 (contents_of ps (queue (bytes st r ps)))
+  shown_go : (st : List ℕ) (r : ℕ) (ps : List (Packet H)) → WellFormed (bytes st r ps) → ArePlaced (length st) r 0 ps → (hd : H) (ws : List ℕ) → IsFirstSized ps hd (length ws)
+      → ws ≡ take (first_size (without_first_gap ps)) (drop (storage_index (bytes st r ps) (first_gap ps)) st) → contents_of ps (queue (bytes st r ps)) ≡ (hd, ws) ∷ drop 1 (contents_of ps (queue (bytes st r ps)))
   shown_go st r [] wf a hd ws e f = absurd (let n = ap length e in omega (arith, n))
   shown_go st r (p ∷ ps) wf a hd ws e f =
       let head : p.header ≡ hd = ap (λ l. (head_or p l).header) e in
@@ -218,7 +218,7 @@ module _ {H : Type 0} where
   contents_rest h s ps bs = let n : 0 + s ≡ s = omega arith in ap (λ (i : ℕ). contents_of ps (drop i bs)) n
 
   refused_go : (st : List ℕ) (r : ℕ) (ps : List (Packet H)) → WellFormed (bytes st r ps) → ArePlaced (length st) r 0 ps → ps ≢ [] → (hd : H) (ws : List ℕ) → length ws ≡ first_size ps
-      → contents_of (headed hd (close_up ps)) (queue (bytes (overwrite st (storage_index (bytes st r ps) (first_gap ps)) ws) (storage_index (bytes st r ps) (first_gap ps)) (headed hd (close_up ps)))) ≡ (hd, ws) ∷ drop 1 (contents_of ps (queue (bytes st r ps)))
+      → contents_of (with_first_header hd (without_first_gap ps)) (queue (bytes (overwrite st (storage_index (bytes st r ps) (first_gap ps)) ws) (storage_index (bytes st r ps) (first_gap ps)) (with_first_header hd (without_first_gap ps)))) ≡ (hd, ws) ∷ drop 1 (contents_of ps (queue (bytes st r ps)))
   refused_go st r [] wf a some hd ws long = absurd (some refl)
   refused_go st r (p ∷ ps) wf a some hd ws long =
       let c = bytes st r (p ∷ ps) in
@@ -232,7 +232,7 @@ module _ {H : Type 0} where
       ∙ ap (λ l. (hd, ws) ∷ l) (sym (contents_rest p.header p.size ps (drop p.gap (queue c))) ∙ ap (drop 1) (contents_skip p.header p.size p.gap ps (queue c)))
 
   left_go : (st : List ℕ) (r : ℕ) (ps : List (Packet H)) → WellFormed (bytes st r ps)
-      → contents_of (drop 1 (close_up ps)) (queue (bytes st (storage_index (bytes st (storage_index (bytes st r ps) (first_gap ps)) (close_up ps)) (first_size (close_up ps))) (drop 1 (close_up ps)))) ≡ drop 1 (contents_of ps (queue (bytes st r ps)))
+      → contents_of (drop 1 (without_first_gap ps)) (queue (bytes st (storage_index (bytes st (storage_index (bytes st r ps) (first_gap ps)) (without_first_gap ps)) (first_size (without_first_gap ps))) (drop 1 (without_first_gap ps)))) ≡ drop 1 (contents_of ps (queue (bytes st r ps)))
   left_go st r [] wf = refl
   left_go st r (p ∷ ps) wf =
       let c = bytes st r (p ∷ ps) in
@@ -241,7 +241,7 @@ module _ {H : Type 0} where
       ∙ sym (contents_rest p.header p.size ps (drop p.gap (queue c))) ∙ ap (drop 1) (contents_skip p.header p.size p.gap ps (queue c))
 
   left_with_go : (st : List ℕ) (r : ℕ) (ps : List (Packet H)) → WellFormed (bytes st r ps) → ArePlaced (length st) r 0 ps → (hd : H) (ws : List ℕ) → length ws ≡ first_size ps → (o : List ℕ) → o ≡ overwrite st (storage_index (bytes st r ps) (first_gap ps)) ws
-      → contents_of (drop 1 (headed hd (close_up ps))) (queue (bytes o (storage_index (bytes o (storage_index (bytes st r ps) (first_gap ps)) (headed hd (close_up ps))) (first_size (headed hd (close_up ps)))) (drop 1 (headed hd (close_up ps))))) ≡ drop 1 (contents_of ps (queue (bytes st r ps)))
+      → contents_of (drop 1 (with_first_header hd (without_first_gap ps))) (queue (bytes o (storage_index (bytes o (storage_index (bytes st r ps) (first_gap ps)) (with_first_header hd (without_first_gap ps))) (first_size (with_first_header hd (without_first_gap ps)))) (drop 1 (with_first_header hd (without_first_gap ps))))) ≡ drop 1 (contents_of ps (queue (bytes st r ps)))
   left_with_go st r [] wf a hd ws long o is = refl
   left_with_go st r (p ∷ ps) wf a hd ws long o is =
       let c = bytes st r (p ∷ ps) in
@@ -259,13 +259,13 @@ module _ {H : Type 0} where
     pub gap_dropped : contents (skipped q) ≡ contents q
     gap_dropped = skipped_go q.storage q.read_at q.packets ok.0
 
-    pub shown : (hd : H) (ws : List ℕ) → IsFront q hd ws → contents q ≡ (hd, ws) ∷ drop 1 (contents q)
+    pub shown : (hd : H) (ws : List ℕ) → IsFirst q hd ws → contents q ≡ (hd, ws) ∷ drop 1 (contents q)
     shown hd ws f = shown_go q.storage q.read_at q.packets ok.0 ok.1 hd ws f.0 f.1
 
     pub refused : (hd : H) (ws : List ℕ) → q.packets ≢ [] → length ws ≡ first_size q.packets → contents (first_written (skipped q) hd ws) ≡ (hd, ws) ∷ drop 1 (contents q)
     refused hd ws some long = refused_go q.storage q.read_at q.packets ok.0 ok.1 some hd ws long
 
-    pub left : contents (taken q) ≡ drop 1 (contents q)
+    pub left : contents (dequeued q) ≡ drop 1 (contents q)
     left = left_go q.storage q.read_at q.packets ok.0
 
     pub left_with : (hd : H) (ws : List ℕ) → length ws ≡ first_size q.packets → contents (popped (first_written (skipped q) hd ws)) ≡ drop 1 (contents q)

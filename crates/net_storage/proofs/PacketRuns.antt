@@ -1,28 +1,20 @@
 -- Over whole runs, a queue's packets leave in the order in which they came.
-use Rattle.std.proofs.Common.{◌≢◌, ◌≡◌, ℕ, ◌+◌, ◌-◌, ◌≤◌, List, [], ◌∷◌, ◌++◌, length, take, drop, refl, sym, ap, ap₂, ◌∙◌, subst, inl, inr, arith, ◌⊎◌, ◌<◌, append_assoc, length-append}
-use Rattle.std.proofs.lemmas.List.{append-nil, take_all, take_at, drop_at}
+use Rattle.std.proofs.Common.{◌≢◌, ◌≡◌, ℕ, ◌+◌, ◌-◌, ◌≤◌, List, [], ◌∷◌, ◌++◌, length, take, drop, refl, sym, ap, ap₂, ◌∙◌, subst, inl, inr, arith, ◌⊎◌, ◌<◌, append_assoc, length-append, length-drop, suc, ◌↔◌, Bool, true, false, if◌then◌else◌}
+use Rattle.std.proofs.lemmas.List.{append-nil, take_all, take_at, drop_at, nil_from_length, length-take-le}
 use Rattle.std.proofs.Math.Seq.{set-append_seam}
 use Rattle.std.specs.Prelude.{set}
 use Rattle.std.specs.declared.option.Option.TheVariants.{Some, None}
 use Rattle.net_storage.specs.Overwrite.{overwrite}
 use Rattle.net_storage.specs.Ring.{queue, storage_index}
-use Rattle.net_storage.specs.Packets.{Packet, PacketQueue, packet, bytes_of, slots_of, byte_ring, place_in, ArePlaced, placement, pushed, pushed_if, placed, last, last_place, last_bytes, last_written, last_cut, resized, first_gap, first_size, close_up, skipped, headed, first_written, popped, taken, freed_place, AreFreed, with_bytes, WellPlaced}
-use Rattle.net_storage.specs.PacketHistory.{contents_of, contents, no_packets, Step, Reset, Placed, LastWritten, Enqueued, EnqueuedWith, Peeked, Refused, DequeuedWith, Taken, FreedWritten, Dequeued, Log, Makes, Run, with_last_bytes, logged, logged_all, history}
+use Rattle.net_storage.specs.Packets.{Packet, PacketQueue, no_packets, packet, bytes_of, slots_used, byte_ring, place_in, ArePlaced, placement, pushed, pushed_if, placed_if_room, only_last, last_place, last_bytes, last_written, last_cut, with_first_size, first_gap, first_size, without_first_gap, skipped, with_first_header, first_written, popped, dequeued, handed, freed_place, freed_bytes, AreFreed, with_bytes, first_bytes, IsFirst, IsFirstSized, WellPlaced}
+use Rattle.net_storage.specs.PacketHistory.{contents_of, contents, Call, Reset, Place, WriteLast, Enqueue, EnqueueWith, Peek, DequeueErr, DequeueOk, Take, WriteFreed, Dequeue, Log, Makes, MakesAll, with_last_bytes, logged, logged_all, history}
+use Rattle.net_storage.proofs.Overwrites.{overwrite-same}
 use Rattle.net_storage.proofs.Rotations.{IsStorageIndex, length-overwrite, length-queue, cut, overwrite_at, storage_index_is}
 use Rattle.net_storage.proofs.RingFacts.{held_law, spare_law}
 use Rattle.net_storage.proofs.PacketFacts.{bytes_append, place_cases, place_place, place_wf, placed_skip, placed_pop, slots_for_pos}
 use Rattle.net_storage.proofs.PacketSteps.{closed, last_append, before_append, last_fits, front_fits, push_well, close_gap}
 use Rattle.net_storage.proofs.PacketOrder.{some_of, contents_append}
 use Rattle.net_storage.proofs.PacketOrder as order
-
--- what is written over a part of a list as it stands there changes nothing
-overwrite_same : (xs : List ℕ) (i n : ℕ) → i + n ≤ length xs → overwrite xs i (take n (drop i xs)) ≡ xs
-overwrite_same xs i n fits =
-    let c1 = cut i xs (omega (arith, fits)) in let a = c1.0 in let v = c1.1 in
-    let c2 = cut n v (omega (arith, c1.4, fits)) in let part = c2.0 in let z = c2.1 in
-    let whole : xs ≡ a ++ (part ++ z) = c1.2 ∙ ap (λ (l : List ℕ). a ++ l) c2.2 in
-    let read : take n (drop i xs) ≡ part = ap (take n) (ap (drop i) c1.2 ∙ drop_at a v i c1.3) ∙ ap (take n) c2.2 ∙ take_at part z n c2.3 in
-    ap₂ (λ (l ws : List ℕ). overwrite l i ws) whole read ∙ overwrite_at a part z part i c1.3 refl ∙ sym whole
 
 -- a list that is not empty ends in an element
 ends_in : {X : Type 0} (xs : List X) → xs ≢ [] → (ys : List X) × (y : X) × (xs ≡ ys ++ (y ∷ []))
@@ -34,12 +26,12 @@ ends_in (x ∷ (o ∷ xs)) some =
 
 module _ {H : Type 0} where
   abbrev mk : ℕ → List ℕ → ℕ → List (Packet H) → PacketQueue H
-  mk n st r ps = record { slots = n; storage = st; read_at = r; packets = ps }
+  mk n st r ps = record { slot_count = n; storage = st; read_at = r; packets = ps }
 
   -- ---- each step leaves the packets well placed
   with_bytes_well : (q : PacketQueue H) → WellPlaced q → (p : ℕ) (ws : List ℕ) → WellPlaced (with_bytes q p ws)
   with_bytes_well q ok p ws =
-      subst (λ (n : ℕ). (((q.read_at ≡ 0) ⊎ (q.read_at < n)) × (bytes_of q.packets ≤ n)) × ArePlaced n q.read_at 0 q.packets × (slots_of q.packets ≤ q.slots)) (sym (length-overwrite q.storage p ws)) ok
+      subst (λ (n : ℕ). (((q.read_at ≡ 0) ⊎ (q.read_at < n)) × (bytes_of q.packets ≤ n)) × ArePlaced n q.read_at 0 q.packets × (slots_used q.packets ≤ q.slot_count)) (sym (length-overwrite q.storage p ws)) ok
 
   skipped_go : (n : ℕ) (st : List ℕ) (r : ℕ) (ps : List (Packet H)) → WellPlaced (mk n st r ps) → WellPlaced (skipped (mk n st r ps))
   skipped_go n st r [] ok = ((place_wf (length st) r 0 ok.0.0 (omega arith), ok.0.1), tt, ok.2)
@@ -54,25 +46,25 @@ module _ {H : Type 0} where
       let at = place_wf (length st) r p.size ok.0.0 (omega (arith, ok.0.1)) in
       ((at, omega (arith, ok.0.1)), placed_pop (length st) r p ps ok.0.0 ok.0.1 z ok.1, omega (arith, ok.2))
 
-  headed_go : (n : ℕ) (st : List ℕ) (r : ℕ) (ps : List (Packet H)) (hd : H) → WellPlaced (mk n st r ps) → WellPlaced (mk n st r (headed hd ps)) × (first_gap (headed hd ps) ≡ first_gap ps)
+  headed_go : (n : ℕ) (st : List ℕ) (r : ℕ) (ps : List (Packet H)) (hd : H) → WellPlaced (mk n st r ps) → WellPlaced (mk n st r (with_first_header hd ps)) × (first_gap (with_first_header hd ps) ≡ first_gap ps)
   headed_go n st r [] hd ok = (ok, refl)
   headed_go n st r (p ∷ ps) hd ok = (ok, refl)
 
   module _ (q : PacketQueue H) (ok : WellPlaced q) where
     skipped_well : WellPlaced (skipped q)
-    skipped_well = skipped_go q.slots q.storage q.read_at q.packets ok
+    skipped_well = skipped_go q.slot_count q.storage q.read_at q.packets ok
 
-    taken_well : WellPlaced (taken q)
-    taken_well = popped_go q.slots q.storage _ (close_up q.packets) (close_gap q.packets) skipped_well
+    taken_well : WellPlaced (dequeued q)
+    taken_well = popped_go q.slot_count q.storage _ (without_first_gap q.packets) (close_gap q.packets) skipped_well
 
     module _ (hd : H) (ws : List ℕ) where
-      written_headed : WellPlaced (first_written (skipped q) hd ws) × (first_gap (first_written (skipped q) hd ws).packets ≡ first_gap (close_up q.packets))
+      written_headed : WellPlaced (first_written (skipped q) hd ws) × (first_gap (first_written (skipped q) hd ws).packets ≡ first_gap (without_first_gap q.packets))
       written_headed =
           let at = (skipped q).read_at in
-          headed_go q.slots (overwrite q.storage at ws) at (close_up q.packets) hd (with_bytes_well (skipped q) skipped_well at ws)
+          headed_go q.slot_count (overwrite q.storage at ws) at (without_first_gap q.packets) hd (with_bytes_well (skipped q) skipped_well at ws)
 
       written_off : WellPlaced (popped (first_written (skipped q) hd ws))
-      written_off = popped_go q.slots _ _ (headed hd (close_up q.packets)) (written_headed.1 ∙ close_gap q.packets) written_headed.0
+      written_off = popped_go q.slot_count _ _ (with_first_header hd (without_first_gap q.packets)) (written_headed.1 ∙ close_gap q.packets) written_headed.0
 
     -- a packet that comes last
     module _ (s : ℕ) (hd : H) (gap : ℕ) (e : placement q s ≡ Some gap) where
@@ -83,53 +75,49 @@ module _ {H : Type 0} where
           let h = closed m b q.packets (order.holds q ok) in
           subst (λ (o : PacketQueue H). WellPlaced (pushed o gap k hd)) is (push_well m b h gap s (ap (λ (o : PacketQueue H). placement o s) is ∙ e) hd k le)
 
-      placed_is : placed q s hd ≡ pushed q gap s hd
+      placed_is : placed_if_room q s hd ≡ pushed q gap s hd
       placed_is = ap (λ o. pushed_if q o s hd) e
 
-      cut_is : (k : ℕ) (ws : List ℕ) → with_bytes (pushed q gap k hd) (last_place (pushed q gap s hd)) ws ≡ last_cut k (last_written (placed q s hd) ws)
+      cut_is : (k : ℕ) (ws : List ℕ) → with_bytes (pushed q gap k hd) (last_place (pushed q gap s hd)) ws ≡ last_cut k (last_written (placed_if_room q s hd) ws)
       cut_is k ws =
           let all = pushed q gap s hd in
-          ap₂ (λ (front back : List (Packet H)). mk q.slots (overwrite q.storage (last_place all) ws) all.read_at (front ++ back))
-          (sym (before_append q.packets (packet hd s gap))) (sym (ap (resized k) (last_append q.packets (packet hd s gap))))
+          ap₂ (λ (front back : List (Packet H)). mk q.slot_count (overwrite q.storage (last_place all) ws) all.read_at (front ++ back))
+          (sym (before_append q.packets (packet hd s gap))) (sym (ap (with_first_size k) (last_append q.packets (packet hd s gap))))
           ∙ ap (λ o. last_cut k (last_written o ws)) (sym placed_is)
 
     module _ (s : ℕ) (hd : H) (some : placement q s ≢ None) where
-      placed_well : WellPlaced (placed q s hd)
+      placed_well : WellPlaced (placed_if_room q s hd)
       placed_well = let g = some_of (placement q s) some in subst WellPlaced (sym (placed_is s hd g.0 g.1)) (pushed_well s hd g.0 g.1 s (omega arith))
 
-      cut_well : (k : ℕ) → k ≤ s → (ws : List ℕ) → WellPlaced (last_cut k (last_written (placed q s hd) ws))
+      cut_well : (k : ℕ) → k ≤ s → (ws : List ℕ) → WellPlaced (last_cut k (last_written (placed_if_room q s hd) ws))
       cut_well k le ws =
           let g = some_of (placement q s) some in
           subst WellPlaced (cut_is s hd g.0 g.1 k ws) (with_bytes_well (pushed q g.0 k hd) (pushed_well s hd g.0 g.1 k le) (last_place (pushed q g.0 s hd)) ws)
 
-  keeps : (step : Step H) (q r : PacketQueue H) → WellPlaced q → Makes step q r → WellPlaced r
+  keeps : (call : Call H) (q r : PacketQueue H) → WellPlaced q → Makes call q r → WellPlaced r
   keeps Reset q r ok is = subst WellPlaced (sym is) ((inl refl, omega arith), tt, omega arith)
-  keeps (Placed hd ws) q r ok does = subst WellPlaced (sym does.1) (placed_well q ok (length ws) hd does.0)
-  keeps (LastWritten ws) q r ok does = subst WellPlaced (sym does.2) (with_bytes_well q ok (last_place q) ws)
-  keeps (Enqueued hd ws) q r ok does = subst WellPlaced (sym does.1) (let o = placed q (length ws) hd in with_bytes_well o (placed_well q ok (length ws) hd does.0) (last_place o) ws)
-  keeps (EnqueuedWith hd ws count) q r ok does = subst WellPlaced (sym does.2) (cut_well q ok (length ws) hd does.0 count does.1 ws)
-  keeps Peeked q r ok is = subst WellPlaced (sym is) (skipped_well q ok)
-  keeps (Refused hd ws) q r ok does = subst WellPlaced (sym does.2) (written_headed q ok hd ws).0
-  keeps (DequeuedWith hd ws after written) q r ok does = subst WellPlaced (sym does.2) (written_off q ok after written)
-  keeps (Taken hd ws) q r ok does = subst WellPlaced (sym does.1) (taken_well q ok)
-  keeps (FreedWritten ws) q r ok does = subst WellPlaced (sym does.1) (with_bytes_well q ok (freed_place q (length ws)) ws)
-  keeps (Dequeued hd ws written) q r ok does = subst WellPlaced (sym does.2) (with_bytes_well (taken q) (taken_well q ok) (skipped q).read_at written)
+  keeps (Place hd ws) q r ok does = subst WellPlaced (sym does.1) (placed_well q ok (length ws) hd does.0)
+  keeps (WriteLast ws) q r ok does = subst WellPlaced (sym does.2) (with_bytes_well q ok (last_place q) ws)
+  keeps (Enqueue hd ws) q r ok does = subst WellPlaced (sym does.1) (let o = placed_if_room q (length ws) hd in with_bytes_well o (placed_well q ok (length ws) hd does.0) (last_place o) ws)
+  keeps (EnqueueWith hd ws count) q r ok does = subst WellPlaced (sym does.2) (cut_well q ok (length ws) hd does.0 count does.1 ws)
+  keeps Peek q r ok is = subst WellPlaced (sym is) (skipped_well q ok)
+  keeps (DequeueErr hd ws) q r ok does = subst WellPlaced (sym does.2) (written_headed q ok hd ws).0
+  keeps (DequeueOk hd ws after written) q r ok does = subst WellPlaced (sym does.2) (written_off q ok after written)
+  keeps (Take hd ws) q r ok does = subst WellPlaced (sym does.1) (taken_well q ok)
+  keeps (WriteFreed ws) q r ok does = subst WellPlaced (sym does.1) (with_bytes_well q ok (freed_place q (length ws)) ws)
+  keeps (Dequeue hd ws written) q r ok does = subst WellPlaced (sym does.2) (with_bytes_well (dequeued q) (taken_well q ok) (skipped q).read_at written)
 
   -- ---- what a step makes of the contents
-  placed_contents : (q : PacketQueue H) → WellPlaced q → (hd : H) (ws : List ℕ) → placement q (length ws) ≢ None → ws ≡ last_bytes (placed q (length ws) hd)
-      → contents (placed q (length ws) hd) ≡ contents q ++ ((hd, ws) ∷ [])
+  placed_contents : (q : PacketQueue H) → WellPlaced q → (hd : H) (ws : List ℕ) → placement q (length ws) ≢ None → ws ≡ last_bytes (placed_if_room q (length ws) hd)
+      → contents (placed_if_room q (length ws) hd) ≡ contents q ++ ((hd, ws) ∷ [])
   placed_contents q ok hd ws some is =
-      let o = placed q (length ws) hd in
-      let w = placed_well q ok (length ws) hd some in
-      let f = last_fits (length o.storage) o.read_at 0 o.packets w.0.0 (omega (arith, w.0.1)) w.1 in
-      let z : 0 + bytes_of o.packets - first_size (last o.packets) ≡ bytes_of o.packets - first_size (last o.packets) = omega arith in
-      let at = ap (place_in (length o.storage) o.read_at) z in
+      let o = placed_if_room q (length ws) hd in
       let same : last_written o ws ≡ o =
-      ap (last_written o) is ∙ ap (λ (st : List ℕ). mk o.slots st o.read_at o.packets) (overwrite_same o.storage (last_place o) (first_size (last o.packets)) (omega (arith, at, f.1))) in
+      ap (last_written o) is ∙ ap (λ (st : List ℕ). mk o.slot_count st o.read_at o.packets) (overwrite-same o.storage (last_place o) (first_size (only_last o.packets))) in
       ap contents (sym same) ∙ order.accepted q ok (length ws) hd ws some refl
 
   -- the last packet is written again
-  last_go : (n : ℕ) (st : List ℕ) (r : ℕ) (ps : List (Packet H)) (p : Packet H) (ws : List ℕ) → let q = mk n st r (ps ++ (p ∷ [])) in WellPlaced q → length ws ≡ first_size (last q.packets)
+  last_go : (n : ℕ) (st : List ℕ) (r : ℕ) (ps : List (Packet H)) (p : Packet H) (ws : List ℕ) → let q = mk n st r (ps ++ (p ∷ [])) in WellPlaced q → length ws ≡ first_size (only_last q.packets)
       → (front : List (H × List ℕ)) × (old : List ℕ) × (contents q ≡ front ++ ((p.header, old) ∷ [])) × (contents (last_written q ws) ≡ front ++ ((p.header, ws) ∷ []))
   last_go n st r ps p ws ok long =
       let q = mk n st r (ps ++ (p ∷ [])) in
@@ -138,8 +126,8 @@ module _ {H : Type 0} where
       let sum = bytes_append ps p in
       let size : length ws ≡ p.size = long ∙ ap first_size (last_append ps p) in
       let f = last_fits (length st) r 0 q.packets ok.0.0 (omega (arith, ok.0.1)) ok.1 in
-      let i : ℕ = bytes_of q.packets - first_size (last q.packets) in
-      let z : 0 + bytes_of q.packets - first_size (last q.packets) ≡ i = omega arith in
+      let i : ℕ = bytes_of q.packets - first_size (only_last q.packets) in
+      let z : 0 + bytes_of q.packets - first_size (only_last q.packets) ≡ i = omega arith in
       let at = ap (place_in (length st) r) z in
       let w = (held_law c ok.0 i (last_place q) ws (omega (arith, long, f.0)) (omega (arith, long, at, f.1)) (storage_index_is c i)).0 in
       let all = length-queue c ok.0 in
@@ -159,15 +147,15 @@ module _ {H : Type 0} where
         ap (contents_of q.packets) (w ∙ over) ∙ contents_append ps p a x ws c1.3 c2.3 ∙ ap (λ (l : List ℕ). contents_of ps a ++ ((p.header, l) ∷ [])) full,
       )
 
-  last_contents : (q : PacketQueue H) → WellPlaced q → (ws : List ℕ) → q.packets ≢ [] → length ws ≡ first_size (last q.packets)
+  last_contents : (q : PacketQueue H) → WellPlaced q → (ws : List ℕ) → q.packets ≢ [] → length ws ≡ first_size (only_last q.packets)
       → (front : List (H × List ℕ)) × (hd : H) × (old : List ℕ) × (contents q ≡ front ++ ((hd, old) ∷ [])) × (contents (last_written q ws) ≡ front ++ ((hd, ws) ∷ []))
   last_contents q ok ws some long =
       let end = ends_in q.packets some in
-      let is : q ≡ mk q.slots q.storage q.read_at (end.0 ++ (end.1 ∷ [])) = ap (mk q.slots q.storage q.read_at) end.2 in
-      let l = last_go q.slots q.storage q.read_at end.0 end.1 ws (subst WellPlaced is ok) (long ∙ ap (λ ps. first_size (last ps)) end.2) in
+      let is : q ≡ mk q.slot_count q.storage q.read_at (end.0 ++ (end.1 ∷ [])) = ap (mk q.slot_count q.storage q.read_at) end.2 in
+      let l = last_go q.slot_count q.storage q.read_at end.0 end.1 ws (subst WellPlaced is ok) (long ∙ ap (λ ps. first_size (only_last ps)) end.2) in
       (l.0, end.1.header, l.1, ap contents is ∙ l.2, ap (λ o. contents (last_written o ws)) is ∙ l.3)
 
-  freed_contents : (q : PacketQueue H) → WellPlaced q → (ws : List ℕ) → AreFreed q (length ws) → contents (with_bytes q (freed_place q (length ws)) ws) ≡ contents q
+  pub freed_contents : (q : PacketQueue H) → WellPlaced q → (ws : List ℕ) → AreFreed q (length ws) → contents (with_bytes q (freed_place q (length ws)) ws) ≡ contents q
   freed_contents q ok ws f =
       let c = byte_ring q in
       let s = length ws in
@@ -177,7 +165,7 @@ module _ {H : Type 0} where
       let w = spare_law c ok.0 i (freed_place q s) ws (omega (arith, f.0)) f.1 (subst (λ (j : ℕ). IsStorageIndex (length q.storage) q.read_at j (freed_place q s)) z (storage_index_is c (length q.storage - s))) in
       ap (contents_of q.packets) w.0
 
-  close_size : (ps : List (Packet H)) → first_size (close_up ps) ≡ first_size ps
+  close_size : (ps : List (Packet H)) → first_size (without_first_gap ps) ≡ first_size ps
   close_size [] = refl
   close_size (p ∷ ps) = refl
 
@@ -197,19 +185,92 @@ module _ {H : Type 0} where
       place_place c r s (c - s) ok.0.0 (omega (arith, f.1)) ∙ ap (place_in c r) back ∙ (elim (place_cases c r c) [ inl h ↦ absurd (omega (arith, h.0)) | inr h ↦ omega (arith, h.1, f.1) ]) in
       (round, (omega (arith, rest, ok.0.1), omega (arith, round, f.1)))
 
-  off_contents : (q : PacketQueue H) → WellPlaced q → (ws : List ℕ) → length ws ≡ first_size q.packets → contents (with_bytes (taken q) (skipped q).read_at ws) ≡ contents (taken q)
+  pub off_contents : (q : PacketQueue H) → WellPlaced q → (ws : List ℕ) → length ws ≡ first_size q.packets → contents (with_bytes (dequeued q) (skipped q).read_at ws) ≡ contents (dequeued q)
   off_contents q ok ws long =
-      let f = off_go q.slots q.storage (skipped q).read_at (close_up q.packets) (skipped_well q ok) (close_gap q.packets) in
-      let size : first_size (close_up q.packets) ≡ length ws = close_size q.packets ∙ sym long in
-      ap (λ (p : ℕ). contents (with_bytes (taken q) p ws)) (sym f.0 ∙ ap (freed_place (taken q)) size)
-      ∙ freed_contents (taken q) (taken_well q ok) ws (subst (λ (s : ℕ). AreFreed (taken q) s) size f.1)
+      let f = off_go q.slot_count q.storage (skipped q).read_at (without_first_gap q.packets) (skipped_well q ok) (close_gap q.packets) in
+      let size : first_size (without_first_gap q.packets) ≡ length ws = close_size q.packets ∙ sym long in
+      ap (λ (p : ℕ). contents (with_bytes (dequeued q) p ws)) (sym f.0 ∙ ap (freed_place (dequeued q)) size)
+      ∙ freed_contents (dequeued q) (taken_well q ok) ws (subst (λ (s : ℕ). AreFreed (dequeued q) s) size f.1)
 
-  -- ---- the log of a run
+  -- ---- laws that users call for
   last_entry : (ps : List (H × List ℕ)) (hd : H) (old ws : List ℕ) → with_last_bytes ws (ps ++ ((hd, old) ∷ [])) ≡ ps ++ ((hd, ws) ∷ [])
   last_entry [] hd old ws = refl
   last_entry (p ∷ []) hd old ws = refl
   last_entry (p ∷ (o ∷ ps)) hd old ws = ap (λ l. p ∷ l) (last_entry (o ∷ ps) hd old ws)
 
+  -- there are as many contents as packets
+  length-contents_of : (ps : List (Packet H)) (bs : List ℕ) → length (contents_of ps bs) ≡ length ps
+  length-contents_of [] bs = refl
+  length-contents_of (p ∷ ps) bs = ap suc (length-contents_of ps (drop (p.gap + p.size) bs))
+
+  pub contents_count : (q : PacketQueue H) → length (contents q) ≡ length q.packets
+  contents_count q = length-contents_of q.packets (queue (byte_ring q))
+
+  pub contents_none : (q : PacketQueue H) → (contents q ≡ []) ↔ (length q.packets ≡ 0)
+  contents_none q =
+      let n = contents_count q in
+      (λ e. sym n ∙ ap length e, λ z. nil_from_length (contents q) (n ∙ z))
+
+  pub placed_stands : (q : PacketQueue H) → WellPlaced q → (s : ℕ) (hd : H) → placement q s ≢ None → contents (placed_if_room q s hd) ≡ contents q ++ ((hd, last_bytes (placed_if_room q s hd)) ∷ [])
+  placed_stands q ok s hd some =
+      let g = some_of (placement q s) some in
+      let o = placed_if_room q s hd in
+      let w = placed_well q ok s hd some in
+      let f = last_fits (length o.storage) o.read_at 0 o.packets w.0.0 (omega (arith, w.0.1)) w.1 in
+      let z : 0 + bytes_of o.packets - first_size (only_last o.packets) ≡ bytes_of o.packets - first_size (only_last o.packets) = omega arith in
+      let at = ap (place_in (length o.storage) o.read_at) z in
+      let long = length-drop (last_place o) o.storage in
+      let size : first_size (only_last o.packets) ≡ s = ap (λ (p : PacketQueue H). first_size (only_last p.packets)) (placed_is q ok s hd g.0 g.1) ∙ ap first_size (last_append q.packets (packet hd s g.0)) in
+      let n : length (last_bytes o) ≡ s = length-take-le (first_size (only_last o.packets)) (drop (last_place o) o.storage) (omega (arith, at, f.1, long)) ∙ size in
+      ap (λ (m : ℕ). contents (placed_if_room q m hd)) (sym n)
+      ∙ placed_contents q ok hd (last_bytes o) (subst (λ (m : ℕ). placement q m ≢ None) (sym n) some) (ap (λ (m : ℕ). last_bytes (placed_if_room q m hd)) (sym n))
+
+  pub last_is_written : (q : PacketQueue H) → WellPlaced q → (ws : List ℕ) → q.packets ≢ [] → length ws ≡ first_size (only_last q.packets) → contents (last_written q ws) ≡ with_last_bytes ws (contents q)
+  last_is_written q ok ws some long =
+      let l = last_contents q ok ws some long in
+      l.4 ∙ sym (last_entry l.0 l.1 l.2 ws) ∙ ap (with_last_bytes ws) (sym l.3)
+
+  -- what was taken off stands before the read index
+  taken_bytes : (q : PacketQueue H) → WellPlaced q → (s : ℕ) → s ≡ first_size q.packets → (freed_bytes (dequeued q) s ≡ first_bytes (skipped q)) × (length (freed_bytes (dequeued q) s) ≡ s)
+  taken_bytes q ok s is =
+      let f = off_go q.slot_count q.storage (skipped q).read_at (without_first_gap q.packets) (skipped_well q ok) (close_gap q.packets) in
+      let size : first_size (without_first_gap q.packets) ≡ s = close_size q.packets ∙ sym is in
+      let fits = subst (λ (n : ℕ). AreFreed (dequeued q) n) size f.1 in
+      let at : freed_place (dequeued q) s ≡ (skipped q).read_at = sym (ap (freed_place (dequeued q)) size) ∙ f.0 in
+      let long = length-drop (freed_place (dequeued q) s) q.storage in (
+        ap₂ (λ (p n : ℕ). take n (drop p q.storage)) at (sym size),
+        length-take-le s (drop (freed_place (dequeued q) s) q.storage) (omega (arith, long, fits.1)),
+      )
+
+  pub taken_contents : (q : PacketQueue H) → WellPlaced q → (hd : H) (s : ℕ) → IsFirstSized q.packets hd s → contents q ≡ (hd, freed_bytes (dequeued q) s) ∷ contents (dequeued q)
+  taken_contents q ok hd s first =
+      let t = taken_bytes q ok s (sym (ap first_size first)) in
+      let sized = subst (λ (n : ℕ). IsFirstSized q.packets hd n) (sym t.1) first in
+      order.shown q ok hd (freed_bytes (dequeued q) s) (sized, t.0) ∙ ap (λ l. (hd, freed_bytes (dequeued q) s) ∷ l) (sym (order.left q ok))
+
+  -- what stands before the read index is written over itself
+  pub freed_stay : (q : PacketQueue H) (s : ℕ) (ws : List ℕ) → ws ≡ freed_bytes q s → with_bytes q (freed_place q s) ws ≡ q
+  freed_stay q s ws is = ap (with_bytes q (freed_place q s)) is ∙ ap (λ (st : List ℕ). mk q.slot_count st q.read_at q.packets) (overwrite-same q.storage (freed_place q s) s)
+
+  pub peeked_contents : (q : PacketQueue H) → WellPlaced q → contents (dequeued (skipped q)) ≡ drop 1 (contents q)
+  peeked_contents q ok = order.left (skipped q) (skipped_well q ok) ∙ ap (drop 1) (order.gap_dropped q ok)
+
+  still_go : (ps : List (Packet H)) → length (without_first_gap ps) ≡ length ps
+  still_go [] = refl
+  still_go (p ∷ ps) = refl
+
+  pub still_there : (q : PacketQueue H) → length (skipped q).packets ≡ length q.packets
+  still_there q = still_go q.packets
+
+  some_first : (ps : List (Packet H)) (hd : H) (n : ℕ) → IsFirstSized ps hd n → ps ≢ []
+  some_first [] hd n e z = let k = ap length e in omega (arith, k)
+  some_first (p ∷ ps) hd n e z = let k = ap length z in omega (arith, k)
+
+  pub kept_contents : (q : PacketQueue H) → WellPlaced q → (hd : H) (ws : List ℕ) (gone : Bool) → IsFirst q hd ws → contents (handed gone q hd ws) ≡ (if gone then drop 1 (contents q) else contents q)
+  kept_contents q ok hd ws true f = order.left_with q ok hd ws (sym (ap first_size f.0))
+  kept_contents q ok hd ws false f = order.refused q ok hd ws (some_first q.packets hd (length ws) f.0) (sym (ap first_size f.0)) ∙ sym (order.shown q ok hd ws f)
+
+  -- ---- the log of a run
   -- the packets that left, followed by those that are held, are those that came
   abbrev InTurn : Log H → PacketQueue H → Type 0
   InTurn log q = log.left ++ contents q ≡ log.accepted
@@ -234,32 +295,32 @@ module _ {H : Type 0} where
       ap (λ l. log.left ++ l) is ∙ sym (append_assoc log.left front ((hd, ws) ∷ [])) ∙ sym (last_entry (log.left ++ front) hd old ws)
       ∙ ap (with_last_bytes ws) (append_assoc log.left front ((hd, old) ∷ []) ∙ ap (λ l. log.left ++ l) (sym was) ∙ turn)
 
-  step_turn : (step : Step H) (log : Log H) (q r : PacketQueue H) → WellPlaced q → Makes step q r → InTurn log q → InTurn (logged step log) r
-  step_turn Reset log q r ok is turn = ap (λ o. log.left ++ contents o) is ∙ append-nil log.left
-  step_turn (Placed hd ws) log q r ok does turn =
+  call_turn : (call : Call H) (log : Log H) (q r : PacketQueue H) → WellPlaced q → Makes call q r → InTurn log q → InTurn (logged call log) r
+  call_turn Reset log q r ok is turn = ap (λ o. log.left ++ contents o) is ∙ append-nil log.left
+  call_turn (Place hd ws) log q r ok does turn =
       more log q r (hd, ws) turn (ap contents does.1 ∙ placed_contents q ok hd ws does.0 (does.2 ∙ ap last_bytes does.1))
-  step_turn (LastWritten ws) log q r ok does turn =
+  call_turn (WriteLast ws) log q r ok does turn =
       let l = last_contents q ok ws does.0 does.1 in
       again log q r ws l.0 l.1 l.2 turn l.3 (ap contents does.2 ∙ l.4)
-  step_turn (Enqueued hd ws) log q r ok does turn = more log q r (hd, ws) turn (ap contents does.1 ∙ order.accepted q ok (length ws) hd ws does.0 refl)
-  step_turn (EnqueuedWith hd ws count) log q r ok does turn =
+  call_turn (Enqueue hd ws) log q r ok does turn = more log q r (hd, ws) turn (ap contents does.1 ∙ order.accepted q ok (length ws) hd ws does.0 refl)
+  call_turn (EnqueueWith hd ws count) log q r ok does turn =
       more log q r (hd, take count ws) turn (ap contents does.2 ∙ order.accepted_with q ok (length ws) hd ws does.0 refl count does.1)
-  step_turn Peeked log q r ok is turn = ap (λ l. log.left ++ l) (ap contents is ∙ order.gap_dropped q ok) ∙ turn
-  step_turn (Refused hd ws) log q r ok does turn = anew log q r (hd, ws) turn does.0 (ap contents does.2 ∙ order.refused q ok hd ws does.0 does.1)
-  step_turn (DequeuedWith hd ws after written) log q r ok does turn =
+  call_turn Peek log q r ok is turn = ap (λ l. log.left ++ l) (ap contents is ∙ order.gap_dropped q ok) ∙ turn
+  call_turn (DequeueErr hd ws) log q r ok does turn = anew log q r (hd, ws) turn does.0 (ap contents does.2 ∙ order.refused q ok hd ws does.0 does.1)
+  call_turn (DequeueOk hd ws after written) log q r ok does turn =
       let size = ap first_size does.0.0 in
       off log q r (hd, ws) turn (order.shown q ok hd ws does.0) (ap contents does.2 ∙ order.left_with q ok after written (does.1 ∙ sym size))
-  step_turn (Taken hd ws) log q r ok does turn = off log q r (hd, ws) turn (order.shown q ok hd ws does.0) (ap contents does.1 ∙ order.left q ok)
-  step_turn (FreedWritten ws) log q r ok does turn = ap (λ l. log.left ++ l) (ap contents does.1 ∙ freed_contents q ok ws does.0) ∙ turn
-  step_turn (Dequeued hd ws written) log q r ok does turn =
+  call_turn (Take hd ws) log q r ok does turn = off log q r (hd, ws) turn (order.shown q ok hd ws does.0) (ap contents does.1 ∙ order.left q ok)
+  call_turn (WriteFreed ws) log q r ok does turn = ap (λ l. log.left ++ l) (ap contents does.1 ∙ freed_contents q ok ws does.0) ∙ turn
+  call_turn (Dequeue hd ws written) log q r ok does turn =
       let size = ap first_size does.0.0 in
       off log q r (hd, ws) turn (order.shown q ok hd ws does.0) (ap contents does.2 ∙ off_contents q ok written (does.1 ∙ sym size) ∙ order.left q ok)
 
-  run_turn : (steps : List (Step H)) (log : Log H) (q r : PacketQueue H) → WellPlaced q → Run steps q r → InTurn log q → InTurn (logged_all steps log) r
-  run_turn [] log q r ok run turn = ap (λ o. log.left ++ contents o) run ∙ turn
-  run_turn (step ∷ steps) log q r ok run turn =
-      run_turn steps (logged step log) run.0 r (keeps step q run.0 ok run.1) run.2 (step_turn step log q run.0 ok run.1 turn)
+  calls_turn : (calls : List (Call H)) (log : Log H) (q r : PacketQueue H) → WellPlaced q → MakesAll calls q r → InTurn log q → InTurn (logged_all calls log) r
+  calls_turn [] log q r ok run turn = ap (λ o. log.left ++ contents o) run ∙ turn
+  calls_turn (call ∷ calls) log q r ok run turn =
+      calls_turn calls (logged call log) run.0 r (keeps call q run.0 ok run.1) run.2 (call_turn call log q run.0 ok run.1 turn)
 
-  pub in_turn : (slots : ℕ) (storage : List ℕ) (steps : List (Step H)) (r : PacketQueue H) → Run steps (no_packets slots storage) r → InTurn (history steps) r
-  in_turn slots storage steps r run =
-      run_turn steps (record { accepted = []; left = [] }) (no_packets slots storage) r ((inl refl, omega arith), tt, omega arith) run refl
+  pub in_turn : (slots : ℕ) (storage : List ℕ) (calls : List (Call H)) (r : PacketQueue H) → MakesAll calls (no_packets slots storage) r → InTurn (history calls) r
+  in_turn slots storage calls r run =
+      calls_turn calls (record { accepted = []; left = [] }) (no_packets slots storage) r ((inl refl, omega arith), tt, omega arith) run refl

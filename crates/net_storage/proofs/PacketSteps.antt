@@ -8,8 +8,8 @@ use Rattle.std.specs.List.{slice_get}
 use Rattle.std.specs.declared.option.Option.TheVariants.{Some, None}
 use Rattle.net_storage.specs.Overwrite.{overwrite}
 use Rattle.net_storage.specs.Ring.{RingState, ring, rotation, capacity, window, queue, storage_index, WellFormed, restarted, with_enqueued, with_dequeued, written, contiguous_window, contiguous_held, held_index, contiguous_held_from, spare_index, contiguous_window_from}
-use Rattle.net_storage.specs.Packets.{Packet, PacketQueue, packet, bytes_of, slots_of, slots_for, byte_ring, place_in, IsPlaced, ArePlaced, gap_for, placement, pushed, placed, pushed_if, last, before_last, last_place, last_bytes, last_written, last_cut, resized, IsRoom, first_gap, first_size, close_up, skipped, IsFirst, first_bytes, IsFront, headed, first_written, popped, freed_place, AreFreed, WellPlaced, with_bytes}
-use Rattle.net_storage.specs.PacketSlots.{slot, gap_slot, slots, packets_in, Holds, packet_queue}
+use Rattle.net_storage.specs.Packets.{Packet, PacketQueue, packet, bytes_of, slots_used, slots_for, byte_ring, place_in, IsPlaced, ArePlaced, gap_for, placement, pushed, placed_if_room, pushed_if, only_last, before_last, last_place, last_bytes, last_written, last_cut, with_first_size, IsRoom, first_gap, first_size, without_first_gap, skipped, IsFirstSized, first_bytes, IsFirst, with_first_header, first_written, popped, freed_place, AreFreed, WellPlaced, with_bytes}
+use Rattle.net_storage.specs.PacketSlots.{slot, gap_slot, packet_slots, packets_in, Holds, packet_queue}
 use Rattle.net_storage.specs.declared.packet_metadata.PacketMetadata.{PacketMetadata}
 use Rattle.net_storage.proofs.Rotations.{length-overwrite, length-queue, with_dequeued_parts, part-rotation, cut, overwrite_at, read_at_le}
 use Rattle.net_storage.proofs.RingFacts.{read_index_is}
@@ -24,7 +24,7 @@ module _ (b : RingState ℕ) where
 
 module _ {H : Type 0} where
   abbrev mk : ℕ → List ℕ → ℕ → List (Packet H) → PacketQueue H
-  mk n st r ps = record { slots = n; storage = st; read_at = r; packets = ps }
+  mk n st r ps = record { slot_count = n; storage = st; read_at = r; packets = ps }
 
   module _ (m : RingState (PacketMetadata H)) (b : RingState ℕ) (ps : List (Packet H)) (h : Holds m b ps) where
     -- ---- rings that hold packets are seen as these
@@ -49,7 +49,7 @@ module _ {H : Type 0} where
         )
 
   -- ---- a packet at the end of a list
-  pub last_append : (ps : List (Packet H)) (p : Packet H) → last (ps ++ (p ∷ [])) ≡ p ∷ []
+  pub last_append : (ps : List (Packet H)) (p : Packet H) → only_last (ps ++ (p ∷ [])) ≡ p ∷ []
   last_append ps p = let n = length-append ps (p ∷ []) in drop_at ps (p ∷ []) (length (ps ++ (p ∷ [])) - 1) (omega (arith, n))
 
   pub before_append : (ps : List (Packet H)) (p : Packet H) → before_last (ps ++ (p ∷ [])) ≡ ps
@@ -72,8 +72,8 @@ module _ {H : Type 0} where
     pub same : byte_ring before ≡ b
     same = ap (λ (n : ℕ). ring b.storage b.read_at n) (sym h.3)
 
-    parts : (gap_for s (contiguous_window (restarted (byte_ring before))) (window (restarted (byte_ring before))) ≡ Some gap) × (slots_for gap ≤ capacity m - slots_of held_packets)
-    parts = slots_some (capacity m - slots_of held_packets) (gap_for s (contiguous_window (restarted (byte_ring before))) (window (restarted (byte_ring before)))) gap e
+    parts : (gap_for s (contiguous_window (restarted (byte_ring before))) (window (restarted (byte_ring before))) ≡ Some gap) × (slots_for gap ≤ capacity m - slots_used held_packets)
+    parts = slots_some (capacity m - slots_used held_packets) (gap_for s (contiguous_window (restarted (byte_ring before))) (window (restarted (byte_ring before)))) gap e
 
     for_g : gap_for s (contiguous_window g) (window g) ≡ Some gap
     for_g = sym (ap (λ o. gap_for s (contiguous_window (restarted o)) (window (restarted o))) same) ∙ parts.0
@@ -125,7 +125,7 @@ module _ {H : Type 0} where
         module _ (m2 : RingState (PacketMetadata H)) (em : queue m2 ≡ queue m ++ (gap_slot gap ++ (slot k (Some hd) ∷ []))) (wfm : WellFormed m2) where
           pub push_holds : Holds m2 (with_enqueued (gap + k) g) one_more
           push_holds =
-              let slots_all : queue m2 ≡ slots one_more =
+              let slots_all : queue m2 ≡ packet_slots one_more =
               em ∙ ap (λ (l : List (PacketMetadata H)). l ++ (gap_slot gap ++ (slot k (Some hd) ∷ []))) h.2 ∙ sym (slots_append held_packets (packet hd k gap)) in
               let all = bytes_append held_packets (packet hd k gap) in
               (wfm, (wfg.0, omega (arith, here.2, le)), slots_all, omega (arith, held_g, all), push_placed)
@@ -138,16 +138,16 @@ module _ {H : Type 0} where
       abbrev all : List (Packet H)
       all = held_packets ++ (packet hd s gap ∷ [])
 
-      pushed_is : placed before s hd ≡ pushed before gap s hd
+      pushed_is : placed_if_room before s hd ≡ pushed before gap s hd
       pushed_is = ap (λ o. pushed_if before o s hd) e
 
-      end_size : first_size (last all) ≡ s
+      end_size : first_size (only_last all) ≡ s
       end_size = ap first_size (last_append held_packets (packet hd s gap))
 
       push_place : last_place (pushed before gap s hd) ≡ place_in room g.read_at (g.held + gap)
       push_place =
           let sum = bytes_append held_packets (packet hd s gap) in
-          let n : bytes_of all - first_size (last all) ≡ g.held + gap = omega (arith, sum, end_size, held_g) in
+          let n : bytes_of all - first_size (only_last all) ≡ g.held + gap = omega (arith, sum, end_size, held_g) in
           ap (place_in (length b.storage) (restarted (byte_ring before)).read_at) n
           ∙ ap (λ (o : RingState ℕ). place_in (length b.storage) (restarted o).read_at (g.held + gap)) same
           ∙ ap (λ (st : List ℕ). place_in (length st) g.read_at (g.held + gap)) (sym (restart_storage b))
@@ -156,17 +156,17 @@ module _ {H : Type 0} where
       abbrev at : ℕ
       at = place_in room g.read_at (g.held + gap)
 
-      pub put_is : (ws : List ℕ) → mk (capacity m) (overwrite g.storage at ws) g.read_at all ≡ last_written (placed before s hd) ws
+      pub put_is : (ws : List ℕ) → mk (capacity m) (overwrite g.storage at ws) g.read_at all ≡ last_written (placed_if_room before s hd) ws
       put_is ws =
           ap (λ (st : List ℕ). mk (capacity m) (overwrite st at ws) g.read_at all) (restart_storage b)
           ∙ ap (λ (o : RingState ℕ). mk (capacity m) (overwrite b.storage at ws) (restarted o).read_at all) (sym same)
           ∙ ap (λ (p : ℕ). mk (capacity m) (overwrite b.storage p ws) (restarted (byte_ring before)).read_at all) (sym push_place)
           ∙ ap (λ (o : PacketQueue H). last_written o ws) (sym pushed_is)
 
-      pub cut_is : (k : ℕ) (ws : List ℕ) → mk (capacity m) (overwrite g.storage at ws) g.read_at (held_packets ++ (packet hd k gap ∷ [])) ≡ last_cut k (last_written (placed before s hd) ws)
+      pub cut_is : (k : ℕ) (ws : List ℕ) → mk (capacity m) (overwrite g.storage at ws) g.read_at (held_packets ++ (packet hd k gap ∷ [])) ≡ last_cut k (last_written (placed_if_room before s hd) ws)
       cut_is k ws =
           ap₂ (λ (front back : List (Packet H)). mk (capacity m) (overwrite g.storage at ws) g.read_at (front ++ back))
-          (sym (before_append held_packets (packet hd s gap))) (sym (ap (resized k) (last_append held_packets (packet hd s gap))))
+          (sym (before_append held_packets (packet hd s gap))) (sym (ap (with_first_size k) (last_append held_packets (packet hd s gap))))
           ∙ ap (last_cut k) (put_is ws)
 
       module _ (b1 : RingState ℕ) (is : b1 ≡ g) where
@@ -175,7 +175,7 @@ module _ {H : Type 0} where
             let z : g.held + min gap (window g) ≡ g.held + gap = omega (arith, byte_room) in
             ap (λ o. spare_index o gap) is ∙ ap (place_in room g.read_at) z
 
-        fill_place : spare_index b1 gap ≡ last_place (placed before s hd)
+        fill_place : spare_index b1 gap ≡ last_place (placed_if_room before s hd)
         fill_place = fill_at ∙ sym push_place ∙ ap last_place (sym pushed_is)
 
         pub fill_run : contiguous_window_from b1 gap s ≡ s
@@ -188,10 +188,10 @@ module _ {H : Type 0} where
         pub fill_room : (now : List ℕ) → now ≡ take (length now) (drop (spare_index b1 gap) b1.storage) → length now ≡ contiguous_window_from b1 gap s → IsRoom before s hd now
         fill_room now stored count =
             let long : length now ≡ s = count ∙ fill_run in
-            let size : first_size (last (placed before s hd).packets) ≡ s = ap (λ o. first_size (last o.packets)) pushed_is ∙ end_size in
-            let st : (placed before s hd).storage ≡ b1.storage = ap (λ o. o.storage) pushed_is ∙ sym (restart_storage b) ∙ ap (λ o. o.storage) (sym is) in
-            let one : last_bytes (placed before s hd) ≡ take s (drop (spare_index b1 gap) b1.storage) =
-            ap (λ (n : ℕ). take n (drop (last_place (placed before s hd)) (placed before s hd).storage)) size
+            let size : first_size (only_last (placed_if_room before s hd).packets) ≡ s = ap (λ o. first_size (only_last o.packets)) pushed_is ∙ end_size in
+            let st : (placed_if_room before s hd).storage ≡ b1.storage = ap (λ o. o.storage) pushed_is ∙ sym (restart_storage b) ∙ ap (λ o. o.storage) (sym is) in
+            let one : last_bytes (placed_if_room before s hd) ≡ take s (drop (spare_index b1 gap) b1.storage) =
+            ap (λ (n : ℕ). take n (drop (last_place (placed_if_room before s hd)) (placed_if_room before s hd).storage)) size
             ∙ ap₂ (λ (p : ℕ) (l : List ℕ). take s (drop p l)) (sym fill_place) st in
             ((λ n. none-some gap (sym n ∙ e)), stored ∙ ap (λ (n : ℕ). take n (drop (spare_index b1 gap) b1.storage)) long ∙ sym one, long)
 
@@ -205,16 +205,16 @@ module _ {H : Type 0} where
           pub fill_holds : Holds m2 b3 (packets_in 0 (queue m2))
           fill_holds = subst (λ (o : RingState ℕ). Holds m2 o (packets_in 0 (queue m2))) (sym after_is) (closed m2 _ _ holds)
 
-          pub fill_left : capacity m2 ≡ capacity m → packet_queue m2 b3 ≡ last_cut k (last_written (placed before s hd) ws)
+          pub fill_left : capacity m2 ≡ capacity m → packet_queue m2 b3 ≡ last_cut k (last_written (placed_if_room before s hd) ws)
           fill_left cm =
               ap (packet_queue m2) after_is ∙ viewed m2 _ _ holds
               ∙ ap (λ (n : ℕ). mk n (overwrite g.storage at ws) g.read_at (held_packets ++ (packet hd k gap ∷ []))) cm ∙ cut_is k ws
 
   -- ---- the last packet
-  last_one : (p : Packet H) → last (p ∷ []) ≡ p ∷ []
+  last_one : (p : Packet H) → only_last (p ∷ []) ≡ p ∷ []
   last_one p = last_append [] p
 
-  last_cons : (p q : Packet H) (ps : List (Packet H)) → last (p ∷ (q ∷ ps)) ≡ last (q ∷ ps)
+  last_cons : (p q : Packet H) (ps : List (Packet H)) → only_last (p ∷ (q ∷ ps)) ≡ only_last (q ∷ ps)
   last_cons p q ps =
       let one : length (p ∷ (q ∷ ps)) - 1 ≡ suc (length ps) = omega arith in
       let two : length ps ≡ length (q ∷ ps) - 1 = omega arith in
@@ -222,7 +222,7 @@ module _ {H : Type 0} where
 
   -- where the last packet is
   pub last_fits : (c r o : ℕ) (ps : List (Packet H)) → (r ≡ 0) ⊎ (r < c) → o + bytes_of ps ≤ c → ArePlaced c r o ps
-      → (first_size (last ps) ≤ bytes_of ps) × (place_in c r (o + bytes_of ps - first_size (last ps)) + first_size (last ps) ≤ c)
+      → (first_size (only_last ps) ≤ bytes_of ps) × (place_in c r (o + bytes_of ps - first_size (only_last ps)) + first_size (only_last ps) ≤ c)
   last_fits c r o [] wf le a =
       let at = place_le_in c r o wf (omega (arith, le)) in
       let z : o + 0 - 0 ≡ o = omega arith in
@@ -230,18 +230,18 @@ module _ {H : Type 0} where
       (omega arith, omega (arith, is, at))
   last_fits c r o (p ∷ []) wf le a =
       let s = ap first_size (last_one p) in
-      let z : o + (p.gap + p.size + 0) - first_size (last (p ∷ [])) ≡ o + p.gap = omega (arith, s) in
+      let z : o + (p.gap + p.size + 0) - first_size (only_last (p ∷ [])) ≡ o + p.gap = omega (arith, s) in
       let is = ap (place_in c r) z in
       (omega (arith, s), omega (arith, is, s, a.0.0))
   last_fits c r o (p ∷ (q ∷ ps)) wf le a =
       let s = ap first_size (last_cons p q ps) in
       let rest = last_fits c r (o + p.gap + p.size) (q ∷ ps) wf (omega (arith, le)) a.1 in
-      let z : o + bytes_of (p ∷ (q ∷ ps)) - first_size (last (p ∷ (q ∷ ps))) ≡ o + p.gap + p.size + bytes_of (q ∷ ps) - first_size (last (q ∷ ps)) = omega (arith, s) in
+      let z : o + bytes_of (p ∷ (q ∷ ps)) - first_size (only_last (p ∷ (q ∷ ps))) ≡ o + p.gap + p.size + bytes_of (q ∷ ps) - first_size (only_last (q ∷ ps)) = omega (arith, s) in
       let is = ap (place_in c r) z in
       (omega (arith, s, rest.0), omega (arith, is, s, rest.1))
 
   -- the slots of packets end in that of the last one
-  pub slots_end : (p : Packet H) (ps : List (Packet H)) → (ms : List (PacketMetadata H)) × (x : PacketMetadata H) × (slots (p ∷ ps) ≡ ms ++ (x ∷ [])) × (x.size ≡ first_size (last (p ∷ ps)))
+  pub slots_end : (p : Packet H) (ps : List (Packet H)) → (ms : List (PacketMetadata H)) × (x : PacketMetadata H) × (packet_slots (p ∷ ps) ≡ ms ++ (x ∷ [])) × (x.size ≡ first_size (only_last (p ∷ ps)))
   slots_end p [] = (gap_slot p.gap, slot p.size (Some p.header), refl, sym (ap first_size (last_one p)))
   slots_end p (q ∷ ps) =
       let rest = slots_end q ps in
@@ -254,7 +254,7 @@ module _ {H : Type 0} where
 
   module _ (m : RingState (PacketMetadata H)) (b : RingState ℕ) (h : Holds m b (packets_in 0 (queue m))) where
     abbrev end : ℕ
-    end = first_size (last (packets_in 0 (queue m)))
+    end = first_size (only_last (packets_in 0 (queue m)))
 
     ends : (end ≤ bytes_of (packets_in 0 (queue m))) × (place_in (capacity b) b.read_at (0 + bytes_of (packets_in 0 (queue m)) - end) + end ≤ capacity b)
     ends = last_fits (capacity b) b.read_at 0 (packets_in 0 (queue m)) h.1.0 (omega (arith, h.3, h.1.1)) h.4
@@ -274,11 +274,11 @@ module _ {H : Type 0} where
         omega (arith, at, ends.0, ends.1, h.3)
 
   -- ---- the gap before the first packet goes
-  pub skip_holds : (m : RingState (PacketMetadata H)) (b : RingState ℕ) (ps : List (Packet H)) → Holds m b ps → 0 < first_gap ps → Holds (with_dequeued 1 m) (with_dequeued (first_gap ps) b) (close_up ps)
+  pub skip_holds : (m : RingState (PacketMetadata H)) (b : RingState ℕ) (ps : List (Packet H)) → Holds m b ps → 0 < first_gap ps → Holds (with_dequeued 1 m) (with_dequeued (first_gap ps) b) (without_first_gap ps)
   skip_holds m b [] h pos = absurd (omega arith)
   skip_holds m b (p ∷ ps) h pos =
       let wf = h.1 in
-      let some : queue m ≡ slot p.gap None ∷ (slot p.size (Some p.header) ∷ slots ps) = h.2 ∙ ap (λ l. l ++ (slot p.size (Some p.header) ∷ slots ps)) (gap_slot_one p.gap pos) in
+      let some : queue m ≡ slot p.gap None ∷ (slot p.size (Some p.header) ∷ packet_slots ps) = h.2 ∙ ap (λ l. l ++ (slot p.size (Some p.header) ∷ packet_slots ps)) (gap_slot_one p.gap pos) in
       let many : 1 ≤ m.held = omega (arith, length-queue m h.0, ap length some) in
       let off = with_dequeued_parts m h.0 1 many in
       let all : b.held ≡ p.gap + p.size + bytes_of ps = h.3 in (
@@ -289,7 +289,7 @@ module _ {H : Type 0} where
         placed_skip (capacity b) b.read_at p ps wf.0 (omega (arith, all, wf.1)) h.4,
       )
 
-  pub close_gap : (ps : List (Packet H)) → first_gap (close_up ps) ≡ 0
+  pub close_gap : (ps : List (Packet H)) → first_gap (without_first_gap ps) ≡ 0
   close_gap [] = refl
   close_gap (p ∷ ps) = refl
 
@@ -297,7 +297,7 @@ module _ {H : Type 0} where
   with_gap n [] = []
   with_gap n (p ∷ ps) = packet p.header p.size n ∷ ps
 
-  pub close_first : (ps : List (Packet H)) (x : H) (s : ℕ) → IsFirst (close_up ps) x s → IsFirst ps x s
+  pub close_first : (ps : List (Packet H)) (x : H) (s : ℕ) → IsFirstSized (without_first_gap ps) x s → IsFirstSized ps x s
   close_first [] x s e = e
   close_first (p ∷ ps) x s e = ap (with_gap p.gap) e
 
@@ -305,7 +305,7 @@ module _ {H : Type 0} where
     pub skip_kept : 0 < first_gap (packets_in 0 (queue m)) → Holds (with_dequeued 1 m) (with_dequeued (first_gap (packets_in 0 (queue m))) b) (packets_in 0 (queue (with_dequeued 1 m)))
     skip_kept pos =
         let ps = packets_in 0 (queue m) in
-        closed (with_dequeued 1 m) (with_dequeued (first_gap ps) b) (close_up ps) (skip_holds m b ps h pos)
+        closed (with_dequeued 1 m) (with_dequeued (first_gap ps) b) (without_first_gap ps) (skip_holds m b ps h pos)
 
     -- the same by what the two steps left
     pub skip_keeps : (gap : ℕ) (q : PacketQueue H) (m2 : RingState (PacketMetadata H)) (b2 : RingState ℕ) → packet_queue m b ≡ q → gap ≡ first_gap q.packets → 0 < gap → m2 ≡ with_dequeued 1 m → b2 ≡ with_dequeued gap b → Holds m2 b2 (packets_in 0 (queue m2))
@@ -315,16 +315,16 @@ module _ {H : Type 0} where
         (subst (λ o. Holds (with_dequeued 1 m) o (packets_in 0 (queue (with_dequeued 1 m)))) (sym (freed ∙ ap (λ n. with_dequeued n b) all)) (skip_kept (omega (arith, all, some))))
 
   -- ---- the first packet, whose gap is gone
-  front_slots : (ps : List (Packet H)) (p : Packet H) → p.gap ≡ 0 → slots (p ∷ ps) ≡ slot p.size (Some p.header) ∷ slots ps
-  front_slots ps p z = ap (λ l. l ++ (slot p.size (Some p.header) ∷ slots ps)) (gap_slot_none p.gap z)
+  front_slots : (ps : List (Packet H)) (p : Packet H) → p.gap ≡ 0 → packet_slots (p ∷ ps) ≡ slot p.size (Some p.header) ∷ packet_slots ps
+  front_slots ps p z = ap (λ l. l ++ (slot p.size (Some p.header) ∷ packet_slots ps)) (gap_slot_none p.gap z)
 
   abbrev first_or : PacketMetadata H → List (PacketMetadata H) → PacketMetadata H
   first_or d [] = d
   first_or d (x ∷ xs) = x
 
   -- the slot that stands first is that of the first packet
-  pub front_is : (ps : List (Packet H)) (x : PacketMetadata H) (ms : List (PacketMetadata H)) → x ∷ ms ≡ slots ps → first_gap ps ≡ 0
-      → (p : Packet H) × (ps ≡ p ∷ drop 1 ps) × (x ≡ slot p.size (Some p.header)) × (ms ≡ slots (drop 1 ps)) × (p.gap ≡ 0)
+  pub front_is : (ps : List (Packet H)) (x : PacketMetadata H) (ms : List (PacketMetadata H)) → x ∷ ms ≡ packet_slots ps → first_gap ps ≡ 0
+      → (p : Packet H) × (ps ≡ p ∷ drop 1 ps) × (x ≡ slot p.size (Some p.header)) × (ms ≡ packet_slots (drop 1 ps)) × (p.gap ≡ 0)
   front_is [] x ms e z = absurd (let n = ap length e in omega (arith, n))
   front_is (p ∷ ps) x ms e z =
       let f = e ∙ front_slots ps p z in
@@ -339,7 +339,7 @@ module _ {H : Type 0} where
       let at = place_zero c r wf in
       (omega arith, omega (arith, is, at, a.0.0))
 
-  pop_go : (m2 : RingState (PacketMetadata H)) (b : RingState ℕ) (ps : List (Packet H)) → WellFormed m2 → queue m2 ≡ slots (drop 1 ps) → WellFormed b → b.held ≡ bytes_of ps → ArePlaced (capacity b) b.read_at 0 ps → first_gap ps ≡ 0
+  pop_go : (m2 : RingState (PacketMetadata H)) (b : RingState ℕ) (ps : List (Packet H)) → WellFormed m2 → queue m2 ≡ packet_slots (drop 1 ps) → WellFormed b → b.held ≡ bytes_of ps → ArePlaced (capacity b) b.read_at 0 ps → first_gap ps ≡ 0
       → Holds m2 (with_dequeued (first_size ps) b) (drop 1 ps)
   pop_go m2 b [] wfm em wf n a z =
       (wfm, (place_wf (capacity b) b.read_at 0 wf.0 (omega arith), omega (arith, wf.1)), em, omega (arith, n), tt)
@@ -369,25 +369,25 @@ module _ {H : Type 0} where
 
     -- the first slot is that of the first packet
     pub front_slot : (x : PacketMetadata H) → queue m ≡ x ∷ drop 1 (queue m)
-        → (p : Packet H) × (packets_in 0 (queue m) ≡ p ∷ drop 1 (packets_in 0 (queue m))) × (x ≡ slot p.size (Some p.header)) × (drop 1 (queue m) ≡ slots (drop 1 (packets_in 0 (queue m)))) × (p.gap ≡ 0)
+        → (p : Packet H) × (packets_in 0 (queue m) ≡ p ∷ drop 1 (packets_in 0 (queue m))) × (x ≡ slot p.size (Some p.header)) × (drop 1 (queue m) ≡ packet_slots (drop 1 (packets_in 0 (queue m)))) × (p.gap ≡ 0)
     front_slot x e = front_is (packets_in 0 (queue m)) x (drop 1 (queue m)) (sym e ∙ h.2) z
 
     pub front_long : (x : PacketMetadata H) → queue m ≡ x ∷ drop 1 (queue m) → x.size ≡ front
     front_long x e = let f = front_slot x e in ap (λ y. y.size) f.2 ∙ sym (ap first_size f.1)
 
-    pub front_first : (x : PacketMetadata H) → queue m ≡ x ∷ drop 1 (queue m) → (hd : H) → x.header ≡ Some hd → (n : ℕ) → n ≡ front → (q : PacketQueue H) → packet_queue m b ≡ q → IsFirst q.packets hd n
+    pub front_first : (x : PacketMetadata H) → queue m ≡ x ∷ drop 1 (queue m) → (hd : H) → x.header ≡ Some hd → (n : ℕ) → n ≡ front → (q : PacketQueue H) → packet_queue m b ≡ q → IsFirstSized q.packets hd n
     front_first x e hd i n en q is =
         let f = front_slot x e in
         let same : f.0.header ≡ hd = (cond_some true f.0.header hd (sym (ap (λ y. y.header) f.2) ∙ i)).1 in
         let size : f.0.size ≡ n = sym (ap first_size f.1) ∙ sym en in
         let gap : f.0.gap ≡ first_gap (packets_in 0 (queue m)) = sym (ap first_gap f.1) in
-        let whole : IsFirst (packets_in 0 (queue m)) hd n =
+        let whole : IsFirstSized (packets_in 0 (queue m)) hd n =
         f.1 ∙ ap (λ (k : ℕ). packet f.0.header f.0.size k ∷ drop 1 (packets_in 0 (queue m))) gap
         ∙ ap₂ (λ (y : H) (k : ℕ). packet y k (first_gap (packets_in 0 (queue m))) ∷ drop 1 (packets_in 0 (queue m))) same size in
-        subst (λ (o : PacketQueue H). IsFirst o.packets hd n) is whole
+        subst (λ (o : PacketQueue H). IsFirstSized o.packets hd n) is whole
 
     -- the first packet goes
-    pub pop_holds : (m2 : RingState (PacketMetadata H)) → queue m2 ≡ slots (drop 1 (packets_in 0 (queue m))) → WellFormed m2 → Holds m2 (with_dequeued front b) (drop 1 (packets_in 0 (queue m)))
+    pub pop_holds : (m2 : RingState (PacketMetadata H)) → queue m2 ≡ packet_slots (drop 1 (packets_in 0 (queue m))) → WellFormed m2 → Holds m2 (with_dequeued front b) (drop 1 (packets_in 0 (queue m)))
     pop_holds m2 em wfm = pop_go m2 b (packets_in 0 (queue m)) wfm em h.1 h.3 h.4 z
 
 -- ---- the first element of a list that was read
@@ -434,8 +434,8 @@ module _ {H : Type 0} where
       put.1 ∙ ap (λ m. slot m.size (Some hd) ∷ drop 1 q) put.0
 
   -- the last slot's size is that of the last packet
-  end_go : (ps : List (Packet H)) (q : List (PacketMetadata H)) (l : List (PacketMetadata H)) (k n : ℕ) → q ≡ slots ps → k ≡ length q - 1 → l ≡ take n (drop k q)
-      → (x : PacketMetadata H) → Some x ≡ slice_get l 0 → x.size ≡ first_size (last ps)
+  end_go : (ps : List (Packet H)) (q : List (PacketMetadata H)) (l : List (PacketMetadata H)) (k n : ℕ) → q ≡ packet_slots ps → k ≡ length q - 1 → l ≡ take n (drop k q)
+      → (x : PacketMetadata H) → Some x ≡ slice_get l 0 → x.size ≡ first_size (only_last ps)
   end_go [] q l k n eq ek el x i =
       let none : drop k q ≡ [] = ap (drop k) eq ∙ nil_from_length (drop k []) (let d = length-drop {A = PacketMetadata H} k [] in omega (arith, d)) in
       let f = first_read [] l n x (el ∙ ap (take n) none) i in
@@ -448,8 +448,8 @@ module _ {H : Type 0} where
       let same = last_read s.0 s.1 l k n x (omega (arith, ek, long, many)) (el ∙ ap (λ o. take n (drop k o)) whole) i in
       ap (λ y. y.size) same ∙ s.3
 
-  none_go : (ps : List (Packet H)) (q : List (PacketMetadata H)) (l : List (PacketMetadata H)) (k n : ℕ) → q ≡ slots ps → k ≡ length q - 1 → l ≡ take n (drop k q) → (1 ≤ length q → 1 ≤ n)
-      → None ≡ slice_get l 0 → 0 ≡ first_size (last ps)
+  none_go : (ps : List (Packet H)) (q : List (PacketMetadata H)) (l : List (PacketMetadata H)) (k n : ℕ) → q ≡ packet_slots ps → k ≡ length q - 1 → l ≡ take n (drop k q) → (1 ≤ length q → 1 ≤ n)
+      → None ≡ slice_get l 0 → 0 ≡ first_size (only_last ps)
   none_go [] q l k n eq ek el some i = refl
   none_go (p ∷ ps) q l k n eq ek el some i =
       let s = slots_end p ps in
@@ -470,10 +470,10 @@ module _ {H : Type 0} where
         let w = place_wf (capacity m) m.read_at (m.held - 1) h.0.0 (omega (arith, h.0.1)) in
         elim w [ inl z ↦ omega (arith, z, is, en, long, le, ek, h.0.1) | inr z ↦ omega (arith, z, is, en, long, le, ek, h.0.1) ]
 
-    pub end_some : (x : PacketMetadata H) → Some x ≡ slice_get l 0 → x.size ≡ first_size (last (packets_in 0 (queue m)))
+    pub end_some : (x : PacketMetadata H) → Some x ≡ slice_get l 0 → x.size ≡ first_size (only_last (packets_in 0 (queue m)))
     end_some = end_go (packets_in 0 (queue m)) (queue m) l k n h.2 back el
 
-    pub end_none : None ≡ slice_get l 0 → 0 ≡ first_size (last (packets_in 0 (queue m)))
+    pub end_none : None ≡ slice_get l 0 → 0 ≡ first_size (only_last (packets_in 0 (queue m)))
     end_none = none_go (packets_in 0 (queue m)) (queue m) l k n h.2 back el some
 
   -- ---- what holds of every queue
@@ -542,16 +542,16 @@ lent_is b wf =
     ∙ sym (part-rotation b.storage b.read_at 0 b.read_at (contiguous_held b) r (omega (arith, wf.1)) (omega (arith, r)) (read_index_is b wf))
 
 module _ {H : Type 0} where
-  headed_go : (m2 : RingState (PacketMetadata H)) (b : RingState ℕ) (ps : List (Packet H)) (hd : H) → first_gap ps ≡ 0 → 0 < length ps → queue m2 ≡ slot (first_size ps) (Some hd) ∷ slots (drop 1 ps) → WellFormed m2
-      → WellFormed b → b.held ≡ bytes_of ps → ArePlaced (capacity b) b.read_at 0 ps → Holds m2 b (headed hd ps)
+  headed_go : (m2 : RingState (PacketMetadata H)) (b : RingState ℕ) (ps : List (Packet H)) (hd : H) → first_gap ps ≡ 0 → 0 < length ps → queue m2 ≡ slot (first_size ps) (Some hd) ∷ packet_slots (drop 1 ps) → WellFormed m2
+      → WellFormed b → b.held ≡ bytes_of ps → ArePlaced (capacity b) b.read_at 0 ps → Holds m2 b (with_first_header hd ps)
   headed_go m2 b [] hd z some em wfm wf n a = absurd (omega (arith, some))
   headed_go m2 b (p ∷ ps) hd z some em wfm wf n a = (wfm, wf, em ∙ sym (front_slots ps (packet hd p.size p.gap) z), n, a)
 
-  headed_size : (hd : H) (ps : List (Packet H)) → first_size (headed hd ps) ≡ first_size ps
+  headed_size : (hd : H) (ps : List (Packet H)) → first_size (with_first_header hd ps) ≡ first_size ps
   headed_size hd [] = refl
   headed_size hd (p ∷ ps) = refl
 
-  headed_rest : (hd : H) (ps : List (Packet H)) → drop 1 (headed hd ps) ≡ drop 1 ps
+  headed_rest : (hd : H) (ps : List (Packet H)) → drop 1 (with_first_header hd ps) ≡ drop 1 ps
   headed_rest hd [] = refl
   headed_rest hd (p ∷ ps) = refl
 
@@ -563,7 +563,7 @@ module _ {H : Type 0} where
     abbrev lent : List ℕ
     lent = take (contiguous_held b) (queue b)
 
-    first_is : (p : Packet H) × (kept ≡ p ∷ drop 1 kept) × (slot s (Some hd) ≡ slot p.size (Some p.header)) × (drop 1 (queue m) ≡ slots (drop 1 kept)) × (p.gap ≡ 0)
+    first_is : (p : Packet H) × (kept ≡ p ∷ drop 1 kept) × (slot s (Some hd) ≡ slot p.size (Some p.header)) × (drop 1 (queue m) ≡ packet_slots (drop 1 kept)) × (p.gap ≡ 0)
     first_is = front_slot m b h z (slot s (Some hd)) e
 
     size_is : s ≡ first_size kept
@@ -581,7 +581,7 @@ module _ {H : Type 0} where
     pub lift_bytes : take s lent ≡ first_bytes (packet_queue m b)
     lift_bytes = ap (take s) (lent_is b h.1) ∙ take-take s (contiguous_held b) (drop b.read_at b.storage) row ∙ ap (λ (n : ℕ). take n (drop b.read_at b.storage)) size_is
 
-    pub lift_front : (old : PacketQueue H) → packet_queue m b ≡ skipped old → IsFront old hd (take s lent)
+    pub lift_front : (old : PacketQueue H) → packet_queue m b ≡ skipped old → IsFirst old hd (take s lent)
     lift_front old is =
         let n : length (take s lent) ≡ s = length-take-le s lent lift_fits in
         (close_first old.packets hd (length (take s lent)) (front_first m b h z (slot s (Some hd)) e hd refl (length (take s lent)) (n ∙ size_is) (skipped old) is), lift_bytes ∙ ap first_bytes is)
@@ -625,7 +625,7 @@ module _ {H : Type 0} where
             bytes_are ∙ ap (λ (n : ℕ). written (with_dequeued n b) b.read_at ws) none
             ∙ ap₂ (λ (r n : ℕ). ring (overwrite b.storage b.read_at ws) r n) (place_zero (capacity b) b.read_at h.1.0) (let n : b.held - 0 ≡ b.held = omega arith in n)
 
-        on_holds : Holds m2 (written b b.read_at ws) (headed new kept)
+        on_holds : Holds m2 (written b b.read_at ws) (with_first_header new kept)
         on_holds =
             let w = written_holds m b kept h b.read_at ws in
             let n = ap length first_is.1 in
@@ -636,4 +636,4 @@ module _ {H : Type 0} where
 
         pub on_left : capacity m2 ≡ capacity m → packet_queue m2 b2 ≡ first_written (packet_queue m b) new ws
         on_left cm =
-            ap (packet_queue m2) on_is ∙ viewed m2 _ _ on_holds ∙ ap (λ (n : ℕ). mk n (overwrite b.storage b.read_at ws) b.read_at (headed new kept)) cm
+            ap (packet_queue m2) on_is ∙ viewed m2 _ _ on_holds ∙ ap (λ (n : ℕ). mk n (overwrite b.storage b.read_at ws) b.read_at (with_first_header new kept)) cm

@@ -2,7 +2,7 @@
 use Rattle.std.specs.Prelude.{◌≡◌, ◌≢◌, ◌≤◌, ℕ, ◌+◌, List, [], ◌∷◌, ◌++◌, length, take, drop, set}
 use Rattle.std.specs.declared.option.Option.TheVariants.{None}
 use Rattle.net_storage.specs.Ring.{queue}
-use Rattle.net_storage.specs.Packets.{Packet, PacketQueue, byte_ring, placement, placed, last, last_bytes, last_written, last_cut, first_size, skipped, first_written, IsFront, popped, taken, freed_place, AreFreed, with_bytes}
+use Rattle.net_storage.specs.Packets.{Packet, PacketQueue, no_packets, byte_ring, placement, placed_if_room, only_last, last_bytes, last_written, last_cut, enqueued, first_size, skipped, first_written, IsFirst, popped, dequeued, freed_place, AreFreed, with_bytes}
 
 module _ {H : Type 0} where
   -- the headers and bytes of packets whose bytes, gaps among them, are bs
@@ -14,55 +14,51 @@ module _ {H : Type 0} where
   abbrev pub contents : PacketQueue H → List (H × List ℕ)
   contents q = contents_of q.packets (queue (byte_ring q))
 
-  -- a queue with no packets, as `new` and `reset` leave it
-  abbrev pub no_packets : ℕ → List ℕ → PacketQueue H
-  no_packets slots storage = record { slots = slots; storage = storage; read_at = 0; packets = [] }
-
--- ---- runs
--- what one call did, with the headers and bytes that it was given, wrote or handed out. A call that answers `Full` or `Empty` changes nothing and is no step; nor is `last_mut` where no packet is held
-pub data Step (H : Type 0) : Type 0 where
+-- ---- calls
+-- what one call did, with the headers and bytes that it was given, wrote or handed out. A call that answers `Full` or `Empty` changes nothing and is no call here; nor is `last_mut` where no packet is held
+pub data Call (H : Type 0) : Type 0 where
   -- `reset`
-  Reset : Step H
+  Reset : Call H
   -- `place`: the header, and the bytes that stand in the storage
-  Placed : H → List ℕ → Step H
+  Place : H → List ℕ → Call H
   -- `last_mut`: the bytes that were written
-  LastWritten : List ℕ → Step H
+  WriteLast : List ℕ → Call H
   -- `enqueue`: the header, and the bytes that were written
-  Enqueued : H → List ℕ → Step H
+  Enqueue : H → List ℕ → Call H
   -- `enqueue_with_infallible`: the header, the bytes that the closure wrote, and how many of them are the packet
-  EnqueuedWith : H → List ℕ → ℕ → Step H
+  EnqueueWith : H → List ℕ → ℕ → Call H
   -- `peek`
-  Peeked : Step H
+  Peek : Call H
   -- `dequeue_with`, whose closure answered `Err`: the header and the bytes that it wrote
-  Refused : H → List ℕ → Step H
+  DequeueErr : H → List ℕ → Call H
   -- `dequeue_with`, whose closure answered `Ok`: the header and the bytes that it was shown, and those that it wrote
-  DequeuedWith : H → List ℕ → H → List ℕ → Step H
+  DequeueOk : H → List ℕ → H → List ℕ → Call H
   -- `take`: the header and the bytes that were taken off
-  Taken : H → List ℕ → Step H
+  Take : H → List ℕ → Call H
   -- `freed_mut`: the bytes that were written
-  FreedWritten : List ℕ → Step H
+  WriteFreed : List ℕ → Call H
   -- `dequeue`: the header and the bytes that were handed out, and the bytes that were then written
-  Dequeued : H → List ℕ → List ℕ → Step H
+  Dequeue : H → List ℕ → List ℕ → Call H
 
 module _ {H : Type 0} where
-  -- the step makes r of q, as the contract of its call says
-  abbrev pub Makes : Step H → PacketQueue H → PacketQueue H → Type 0
-  Makes Reset q r = r ≡ no_packets q.slots q.storage
-  Makes (Placed header bytes) q r = (placement q (length bytes) ≢ None) × (r ≡ placed q (length bytes) header) × (bytes ≡ last_bytes r)
-  Makes (LastWritten bytes) q r = (q.packets ≢ []) × (length bytes ≡ first_size (last q.packets)) × (r ≡ last_written q bytes)
-  Makes (Enqueued header bytes) q r = (placement q (length bytes) ≢ None) × (r ≡ last_written (placed q (length bytes) header) bytes)
-  Makes (EnqueuedWith header bytes count) q r = (placement q (length bytes) ≢ None) × (count ≤ length bytes) × (r ≡ last_cut count (last_written (placed q (length bytes) header) bytes))
-  Makes Peeked q r = r ≡ skipped q
-  Makes (Refused after written) q r = (q.packets ≢ []) × (length written ≡ first_size q.packets) × (r ≡ first_written (skipped q) after written)
-  Makes (DequeuedWith header bytes after written) q r = IsFront q header bytes × (length written ≡ length bytes) × (r ≡ popped (first_written (skipped q) after written))
-  Makes (Taken header bytes) q r = IsFront q header bytes × (r ≡ taken q)
-  Makes (FreedWritten bytes) q r = AreFreed q (length bytes) × (r ≡ with_bytes q (freed_place q (length bytes)) bytes)
-  Makes (Dequeued header bytes written) q r = IsFront q header bytes × (length written ≡ length bytes) × (r ≡ with_bytes (taken q) (skipped q).read_at written)
+  -- the call makes r of q, as its contract says
+  abbrev pub Makes : Call H → PacketQueue H → PacketQueue H → Type 0
+  Makes Reset q r = r ≡ no_packets q.slot_count q.storage
+  Makes (Place header bytes) q r = (placement q (length bytes) ≢ None) × (r ≡ placed_if_room q (length bytes) header) × (bytes ≡ last_bytes r)
+  Makes (WriteLast bytes) q r = (q.packets ≢ []) × (length bytes ≡ first_size (only_last q.packets)) × (r ≡ last_written q bytes)
+  Makes (Enqueue header bytes) q r = (placement q (length bytes) ≢ None) × (r ≡ enqueued q header bytes)
+  Makes (EnqueueWith header bytes count) q r = (placement q (length bytes) ≢ None) × (count ≤ length bytes) × (r ≡ last_cut count (last_written (placed_if_room q (length bytes) header) bytes))
+  Makes Peek q r = r ≡ skipped q
+  Makes (DequeueErr after written) q r = (q.packets ≢ []) × (length written ≡ first_size q.packets) × (r ≡ first_written (skipped q) after written)
+  Makes (DequeueOk header bytes after written) q r = IsFirst q header bytes × (length written ≡ length bytes) × (r ≡ popped (first_written (skipped q) after written))
+  Makes (Take header bytes) q r = IsFirst q header bytes × (r ≡ dequeued q)
+  Makes (WriteFreed bytes) q r = AreFreed q (length bytes) × (r ≡ with_bytes q (freed_place q (length bytes)) bytes)
+  Makes (Dequeue header bytes written) q r = IsFirst q header bytes × (length written ≡ length bytes) × (r ≡ with_bytes (dequeued q) (skipped q).read_at written)
 
-  -- the steps, one after another, make r of q
-  abbrev pub Run : List (Step H) → PacketQueue H → PacketQueue H → Type 0
-  Run [] q r = r ≡ q
-  Run (step ∷ steps) q r = (next : PacketQueue H) × Makes step q next × Run steps next r
+  -- the calls, one after another, make r of q
+  abbrev pub MakesAll : List (Call H) → PacketQueue H → PacketQueue H → Type 0
+  MakesAll [] q r = r ≡ q
+  MakesAll (call ∷ calls) q r = (next : PacketQueue H) × Makes call q next × MakesAll calls next r
 
 -- ---- what came and what left
 -- the packets that were accepted, in order, each with the header and bytes last written to it while it was held, and those that left, in order, each as it was shown when it left
@@ -84,25 +80,25 @@ module _ {H : Type 0} where
   abbrev pub log_left : H → List ℕ → Log H → Log H
   log_left header bytes log = record { accepted = log.accepted; left = log.left ++ ((header, bytes) ∷ []) }
 
-  -- the log after a step. What `reset` drops counts as never accepted. The packet that a closure refuses is the first one that has not left
-  abbrev pub logged : Step H → Log H → Log H
+  -- the log after a call. What `reset` drops counts as never accepted. The packet that a closure refuses is the first one that has not left
+  abbrev pub logged : Call H → Log H → Log H
   logged Reset log = record { accepted = log.left; left = log.left }
-  logged (Placed header bytes) log = log_accepted header bytes log
-  logged (LastWritten bytes) log = record { accepted = with_last_bytes bytes log.accepted; left = log.left }
-  logged (Enqueued header bytes) log = log_accepted header bytes log
-  logged (EnqueuedWith header bytes count) log = log_accepted header (take count bytes) log
-  logged Peeked log = log
-  logged (Refused after written) log = record { accepted = set log.accepted (length log.left) (after, written); left = log.left }
-  logged (DequeuedWith header bytes after written) log = log_left header bytes log
-  logged (Taken header bytes) log = log_left header bytes log
-  logged (FreedWritten bytes) log = log
-  logged (Dequeued header bytes written) log = log_left header bytes log
+  logged (Place header bytes) log = log_accepted header bytes log
+  logged (WriteLast bytes) log = record { accepted = with_last_bytes bytes log.accepted; left = log.left }
+  logged (Enqueue header bytes) log = log_accepted header bytes log
+  logged (EnqueueWith header bytes count) log = log_accepted header (take count bytes) log
+  logged Peek log = log
+  logged (DequeueErr after written) log = record { accepted = set log.accepted (length log.left) (after, written); left = log.left }
+  logged (DequeueOk header bytes after written) log = log_left header bytes log
+  logged (Take header bytes) log = log_left header bytes log
+  logged (WriteFreed bytes) log = log
+  logged (Dequeue header bytes written) log = log_left header bytes log
 
-  -- the log after steps, one after another
-  abbrev pub logged_all : List (Step H) → Log H → Log H
+  -- the log after calls, one after another
+  abbrev pub logged_all : List (Call H) → Log H → Log H
   logged_all [] log = log
-  logged_all (step ∷ steps) log = logged_all steps (logged step log)
+  logged_all (call ∷ calls) log = logged_all calls (logged call log)
 
-  -- the log of steps from a queue with no packets on
-  abbrev pub history : List (Step H) → Log H
-  history steps = logged_all steps (record { accepted = []; left = [] })
+  -- the log of calls from a queue with no packets on
+  abbrev pub history : List (Call H) → Log H
+  history calls = logged_all calls (record { accepted = []; left = [] })

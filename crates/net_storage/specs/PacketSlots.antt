@@ -1,5 +1,5 @@
 -- A queue of packets by the two rings that it is kept in.
-use Rattle.std.specs.Prelude.{◌≡◌, ℕ, zero, suc, ◌+◌, List, [], ◌∷◌, ◌++◌}
+use Rattle.std.specs.Prelude.{◌≡◌, ℕ, zero, suc, ◌+◌, List, [], ◌∷◌, ◌++◌, drop}
 use Rattle.std.specs.Prelude.{Option}
 use Rattle.std.specs.declared.option.Option.TheVariants.{Some, None}
 use Rattle.net_storage.specs.Ring.{RingState, capacity, queue, WellFormed}
@@ -16,9 +16,9 @@ module _ {H : Type 0} where
   gap_slot (suc g) = slot (suc g) None ∷ []
 
   -- the slots of packets: a gap has one with no header, before that of its packet
-  abbrev pub slots : List (Packet H) → List (PacketMetadata H)
-  slots [] = []
-  slots (p ∷ ps) = gap_slot p.gap ++ (slot p.size (Some p.header) ∷ slots ps)
+  abbrev pub packet_slots : List (Packet H) → List (PacketMetadata H)
+  packet_slots [] = []
+  packet_slots (p ∷ ps) = gap_slot p.gap ++ (slot p.size (Some p.header) ∷ packet_slots ps)
 
   -- the packets of slots, after gap bytes of gaps
   abbrev pub packets_in : ℕ → List (PacketMetadata H) → List (Packet H)
@@ -27,7 +27,15 @@ module _ {H : Type 0} where
 
   -- the rings hold these packets
   abbrev pub Holds : RingState (PacketMetadata H) → RingState ℕ → List (Packet H) → Type 0
-  Holds m b ps = WellFormed m × WellFormed b × (queue m ≡ slots ps) × (b.held ≡ bytes_of ps) × ArePlaced (capacity b) b.read_at 0 ps
+  Holds m b ps = WellFormed m × WellFormed b × (queue m ≡ packet_slots ps) × (b.held ≡ bytes_of ps) × ArePlaced (capacity b) b.read_at 0 ps
 
   abbrev pub packet_queue : RingState (PacketMetadata H) → RingState ℕ → PacketQueue H
-  packet_queue m b = record { slots = capacity m; storage = b.storage; read_at = b.read_at; packets = packets_in 0 (queue m) }
+  packet_queue m b = record { slot_count = capacity m; storage = b.storage; read_at = b.read_at; packets = packets_in 0 (queue m) }
+
+  -- the first slot has this size and header
+  abbrev pub IsFirstSlot : RingState (PacketMetadata H) → ℕ → Option H → Type 0
+  IsFirstSlot m s h = queue m ≡ slot s h ∷ drop 1 (queue m)
+
+  -- n is m, but its first slot has this size and header
+  abbrev pub HasFirstSlot : RingState (PacketMetadata H) → ℕ → Option H → RingState (PacketMetadata H) → Type 0
+  HasFirstSlot m s h n = (queue n ≡ slot s h ∷ drop 1 (queue m)) × WellFormed n × (capacity n ≡ capacity m)

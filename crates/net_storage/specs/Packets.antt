@@ -1,5 +1,5 @@
 -- A queue of packets over a storage of bytes, and what each call makes of it.
-use Rattle.std.specs.Prelude.{◌≡◌, ◌≢◌, ℕ, zero, suc, ◌+◌, ◌-◌, ◌≤◌, nat_le, nat_lt, if◌then◌else◌, List, [], ◌∷◌, ◌++◌, length, take, drop, ⊤}
+use Rattle.std.specs.Prelude.{◌≡◌, ◌≢◌, Bool, ℕ, zero, suc, ◌+◌, ◌-◌, ◌≤◌, nat_le, nat_lt, if◌then◌else◌, List, [], ◌∷◌, ◌++◌, length, take, drop, ⊤}
 use Rattle.std.specs.Prelude.{Option}
 use Rattle.std.specs.declared.option.Option.TheVariants.{Some, None}
 use Rattle.net_storage.specs.Overwrite.{overwrite}
@@ -13,7 +13,7 @@ pub record Packet (H : Type 0) : Type 0 where
 
 -- a queue of packets: how many slots it has, its storage, the place where that is read, and its packets in order
 pub record PacketQueue (H : Type 0) : Type 0 where
-  pub slots : ℕ
+  pub slot_count : ℕ
   pub storage : List ℕ
   pub read_at : ℕ
   pub packets : List (Packet H)
@@ -37,6 +37,7 @@ abbrev pub place_in : ℕ → ℕ → ℕ → ℕ
 place_in c r i = if nat_lt i (c - r) then r + i else i - (c - r)
 
 module _ {H : Type 0} where
+  -- the packet with the header h, s bytes and a gap of g bytes
   abbrev pub packet : H → ℕ → ℕ → Packet H
   packet h s g = record { header = h; size = s; gap = g }
 
@@ -46,9 +47,9 @@ module _ {H : Type 0} where
   bytes_of (p ∷ ps) = p.gap + p.size + bytes_of ps
 
   -- the slots that packets use, their gaps counted
-  abbrev pub slots_of : List (Packet H) → ℕ
-  slots_of [] = 0
-  slots_of (p ∷ ps) = slots_for p.gap + slots_of ps
+  abbrev pub slots_used : List (Packet H) → ℕ
+  slots_used [] = 0
+  slots_used (p ∷ ps) = slots_for p.gap + slots_used ps
 
   -- the ring that the bytes are
   abbrev pub byte_ring : PacketQueue H → RingState ℕ
@@ -65,11 +66,15 @@ module _ {H : Type 0} where
 
   -- what holds of every queue: its bytes are a ring, in which each packet lies in a row and each gap ends at the storage's end; there is a slot for each packet and gap
   abbrev pub WellPlaced : PacketQueue H → Type 0
-  WellPlaced q = WellFormed (byte_ring q) × ArePlaced (length q.storage) q.read_at 0 q.packets × (slots_of q.packets ≤ q.slots)
+  WellPlaced q = WellFormed (byte_ring q) × ArePlaced (length q.storage) q.read_at 0 q.packets × (slots_used q.packets ≤ q.slot_count)
+
+  -- a queue with no packets, as `new` and `reset` leave it
+  abbrev pub no_packets : ℕ → List ℕ → PacketQueue H
+  no_packets slot_count storage = record { slot_count = slot_count; storage = storage; read_at = 0; packets = [] }
 
   -- the queue with ws written over its storage from the place p on
   abbrev pub with_bytes : PacketQueue H → ℕ → List ℕ → PacketQueue H
-  with_bytes q p ws = record { slots = q.slots; storage = overwrite q.storage p ws; read_at = q.read_at; packets = q.packets }
+  with_bytes q p ws = record { slot_count = q.slot_count; storage = overwrite q.storage p ws; read_at = q.read_at; packets = q.packets }
 
   -- the size of the first packet
   abbrev pub first_size : List (Packet H) → ℕ
@@ -81,49 +86,57 @@ module _ {H : Type 0} where
   abbrev pub placement : PacketQueue H → ℕ → Option ℕ
   placement q s =
       let g = restarted (byte_ring q) in
-      if_slots (q.slots - slots_of q.packets) (gap_for s (contiguous_window g) (window g))
+      if_slots (q.slot_count - slots_used q.packets) (gap_for s (contiguous_window g) (window g))
 
   -- a packet of s bytes came last, after a gap
   abbrev pub pushed : PacketQueue H → ℕ → ℕ → H → PacketQueue H
-  pushed q gap s h = record { slots = q.slots; storage = q.storage; read_at = (restarted (byte_ring q)).read_at; packets = q.packets ++ (packet h s gap ∷ []) }
+  pushed q gap s h = record { slot_count = q.slot_count; storage = q.storage; read_at = (restarted (byte_ring q)).read_at; packets = q.packets ++ (packet h s gap ∷ []) }
 
+  -- the same, where there is a gap for it
   abbrev pub pushed_if : PacketQueue H → Option ℕ → ℕ → H → PacketQueue H
   pushed_if q None s h = q
   pushed_if q (Some gap) s h = pushed q gap s h
 
   -- a packet of s bytes came last where it could be placed; its bytes are the storage's
-  abbrev pub placed : PacketQueue H → ℕ → H → PacketQueue H
-  placed q s h = pushed_if q (placement q s) s h
+  abbrev pub placed_if_room : PacketQueue H → ℕ → H → PacketQueue H
+  placed_if_room q s h = pushed_if q (placement q s) s h
 
-  -- the packets before the last one, and the last one alone
+  -- the packets before the last one
   abbrev pub before_last : List (Packet H) → List (Packet H)
   before_last ps = take (length ps - 1) ps
 
-  abbrev pub last : List (Packet H) → List (Packet H)
-  last ps = drop (length ps - 1) ps
+  -- the last of the packets alone, in a list
+  abbrev pub only_last : List (Packet H) → List (Packet H)
+  only_last ps = drop (length ps - 1) ps
 
   -- where the last packet's bytes begin
   abbrev pub last_place : PacketQueue H → ℕ
-  last_place q = storage_index (byte_ring q) (bytes_of q.packets - first_size (last q.packets))
+  last_place q = storage_index (byte_ring q) (bytes_of q.packets - first_size (only_last q.packets))
 
+  -- the last packet's bytes
   abbrev pub last_bytes : PacketQueue H → List ℕ
-  last_bytes q = take (first_size (last q.packets)) (drop (last_place q) q.storage)
+  last_bytes q = take (first_size (only_last q.packets)) (drop (last_place q) q.storage)
 
   -- the last packet's bytes are ws
   abbrev pub last_written : PacketQueue H → List ℕ → PacketQueue H
   last_written q ws = with_bytes q (last_place q) ws
 
-  abbrev pub resized : ℕ → List (Packet H) → List (Packet H)
-  resized k [] = []
-  resized k (p ∷ ps) = packet p.header k p.gap ∷ ps
+  -- a packet with the header h and the bytes ws came last, where it could be placed
+  abbrev pub enqueued : PacketQueue H → H → List ℕ → PacketQueue H
+  enqueued q h ws = last_written (placed_if_room q (length ws) h) ws
+
+  -- the first of the packets has k bytes
+  abbrev pub with_first_size : ℕ → List (Packet H) → List (Packet H)
+  with_first_size k [] = []
+  with_first_size k (p ∷ ps) = packet p.header k p.gap ∷ ps
 
   -- the last packet has the first k of its bytes
   abbrev pub last_cut : ℕ → PacketQueue H → PacketQueue H
-  last_cut k q = record { slots = q.slots; storage = q.storage; read_at = q.read_at; packets = before_last q.packets ++ resized k (last q.packets) }
+  last_cut k q = record { slot_count = q.slot_count; storage = q.storage; read_at = q.read_at; packets = before_last q.packets ++ with_first_size k (only_last q.packets) }
 
   -- the list run is what a packet of s bytes is given, if it is placed
   abbrev pub IsRoom : PacketQueue H → ℕ → H → List ℕ → Type 0
-  IsRoom q s h run = (placement q s ≢ None) × (run ≡ last_bytes (placed q s h)) × (length run ≡ s)
+  IsRoom q s h run = (placement q s ≢ None) × (run ≡ last_bytes (placed_if_room q s h)) × (length run ≡ s)
 
   -- ---- the first packet
   -- the gap before the first packet
@@ -131,46 +144,60 @@ module _ {H : Type 0} where
   first_gap [] = 0
   first_gap (p ∷ ps) = p.gap
 
-  abbrev pub close_up : List (Packet H) → List (Packet H)
-  close_up [] = []
-  close_up (p ∷ ps) = packet p.header p.size 0 ∷ ps
+  -- the first of the packets has no gap
+  abbrev pub without_first_gap : List (Packet H) → List (Packet H)
+  without_first_gap [] = []
+  without_first_gap (p ∷ ps) = packet p.header p.size 0 ∷ ps
 
   -- the gap before the first packet is gone
   abbrev pub skipped : PacketQueue H → PacketQueue H
-  skipped q = record { slots = q.slots; storage = q.storage; read_at = storage_index (byte_ring q) (first_gap q.packets); packets = close_up q.packets }
+  skipped q = record { slot_count = q.slot_count; storage = q.storage; read_at = storage_index (byte_ring q) (first_gap q.packets); packets = without_first_gap q.packets }
 
   -- the first packet has the header h and s bytes
-  abbrev pub IsFirst : List (Packet H) → H → ℕ → Type 0
-  IsFirst ps h s = ps ≡ packet h s (first_gap ps) ∷ drop 1 ps
+  abbrev pub IsFirstSized : List (Packet H) → H → ℕ → Type 0
+  IsFirstSized ps h s = ps ≡ packet h s (first_gap ps) ∷ drop 1 ps
 
   -- the bytes of the first packet, whose gap is gone
   abbrev pub first_bytes : PacketQueue H → List ℕ
   first_bytes q = take (first_size q.packets) (drop q.read_at q.storage)
 
   -- the first packet has the header h and the bytes ws
-  abbrev pub IsFront : PacketQueue H → H → List ℕ → Type 0
-  IsFront q h ws = IsFirst q.packets h (length ws) × (ws ≡ first_bytes (skipped q))
+  abbrev pub IsFirst : PacketQueue H → H → List ℕ → Type 0
+  IsFirst q h ws = IsFirstSized q.packets h (length ws) × (ws ≡ first_bytes (skipped q))
 
-  abbrev pub headed : H → List (Packet H) → List (Packet H)
-  headed h [] = []
-  headed h (p ∷ ps) = packet h p.size p.gap ∷ ps
+  -- the first of the packets has the header h
+  abbrev pub with_first_header : H → List (Packet H) → List (Packet H)
+  with_first_header h [] = []
+  with_first_header h (p ∷ ps) = packet h p.size p.gap ∷ ps
 
   -- the first packet, whose gap is gone, has the header h and the bytes ws
   abbrev pub first_written : PacketQueue H → H → List ℕ → PacketQueue H
-  first_written q h ws = record { slots = q.slots; storage = overwrite q.storage q.read_at ws; read_at = q.read_at; packets = headed h q.packets }
+  first_written q h ws = record { slot_count = q.slot_count; storage = overwrite q.storage q.read_at ws; read_at = q.read_at; packets = with_first_header h q.packets }
 
   -- the first packet, whose gap is gone, was taken off
   abbrev pub popped : PacketQueue H → PacketQueue H
-  popped q = record { slots = q.slots; storage = q.storage; read_at = storage_index (byte_ring q) (first_size q.packets); packets = drop 1 q.packets }
+  popped q = record { slot_count = q.slot_count; storage = q.storage; read_at = storage_index (byte_ring q) (first_size q.packets); packets = drop 1 q.packets }
+
+  -- the first packet was handed out and has the header h and the bytes ws: it is gone where gone is true, and else stays first, without its gap
+  abbrev pub handed : Bool → PacketQueue H → H → List ℕ → PacketQueue H
+  handed gone q h ws = if gone then popped (first_written (skipped q) h ws) else first_written (skipped q) h ws
 
   -- the first packet and its gap were taken off
-  abbrev pub taken : PacketQueue H → PacketQueue H
-  taken q = popped (skipped q)
+  abbrev pub dequeued : PacketQueue H → PacketQueue H
+  dequeued q = popped (skipped q)
 
   -- where the s bytes before the read index begin
   abbrev pub freed_place : PacketQueue H → ℕ → ℕ
   freed_place q s = storage_index (byte_ring q) (length q.storage - s)
 
+  -- these bytes
+  abbrev pub freed_bytes : PacketQueue H → ℕ → List ℕ
+  freed_bytes q s = take s (drop (freed_place q s) q.storage)
+
   -- the s bytes before the read index lie in a row, and none of them is held
   abbrev pub AreFreed : PacketQueue H → ℕ → Type 0
   AreFreed q s = (s ≤ window (byte_ring q)) × (freed_place q s + s ≤ length q.storage)
+
+  -- the s bytes before the read index are such, and begin at the place p
+  abbrev pub IsFreedAt : PacketQueue H → ℕ → ℕ → Type 0
+  IsFreedAt q s p = AreFreed q s × (freed_place q s ≡ p)

@@ -1,12 +1,12 @@
 //! A queue of packets, each with a header, over storage that is lent or owned.
-ghost use Rattle.std.specs.Prelude.{◌≡◌, ◌≢◌, ◌≤◌, ◌<◌, ◌^◌, ◌-◌, ◌+◌, ◌==◌, ◌↔◌, ◌∷◌, ◌++◌, [], ℕ, List, IsErr, IfOk, OnErr, OnOk, length, take, drop, is_ok, if◌then◌else◌};
+ghost use Rattle.std.specs.Prelude.{◌≡◌, ◌≢◌, ◌≤◌, ◌<◌, ◌^◌, ◌-◌, ◌+◌, ◌==◌, ◌↔◌, ◌∷◌, ◌++◌, [], ℕ, List, IsErr, IfOk, OnErr, OnOk, length, min, take, drop, is_ok, if◌then◌else◌};
 ghost use Rattle.std.specs.Borrow.{sem};
-ghost use Rattle.std.specs.Fn.{FnOnceReturnsAtMut, FnOnceTakesAtMut};
 ghost use Rattle.std.specs.declared.option.Option.TheVariants.{Some, None};
 ghost use Rattle.net_storage.specs.Ring.{capacity, window, queue, contiguous_window, restarted, WellFormed};
-ghost use Rattle.net_storage.specs.Packets.{bytes_of, slots_of, byte_ring, placement, pushed, placed, last, last_bytes, last_written, last_cut, IsRoom, skipped, first_gap, first_size, first_bytes, first_written, IsFirst, IsFront, popped, taken, freed_place, AreFreed, gap_for, slots_for, if_slots, with_bytes, WellPlaced};
-ghost use Rattle.net_storage.specs.PacketSlots.{gap_slot, slot};
-ghost use Rattle.net_storage.specs.PacketCalls.{TakesPacket, GivesAtPacket};
+ghost use Rattle.net_storage.specs.Packets.{bytes_of, slots_used, no_packets, byte_ring, placement, pushed, placed_if_room, only_last, last_bytes, last_written, enqueued, skipped, first_gap, first_size, first_bytes, IsFirstSized, IsFirst, dequeued, freed_place, freed_bytes, AreFreed, IsFreedAt, gap_for, slots_for, if_slots, with_bytes};
+ghost use Rattle.net_storage.specs.PacketSlots.{gap_slot, slot, IsFirstSlot, HasFirstSlot};
+ghost use Rattle.net_storage.specs.PacketCalls.{TakesRoom, CountsAtMost, WrotePacket, TakesPacket, GivesAtPacket, TakesFirst, HandedPacket, CopiedOut};
+ghost use Rattle.net_storage.specs.PacketHistory.{contents};
 
 use crate::error::{Empty, Full};
 use crate::managed::{Elements, ManagedSlice};
@@ -18,13 +18,16 @@ pub mod laws;
 #[cfg(test)]
 mod tests;
 
-/// A queue of packets over any storage: `M` holds the slots and `B` the bytes. [`PacketBuffer`] is its usual form.
+/// A queue of packets over any storage: `M` holds the slots and `B` the bytes. [`PacketBuffer`] is
+/// its usual form.
 ///
-/// A packet has a header and a run of bytes that lie in a row in the storage. Where a packet does not fit before the storage's end, it is
-/// placed at the storage's beginning, and the bytes before the end are skipped as its gap. A packet uses one slot, and a gap, which is never
-/// of 0 bytes, one more. Packets leave in the order in which they came.
+/// A packet has a header and a run of bytes that lie in a row in the storage. Where a packet does
+/// not fit before the storage's end, it is placed at the storage's beginning, and the bytes before
+/// the end are skipped as its gap. A packet uses one slot, and a gap, which is never of 0 bytes,
+/// one more. Packets leave in the order in which they came.
 ///
-/// Contracts see a queue as its number of slots, its storage, the place where that is read, and one list of packets (header, size, gap).
+/// Contracts see a queue as its number of slots, its storage, the place where that is read, and one
+/// list of packets (header, size, gap).
 #[derive(Debug, Drop)]
 pub struct Packets<H, M: Elements<PacketMetadata<H>>, B: Elements<u8>> {
     slots: Ring<PacketMetadata<H>, M>,
@@ -51,9 +54,10 @@ impl<H, M: Elements<PacketMetadata<H>>, B: Elements<u8>> Model for Packets<H, M,
 }
 
 impl<H, M: Elements<PacketMetadata<H>>, B: Elements<u8>> Packets<H, M, B> {
-    /// A queue with no packets, which has as many slots as `slots` has elements, and room for as many bytes as `bytes` has.
+    /// A queue with no packets, which has as many slots as `slots` has elements, and room for as
+    /// many bytes as `bytes` has.
     pub fn new(slots: M, bytes: B) -> Self
-        ensures { result ≡ record { slots = length (M.elements slots); storage = B.elements bytes; read_at = 0; packets = [] } }
+        ensures { result ≡ no_packets (length (M.elements slots)) (B.elements bytes) }
     {
         Packets {
             slots: Ring::new(slots),
@@ -69,10 +73,11 @@ impl<H, M: Elements<PacketMetadata<H>>, B: Elements<u8>> Packets<H, M, B> {
         self.slots.is_empty()
     }
 
-    /// Whether no slot is free. A queue that is not full can still refuse a packet for want of bytes, or of a slot for its gap.
+    /// Whether no slot is free. A queue that is not full can still refuse a packet for want of
+    /// bytes, or of a slot for its gap.
     #[inline]
     pub fn is_full(&self) -> bool
-        ensures { result ≡ (self.now.slots - slots_of self.now.packets == 0) }
+        ensures { result ≡ (self.now.slot_count - slots_used self.now.packets == 0) }
     {
         self.slots.is_full()
     }
@@ -80,8 +85,7 @@ impl<H, M: Elements<PacketMetadata<H>>, B: Elements<u8>> Packets<H, M, B> {
     /// The number of slots.
     #[inline]
     pub fn packet_capacity(&self) -> usize
-        ensures slots { result ≡ self.now.slots }
-        ensures well_placed { WellPlaced self.now }
+        ensures { result ≡ self.now.slot_count }
     {
         self.slots.capacity()
     }
@@ -94,7 +98,8 @@ impl<H, M: Elements<PacketMetadata<H>>, B: Elements<u8>> Packets<H, M, B> {
         self.bytes.capacity()
     }
 
-    /// The number of bytes held. Gaps are counted, so a call that drops the gap before the first packet lowers it.
+    /// The number of bytes held. Gaps are counted, so a call that drops the gap before the first
+    /// packet lowers it.
     #[inline]
     pub fn payload_bytes_count(&self) -> usize
         ensures { result ≡ bytes_of self.now.packets }
@@ -102,19 +107,21 @@ impl<H, M: Elements<PacketMetadata<H>>, B: Elements<u8>> Packets<H, M, B> {
         self.bytes.len()
     }
 
-    /// The number of slots used: one for each packet and one for each gap. smoltcp has no such call.
+    /// The number of slots used: one for each packet and one for each gap. smoltcp has no such
+    /// call.
     #[inline]
     pub fn slots_used(&self) -> usize
-        ensures { result ≡ slots_of self.now.packets }
+        ensures { result ≡ slots_used self.now.packets }
     {
         self.slots.len()
     }
 
-    /// Empties the queue. The bytes of the storage stay as they are, and it is not promised when the headers are dropped.
+    /// Empties the queue. The bytes of the storage stay as they are, and it is not promised when
+    /// the headers are dropped.
     ///
     /// smoltcp keeps this call to itself.
     pub fn reset(&mut self)
-        ensures { self.new ≡ record { slots = self.old.slots; storage = self.old.storage; read_at = 0; packets = [] } }
+        ensures { self.new ≡ no_packets self.old.slot_count self.old.storage }
     {
         self.slots.clear();
         self.bytes.clear();
@@ -145,7 +152,7 @@ impl<H, M: Elements<PacketMetadata<H>>, B: Elements<u8>> Packets<H, M, B> {
 
     // The size of the last packet, or 0.
     fn last_size(&self) -> usize
-        ensures { result ≡ first_size (last self.now.packets) }
+        ensures { result ≡ first_size (only_last self.now.packets) }
     {
         let used = self.slots.len();
         match self.slots.get_allocated(used.saturating_sub(1), 1).first() {
@@ -179,10 +186,10 @@ impl<H, M: Elements<PacketMetadata<H>>, B: Elements<u8>> Packets<H, M, B> {
     }
 
     // The first packet, which has no gap before it.
-    fn front(&self) -> Result<(&H, &[u8]), Empty>
+    fn first(&self) -> Result<(&H, &[u8]), Empty>
         requires { first_gap self.now.packets ≡ 0 }
         ensures empty { IsErr result ↔ (length self.now.packets ≡ 0) }
-        ensures first { IfOk result (λ r. IsFirst self.now.packets r.0.now (length r.1.now)) }
+        ensures first { IfOk result (λ r. IsFirstSized self.now.packets r.0.now (length r.1.now)) }
         ensures bytes { IfOk result (λ r. r.1.now ≡ first_bytes self.now) }
     {
         let Some(slot) = self.slots.get_allocated(0, 1).first() else {
@@ -216,15 +223,17 @@ impl<H: Drop, M: Elements<PacketMetadata<H>>, B: Elements<u8>> Packets<H, M, B> 
         bytes.enqueue_unallocated(gap + size);
     }
 
-    /// Puts a packet of `size` bytes last. Its bytes are those that stand in the storage; [`Packets::last_mut`] lends them.
+    /// Puts a packet of `size` bytes last. Its bytes are those that stand in the storage;
+    /// [`Packets::last_mut`] lends them.
     ///
-    /// Answers `Full`, and drops the header and changes nothing, where no `size` bytes are free in a row, or a slot is missing for the packet
-    /// or its gap. An empty queue is read from the storage's beginning on. With `last_mut` this is [`Packets::enqueue`] in two steps, of which
+    /// Answers `Full`, and drops the header and changes nothing, where no `size` bytes are free in
+    /// a row, or a slot is missing for the packet or its gap. An empty queue is read from the
+    /// storage's beginning on. With `last_mut` this is [`Packets::enqueue`] in two steps, of which
     /// callers know exactly what they leave.
     pub fn place(&mut self, size: usize, header: H) -> Result<(), Full>
         ensures full { IsErr result ↔ (placement self.old size ≡ None) }
-        ensures placed { self.new ≡ placed self.old size header }
-        ensures size { OnOk result (first_size (last self.new.packets) ≡ size) }
+        ensures placed { self.new ≡ placed_if_room self.old size header }
+        ensures size { OnOk result (first_size (only_last self.new.packets) ≡ size) }
     {
         let Some(gap) = self.placement(size) else {
             return Err(Full);
@@ -235,9 +244,12 @@ impl<H: Drop, M: Elements<PacketMetadata<H>>, B: Elements<u8>> Packets<H, M, B> 
 
     /// Lends the bytes of the packet that came last, or none where no packet is held.
     pub fn last_mut(&mut self) -> &mut [u8]
-        ensures* writes_back { sem 𝓛 (lends_bytes H.row M.row B.row M.Elements B.Elements self.entry result (last_written self.old)) }
+        ensures* writes_back {
+            sem 𝓛 (lends_bytes H.row M.row B.row M.Elements B.Elements self.entry result
+                (last_written self.old))
+        }
         ensures value { result.now ≡ last_bytes self.old }
-        ensures size { length result.now ≡ first_size (last self.old.packets) }
+        ensures size { length result.now ≡ first_size (only_last self.old.packets) }
     {
         let size = self.last_size();
         self.run_mut(size)
@@ -245,32 +257,38 @@ impl<H: Drop, M: Elements<PacketMetadata<H>>, B: Elements<u8>> Packets<H, M, B> 
 
     // The last `size` bytes, which are those of the last packet.
     fn run_mut(&mut self, size: usize) -> &mut [u8]
-        requires { size ≡ first_size (last self.old.packets) }
-        ensures* writes_back { sem 𝓛 (lends_bytes H.row M.row B.row M.Elements B.Elements self.entry result (last_written self.old)) }
+        requires { size ≡ first_size (only_last self.old.packets) }
+        ensures* writes_back {
+            sem 𝓛 (lends_bytes H.row M.row B.row M.Elements B.Elements self.entry result
+                (last_written self.old))
+        }
         ensures value { result.now ≡ last_bytes self.old }
-        ensures size { length result.now ≡ first_size (last self.old.packets) }
+        ensures size { length result.now ≡ first_size (only_last self.old.packets) }
     {
         let before = self.bytes.len() - size;
         self.bytes.get_allocated_mut(before, size)
     }
 
-    /// Puts a packet last whose bytes `f` writes: `f` is lent `max_size` bytes, and answers how many of them, from the first on, are the
-    /// packet. That number is the answer. Condition: it is at most `max_size`.
+    /// Puts a packet last whose bytes `f` writes: `f` is lent `max_size` bytes, and answers how
+    /// many of them, from the first on, are the packet. That number is the answer. Condition: it is
+    /// at most `max_size`.
     ///
-    /// Answers `Full` where [`Packets::place`] would for `max_size` bytes, and then drops the header, does not run `f` and changes nothing.
-    /// smoltcp places these packets by a rule of its own and can take more than `max_size` bytes; here the rule is that of `enqueue`.
+    /// Answers `Full` where [`Packets::place`] would for `max_size` bytes, and then drops the
+    /// header, does not run `f` and changes nothing. smoltcp places these packets by a rule of its
+    /// own and can take more than `max_size` bytes; here the rule is that of `enqueue`.
     pub fn enqueue_with_infallible<F: FnOnce(&mut [u8]) -> usize>(
         &mut self,
         max_size: usize,
         header: H,
         f: F,
     ) -> Result<usize, Full>
-        requires callable { (run : List ℕ) → IsRoom self.old max_size header run → FnOnceTakesAtMut F.FnOnce f run }
-        requires count { (run ws : List ℕ) (k : ℕ) → IsRoom self.old max_size header run → FnOnceReturnsAtMut F.FnOnce f run k ws → k ≤ max_size }
+        requires callable { TakesRoom F.FnOnce f self.old max_size header }
+        requires count { CountsAtMost F.FnOnce f self.old max_size header }
         ensures full { IsErr result ↔ (placement self.old max_size ≡ None) }
         ensures unchanged { OnErr result (self.new ≡ self.old) }
-        ensures called { IfOk result (λ k. (ws : List ℕ) × FnOnceReturnsAtMut F.FnOnce f (last_bytes (placed self.old max_size header)) k ws × (length ws ≡ max_size)
-            × (self.new ≡ last_cut k (last_written (placed self.old max_size header) ws))) }
+        ensures wrote {
+            IfOk result (λ k. WrotePacket F.FnOnce f self.old max_size header k self.new)
+        }
     {
         let Some(gap) = self.placement(max_size) else {
             return Err(Full);
@@ -289,54 +307,60 @@ impl<H: Drop, M: Elements<PacketMetadata<H>>, B: Elements<u8>> Packets<H, M, B> 
         Ok(count)
     }
 
-    /// Takes the first packet and its gap off, and answers its header and how many bytes it has. [`Packets::freed_mut`] lends these bytes.
+    /// Takes the first packet and its gap off, and answers its header and how many bytes it has.
+    /// [`Packets::freed_mut`] lends these bytes.
     ///
-    /// Answers `Empty`, and changes nothing, where no packet is held. With `freed_mut` this is [`Packets::dequeue`] in two steps, of which
-    /// callers know exactly what they leave.
+    /// Answers `Empty`, and changes nothing, where no packet is held. With `freed_mut` this is
+    /// [`Packets::dequeue`] in two steps, of which callers know exactly what they leave.
     pub fn take(&mut self) -> Result<(H, usize), Empty>
         ensures empty { IsErr result ↔ (length self.old.packets ≡ 0) }
         ensures unchanged { OnErr result (self.new ≡ self.old) }
-        ensures first { IfOk result (λ r. IsFirst self.old.packets r.0 r.1) }
-        ensures taken { OnOk result (self.new ≡ taken self.old) }
-        ensures freed { IfOk result (λ r. AreFreed self.new r.1 × (freed_place self.new r.1 ≡ (skipped self.old).read_at)) }
+        ensures first { IfOk result (λ r. IsFirstSized self.old.packets r.0 r.1) }
+        ensures dequeued { OnOk result (self.new ≡ dequeued self.old) }
+        ensures freed { IfOk result (λ r. IsFreedAt self.new r.1 (skipped self.old).read_at) }
     {
         self.skip();
-        let (size, header) = pop_slot(&mut self.slots)?;
+        let (size, header) = lift_header(&mut self.slots)?;
+        self.slots.dequeue_allocated(1);
         self.bytes.dequeue_allocated(size);
         Ok((header, size))
     }
 
-    /// Lends the `size` bytes before the place where the storage is read: those of the packet that was taken off last. Condition: they lie in
-    /// a row and none of them is held, as after a call of [`Packets::take`] that answered `size`.
+    /// Lends the `size` bytes before the place where the storage is read: those of the packet that
+    /// was taken off last. Condition: they lie in a row and none of them is held, as after a call
+    /// of [`Packets::take`] that answered `size`.
     pub fn freed_mut(&mut self, size: usize) -> &mut [u8]
         requires { AreFreed self.old size }
-        ensures* writes_back { sem 𝓛 (lends_bytes H.row M.row B.row M.Elements B.Elements self.entry result (with_bytes self.old (freed_place self.old size))) }
-        ensures value { result.now ≡ take size (drop (freed_place self.old size) self.old.storage) }
+        ensures* writes_back {
+            sem 𝓛 (lends_bytes H.row M.row B.row M.Elements B.Elements self.entry result
+                (with_bytes self.old (freed_place self.old size)))
+        }
+        ensures value { result.now ≡ freed_bytes self.old size }
         ensures size { length result.now ≡ size }
     {
         let before = self.bytes.window() - size;
         self.bytes.get_unallocated(before, size)
     }
 
-    /// Runs `f` on the header and the bytes of the first packet, whose gap goes. Where `f` answers `Ok`, the packet is taken off; where it
-    /// answers `Err`, the packet stays first, with what `f` wrote to its header and bytes.
+    /// Runs `f` on the header and the bytes of the first packet, whose gap goes. Where `f` answers
+    /// `Ok`, the packet is taken off; where it answers `Err`, the packet stays first, with what `f`
+    /// wrote to its header and bytes.
     ///
     /// Answers `Empty`, does not run `f` and changes nothing, where no packet is held.
     pub fn dequeue_with<R, E, F: FnOnce(&mut H, &mut [u8]) -> Result<R, E>>(
         &mut self,
         f: F,
     ) -> Result<Result<R, E>, Empty>
-        requires { (header : H) (run : List ℕ) → IsFront self.old header run → TakesPacket F.FnOnce f header run }
+        requires { TakesFirst F.FnOnce f self.old }
         ensures empty { IsErr result ↔ (length self.old.packets ≡ 0) }
         ensures unchanged { OnErr result (self.new ≡ self.old) }
-        ensures called { IfOk result (λ answer. (header : H) × (after : H) × (run : List ℕ) × (ws : List ℕ) × IsFront self.old header run × GivesAtPacket F.FnOnce f header run answer after ws × (length ws ≡ length run)
-            × (self.new ≡ if is_ok answer then popped (first_written (skipped self.old) after ws) else first_written (skipped self.old) after ws)) }
+        ensures handed { IfOk result (λ answer. HandedPacket F.FnOnce f self.old answer self.new) }
     {
         self.skip();
         let (size, header) = lift_header(&mut self.slots)?;
         let (_, (answer, header)) = self
             .bytes
-            .dequeue_many_with(move |run| with_front(f, header, size, run));
+            .dequeue_many_with(move |run| with_first(f, header, size, run));
         if answer.is_ok() {
             self.slots.dequeue_allocated(1);
         } else {
@@ -349,24 +373,34 @@ impl<H: Drop, M: Elements<PacketMetadata<H>>, B: Elements<u8>> Packets<H, M, B> 
     ///
     /// Answers `Empty`, and changes nothing, where no packet is held.
     pub fn peek(&mut self) -> Result<(&H, &[u8]), Empty>
-        ensures* skips { sem 𝓛 (ends_as H.row M.row B.row M.Elements B.Elements self.entry (skipped self.old)) }
+        ensures* skips {
+            sem 𝓛 (ends_as H.row M.row B.row M.Elements B.Elements self.entry
+                (skipped self.old))
+        }
         ensures empty { IsErr result ↔ (length self.old.packets ≡ 0) }
         ensures unchanged { OnErr result (skipped self.old ≡ self.old) }
-        ensures first { IfOk result (λ r. IsFirst self.old.packets r.0.now (length r.1.now)) }
+        ensures first { IfOk result (λ r. IsFirstSized self.old.packets r.0.now (length r.1.now)) }
         ensures bytes { IfOk result (λ r. r.1.now ≡ first_bytes (skipped self.old)) }
     {
         self.skip();
-        self.front()
+        self.first()
     }
 
-    /// Puts a packet of `size` bytes last and lends these bytes. Until they are written they are what stood in the storage.
+    /// Puts a packet of `size` bytes last and lends these bytes. Until they are written they are
+    /// what stood in the storage.
     ///
-    /// Answers `Full`, and drops the header and changes nothing, where no `size` bytes are free in a row, or a slot is missing for the packet
-    /// or its gap. smoltcp can leave padding behind when it refuses.
+    /// Answers `Full`, and drops the header and changes nothing, where no `size` bytes are free in
+    /// a row, or a slot is missing for the packet or its gap. smoltcp can leave padding behind when
+    /// it refuses.
     pub fn enqueue(&mut self, size: usize, header: H) -> Result<&mut [u8], Full>
-        ensures* writes_back { sem 𝓛 (lends_bytes_if H.row M.row B.row M.Elements B.Elements self.entry result (last_written (placed self.old size header))) }
+        ensures* writes_back {
+            sem 𝓛 (lends_bytes_if H.row M.row B.row M.Elements B.Elements self.entry result
+                (last_written (placed_if_room self.old size header)))
+        }
         ensures full { IsErr result ↔ (placement self.old size ≡ None) }
-        ensures value { IfOk result (λ r. r.now ≡ last_bytes (placed self.old size header)) }
+        ensures value {
+            IfOk result (λ r. r.now ≡ last_bytes (placed_if_room self.old size header))
+        }
         ensures size { IfOk result (λ r. length r.now ≡ size) }
     {
         let Ok(()) = self.place(size, header) else {
@@ -379,18 +413,71 @@ impl<H: Drop, M: Elements<PacketMetadata<H>>, B: Elements<u8>> Packets<H, M, B> 
     ///
     /// Answers `Empty`, and changes nothing, where no packet is held.
     pub fn dequeue(&mut self) -> Result<(H, &mut [u8]), Empty>
-        ensures* writes_back { sem 𝓛 (lends_packet_if H.row M.row B.row M.Elements B.Elements self.entry result (with_bytes (taken self.old) (skipped self.old).read_at)) }
+        ensures* writes_back {
+            sem 𝓛 (lends_packet_if H.row M.row B.row M.Elements B.Elements self.entry result
+                (with_bytes (dequeued self.old) (skipped self.old).read_at))
+        }
         ensures empty { IsErr result ↔ (length self.old.packets ≡ 0) }
-        ensures front { IfOk result (λ r. IsFront self.old r.0 r.1.now) }
+        ensures first { IfOk result (λ r. IsFirst self.old r.0 r.1.now) }
     {
         let Ok((header, size)) = self.take() else {
             return Err(Empty);
         };
         Ok((header, self.freed_mut(size)))
     }
+
+    /// Puts a packet last whose bytes are `data`.
+    ///
+    /// Answers `Full`, and drops the header and changes nothing, where [`Packets::place`] would.
+    /// smoltcp has no such call.
+    pub fn push_slice(&mut self, header: H, data: &[u8]) -> Result<(), Full>
+        ensures full { IsErr result ↔ (placement self.old (length «data».now) ≡ None) }
+        ensures unchanged { OnErr result (self.new ≡ self.old) }
+        ensures made { OnOk result (self.new ≡ enqueued self.old header «data».now) }
+        ensures pushed {
+            OnOk result (contents self.new ≡ contents self.old ++ (header, «data».now) ∷ [])
+        }
+    {
+        laws::packets_leave_in_order::<H>();
+        laws::well_placed(self);
+        self.place(data.len(), header)?;
+        self.last_mut().copy_from_slice(data);
+        Ok(())
+    }
+
+    /// Takes the first packet and its gap off, copies as many of its bytes as `into` has room for,
+    /// and answers its header and how many bytes those are. What does not fit is lost.
+    ///
+    /// Answers `Empty`, and changes nothing, where no packet is held. smoltcp has no such call.
+    pub fn pop_slice(&mut self, into: &mut [u8]) -> Result<(H, usize), Empty>
+        ensures empty { IsErr result ↔ (length self.old.packets ≡ 0) }
+        ensures unchanged { OnErr result ((self.new ≡ self.old) × (into.new ≡ into.old)) }
+        ensures made { OnOk result (self.new ≡ dequeued self.old) }
+        ensures popped {
+            IfOk result
+                (λ r. CopiedOut (contents self.old) r.0 into.old r.1 (contents self.new) into.new)
+        }
+    {
+        laws::the_two_steps_apart::<H>();
+        laws::well_placed(self);
+        let (header, size) = self.take()?;
+        let count = copy(into, self.freed_mut(size));
+        Ok((header, count))
+    }
 }
 
-// The gap before a packet of `size` bytes, where `contiguous` bytes are free in a row and `window` in all.
+// Copies as many bytes as both have, and answers how many.
+fn copy(into: &mut [u8], bytes: &[u8]) -> usize
+    ensures count { result ≡ min (length bytes.now) (length into.old) }
+    ensures copied { into.new ≡ take result bytes.now ++ drop result into.old }
+{
+    let count = bytes.len().min(into.len());
+    into[..count].copy_from_slice(&bytes[..count]);
+    count
+}
+
+// The gap before a packet of `size` bytes, where `contiguous` bytes are free in a row and `window`
+// in all.
 #[inline]
 fn gap_for(size: usize, contiguous: usize, window: usize) -> Option<usize>
     requires { contiguous ≤ window }
@@ -478,35 +565,16 @@ fn push_slot<H: Drop, M: Elements<PacketMetadata<H>>>(
     }
 }
 
-// The size and the header of the first slot, which goes.
-fn pop_slot<H: Drop, M: Elements<PacketMetadata<H>>>(
-    slots: &mut Ring<PacketMetadata<H>, M>,
-) -> Result<(usize, H), Empty>
-    requires well_formed { WellFormed slots.old }
-    requires header { (size : ℕ) → queue slots.old ≢ slot size None ∷ drop 1 (queue slots.old) }
-    ensures empty { IsErr result ↔ (slots.old.held ≡ 0) }
-    ensures unchanged { OnErr result (slots.new ≡ slots.old) }
-    ensures first { IfOk result (λ r. queue slots.old ≡ slot r.0 (Some r.1) ∷ drop 1 (queue slots.old)) }
-    ensures left { OnOk result ((queue slots.new ≡ drop 1 (queue slots.old)) × WellFormed slots.new × (capacity slots.new ≡ capacity slots.old)) }
-{
-    let place = slots.dequeue_one()?;
-    let size = place.size;
-    let Some(header) = place.header.take() else {
-        return Err(Empty);
-    };
-    Ok((size, header))
-}
-
 // The size and the header of the first slot, which stays without its header.
 fn lift_header<H: Drop, M: Elements<PacketMetadata<H>>>(
     slots: &mut Ring<PacketMetadata<H>, M>,
 ) -> Result<(usize, H), Empty>
     requires well_formed { WellFormed slots.old }
-    requires header { (size : ℕ) → queue slots.old ≢ slot size None ∷ drop 1 (queue slots.old) }
+    requires header { (size : ℕ) → IsFirstSlot slots.old size None → ⊥ }
     ensures empty { IsErr result ↔ (slots.old.held ≡ 0) }
     ensures unchanged { OnErr result (slots.new ≡ slots.old) }
-    ensures first { IfOk result (λ r. queue slots.old ≡ slot r.0 (Some r.1) ∷ drop 1 (queue slots.old)) }
-    ensures left { IfOk result (λ r. (queue slots.new ≡ slot r.0 None ∷ drop 1 (queue slots.old)) × WellFormed slots.new × (capacity slots.new ≡ capacity slots.old)) }
+    ensures first { IfOk result (λ r. IsFirstSlot slots.old r.0 (Some r.1)) }
+    ensures left { IfOk result (λ r. HasFirstSlot slots.old r.0 None slots.new) }
 {
     let answer = slots.dequeue_one_with(|slot| {
         let header = slot.header.take();
@@ -527,7 +595,10 @@ fn put_header<H: Drop, M: Elements<PacketMetadata<H>>>(
     header: H,
 )
     requires { WellFormed slots.old }
-    ensures queue { (size : ℕ) (h : _) → queue slots.old ≡ slot size h ∷ drop 1 (queue slots.old) → queue slots.new ≡ slot size (Some header) ∷ drop 1 (queue slots.old) }
+    ensures queue {
+        (size : ℕ) (h : _) → IsFirstSlot slots.old size h
+            → queue slots.new ≡ slot size (Some header) ∷ drop 1 (queue slots.old)
+    }
     ensures well_formed { WellFormed slots.new }
     ensures capacity { capacity slots.new ≡ capacity slots.old }
 {
@@ -536,8 +607,9 @@ fn put_header<H: Drop, M: Elements<PacketMetadata<H>>>(
     }
 }
 
-// Runs `f` on a header and the first `size` bytes of a run. With its answer come the header and how many bytes are taken off.
-fn with_front<H, R, E, F: FnOnce(&mut H, &mut [u8]) -> Result<R, E>>(
+// Runs `f` on a header and the first `size` bytes of a run. With its answer come the header and how
+// many bytes are taken off.
+fn with_first<H, R, E, F: FnOnce(&mut H, &mut [u8]) -> Result<R, E>>(
     f: F,
     mut header: H,
     size: usize,
@@ -546,7 +618,11 @@ fn with_front<H, R, E, F: FnOnce(&mut H, &mut [u8]) -> Result<R, E>>(
     requires fits { size ≤ length run.old }
     requires callable { TakesPacket F.FnOnce f header (take size run.old) }
     ensures count { result.0 ≡ (if is_ok result.1.0 then size else 0) }
-    ensures called { (ws : List ℕ) × GivesAtPacket F.FnOnce f header (take size run.old) result.1.0 result.1.1 ws × (length ws ≡ size) × (run.new ≡ ws ++ drop size run.old) }
+    ensures called {
+        (ws : List ℕ)
+            × GivesAtPacket F.FnOnce f header (take size run.old) result.1.0 result.1.1 ws
+            × (length ws ≡ size) × (run.new ≡ ws ++ drop size run.old)
+    }
 {
     let answer = f(&mut header, &mut run[..size]);
     let count = if answer.is_ok() { size } else { 0 };

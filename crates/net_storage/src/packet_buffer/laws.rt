@@ -1,31 +1,124 @@
-//! Laws of packet queues, over their definitions alone: the functions do nothing.
-ghost use Rattle.std.specs.Prelude.{◌≡◌, ◌≢◌, ◌≤◌, ◌++◌, ◌∷◌, [], ℕ, List, length, take, drop};
+//! Laws of packet queues. No function here does anything: each is called for what its contract
+//! says.
+ghost use Rattle.std.specs.Prelude.{◌≡◌, ◌≢◌, ◌≤◌, ◌++◌, ◌∷◌, ◌↔◌, [], ℕ, List, Bool, length, take, drop, if◌then◌else◌};
 ghost use Rattle.std.specs.declared.option.Option.TheVariants.{None};
-ghost use Rattle.net_storage.specs.Packets.{PacketQueue, WellPlaced, IsFront, placement, placed, last_written, last_cut, skipped, first_size, first_written, popped, taken};
-ghost use Rattle.net_storage.specs.PacketHistory.{contents, no_packets, Step, Run, history};
+ghost use Rattle.net_storage.specs.Packets.{PacketQueue, WellPlaced, no_packets, IsFirst, IsFirstSized, placement, placed_if_room, only_last, last_bytes, last_written, last_cut, skipped, first_size, first_written, popped, handed, dequeued, with_bytes, freed_place, freed_bytes, AreFreed};
+ghost use Rattle.net_storage.specs.PacketHistory.{contents, with_last_bytes, Call, MakesAll, history};
 
-/// Packets leave in the order in which they were accepted, each with the header and the bytes last written by who put it or by a closure that
-/// refused it: on the list of the headers and bytes that a queue holds, a packet that is accepted comes to the end, a refusing closure writes
-/// the first one anew, the first one is what is shown and taken off, and dropping a gap changes nothing.
-pub fn packets_leave_in_order<H>()
-    ensures accepted { (q : PacketQueue H) (size : ℕ) (header : H) (ws : List ℕ) → WellPlaced q → placement q size ≢ None → length ws ≡ size
-        → contents (last_written (placed q size header) ws) ≡ contents q ++ (header, ws) ∷ [] }
-    ensures accepted_with { (q : PacketQueue H) (size count : ℕ) (header : H) (ws : List ℕ) → WellPlaced q → placement q size ≢ None → length ws ≡ size → count ≤ size
-        → contents (last_cut count (last_written (placed q size header) ws)) ≡ contents q ++ (header, take count ws) ∷ [] }
-    ensures gap_dropped { (q : PacketQueue H) → WellPlaced q → contents (skipped q) ≡ contents q }
-    ensures shown { (q : PacketQueue H) (header : H) (ws : List ℕ) → WellPlaced q → IsFront q header ws → contents q ≡ (header, ws) ∷ drop 1 (contents q) }
-    ensures refused { (q : PacketQueue H) (header : H) (ws : List ℕ) → WellPlaced q → q.packets ≢ [] → length ws ≡ first_size q.packets
-        → contents (first_written (skipped q) header ws) ≡ (header, ws) ∷ drop 1 (contents q) }
-    ensures left { (q : PacketQueue H) → WellPlaced q → contents (taken q) ≡ drop 1 (contents q) }
-    ensures left_with { (q : PacketQueue H) (header : H) (ws : List ℕ) → WellPlaced q → length ws ≡ first_size q.packets
-        → contents (popped (first_written (skipped q) header ws)) ≡ drop 1 (contents q) }
+use crate::managed::Elements;
+use crate::packet_buffer::Packets;
+use crate::packet_metadata::PacketMetadata;
+
+/// Every queue is well placed: its packets fit into its storage, each in a row, its gaps end at the
+/// storage's end, and there is a slot for each packet and gap. The other laws speak of such queues.
+pub fn well_placed<H, M: Elements<PacketMetadata<H>>, B: Elements<u8>>(queue: &Packets<H, M, B>)
+    ensures { WellPlaced queue.now }
+{
+    let _slots = queue.slots.capacity();
+}
+
+/// A queue has as many contents as packets, and so none exactly where it has no packets.
+pub fn contents_are_packets<H>()
+    ensures count { (q : PacketQueue H) → length (contents q) ≡ length q.packets }
+    ensures none { (q : PacketQueue H) → (contents q ≡ []) ↔ (length q.packets ≡ 0) }
 {}
 
-/// The packet that leaves k-th is the one that was accepted k-th. Over any calls, in any order, from a queue with no packets on, the packets
-/// that left, in order, followed by those that are still held, are exactly the packets that were accepted, in order. Each left, or is held,
-/// with the header and the bytes last written to it, by who put it or by a closure that refused it. What `reset` drops counts as never
-/// accepted.
+/// Packets leave in the order in which they were accepted, each with the header and the bytes last
+/// written by who put it or by a closure that refused it: on the list of the headers and bytes that
+/// a queue holds, a packet that is accepted comes to the end, a refusing closure writes the first
+/// one anew, the first one is what is shown and taken off, and dropping a gap changes nothing.
+pub fn packets_leave_in_order<H>()
+    ensures accepted {
+        (q : PacketQueue H) (size : ℕ) (header : H) (ws : List ℕ)
+            → WellPlaced q → placement q size ≢ None → length ws ≡ size
+            → contents (last_written (placed_if_room q size header) ws)
+                ≡ contents q ++ (header, ws) ∷ []
+    }
+    ensures accepted_with {
+        (q : PacketQueue H) (size count : ℕ) (header : H) (ws : List ℕ)
+            → WellPlaced q → placement q size ≢ None → length ws ≡ size → count ≤ size
+            → contents (last_cut count (last_written (placed_if_room q size header) ws))
+                ≡ contents q ++ (header, take count ws) ∷ []
+    }
+    ensures gap_dropped { (q : PacketQueue H) → WellPlaced q → contents (skipped q) ≡ contents q }
+    ensures shown {
+        (q : PacketQueue H) (header : H) (ws : List ℕ) → WellPlaced q → IsFirst q header ws
+            → contents q ≡ (header, ws) ∷ drop 1 (contents q)
+    }
+    ensures refused {
+        (q : PacketQueue H) (header : H) (ws : List ℕ)
+            → WellPlaced q → q.packets ≢ [] → length ws ≡ first_size q.packets
+            → contents (first_written (skipped q) header ws)
+                ≡ (header, ws) ∷ drop 1 (contents q)
+    }
+    ensures left {
+        (q : PacketQueue H) → WellPlaced q → contents (dequeued q) ≡ drop 1 (contents q)
+    }
+    ensures left_with {
+        (q : PacketQueue H) (header : H) (ws : List ℕ)
+            → WellPlaced q → length ws ≡ first_size q.packets
+            → contents (popped (first_written (skipped q) header ws)) ≡ drop 1 (contents q)
+    }
+{}
+
+/// What `place` and `last_mut`, and `take` and `freed_mut`, make of a queue's contents where they
+/// are used apart.
+///
+/// A placed packet has the bytes that stand in the storage, until they are written. What
+/// `freed_mut` shows after `take` are the bytes of the packet that was taken off, and a write there
+/// changes no content. The same holds of the bytes that `dequeue` lends.
+pub fn the_two_steps_apart<H>()
+    ensures placed {
+        (q : PacketQueue H) (size : ℕ) (header : H) → WellPlaced q → placement q size ≢ None
+            → contents (placed_if_room q size header)
+                ≡ contents q ++ (header, last_bytes (placed_if_room q size header)) ∷ []
+    }
+    ensures last_written {
+        (q : PacketQueue H) (ws : List ℕ)
+            → WellPlaced q → q.packets ≢ [] → length ws ≡ first_size (only_last q.packets)
+            → contents (last_written q ws) ≡ with_last_bytes ws (contents q)
+    }
+    ensures taken {
+        (q : PacketQueue H) (header : H) (size : ℕ)
+            → WellPlaced q → IsFirstSized q.packets header size
+            → contents q ≡ (header, freed_bytes (dequeued q) size) ∷ contents (dequeued q)
+    }
+    ensures freed_written {
+        (q : PacketQueue H) (ws : List ℕ) → WellPlaced q → AreFreed q (length ws)
+            → contents (with_bytes q (freed_place q (length ws)) ws) ≡ contents q
+    }
+    ensures lent_written {
+        (q : PacketQueue H) (ws : List ℕ) → WellPlaced q → length ws ≡ first_size q.packets
+            → contents (with_bytes (dequeued q) (skipped q).read_at ws) ≡ drop 1 (contents q)
+    }
+{}
+
+/// A packet that was only looked at: after `peek` the same packet is taken off, and a closure that
+/// leaves the header and the bytes of the first packet as they were leaves the contents, less the
+/// packet where it answered `Ok`.
+pub fn looking_changes_nothing<H>()
+    ensures peeked {
+        (q : PacketQueue H) → WellPlaced q
+            → contents (dequeued (skipped q)) ≡ drop 1 (contents q)
+    }
+    ensures still_there { (q : PacketQueue H) → length (skipped q).packets ≡ length q.packets }
+    ensures kept {
+        (q : PacketQueue H) (header : H) (ws : List ℕ) (gone : Bool)
+            → WellPlaced q → IsFirst q header ws
+            → contents (handed gone q header ws)
+                ≡ (if gone then drop 1 (contents q) else contents q)
+    }
+{}
+
+/// The packet that leaves k-th is the one that was accepted k-th. Over any calls, in any order,
+/// from a queue with no packets on, the packets that left, in order, followed by those that are
+/// still held, are exactly the packets that were accepted, in order. Each left, or is held, with
+/// the header and the bytes last written to it, by who put it or by a closure that refused it. What
+/// `reset` drops counts as never accepted.
 pub fn accepted_packets_leave_in_turn<H>()
-    ensures { (slots : ℕ) (storage : List ℕ) (steps : List (Step H)) (r : PacketQueue H) → Run steps (no_packets slots storage) r
-        → (history steps).left ++ contents r ≡ (history steps).accepted }
+    ensures {
+        (slot_count : ℕ) (storage : List ℕ) (calls : List (Call H)) (r : PacketQueue H)
+            → MakesAll calls (no_packets slot_count storage) r
+            → (history calls).left ++ contents r ≡ (history calls).accepted
+    }
 {}

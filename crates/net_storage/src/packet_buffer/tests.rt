@@ -333,7 +333,8 @@ fn a_refused_header_is_dropped(rt: HostRuntime) -> Result<(), Fail> {
         );
         assert!(rt; queue.enqueue(3, Counted { drops: &drops }).is_ok());
         assert_eq!(rt; drops.get(), 0);
-        assert!(rt; queue.enqueue(3, Counted { drops: &drops }).is_err());
+        // Three bytes are not free.
+        assert!(rt; queue.place(3, Counted { drops: &drops }).is_err());
         assert_eq!(rt; drops.get(), 1);
         assert!(rt;
             queue
@@ -341,12 +342,42 @@ fn a_refused_header_is_dropped(rt: HostRuntime) -> Result<(), Fail> {
                 .is_err()
         );
         assert_eq!(rt; drops.get(), 2);
+        // No slot is free.
+        assert!(rt; queue.place(0, Counted { drops: &drops }).is_ok());
+        assert!(rt; queue.place(0, Counted { drops: &drops }).is_err());
+        assert_eq!(rt; drops.get(), 3);
+        assert!(rt;
+            queue
+                .enqueue_with_infallible(0, Counted { drops: &drops }, |_| 0)
+                .is_err()
+        );
+        assert_eq!(rt; drops.get(), 4);
         match queue.dequeue() {
             Ok((header, _)) => drop(header),
             Err(Empty) => assert!(rt; false),
         }
-        assert_eq!(rt; drops.get(), 3);
+        assert_eq!(rt; drops.get(), 5);
     }
+    Ok(())
+}
+
+#[test]
+fn slices_go_in_and_come_out(rt: HostRuntime) -> Result<(), Fail> {
+    let mut slots = [PacketMetadata::<u8>::EMPTY; 2];
+    let mut bytes = [0u8; 4];
+    let mut queue = PacketBuffer::<u8>::new(
+        ManagedSlice::Borrowed(&mut slots),
+        ManagedSlice::Borrowed(&mut bytes),
+    );
+    assert!(rt; queue.push_slice(7, b"abc").is_ok());
+    assert!(rt; queue.push_slice(8, b"de").is_err());
+    let mut into = [0u8; 2];
+    match queue.pop_slice(&mut into) {
+        Ok(answer) => assert_eq!(rt; answer, (7, 2)),
+        Err(Empty) => assert!(rt; false),
+    }
+    assert_eq!(rt; &into, b"ab");
+    assert!(rt; queue.pop_slice(&mut into).is_err());
     Ok(())
 }
 

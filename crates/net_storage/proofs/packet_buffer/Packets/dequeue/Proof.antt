@@ -53,7 +53,7 @@ use Rattle.std.proofs.mem.Facts.{says_two}
 use Rattle.std.proofs.ResultValues.{ok_of, err_of, and_tt}
 use Rattle.std.specs.Prelude.{Ok, Err, IsErr, IfOk, OnOk, OnErr, ◌↔◌}
 use Rattle.std.specs.contracts.result.Result as RS
-use Rattle.net_storage.specs.Packets.{skipped, taken, freed_place, AreFreed, IsFirst, IsFront, first_size, close_up, with_bytes}
+use Rattle.net_storage.specs.Packets.{skipped, dequeued, freed_place, AreFreed, IsFirstSized, IsFirst, first_size, without_first_gap, with_bytes}
 use Rattle.net_storage.specs.contracts.error.Empty as EM
 use Rattle.net_storage.proofs.LendInside.{lent, Back, lends_inside, comes_inside}
 use Rattle.net_storage.proofs.ResultParts.{no_fields, alone, ok_or_err, ok_had, err_had, pair_had, pair_of, pair_val, pair_typed}
@@ -108,7 +108,7 @@ module _ (G : Given) {M : Type 1} {𝓤 : Ura M} (𝓛 : Logic 𝓤) (𝓜 : Mod
 
     -- the queue without its first packet, and where that one's bytes are
     abbrev y : Q G
-    y = taken x
+    y = dequeued x
 
     abbrev from : ℕ
     from = (skipped x).read_at
@@ -170,7 +170,7 @@ module _ (G : Given) {M : Type 1} {𝓤 : Ura M} (𝓛 : Logic 𝓤) (𝓜 : Mod
         nothing ! $ nothing ! $ fjoin ! $ join ! $ move ! (2 ∷ 3 ∷ []) $ join ! $ join ! $ frame ! $ says_two ! (((λ _. none), (λ _. refl)), tt) $ done !
 
     -- the end at `Ok`, where self follows the part
-    lends : (h : G.H.Denot) (hv : Val) (r : MutBor (List ℕ)) (w : Val) → length x.packets ≢ 0 → IsFront x h r.now
+    lends : (h : G.H.Denot) (hv : Val) (r : MutBor (List ℕ)) (w : Val) → length x.packets ≢ 0 → IsFirst x h r.now
         → ent 𝓤 (sep 𝓤 (sem 𝓛 ((Header G).own_val h (hv ∷ []))) (sep 𝓤 (sem 𝓛 (Part.own_val r (w ∷ []))) (sep 𝓤 (sem 𝓛 (follow from r)) (sep 𝓤 (𝓛.A.lft κs.0 qs.0) (mean 𝓛 (others G 𝓤 κs qs)))))) (Post (live 0 (of_list (pair_val hv w ∷ []))))
     unfolding follows_by
     lends h hv r w is_some is_front =
@@ -197,7 +197,7 @@ module _ (G : Given) {M : Type 1} {𝓤 : Ura M} (𝓛 : Logic 𝓤) (𝓜 : Mod
         nothing ! $ use1 𝓛 (raw (Asked G 𝓤 κs (emp 𝓤))) (asked G 𝓛 κs live-in (emp 𝓤)) $ move ! (1 ∷ 0 ∷ []) $ join ! $ use1 𝓛 (raw (Take.pre (to_take p))) (id⊢ 𝓤 _) $
         calls_at ! (framed 𝓤 H 𝓜 𝓣) Take take-met (to_take p) (and_then ! (get ! refl) (no_more !)) (λ v.
         use1 𝓛 (later (some (λ (r : Answer.Denot). ((‵ (flft (κ' p) p.1) ⊛ others G 𝓤 κs qs) ⊛ ‵ (Answer.own_val r (v ∷ []))) ⊛ some (λ (ws : Q G × Unit {0}). ‵ (lasts (take.ended G.H G.N G.B G.slots G.slots_by G.bytes G.bytes_by G.drops_by) (to_take p).0.0 (to_take p).0.3 ws)
-        ⊛ raw (fact 𝓤 (IsErr r ↔ (length x.packets ≡ 0))) ⊛ raw (fact 𝓤 (OnErr r (ws.0 ≡ x))) ⊛ raw (fact 𝓤 (IfOk r (λ t. IsFirst x.packets t.0 t.1))) ⊛ raw (fact 𝓤 (OnOk r (ws.0 ≡ y)))
+        ⊛ raw (fact 𝓤 (IsErr r ↔ (length x.packets ≡ 0))) ⊛ raw (fact 𝓤 (OnErr r (ws.0 ≡ x))) ⊛ raw (fact 𝓤 (IfOk r (λ t. IsFirstSized x.packets t.0 t.1))) ⊛ raw (fact 𝓤 (OnOk r (ws.0 ≡ y)))
         ⊛ raw (fact 𝓤 (IfOk r (λ t. AreFreed ws.0 t.1 × (freed_place ws.0 t.1 ≡ from)))))))) (id⊢ 𝓤 (Take.post (to_take p) v)) $
         await ! tt $ pick ! (λ r. split ! $ split ! $ move ! (2 ∷ []) $ pick ! (λ ws. split3 ! $ move ! (1 ∷ []) $ heard ! _ (λ empty. move ! (1 ∷ []) $ split3 ! $
         heard ! _ (λ unchanged. heard ! _ (λ is_first. split ! $ heard ! _ (λ is_taken. heard ! _ (λ is_freed. fsplit ! $ fsplit ! $ move ! (3 ∷ []) $ split ! $
@@ -211,7 +211,7 @@ module _ (G : Given) {M : Type 1} {𝓤 : Ura M} (𝓛 : Logic 𝓤) (𝓜 : Mod
               let s : ℕ = c.0.1 in
               let k : ℕ = number_of s (passed G) in
               let is_y : ws.0 ≡ y = subst (λ t. OnOk t (ws.0 ≡ y)) c.1 is_taken in
-              let front_is : IsFirst x.packets h s = subst (λ t. IfOk t (λ u. IsFirst x.packets u.0 u.1)) c.1 is_first in
+              let front_is : IsFirstSized x.packets h s = subst (λ t. IfOk t (λ u. IsFirstSized x.packets u.0 u.1)) c.1 is_first in
               let lies : AreFreed y s × (freed_place y s ≡ from) = subst (λ m. AreFreed m s × (freed_place m s ≡ from)) is_y (subst (λ t. IfOk t (λ u. AreFreed ws.0 u.1 × (freed_place ws.0 u.1 ≡ from))) c.1 is_freed) in
               rewrite ! 0 (λ (m : Q G). ‵ (mine m)) is_y refl $ rewrite ! 3 (λ (t : Answer.Denot). ‵ (Answer.own_val t (v ∷ []))) c.1 refl $ move ! (3 ∷ []) $
               ok_had ! (Tuple (Header G ∷ usize ∷ [])) EM.the_row c.0 v (λ ts is_v. pair_had ! (Header G) usize h s ts (λ us vs is_pair. peeks ! (Header G) (Is (Header G)) (shows 𝓛 (Header G)) h us (λ is_h.
@@ -241,11 +241,11 @@ module _ (G : Given) {M : Type 1} {𝓤 : Ura M} (𝓛 : Logic 𝓤) (𝓜 : Mod
               let w : Val = slice_val m.ref_ptr (length m.now) in
               let fits : length m.now < 2 ^ 64 = ok.0.1.0 in
               let both = pair_typed (layout G.H) (slice_ty (ty_ref erased mut (ty_int w8))) hv w good (tt, (tt, (record { fits = fits }, tt))) in
-              let sizes : first_size (close_up x.packets) ≡ s = ap (λ ps. first_size (close_up ps)) front_is in
+              let sizes : first_size (without_first_gap x.packets) ≡ s = ap (λ ps. first_size (without_first_gap ps)) front_is in
               lands_as ! (ap only ok.0.0) refl (tt, (tt, (record { fits = fits }, tt))) $ sets ! (agg ! (and_then ! (get ! refl) (and_then ! (get ! refl) (no_more !)))) refl both $
               sets ! (agg ! (and_then ! (lit ! tt) (and_then ! (get ! refl) (no_more !)))) refl (and_tt _ both.0, (record { fits = lit< tt }, (both.1, tt))) $
               rewrite ! 0 (λ (l : List Val). ‵ (Part.own_val m l)) ok.0.0 refl $ returns ! (look_at ! 0 refl) $ free_all ! refl $ keep ! (3 ∷ 0 ∷ 1 ∷ 2 ∷ []) $
-              by ! (lends h hv m w (λ e. subst T (sym (subst (λ t. IsErr t) c.1 (empty.1 e))) tt) (subst (IsFirst x.packets h) (sym sized) front_is, value ∙ (λ i. take-list (sym sizes i) (drop-list (lies.1 i) x.storage))))))))))))))
+              by ! (lends h hv m w (λ e. subst T (sym (subst (λ t. IsErr t) c.1 (empty.1 e))) tt) (subst (IsFirstSized x.packets h) (sym sized) front_is, value ∙ (λ i. take-list (sym sizes i) (drop-list (lies.1 i) x.storage))))))))))))))
           | inr c ↦
               let is_x : ws.0 ≡ x = subst (λ t. OnErr t (ws.0 ≡ x)) c.1 unchanged in
               rewrite ! 0 (λ (m : Q G). ‵ (mine m)) is_x refl $ rewrite ! 3 (λ (t : Answer.Denot). ‵ (Answer.own_val t (v ∷ []))) c.1 refl $ move ! (3 ∷ []) $

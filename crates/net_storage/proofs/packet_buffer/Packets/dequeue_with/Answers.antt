@@ -1,7 +1,7 @@
 use Rattle.std.proofs.Common.{◌≡◌, ◌++◌, ◌∷◌, sym, ap, ◌∙◌, subst, arith, of_calls, List, ℕ, if◌then◌else◌, is_ok, length, drop, take}
 use Rattle.std.specs.declared.option.Option.TheVariants.{Some, None}
 use Rattle.net_storage.specs.Ring.{queue, capacity, WellFormed, contiguous_held}
-use Rattle.net_storage.specs.Packets.{first_gap, skipped, popped, first_written}
+use Rattle.net_storage.specs.Packets.{first_gap, popped, first_written, handed}
 use Rattle.net_storage.specs.PacketSlots.{slot}
 use Rattle.net_storage.specs.PacketCalls.{GivesAtPacket}
 use Rattle.std.proofs.lemmas.List.{length-take-le}
@@ -63,8 +63,8 @@ invariant_of-self-else-is_ok g c =
     let em = c.put_header.ensures.queue size None (lifted.0 ∙ ap (λ l. slot size None ∷ l) (sym rest)) ∙ ap (λ l. slot size (Some r.1.1) ∷ l) rest in
     on_kept m bytes c.self.invariant z size c.in_ok-size.header at k.0 called.0 left called.2 r.0 c.dequeue_many_with-answer.new.self k.3 none r.1.1 c.put_header.new.slots em c.put_header.ensures.well_formed
 
-pub returns-clause-called : goal.returns-clause-called
-returns-clause-called g c =
+pub returns-clause-handed : goal.returns-clause-handed
+returns-clause-handed g c =
     let m = c.self.inside.slots in
     let bytes = c.self.inside.bytes in
     let is = c.self.view_is ∙ c.skip.ensures.skipped in
@@ -81,24 +81,25 @@ returns-clause-called g c =
     let left = sym k.1.leaves ∙ called.3 ∙ ap (λ l. called.0 ++ drop size l) k.1.shows in
     let front = lift_front m bytes c.self.invariant z size c.in_ok-size.header at c.args.self.now is in
     let gives = subst (λ l. GivesAtPacket g.F.FnOnce c.args.f c.in_ok-size.header (take size l) r.1.0 r.1.1 called.0) k.1.shows called.1 in
-    let whole = length-take-le size (take (contiguous_held bytes) (queue bytes)) (lift_fits m bytes c.self.invariant z size c.in_ok-size.header at) in (
-      c.in_ok-size.header,
-      r.1.1,
-      take size (take (contiguous_held bytes) (queue bytes)),
-      called.0,
-      front,
-      gives,
-      called.2 ∙ sym whole,
-      elim c.if-is_ok.branch [
+    let whole = length-take-le size (take (contiguous_held bytes) (queue bytes)) (lift_fits m bytes c.self.invariant z size c.in_ok-size.header at) in
+    record {
+      header = c.in_ok-size.header;
+      bytes = take size (take (contiguous_held bytes) (queue bytes));
+      new_header = r.1.1;
+      new_bytes = called.0;
+      first = front;
+      gives = gives;
+      size = called.2 ∙ sym whole;
+      made = elim c.if-is_ok.branch [
         | then-is_ok w ↦
             let all = count ∙ ap (λ t. if t then size else 0) (sym w.if-is_ok.ensures.value) in
             let em = w.dequeue_allocated.ensures.dequeued.0 ∙ rest in
             let wfm = subst WellFormed (sym w.dequeue_allocated.ensures.ring) (off_wf c.lift_header.new.slots (slot size None) (drop 1 (queue m)) lifted.1 lifted.0) in
             let cm = ap capacity w.dequeue_allocated.ensures.ring ∙ lifted.2 in
-            w.self-is ∙ off_left m bytes c.self.invariant z size c.in_ok-size.header at k.0 called.0 left called.2 r.0 c.dequeue_many_with-answer.new.self k.3 all w.dequeue_allocated.new.self em wfm cm r.1.1 ∙ ap (λ q. popped (first_written q r.1.1 called.0)) is ∙ ap (λ t. if t then popped (first_written (skipped c.args.self.now) r.1.1 called.0) else first_written (skipped c.args.self.now) r.1.1 called.0) w.if-is_ok.ensures.value
+            w.self-is ∙ off_left m bytes c.self.invariant z size c.in_ok-size.header at k.0 called.0 left called.2 r.0 c.dequeue_many_with-answer.new.self k.3 all w.dequeue_allocated.new.self em wfm cm r.1.1 ∙ ap (λ q. popped (first_written q r.1.1 called.0)) is ∙ ap (λ t. handed t c.args.self.now r.1.1 called.0) w.if-is_ok.ensures.value
         | else-is_ok w ↦
             let none = count ∙ ap (λ t. if t then size else 0) (sym w.if-is_ok.ensures.value) in
             let em = w.put_header.ensures.queue size None (lifted.0 ∙ ap (λ l. slot size None ∷ l) (sym rest)) ∙ ap (λ l. slot size (Some r.1.1) ∷ l) rest in
-            w.self-is ∙ on_left m bytes c.self.invariant z size c.in_ok-size.header at k.0 called.0 left called.2 r.0 c.dequeue_many_with-answer.new.self k.3 none r.1.1 w.put_header.new.slots em w.put_header.ensures.well_formed (w.put_header.ensures.capacity ∙ lifted.2) ∙ ap (λ q. first_written q r.1.1 called.0) is ∙ ap (λ t. if t then popped (first_written (skipped c.args.self.now) r.1.1 called.0) else first_written (skipped c.args.self.now) r.1.1 called.0) w.if-is_ok.ensures.value
-      ],
-    )
+            w.self-is ∙ on_left m bytes c.self.invariant z size c.in_ok-size.header at k.0 called.0 left called.2 r.0 c.dequeue_many_with-answer.new.self k.3 none r.1.1 w.put_header.new.slots em w.put_header.ensures.well_formed (w.put_header.ensures.capacity ∙ lifted.2) ∙ ap (λ q. first_written q r.1.1 called.0) is ∙ ap (λ t. handed t c.args.self.now r.1.1 called.0) w.if-is_ok.ensures.value
+      ];
+    }

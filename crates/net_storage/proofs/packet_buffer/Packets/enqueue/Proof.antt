@@ -53,7 +53,7 @@ use Rattle.std.proofs.ResultValues.{ok_of, err_of}
 use Rattle.std.specs.Prelude.{Ok, Err, IsErr, OnOk, ◌↔◌}
 use Rattle.std.specs.declared.option.Option.TheVariants.{None}
 use Rattle.std.specs.contracts.result.Result as RS
-use Rattle.net_storage.specs.Packets.{placement, pushed_if, placed, last as last-of, first_size, last_bytes, last_written}
+use Rattle.net_storage.specs.Packets.{placement, pushed_if, placed_if_room, only_last as last-of, first_size, last_bytes, last_written}
 use Rattle.net_storage.specs.contracts.error.Full as FU
 use Rattle.net_storage.proofs.LendInside.{lent, Back, lends_inside, comes_inside}
 use Rattle.net_storage.proofs.ResultParts.{no_fields, alone, ok_or_err, ok_had, err_had}
@@ -111,7 +111,7 @@ module _ (G : Given) {M : Type 1} {𝓤 : Ura M} (𝓛 : Logic 𝓤) (𝓜 : Mod
 
     -- the queue with the packet in it, if it could be placed
     abbrev y : Q G
-    y = placed x k h
+    y = placed_if_room x k h
 
     abbrev bound : (walk_of 𝓛 (ended G) (stayed G) held).Ghost
     bound = ((κs, qs, bounds, (self, (n, (h, tt))), (mut_vals self, (vint w64 n ∷ [], (hv ∷ [], tt)))), tt)
@@ -167,11 +167,11 @@ module _ (G : Given) {M : Type 1} {𝓤 : Ura M} (𝓛 : Logic 𝓤) (𝓜 : Mod
         nothing ! $ nothing ! $ fjoin ! $ nothing ! $ fjoin ! $ nothing ! $ fjoin ! $ join ! $ move ! (2 ∷ 3 ∷ []) $ join ! $ join ! $ frame ! $ says_three ! (((λ _. none), (λ _. refl)), tt, tt) $ done !
 
     -- the end at `Ok`, where self follows the part
-    lends : (r : MutBor (List ℕ)) (w : Val) → placement x n ≢ None → r.now ≡ last_bytes (placed x n h) → length r.now ≡ n
-        → ent 𝓤 (sep 𝓤 (sem 𝓛 (Part.own_val r (w ∷ []))) (sep 𝓤 (sem 𝓛 (follow (placed x n h) r)) (sep 𝓤 (𝓛.A.lft κs.0 qs.0) (mean 𝓛 (others G 𝓤 κs qs))))) (Post (live 0 (of_list (w ∷ []))))
+    lends : (r : MutBor (List ℕ)) (w : Val) → placement x n ≢ None → r.now ≡ last_bytes (placed_if_room x n h) → length r.now ≡ n
+        → ent 𝓤 (sep 𝓤 (sem 𝓛 (Part.own_val r (w ∷ []))) (sep 𝓤 (sem 𝓛 (follow (placed_if_room x n h) r)) (sep 𝓤 (𝓛.A.lft κs.0 qs.0) (mean 𝓛 (others G 𝓤 κs qs))))) (Post (live 0 (of_list (w ∷ []))))
     unfolding follows_by
     lends r w is_placed value size =
-        qed 𝓛 (‵ (Part.own_val r (w ∷ [])) ∷ ‵ (follow (placed x n h) r) ∷ ‵ (flft κs.0 qs.0) ∷ others G 𝓤 κs qs ∷ []) ∵
+        qed 𝓛 (‵ (Part.own_val r (w ∷ [])) ∷ ‵ (follow (placed_if_room x n h) r) ∷ ‵ (flft κs.0 qs.0) ∷ others G 𝓤 κs qs ∷ []) ∵
         use1 𝓛 (‵ ((RS.the_row Part FU.the_row).own_val (Ok r) (live 0 (of_list (w ∷ [])) ∷ []))) (ok_of 𝓛 Part FU.the_row r w) $
         suffices ! _ (ends_at 𝓛 (ended G) (stayed G) held bound (live 0 (of_list (w ∷ []))) (Ok r) (tt, (tt, (tt, tt))) (tt, (tt, (tt, tt)))) $
         nothing ! $ nothing ! $ fjoin ! $ nothing ! $ fjoin ! $ nothing ! $ fjoin ! $ join ! $ move ! (2 ∷ 3 ∷ []) $ join ! $ join ! $ frame ! $

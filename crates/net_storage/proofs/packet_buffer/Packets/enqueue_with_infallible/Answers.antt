@@ -3,7 +3,7 @@ use Rattle.std.specs.declared.option.Option.TheVariants.{Some}
 use Rattle.std.specs.Fn.{FnOnceReturnsAtMut}
 use denote.MutBor.{at_last}
 use Rattle.net_storage.specs.Ring.{window, queue, spare_index, with_enqueued, written}
-use Rattle.net_storage.specs.Packets.{placement, placed, last_written, last_cut, IsRoom}
+use Rattle.net_storage.specs.Packets.{placement, placed_if_room, last_written, last_cut, IsRoom}
 use Rattle.net_storage.specs.PacketSlots.{slot, gap_slot}
 use Rattle.net_storage.proofs.PacketSteps.{free_room, byte_room, fill_room, fill_holds, fill_left}
 use Rattle.net_storage.proofs.Rotations.{length-overwrite}
@@ -70,8 +70,8 @@ invariant_of-self g c =
     let le = c.requires.count now after c.f-count.result room met in
     fill_holds m b c.self.invariant c.in-Some.gap c.args.max_size e c.args.header c.restart.new.bytes c.restart.ensures.ring _ (omega (arith, le)) after c.push_slots.new.slots c.push_slots.ensures.queue c.push_slots.ensures.well_formed c.enqueue_unallocated.new.self c.enqueue_unallocated.ensures.ring
 
-pub returns-clause-called : goal.returns-clause-called
-returns-clause-called g c =
+pub returns-clause-wrote : goal.returns-clause-wrote
+returns-clause-wrote g c =
     let m = c.self.inside.slots in
     let b = c.self.inside.bytes in
     let e = ap (λ q. placement q c.args.max_size) c.self.view_is ∙ sym c.in-Some.ensures in
@@ -86,6 +86,5 @@ returns-clause-called g c =
     let put : queue c.push_slots.new.slots ≡ queue m ++ (gap_slot c.in-Some.gap ++ (slot count (Some c.args.header) ∷ [])) = search rules in
     let filled : c.enqueue_unallocated.new.self ≡ with_enqueued (c.in-Some.gap + count) (written b1 (spare_index b1 c.in-Some.gap) after) = search rules in
     let left = fill_left m b c.self.invariant c.in-Some.gap c.args.max_size e c.args.header b1 c.restart.ensures.ring count le after c.push_slots.new.slots put c.push_slots.ensures.well_formed c.enqueue_unallocated.new.self filled c.push_slots.ensures.capacity
-    ∙ ap (λ q. last_cut count (last_written (placed q c.args.max_size c.args.header) after)) c.self.view_is in
-    let gives = subst (λ run. FnOnceReturnsAtMut g.F.FnOnce c.args.f run count after) room.1 met in
-    (after, search gives, c.f-count.auto.arg2 ∙ room.2, search left)
+    ∙ ap (λ q. last_cut count (last_written (placed_if_room q c.args.max_size c.args.header) after)) c.self.view_is in
+    record { room = now; bytes = after; is_room = room; met = search met; size = c.f-count.auto.arg2 ∙ room.2; at_most = search le; made = search left }

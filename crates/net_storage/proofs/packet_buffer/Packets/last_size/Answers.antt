@@ -1,5 +1,5 @@
 use Rattle.std.proofs.Common.{ap, ◌∙◌, arith, length}
-use Rattle.net_storage.specs.Packets.{last, first_size}
+use Rattle.net_storage.specs.Packets.{only_last, first_size}
 use Rattle.net_storage.proofs.PacketSteps.{end_some, end_none}
 use Rattle.net_storage.proofs.packet_buffer.Packets.last_size.Goals as goal
 
@@ -8,11 +8,11 @@ returns-in-Some g c =
     let s = c.saturating_sub.ensures in
     end_some c.self.inside.slots c.self.inside.bytes c.self.invariant c.saturating_sub.result (length c.get_allocated.result.now)
     (omega (arith, c.len-used.ensures.held, s)) c.get_allocated.ensures.count c.get_allocated.result.now c.get_allocated.ensures.value c.in-Some.slot.now c.in-Some.ensures.value
-    ∙ ap (λ q. first_size (last q.packets)) c.self.view_is
+    ∙ ap (λ q. first_size (only_last q.packets)) c.self.view_is
 
 pub returns-in-None : goal.returns-in-None
 returns-in-None g c =
     let s = c.saturating_sub.ensures in
     end_none c.self.inside.slots c.self.inside.bytes c.self.invariant c.saturating_sub.result (length c.get_allocated.result.now)
     (omega (arith, c.len-used.ensures.held, s)) c.get_allocated.ensures.count c.get_allocated.result.now c.get_allocated.ensures.value c.in-None.ensures.value
-    ∙ ap (λ q. first_size (last q.packets)) c.self.view_is
+    ∙ ap (λ q. first_size (only_last q.packets)) c.self.view_is

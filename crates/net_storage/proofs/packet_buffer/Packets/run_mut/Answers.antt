@@ -1,13 +1,13 @@
 use Rattle.std.proofs.Common.{refl, sym, ap, ap₂, ◌∙◌, arith, ◌-◌, take, drop}
 use Rattle.net_storage.specs.Ring.{queue, held_index, contiguous_held_from, written}
-use Rattle.net_storage.specs.Packets.{last, first_size, last_written, last_bytes}
+use Rattle.net_storage.specs.Packets.{only_last, first_size, last_written, last_bytes}
 use Rattle.net_storage.specs.PacketSlots.{packet_queue, packets_in}
 use Rattle.net_storage.proofs.PacketSteps.{end_held, end_run, end_place, written_holds}
 use Rattle.net_storage.proofs.packet_buffer.Packets.run_mut.Goals as goal
 
 pub overflow_sub-before : goal.overflow_sub-before
 overflow_sub-before g c =
-    let k = c.requires ∙ ap (λ q. first_size (last q.packets)) (sym c.self.view_is) in
+    let k = c.requires ∙ ap (λ q. first_size (only_last q.packets)) (sym c.self.view_is) in
     let le = end_held c.self.inside.slots c.self.inside.bytes c.self.invariant in
     omega (arith, k, le, c.len.ensures.held)
 
@@ -19,7 +19,7 @@ pub returns : goal.returns
 returns g c =
     let m = c.self.inside.slots in
     let b = c.self.inside.bytes in
-    let k = c.requires ∙ ap (λ q. first_size (last q.packets)) (sym c.self.view_is) in
+    let k = c.requires ∙ ap (λ q. first_size (only_last q.packets)) (sym c.self.view_is) in
     let from = ap₂ ◌-◌ c.len.ensures.held k in
     let count = c.get_allocated_mut.ensures.count ∙ ap₂ (contiguous_held_from b) from k ∙ end_run m b c.self.invariant in
     let at = ap (held_index b) from ∙ end_place m b c.self.invariant in (
@@ -27,6 +27,6 @@ returns g c =
       record {
         writes_back = tt;
         value = c.get_allocated_mut.ensures.stored ∙ ap₂ (λ n p. take n (drop p b.storage)) count at ∙ ap last_bytes c.self.view_is;
-        size = count ∙ ap (λ q. first_size (last q.packets)) c.self.view_is;
+        size = count ∙ ap (λ q. first_size (only_last q.packets)) c.self.view_is;
       },
     )

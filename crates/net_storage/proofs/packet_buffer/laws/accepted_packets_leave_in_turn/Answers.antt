@@ -2,4 +2,4 @@ use Rattle.net_storage.proofs.PacketRuns.{in_turn}
 use Rattle.net_storage.proofs.packet_buffer.laws.accepted_packets_leave_in_turn.Goals as goal
 
 pub returns : goal.returns
-returns g c = λ slots storage steps r run. in_turn slots storage steps r run
+returns g c = λ slots storage calls r run. in_turn slots storage calls r run

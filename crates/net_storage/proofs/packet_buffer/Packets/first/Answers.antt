@@ -2,7 +2,7 @@ use Rattle.std.proofs.Common.{ap, ap₂, ◌∙◌, length, take, drop}
 use Rattle.net_storage.specs.Ring.{queue, contiguous_held_from}
 use Rattle.net_storage.specs.Packets.{first_gap, first_bytes}
 use Rattle.net_storage.proofs.PacketSteps.{first_read, front_run, front_at, front_first, front_long}
-use Rattle.net_storage.proofs.packet_buffer.Packets.front.Goals as goal
+use Rattle.net_storage.proofs.packet_buffer.Packets.first.Goals as goal
 
 pub returns-in-Some-header-clause-first : goal.returns-in-Some-header-clause-first
 returns-in-Some-header-clause-first g c =

@@ -1,7 +1,7 @@
 use Rattle.std.proofs.Common.{◌≡◌, ap, ◌∙◌, if◌then◌else◌, refl, arith, rules}
 use Rattle.std.proofs.lemmas.List.{length-take-le}
-use Rattle.net_storage.proofs.packet_buffer.with_front.Goals as goal
-use Rattle.net_storage.proofs.packet_buffer.with_front.Goals.{then-is_ok, else-is_ok}
+use Rattle.net_storage.proofs.packet_buffer.with_first.Goals as goal
+use Rattle.net_storage.proofs.packet_buffer.with_first.Goals.{then-is_ok, else-is_ok}
 
 pub returns-clause-count : goal.returns-clause-count
 returns-clause-count g c = elim c.if-is_ok.branch [
