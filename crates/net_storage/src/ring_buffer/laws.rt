@@ -40,12 +40,3 @@ pub fn overwritten<T>()
     ensures element { (xs ws : List T) (i k : ℕ) (x : T) → OverwrittenAt xs i ws k x }
     ensures same { (xs : List T) (i n : ℕ) → overwrite xs i (take n (drop i xs)) ≡ xs }
 {}
-
-/// A list that was written over has as many elements as before; at each index it has the element
-/// that was written there, and the old one where none was; and where a part of it was written over
-/// itself it is as it was.
-pub fn overwritten<T>()
-    ensures count { (xs ws : List T) (i : ℕ) → length (overwrite xs i ws) ≡ length xs }
-    ensures element { (xs ws : List T) (i k : ℕ) (x : T) → OverwrittenAt xs i ws k x }
-    ensures same { (xs : List T) (i n : ℕ) → overwrite xs i (take n (drop i xs)) ≡ xs }
-{}
