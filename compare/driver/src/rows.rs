@@ -1,0 +1,107 @@
+//! The rows: each a workload with the numbers that it is run on.
+use workloads::NAMES;
+
+/// A workload with its numbers. A round makes `calls` calls.
+pub struct Row {
+    pub name: String,
+    pub workload: usize,
+    pub calls: usize,
+    pub storage: usize,
+    pub source: usize,
+    pub sink: usize,
+    pub number: u64,
+    pub ops: Vec<usize>,
+}
+
+const RING: usize = 65_536;
+const SEGMENT: usize = 1_460;
+
+pub fn rows() -> Vec<Row> {
+    let mut all = Vec::new();
+    for chunk in [1, 16, 64, 536, 1_460, 8_192] {
+        let more = format!("chunk {chunk}");
+        all.push(Row { storage: RING, source: chunk, sink: chunk, calls: 2, ..row("ring_slice", &more) });
+    }
+    for chunk in [16, 1_460] {
+        let more = format!("chunk {chunk}");
+        all.push(Row { storage: RING, number: chunk as u64, calls: 2, ..row("ring_many", &more) });
+        all.push(Row { storage: RING, source: chunk, calls: 4, ..row("ring_ahead", &more) });
+    }
+    all.push(Row { storage: RING, calls: 2, ..row("ring_one", "") });
+    for size in [64, 1_400] {
+        all.push(Row { storage: 16_384, source: size, calls: 2, ..row("packet", &format!("size {size}")) });
+    }
+    for runs in [4, 32] {
+        for (what, ops) in additions(runs) {
+            let more = format!("{runs} {what}");
+            all.push(Row { number: runs as u64, calls: ops.len() / 2, ops, ..row("asm_add", &more) });
+        }
+        for (what, ops) in [("in order", in_order(64)), ("swapped", swapped(64))] {
+            let more = format!("{runs} {what}");
+            all.push(Row { number: runs as u64, calls: 64, ops, ..row("asm_front", &more) });
+        }
+        for (what, ops) in [("in order", in_order(44)), ("swapped", swapped(44)), ("shuffled", shuffled(44))] {
+            let more = format!("{runs} {what}");
+            let memory = Row { storage: RING, source: 44 * SEGMENT, sink: 4_096, ..row("stream", &more) };
+            all.push(Row { number: runs as u64, calls: 44, ops, ..memory });
+        }
+    }
+    all.push(Row { number: 1, ..row("rand", "") });
+    all.push(Row { number: 1, ..row("port", "") });
+    for size in [64, 1_514] {
+        all.push(Row { source: size, calls: 2, ..row("loopback", &format!("size {size}")) });
+    }
+    all.sort_by_key(|row| row.workload);
+    all
+}
+
+fn row(name: &str, more: &str) -> Row {
+    Row {
+        name: format!("{name} {more}").trim().to_string(),
+        workload: NAMES.iter().position(|&known| known == name).expect("a workload"),
+        calls: 1,
+        storage: 0,
+        source: 0,
+        sink: 0,
+        number: 0,
+        ops: Vec::new(),
+    }
+}
+
+fn flat(ranges: impl IntoIterator<Item = (usize, usize)>) -> Vec<usize> {
+    ranges.into_iter().flat_map(|(offset, size)| [offset, size]).collect()
+}
+
+/// What is added to an assembler of so many runs.
+fn additions(runs: usize) -> [(&'static str, Vec<usize>); 5] {
+    let apart = (0..runs).map(|at| ((2 * at + 1) * 100, 100));
+    let between = (0..runs).map(|at| (2 * at * 100, 100));
+    let mut word: u64 = 7;
+    let mut below = |bound: u64| {
+        word = word.wrapping_mul(6364136223846793005).wrapping_add(1442695040888963407);
+        ((word >> 33) % bound) as usize
+    };
+    let random: Vec<_> = (0..64).map(|_| (below(8_192), 1 + below(256))).collect();
+    let refused = (0..64 - runs).map(|at| ((2 * (runs + at) + 1) * 100, 100));
+    [
+        ("in order", in_order(64)),
+        ("reverse", flat((0..64).rev().map(|at| (at * SEGMENT, SEGMENT)))),
+        ("holes, fill", flat(apart.clone().chain(between))),
+        ("random", flat(random)),
+        ("full, refused", flat(apart.chain(refused))),
+    ]
+}
+
+fn in_order(count: usize) -> Vec<usize> {
+    flat((0..count).map(|at| (at * SEGMENT, SEGMENT)))
+}
+
+/// Each second segment before the one that it follows. `count` is even.
+fn swapped(count: usize) -> Vec<usize> {
+    flat((0..count).map(|at| ((at ^ 1) * SEGMENT, SEGMENT)))
+}
+
+/// Each four segments in the order third, first, fourth, second. `count` is a multiple of 4.
+fn shuffled(count: usize) -> Vec<usize> {
+    flat((0..count).map(|at| ((at / 4 * 4 + [2, 0, 3, 1][at % 4]) * SEGMENT, SEGMENT)))
+}

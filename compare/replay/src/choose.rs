@@ -1,0 +1,214 @@
+//! Which scripts are replayed: all short ones over few calls, and long random ones.
+use crate::script::{Call, Script, Subject};
+
+/// Numbers that follow from a seed (the generator SplitMix64).
+pub struct Random(pub u64);
+
+impl Random {
+    pub fn word(&mut self) -> u64 {
+        self.0 = self.0.wrapping_add(0x9e3779b97f4a7c15);
+        let word = (self.0 ^ (self.0 >> 30)).wrapping_mul(0xbf58476d1ce4e5b9);
+        let word = (word ^ (word >> 27)).wrapping_mul(0x94d049bb133111eb);
+        word ^ (word >> 31)
+    }
+
+    pub fn below(&mut self, bound: u64) -> u64 {
+        self.word() % bound
+    }
+
+    fn of<T: Copy>(&mut self, all: &[T]) -> T {
+        all[self.below(all.len() as u64) as usize]
+    }
+
+    /// Mostly a number up to `limit`, at times one near a power of two or the greatest.
+    fn number(&mut self, limit: u64) -> u64 {
+        match self.below(40) {
+            0 => u64::MAX - self.below(limit + 3),
+            1 => (1 << self.below(64)) + self.below(3),
+            2 => self.word(),
+            _ => self.below(limit + 2),
+        }
+    }
+}
+
+/// Each script of `length` calls out of `calls`, on each of `subjects`.
+pub struct All {
+    pub title: &'static str,
+    pub subjects: Vec<Subject>,
+    pub calls: Vec<Call>,
+    pub length: u32,
+}
+
+impl All {
+    pub fn count(&self) -> u64 {
+        (self.calls.len() as u64).pow(self.length)
+    }
+
+    /// The script of this number. The bytes that are written tell its calls apart.
+    pub fn script(&self, subject: Subject, number: u64) -> Script {
+        let mut rest = number;
+        let calls = (0..self.length).map(|at| {
+            let call = self.calls[(rest % self.calls.len() as u64) as usize];
+            rest /= self.calls.len() as u64;
+            Call { byte: call.byte + 16 * u64::from(at + 1), ..call }
+        });
+        Script { subject, calls: calls.collect() }
+    }
+}
+
+fn calls(list: &[(u64, u64, u64)]) -> Vec<Call> {
+    list.iter().map(|&(number, a, b)| Call { number, a, b, byte: 1 }).collect()
+}
+
+/// What is enumerated, from scripts of one call on: a shortest script is found first.
+pub fn enumerated(longest: u32) -> Vec<All> {
+    let ring = calls(&[
+        (0, 0, 0),
+        (1, 0, 0),
+        (2, 1, 0),
+        (2, 2, 0),
+        (3, 1, 0),
+        (3, 2, 0),
+        (4, 2, 0),
+        (5, 2, 0),
+        (6, 0, 0),
+        (7, 1, 0),
+        (8, 1, 0),
+        (9, 0, 0),
+        (10, 0, 0),
+        (11, 0, 0),
+        (12, 0, 0),
+        (13, 1, 1),
+        (14, 0, 2),
+        (14, 1, 2),
+        (15, 1, 1),
+        (16, 1, 2),
+        (17, 1, 0),
+        (17, 2, 0),
+        (18, 1, 0),
+    ]);
+    let cells = calls(&[(0, 0, 0), (1, 0, 0), (2, 0, 0)]);
+    let packets = calls(&[
+        (0, 0, 0),
+        (0, 1, 0),
+        (0, 2, 0),
+        (0, 3, 0),
+        (1, 1, 1),
+        (1, 2, 1),
+        (1, 2, 2),
+        (1, 3, 0),
+        (2, 0, 0),
+        (3, 0, 0),
+        (4, 0, 0),
+        (5, 0, 0),
+        (6, 0, 0),
+    ]);
+    let mut assembler = calls(&[(1, 0, 1), (1, 0, 3), (1, 2, 1), (2, 0, 0), (3, 0, 0), (4, 0, 0), (5, 0, 0)]);
+    assembler.extend((0..6).flat_map(|a| (0..4).map(move |b| Call { number: 0, a, b, byte: 1 })));
+    let rings = (0..4).map(|capacity| Subject::Ring { capacity }).collect::<Vec<_>>();
+    let all_cells = (0..4).map(|capacity| Subject::Cells { capacity }).collect::<Vec<_>>();
+    let queues = [(0, 2), (1, 2), (1, 3), (2, 2), (2, 3), (3, 3), (3, 4)];
+    let queues = queues.map(|(slots, bytes)| Subject::Packets { slots, bytes });
+    let assemblers = [1, 4, 32].map(|runs| Subject::Assembler { runs });
+    let mut all = Vec::new();
+    for length in 1..=longest {
+        all.push(All { title: "ring", subjects: rings.clone(), calls: ring.clone(), length });
+        all.push(All { title: "ring, reset", subjects: all_cells.clone(), calls: cells.clone(), length });
+        all.push(All { title: "packet queue", subjects: queues.to_vec(), calls: packets.clone(), length });
+        all.push(All { title: "assembler", subjects: assemblers.to_vec(), calls: assembler.clone(), length });
+    }
+    all.push(All { title: "time", subjects: vec![Subject::Time], calls: times(), length: 1 });
+    let media = [0, 1].map(|medium| Subject::Phy { medium }).to_vec();
+    all.push(All { title: "capabilities", subjects: media.clone(), calls: capabilities(), length: 1 });
+    let frames = calls(&[(0, 0, 0), (0, 2, 5), (1, 0, 0), (2, 1, 0), (3, 0, 0)]);
+    all.push(All { title: "loopback", subjects: media, calls: frames, length: longest + 2 });
+    all
+}
+
+/// Every call of time with each pair of numbers at which something changes.
+fn times() -> Vec<Call> {
+    let mut numbers = vec![0, 1, 5, 999, 1_000, 1_001, 999_999, 1_000_000, 1_500_000];
+    for power in [16, 31, 32, 62, 63] {
+        numbers.extend([(1 << power) - 1, 1 << power, (1 << power) + 1]);
+    }
+    for unit in [1_000, 1_000_000] {
+        let (signed, unsigned) = (i64::MAX as u64 / unit, u64::MAX / unit);
+        numbers.extend([signed, signed + 1, unsigned, unsigned + 1]);
+    }
+    numbers.extend([63, 64, 65, 4_294_967_295]);
+    let negative: Vec<u64> = numbers.iter().map(|&number: &u64| number.wrapping_neg()).collect();
+    numbers.extend(negative);
+    let mut all = Vec::new();
+    for number in 0..Subject::Time.calls().len() as u64 {
+        for &a in &numbers {
+            all.extend(numbers.iter().map(|&b| Call { number, a, b, byte: 0 }));
+        }
+    }
+    all
+}
+
+/// Every call of capabilities with numbers about the lengths of headers.
+fn capabilities() -> Vec<Call> {
+    let lengths = [0, 1, 7, 8, 13, 14, 15, 20, 33, 34, 35, 42, 576, 1_280, 1_500, 1_514, 65_535, u64::MAX];
+    let mut all = Vec::new();
+    for number in 3..8 {
+        for a in lengths {
+            for b in lengths {
+                all.extend([0, 1].map(|byte| Call { number, a, b, byte }));
+            }
+        }
+    }
+    all
+}
+
+/// A random script of one subject of each kind in turn.
+pub fn random(random: &mut Random, kind: u64, longest: u64) -> (&'static str, Script) {
+    let (title, subject, limit) = match kind % 7 {
+        0 => {
+            let capacity = random.of(&[1, 2, 3, 5, 8, 13, 32, 64]);
+            ("ring", Subject::Ring { capacity }, capacity as u64)
+        }
+        1 => {
+            let bytes = random.of(&[0, 1, 4, 7, 16, 40]);
+            let slots = random.of(&[1, 2, 3, 4, 8]);
+            ("packet queue", Subject::Packets { slots, bytes }, bytes as u64)
+        }
+        2 | 3 => {
+            let runs = random.of(&[1, 4, 32]);
+            ("assembler", Subject::Assembler { runs }, random.of(&[8, 30, 300]))
+        }
+        4 => ("time", Subject::Time, 3_000_000),
+        5 => ("random words", Subject::Rand { seed: random.word() }, 0),
+        _ => ("loopback, capabilities", Subject::Phy { medium: random.below(2) as usize }, 1_514),
+    };
+    let length = 1 + random.below(longest);
+    let calls = (0..length).map(|_| call(random, subject, limit)).collect();
+    (title, Script { subject, calls })
+}
+
+fn call(random: &mut Random, subject: Subject, limit: u64) -> Call {
+    let number = random.below(subject.calls().len() as u64);
+    let (mut a, mut b) = (random.number(limit), random.number(limit));
+    let byte = random.below(256);
+    match subject {
+        // Adding is what an assembler is for, and `clear` ends what was built up.
+        Subject::Assembler { .. } if random.below(3) > 0 => {
+            b = random.number(1 + limit / 10);
+            return Call { number: random.below(5) / 4, a, b, byte };
+        }
+        // A ring and a queue seldom begin anew.
+        Subject::Ring { .. } | Subject::Packets { .. } if number == 6 && random.below(8) > 0 => {
+            return call(random, subject, limit);
+        }
+        Subject::Packets { .. } => a = random.of(&[a, a / 2, a / 4]),
+        // Both numbers of a moment are of every size.
+        Subject::Time => {
+            a = random.word() >> random.below(64);
+            b = random.word() >> random.below(64);
+        }
+        // A frame is no longer than some that its sender may think too long.
+        Subject::Phy { .. } if number <= 2 => a %= 70_000,
+        _ => {}
+    }
+    Call { number, a, b, byte }
+}
