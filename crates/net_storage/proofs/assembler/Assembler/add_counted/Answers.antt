@@ -1,4 +1,4 @@
-use Rattle.std.proofs.Common.{◌<◌, ◌^◌, ◌*◌, length, subst, sym, ℕ, arith}
+use Rattle.std.proofs.Common.{arith}
 use Rattle.net_storage.specs.Turns.{binary_digits}
 use Rattle.net_storage.proofs.AssemblerLaws.{below_binary_digits, few_binary_digits}
 use Rattle.net_storage.proofs.assembler.Assembler.add_counted.Goals as goal
