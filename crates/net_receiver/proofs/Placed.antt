@@ -11,9 +11,9 @@ use Rattle.std.proofs.lemmas.Option.{slice_get-get_or}
 use Rattle.std.proofs.lemmas.List.{get_or_append_left, get_or-append_right, ext_get_or, length-take-le, drop-take, take_min}
 use Rattle.std.proofs.lemmas.List.FromFn.{length-map-range_with_len, get_or-map-range_with_len}
 use Rattle.std.proofs.Common.{drop-drop, take_all}
-use Rattle.net_storage.specs.AssemblerLaws.{MaximalRunsOfEverySet}
+use Rattle.net_storage.specs.AssemblerLaws.{EqualMaximalRuns}
 use Rattle.net_storage.specs.Overwrite.{overwrite}
-use Rattle.net_storage.specs.Positions.{Positions, contains, positions, with_range, runs, front, shift_down, maximal_runs}
+use Rattle.net_storage.specs.Positions.{Positions, contains, positions, with_range, runs, front, shift_down, maximal_runs, runs_shifted_up}
 use Rattle.net_storage.proofs.Positions.{contains-with_range, same_positions}
 use Rattle.net_storage.proofs.Positions.{contains-shift_down}
 use Rattle.net_receiver.specs.KeptList.{Piece, piece, piece_at, clip}
@@ -23,8 +23,7 @@ use Rattle.net_receiver.specs.Parts.{held_bytes, parts}
 use Rattle.net_receiver.proofs.Search.{IsFirst, first_unique, missing_is_first}
 use Rattle.net_receiver.proofs.Covering.{piece_before, piece_past, piece_from}
 use Rattle.net_receiver.proofs.Maps.{get-lay, first_lacking_is, contains-domain}
-use Rattle.net_receiver.proofs.Runs.{runs_moved, maximal_runs_moved, same_runs}
-use Rattle.net_receiver.specs.Runs.{moved_up}
+use Rattle.net_receiver.proofs.Runs.{runs_shifted, maximal_runs_shifted}
 
 -- ws over the elements of xs from place o on, where it has room
 abbrev pub patched : List ℕ → ℕ → List ℕ → List ℕ
@@ -309,7 +308,7 @@ module _ (most f r : ℕ) (queue spare : List ℕ) (s : Positions) (sound : IsSo
         shared n q o k false = grind (arith, nat_tests)
 
     runs_u : runs (with_range (domain v.held) part.start (length xs)) ≡ runs u
-    runs_u = runs_moved n u (with_range (domain v.held) part.start (length xs)) moved_has
+    runs_u = runs_shifted n u (with_range (domain v.held) part.start (length xs)) moved_has
 
     pub refused_verdict : 0 < o → most < runs u → verdict_of_part n most (domain v.held) part ≡ Refused
     refused_verdict apart many =
@@ -341,19 +340,19 @@ clip_is n window late ahead kept pos bytes e1 e2 l1 l2 e3 =
     λ i. piece (at i) (((λ j. drop (low j) (take (high j) bytes)) ∙ drop-take late (window - ahead) bytes ∙ sym (take_min (window - ahead) (drop late bytes)) ∙ ap (λ k. take k (drop late bytes)) few) i)
 
 -- the runs of what is held are the runs of the places, counted from the first missing position
-pub held_runs : (f r : ℕ) (queue spare : List ℕ) (s : Positions) → maximal_runs (domain (parts f r queue spare s).held) ≡ moved_up (f + r + length queue) (maximal_runs s)
-held_runs f r queue spare s = maximal_runs_moved (f + r + length queue) s (domain (parts f r queue spare s).held) (domain_moved s (f + r + length queue) spare)
+pub held_runs : (f r : ℕ) (queue spare : List ℕ) (s : Positions) → maximal_runs (domain (parts f r queue spare s).held) ≡ runs_shifted_up (f + r + length queue) (maximal_runs s)
+held_runs f r queue spare s = maximal_runs_shifted (f + r + length queue) s (domain (parts f r queue spare s).held) (domain_moved s (f + r + length queue) spare)
 
 -- and there are as many
 pub held_count : (f r : ℕ) (queue spare : List ℕ) (s : Positions) → runs (domain (parts f r queue spare s).held) ≡ runs s
-held_count f r queue spare s = runs_moved (f + r + length queue) s (domain (parts f r queue spare s).held) (domain_moved s (f + r + length queue) spare)
+held_count f r queue spare s = runs_shifted (f + r + length queue) s (domain (parts f r queue spare s).held) (domain_moved s (f + r + length queue) spare)
 
 -- two receivers are alike exactly if first positions, counts read, queues and places are
-pub alike : MaximalRunsOfEverySet → (f r g t : ℕ) (queue spare queue' spare' : List ℕ) (s s' : Positions) →
+pub alike : EqualMaximalRuns → (f r g t : ℕ) (queue spare queue' spare' : List ℕ) (s s' : Positions) →
     IsSameState (parts f r queue spare s) (parts g t queue' spare' s') ↔ ((f ≡ g) × (r ≡ t) × (queue ≡ queue') × (s ≡ s'))
 alike law f r g t queue spare queue' spare' s s' = (
   (λ h. (
-      let same = same_runs law _ _ h.3 in (
+      let same = (law _ _).0 h.3 in (
         h.0,
         h.1,
         h.2,
@@ -373,7 +372,7 @@ alike law f r g t queue spare queue' spare' s s' = (
     at_domain : (f r : ℕ) (queue spare : List ℕ) (s : Positions) (i : ℕ) → contains s i ≡ contains (domain (held_bytes s (f + r + length queue) spare)) (f + r + length queue + i)
     at_domain f r queue spare s i = sym (contains-domain (held_bytes s (f + r + length queue) spare) (f + r + length queue + i) ∙ has_place s (f + r + length queue) spare i (f + r + length queue + i) refl)
 
-pub alike_views : MaximalRunsOfEverySet → (f r g t : ℕ) (queue spare queue' spare' : List ℕ) (s s' : Positions) (v u : Stored) → parts f r queue spare s ≡ v → parts g t queue' spare' s' ≡ u → f ≡ g → r ≡ t → queue ≡ queue' →
+pub alike_views : EqualMaximalRuns → (f r g t : ℕ) (queue spare queue' spare' : List ℕ) (s s' : Positions) (v u : Stored) → parts f r queue spare s ≡ v → parts g t queue' spare' s' ≡ u → f ≡ g → r ≡ t → queue ≡ queue' →
     (P : Type 0) → P ↔ (s ≡ s') → P ↔ IsSameState v u
 alike_views law f r g t queue spare queue' spare' s s' v u e e' a b c P iff =
     let both = alike law f r g t queue spare queue' spare' s s' in

@@ -221,7 +221,7 @@ impl<'a, const N: usize> Receiver<'a, N> {
     fn same_parts(&self, other: &Receiver<'_, N>) -> bool
         ensures { IsTrue result ↔ IsSameState self.now other.now }
     {
-        laws::maximal_runs();
+        laws::equal_maximal_runs();
         if self.first != other.first {
             return false;
         }
@@ -262,3 +262,5 @@ fn same_queue(ring: &RingBuffer<'_, u8>, other: &RingBuffer<'_, u8>) -> bool
     true
 }
 
+#[cfg(test)]
+mod tests;

@@ -99,3 +99,6 @@ fn shown_runs<A: Allocator + Copy, const N: usize>(
 {
     receiver.held().collect(alloc)
 }
+
+#[cfg(test)]
+mod tests;

@@ -19,21 +19,23 @@ impl<'a, const N: usize> Model for HeldRuns<'a, N> {
 
     ghost Value = { List (ℕ × ℕ) };
 
-    ghost use Rattle.net_receiver.specs.Runs.{moved_up, EndBelow};
+    ghost use Rattle.net_receiver.specs.Runs.{EndBelow};
+    ghost use Rattle.net_storage.specs.Positions.{runs_shifted_up};
 
-    ghost view = { λ s. moved_up s.from s.runs };
+    ghost view = { λ s. runs_shifted_up s.from s.runs };
 
-    ghost invariant = { λ s. EndBelow (2 ^ 64) (moved_up s.from s.runs) };
+    ghost invariant = { λ s. EndBelow (2 ^ 64) (runs_shifted_up s.from s.runs) };
 }
 
 impl<'a, const N: usize> HeldRuns<'a, N> {
-    ghost use Rattle.net_receiver.specs.Runs.{moved_up, EndBelow};
+    ghost use Rattle.net_receiver.specs.Runs.{EndBelow};
+    ghost use Rattle.net_storage.specs.Positions.{runs_shifted_up};
     ghost use Rattle.std.specs.Prelude.{◌^◌};
 
     /// These runs, counted from the position `from`.
     pub(crate) fn over(runs: IterData<'a, N>, from: u64) -> Self
-        requires { EndBelow (2 ^ 64) (moved_up from runs) }
-        ensures { result ≡ moved_up from runs.entry }
+        requires { EndBelow (2 ^ 64) (runs_shifted_up from runs) }
+        ensures { result ≡ runs_shifted_up from runs.entry }
     {
         HeldRuns { runs, from }
     }
