@@ -1,7 +1,8 @@
 //! What a script is, and what is written down of each of its calls.
 use std::fmt;
 
-/// One call: its number in the list of its subject's calls, two arguments, and a byte to write.
+/// One call: its number in the list of its subject's calls, two arguments, and a byte to write. `a` is the
+/// first argument, an offset or else a size, and `b` the second, or the size that a closure answers.
 #[repr(C)]
 #[derive(Clone, Copy, Debug, Default, PartialEq, Eq)]
 pub struct Call {
