@@ -41,19 +41,22 @@ def run(words, log, **options):
 
 
 def port():
-    """A workspace with the repository's crates and those of `port`, whose proofs' work is taken over."""
+    """A workspace with the repository's crates and `net_replay`. What `rt` keeps in out/ is taken over once."""
     workspace = OUT / "port"
-    crates = [*(REPOSITORY / "crates").iterdir(), *(COMPARE / "port").iterdir()]
-    for crate in crates:
+    for crate in (REPOSITORY / "crates").iterdir():
         to = workspace / "crates" / crate.name
         to.mkdir(parents=True, exist_ok=True)
         for old in to.iterdir():
             if old.name != "out":
                 shutil.rmtree(old) if old.is_dir() else old.unlink()
         for part in crate.iterdir():
-            if part.name == "out" and (to / "out").exists():
-                continue
-            (shutil.copytree if part.is_dir() else shutil.copy2)(part, to / part.name)
+            if part.name != "out" or not (to / "out").exists():
+                (shutil.copytree if part.is_dir() else shutil.copy2)(part, to / part.name)
+    sources = workspace / "crates" / "net_replay" / "src"
+    shutil.rmtree(sources, ignore_errors=True)
+    sources.mkdir(parents=True)
+    for file in (COMPARE / "port" / "net_replay" / "src").iterdir():
+        shutil.copy2(file, sources / file.stem)
     shutil.copy2(REPOSITORY / "HANDLES", workspace / "HANDLES")
     lines = (REPOSITORY / "crates.txt").read_text()
     (workspace / "crates.txt").write_text(lines + "net_replay staticlib: net_storage net_base\n")

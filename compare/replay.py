@@ -9,6 +9,7 @@ import shutil
 import subprocess
 import sys
 
+sys.dont_write_bytecode = True
 import common
 
 # What to write in place of which text, in a copy.
@@ -17,7 +18,7 @@ FAULTS = [
     ("padding of one byte less", "storage/packet_buffer.rs", r"padding\(contig_window\)", "padding(contig_window - 1)"),
     ("a run of one position dropped", "storage/assembler.rs", r"left < right", "left + 1 < right"),
     ("milliseconds not filled to three digits", "time.rs", r"0>3", "0>2"),
-    ("a shift by one bit less", "rand.rs", r">> 61", ">> 62"),
+    ("a shift that two bits choose in place of three", "rand.rs", r">> 61", ">> 62"),
     ("the last frame first", "phy/loopback.rs", r"push_back", "push_front"),
     ("a longer Ethernet header", "phy/mod.rs", r"header_len\(\)", "header_len() + 1"),
 ]
@@ -50,9 +51,9 @@ def main():
             sys.exit(f"{file} has no {pattern} to put a fault in")
         path.write_text(faulty)
         done = replay(copy, libraries, words)
-        seen = done.returncode == 1 and "Subject" not in done.stdout
+        seen = done.returncode == 1 and done.stdout.startswith("A difference")
         unseen += not seen
-        print(f"{'seen' if seen else 'NOT SEEN'}: {name}\n{done.stdout}")
+        print(f"{'seen' if seen else 'NOT SEEN'}: {name}\n{done.stdout}{done.stderr}")
     return 1 if unseen else 0
 
 

@@ -16,6 +16,7 @@ import sys
 import time
 from pathlib import Path
 
+sys.dont_write_bytecode = True
 import common
 import plot
 

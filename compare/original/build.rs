@@ -4,14 +4,8 @@ use std::path::{Path, PathBuf};
 use std::{env, fs, process};
 
 const FILES: [&str; 8] = [
-    "storage/mod.rs",
-    "storage/assembler.rs",
-    "storage/packet_buffer.rs",
-    "storage/ring_buffer.rs",
-    "phy/mod.rs",
-    "phy/loopback.rs",
-    "rand.rs",
-    "time.rs",
+    "storage/mod.rs", "storage/assembler.rs", "storage/packet_buffer.rs", "storage/ring_buffer.rs",
+    "phy/mod.rs", "phy/loopback.rs", "rand.rs", "time.rs",
 ];
 
 /// What `phy/mod.rs` names of files that belong to another layer: nothing of it is called.
@@ -23,15 +17,8 @@ const ABSENT: [(&str, &[&str]); 4] = [
 ];
 
 const FEATURES: [&str; 9] = [
-    "alloc",
-    "medium-ethernet",
-    "medium-ip",
-    "packetmeta-id",
-    "proto-ipv4",
-    "proto-ipv4-fragmentation",
-    "proto-ipv6",
-    "segmentation-offload",
-    "socket-tcp",
+    "alloc", "medium-ethernet", "medium-ip", "packetmeta-id", "proto-ipv4", "proto-ipv4-fragmentation",
+    "proto-ipv6", "segmentation-offload", "socket-tcp",
 ];
 
 fn main() {
@@ -60,9 +47,12 @@ fn main() {
     let package = env::var("CARGO_PKG_NAME").expect("cargo sets CARGO_PKG_NAME");
     let runs = package.trim_start_matches("original");
     let mut root = format!("mod config {{ pub const ASSEMBLER_MAX_SEGMENT_COUNT: usize = {runs}; }}\n");
-    for (module, file) in
-        [("pub mod storage", "storage/mod.rs"), ("pub mod phy", "phy/mod.rs"), ("pub mod time", "time.rs"), ("mod rand", "rand.rs")]
-    {
+    for (module, file) in [
+        ("pub mod storage", "storage/mod.rs"),
+        ("pub mod phy", "phy/mod.rs"),
+        ("pub mod time", "time.rs"),
+        ("mod rand", "rand.rs"),
+    ] {
         root.push_str(&format!("#[path = {:?}]\n{module};\n", out.join(file)));
     }
     write(&out.join("root.rs"), &root);

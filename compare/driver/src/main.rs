@@ -114,7 +114,8 @@ fn time(row: &Row, sides: [Workload; 3], samples: usize, nanoseconds: f64) {
             times[side].push(buffers.run(sides[side], rounds).0);
         }
     }
-    let ratios = |side: usize| -> Vec<f64> { times[side].iter().zip(&times[1]).map(|(a, b)| a / b).collect() };
+    let ratios =
+        |side: usize| -> Vec<f64> { times[side].iter().zip(&times[1]).map(|(a, b)| a / b).collect() };
     let call = |side: usize| quantile(&times[side], 0.5) / rounds as f64 / row.calls as f64;
     let (pairs, noise) = (ratios(0), ratios(2));
     let numbers = [call(1), call(0), quantile(&pairs, 0.5), quantile(&pairs, 0.25), quantile(&pairs, 0.75)];
@@ -126,7 +127,8 @@ fn time(row: &Row, sides: [Workload; 3], samples: usize, nanoseconds: f64) {
 fn main() -> ExitCode {
     let words: Vec<String> = std::env::args().collect();
     let flag = |name: &str| words.iter().position(|word| word == name).and_then(|at| words.get(at + 1));
-    let number = |name: &str, default: f64| flag(name).map_or(default, |word| word.parse().expect("a number"));
+    let number =
+        |name: &str, default: f64| flag(name).map_or(default, |word| word.parse().expect("a number"));
     let (samples, milliseconds) = (number("--samples", 31.0) as usize, number("--milliseconds", 3.0));
     let again = again(words.get(1).expect("the path of smoltcp's second build"));
     let mut status = ExitCode::SUCCESS;

@@ -2,7 +2,15 @@
 use workloads::{COUNT, Memory, Workload};
 
 unsafe extern "C" {
-    fn np_ring_slice(storage: *mut u8, len: usize, source: *const u8, source_len: usize, sink: *mut u8, sink_len: usize, rounds: u64) -> u64;
+    fn np_ring_slice(
+        storage: *mut u8,
+        len: usize,
+        source: *const u8,
+        source_len: usize,
+        sink: *mut u8,
+        sink_len: usize,
+        rounds: u64,
+    ) -> u64;
     fn np_ring_many(storage: *mut u8, len: usize, chunk: usize, rounds: u64) -> u64;
     fn np_ring_ahead(storage: *mut u8, len: usize, source: *const u8, source_len: usize, rounds: u64) -> u64;
     fn np_ring_one(storage: *mut u8, len: usize, rounds: u64) -> u64;
@@ -11,7 +19,16 @@ unsafe extern "C" {
     fn np_asm_front(n: u64, ops: *const usize, ops_len: usize, rounds: u64) -> u64;
     #[cfg(stream)]
     fn np_stream(
-        n: u64, storage: *mut u8, len: usize, ops: *const usize, ops_len: usize, data: *const u8, data_len: usize, sink: *mut u8, sink_len: usize, rounds: u64,
+        n: u64,
+        storage: *mut u8,
+        len: usize,
+        ops: *const usize,
+        ops_len: usize,
+        data: *const u8,
+        data_len: usize,
+        sink: *mut u8,
+        sink_len: usize,
+        rounds: u64,
     ) -> u64;
     fn np_rand(seed: u64, count: u64) -> u64;
     fn np_port(seed: u64, count: u64) -> u64;

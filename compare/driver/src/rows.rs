@@ -40,7 +40,8 @@ pub fn rows() -> Vec<Row> {
             let more = format!("{runs} {what}");
             all.push(Row { number: runs as u64, calls: 64, ops, ..row("asm_front", &more) });
         }
-        for (what, ops) in [("in order", in_order(44)), ("swapped", swapped(44)), ("shuffled", shuffled(44))] {
+        for (what, ops) in [("in order", in_order(44)), ("swapped", swapped(44)), ("shuffled", shuffled(44))]
+        {
             let more = format!("{runs} {what}");
             let memory = Row { storage: RING, source: 44 * SEGMENT, sink: 4_096, ..row("stream", &more) };
             all.push(Row { number: runs as u64, calls: 44, ops, ..memory });

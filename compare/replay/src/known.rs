@@ -44,7 +44,9 @@ fn packets(d: &Difference) -> Option<&'static str> {
     } else if d.call.number != 1 || d.before.held != 0 || d.port.answer <= REFUSED {
         None
     } else if d.original.answer == REFUSED && more_held {
-        Some("packet queue: enqueue_with_infallible into no bytes is Full in smoltcp, with its padding left behind")
+        Some(
+            "packet queue: enqueue_with_infallible into no bytes is Full in smoltcp, with its padding left behind",
+        )
     } else if d.original.answer == REFUSED {
         Some("packet queue: enqueue_with_infallible into no bytes is Full in smoltcp")
     } else if d.original.held > d.port.held {

@@ -122,7 +122,8 @@ fn shortest(script: &Script, at: usize) -> Script {
         });
         let subject = best.subject;
         let with_calls = dropped.chain(smaller).map(|calls| Script { subject, calls });
-        let with_less = subject.smaller().into_iter().map(|subject| Script { subject, calls: best.calls.clone() });
+        let with_less =
+            subject.smaller().into_iter().map(|subject| Script { subject, calls: best.calls.clone() });
         let better = with_calls.chain(with_less).find_map(|mut script| {
             let length = parts(&script)?;
             script.calls.truncate(length);
@@ -154,7 +155,13 @@ fn report(counts: &Counts) {
     let mut total = Count::default();
     println!("{:<42} {:>12} {:>14} {:>12}", "replayed", "scripts", "equal calls", "forbidden");
     for ((how, title), count) in &counts.kinds {
-        println!("{:<42} {:>12} {:>14} {:>12}", format!("{how}: {title}"), count.scripts, count.calls, count.forbidden);
+        println!(
+            "{:<42} {:>12} {:>14} {:>12}",
+            format!("{how}: {title}"),
+            count.scripts,
+            count.calls,
+            count.forbidden
+        );
         total.scripts += count.scripts;
         total.calls += count.calls;
         total.forbidden += count.forbidden;
@@ -175,7 +182,8 @@ fn flag(name: &str, default: u64) -> u64 {
 }
 
 fn main() -> ExitCode {
-    let (longest, scripts, calls) = (flag("--enumerate", 4), flag("--scripts", 1_000_000), flag("--calls", 60));
+    let (longest, scripts, calls) =
+        (flag("--enumerate", 4), flag("--scripts", 1_000_000), flag("--calls", 60));
     let mut random = Random(flag("--seed", 1));
     // What smoltcp panics at is compared, and not printed.
     std::panic::set_hook(Box::new(|panic| {

@@ -1,8 +1,11 @@
 //! smoltcp's side: the same calls as `port/net_replay` makes. A panic is written down as `FORBIDDEN`.
-use crate::script::{Call, FORBIDDEN, REFUSED, START, Script, Seen, Subject, fill, mix, mix_bytes, write_over};
+use crate::script::{
+    Call, FORBIDDEN, REFUSED, START, Script, Seen, Subject, fill, mix, mix_bytes, write_over,
+};
 use original4::doors::{self, Rand};
 use original4::phy::{
-    Checksum, ChecksumCapabilities, Device, DeviceCapabilities, Loopback, Medium, PacketMeta, RxToken, TxToken,
+    Checksum, ChecksumCapabilities, Device, DeviceCapabilities, Loopback, Medium, PacketMeta, RxToken,
+    TxToken,
 };
 use original4::storage::{PacketBuffer, PacketMetadata, Resettable, RingBuffer};
 use original4::time::{Duration, Instant};
@@ -81,14 +84,18 @@ fn ring(ring: &mut RingBuffer<'static, u8>, call: &Call) -> u64 {
         }
         7 => pair(ring.enqueue_many_with(some)),
         8 => pair(ring.dequeue_many_with(some)),
-        9 => ring.enqueue_one_with(|place| Ok::<_, ()>(exchange(place))).map_or(REFUSED, |answer| answer.unwrap()),
-        10 => ring.dequeue_one_with(|place| Ok::<_, ()>(exchange(place))).map_or(REFUSED, |answer| answer.unwrap()),
-        11 => {
-            ring.enqueue_one_with(|place| Err::<(), _>(exchange(place))).map_or(REFUSED, |answer| answer.unwrap_err())
-        }
-        12 => {
-            ring.dequeue_one_with(|place| Err::<(), _>(exchange(place))).map_or(REFUSED, |answer| answer.unwrap_err())
-        }
+        9 => ring
+            .enqueue_one_with(|place| Ok::<_, ()>(exchange(place)))
+            .map_or(REFUSED, |answer| answer.unwrap()),
+        10 => ring
+            .dequeue_one_with(|place| Ok::<_, ()>(exchange(place)))
+            .map_or(REFUSED, |answer| answer.unwrap()),
+        11 => ring
+            .enqueue_one_with(|place| Err::<(), _>(exchange(place)))
+            .map_or(REFUSED, |answer| answer.unwrap_err()),
+        12 => ring
+            .dequeue_one_with(|place| Err::<(), _>(exchange(place)))
+            .map_or(REFUSED, |answer| answer.unwrap_err()),
         13 => write_over(ring.get_unallocated(a, b), byte),
         14 => {
             fill(&mut buffer, byte);
@@ -168,12 +175,18 @@ fn packets(queue: &mut PacketBuffer<'static, u32>, call: &Call) -> u64 {
             });
             answer.map_or(REFUSED, |size| mix(sum, size as u64))
         }
-        2 => queue.dequeue().map_or(REFUSED, |(header, payload)| mix(write_over(payload, byte), header.into())),
-        3 => queue.dequeue_with(|header, payload| Ok::<_, ()>(turn(header, payload))).map_or(REFUSED, |a| a.unwrap()),
+        2 => {
+            queue.dequeue().map_or(REFUSED, |(header, payload)| mix(write_over(payload, byte), header.into()))
+        }
+        3 => queue
+            .dequeue_with(|header, payload| Ok::<_, ()>(turn(header, payload)))
+            .map_or(REFUSED, |a| a.unwrap()),
         4 => queue
             .dequeue_with(|header, payload| Err::<(), _>(turn(header, payload)))
             .map_or(REFUSED, |a| a.unwrap_err()),
-        5 => queue.peek().map_or(REFUSED, |(header, payload)| mix(mix_bytes(START, payload), (*header).into())),
+        5 => {
+            queue.peek().map_or(REFUSED, |(header, payload)| mix(mix_bytes(START, payload), (*header).into()))
+        }
         _ => {
             doors::reset(queue);
             START
@@ -194,14 +207,18 @@ macro_rules! assembler {
             use $original::storage::Assembler;
 
             pub fn run(calls: &[Call]) -> Vec<Seen> {
-                replay(calls, (Assembler::new(), Assembler::new()), answer, state, |(now, _)| now.iter_data().count())
+                replay(calls, (Assembler::new(), Assembler::new()), answer, state, |(now, _)| {
+                    now.iter_data().count()
+                })
             }
 
             fn answer((now, kept): &mut (Assembler, Assembler), call: &Call) -> u64 {
                 let (offset, size) = (call.a as usize, call.b as usize);
                 match call.number {
                     0 => now.add(offset, size).map_or(REFUSED, |()| START),
-                    1 => now.add_then_remove_front(offset, size).map_or(REFUSED, |front| mix(START, front as u64)),
+                    1 => now
+                        .add_then_remove_front(offset, size)
+                        .map_or(REFUSED, |front| mix(START, front as u64)),
                     2 => mix(START, now.remove_front() as u64),
                     3 => {
                         now.clear();
@@ -217,7 +234,8 @@ macro_rules! assembler {
 
             fn state((now, _): &mut (Assembler, Assembler)) -> u64 {
                 let sum = mix(mix(START, now.peek_front() as u64), now.is_empty().into());
-                let sum = now.iter_data().fold(sum, |sum, (start, end)| mix(mix(sum, start as u64), end as u64));
+                let sum =
+                    now.iter_data().fold(sum, |sum, (start, end)| mix(mix(sum, start as u64), end as u64));
                 mix_bytes(sum, now.to_string().as_bytes())
             }
         }
@@ -263,7 +281,9 @@ fn time(call: &Call) -> u64 {
         6 => mix(mix(START, (instant == other).into()), order(instant.cmp(&other))),
         7 => mix_duration(START, Duration::from_millis(call.a)),
         8 => mix_duration(START, Duration::from_secs(call.a)),
-        9 => [duration, Duration::ZERO, Duration::MAX, Duration::default()].into_iter().fold(START, mix_duration),
+        9 => [duration, Duration::ZERO, Duration::MAX, Duration::default()]
+            .into_iter()
+            .fold(START, mix_duration),
         10 => mix(mix(START, (duration == length).into()), order(duration.cmp(&length))),
         11 => both(duration + length, &|duration| *duration += length),
         12 => both(duration - length, &|duration| *duration -= length),
@@ -305,8 +325,13 @@ fn mix_instant(sum: u64, instant: Instant) -> u64 {
 }
 
 fn mix_duration(sum: u64, duration: Duration) -> u64 {
-    let numbers =
-        [duration.total_micros(), duration.total_millis(), duration.secs(), duration.millis(), duration.micros()];
+    let numbers = [
+        duration.total_micros(),
+        duration.total_millis(),
+        duration.secs(),
+        duration.millis(),
+        duration.micros(),
+    ];
     let sum = numbers.iter().fold(sum, |sum, &number| mix(sum, number));
     mix_bytes(sum, duration.to_string().as_bytes())
 }

@@ -2,7 +2,14 @@
 use crate::script::{Call, Script, Seen, Subject};
 
 unsafe extern "C" {
-    fn nr_ring(storage: *mut u8, len: usize, calls: *const Call, count: usize, seen: *mut Seen, places: usize);
+    fn nr_ring(
+        storage: *mut u8,
+        len: usize,
+        calls: *const Call,
+        count: usize,
+        seen: *mut Seen,
+        places: usize,
+    );
     fn nr_cells(capacity: usize, calls: *const Call, count: usize, seen: *mut Seen, places: usize);
     fn nr_packets(
         slots: usize,

@@ -1,7 +1,8 @@
 //! What a script is, and what is written down of each of its calls.
 use std::fmt;
 
-/// One call: its number in the list of its subject's calls, two arguments, and a byte to write.
+/// One call: its number in the list of its subject's calls, two arguments, and a byte to write. `a` is the
+/// first argument, an offset or else a size, and `b` the second, or the size that a closure answers.
 #[repr(C)]
 #[derive(Clone, Copy, Debug, Default, PartialEq, Eq)]
 pub struct Call {
@@ -51,69 +52,32 @@ impl Subject {
     pub fn calls(self) -> &'static [&'static str] {
         match self {
             Subject::Ring { .. } => &[
-                "enqueue_one",
-                "dequeue_one",
-                "enqueue_many",
-                "dequeue_many",
-                "enqueue_slice",
-                "dequeue_slice",
-                "clear",
-                "enqueue_many_with",
-                "dequeue_many_with",
-                "enqueue_one_with answering Ok",
-                "dequeue_one_with answering Ok",
-                "enqueue_one_with answering Err",
-                "dequeue_one_with answering Err",
-                "get_unallocated",
-                "write_unallocated",
-                "get_allocated",
-                "read_allocated",
-                "enqueue_unallocated",
+                "enqueue_one", "dequeue_one", "enqueue_many", "dequeue_many", "enqueue_slice",
+                "dequeue_slice", "clear", "enqueue_many_with", "dequeue_many_with",
+                "enqueue_one_with answering Ok", "dequeue_one_with answering Ok",
+                "enqueue_one_with answering Err", "dequeue_one_with answering Err", "get_unallocated",
+                "write_unallocated", "get_allocated", "read_allocated", "enqueue_unallocated",
                 "dequeue_allocated",
             ],
             Subject::Cells { .. } => &["enqueue_one", "dequeue_one", "reset"],
             Subject::Packets { .. } => &[
-                "enqueue",
-                "enqueue_with_infallible",
-                "dequeue",
-                "dequeue_with answering Ok",
-                "dequeue_with answering Err",
-                "peek",
-                "reset",
+                "enqueue", "enqueue_with_infallible", "dequeue", "dequeue_with answering Ok",
+                "dequeue_with answering Err", "peek", "reset",
             ],
             Subject::Assembler { .. } => {
                 &["add", "add_then_remove_front", "remove_front", "clear", "clone", "== the clone"]
             }
             Subject::Time => &[
-                "Instant::from_millis",
-                "Instant::from_secs",
-                "Instant::from_micros",
-                "Instant + Duration",
-                "Instant - Duration",
-                "Instant - Instant",
-                "Instant::cmp",
-                "Duration::from_millis",
-                "Duration::from_secs",
-                "Duration::from_micros",
-                "Duration::cmp",
-                "Duration + Duration",
-                "Duration - Duration",
-                "Duration * u32",
-                "Duration / u32",
-                "Duration << u32",
-                "Duration >> u32",
-                "from and to the standard library's Duration",
+                "Instant::from_millis", "Instant::from_secs", "Instant::from_micros", "Instant + Duration",
+                "Instant - Duration", "Instant - Instant", "Instant::cmp", "Duration::from_millis",
+                "Duration::from_secs", "Duration::from_micros", "Duration::cmp", "Duration + Duration",
+                "Duration - Duration", "Duration * u32", "Duration / u32", "Duration << u32",
+                "Duration >> u32", "from and to the standard library's Duration",
             ],
             Subject::Rand { .. } => &["rand_u32", "rand_u16", "rand_source_port"],
             Subject::Phy { .. } => &[
-                "transmit",
-                "receive",
-                "receive and transmit",
-                "capabilities",
-                "ip_mtu",
-                "max_ipv4_fragment_size",
-                "Checksum::{rx, tx}",
-                "defaults",
+                "transmit", "receive", "receive and transmit", "capabilities", "ip_mtu",
+                "max_ipv4_fragment_size", "Checksum::{rx, tx}", "defaults",
             ],
         }
     }

@@ -41,23 +41,13 @@ pub const COUNT: usize = 11;
 
 /// Their names, `np_` of `crates/net_perf` left out.
 pub const NAMES: [&str; COUNT] = [
-    "ring_slice",
-    "ring_many",
-    "ring_ahead",
-    "ring_one",
-    "packet",
-    "asm_add",
-    "asm_front",
-    "stream",
-    "rand",
-    "port",
-    "loopback",
+    "ring_slice", "ring_many", "ring_ahead", "ring_one", "packet", "asm_add", "asm_front", "stream", "rand",
+    "port", "loopback",
 ];
 
 /// The workloads over smoltcp, in the order of their names.
-pub static ORIGINAL: [Workload; COUNT] = [
-    ring_slice, ring_many, ring_ahead, ring_one, packet, asm_add, asm_front, stream, rand, port, loopback,
-];
+pub static ORIGINAL: [Workload; COUNT] =
+    [ring_slice, ring_many, ring_ahead, ring_one, packet, asm_add, asm_front, stream, rand, port, loopback];
 
 const START: u64 = 0xcbf29ce484222325;
 
