@@ -3,3 +3,7 @@ pub mod LineParts
 pub mod WordParts
 pub mod Numerals
 pub mod RunProgress
+pub mod SameText
+pub mod StreamStates
+pub mod StreamOutcomes
+pub mod StreamRun

@@ -3,8 +3,11 @@ pub mod Transcript
 pub mod Progress
 pub mod RingMode
 pub mod AsmMode
+pub mod StreamMode
 pub mod Modes
 pub mod RingLines
 pub mod AsmLines
+pub mod StreamLines
+pub mod StreamStored
 pub mod Words
 pub mod Kinds

@@ -10,6 +10,7 @@ mod ring;
 mod run;
 mod serve;
 mod session;
+mod stream;
 #[cfg(test)]
 mod streams;
 mod text;

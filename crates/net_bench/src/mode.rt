@@ -1,8 +1,8 @@
 //! The modes of the bench.
-ghost use Rattle.std.specs.Prelude.{◌≡◌, map, string_bytes, option_map, option_and_then};
+ghost use Rattle.std.specs.Prelude.{◌≡◌, [], ◌∷◌, map, string_bytes, Option, Some, option_map, option_and_then};
 ghost use Rattle.net_bench.specs.Kinds.{limit_seen};
 ghost use Rattle.net_bench.specs.Text.{number_of};
-ghost use Rattle.net_bench.specs.Modes.{form_of, at_most_64k, four_or_32};
+ghost use Rattle.net_bench.specs.Modes.{mode_of, stream_of, at_most_64k, four_or_32};
 
 use crate::text;
 use std::marker::Model;
@@ -21,27 +21,30 @@ pub enum RunLimit {
 
 /// A mode with its numbers.
 #[derive(Debug, Drop)]
-pub enum Kind {
+pub enum ModeKind {
     /// A ring over this many bytes of storage.
     Ring(usize),
     /// An assembler of at most so many runs.
     Asm(RunLimit),
+    /// Receivers of a stream that begins at this position, over this many bytes of storage, with at most
+    /// so many held runs.
+    Stream(u64, usize, RunLimit),
 }
 
 /// What a run does, as the words of a command line name it.
 #[derive(Debug, Drop)]
 pub struct Mode {
-    kind: Kind,
+    kind: ModeKind,
 }
 
 impl Model for Mode {
-    ghost use Rattle.net_bench.specs.Modes.{Form};
+    ghost use Rattle.net_bench.specs.Modes as modes;
 
-    ghost Value = { Form };
+    ghost Value = { modes.Mode };
 
-    ghost use Rattle.net_bench.specs.Kinds.{form_seen};
+    ghost use Rattle.net_bench.specs.Kinds.{mode_seen};
 
-    ghost view = { λ m. form_seen m.kind };
+    ghost view = { λ m. mode_seen m.kind };
 }
 
 /// The capacity that a word names, from 0 to 65,536.
@@ -69,36 +72,78 @@ fn run_limit(word: &[u8]) -> Option<RunLimit>
     None
 }
 
-impl Mode {
-    ghost use Rattle.net_bench.specs.Kinds.{form_seen};
+/// The mode that two words name.
+fn two_words(name: &[u8], number: &[u8]) -> Option<Mode>
+    ensures { result ≡ mode_of (name.now ∷ number.now ∷ []) }
+{
+    if name == b"ring".as_slice() {
+        let capacity = capacity(number)?;
+        return Some(Mode {
+            kind: ModeKind::Ring(capacity),
+        });
+    }
+    if name == b"asm".as_slice() {
+        let limit = run_limit(number)?;
+        return Some(Mode {
+            kind: ModeKind::Asm(limit),
+        });
+    }
+    None
+}
 
-    /// The mode that these words name: `ring CAP` or `asm N`. No other words name one.
+/// Mode `stream` with the numbers that these words write, and this first position.
+fn stream(
+    name: &[u8],
+    capacity_word: &[u8],
+    limit_word: &[u8],
+    first: Option<u64>,
+) -> Option<Mode>
+    ensures { result ≡ stream_of name.now capacity_word.now limit_word.now first }
+{
+    if name != b"stream".as_slice() {
+        return None;
+    }
+    let capacity = capacity(capacity_word)?;
+    let limit = run_limit(limit_word)?;
+    let first = first?;
+    Some(Mode {
+        kind: ModeKind::Stream(first, capacity, limit),
+    })
+}
+
+impl Mode {
+    ghost use Rattle.net_bench.specs.Kinds.{mode_seen};
+
+    /// The mode that these words name: `ring CAP`, `asm N`, `stream CAP N` or `stream CAP N FIRST`. No
+    /// other words name one.
     pub fn from_words(words: &[String]) -> Option<Mode>
-        ensures { result ≡ form_of (map string_bytes words.now) }
+        ensures { result ≡ mode_of (map string_bytes words.now) }
     {
-        if words.len() != 2 {
-            return None;
+        if words.len() == 2 {
+            return two_words(words[0].as_bytes(), words[1].as_bytes());
         }
-        let name = &words[0];
-        let number = &words[1];
-        if name.as_str() == "ring" {
-            let capacity = capacity(number.as_bytes())?;
-            return Some(Mode {
-                kind: Kind::Ring(capacity),
-            });
+        if words.len() == 3 {
+            return stream(
+                words[0].as_bytes(),
+                words[1].as_bytes(),
+                words[2].as_bytes(),
+                Some(0),
+            );
         }
-        if name.as_str() == "asm" {
-            let limit = run_limit(number.as_bytes())?;
-            return Some(Mode {
-                kind: Kind::Asm(limit),
-            });
+        if words.len() == 4 {
+            return stream(
+                words[0].as_bytes(),
+                words[1].as_bytes(),
+                words[2].as_bytes(),
+                text::number(words[3].as_bytes()),
+            );
         }
         None
     }
 
     /// The mode with its numbers.
-    pub fn kind(self) -> Kind
-        ensures { form_seen result ≡ self }
+    pub fn kind(self) -> ModeKind
+        ensures { mode_seen result ≡ self }
     {
         self.kind
     }

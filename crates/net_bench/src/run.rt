@@ -7,8 +7,10 @@ ghost use Rattle.net_bench.specs.Modes.{out, fault, transcript_of};
 use crate::asm::AsmSession;
 use crate::bench::run_lines;
 use crate::error::BenchError;
-use crate::mode::{Kind, Mode, RunLimit};
+use crate::mode::{Mode, ModeKind, RunLimit};
 use crate::ring::RingSession;
+use crate::stream::StreamSession;
+use net_receiver::laws;
 use std::alloc::Global;
 use std::io::{Read, Write};
 
@@ -31,12 +33,27 @@ pub fn run<R: Read, W: Write>(
     ensures err { IfErr result (λ e. IfSome (R.remaining reader.old) (λ input.
         Leaves (transcript_of mode) input (R.remaining reader.new) (W.contents writer.old) (W.contents writer.new) e)) }
 {
+    laws::schedules();
     match mode.kind() {
-        Kind::Ring(capacity) => match RingSession::new(alloc, capacity) {
+        ModeKind::Ring(capacity) => match RingSession::new(alloc, capacity) {
             Ok(session) => run_lines(alloc, session, reader, writer),
             Err(_) => Err(BenchError::OutOfMemory),
         },
-        Kind::Asm(RunLimit::Four) => run_lines(alloc, AsmSession::<4>::new(), reader, writer),
-        Kind::Asm(RunLimit::ThirtyTwo) => run_lines(alloc, AsmSession::<32>::new(), reader, writer),
+        ModeKind::Asm(RunLimit::Four) => run_lines(alloc, AsmSession::<4>::new(), reader, writer),
+        ModeKind::Asm(RunLimit::ThirtyTwo) => {
+            run_lines(alloc, AsmSession::<32>::new(), reader, writer)
+        }
+        ModeKind::Stream(first, capacity, RunLimit::Four) => {
+            match StreamSession::<4>::new(alloc, first, capacity) {
+                Ok(session) => run_lines(alloc, session, reader, writer),
+                Err(_) => Err(BenchError::OutOfMemory),
+            }
+        }
+        ModeKind::Stream(first, capacity, RunLimit::ThirtyTwo) => {
+            match StreamSession::<32>::new(alloc, first, capacity) {
+                Ok(session) => run_lines(alloc, session, reader, writer),
+                Err(_) => Err(BenchError::OutOfMemory),
+            }
+        }
     }
 }

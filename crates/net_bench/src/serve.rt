@@ -2,7 +2,7 @@
 ghost use Rattle.std.specs.Prelude.{◌≡◌, map, IfSome, None, ◌↔◌, string_bytes, ◌≤◌};
 ghost use Rattle.std.specs.Io.KnownBytes.{Appends, Keeps};
 ghost use Rattle.net_bench.specs.Transcript.{Leaves};
-ghost use Rattle.net_bench.specs.Modes.{out, fault, form_of, transcript_of};
+ghost use Rattle.net_bench.specs.Modes.{out, fault, mode_of, transcript_of};
 ghost use Rattle.net_bench.specs.declared.error.BenchError.{BenchError};
 
 use crate::error::BenchError;
@@ -15,7 +15,7 @@ use std::io::{Read, Write};
 mod tests;
 
 /// What standard error says of words that name no mode.
-const USAGE: &str = "usage: net_bench ring CAP | asm N | stream CAP N\n";
+const USAGE: &str = "usage: net_bench ring CAP | asm N | stream CAP N [FIRST]\n";
 
 /// Runs the mode that the words name and flushes the writer once; a flush that fails after a run without
 /// a fault is a failed write. It writes what belongs on standard error to `errors`, whose own failure changes
@@ -29,16 +29,16 @@ pub fn serve<R: Read, W: Write, E: Write>(
     errors: &mut E,
 ) -> u8
     ensures status { result ≤ 2 }
-    ensures usage { (result ≡ 2) ↔ (form_of (map string_bytes words.now) ≡ None) }
+    ensures usage { (result ≡ 2) ↔ (mode_of (map string_bytes words.now) ≡ None) }
     ensures unread { result ≡ 2 → Keeps (R.remaining reader.old) (R.remaining reader.new)
         × Keeps (W.contents writer.old) (W.contents writer.new) }
-    ensures ok { result ≡ 0 → IfSome (form_of (map string_bytes words.now)) (λ form.
-        IfSome (R.remaining reader.old) (λ input. (fault form input ≡ None)
-        × Appends (W.contents writer.old) (W.contents writer.new) (out form input))) }
+    ensures ok { result ≡ 0 → IfSome (mode_of (map string_bytes words.now)) (λ mode.
+        IfSome (R.remaining reader.old) (λ input. (fault mode input ≡ None)
+        × Appends (W.contents writer.old) (W.contents writer.new) (out mode input))) }
     ensures quiet { result ≡ 0 → Keeps (E.contents errors.old) (E.contents errors.new) }
-    ensures err { result ≡ 1 → IfSome (form_of (map string_bytes words.now)) (λ form.
+    ensures err { result ≡ 1 → IfSome (mode_of (map string_bytes words.now)) (λ mode.
         IfSome (R.remaining reader.old) (λ input. (e : BenchError)
-        × Leaves (transcript_of form) input (R.remaining reader.new)
+        × Leaves (transcript_of mode) input (R.remaining reader.new)
         (W.contents writer.old) (W.contents writer.new) e)) }
 {
     let Some(mode) = Mode::from_words(words) else {

@@ -1,0 +1,125 @@
+//! The replies of a receiver as text.
+ghost use Rattle.std.specs.Prelude.{◌≡◌, ◌++◌, codes, decimal, Some, flat_map, IfOk, Ok, string_bytes};
+ghost use Rattle.net_receiver.specs.Schedule.{Segmented, Gave, Shown};
+ghost use Rattle.net_receiver.specs.Commands.{answer_seen};
+ghost use Rattle.net_bench.specs.StreamMode.{run_text, next_run_text, runs_text, accepted_line, reply_text as text_of_reply};
+
+use crate::text;
+use net_receiver::{Kept, Reply};
+use std::alloc::{AllocError, Global};
+use std::fmt;
+
+/// A run of positions: the first, and the first behind it.
+#[derive(Drop)]
+struct Run(u64, u64);
+
+impl fmt::Display for Run {
+    ghost output = { λ run. Some (run_text (run.0, run.1)) };
+
+    fn fmt<W: fmt::Write>(&self, f: &mut fmt::Formatter<W>) -> fmt::Result {
+        write!(f, "{}-{}", self.0, self.1)
+    }
+}
+
+/// Runs behind another, a comma before each.
+#[derive(Drop)]
+struct NextRuns<'a>(&'a [(u64, u64)]);
+
+impl fmt::Display for NextRuns<'_> {
+    ghost output = { λ runs. Some (flat_map next_run_text runs.0.now) };
+
+    fn fmt<W: fmt::Write>(&self, f: &mut fmt::Formatter<W>) -> fmt::Result {
+        for (start, end) in self.0 {
+            write!(f, ",{start}-{end}")?;
+        }
+        Ok(())
+    }
+}
+
+/// Runs, joined by commas: a dash for none.
+#[derive(Drop)]
+struct Runs<'a>(&'a [(u64, u64)]);
+
+impl fmt::Display for Runs<'_> {
+    ghost output = { λ runs. Some (runs_text runs.0.now) };
+
+    fn fmt<W: fmt::Write>(&self, f: &mut fmt::Formatter<W>) -> fmt::Result {
+        match self.0.split_first() {
+            None => write!(f, "-"),
+            Some((first, rest)) => {
+                let (start, end) = *first;
+                let rest = NextRuns(rest);
+                write!(f, "{start}-{end}{rest}")
+            }
+        }
+    }
+}
+
+/// What was kept of a segment and the first held runs, as a line.
+fn accepted_text(
+    alloc: Global,
+    kept: usize,
+    queued: usize,
+    sack: &[(u64, u64)],
+) -> Result<String, AllocError>
+    ensures { IfOk result (λ text. string_bytes text ≡ accepted_line kept queued sack.now) }
+{
+    let sack = Runs(sack);
+    format!(in alloc; "kept {kept} queued {queued} sack {sack}\n")
+}
+
+/// What was kept of a segment, as a line.
+fn kept_text(alloc: Global, kept: &Kept) -> Result<String, AllocError>
+    ensures { IfOk result (λ text. string_bytes text ≡ text_of_reply (Segmented (Ok kept.now))) }
+{
+    let [first, second, third] = kept.sack;
+    let Some(first) = first else {
+        return accepted_text(alloc, kept.kept, kept.queued, &[]);
+    };
+    let Some(second) = second else {
+        return accepted_text(alloc, kept.kept, kept.queued, &[first]);
+    };
+    let Some(third) = third else {
+        return accepted_text(alloc, kept.kept, kept.queued, &[first, second]);
+    };
+    accepted_text(alloc, kept.kept, kept.queued, &[first, second, third])
+}
+
+/// The bytes that were read, as a line.
+fn read_text(alloc: Global, bytes: &[u8]) -> Result<String, AllocError>
+    ensures { IfOk result (λ text. string_bytes text ≡ text_of_reply (Gave bytes.now)) }
+{
+    let bytes = text::shown(alloc, bytes)?;
+    format!(in alloc; "read {bytes}\n")
+}
+
+/// A receiver's numbers and held runs, as a line.
+fn shown_text(
+    alloc: Global,
+    next: u64,
+    queued: usize,
+    window: usize,
+    held: &[(u64, u64)],
+) -> Result<String, AllocError>
+    ensures { IfOk result (λ text. string_bytes text ≡ text_of_reply (Shown next queued window held.now)) }
+{
+    let held = Runs(held);
+    format!(in alloc; "next {next} queued {queued} window {window} held {held}\n")
+}
+
+/// A reply as a line.
+pub fn reply_text(alloc: Global, reply: &Reply) -> Result<String, AllocError>
+    ensures { IfOk result (λ text. string_bytes text ≡ text_of_reply (answer_seen reply.now)) }
+{
+    match reply {
+        Reply::Segment(Ok(kept)) => kept_text(alloc, kept),
+        Reply::Segment(Err(_)) => String::from_str(alloc, "refused too many holes\n"),
+        Reply::Read(bytes) => read_text(alloc, bytes),
+        Reply::Show {
+            next,
+            queued,
+            window,
+            held,
+        } => shown_text(alloc, *next, *queued, *window, held),
+    }
+}
