@@ -1,5 +1,6 @@
 //! Worked values, each public call at a concrete type, and refusals that run no closure.
 ghost use Rattle.std.specs.Prelude.{◌≡◌, length};
+ghost use Rattle.net_storage.specs.Ring.{ring};
 
 use super::callers::{
     Duplex, dequeue_one_byte, enqueue_one_byte, room_of_slice, room_of_vector, write_and_enqueue,

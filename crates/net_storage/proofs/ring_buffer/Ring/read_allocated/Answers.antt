@@ -1,5 +1,5 @@
-use Rattle.std.proofs.Common.{rules, ◌≡◌, ◌≤◌, ◌∙◌, ap, min, ◌-◌, take, arith}
-use Rattle.net_storage.specs.Ring.{storage_index, capacity, held_index}
+use Rattle.std.proofs.Common.{rules, ◌≡◌, ◌∙◌, ap, ◌-◌, take, arith}
+use Rattle.net_storage.specs.Ring.{storage_index, held_index}
 use Rattle.net_storage.proofs.RingFacts.{read_clause, read_once_clause}
 use Rattle.net_storage.proofs.ring_buffer.Ring.read_allocated.Goals as goal
 

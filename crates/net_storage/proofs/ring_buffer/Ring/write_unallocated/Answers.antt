@@ -1,4 +1,4 @@
-use Rattle.std.proofs.Common.{rules, ◌≡◌, ◌∙◌, ap, length, min, ◌-◌, take, drop, arith}
+use Rattle.std.proofs.Common.{rules, ◌≡◌, ◌∙◌, ap, ◌-◌, take, drop, arith}
 use Rattle.net_storage.specs.Ring.{storage_index, window, spare_index}
 use Rattle.net_storage.specs.Overwrite.{overwrite}
 use Rattle.net_storage.proofs.RingFacts.{wrapping_clause, once_clause, ahead_clause, twice_wf}
