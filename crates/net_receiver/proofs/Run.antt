@@ -6,7 +6,7 @@ use Rattle.net_storage.specs.Positions.{maximal_runs}
 use Rattle.net_receiver.specs.Schedule.{Action, Segment, Read, Show, Answer, Segmented, Gave, Shown}
 use Rattle.net_receiver.specs.KeptList.{Piece, clip, byte, next, bytes, held}
 use Rattle.net_receiver.specs.Schedule.{Verdict, Nothing_kept, Refused, Keeps, numbers, with_sack, State, state_after, answer, verdict, after, reply, after_all, replies}
-use Rattle.net_receiver.specs.Stored.{Stored, domain, stored_next, stored_state_after, stored_answer, stored_numbers, stored_read, stored_after, stored_reply, stored_after_all, stored_replies, setting, StandsFor, Steps, Schedules}
+use Rattle.net_receiver.specs.Stored.{Stored, domain, stored_next, stored_state_after, stored_answer, stored_numbers, stored_read, stored_after, stored_reply, stored_after_all, stored_replies, setting, StandsFor, Steps}
 use Rattle.std.proofs.Common.{map, drop_at}
 use Rattle.std.proofs.lemmas.List.{map-append}
 use Rattle.std.specs.List.{take-map}
@@ -82,9 +82,6 @@ module _ (most : ℕ) where
   pub steps : (v u : Stored) (c : Action) (r : Answer) → u ≡ stored_after most v c → r ≡ stored_reply most v c → Steps most v u c r
   steps v u c r same same' s d = (let one = step v s d c in (subst (λ x. StandsFor x (after (setting most v) s c)) (sym same) one.0, same' ∙ one.1))
 
-  pub schedules : (v u : Stored) (cs : List Action) (rs : List Answer) → u ≡ stored_after_all most v cs → rs ≡ stored_replies most v cs → Schedules most v u cs rs
-  schedules v u cs rs same same' s d = (let all = schedule v s d cs in (subst (λ x. StandsFor x (after_all (setting most v) s cs)) (sym same) all.0, same' ∙ all.1))
-
 -- no more is read than is queued
 pub read_less : (v : Stored) (count n : ℕ) → n ≡ min count (length v.queue) → stored_read v n ≡ stored_read v count
 read_less v count n e =
@@ -93,11 +90,6 @@ read_less v count n e =
   where
     drop_least : (count : ℕ) (xs : List ℕ) → drop (min count (length xs)) xs ≡ drop count xs
     drop_least count xs = ⊎_elim (λ (l : count < length xs). (let e : min count (length xs) ≡ count = omega arith in ap (λ k. drop k xs) e)) (λ (l : length xs ≤ count). drop_all (min count (length xs)) xs (omega arith) ∙ sym (drop_all count xs l)) (cases_lt count (length xs))
-
-pub read_bytes : (queue into old : List ℕ) (count n : ℕ) → n ≡ min count (length queue) → length old ≡ n → into ≡ take n queue ++ drop (length queue) old → into ≡ take count queue
-read_bytes queue into old count n e l is =
-    is ∙ ap (λ t. take n queue ++ t) (drop_all (length queue) old (omega arith)) ∙ append-nil (take n queue)
-    ∙ ⊎_elim (λ (h : count < length queue). (let e' : n ≡ count = omega arith in ap (λ k. take k queue) e')) (λ (h : length queue ≤ count). take_all n queue (omega arith) ∙ sym (take_all count queue h)) (cases_lt count (length queue))
 
 -- one more command at the end
 module _ (most : ℕ) where

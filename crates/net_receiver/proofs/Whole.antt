@@ -20,9 +20,6 @@ use Rattle.net_receiver.proofs.Run.{schedule, setting_kept}
 use Rattle.net_receiver.proofs.Stream.{stream}
 use Rattle.net_receiver.proofs.Recover.{recover, follows_front}
 
-pub appended_is : {A : Type 0} (old rs new : List A) → new ≡ old ++ rs → appended old new ≡ rs
-appended_is old rs new e = ap (drop (length old)) e ∙ drop_at old rs (length old) refl
-
 pub ran : (most : ℕ) (v u : Stored) (cs : List Action) (rs : List Answer) (complete : Type 0) (k : ℕ) → k ≤ length cs → (complete → k ≡ length cs) →
     u ≡ stored_after_all most v (take k cs) → rs ≡ stored_replies most v (take k cs) → (s : State) → StandsFor v s → Ran most v u cs rs complete s
 ran most v u cs rs complete k within whole state answers s d =

@@ -122,10 +122,6 @@ pub record StandsFor (v : Stored) (s : State) : Type 0 where
 abbrev pub Steps : ℕ → Stored → Stored → Action → Answer → Type 0
 Steps most_runs v u c r = (s : State) → StandsFor v s → StandsFor u (after (setting most_runs v) s c) × (r ≡ reply (setting most_runs v) s c)
 
--- so do the commands of a list, one after another
-abbrev pub Schedules : ℕ → Stored → Stored → List Action → List Answer → Type 0
-Schedules most_runs v u cs rs = (s : State) → StandsFor v s → StandsFor u (after_all (setting most_runs v) s cs) × (rs ≡ replies (setting most_runs v) s cs)
-
 -- what is true of every receiver: at most N held runs, all above `next` and within the free window
 pub record IsSound (most_runs : ℕ) (v : Stored) : Type 0 where
   pub few : runs (domain v.held) ≤ most_runs

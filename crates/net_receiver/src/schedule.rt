@@ -13,15 +13,15 @@ use std::alloc::{AllocError, Allocator};
 
 /// Runs commands in order, and appends their replies to `replies`.
 ///
-/// All memory that a command and its reply want is taken before the command runs. Where it is not found
-/// the commands before it were run, each with its reply appended, and no others.
+/// All memory that a command and its reply want is taken before the command runs. Where it is not
+/// found the commands before it were run, each with its reply appended, and no others.
 ///
-/// `stored` says by the rules on what is stored what the commands leave and answer. `ran` says it of
-/// kept lists: for every state of a schedule that the receiver stands for at entry, the replies are
-/// those of the schedule and the receiver then stands for the schedule's state; the bytes that were
-/// read, followed by the queue, are those of every stream with which the kept segments agree; and
-/// segments that begin by what was reached and end within the free window are all accepted, and reach
-/// their ends.
+/// `stored` says by the rules on what is stored what the commands leave and answer. `ran` says it
+/// of kept lists: for every state of a schedule that the receiver stands for at entry, the replies
+/// are those of the schedule and the receiver then stands for the schedule's state; the bytes that
+/// were read, followed by the queue, are those of every stream with which the kept segments agree;
+/// and segments that begin by what was reached and end within the free window are all accepted, and
+/// reach their ends.
 pub fn replay<A: Allocator + Copy, const N: usize>(
     alloc: A,
     receiver: &mut Receiver<'_, N>,
@@ -29,9 +29,13 @@ pub fn replay<A: Allocator + Copy, const N: usize>(
     replies: &mut Vec<Reply<A>, A>,
 ) -> Result<(), AllocError>
     requires { All CommandFits commands.now }
-    ensures appends { replies.new.items ≡ replies.old.items ++ appended replies.old.items replies.new.items }
-    ensures stored { FrontRun N receiver.old receiver.new (actions commands.now) (new_answers replies.old.items replies.new.items) (IsOk result) }
-    ensures ran { (s : State) → StandsFor receiver.old s → Ran N receiver.old receiver.new (actions commands.now) (new_answers replies.old.items replies.new.items) (IsOk result) s }
+    ensures appends { replies.new.items ≡
+        replies.old.items ++ appended replies.old.items replies.new.items }
+    ensures stored { FrontRun N receiver.old receiver.new (actions commands.now)
+        (new_answers replies.old.items replies.new.items) (IsOk result) }
+    ensures ran { (s : State) → StandsFor receiver.old s →
+        Ran N receiver.old receiver.new (actions commands.now)
+        (new_answers replies.old.items replies.new.items) (IsOk result) s }
     ensures bound { runs (domain receiver.new.held) ≤ N }
 {
     let result = run_each(alloc, receiver, commands, replies);
@@ -47,8 +51,10 @@ fn run_each<A: Allocator + Copy, const N: usize>(
     replies: &mut Vec<Reply<A>, A>,
 ) -> Result<(), AllocError>
     requires { All CommandFits commands.now }
-    ensures appends { replies.new.items ≡ replies.old.items ++ appended replies.old.items replies.new.items }
-    ensures stored { FrontRun N receiver.old receiver.new (actions commands.now) (new_answers replies.old.items replies.new.items) (IsOk result) }
+    ensures appends { replies.new.items ≡
+        replies.old.items ++ appended replies.old.items replies.new.items }
+    ensures stored { FrontRun N receiver.old receiver.new (actions commands.now)
+        (new_answers replies.old.items replies.new.items) (IsOk result) }
 {
     for command in commands {
         replies.reserve(1)?;
@@ -65,8 +71,10 @@ fn run<A: Allocator + Copy, const N: usize>(
     command: &Command,
 ) -> Result<Reply<A>, AllocError>
     requires { CommandFits command.now }
-    ensures state { IfOk result (λ _. receiver.new ≡ stored_after N receiver.old (action command.now)) }
-    ensures answer { IfOk result (λ r. answer_seen r ≡ stored_reply N receiver.old (action command.now)) }
+    ensures state { let act = action command.now in
+        IfOk result (λ _. receiver.new ≡ stored_after N receiver.old act) }
+    ensures answer { let act = action command.now in
+        IfOk result (λ r. answer_seen r ≡ stored_reply N receiver.old act) }
     ensures err { OnErr result (receiver.new ≡ receiver.old) }
 {
     match command {

@@ -21,11 +21,7 @@ fn take<const N: usize>(
 }
 
 /// A receiver of 16 bytes and four runs that took these segments.
-fn after<'a>(
-    rt: &impl Abort,
-    storage: &'a mut [u8],
-    segments: &[(u64, &[u8])],
-) -> Receiver<'a, 4> {
+fn after<'a>(rt: &impl Abort, storage: &'a mut [u8], segments: &[(u64, &[u8])]) -> Receiver<'a, 4> {
     let mut receiver = Receiver::new(ManagedSlice::Borrowed(storage));
     for (pos, bytes) in segments {
         take(rt, &mut receiver, *pos, bytes);
@@ -44,11 +40,23 @@ fn are_same(rt: &impl Abort, one: &[(u64, &[u8])], other: &[(u64, &[u8])]) -> bo
 #[test]
 fn two_receivers_of_one_stream(rt: HostRuntime) {
     assert!(rt; are_same(&rt, &[], &[]));
-    assert!(rt; are_same(&rt, &[(0, b"a"), (1, b"b"), (2, b"c")], &[(2, b"c"), (0, b"ab")]));
+    assert!(rt;
+        are_same(
+            &rt,
+            &[(0, b"a"), (1, b"b"), (2, b"c")],
+            &[(2, b"c"), (0, b"ab")]
+        )
+    );
     assert!(rt; !are_same(&rt, &[(0, b"ab")], &[(0, b"ac")]));
     assert!(rt; are_same(&rt, &[(2, b"A")], &[(2, b"B")]));
     assert!(rt; !are_same(&rt, &[(0, b"a"), (3, b"A")], &[(0, b"a")]));
-    assert!(rt; are_same(&rt, &[(0, b"a"), (3, b"A"), (4, b"B")], &[(3, b"CB"), (0, b"a")]));
+    assert!(rt;
+        are_same(
+            &rt,
+            &[(0, b"a"), (3, b"A"), (4, b"B")],
+            &[(3, b"CB"), (0, b"a")]
+        )
+    );
 }
 
 #[test]

@@ -97,8 +97,8 @@ fn are_replies<A: Allocator + Copy>(steps: &[Step<'_>], replies: &[Reply<A>]) ->
     true
 }
 
-/// Whether a receiver of so many bytes and four runs, of a stream that begins at `first`, replies as
-/// the steps say.
+/// Whether a receiver of so many bytes and four runs, of a stream that begins at `first`, replies
+/// as the steps say.
 fn runs_as(
     alloc: Global,
     capacity: usize,
@@ -116,91 +116,154 @@ fn runs_as(
 #[test]
 fn bytes_come_and_go(rt: HostRuntime) -> Result<(), AllocError> {
     let alloc = rt.alloc();
-    assert!(rt; runs_as(alloc, 16, 0, &[
-        Step::Keeps(0, b"hello", 5, 5, &[]),
-        Step::Reads(3, b"hel"),
-        Step::Shows(5, 2, 14, &[]),
-    ])?);
-    assert!(rt; runs_as(alloc, 16, 0, &[
-        Step::Keeps(2, b"AA", 2, 0, &[(2, 4)]),
-        Step::Keeps(3, b"BB", 2, 0, &[(2, 5)]),
-        Step::Keeps(0, b"CC", 2, 5, &[]),
-        Step::Reads(5, b"CCABB"),
-    ])?);
-    assert!(rt; runs_as(alloc, 16, 0, &[
-        Step::Keeps(0, b"ab", 2, 2, &[]),
-        Step::Keeps(0, b"xxz", 1, 1, &[]),
-        Step::Reads(9, b"abz"),
-    ])?);
-    assert!(rt; runs_as(alloc, 16, 0, &[
-        Step::Keeps(2, b"AA", 2, 0, &[(2, 4)]),
-        Step::Reads(9, b""),
-        Step::Keeps(0, b"BB", 2, 4, &[]),
-        Step::Reads(9, b"BBAA"),
-        Step::Shows(4, 0, 16, &[]),
-    ])?);
+    assert!(rt;
+        runs_as(
+            alloc,
+            16,
+            0,
+            &[
+                Step::Keeps(0, b"hello", 5, 5, &[]),
+                Step::Reads(3, b"hel"),
+                Step::Shows(5, 2, 14, &[]),
+            ]
+        )?
+    );
+    assert!(rt;
+        runs_as(
+            alloc,
+            16,
+            0,
+            &[
+                Step::Keeps(2, b"AA", 2, 0, &[(2, 4)]),
+                Step::Keeps(3, b"BB", 2, 0, &[(2, 5)]),
+                Step::Keeps(0, b"CC", 2, 5, &[]),
+                Step::Reads(5, b"CCABB"),
+            ]
+        )?
+    );
+    assert!(rt;
+        runs_as(
+            alloc,
+            16,
+            0,
+            &[
+                Step::Keeps(0, b"ab", 2, 2, &[]),
+                Step::Keeps(0, b"xxz", 1, 1, &[]),
+                Step::Reads(9, b"abz"),
+            ]
+        )?
+    );
+    assert!(rt;
+        runs_as(
+            alloc,
+            16,
+            0,
+            &[
+                Step::Keeps(2, b"AA", 2, 0, &[(2, 4)]),
+                Step::Reads(9, b""),
+                Step::Keeps(0, b"BB", 2, 4, &[]),
+                Step::Reads(9, b"BBAA"),
+                Step::Shows(4, 0, 16, &[]),
+            ]
+        )?
+    );
     Ok(())
 }
 
 #[test]
 fn a_fifth_run_is_refused(rt: HostRuntime) -> Result<(), AllocError> {
     let alloc = rt.alloc();
-    assert!(rt; runs_as(alloc, 64, 0, &[
-        Step::Keeps(10, &[1; 3], 3, 0, &[(10, 13)]),
-        Step::Keeps(20, &[2; 3], 3, 0, &[(10, 13), (20, 23)]),
-        Step::Keeps(30, &[3; 3], 3, 0, &[(10, 13), (20, 23), (30, 33)]),
-        Step::Keeps(40, &[4; 3], 3, 0, &[(10, 13), (20, 23), (30, 33)]),
-        Step::Refuses(50, &[1]),
-        Step::Keeps(13, &[1], 1, 0, &[(10, 14), (20, 23), (30, 33)]),
-        Step::Keeps(0, b"abc", 3, 3, &[(10, 14), (20, 23), (30, 33)]),
-        Step::Shows(3, 3, 61, &[(10, 14), (20, 23), (30, 33), (40, 43)]),
-    ])?);
-    assert!(rt; runs_as(alloc, 64, 0, &[
-        Step::Keeps(2, &[1], 1, 0, &[(2, 3)]),
-        Step::Keeps(4, &[1], 1, 0, &[(2, 3), (4, 5)]),
-        Step::Keeps(6, &[1], 1, 0, &[(2, 3), (4, 5), (6, 7)]),
-        Step::Keeps(8, &[1], 1, 0, &[(2, 3), (4, 5), (6, 7)]),
-        Step::Refuses(10, &[1]),
-        Step::Refuses(62, &[1]),
-        Step::Keeps(1, &[2], 1, 0, &[(1, 3), (4, 5), (6, 7)]),
-        Step::Keeps(0, &[3], 1, 3, &[(4, 5), (6, 7), (8, 9)]),
-        Step::Keeps(10, &[4], 1, 0, &[(4, 5), (6, 7), (8, 9)]),
-        Step::Shows(3, 3, 61, &[(4, 5), (6, 7), (8, 9), (10, 11)]),
-    ])?);
+    assert!(rt;
+        runs_as(
+            alloc,
+            64,
+            0,
+            &[
+                Step::Keeps(10, &[1; 3], 3, 0, &[(10, 13)]),
+                Step::Keeps(20, &[2; 3], 3, 0, &[(10, 13), (20, 23)]),
+                Step::Keeps(30, &[3; 3], 3, 0, &[(10, 13), (20, 23), (30, 33)]),
+                Step::Keeps(40, &[4; 3], 3, 0, &[(10, 13), (20, 23), (30, 33)]),
+                Step::Refuses(50, &[1]),
+                Step::Keeps(13, &[1], 1, 0, &[(10, 14), (20, 23), (30, 33)]),
+                Step::Keeps(0, b"abc", 3, 3, &[(10, 14), (20, 23), (30, 33)]),
+                Step::Shows(3, 3, 61, &[(10, 14), (20, 23), (30, 33), (40, 43)]),
+            ]
+        )?
+    );
+    assert!(rt;
+        runs_as(
+            alloc,
+            64,
+            0,
+            &[
+                Step::Keeps(2, &[1], 1, 0, &[(2, 3)]),
+                Step::Keeps(4, &[1], 1, 0, &[(2, 3), (4, 5)]),
+                Step::Keeps(6, &[1], 1, 0, &[(2, 3), (4, 5), (6, 7)]),
+                Step::Keeps(8, &[1], 1, 0, &[(2, 3), (4, 5), (6, 7)]),
+                Step::Refuses(10, &[1]),
+                Step::Refuses(62, &[1]),
+                Step::Keeps(1, &[2], 1, 0, &[(1, 3), (4, 5), (6, 7)]),
+                Step::Keeps(0, &[3], 1, 3, &[(4, 5), (6, 7), (8, 9)]),
+                Step::Keeps(10, &[4], 1, 0, &[(4, 5), (6, 7), (8, 9)]),
+                Step::Shows(3, 3, 61, &[(4, 5), (6, 7), (8, 9), (10, 11)]),
+            ]
+        )?
+    );
     Ok(())
 }
 
 #[test]
 fn the_window_cuts(rt: HostRuntime) -> Result<(), AllocError> {
     let alloc = rt.alloc();
-    assert!(rt; runs_as(alloc, 4, 0, &[
-        Step::Keeps(0, b"abcde", 4, 4, &[]),
-        Step::Keeps(4, b"e", 0, 0, &[]),
-        Step::Reads(2, b"ab"),
-        Step::Keeps(4, b"efg", 2, 2, &[]),
-        Step::Reads(4, b"cdef"),
-        Step::Keeps(8, b"j", 1, 0, &[(8, 9)]),
-        Step::Keeps(6, b"hi", 2, 3, &[]),
-        Step::Reads(9, b"hij"),
-    ])?);
-    assert!(rt; runs_as(alloc, 0, 0, &[
-        Step::Keeps(0, b"a", 0, 0, &[]),
-        Step::Reads(1, b""),
-        Step::Shows(0, 0, 0, &[]),
-    ])?);
+    assert!(rt;
+        runs_as(
+            alloc,
+            4,
+            0,
+            &[
+                Step::Keeps(0, b"abcde", 4, 4, &[]),
+                Step::Keeps(4, b"e", 0, 0, &[]),
+                Step::Reads(2, b"ab"),
+                Step::Keeps(4, b"efg", 2, 2, &[]),
+                Step::Reads(4, b"cdef"),
+                Step::Keeps(8, b"j", 1, 0, &[(8, 9)]),
+                Step::Keeps(6, b"hi", 2, 3, &[]),
+                Step::Reads(9, b"hij"),
+            ]
+        )?
+    );
+    assert!(rt;
+        runs_as(
+            alloc,
+            0,
+            0,
+            &[
+                Step::Keeps(0, b"a", 0, 0, &[]),
+                Step::Reads(1, b""),
+                Step::Shows(0, 0, 0, &[]),
+            ]
+        )?
+    );
     assert!(rt; runs_as(alloc, 16, 0, &[Step::Keeps(u64::MAX - 1, b"1", 0, 0, &[])])?);
     Ok(())
 }
 
 #[test]
 fn a_stream_begins_anywhere(rt: HostRuntime) -> Result<(), AllocError> {
-    assert!(rt; runs_as(rt.alloc(), 8, 1000, &[
-        Step::Keeps(998, b"abcd", 2, 2, &[]),
-        Step::Shows(1002, 2, 6, &[]),
-        Step::Keeps(1004, b"x", 1, 0, &[(1004, 1005)]),
-        Step::Keeps(0, b"a", 0, 0, &[(1004, 1005)]),
-        Step::Reads(9, b"cd"),
-    ])?);
+    assert!(rt;
+        runs_as(
+            rt.alloc(),
+            8,
+            1000,
+            &[
+                Step::Keeps(998, b"abcd", 2, 2, &[]),
+                Step::Shows(1002, 2, 6, &[]),
+                Step::Keeps(1004, b"x", 1, 0, &[(1004, 1005)]),
+                Step::Keeps(0, b"a", 0, 0, &[(1004, 1005)]),
+                Step::Reads(9, b"cd"),
+            ]
+        )?
+    );
     Ok(())
 }
 
@@ -300,7 +363,10 @@ fn each_refusal_of_memory_leaves_the_first_commands(rt: HostRuntime) -> Result<(
             (ending.next, ending.queued, ending.held) == after(ending.replied),
             "with {units} units of room"
         );
-        assert!(rt; ending.whole == (ending.replied == 6), "with {units} units of room");
+        assert!(rt;
+            ending.whole == (ending.replied == 6),
+            "with {units} units of room"
+        );
         if ending.whole {
             whole = true;
             break;
