@@ -7,3 +7,4 @@ mod loopback;
 mod packet_buffer;
 mod rand;
 mod ring_buffer;
+mod stream;

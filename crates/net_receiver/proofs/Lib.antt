@@ -14,3 +14,4 @@ pub mod Placed
 pub mod Segment
 pub mod Whole
 pub mod SameBytes
+pub mod ReceiverLaws

@@ -11,6 +11,9 @@ use Rattle.std.proofs.Common.{map, drop_at}
 use Rattle.std.proofs.lemmas.List.{map-append}
 use Rattle.std.specs.List.{take-map}
 use Rattle.net_receiver.specs.Theorems.{appended}
+use Rattle.net_receiver.specs.Commands.{action, actions, answer_seen, new_answers}
+use Rattle.net_receiver.specs.declared.command.Command.{Command}
+use Rattle.net_receiver.specs.declared.reply.Reply.{Reply}
 use Rattle.net_receiver.proofs.Ranges.{take_range, drop_range}
 use Rattle.net_receiver.proofs.Step.{verdict_cases, queue_length, same_next, same_held, same_verdict, stands_joined, numbers_joined}
 
@@ -120,20 +123,20 @@ pub whole_appended : {A : Type 0} (old now new : List A) (r : A) → now ≡ old
 whole_appended old now new r e e' = e' ∙ ap (λ xs. xs ++ r ∷ []) e ∙ append_assoc old (appended old now) (r ∷ []) ∙ ap (λ xs. old ++ xs) (sym (push_appended old now new r e e'))
 
 -- a turn of the loop: command i was run
-module _ (most : ℕ) {A B : Type 0} (act : A → Action) (seen : B → Answer) where
-  pub state_more : (v u w : Stored) (cs : List A) (i : ℕ) (c : A) → i < length cs → c ≡ get_or cs i c → u ≡ stored_after_all most v (take i (map act cs)) → w ≡ stored_after most u (act c) →
-      w ≡ stored_after_all most v (take (i + 1) (map act cs))
-  state_more v u w cs i c l is e e' = e' ∙ (λ k. stored_after most (e k) (act c)) ∙ sym (after_all_push most (take i (map act cs)) v (act c)) ∙ ap (stored_after_all most v) (sym (take_mapped act cs i c l is))
+module _ (most : ℕ) where
+  pub state_more : (v u w : Stored) (cs : List Command) (i : ℕ) (c : Command) → i < length cs → c ≡ get_or cs i c → u ≡ stored_after_all most v (take i (actions cs)) → w ≡ stored_after most u (action c) →
+      w ≡ stored_after_all most v (take (i + 1) (actions cs))
+  state_more v u w cs i c l is e e' = e' ∙ (λ k. stored_after most (e k) (action c)) ∙ sym (after_all_push most (take i (actions cs)) v (action c)) ∙ ap (stored_after_all most v) (sym (take_mapped action cs i c l is))
 
-  pub replies_more : (v u : Stored) (old now new : List B) (r : B) (cs : List A) (i : ℕ) (c : A) → i < length cs → c ≡ get_or cs i c → u ≡ stored_after_all most v (take i (map act cs)) →
-      now ≡ old ++ appended old now → map seen (appended old now) ≡ stored_replies most v (take i (map act cs)) → seen r ≡ stored_reply most u (act c) → new ≡ now ++ r ∷ [] →
-      map seen (appended old new) ≡ stored_replies most v (take (i + 1) (map act cs))
+  pub replies_more : {A : Type 0} (v u : Stored) (old now new : List (Reply A)) (r : Reply A) (cs : List Command) (i : ℕ) (c : Command) → i < length cs → c ≡ get_or cs i c → u ≡ stored_after_all most v (take i (actions cs)) →
+      now ≡ old ++ appended old now → new_answers old now ≡ stored_replies most v (take i (actions cs)) → answer_seen r ≡ stored_reply most u (action c) → new ≡ now ++ r ∷ [] →
+      new_answers old new ≡ stored_replies most v (take (i + 1) (actions cs))
   replies_more v u old now new r cs i c l is e pushed answers same e' =
-      ap (map seen) (push_appended old now new r pushed e')
-      ∙ map-append seen (appended old now) (r ∷ [])
-      ∙ (λ k. answers k ++ (same ∙ ap (λ x. stored_reply most x (act c)) e) k ∷ [])
-      ∙ sym (replies_push most (take i (map act cs)) v (act c))
-      ∙ ap (stored_replies most v) (sym (take_mapped act cs i c l is))
+      ap (map answer_seen) (push_appended old now new r pushed e')
+      ∙ map-append answer_seen (appended old now) (r ∷ [])
+      ∙ (λ k. answers k ++ (same ∙ ap (λ x. stored_reply most x (action c)) e) k ∷ [])
+      ∙ sym (replies_push most (take i (actions cs)) v (action c))
+      ∙ ap (stored_replies most v) (sym (take_mapped action cs i c l is))
 
 -- what `read` writes, as a reply
 pub read_front : (queue into old : List ℕ) (n : ℕ) → n ≡ min (length old) (length queue) → into ≡ take (length old) queue ++ drop (length queue) old → take n into ≡ take (length old) queue

@@ -12,7 +12,7 @@ action (commands.Segment pos bytes) = Segment pos bytes.items
 action (commands.Read count) = Read count
 action commands.Show = Show
 
-abbrev pub answer_seen : Reply → Answer
+abbrev pub answer_seen : {A : Type 0} → Reply A → Answer
 answer_seen (replies.Segment result) = Segmented result
 answer_seen (replies.Read bytes) = Gave bytes.items
 answer_seen (replies.Show next queued window held) = Shown next queued window held.items
@@ -21,7 +21,7 @@ abbrev pub actions : List Command → List Action
 actions commands = map action commands
 
 -- the answers of the replies that were pushed behind old ones
-abbrev pub new_answers : List Reply → List Reply → List Answer
+abbrev pub new_answers : {A : Type 0} → List (Reply A) → List (Reply A) → List Answer
 new_answers old new = map answer_seen (appended old new)
 
 -- a segment's end is a position

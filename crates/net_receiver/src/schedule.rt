@@ -9,7 +9,7 @@ ghost use Rattle.net_receiver.specs.Theorems.{FrontRun, Ran, appended};
 use crate::command::Command;
 use crate::receiver::Receiver;
 use crate::reply::Reply;
-use std::alloc::{AllocError, Global};
+use std::alloc::{AllocError, Allocator};
 
 /// Runs commands in order, and appends their replies to `replies`.
 ///
@@ -22,11 +22,11 @@ use std::alloc::{AllocError, Global};
 /// read, followed by the queue, are those of every stream with which the kept segments agree; and
 /// segments that begin by what was reached and end within the free window are all accepted, and reach
 /// their ends.
-pub fn replay<const N: usize>(
-    alloc: Global,
+pub fn replay<A: Allocator + Copy, const N: usize>(
+    alloc: A,
     receiver: &mut Receiver<'_, N>,
     commands: &[Command],
-    replies: &mut Vec<Reply>,
+    replies: &mut Vec<Reply<A>, A>,
 ) -> Result<(), AllocError>
     requires { All CommandFits commands.now }
     ensures appends { replies.new.items ≡ replies.old.items ++ appended replies.old.items replies.new.items }
@@ -40,11 +40,11 @@ pub fn replay<const N: usize>(
 }
 
 /// Runs the commands one after another.
-fn run_each<const N: usize>(
-    alloc: Global,
+fn run_each<A: Allocator + Copy, const N: usize>(
+    alloc: A,
     receiver: &mut Receiver<'_, N>,
     commands: &[Command],
-    replies: &mut Vec<Reply>,
+    replies: &mut Vec<Reply<A>, A>,
 ) -> Result<(), AllocError>
     requires { All CommandFits commands.now }
     ensures appends { replies.new.items ≡ replies.old.items ++ appended replies.old.items replies.new.items }
@@ -59,11 +59,11 @@ fn run_each<const N: usize>(
 }
 
 /// Runs one command, after taking the memory of its reply.
-fn run<const N: usize>(
-    alloc: Global,
+fn run<A: Allocator + Copy, const N: usize>(
+    alloc: A,
     receiver: &mut Receiver<'_, N>,
     command: &Command,
-) -> Result<Reply, AllocError>
+) -> Result<Reply<A>, AllocError>
     requires { CommandFits command.now }
     ensures state { IfOk result (λ _. receiver.new ≡ stored_after N receiver.old (action command.now)) }
     ensures answer { IfOk result (λ r. answer_seen r ≡ stored_reply N receiver.old (action command.now)) }
@@ -91,11 +91,14 @@ fn run<const N: usize>(
 }
 
 /// The held runs as a list.
-fn shown_runs<const N: usize>(
-    alloc: Global,
+fn shown_runs<A: Allocator + Copy, const N: usize>(
+    alloc: A,
     receiver: &Receiver<'_, N>,
-) -> Result<Vec<(u64, u64)>, AllocError>
+) -> Result<Vec<(u64, u64), A>, AllocError>
     ensures { IfOk result (λ found. found.items ≡ maximal_runs (domain receiver.now.held)) }
 {
     receiver.held().collect(alloc)
 }
+
+#[cfg(test)]
+mod tests;

@@ -1,41 +1,73 @@
 -- Laws of sets of positions and of what the contracts of an assembler's calls say.
-use Rattle.std.proofs.Common.{◌≡◌, ℕ, zero, suc, ◌+◌, ◌<◌, ◌≤◌, Bool, true, false, ◌&&◌, ◌||◌, List, [], ◌∷◌, length, drop, nat_le, nat_lt, refl, sym, ap, subst, ◌∙◌, ◌⊎◌, inl, inr, arith}
-use Rattle.std.specs.Prelude.{Option, Some, None, Ok, Err, IsTrue}
-use Rattle.std.proofs.lemmas.Bool.Decides.{nat_tests}
-use Rattle.net_storage.specs.Positions.{Positions, contains, with_range, front, runs, AreMaximalRuns}
+use Rattle.std.proofs.Common.{◌≡◌, ℕ, zero, suc, ◌+◌, ◌/◌, ◌<◌, ◌≤◌, ◌^◌, Bool, true, false, ◌&&◌, ◌||◌, ◌==◌, List, [], ◌∷◌, length, drop, nat_le, nat_lt, nat_eq, refl, sym, ap, subst, ◌∙◌, arith}
+use Rattle.std.specs.Prelude.{Option, Some, None, Ok, Err}
+use Rattle.std.specs.List.{list_any}
+use Rattle.std.specs.Int.Digits.{digits_of}
+use Rattle.std.proofs.Math.Nat.{pow-suc}
+use Rattle.std.proofs.Math.Pow.{pow_mono}
+use Rattle.std.proofs.lemmas.Nat.{pow_pos}
+use Rattle.std.proofs.lemmas.Int.Digits.{length-digits_of_step, length-digits_of-le}
+use Rattle.net_storage.specs.Positions.{Positions, contains, with_range, front, runs, maximal_runs, AreMaximalRuns}
+use Rattle.net_storage.specs.Turns.{binary_digits}
 use Rattle.net_storage.specs.Assembler.{MakesTooManyRuns}
-use Rattle.net_storage.specs.AssemblerLaws.{Answers, answers_of, EqualSets, MembersWithRange, FrontIsLeastMissing, EqualAssemblers, AddingAgain, AddingInBothOrders, IteratesMaximalRuns}
-use Rattle.net_storage.proofs.Positions.{by_or, same_positions, contains-with_range, first_missing-misses, first_missing-has}
-use Rattle.net_storage.proofs.MaximalRuns.{are_maximal_runs}
+use Rattle.net_storage.specs.AssemblerLaws.{CallsNext, yielded, EqualSets, MembersOfList, FirstMissingIsLeast, FrontIsLeastMissing, EqualMaximalRuns, MaximalRunsByNumber, EnoughBinaryDigits, EqualAssemblers, AddingAgain, AddingInBothOrders, IteratesMaximalRuns}
+use Rattle.net_storage.proofs.Positions.{has, same_positions, contains-set_of_list, contains-with_range, first_missing-misses, first_missing-has, first_missing-le}
+use Rattle.net_storage.proofs.MaximalRuns.{are_maximal_runs, equal_maximal_runs, run_by_number, no_run_by_number}
 
 pub equal_sets : EqualSets
 equal_sets s t = (λ e p. ap (λ (u : Positions). contains u p) e, λ is. same_positions s t is)
 
-in_range : (o n p : ℕ) → (nat_le o p && nat_lt p (o + n)) ≡ true → (o ≤ p) × (p < o + n)
-in_range o n p h = (grind (arith, nat_tests), grind (arith, nat_tests))
+list_any-has : (ks : List ℕ) (p : ℕ) → has ks p ≡ list_any (nat_eq p) ks
+list_any-has [] p = refl
+list_any-has (k ∷ ks) p = ap (λ b. (p == k) || b) (list_any-has ks p)
 
-from_range : (o n p : ℕ) → o ≤ p → p < o + n → (nat_le o p && nat_lt p (o + n)) ≡ true
-from_range o n p l m = grind (arith, nat_tests)
+pub members_of_list : MembersOfList
+members_of_list ks p = contains-set_of_list ks p ∙ list_any-has ks p
 
-or_left : (a b : Bool) → a ≡ true → (a || b) ≡ true
-or_left a b e = ap (λ x. x || b) e
-
-or_right : (a b : Bool) → b ≡ true → (a || b) ≡ true
-or_right true b e = refl
-or_right false b e = e
-
-pub members_with_range : MembersWithRange
-members_with_range s o n p = (
-  λ h. by_or (contains s p) (nat_le o p && nat_lt p (o + n)) (IsTrue (contains s p) ⊎ ((o ≤ p) × (p < o + n))) (λ e. inl e) (λ e. inr (in_range o n p e)) (sym (contains-with_range s o n p) ∙ h),
-  λ h. contains-with_range s o n p ∙ (elim h [ inl e ↦ or_left _ _ e | inr e ↦ or_right _ _ (from_range o n p e.0 e.1) ]),
-)
+pub first_missing_is_least : FirstMissingIsLeast
+first_missing_is_least s p = record {
+  from = first_missing-le s p;
+  missing = first_missing-misses s p;
+  present = first_missing-has s p;
+}
 
 pub front_is_least_missing : FrontIsLeastMissing
 unfolding front
-front_is_least_missing s = record {
-  missing = first_missing-misses s 0;
-  present = λ p l. first_missing-has s 0 p (omega arith) l;
-}
+front_is_least_missing s = first_missing_is_least s 0
+
+pub equal_runs : EqualMaximalRuns
+equal_runs s t = (equal_maximal_runs s t, λ e. ap maximal_runs e)
+
+pub runs_by_number : MaximalRunsByNumber
+runs_by_number s k = (run_by_number s k, no_run_by_number s k)
+
+-- n is below 2 ^ b, b being how many binary digits it has; turns bounds n
+below_digits : (turns n : ℕ) → n ≤ turns → n < 2 ^ length (digits_of 2 n)
+below_digits turns zero l = omega (arith, pow_pos (length (digits_of 2 0)))
+below_digits zero (suc n) l = absurd (omega arith)
+below_digits (suc turns) (suc n) l =
+    let ih = below_digits turns (suc n / 2) (omega arith) in
+    let step = length-digits_of_step 2 (suc n) (omega arith) (omega arith) in
+    let half = length (digits_of 2 (suc n / 2)) in
+    let count : length (digits_of 2 (suc n)) ≡ suc half = omega (arith, step) in
+    let power = ap (λ b. 2 ^ b) count ∙ pow-suc 2 half in
+    omega arith
+
+pub below_binary_digits : (n : ℕ) → n < 2 ^ binary_digits n
+unfolding binary_digits
+below_binary_digits n = below_digits n n (omega arith)
+
+pub enough_binary_digits : EnoughBinaryDigits
+unfolding binary_digits
+enough_binary_digits n b = (length-digits_of-le 2 b n (omega arith), λ l. let p = below_binary_digits n in let q = pow_mono l in omega arith)
+
+below_power : (n : ℕ) → n < 2 ^ n
+below_power zero = omega arith
+below_power (suc n) = let ih = below_power n in omega (arith, pow-suc 2 n)
+
+-- a number has no more binary digits than its value
+pub few_binary_digits : (n : ℕ) → binary_digits n ≤ n
+few_binary_digits n = (enough_binary_digits n n).0 (below_power n)
 
 pub equal_assemblers : EqualAssemblers
 equal_assemblers s t b c = (λ e. (equal_sets s t).0 (c.same.0 e), λ is. c.same.1 ((equal_sets s t).1 is))
@@ -86,13 +118,13 @@ drop-nothing zero = refl
 drop-nothing (suc n) = refl
 
 -- calls of `next` answer what is left, in turn, and then `None`
-answered : (left last : List (ℕ × ℕ)) (answers : List (Option (ℕ × ℕ))) → Answers left answers last → (answers ≡ answers_of left (length answers)) × (last ≡ drop (length answers) left)
+answered : (left last : List (ℕ × ℕ)) (answers : List (Option (ℕ × ℕ))) → CallsNext left answers last → (answers ≡ yielded left (length answers)) × (last ≡ drop (length answers) left)
 answered left last [] h = (refl, sym h)
 answered [] last (None ∷ answers) h =
     let ended : h.0 ≡ [] = h.1.1 in
     let rest = answered h.0 last answers h.2 in
     let n = length answers in
-    (ap (λ xs. None ∷ xs) (rest.0 ∙ ap (λ xs. answers_of xs n) ended), rest.1 ∙ ap (drop n) ended ∙ drop-nothing n)
+    (ap (λ xs. None ∷ xs) (rest.0 ∙ ap (λ xs. yielded xs n) ended), rest.1 ∙ ap (drop n) ended ∙ drop-nothing n)
 answered [] last (Some r ∷ answers) h = let e : [] ≡ r ∷ h.0 = h.1 in cc
 answered (l ∷ left) last (None ∷ answers) h = let e : l ∷ left ≡ [] = h.1.0 in cc
 answered (l ∷ left) last (Some r ∷ answers) h =
@@ -101,7 +133,7 @@ answered (l ∷ left) last (Some r ∷ answers) h =
     let others : left ≡ h.0 = cc in
     let rest = answered h.0 last answers h.2 in
     let n = length answers in
-    ((λ i. Some (sym same i) ∷ rest.0 i) ∙ ap (λ xs. Some l ∷ answers_of xs n) (sym others), rest.1 ∙ ap (drop n) (sym others))
+    ((λ i. Some (sym same i) ∷ rest.0 i) ∙ ap (λ xs. Some l ∷ yielded xs n) (sym others), rest.1 ∙ ap (drop n) (sym others))
 
 pub iterates_maximal_runs : IteratesMaximalRuns
 iterates_maximal_runs limit s left last answers first calls =

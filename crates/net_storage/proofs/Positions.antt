@@ -1,8 +1,8 @@
 -- What membership, runs and shifts of a set of positions come to, whatever holds the set.
-use Rattle.std.proofs.Common.{◌≡◌, ℕ, zero, suc, ◌+◌, ◌-◌, ◌<◌, ◌≤◌, Bool, true, false, cond, not, ◌&&◌, ◌||◌, ◌==◌, List, [], ◌∷◌, ◌++◌, map, filter, length, nat_le, nat_lt, refl, sym, ap, subst, ◌∙◌, ◌⊎◌, inl, inr, arith, Decides}
+use Rattle.std.proofs.Common.{◌≡◌, ℕ, zero, suc, ◌+◌, ◌-◌, ◌<◌, ◌≤◌, Bool, true, false, cond, not, ◌&&◌, ◌||◌, ◌==◌, List, [], ◌∷◌, ◌++◌, map, filter, length, nat_le, nat_lt, refl, sym, ap, subst, ◌∙◌, ◌⊎◌, inl, inr, arith, Decides, le-leb}
 use Rattle.std.proofs.lemmas.Bool.{false≢true}
 use Rattle.std.proofs.lemmas.List.{length-map}
-use Rattle.std.proofs.lemmas.Bool.{eqb-true, eq-eqb, cases_lt, cases_eq}
+use Rattle.std.proofs.lemmas.Bool.{eqb-true, eq-eqb, cases_lt, cases_eq, lt-leb}
 use Rattle.std.specs.List.{range_with_len, list_any}
 use Rattle.std.specs.Prelude.{T, is_some, Option, Some, None}
 use Rattle.std.specs.Ordering.{nat_cmp, eq_by_cmp, is_lt}
@@ -10,7 +10,7 @@ use Rattle.std.specs.Cmp.{nat_cmp_total, unsigned_tied}
 use Rattle.std.specs.FinMap.{entries, contains_key-keys, get-from_entries, get-empty, same_map, nat_cmp-IsAntisymmetric, entries_sorted}
 use Rattle.std.specs.FinMap.Entries.{is_sorted, below_all, is_some-find}
 use Rattle.std.proofs.lemmas.Bool.Decides.{nat_tests}
-use Rattle.net_storage.specs.Positions.{Positions, contains, positions, set_of_list, nothing, with_range, begins_run, run_starts, runs, maximal_runs, shift_down, bound_of, missing_within, first_missing, are_same}
+use Rattle.net_storage.specs.Positions.{Positions, contains, positions, set_of_list, nothing, with_range, begins_run, run_starts, runs, maximal_runs, runs_shifted_up, shift_down, shift_up, bound_of, missing_within, first_missing, are_same}
 use Rattle.std.specs.Cmp.Lexicographic.{bytes_decides}
 
 -- membership in a list
@@ -229,6 +229,84 @@ contains-shift_down s m q = contains-set_of_list _ q ∙ has-shifted m (position
 pub runs-maximal_runs : (s : Positions) → runs s ≡ length (maximal_runs s)
 unfolding maximal_runs runs
 runs-maximal_runs s = sym (length-map (run_starts s) (λ p. (p, first_missing s p)))
+
+-- a set that was shifted up
+rises_up : (n low high : ℕ) (ks : List ℕ) → high ≤ n + low → Rises low ks → Rises high (map (λ p. n + p) ks)
+rises_up n low high [] l h = tt
+rises_up n low high (k ∷ ks) l h = (omega (arith, h.0), rises_up n (k + 1) (n + k + 1) ks (omega arith) h.1)
+
+none_and : (b : Bool) → false ≡ (b && false)
+none_and true = refl
+none_and false = refl
+
+up_step : (n k q : ℕ) (b : Bool) → ((q == n + k) || (nat_le n q && b)) ≡ (nat_le n q && ((q - n == k) || b))
+up_step n k q true = grind (arith, nat_tests)
+up_step n k q false = grind (arith, nat_tests)
+
+has-up : (n : ℕ) (ks : List ℕ) (q : ℕ) → has (map (λ p. n + p) ks) q ≡ (nat_le n q && has ks (q - n))
+has-up n [] q = none_and (nat_le n q)
+has-up n (k ∷ ks) q = ap (λ b. (q == n + k) || b) (has-up n ks q) ∙ up_step n k q (has ks (q - n))
+
+pub contains-shift_up : (s : Positions) (n q : ℕ) → contains (shift_up s n) q ≡ (nat_le n q && contains s (q - n))
+unfolding shift_up
+contains-shift_up s n q = contains-set_of_list _ q ∙ has-up n (positions s) q ∙ ap (λ b. nat_le n q && b) (sym (contains-positions s (q - n)))
+
+filter_up : (f g : ℕ → Bool) (n : ℕ) (ks : List ℕ) → ((k : ℕ) → f (n + k) ≡ g k) → filter f (map (λ p. n + p) ks) ≡ map (λ p. n + p) (filter g ks)
+filter_up f g n [] same = refl
+filter_up f g n (k ∷ ks) same =
+    let more = map (λ p. n + p) ks in
+    ap (λ b. cond b ((n + k) ∷ filter f more) (filter f more)) (same k)
+    ∙ elim (g k) as (λ b. cond b ((n + k) ∷ filter f more) (filter f more) ≡ map (λ p. n + p) (cond b (k ∷ filter g ks) (filter g ks))) [
+      | true ↦ ap (λ xs. (n + k) ∷ xs) (filter_up f g n ks same)
+      | false ↦ filter_up f g n ks same
+    ]
+
+ends_up : (f g : ℕ → ℕ) (n : ℕ) (ks : List ℕ) → ((k : ℕ) → f (n + k) ≡ n + g k) → map (λ (p : ℕ). (p, f p)) (map (λ p. n + p) ks) ≡ runs_shifted_up n (map (λ (p : ℕ). (p, g p)) ks)
+ends_up f g n [] same = refl
+ends_up f g n (k ∷ ks) same = λ i. (n + k, same k i) ∷ ends_up f g n ks same i
+
+module _ (s : Positions) (n : ℕ) where
+  there : (q p : ℕ) → q ≡ n + p → contains (shift_up s n) q ≡ contains s p
+  there q p e = contains-shift_up s n q ∙ (λ i. le-leb n q (omega arith) i && contains s (q - n)) ∙ ap (contains s) (omega arith)
+
+  gone : (q : ℕ) → q < n → contains (shift_up s n) q ≡ false
+  gone q l = contains-shift_up s n q ∙ ap (λ b. b && contains s (q - n)) (lt-leb n q l)
+
+  positions-shift_up : positions (shift_up s n) ≡ map (λ p. n + p) (positions s)
+  unfolding shift_up
+  positions-shift_up = positions-set_of_list _ (rises_up n 0 0 (positions s) (omega arith) (positions_rise s))
+
+  begins-shift_up : (p : ℕ) → begins_run (shift_up s n) (n + p) ≡ begins_run s p
+  begins-shift_up p =
+      either (cases_lt 0 p)
+      (λ (l : 0 < p). by (contains s (p - 1)) l refl)
+      (λ (l : p ≤ 0). begins-true (shift_up s n) (n + p) (λ k. gone (n + p - 1) (omega arith)) ∙ sym (begins-true s p (λ k. absurd (omega arith))))
+    where
+      by : (b : Bool) → 0 < p → contains s (p - 1) ≡ b → begins_run (shift_up s n) (n + p) ≡ begins_run s p
+      by true l e = begins-false (shift_up s n) (n + p) (omega arith) (there (n + p - 1) (p - 1) (omega arith) ∙ e) ∙ sym (begins-false s p l e)
+      by false l e = begins-true (shift_up s n) (n + p) (λ _. there (n + p - 1) (p - 1) (omega arith) ∙ e) ∙ sym (begins-true s p (λ _. e))
+
+  first_missing-shift_up : (p : ℕ) → first_missing (shift_up s n) (n + p) ≡ n + first_missing s p
+  first_missing-shift_up p =
+      let least = first_missing-le s p in
+      first_missing-is (shift_up s n) (n + p) (n + first_missing s p) (omega arith) (there (n + first_missing s p) (first_missing s p) refl ∙ first_missing-misses s p)
+      (λ q a b. there q (q - n) (omega arith) ∙ first_missing-has s p (q - n) (omega arith) (omega arith))
+
+  run_starts-shift_up : run_starts (shift_up s n) ≡ map (λ p. n + p) (run_starts s)
+  unfolding run_starts
+  run_starts-shift_up =
+      ap (filter (begins_run (shift_up s n))) positions-shift_up
+      ∙ filter_up (begins_run (shift_up s n)) (begins_run s) n (positions s) begins-shift_up
+
+  pub maximal_runs-shift_up : maximal_runs (shift_up s n) ≡ runs_shifted_up n (maximal_runs s)
+  unfolding maximal_runs
+  maximal_runs-shift_up =
+      ap (map (λ p. (p, first_missing (shift_up s n) p))) run_starts-shift_up
+      ∙ ends_up (first_missing (shift_up s n)) (first_missing s) n (run_starts s) first_missing-shift_up
+
+  pub runs-shift_up : runs (shift_up s n) ≡ runs s
+  unfolding runs
+  runs-shift_up = ap length run_starts-shift_up ∙ length-map (run_starts s) (λ p. n + p)
 
 pub are_same_decides : (s t : Positions) → Decides (are_same s t) (s ≡ t)
 are_same_decides s t =

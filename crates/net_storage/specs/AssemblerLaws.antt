@@ -1,9 +1,11 @@
 -- Laws of sets of positions and of what the contracts of an assembler's calls say.
-use Rattle.std.specs.Prelude.{◌≡◌, ◌↔◌, ◌⊎◌, ℕ, zero, suc, ◌+◌, ◌<◌, ◌≤◌, Bool, List, [], ◌∷◌, length, drop, Option, Some, None, Result, Ok, IsTrue, IsFalse, IsOk, IsErr, OnOk, OnErr, MatchResult}
+use Rattle.std.specs.Prelude.{◌≡◌, ◌↔◌, ℕ, zero, suc, ◌+◌, ◌-◌, ◌<◌, ◌≤◌, ◌^◌, Bool, ◌&&◌, ◌||◌, List, [], ◌∷◌, length, drop, nat_le, nat_eq, Option, Some, None, Result, Ok, IsTrue, IsFalse, IsOk, IsErr, OnOk, OnErr, MatchResult}
+use Rattle.std.specs.List.{list_any, slice_get}
 use Rattle.std.specs.Iterator.{YieldsFirst}
 use Rattle.net_storage.specs.declared.assembler.error.TooManyHolesError.{TooManyHolesError}
-use Rattle.net_storage.specs.Positions.{Positions, contains, nothing, with_range, runs, front, shift_down, maximal_runs, are_same, IsFront, AreMaximalRuns}
+use Rattle.net_storage.specs.Positions.{Positions, contains, nothing, set_of_list, with_range, runs, first_missing, front, shift_down, shift_up, maximal_runs, runs_shifted_up, lies_in, are_same, IsFirstMissing, IsMaximalRun, AreMaximalRuns}
 use Rattle.net_storage.specs.Assembler.{MakesTooManyRuns}
+use Rattle.net_storage.specs.Turns.{binary_digits}
 
 -- what the contract of `add` says of a call
 pub record Adds (limit : ℕ) (old : Positions) (offset size : ℕ) (result : Result (Unit {0}) TooManyHolesError) (new : Positions) : Type 0 where
@@ -35,37 +37,76 @@ pub record Iterates (limit : ℕ) (s : Positions) (result : List (ℕ × ℕ)) :
   pub bound : length result ≤ limit
 
 -- what calls of `next`, one after another, answer and leave by its contract
-abbrev pub Answers : List (ℕ × ℕ) → List (Option (ℕ × ℕ)) → List (ℕ × ℕ) → Type 0
-Answers left [] last = left ≡ last
-Answers left (answer ∷ answers) last = (rest : List (ℕ × ℕ)) × YieldsFirst (λ runs. runs) left answer rest × Answers rest answers last
+abbrev pub CallsNext : List (ℕ × ℕ) → List (Option (ℕ × ℕ)) → List (ℕ × ℕ) → Type 0
+CallsNext left [] last = left ≡ last
+CallsNext left (answer ∷ answers) last = (rest : List (ℕ × ℕ)) × YieldsFirst (λ runs. runs) left answer rest × CallsNext rest answers last
 
--- the items of a list as n answers, and `None` from its end on
-abbrev pub answers_of : List (ℕ × ℕ) → ℕ → List (Option (ℕ × ℕ))
-answers_of left zero = []
-answers_of [] (suc n) = None ∷ answers_of [] n
-answers_of (run ∷ left) (suc n) = Some run ∷ answers_of left n
+-- the first n runs of a list, and `None` from its end on
+abbrev pub yielded : List (ℕ × ℕ) → ℕ → List (Option (ℕ × ℕ))
+yielded left zero = []
+yielded [] (suc n) = None ∷ yielded [] n
+yielded (run ∷ left) (suc n) = Some run ∷ yielded left n
 
 -- sets are equal exactly if they have the same members
 abbrev pub EqualSets : Type 0
 EqualSets = (s t : Positions) → (s ≡ t) ↔ ((p : ℕ) → contains s p ≡ contains t p)
 
--- the members of the empty set, of a set with a range, and of a set that was moved down
+-- the empty set has no member
 abbrev pub MembersOfNothing : Type 0
 MembersOfNothing = (p : ℕ) → IsFalse (contains nothing p)
 
-abbrev pub MembersWithRange : Type 0
-MembersWithRange = (s : Positions) (offset size p : ℕ) → IsTrue (contains (with_range s offset size) p) ↔ (IsTrue (contains s p) ⊎ ((offset ≤ p) × (p < offset + size)))
+-- the members of the set of a list are those of the list
+abbrev pub MembersOfList : Type 0
+MembersOfList = (ks : List ℕ) (p : ℕ) → contains (set_of_list ks) p ≡ list_any (nat_eq p) ks
 
-abbrev pub MembersMovedDown : Type 0
-MembersMovedDown = (s : Positions) (m p : ℕ) → contains (shift_down s m) p ≡ contains s (p + m)
+-- a set with a range has its members and the positions of the range
+abbrev pub MembersWithRange : Type 0
+MembersWithRange = (s : Positions) (offset size p : ℕ) →
+    contains (with_range s offset size) p ≡ (contains s p || lies_in p (offset, offset + size))
+
+-- a set that was shifted down by m has p exactly where the set has p + m
+abbrev pub MembersShiftedDown : Type 0
+MembersShiftedDown = (s : Positions) (m p : ℕ) → contains (shift_down s m) p ≡ contains s (p + m)
+
+-- a set that was shifted up by n has p exactly where n <= p and the set has p - n
+abbrev pub MembersShiftedUp : Type 0
+MembersShiftedUp = (s : Positions) (n p : ℕ) →
+    contains (shift_up s n) p ≡ (nat_le n p && contains s (p - n))
+
+-- `first_missing` is the least position from p on that is not in the set, for every set and every p
+abbrev pub FirstMissingIsLeast : Type 0
+FirstMissingIsLeast = (s : Positions) (p : ℕ) → IsFirstMissing s p (first_missing s p)
 
 -- the front of a set is the least position that is not in it
 abbrev pub FrontIsLeastMissing : Type 0
-FrontIsLeastMissing = (s : Positions) → IsFront s (front s)
+FrontIsLeastMissing = (s : Positions) → IsFirstMissing s 0 (front s)
 
 -- the list of maximal runs is what its name says, for every set
 abbrev pub MaximalRunsOfEverySet : Type 0
 MaximalRunsOfEverySet = (s : Positions) → AreMaximalRuns s (maximal_runs s)
+
+-- sets are equal exactly if their lists of maximal runs are
+abbrev pub EqualMaximalRuns : Type 0
+EqualMaximalRuns = (s t : Positions) → (maximal_runs s ≡ maximal_runs t) ↔ (s ≡ t)
+
+-- the run with number k is a maximal run, and there is none exactly where the set has no more than k
+abbrev pub MaximalRunsByNumber : Type 0
+MaximalRunsByNumber = (s : Positions) (k : ℕ) →
+    ((run : ℕ × ℕ) → slice_get (maximal_runs s) k ≡ Some run → IsMaximalRun s run)
+    × ((slice_get (maximal_runs s) k ≡ None) ↔ (runs s ≤ k))
+
+-- the maximal runs of a set that was shifted up are its own, shifted up
+abbrev pub MaximalRunsShiftedUp : Type 0
+MaximalRunsShiftedUp = (s : Positions) (n : ℕ) →
+    maximal_runs (shift_up s n) ≡ runs_shifted_up n (maximal_runs s)
+
+-- and so it has as many
+abbrev pub AsManyRunsShiftedUp : Type 0
+AsManyRunsShiftedUp = (s : Positions) (n : ℕ) → runs (shift_up s n) ≡ runs s
+
+-- b binary digits are enough exactly for the numbers below 2 ^ b
+abbrev pub EnoughBinaryDigits : Type 0
+EnoughBinaryDigits = (n b : ℕ) → (n < 2 ^ b) ↔ (binary_digits n ≤ b)
 
 -- two assemblers are equal exactly if their sets have the same members
 abbrev pub EqualAssemblers : Type 0
@@ -98,5 +139,5 @@ FrontIsNeverRefused = (limit size : ℕ) (s both : Positions) (result : Result �
 -- answers the runs in turn and then None
 abbrev pub IteratesMaximalRuns : Type 0
 IteratesMaximalRuns = (limit : ℕ) (s : Positions) (left last : List (ℕ × ℕ)) (answers : List (Option (ℕ × ℕ))) →
-    Iterates limit s left → Answers left answers last →
-    AreMaximalRuns s left × (length left ≤ limit) × (answers ≡ answers_of left (length answers)) × (last ≡ drop (length answers) left)
+    Iterates limit s left → CallsNext left answers last →
+    AreMaximalRuns s left × (length left ≤ limit) × (answers ≡ yielded left (length answers)) × (last ≡ drop (length answers) left)

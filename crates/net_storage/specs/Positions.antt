@@ -87,14 +87,23 @@ pub record AreMaximalRuns (s : Positions) (list : List (ℕ × ℕ)) : Type 0 wh
   pub rising : AllPairs (λ q r. q.1 < r.0) list
   pub number : length list ≡ runs s
 
--- n is the least position that is not in s
-pub record IsFront (s : Positions) (n : ℕ) : Type 0 where
+-- n is the least position from p on that is not in s
+pub record IsFirstMissing (s : Positions) (p n : ℕ) : Type 0 where
+  pub from : p ≤ n
   pub missing : IsFalse (contains s n)
-  pub present : (p : ℕ) → p < n → IsTrue (contains s p)
+  pub present : (q : ℕ) → p ≤ q → q < n → IsTrue (contains s q)
 
 -- p - m for each p in s with p >= m
 unfoldable pub shift_down : Positions → ℕ → Positions
 shift_down s m = set_of_list (map (λ p. p - m) (filter (nat_le m) (positions s)))
+
+-- n + p for each p in s
+unfoldable pub shift_up : Positions → ℕ → Positions
+shift_up s n = set_of_list (map (λ p. n + p) (positions s))
+
+-- runs (start, end), each counted n higher
+abbrev pub runs_shifted_up : ℕ → List (ℕ × ℕ) → List (ℕ × ℕ)
+runs_shifted_up n rs = map (λ r. (n + r.0, n + r.1)) rs
 
 -- whether two sets have the same positions
 abbrev pub are_same : Positions → Positions → Bool

@@ -1,8 +1,13 @@
--- Counts of loop turns.
-use Rattle.std.specs.Prelude.{ℕ, ◌+◌}
+-- Counts of loop turns, and how many binary digits a number has.
+use Rattle.std.specs.Prelude.{ℕ, ◌+◌, length}
+use Rattle.std.specs.Int.Digits.{digits_of}
 use Rattle.net_storage.specs.declared.assembler.turns.Count.{Count, Zero, Next'}
 
 -- the number that a count stands for
 abbrev pub number : Count → ℕ
 number Zero = 0
 number (Next' shape below) = number below + 1
+
+-- how many binary digits n has, and 0 for 0
+unfoldable pub binary_digits : ℕ → ℕ
+binary_digits n = length (digits_of 2 n)

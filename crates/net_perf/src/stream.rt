@@ -1,0 +1,88 @@
+//! Workloads of the receiver.
+ghost use Rattle.std.specs.Prelude.{◌≤◌};
+
+use crate::checksum::{START, mix};
+use net_receiver::Receiver;
+use net_storage::ManagedSlice;
+
+/// The `len` bytes of `data` from `at` on, if they lie within it.
+fn part(data: &[u8], at: usize, len: usize) -> Option<&[u8]> {
+    data.get(at..)?.get(..len)
+}
+
+/// The checksum with what stands in `sink` of each read, until the queue is empty.
+fn mix_reads<const N: usize>(sum: u64, receiver: &mut Receiver<'_, N>, sink: &mut [u8]) -> u64 {
+    let mut sum = sum;
+    for _ in 0..receiver.queued() {
+        let count = receiver.read(sink);
+        if count == 0 {
+            break;
+        }
+        sum = mix(sum, count as u64);
+        sum = mix(sum, sink[0] as u64);
+        sum = mix(sum, sink[count - 1] as u64);
+    }
+    sum
+}
+
+/// Sends the segments of `ops`, pairs of place in `data` and length, and reads all that is queued,
+/// `rounds` times, each time behind the round before.
+fn stream_at<const N: usize>(
+    storage: &mut [u8],
+    ops: &[usize],
+    data: &[u8],
+    sink: &mut [u8],
+    rounds: u64,
+) -> u64
+    requires { 1 ≤ N }
+{
+    let mut sum = START;
+    let mut receiver = Receiver::<N>::new(ManagedSlice::Borrowed(storage));
+    let mut base: u64 = 0;
+    for _ in 0..rounds {
+        let mut kept: u64 = 0;
+        let mut queued: u64 = 0;
+        let mut refused: u64 = 0;
+        for range in ops.chunks_exact(2) {
+            let Some(bytes) = part(data, range[0], range[1]) else {
+                return sum;
+            };
+            let Some(pos) = base.checked_add(range[0] as u64) else {
+                return sum;
+            };
+            if !Receiver::<N>::fits(pos, bytes.len()) {
+                return sum;
+            }
+            match receiver.segment(pos, bytes) {
+                Ok(answer) => {
+                    kept = kept.wrapping_add(answer.kept as u64);
+                    queued = queued.wrapping_add(answer.queued as u64);
+                }
+                Err(_) => refused = refused.wrapping_add(1),
+            }
+        }
+        sum = mix(sum, kept);
+        sum = mix(sum, queued);
+        sum = mix(sum, refused);
+        sum = mix_reads(sum, &mut receiver, sink);
+        base = base.wrapping_add(data.len() as u64);
+    }
+    sum
+}
+
+/// See `stream_at`; `n` is 4 or 32.
+#[unsafe(no_mangle)]
+pub extern "C" fn np_stream(
+    n: u64,
+    storage: &mut [u8],
+    ops: &[usize],
+    data: &[u8],
+    sink: &mut [u8],
+    rounds: u64,
+) -> u64 {
+    match n {
+        4 => stream_at::<4>(storage, ops, data, sink, rounds),
+        32 => stream_at::<32>(storage, ops, data, sink, rounds),
+        _ => 0,
+    }
+}
