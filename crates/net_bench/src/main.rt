@@ -5,6 +5,7 @@ mod asm;
 mod bench;
 mod error;
 mod fault;
+mod laws;
 mod mode;
 mod ring;
 mod run;

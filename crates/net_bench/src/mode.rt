@@ -92,12 +92,7 @@ fn two_words(name: &[u8], number: &[u8]) -> Option<Mode>
 }
 
 /// Mode `stream` with the numbers that these words write, and this first position.
-fn stream(
-    name: &[u8],
-    capacity_word: &[u8],
-    limit_word: &[u8],
-    first: Option<u64>,
-) -> Option<Mode>
+fn stream(name: &[u8], capacity_word: &[u8], limit_word: &[u8], first: Option<u64>) -> Option<Mode>
     ensures { result ≡ stream_of name.now capacity_word.now limit_word.now first }
 {
     if name != b"stream".as_slice() {

@@ -4,8 +4,9 @@ ghost use Rattle.net_receiver.specs.Schedule.{Answer};
 ghost use Rattle.net_receiver.specs.Commands.{action, answer_seen, CommandFits};
 ghost use Rattle.net_receiver.specs.Stored.{fresh_stored, stored_after, stored_reply};
 ghost use Rattle.net_bench.specs.Text.{words_of};
-ghost use Rattle.net_bench.specs.StreamMode.{stream_command, stream_does, stream_rules, stream_closing, first_schedule, end_fits, reply_text};
-ghost use Rattle.net_bench.specs.StreamMode.{ToReceiver, NextSchedule};
+ghost use Rattle.net_bench.specs.StreamMode.{ToReceiver, NextSchedule, stream_command};
+ghost use Rattle.net_bench.specs.StreamMode.{first_schedule, stream_does, stream_rules};
+ghost use Rattle.net_bench.specs.StreamMode.{stream_closing, end_fits};
 ghost use Rattle.net_bench.specs.StreamLines.{stream_command_seen};
 ghost use Rattle.net_bench.specs.StreamStored.{of_stored};
 
@@ -50,9 +51,10 @@ impl<const N: usize> Model for StreamSession<N> {
     ghost coded = { schedules_code };
 
     ghost view = { λ s. record {
-        setting = record { first = s.first; capacity = s.capacity; most_runs = N };
-        present = s.present;
-        ended = s.ended } };
+      setting = record { first = s.first; capacity = s.capacity; most_runs = N };
+      present = s.present;
+      ended = s.ended;
+    } };
 
     ghost invariant = { λ _. 1 ≤ N };
 }
@@ -105,7 +107,8 @@ fn segment_line(
 
 /// What a line says.
 fn stream_line(alloc: Global, line: &[u8]) -> Result<Option<StreamLine>, AllocError>
-    ensures { IfOk result (λ found. option_map stream_command_seen found ≡ stream_command (words_of line.now)) }
+    ensures { IfOk result (λ found.
+        option_map stream_command_seen found ≡ stream_command (words_of line.now)) }
 {
     match words::split_words(line) {
         Words::One(verb) => Ok(plain_line(verb)),
@@ -146,7 +149,8 @@ fn run_command<const N: usize>(
 ) -> Result<Reply, AllocError>
     requires { CommandFits command }
     ensures state { IfOk result (λ _. receiver.new ≡ stored_after N receiver.old (action command)) }
-    ensures answer { IfOk result (λ reply. answer_seen reply ≡ stored_reply N receiver.old (action command)) }
+    ensures answer { IfOk result (λ reply.
+        answer_seen reply ≡ stored_reply N receiver.old (action command)) }
 {
     let mut replies = Vec::new(alloc);
     let commands = [command];
@@ -156,11 +160,7 @@ fn run_command<const N: usize>(
 
 impl<const N: usize> StreamSession<N> {
     /// A fresh receiver of a stream that begins at `first`, over so many bytes of storage, all 0.
-    pub fn new(
-        alloc: Global,
-        first: u64,
-        capacity: usize,
-    ) -> Result<StreamSession<N>, AllocError>
+    pub fn new(alloc: Global, first: u64, capacity: usize) -> Result<StreamSession<N>, AllocError>
         requires { 1 ≤ N }
         ensures { IfOk result (λ session. session ≡ first_schedule of_stored
             (record { first = first; capacity = capacity; most_runs = N })) }
@@ -180,9 +180,11 @@ impl<const N: usize> StreamSession<N> {
         alloc: Global,
         command: Command,
     ) -> Result<Result<String, Fault>, AllocError>
-        ensures { IfOk result (λ outcome. MatchResult outcome
-            (λ reply. stream_does of_stored self.old (ToReceiver (action command)) ≡ Ok (self.new, string_bytes reply))
-            (λ fault. stream_does of_stored self.old (ToReceiver (action command)) ≡ Err fault)) }
+        ensures {
+            let done = stream_does of_stored self.old (ToReceiver (action command)) in
+            IfOk result (λ outcome. MatchResult outcome
+                (λ reply. done ≡ Ok (self.new, string_bytes reply))
+                (λ fault. done ≡ Err fault)) }
     {
         if !fits::<N>(&command) {
             return Ok(Err(Fault::RangeTooLong));
@@ -193,9 +195,11 @@ impl<const N: usize> StreamSession<N> {
 
     /// Begins the second schedule.
     fn next_schedule(&mut self, alloc: Global) -> Result<Result<String, Fault>, AllocError>
-        ensures { IfOk result (λ outcome. MatchResult outcome
-            (λ reply. stream_does of_stored self.old NextSchedule ≡ Ok (self.new, string_bytes reply))
-            (λ fault. stream_does of_stored self.old NextSchedule ≡ Err fault)) }
+        ensures {
+            let done = stream_does of_stored self.old NextSchedule in
+            IfOk result (λ outcome. MatchResult outcome
+                (λ reply. done ≡ Ok (self.new, string_bytes reply))
+                (λ fault. done ≡ Err fault)) }
     {
         if self.ended.is_some() {
             return Ok(Err(Fault::TooManySchedules));

@@ -149,6 +149,149 @@ fn answers_asm_lines(rt: HostRuntime) -> Result<(), Fail> {
 }
 
 #[test]
+fn answers_stream_lines(rt: HostRuntime) -> Result<(), Fail> {
+    let rows: [(&str, &[u8], &[u8], &str); 12] = [
+        (
+            "stream 16 4",
+            b"s 0 68656c6c6f\nr 3\n?\n",
+            b"kept 5 queued 5 sack -\nread 68656c\nnext 5 queued 2 window 14 held -\n",
+            "Ok",
+        ),
+        (
+            "stream 16 4",
+            b"s 2 4141\ns 3 4242\ns 0 4343\nr 5\n",
+            b"kept 2 queued 0 sack 2-4\nkept 2 queued 0 sack 2-5\nkept 2 queued 5 sack -\nread 4343414242\n",
+            "Ok",
+        ),
+        (
+            "stream 16 4",
+            b"s 0 6162\ns 0 78787a\nr 9\n",
+            b"kept 2 queued 2 sack -\nkept 1 queued 1 sack -\nread 61627a\n",
+            "Ok",
+        ),
+        (
+            "stream 64 4",
+            b"s 10 010101\ns 20 020202\ns 30 030303\ns 40 040404\ns 50 01\ns 13 01\ns 0 616263\n?\n",
+            b"kept 3 queued 0 sack 10-13\nkept 3 queued 0 sack 10-13,20-23\nkept 3 queued 0 sack 10-13,20-23,30-33\nkept 3 queued 0 sack 10-13,20-23,30-33\nrefused too many holes\nkept 1 queued 0 sack 10-14,20-23,30-33\nkept 3 queued 3 sack 10-14,20-23,30-33\nnext 3 queued 3 window 61 held 10-14,20-23,30-33,40-43\n",
+            "Ok",
+        ),
+        (
+            "stream 4 4",
+            b"s 0 6162636465\ns 4 65\nr 2\ns 4 656667\nr 4\ns 8 6a\ns 6 6869\nr 9\n",
+            b"kept 4 queued 4 sack -\nkept 0 queued 0 sack -\nread 6162\nkept 2 queued 2 sack -\nread 63646566\nkept 1 queued 0 sack 8-9\nkept 2 queued 3 sack -\nread 68696a\n",
+            "Ok",
+        ),
+        (
+            "stream 16 4",
+            b"s 18446744073709551614 01\ns 18446744073709551614 0102\n",
+            b"kept 0 queued 0 sack -\n",
+            "line 2: range too long",
+        ),
+        (
+            "stream 64 4",
+            b"s 2 01\ns 4 01\ns 6 01\ns 8 01\ns 10 01\ns 62 01\ns 1 02\ns 0 03\ns 10 04\n?\n",
+            b"kept 1 queued 0 sack 2-3\nkept 1 queued 0 sack 2-3,4-5\nkept 1 queued 0 sack 2-3,4-5,6-7\nkept 1 queued 0 sack 2-3,4-5,6-7\nrefused too many holes\nrefused too many holes\nkept 1 queued 0 sack 1-3,4-5,6-7\nkept 1 queued 3 sack 4-5,6-7,8-9\nkept 1 queued 0 sack 4-5,6-7,8-9\nnext 3 queued 3 window 61 held 4-5,6-7,8-9,10-11\n",
+            "Ok",
+        ),
+        (
+            "stream 8 4",
+            b"s 4 6161\ns 3 626262\ns 5 6363636363\ns 0 64646464\ns 0 7a\nr 8\n",
+            b"kept 2 queued 0 sack 4-6\nkept 3 queued 0 sack 3-6\nkept 3 queued 0 sack 3-8\nkept 4 queued 8 sack -\nkept 0 queued 0 sack -\nread 6464646462636363\n",
+            "Ok",
+        ),
+        (
+            "stream 0 4",
+            b"s 0 61\nr 1\n?\n",
+            b"kept 0 queued 0 sack -\nread -\nnext 0 queued 0 window 0 held -\n",
+            "Ok",
+        ),
+        (
+            "stream 8 4 1000",
+            b"s 998 61626364\n?\ns 1004 78\ns 0 61\nr 9\n",
+            b"kept 2 queued 2 sack -\nnext 1002 queued 2 window 6 held -\nkept 1 queued 0 sack 1004-1005\nkept 0 queued 0 sack 1004-1005\nread 6364\n",
+            "Ok",
+        ),
+        (
+            "stream 8 4 18446744073709551614",
+            b"s 18446744073709551614 61\n?\ns 18446744073709551615 -\ns 18446744073709551615 62\n",
+            b"kept 1 queued 1 sack -\nnext 18446744073709551615 queued 1 window 7 held -\nkept 0 queued 0 sack -\n",
+            "line 4: range too long",
+        ),
+        (
+            "stream 65536 32",
+            b"s 1 61\ns 3 61\ns 5 61\ns 7 61\ns 9 61\n",
+            b"kept 1 queued 0 sack 1-2\nkept 1 queued 0 sack 1-2,3-4\nkept 1 queued 0 sack 1-2,3-4,5-6\nkept 1 queued 0 sack 1-2,3-4,5-6\nkept 1 queued 0 sack 1-2,3-4,5-6\n",
+            "Ok",
+        ),
+    ];
+    check_rows(&rt, rt.alloc(), &rows)
+}
+
+#[test]
+fn compares_two_schedules(rt: HostRuntime) -> Result<(), Fail> {
+    let rows: [(&str, &[u8], &[u8], &str); 12] = [
+        (
+            "stream 16 4",
+            b"s 0 61\ns 1 62\ns 2 63\n--\ns 2 63\ns 0 6162\n",
+            b"kept 1 queued 1 sack -\nkept 1 queued 1 sack -\nkept 1 queued 1 sack -\nkept 1 queued 0 sack 2-3\nkept 2 queued 3 sack -\nsame\n",
+            "Ok",
+        ),
+        (
+            "stream 16 4",
+            b"s 0 61\ns 1 62\ns 2 63\n--\ns 2 63\ns 0 6162\n--\n",
+            b"kept 1 queued 1 sack -\nkept 1 queued 1 sack -\nkept 1 queued 1 sack -\nkept 1 queued 0 sack 2-3\nkept 2 queued 3 sack -\n",
+            "line 7: too many schedules",
+        ),
+        (
+            "stream 16 4",
+            b"s 0 6162\n--\ns 0 6163\n",
+            b"kept 2 queued 2 sack -\nkept 2 queued 2 sack -\ndiffers\n",
+            "Ok",
+        ),
+        (
+            "stream 16 4",
+            b"s 0 61\nr 1\n--\ns 0 61\n",
+            b"kept 1 queued 1 sack -\nread 61\nkept 1 queued 1 sack -\ndiffers\n",
+            "Ok",
+        ),
+        (
+            "stream 16 4",
+            b"s 2 41\n--\ns 2 42\n",
+            b"kept 1 queued 0 sack 2-3\nkept 1 queued 0 sack 2-3\nsame\n",
+            "Ok",
+        ),
+        ("stream 16 4", b"--\n", b"same\n", "Ok"),
+        ("stream 16 4", b"--\nq\n", b"", "line 2: bad command"),
+        (
+            "stream 16 4",
+            b"s 0 61\n--\n",
+            b"kept 1 queued 1 sack -\ndiffers\n",
+            "Ok",
+        ),
+        ("stream 16 4", b"--\nq\n--\n", b"", "line 2: bad command"),
+        (
+            "stream 16 4",
+            b"--\n--\nq\n",
+            b"",
+            "line 2: too many schedules",
+        ),
+        (
+            "stream 8 4 1000",
+            b"s 1000 61\n--\ns 1000 61\n",
+            b"kept 1 queued 1 sack -\nkept 1 queued 1 sack -\nsame\n",
+            "Ok",
+        ),
+        (
+            "stream 4 4",
+            b"--\ns 0 6162636465\n",
+            b"kept 4 queued 4 sack -\ndiffers\n",
+            "Ok",
+        ),
+    ];
+    check_rows(&rt, rt.alloc(), &rows)
+}
+
+#[test]
 fn refuses_lines_of_no_command(rt: HostRuntime) -> Result<(), Fail> {
     let lines: [&[u8]; 14] = [
         b"w 61\r\n",
@@ -179,6 +322,23 @@ fn refuses_lines_of_no_command(rt: HostRuntime) -> Result<(), Fail> {
             &rt,
             rt.alloc(),
             &[("asm 4", line, b"", "line 1: bad command")],
+        )?;
+    }
+    let lines: [&[u8]; 8] = [
+        b"s 0\n",
+        b"s 0 6\n",
+        b"s 18446744073709551616 61\n",
+        b"s 18446744073709551615 616\n",
+        b"r -\n",
+        b"? \n",
+        b"---\n",
+        b"a 0 1\n",
+    ];
+    for line in lines {
+        check_rows(
+            &rt,
+            rt.alloc(),
+            &[("stream 8 4", line, b"", "line 1: bad command")],
         )?;
     }
     Ok(())
@@ -318,6 +478,26 @@ fn leaves_whole_replies_where_memory_is_refused(rt: HostRuntime) -> Result<(), F
             let whole = written.is_empty()
                 || written == b"took 2\n".as_slice()
                 || written == b"took 2\nread 61\n".as_slice();
+            assert!(rt; whole);
+        }
+        Err(_) => return Err(Fail::from(AllocError)),
+    }
+    Ok(())
+}
+
+/// The same with two schedules: memory for the second is wanted at `--`. The line that compares them wants
+/// none.
+#[test]
+fn leaves_whole_replies_of_a_stream_where_memory_is_refused(rt: HostRuntime) -> Result<(), Fail> {
+    let mode = mode(rt.alloc(), "stream 4 4")?;
+    let mut source = Source::new(b"s 1 62\n--\n?\n");
+    let mut sink = Sink::new(rt.alloc())?;
+    let outcome = run(rt.alloc(), mode, &mut source, &mut sink);
+    let all = b"kept 1 queued 0 sack 1-2\nnext 0 queued 0 window 4 held -\ndiffers\n".as_slice();
+    match outcome {
+        Ok(()) => assert_eq!(rt; sink.bytes.as_slice(), all),
+        Err(BenchError::OutOfMemory) => {
+            let whole = sink.bytes.is_empty() || sink.bytes.as_slice() == &all[..25];
             assert!(rt; whole);
         }
         Err(_) => return Err(Fail::from(AllocError)),

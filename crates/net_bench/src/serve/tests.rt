@@ -3,11 +3,11 @@ use super::*;
 use crate::streams::{Sink, Source, command_words};
 use std::test::Fail;
 
-const USAGE_LINE: &[u8] = b"usage: net_bench ring CAP | asm N | stream CAP N\n";
+const USAGE_LINE: &[u8] = b"usage: net_bench ring CAP | asm N | stream CAP N [FIRST]\n";
 
 #[test]
 fn answers_each_status(rt: HostRuntime) -> Result<(), Fail> {
-    let cases: [(&str, &[u8], &[u8], u8, &[u8]); 6] = [
+    let cases: [(&str, &[u8], &[u8], u8, &[u8]); 8] = [
         ("ring 8", b"w 61\n", b"took 1\n", 0, b""),
         ("ring 8", b"", b"", 0, b""),
         (
@@ -23,6 +23,20 @@ fn answers_each_status(rt: HostRuntime) -> Result<(), Fail> {
             b"ok\n",
             1,
             b"line 2: range too long\n",
+        ),
+        (
+            "stream 16 4",
+            b"s 18446744073709551614 01\ns 18446744073709551614 0102\n",
+            b"kept 0 queued 0 sack -\n",
+            1,
+            b"line 2: range too long\n",
+        ),
+        (
+            "stream 16 32 0",
+            b"--\n--\n",
+            b"",
+            1,
+            b"line 2: too many schedules\n",
         ),
         ("ring 65536", b"r 1", b"read -\n", 0, b""),
         ("ring 0", b"w 61", b"took 0\n", 0, b""),
@@ -54,7 +68,14 @@ fn says_how_it_is_used(rt: HostRuntime) -> Result<(), Fail> {
         "asm 5",
         "asm 04",
         "asm",
-        "stream 16 4",
+        "asm 4 4",
+        "stream 16",
+        "stream 65537 4",
+        "stream 16 5",
+        "stream 8 01",
+        "stream 8 4 18446744073709551616",
+        "stream 8 4 01",
+        "stream 8 4 0 0",
     ];
     for line in lines {
         let words = command_words(rt.alloc(), line)?;

@@ -2,7 +2,8 @@
 ghost use Rattle.std.specs.Prelude.{◌≡◌, ◌++◌, codes, decimal, Some, flat_map, IfOk, Ok, string_bytes};
 ghost use Rattle.net_receiver.specs.Schedule.{Segmented, Gave, Shown};
 ghost use Rattle.net_receiver.specs.Commands.{answer_seen};
-ghost use Rattle.net_bench.specs.StreamMode.{run_text, next_run_text, runs_text, accepted_line, reply_text as text_of_reply};
+ghost use Rattle.net_bench.specs.StreamMode.{run_text, next_run_text, runs_text, accepted_line};
+ghost use Rattle.net_bench.specs.StreamMode.{reply_text as text_of_reply};
 
 use crate::text;
 use net_receiver::{Kept, Reply};
@@ -101,7 +102,8 @@ fn shown_text(
     window: usize,
     held: &[(u64, u64)],
 ) -> Result<String, AllocError>
-    ensures { IfOk result (λ text. string_bytes text ≡ text_of_reply (Shown next queued window held.now)) }
+    ensures { IfOk result (λ text.
+        string_bytes text ≡ text_of_reply (Shown next queued window held.now)) }
 {
     let held = Runs(held);
     format!(in alloc; "next {next} queued {queued} window {window} held {held}\n")
