@@ -6,6 +6,7 @@ mod bench;
 mod error;
 mod fault;
 mod mode;
+mod replies;
 mod ring;
 mod run;
 mod serve;

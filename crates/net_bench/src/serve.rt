@@ -1,7 +1,7 @@
 //! The program, from its words and streams to its exit status.
 ghost use Rattle.std.specs.Prelude.{◌≡◌, map, IfSome, None, ◌↔◌, string_bytes, ◌≤◌};
 ghost use Rattle.std.specs.Io.KnownBytes.{Appends, Keeps};
-ghost use Rattle.net_bench.specs.Transcript.{Leaves};
+ghost use Rattle.net_bench.specs.Transcript.{ErrorOfInput};
 ghost use Rattle.net_bench.specs.Modes.{out, fault, form_of, transcript_of};
 ghost use Rattle.net_bench.specs.declared.error.BenchError.{BenchError};
 
@@ -38,7 +38,7 @@ pub fn serve<R: Read, W: Write, E: Write>(
     ensures quiet { result ≡ 0 → Keeps (E.contents errors.old) (E.contents errors.new) }
     ensures err { result ≡ 1 → IfSome (form_of (map string_bytes words.now)) (λ form.
         IfSome (R.remaining reader.old) (λ input. (e : BenchError)
-        × Leaves (transcript_of form) input (R.remaining reader.new)
+        × ErrorOfInput (transcript_of form) input (R.remaining reader.new)
         (W.contents writer.old) (W.contents writer.new) e)) }
 {
     let Some(mode) = Mode::from_words(words) else {
