@@ -3,4 +3,6 @@ pub mod LineParts
 pub mod WordParts
 pub mod Numerals
 pub mod Pending
+pub mod HexText
+pub mod RingParts
 pub mod RunProgress

@@ -5,6 +5,8 @@ mod asm;
 mod bench;
 mod error;
 mod fault;
+#[cfg(test)]
+mod hostile;
 mod mode;
 mod replies;
 mod ring;

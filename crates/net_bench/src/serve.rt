@@ -51,14 +51,14 @@ pub fn serve<R: Read, W: Write, E: Write>(
         if flushed.is_ok() {
             return 0;
         }
-        tell(errors, BenchError::WriteFailed);
+        write_error(errors, BenchError::WriteFailed);
         return 1;
     };
-    tell(errors, error);
+    write_error(errors, error);
     1
 }
 
 /// Writes an error as a line.
-fn tell<E: Write>(errors: &mut E, error: BenchError) {
+fn write_error<E: Write>(errors: &mut E, error: BenchError) {
     let _ = writeln!(errors, "{error}");
 }
