@@ -2,6 +2,9 @@ pub mod KnownBytes
 pub mod LineParts
 pub mod WordParts
 pub mod Numerals
+pub mod Pending
+pub mod HexText
+pub mod RingParts
 pub mod RunProgress
 pub mod SameText
 pub mod StreamStates

@@ -1,53 +1,49 @@
 -- Numerals, and the numbers that they write.
-use Rattle.std.proofs.Common.{◌≡◌, ℕ, ◌^◌, ◌<◌, List, length, Bool, true, false, ◌&&◌, nat_lt, Some, Result, Ok, Err, refl, ap, rules}
+use Rattle.std.proofs.Common.{◌≡◌, ℕ, ◌+◌, ◌-◌, ◌*◌, ◌^◌, ◌<◌, ◌≤◌, List, length, take, get_or, Bool, true, false, ◌&&◌, nat_lt, Some, None, refl, ap, sym, ◌∙◌, arith}
 use Rattle.std.specs.List.{list_all}
-use Rattle.std.specs.Result.{OkIff, result_ok}
-use Rattle.std.specs.Char.{is_ascii_digit}
-use Rattle.std.specs.Str.{IsUtf8}
-use Rattle.std.specs.Str.Parse.{ParsesUnsigned, digits_value}
-use Rattle.std.proofs.lemmas.Bool.Decides.{Decides-ltb}
-use Rattle.std.proofs.lemmas.Fmt.{IsAscii-from_digits}
-use Rattle.std.proofs.lemmas.Str.{IsUtf8-from_ascii}
-use Rattle.std.proofs.lemmas.Str.Parse.{IsNumeralModel, numerals_by_value, parse_digits}
-use Rattle.net_bench.specs.Text.{is_numeral, number_of}
+use Rattle.std.specs.Char.{is_ascii_digit, digit_value}
+use Rattle.std.specs.Str.Parse.{digits_value}
+use Rattle.std.proofs.lemmas.Bool.Decides.{Decides-ltb, nat_tests}
+use Rattle.std.proofs.lemmas.Int.Digits.{digits_value_more}
+use Rattle.std.proofs.lemmas.List.{take_all}
+use Rattle.std.proofs.lemmas.List.Folds.{list_all_at, list_all_more}
+use Rattle.std.proofs.lemmas.Str.Parse.{digits_value-take-le}
+use Rattle.net_bench.specs.Text.{begins_numeral, number_of}
 
--- lists of digits are numerals by their value
-own : IsNumeralModel (λ ds. list_all is_ascii_digit ds ≡ true) (digits_value 10)
-own = numerals_by_value (λ ds. list_all is_ascii_digit ds ≡ true) (search rules)
-
--- both parts of a conjunction hold
-and-left : (x y : Bool) → (x && y) ≡ true → x ≡ true
-and-left true y h = refl
-and-left false y h = h
-
-and-right : (x y : Bool) → (x && y) ≡ true → y ≡ true
-and-right true y h = h
-and-right false y h = cc
-
-numeral-digits : (word : List ℕ) → is_numeral word ≡ true → list_all is_ascii_digit word ≡ true
-numeral-digits word h = and-right (nat_lt 0 (length word)) _ (and-left _ _ h)
-
-numeral-some : (word : List ℕ) → is_numeral word ≡ true → 0 < length word
-numeral-some word h = (Decides-ltb 0 (length word)).0 (and-left _ _ (and-left _ _ h))
-
--- a numeral is text
-pub numeral-text : (word : List ℕ) → is_numeral word ≡ true → IsUtf8 word
-numeral-text word h = IsUtf8-from_ascii word (IsAscii-from_digits word (own.to word (numeral-digits word h)))
+and-false : (x : Bool) → (x && false) ≡ false
+and-false true = refl
+and-false false = refl
 
 -- what is not true is false
 not-true : (b : Bool) → (b ≡ true → ⊥) → b ≡ false
 not-true true h = absurd (h refl)
 not-true false h = refl
 
--- what parsing a numeral gives
-numeral-value : {E : Type 0} (word : List ℕ) (r : Result ℕ E) → is_numeral word ≡ true → OkIff r ((0 < length word) × (digits_value 10 word < 2 ^ 64)) (digits_value 10 word) → result_ok r ≡ number_of word
-numeral-value word (Ok x) h q =
-    let small : nat_lt (digits_value 10 word) (2 ^ 64) ≡ true = (Decides-ltb _ _).1 q.0.1 in
-    rw (h, small) (ap Some q.1)
-numeral-value word (Err e) h q =
-    let large : nat_lt (digits_value 10 word) (2 ^ 64) ≡ false = not-true _ (λ t. q (numeral-some word h, (Decides-ltb _ _).0 t)) in
-    rw (h, large) refl
+-- one digit more
+pub digits-more : (word : List ℕ) (i value : ℕ) → i < length word → value ≡ digits_value 10 (take i word) → is_ascii_digit (get_or word i 0) ≡ true → digits_value 10 (take (i + 1) word) ≡ value * 10 + (get_or word i 0 - 48)
+digits-more word i value inside written digit =
+    let worth : digit_value (get_or word i 0) ≡ get_or word i 0 - 48 = grind (arith, nat_tests) in
+    rw (digits_value_more 10 word i inside, worth, written) refl
 
--- what parsing a text that is a numeral gives
-pub numeral-parsed : {E : Type 0} (word text : List ℕ) (r : Result ℕ E) → text ≡ word → is_numeral word ≡ true → ParsesUnsigned 64 10 text r → result_ok r ≡ number_of word
-numeral-parsed word text r e h p = numeral-value word r h (parse_digits own 64 word r (rw e at p) (numeral-digits word h))
+pub all-more : (word : List ℕ) (i : ℕ) → i < length word → list_all is_ascii_digit (take i word) ≡ true → is_ascii_digit (get_or word i 0) ≡ true → list_all is_ascii_digit (take (i + 1) word) ≡ true
+all-more word i inside digits digit = rw (list_all_more is_ascii_digit word i 0 inside, digits, digit) refl
+
+-- a word with another byte writes no number
+pub number-other : (word : List ℕ) (i : ℕ) → i < length word → is_ascii_digit (get_or word i 0) ≡ false → number_of word ≡ None
+number-other word i inside other = rw (list_all_at is_ascii_digit word i 0 inside other, and-false (begins_numeral word)) refl
+
+-- nor does one whose first digits are worth too much
+pub number-large : (word : List ℕ) (i : ℕ) → 2 ^ 64 ≤ digits_value 10 (take i word) → number_of word ≡ None
+number-large word i large =
+    let most = digits_value-take-le 10 word i (omega arith) in
+    let small : nat_lt (digits_value 10 word) (2 ^ 64) ≡ false = not-true _ (λ t. let under = (Decides-ltb (digits_value 10 word) (2 ^ 64)).0 t in absurd (omega (arith, under, most, large))) in
+    rw (small, and-false (begins_numeral word && list_all is_ascii_digit word)) refl
+
+-- a numeral whose number 64 bits hold
+pub number-whole : (word : List ℕ) (i value : ℕ) → length word ≤ i → begins_numeral word ≡ true → list_all is_ascii_digit (take i word) ≡ true → value ≡ digits_value 10 (take i word) → value < 2 ^ 64 → number_of word ≡ Some value
+number-whole word i value over begins digits written fits =
+    let whole = take_all i word over in
+    let e : value ≡ digits_value 10 word = rw whole at written in
+    let all : list_all is_ascii_digit word ≡ true = rw whole at digits in
+    let small : nat_lt (digits_value 10 word) (2 ^ 64) ≡ true = (Decides-ltb _ _).1 (rw e at fits) in
+    rw (begins, all, small) (ap Some (sym e))

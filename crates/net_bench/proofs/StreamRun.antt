@@ -5,7 +5,7 @@ use Rattle.net_receiver.specs.Schedule.{Setting}
 use Rattle.net_receiver.specs.Stored.{Stored}
 use Rattle.net_receiver.specs.Theorems.{FreshStands, EverySchedule}
 use Rattle.net_bench.specs.Text.{lines_of}
-use Rattle.net_bench.specs.Transcript.{Transcript, transcript, Leaves}
+use Rattle.net_bench.specs.Transcript.{Transcript, transcript, ErrorOfInput}
 use Rattle.net_bench.specs.Modes.{Mode, Stream, transcript_of}
 use Rattle.net_bench.specs.StreamMode.{Schedules, first_schedule, stream_rules, stream_closing}
 use Rattle.net_bench.specs.StreamStored.{of_stored}
@@ -24,5 +24,5 @@ module _ (all other : Transcript) (one : all ≡ other) (r : Result (Unit {0}) B
       OnOk r (IfSome before (λ input. (other.fault (lines_of input) ≡ None) × Appends old new (other.text (lines_of input))))
   run_ok h = subst (λ t. OnOk r (IfSome before (λ input. (t.fault (lines_of input) ≡ None) × Appends old new (t.text (lines_of input))))) one h
 
-  pub run_err : (left : Option (List ℕ)) → IfErr r (λ e. IfSome before (λ input. Leaves all input left old new e)) → IfErr r (λ e. IfSome before (λ input. Leaves other input left old new e))
-  run_err left h = subst (λ t. IfErr r (λ e. IfSome before (λ input. Leaves t input left old new e))) one h
+  pub run_err : (left : Option (List ℕ)) → IfErr r (λ e. IfSome before (λ input. ErrorOfInput all input left old new e)) → IfErr r (λ e. IfSome before (λ input. ErrorOfInput other input left old new e))
+  run_err left h = subst (λ t. IfErr r (λ e. IfSome before (λ input. ErrorOfInput t input left old new e))) one h

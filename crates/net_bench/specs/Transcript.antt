@@ -65,23 +65,26 @@ transcript rules closing n state = record {
 abbrev pub IsFirstFault : Transcript → List (List ℕ) → Option (List ℕ) → Option (List ℕ) → BenchError → Type 0
 IsFirstFault all lines old new e = (all.fault lines ≡ Some e) × Appends old new (all.text lines)
 
--- what an error says of the lines, and of what a writer held before and after
-abbrev pub Ends : Transcript → List (List ℕ) → Option (List ℕ) → Option (List ℕ) → BenchError → Type 0
-Ends all lines old new (BadCommand n) = IsFirstFault all lines old new (BadCommand n)
-Ends all lines old new (RangeTooLong n) = IsFirstFault all lines old new (RangeTooLong n)
-Ends all lines old new (LineTooLong n) = IsFirstFault all lines old new (LineTooLong n)
-Ends all lines old new (TooManySchedules n) = IsFirstFault all lines old new (TooManySchedules n)
--- whole replies of a beginning of the lines were written
-Ends all lines old new OutOfMemory = (k : ℕ) × Appends old new (all.replies (take k lines))
 -- a beginning of the text was written
-Ends all lines old new WriteFailed = (written : List ℕ) × StartsWith (all.text lines) written × Appends old new written
+abbrev pub WritesFront : List ℕ → Option (List ℕ) → Option (List ℕ) → Type 0
+WritesFront text old new = (written : List ℕ) × StartsWith text written × Appends old new written
+
+-- what an error says of the lines, and of what a writer held before and after
+abbrev pub ErrorOfLines : Transcript → List (List ℕ) → Option (List ℕ) → Option (List ℕ) → BenchError → Type 0
+ErrorOfLines all lines old new (BadCommand n) = IsFirstFault all lines old new (BadCommand n)
+ErrorOfLines all lines old new (RangeTooLong n) = IsFirstFault all lines old new (RangeTooLong n)
+ErrorOfLines all lines old new (LineTooLong n) = IsFirstFault all lines old new (LineTooLong n)
+ErrorOfLines all lines old new (TooManySchedules n) = IsFirstFault all lines old new (TooManySchedules n)
+-- whole replies of a beginning of the lines were written
+ErrorOfLines all lines old new OutOfMemory = (k : ℕ) × Appends old new (all.replies (take k lines))
+ErrorOfLines all lines old new WriteFailed = WritesFront (all.text lines) old new
 -- a failed read says nothing of these lines, but of those that came
-Ends all lines old new ReadFailed = ⊥
+ErrorOfLines all lines old new ReadFailed = ⊥
 
 -- what the error of a run says of its input, of what is left of that, and of what the writer held before and after
-abbrev pub Leaves : Transcript → List ℕ → Option (List ℕ) → Option (List ℕ) → Option (List ℕ) → BenchError → Type 0
+abbrev pub ErrorOfInput : Transcript → List ℕ → Option (List ℕ) → Option (List ℕ) → Option (List ℕ) → BenchError → Type 0
 -- the replies of all lines whose line feed stands in what the reads gave were written, and none of these lines has a fault
-Leaves all input left old new ReadFailed =
+ErrorOfInput all input left old new ReadFailed =
     (given : List ℕ) × Consumes (Some input) left given × (all.fault (ended_lines given) ≡ None) × Appends old new (all.replies (ended_lines given))
 -- any other error is one of the input's lines
-Leaves all input left old new e = Ends all (lines_of input) old new e
+ErrorOfInput all input left old new e = ErrorOfLines all (lines_of input) old new e

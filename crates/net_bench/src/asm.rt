@@ -1,10 +1,10 @@
 //! Mode `asm`: ranges are added to a set of positions, and its front is removed.
-ghost use Rattle.std.specs.Prelude.{◌≡◌, [], ◌∷◌, ◌++◌, ◌≤◌, codes, decimal, IfOk, MatchResult, Ok, Err, string_bytes, option_map};
+ghost use Rattle.std.specs.Prelude.{◌≡◌, ◌+◌, ◌^◌, ◌<◌, [], ◌∷◌, ◌++◌, ◌≤◌, codes, decimal, IfOk, MatchResult, Ok, Err, string_bytes, option_map};
 ghost use Rattle.net_storage.specs.Positions.{nothing};
-ghost use Rattle.net_bench.specs.Text.{words_of};
-ghost use Rattle.net_bench.specs.AsmMode.{asm_rules, asm_command, asm_does};
-ghost use Rattle.net_bench.specs.AsmMode.{Add, AddThenRemoveFront, RemoveFront, Print};
-ghost use Rattle.net_bench.specs.AsmLines.{asm_command_seen};
+ghost use Rattle.net_bench.specs.Text.{words_of, number_of};
+ghost use Rattle.net_bench.specs.AsmMode.{asm_rules, asm_command, range_command, asm_does};
+ghost use Rattle.net_bench.specs.AsmMode.{added, added_then_front_removed, RemoveFront, Print};
+ghost use Rattle.net_bench.specs.AsmLines.{asm_command_seen, range_command_seen};
 
 use crate::fault::Fault;
 use crate::session::Session;
@@ -17,14 +17,21 @@ use std::marker::Model;
 /// The reply to a range that the assembler refuses.
 const REFUSED: &str = "refused too many holes\n";
 
-/// A line of the mode. A range is its offset and its size.
+/// What is done with a range.
+#[derive(Clone, Copy)]
+pub enum RangeVerb {
+    /// `a`: the range is added.
+    Add,
+    /// `t`: the range is added, and then the front is removed.
+    AddThenRemoveFront,
+}
+
+/// A line of the mode.
 #[derive(Drop)]
 pub enum AsmLine {
-    /// `a NUM NUM`: the range comes in.
-    Add(usize, usize),
-    /// `t NUM NUM`: the range comes in, and the front goes out.
-    AddThenRemoveFront(usize, usize),
-    /// `f`: the front goes out.
+    /// `a NUM NUM` or `t NUM NUM`: what is done with the range of this offset and size.
+    Range(RangeVerb, usize, usize),
+    /// `f`: the front is removed.
     RemoveFront,
     /// `p`: the runs are shown.
     Print,
@@ -61,19 +68,25 @@ fn plain_line(verb: &[u8]) -> Option<AsmLine>
     None
 }
 
+/// What is done with the range that two words name, if both are numbers.
+fn range(verb: RangeVerb, offset: &[u8], size: &[u8]) -> Option<AsmLine>
+    ensures { option_map asm_command_seen result
+        ≡ range_command (range_command_seen verb) (number_of offset.now) (number_of size.now) }
+{
+    let offset = text::number(offset)?;
+    let size = text::number(size)?;
+    Some(AsmLine::Range(verb, offset as usize, size as usize))
+}
+
 /// What three words say.
 fn range_line(verb: &[u8], offset: &[u8], size: &[u8]) -> Option<AsmLine>
     ensures { option_map asm_command_seen result ≡ asm_command (verb.now ∷ offset.now ∷ size.now ∷ []) }
 {
     if verb == b"a".as_slice() {
-        let offset = text::number(offset)?;
-        let size = text::number(size)?;
-        return Some(AsmLine::Add(offset as usize, size as usize));
+        return range(RangeVerb::Add, offset, size);
     }
     if verb == b"t".as_slice() {
-        let offset = text::number(offset)?;
-        let size = text::number(size)?;
-        return Some(AsmLine::AddThenRemoveFront(offset as usize, size as usize));
+        return range(RangeVerb::AddThenRemoveFront, offset, size);
     }
     None
 }
@@ -100,44 +113,55 @@ impl<const N: usize> AsmSession<N> {
         }
     }
 
-    /// Adds a range.
-    fn add(
-        &mut self,
-        alloc: Global,
-        offset: usize,
-        size: usize,
-    ) -> Result<Result<String, Fault>, AllocError>
-        ensures { IfOk result (λ outcome. MatchResult outcome
-            (λ reply. asm_does N self.old (Add offset size) ≡ Ok (self.new, string_bytes reply))
-            (λ fault. asm_does N self.old (Add offset size) ≡ Err fault)) }
+    /// Adds a range that fits, and makes the reply.
+    fn add(&mut self, alloc: Global, offset: usize, size: usize) -> Result<String, AllocError>
+        requires { offset + size < 2 ^ 64 }
+        ensures { IfOk result (λ reply. added N self.old offset size ≡ (self.new, string_bytes reply)) }
     {
-        if !Assembler::<N>::fits(offset, size) {
-            return Ok(Err(Fault::RangeTooLong));
-        }
         let reply = match self.assembler.add(offset, size) {
             Ok(()) => "ok\n",
             Err(_) => REFUSED,
         };
-        Ok(Ok(String::from_str(alloc, reply)?))
+        String::from_str(alloc, reply)
     }
 
-    /// Adds a range, and removes the front then.
+    /// Adds a range that fits and removes the front then, and makes the reply.
     fn add_then_remove_front(
         &mut self,
         alloc: Global,
         offset: usize,
         size: usize,
+    ) -> Result<String, AllocError>
+        requires { offset + size < 2 ^ 64 }
+        ensures { IfOk result (λ reply.
+            added_then_front_removed N self.old offset size ≡ (self.new, string_bytes reply)) }
+    {
+        match self.assembler.add_then_remove_front(offset, size) {
+            Ok(front) => front_text(alloc, front),
+            Err(_) => String::from_str(alloc, REFUSED),
+        }
+    }
+
+    /// Does what is to be done with a range, or finds that it is too long.
+    fn run_range(
+        &mut self,
+        alloc: Global,
+        verb: RangeVerb,
+        offset: usize,
+        size: usize,
     ) -> Result<Result<String, Fault>, AllocError>
         ensures { IfOk result (λ outcome. MatchResult outcome
-            (λ reply. asm_does N self.old (AddThenRemoveFront offset size) ≡ Ok (self.new, string_bytes reply))
-            (λ fault. asm_does N self.old (AddThenRemoveFront offset size) ≡ Err fault)) }
+            (λ reply. asm_does N self.old (range_command_seen verb offset size) ≡ Ok (self.new, string_bytes reply))
+            (λ fault. asm_does N self.old (range_command_seen verb offset size) ≡ Err fault)) }
     {
         if !Assembler::<N>::fits(offset, size) {
             return Ok(Err(Fault::RangeTooLong));
         }
-        match self.assembler.add_then_remove_front(offset, size) {
-            Ok(front) => Ok(Ok(front_text(alloc, front)?)),
-            Err(_) => Ok(Ok(String::from_str(alloc, REFUSED)?)),
+        match verb {
+            RangeVerb::Add => Ok(Ok(self.add(alloc, offset, size)?)),
+            RangeVerb::AddThenRemoveFront => {
+                Ok(Ok(self.add_then_remove_front(alloc, offset, size)?))
+            }
         }
     }
 
@@ -175,10 +199,7 @@ impl<const N: usize> Session for AsmSession<N> {
         line: &[u8],
     ) -> Result<Result<String, Fault>, AllocError> {
         match asm_line(line) {
-            Some(AsmLine::Add(offset, size)) => self.add(alloc, offset, size),
-            Some(AsmLine::AddThenRemoveFront(offset, size)) => {
-                self.add_then_remove_front(alloc, offset, size)
-            }
+            Some(AsmLine::Range(verb, offset, size)) => self.run_range(alloc, verb, offset, size),
             Some(AsmLine::RemoveFront) => Ok(Ok(self.remove_front(alloc)?)),
             Some(AsmLine::Print) => Ok(Ok(self.print(alloc)?)),
             None => Ok(Err(Fault::BadCommand)),

@@ -2,20 +2,21 @@
 ghost use Rattle.std.specs.Prelude.{◌≡◌, ℕ, List, [], ◌∷◌, ◌++◌, length, take, ◌<◌, ◌≤◌, ◌==◌, IfSome, IfOk, IfErr, OnOk, None, position, vec_capacity};
 ghost use Rattle.std.specs.Io.KnownBytes.{Appends};
 ghost use Rattle.net_bench.specs.Text.{lines_of, next_number};
-ghost use Rattle.net_bench.specs.Transcript.{line_step, transcript, Ends, Leaves};
-ghost use Rattle.net_bench.specs.Progress.{HasNoFeed, Goes};
+ghost use Rattle.net_bench.specs.Transcript.{line_step, transcript, WritesFront, ErrorOfInput};
+ghost use Rattle.net_bench.specs.Progress.{HasNoFeed, Advances, Gathers, PendingError};
 
 use crate::error::BenchError;
 use crate::fault::Fault;
+use crate::replies::Replies;
 use crate::session::Session;
-use std::alloc::Global;
+use std::alloc::{AllocError, Global};
 use std::io::{Read, Write};
 
 /// The most bytes of a line, without its line feed.
 const MAX_LINE: usize = 4096;
 
 /// How many bytes are asked for at once.
-const CHUNK: usize = 8192;
+const CHUNK: usize = 65536;
 
 /// Where the first line feed stands.
 fn feed_at(bytes: &[u8]) -> Option<usize>
@@ -24,36 +25,21 @@ fn feed_at(bytes: &[u8]) -> Option<usize>
     bytes.iter().position(|b| *b == b'\n')
 }
 
-/// Writes all of the text. An error ends it after a beginning of the text.
-fn write_text<W: Write>(writer: &mut W, text: &[u8]) -> Result<(), BenchError>
-    ensures ok { OnOk result (Appends (W.contents writer.old) (W.contents writer.new) text.now) }
-    ensures err { IfErr result (λ e. (e ≡ BenchError.WriteFailed)
-        × ((k : ℕ) × Appends (W.contents writer.old) (W.contents writer.new) (take k text.now))) }
-{
-    let mut written = 0;
-    while written < text.len() {
-        match writer.write(&text[written..]) {
-            Ok(0) | Err(_) => return Err(BenchError::WriteFailed),
-            Ok(count) => written += count,
-        }
-    }
-    Ok(())
-}
-
-/// Runs a line of this number, and writes its reply.
+/// Runs a line of this number, and gathers its reply.
 fn answer<S: Session, W: Write>(
     alloc: Global,
     session: &mut S,
     number: u64,
     line: &[u8],
+    replies: &mut Replies,
     writer: &mut W,
 ) -> Result<(), BenchError>
     ensures ok { OnOk result ((reply : List ℕ)
         × (line_step S.rules session.old line.now ≡ Ok (session.new, reply))
-        × Appends (W.contents writer.old) (W.contents writer.new) reply) }
+        × Gathers (W.contents writer.old) replies.old (W.contents writer.new) replies.new reply) }
     ensures err { IfErr result (λ e. (more : List (List ℕ)) →
-        Ends (transcript S.rules S.closing number session.old) (line.now ∷ more)
-        (W.contents writer.old) (W.contents writer.new) e) }
+        PendingError (transcript S.rules S.closing number session.old) (line.now ∷ more)
+        (W.contents writer.old) replies.old (W.contents writer.new) replies.new e) }
 {
     if line.len() > MAX_LINE {
         return Err(Fault::LineTooLong.at(number));
@@ -62,7 +48,7 @@ fn answer<S: Session, W: Write>(
         return Err(BenchError::OutOfMemory);
     };
     match outcome {
-        Ok(reply) => write_text(writer, reply.as_bytes()),
+        Ok(reply) => replies.gather(reply.as_bytes(), writer),
         Err(fault) => Err(fault.at(number)),
     }
 }
@@ -74,28 +60,27 @@ struct Bench<S> {
     session: S,
     number: u64,
     line: Vec<u8>,
+    replies: Replies,
     ghost short: { length line.items ≤ 4096 },
     ghost unended: { HasNoFeed line.items },
     ghost room: { 4096 ≤ vec_capacity line },
 }
 
 impl<S: Session> Bench<S> {
-    /// A run whose first line comes next. All memory for lines is taken here.
-    fn new(alloc: Global, session: S) -> Result<Bench<S>, BenchError>
+    /// A run whose first line comes next. All memory for lines and replies is taken here.
+    fn new(alloc: Global, session: S) -> Result<Bench<S>, AllocError>
     where
         S: Drop,
-        ensures ok { IfOk result (λ bench. (bench.session ≡ session) × (bench.number ≡ 1) × (bench.line.items ≡ [])) }
-        ensures err { IfErr result (λ e. e ≡ BenchError.OutOfMemory) }
+        ensures { IfOk result (λ bench. (bench.session ≡ session) × (bench.number ≡ 1)
+            × (bench.line.items ≡ []) × (bench.replies ≡ [])) }
     {
-        match Vec::with_capacity(alloc, MAX_LINE) {
-            Ok(line) => Ok(Bench {
-                alloc,
-                session,
-                number: 1,
-                line,
-            }),
-            Err(_) => Err(BenchError::OutOfMemory),
-        }
+        Ok(Bench {
+            alloc,
+            session,
+            number: 1,
+            line: Vec::with_capacity(alloc, MAX_LINE)?,
+            replies: Replies::new(alloc)?,
+        })
     }
 
     /// Keeps the beginning of a line, for the bytes that come after it.
@@ -105,6 +90,7 @@ impl<S: Session> Bench<S> {
             × (self.new.number ≡ self.old.number) × (self.new.session ≡ self.old.session)) }
         ensures err { IfErr result (λ e. (e ≡ BenchError.LineTooLong self.old.number)
             × (4096 < length (self.old.line.items ++ bytes.now))) }
+        ensures replies { self.new.replies ≡ self.old.replies }
     {
         if bytes.len() > MAX_LINE - self.line.len() {
             return Err(Fault::LineTooLong.at(self.number));
@@ -113,21 +99,28 @@ impl<S: Session> Bench<S> {
         Ok(())
     }
 
-    /// Runs the line that these bytes end, and writes its reply.
+    /// Runs the line that these bytes end, and gathers its reply.
     fn end_line<W: Write>(&mut self, bytes: &[u8], writer: &mut W) -> Result<(), BenchError>
         requires { HasNoFeed bytes.now }
         ensures ok { OnOk result ((reply : List ℕ)
             × (line_step S.rules self.old.session (self.old.line.items ++ bytes.now) ≡ Ok (self.new.session, reply))
             × (self.new.number ≡ next_number self.old.number)
             × (self.new.line.items ≡ [])
-            × Appends (W.contents writer.old) (W.contents writer.new) reply) }
+            × Gathers (W.contents writer.old) self.old.replies (W.contents writer.new) self.new.replies reply) }
         ensures err { IfErr result (λ e. (more : List (List ℕ)) →
-            Ends (transcript S.rules S.closing self.old.number self.old.session)
+            PendingError (transcript S.rules S.closing self.old.number self.old.session)
             ((self.old.line.items ++ bytes.now) ∷ more)
-            (W.contents writer.old) (W.contents writer.new) e) }
+            (W.contents writer.old) self.old.replies (W.contents writer.new) self.new.replies e) }
     {
         if self.line.is_empty() {
-            answer(self.alloc, &mut self.session, self.number, bytes, writer)?;
+            answer(
+                self.alloc,
+                &mut self.session,
+                self.number,
+                bytes,
+                &mut self.replies,
+                writer,
+            )?;
         } else {
             self.keep(bytes)?;
             answer(
@@ -135,6 +128,7 @@ impl<S: Session> Bench<S> {
                 &mut self.session,
                 self.number,
                 &self.line,
+                &mut self.replies,
                 writer,
             )?;
             self.line.clear();
@@ -143,16 +137,16 @@ impl<S: Session> Bench<S> {
         Ok(())
     }
 
-    /// Takes the next bytes of the input.
-    fn take<W: Write>(&mut self, bytes: &[u8], writer: &mut W) -> Result<(), BenchError>
+    /// Runs the lines that these bytes end, keeps what stands behind them, and gathers the replies.
+    fn run_ended<W: Write>(&mut self, bytes: &[u8], writer: &mut W) -> Result<(), BenchError>
         ensures ok { OnOk result ((text : List ℕ)
-            × Goes S.rules bytes.now self.old.number self.old.session self.old.line.items
+            × Advances S.rules bytes.now self.old.number self.old.session self.old.line.items
             self.new.number self.new.session self.new.line.items text
-            × Appends (W.contents writer.old) (W.contents writer.new) text) }
+            × Gathers (W.contents writer.old) self.old.replies (W.contents writer.new) self.new.replies text) }
         ensures err { IfErr result (λ e. (more : List ℕ) →
-            Ends (transcript S.rules S.closing self.old.number self.old.session)
+            PendingError (transcript S.rules S.closing self.old.number self.old.session)
             (lines_of (self.old.line.items ++ (bytes.now ++ more)))
-            (W.contents writer.old) (W.contents writer.new) e) }
+            (W.contents writer.old) self.old.replies (W.contents writer.new) self.new.replies e) }
     {
         let mut rest = bytes;
         'lines: while let Some(at) = feed_at(rest) {
@@ -162,30 +156,70 @@ impl<S: Session> Bench<S> {
         self.keep(rest)
     }
 
-    /// Writes the closing text.
-    fn close<W: Write>(&self, writer: &mut W) -> Result<(), BenchError>
-        ensures ok { OnOk result (Appends (W.contents writer.old) (W.contents writer.new) (S.closing self.now.session)) }
-        ensures err { IfErr result (λ e. (e ≡ BenchError.WriteFailed) × ((k : ℕ)
-            × Appends (W.contents writer.old) (W.contents writer.new) (take k (S.closing self.now.session)))) }
+    /// Takes the next bytes of the input. No reply is pending when it returns.
+    fn take<W: Write>(&mut self, bytes: &[u8], writer: &mut W) -> Result<(), BenchError>
+        ensures emptied { self.new.replies ≡ [] }
+        ensures ok { OnOk result ((text : List ℕ)
+            × Advances S.rules bytes.now self.old.number self.old.session self.old.line.items
+            self.new.number self.new.session self.new.line.items text
+            × Gathers (W.contents writer.old) self.old.replies (W.contents writer.new) self.new.replies text) }
+        ensures err { IfErr result (λ e. (more : List ℕ) →
+            PendingError (transcript S.rules S.closing self.old.number self.old.session)
+            (lines_of (self.old.line.items ++ (bytes.now ++ more)))
+            (W.contents writer.old) self.old.replies (W.contents writer.new) self.new.replies e) }
     {
-        write_text(writer, self.session.closing_text().as_bytes())
+        let outcome = self.run_ended(bytes, writer);
+        self.replies.write_out(writer)?;
+        outcome
     }
 
-    /// Runs what has come of the last line, if anything has, and writes the closing text.
-    fn finish<W: Write>(&mut self, writer: &mut W) -> Result<(), BenchError>
+    /// Gathers the closing text.
+    fn close<W: Write>(&mut self, writer: &mut W) -> Result<(), BenchError>
+        ensures ok { OnOk result (Gathers (W.contents writer.old) self.old.replies
+            (W.contents writer.new) self.new.replies (S.closing self.old.session)) }
+        ensures err { IfErr result (λ e. (e ≡ BenchError.WriteFailed) × (self.new.replies ≡ [])
+            × WritesFront (self.old.replies ++ S.closing self.old.session)
+            (W.contents writer.old) (W.contents writer.new)) }
+    {
+        let closing = self.session.closing_text();
+        self.replies.gather(closing.as_bytes(), writer)
+    }
+
+    /// Runs what has come of the last line, if anything has, and gathers its reply and the closing
+    /// text.
+    fn run_last<W: Write>(&mut self, writer: &mut W) -> Result<(), BenchError>
         ensures ok { OnOk result (
             let all = transcript S.rules S.closing self.old.number self.old.session in
             let lines = lines_of self.old.line.items in
-            (all.fault lines ≡ None) × Appends (W.contents writer.old) (W.contents writer.new) (all.text lines)) }
+            (all.fault lines ≡ None)
+            × Gathers (W.contents writer.old) self.old.replies (W.contents writer.new) self.new.replies (all.text lines)) }
         ensures err { IfErr result (λ e.
-            Ends (transcript S.rules S.closing self.old.number self.old.session) (lines_of self.old.line.items)
-            (W.contents writer.old) (W.contents writer.new) e) }
+            PendingError (transcript S.rules S.closing self.old.number self.old.session) (lines_of self.old.line.items)
+            (W.contents writer.old) self.old.replies (W.contents writer.new) self.new.replies e) }
     {
         if self.line.is_empty() {
             return self.close(writer);
         }
         self.end_line(&[], writer)?;
         self.close(writer)
+    }
+
+    /// Runs what has come of the last line, if anything has, and writes its reply and the closing
+    /// text. No reply is pending when it returns.
+    fn finish<W: Write>(&mut self, writer: &mut W) -> Result<(), BenchError>
+        ensures emptied { self.new.replies ≡ [] }
+        ensures ok { OnOk result (
+            let all = transcript S.rules S.closing self.old.number self.old.session in
+            let lines = lines_of self.old.line.items in
+            (all.fault lines ≡ None)
+            × Gathers (W.contents writer.old) self.old.replies (W.contents writer.new) self.new.replies (all.text lines)) }
+        ensures err { IfErr result (λ e.
+            PendingError (transcript S.rules S.closing self.old.number self.old.session) (lines_of self.old.line.items)
+            (W.contents writer.old) self.old.replies (W.contents writer.new) self.new.replies e) }
+    {
+        let outcome = self.run_last(writer);
+        self.replies.write_out(writer)?;
+        outcome
     }
 }
 
@@ -201,10 +235,12 @@ pub fn run_lines<S: Session + Drop, R: Read, W: Write>(
         let lines = lines_of input in
         (all.fault lines ≡ None) × Appends (W.contents writer.old) (W.contents writer.new) (all.text lines))) }
     ensures err { IfErr result (λ e. IfSome (R.remaining reader.old) (λ input.
-        Leaves (transcript S.rules S.closing 1 session) input (R.remaining reader.new)
+        ErrorOfInput (transcript S.rules S.closing 1 session) input (R.remaining reader.new)
         (W.contents writer.old) (W.contents writer.new) e)) }
 {
-    let mut bench = Bench::new(alloc, session)?;
+    let Ok(mut bench) = Bench::new(alloc, session) else {
+        return Err(BenchError::OutOfMemory);
+    };
     let mut chunk = [0u8; CHUNK];
     'reads: for _ in 0..u64::MAX {
         match reader.read(&mut chunk) {

@@ -5,8 +5,11 @@ mod asm;
 mod bench;
 mod error;
 mod fault;
+#[cfg(test)]
+mod hostile;
 mod laws;
 mod mode;
+mod replies;
 mod ring;
 mod run;
 mod serve;

@@ -1,6 +1,6 @@
 //! Mode `ring`: bytes go in and come out in order.
-ghost use Rattle.std.specs.Prelude.{◌≡◌, ◌-◌, [], ◌∷◌, ◌++◌, IfOk, string_bytes, option_map, length, min, take, drop};
-ghost use Rattle.net_bench.specs.Text.{words_of};
+ghost use Rattle.std.specs.Prelude.{◌≡◌, ◌-◌, [], ◌∷◌, ◌++◌, IfOk, string_bytes, option_map, codes, length, min, ◌≤◌, take, drop};
+ghost use Rattle.net_bench.specs.Text.{words_of, hex_text};
 ghost use Rattle.net_bench.specs.RingMode.{ring_rules, ring_command, ring_does, empty_queue};
 ghost use Rattle.net_bench.specs.RingMode.{Write, Read};
 ghost use Rattle.net_bench.specs.RingLines.{ring_command_seen};
@@ -92,24 +92,34 @@ impl RingSession {
         format!(in alloc; "took {count}\n")
     }
 
-    /// Takes the front off.
-    fn take(&mut self, alloc: Global, number: u64) -> Result<Vec<u8>, AllocError>
-        ensures { IfOk result (λ bytes. let count = min number (length self.old.bytes) in
-            (bytes.items ≡ take count self.old.bytes) × (self.new ≡ record self.old { bytes = drop count self.old.bytes })) }
+    /// The reply that shows so many bytes from the front, of the one part or the two in which they
+    /// lie in the storage.
+    fn shown(&self, alloc: Global, count: usize) -> Result<String, AllocError>
+        requires { count ≤ length self.now.bytes }
+        ensures { IfOk result (λ reply. string_bytes reply
+            ≡ codes "read " ++ hex_text (take count self.now.bytes) ++ codes "\n") }
     {
-        let count = (self.ring.len() as u64).min(number) as usize;
-        let mut bytes = vec![in alloc; 0u8; count]?;
-        let _ = self.ring.dequeue_slice(&mut bytes);
-        Ok(bytes)
+        let first = self.ring.get_allocated(0, count);
+        let second = self.ring.get_allocated(first.len(), count - first.len());
+        text::read_reply(alloc, first, second)
     }
 
-    /// Takes the front off, and shows it.
+    /// Takes so many bytes off the front.
+    fn take_off(&mut self, count: usize)
+        requires { count ≤ length self.old.bytes }
+        ensures { self.new ≡ record self.old { bytes = drop count self.old.bytes } }
+    {
+        self.ring.dequeue_allocated(count);
+    }
+
+    /// Shows as many bytes as are asked for and there, and takes them off.
     fn read(&mut self, alloc: Global, number: u64) -> Result<String, AllocError>
         ensures { IfOk result (λ reply. ring_does self.old (Read number) ≡ (self.new, string_bytes reply)) }
     {
-        let bytes = self.take(alloc, number)?;
-        let text = text::shown(alloc, &bytes)?;
-        format!(in alloc; "read {text}\n")
+        let count = (self.ring.len() as u64).min(number) as usize;
+        let reply = self.shown(alloc, count)?;
+        self.take_off(count);
+        Ok(reply)
     }
 }
 

@@ -1,7 +1,7 @@
 //! A run, from the bytes that are read to the bytes that are written.
 ghost use Rattle.std.specs.Prelude.{◌≡◌, IfSome, IfErr, OnOk, None};
 ghost use Rattle.std.specs.Io.KnownBytes.{Appends};
-ghost use Rattle.net_bench.specs.Transcript.{Leaves};
+ghost use Rattle.net_bench.specs.Transcript.{ErrorOfInput};
 ghost use Rattle.net_bench.specs.Modes.{out, fault, transcript_of};
 
 use crate::asm::AsmSession;
@@ -31,7 +31,7 @@ pub fn run<R: Read, W: Write>(
         × Appends (W.contents writer.old) (W.contents writer.new) (out mode input))) }
     // or what the table of errors says.
     ensures err { IfErr result (λ e. IfSome (R.remaining reader.old) (λ input.
-        Leaves (transcript_of mode) input (R.remaining reader.new) (W.contents writer.old) (W.contents writer.new) e)) }
+        ErrorOfInput (transcript_of mode) input (R.remaining reader.new) (W.contents writer.old) (W.contents writer.new) e)) }
 {
     laws::schedules();
     match mode.kind() {

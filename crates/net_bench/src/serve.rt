@@ -1,7 +1,7 @@
 //! The program, from its words and streams to its exit status.
 ghost use Rattle.std.specs.Prelude.{◌≡◌, map, IfSome, None, ◌↔◌, string_bytes, ◌≤◌};
 ghost use Rattle.std.specs.Io.KnownBytes.{Appends, Keeps};
-ghost use Rattle.net_bench.specs.Transcript.{Leaves};
+ghost use Rattle.net_bench.specs.Transcript.{ErrorOfInput};
 ghost use Rattle.net_bench.specs.Modes.{out, fault, mode_of, transcript_of};
 ghost use Rattle.net_bench.specs.declared.error.BenchError.{BenchError};
 
@@ -38,7 +38,7 @@ pub fn serve<R: Read, W: Write, E: Write>(
     ensures quiet { result ≡ 0 → Keeps (E.contents errors.old) (E.contents errors.new) }
     ensures err { result ≡ 1 → IfSome (mode_of (map string_bytes words.now)) (λ mode.
         IfSome (R.remaining reader.old) (λ input. (e : BenchError)
-        × Leaves (transcript_of mode) input (R.remaining reader.new)
+        × ErrorOfInput (transcript_of mode) input (R.remaining reader.new)
         (W.contents writer.old) (W.contents writer.new) e)) }
 {
     let Some(mode) = Mode::from_words(words) else {
@@ -51,14 +51,14 @@ pub fn serve<R: Read, W: Write, E: Write>(
         if flushed.is_ok() {
             return 0;
         }
-        tell(errors, BenchError::WriteFailed);
+        write_error(errors, BenchError::WriteFailed);
         return 1;
     };
-    tell(errors, error);
+    write_error(errors, error);
     1
 }
 
 /// Writes an error as a line.
-fn tell<E: Write>(errors: &mut E, error: BenchError) {
+fn write_error<E: Write>(errors: &mut E, error: BenchError) {
     let _ = writeln!(errors, "{error}");
 }

@@ -5,14 +5,14 @@ use std::alloc::{AllocError, Global};
 use std::io;
 use std::io::{Read, Write};
 
-/// A reader over bytes: it gives at most `most` bytes a call, and its call number `fails`, counted from 0,
-/// fails.
+/// A reader over bytes. It gives at most `bytes_per_call` bytes a call, and one where that is 0; its
+/// call number `failing_call`, counted from 0, fails.
 #[derive(Drop)]
 pub struct Source<'a> {
     pub bytes: &'a [u8],
-    pub most: usize,
+    pub bytes_per_call: usize,
     pub calls: usize,
-    pub fails: usize,
+    pub failing_call: usize,
 }
 
 impl<'a> Source<'a> {
@@ -20,9 +20,9 @@ impl<'a> Source<'a> {
     pub fn new(bytes: &'a [u8]) -> Source<'a> {
         Source {
             bytes,
-            most: usize::MAX,
+            bytes_per_call: usize::MAX,
             calls: 0,
-            fails: usize::MAX,
+            failing_call: usize::MAX,
         }
     }
 }
@@ -33,10 +33,10 @@ impl Read for Source<'_> {
     fn read(&mut self, buf: &mut [u8]) -> io::Result<usize> {
         let call = self.calls;
         self.calls = call.saturating_add(1);
-        if call == self.fails {
+        if call == self.failing_call {
             return Err(io::Error::from(io::ErrorKind::Other));
         }
-        let count = buf.len().min(self.bytes.len()).min(self.most.max(1));
+        let count = buf.len().min(self.bytes.len()).min(self.bytes_per_call.max(1));
         let (front, rest) = self.bytes.split_at(count);
         buf[..count].copy_from_slice(front);
         self.bytes = rest;
@@ -44,14 +44,14 @@ impl Read for Source<'_> {
     }
 }
 
-/// A writer that keeps what it takes: at most `most` bytes a call;
-/// its call number `fails`, counted from 0, fails, and so does its flush where `flush_fails`.
+/// A writer that keeps what it takes: at most `bytes_per_call` bytes a call. Its call number
+/// `failing_call`, counted from 0, fails, and so does its flush where `flush_fails`.
 #[derive(Drop)]
 pub struct Sink {
     pub bytes: Vec<u8>,
-    pub most: usize,
+    pub bytes_per_call: usize,
     pub calls: usize,
-    pub fails: usize,
+    pub failing_call: usize,
     pub flushes: usize,
     pub flush_fails: bool,
 }
@@ -61,9 +61,9 @@ impl Sink {
     pub fn new(alloc: Global) -> Result<Sink, AllocError> {
         Ok(Sink {
             bytes: Vec::with_capacity(alloc, 8192)?,
-            most: usize::MAX,
+            bytes_per_call: usize::MAX,
             calls: 0,
-            fails: usize::MAX,
+            failing_call: usize::MAX,
             flushes: 0,
             flush_fails: false,
         })
@@ -76,10 +76,10 @@ impl Write for Sink {
     fn write(&mut self, buf: &[u8]) -> io::Result<usize> {
         let call = self.calls;
         self.calls = call.saturating_add(1);
-        if call == self.fails {
+        if call == self.failing_call {
             return Err(io::Error::from(io::ErrorKind::Other));
         }
-        let count = buf.len().min(self.most);
+        let count = buf.len().min(self.bytes_per_call);
         self.bytes.extend_from_slice(&buf[..count])?;
         Ok(count)
     }

@@ -1,36 +1,33 @@
 //! Numbers and bytes as text.
-ghost use Rattle.std.specs.Prelude.{◌≡◌, IfOk, option_map, string_bytes};
-ghost use Rattle.std.specs.List.{list_all};
-ghost use Rattle.std.specs.Char.{is_ascii_digit};
-ghost use Rattle.net_bench.specs.Text.{number_of, bytes_of, hex_text, is_numeral as is_numeral_word};
+ghost use Rattle.std.specs.Prelude.{◌≡◌, ◌+◌, ◌*◌, ◌++◌, length, codes, IfOk, option_map, string_bytes};
+ghost use Rattle.hex.specs.Hex.{encode_lower};
+ghost use Rattle.net_bench.specs.Text.{begins_numeral, number_of, bytes_of, hex_text};
 
 use hex::FromHexError;
 use std::alloc::{AllocError, Global};
 
-fn is_decimal(word: &[u8]) -> bool
-    ensures { result ≡ list_all is_ascii_digit word.now }
+/// Whether a word begins as a numeral does: it has a digit, and no leading 0 unless it is `0`.
+fn begins_numeral(word: &[u8]) -> bool
+    ensures { result ≡ begins_numeral word.now }
 {
-    word.iter().all(|b| b.is_ascii_digit())
-}
-
-/// Whether a word is a numeral: decimal digits, with no leading 0 unless it is `0`.
-fn is_numeral(word: &[u8]) -> bool
-    ensures { result ≡ is_numeral_word word.now }
-{
-    !word.is_empty() && is_decimal(word) && (word[0] > b'0' || word.len() == 1)
+    !word.is_empty() && (word[0] > b'0' || word.len() == 1)
 }
 
 /// The number that a word writes, if it is a numeral and 64 bits hold the number.
 pub fn number(word: &[u8]) -> Option<u64>
     ensures { result ≡ number_of word.now }
 {
-    if !is_numeral(word) {
+    if !begins_numeral(word) {
         return None;
     }
-    match str::from_utf8(word) {
-        Ok(text) => text.parse::<u64>().ok(),
-        Err(_) => None,
+    let mut value = 0u64;
+    for &byte in word {
+        if !byte.is_ascii_digit() {
+            return None;
+        }
+        value = value.checked_mul(10)?.checked_add(u64::from(byte - b'0'))?;
     }
+    Some(value)
 }
 
 /// The bytes that a word writes: `-` for none, or one or more pairs of hexadecimal digits in either case.
@@ -58,4 +55,55 @@ pub fn shown(alloc: Global, bytes: &[u8]) -> Result<String, AllocError>
         return String::from_str(alloc, "-");
     }
     hex::encode(alloc, bytes)
+}
+
+/// Writes bytes as hexadecimal digits. There must be room for two digits a byte.
+fn put_digits(bytes: &[u8], digits: &mut [u8])
+    requires { length digits.old ≡ 2 * length bytes.now }
+    ensures { digits.new ≡ encode_lower bytes.now }
+{
+    let _ = hex::encode_to_slice(bytes, digits);
+}
+
+/// Writes the reply that shows two parts, of which one has a byte. There must be room for it.
+fn put_read_reply(first: &[u8], second: &[u8], reply: &mut [u8])
+    requires { length reply.old ≡ 6 + (2 * length first.now + 2 * length second.now) }
+    ensures { reply.new ≡ codes "read " ++ (encode_lower first.now ++ encode_lower second.now) ++ codes "\n" }
+{
+    let (verb, rest) = reply.split_at_mut(5);
+    verb.copy_from_slice(b"read ");
+    let (front, rest) = rest.split_at_mut(2 * first.len());
+    put_digits(first, front);
+    let (back, end) = rest.split_at_mut(2 * second.len());
+    put_digits(second, back);
+    end.copy_from_slice(b"\n");
+}
+
+/// The bytes of the reply that shows two parts, of which one has a byte.
+fn read_reply_bytes(alloc: Global, first: &[u8], second: &[u8]) -> Result<Vec<u8>, AllocError>
+    ensures { IfOk result (λ reply. reply.items
+        ≡ codes "read " ++ (encode_lower first.now ++ encode_lower second.now) ++ codes "\n") }
+{
+    let Some(digits) = first.len().saturating_add(second.len()).checked_mul(2) else {
+        return Err(AllocError);
+    };
+    let Some(length) = digits.checked_add(6) else {
+        return Err(AllocError);
+    };
+    let mut reply = vec![in alloc; 0u8; length]?;
+    put_read_reply(first, second, reply.as_mut_slice());
+    Ok(reply)
+}
+
+/// The reply that shows the bytes of two parts, the second behind the first. Its memory is taken at
+/// once, and each byte is looked at once.
+pub fn read_reply(alloc: Global, first: &[u8], second: &[u8]) -> Result<String, AllocError>
+    ensures { IfOk result (λ text. string_bytes text
+        ≡ codes "read " ++ hex_text (first.now ++ second.now) ++ codes "\n") }
+{
+    if first.len().saturating_add(second.len()) == 0 {
+        return String::from_str(alloc, "read -\n");
+    }
+    let reply = read_reply_bytes(alloc, first, second)?;
+    Ok(String::from_utf8(reply).unwrap())
 }

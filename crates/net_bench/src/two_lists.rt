@@ -30,13 +30,13 @@ impl<A: Allocator + Copy> Model for TwoLists<A> {
 
 /// A frame that has come.
 #[derive(Drop)]
-pub struct Came<A: Allocator + Copy>(Vec<u8, A>);
+pub struct TwoListsRxToken<A: Allocator + Copy>(Vec<u8, A>);
 
 /// The right to send a frame.
 #[derive(Drop)]
-pub struct Leave;
+pub struct TwoListsTxToken;
 
-impl<A: Allocator + Copy> RxToken for Came<A> {
+impl<A: Allocator + Copy> RxToken for TwoListsRxToken<A> {
     ghost bytes = { λ t. t.0.items };
 
     fn consume<R, F: FnOnce(&[u8]) -> R>(self, f: F) -> R {
@@ -48,12 +48,12 @@ impl<A: Allocator + Copy> RxToken for Came<A> {
     }
 }
 
-impl TxToken for Leave {}
+impl TxToken for TwoListsTxToken {}
 
 impl<A: Allocator + Copy> Device for TwoLists<A> {
-    type RxToken = Came<A>;
+    type RxToken = TwoListsRxToken<A>;
 
-    type TxToken = Leave;
+    type TxToken = TwoListsTxToken;
 
     ghost taken = { λ old frame new. (old.0 ≡ frame ∷ new.0) × (old.1 ≡ new.1) };
 
@@ -63,14 +63,14 @@ impl<A: Allocator + Copy> Device for TwoLists<A> {
 
     ghost abilities = { λ _. loopback_capabilities Ip };
 
-    fn receive(&mut self, timestamp: Instant) -> Option<(Came<A>, Leave)> {
+    fn receive(&mut self, timestamp: Instant) -> Option<(TwoListsRxToken<A>, TwoListsTxToken)> {
         self.asked_at = timestamp;
         let frame = self.to_come.pop_front()?;
-        Some((Came(frame), Leave))
+        Some((TwoListsRxToken(frame), TwoListsTxToken))
     }
 
-    fn transmit(&mut self, _timestamp: Instant) -> Option<Leave> {
-        Some(Leave)
+    fn transmit(&mut self, _timestamp: Instant) -> Option<TwoListsTxToken> {
+        Some(TwoListsTxToken)
     }
 
     fn capabilities(&self) -> DeviceCapabilities {
@@ -84,7 +84,7 @@ impl<A: Allocator + Copy> Device for TwoLists<A> {
 
     fn send<R, F: FnOnce(&mut [u8]) -> R + Drop>(
         &mut self,
-        _token: Leave,
+        _token: TwoListsTxToken,
         len: usize,
         f: F,
     ) -> Result<R, AllocError> {

@@ -33,9 +33,9 @@ fn check_rows(
         for most in [1, 3, usize::MAX] {
             let mode = mode(alloc, words)?;
             let mut source = Source::new(input);
-            source.most = most;
+            source.bytes_per_call = most;
             let mut sink = Sink::new(alloc)?;
-            sink.most = most;
+            sink.bytes_per_call = most;
             let outcome = run(alloc, mode, &mut source, &mut sink);
             let text = ended(alloc, outcome)?;
             assert_eq!(rt; text.as_str(), *end, "{words}, {most} bytes a call");
@@ -364,7 +364,7 @@ fn finds_a_long_line_as_soon_as_its_bytes_were_read(rt: HostRuntime) -> Result<(
     for (length, end) in [(4096, "read failed"), (4097, "line 1: line too long")] {
         let input = vec![in rt.alloc(); b'w'; length]?;
         let mut source = Source::new(&input);
-        source.fails = 1;
+        source.failing_call = 1;
         let mut sink = Sink::new(rt.alloc())?;
         let outcome = run(
             rt.alloc(),
@@ -384,8 +384,8 @@ fn reads_fail_in_turn(rt: HostRuntime) -> Result<(), Fail> {
     let input = b"w 61\nr 1".as_slice();
     for fails in 0..10 {
         let mut source = Source::new(input);
-        source.most = 1;
-        source.fails = fails;
+        source.bytes_per_call = 1;
+        source.failing_call = fails;
         let mut sink = Sink::new(rt.alloc())?;
         let outcome = run(
             rt.alloc(),
@@ -415,8 +415,8 @@ fn writes_fail_in_turn(rt: HostRuntime) -> Result<(), Fail> {
         for fails in 0..30 {
             let mut source = Source::new(input);
             let mut sink = Sink::new(rt.alloc())?;
-            sink.most = most;
-            sink.fails = fails;
+            sink.bytes_per_call = most;
+            sink.failing_call = fails;
             let outcome = run(
                 rt.alloc(),
                 mode(rt.alloc(), "ring 8")?,
@@ -445,8 +445,8 @@ fn writes_fail_in_turn(rt: HostRuntime) -> Result<(), Fail> {
 fn writes_a_beginning_of_a_reply(rt: HostRuntime) -> Result<(), Fail> {
     let mut source = Source::new(b"w 6162\n");
     let mut sink = Sink::new(rt.alloc())?;
-    sink.most = 5;
-    sink.fails = 1;
+    sink.bytes_per_call = 5;
+    sink.failing_call = 1;
     let outcome = run(
         rt.alloc(),
         mode(rt.alloc(), "ring 8")?,

@@ -56,6 +56,21 @@ fn answers_each_status(rt: HostRuntime) -> Result<(), Fail> {
 }
 
 #[test]
+fn says_which_line_is_too_long(rt: HostRuntime) -> Result<(), Fail> {
+    let words = command_words(rt.alloc(), "ring 8")?;
+    let mut input = vec![in rt.alloc(); b'w'; 4102]?;
+    input[..5].copy_from_slice(b"w 61\n");
+    let mut source = Source::new(&input);
+    let mut sink = Sink::new(rt.alloc())?;
+    let mut errors = Sink::new(rt.alloc())?;
+    let answer = serve(rt.alloc(), &words, &mut source, &mut sink, &mut errors);
+    assert_eq!(rt; answer, 1);
+    assert_eq!(rt; sink.bytes.as_slice(), b"took 1\n".as_slice());
+    assert_eq!(rt; errors.bytes.as_slice(), b"line 2: line too long\n".as_slice());
+    Ok(())
+}
+
+#[test]
 fn says_how_it_is_used(rt: HostRuntime) -> Result<(), Fail> {
     let lines = [
         "",
@@ -112,9 +127,9 @@ fn says_which_stream_failed(rt: HostRuntime) -> Result<(), Fail> {
         (1, usize::MAX, true, b"read failed\n".as_slice()),
     ] {
         let mut source = Source::new(b"w 61\n");
-        source.fails = read_fails;
+        source.failing_call = read_fails;
         let mut sink = Sink::new(rt.alloc())?;
-        sink.fails = write_fails;
+        sink.failing_call = write_fails;
         sink.flush_fails = flush_fails;
         let mut errors = Sink::new(rt.alloc())?;
         let answer = serve(rt.alloc(), &words, &mut source, &mut sink, &mut errors);
@@ -131,7 +146,7 @@ fn keeps_its_status_where_standard_error_fails(rt: HostRuntime) -> Result<(), Fa
         let words = command_words(rt.alloc(), line)?;
         let mut sink = Sink::new(rt.alloc())?;
         let mut errors = Sink::new(rt.alloc())?;
-        errors.fails = 0;
+        errors.failing_call = 0;
         let answer = serve(
             rt.alloc(),
             &words,

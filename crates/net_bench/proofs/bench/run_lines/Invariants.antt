@@ -1,7 +1,7 @@
-use Rattle.net_bench.proofs.RunProgress.{Came}
+use Rattle.net_bench.proofs.RunProgress.{AfterReads}
 use Rattle.net_bench.proofs.bench.run_lines.Given as goal
 
 -- the bytes that came led here
 abbrev pub invariant-reads : goal.invariant-reads
 invariant-reads g l =
-    Came g.S.Session.rules (g.R.Read.remaining l.fn.reader) (g.R.Read.remaining l.reader) (g.W.Write.contents l.fn.writer) (g.W.Write.contents l.writer) l.fn.session l.bench.number l.bench.session l.bench.line.items
+    AfterReads g.S.Session.rules (g.R.Read.remaining l.fn.reader) (g.R.Read.remaining l.reader) (g.W.Write.contents l.fn.writer) (g.W.Write.contents l.writer) l.fn.session l.bench.number l.bench.session l.bench.line.items l.bench.replies

@@ -1,28 +1,21 @@
-use Rattle.std.proofs.Common.{◌<◌, length, []}
 use Rattle.std.proofs.lemmas.Result.{err_from_is_err_and, on_ok_weaker, IfErr-weaker}
-use Rattle.std.proofs.lemmas.List.{append-nil}
-use Rattle.net_bench.proofs.LineParts.{lines-one}
-use Rattle.net_bench.proofs.RunProgress.{finish-ok, finish-err, close-ok, close-err, nonempty, empty}
+use Rattle.net_bench.specs.Text.{lines_of}
+use Rattle.net_bench.specs.Transcript.{transcript}
+use Rattle.net_bench.proofs.RunProgress.{last-written, last-failed, PendingError-written}
 use Rattle.net_bench.proofs.bench.Bench.finish.Goals as goal
 
-pub returns-then-is_empty-clause-ok : goal.returns-then-is_empty-clause-ok
-returns-then-is_empty-clause-ok g c =
-    on_ok_weaker c.close.result (close-ok g.S.Session.rules g.S.Session.closing _ c.args.self.now.session _ _ _ (empty _ _ _ c.args.self.now.line.ok.0 c.is_empty.ensures c.if-is_empty.true)) c.close.ensures.ok
-
-pub returns-then-is_empty-clause-err : goal.returns-then-is_empty-clause-err
-returns-then-is_empty-clause-err g c =
-    IfErr-weaker c.close.result _ _ (λ e. close-err g.S.Session.rules g.S.Session.closing _ c.args.self.now.session _ _ _ e (empty _ _ _ c.args.self.now.line.ok.0 c.is_empty.ensures c.if-is_empty.true)) c.close.ensures.err
-
-pub returns-in_err-end_line-clause-err : goal.returns-in_err-end_line-clause-err
-returns-in_err-end_line-clause-err g c =
+pub returns-in_err-write_out-clause-err : goal.returns-in_err-write_out-clause-err
+returns-in_err-write_out-clause-err g c =
     let p = err_from_is_err_and c.from_residual.result c.from_residual.ensures.1 in
-    let some : 0 < length c.args.self.now.line.items = nonempty _ _ _ c.args.self.now.line.ok.0 c.is_empty.ensures c.if-is_empty.false in
-    rw (p.1, p.2) (rw (lines-one c.args.self.now.line.items some c.args.self.now.unended) (rw (append-nil c.args.self.now.line.items) at (c.in_err-end_line.ensures.err [])))
+    let failed = c.in_err-write_out.ensures.err in
+    rw (p.1, p.2, failed.0, c.write_out.ensures.emptied) (last-failed g.S.Session.rules g.S.Session.closing _ _ (lines_of c.args.self.now.line.items) _ _ _ _ _ c.run_last-outcome.result failed.1 c.run_last-outcome.ensures.ok c.run_last-outcome.ensures.err)
 
 pub returns-clause-ok : goal.returns-clause-ok
 returns-clause-ok g c =
-    on_ok_weaker c.close-2.result (finish-ok g.S.Session.rules g.S.Session.closing _ c.args.self.now.session _ _ _ _ _ _ _ (nonempty _ _ _ c.args.self.now.line.ok.0 c.is_empty.ensures c.if-is_empty.false) c.args.self.now.unended c.in_ok-end_line.ensures.ok) c.close-2.ensures.ok
+    on_ok_weaker c.run_last-outcome.result (last-written g.S.Session.rules g.S.Session.closing _ _ (lines_of c.args.self.now.line.items) _ _ _ _ _ _ c.in_ok-write_out.ensures.ok c.write_out.ensures.emptied) c.run_last-outcome.ensures.ok
 
 pub returns-clause-err : goal.returns-clause-err
 returns-clause-err g c =
-    IfErr-weaker c.close-2.result _ _ (λ e. finish-err g.S.Session.rules g.S.Session.closing _ c.args.self.now.session _ _ _ _ _ _ _ e (nonempty _ _ _ c.args.self.now.line.ok.0 c.is_empty.ensures c.if-is_empty.false) c.args.self.now.unended c.in_ok-end_line.ensures.ok) c.close-2.ensures.err
+    IfErr-weaker c.run_last-outcome.result _ _
+    (λ e h. rw c.write_out.ensures.emptied (PendingError-written (transcript g.S.Session.rules g.S.Session.closing c.args.self.now.number c.args.self.now.session) (lines_of c.args.self.now.line.items) (g.W.Write.contents c.args.writer.now) _ _ c.args.self.now.replies _ e h c.in_ok-write_out.ensures.ok))
+    c.run_last-outcome.ensures.err

@@ -1,28 +1,22 @@
-use Rattle.std.proofs.Common.{◌≡◌, ◌==◌, false}
-use Rattle.std.proofs.lemmas.Result.{err_from_is_err_and, IfErr-weaker}
-use Rattle.std.proofs.lemmas.List.Elements.{All-append}
-use Rattle.net_bench.proofs.LineParts.{feed-found, feed-nowhere}
-use Rattle.net_bench.proofs.RunProgress.{Taken-more, Taken-err, Taken-long}
+use Rattle.std.proofs.lemmas.Result.{err_from_is_err_and, on_ok_weaker, IfErr-weaker}
+use Rattle.std.proofs.Common.{◌++◌}
+use Rattle.net_bench.specs.Text.{lines_of}
+use Rattle.net_bench.specs.Transcript.{transcript}
+use Rattle.net_bench.proofs.RunProgress.{Advances-written, Advances-failed, PendingError-written}
 use Rattle.net_bench.proofs.bench.Bench.take.Goals as goal
 
-pub end_line-requires : goal.end_line-requires
-end_line-requires g c = (feed-found c.lines.rest.now c.in-Some.at c.in-Some.ensures).2
-
-pub returns-in_err-end_line-clause-err : goal.returns-in_err-end_line-clause-err
-returns-in_err-end_line-clause-err g c =
+pub returns-in_err-write_out-clause-err : goal.returns-in_err-write_out-clause-err
+returns-in_err-write_out-clause-err g c =
     let p = err_from_is_err_and c.from_residual.result c.from_residual.ensures.1 in
-    rw (p.1, p.2) (λ more. Taken-err g.S.Session.rules g.S.Session.closing c.args.bytes.now c.lines.rest.now c.in-Some.at _ _ _ _ _ _ more _ _ _ _ c.lines.invariant c.in-Some.ensures c.lines.self.unended c.in_err-end_line.ensures.err)
+    let failed = c.in_err-write_out.ensures.err in
+    rw (p.1, p.2, failed.0, c.write_out.ensures.emptied) (λ more. Advances-failed g.S.Session.rules g.S.Session.closing c.args.bytes.now _ _ _ _ _ _ _ _ _ _ _ c.run_ended-outcome.result more failed.1 c.run_ended-outcome.ensures.ok c.run_ended-outcome.ensures.err)
 
-pub lines-preserved : goal.lines-preserved
-lines-preserved g c =
-    Taken-more g.S.Session.rules c.args.bytes.now c.lines.rest.now c.in-Some.at _ _ _ _ _ _ _ _ _ _ _ _ c.lines.invariant c.in-Some.ensures c.lines.self.unended c.in_ok-end_line.ensures.ok
-
-pub keep-requires : goal.keep-requires
-keep-requires g c = feed-nowhere c.lines.rest.now c.in_default.ensures
+pub returns-clause-ok : goal.returns-clause-ok
+returns-clause-ok g c =
+    on_ok_weaker c.run_ended-outcome.result (Advances-written g.S.Session.rules c.args.bytes.now _ _ _ _ _ _ _ _ _ _ _ _ c.in_ok-write_out.ensures.ok c.write_out.ensures.emptied) c.run_ended-outcome.ensures.ok
 
 pub returns-clause-err : goal.returns-clause-err
 returns-clause-err g c =
-    IfErr-weaker c.keep.result _ _
-    (λ e h more. Taken-long g.S.Session.rules g.S.Session.closing c.args.bytes.now c.lines.rest.now _ _ _ _ _ _ more _ _ e c.lines.invariant
-    (All-append (λ b. (b == 10) ≡ false) c.lines.self.line.items c.lines.rest.now c.lines.self.unended (feed-nowhere c.lines.rest.now c.in_default.ensures)) h)
-    c.keep.ensures.err
+    IfErr-weaker c.run_ended-outcome.result _ _
+    (λ e h more. rw c.write_out.ensures.emptied (PendingError-written (transcript g.S.Session.rules g.S.Session.closing c.args.self.now.number c.args.self.now.session) (lines_of (c.args.self.now.line.items ++ (c.args.bytes.now ++ more))) (g.W.Write.contents c.args.writer.now) _ _ c.args.self.now.replies _ e (h more) c.in_ok-write_out.ensures.ok))
+    c.run_ended-outcome.ensures.err
