@@ -4,18 +4,18 @@ use Rattle.std.proofs.lemmas.Bool.{cases_lt}
 use Rattle.std.proofs.lemmas.Bool.Decides.{nat_tests}
 use Rattle.std.proofs.lemmas.List.{length-take}
 use Rattle.std.proofs.Math.Seq.{take-add}
-use Rattle.net_storage.specs.Ring.{RingState, held_place, held_run, queue, capacity}
+use Rattle.net_storage.specs.Ring.{RingState, held_index, contiguous_held_from, queue, capacity}
 
 -- the place of the first element
-place-first : (g : RingState ℕ) → 0 < capacity g - g.read_at → held_place g 0 ≡ g.read_at
+place-first : (g : RingState ℕ) → 0 < capacity g - g.read_at → held_index g 0 ≡ g.read_at
 place-first g some = grind (arith, nat_tests)
 
 -- the place of the one that comes behind the storage's end
-place-round : (g : RingState ℕ) (i : ℕ) → i ≤ g.held → i ≡ capacity g - g.read_at → held_place g i ≡ 0
+place-round : (g : RingState ℕ) (i : ℕ) → i ≤ g.held → i ≡ capacity g - g.read_at → held_index g i ≡ 0
 place-round g i within end = grind (arith, nat_tests)
 
 -- the second part has all that the first leaves
-second-length : (g : RingState ℕ) (count f s : ℕ) → count ≤ g.held → g.held ≤ capacity g → f ≡ held_run g 0 count → s ≡ held_run g f (count - f) → count ≡ f + s
+second-length : (g : RingState ℕ) (count f s : ℕ) → count ≤ g.held → g.held ≤ capacity g → f ≡ contiguous_held_from g 0 count → s ≡ contiguous_held_from g f (count - f) → count ≡ f + s
 second-length g count f s within fits first second =
     ⊎_elim
     (λ (some : 0 < capacity g - g.read_at).
@@ -37,7 +37,7 @@ held-fits : (g : RingState ℕ) → length (queue g) ≡ g.held → g.held ≤ c
 held-fits g all = omega (arith, all, length-take g.held (drop g.read_at g.storage ++ take g.read_at g.storage), length-append (drop g.read_at g.storage) (take g.read_at g.storage), length-drop g.read_at g.storage, length-take g.read_at g.storage)
 
 -- both parts are the front of the queue
-pub parts-are : (g : RingState ℕ) (count : ℕ) (first second : List ℕ) → count ≤ length (queue g) → length (queue g) ≡ g.held → length first ≡ held_run g 0 count → first ≡ take (length first) (drop 0 (queue g)) → length second ≡ held_run g (length first) (count - length first) → second ≡ take (length second) (drop (length first) (queue g)) → first ++ second ≡ take count (queue g)
+pub parts-are : (g : RingState ℕ) (count : ℕ) (first second : List ℕ) → count ≤ length (queue g) → length (queue g) ≡ g.held → length first ≡ contiguous_held_from g 0 count → first ≡ take (length first) (drop 0 (queue g)) → length second ≡ contiguous_held_from g (length first) (count - length first) → second ≡ take (length second) (drop (length first) (queue g)) → first ++ second ≡ take count (queue g)
 parts-are g count first second within all f front s back =
     let fits : g.held ≤ capacity g = held-fits g all in
     let whole : count ≡ length first + length second = second-length g count (length first) (length second) (omega (arith, within, all)) fits f s in

@@ -346,7 +346,7 @@ fn refuses_lines_of_no_command(rt: HostRuntime) -> Result<(), Fail> {
 
 #[test]
 fn finds_long_lines(rt: HostRuntime) -> Result<(), Fail> {
-    let mut input = vec![in rt.alloc(); b'6'; 8195]?;
+    let mut input = vec![in rt.alloc(); b'6'; 8194]?;
     input[0] = b'w';
     input[1] = b' ';
     input[4096] = b'\n';
