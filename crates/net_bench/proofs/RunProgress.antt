@@ -179,8 +179,8 @@ replies-front rules closing state (suc k) [] = (closing state, refl)
 replies-front rules closing state (suc k) (line ∷ lines) =
     elim (line_step rules state line) as (λ v. (rest : List ℕ) × (by_step (λ next reply. reply ++ text_of rules closing next lines) (λ _. []) v ≡ by_step (λ next reply. reply ++ replies_of rules next (take k lines)) (λ _. []) v ++ rest)) [
       | Ok next ↦
-        let f = replies-front rules closing next.0 k lines in
-        (f.0, ap (λ t. next.1 ++ t) f.1 ∙ sym (append_assoc next.1 (replies_of rules next.0 (take k lines)) f.0))
+          let f = replies-front rules closing next.0 k lines in
+          (f.0, ap (λ t. next.1 ++ t) f.1 ∙ sym (append_assoc next.1 (replies_of rules next.0 (take k lines)) f.0))
       | Err fault ↦ ([], refl)
     ]
 

@@ -80,7 +80,8 @@ fn range(verb: RangeVerb, offset: &[u8], size: &[u8]) -> Option<AsmLine>
 
 /// What three words say.
 fn range_line(verb: &[u8], offset: &[u8], size: &[u8]) -> Option<AsmLine>
-    ensures { option_map asm_command_seen result ≡ asm_command (verb.now ∷ offset.now ∷ size.now ∷ []) }
+    ensures { option_map asm_command_seen result
+        ≡ asm_command (verb.now ∷ offset.now ∷ size.now ∷ []) }
 {
     if verb == b"a".as_slice() {
         return range(RangeVerb::Add, offset, size);
@@ -116,7 +117,8 @@ impl<const N: usize> AsmSession<N> {
     /// Adds a range that fits, and makes the reply.
     fn add(&mut self, alloc: Global, offset: usize, size: usize) -> Result<String, AllocError>
         requires { offset + size < 2 ^ 64 }
-        ensures { IfOk result (λ reply. added N self.old offset size ≡ (self.new, string_bytes reply)) }
+        ensures { IfOk result (λ reply.
+            added N self.old offset size ≡ (self.new, string_bytes reply)) }
     {
         let reply = match self.assembler.add(offset, size) {
             Ok(()) => "ok\n",
@@ -151,7 +153,8 @@ impl<const N: usize> AsmSession<N> {
         size: usize,
     ) -> Result<Result<String, Fault>, AllocError>
         ensures { IfOk result (λ outcome. MatchResult outcome
-            (λ reply. asm_does N self.old (range_command_seen verb offset size) ≡ Ok (self.new, string_bytes reply))
+            (λ reply. asm_does N self.old (range_command_seen verb offset size)
+            ≡ Ok (self.new, string_bytes reply))
             (λ fault. asm_does N self.old (range_command_seen verb offset size) ≡ Err fault)) }
     {
         if !Assembler::<N>::fits(offset, size) {
@@ -167,14 +170,16 @@ impl<const N: usize> AsmSession<N> {
 
     /// Removes the front.
     fn remove_front(&mut self, alloc: Global) -> Result<String, AllocError>
-        ensures { IfOk result (λ reply. asm_does N self.old RemoveFront ≡ Ok (self.new, string_bytes reply)) }
+        ensures { IfOk result (λ reply.
+            asm_does N self.old RemoveFront ≡ Ok (self.new, string_bytes reply)) }
     {
         front_text(alloc, self.assembler.remove_front())
     }
 
     /// Shows the runs.
     fn print(&self, alloc: Global) -> Result<String, AllocError>
-        ensures { IfOk result (λ reply. asm_does N self.now Print ≡ Ok (self.now, string_bytes reply)) }
+        ensures { IfOk result (λ reply.
+            asm_does N self.now Print ≡ Ok (self.now, string_bytes reply)) }
     {
         let assembler = &self.assembler;
         format!(in alloc; "{assembler}\n")
@@ -183,7 +188,8 @@ impl<const N: usize> AsmSession<N> {
 
 /// The reply that says how long the front was.
 fn front_text(alloc: Global, length: usize) -> Result<String, AllocError>
-    ensures { IfOk result (λ text. string_bytes text ≡ codes "front " ++ decimal length ++ codes "\n") }
+    ensures { IfOk result (λ text.
+        string_bytes text ≡ codes "front " ++ decimal length ++ codes "\n") }
 {
     format!(in alloc; "front {length}\n")
 }

@@ -53,7 +53,8 @@ fn answer<S: Session, W: Write>(
     }
 }
 
-/// A run under way: the mode's state, the number of the line that comes next, and what has come of it.
+/// A run under way: the mode's state, the number of the line that comes next, what has come of it,
+/// and the replies that are pending.
 #[derive(Drop)]
 struct Bench<S> {
     alloc: Global,
@@ -103,10 +104,12 @@ impl<S: Session> Bench<S> {
     fn end_line<W: Write>(&mut self, bytes: &[u8], writer: &mut W) -> Result<(), BenchError>
         requires { HasNoFeed bytes.now }
         ensures ok { OnOk result ((reply : List ℕ)
-            × (line_step S.rules self.old.session (self.old.line.items ++ bytes.now) ≡ Ok (self.new.session, reply))
+            × (line_step S.rules self.old.session (self.old.line.items ++ bytes.now)
+            ≡ Ok (self.new.session, reply))
             × (self.new.number ≡ next_number self.old.number)
             × (self.new.line.items ≡ [])
-            × Gathers (W.contents writer.old) self.old.replies (W.contents writer.new) self.new.replies reply) }
+            × Gathers (W.contents writer.old) self.old.replies
+            (W.contents writer.new) self.new.replies reply) }
         ensures err { IfErr result (λ e. (more : List (List ℕ)) →
             PendingError (transcript S.rules S.closing self.old.number self.old.session)
             ((self.old.line.items ++ bytes.now) ∷ more)
@@ -142,13 +145,15 @@ impl<S: Session> Bench<S> {
         ensures ok { OnOk result ((text : List ℕ)
             × Advances S.rules bytes.now self.old.number self.old.session self.old.line.items
             self.new.number self.new.session self.new.line.items text
-            × Gathers (W.contents writer.old) self.old.replies (W.contents writer.new) self.new.replies text) }
+            × Gathers (W.contents writer.old) self.old.replies
+            (W.contents writer.new) self.new.replies text) }
         ensures err { IfErr result (λ e. (more : List ℕ) →
             PendingError (transcript S.rules S.closing self.old.number self.old.session)
             (lines_of (self.old.line.items ++ (bytes.now ++ more)))
             (W.contents writer.old) self.old.replies (W.contents writer.new) self.new.replies e) }
     {
         let mut rest = bytes;
+        // The label is the loop's name in its proof.
         'lines: while let Some(at) = feed_at(rest) {
             self.end_line(&rest[..at], writer)?;
             rest = &rest[at + 1..];
@@ -162,7 +167,8 @@ impl<S: Session> Bench<S> {
         ensures ok { OnOk result ((text : List ℕ)
             × Advances S.rules bytes.now self.old.number self.old.session self.old.line.items
             self.new.number self.new.session self.new.line.items text
-            × Gathers (W.contents writer.old) self.old.replies (W.contents writer.new) self.new.replies text) }
+            × Gathers (W.contents writer.old) self.old.replies
+            (W.contents writer.new) self.new.replies text) }
         ensures err { IfErr result (λ e. (more : List ℕ) →
             PendingError (transcript S.rules S.closing self.old.number self.old.session)
             (lines_of (self.old.line.items ++ (bytes.now ++ more)))
@@ -192,10 +198,11 @@ impl<S: Session> Bench<S> {
             let all = transcript S.rules S.closing self.old.number self.old.session in
             let lines = lines_of self.old.line.items in
             (all.fault lines ≡ None)
-            × Gathers (W.contents writer.old) self.old.replies (W.contents writer.new) self.new.replies (all.text lines)) }
+            × Gathers (W.contents writer.old) self.old.replies
+            (W.contents writer.new) self.new.replies (all.text lines)) }
         ensures err { IfErr result (λ e.
-            PendingError (transcript S.rules S.closing self.old.number self.old.session) (lines_of self.old.line.items)
-            (W.contents writer.old) self.old.replies (W.contents writer.new) self.new.replies e) }
+            PendingError (transcript S.rules S.closing self.old.number self.old.session)
+            (lines_of self.old.line.items) (W.contents writer.old) self.old.replies (W.contents writer.new) self.new.replies e) }
     {
         if self.line.is_empty() {
             return self.close(writer);
@@ -212,10 +219,11 @@ impl<S: Session> Bench<S> {
             let all = transcript S.rules S.closing self.old.number self.old.session in
             let lines = lines_of self.old.line.items in
             (all.fault lines ≡ None)
-            × Gathers (W.contents writer.old) self.old.replies (W.contents writer.new) self.new.replies (all.text lines)) }
+            × Gathers (W.contents writer.old) self.old.replies
+            (W.contents writer.new) self.new.replies (all.text lines)) }
         ensures err { IfErr result (λ e.
-            PendingError (transcript S.rules S.closing self.old.number self.old.session) (lines_of self.old.line.items)
-            (W.contents writer.old) self.old.replies (W.contents writer.new) self.new.replies e) }
+            PendingError (transcript S.rules S.closing self.old.number self.old.session)
+            (lines_of self.old.line.items) (W.contents writer.old) self.old.replies (W.contents writer.new) self.new.replies e) }
     {
         let outcome = self.run_last(writer);
         self.replies.write_out(writer)?;
@@ -242,6 +250,7 @@ pub fn run_lines<S: Session + Drop, R: Read, W: Write>(
         return Err(BenchError::OutOfMemory);
     };
     let mut chunk = [0u8; CHUNK];
+    // The bound is what shows that the loop ends; the label is its name in its proof.
     'reads: for _ in 0..u64::MAX {
         match reader.read(&mut chunk) {
             Ok(0) => return bench.finish(writer),

@@ -118,14 +118,26 @@ fn each_read_fails_in_turn(rt: HostRuntime) -> Result<(), Fail> {
                 let text = ending(rt.alloc(), words, &mut source, &mut sink)?;
                 if failing_call > reads {
                     assert_eq!(rt; text.as_str(), "Ok", "{words}, read {failing_call}");
-                    assert_eq!(rt; sink.bytes.as_slice(), output, "{words}, read {failing_call}");
+                    assert_eq!(rt;
+                        sink.bytes.as_slice(),
+                        output,
+                        "{words}, read {failing_call}"
+                    );
                     continue;
                 }
                 let given = input.len().min(failing_call.saturating_mul(bytes_per_call));
                 let ended = input[..given].iter().filter(|b| **b == b'\n').count();
                 let end = ends.get(ended).copied().unwrap_or(usize::MAX);
-                assert_eq!(rt; text.as_str(), "read failed", "{words}, read {failing_call}");
-                assert_eq!(rt; Some(sink.bytes.as_slice()), output.get(..end), "{words}, read {failing_call}");
+                assert_eq!(rt;
+                    text.as_str(),
+                    "read failed",
+                    "{words}, read {failing_call}"
+                );
+                assert_eq!(rt;
+                    Some(sink.bytes.as_slice()),
+                    output.get(..end),
+                    "{words}, read {failing_call}"
+                );
                 assert_eq!(rt; source.calls, failing_call.saturating_add(1));
             }
         }
@@ -154,8 +166,11 @@ fn each_write_fails_in_turn(rt: HostRuntime) -> Result<(), Fail> {
     for (words, input, output, ends) in SCRIPTS {
         let total = output.len();
         let [_, first, second] = ends;
-        let singly = [first, second.saturating_sub(first), total.saturating_sub(second)];
-        for (bytes_read, together) in [(100, [total].as_slice()), (1, singly.as_slice())] {
+        // The last line has no line feed, so its reply is written at the end of the input.
+        let last = total.saturating_sub(second);
+        let singly = [first, second.saturating_sub(first), last];
+        let both = [second, last];
+        for (bytes_read, together) in [(100, both.as_slice()), (1, singly.as_slice())] {
             for bytes_per_call in [1, 3, 100] {
                 for failing_call in 0..30 {
                     let mut source = Source::new(input);
@@ -167,7 +182,11 @@ fn each_write_fails_in_turn(rt: HostRuntime) -> Result<(), Fail> {
                     let taken = taken_before(failing_call, bytes_per_call, together);
                     let failed = taken < total;
                     assert_eq!(rt; text.as_str(), if failed { "write failed" } else { "Ok" });
-                    assert_eq!(rt; Some(sink.bytes.as_slice()), output.get(..taken), "{words}, write {failing_call}");
+                    assert_eq!(rt;
+                        Some(sink.bytes.as_slice()),
+                        output.get(..taken),
+                        "{words}, write {failing_call}"
+                    );
                     assert!(rt; !failed || sink.calls == failing_call.saturating_add(1));
                 }
             }
@@ -176,8 +195,8 @@ fn each_write_fails_in_turn(rt: HostRuntime) -> Result<(), Fail> {
     Ok(())
 }
 
-/// A reader that gives the same lines again and again, at most three bytes a call, and then the last
-/// bytes or a failure.
+/// A reader that gives the same lines again and again, at most three bytes a call, and then the
+/// last bytes or a failure.
 #[derive(Drop)]
 struct Repeated<'a> {
     lines: &'a [u8],
@@ -246,8 +265,8 @@ impl Write for Expected<'_> {
 /// How often four lines are given: 60,000 lines.
 const TIMES: usize = 15000;
 
-/// Runs four lines again and again, with these last bytes or a failed read behind them, over a writer
-/// with so much room.
+/// Runs four lines again and again, with these last bytes or a failed read behind them, over a
+/// writer with so much room.
 fn check_repeated(
     rt: &impl Abort,
     alloc: Global,
@@ -324,19 +343,17 @@ fn runs_lines_of_every_length(rt: HostRuntime) -> Result<(), Fail> {
         input[length] = b'\n';
         let pairs = length.saturating_sub(2) / 2;
         let is_command = length % 2 == 0 && pairs > 0;
-        for bytes_per_call in [1000, usize::MAX] {
-            let mut source = Source::new(&input[..=length]);
-            source.bytes_per_call = bytes_per_call;
-            let mut sink = Sink::new(rt.alloc())?;
-            let text = ending(rt.alloc(), "ring 2048", &mut source, &mut sink)?;
-            if is_command {
-                let reply = format!(in rt.alloc(); "took {pairs}\n")?;
-                assert_eq!(rt; text.as_str(), "Ok", "{length} bytes");
-                assert_eq!(rt; sink.bytes.as_slice(), reply.as_bytes(), "{length} bytes");
-            } else {
-                assert_eq!(rt; text.as_str(), "line 1: bad command", "{length} bytes");
-                assert!(rt; sink.bytes.is_empty(), "{length} bytes");
-            }
+        let mut source = Source::new(&input[..=length]);
+        source.bytes_per_call = 1000;
+        let mut sink = Sink::new(rt.alloc())?;
+        let text = ending(rt.alloc(), "ring 2048", &mut source, &mut sink)?;
+        if is_command {
+            let reply = format!(in rt.alloc(); "took {pairs}\n")?;
+            assert_eq!(rt; text.as_str(), "Ok", "{length} bytes");
+            assert_eq!(rt; sink.bytes.as_slice(), reply.as_bytes(), "{length} bytes");
+        } else {
+            assert_eq!(rt; text.as_str(), "line 1: bad command", "{length} bytes");
+            assert!(rt; sink.bytes.is_empty(), "{length} bytes");
         }
         input[length] = b'6';
     }

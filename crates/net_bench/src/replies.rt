@@ -77,7 +77,8 @@ impl Replies {
     /// tried again.
     pub fn write_out<W: Write>(&mut self, writer: &mut W) -> Result<(), BenchError>
         ensures emptied { self.new ≡ [] }
-        ensures ok { OnOk result (Appends (W.contents writer.old) (W.contents writer.new) self.old) }
+        ensures ok { OnOk result
+            (Appends (W.contents writer.old) (W.contents writer.new) self.old) }
         ensures err { IfErr result (λ e. (e ≡ BenchError.WriteFailed)
             × WritesFront self.old (W.contents writer.old) (W.contents writer.new)) }
     {

@@ -44,7 +44,8 @@ impl Model for RingSession {
 
 /// What two words say.
 fn ring_words(alloc: Global, verb: &[u8], word: &[u8]) -> Result<Option<RingLine>, AllocError>
-    ensures { IfOk result (λ found. option_map ring_command_seen found ≡ ring_command (verb.now ∷ word.now ∷ [])) }
+    ensures { IfOk result (λ found.
+        option_map ring_command_seen found ≡ ring_command (verb.now ∷ word.now ∷ [])) }
 {
     if verb == b"w".as_slice() {
         return Ok(text::bytes(alloc, word)?.map(RingLine::Write));
@@ -57,7 +58,8 @@ fn ring_words(alloc: Global, verb: &[u8], word: &[u8]) -> Result<Option<RingLine
 
 /// What a line says.
 fn ring_line(alloc: Global, line: &[u8]) -> Result<Option<RingLine>, AllocError>
-    ensures { IfOk result (λ found. option_map ring_command_seen found ≡ ring_command (words_of line.now)) }
+    ensures { IfOk result (λ found.
+        option_map ring_command_seen found ≡ ring_command (words_of line.now)) }
 {
     match words::split_words(line) {
         Words::Two(verb, word) => ring_words(alloc, verb, word),
@@ -78,15 +80,18 @@ impl RingSession {
 
     /// Takes in as many bytes as there is room for, and answers how many.
     fn put(&mut self, bytes: &[u8]) -> usize
-        ensures count { result ≡ min (length bytes.now) (self.old.capacity - length self.old.bytes) }
-        ensures queue { self.new ≡ record self.old { bytes = self.old.bytes ++ take result bytes.now } }
+        ensures count { result
+            ≡ min (length bytes.now) (self.old.capacity - length self.old.bytes) }
+        ensures queue { self.new
+            ≡ record self.old { bytes = self.old.bytes ++ take result bytes.now } }
     {
         self.ring.enqueue_slice(bytes)
     }
 
     /// Takes in what there is room for, and says how much that was.
     fn write(&mut self, alloc: Global, bytes: &[u8]) -> Result<String, AllocError>
-        ensures { IfOk result (λ reply. ring_does self.old (Write bytes.now) ≡ (self.new, string_bytes reply)) }
+        ensures { IfOk result (λ reply.
+            ring_does self.old (Write bytes.now) ≡ (self.new, string_bytes reply)) }
     {
         let count = self.put(bytes);
         format!(in alloc; "took {count}\n")
@@ -114,7 +119,8 @@ impl RingSession {
 
     /// Shows as many bytes as are asked for and there, and takes them off.
     fn read(&mut self, alloc: Global, number: u64) -> Result<String, AllocError>
-        ensures { IfOk result (λ reply. ring_does self.old (Read number) ≡ (self.new, string_bytes reply)) }
+        ensures { IfOk result (λ reply.
+            ring_does self.old (Read number) ≡ (self.new, string_bytes reply)) }
     {
         let count = (self.ring.len() as u64).min(number) as usize;
         let reply = self.shown(alloc, count)?;

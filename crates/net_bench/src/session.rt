@@ -14,8 +14,8 @@ pub trait Session {
     /// What is written after the last line.
     ghost closing: { Self → List ℕ };
 
-    /// Does what a line of at most 4,096 bytes says, and makes its reply. After a fault, or where memory
-    /// was refused, the session is over.
+    /// Does what a line of at most 4,096 bytes says, and makes its reply. After a fault, or where
+    /// memory was refused, the session is over.
     fn run_line(&mut self, alloc: Global, line: &[u8]) -> Result<Result<String, Fault>, AllocError>
         ensures { IfOk result (λ outcome. MatchResult outcome
             (λ reply. rules self.old (words_of line.now) ≡ Ok (self.new, string_bytes reply))

@@ -5,7 +5,7 @@ use std::alloc::{AllocError, Global};
 use std::io;
 use std::io::{Read, Write};
 
-/// A reader over bytes. It gives at most `bytes_per_call` bytes a call, and one where that is 0; its
+/// A reader over bytes. It gives at most `bytes_per_call` bytes a call, and one where that is 0. Its
 /// call number `failing_call`, counted from 0, fails.
 #[derive(Drop)]
 pub struct Source<'a> {
@@ -36,7 +36,10 @@ impl Read for Source<'_> {
         if call == self.failing_call {
             return Err(io::Error::from(io::ErrorKind::Other));
         }
-        let count = buf.len().min(self.bytes.len()).min(self.bytes_per_call.max(1));
+        let count = buf
+            .len()
+            .min(self.bytes.len())
+            .min(self.bytes_per_call.max(1));
         let (front, rest) = self.bytes.split_at(count);
         buf[..count].copy_from_slice(front);
         self.bytes = rest;

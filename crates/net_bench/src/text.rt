@@ -30,7 +30,8 @@ pub fn number(word: &[u8]) -> Option<u64>
     Some(value)
 }
 
-/// The bytes that a word writes: `-` for none, or one or more pairs of hexadecimal digits in either case.
+/// The bytes that a word writes: `-` for none, or one or more pairs of hexadecimal digits in either
+/// case.
 pub fn bytes(alloc: Global, word: &[u8]) -> Result<Option<Vec<u8>>, AllocError>
     ensures { IfOk result (λ found. option_map (λ bytes. bytes.items) found ≡ bytes_of word.now) }
 {
@@ -68,7 +69,8 @@ fn put_digits(bytes: &[u8], digits: &mut [u8])
 /// Writes the reply that shows two parts, of which one has a byte. There must be room for it.
 fn put_read_reply(first: &[u8], second: &[u8], reply: &mut [u8])
     requires { length reply.old ≡ 6 + (2 * length first.now + 2 * length second.now) }
-    ensures { reply.new ≡ codes "read " ++ (encode_lower first.now ++ encode_lower second.now) ++ codes "\n" }
+    ensures { reply.new
+        ≡ codes "read " ++ (encode_lower first.now ++ encode_lower second.now) ++ codes "\n" }
 {
     let (verb, rest) = reply.split_at_mut(5);
     verb.copy_from_slice(b"read ");
@@ -95,8 +97,8 @@ fn read_reply_bytes(alloc: Global, first: &[u8], second: &[u8]) -> Result<Vec<u8
     Ok(reply)
 }
 
-/// The reply that shows the bytes of two parts, the second behind the first. Its memory is taken at
-/// once, and each byte is looked at once.
+/// The reply that shows the bytes of two parts, the second behind the first. One request for memory
+/// is made, and each byte is looked at once.
 pub fn read_reply(alloc: Global, first: &[u8], second: &[u8]) -> Result<String, AllocError>
     ensures { IfOk result (λ text. string_bytes text
         ≡ codes "read " ++ hex_text (first.now ++ second.now) ++ codes "\n") }

@@ -66,7 +66,10 @@ fn says_which_line_is_too_long(rt: HostRuntime) -> Result<(), Fail> {
     let answer = serve(rt.alloc(), &words, &mut source, &mut sink, &mut errors);
     assert_eq!(rt; answer, 1);
     assert_eq!(rt; sink.bytes.as_slice(), b"took 1\n".as_slice());
-    assert_eq!(rt; errors.bytes.as_slice(), b"line 2: line too long\n".as_slice());
+    assert_eq!(rt;
+        errors.bytes.as_slice(),
+        b"line 2: line too long\n".as_slice()
+    );
     Ok(())
 }
 

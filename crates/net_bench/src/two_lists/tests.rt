@@ -11,7 +11,8 @@ fn is_back<A: Allocator + Copy>(frames: &VecDeque<Vec<u8, A>, A>, bytes: &[u8]) 
 
 /// Sends back the first frame that has come.
 fn send_back(device: &mut TwoLists, timestamp: Instant) -> Result<bool, AllocError>
-    ensures sent { result ≡ Ok true → (frame : List ℕ) × (device.old.0 ≡ frame ∷ device.new.0) × (device.new.1 ≡ device.old.1 ++ frame ∷ []) }
+    ensures sent { result ≡ Ok true → (frame : List ℕ)
+        × (device.old.0 ≡ frame ∷ device.new.0) × (device.new.1 ≡ device.old.1 ++ frame ∷ []) }
     ensures idle { result ≡ Ok false → (device.old.0 ≡ []) × (device.new ≡ device.old) }
 {
     echo_once(device, timestamp)
@@ -80,23 +81,23 @@ fn each_refusal_takes_the_frame_and_sends_nothing(rt: HostRuntime) -> Result<(),
     let mut place_refused = false;
     let mut bytes_refused = false;
     let mut none_refused = false;
-    for step in 0..64 {
-        let outcome = echo_with_room(rt.alloc(), step * 16)?;
-        assert_eq!(rt; outcome.to_come, 1, "with {step} units of room");
+    for units in 0..64 {
+        let outcome = echo_with_room(rt.alloc(), units * 16)?;
+        assert_eq!(rt; outcome.to_come, 1, "with {units} units of room");
         assert!(rt;
             outcome.arrived == outcome.echoed,
-            "with {step} units of room"
+            "with {units} units of room"
         );
         if outcome.echoed {
             assert_eq!(rt; outcome.sent, 5);
             none_refused = true;
             break;
         }
-        assert_eq!(rt; outcome.sent, 4, "with {step} units of room");
+        assert_eq!(rt; outcome.sent, 4, "with {units} units of room");
         if outcome.queue_grew {
             bytes_refused = true;
         } else {
-            assert!(rt; !bytes_refused, "with {step} units of room");
+            assert!(rt; !bytes_refused, "with {units} units of room");
             place_refused = true;
         }
     }
