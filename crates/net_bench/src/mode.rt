@@ -26,8 +26,8 @@ pub enum ModeKind {
     Ring(usize),
     /// An assembler of at most so many runs.
     Asm(RunLimit),
-    /// Receivers of a stream that begins at this position, over this many bytes of storage, with at most
-    /// so many held runs.
+    /// Receivers of a stream that begins at this position, over this many bytes of storage, with at
+    /// most so many held runs.
     Stream(u64, usize, RunLimit),
 }
 
@@ -109,8 +109,8 @@ fn stream(name: &[u8], capacity_word: &[u8], limit_word: &[u8], first: Option<u6
 impl Mode {
     ghost use Rattle.net_bench.specs.Kinds.{mode_seen};
 
-    /// The mode that these words name: `ring CAP`, `asm N`, `stream CAP N` or `stream CAP N FIRST`. No
-    /// other words name one.
+    /// The mode that these words name: `ring CAP`, `asm N`, `stream CAP N` or `stream CAP N FIRST`.
+    /// No other words name one.
     pub fn from_words(words: &[String]) -> Option<Mode>
         ensures { result ≡ mode_of (map string_bytes words.now) }
     {

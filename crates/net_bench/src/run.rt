@@ -17,8 +17,8 @@ use std::io::{Read, Write};
 #[cfg(test)]
 mod tests;
 
-/// Runs the lines that the reader gives, and writes the replies. It returns where the reader ends or
-/// fails, or at the first fault. Where reader and writer tell their bytes, as those over memory do:
+/// Runs the lines that the reader gives, and writes the replies. It returns where the reader ends
+/// or fails, or at the first fault. Where reader and writer tell their bytes, as those over memory do:
 pub fn run<R: Read, W: Write>(
     alloc: Global,
     mode: Mode,
@@ -31,7 +31,8 @@ pub fn run<R: Read, W: Write>(
         × Appends (W.contents writer.old) (W.contents writer.new) (out mode input))) }
     // or what the table of errors says.
     ensures err { IfErr result (λ e. IfSome (R.remaining reader.old) (λ input.
-        ErrorOfInput (transcript_of mode) input (R.remaining reader.new) (W.contents writer.old) (W.contents writer.new) e)) }
+        ErrorOfInput (transcript_of mode) input (R.remaining reader.new)
+        (W.contents writer.old) (W.contents writer.new) e)) }
 {
     laws::schedules();
     match mode.kind() {
