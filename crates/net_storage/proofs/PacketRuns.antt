@@ -1,6 +1,6 @@
 -- Over whole runs, a queue's packets leave in the order in which they came.
 use Rattle.std.proofs.Common.{◌≢◌, ◌≡◌, ℕ, ◌+◌, ◌-◌, ◌≤◌, List, [], ◌∷◌, ◌++◌, length, take, drop, refl, sym, ap, ap₂, ◌∙◌, subst, inl, inr, arith, ◌⊎◌, ◌<◌, append_assoc, length-append, length-drop, suc, ◌↔◌, Bool, true, false, if◌then◌else◌}
-use Rattle.std.proofs.lemmas.List.{append-nil, take_all, take_at, drop_at, nil_from_length, length-take-le}
+use Rattle.std.proofs.lemmas.List.{append-nil, take_all, nil_from_length, length-take-le}
 use Rattle.std.proofs.Math.Seq.{set-append_seam}
 use Rattle.std.specs.Prelude.{set}
 use Rattle.std.specs.declared.option.Option.TheVariants.{Some, None}

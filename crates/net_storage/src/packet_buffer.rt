@@ -244,10 +244,8 @@ impl<H: Drop, M: Elements<PacketMetadata<H>>, B: Elements<u8>> Packets<H, M, B> 
 
     /// Lends the bytes of the packet that came last, or none where no packet is held.
     pub fn last_mut(&mut self) -> &mut [u8]
-        ensures* writes_back {
-            sem 𝓛 (lends_bytes H.row M.row B.row M.Elements B.Elements self.entry result
-                (last_written self.old))
-        }
+        ensures* writes_back { sem 𝓛 (lends_bytes H.row M.row B.row M.Elements B.Elements
+            self.entry result (last_written self.old)) }
         ensures value { result.now ≡ last_bytes self.old }
         ensures size { length result.now ≡ first_size (only_last self.old.packets) }
     {
@@ -258,10 +256,8 @@ impl<H: Drop, M: Elements<PacketMetadata<H>>, B: Elements<u8>> Packets<H, M, B> 
     // The last `size` bytes, which are those of the last packet.
     fn run_mut(&mut self, size: usize) -> &mut [u8]
         requires { size ≡ first_size (only_last self.old.packets) }
-        ensures* writes_back {
-            sem 𝓛 (lends_bytes H.row M.row B.row M.Elements B.Elements self.entry result
-                (last_written self.old))
-        }
+        ensures* writes_back { sem 𝓛 (lends_bytes H.row M.row B.row M.Elements B.Elements
+            self.entry result (last_written self.old)) }
         ensures value { result.now ≡ last_bytes self.old }
         ensures size { length result.now ≡ first_size (only_last self.old.packets) }
     {
@@ -286,9 +282,8 @@ impl<H: Drop, M: Elements<PacketMetadata<H>>, B: Elements<u8>> Packets<H, M, B> 
         requires count { CountsAtMost F.FnOnce f self.old max_size header }
         ensures full { IsErr result ↔ (placement self.old max_size ≡ None) }
         ensures unchanged { OnErr result (self.new ≡ self.old) }
-        ensures wrote {
-            IfOk result (λ k. WrotePacket F.FnOnce f self.old max_size header k self.new)
-        }
+        ensures wrote { IfOk result
+            (λ k. WrotePacket F.FnOnce f self.old max_size header k self.new) }
     {
         let Some(gap) = self.placement(max_size) else {
             return Err(Full);
@@ -331,10 +326,8 @@ impl<H: Drop, M: Elements<PacketMetadata<H>>, B: Elements<u8>> Packets<H, M, B> 
     /// of [`Packets::take`] that answered `size`.
     pub fn freed_mut(&mut self, size: usize) -> &mut [u8]
         requires { AreFreed self.old size }
-        ensures* writes_back {
-            sem 𝓛 (lends_bytes H.row M.row B.row M.Elements B.Elements self.entry result
-                (with_bytes self.old (freed_place self.old size)))
-        }
+        ensures* writes_back { sem 𝓛 (lends_bytes H.row M.row B.row M.Elements B.Elements
+            self.entry result (with_bytes self.old (freed_place self.old size))) }
         ensures value { result.now ≡ freed_bytes self.old size }
         ensures size { length result.now ≡ size }
     {
@@ -373,10 +366,8 @@ impl<H: Drop, M: Elements<PacketMetadata<H>>, B: Elements<u8>> Packets<H, M, B> 
     ///
     /// Answers `Empty`, and changes nothing, where no packet is held.
     pub fn peek(&mut self) -> Result<(&H, &[u8]), Empty>
-        ensures* skips {
-            sem 𝓛 (ends_as H.row M.row B.row M.Elements B.Elements self.entry
-                (skipped self.old))
-        }
+        ensures* skips { sem 𝓛 (ends_as H.row M.row B.row M.Elements B.Elements
+            self.entry (skipped self.old)) }
         ensures empty { IsErr result ↔ (length self.old.packets ≡ 0) }
         ensures unchanged { OnErr result (skipped self.old ≡ self.old) }
         ensures first { IfOk result (λ r. IsFirstSized self.old.packets r.0.now (length r.1.now)) }
@@ -393,14 +384,11 @@ impl<H: Drop, M: Elements<PacketMetadata<H>>, B: Elements<u8>> Packets<H, M, B> 
     /// a row, or a slot is missing for the packet or its gap. smoltcp can leave padding behind when
     /// it refuses.
     pub fn enqueue(&mut self, size: usize, header: H) -> Result<&mut [u8], Full>
-        ensures* writes_back {
-            sem 𝓛 (lends_bytes_if H.row M.row B.row M.Elements B.Elements self.entry result
-                (last_written (placed_if_room self.old size header)))
-        }
+        ensures* writes_back { sem 𝓛 (lends_bytes_if H.row M.row B.row M.Elements B.Elements
+            self.entry result (last_written (placed_if_room self.old size header))) }
         ensures full { IsErr result ↔ (placement self.old size ≡ None) }
-        ensures value {
-            IfOk result (λ r. r.now ≡ last_bytes (placed_if_room self.old size header))
-        }
+        ensures value { IfOk result
+            (λ r. r.now ≡ last_bytes (placed_if_room self.old size header)) }
         ensures size { IfOk result (λ r. length r.now ≡ size) }
     {
         let Ok(()) = self.place(size, header) else {
@@ -413,10 +401,8 @@ impl<H: Drop, M: Elements<PacketMetadata<H>>, B: Elements<u8>> Packets<H, M, B> 
     ///
     /// Answers `Empty`, and changes nothing, where no packet is held.
     pub fn dequeue(&mut self) -> Result<(H, &mut [u8]), Empty>
-        ensures* writes_back {
-            sem 𝓛 (lends_packet_if H.row M.row B.row M.Elements B.Elements self.entry result
-                (with_bytes (dequeued self.old) (skipped self.old).read_at))
-        }
+        ensures* writes_back { sem 𝓛 (lends_packet_if H.row M.row B.row M.Elements B.Elements
+            self.entry result (with_bytes (dequeued self.old) (skipped self.old).read_at)) }
         ensures empty { IsErr result ↔ (length self.old.packets ≡ 0) }
         ensures first { IfOk result (λ r. IsFirst self.old r.0 r.1.now) }
     {
@@ -434,9 +420,8 @@ impl<H: Drop, M: Elements<PacketMetadata<H>>, B: Elements<u8>> Packets<H, M, B> 
         ensures full { IsErr result ↔ (placement self.old (length «data».now) ≡ None) }
         ensures unchanged { OnErr result (self.new ≡ self.old) }
         ensures made { OnOk result (self.new ≡ enqueued self.old header «data».now) }
-        ensures pushed {
-            OnOk result (contents self.new ≡ contents self.old ++ (header, «data».now) ∷ [])
-        }
+        ensures pushed { OnOk result
+            (contents self.new ≡ contents self.old ++ (header, «data».now) ∷ []) }
     {
         laws::packets_leave_in_order::<H>();
         laws::well_placed(self);
@@ -453,10 +438,8 @@ impl<H: Drop, M: Elements<PacketMetadata<H>>, B: Elements<u8>> Packets<H, M, B> 
         ensures empty { IsErr result ↔ (length self.old.packets ≡ 0) }
         ensures unchanged { OnErr result ((self.new ≡ self.old) × (into.new ≡ into.old)) }
         ensures made { OnOk result (self.new ≡ dequeued self.old) }
-        ensures popped {
-            IfOk result
-                (λ r. CopiedOut (contents self.old) r.0 into.old r.1 (contents self.new) into.new)
-        }
+        ensures popped { IfOk result
+            (λ r. CopiedOut (contents self.old) r.0 into.old r.1 (contents self.new) into.new) }
     {
         laws::the_two_steps_apart::<H>();
         laws::well_placed(self);
@@ -595,10 +578,8 @@ fn put_header<H: Drop, M: Elements<PacketMetadata<H>>>(
     header: H,
 )
     requires { WellFormed slots.old }
-    ensures queue {
-        (size : ℕ) (h : _) → IsFirstSlot slots.old size h
-            → queue slots.new ≡ slot size (Some header) ∷ drop 1 (queue slots.old)
-    }
+    ensures queue { (size : ℕ) (h : _) → IsFirstSlot slots.old size h
+        → queue slots.new ≡ slot size (Some header) ∷ drop 1 (queue slots.old) }
     ensures well_formed { WellFormed slots.new }
     ensures capacity { capacity slots.new ≡ capacity slots.old }
 {
@@ -618,11 +599,9 @@ fn with_first<H, R, E, F: FnOnce(&mut H, &mut [u8]) -> Result<R, E>>(
     requires fits { size ≤ length run.old }
     requires callable { TakesPacket F.FnOnce f header (take size run.old) }
     ensures count { result.0 ≡ (if is_ok result.1.0 then size else 0) }
-    ensures called {
-        (ws : List ℕ)
-            × GivesAtPacket F.FnOnce f header (take size run.old) result.1.0 result.1.1 ws
-            × (length ws ≡ size) × (run.new ≡ ws ++ drop size run.old)
-    }
+    ensures called { (ws : List ℕ)
+        × GivesAtPacket F.FnOnce f header (take size run.old) result.1.0 result.1.1 ws
+        × (length ws ≡ size) × (run.new ≡ ws ++ drop size run.old) }
 {
     let answer = f(&mut header, &mut run[..size]);
     let count = if answer.is_ok() { size } else { 0 };

@@ -28,37 +28,27 @@ pub fn contents_are_packets<H>()
 /// a queue holds, a packet that is accepted comes to the end, a refusing closure writes the first
 /// one anew, the first one is what is shown and taken off, and dropping a gap changes nothing.
 pub fn packets_leave_in_order<H>()
-    ensures accepted {
-        (q : PacketQueue H) (size : ℕ) (header : H) (ws : List ℕ)
-            → WellPlaced q → placement q size ≢ None → length ws ≡ size
-            → contents (last_written (placed_if_room q size header) ws)
-                ≡ contents q ++ (header, ws) ∷ []
-    }
-    ensures accepted_with {
-        (q : PacketQueue H) (size count : ℕ) (header : H) (ws : List ℕ)
-            → WellPlaced q → placement q size ≢ None → length ws ≡ size → count ≤ size
-            → contents (last_cut count (last_written (placed_if_room q size header) ws))
-                ≡ contents q ++ (header, take count ws) ∷ []
-    }
+    ensures accepted { (q : PacketQueue H) (size : ℕ) (header : H) (ws : List ℕ)
+        → WellPlaced q → placement q size ≢ None → length ws ≡ size
+        → contents (last_written (placed_if_room q size header) ws)
+        ≡ contents q ++ (header, ws) ∷ [] }
+    ensures accepted_with { (q : PacketQueue H) (size count : ℕ) (header : H) (ws : List ℕ)
+        → WellPlaced q → placement q size ≢ None → length ws ≡ size → count ≤ size
+        → contents (last_cut count (last_written (placed_if_room q size header) ws))
+        ≡ contents q ++ (header, take count ws) ∷ [] }
     ensures gap_dropped { (q : PacketQueue H) → WellPlaced q → contents (skipped q) ≡ contents q }
-    ensures shown {
-        (q : PacketQueue H) (header : H) (ws : List ℕ) → WellPlaced q → IsFirst q header ws
-            → contents q ≡ (header, ws) ∷ drop 1 (contents q)
-    }
-    ensures refused {
-        (q : PacketQueue H) (header : H) (ws : List ℕ)
-            → WellPlaced q → q.packets ≢ [] → length ws ≡ first_size q.packets
-            → contents (first_written (skipped q) header ws)
-                ≡ (header, ws) ∷ drop 1 (contents q)
-    }
-    ensures left {
-        (q : PacketQueue H) → WellPlaced q → contents (dequeued q) ≡ drop 1 (contents q)
-    }
-    ensures left_with {
-        (q : PacketQueue H) (header : H) (ws : List ℕ)
-            → WellPlaced q → length ws ≡ first_size q.packets
-            → contents (popped (first_written (skipped q) header ws)) ≡ drop 1 (contents q)
-    }
+    ensures shown { (q : PacketQueue H) (header : H) (ws : List ℕ)
+        → WellPlaced q → IsFirst q header ws
+        → contents q ≡ (header, ws) ∷ drop 1 (contents q) }
+    ensures refused { (q : PacketQueue H) (header : H) (ws : List ℕ)
+        → WellPlaced q → q.packets ≢ [] → length ws ≡ first_size q.packets
+        → contents (first_written (skipped q) header ws)
+        ≡ (header, ws) ∷ drop 1 (contents q) }
+    ensures left { (q : PacketQueue H) → WellPlaced q
+        → contents (dequeued q) ≡ drop 1 (contents q) }
+    ensures left_with { (q : PacketQueue H) (header : H) (ws : List ℕ)
+        → WellPlaced q → length ws ≡ first_size q.packets
+        → contents (popped (first_written (skipped q) header ws)) ≡ drop 1 (contents q) }
 {}
 
 /// What `place` and `last_mut`, and `take` and `freed_mut`, make of a queue's contents where they
@@ -68,46 +58,35 @@ pub fn packets_leave_in_order<H>()
 /// `freed_mut` shows after `take` are the bytes of the packet that was taken off, and a write there
 /// changes no content. The same holds of the bytes that `dequeue` lends.
 pub fn the_two_steps_apart<H>()
-    ensures placed {
-        (q : PacketQueue H) (size : ℕ) (header : H) → WellPlaced q → placement q size ≢ None
-            → contents (placed_if_room q size header)
-                ≡ contents q ++ (header, last_bytes (placed_if_room q size header)) ∷ []
-    }
-    ensures last_written {
-        (q : PacketQueue H) (ws : List ℕ)
-            → WellPlaced q → q.packets ≢ [] → length ws ≡ first_size (only_last q.packets)
-            → contents (last_written q ws) ≡ with_last_bytes ws (contents q)
-    }
-    ensures taken {
-        (q : PacketQueue H) (header : H) (size : ℕ)
-            → WellPlaced q → IsFirstSized q.packets header size
-            → contents q ≡ (header, freed_bytes (dequeued q) size) ∷ contents (dequeued q)
-    }
-    ensures freed_written {
-        (q : PacketQueue H) (ws : List ℕ) → WellPlaced q → AreFreed q (length ws)
-            → contents (with_bytes q (freed_place q (length ws)) ws) ≡ contents q
-    }
-    ensures lent_written {
-        (q : PacketQueue H) (ws : List ℕ) → WellPlaced q → length ws ≡ first_size q.packets
-            → contents (with_bytes (dequeued q) (skipped q).read_at ws) ≡ drop 1 (contents q)
-    }
+    ensures placed { (q : PacketQueue H) (size : ℕ) (header : H)
+        → WellPlaced q → placement q size ≢ None
+        → contents (placed_if_room q size header)
+        ≡ contents q ++ (header, last_bytes (placed_if_room q size header)) ∷ [] }
+    ensures last_written { (q : PacketQueue H) (ws : List ℕ)
+        → WellPlaced q → q.packets ≢ [] → length ws ≡ first_size (only_last q.packets)
+        → contents (last_written q ws) ≡ with_last_bytes ws (contents q) }
+    ensures taken { (q : PacketQueue H) (header : H) (size : ℕ)
+        → WellPlaced q → IsFirstSized q.packets header size
+        → contents q ≡ (header, freed_bytes (dequeued q) size) ∷ contents (dequeued q) }
+    ensures freed_written { (q : PacketQueue H) (ws : List ℕ)
+        → WellPlaced q → AreFreed q (length ws)
+        → contents (with_bytes q (freed_place q (length ws)) ws) ≡ contents q }
+    ensures lent_written { (q : PacketQueue H) (ws : List ℕ)
+        → WellPlaced q → length ws ≡ first_size q.packets
+        → contents (with_bytes (dequeued q) (skipped q).read_at ws) ≡ drop 1 (contents q) }
 {}
 
 /// A packet that was only looked at: after `peek` the same packet is taken off, and a closure that
 /// leaves the header and the bytes of the first packet as they were leaves the contents, less the
 /// packet where it answered `Ok`.
 pub fn looking_changes_nothing<H>()
-    ensures peeked {
-        (q : PacketQueue H) → WellPlaced q
-            → contents (dequeued (skipped q)) ≡ drop 1 (contents q)
-    }
+    ensures peeked { (q : PacketQueue H) → WellPlaced q
+        → contents (dequeued (skipped q)) ≡ drop 1 (contents q) }
     ensures still_there { (q : PacketQueue H) → length (skipped q).packets ≡ length q.packets }
-    ensures kept {
-        (q : PacketQueue H) (header : H) (ws : List ℕ) (gone : Bool)
-            → WellPlaced q → IsFirst q header ws
-            → contents (handed gone q header ws)
-                ≡ (if gone then drop 1 (contents q) else contents q)
-    }
+    ensures kept { (q : PacketQueue H) (header : H) (ws : List ℕ) (gone : Bool)
+        → WellPlaced q → IsFirst q header ws
+        → contents (handed gone q header ws)
+        ≡ (if gone then drop 1 (contents q) else contents q) }
 {}
 
 /// The packet that leaves k-th is the one that was accepted k-th. Over any calls, in any order,
@@ -116,9 +95,7 @@ pub fn looking_changes_nothing<H>()
 /// the header and the bytes last written to it, by who put it or by a closure that refused it. What
 /// `reset` drops counts as never accepted.
 pub fn accepted_packets_leave_in_turn<H>()
-    ensures {
-        (slot_count : ℕ) (storage : List ℕ) (calls : List (Call H)) (r : PacketQueue H)
-            → MakesAll calls (no_packets slot_count storage) r
-            → (history calls).left ++ contents r ≡ (history calls).accepted
-    }
+    ensures { (slot_count : ℕ) (storage : List ℕ) (calls : List (Call H)) (r : PacketQueue H)
+        → MakesAll calls (no_packets slot_count storage) r
+        → (history calls).left ++ contents r ≡ (history calls).accepted }
 {}

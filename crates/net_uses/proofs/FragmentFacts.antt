@@ -1,0 +1,64 @@
+-- What a buffer holds after many fragments.
+use Rattle.std.proofs.Common.{◌≡◌, ℕ, zero, suc, ◌+◌, ◌-◌, ◌<◌, ◌≤◌, ◌&&◌, Bool, true, false, List, [], ◌∷◌, length, get_or, refl, ap, ◌∙◌, arith, if◌then◌else◌, nat_le, nat_lt, IsTrue, IsFalse, inl, inr}
+use Rattle.std.proofs.lemmas.Bool.Decides.{nat_tests}
+use Rattle.net_storage.specs.Overwrite.{overwrite, OverwrittenAt}
+use Rattle.net_storage.specs.Positions.{contains, with_range}
+use Rattle.net_storage.specs.AssemblerLaws.{MembersOfNothing, MembersWithRange}
+use Rattle.net_uses.specs.Fragments.{FragmentState, fragment_added}
+use Rattle.net_uses.specs.FragmentHistory.{after_fragments, covers, last_byte, LastFragmentStands, OldBytesAreGone}
+
+same_default : (l : List ℕ) (k d e : ℕ) → k < length l → get_or l k d ≡ get_or l k e
+same_default [] k d e h = absurd (omega arith)
+same_default (x ∷ l) zero d e h = refl
+same_default (x ∷ l) (suc k) d e h = same_default l k d e (omega arith)
+
+pick_inside : (i p n a b c : ℕ) → (i ≤ p → p < i + n → a ≡ b) → (if nat_le i p && nat_lt p (i + n) then a else c) ≡ (if nat_le i p && nat_lt p (i + n) then b else c)
+pick_inside i p n a b c f = grind (arith, nat_tests)
+
+-- of a list that was written over, its length and its elements
+abbrev LengthStays : Type 0
+LengthStays = (xs ws : List ℕ) (i : ℕ) → length (overwrite xs i ws) ≡ length xs
+
+abbrev ElementsAre : Type 0
+ElementsAre = (xs ws : List ℕ) (i k x : ℕ) → OverwrittenAt xs i ws k x
+
+pub byte_after : LengthStays → ElementsAre → LastFragmentStands
+byte_after long at b [] p d h = refl
+byte_after long at b (f ∷ fs) p d h =
+    let was : ℕ = get_or b.bytes p d in
+    byte_after long at (fragment_added b f.0 f.1) fs p d (omega (arith, h, long b.bytes f.1 f.0))
+    ∙ ap (λ (x : ℕ). last_byte p x fs)
+    (at b.bytes f.1 f.0 p d h
+    ∙ pick_inside f.0 p (length f.1) (get_or f.1 (p - f.0) d) (get_or f.1 (p - f.0) was) was (λ l m. same_default f.1 (p - f.0) d was (omega arith)))
+
+is_false : (x : Bool) → (IsTrue x → ⊥) → IsFalse x
+is_false true h = absurd (h refl)
+is_false false h = refl
+
+not_both : (x : Bool) → IsFalse x → IsTrue x → ⊥
+not_both true f t = let e : true ≡ false = f in cc
+not_both false f t = let e : false ≡ true = t in cc
+
+covered : (p : ℕ) (f : ℕ × List ℕ) → (covers p f ≡ true → (f.0 ≤ p) × (p < f.0 + length f.1)) × (covers p f ≡ false → (f.0 ≤ p) × (p < f.0 + length f.1) → ⊥)
+covered p f = (λ e. (grind (arith, nat_tests), grind (arith, nat_tests)), λ e k. let l : f.0 ≤ p = k.0 in let m : p < f.0 + length f.1 = k.1 in grind (arith, nat_tests))
+
+-- a position that came with one of the fragments has that fragment's byte, whatever was there
+independent : MembersWithRange → (b : FragmentState) (fs : List (ℕ × List ℕ)) (p d e : ℕ) → IsFalse (contains b.present p) → IsTrue (contains (after_fragments b fs).present p) → last_byte p d fs ≡ last_byte p e fs
+independent members b [] p d e none some = absurd (not_both (contains b.present p) none some)
+independent members b (f ∷ fs) p d e none some = by_cover (covers p f) refl (independent members (fragment_added b f.0 f.1) fs p d e)
+  where
+    by_cover : (t : Bool) → covers p f ≡ t → (IsFalse (contains (with_range b.present f.0 (length f.1)) p) → IsTrue (contains (after_fragments (fragment_added b f.0 f.1) fs).present p) → last_byte p d fs ≡ last_byte p e fs) →
+        last_byte p d (f ∷ fs) ≡ last_byte p e (f ∷ fs)
+    by_cover true is rest =
+        let k = (covered p f).0 is in
+        rw is (ap (λ (x : ℕ). last_byte p x fs) (same_default f.1 (p - f.0) d e (omega (arith, k.0, k.1))))
+    by_cover false is rest =
+        let missing : IsFalse (contains (with_range b.present f.0 (length f.1)) p) =
+        is_false (contains (with_range b.present f.0 (length f.1)) p)
+        (λ t. elim ((members b.present f.0 (length f.1) p).0 t) [ inl there ↦ not_both (contains b.present p) none there | inr range ↦ (covered p f).1 is range ])
+        in
+        rw is (rest missing some)
+
+pub present_byte : LengthStays → ElementsAre → MembersOfNothing → MembersWithRange → OldBytesAreGone
+present_byte long at empty members b fs p d new h some =
+    byte_after long at b fs p 0 h ∙ independent members b fs p (get_or b.bytes p 0) d (rw new (empty p)) some

@@ -1,0 +1,31 @@
+use Rattle.std.proofs.Common.{◌≡◌, ◌∷◌, ◌++◌, [], Ok, true, sym, ap, subst, arith, rules, length-append}
+use Rattle.net_uses.specs.Frames.{Each, ForwardedAndLost}
+use Rattle.net_uses.proofs.Results.{OnErr-always}
+use Rattle.net_uses.proofs.FrameFacts.{each_more}
+use Rattle.net_uses.proofs.bridge.forward.Goals as goal
+
+pub returns-in_err-forward_one-clause-err : goal.returns-in_err-forward_one-clause-err
+returns-in_err-forward_one-clause-err g c =
+    let i = c.loop-count.invariant in
+    let e = c.in_err-forward_one.ensures.err in
+    let lost : ForwardedAndLost g.A.Device.taken g.B.Device.sent c.args.max c.args.from.now c.forward_one.new.from c.args.to.now c.forward_one.new.to =
+    record {
+      frames = i.frames;
+      lost = e.0;
+      count = omega (arith, i.count, c.loop-count-test.true);
+      taken_off = each_more g.A.Device.taken _ _ _ i.frames e.0 i.taken_off e.1;
+      sent_on = subst (λ y. Each g.B.Device.sent c.args.to.now i.frames y) (sym e.2) i.sent_on;
+    } in
+    OnErr-always c.from_residual.result lost
+
+pub loop-count-preserved : goal.loop-count-preserved
+loop-count-preserved g c =
+    let i = c.loop-count.invariant in
+    let yes : c.in_ok-forward_one.field-0 ≡ true = search rules in
+    let f = c.in_ok-forward_one.ensures.forwarded (ap Ok yes) in
+    record {
+      frames = i.frames ++ (f.0 ∷ []);
+      count = omega (arith, i.count, length-append i.frames (f.0 ∷ []));
+      taken_off = each_more g.A.Device.taken _ _ _ i.frames f.0 i.taken_off f.1;
+      sent_on = each_more g.B.Device.sent _ _ _ i.frames f.0 i.sent_on f.2;
+    }

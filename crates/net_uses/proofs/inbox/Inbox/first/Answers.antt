@@ -1,0 +1,21 @@
+use Rattle.std.proofs.Common.{◌≡◌, ◌∙◌, refl, ap}
+use Rattle.net_storage.specs.PacketHistory.{contents}
+use Rattle.net_uses.proofs.Results.{IfOk-both}
+use Rattle.net_uses.proofs.inbox.Inbox.first.Goals as goal
+
+pub returns : goal.returns
+returns g c =
+    let q = c.self.inside.queue in
+    let laws = c.packets_leave_in_order.ensures in
+    let ok = c.well_placed.ensures in
+    let same : contents c.peek.follows.lender-at-none ≡ contents q = ap contents c.peek.follows.holds-at-none ∙ laws.gap_dropped q ok in
+    let is : contents q ≡ c.args.self.now = c.self.view_is in
+    let none = c.contents_are_packets.ensures.none q in (
+      (refl, λ _. tt, same ∙ is),
+      rw (← is)
+          record {
+            unchanged = tt;
+            empty = (λ e. none.1 (c.peek.ensures.empty.0 e), λ e. c.peek.ensures.empty.1 (none.0 e));
+            first = IfOk-both c.peek.result (λ r first bytes. laws.shown q r.0.now r.1.now ok (first, bytes)) c.peek.ensures.first c.peek.ensures.bytes;
+          },
+    )

@@ -1,0 +1,29 @@
+use Rattle.std.proofs.Common.{◌≡◌, ◌∙◌, sym, ap, ap₂, subst, drop, if◌then◌else◌, is_ok, of_calls}
+use Rattle.net_storage.specs.Packets.{handed}
+use Rattle.net_storage.specs.PacketHistory.{contents}
+use Rattle.net_uses.specs.declared.endpoint.Endpoint.{Endpoint}
+use Rattle.net_uses.specs.Datagrams.{GivesAtDatagram}
+use Rattle.net_uses.proofs.Results.{IfOk-map}
+use Rattle.net_uses.proofs.udp_socket.hand.Goals as goal
+
+pub returns-clause-dispatched : goal.returns-clause-dispatched
+returns-clause-dispatched g c =
+    let q = c.args.queue.now in
+    IfOk-map c.dequeue_with.result
+    (λ answer k.
+    let gives = k.gives in
+    let met = gives.met in
+    let called : GivesAtDatagram g.F.FnOnce c.args.emit gives.header.now gives.bytes.now answer × (gives.left.0.now ≡ gives.header.now) × (gives.left.1.0.now ≡ gives.bytes.now) = search of_calls parts 8 in
+    let header : k.new_header ≡ k.header = sym gives.leaves.0 ∙ called.1 ∙ gives.shows.0 in
+    let bytes : k.new_bytes ≡ k.bytes = sym gives.leaves.1 ∙ called.2 ∙ gives.shows.1 in
+    let left : contents c.dequeue_with.new.self ≡ (if is_ok answer then drop 1 (contents q) else contents q) =
+    ap contents k.made ∙ ap₂ (λ h ws. contents (handed (is_ok answer) q h ws)) header bytes
+    ∙ c.looking_changes_nothing.ensures.kept q k.header k.bytes (is_ok answer) c.well_placed.ensures k.first in
+    record {
+      endpoint = k.header;
+      bytes = k.bytes;
+      first = c.packets_leave_in_order.ensures.shown q k.header k.bytes c.well_placed.ensures k.first;
+      gives = (called.0.0, called.0.1 ∙ gives.shows.1, subst (λ (to : Endpoint). g.F.FnOnce.post c.args.emit (to, (called.0.0, tt)) answer) gives.shows.0 called.0.2);
+      left = left;
+    })
+    c.dequeue_with.ensures.handed

@@ -1,0 +1,5 @@
+pub mod Datagrams
+pub mod Fragments
+pub mod FragmentHistory
+pub mod Frames
+pub mod InboxLends

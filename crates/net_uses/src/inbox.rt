@@ -1,0 +1,57 @@
+//! A queue of datagrams that shows its first one in place.
+ghost use Rattle.std.specs.Prelude.{◌≡◌, ◌∷◌, [], ◌↔◌, IsErr, IfOk, drop};
+ghost use Rattle.std.specs.Borrow.{sem};
+ghost use Rattle.net_storage.specs.PacketHistory.{contents};
+
+use crate::endpoint::Endpoint;
+use net_storage::packet_buffer::laws;
+use net_storage::{Elements, Empty, PacketMetadata, Packets};
+use std::marker::Model;
+
+#[cfg(test)]
+mod tests;
+
+/// Datagrams that came in, over any storage.
+///
+/// A struct that lends on what a queue in its field lends is generic in the queue's storage, as
+/// this one is: over a `PacketBuffer` no contract could say what the loan leaves.
+///
+/// Contracts see the list of the datagrams, each with its endpoint and its bytes.
+#[derive(Drop)]
+pub struct Inbox<M: Elements<PacketMetadata<Endpoint>>, B: Elements<u8>> {
+    queue: Packets<Endpoint, M, B>,
+}
+
+impl<M: Elements<PacketMetadata<Endpoint>>, B: Elements<u8>> Model for Inbox<M, B> {
+    ghost use Rattle.std.specs.Prelude.{List, ℕ};
+    ghost use Rattle.net_storage.specs.PacketHistory.{contents};
+    ghost use Rattle.net_uses.specs.declared.endpoint.Endpoint.{Endpoint};
+
+    ghost Value = { List (Endpoint × List ℕ) };
+
+    ghost view = { λ i. contents i.queue };
+}
+
+impl<M: Elements<PacketMetadata<Endpoint>>, B: Elements<u8>> Inbox<M, B> {
+    ghost use Rattle.net_uses.specs.InboxLends.{stays};
+
+    /// The datagrams that the queue holds.
+    pub fn new(queue: Packets<Endpoint, M, B>) -> Self
+        ensures { result ≡ contents queue }
+    {
+        Inbox { queue }
+    }
+
+    /// Shows the first datagram: where it came from, and its bytes in place. No datagram is
+    /// changed.
+    pub fn first(&mut self) -> Result<(&Endpoint, &[u8]), Empty>
+        ensures* unchanged { sem 𝓛 (stays M.row B.row M.Elements B.Elements self.entry) }
+        ensures empty { IsErr result ↔ (self.old ≡ []) }
+        ensures first { IfOk result (λ r. self.old ≡ (r.0.now, r.1.now) ∷ drop 1 self.old) }
+    {
+        laws::contents_are_packets::<Endpoint>();
+        laws::packets_leave_in_order::<Endpoint>();
+        laws::well_placed(&self.queue);
+        self.queue.peek()
+    }
+}
