@@ -44,7 +44,8 @@ pub record Iterates (limit : ℕ) (s : Positions) (result : List (ℕ × ℕ)) :
 abbrev pub CallsNext : List (ℕ × ℕ) → List (Option (ℕ × ℕ)) → List (ℕ × ℕ) → Type 0
 CallsNext left [] last = left ≡ last
 CallsNext left (answer ∷ answers) last =
-    (rest : List (ℕ × ℕ)) × YieldsFirst (λ runs. runs) left answer rest × CallsNext rest answers last
+    (rest : List (ℕ × ℕ)) × YieldsFirst (λ runs. runs) left answer rest
+    × CallsNext rest answers last
 
 -- the first n runs of a list, and `None` from its end on
 abbrev pub yielded : List (ℕ × ℕ) → ℕ → List (Option (ℕ × ℕ))
