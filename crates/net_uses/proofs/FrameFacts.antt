@@ -1,5 +1,5 @@
 -- Frames that pass, one after another.
-use Rattle.std.proofs.Common.{◌≡◌, ◌∷◌, ◌++◌, [], List, ℕ, refl, subst, sym}
+use Rattle.std.proofs.Common.{◌∷◌, ◌++◌, [], List, ℕ, refl, subst}
 use Rattle.net_uses.specs.Frames.{Each}
 
 -- one frame more

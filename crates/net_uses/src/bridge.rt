@@ -21,13 +21,10 @@ pub fn forward_one<A: Device, B: Device>(
 ) -> Result<bool, AllocError>
     ensures stopped { result ≡ Ok false → A.is_idle from.old ⊎ B.is_busy to.old }
     ensures unchanged { result ≡ Ok false → (from.new ≡ from.old) × (to.new ≡ to.old) }
-    ensures forwarded {
-        result ≡ Ok true
-            → (frame : List ℕ) × A.taken from.old frame from.new × B.sent to.old frame to.new
-    }
-    ensures err {
-        OnErr result ((frame : List ℕ) × A.taken from.old frame from.new × (to.new ≡ to.old))
-    }
+    ensures forwarded { result ≡ Ok true
+        → (frame : List ℕ) × A.taken from.old frame from.new × B.sent to.old frame to.new }
+    ensures err { OnErr result
+        ((frame : List ℕ) × A.taken from.old frame from.new × (to.new ≡ to.old)) }
 {
     // The room is asked for first: a frame that was taken without it would be lost.
     let Some(token) = to.transmit(timestamp) else {
@@ -52,13 +49,11 @@ pub fn forward<A: Device, B: Device>(
     timestamp: Instant,
     max: usize,
 ) -> Result<usize, AllocError>
-    ensures forwarded {
-        IfOk result (λ n. (n ≤ max) × Forwarded A.taken B.sent n from.old from.new to.old to.new)
-    }
+    ensures forwarded { IfOk result
+        (λ n. (n ≤ max) × Forwarded A.taken B.sent n from.old from.new to.old to.new) }
     ensures stopped { IfOk result (λ n. (n ≡ max) ⊎ (A.is_idle from.new ⊎ B.is_busy to.new)) }
-    ensures err {
-        OnErr result (ForwardedAndLost A.taken B.sent max from.old from.new to.old to.new)
-    }
+    ensures err { OnErr result
+        (ForwardedAndLost A.taken B.sent max from.old from.new to.old to.new) }
 {
     for count in 0..max {
         if !forward_one(from, to, timestamp)? {

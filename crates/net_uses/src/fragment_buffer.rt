@@ -6,8 +6,7 @@ ghost use Rattle.net_storage.specs.Assembler.{MakesTooManyRuns};
 ghost use Rattle.net_uses.specs.Fragments.{fragment_added, IsComplete};
 
 use net_base::time::Instant;
-use net_storage::assembler;
-use net_storage::{Assembler, Elements, ManagedSlice};
+use net_storage::{Assembler, Elements, ManagedSlice, assembler};
 use std::marker::Model;
 
 pub mod laws;
@@ -48,10 +47,12 @@ impl<B: Elements<u8>, const N: usize> Model for Fragments<B, N> {
 
     ghost coded = { state_code };
 
-    ghost view = {
-        λ b. record { bytes = B.elements b.bytes; present = b.present; total = b.total;
-            expires_at = b.expires_at }
-    };
+    ghost view = { λ b. record {
+      bytes = B.elements b.bytes;
+      present = b.present;
+      total = b.total;
+      expires_at = b.expires_at;
+    } };
 
     ghost invariant = { λ b. Fits (B.elements b.bytes) b.total };
 }
@@ -80,14 +81,10 @@ impl<B: Elements<u8>, const N: usize> Fragments<B, N> {
     pub fn add(&mut self, offset: usize, data: &[u8]) -> Result<(), FragmentError>
         ensures ok { OnOk result (self.new ≡ fragment_added self.old offset «data».now) }
         ensures err { OnErr result (self.new ≡ self.old) }
-        ensures too_long {
-            (result ≡ Err FragmentError.TooLong)
-                ↔ (length self.old.bytes < offset + length «data».now)
-        }
-        ensures refused {
-            IsErr result ↔ ((length self.old.bytes < offset + length «data».now)
-                ⊎ MakesTooManyRuns N self.old.present offset (length «data».now))
-        }
+        ensures too_long { (result ≡ Err FragmentError.TooLong)
+            ↔ (length self.old.bytes < offset + length «data».now) }
+        ensures refused { IsErr result ↔ ((length self.old.bytes < offset + length «data».now)
+            ⊎ MakesTooManyRuns N self.old.present offset (length «data».now)) }
     {
         let limit = self.bytes.count();
         if offset > limit || data.len() > limit - offset {
@@ -109,9 +106,7 @@ impl<B: Elements<u8>, const N: usize> Fragments<B, N> {
     pub fn set_total_size(&mut self, size: usize) -> Result<(), FragmentError>
         ensures ok { OnOk result (self.new ≡ record self.old { total = Some size }) }
         ensures err { OnErr result (self.new ≡ self.old) }
-        ensures too_long {
-            (result ≡ Err FragmentError.TooLong) ↔ (length self.old.bytes < size)
-        }
+        ensures too_long { (result ≡ Err FragmentError.TooLong) ↔ (length self.old.bytes < size) }
         ensures refused { IsErr result ↔ (length self.old.bytes < size) }
     {
         if size > self.bytes.count() {
@@ -125,10 +120,8 @@ impl<B: Elements<u8>, const N: usize> Fragments<B, N> {
     /// missing.
     pub fn assemble(&self) -> Option<&[u8]>
         ensures complete { IsSome result ↔ ((size : ℕ) × IsComplete self.now size) }
-        ensures bytes {
-            IfSome result
-                (λ r. (size : ℕ) × IsComplete self.now size × (r.now ≡ take size self.now.bytes))
-        }
+        ensures bytes { IfSome result
+            (λ r. (size : ℕ) × IsComplete self.now size × (r.now ≡ take size self.now.bytes)) }
     {
         assembler::laws::front();
         let total = self.total?;

@@ -63,10 +63,8 @@ impl<'a> UdpSocket<'a> {
     pub fn recv_slice(&mut self, into: &mut [u8]) -> Result<(usize, Endpoint), Empty>
         ensures empty { IsErr result ↔ (self.old.received ≡ []) }
         ensures unchanged { OnErr result ((self.new ≡ self.old) × (into.new ≡ into.old)) }
-        ensures received {
-            IfOk result
-                (λ r. CopiedOut self.old.received r.1 into.old r.0 self.new.received into.new)
-        }
+        ensures received { IfOk result
+            (λ r. CopiedOut self.old.received r.1 into.old r.0 self.new.received into.new) }
         ensures to_send { self.new.to_send ≡ self.old.to_send }
     {
         laws::contents_are_packets::<Endpoint>();
@@ -107,9 +105,8 @@ impl<'a> UdpSocket<'a> {
     /// drops it and changes nothing, where there is no room for it.
     pub fn process(&mut self, from: Endpoint, data: &[u8]) -> bool
         ensures to_send { self.new.to_send ≡ self.old.to_send }
-        ensures received {
-            result ≡ true → self.new.received ≡ self.old.received ++ (from, «data».now) ∷ []
-        }
+        ensures received { result ≡ true
+            → self.new.received ≡ self.old.received ++ (from, «data».now) ∷ [] }
         ensures dropped { result ≡ false → self.new.received ≡ self.old.received }
     {
         self.inbound.push_slice(from, data).is_ok()
@@ -127,9 +124,8 @@ impl<'a> UdpSocket<'a> {
         ensures empty { IsErr result ↔ (self.old.to_send ≡ []) }
         ensures unchanged { OnErr result (self.new ≡ self.old) }
         ensures received { self.new.received ≡ self.old.received }
-        ensures dispatched {
-            IfOk result (λ r. Dispatched F.FnOnce emit self.old.to_send r self.new.to_send)
-        }
+        ensures dispatched { IfOk result
+            (λ r. Dispatched F.FnOnce emit self.old.to_send r self.new.to_send) }
     {
         hand(&mut self.outbound, emit)
     }
@@ -158,9 +154,8 @@ fn hand<R, E, F: FnOnce(Endpoint, &[u8]) -> Result<R, E>>(
     requires { TakesFirst F.FnOnce emit (contents queue.old) }
     ensures empty { IsErr result ↔ (contents queue.old ≡ []) }
     ensures unchanged { OnErr result (queue.new ≡ queue.old) }
-    ensures dispatched {
-        IfOk result (λ r. Dispatched F.FnOnce emit (contents queue.old) r (contents queue.new))
-    }
+    ensures dispatched { IfOk result
+        (λ r. Dispatched F.FnOnce emit (contents queue.old) r (contents queue.new)) }
 {
     laws::contents_are_packets::<Endpoint>();
     laws::packets_leave_in_order::<Endpoint>();

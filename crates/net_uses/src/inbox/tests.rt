@@ -7,8 +7,7 @@ fn the_first_datagram_is_shown_in_place(rt: HostRuntime) -> Result<(), Fail> {
     let mut slots = [PacketMetadata::<Endpoint>::EMPTY; 1];
     let mut bytes = [0u8; 4];
     let mut queue = Packets::<Endpoint, &mut [PacketMetadata<Endpoint>], &mut [u8]>::new(
-        &mut slots,
-        &mut bytes,
+        &mut slots, &mut bytes,
     );
     let from = Endpoint {
         address: 0x0a000001,
