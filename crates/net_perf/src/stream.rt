@@ -34,7 +34,8 @@ fn stream_at<const N: usize>(
     sink: &mut [u8],
     rounds: u64,
 ) -> u64
-    requires { 1 ≤ N }
+    requires some { 1 ≤ N }
+    requires few { N ≤ 32 }
 {
     let mut sum = START;
     let mut receiver = Receiver::<N>::new(ManagedSlice::Borrowed(storage));

@@ -371,6 +371,7 @@ fn each_refusal_of_memory_leaves_the_first_commands(rt: HostRuntime) -> Result<(
             whole = true;
             break;
         }
+        assert!(rt; ending.replied < 6);
         refused[ending.replied] = true;
     }
     assert!(rt; whole && refused[0] && refused[2] && refused[4]);
