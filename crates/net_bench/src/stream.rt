@@ -180,11 +180,10 @@ impl<const N: usize> StreamSession<N> {
         alloc: Global,
         command: Command,
     ) -> Result<Result<String, Fault>, AllocError>
-        ensures {
-            let done = stream_does of_stored self.old (ToReceiver (action command)) in
+        ensures { let done = stream_does of_stored self.old (ToReceiver (action command)) in
             IfOk result (λ outcome. MatchResult outcome
-                (λ reply. done ≡ Ok (self.new, string_bytes reply))
-                (λ fault. done ≡ Err fault)) }
+            (λ reply. done ≡ Ok (self.new, string_bytes reply))
+            (λ fault. done ≡ Err fault)) }
     {
         if !fits::<N>(&command) {
             return Ok(Err(Fault::RangeTooLong));
@@ -195,11 +194,10 @@ impl<const N: usize> StreamSession<N> {
 
     /// Begins the second schedule.
     fn next_schedule(&mut self, alloc: Global) -> Result<Result<String, Fault>, AllocError>
-        ensures {
-            let done = stream_does of_stored self.old NextSchedule in
+        ensures { let done = stream_does of_stored self.old NextSchedule in
             IfOk result (λ outcome. MatchResult outcome
-                (λ reply. done ≡ Ok (self.new, string_bytes reply))
-                (λ fault. done ≡ Err fault)) }
+            (λ reply. done ≡ Ok (self.new, string_bytes reply))
+            (λ fault. done ≡ Err fault)) }
     {
         if self.ended.is_some() {
             return Ok(Err(Fault::TooManySchedules));
