@@ -1,12 +1,12 @@
 -- Numerals, and the numbers that they write.
-use Rattle.std.proofs.Common.{◌≡◌, ℕ, ◌+◌, ◌-◌, ◌*◌, ◌^◌, ◌<◌, ◌≤◌, List, length, take, get_or, Bool, true, false, ◌&&◌, nat_lt, Some, None, refl, ap, sym, ◌∙◌, arith}
+use Rattle.std.proofs.Common.{◌≡◌, ℕ, ◌+◌, ◌-◌, ◌*◌, ◌^◌, ◌<◌, ◌≤◌, List, length, take, get_or, Bool, true, false, ◌&&◌, nat_lt, Some, None, refl, ap, sym, arith}
 use Rattle.std.specs.List.{list_all}
 use Rattle.std.specs.Char.{is_ascii_digit, digit_value}
 use Rattle.std.specs.Str.Parse.{digits_value}
 use Rattle.std.proofs.lemmas.Bool.Decides.{Decides-ltb, nat_tests}
 use Rattle.std.proofs.lemmas.Int.Digits.{digits_value_more}
 use Rattle.std.proofs.lemmas.List.{take_all}
-use Rattle.std.proofs.lemmas.List.Folds.{list_all_at, list_all_more}
+use Rattle.std.proofs.lemmas.List.Folds.{list_all_more}
 use Rattle.std.proofs.lemmas.Str.Parse.{digits_value-take-le}
 use Rattle.net_bench.specs.Text.{begins_numeral, number_of}
 
@@ -28,11 +28,7 @@ digits-more word i value inside written digit =
 pub all-more : (word : List ℕ) (i : ℕ) → i < length word → list_all is_ascii_digit (take i word) ≡ true → is_ascii_digit (get_or word i 0) ≡ true → list_all is_ascii_digit (take (i + 1) word) ≡ true
 all-more word i inside digits digit = rw (list_all_more is_ascii_digit word i 0 inside, digits, digit) refl
 
--- a word with another byte writes no number
-pub number-other : (word : List ℕ) (i : ℕ) → i < length word → is_ascii_digit (get_or word i 0) ≡ false → number_of word ≡ None
-number-other word i inside other = rw (list_all_at is_ascii_digit word i 0 inside other, and-false (begins_numeral word)) refl
-
--- nor does one whose first digits are worth too much
+-- a word whose first digits are worth too much writes no number
 pub number-large : (word : List ℕ) (i : ℕ) → 2 ^ 64 ≤ digits_value 10 (take i word) → number_of word ≡ None
 number-large word i large =
     let most = digits_value-take-le 10 word i (omega arith) in

@@ -1,9 +1,7 @@
 -- What a run writes over bytes that come in pieces.
 use Rattle.std.proofs.Common.{◌≡◌, ℕ, zero, suc, ◌+◌, ◌-◌, ◌<◌, ◌≤◌, List, [], ◌∷◌, ◌++◌, length, take, drop, true, false, ◌==◌, Option, Some, None, Result, Ok, Err, OnOk, IfErr, refl, sym, ◌∙◌, ap, append_assoc, arith, length-append, nat_lt, IfSome}
 use Rattle.std.specs.List.{position}
-use Rattle.std.specs.Io.{StartsWith}
 use Rattle.std.specs.Io.KnownBytes.{Appends, Keeps, Consumes, IsAtEnd}
-use Rattle.std.proofs.KnownBytes.{starts_with_rest}
 use Rattle.std.proofs.lemmas.List.{append-nil, take_rest}
 use Rattle.std.proofs.Math.Seq.{take-append-add}
 use Rattle.std.proofs.lemmas.Bool.Decides.{Decides-ltb, nat_tests}
@@ -13,7 +11,7 @@ use Rattle.net_bench.specs.Progress.{HasNoFeed, Advances, Gathers, IsPendingFaul
 use Rattle.net_bench.specs.declared.fault.Fault.TheVariants as faults
 use Rattle.net_bench.specs.declared.error.BenchError.{BenchError}
 use Rattle.net_bench.specs.declared.error.BenchError.TheVariants.{BadCommand, RangeTooLong, LineTooLong, TooManySchedules, OutOfMemory, ReadFailed, WriteFailed}
-use Rattle.net_bench.proofs.KnownBytes.{Appends-two, Appends-none, Appends-kept, Keeps-same, Consumes-two, Consumes-none, all-came, StartsWith-after, StartsWith-all}
+use Rattle.net_bench.proofs.KnownBytes.{Appends-kept, Keeps-same, Consumes-two, Consumes-none, all-came, StartsWith-all}
 use Rattle.net_bench.proofs.Pending.{Gathers-two, Gathers-same, Gathers-out, Gathers-written, WritesFront-after, WritesFront-more, WritesFront-out, WritesFront-kept, StartsWith-none}
 use Rattle.net_bench.proofs.LineParts.{feed-found, parts-cons, parts-feed, parts-front, lines-from_parts, lines-nonempty, lines-one, ended-from_parts, ended-none}
 
@@ -128,19 +126,6 @@ pub AfterLines-long : {S : Type 0} (rules : Rules S) (closing : S → List ℕ) 
 AfterLines-long rules closing bytes rest n state line n' state' line' more old new p q e t none h =
     rw (t.whole, append_assoc t.done rest more, h.0) (PendingError-after rules closing t.done n state line n' state' line' t.text (rest ++ more) old new new p q q (LineTooLong n') t.goes t.gathered
     (rw (← append_assoc line' rest more) (PendingError-long_front rules closing n' state' (line' ++ rest) more new q none h.1)))
-
--- the last of them, and the beginning of a line behind it
-pub AfterLines-kept : {S : Type 0} (rules : Rules S) (bytes rest : List ℕ) (n : ℕ) (state : S) (line : List ℕ) (n' : ℕ) (state' : S) (line' line'' : List ℕ) (old new : Option (List ℕ)) (p q : List ℕ) → AfterLines rules bytes rest n state line n' state' line' old p new q → line'' ≡ line' ++ rest → (text : List ℕ) × Advances rules bytes n state line n' state' line'' text × Gathers old p new q text
-AfterLines-kept rules bytes rest n state line n' state' line' line'' old new p q t e = (
-  t.text,
-  rw (t.whole, e) (record {
-    lines = t.goes.lines;
-    parts = λ after. ap (λ r. parts_of (line ++ r)) (append_assoc t.done rest after) ∙ t.goes.parts (rest ++ after) ∙ ap (λ r. t.goes.lines ++ parts_of r) (sym (append_assoc line' rest after));
-    texts = t.goes.texts;
-    faults = t.goes.faults;
-  }),
-  t.gathered,
-)
 
 -- ---- the end of the input
 

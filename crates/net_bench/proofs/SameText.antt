@@ -1,5 +1,5 @@
 -- Two modes that treat their states alike write one text and find one fault.
-use Rattle.std.proofs.Common.{◌≡◌, ℕ, List, [], ◌∷◌, ◌++◌, length, cond, true, false, nat_lt, Option, Some, None, Result, Ok, Err, refl, ap, ap₂}
+use Rattle.std.proofs.Common.{◌≡◌, ℕ, List, [], ◌∷◌, ◌++◌, length, cond, true, false, nat_lt, Option, Some, Result, Ok, Err, refl, ap, ap₂}
 use Rattle.net_bench.specs.Text.{words_of, next_number}
 use Rattle.net_bench.specs.Transcript.{Rules, line_step, by_step, text_of, error_at, first_fault, transcript}
 use Rattle.net_bench.specs.declared.fault.Fault.{Fault}

@@ -1,11 +1,11 @@
 -- What `same_state` answers is whether two outcomes are one.
-use Rattle.std.proofs.Common.{◌≡◌, ◌↔◌, ℕ, ◌+◌, List, ◌∷◌, length, Bool, true, false, cond, ◌==◌, Option, Some, IsTrue, codes, refl, sym, ◌∙◌, ap, arith}
+use Rattle.std.proofs.Common.{◌≡◌, ◌↔◌, ℕ, length, Bool, true, false, cond, ◌==◌, Some, IsTrue, codes, refl, sym, ◌∙◌, ap, arith}
 use Rattle.std.specs.Bool.{Decides}
 use Rattle.std.specs.Cmp.Lexicographic.{pointwise}
 use Rattle.std.proofs.lemmas.Bool.Decides.{Decides-eqb, Decides-and, same_from_decides}
 use Rattle.std.proofs.lemmas.Slice.Eq.{bytes_eq-Decides, slice_eq-Decides}
 use Rattle.net_receiver.specs.Stored.{Stored, IsSameState}
-use Rattle.net_bench.specs.StreamMode.{Outcome, same_run, same_outcome, comparison, Schedules, compared, stream_closing}
+use Rattle.net_bench.specs.StreamMode.{Outcome, same_run, same_outcome, Schedules, compared, stream_closing}
 use Rattle.net_bench.specs.StreamStored.{of_stored}
 
 -- runs that are one

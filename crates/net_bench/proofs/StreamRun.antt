@@ -1,5 +1,5 @@
 -- A run in mode stream, from what receivers store to the states of schedules.
-use Rattle.std.proofs.Common.{◌≡◌, ℕ, List, Option, None, Result, sym, ◌∙◌, ap, subst, IfSome, IfErr, OnOk}
+use Rattle.std.proofs.Common.{◌≡◌, ℕ, List, Option, None, Result, ◌∙◌, ap, subst, IfSome, IfErr, OnOk}
 use Rattle.std.specs.Io.KnownBytes.{Appends}
 use Rattle.net_receiver.specs.Schedule.{Setting}
 use Rattle.net_receiver.specs.Stored.{Stored}

@@ -1,8 +1,8 @@
 -- What receivers store in mode stream stands for the states of schedules, line by line.
-use Rattle.std.proofs.Common.{◌≡◌, ℕ, ◌+◌, ◌-◌, List, [], ◌∷◌, cond, true, false, Option, Some, None, Ok, Err, refl, sym, ◌∙◌, ap, subst}
+use Rattle.std.proofs.Common.{◌≡◌, ℕ, ◌+◌, ◌-◌, [], ◌∷◌, cond, true, false, Option, Some, None, Ok, Err, refl, sym, ◌∙◌, ap, subst}
 use Rattle.net_receiver.specs.KeptList.{next, bytes}
 use Rattle.net_receiver.specs.Schedule.{Action, Segment, Read, Show, Verdict, Nothing_kept, Refused, Keeps, Setting, State, after, reply}
-use Rattle.net_receiver.specs.Stored.{Stored, fresh_stored, stored_state_after, stored_after, stored_reply, setting, StandsFor}
+use Rattle.net_receiver.specs.Stored.{Stored, stored_state_after, stored_after, stored_reply, setting, StandsFor}
 use Rattle.net_receiver.specs.Theorems.{FreshStands, EverySchedule}
 use Rattle.net_bench.specs.Transcript.{transcript}
 use Rattle.net_bench.specs.StreamMode.{StreamCommand, ToReceiver, NextSchedule, end_fits, stream_command, reply_text, comparison, of_states, Schedules, first_schedule, commanded, stream_does, stream_replies, stream_rules, compared, stream_closing}

@@ -1,5 +1,5 @@
 -- How a run goes on over the bytes that come: for the contracts of its parts.
-use Rattle.std.specs.Prelude.{◌≡◌, ℕ, List, [], ◌++◌, false, ◌==◌, Option, Some, None, take}
+use Rattle.std.specs.Prelude.{◌≡◌, ℕ, List, [], ◌++◌, false, ◌==◌, Option, Some, take}
 use Rattle.std.specs.List.{All}
 use Rattle.std.specs.Io.KnownBytes.{Appends}
 use Rattle.net_bench.specs.Text.{parts_of}

@@ -2,7 +2,6 @@
 use Rattle.std.specs.Prelude.{ℕ, Option, refl}
 use Rattle.std.specs.Coded.{Coded, code_by, coded×, coded_ℕ, coded_option}
 use Rattle.net_storage.specs.Positions.{maximal_runs}
-use Rattle.net_receiver.specs.Schedule.{Setting}
 use Rattle.net_receiver.specs.Stored.{Stored, fresh_stored, domain, stored_next, stored_after, stored_reply}
 use Rattle.net_receiver.specs.Parts.{stored_code}
 use Rattle.net_bench.specs.StreamMode.{Scheduling, Schedules}

@@ -1,4 +1,4 @@
-use Rattle.std.proofs.Common.{arith, refl}
+use Rattle.std.proofs.Common.{arith}
 use Rattle.std.proofs.lemmas.Result.{err_from_is_err_and, on_ok_weaker, IfErr-weaker}
 use Rattle.net_bench.proofs.RunProgress.{AfterReads-more, AfterReads-err, AfterReads-end, AfterReads-end_err, AfterReads-none, AfterReads-failed}
 use Rattle.net_bench.proofs.KnownBytes.{Keeps-same}

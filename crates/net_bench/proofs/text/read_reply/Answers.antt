@@ -1,4 +1,4 @@
-use Rattle.std.proofs.Common.{◌≡◌, ◌+◌, ◌<◌, length, arith, rules}
+use Rattle.std.proofs.Common.{◌+◌, ◌<◌, length, arith, rules}
 use Rattle.std.proofs.lemmas.Bool.Decides.{nat_tests}
 use Rattle.net_bench.proofs.HexText.{IsUtf8-reply, hex_text-parts}
 use Rattle.net_bench.proofs.text.read_reply.Goals as goal
