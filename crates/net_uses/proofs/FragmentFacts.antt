@@ -1,5 +1,5 @@
 -- What a buffer holds after many fragments.
-use Rattle.std.proofs.Common.{◌≡◌, ℕ, zero, suc, ◌+◌, ◌-◌, ◌<◌, ◌≤◌, ◌&&◌, Bool, true, false, List, [], ◌∷◌, length, get_or, refl, ap, ◌∙◌, arith, if◌then◌else◌, nat_le, nat_lt, IsTrue, IsFalse, inl, inr}
+use Rattle.std.proofs.Common.{◌≡◌, ℕ, zero, suc, ◌+◌, ◌-◌, ◌<◌, ◌≤◌, ◌&&◌, Bool, true, false, List, [], ◌∷◌, length, get_or, refl, ap, ◌∙◌, arith, if◌then◌else◌, nat_le, nat_lt, IsTrue, IsFalse, ap₂, ◌||◌}
 use Rattle.std.proofs.lemmas.Bool.Decides.{nat_tests}
 use Rattle.net_storage.specs.Overwrite.{overwrite, OverwrittenAt}
 use Rattle.net_storage.specs.Positions.{contains, with_range}
@@ -31,16 +31,12 @@ byte_after long at b (f ∷ fs) p d h =
     (at b.bytes f.1 f.0 p d h
     ∙ pick_inside f.0 p (length f.1) (get_or f.1 (p - f.0) d) (get_or f.1 (p - f.0) was) was (λ l m. same_default f.1 (p - f.0) d was (omega arith)))
 
-is_false : (x : Bool) → (IsTrue x → ⊥) → IsFalse x
-is_false true h = absurd (h refl)
-is_false false h = refl
-
 not_both : (x : Bool) → IsFalse x → IsTrue x → ⊥
 not_both true f t = let e : true ≡ false = f in cc
 not_both false f t = let e : false ≡ true = t in cc
 
-covered : (p : ℕ) (f : ℕ × List ℕ) → (covers p f ≡ true → (f.0 ≤ p) × (p < f.0 + length f.1)) × (covers p f ≡ false → (f.0 ≤ p) × (p < f.0 + length f.1) → ⊥)
-covered p f = (λ e. (grind (arith, nat_tests), grind (arith, nat_tests)), λ e k. let l : f.0 ≤ p = k.0 in let m : p < f.0 + length f.1 = k.1 in grind (arith, nat_tests))
+covered : (p : ℕ) (f : ℕ × List ℕ) → covers p f ≡ true → (f.0 ≤ p) × (p < f.0 + length f.1)
+covered p f e = (grind (arith, nat_tests), grind (arith, nat_tests))
 
 -- a position that came with one of the fragments has that fragment's byte, whatever was there
 independent : MembersWithRange → (b : FragmentState) (fs : List (ℕ × List ℕ)) (p d e : ℕ) → IsFalse (contains b.present p) → IsTrue (contains (after_fragments b fs).present p) → last_byte p d fs ≡ last_byte p e fs
@@ -50,12 +46,11 @@ independent members b (f ∷ fs) p d e none some = by_cover (covers p f) refl (i
     by_cover : (t : Bool) → covers p f ≡ t → (IsFalse (contains (with_range b.present f.0 (length f.1)) p) → IsTrue (contains (after_fragments (fragment_added b f.0 f.1) fs).present p) → last_byte p d fs ≡ last_byte p e fs) →
         last_byte p d (f ∷ fs) ≡ last_byte p e (f ∷ fs)
     by_cover true is rest =
-        let k = (covered p f).0 is in
+        let k = covered p f is in
         rw is (ap (λ (x : ℕ). last_byte p x fs) (same_default f.1 (p - f.0) d e (omega (arith, k.0, k.1))))
     by_cover false is rest =
         let missing : IsFalse (contains (with_range b.present f.0 (length f.1)) p) =
-        is_false (contains (with_range b.present f.0 (length f.1)) p)
-        (λ t. elim ((members b.present f.0 (length f.1) p).0 t) [ inl there ↦ not_both (contains b.present p) none there | inr range ↦ (covered p f).1 is range ])
+        members b.present f.0 (length f.1) p ∙ ap₂ ◌||◌ none is
         in
         rw is (rest missing some)
 
