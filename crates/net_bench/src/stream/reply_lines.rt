@@ -56,6 +56,10 @@ impl fmt::Display for Runs<'_> {
     }
 }
 
+/// The most bytes of a line that says what was kept: eight numbers of at most 20 digits, and 25
+/// bytes beside them.
+const ACCEPTED_ROOM: usize = 185;
+
 /// What was kept of a segment and the first held runs, as a line.
 fn accepted_text(
     alloc: Global,
@@ -66,7 +70,11 @@ fn accepted_text(
     ensures { IfOk result (λ text. string_bytes text ≡ accepted_line kept queued sack.now) }
 {
     let sack = Runs(sack);
-    format!(in alloc; "kept {kept} queued {queued} sack {sack}\n")
+    let mut text = String::with_capacity(alloc, ACCEPTED_ROOM)?;
+    match write!(text, "kept {kept} queued {queued} sack {sack}\n") {
+        Ok(()) => Ok(text),
+        Err(_) => Err(AllocError),
+    }
 }
 
 /// What was kept of a segment, as a line.
@@ -90,8 +98,7 @@ fn kept_text(alloc: Global, kept: &Kept) -> Result<String, AllocError>
 fn read_text(alloc: Global, bytes: &[u8]) -> Result<String, AllocError>
     ensures { IfOk result (λ text. string_bytes text ≡ text_of_reply (Gave bytes.now)) }
 {
-    let bytes = text::shown(alloc, bytes)?;
-    format!(in alloc; "read {bytes}\n")
+    text::read_reply(alloc, bytes, &[])
 }
 
 /// A receiver's numbers and held runs, as a line.
