@@ -1,0 +1,53 @@
+use crate::requests::Requests;
+use std::alloc::{AllocError, Allocator, Global};
+
+/// An allocator that counts the requests for memory and refuses exactly one of them.
+///
+/// Each growth of a list is a request too, and a list whose growth is refused stays as it was. A
+/// `&Refusing` is an allocator that is copied.
+pub struct Refusing<A: Allocator = Global> {
+    inner: A,
+    requests: Requests,
+}
+
+impl<A: Allocator> Refusing<A> {
+    /// Memory of `alloc`, but for the request of number `refused`, counted from 0.
+    pub fn new(alloc: A, refused: usize) -> Refusing<A> {
+        Refusing {
+            inner: alloc,
+            requests: Requests::new(refused),
+        }
+    }
+
+    /// How many requests there were, with the one that was refused.
+    pub fn requests(&self) -> usize {
+        self.requests.count()
+    }
+}
+
+unsafe impl<A: Allocator> Allocator for Refusing<A> {
+    ghost dealloc_token = { λ heap ty ptr. A.dealloc_token heap.inner ty ptr };
+
+    fn allocate(&self, size: usize, align: usize) -> Result<*mut u8, AllocError> {
+        if self.requests.refuses_next() {
+            return Err(AllocError);
+        }
+        self.inner.allocate(size, align)
+    }
+
+    unsafe fn deallocate(&self, ptr: *mut u8, size: usize, align: usize) {
+        self.inner.deallocate(ptr, size, align);
+    }
+}
+
+impl<A: Allocator> Drop for Refusing<A> {
+    fn drop(self) {
+        let Refusing {
+            inner: _,
+            requests: _,
+        } = self;
+    }
+}
+
+#[cfg(test)]
+mod tests;
