@@ -25,7 +25,7 @@ use std::alloc::{AllocError, Allocator};
 pub fn replay<A: Allocator + Copy, const N: usize>(
     alloc: A,
     receiver: &mut Receiver<'_, N>,
-    commands: &[Command],
+    commands: &[Command<A>],
     replies: &mut Vec<Reply<A>, A>,
 ) -> Result<(), AllocError>
     requires { All CommandFits commands.now }
@@ -47,7 +47,7 @@ pub fn replay<A: Allocator + Copy, const N: usize>(
 fn run_each<A: Allocator + Copy, const N: usize>(
     alloc: A,
     receiver: &mut Receiver<'_, N>,
-    commands: &[Command],
+    commands: &[Command<A>],
     replies: &mut Vec<Reply<A>, A>,
 ) -> Result<(), AllocError>
     requires { All CommandFits commands.now }
@@ -68,7 +68,7 @@ fn run_each<A: Allocator + Copy, const N: usize>(
 fn run<A: Allocator + Copy, const N: usize>(
     alloc: A,
     receiver: &mut Receiver<'_, N>,
-    command: &Command,
+    command: &Command<A>,
 ) -> Result<Reply<A>, AllocError>
     requires { CommandFits command.now }
     ensures state { let act = action command.now in

@@ -20,7 +20,7 @@ enum Step<'a> {
 }
 
 /// The segment, or else `Show` where its end fits no position.
-fn segment(alloc: Global, pos: u64, bytes: &[u8]) -> Result<Command, AllocError>
+fn segment<A: Allocator + Copy>(alloc: A, pos: u64, bytes: &[u8]) -> Result<Command<A>, AllocError>
     ensures { IfOk result CommandFits }
 {
     if !Receiver::<4>::fits(pos, bytes.len()) {
@@ -33,7 +33,7 @@ fn segment(alloc: Global, pos: u64, bytes: &[u8]) -> Result<Command, AllocError>
 }
 
 /// The command of a step.
-fn command_of(alloc: Global, step: &Step<'_>) -> Result<Command, AllocError>
+fn command_of<A: Allocator + Copy>(alloc: A, step: &Step<'_>) -> Result<Command<A>, AllocError>
     ensures { IfOk result CommandFits }
 {
     match step {
@@ -44,10 +44,13 @@ fn command_of(alloc: Global, step: &Step<'_>) -> Result<Command, AllocError>
 }
 
 /// The commands of steps.
-fn commands_of(alloc: Global, steps: &[Step<'_>]) -> Result<Vec<Command>, AllocError>
+fn commands_of<A: Allocator + Copy>(
+    alloc: A,
+    steps: &[Step<'_>],
+) -> Result<Vec<Command<A>, A>, AllocError>
     ensures { IfOk result (λ commands. All CommandFits commands.items) }
 {
-    let mut commands = Vec::new(alloc);
+    let mut commands = Vec::with_capacity(alloc, steps.len())?;
     for step in steps {
         let command = command_of(alloc, step)?;
         commands.push(command)?;
@@ -307,21 +310,15 @@ struct Ending {
     held: Option<(u64, u64)>,
 }
 
-/// Runs commands in a heap with `room` bytes that are free.
-fn with_room(
-    alloc: Global,
-    room: usize,
-    commands: &[Command],
-    steps: &[Step<'_>],
-) -> Result<Ending, AllocError>
-    requires { All CommandFits commands.now }
-{
+/// Runs the commands of steps in a heap with `room` bytes that are free.
+fn with_room(alloc: Global, room: usize, steps: &[Step<'_>]) -> Result<Ending, AllocError> {
     let heap = LocalHeap::new(alloc, 4096)?;
+    let commands = commands_of(&heap, steps)?;
     let mut replies: Vec<Reply<&LocalHeap>, &LocalHeap> = Vec::new(&heap);
     let _taken: Vec<u8, &LocalHeap> = Vec::with_capacity(&heap, heap.free().saturating_sub(room))?;
     let mut buffer = [0u8; 16];
     let mut receiver = Receiver::<4>::new(ManagedSlice::Borrowed(&mut buffer));
-    let result = replay(&heap, &mut receiver, commands, &mut replies);
+    let result = replay(&heap, &mut receiver, &commands, &mut replies);
     Ok(Ending {
         whole: result.is_ok(),
         replied: replies.len(),
@@ -353,11 +350,10 @@ fn each_refusal_of_memory_leaves_the_first_commands(rt: HostRuntime) -> Result<(
         Step::Reads(9, b"BBAA"),
         Step::Shows(4, 0, 16, &[]),
     ];
-    let commands = commands_of(alloc, &steps)?;
     let mut refused = [false; 6];
     let mut whole = false;
     for units in 0..256usize {
-        let ending = with_room(alloc, units * 16, &commands, &steps)?;
+        let ending = with_room(alloc, units * 16, &steps)?;
         assert!(rt; ending.right, "with {units} units of room");
         assert!(rt;
             (ending.next, ending.queued, ending.held) == after(ending.replied),
