@@ -1,18 +1,20 @@
 use std::cell::Cell;
 
-/// The requests for memory so far, and the number of the one to refuse.
+/// The requests for memory so far, and the numbers of the first and the last to refuse.
 #[derive(Drop)]
 pub struct Requests {
     made: Cell<usize>,
-    refused: usize,
+    first: usize,
+    last: usize,
 }
 
 impl Requests {
     /// None so far.
-    pub fn new(refused: usize) -> Requests {
+    pub fn new(first: usize, last: usize) -> Requests {
         Requests {
             made: Cell::new(0),
-            refused,
+            first,
+            last,
         }
     }
 
@@ -21,10 +23,10 @@ impl Requests {
         self.made.get()
     }
 
-    /// Counts one more, and answers whether it is the one to refuse.
+    /// Counts one more, and answers whether it is to be refused.
     pub fn refuses_next(&self) -> bool {
         let number = self.made.get();
         self.made.set(number.wrapping_add(1));
-        number == self.refused
+        self.first <= number && number <= self.last
     }
 }

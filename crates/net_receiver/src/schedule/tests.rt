@@ -2,8 +2,8 @@ ghost use Rattle.std.specs.Prelude.{All, IfOk};
 ghost use Rattle.net_receiver.specs.Commands.{CommandFits};
 
 use super::*;
-use linked_list_allocator::LocalHeap;
 use net_storage::{ManagedSlice, TooManyHolesError};
+use net_testing::Refusing;
 use std::alloc::Global;
 
 /// A command, with the reply that it must have.
@@ -173,6 +173,27 @@ fn bytes_come_and_go(rt: HostRuntime) -> Result<(), AllocError> {
     Ok(())
 }
 
+/// Segments that reach over held runs from either side, and one that comes late.
+#[test]
+fn segments_overlap_held_runs(rt: HostRuntime) -> Result<(), AllocError> {
+    assert!(rt;
+        runs_as(
+            rt.alloc(),
+            8,
+            0,
+            &[
+                Step::Keeps(4, b"aa", 2, 0, &[(4, 6)]),
+                Step::Keeps(3, b"bbb", 3, 0, &[(3, 6)]),
+                Step::Keeps(5, b"ccccc", 3, 0, &[(3, 8)]),
+                Step::Keeps(0, b"dddd", 4, 8, &[]),
+                Step::Keeps(0, b"z", 0, 0, &[]),
+                Step::Reads(8, b"ddddbccc"),
+            ]
+        )?
+    );
+    Ok(())
+}
+
 #[test]
 fn a_fifth_run_is_refused(rt: HostRuntime) -> Result<(), AllocError> {
     let alloc = rt.alloc();
@@ -299,77 +320,106 @@ fn a_long_schedule(rt: HostRuntime) -> Result<(), AllocError> {
     Ok(())
 }
 
-/// What a run of commands with little memory came to.
+/// What a run of commands came to, some of whose requests for memory were refused.
 #[derive(Drop)]
 struct Ending {
     whole: bool,
+    requests: usize,
     replied: usize,
     right: bool,
     next: u64,
     queued: usize,
-    held: Option<(u64, u64)>,
+    held: [Option<(u64, u64)>; 2],
 }
 
-/// Runs the commands of steps in a heap with `room` bytes that are free.
-fn with_room(alloc: Global, room: usize, steps: &[Step<'_>]) -> Result<Ending, AllocError> {
-    let heap = LocalHeap::new(alloc, 4096)?;
-    let commands = commands_of(&heap, steps)?;
-    let mut replies: Vec<Reply<&LocalHeap>, &LocalHeap> = Vec::new(&heap);
-    let _taken: Vec<u8, &LocalHeap> = Vec::with_capacity(&heap, heap.free().saturating_sub(room))?;
+/// Runs the commands of steps, with their replies in memory that is refused at some requests.
+fn run_refused(
+    alloc: Global,
+    refusing: Refusing,
+    steps: &[Step<'_>],
+) -> Result<Ending, AllocError> {
+    let granting = Refusing::new(alloc, usize::MAX);
+    let commands = commands_of(&granting, steps)?;
+    let mut replies: Vec<Reply<&Refusing>, &Refusing> = Vec::new(&refusing);
     let mut buffer = [0u8; 16];
     let mut receiver = Receiver::<4>::new(ManagedSlice::Borrowed(&mut buffer));
-    let result = replay(&heap, &mut receiver, &commands, &mut replies);
+    let result = replay(&refusing, &mut receiver, &commands, &mut replies);
+    let mut held = receiver.held();
     Ok(Ending {
         whole: result.is_ok(),
+        requests: refusing.requests(),
         replied: replies.len(),
         right: are_replies(steps, &replies),
         next: receiver.next(),
         queued: receiver.queued(),
-        held: receiver.held().next(),
+        held: [held.next(), held.next()],
     })
 }
 
-/// What a receiver has after so many of the commands of the test below.
-fn after(count: usize) -> (u64, usize, Option<(u64, u64)>) {
+/// What a receiver has after so many of the steps of the test below.
+fn after(count: usize) -> (u64, usize, [Option<(u64, u64)>; 2]) {
     match count {
-        0 | 1 => (0, 0, None),
-        2 | 3 => (0, 0, Some((2, 4))),
-        4 => (4, 4, None),
-        _ => (4, 0, None),
+        0 => (0, 0, [None, None]),
+        1 | 2 => (0, 0, [Some((2, 4)), None]),
+        3 => (4, 4, [None, None]),
+        4 | 5 => (4, 1, [None, None]),
+        6 => (4, 1, [Some((6, 7)), None]),
+        _ => (4, 0, [Some((6, 7)), None]),
     }
 }
 
+/// Whether so many of the nine steps of the test below were run, and so many requests made.
+fn is_ending(ending: &Ending, run: usize, requests: usize) -> bool {
+    ending.whole == (run == 9)
+        && ending.requests == requests
+        && ending.replied == run
+        && ending.right
+        && (ending.next, ending.queued, ending.held) == after(run)
+}
+
+/// The list of replies takes room for four at first, and is doubled when it is full: a request in
+/// steps 0, 4 and 8. A read asks for its bytes, where there are some: in steps 3 and 6, and not 8. A
+/// show asks for its list, where a run is held, and once more where that is refused: in steps 1 and
+/// 7, and not 4. A segment asks for nothing. So seven requests are made, one each in steps 0, 1, 3,
+/// 4, 6, 7 and 8.
 #[test]
 fn each_refusal_of_memory_leaves_the_first_commands(rt: HostRuntime) -> Result<(), AllocError> {
     let alloc = rt.alloc();
     let steps = [
-        Step::Reads(9, b""),
         Step::Keeps(2, b"AA", 2, 0, &[(2, 4)]),
         Step::Shows(0, 0, 16, &[(2, 4)]),
         Step::Keeps(0, b"BB", 2, 4, &[]),
-        Step::Reads(9, b"BBAA"),
-        Step::Shows(4, 0, 16, &[]),
+        Step::Reads(3, b"BBA"),
+        Step::Shows(4, 1, 15, &[]),
+        Step::Keeps(6, b"C", 1, 0, &[(6, 7)]),
+        Step::Reads(9, b"A"),
+        Step::Shows(4, 0, 16, &[(6, 7)]),
+        Step::Reads(9, b""),
     ];
-    let mut refused = [false; 6];
-    let mut whole = false;
-    for units in 0..256usize {
-        let ending = with_room(alloc, units * 16, &steps)?;
-        assert!(rt; ending.right, "with {units} units of room");
+    // For each request, and at last for none: the steps that are run and the requests that are made
+    // where it alone is refused, and where it and all later ones are.
+    let endings = [
+        ((0, 1), (0, 1)),
+        ((9, 8), (1, 3)),
+        ((3, 3), (3, 3)),
+        ((4, 4), (4, 4)),
+        ((6, 5), (6, 5)),
+        ((9, 8), (7, 7)),
+        ((8, 7), (8, 7)),
+        ((9, 7), (9, 7)),
+    ];
+    for refused in 0..8usize {
+        let (alone, onwards) = endings[refused];
+        let ending = run_refused(alloc, Refusing::new(alloc, refused), &steps)?;
         assert!(rt;
-            (ending.next, ending.queued, ending.held) == after(ending.replied),
-            "with {units} units of room"
+            is_ending(&ending, alone.0, alone.1),
+            "request {refused} alone"
         );
+        let ending = run_refused(alloc, Refusing::all_from(alloc, refused), &steps)?;
         assert!(rt;
-            ending.whole == (ending.replied == 6),
-            "with {units} units of room"
+            is_ending(&ending, onwards.0, onwards.1),
+            "from request {refused} on"
         );
-        if ending.whole {
-            whole = true;
-            break;
-        }
-        assert!(rt; ending.replied < 6);
-        refused[ending.replied] = true;
     }
-    assert!(rt; whole && refused[0] && refused[2] && refused[4]);
     Ok(())
 }
