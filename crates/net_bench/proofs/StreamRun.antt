@@ -1,22 +1,23 @@
 -- A run in mode stream, from what receivers store to the states of schedules.
 use Rattle.std.proofs.Common.{◌≡◌, ℕ, List, Option, None, Result, ◌∙◌, ap, subst, IfSome, IfErr, OnOk}
 use Rattle.std.specs.Io.KnownBytes.{Appends}
-use Rattle.net_receiver.specs.Schedule.{Setting}
 use Rattle.net_receiver.specs.Stored.{Stored}
 use Rattle.net_receiver.specs.Theorems.{FreshStands, EverySchedule}
 use Rattle.net_bench.specs.Text.{lines_of}
 use Rattle.net_bench.specs.Transcript.{Transcript, transcript, ErrorOfInput}
-use Rattle.net_bench.specs.Modes.{Mode, Stream, transcript_of}
+use Rattle.net_bench.specs.Modes.{Stream, transcript_of}
 use Rattle.net_bench.specs.StreamMode.{Schedules, first_schedule, stream_rules, stream_closing}
 use Rattle.net_bench.specs.StreamStored.{of_stored}
 use Rattle.net_bench.specs.declared.error.BenchError.{BenchError}
 use Rattle.net_bench.proofs.StreamStates.{stored_transcript}
 
 -- a session that begins writes what its mode does
-pub transcript_is : FreshStands → EverySchedule → (w : Setting) (session : Schedules Stored) (mode : Mode) → session ≡ first_schedule of_stored w → Stream w ≡ mode →
-    transcript (stream_rules of_stored) (stream_closing of_stored) 1 session ≡ transcript_of mode
-transcript_is fresh_stands every w session mode begins named =
-    ap (transcript (stream_rules of_stored) (stream_closing of_stored) 1) begins ∙ stored_transcript fresh_stands every w ∙ ap transcript_of named
+pub transcript_is : FreshStands → EverySchedule → (first size capacity runs most : ℕ) (session : Schedules Stored) →
+    session ≡ first_schedule of_stored (record { first = first; capacity = size; most_runs = runs }) → size ≡ capacity → runs ≡ most →
+    transcript (stream_rules of_stored) (stream_closing of_stored) 1 session ≡ transcript_of (Stream (record { first = first; capacity = capacity; most_runs = most }))
+transcript_is fresh_stands every first size capacity runs most session begins same_size same_runs =
+    ap (transcript (stream_rules of_stored) (stream_closing of_stored) 1) (begins ∙ (λ k. first_schedule of_stored (record { first = first; capacity = same_size k; most_runs = same_runs k })))
+    ∙ stored_transcript fresh_stands every _
 
 -- what a run says of one transcript it says of the other
 module _ (all other : Transcript) (one : all ≡ other) (r : Result (Unit {0}) BenchError) (before old new : Option (List ℕ)) where

@@ -5,6 +5,6 @@ use Rattle.net_bench.specs.declared.stream.StreamLine.{StreamLine}
 use Rattle.net_bench.specs.declared.stream.StreamLine.TheVariants as lines
 
 -- the command that a line is
-abbrev pub stream_command_seen : StreamLine → StreamCommand
+abbrev pub stream_command_seen : {A : Type 0} → StreamLine A → StreamCommand
 stream_command_seen (lines.ToReceiver command) = ToReceiver (action command)
 stream_command_seen lines.NextSchedule = NextSchedule

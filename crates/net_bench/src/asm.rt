@@ -11,11 +11,19 @@ use crate::session::Session;
 use crate::words::Words;
 use crate::{text, words};
 use net_storage::Assembler;
-use std::alloc::{AllocError, Global};
+use std::alloc::{AllocError, Allocator};
 use std::marker::Model;
 
 /// The reply to a range that the assembler refuses.
 const REFUSED: &str = "refused too many holes\n";
+
+/// The most bytes of a line that says how long the front was: a number of at most 20 digits, and 7
+/// bytes beside it.
+const FRONT_ROOM: usize = 27;
+
+/// The most bytes of a line that shows 32 runs: two numbers of at most 20 digits for each, and 4
+/// bytes beside them, and 4 bytes around all.
+const PRINT_ROOM: usize = 4 + 44 * 32;
 
 /// What is done with a range.
 #[derive(Clone, Copy)]
@@ -115,7 +123,12 @@ impl<const N: usize> AsmSession<N> {
     }
 
     /// Adds a range that fits, and makes the reply.
-    fn add(&mut self, alloc: Global, offset: usize, size: usize) -> Result<String, AllocError>
+    fn add<A: Allocator + Copy>(
+        &mut self,
+        alloc: A,
+        offset: usize,
+        size: usize,
+    ) -> Result<String<A>, AllocError>
         requires { offset + size < 2 ^ 64 }
         ensures { IfOk result (λ reply.
             added N self.old offset size ≡ (self.new, string_bytes reply)) }
@@ -128,12 +141,12 @@ impl<const N: usize> AsmSession<N> {
     }
 
     /// Adds a range that fits and removes the front then, and makes the reply.
-    fn add_then_remove_front(
+    fn add_then_remove_front<A: Allocator + Copy>(
         &mut self,
-        alloc: Global,
+        alloc: A,
         offset: usize,
         size: usize,
-    ) -> Result<String, AllocError>
+    ) -> Result<String<A>, AllocError>
         requires { offset + size < 2 ^ 64 }
         ensures { IfOk result (λ reply.
             added_then_front_removed N self.old offset size ≡ (self.new, string_bytes reply)) }
@@ -145,13 +158,13 @@ impl<const N: usize> AsmSession<N> {
     }
 
     /// Does what is to be done with a range, or finds that it is too long.
-    fn run_range(
+    fn run_range<A: Allocator + Copy>(
         &mut self,
-        alloc: Global,
+        alloc: A,
         verb: RangeVerb,
         offset: usize,
         size: usize,
-    ) -> Result<Result<String, Fault>, AllocError>
+    ) -> Result<Result<String<A>, Fault>, AllocError>
         ensures { IfOk result (λ outcome. MatchResult outcome
             (λ reply. asm_does N self.old (range_command_seen verb offset size)
             ≡ Ok (self.new, string_bytes reply))
@@ -169,7 +182,7 @@ impl<const N: usize> AsmSession<N> {
     }
 
     /// Removes the front.
-    fn remove_front(&mut self, alloc: Global) -> Result<String, AllocError>
+    fn remove_front<A: Allocator + Copy>(&mut self, alloc: A) -> Result<String<A>, AllocError>
         ensures { IfOk result (λ reply.
             asm_does N self.old RemoveFront ≡ Ok (self.new, string_bytes reply)) }
     {
@@ -177,33 +190,29 @@ impl<const N: usize> AsmSession<N> {
     }
 
     /// Shows the runs.
-    fn print(&self, alloc: Global) -> Result<String, AllocError>
+    fn print<A: Allocator + Copy>(&self, alloc: A) -> Result<String<A>, AllocError>
         ensures { IfOk result (λ reply.
             asm_does N self.now Print ≡ Ok (self.now, string_bytes reply)) }
     {
         let assembler = &self.assembler;
-        format!(in alloc; "{assembler}\n")
+        text::displayed(alloc, PRINT_ROOM, format_args!("{assembler}\n"))
     }
 }
 
 /// The reply that says how long the front was.
-fn front_text(alloc: Global, length: usize) -> Result<String, AllocError>
+fn front_text<A: Allocator + Copy>(alloc: A, length: usize) -> Result<String<A>, AllocError>
     ensures { IfOk result (λ text.
         string_bytes text ≡ codes "front " ++ decimal length ++ codes "\n") }
 {
-    format!(in alloc; "front {length}\n")
+    text::displayed(alloc, FRONT_ROOM, format_args!("front {length}\n"))
 }
 
-impl<const N: usize> Session for AsmSession<N> {
+impl<A: Allocator + Copy, const N: usize> Session<A> for AsmSession<N> {
     ghost rules = { asm_rules N };
 
     ghost closing = { λ _. [] };
 
-    fn run_line(
-        &mut self,
-        alloc: Global,
-        line: &[u8],
-    ) -> Result<Result<String, Fault>, AllocError> {
+    fn run_line(&mut self, alloc: A, line: &[u8]) -> Result<Result<String<A>, Fault>, AllocError> {
         match asm_line(line) {
             Some(AsmLine::Range(verb, offset, size)) => self.run_range(alloc, verb, offset, size),
             Some(AsmLine::RemoveFront) => Ok(Ok(self.remove_front(alloc)?)),

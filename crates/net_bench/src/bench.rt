@@ -9,7 +9,7 @@ use crate::error::BenchError;
 use crate::fault::Fault;
 use crate::replies::Replies;
 use crate::session::Session;
-use std::alloc::{AllocError, Global};
+use std::alloc::{AllocError, Allocator};
 use std::io::{Read, Write};
 
 /// The most bytes of a line, without its line feed.
@@ -26,12 +26,12 @@ fn feed_at(bytes: &[u8]) -> Option<usize>
 }
 
 /// Runs a line of this number, and gathers its reply.
-fn answer<S: Session, W: Write>(
-    alloc: Global,
+fn answer<A: Allocator + Copy, S: Session<A>, W: Write>(
+    alloc: A,
     session: &mut S,
     number: u64,
     line: &[u8],
-    replies: &mut Replies,
+    replies: &mut Replies<A>,
     writer: &mut W,
 ) -> Result<(), BenchError>
     ensures ok { OnOk result ((reply : List ℕ)
@@ -56,20 +56,20 @@ fn answer<S: Session, W: Write>(
 /// A run under way: the mode's state, the number of the line that comes next, what has come of it,
 /// and the replies that are pending.
 #[derive(Drop)]
-struct Bench<S> {
-    alloc: Global,
+struct Bench<A: Allocator + Copy, S> {
+    alloc: A,
     session: S,
     number: u64,
-    line: Vec<u8>,
-    replies: Replies,
+    line: Vec<u8, A>,
+    replies: Replies<A>,
     ghost short: { length line.items ≤ 4096 },
     ghost unended: { HasNoFeed line.items },
     ghost room: { 4096 ≤ vec_capacity line },
 }
 
-impl<S: Session> Bench<S> {
+impl<A: Allocator + Copy, S: Session<A>> Bench<A, S> {
     /// A run whose first line comes next. All memory for lines and replies is taken here.
-    fn new(alloc: Global, session: S) -> Result<Bench<S>, AllocError>
+    fn new(alloc: A, session: S) -> Result<Bench<A, S>, AllocError>
     where
         S: Drop,
         ensures { IfOk result (λ bench. (bench.session ≡ session) × (bench.number ≡ 1)
@@ -232,8 +232,8 @@ impl<S: Session> Bench<S> {
 }
 
 /// Runs the lines that the reader gives, from their first to their last, and writes the replies.
-pub fn run_lines<S: Session + Drop, R: Read, W: Write>(
-    alloc: Global,
+pub fn run_lines<A: Allocator + Copy, S: Session<A> + Drop, R: Read, W: Write>(
+    alloc: A,
     session: S,
     reader: &mut R,
     writer: &mut W,

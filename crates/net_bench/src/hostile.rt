@@ -1,11 +1,12 @@
-//! Runs over long inputs, and over readers and writers that fail: what gives up from some size or
-//! some call on is caught.
+//! Runs over long inputs, and over memory, readers and writers that fail: what gives up from some
+//! size or some call on is caught.
 ghost use Rattle.std.specs.Prelude.{None};
 
 use crate::mode::Mode;
 use crate::run::run;
 use crate::streams::{Sink, Source, command_words};
-use std::alloc::{AllocError, Global};
+use net_testing::Refusing;
+use std::alloc::{AllocError, Allocator, Global};
 use std::cell::Cell;
 use std::io;
 use std::io::{Read, Write};
@@ -19,14 +20,117 @@ fn ending<R: Read, W: Write>(
     reader: &mut R,
     writer: &mut W,
 ) -> Result<String, Fail> {
+    ending_in(alloc, alloc, words, reader, writer)
+}
+
+/// The text of how a run ends whose memory is that of `heap`.
+fn ending_in<A: Allocator + Copy, R: Read, W: Write>(
+    alloc: Global,
+    heap: A,
+    words: &str,
+    reader: &mut R,
+    writer: &mut W,
+) -> Result<String, Fail> {
     let words = command_words(alloc, words)?;
     let Some(mode) = Mode::from_words(&words) else {
         return Err(Fail::from(AllocError));
     };
-    match run(alloc, mode, reader, writer) {
+    match run(heap, mode, reader, writer) {
         Ok(()) => Ok(String::from_str(alloc, "Ok")?),
         Err(error) => Ok(format!(in alloc; "{error}")?),
     }
+}
+
+/// A part of a run: what is read, what is written for it, and how many requests for memory it makes.
+#[derive(Drop)]
+struct Part(&'static [u8], &'static [u8], usize);
+
+/// Refuses each request for memory of a run in turn. Before the first line the memory of storage,
+/// if the mode has any, and of the buffers for a line and for replies is asked for.
+fn check_refusals(rt: &impl Abort, alloc: Global, words: &str, parts: &[Part]) -> Result<(), Fail> {
+    let mut input = Vec::new(alloc);
+    let mut requests = 0usize;
+    for Part(line, _, asked) in parts {
+        input.extend_from_slice(line)?;
+        requests = requests.saturating_add(*asked);
+    }
+    for refused in 0..requests.saturating_add(1) {
+        let mut output = Vec::new(alloc);
+        let mut asked_before = 0usize;
+        for Part(_, reply, asked) in parts {
+            asked_before = asked_before.saturating_add(*asked);
+            if refused < asked_before {
+                break;
+            }
+            output.extend_from_slice(reply)?;
+        }
+        let is_refused = refused < requests;
+        let end = if is_refused { "out of memory" } else { "Ok" };
+        let made = if is_refused {
+            refused.saturating_add(1)
+        } else {
+            requests
+        };
+        let heap = Refusing::new(alloc, refused);
+        let mut source = Source::new(&input);
+        let mut sink = Sink::new(alloc)?;
+        let text = ending_in(alloc, &heap, words, &mut source, &mut sink)?;
+        assert_eq!(rt; text.as_str(), end, "{words}, request {refused}");
+        assert_eq!(rt;
+            sink.bytes.as_slice(),
+            output.as_slice(),
+            "{words}, request {refused}"
+        );
+        assert_eq!(rt; heap.requests(), made, "{words}, request {refused}");
+    }
+    Ok(())
+}
+
+#[test]
+fn each_request_for_memory_is_refused_in_turn(rt: HostRuntime) -> Result<(), Fail> {
+    // The bytes of a line are asked for, and its reply.
+    let ring = [
+        Part(b"", b"", 3),
+        Part(b"w 6162\n", b"took 2\n", 2),
+        Part(b"w -\n", b"took 0\n", 1),
+        Part(b"r 1\n", b"read 61\n", 1),
+        Part(b"r 9\n", b"read 62\n", 1),
+        Part(b"r 9", b"read -\n", 1),
+    ];
+    check_refusals(&rt, rt.alloc(), "ring 8", &ring)?;
+    let asm = [
+        Part(b"", b"", 2),
+        Part(b"a 2 3\n", b"ok\n", 1),
+        Part(b"t 0 1\n", b"front 1\n", 1),
+        Part(b"p\n", b"[ (1) 3 ]\n", 1),
+        Part(b"f", b"front 0\n", 1),
+    ];
+    check_refusals(&rt, rt.alloc(), "asm 4", &asm)?;
+    check_refusals(&rt, rt.alloc(), "asm 32", &asm)?;
+    // Beside them the bytes of a read, and the runs that are shown, if there are any. The second
+    // schedule asks for its storage, and the line that compares two schedules asks for nothing.
+    let stream = [
+        Part(b"", b"", 3),
+        Part(b"s 2 6162\n", b"kept 2 queued 0 sack 2-4\n", 2),
+        Part(b"?\n", b"next 0 queued 0 window 8 held 2-4\n", 2),
+        Part(b"s 0 6364\n", b"kept 2 queued 4 sack -\n", 2),
+        Part(b"?\n", b"next 4 queued 4 window 4 held -\n", 1),
+        Part(b"r 9\n", b"read 63646162\n", 2),
+        Part(b"r 9\n", b"read -\n", 1),
+        Part(b"--\n", b"", 1),
+        Part(b"s 0 63646162\n", b"kept 4 queued 4 sack -\n", 2),
+        Part(b"r 4", b"read 63646162\n", 2),
+        Part(b"", b"same\n", 0),
+    ];
+    check_refusals(&rt, rt.alloc(), "stream 8 4", &stream)?;
+    check_refusals(&rt, rt.alloc(), "stream 8 32", &stream)?;
+    let other_end = [
+        Part(b"", b"", 3),
+        Part(b"s 1000 61\n", b"kept 1 queued 1 sack -\n", 2),
+        Part(b"--", b"", 1),
+        Part(b"", b"differs\n", 0),
+    ];
+    check_refusals(&rt, rt.alloc(), "stream 4 4 1000", &other_end)
 }
 
 /// A reader that gives one line a call, and notes before each call how many bytes were written.
@@ -90,7 +194,7 @@ fn writes_each_reply_before_the_next_read(rt: HostRuntime) -> Result<(), Fail> {
 }
 
 /// An input without a fault, its output, and where each of its first two replies ends there.
-const SCRIPTS: [(&str, &[u8], &[u8], [usize; 3]); 2] = [
+const SCRIPTS: [(&str, &[u8], &[u8], [usize; 3]); 3] = [
     (
         "ring 8",
         b"w 6162\nr 1\nr 9",
@@ -102,6 +206,12 @@ const SCRIPTS: [(&str, &[u8], &[u8], [usize; 3]); 2] = [
         b"a 2 3\nt 0 1\np",
         b"ok\nfront 1\n[ (1) 3 ]\n",
         [0, 3, 11],
+    ),
+    (
+        "stream 8 4",
+        b"s 0 61\nr 9\n?",
+        b"kept 1 queued 1 sack -\nread 61\nnext 1 queued 0 window 8 held -\n",
+        [0, 23, 31],
     ),
 ];
 
@@ -329,6 +439,74 @@ fn runs_long_inputs(rt: HostRuntime) -> Result<(), Fail> {
             "line 60001: bad command",
         )?;
     }
+    Ok(())
+}
+
+/// Segments of six bytes each that come in two parts, the later first, and are read in two parts:
+/// the lines of mode `stream`, and the replies.
+fn long_stream(alloc: Global) -> Result<(Vec<u8>, Vec<u8>), AllocError> {
+    let mut input = Vec::new(alloc);
+    let mut output = Vec::new(alloc);
+    for k in 0..TIMES {
+        let start = k.saturating_mul(6);
+        let middle = start.saturating_add(2);
+        let end = start.saturating_add(6);
+        let lines = format!(in alloc; "s {middle} 63646566\ns {start} 6162\nr 4\nr 9\n")?;
+        let replies = format!(in alloc;
+            "kept 4 queued 0 sack {middle}-{end}\nkept 2 queued 6 sack -\nread 61626364\nread 6566\n"
+        )?;
+        input.extend_from_slice(lines.as_bytes())?;
+        output.extend_from_slice(replies.as_bytes())?;
+    }
+    Ok((input, output))
+}
+
+/// Runs lines of mode `stream` by reads of 1,000 bytes and writes of 500, of which some may fail,
+/// and answers how many writes there were. All replies are written unless a write fails.
+fn check_long_stream(
+    rt: &impl Abort,
+    alloc: Global,
+    (lines, output): (&[u8], &[u8]),
+    failing_read: usize,
+    failing_write: usize,
+    end: &str,
+) -> Result<usize, Fail> {
+    let mut source = Source::new(lines);
+    source.bytes_per_call = 1000;
+    source.failing_call = failing_read;
+    let mut sink = Sink::new(alloc)?;
+    sink.bytes_per_call = 500;
+    sink.failing_call = failing_write;
+    let text = ending(alloc, "stream 8 4", &mut source, &mut sink)?;
+    assert_eq!(rt; text.as_str(), end);
+    assert!(rt; output.starts_with(&sink.bytes), "{end}");
+    let is_whole = sink.bytes.len() == output.len();
+    assert!(rt; is_whole == (failing_write == usize::MAX), "{end}");
+    Ok(sink.calls)
+}
+
+#[test]
+fn runs_a_long_stream(rt: HostRuntime) -> Result<(), Fail> {
+    let alloc = rt.alloc();
+    let (mut input, output) = long_stream(alloc)?;
+    let length = input.len();
+    input.extend_from_slice(b"x\n")?;
+    let lines = &input[..length];
+    let never = usize::MAX;
+    let writes = check_long_stream(&rt, alloc, (lines, &output), never, never, "Ok")?;
+    let last_write = writes.saturating_sub(1);
+    check_long_stream(
+        &rt,
+        alloc,
+        (lines, &output),
+        never,
+        last_write,
+        "write failed",
+    )?;
+    let reads = length.div_ceil(1000);
+    check_long_stream(&rt, alloc, (lines, &output), reads, never, "read failed")?;
+    let end = "line 60001: bad command";
+    check_long_stream(&rt, alloc, (&input, &output), never, never, end)?;
     Ok(())
 }
 

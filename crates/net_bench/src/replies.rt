@@ -6,7 +6,7 @@ ghost use Rattle.net_bench.specs.Progress.{Gathers};
 ghost use Rattle.net_bench.specs.declared.error.BenchError.{BenchError};
 
 use crate::error::BenchError;
-use std::alloc::{AllocError, Global};
+use std::alloc::{AllocError, Allocator};
 use std::io::Write;
 use std::marker::Model;
 
@@ -31,13 +31,13 @@ fn write_text<W: Write>(writer: &mut W, text: &[u8]) -> Result<(), BenchError>
 
 /// Replies that are to be written, in a buffer whose size never changes.
 #[derive(Drop)]
-pub struct Replies {
-    pending: Vec<u8>,
+pub struct Replies<A: Allocator + Copy> {
+    pending: Vec<u8, A>,
     ghost within: { length pending.items ≤ 65536 },
     ghost room: { 65536 ≤ vec_capacity pending },
 }
 
-impl Model for Replies {
+impl<A: Allocator + Copy> Model for Replies<A> {
     ghost use Rattle.std.specs.Prelude.{ℕ, List};
 
     ghost Value = { List ℕ };
@@ -45,9 +45,9 @@ impl Model for Replies {
     ghost view = { λ r. r.pending.items };
 }
 
-impl Replies {
+impl<A: Allocator + Copy> Replies<A> {
     /// No reply yet. The buffer's memory is taken here.
-    pub fn new(alloc: Global) -> Result<Replies, AllocError>
+    pub fn new(alloc: A) -> Result<Replies<A>, AllocError>
         ensures { IfOk result (λ replies. replies ≡ []) }
     {
         Ok(Replies {

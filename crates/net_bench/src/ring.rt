@@ -10,25 +10,29 @@ use crate::session::Session;
 use crate::words::Words;
 use crate::{text, words};
 use net_storage::{ManagedSlice, RingBuffer};
-use std::alloc::{AllocError, Global};
+use std::alloc::{AllocError, Allocator};
 use std::marker::Model;
+
+/// The most bytes of a line that says how much was taken in: a number of at most 20 digits, and 6
+/// bytes beside it.
+const TOOK_ROOM: usize = 26;
 
 /// A line of the mode.
 #[derive(Drop)]
-pub enum RingLine {
+pub enum RingLine<A: Allocator + Copy> {
     /// `w HEX`: these bytes come in.
-    Write(Vec<u8>),
+    Write(Vec<u8, A>),
     /// `r NUM`: at most so many bytes go out.
     Read(u64),
 }
 
 /// A ring of bytes that lines fill and empty.
 #[derive(Drop)]
-pub struct RingSession {
-    ring: RingBuffer<'static, u8>,
+pub struct RingSession<'a> {
+    ring: RingBuffer<'a, u8>,
 }
 
-impl Model for RingSession {
+impl<'a> Model for RingSession<'a> {
     ghost use Rattle.net_bench.specs.RingMode.{Queue};
 
     ghost Value = { Queue };
@@ -43,21 +47,25 @@ impl Model for RingSession {
 }
 
 /// What two words say.
-fn ring_words(alloc: Global, verb: &[u8], word: &[u8]) -> Result<Option<RingLine>, AllocError>
+fn ring_words<A: Allocator + Copy>(
+    alloc: A,
+    verb: &[u8],
+    word: &[u8],
+) -> Result<Option<RingLine<A>>, AllocError>
     ensures { IfOk result (λ found.
         option_map ring_command_seen found ≡ ring_command (verb.now ∷ word.now ∷ [])) }
 {
     if verb == b"w".as_slice() {
-        return Ok(text::bytes(alloc, word)?.map(RingLine::Write));
+        return Ok(text::bytes(alloc, word)?.map(|bytes| RingLine::Write(bytes)));
     }
     if verb == b"r".as_slice() {
-        return Ok(text::number(word).map(RingLine::Read));
+        return Ok(text::number(word).map(|number| RingLine::Read(number)));
     }
     Ok(None)
 }
 
 /// What a line says.
-fn ring_line(alloc: Global, line: &[u8]) -> Result<Option<RingLine>, AllocError>
+fn ring_line<A: Allocator + Copy>(alloc: A, line: &[u8]) -> Result<Option<RingLine<A>>, AllocError>
     ensures { IfOk result (λ found.
         option_map ring_command_seen found ≡ ring_command (words_of line.now)) }
 {
@@ -67,15 +75,14 @@ fn ring_line(alloc: Global, line: &[u8]) -> Result<Option<RingLine>, AllocError>
     }
 }
 
-impl RingSession {
-    /// An empty ring over so many bytes of storage, all 0.
-    pub fn new(alloc: Global, capacity: usize) -> Result<RingSession, AllocError>
-        ensures { IfOk result (λ session. session ≡ empty_queue capacity) }
+impl<'a> RingSession<'a> {
+    /// An empty ring over this storage.
+    pub fn new(storage: &'a mut [u8]) -> RingSession<'a>
+        ensures { result ≡ empty_queue (length storage.old) }
     {
-        let storage = vec![in alloc; 0u8; capacity]?;
-        Ok(RingSession {
+        RingSession {
             ring: RingBuffer::new(ManagedSlice::from(storage)),
-        })
+        }
     }
 
     /// Takes in as many bytes as there is room for, and answers how many.
@@ -89,17 +96,21 @@ impl RingSession {
     }
 
     /// Takes in what there is room for, and says how much that was.
-    fn write(&mut self, alloc: Global, bytes: &[u8]) -> Result<String, AllocError>
+    fn write<A: Allocator + Copy>(
+        &mut self,
+        alloc: A,
+        bytes: &[u8],
+    ) -> Result<String<A>, AllocError>
         ensures { IfOk result (λ reply.
             ring_does self.old (Write bytes.now) ≡ (self.new, string_bytes reply)) }
     {
         let count = self.put(bytes);
-        format!(in alloc; "took {count}\n")
+        text::displayed(alloc, TOOK_ROOM, format_args!("took {count}\n"))
     }
 
     /// The reply that shows so many bytes from the front, of the one part or the two in which they
     /// lie in the storage.
-    fn shown(&self, alloc: Global, count: usize) -> Result<String, AllocError>
+    fn shown<A: Allocator + Copy>(&self, alloc: A, count: usize) -> Result<String<A>, AllocError>
         requires { count ≤ length self.now.bytes }
         ensures { IfOk result (λ reply. string_bytes reply
             ≡ codes "read " ++ hex_text (take count self.now.bytes) ++ codes "\n") }
@@ -118,7 +129,7 @@ impl RingSession {
     }
 
     /// Shows as many bytes as are asked for and there, and takes them off.
-    fn read(&mut self, alloc: Global, number: u64) -> Result<String, AllocError>
+    fn read<A: Allocator + Copy>(&mut self, alloc: A, number: u64) -> Result<String<A>, AllocError>
         ensures { IfOk result (λ reply.
             ring_does self.old (Read number) ≡ (self.new, string_bytes reply)) }
     {
@@ -129,16 +140,12 @@ impl RingSession {
     }
 }
 
-impl Session for RingSession {
+impl<A: Allocator + Copy> Session<A> for RingSession<'_> {
     ghost rules = { ring_rules };
 
     ghost closing = { λ _. [] };
 
-    fn run_line(
-        &mut self,
-        alloc: Global,
-        line: &[u8],
-    ) -> Result<Result<String, Fault>, AllocError> {
+    fn run_line(&mut self, alloc: A, line: &[u8]) -> Result<Result<String<A>, Fault>, AllocError> {
         match ring_line(alloc, line)? {
             Some(RingLine::Write(bytes)) => Ok(Ok(self.write(alloc, &bytes)?)),
             Some(RingLine::Read(number)) => Ok(Ok(self.read(alloc, number)?)),

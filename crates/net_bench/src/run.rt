@@ -2,7 +2,9 @@
 ghost use Rattle.std.specs.Prelude.{◌≡◌, IfSome, IfErr, OnOk, None};
 ghost use Rattle.std.specs.Io.KnownBytes.{Appends};
 ghost use Rattle.net_bench.specs.Transcript.{ErrorOfInput};
-ghost use Rattle.net_bench.specs.Modes.{out, fault, transcript_of};
+ghost use Rattle.net_bench.specs.Modes.{Ring, out, fault, transcript_of};
+ghost use Rattle.net_bench.specs.Kinds.{mode_seen};
+ghost use Rattle.net_bench.specs.declared.mode.ModeKind.TheVariants as kinds;
 
 use crate::asm::AsmSession;
 use crate::bench::run_lines;
@@ -11,7 +13,7 @@ use crate::mode::{Mode, ModeKind, RunLimit};
 use crate::ring::RingSession;
 use crate::stream::StreamSession;
 use net_receiver::laws;
-use std::alloc::Global;
+use std::alloc::Allocator;
 use std::io::{Read, Write};
 
 #[cfg(test)]
@@ -19,8 +21,8 @@ mod tests;
 
 /// Runs the lines that the reader gives, and writes the replies. It returns where the reader ends
 /// or fails, or at the first fault. Where reader and writer tell their bytes, as those over memory do:
-pub fn run<R: Read, W: Write>(
-    alloc: Global,
+pub fn run<A: Allocator + Copy, R: Read, W: Write>(
+    alloc: A,
     mode: Mode,
     reader: &mut R,
     writer: &mut W,
@@ -34,27 +36,69 @@ pub fn run<R: Read, W: Write>(
         ErrorOfInput (transcript_of mode) input (R.remaining reader.new)
         (W.contents writer.old) (W.contents writer.new) e)) }
 {
-    laws::schedules();
     match mode.kind() {
-        ModeKind::Ring(capacity) => match RingSession::new(alloc, capacity) {
-            Ok(session) => run_lines(alloc, session, reader, writer),
-            Err(_) => Err(BenchError::OutOfMemory),
-        },
+        ModeKind::Ring(capacity) => run_ring(alloc, capacity, reader, writer),
         ModeKind::Asm(RunLimit::Four) => run_lines(alloc, AsmSession::<4>::new(), reader, writer),
         ModeKind::Asm(RunLimit::ThirtyTwo) => {
             run_lines(alloc, AsmSession::<32>::new(), reader, writer)
         }
-        ModeKind::Stream(first, capacity, RunLimit::Four) => {
-            match StreamSession::<4>::new(alloc, first, capacity) {
-                Ok(session) => run_lines(alloc, session, reader, writer),
-                Err(_) => Err(BenchError::OutOfMemory),
-            }
+        ModeKind::Stream(first, capacity, limit) => {
+            run_stream(alloc, first, capacity, limit, reader, writer)
         }
-        ModeKind::Stream(first, capacity, RunLimit::ThirtyTwo) => {
-            match StreamSession::<32>::new(alloc, first, capacity) {
-                Ok(session) => run_lines(alloc, session, reader, writer),
-                Err(_) => Err(BenchError::OutOfMemory),
-            }
+    }
+}
+
+/// Runs mode `ring` over so many bytes of storage, all 0.
+fn run_ring<A: Allocator + Copy, R: Read, W: Write>(
+    alloc: A,
+    capacity: usize,
+    reader: &mut R,
+    writer: &mut W,
+) -> Result<(), BenchError>
+    ensures ok { OnOk result (IfSome (R.remaining reader.old) (λ input.
+        (fault (Ring capacity) input ≡ None)
+        × Appends (W.contents writer.old) (W.contents writer.new) (out (Ring capacity) input))) }
+    ensures err { IfErr result (λ e. IfSome (R.remaining reader.old) (λ input.
+        ErrorOfInput (transcript_of (Ring capacity)) input (R.remaining reader.new)
+        (W.contents writer.old) (W.contents writer.new) e)) }
+{
+    let Ok(mut storage) = vec![in alloc; 0u8; capacity] else {
+        return Err(BenchError::OutOfMemory);
+    };
+    run_lines(alloc, RingSession::new(&mut storage), reader, writer)
+}
+
+/// Runs mode `stream` over so many bytes of storage, all 0, with at most so many held runs.
+fn run_stream<A: Allocator + Copy, R: Read, W: Write>(
+    alloc: A,
+    first: u64,
+    capacity: usize,
+    limit: RunLimit,
+    reader: &mut R,
+    writer: &mut W,
+) -> Result<(), BenchError>
+    ensures ok { let mode = mode_seen (kinds.Stream first capacity limit) in
+        OnOk result (IfSome (R.remaining reader.old) (λ input. (fault mode input ≡ None)
+        × Appends (W.contents writer.old) (W.contents writer.new) (out mode input))) }
+    ensures err { let mode = mode_seen (kinds.Stream first capacity limit) in
+        IfErr result (λ e. IfSome (R.remaining reader.old) (λ input.
+        ErrorOfInput (transcript_of mode) input (R.remaining reader.new)
+        (W.contents writer.old) (W.contents writer.new) e)) }
+{
+    laws::schedules();
+    let Ok(mut storage) = vec![in alloc; 0u8; capacity] else {
+        return Err(BenchError::OutOfMemory);
+    };
+    // The storage of the second schedule, for which memory is taken when it begins.
+    let mut second = Vec::new(alloc);
+    match limit {
+        RunLimit::Four => {
+            let session = StreamSession::<A, 4>::new(first, &mut storage, &mut second);
+            run_lines(alloc, session, reader, writer)
+        }
+        RunLimit::ThirtyTwo => {
+            let session = StreamSession::<A, 32>::new(first, &mut storage, &mut second);
+            run_lines(alloc, session, reader, writer)
         }
     }
 }

@@ -8,7 +8,7 @@ ghost use Rattle.net_bench.specs.declared.error.BenchError.{BenchError};
 use crate::error::BenchError;
 use crate::mode::Mode;
 use crate::run::run;
-use std::alloc::Global;
+use std::alloc::Allocator;
 use std::io::{Read, Write};
 
 #[cfg(test)]
@@ -22,8 +22,8 @@ const USAGE: &str = "usage: net_bench ring CAP | asm N | stream CAP N [FIRST]\n"
 /// failure changes nothing. The exit status is 0 after a run and a flush that answered Ok, 1 after an
 /// error, and 2 where the words name no mode: then nothing is read, and nothing is written but to
 /// `errors`.
-pub fn serve<R: Read, W: Write, E: Write>(
-    alloc: Global,
+pub fn serve<A: Allocator + Copy, R: Read, W: Write, E: Write>(
+    alloc: A,
     words: &[String],
     reader: &mut R,
     writer: &mut W,

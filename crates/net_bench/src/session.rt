@@ -4,10 +4,10 @@ ghost use Rattle.net_bench.specs.Text.{words_of};
 ghost use Rattle.net_bench.specs.Transcript.{Rules};
 
 use crate::fault::Fault;
-use std::alloc::{AllocError, Global};
+use std::alloc::{AllocError, Allocator};
 
-/// The state of a mode.
-pub trait Session {
+/// The state of a mode, whose replies stand in memory of `A`.
+pub trait Session<A: Allocator + Copy> {
     /// What a line's words do to the state, and the reply, or the line's fault.
     ghost rules: { Rules Self };
 
@@ -16,7 +16,7 @@ pub trait Session {
 
     /// Does what a line of at most 4,096 bytes says, and makes its reply. After a fault, or where
     /// memory was refused, the session is over.
-    fn run_line(&mut self, alloc: Global, line: &[u8]) -> Result<Result<String, Fault>, AllocError>
+    fn run_line(&mut self, alloc: A, line: &[u8]) -> Result<Result<String<A>, Fault>, AllocError>
         ensures { IfOk result (λ outcome. MatchResult outcome
             (λ reply. rules self.old (words_of line.now) ≡ Ok (self.new, string_bytes reply))
             (λ fault. rules self.old (words_of line.now) ≡ Err fault)) };

@@ -1,8 +1,8 @@
 //! Mode `stream`: segments of a stream come in any order, and its bytes go out in order.
-ghost use Rattle.std.specs.Prelude.{◌≡◌, ◌↔◌, [], ◌∷◌, IfOk, IsTrue, MatchResult, Ok, Err, string_bytes, option_map, ◌≤◌};
+ghost use Rattle.std.specs.Prelude.{◌≡◌, ◌↔◌, [], ◌∷◌, IfOk, IsTrue, MatchResult, Ok, Err, string_bytes, option_map, ◌≤◌, length};
 ghost use Rattle.net_receiver.specs.Schedule.{Answer};
-ghost use Rattle.net_receiver.specs.Commands.{action, answer_seen, CommandFits};
-ghost use Rattle.net_receiver.specs.Stored.{fresh_stored, stored_after, stored_reply};
+ghost use Rattle.net_receiver.specs.Commands.{action, answer_seen};
+ghost use Rattle.net_receiver.specs.Stored.{fresh_stored};
 ghost use Rattle.net_bench.specs.Text.{words_of};
 ghost use Rattle.net_bench.specs.StreamMode.{ToReceiver, NextSchedule, stream_command};
 ghost use Rattle.net_bench.specs.StreamMode.{first_schedule, stream_does, stream_rules};
@@ -14,9 +14,9 @@ use crate::fault::Fault;
 use crate::session::Session;
 use crate::words::Words;
 use crate::{text, words};
-use net_receiver::{Command, Receiver, Reply, replay};
+use net_receiver::{Command, Receiver, run_command};
 use net_storage::ManagedSlice;
-use std::alloc::{AllocError, Global};
+use std::alloc::{AllocError, Allocator};
 use std::marker::Model;
 use std::mem;
 
@@ -24,24 +24,27 @@ mod reply_lines;
 
 /// A line of the mode.
 #[derive(Drop)]
-pub enum StreamLine {
+pub enum StreamLine<A: Allocator + Copy> {
     /// `s NUM HEX`, `r NUM` or `?`: a command to the receiver.
-    ToReceiver(Command),
+    ToReceiver(Command<A>),
     /// `--`: the second schedule begins.
     NextSchedule,
 }
 
 /// A receiver that lines send segments to and read from, and the one before it where `--` has come.
+///
+/// The storage of the second schedule is made when it begins, and kept where `second` shows.
 #[derive(Drop)]
-pub struct StreamSession<const N: usize> {
+pub struct StreamSession<'a, A: Allocator + Copy, const N: usize> {
     first: u64,
     capacity: usize,
-    present: Receiver<'static, N>,
-    ended: Option<Receiver<'static, N>>,
+    present: Receiver<'a, N>,
+    ended: Option<Receiver<'a, N>>,
+    second: Option<&'a mut Vec<u8, A>>,
 }
 
-impl<const N: usize> Model for StreamSession<N> {
-    ghost use Rattle.std.specs.Prelude.{◌≤◌};
+impl<'a, A: Allocator + Copy, const N: usize> Model for StreamSession<'a, A, N> {
+    ghost use Rattle.std.specs.Prelude.{◌≡◌, ◌≤◌, None, IsSome};
     ghost use Rattle.net_receiver.specs.Stored.{Stored};
     ghost use Rattle.net_bench.specs.StreamMode.{Schedules};
     ghost use Rattle.net_bench.specs.StreamStored.{schedules_code};
@@ -56,11 +59,11 @@ impl<const N: usize> Model for StreamSession<N> {
       ended = s.ended;
     } };
 
-    ghost invariant = { λ _. 1 ≤ N };
+    ghost invariant = { λ s. (1 ≤ N) × (s.ended ≡ None → IsSome s.second) };
 }
 
 /// What one word says.
-fn plain_line(verb: &[u8]) -> Option<StreamLine>
+fn plain_line<A: Allocator + Copy>(verb: &[u8]) -> Option<StreamLine<A>>
     ensures { option_map stream_command_seen result ≡ stream_command (verb.now ∷ []) }
 {
     if verb == b"?".as_slice() {
@@ -73,7 +76,7 @@ fn plain_line(verb: &[u8]) -> Option<StreamLine>
 }
 
 /// What two words say.
-fn read_line(verb: &[u8], count: &[u8]) -> Option<StreamLine>
+fn read_line<A: Allocator + Copy>(verb: &[u8], count: &[u8]) -> Option<StreamLine<A>>
     ensures { option_map stream_command_seen result ≡ stream_command (verb.now ∷ count.now ∷ []) }
 {
     if verb == b"r".as_slice() {
@@ -84,12 +87,12 @@ fn read_line(verb: &[u8], count: &[u8]) -> Option<StreamLine>
 }
 
 /// What three words say.
-fn segment_line(
-    alloc: Global,
+fn segment_line<A: Allocator + Copy>(
+    alloc: A,
     verb: &[u8],
     position: &[u8],
     bytes: &[u8],
-) -> Result<Option<StreamLine>, AllocError>
+) -> Result<Option<StreamLine<A>>, AllocError>
     ensures { IfOk result (λ found. option_map stream_command_seen found
         ≡ stream_command (verb.now ∷ position.now ∷ bytes.now ∷ [])) }
 {
@@ -106,7 +109,10 @@ fn segment_line(
 }
 
 /// What a line says.
-fn stream_line(alloc: Global, line: &[u8]) -> Result<Option<StreamLine>, AllocError>
+fn stream_line<A: Allocator + Copy>(
+    alloc: A,
+    line: &[u8],
+) -> Result<Option<StreamLine<A>>, AllocError>
     ensures { IfOk result (λ found.
         option_map stream_command_seen found ≡ stream_command (words_of line.now)) }
 {
@@ -119,7 +125,7 @@ fn stream_line(alloc: Global, line: &[u8]) -> Result<Option<StreamLine>, AllocEr
 }
 
 /// Whether a segment's end is at most the greatest number.
-fn fits<const N: usize>(command: &Command) -> bool
+fn fits<A: Allocator + Copy, const N: usize>(command: &Command<A>) -> bool
     ensures { result ≡ end_fits (action command.now) }
 {
     match command {
@@ -128,72 +134,47 @@ fn fits<const N: usize>(command: &Command) -> bool
     }
 }
 
-/// A fresh receiver of a stream that begins at `first`, over so many bytes of storage, all 0.
-fn fresh_receiver<const N: usize>(
-    alloc: Global,
-    first: u64,
-    capacity: usize,
-) -> Result<Receiver<'static, N>, AllocError>
-    requires { 1 ≤ N }
-    ensures { IfOk result (λ receiver. receiver ≡ fresh_stored first capacity) }
-{
-    let storage = vec![in alloc; 0u8; capacity]?;
-    Ok(Receiver::new_at(ManagedSlice::from(storage), first))
-}
-
-/// Runs one command.
-fn run_command<const N: usize>(
-    alloc: Global,
-    receiver: &mut Receiver<'static, N>,
-    command: Command,
-) -> Result<Reply, AllocError>
-    requires { CommandFits command }
-    ensures state { IfOk result (λ _. receiver.new ≡ stored_after N receiver.old (action command)) }
-    ensures answer { IfOk result (λ reply.
-        answer_seen reply ≡ stored_reply N receiver.old (action command)) }
-{
-    let mut replies = Vec::new(alloc);
-    let commands = [command];
-    replay(alloc, receiver, &commands, &mut replies)?;
-    Ok(replies.swap_remove(0))
-}
-
-impl<const N: usize> StreamSession<N> {
-    /// A fresh receiver of a stream that begins at `first`, over so many bytes of storage, all 0.
-    pub fn new(alloc: Global, first: u64, capacity: usize) -> Result<StreamSession<N>, AllocError>
+impl<'a, A: Allocator + Copy, const N: usize> StreamSession<'a, A, N> {
+    /// A fresh receiver of a stream that begins at `first`, over this storage. `second` is where
+    /// the storage of the second schedule is kept.
+    pub fn new(
+        first: u64,
+        storage: &'a mut [u8],
+        second: &'a mut Vec<u8, A>,
+    ) -> StreamSession<'a, A, N>
         requires { 1 ≤ N }
-        ensures { IfOk result (λ session. session ≡ first_schedule of_stored
-            (record { first = first; capacity = capacity; most_runs = N })) }
+        ensures { result ≡ first_schedule of_stored
+            (record { first = first; capacity = length storage.old; most_runs = N }) }
     {
-        let present = fresh_receiver(alloc, first, capacity)?;
-        Ok(StreamSession {
+        StreamSession {
             first,
-            capacity,
-            present,
+            capacity: storage.len(),
+            present: Receiver::new_at(ManagedSlice::from(storage), first),
             ended: None,
-        })
+            second: Some(second),
+        }
     }
 
     /// Runs a command, and shows its reply.
     fn command(
         &mut self,
-        alloc: Global,
-        command: Command,
-    ) -> Result<Result<String, Fault>, AllocError>
+        alloc: A,
+        command: Command<A>,
+    ) -> Result<Result<String<A>, Fault>, AllocError>
         ensures { let done = stream_does of_stored self.old (ToReceiver (action command)) in
             IfOk result (λ outcome. MatchResult outcome
             (λ reply. done ≡ Ok (self.new, string_bytes reply))
             (λ fault. done ≡ Err fault)) }
     {
-        if !fits::<N>(&command) {
+        if !fits::<A, N>(&command) {
             return Ok(Err(Fault::RangeTooLong));
         }
-        let reply = run_command(alloc, &mut self.present, command)?;
+        let reply = run_command(alloc, &mut self.present, &command)?;
         Ok(Ok(reply_lines::reply_text(alloc, &reply)?))
     }
 
     /// Begins the second schedule.
-    fn next_schedule(&mut self, alloc: Global) -> Result<Result<String, Fault>, AllocError>
+    fn next_schedule(&mut self, alloc: A) -> Result<Result<String<A>, Fault>, AllocError>
         ensures { let done = stream_does of_stored self.old NextSchedule in
             IfOk result (λ outcome. MatchResult outcome
             (λ reply. done ≡ Ok (self.new, string_bytes reply))
@@ -202,22 +183,21 @@ impl<const N: usize> StreamSession<N> {
         if self.ended.is_some() {
             return Ok(Err(Fault::TooManySchedules));
         }
-        let fresh = fresh_receiver(alloc, self.first, self.capacity)?;
+        let storage = vec![in alloc; 0u8; self.capacity]?;
+        let second = self.second.take().unwrap();
+        *second = storage;
+        let fresh = Receiver::new_at(ManagedSlice::from(second.as_mut_slice()), self.first);
         self.ended = Some(mem::replace(&mut self.present, fresh));
         Ok(Ok(String::new(alloc)))
     }
 }
 
-impl<const N: usize> Session for StreamSession<N> {
+impl<A: Allocator + Copy, const N: usize> Session<A> for StreamSession<'_, A, N> {
     ghost rules = { stream_rules of_stored };
 
     ghost closing = { stream_closing of_stored };
 
-    fn run_line(
-        &mut self,
-        alloc: Global,
-        line: &[u8],
-    ) -> Result<Result<String, Fault>, AllocError> {
+    fn run_line(&mut self, alloc: A, line: &[u8]) -> Result<Result<String<A>, Fault>, AllocError> {
         match stream_line(alloc, line)? {
             Some(StreamLine::ToReceiver(command)) => self.command(alloc, command),
             Some(StreamLine::NextSchedule) => self.next_schedule(alloc),

@@ -1,10 +1,11 @@
-//! Numbers and bytes as text.
-ghost use Rattle.std.specs.Prelude.{◌≡◌, ◌+◌, ◌*◌, ◌++◌, length, codes, IfOk, option_map, string_bytes};
+//! Numbers, bytes and replies as text.
+ghost use Rattle.std.specs.Prelude.{◌≡◌, ◌+◌, ◌*◌, ◌++◌, length, codes, IfOk, IfSome, option_map, string_bytes};
 ghost use Rattle.hex.specs.Hex.{encode_lower};
 ghost use Rattle.net_bench.specs.Text.{begins_numeral, number_of, bytes_of, hex_text};
 
 use hex::FromHexError;
-use std::alloc::{AllocError, Global};
+use std::alloc::{AllocError, Allocator};
+use std::fmt::Display;
 
 /// Whether a word begins as a numeral does: it has a digit, and no leading 0 unless it is `0`.
 fn begins_numeral(word: &[u8]) -> bool
@@ -32,7 +33,7 @@ pub fn number(word: &[u8]) -> Option<u64>
 
 /// The bytes that a word writes: `-` for none, or one or more pairs of hexadecimal digits in either
 /// case.
-pub fn bytes(alloc: Global, word: &[u8]) -> Result<Option<Vec<u8>>, AllocError>
+pub fn bytes<A: Allocator + Copy>(alloc: A, word: &[u8]) -> Result<Option<Vec<u8, A>>, AllocError>
     ensures { IfOk result (λ found. option_map (λ bytes. bytes.items) found ≡ bytes_of word.now) }
 {
     if word == b"-".as_slice() {
@@ -45,6 +46,22 @@ pub fn bytes(alloc: Global, word: &[u8]) -> Result<Option<Vec<u8>>, AllocError>
         Ok(bytes) => Ok(Some(bytes)),
         Err(FromHexError::OutOfMemory) => Err(AllocError),
         Err(_) => Ok(None),
+    }
+}
+
+/// The text that a value displays, in memory for `room` bytes: one request, if that is enough.
+pub fn displayed<A: Allocator + Copy, D: Display + Drop>(
+    alloc: A,
+    room: usize,
+    value: D,
+) -> Result<String<A>, AllocError>
+    ensures { IfOk result (λ text.
+        IfSome (D.output value) (λ bytes. string_bytes text ≡ bytes)) }
+{
+    let mut text = String::with_capacity(alloc, room)?;
+    match write!(text, "{value}") {
+        Ok(()) => Ok(text),
+        Err(_) => Err(AllocError),
     }
 }
 
@@ -72,7 +89,11 @@ fn put_read_reply(first: &[u8], second: &[u8], reply: &mut [u8])
 }
 
 /// The bytes of the reply that shows two parts, of which one has a byte.
-fn read_reply_bytes(alloc: Global, first: &[u8], second: &[u8]) -> Result<Vec<u8>, AllocError>
+fn read_reply_bytes<A: Allocator + Copy>(
+    alloc: A,
+    first: &[u8],
+    second: &[u8],
+) -> Result<Vec<u8, A>, AllocError>
     ensures { IfOk result (λ reply. reply.items
         ≡ codes "read " ++ (encode_lower first.now ++ encode_lower second.now) ++ codes "\n") }
 {
@@ -89,7 +110,11 @@ fn read_reply_bytes(alloc: Global, first: &[u8], second: &[u8]) -> Result<Vec<u8
 
 /// The reply that shows the bytes of two parts, the second behind the first. One request for memory
 /// is made, and each byte is looked at once.
-pub fn read_reply(alloc: Global, first: &[u8], second: &[u8]) -> Result<String, AllocError>
+pub fn read_reply<A: Allocator + Copy>(
+    alloc: A,
+    first: &[u8],
+    second: &[u8],
+) -> Result<String<A>, AllocError>
     ensures { IfOk result (λ text. string_bytes text
         ≡ codes "read " ++ hex_text (first.now ++ second.now) ++ codes "\n") }
 {

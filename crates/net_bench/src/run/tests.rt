@@ -1,7 +1,7 @@
 //! Runs over memory, with readers and writers that give and take little, and that fail.
 use super::*;
 use crate::streams::{Sink, Source, command_words};
-use std::alloc::AllocError;
+use std::alloc::{AllocError, Global};
 use std::process::Abort;
 use std::test::Fail;
 
@@ -442,65 +442,27 @@ fn writes_fail_in_turn(rt: HostRuntime) -> Result<(), Fail> {
 }
 
 #[test]
-fn writes_a_beginning_of_a_reply(rt: HostRuntime) -> Result<(), Fail> {
-    let mut source = Source::new(b"w 6162\n");
-    let mut sink = Sink::new(rt.alloc())?;
-    sink.bytes_per_call = 5;
-    sink.failing_call = 1;
-    let outcome = run(
-        rt.alloc(),
-        mode(rt.alloc(), "ring 8")?,
-        &mut source,
-        &mut sink,
-    );
-    let text = ended(rt.alloc(), outcome)?;
-    assert_eq!(rt; text.as_str(), "write failed");
-    assert_eq!(rt; sink.bytes.as_slice(), b"took ".as_slice());
-    assert_eq!(rt; sink.calls, 2);
-    Ok(())
-}
-
-/// Where a request for memory is refused, whole replies of a beginning of the lines were written. No request is
-/// refused in this test unless it is run so.
-#[test]
-fn leaves_whole_replies_where_memory_is_refused(rt: HostRuntime) -> Result<(), Fail> {
-    let mode = mode(rt.alloc(), "ring 4")?;
-    let mut source = Source::new(b"w 6162\nr 1\nr 9\n");
-    let mut sink = Sink::new(rt.alloc())?;
-    let outcome = run(rt.alloc(), mode, &mut source, &mut sink);
-    match outcome {
-        Ok(()) => assert_eq!(rt;
-            sink.bytes.as_slice(),
-            b"took 2\nread 61\nread 62\n".as_slice()
-        ),
-        Err(BenchError::OutOfMemory) => {
-            let written = sink.bytes.as_slice();
-            let whole = written.is_empty()
-                || written == b"took 2\n".as_slice()
-                || written == b"took 2\nread 61\n".as_slice();
-            assert!(rt; whole);
-        }
-        Err(_) => return Err(Fail::from(AllocError)),
-    }
-    Ok(())
-}
-
-/// The same with two schedules: memory for the second is wanted at `--`. The line that compares them wants
-/// none.
-#[test]
-fn leaves_whole_replies_of_a_stream_where_memory_is_refused(rt: HostRuntime) -> Result<(), Fail> {
-    let mode = mode(rt.alloc(), "stream 4 4")?;
-    let mut source = Source::new(b"s 1 62\n--\n?\n");
-    let mut sink = Sink::new(rt.alloc())?;
-    let outcome = run(rt.alloc(), mode, &mut source, &mut sink);
-    let all = b"kept 1 queued 0 sack 1-2\nnext 0 queued 0 window 4 held -\ndiffers\n".as_slice();
-    match outcome {
-        Ok(()) => assert_eq!(rt; sink.bytes.as_slice(), all),
-        Err(BenchError::OutOfMemory) => {
-            let whole = sink.bytes.is_empty() || sink.bytes.as_slice() == &all[..25];
-            assert!(rt; whole);
-        }
-        Err(_) => return Err(Fail::from(AllocError)),
+fn writes_what_a_writer_takes(rt: HostRuntime) -> Result<(), Fail> {
+    let rows: [(usize, usize, &[u8], &str, usize); 3] = [
+        (5, 1, b"took ", "write failed", 2),
+        (1, usize::MAX, b"took 2\n", "Ok", 7),
+        (0, usize::MAX, b"", "write failed", 1),
+    ];
+    for (most, fails, output, end, calls) in rows {
+        let mut source = Source::new(b"w 6162\n");
+        let mut sink = Sink::new(rt.alloc())?;
+        sink.bytes_per_call = most;
+        sink.failing_call = fails;
+        let outcome = run(
+            rt.alloc(),
+            mode(rt.alloc(), "ring 8")?,
+            &mut source,
+            &mut sink,
+        );
+        let text = ended(rt.alloc(), outcome)?;
+        assert_eq!(rt; text.as_str(), end, "{most} bytes a call");
+        assert_eq!(rt; sink.bytes.as_slice(), output, "{most} bytes a call");
+        assert_eq!(rt; sink.calls, calls, "{most} bytes a call");
     }
     Ok(())
 }

@@ -1,6 +1,7 @@
 //! The program's statuses, and what it says on standard error.
 use super::*;
 use crate::streams::{Sink, Source, command_words};
+use net_testing::Refusing;
 use std::test::Fail;
 
 const USAGE_LINE: &[u8] = b"usage: net_bench ring CAP | asm N | stream CAP N [FIRST]\n";
@@ -159,6 +160,28 @@ fn keeps_its_status_where_standard_error_fails(rt: HostRuntime) -> Result<(), Fa
         );
         assert_eq!(rt; answer, status, "{line}");
         assert!(rt; errors.bytes.is_empty(), "{line}");
+    }
+    Ok(())
+}
+
+#[test]
+fn says_that_memory_was_refused(rt: HostRuntime) -> Result<(), Fail> {
+    let words = command_words(rt.alloc(), "ring 8")?;
+    // The storage, two buffers, the bytes of the first line, and its reply.
+    for (refused, status, output, told) in [
+        (0, 1, b"".as_slice(), b"out of memory\n".as_slice()),
+        (4, 1, b"", b"out of memory\n"),
+        (5, 0, b"took 1\n", b""),
+    ] {
+        let heap = Refusing::new(rt.alloc(), refused);
+        let mut source = Source::new(b"w 61\n");
+        let mut sink = Sink::new(rt.alloc())?;
+        let mut errors = Sink::new(rt.alloc())?;
+        let answer = serve(&heap, &words, &mut source, &mut sink, &mut errors);
+        assert_eq!(rt; answer, status, "request {refused}");
+        assert_eq!(rt; sink.bytes.as_slice(), output, "request {refused}");
+        assert_eq!(rt; errors.bytes.as_slice(), told, "request {refused}");
+        assert_eq!(rt; sink.flushes, 1, "request {refused}");
     }
     Ok(())
 }

@@ -7,7 +7,7 @@ ghost use Rattle.net_bench.specs.StreamMode.{reply_text as text_of_reply};
 
 use crate::text;
 use net_receiver::{Kept, Reply};
-use std::alloc::{AllocError, Global};
+use std::alloc::{AllocError, Allocator};
 use std::fmt;
 
 /// A run of positions: the first, and the first behind it.
@@ -60,25 +60,29 @@ impl fmt::Display for Runs<'_> {
 /// bytes beside them.
 const ACCEPTED_ROOM: usize = 185;
 
+/// The most bytes of a line that shows a receiver with 32 held runs: 41 bytes for each, and a comma
+/// behind it, three numbers of at most 20 digits, and 28 bytes beside them.
+const SHOWN_ROOM: usize = 88 + 42 * 32;
+
 /// What was kept of a segment and the first held runs, as a line.
-fn accepted_text(
-    alloc: Global,
+fn accepted_text<A: Allocator + Copy>(
+    alloc: A,
     kept: usize,
     queued: usize,
     sack: &[(u64, u64)],
-) -> Result<String, AllocError>
+) -> Result<String<A>, AllocError>
     ensures { IfOk result (λ text. string_bytes text ≡ accepted_line kept queued sack.now) }
 {
     let sack = Runs(sack);
-    let mut text = String::with_capacity(alloc, ACCEPTED_ROOM)?;
-    match write!(text, "kept {kept} queued {queued} sack {sack}\n") {
-        Ok(()) => Ok(text),
-        Err(_) => Err(AllocError),
-    }
+    text::displayed(
+        alloc,
+        ACCEPTED_ROOM,
+        format_args!("kept {kept} queued {queued} sack {sack}\n"),
+    )
 }
 
 /// What was kept of a segment, as a line.
-fn kept_text(alloc: Global, kept: &Kept) -> Result<String, AllocError>
+fn kept_text<A: Allocator + Copy>(alloc: A, kept: &Kept) -> Result<String<A>, AllocError>
     ensures { IfOk result (λ text. string_bytes text ≡ text_of_reply (Segmented (Ok kept.now))) }
 {
     let [first, second, third] = kept.sack;
@@ -95,29 +99,33 @@ fn kept_text(alloc: Global, kept: &Kept) -> Result<String, AllocError>
 }
 
 /// The bytes that were read, as a line.
-fn read_text(alloc: Global, bytes: &[u8]) -> Result<String, AllocError>
+fn read_text<A: Allocator + Copy>(alloc: A, bytes: &[u8]) -> Result<String<A>, AllocError>
     ensures { IfOk result (λ text. string_bytes text ≡ text_of_reply (Gave bytes.now)) }
 {
     text::read_reply(alloc, bytes, &[])
 }
 
 /// A receiver's numbers and held runs, as a line.
-fn shown_text(
-    alloc: Global,
+fn shown_text<A: Allocator + Copy>(
+    alloc: A,
     next: u64,
     queued: usize,
     window: usize,
     held: &[(u64, u64)],
-) -> Result<String, AllocError>
+) -> Result<String<A>, AllocError>
     ensures { IfOk result (λ text.
         string_bytes text ≡ text_of_reply (Shown next queued window held.now)) }
 {
     let held = Runs(held);
-    format!(in alloc; "next {next} queued {queued} window {window} held {held}\n")
+    text::displayed(
+        alloc,
+        SHOWN_ROOM,
+        format_args!("next {next} queued {queued} window {window} held {held}\n"),
+    )
 }
 
 /// A reply as a line.
-pub fn reply_text(alloc: Global, reply: &Reply) -> Result<String, AllocError>
+pub fn reply_text<A: Allocator + Copy>(alloc: A, reply: &Reply<A>) -> Result<String<A>, AllocError>
     ensures { IfOk result (λ text. string_bytes text ≡ text_of_reply (answer_seen reply.now)) }
 {
     match reply {

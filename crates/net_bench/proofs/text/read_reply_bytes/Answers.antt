@@ -3,6 +3,6 @@ use Rattle.std.proofs.lemmas.List.{take_at}
 use Rattle.net_bench.proofs.text.read_reply_bytes.Goals as goal
 
 pub returns : goal.returns
-returns c =
+returns g c =
     let len : length c.put_read_reply.new.reply ≡ c.in_ok-reply.reply.len = omega arith in
     rw (take_at c.put_read_reply.new.reply (drop (length c.put_read_reply.new.reply) c.in_ok-reply.reply.items) c.in_ok-reply.reply.len len) c.put_read_reply.ensures
