@@ -29,7 +29,7 @@ returns-then-second-used-clause-joined c =
       | then-second-used-via-then-second-used w ↦ absurd (omega arith)
       | then-second-used-via-else-second-used+then-end-pairs w ↦ all_behind xs c.args.used (c.args.first + 1) c.args.end c.requires.runs (omega arith) c.requires.used (omega arith) k a b
     ] in
-    (grown_run xs c.args.used c.args.first c.args.start c.args.end c.min-low.result c.max.result c.requires.runs c.requires.first c.requires.used c.requires.before c.requires.meets (omega arith) behind c.min-low.ensures c.max.ensures, c.requires.used)
+    (grown_run xs c.args.used c.args.first c.args.start c.args.end c.min-low.result c.max.result c.requires.runs c.requires.first c.requires.used c.requires.before c.requires.from (omega arith) behind c.min-low.ensures c.max.ensures, c.requires.used)
 
 pub returns-clause-joined : goal.returns-clause-joined
 returns-clause-joined c =
@@ -42,6 +42,6 @@ returns-clause-joined c =
     λ k a b. either (cases_lt k (c.args.first + 2)) (λ l. let p = starts_rise 0 cs k (c.args.first + 1) c.requires.runs (omega arith) (omega arith) in omega arith) (λ l. search.before k (omega arith) b) in (
       c.remove_pairs.ensures.pairs
           ∙ replaced_run xs c.args.used c.args.first c.runs_starting_by-next.result c.args.start c.args.end c.min-low.result c.max-high.result c.requires.runs (omega arith) (omega (arith, search.within)) c.requires.used
-          c.requires.before c.requires.meets upto (λ k a b. search.behind k a (omega arith)) c.min-low.ensures c.max-high.ensures,
+          c.requires.before c.requires.from upto (λ k a b. search.behind k a (omega arith)) c.min-low.ensures c.max-high.ensures,
       omega (arith, c.requires.used),
     )
