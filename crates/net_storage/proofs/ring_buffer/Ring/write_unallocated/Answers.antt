@@ -1,5 +1,5 @@
 use Rattle.std.proofs.Common.{rules, ◌≡◌, ◌∙◌, ap, ◌-◌, take, drop, arith}
-use Rattle.net_storage.specs.Ring.{storage_index, window, spare_index}
+use Rattle.net_storage.specs.Ring.{storage_index, spare_index}
 use Rattle.net_storage.specs.Overwrite.{overwrite}
 use Rattle.net_storage.proofs.RingFacts.{wrapping_clause, once_clause, ahead_clause, twice_wf}
 use Rattle.net_storage.proofs.ring_buffer.Ring.write_unallocated.Goals as goal
