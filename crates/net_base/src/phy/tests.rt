@@ -4,7 +4,6 @@ ghost use Rattle.std.specs.Prelude.{◌≡◌, [], ◌∷◌, ◌++◌, OnOk, On
 
 use crate::phy::{Device, Loopback, RxToken};
 use crate::time::Instant;
-use linked_list_allocator::LocalHeap;
 use std::alloc::{AllocError, Allocator};
 
 /// Sends the bytes as one frame.
@@ -28,11 +27,6 @@ pub fn next_is<A: Allocator + Copy>(device: &mut Loopback<A>, bytes: &[u8]) -> b
         Some((frame, _token)) => frame.frame() == bytes,
         None => false,
     }
-}
-
-/// Takes all memory of the heap but one hole of `room` bytes.
-pub fn fill_but(heap: &LocalHeap, room: usize) -> Result<Vec<u8, &LocalHeap>, AllocError> {
-    Vec::with_capacity(heap, heap.free().saturating_sub(room))
 }
 
 /// Writes a frame's length into its first bytes.

@@ -2,9 +2,9 @@ ghost use Rattle.std.specs.Prelude.{◌≡◌, ◌∷◌, ◌++◌, [], List, �
 ghost use Rattle.net_base.specs.DeviceCapabilities.{default_capabilities};
 
 use super::*;
-use crate::phy::tests::{fill_but, next_has_length, next_is, send_bytes, write_length};
+use crate::phy::tests::{next_has_length, next_is, send_bytes, write_length};
 use crate::phy::{DeviceCapabilities, Loopback, Medium, loopback};
-use linked_list_allocator::LocalHeap;
+use net_testing::Refusing;
 use std::alloc::Global;
 use std::marker::Model;
 
@@ -133,35 +133,48 @@ fn asks_at_the_moment_that_it_was_given(rt: HostRuntime) -> Result<(), AllocErro
     Ok(())
 }
 
-/// Echoes a frame of 200 bytes on a loopback device that has one of 2 bytes behind it, in a heap
-/// with one hole of `room` bytes. Answers whether it was echoed, and how many frames are left.
-fn rotate_with_room(alloc: Global, room: usize) -> Result<(bool, usize), AllocError> {
-    let heap = LocalHeap::new(alloc, 4096)?;
-    let mut device = Loopback::new(&heap, Medium::Ip);
-    send_bytes(&mut device, &[7; 200])?;
-    send_bytes(&mut device, b"ab")?;
-    let _taken = fill_but(&heap, room)?;
-    let echoed = echo_once(&mut device, Instant::ZERO).is_ok();
-    let mut left = 0usize;
-    if next_is(&mut device, b"ab") {
-        left = left.saturating_add(1);
-    }
-    if next_is(&mut device, &[7; 200]) {
-        left = left.saturating_add(1);
-    }
-    Ok((echoed, left))
+/// What came of an echo, of whose requests for memory one was refused.
+#[derive(Drop)]
+struct Outcome {
+    echoed: bool,
+    requests: usize,
+    other_is_next: bool,
+    echo_is_next: bool,
+    is_over: bool,
 }
 
-/// There is one request for memory, for a block of 208 bytes: the queue has room, since a frame was
-/// taken off it.
+/// Echoes a frame of 200 bytes on a loopback device that has one of 2 bytes behind it, and refuses
+/// the request for memory of that number. Then takes the frames off the device.
+fn rotate_refused(alloc: Global, refused: usize) -> Result<Outcome, AllocError> {
+    let memory = Refusing::new(alloc, refused);
+    let mut device = Loopback::new(&memory, Medium::Ip);
+    send_bytes(&mut device, &[7; 200])?;
+    send_bytes(&mut device, b"ab")?;
+    let echoed = echo_once(&mut device, Instant::ZERO).is_ok();
+    Ok(Outcome {
+        echoed,
+        requests: memory.requests(),
+        other_is_next: next_is(&mut device, b"ab"),
+        echo_is_next: next_is(&mut device, &[7; 200]),
+        is_over: device.receive(Instant::ZERO).is_none(),
+    })
+}
+
+/// Three requests are made before the echo: for the queue, and for the bytes of both frames. The
+/// echo makes one, for the bytes: the queue has room, since a frame was taken off it. Where that is
+/// refused, the frame was taken and nothing was sent.
 #[test]
 fn its_request_for_memory_is_refused(rt: HostRuntime) -> Result<(), AllocError> {
-    for room in (0..208).step_by(16) {
+    for refused in 3..5usize {
+        let outcome = rotate_refused(rt.alloc(), refused)?;
+        assert!(rt; outcome.echoed == (refused == 4), "at request {refused}");
+        assert_eq!(rt; outcome.requests, 4, "at request {refused}");
+        assert!(rt; outcome.other_is_next, "at request {refused}");
         assert!(rt;
-            rotate_with_room(rt.alloc(), room)? == (false, 1),
-            "with {room} bytes"
+            outcome.echo_is_next == outcome.echoed,
+            "at request {refused}"
         );
+        assert!(rt; outcome.is_over, "at request {refused}");
     }
-    assert!(rt; rotate_with_room(rt.alloc(), 208)? == (true, 2));
     Ok(())
 }

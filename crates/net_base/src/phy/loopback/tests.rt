@@ -1,9 +1,9 @@
 ghost use Rattle.std.specs.Prelude.{◌≡◌, List, ℕ, [], ◌∷◌, ◌++◌, codes, OnOk, IsTrue};
 
 use super::*;
-use crate::phy::tests::{fill_but, next_is, send_bytes};
+use crate::phy::tests::{next_is, send_bytes};
 use crate::phy::{PacketMeta, RxToken as _, TxToken as _};
-use linked_list_allocator::LocalHeap;
+use net_testing::Refusing;
 
 /// Loses the next frame by letting its token go, and lets a transmit token go.
 fn let_go(device: &mut Loopback) -> bool
@@ -77,72 +77,64 @@ fn its_tokens_have_no_metadata(rt: HostRuntime) -> Result<(), AllocError> {
     Ok(())
 }
 
-/// What came of a frame that was sent with little memory.
+/// What came of five frames that were sent in turn, of whose requests for memory one was refused.
 #[derive(Drop)]
 struct Outcome {
-    sent: bool,
-    ran: bool,
-    granted: usize,
-    kept: usize,
-    arrived: bool,
+    sent: u8,
+    ran: u8,
+    requests: usize,
+    arrived: u8,
+    is_over: bool,
 }
 
-/// Sends a frame of 200 bytes on a device whose queue is full with four frames, in a heap with one
-/// hole of `room` bytes. Two requests for memory are made, and the outcome counts those that were
-/// granted: for room in the queue, and for the bytes.
-fn send_with_room(alloc: Global, room: usize) -> Result<Outcome, AllocError> {
-    let heap = LocalHeap::new(alloc, 4096)?;
-    let mut device = Loopback::new(&heap, Medium::Ip);
-    for _ in 0..4 {
-        send_bytes(&mut device, b"ab")?;
+/// Sends frames of 200 bytes, five of them or until one is refused, and refuses the request for
+/// memory of that number. Then takes as many frames off the device as were sent.
+fn send_refused(alloc: Global, refused: usize) -> Outcome {
+    let memory = Refusing::new(alloc, refused);
+    let mut device = Loopback::new(&memory, Medium::Ip);
+    let mut sent = 0u8;
+    let mut ran = 0u8;
+    for number in 0..5u8 {
+        let token = device.transmit(Instant::ZERO).unwrap();
+        let answer = device.send(token, 200, |buffer| {
+            ran = ran.saturating_add(1);
+            buffer.fill(number);
+        });
+        if answer.is_err() {
+            break;
+        }
+        sent = sent.saturating_add(1);
     }
-    let _taken = fill_but(&heap, room)?;
-    let before = device.queue.capacity();
-    let mut ran = false;
-    let token = device.transmit(Instant::ZERO).unwrap();
-    let sent = device
-        .send(token, 200, |buffer| {
-            ran = true;
-            buffer.fill(7);
-        })
-        .is_ok();
-    let grew = device.queue.capacity() > before;
-    let mut kept = 0usize;
-    for _ in 0..4 {
-        if next_is(&mut device, b"ab") {
-            kept = kept.saturating_add(1);
+    let mut arrived = 0u8;
+    for number in 0..sent {
+        if next_is(&mut device, &[number; 200]) {
+            arrived = arrived.saturating_add(1);
         }
     }
-    let arrived = next_is(&mut device, &[7; 200]);
-    Ok(Outcome {
+    Outcome {
         sent,
         ran,
-        granted: if sent {
-            2
-        } else if grew {
-            1
-        } else {
-            0
-        },
-        kept,
+        requests: memory.requests(),
         arrived,
-    })
+        is_over: device.receive(Instant::ZERO).is_none(),
+    }
 }
 
+/// A frame asks for room in the queue, where that is full, and then for its bytes. The queue has no
+/// room at first and then for four frames, so there are seven requests: of frames 0, 0, 1, 2, 3, 4
+/// and 4. The frames before the one that is refused arrive, and no others.
 #[test]
-fn both_requests_for_memory_are_refused_in_turn(rt: HostRuntime) -> Result<(), AllocError> {
-    let mut granted = 0usize;
-    for room in (0..1_024).step_by(16) {
-        let outcome = send_with_room(rt.alloc(), room)?;
-        assert_eq!(rt; outcome.kept, 4, "with {room} bytes");
-        assert!(rt; outcome.ran == outcome.sent, "with {room} bytes");
-        assert!(rt; outcome.arrived == outcome.sent, "with {room} bytes");
-        let is_next = outcome.granted == granted.saturating_add(1) && room > 0;
-        assert!(rt; outcome.granted == granted || is_next, "with {room} bytes");
-        granted = outcome.granted;
+fn each_request_for_memory_is_refused_in_turn(rt: HostRuntime) {
+    let sent = [0, 0, 1, 2, 3, 4, 4, 5];
+    for refused in 0..8usize {
+        let outcome = send_refused(rt.alloc(), refused);
+        let requests = if refused < 7 { refused + 1 } else { 7 };
+        assert_eq!(rt; outcome.sent, sent[refused], "at request {refused}");
+        assert_eq!(rt; outcome.ran, outcome.sent, "at request {refused}");
+        assert_eq!(rt; outcome.requests, requests, "at request {refused}");
+        assert_eq!(rt; outcome.arrived, outcome.sent, "at request {refused}");
+        assert!(rt; outcome.is_over, "at request {refused}");
     }
-    assert_eq!(rt; granted, 2);
-    Ok(())
 }
 
 #[test]
