@@ -1,4 +1,4 @@
-//! What tests of other crates share: memory that is refused at a known request.
+//! What tests of other crates share: memory that is refused at one known request.
 #![tactic(auto)]
 
 mod refusing;

@@ -1,7 +1,7 @@
 use crate::requests::Requests;
 use std::alloc::{AllocError, Allocator, Global};
 
-/// An allocator that counts the requests for memory and refuses one of them, or all from one on.
+/// An allocator that counts the requests for memory and refuses exactly one of them.
 ///
 /// Each growth of a list is a request too, and a list whose growth is refused stays as it was. A
 /// `&Refusing` is an allocator that is copied.
@@ -15,19 +15,11 @@ impl<A: Allocator> Refusing<A> {
     pub fn new(alloc: A, refused: usize) -> Refusing<A> {
         Refusing {
             inner: alloc,
-            requests: Requests::new(refused, refused),
+            requests: Requests::new(refused),
         }
     }
 
-    /// Memory of `alloc`, but for the requests of number `first` and more, counted from 0.
-    pub fn all_from(alloc: A, first: usize) -> Refusing<A> {
-        Refusing {
-            inner: alloc,
-            requests: Requests::new(first, usize::MAX),
-        }
-    }
-
-    /// How many requests there were, with those that were refused.
+    /// How many requests there were, with the one that was refused.
     pub fn requests(&self) -> usize {
         self.requests.count()
     }

@@ -1,20 +1,18 @@
 use std::cell::Cell;
 
-/// The requests for memory so far, and the numbers of the first and the last to refuse.
+/// The requests for memory so far, and the number of the one to refuse.
 #[derive(Drop)]
 pub struct Requests {
     made: Cell<usize>,
-    first: usize,
-    last: usize,
+    refused: usize,
 }
 
 impl Requests {
     /// None so far.
-    pub fn new(first: usize, last: usize) -> Requests {
+    pub fn new(refused: usize) -> Requests {
         Requests {
             made: Cell::new(0),
-            first,
-            last,
+            refused,
         }
     }
 
@@ -23,10 +21,10 @@ impl Requests {
         self.made.get()
     }
 
-    /// Counts one more, and answers whether it is to be refused.
+    /// Counts one more, and answers whether it is the one to refuse.
     pub fn refuses_next(&self) -> bool {
         let number = self.made.get();
         self.made.set(number.wrapping_add(1));
-        self.first <= number && number <= self.last
+        number == self.refused
     }
 }

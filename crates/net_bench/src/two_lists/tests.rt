@@ -2,8 +2,8 @@
 ghost use Rattle.std.specs.Prelude.{◌≡◌, ◌∷◌, ◌++◌, [], List, ℕ, Ok, true, false};
 
 use super::*;
-use linked_list_allocator::LocalHeap;
 use net_base::phy::echo_once;
+use net_testing::Refusing;
 
 fn is_back<A: Allocator + Copy>(frames: &VecDeque<Vec<u8, A>, A>, bytes: &[u8]) -> bool {
     frames.back().is_some_and(|frame| frame.as_slice() == bytes)
@@ -39,68 +39,38 @@ fn echoes_over_two_lists(rt: HostRuntime) -> Result<(), AllocError> {
     Ok(())
 }
 
-/// What came of an echo with little memory.
-#[derive(Drop)]
-struct Outcome {
-    echoed: bool,
-    queue_grew: bool,
-    to_come: usize,
-    sent: usize,
-    arrived: bool,
-}
-
-/// Echoes the first of two frames, of 200 bytes, on a device of two lists that has sent four
-/// frames, in a heap with one hole of `room` bytes.
-fn echo_with_room(alloc: Global, room: usize) -> Result<Outcome, AllocError> {
-    let heap = LocalHeap::new(alloc, 4096)?;
-    let mut device = TwoLists {
-        to_come: VecDeque::new(&heap),
-        sent: VecDeque::new(&heap),
-        asked_at: Instant::ZERO,
-    };
-    for length in [200, 2] {
-        device.to_come.push_back(vec![in &heap; 7u8; length]?)?;
-    }
-    for _ in 0..4 {
-        device.sent.push_back(vec![in &heap; 1u8; 2]?)?;
-    }
-    let _taken: Vec<u8, &LocalHeap> = Vec::with_capacity(&heap, heap.free().saturating_sub(room))?;
-    let before = device.sent.capacity();
-    let echoed = echo_once(&mut device, Instant::ZERO).is_ok();
-    Ok(Outcome {
-        echoed,
-        queue_grew: device.sent.capacity() > before,
-        to_come: device.to_come.len(),
-        sent: device.sent.len(),
-        arrived: is_back(&device.sent, &[7; 200]),
-    })
-}
-
+/// Eight requests for memory are made before the echo: for two queues, and for the bytes of six
+/// frames. The echo makes two: for a place in the queue of frames sent, which is full with four,
+/// and for the bytes.
 #[test]
 fn each_refusal_takes_the_frame_and_sends_nothing(rt: HostRuntime) -> Result<(), AllocError> {
-    let mut place_refused = false;
-    let mut bytes_refused = false;
-    let mut none_refused = false;
-    for units in 0..64 {
-        let outcome = echo_with_room(rt.alloc(), units * 16)?;
-        assert_eq!(rt; outcome.to_come, 1, "with {units} units of room");
-        assert!(rt;
-            outcome.arrived == outcome.echoed,
-            "with {units} units of room"
+    for (refused, echoes, requests) in [(8, false, 9), (9, false, 10), (10, true, 10)] {
+        let heap = Refusing::new(rt.alloc(), refused);
+        let mut device = TwoLists {
+            to_come: VecDeque::new(&heap),
+            sent: VecDeque::new(&heap),
+            asked_at: Instant::ZERO,
+        };
+        for length in [200, 2] {
+            device.to_come.push_back(vec![in &heap; 7u8; length]?)?;
+        }
+        for _ in 0..4 {
+            device.sent.push_back(vec![in &heap; 1u8; 2]?)?;
+        }
+        assert_eq!(rt; heap.requests(), 8);
+        let echoed = echo_once(&mut device, Instant::ZERO).is_ok();
+        assert!(rt; echoed == echoes, "request {refused}");
+        assert_eq!(rt; heap.requests(), requests, "request {refused}");
+        assert_eq!(rt; device.to_come.len(), 1, "request {refused}");
+        assert_eq!(rt;
+            device.sent.len(),
+            if echoes { 5 } else { 4 },
+            "request {refused}"
         );
-        if outcome.echoed {
-            assert_eq!(rt; outcome.sent, 5);
-            none_refused = true;
-            break;
-        }
-        assert_eq!(rt; outcome.sent, 4, "with {units} units of room");
-        if outcome.queue_grew {
-            bytes_refused = true;
-        } else {
-            assert!(rt; !bytes_refused, "with {units} units of room");
-            place_refused = true;
-        }
+        assert!(rt;
+            is_back(&device.sent, &[7; 200]) == echoes,
+            "request {refused}"
+        );
     }
-    assert!(rt; place_refused && bytes_refused && none_refused);
     Ok(())
 }

@@ -16,17 +16,6 @@ fn one_request_is_refused(rt: HostRuntime) -> Result<(), AllocError> {
     Ok(())
 }
 
-#[test]
-fn all_requests_from_one_on_are_refused(rt: HostRuntime) -> Result<(), AllocError> {
-    let memory = Refusing::all_from(rt.alloc(), 2);
-    for number in 0..4 {
-        let block: Result<Vec<u8, &Refusing>, AllocError> = Vec::with_capacity(&memory, 8);
-        assert!(rt; block.is_err() == (number >= 2), "at request {number}");
-    }
-    assert_eq!(rt; memory.requests(), 4);
-    Ok(())
-}
-
 /// A list asks for the room of the bytes that it is made of, and again when that is full.
 #[test]
 fn a_list_keeps_its_bytes_where_it_can_not_grow(rt: HostRuntime) -> Result<(), AllocError> {
