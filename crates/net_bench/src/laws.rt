@@ -2,7 +2,7 @@
 //!
 //! Each function does nothing: its contract is the law.
 ghost use Rattle.std.specs.Prelude.{◌≡◌, [], ◌∷◌, codes, Some, None, Ok};
-ghost use Rattle.net_receiver.specs.Schedule.{Setting, Segment, Segmented, Shown};
+ghost use Rattle.net_receiver.specs.Schedule.{Segment, Segmented, Shown};
 ghost use Rattle.net_bench.specs.Text.{words_of};
 ghost use Rattle.net_bench.specs.StreamMode.{ToReceiver, stream_command, reply_text, comparison};
 ghost use Rattle.net_bench.specs.Modes.{Ring, Asm, Stream, mode_of, out, fault};

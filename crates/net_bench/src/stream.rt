@@ -1,8 +1,6 @@
 //! Mode `stream`: segments of a stream come in any order, and its bytes go out in order.
-ghost use Rattle.std.specs.Prelude.{◌≡◌, ◌↔◌, [], ◌∷◌, IfOk, IsTrue, MatchResult, Ok, Err, string_bytes, option_map, ◌≤◌, length};
-ghost use Rattle.net_receiver.specs.Schedule.{Answer};
-ghost use Rattle.net_receiver.specs.Commands.{action, answer_seen};
-ghost use Rattle.net_receiver.specs.Stored.{fresh_stored};
+ghost use Rattle.std.specs.Prelude.{◌≡◌, [], ◌∷◌, IfOk, MatchResult, Ok, Err, string_bytes, option_map, ◌≤◌, length};
+ghost use Rattle.net_receiver.specs.Commands.{action};
 ghost use Rattle.net_bench.specs.Text.{words_of};
 ghost use Rattle.net_bench.specs.StreamMode.{ToReceiver, NextSchedule, stream_command};
 ghost use Rattle.net_bench.specs.StreamMode.{first_schedule, stream_does, stream_rules};

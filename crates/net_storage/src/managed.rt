@@ -1,5 +1,5 @@
 //! Storage that is lent or owned.
-ghost use Rattle.std.specs.Prelude.{◌≡◌, ◌≤◌, ◌<◌, ◌-◌, ◌+◌, length, take, drop, ◌∷◌, [], ℕ, List, slice_set, slice_index_or};
+ghost use Rattle.std.specs.Prelude.{◌≡◌, ◌≤◌, ◌<◌, ◌-◌, length, take, drop, ◌∷◌, [], ℕ, List, slice_set, slice_index_or};
 ghost use Rattle.std.specs.Borrow.{sem, Lends, Array};
 ghost use Rattle.net_storage.specs.Overwrite.{overwrite};
 ghost use Rattle.net_storage.specs.WholeLends.{lends_lent, lends_owned};

@@ -1,5 +1,5 @@
 //! The replies of a receiver as text.
-ghost use Rattle.std.specs.Prelude.{◌≡◌, ◌++◌, codes, decimal, Some, flat_map, IfOk, Ok, string_bytes};
+ghost use Rattle.std.specs.Prelude.{◌≡◌, Some, flat_map, IfOk, Ok, string_bytes};
 ghost use Rattle.net_receiver.specs.Schedule.{Segmented, Gave, Shown};
 ghost use Rattle.net_receiver.specs.Commands.{answer_seen};
 ghost use Rattle.net_bench.specs.StreamMode.{run_text, next_run_text, runs_text, accepted_line};

@@ -1,6 +1,5 @@
 //! Callers of a ring, proved from its contracts alone.
-ghost use Rattle.std.specs.Prelude.{◌≡◌, ◌≢◌, ◌<◌, ◌≤◌, ◌↔◌, ◌++◌, [], ◌∷◌, length, take, drop, min, ℕ, List, IsErr, OnOk, OnErr, IfOk, vec_len};
-ghost use Rattle.net_storage.specs.Managed.{elements};
+ghost use Rattle.std.specs.Prelude.{◌≡◌, ◌≢◌, ◌<◌, ◌↔◌, ◌++◌, [], ◌∷◌, length, take, drop, min, ℕ, List, IsErr, OnOk, OnErr, IfOk, vec_len};
 ghost use Rattle.net_storage.specs.Ring.{window, queue, spare, contiguous_window, contiguous_held, contiguous_window_from, contiguous_held_from, restarted, Enqueued, Dequeued, SpareWritten, QueueWritten};
 
 use super::{Empty, Full, ManagedSlice, RingBuffer};
