@@ -36,9 +36,9 @@ pub fn rows() -> Vec<Row> {
             let more = format!("{runs} {what}");
             all.push(Row { number: runs as u64, calls: ops.len() / 2, ops, ..row("asm_add", &more) });
         }
-        for (what, ops) in [("in order", in_order(64)), ("swapped", swapped(64))] {
+        for (what, ops) in fronts(runs) {
             let more = format!("{runs} {what}");
-            all.push(Row { number: runs as u64, calls: 64, ops, ..row("asm_front", &more) });
+            all.push(Row { number: runs as u64, calls: ops.len() / 2, ops, ..row("asm_front", &more) });
         }
         for (what, ops) in [("in order", in_order(44)), ("swapped", swapped(44)), ("shuffled", shuffled(44))]
         {
@@ -77,20 +77,37 @@ fn flat(ranges: impl IntoIterator<Item = (usize, usize)>) -> Vec<usize> {
 fn additions(runs: usize) -> [(&'static str, Vec<usize>); 5] {
     let apart = (0..runs).map(|at| ((2 * at + 1) * 100, 100));
     let between = (0..runs).map(|at| (2 * at * 100, 100));
-    let mut word: u64 = 7;
-    let mut below = |bound: u64| {
-        word = word.wrapping_mul(6364136223846793005).wrapping_add(1442695040888963407);
-        ((word >> 33) % bound) as usize
-    };
-    let random: Vec<_> = (0..64).map(|_| (below(8_192), 1 + below(256))).collect();
     let refused = (0..64 - runs).map(|at| ((2 * (runs + at) + 1) * 100, 100));
     [
         ("in order", in_order(64)),
         ("reverse", flat((0..64).rev().map(|at| (at * SEGMENT, SEGMENT)))),
         ("holes, fill", flat(apart.clone().chain(between))),
-        ("random", flat(random)),
+        ("random", random(64, 8_192, 256)),
         ("full, refused", flat(apart.chain(refused))),
     ]
+}
+
+/// What is added to an assembler of so many runs whose front is removed each time.
+fn fronts(runs: usize) -> [(&'static str, Vec<usize>); 4] {
+    let waiting = (1..runs).map(|at| ((1_000 + 2 * at) * SEGMENT, SEGMENT));
+    let next = (0..64).map(|_| (0, SEGMENT));
+    [
+        ("in order", in_order(64)),
+        ("swapped", swapped(64)),
+        ("next, all but one wait", flat(waiting.chain(next))),
+        ("random, never learnt", random(16_384, 2_048, 32)),
+    ]
+}
+
+/// So many ranges with offsets below `offsets` and sizes up to `sizes`, which a branch predictor
+/// learns where there are few.
+fn random(count: usize, offsets: u64, sizes: u64) -> Vec<usize> {
+    let mut word: u64 = 7;
+    let mut below = |bound: u64| {
+        word = word.wrapping_mul(6364136223846793005).wrapping_add(1442695040888963407);
+        ((word >> 33) % bound) as usize
+    };
+    flat((0..count).map(|_| (below(offsets), 1 + below(sizes))))
 }
 
 fn in_order(count: usize) -> Vec<usize> {
