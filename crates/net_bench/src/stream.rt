@@ -31,7 +31,7 @@ pub enum StreamLine<A: Allocator + Copy> {
 
 /// A receiver that lines send segments to and read from, and the one before it where `--` has come.
 ///
-/// The storage of the second schedule is made when it begins, and kept where `second` shows.
+/// The storage of the second schedule is made when it begins, in the list that `second` lends.
 #[derive(Drop)]
 pub struct StreamSession<'a, A: Allocator + Copy, const N: usize> {
     first: u64,
@@ -133,8 +133,8 @@ fn fits<A: Allocator + Copy, const N: usize>(command: &Command<A>) -> bool
 }
 
 impl<'a, A: Allocator + Copy, const N: usize> StreamSession<'a, A, N> {
-    /// A fresh receiver of a stream that begins at `first`, over this storage. `second` is where
-    /// the storage of the second schedule is kept.
+    /// A fresh receiver of a stream that begins at `first`, over this storage. The storage of the
+    /// second schedule takes the place of what `second` holds.
     pub fn new(
         first: u64,
         storage: &'a mut [u8],
