@@ -11,8 +11,8 @@ pub record Frames : Type 0 where
   pub frames : List (List ℕ)
 
 -- the bytes of each buffer
-abbrev pub bytes_of : {A : Type 0} → List (Vec ℕ A) → List (List ℕ)
-bytes_of {A} buffers = map (λ (b : Vec ℕ A). b.items) buffers
+abbrev pub frames_of : {A : Type 0} → List (Vec ℕ A) → List (List ℕ)
+frames_of {A} buffers = map (λ (b : Vec ℕ A). b.items) buffers
 
 -- frames of 65535 bytes, no checksums, no limit on bursts and no segmentation
 abbrev pub loopback_capabilities : Medium → DeviceCapabilities

@@ -1,7 +1,7 @@
 -- What receivers store in mode stream stands for the states of schedules, line by line.
 use Rattle.std.proofs.Common.{◌≡◌, ℕ, ◌+◌, ◌-◌, [], ◌∷◌, cond, true, false, Option, Some, None, Ok, Err, refl, sym, ◌∙◌, ap, subst}
 use Rattle.net_receiver.specs.KeptList.{next, bytes}
-use Rattle.net_receiver.specs.Schedule.{Action, Segment, Read, Show, Verdict, Nothing_kept, Refused, Keeps, Setting, State, after, reply}
+use Rattle.net_receiver.specs.Schedule.{CommandSeen, Segment, Read, Show, Verdict, KeptNone, Refused, Keeps, Setting, State, after, reply}
 use Rattle.net_receiver.specs.Stored.{Stored, stored_state_after, stored_after, stored_reply, setting, StandsFor}
 use Rattle.net_receiver.specs.Theorems.{FreshStands, EverySchedule}
 use Rattle.net_bench.specs.Transcript.{transcript}
@@ -29,23 +29,23 @@ record Alike (x : Schedules Stored) (y : Schedules State) : Type 0 where
 
 -- no command changes the setting
 verdict_setting : (most : ℕ) (v : Stored) (verdict : Verdict) → setting most (stored_state_after v verdict) ≡ setting most v
-verdict_setting most v Nothing_kept = refl
+verdict_setting most v KeptNone = refl
 verdict_setting most v Refused = refl
 verdict_setting most v (Keeps part) = refl
 
-command_setting : (most : ℕ) (v : Stored) (c : Action) → setting most (stored_after most v c) ≡ setting most v
+command_setting : (most : ℕ) (v : Stored) (c : CommandSeen) → setting most (stored_after most v c) ≡ setting most v
 command_setting most v (Segment position bytes) = verdict_setting most v _
 command_setting most v (Read count) = refl
 command_setting most v Show = refl
 
 module _ (fresh_stands : FreshStands) (every : EverySchedule) where
-  after_stands : (w : Setting) (v : Stored) (s : State) (c : Action) → Stands w v s → Stands w (stored_after w.most_runs v c) (after w s c)
+  after_stands : (w : Setting) (v : Stored) (s : State) (c : CommandSeen) → Stands w v s → Stands w (stored_after w.most_runs v c) (after w s c)
   after_stands w v s c h = record {
     setting = command_setting w.most_runs v c ∙ h.setting;
     state = subst (λ u. StandsFor (stored_after w.most_runs v c) (after u s c)) h.setting (every w.most_runs v s h.state (c ∷ [])).0;
   }
 
-  same_reply : (w : Setting) (v : Stored) (s : State) (c : Action) → Stands w v s → stored_reply w.most_runs v c ≡ reply w s c
+  same_reply : (w : Setting) (v : Stored) (s : State) (c : CommandSeen) → Stands w v s → stored_reply w.most_runs v c ≡ reply w s c
   same_reply w v s c h =
       let there : stored_reply w.most_runs v c ∷ [] ≡ reply (setting w.most_runs v) s c ∷ [] = (every w.most_runs v s h.state (c ∷ [])).1 in
       let here : stored_reply w.most_runs v c ≡ reply (setting w.most_runs v) s c = cc in

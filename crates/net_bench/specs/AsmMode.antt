@@ -1,7 +1,7 @@
 -- Mode asm: a set of positions in at most so many maximal runs.
 use Rattle.std.specs.Prelude.{ℕ, ◌+◌, ◌^◌, ◌&&◌, nat_lt, List, [], ◌∷◌, ◌++◌, codes, bytes_eq, decimal, if◌then◌else◌, Bool, Option, Some, None, Result, Ok, Err}
 use Rattle.net_storage.specs.Positions.{Positions, runs, with_range, front, shift_down}
-use Rattle.net_storage.specs.Assembler.{runs_text}
+use Rattle.net_storage.specs.Assembler.{display_text}
 use Rattle.net_bench.specs.Text.{number_of}
 use Rattle.net_bench.specs.Transcript.{Rules}
 use Rattle.net_bench.specs.declared.fault.Fault.{Fault}
@@ -31,9 +31,9 @@ asm_command (verb ∷ offset ∷ size ∷ []) =
     else None
 asm_command _ = None
 
--- whether the range isn't empty, and the set with it has more maximal runs than the limit
+-- whether the range isn't empty, and the set with it has more maximal runs than the most_runs
 abbrev pub makes_too_many_runs : ℕ → Positions → ℕ → ℕ → Bool
-makes_too_many_runs limit set offset size = nat_lt 0 size && nat_lt limit (runs (with_range set offset size))
+makes_too_many_runs most_runs set offset size = nat_lt 0 size && nat_lt most_runs (runs (with_range set offset size))
 
 -- the reply of a refusal
 abbrev pub refused_text : List ℕ
@@ -45,14 +45,14 @@ front_removed set = (shift_down set (front set), codes "front " ++ decimal (fron
 
 -- the set with a range, or unchanged where that has too many runs
 abbrev pub added : ℕ → Positions → ℕ → ℕ → Positions × List ℕ
-added limit set offset size =
-    if makes_too_many_runs limit set offset size then (set, refused_text)
+added most_runs set offset size =
+    if makes_too_many_runs most_runs set offset size then (set, refused_text)
     else (with_range set offset size, codes "ok\n")
 
 -- the same, and the front is removed then; a range at 0 is never refused
 abbrev pub added_then_front_removed : ℕ → Positions → ℕ → ℕ → Positions × List ℕ
-added_then_front_removed limit set offset size =
-    if nat_lt 0 offset && makes_too_many_runs limit set offset size then (set, refused_text)
+added_then_front_removed most_runs set offset size =
+    if nat_lt 0 offset && makes_too_many_runs most_runs set offset size then (set, refused_text)
     else front_removed (with_range set offset size)
 
 -- what a range's command does where 64 bits hold the range's end
@@ -61,15 +61,15 @@ within_range offset size next = if nat_lt (offset + size) (2 ^ 64) then Ok next 
 
 -- what a command does to the set, and its reply
 abbrev pub asm_does : ℕ → Positions → AsmCommand → Result (Positions × List ℕ) Fault
-asm_does limit set (Add offset size) = within_range offset size (added limit set offset size)
-asm_does limit set (AddThenRemoveFront offset size) = within_range offset size (added_then_front_removed limit set offset size)
-asm_does limit set RemoveFront = Ok (front_removed set)
-asm_does limit set Print = Ok (set, runs_text set ++ codes "\n")
+asm_does most_runs set (Add offset size) = within_range offset size (added most_runs set offset size)
+asm_does most_runs set (AddThenRemoveFront offset size) = within_range offset size (added_then_front_removed most_runs set offset size)
+asm_does most_runs set RemoveFront = Ok (front_removed set)
+asm_does most_runs set Print = Ok (set, display_text set ++ codes "\n")
 
--- a line of the mode, with this limit of runs
+-- a line of the mode, with this most_runs of runs
 abbrev pub asm_rules : ℕ → Rules Positions
-asm_rules limit set words = asm_reply limit set (asm_command words)
+asm_rules most_runs set words = asm_reply most_runs set (asm_command words)
   where
     asm_reply : ℕ → Positions → Option AsmCommand → Result (Positions × List ℕ) Fault
-    asm_reply limit set (Some command) = asm_does limit set command
-    asm_reply limit set None = Err faults.BadCommand
+    asm_reply most_runs set (Some command) = asm_does most_runs set command
+    asm_reply most_runs set None = Err faults.BadCommand

@@ -1,6 +1,6 @@
 -- Mode ring: a bounded queue of bytes.
 use Rattle.std.specs.Prelude.{ℕ, ◌-◌, min, List, [], ◌∷◌, ◌++◌, length, take, drop, codes, bytes_eq, decimal, if◌then◌else◌, Option, Some, None, Result, Ok, Err, option_map}
-use Rattle.net_bench.specs.Text.{number_of, bytes_of, hex_text}
+use Rattle.net_bench.specs.Text.{number_of, hex_bytes, hex_text}
 use Rattle.net_bench.specs.Transcript.{Rules}
 use Rattle.net_bench.specs.declared.fault.Fault.{Fault}
 use Rattle.net_bench.specs.declared.fault.Fault.TheVariants as faults
@@ -22,7 +22,7 @@ pub data RingCommand : Type 0 where
 -- `w HEX` and `r NUM`
 abbrev pub ring_command : List (List ℕ) → Option RingCommand
 ring_command (verb ∷ word ∷ []) =
-    if bytes_eq verb (codes "w") then option_map Write (bytes_of word)
+    if bytes_eq verb (codes "w") then option_map Write (hex_bytes word)
     else if bytes_eq verb (codes "r") then option_map Read (number_of word)
     else None
 ring_command _ = None

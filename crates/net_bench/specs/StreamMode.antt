@@ -3,8 +3,8 @@ use Rattle.std.specs.Prelude.{ℕ, ◌+◌, ◌^◌, ◌&&◌, ◌-◌, ◌==◌
 use Rattle.std.specs.Cmp.Lexicographic.{pointwise}
 use Rattle.net_storage.specs.Positions.{maximal_runs}
 use Rattle.net_receiver.specs.KeptList.{next, bytes, held}
-use Rattle.net_receiver.specs.Schedule.{Action, Segment, Read, Show, Answer, Segmented, Gave, Shown, Setting, State, fresh, after, reply}
-use Rattle.net_bench.specs.Text.{number_of, bytes_of, hex_text}
+use Rattle.net_receiver.specs.Schedule.{CommandSeen, Segment, Read, Show, ReplySeen, Segmented, Gave, Shown, Setting, State, fresh, after, reply}
+use Rattle.net_bench.specs.Text.{number_of, hex_bytes, hex_text}
 use Rattle.net_bench.specs.Transcript.{Rules}
 use Rattle.net_bench.specs.AsmMode.{refused_text}
 use Rattle.net_bench.specs.declared.fault.Fault.{Fault}
@@ -14,7 +14,7 @@ use Rattle.net_bench.specs.declared.fault.Fault.TheVariants as faults
 
 -- a line of the mode: a command to the receiver, or the end of the first schedule
 pub data StreamCommand : Type 0 where
-  ToReceiver : Action → StreamCommand
+  ToReceiver : CommandSeen → StreamCommand
   NextSchedule : StreamCommand
 
 -- a segment, where both of its words are read
@@ -32,12 +32,12 @@ stream_command (verb ∷ number ∷ []) =
     if bytes_eq verb (codes "r") then option_map (λ count. ToReceiver (Read count)) (number_of number)
     else None
 stream_command (verb ∷ position ∷ bytes ∷ []) =
-    if bytes_eq verb (codes "s") then segment_command (number_of position) (bytes_of bytes)
+    if bytes_eq verb (codes "s") then segment_command (number_of position) (hex_bytes bytes)
     else None
 stream_command _ = None
 
 -- whether 64 bits hold the end of a segment
-abbrev pub end_fits : Action → Bool
+abbrev pub end_fits : CommandSeen → Bool
 end_fits (Segment position bytes) = nat_lt (position + length bytes) (2 ^ 64)
 end_fits (Read count) = true
 end_fits Show = true
@@ -68,7 +68,7 @@ accepted_line kept queued sack =
     codes "kept " ++ decimal kept ++ codes " queued " ++ decimal queued ++ codes " sack " ++ runs_text sack ++ codes "\n"
 
 -- the reply line
-abbrev pub reply_text : Answer → List ℕ
+abbrev pub reply_text : ReplySeen → List ℕ
 reply_text (Segmented (Ok kept)) = accepted_line kept.kept kept.queued (leading_runs kept.sack)
 reply_text (Segmented (Err refused)) = refused_text
 reply_text (Gave bytes) = codes "read " ++ hex_text bytes ++ codes "\n"
@@ -103,8 +103,8 @@ comparison a b = if same_outcome a b then codes "same\n" else codes "differs\n"
 -- what the command is answered, and what is compared of it in the end
 pub record Scheduling (S : Type 0) : Type 0 where
   pub begun : Setting → S
-  pub after : Setting → S → Action → S
-  pub reply : Setting → S → Action → Answer
+  pub after : Setting → S → CommandSeen → S
+  pub reply : Setting → S → CommandSeen → ReplySeen
   pub outcome : Setting → S → Outcome
 
 -- a schedule as what it kept and how much of it was read
@@ -136,10 +136,10 @@ module _ {S : Type 0} (scheduling : Scheduling S) where
   first_schedule w = record { setting = w; present = scheduling.begun w; ended = None }
 
   -- a command to the receiver, and its reply
-  abbrev pub commanded : Schedules S → Action → Schedules S × List ℕ
-  commanded schedules action = (
-    record schedules { present = scheduling.after schedules.setting schedules.present action },
-    reply_text (scheduling.reply schedules.setting schedules.present action),
+  abbrev pub commanded : Schedules S → CommandSeen → Schedules S × List ℕ
+  commanded schedules command_seen = (
+    record schedules { present = scheduling.after schedules.setting schedules.present command_seen },
+    reply_text (scheduling.reply schedules.setting schedules.present command_seen),
   )
 
   -- the second schedule begins, unless there is one: the receiver is a fresh one, and nothing is replied
@@ -150,7 +150,7 @@ module _ {S : Type 0} (scheduling : Scheduling S) where
 
   -- what a line does, and its reply
   abbrev pub stream_does : Schedules S → StreamCommand → Result (Schedules S × List ℕ) Fault
-  stream_does schedules (ToReceiver action) = if end_fits action then Ok (commanded schedules action) else Err faults.RangeTooLong
+  stream_does schedules (ToReceiver command_seen) = if end_fits command_seen then Ok (commanded schedules command_seen) else Err faults.RangeTooLong
   stream_does schedules NextSchedule = next_schedule schedules schedules.ended
 
   -- what the words of a line do, as the command that they are, if they are one

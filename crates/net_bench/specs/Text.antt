@@ -52,8 +52,8 @@ abbrev pub number_of : List ℕ → Option ℕ
 number_of word = if is_numeral word && nat_lt (digits_value 10 word) (2 ^ 64) then Some (digits_value 10 word) else None
 
 -- bytes: a dash for none, or one or more pairs of hex digits in either case
-abbrev pub bytes_of : List ℕ → Option (List ℕ)
-bytes_of word =
+abbrev pub hex_bytes : List ℕ → Option (List ℕ)
+hex_bytes word =
     if bytes_eq word (codes "-") then Some []
     else if nat_lt 0 (length word) then result_ok (decode_of word)
     else None

@@ -43,7 +43,7 @@ impl<'a> Model for RingSession<'a> {
     // The queue and the capacity of the ring; where in the storage it is read is forgotten.
     ghost view = { λ s. record { capacity = capacity s.ring; bytes = queue s.ring } };
 
-    ghost invariant = { λ s. length (queue s.ring) ≡ s.ring.held };
+    ghost invariant = { λ s. length (queue s.ring) ≡ s.ring.count };
 }
 
 /// What two words say.

@@ -1,6 +1,6 @@
 //! Mode `stream`: segments of a stream come in any order, and its bytes go out in order.
 ghost use Rattle.std.specs.Prelude.{◌≡◌, [], ◌∷◌, IfOk, MatchResult, Ok, Err, string_bytes, option_map, ◌≤◌, length};
-ghost use Rattle.net_receiver.specs.Commands.{action};
+ghost use Rattle.net_receiver.specs.Commands.{command_seen};
 ghost use Rattle.net_bench.specs.Text.{words_of};
 ghost use Rattle.net_bench.specs.StreamMode.{ToReceiver, NextSchedule, stream_command};
 ghost use Rattle.net_bench.specs.StreamMode.{first_schedule, stream_does, stream_rules};
@@ -12,7 +12,7 @@ use crate::fault::Fault;
 use crate::session::Session;
 use crate::words::Words;
 use crate::{text, words};
-use net_receiver::{Command, Receiver, run_command};
+use net_receiver::{Command, Receiver, execute};
 use net_storage::ManagedSlice;
 use std::alloc::{AllocError, Allocator};
 use std::marker::Model;
@@ -124,7 +124,7 @@ fn stream_line<A: Allocator + Copy>(
 
 /// Whether a segment's end is at most the greatest number.
 fn fits<A: Allocator + Copy, const N: usize>(command: &Command<A>) -> bool
-    ensures { result ≡ end_fits (action command.now) }
+    ensures { result ≡ end_fits (command_seen command.now) }
 {
     match command {
         Command::Segment { pos, bytes } => Receiver::<N>::fits(*pos, bytes.len()),
@@ -159,7 +159,7 @@ impl<'a, A: Allocator + Copy, const N: usize> StreamSession<'a, A, N> {
         alloc: A,
         command: Command<A>,
     ) -> Result<Result<String<A>, Fault>, AllocError>
-        ensures { let done = stream_does of_stored self.old (ToReceiver (action command)) in
+        ensures { let done = stream_does of_stored self.old (ToReceiver (command_seen command)) in
             IfOk result (λ outcome. MatchResult outcome
             (λ reply. done ≡ Ok (self.new, string_bytes reply))
             (λ fault. done ≡ Err fault)) }
@@ -167,7 +167,7 @@ impl<'a, A: Allocator + Copy, const N: usize> StreamSession<'a, A, N> {
         if !fits::<A, N>(&command) {
             return Ok(Err(Fault::RangeTooLong));
         }
-        let reply = run_command(alloc, &mut self.present, &command)?;
+        let reply = execute(alloc, &mut self.present, &command)?;
         Ok(Ok(reply_lines::reply_text(alloc, &reply)?))
     }
 

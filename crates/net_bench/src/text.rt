@@ -1,7 +1,7 @@
 //! Numbers, bytes and replies as text.
 ghost use Rattle.std.specs.Prelude.{◌≡◌, ◌+◌, ◌*◌, ◌++◌, length, codes, IfOk, IfSome, option_map, string_bytes};
 ghost use Rattle.hex.specs.Hex.{encode_lower};
-ghost use Rattle.net_bench.specs.Text.{begins_numeral, number_of, bytes_of, hex_text};
+ghost use Rattle.net_bench.specs.Text.{begins_numeral, number_of, hex_bytes, hex_text};
 
 use hex::FromHexError;
 use std::alloc::{AllocError, Allocator};
@@ -34,7 +34,7 @@ pub fn number(word: &[u8]) -> Option<u64>
 /// The bytes that a word writes: `-` for none, or one or more pairs of hexadecimal digits in either
 /// case.
 pub fn bytes<A: Allocator + Copy>(alloc: A, word: &[u8]) -> Result<Option<Vec<u8, A>>, AllocError>
-    ensures { IfOk result (λ found. option_map (λ bytes. bytes.items) found ≡ bytes_of word.now) }
+    ensures { IfOk result (λ found. option_map (λ bytes. bytes.items) found ≡ hex_bytes word.now) }
 {
     if word == b"-".as_slice() {
         return Ok(Some(Vec::new(alloc)));

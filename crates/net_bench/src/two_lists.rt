@@ -22,11 +22,11 @@ pub struct TwoLists<A: Allocator + Copy = Global> {
 
 impl<A: Allocator + Copy> Model for TwoLists<A> {
     ghost use Rattle.std.specs.Prelude.{ℕ, List};
-    ghost use Rattle.net_base.specs.Loopback.{bytes_of};
+    ghost use Rattle.net_base.specs.Loopback.{frames_of};
 
     ghost Value = { List (List ℕ) × List (List ℕ) };
 
-    ghost view = { λ d. (bytes_of d.to_come.items, bytes_of d.sent.items) };
+    ghost view = { λ d. (frames_of d.to_come.items, frames_of d.sent.items) };
 }
 
 /// A frame that has come.

@@ -5,7 +5,7 @@ use Rattle.std.proofs.lemmas.Option.{none-some, cond_some}
 use Rattle.std.specs.Prelude.{Option, true}
 use Rattle.std.specs.declared.option.Option.TheVariants.{Some, None}
 use Rattle.net_storage.specs.Ring.{RingState, ring, capacity, window, queue, write_at, WellFormed, restarted, with_enqueued, with_dequeued, written, Enqueued}
-use Rattle.net_storage.specs.Packets.{Packet, packet, bytes_of, slots_used, slots_for, place_in, IsPlaced, ArePlaced, gap_for, if_slots}
+use Rattle.net_storage.specs.Packets.{Packet, packet, bytes_used, slots_used, slots_for, place_in, IsPlaced, ArePlaced, gap_for, if_slots}
 use Rattle.net_storage.specs.PacketSlots.{slot, gap_slot, packet_slots, packets_in, Holds}
 use Rattle.net_storage.specs.declared.packet_metadata.PacketMetadata.{PacketMetadata}
 use Rattle.net_storage.proofs.Rotations.{length-queue, length-overwrite}
@@ -105,10 +105,10 @@ placed_here c r n s gap wf le e =
           )
     ]
 
-pub restart_cases : (b : RingState ℕ) → ((b.held ≡ 0) × (restarted b ≡ ring b.storage 0 0)) ⊎ ((b.held ≢ 0) × (restarted b ≡ b))
-restart_cases b = elim (cases_eq b.held 0) [
-  | inl h ↦ inl (h, ap (λ (t : Bool). if t then ring b.storage 0 0 else b) (eq-eqb b.held 0 h))
-  | inr h ↦ inr (h, ap (λ (t : Bool). if t then ring b.storage 0 0 else b) (ne_eqb b.held 0 h))
+pub restart_cases : (b : RingState ℕ) → ((b.count ≡ 0) × (restarted b ≡ ring b.storage 0 0)) ⊎ ((b.count ≢ 0) × (restarted b ≡ b))
+restart_cases b = elim (cases_eq b.count 0) [
+  | inl h ↦ inl (h, ap (λ (t : Bool). if t then ring b.storage 0 0 else b) (eq-eqb b.count 0 h))
+  | inr h ↦ inr (h, ap (λ (t : Bool). if t then ring b.storage 0 0 else b) (ne_eqb b.count 0 h))
 ]
 
 pub restart_wf : (b : RingState ℕ) → WellFormed b → WellFormed (restarted b)
@@ -143,7 +143,7 @@ module _ {H : Type 0} where
       let m = slot q.size (Some q.header) in
       ap (λ (l : List (PacketMetadata H)). gap_slot q.gap ++ (m ∷ l)) (slots_append ps p) ∙ sym (append_assoc (gap_slot q.gap) (m ∷ packet_slots ps) (gap_slot p.gap ++ (slot p.size (Some p.header) ∷ [])))
 
-  pub bytes_append : (ps : List (Packet H)) (p : Packet H) → bytes_of (ps ++ (p ∷ [])) ≡ bytes_of ps + p.gap + p.size
+  pub bytes_append : (ps : List (Packet H)) (p : Packet H) → bytes_used (ps ++ (p ∷ [])) ≡ bytes_used ps + p.gap + p.size
   bytes_append [] p = omega arith
   bytes_append (q ∷ ps) p = omega (arith, bytes_append ps p)
 
@@ -151,14 +151,14 @@ module _ {H : Type 0} where
   slots_of_append [] p = omega arith
   slots_of_append (q ∷ ps) p = omega (arith, slots_of_append ps p)
 
-  pub placed_append : (c r o : ℕ) (ps : List (Packet H)) (p : Packet H) → ArePlaced c r o ps → IsPlaced c r (o + bytes_of ps) p → ArePlaced c r o (ps ++ (p ∷ []))
+  pub placed_append : (c r o : ℕ) (ps : List (Packet H)) (p : Packet H) → ArePlaced c r o ps → IsPlaced c r (o + bytes_used ps) p → ArePlaced c r o (ps ++ (p ∷ []))
   placed_append c r o [] p a i = let e : o + 0 ≡ o = omega arith in (subst (λ (n : ℕ). IsPlaced c r n p) e i, tt)
   placed_append c r o (q ∷ ps) p a i =
-      let e : o + bytes_of (q ∷ ps) ≡ o + q.gap + q.size + bytes_of ps = omega arith in
+      let e : o + bytes_used (q ∷ ps) ≡ o + q.gap + q.size + bytes_used ps = omega arith in
       (a.0, placed_append c r (o + q.gap + q.size) ps p a.1 (subst (λ (n : ℕ). IsPlaced c r n p) e i))
 
   -- where no bytes are held, packets are placed from any place on
-  pub placed_anew : (c r o : ℕ) (ps : List (Packet H)) → bytes_of ps ≡ 0 → place_in c r o ≤ c → ArePlaced c r o ps
+  pub placed_anew : (c r o : ℕ) (ps : List (Packet H)) → bytes_used ps ≡ 0 → place_in c r o ≤ c → ArePlaced c r o ps
   placed_anew c r o [] e le = tt
   placed_anew c r o (p ∷ ps) e le =
       let g : p.gap ≡ 0 = omega (arith, e) in let s : p.size ≡ 0 = omega (arith, e) in
@@ -169,7 +169,7 @@ module _ {H : Type 0} where
       ((omega (arith, at_is, s, le), λ n. absurd (n g)), placed_anew c r (o + p.gap + p.size) ps (omega (arith, e)) (omega (arith, next_is, le)))
 
   -- the same packets from a later place on
-  pub placed_from : (c r k o : ℕ) (ps : List (Packet H)) → (r ≡ 0) ⊎ (r < c) → k + o + bytes_of ps ≤ c → ArePlaced c r (k + o) ps → ArePlaced c (place_in c r k) o ps
+  pub placed_from : (c r k o : ℕ) (ps : List (Packet H)) → (r ≡ 0) ⊎ (r < c) → k + o + bytes_used ps ≤ c → ArePlaced c r (k + o) ps → ArePlaced c (place_in c r k) o ps
   placed_from c r k o [] wf le a = tt
   placed_from c r k o (p ∷ ps) wf le a =
       let one = place_place c r k (o + p.gap) wf (omega (arith, le)) in
@@ -182,7 +182,7 @@ module _ {H : Type 0} where
       )
 
   -- the same packets once the gap before the first one is gone
-  pub placed_skip : (c r : ℕ) (p : Packet H) (ps : List (Packet H)) → (r ≡ 0) ⊎ (r < c) → bytes_of (p ∷ ps) ≤ c → ArePlaced c r 0 (p ∷ ps) → ArePlaced c (place_in c r p.gap) 0 (packet p.header p.size 0 ∷ ps)
+  pub placed_skip : (c r : ℕ) (p : Packet H) (ps : List (Packet H)) → (r ≡ 0) ⊎ (r < c) → bytes_used (p ∷ ps) ≤ c → ArePlaced c r 0 (p ∷ ps) → ArePlaced c (place_in c r p.gap) 0 (packet p.header p.size 0 ∷ ps)
   placed_skip c r p ps wf le a =
       let at = place_place c r p.gap (0 + 0) wf (omega (arith, le)) in
       let z : p.gap + (0 + 0) ≡ 0 + p.gap = omega arith in
@@ -191,21 +191,21 @@ module _ {H : Type 0} where
       ((omega (arith, at, at_is, a.0.0), λ k. absurd (k refl)), placed_from c r p.gap (0 + 0 + p.size) ps wf (omega (arith, le)) (subst (λ (j : ℕ). ArePlaced c r j ps) n a.1))
 
   -- and once the first one, which has no gap, is gone
-  pub placed_pop : (c r : ℕ) (p : Packet H) (ps : List (Packet H)) → (r ≡ 0) ⊎ (r < c) → bytes_of (p ∷ ps) ≤ c → p.gap ≡ 0 → ArePlaced c r 0 (p ∷ ps) → ArePlaced c (place_in c r p.size) 0 ps
+  pub placed_pop : (c r : ℕ) (p : Packet H) (ps : List (Packet H)) → (r ≡ 0) ⊎ (r < c) → bytes_used (p ∷ ps) ≤ c → p.gap ≡ 0 → ArePlaced c r 0 (p ∷ ps) → ArePlaced c (place_in c r p.size) 0 ps
   placed_pop c r p ps wf le z a =
       let k : 0 + p.gap + p.size ≡ p.size + 0 = omega (arith, z) in
       placed_from c r p.size 0 ps wf (omega (arith, le)) (subst (λ (j : ℕ). ArePlaced c r j ps) k a.1)
 
   module _ (m : RingState (PacketMetadata H)) (b : RingState ℕ) (ps : List (Packet H)) (h : Holds m b ps) where
-    pub held_is : m.held ≡ slots_used ps
+    pub held_is : m.count ≡ slots_used ps
     held_is = sym (length-queue m h.0) ∙ ap length h.2 ∙ length-slots ps
 
   empty_go : (n : ℕ) (xs : List (Packet H)) → n ≡ slots_used xs → (n == 0) ≡ (length xs == 0)
   empty_go n [] e = ap (λ (k : ℕ). k == 0) e
   empty_go n (x ∷ xs) e = let p = slots_pos (x ∷ xs) in ne_eqb n 0 (λ z. absurd (omega (arith, p, e, z))) ∙ sym (ne_eqb (length (x ∷ xs)) 0 (λ z. absurd (omega (arith, z))))
 
-  pub empty_is : (m : RingState (PacketMetadata H)) (b : RingState ℕ) (ps : List (Packet H)) → Holds m b ps → (m.held == 0) ≡ (length ps == 0)
-  empty_is m b ps h = empty_go m.held ps (held_is m b ps h)
+  pub empty_is : (m : RingState (PacketMetadata H)) (b : RingState ℕ) (ps : List (Packet H)) → Holds m b ps → (m.count == 0) ≡ (length ps == 0)
+  empty_is m b ps h = empty_go m.count ps (held_is m b ps h)
 
   -- ---- a slot more
   pub gap_slot_one : (gap : ℕ) → 0 < gap → gap_slot {H = H} gap ≡ slot gap None ∷ []
@@ -221,7 +221,7 @@ pub pushed_slot : {T : Type 0} (g h : RingState T) (w : T) → WellFormed g → 
 pushed_slot g h w wf some e q =
     let cap : capacity h ≡ capacity g = ap capacity e ∙ length-overwrite g.storage (write_at g) (w ∷ []) in
     let r : h.read_at ≡ g.read_at = ap (λ o. o.read_at) e in
-    let n : h.held ≡ g.held + 1 = ap (λ o. o.held) e in
+    let n : h.count ≡ g.count + 1 = ap (λ o. o.count) e in
     (q.0, (elim wf.0 [ inl z ↦ inl (r ∙ z) | inr l ↦ inr (omega (arith, r, cap, l)) ], omega (arith, n, cap, some)), omega (arith, n, cap), cap)
 
 -- and after the first one was taken off as it is

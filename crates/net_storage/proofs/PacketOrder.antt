@@ -5,7 +5,7 @@ use Rattle.std.specs.Prelude.{Option, replicate}
 use Rattle.std.specs.declared.option.Option.TheVariants.{Some, None}
 use Rattle.net_storage.specs.Overwrite.{overwrite}
 use Rattle.net_storage.specs.Ring.{RingState, ring, capacity, window, queue, spare, storage_index, WellFormed, restarted, with_enqueued, written}
-use Rattle.net_storage.specs.Packets.{Packet, PacketQueue, packet, bytes_of, slots_used, byte_ring, place_in, ArePlaced, placement, placed_if_room, last_written, last_cut, first_gap, first_size, without_first_gap, skipped, IsFirstSized, IsFirst, with_first_header, first_written, popped, dequeued, WellPlaced}
+use Rattle.net_storage.specs.Packets.{Packet, PacketQueue, packet, bytes_used, slots_used, byte_ring, place_in, ArePlaced, placement, placed_if_room, last_written, last_cut, first_gap, first_size, without_first_gap, skipped, IsFirstSized, IsFirst, with_first_header, first_written, popped, dequeued, WellPlaced}
 use Rattle.net_storage.specs.PacketSlots.{slot, packet_slots, packets_in, Holds, packet_queue}
 use Rattle.net_storage.specs.PacketHistory.{contents_of, contents}
 use Rattle.net_storage.specs.declared.packet_metadata.PacketMetadata.{PacketMetadata}
@@ -36,11 +36,11 @@ over_front xs ws s fits long =
     (ap (take s) over ∙ take_at ws z s long, ap (drop s) over ∙ drop_at ws z s long ∙ sym (ap (drop s) c.2 ∙ drop_at part z s c.3))
 
 -- the queue of a ring to whose spare part ws was written past a gap, and of which k bytes came in with the gap
-filled_queue : (g : RingState ℕ) (wf : WellFormed g) (gap k : ℕ) (ws : List ℕ) → gap + length ws ≤ window g → storage_index g (g.held + gap) + length ws ≤ capacity g → k ≤ length ws
-    → queue (with_enqueued (gap + k) (written g (storage_index g (g.held + gap)) ws)) ≡ queue g ++ (take gap (spare g) ++ take k ws)
+filled_queue : (g : RingState ℕ) (wf : WellFormed g) (gap k : ℕ) (ws : List ℕ) → gap + length ws ≤ window g → storage_index g (g.count + gap) + length ws ≤ capacity g → k ≤ length ws
+    → queue (with_enqueued (gap + k) (written g (storage_index g (g.count + gap)) ws)) ≡ queue g ++ (take gap (spare g) ++ take k ws)
 filled_queue g wf gap k ws room fits le =
-    let p = storage_index g (g.held + gap) in
-    let w = spare_law g wf gap p ws room fits (storage_index_is g (g.held + gap)) in
+    let p = storage_index g (g.count + gap) in
+    let w = spare_law g wf gap p ws room fits (storage_index_is g (g.count + gap)) in
     let long = length-overwrite g.storage p ws in
     let t = with_enqueued_parts (written g p ws) (written_wf g wf p ws) (gap + k) (omega (arith, room, le, long)) in
     let s = length-spare g wf in
@@ -50,7 +50,7 @@ module _ {H : Type 0} where
   abbrev mk : ℕ → List ℕ → ℕ → List (Packet H) → PacketQueue H
   mk n st r ps = record { slot_count = n; storage = st; read_at = r; packets = ps }
 
-  pub contents_append : (ps : List (Packet H)) (p : Packet H) (bs x ws : List ℕ) → length bs ≡ bytes_of ps → length x ≡ p.gap → contents_of (ps ++ (p ∷ [])) (bs ++ (x ++ ws)) ≡ contents_of ps bs ++ ((p.header, take p.size ws) ∷ [])
+  pub contents_append : (ps : List (Packet H)) (p : Packet H) (bs x ws : List ℕ) → length bs ≡ bytes_used ps → length x ≡ p.gap → contents_of (ps ++ (p ∷ [])) (bs ++ (x ++ ws)) ≡ contents_of ps bs ++ ((p.header, take p.size ws) ∷ [])
   contents_append [] p bs x ws n l =
       let none : bs ≡ [] = nil_from_length bs n in
       ap (λ (y : List ℕ). contents_of (p ∷ []) (y ++ (x ++ ws))) none ∙ ap (λ (y : List ℕ). (p.header, take p.size y) ∷ []) (drop_at x ws p.gap l)
@@ -100,7 +100,7 @@ module _ {H : Type 0} where
     g = restarted b
 
     abbrev at : ℕ
-    at = storage_index g (g.held + gap)
+    at = storage_index g (g.count + gap)
 
     accepted_go : contents (mk (capacity m) (overwrite g.storage at ws) g.read_at (kept ++ (packet hd k gap ∷ []))) ≡ contents (packet_queue m b) ++ ((hd, take k ws) ∷ [])
     accepted_go =
@@ -109,7 +109,7 @@ module _ {H : Type 0} where
         let wf = wfg m b h gap s e in
         let held = held_g m b h gap s e in
         let sum = bytes_append kept (packet hd k gap) in
-        let n : bytes_of (kept ++ (packet hd k gap ∷ [])) ≡ g.held + (gap + k) = omega (arith, sum, held) in
+        let n : bytes_used (kept ++ (packet hd k gap ∷ [])) ≡ g.count + (gap + k) = omega (arith, sum, held) in
         let filled = filled_queue g wf gap k ws (omega (arith, room, long)) (omega (arith, fits.0, long)) (omega (arith, le, long)) in
         let q = length-queue g wf in
         let free = length-spare g wf in
@@ -146,7 +146,7 @@ module _ {H : Type 0} where
 
   -- ---- the first packet
   abbrev bytes : List ℕ → ℕ → List (Packet H) → RingState ℕ
-  bytes st r ps = ring st r (bytes_of ps)
+  bytes st r ps = ring st r (bytes_used ps)
 
   abbrev head_or : Packet H → List (Packet H) → Packet H
   head_or d [] = d
@@ -157,7 +157,7 @@ module _ {H : Type 0} where
       → (queue (bytes st (storage_index (bytes st r (p ∷ ps)) p.gap) (packet p.header p.size 0 ∷ ps)) ≡ drop p.gap (queue (bytes st r (p ∷ ps)))) × WellFormed (bytes st (storage_index (bytes st r (p ∷ ps)) p.gap) (packet p.header p.size 0 ∷ ps))
   skip_queue st r p ps wf =
       let c = bytes st r (p ∷ ps) in
-      let n : p.gap + p.size + bytes_of ps - p.gap ≡ 0 + p.size + bytes_of ps = omega arith in (
+      let n : p.gap + p.size + bytes_used ps - p.gap ≡ 0 + p.size + bytes_used ps = omega arith in (
         sym (ap (λ (i : ℕ). queue (ring st (storage_index c p.gap) i)) n) ∙ (with_dequeued_parts c wf p.gap (omega arith)).0,
         (place_wf (length st) r p.gap wf.0 (omega (arith, wf.1)), omega (arith, wf.1)),
       )
@@ -167,7 +167,7 @@ module _ {H : Type 0} where
       → queue (bytes st (storage_index (bytes st r (packet h s 0 ∷ ps)) s) ps) ≡ drop s (queue (bytes st r (packet h s 0 ∷ ps)))
   pop_queue st r h s ps wf =
       let c = bytes st r (packet h s 0 ∷ ps) in
-      let n : 0 + s + bytes_of ps - s ≡ bytes_of ps = omega arith in
+      let n : 0 + s + bytes_used ps - s ≡ bytes_used ps = omega arith in
       sym (ap (λ (i : ℕ). queue (ring st (storage_index c s) i)) n) ∙ (with_dequeued_parts c wf s (omega arith)).0
 
   -- the queue of bytes once the first packet, which has no gap, is written

@@ -6,8 +6,8 @@ use Rattle.std.specs.Prelude.{set}
 use Rattle.std.specs.declared.option.Option.TheVariants.{Some, None}
 use Rattle.net_storage.specs.Overwrite.{overwrite}
 use Rattle.net_storage.specs.Ring.{queue, storage_index}
-use Rattle.net_storage.specs.Packets.{Packet, PacketQueue, no_packets, packet, bytes_of, slots_used, byte_ring, place_in, ArePlaced, placement, pushed, pushed_if, placed_if_room, only_last, last_place, last_bytes, last_written, last_cut, with_first_size, first_gap, first_size, without_first_gap, skipped, with_first_header, first_written, popped, dequeued, handed, freed_place, freed_bytes, AreFreed, with_bytes, first_bytes, IsFirst, IsFirstSized, WellPlaced}
-use Rattle.net_storage.specs.PacketHistory.{contents_of, contents, Call, Reset, Place, WriteLast, Enqueue, EnqueueWith, Peek, DequeueErr, DequeueOk, Take, WriteFreed, Dequeue, Log, Makes, MakesAll, with_last_bytes, logged, logged_all, history}
+use Rattle.net_storage.specs.Packets.{Packet, PacketQueue, no_packets, packet, bytes_used, slots_used, byte_ring, place_in, ArePlaced, placement, pushed, pushed_if, placed_if_room, only_last, last_place, last_bytes, last_written, last_cut, with_first_size, first_gap, first_size, without_first_gap, skipped, with_first_header, first_written, popped, dequeued, handed, freed_place, freed_bytes, AreFreed, with_bytes, first_bytes, IsFirst, IsFirstSized, WellPlaced}
+use Rattle.net_storage.specs.PacketHistory.{contents_of, contents, QueueCall, Reset, Place, WriteLast, Enqueue, EnqueueWith, Peek, DequeueErr, DequeueOk, Take, WriteFreed, Dequeue, Log, Makes, MakesAll, with_last_bytes, logged, logged_all, history}
 use Rattle.net_storage.proofs.Overwrites.{overwrite-same}
 use Rattle.net_storage.proofs.Rotations.{IsStorageIndex, length-overwrite, length-queue, cut, overwrite_at, storage_index_is}
 use Rattle.net_storage.proofs.RingFacts.{held_law, spare_law}
@@ -31,7 +31,7 @@ module _ {H : Type 0} where
   -- ---- each step leaves the packets well placed
   with_bytes_well : (q : PacketQueue H) → WellPlaced q → (p : ℕ) (ws : List ℕ) → WellPlaced (with_bytes q p ws)
   with_bytes_well q ok p ws =
-      subst (λ (n : ℕ). (((q.read_at ≡ 0) ⊎ (q.read_at < n)) × (bytes_of q.packets ≤ n)) × ArePlaced n q.read_at 0 q.packets × (slots_used q.packets ≤ q.slot_count)) (sym (length-overwrite q.storage p ws)) ok
+      subst (λ (n : ℕ). (((q.read_at ≡ 0) ⊎ (q.read_at < n)) × (bytes_used q.packets ≤ n)) × ArePlaced n q.read_at 0 q.packets × (slots_used q.packets ≤ q.slot_count)) (sym (length-overwrite q.storage p ws)) ok
 
   skipped_go : (n : ℕ) (st : List ℕ) (r : ℕ) (ps : List (Packet H)) → WellPlaced (mk n st r ps) → WellPlaced (skipped (mk n st r ps))
   skipped_go n st r [] ok = ((place_wf (length st) r 0 ok.0.0 (omega arith), ok.0.1), tt, ok.2)
@@ -94,7 +94,7 @@ module _ {H : Type 0} where
           let g = some_of (placement q s) some in
           subst WellPlaced (cut_is s hd g.0 g.1 k ws) (with_bytes_well (pushed q g.0 k hd) (pushed_well s hd g.0 g.1 k le) (last_place (pushed q g.0 s hd)) ws)
 
-  keeps : (call : Call H) (q r : PacketQueue H) → WellPlaced q → Makes call q r → WellPlaced r
+  keeps : (call : QueueCall H) (q r : PacketQueue H) → WellPlaced q → Makes call q r → WellPlaced r
   keeps Reset q r ok is = subst WellPlaced (sym is) ((inl refl, omega arith), tt, omega arith)
   keeps (Place hd ws) q r ok does = subst WellPlaced (sym does.1) (placed_well q ok (length ws) hd does.0)
   keeps (WriteLast ws) q r ok does = subst WellPlaced (sym does.2) (with_bytes_well q ok (last_place q) ws)
@@ -126,12 +126,12 @@ module _ {H : Type 0} where
       let sum = bytes_append ps p in
       let size : length ws ≡ p.size = long ∙ ap first_size (last_append ps p) in
       let f = last_fits (length st) r 0 q.packets ok.0.0 (omega (arith, ok.0.1)) ok.1 in
-      let i : ℕ = bytes_of q.packets - first_size (only_last q.packets) in
-      let z : 0 + bytes_of q.packets - first_size (only_last q.packets) ≡ i = omega arith in
+      let i : ℕ = bytes_used q.packets - first_size (only_last q.packets) in
+      let z : 0 + bytes_used q.packets - first_size (only_last q.packets) ≡ i = omega arith in
       let at = ap (place_in (length st) r) z in
       let w = (held_law c ok.0 i (last_place q) ws (omega (arith, long, f.0)) (omega (arith, long, at, f.1)) (storage_index_is c i)).0 in
       let all = length-queue c ok.0 in
-      let c1 = cut (bytes_of ps) bs (omega (arith, all, sum)) in let a = c1.0 in let v = c1.1 in
+      let c1 = cut (bytes_used ps) bs (omega (arith, all, sum)) in let a = c1.0 in let v = c1.1 in
       let c2 = cut p.gap v (omega (arith, all, sum, c1.4)) in let x = c2.0 in let old = c2.1 in
       let whole : bs ≡ a ++ (x ++ old) = c1.2 ∙ ap (λ (l : List ℕ). a ++ l) c2.2 in
       let ax = length-append a x in
@@ -159,8 +159,8 @@ module _ {H : Type 0} where
   freed_contents q ok ws f =
       let c = byte_ring q in
       let s = length ws in
-      let i : ℕ = length q.storage - bytes_of q.packets - s in
-      let z : length q.storage - s ≡ c.held + i = omega (arith, f.0, ok.0.1) in
+      let i : ℕ = length q.storage - bytes_used q.packets - s in
+      let z : length q.storage - s ≡ c.count + i = omega (arith, f.0, ok.0.1) in
       let at = ap (storage_index c) z in
       let w = spare_law c ok.0 i (freed_place q s) ws (omega (arith, f.0)) f.1 (subst (λ (j : ℕ). IsStorageIndex (length q.storage) q.read_at j (freed_place q s)) z (storage_index_is c (length q.storage - s))) in
       ap (contents_of q.packets) w.0
@@ -170,7 +170,7 @@ module _ {H : Type 0} where
   close_size (p ∷ ps) = refl
 
   -- the bytes of a packet that was taken off lie before the read index
-  rest_bytes : (ps : List (Packet H)) → bytes_of (drop 1 ps) + first_size ps ≤ bytes_of ps
+  rest_bytes : (ps : List (Packet H)) → bytes_used (drop 1 ps) + first_size ps ≤ bytes_used ps
   rest_bytes [] = omega arith
   rest_bytes (p ∷ ps) = omega arith
 
@@ -217,7 +217,7 @@ module _ {H : Type 0} where
       let o = placed_if_room q s hd in
       let w = placed_well q ok s hd some in
       let f = last_fits (length o.storage) o.read_at 0 o.packets w.0.0 (omega (arith, w.0.1)) w.1 in
-      let z : 0 + bytes_of o.packets - first_size (only_last o.packets) ≡ bytes_of o.packets - first_size (only_last o.packets) = omega arith in
+      let z : 0 + bytes_used o.packets - first_size (only_last o.packets) ≡ bytes_used o.packets - first_size (only_last o.packets) = omega arith in
       let at = ap (place_in (length o.storage) o.read_at) z in
       let long = length-drop (last_place o) o.storage in
       let size : first_size (only_last o.packets) ≡ s = ap (λ (p : PacketQueue H). first_size (only_last p.packets)) (placed_is q ok s hd g.0 g.1) ∙ ap first_size (last_append q.packets (packet hd s g.0)) in
@@ -295,7 +295,7 @@ module _ {H : Type 0} where
       ap (λ l. log.left ++ l) is ∙ sym (append_assoc log.left front ((hd, ws) ∷ [])) ∙ sym (last_entry (log.left ++ front) hd old ws)
       ∙ ap (with_last_bytes ws) (append_assoc log.left front ((hd, old) ∷ []) ∙ ap (λ l. log.left ++ l) (sym was) ∙ turn)
 
-  call_turn : (call : Call H) (log : Log H) (q r : PacketQueue H) → WellPlaced q → Makes call q r → InTurn log q → InTurn (logged call log) r
+  call_turn : (call : QueueCall H) (log : Log H) (q r : PacketQueue H) → WellPlaced q → Makes call q r → InTurn log q → InTurn (logged call log) r
   call_turn Reset log q r ok is turn = ap (λ o. log.left ++ contents o) is ∙ append-nil log.left
   call_turn (Place hd ws) log q r ok does turn =
       more log q r (hd, ws) turn (ap contents does.1 ∙ placed_contents q ok hd ws does.0 (does.2 ∙ ap last_bytes does.1))
@@ -316,11 +316,11 @@ module _ {H : Type 0} where
       let size = ap first_size does.0.0 in
       off log q r (hd, ws) turn (order.shown q ok hd ws does.0) (ap contents does.2 ∙ off_contents q ok written (does.1 ∙ sym size) ∙ order.left q ok)
 
-  calls_turn : (calls : List (Call H)) (log : Log H) (q r : PacketQueue H) → WellPlaced q → MakesAll calls q r → InTurn log q → InTurn (logged_all calls log) r
+  calls_turn : (calls : List (QueueCall H)) (log : Log H) (q r : PacketQueue H) → WellPlaced q → MakesAll calls q r → InTurn log q → InTurn (logged_all calls log) r
   calls_turn [] log q r ok run turn = ap (λ o. log.left ++ contents o) run ∙ turn
   calls_turn (call ∷ calls) log q r ok run turn =
       calls_turn calls (logged call log) run.0 r (keeps call q run.0 ok run.1) run.2 (call_turn call log q run.0 ok run.1 turn)
 
-  pub in_turn : (slots : ℕ) (storage : List ℕ) (calls : List (Call H)) (r : PacketQueue H) → MakesAll calls (no_packets slots storage) r → InTurn (history calls) r
+  pub in_turn : (slots : ℕ) (storage : List ℕ) (calls : List (QueueCall H)) (r : PacketQueue H) → MakesAll calls (no_packets slots storage) r → InTurn (history calls) r
   in_turn slots storage calls r run =
       calls_turn calls (record { accepted = []; left = [] }) (no_packets slots storage) r ((inl refl, omega arith), tt, omega arith) run refl

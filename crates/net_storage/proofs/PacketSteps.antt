@@ -7,8 +7,8 @@ use Rattle.std.specs.Prelude.{true, Option}
 use Rattle.std.specs.List.{slice_get}
 use Rattle.std.specs.declared.option.Option.TheVariants.{Some, None}
 use Rattle.net_storage.specs.Overwrite.{overwrite}
-use Rattle.net_storage.specs.Ring.{RingState, ring, rotation, capacity, window, queue, storage_index, WellFormed, restarted, with_enqueued, with_dequeued, written, contiguous_window, contiguous_held, held_index, contiguous_held_from, spare_index, contiguous_window_from}
-use Rattle.net_storage.specs.Packets.{Packet, PacketQueue, packet, bytes_of, slots_used, slots_for, byte_ring, place_in, IsPlaced, ArePlaced, gap_for, placement, pushed, placed_if_room, pushed_if, only_last, before_last, last_place, last_bytes, last_written, last_cut, with_first_size, IsRoom, first_gap, first_size, without_first_gap, skipped, IsFirstSized, first_bytes, IsFirst, with_first_header, first_written, popped, freed_place, AreFreed, WellPlaced, with_bytes}
+use Rattle.net_storage.specs.Ring.{RingState, ring, rotation, capacity, window, queue, storage_index, WellFormed, restarted, with_enqueued, with_dequeued, written, contiguous_window, contiguous_queued, queue_index, contiguous_queued_from, spare_index, contiguous_window_from}
+use Rattle.net_storage.specs.Packets.{Packet, PacketQueue, packet, bytes_used, slots_used, slots_for, byte_ring, place_in, IsPlaced, ArePlaced, gap_for, placement, pushed, placed_if_room, pushed_if, only_last, before_last, last_place, last_bytes, last_written, last_cut, with_first_size, IsRoom, first_gap, first_size, without_first_gap, skipped, IsFirstSized, first_bytes, IsFirst, with_first_header, first_written, popped, freed_place, AreFreed, WellPlaced, with_bytes}
 use Rattle.net_storage.specs.PacketSlots.{slot, gap_slot, packet_slots, packets_in, Holds, packet_queue}
 use Rattle.net_storage.specs.declared.packet_metadata.PacketMetadata.{PacketMetadata}
 use Rattle.net_storage.proofs.Rotations.{length-overwrite, length-queue, with_dequeued_parts, part-rotation, cut, overwrite_at, read_at_le}
@@ -16,8 +16,8 @@ use Rattle.net_storage.proofs.RingFacts.{read_index_is}
 use Rattle.net_storage.proofs.PacketFacts.{round, slots_append, slots_of_append, bytes_append, placed_append, placed_anew, placed_here, placed_skip, placed_pop, slots_some, restart_cases, restart_wf, held_is, place_zero, place_le_in, place_wf, gap_slot_one, gap_slot_none, place_cases}
 
 module _ (b : RingState ℕ) where
-  pub restart_held : (restarted b).held ≡ b.held
-  restart_held = elim (restart_cases b) [ inl h ↦ ap (λ o. o.held) h.1 ∙ sym h.0 | inr h ↦ ap (λ o. o.held) h.1 ]
+  pub restart_held : (restarted b).count ≡ b.count
+  restart_held = elim (restart_cases b) [ inl h ↦ ap (λ o. o.count) h.1 ∙ sym h.0 | inr h ↦ ap (λ o. o.count) h.1 ]
 
   pub restart_storage : (restarted b).storage ≡ b.storage
   restart_storage = elim (restart_cases b) [ inl h ↦ ap (λ o. o.storage) h.1 | inr h ↦ ap (λ o. o.storage) h.1 ]
@@ -81,8 +81,8 @@ module _ {H : Type 0} where
     pub wfg : WellFormed g
     wfg = restart_wf b h.1
 
-    pub here : (place_in room g.read_at (g.held + gap) + s ≤ room) × (gap ≢ 0 → place_in room g.read_at g.held + gap ≡ room) × (g.held + gap + s ≤ room)
-    here = placed_here room g.read_at g.held s gap wfg.0 wfg.1 for_g
+    pub here : (place_in room g.read_at (g.count + gap) + s ≤ room) × (gap ≢ 0 → place_in room g.read_at g.count + gap ≡ room) × (g.count + gap + s ≤ room)
+    here = placed_here room g.read_at g.count s gap wfg.0 wfg.1 for_g
 
     pub free_room : slots_for gap ≤ window m
     free_room = let n = held_is m b held_packets h in omega (arith, parts.1, n)
@@ -90,7 +90,7 @@ module _ {H : Type 0} where
     pub byte_room : gap + s ≤ window g
     byte_room = omega (arith, here.2)
 
-    pub held_g : g.held ≡ bytes_of held_packets
+    pub held_g : g.count ≡ bytes_used held_packets
     held_g = restart_held b ∙ h.3
 
     placed_g : ArePlaced room g.read_at 0 held_packets
@@ -111,8 +111,8 @@ module _ {H : Type 0} where
       module _ (le : k ≤ s) where
         push_placed : ArePlaced room g.read_at 0 one_more
         push_placed =
-            let at : IsPlaced room g.read_at (0 + bytes_of held_packets) (packet hd k gap) =
-            subst (λ (n : ℕ). IsPlaced room g.read_at n (packet hd k gap)) (let z : g.held ≡ 0 + bytes_of held_packets = omega (arith, held_g) in z) (omega (arith, here.0, le), here.1) in
+            let at : IsPlaced room g.read_at (0 + bytes_used held_packets) (packet hd k gap) =
+            subst (λ (n : ℕ). IsPlaced room g.read_at n (packet hd k gap)) (let z : g.count ≡ 0 + bytes_used held_packets = omega (arith, held_g) in z) (omega (arith, here.0, le), here.1) in
             placed_append room g.read_at 0 held_packets (packet hd k gap) placed_g at
 
         pub push_well : WellPlaced (pushed before gap k hd)
@@ -144,17 +144,17 @@ module _ {H : Type 0} where
       end_size : first_size (only_last all) ≡ s
       end_size = ap first_size (last_append held_packets (packet hd s gap))
 
-      push_place : last_place (pushed before gap s hd) ≡ place_in room g.read_at (g.held + gap)
+      push_place : last_place (pushed before gap s hd) ≡ place_in room g.read_at (g.count + gap)
       push_place =
           let sum = bytes_append held_packets (packet hd s gap) in
-          let n : bytes_of all - first_size (only_last all) ≡ g.held + gap = omega (arith, sum, end_size, held_g) in
+          let n : bytes_used all - first_size (only_last all) ≡ g.count + gap = omega (arith, sum, end_size, held_g) in
           ap (place_in (length b.storage) (restarted (byte_ring before)).read_at) n
-          ∙ ap (λ (o : RingState ℕ). place_in (length b.storage) (restarted o).read_at (g.held + gap)) same
-          ∙ ap (λ (st : List ℕ). place_in (length st) g.read_at (g.held + gap)) (sym (restart_storage b))
+          ∙ ap (λ (o : RingState ℕ). place_in (length b.storage) (restarted o).read_at (g.count + gap)) same
+          ∙ ap (λ (st : List ℕ). place_in (length st) g.read_at (g.count + gap)) (sym (restart_storage b))
 
       -- where the last packet's bytes begin
       abbrev at : ℕ
-      at = place_in room g.read_at (g.held + gap)
+      at = place_in room g.read_at (g.count + gap)
 
       pub put_is : (ws : List ℕ) → mk (capacity m) (overwrite g.storage at ws) g.read_at all ≡ last_written (placed_if_room before s hd) ws
       put_is ws =
@@ -170,9 +170,9 @@ module _ {H : Type 0} where
           ∙ ap (last_cut k) (put_is ws)
 
       module _ (b1 : RingState ℕ) (is : b1 ≡ g) where
-        fill_at : spare_index b1 gap ≡ place_in room g.read_at (g.held + gap)
+        fill_at : spare_index b1 gap ≡ place_in room g.read_at (g.count + gap)
         fill_at =
-            let z : g.held + min gap (window g) ≡ g.held + gap = omega (arith, byte_room) in
+            let z : g.count + min gap (window g) ≡ g.count + gap = omega (arith, byte_room) in
             ap (λ o. spare_index o gap) is ∙ ap (place_in room g.read_at) z
 
         fill_place : spare_index b1 gap ≡ last_place (placed_if_room before s hd)
@@ -221,8 +221,8 @@ module _ {H : Type 0} where
       ap (λ (n : ℕ). drop n (p ∷ (q ∷ ps))) one ∙ ap (λ (n : ℕ). drop n (q ∷ ps)) two
 
   -- where the last packet is
-  pub last_fits : (c r o : ℕ) (ps : List (Packet H)) → (r ≡ 0) ⊎ (r < c) → o + bytes_of ps ≤ c → ArePlaced c r o ps
-      → (first_size (only_last ps) ≤ bytes_of ps) × (place_in c r (o + bytes_of ps - first_size (only_last ps)) + first_size (only_last ps) ≤ c)
+  pub last_fits : (c r o : ℕ) (ps : List (Packet H)) → (r ≡ 0) ⊎ (r < c) → o + bytes_used ps ≤ c → ArePlaced c r o ps
+      → (first_size (only_last ps) ≤ bytes_used ps) × (place_in c r (o + bytes_used ps - first_size (only_last ps)) + first_size (only_last ps) ≤ c)
   last_fits c r o [] wf le a =
       let at = place_le_in c r o wf (omega (arith, le)) in
       let z : o + 0 - 0 ≡ o = omega arith in
@@ -236,7 +236,7 @@ module _ {H : Type 0} where
   last_fits c r o (p ∷ (q ∷ ps)) wf le a =
       let s = ap first_size (last_cons p q ps) in
       let rest = last_fits c r (o + p.gap + p.size) (q ∷ ps) wf (omega (arith, le)) a.1 in
-      let z : o + bytes_of (p ∷ (q ∷ ps)) - first_size (only_last (p ∷ (q ∷ ps))) ≡ o + p.gap + p.size + bytes_of (q ∷ ps) - first_size (only_last (q ∷ ps)) = omega (arith, s) in
+      let z : o + bytes_used (p ∷ (q ∷ ps)) - first_size (only_last (p ∷ (q ∷ ps))) ≡ o + p.gap + p.size + bytes_used (q ∷ ps) - first_size (only_last (q ∷ ps)) = omega (arith, s) in
       let is = ap (place_in c r) z in
       (omega (arith, s, rest.0), omega (arith, is, s, rest.1))
 
@@ -256,20 +256,20 @@ module _ {H : Type 0} where
     abbrev end : ℕ
     end = first_size (only_last (packets_in 0 (queue m)))
 
-    ends : (end ≤ bytes_of (packets_in 0 (queue m))) × (place_in (capacity b) b.read_at (0 + bytes_of (packets_in 0 (queue m)) - end) + end ≤ capacity b)
+    ends : (end ≤ bytes_used (packets_in 0 (queue m))) × (place_in (capacity b) b.read_at (0 + bytes_used (packets_in 0 (queue m)) - end) + end ≤ capacity b)
     ends = last_fits (capacity b) b.read_at 0 (packets_in 0 (queue m)) h.1.0 (omega (arith, h.3, h.1.1)) h.4
 
-    pub end_held : end ≤ b.held
+    pub end_held : end ≤ b.count
     end_held = omega (arith, h.3, ends.0)
 
-    pub end_place : held_index b (b.held - end) ≡ last_place (packet_queue m b)
+    pub end_place : queue_index b (b.count - end) ≡ last_place (packet_queue m b)
     end_place =
-        let z : min (b.held - end) b.held ≡ bytes_of (packets_in 0 (queue m)) - end = omega (arith, h.3) in
+        let z : min (b.count - end) b.count ≡ bytes_used (packets_in 0 (queue m)) - end = omega (arith, h.3) in
         ap (place_in (capacity b) b.read_at) z
 
-    pub end_run : contiguous_held_from b (b.held - end) end ≡ end
+    pub end_run : contiguous_queued_from b (b.count - end) end ≡ end
     end_run =
-        let z : min (b.held - end) b.held ≡ 0 + bytes_of (packets_in 0 (queue m)) - end = omega (arith, h.3) in
+        let z : min (b.count - end) b.count ≡ 0 + bytes_used (packets_in 0 (queue m)) - end = omega (arith, h.3) in
         let at = ap (place_in (capacity b) b.read_at) z in
         omega (arith, at, ends.0, ends.1, h.3)
 
@@ -279,9 +279,9 @@ module _ {H : Type 0} where
   skip_holds m b (p ∷ ps) h pos =
       let wf = h.1 in
       let some : queue m ≡ slot p.gap None ∷ (slot p.size (Some p.header) ∷ packet_slots ps) = h.2 ∙ ap (λ l. l ++ (slot p.size (Some p.header) ∷ packet_slots ps)) (gap_slot_one p.gap pos) in
-      let many : 1 ≤ m.held = omega (arith, length-queue m h.0, ap length some) in
+      let many : 1 ≤ m.count = omega (arith, length-queue m h.0, ap length some) in
       let off = with_dequeued_parts m h.0 1 many in
-      let all : b.held ≡ p.gap + p.size + bytes_of ps = h.3 in (
+      let all : b.count ≡ p.gap + p.size + bytes_used ps = h.3 in (
         (place_wf (capacity m) m.read_at 1 h.0.0 (omega (arith, many, h.0.1)), omega (arith, h.0.1)),
         (place_wf (capacity b) b.read_at p.gap wf.0 (omega (arith, all, wf.1)), omega (arith, wf.1)),
         off.0 ∙ ap (drop 1) some,
@@ -331,7 +331,7 @@ module _ {H : Type 0} where
       (p, refl, ap (first_or x) f, ap (drop 1) f, z)
 
   -- where the first packet is
-  pub front_fits : (c r : ℕ) (ps : List (Packet H)) → (r ≡ 0) ⊎ (r < c) → bytes_of ps ≤ c → ArePlaced c r 0 ps → first_gap ps ≡ 0 → (first_size ps ≤ bytes_of ps) × (r + first_size ps ≤ c)
+  pub front_fits : (c r : ℕ) (ps : List (Packet H)) → (r ≡ 0) ⊎ (r < c) → bytes_used ps ≤ c → ArePlaced c r 0 ps → first_gap ps ≡ 0 → (first_size ps ≤ bytes_used ps) × (r + first_size ps ≤ c)
   front_fits c r [] wf le a z = (omega arith, elim wf [ inl e ↦ omega (arith, e) | inr l ↦ omega (arith, l) ])
   front_fits c r (p ∷ ps) wf le a z =
       let n : 0 + p.gap ≡ 0 = omega (arith, z) in
@@ -339,7 +339,7 @@ module _ {H : Type 0} where
       let at = place_zero c r wf in
       (omega arith, omega (arith, is, at, a.0.0))
 
-  pop_go : (m2 : RingState (PacketMetadata H)) (b : RingState ℕ) (ps : List (Packet H)) → WellFormed m2 → queue m2 ≡ packet_slots (drop 1 ps) → WellFormed b → b.held ≡ bytes_of ps → ArePlaced (capacity b) b.read_at 0 ps → first_gap ps ≡ 0
+  pop_go : (m2 : RingState (PacketMetadata H)) (b : RingState ℕ) (ps : List (Packet H)) → WellFormed m2 → queue m2 ≡ packet_slots (drop 1 ps) → WellFormed b → b.count ≡ bytes_used ps → ArePlaced (capacity b) b.read_at 0 ps → first_gap ps ≡ 0
       → Holds m2 (with_dequeued (first_size ps) b) (drop 1 ps)
   pop_go m2 b [] wfm em wf n a z =
       (wfm, (place_wf (capacity b) b.read_at 0 wf.0 (omega arith), omega (arith, wf.1)), em, omega (arith, n), tt)
@@ -355,16 +355,16 @@ module _ {H : Type 0} where
     abbrev front : ℕ
     front = first_size (packets_in 0 (queue m))
 
-    fits : (front ≤ bytes_of (packets_in 0 (queue m))) × (b.read_at + front ≤ capacity b)
+    fits : (front ≤ bytes_used (packets_in 0 (queue m))) × (b.read_at + front ≤ capacity b)
     fits = front_fits (capacity b) b.read_at (packets_in 0 (queue m)) h.1.0 (omega (arith, h.3, h.1.1)) h.4 z
 
-    pub front_in_row : front ≤ contiguous_held b
+    pub front_in_row : front ≤ contiguous_queued b
     front_in_row = omega (arith, h.3, fits.0, fits.1)
 
-    pub front_at : held_index b 0 ≡ b.read_at
-    front_at = let n : min 0 b.held ≡ 0 = omega arith in ap (place_in (capacity b) b.read_at) n ∙ place_zero (capacity b) b.read_at h.1.0
+    pub front_at : queue_index b 0 ≡ b.read_at
+    front_at = let n : min 0 b.count ≡ 0 = omega arith in ap (place_in (capacity b) b.read_at) n ∙ place_zero (capacity b) b.read_at h.1.0
 
-    pub front_run : contiguous_held_from b 0 front ≡ front
+    pub front_run : contiguous_queued_from b 0 front ≡ front
     front_run = let at = front_at in omega (arith, h.3, fits.0, fits.1, at)
 
     -- the first slot is that of the first packet
@@ -458,16 +458,16 @@ module _ {H : Type 0} where
       let many = length-append s.0 (s.1 ∷ []) in
       absurd (last_unread s.0 s.1 l k n (omega (arith, ek, long, many)) (some (omega (arith, long, many))) (el ∙ ap (λ o. take n (drop k o)) whole) i)
 
-  module _ (m : RingState (PacketMetadata H)) (b : RingState ℕ) (h : Holds m b (packets_in 0 (queue m))) (k n : ℕ) (ek : k ≡ m.held - 1) (en : n ≡ contiguous_held_from m k 1) (l : List (PacketMetadata H)) (el : l ≡ take n (drop k (queue m))) where
+  module _ (m : RingState (PacketMetadata H)) (b : RingState ℕ) (h : Holds m b (packets_in 0 (queue m))) (k n : ℕ) (ek : k ≡ m.count - 1) (en : n ≡ contiguous_queued_from m k 1) (l : List (PacketMetadata H)) (el : l ≡ take n (drop k (queue m))) where
     back : k ≡ length (queue m) - 1
     back = let long = length-queue m h.0 in omega (arith, long, ek)
 
     some : 1 ≤ length (queue m) → 1 ≤ n
     some le =
         let long = length-queue m h.0 in
-        let at : min k m.held ≡ m.held - 1 = omega (arith, ek) in
+        let at : min k m.count ≡ m.count - 1 = omega (arith, ek) in
         let is = ap (place_in (capacity m) m.read_at) at in
-        let w = place_wf (capacity m) m.read_at (m.held - 1) h.0.0 (omega (arith, h.0.1)) in
+        let w = place_wf (capacity m) m.read_at (m.count - 1) h.0.0 (omega (arith, h.0.1)) in
         elim w [ inl z ↦ omega (arith, z, is, en, long, le, ek, h.0.1) | inr z ↦ omega (arith, z, is, en, long, le, ek, h.0.1) ]
 
     pub end_some : (x : PacketMetadata H) → Some x ≡ slice_get l 0 → x.size ≡ first_size (only_last (packets_in 0 (queue m)))
@@ -503,7 +503,7 @@ module _ {H : Type 0} where
     pub freed_at : spare_index b (window b - s) ≡ freed_place (packet_queue m b) s
     freed_at =
         let n = h.3 in
-        let z : b.held + min (window b - s) (window b) ≡ length b.storage - s = omega (arith, f.0, n, h.1.1) in
+        let z : b.count + min (window b - s) (window b) ≡ length b.storage - s = omega (arith, f.0, n, h.1.1) in
         ap (place_in (capacity b) b.read_at) z
 
     pub freed_run : contiguous_window_from b (window b - s) s ≡ s
@@ -535,15 +535,15 @@ over_part st ws r n fits le =
     ∙ sym (ap (λ (l : List ℕ). overwrite l r ws) parts ∙ overwrite_at a one (two ++ z) ws r c1.3 c3.3)
 
 -- what a ring lends from its read index on
-lent_is : (b : RingState ℕ) → WellFormed b → take (contiguous_held b) (queue b) ≡ take (contiguous_held b) (drop b.read_at b.storage)
+lent_is : (b : RingState ℕ) → WellFormed b → take (contiguous_queued b) (queue b) ≡ take (contiguous_queued b) (drop b.read_at b.storage)
 lent_is b wf =
     let r = read_at_le b wf in
-    take-take (contiguous_held b) b.held (rotation b.storage b.read_at) (omega arith)
-    ∙ sym (part-rotation b.storage b.read_at 0 b.read_at (contiguous_held b) r (omega (arith, wf.1)) (omega (arith, r)) (read_index_is b wf))
+    take-take (contiguous_queued b) b.count (rotation b.storage b.read_at) (omega arith)
+    ∙ sym (part-rotation b.storage b.read_at 0 b.read_at (contiguous_queued b) r (omega (arith, wf.1)) (omega (arith, r)) (read_index_is b wf))
 
 module _ {H : Type 0} where
   headed_go : (m2 : RingState (PacketMetadata H)) (b : RingState ℕ) (ps : List (Packet H)) (hd : H) → first_gap ps ≡ 0 → 0 < length ps → queue m2 ≡ slot (first_size ps) (Some hd) ∷ packet_slots (drop 1 ps) → WellFormed m2
-      → WellFormed b → b.held ≡ bytes_of ps → ArePlaced (capacity b) b.read_at 0 ps → Holds m2 b (with_first_header hd ps)
+      → WellFormed b → b.count ≡ bytes_used ps → ArePlaced (capacity b) b.read_at 0 ps → Holds m2 b (with_first_header hd ps)
   headed_go m2 b [] hd z some em wfm wf n a = absurd (omega (arith, some))
   headed_go m2 b (p ∷ ps) hd z some em wfm wf n a = (wfm, wf, em ∙ sym (front_slots ps (packet hd p.size p.gap) z), n, a)
 
@@ -561,7 +561,7 @@ module _ {H : Type 0} where
     kept = packets_in 0 (queue m)
 
     abbrev lent : List ℕ
-    lent = take (contiguous_held b) (queue b)
+    lent = take (contiguous_queued b) (queue b)
 
     first_is : (p : Packet H) × (kept ≡ p ∷ drop 1 kept) × (slot s (Some hd) ≡ slot p.size (Some p.header)) × (drop 1 (queue m) ≡ packet_slots (drop 1 kept)) × (p.gap ≡ 0)
     first_is = front_slot m b h z (slot s (Some hd)) e
@@ -569,17 +569,17 @@ module _ {H : Type 0} where
     size_is : s ≡ first_size kept
     size_is = front_long m b h z (slot s (Some hd)) e
 
-    row : s ≤ contiguous_held b
+    row : s ≤ contiguous_queued b
     row = let f = front_in_row m b h z in omega (arith, f, size_is)
 
     pub lift_fits : s ≤ length lent
     lift_fits =
         let long = length-queue b h.1 in
-        let n = length-take (contiguous_held b) (queue b) in
+        let n = length-take (contiguous_queued b) (queue b) in
         omega (arith, row, n, long)
 
     pub lift_bytes : take s lent ≡ first_bytes (packet_queue m b)
-    lift_bytes = ap (take s) (lent_is b h.1) ∙ take-take s (contiguous_held b) (drop b.read_at b.storage) row ∙ ap (λ (n : ℕ). take n (drop b.read_at b.storage)) size_is
+    lift_bytes = ap (take s) (lent_is b h.1) ∙ take-take s (contiguous_queued b) (drop b.read_at b.storage) row ∙ ap (λ (n : ℕ). take n (drop b.read_at b.storage)) size_is
 
     pub lift_front : (old : PacketQueue H) → packet_queue m b ≡ skipped old → IsFirst old hd (take s lent)
     lift_front old is =
@@ -589,12 +589,12 @@ module _ {H : Type 0} where
     module _ (after ws : List ℕ) (left : after ≡ ws ++ drop s lent) (long : length ws ≡ s) (k : ℕ) (b2 : RingState ℕ) (is : b2 ≡ written (with_dequeued k b) b.read_at after) where
       over : overwrite b.storage b.read_at after ≡ overwrite b.storage b.read_at ws
       over =
-          let fits : b.read_at + contiguous_held b ≤ length b.storage = let r = read_at_le b h.1 in omega (arith, r) in
+          let fits : b.read_at + contiguous_queued b ≤ length b.storage = let r = read_at_le b h.1 in omega (arith, r) in
           ap (overwrite b.storage b.read_at) (left ∙ ap (λ (n : ℕ). ws ++ drop n lent) (sym long) ∙ ap (λ (l : List ℕ). ws ++ drop (length ws) l) (lent_is b h.1))
-          ∙ over_part b.storage ws b.read_at (contiguous_held b) fits (omega (arith, long, row))
+          ∙ over_part b.storage ws b.read_at (contiguous_queued b) fits (omega (arith, long, row))
 
       bytes_are : b2 ≡ written (with_dequeued k b) b.read_at ws
-      bytes_are = is ∙ ap (λ (st : List ℕ). ring st (storage_index b k) (b.held - k)) over
+      bytes_are = is ∙ ap (λ (st : List ℕ). ring st (storage_index b k) (b.count - k)) over
 
       -- it is taken off
       module _ (all : k ≡ s) (m2 : RingState (PacketMetadata H)) (em : queue m2 ≡ drop 1 (queue m)) (wfm : WellFormed m2) where
@@ -604,7 +604,7 @@ module _ {H : Type 0} where
         off_is : b2 ≡ with_dequeued (first_size kept) (written b b.read_at ws)
         off_is =
             bytes_are ∙ ap (λ (n : ℕ). written (with_dequeued n b) b.read_at ws) (all ∙ size_is)
-            ∙ ap (λ (c : ℕ). ring (overwrite b.storage b.read_at ws) (place_in c b.read_at (first_size kept)) (b.held - first_size kept)) long_is
+            ∙ ap (λ (c : ℕ). ring (overwrite b.storage b.read_at ws) (place_in c b.read_at (first_size kept)) (b.count - first_size kept)) long_is
 
         off_holds : Holds m2 (with_dequeued (first_size kept) (written b b.read_at ws)) (drop 1 kept)
         off_holds = pop_holds m (written b b.read_at ws) (written_holds m b kept h b.read_at ws) z m2 (em ∙ first_is.3) wfm
@@ -623,7 +623,7 @@ module _ {H : Type 0} where
         on_is : b2 ≡ written b b.read_at ws
         on_is =
             bytes_are ∙ ap (λ (n : ℕ). written (with_dequeued n b) b.read_at ws) none
-            ∙ ap₂ (λ (r n : ℕ). ring (overwrite b.storage b.read_at ws) r n) (place_zero (capacity b) b.read_at h.1.0) (let n : b.held - 0 ≡ b.held = omega arith in n)
+            ∙ ap₂ (λ (r n : ℕ). ring (overwrite b.storage b.read_at ws) r n) (place_zero (capacity b) b.read_at h.1.0) (let n : b.count - 0 ≡ b.count = omega arith in n)
 
         on_holds : Holds m2 (written b b.read_at ws) (with_first_header new kept)
         on_holds =

@@ -7,7 +7,7 @@ use Rattle.std.proofs.lemmas.Bool.{false≢true, cases_lt, ne_eqb, eq-eqb}
 use Rattle.std.specs.Prelude.{Result, IsOk, IsErr, is_ok}
 use Rattle.std.specs.declared.result.Result.TheVariants.{Ok, Err}
 use Rattle.net_storage.specs.Overwrite.{overwrite}
-use Rattle.net_storage.specs.Ring.{RingState, rotation, ring, capacity, window, queue, spare, storage_index, write_at, WellFormed, written, written_wrapping, with_enqueued, with_dequeued, restarted, contiguous_window, contiguous_held, spare_index, contiguous_window_from, held_index, contiguous_held_from, Enqueued, Dequeued, SpareWritten, QueueWritten, EnqueuedFrom, DequeuedFrom}
+use Rattle.net_storage.specs.Ring.{RingState, rotation, ring, capacity, window, queue, spare, storage_index, write_at, WellFormed, written, written_wrapping, with_enqueued, with_dequeued, restarted, contiguous_window, contiguous_queued, spare_index, contiguous_window_from, queue_index, contiguous_queued_from, Enqueued, Dequeued, SpareWritten, QueueWritten, EnqueuedFrom, DequeuedFrom}
 use Rattle.net_storage.proofs.Rotations.{IsStorageIndex, cut, length-rotation, overwrite_at, length-overwrite, storage_index_is, part-rotation, read_at_le, whole, length-queue, length-spare, spare-written, queue-written, with_enqueued_parts, with_dequeued_parts, take_sum}
 
 module _ {T : Type 0} where
@@ -84,12 +84,12 @@ module _ {T : Type 0} where
   first_of xs x e = sym (take-append-drop 1 xs) ∙ ap (λ (l : List T). l ++ drop 1 xs) (sym e)
 
   -- ---- a ring, which is its three parts
-  pub ring_is : (a b : RingState T) → a.storage ≡ b.storage → a.read_at ≡ b.read_at → a.held ≡ b.held → a ≡ b
-  ring_is a b es er eh = ap (λ l. ring l a.read_at a.held) es ∙ ap₂ (λ r n. ring b.storage r n) er eh
+  pub ring_is : (a b : RingState T) → a.storage ≡ b.storage → a.read_at ≡ b.read_at → a.count ≡ b.count → a ≡ b
+  ring_is a b es er eh = ap (λ l. ring l a.read_at a.count) es ∙ ap₂ (λ r n. ring b.storage r n) er eh
 
   module _ (g : RingState T) (wf : WellFormed g) where
     pub written_wf : (p : ℕ) (ws : List T) → WellFormed (written g p ws)
-    written_wf p ws = subst (λ (n : ℕ). ((g.read_at ≡ 0) ⊎ (g.read_at < n)) × (g.held ≤ n)) (sym (length-overwrite g.storage p ws)) wf
+    written_wf p ws = subst (λ (n : ℕ). ((g.read_at ≡ 0) ⊎ (g.read_at < n)) × (g.count ≤ n)) (sym (length-overwrite g.storage p ws)) wf
 
     pub storage_index_le : (j : ℕ) → j ≤ capacity g → storage_index g j ≤ capacity g
     storage_index_le j le = elim (storage_index_is g j) [ inl h ↦ omega (arith, h.0, h.1, read_at_le g wf) | inr h ↦ omega (arith, h.0, h.1, read_at_le g wf) ]
@@ -100,33 +100,33 @@ module _ {T : Type 0} where
       | inr h ↦ inl (omega (arith, h), omega arith)
     ]
 
-    pub write_index_is : IsStorageIndex (capacity g) g.read_at (g.held + 0) (write_at g)
-    write_index_is = subst (λ (j : ℕ). IsStorageIndex (capacity g) g.read_at j (write_at g)) (sym (add-zero g.held)) (storage_index_is g g.held)
+    pub write_index_is : IsStorageIndex (capacity g) g.read_at (g.count + 0) (write_at g)
+    write_index_is = subst (λ (j : ℕ). IsStorageIndex (capacity g) g.read_at j (write_at g)) (sym (add-zero g.count)) (storage_index_is g g.count)
 
     -- ---- parts of the storage, by queue and spare part
-    pub spare_value : (i k p : ℕ) → i + k ≤ window g → p + k ≤ capacity g → IsStorageIndex (capacity g) g.read_at (g.held + i) p → take k (drop p g.storage) ≡ take k (drop i (spare g))
-    spare_value i k p hi hp at = part-rotation g.storage g.read_at (g.held + i) p k (read_at_le g wf) (omega (arith, wf.1)) hp at ∙ ap (take k) (sym (drop-drop i g.held (rotation g.storage g.read_at)))
+    pub spare_value : (i k p : ℕ) → i + k ≤ window g → p + k ≤ capacity g → IsStorageIndex (capacity g) g.read_at (g.count + i) p → take k (drop p g.storage) ≡ take k (drop i (spare g))
+    spare_value i k p hi hp at = part-rotation g.storage g.read_at (g.count + i) p k (read_at_le g wf) (omega (arith, wf.1)) hp at ∙ ap (take k) (sym (drop-drop i g.count (rotation g.storage g.read_at)))
 
-    pub held_value : (i k p : ℕ) → i + k ≤ g.held → p + k ≤ capacity g → IsStorageIndex (capacity g) g.read_at i p → take k (drop p g.storage) ≡ take k (drop i (queue g))
+    pub held_value : (i k p : ℕ) → i + k ≤ g.count → p + k ≤ capacity g → IsStorageIndex (capacity g) g.read_at i p → take k (drop p g.storage) ≡ take k (drop i (queue g))
     held_value i k p hi hp at =
         let all = rotation g.storage g.read_at in
-        let whole : queue g ≡ take (i + (g.held - i)) all = ap (λ (j : ℕ). take j all) (omega arith) in
+        let whole : queue g ≡ take (i + (g.count - i)) all = ap (λ (j : ℕ). take j all) (omega arith) in
         let low : take k (drop i (queue g)) ≡ take k (drop i all) =
-        ap (λ (l : List T). take k (drop i l)) whole ∙ ap (take k) (drop-take i (g.held - i) all) ∙ take-take k (g.held - i) (drop i all) (omega arith) in
+        ap (λ (l : List T). take k (drop i l)) whole ∙ ap (take k) (drop-take i (g.count - i) all) ∙ take-take k (g.count - i) (drop i all) (omega arith) in
         part-rotation g.storage g.read_at i p k (read_at_le g wf) (omega (arith, wf.1)) hp at ∙ sym low
 
     -- ---- writes
-    pub spare_law : (i p : ℕ) (ws : List T) → i + length ws ≤ window g → p + length ws ≤ capacity g → IsStorageIndex (capacity g) g.read_at (g.held + i) p → SpareWritten g i ws (written g p ws)
+    pub spare_law : (i p : ℕ) (ws : List T) → i + length ws ≤ window g → p + length ws ≤ capacity g → IsStorageIndex (capacity g) g.read_at (g.count + i) p → SpareWritten g i ws (written g p ws)
     spare_law i p ws hi hp at = let w = spare-written g wf i p ws hi hp at in (w.0, w.1, refl)
 
-    pub held_law : (i p : ℕ) (ws : List T) → i + length ws ≤ g.held → p + length ws ≤ capacity g → IsStorageIndex (capacity g) g.read_at i p → QueueWritten g i ws (written g p ws)
+    pub held_law : (i p : ℕ) (ws : List T) → i + length ws ≤ g.count → p + length ws ≤ capacity g → IsStorageIndex (capacity g) g.read_at i p → QueueWritten g i ws (written g p ws)
     held_law i p ws hi hp at = let w = queue-written g wf i p ws hi hp at in (w.0, w.1, refl)
 
     -- ---- elements that are enqueued
     pub enqueued_from : (k : ℕ) (ws : List T) → k ≤ length ws → length ws ≤ contiguous_window g → EnqueuedFrom g k ws (written (with_enqueued k g) (write_at g) ws)
     enqueued_from k ws le room =
         let p = write_at g in
-        let fits : p + length ws ≤ capacity g = omega (arith, room, storage_index_le g.held wf.1) in
+        let fits : p + length ws ≤ capacity g = omega (arith, room, storage_index_le g.count wf.1) in
         let w = spare_law 0 p ws (omega (arith, room)) fits write_index_is in
         let t = with_enqueued_parts (written g p ws) (written_wf p ws) k (omega (arith, room, le, length-overwrite g.storage p ws)) in
         let f = overwrite_front (spare g) ws k le (omega (arith, room, length-spare g wf)) in
@@ -145,44 +145,44 @@ module _ {T : Type 0} where
         (t.0, t.1 ∙ ap (λ (n : ℕ). drop n (spare g)) (sym long), refl)
 
     -- ---- elements that are dequeued
-    pub dequeued_from : (k : ℕ) (ws : List T) → k ≤ length ws → length ws ≤ contiguous_held g → DequeuedFrom g k ws (written (with_dequeued k g) g.read_at ws)
+    pub dequeued_from : (k : ℕ) (ws : List T) → k ≤ length ws → length ws ≤ contiguous_queued g → DequeuedFrom g k ws (written (with_dequeued k g) g.read_at ws)
     dequeued_from k ws le room =
         let w = written g g.read_at ws in
         let wwf = written_wf g.read_at ws in
         let same : with_dequeued k w ≡ written (with_dequeued k g) g.read_at ws =
-        ap (λ n. ring (overwrite g.storage g.read_at ws) (if nat_lt k (n - g.read_at) then g.read_at + k else k - (n - g.read_at)) (g.held - k)) (length-overwrite g.storage g.read_at ws) in
+        ap (λ n. ring (overwrite g.storage g.read_at ws) (if nat_lt k (n - g.read_at) then g.read_at + k else k - (n - g.read_at)) (g.count - k)) (length-overwrite g.storage g.read_at ws) in
         let q = held_law 0 g.read_at ws (omega (arith, room)) (omega (arith, room, read_at_le g wf)) read_index_is in
         let f = overwrite_front (queue g) ws k le (omega (arith, room, length-queue g wf)) in
         let t = with_dequeued_parts w wwf k (omega (arith, room, le)) in
         let whole : DequeuedFrom g k ws (with_dequeued k w) = (t.0 ∙ ap (drop k) q.0, t.1 ∙ ap₂ ◌++◌ q.1 (ap (take k) q.0 ∙ f.0), ap (λ o. o.read_at) same) in
         subst (DequeuedFrom g k ws) same whole
 
-    pub dequeued_law : (k : ℕ) → k ≤ contiguous_held g → (ws : List T) → length ws ≡ k → Dequeued g k ws (written (with_dequeued k g) g.read_at ws)
+    pub dequeued_law : (k : ℕ) → k ≤ contiguous_queued g → (ws : List T) → length ws ≡ k → Dequeued g k ws (written (with_dequeued k g) g.read_at ws)
     dequeued_law k le ws e =
         let all = dequeued_from k ws (omega (arith, e)) (omega (arith, e, le)) in
         let f = overwrite_front (queue g) ws k (omega (arith, e)) (omega (arith, e, le, length-queue g wf)) in
         (all.0 ∙ ap (λ (n : ℕ). drop n (overwrite (queue g) 0 ws)) (sym e) ∙ f.1 ∙ ap (λ (n : ℕ). drop n (queue g)) e, all.1 ∙ ap (λ (l : List T). spare g ++ l) (take_all k ws (omega (arith, e))), refl)
 
-    pub with_dequeued_law : (k : ℕ) → k ≤ g.held → Dequeued g k (take k (queue g)) (with_dequeued k g)
+    pub with_dequeued_law : (k : ℕ) → k ≤ g.count → Dequeued g k (take k (queue g)) (with_dequeued k g)
     with_dequeued_law k le = let t = with_dequeued_parts g wf k le in (t.0, t.1, refl)
 
     -- ---- a write that wraps at the storage's end
-    wrapping_once : (i p : ℕ) (ws : List T) → i + length ws ≤ window g → p + length ws ≤ capacity g → IsStorageIndex (capacity g) g.read_at (g.held + i) p → SpareWritten g i ws (written_wrapping g p ws)
+    wrapping_once : (i p : ℕ) (ws : List T) → i + length ws ≤ window g → p + length ws ≤ capacity g → IsStorageIndex (capacity g) g.read_at (g.count + i) p → SpareWritten g i ws (written_wrapping g p ws)
     wrapping_once i p ws le room at =
         let none : drop (length g.storage - p) ws ≡ [] = drop_all (length g.storage - p) ws (omega (arith, room)) in
-        let still : written_wrapping g p ws ≡ written g p ws = ap (λ l. written (written g p ws) 0 l) none ∙ ap (λ b. ring b g.read_at g.held) (overwrite_none (overwrite g.storage p ws) 0) in
+        let still : written_wrapping g p ws ≡ written g p ws = ap (λ l. written (written g p ws) 0 l) none ∙ ap (λ b. ring b g.read_at g.count) (overwrite_none (overwrite g.storage p ws) 0) in
         subst (SpareWritten g i ws) (sym still) (spare_law i p ws le room at)
 
-    wrapping_twice : (i p : ℕ) (a b : List T) → i + length a + length b ≤ window g → p + length a ≡ capacity g → 0 < length b → IsStorageIndex (capacity g) g.read_at (g.held + i) p → SpareWritten g i (a ++ b) (written (written g p a) 0 b)
+    wrapping_twice : (i p : ℕ) (a b : List T) → i + length a + length b ≤ window g → p + length a ≡ capacity g → 0 < length b → IsStorageIndex (capacity g) g.read_at (g.count + i) p → SpareWritten g i (a ++ b) (written (written g p a) 0 b)
     wrapping_twice i p a b le full some at =
         let s = spare_law i p a (omega (arith, le)) (omega (arith, full)) at in
         let w = written g p a in
         let long = length-overwrite g.storage p a in
-        let next : IsStorageIndex (capacity g) g.read_at (g.held + (i + length a)) 0 = elim at [ inl h ↦ inr (omega (arith, h.0, h.1, full, read_at_le g wf), omega (arith, h.0, h.1, full, read_at_le g wf)) | inr h ↦ absurd (omega (arith, h.0, h.1, full, le, some, read_at_le g wf, wf.1)) ] in
-        let t = spare-written w (written_wf p a) (i + length a) 0 b (omega (arith, long, le)) (omega (arith, long, le, wf.1)) (subst (λ (n : ℕ). IsStorageIndex n g.read_at (g.held + (i + length a)) 0) (sym long) next) in
+        let next : IsStorageIndex (capacity g) g.read_at (g.count + (i + length a)) 0 = elim at [ inl h ↦ inr (omega (arith, h.0, h.1, full, read_at_le g wf), omega (arith, h.0, h.1, full, read_at_le g wf)) | inr h ↦ absurd (omega (arith, h.0, h.1, full, le, some, read_at_le g wf, wf.1)) ] in
+        let t = spare-written w (written_wf p a) (i + length a) 0 b (omega (arith, long, le)) (omega (arith, long, le, wf.1)) (subst (λ (n : ℕ). IsStorageIndex n g.read_at (g.count + (i + length a)) 0) (sym long) next) in
         (t.0 ∙ s.0, t.1 ∙ ap (λ (l : List T). overwrite l (i + length a) b) s.1 ∙ overwrite_twice (spare g) a b i (omega (arith, le, length-spare g wf)), refl)
 
-    pub wrapping_law : (i p : ℕ) (ws : List T) → i + length ws ≤ window g → p ≤ capacity g → IsStorageIndex (capacity g) g.read_at (g.held + i) p → SpareWritten g i ws (written_wrapping g p ws)
+    pub wrapping_law : (i p : ℕ) (ws : List T) → i + length ws ≤ window g → p ≤ capacity g → IsStorageIndex (capacity g) g.read_at (g.count + i) p → SpareWritten g i ws (written_wrapping g p ws)
     wrapping_law i p ws le within at = elim (cases_lt (length g.storage - p) (length ws)) [
       | inr once ↦ wrapping_once i p ws le (omega (arith, once, within)) at
       | inl past ↦
@@ -191,26 +191,26 @@ module _ {T : Type 0} where
           let la : length (take m ws) ≡ m = length-take-le m ws (omega (arith, past)) in
           let lb : length (drop m ws) ≡ length ws - m = length-drop m ws in
           let two = wrapping_twice i p (take m ws) (drop m ws) (omega (arith, le, la, lb, past)) (omega (arith, la, within)) (omega (arith, lb, past)) at in
-          let same : written (written g p (take m ws)) 0 (drop m ws) ≡ written_wrapping g p ws = ap (λ b. ring b g.read_at g.held) (wrapping_is g.storage ws p m within n) in
+          let same : written (written g p (take m ws)) 0 (drop m ws) ≡ written_wrapping g p ws = ap (λ b. ring b g.read_at g.count) (wrapping_is g.storage ws p m within n) in
           subst (SpareWritten g i ws) same (subst (λ (l : List T). SpareWritten g i l (written (written g p (take m ws)) 0 (drop m ws))) (take-append-drop m ws) two)
     ]
 
     -- ---- an index that is found within the window, or within the queue
-    pub spare_at : (i : ℕ) → i ≤ window g → IsStorageIndex (capacity g) g.read_at (g.held + i) (spare_index g i)
+    pub spare_at : (i : ℕ) → i ≤ window g → IsStorageIndex (capacity g) g.read_at (g.count + i) (spare_index g i)
     spare_at i le =
-        let same : g.held + min i (window g) ≡ g.held + i = omega (arith, le) in
-        subst (λ (j : ℕ). IsStorageIndex (capacity g) g.read_at j (spare_index g i)) same (storage_index_is g (g.held + min i (window g)))
+        let same : g.count + min i (window g) ≡ g.count + i = omega (arith, le) in
+        subst (λ (j : ℕ). IsStorageIndex (capacity g) g.read_at j (spare_index g i)) same (storage_index_is g (g.count + min i (window g)))
 
-    pub held_at : (i : ℕ) → i ≤ g.held → IsStorageIndex (capacity g) g.read_at i (held_index g i)
+    pub held_at : (i : ℕ) → i ≤ g.count → IsStorageIndex (capacity g) g.read_at i (queue_index g i)
     held_at i le =
-        let same : min i g.held ≡ i = omega (arith, le) in
-        subst (λ (j : ℕ). IsStorageIndex (capacity g) g.read_at j (held_index g i)) same (storage_index_is g (min i g.held))
+        let same : min i g.count ≡ i = omega (arith, le) in
+        subst (λ (j : ℕ). IsStorageIndex (capacity g) g.read_at j (queue_index g i)) same (storage_index_is g (min i g.count))
 
     spare_index_le : (i : ℕ) → spare_index g i ≤ capacity g
-    spare_index_le i = storage_index_le (g.held + min i (window g)) (omega (arith, wf.1))
+    spare_index_le i = storage_index_le (g.count + min i (window g)) (omega (arith, wf.1))
 
-    held_index_le : (i : ℕ) → held_index g i ≤ capacity g
-    held_index_le i = storage_index_le (min i g.held) (omega (arith, wf.1))
+    held_index_le : (i : ℕ) → queue_index g i ≤ capacity g
+    held_index_le i = storage_index_le (min i g.count) (omega (arith, wf.1))
 
     pub spare_part_value : (i n : ℕ) → take (contiguous_window_from g i n) (drop (spare_index g i) g.storage) ≡ take (contiguous_window_from g i n) (drop i (spare g))
     spare_part_value i n = elim (cases_lt (window g) i) [
@@ -218,20 +218,20 @@ module _ {T : Type 0} where
       | inl h ↦ let none : contiguous_window_from g i n ≡ 0 = omega (arith, h) in ap (λ (k : ℕ). take k (drop (spare_index g i) g.storage)) none ∙ sym (ap (λ (k : ℕ). take k (drop i (spare g))) none)
     ]
 
-    pub held_part_value : (i n : ℕ) → take (contiguous_held_from g i n) (drop (held_index g i) g.storage) ≡ take (contiguous_held_from g i n) (drop i (queue g))
-    held_part_value i n = elim (cases_lt g.held i) [
-      | inr h ↦ held_value i (contiguous_held_from g i n) (held_index g i) (omega (arith, h)) (omega (arith, held_index_le i)) (held_at i h)
-      | inl h ↦ let none : contiguous_held_from g i n ≡ 0 = omega (arith, h) in ap (λ (k : ℕ). take k (drop (held_index g i) g.storage)) none ∙ sym (ap (λ (k : ℕ). take k (drop i (queue g))) none)
+    pub held_part_value : (i n : ℕ) → take (contiguous_queued_from g i n) (drop (queue_index g i) g.storage) ≡ take (contiguous_queued_from g i n) (drop i (queue g))
+    held_part_value i n = elim (cases_lt g.count i) [
+      | inr h ↦ held_value i (contiguous_queued_from g i n) (queue_index g i) (omega (arith, h)) (omega (arith, held_index_le i)) (held_at i h)
+      | inl h ↦ let none : contiguous_queued_from g i n ≡ 0 = omega (arith, h) in ap (λ (k : ℕ). take k (drop (queue_index g i) g.storage)) none ∙ sym (ap (λ (k : ℕ). take k (drop i (queue g))) none)
     ]
 
     nothing_spare : (i p : ℕ) → SpareWritten g i [] (written g p [])
     nothing_spare i p =
-        let still : written g p [] ≡ g = ap (λ b. ring b g.read_at g.held) (overwrite_none g.storage p) in
+        let still : written g p [] ≡ g = ap (λ b. ring b g.read_at g.count) (overwrite_none g.storage p) in
         subst (SpareWritten g i []) (sym still) (refl, sym (overwrite_none (spare g) i), refl)
 
     nothing_held : (i p : ℕ) → QueueWritten g i [] (written g p [])
     nothing_held i p =
-        let still : written g p [] ≡ g = ap (λ b. ring b g.read_at g.held) (overwrite_none g.storage p) in
+        let still : written g p [] ≡ g = ap (λ b. ring b g.read_at g.count) (overwrite_none g.storage p) in
         subst (QueueWritten g i []) (sym still) (sym (overwrite_none (queue g) i), refl, refl)
 
     pub spare_part_law : (i n : ℕ) (ws : List T) → length ws ≡ contiguous_window_from g i n → SpareWritten g i ws (written g (spare_index g i) ws)
@@ -240,10 +240,10 @@ module _ {T : Type 0} where
       | inl h ↦ let none : ws ≡ [] = nil_from_length ws (omega (arith, e, h)) in subst (λ (l : List T). SpareWritten g i l (written g (spare_index g i) l)) (sym none) (nothing_spare i (spare_index g i))
     ]
 
-    pub held_part_law : (i n : ℕ) (ws : List T) → length ws ≡ contiguous_held_from g i n → QueueWritten g i ws (written g (held_index g i) ws)
-    held_part_law i n ws e = elim (cases_lt g.held i) [
-      | inr h ↦ held_law i (held_index g i) ws (omega (arith, h, e)) (omega (arith, e, held_index_le i)) (held_at i h)
-      | inl h ↦ let none : ws ≡ [] = nil_from_length ws (omega (arith, e, h)) in subst (λ (l : List T). QueueWritten g i l (written g (held_index g i) l)) (sym none) (nothing_held i (held_index g i))
+    pub held_part_law : (i n : ℕ) (ws : List T) → length ws ≡ contiguous_queued_from g i n → QueueWritten g i ws (written g (queue_index g i) ws)
+    held_part_law i n ws e = elim (cases_lt g.count i) [
+      | inr h ↦ held_law i (queue_index g i) ws (omega (arith, h, e)) (omega (arith, e, held_index_le i)) (held_at i h)
+      | inl h ↦ let none : ws ≡ [] = nil_from_length ws (omega (arith, e, h)) in subst (λ (l : List T). QueueWritten g i l (written g (queue_index g i) l)) (sym none) (nothing_held i (queue_index g i))
     ]
 
     -- the clause of `write_unallocated`
@@ -254,18 +254,18 @@ module _ {T : Type 0} where
           let none : ws ≡ [] = nil_from_length ws (omega (arith, le, h)) in
           let p = spare_index g i in
           let nothing : drop (length g.storage - p) [] ≡ [] = drop_all (length g.storage - p) [] (omega arith) in
-          let still : written_wrapping g p [] ≡ written g p [] = ap (λ l. written (written g p []) 0 l) nothing ∙ ap (λ b. ring b g.read_at g.held) (overwrite_none (overwrite g.storage p []) 0) in
+          let still : written_wrapping g p [] ≡ written g p [] = ap (λ l. written (written g p []) 0 l) nothing ∙ ap (λ b. ring b g.read_at g.count) (overwrite_none (overwrite g.storage p []) 0) in
           subst (λ (l : List T). SpareWritten g i l (written_wrapping g p l)) (sym none) (subst (SpareWritten g i []) (sym still) (nothing_spare i p))
     ]
 
     -- ---- one element
-    pub read_fits : g.held ≢ 0 → g.read_at < capacity g
+    pub read_fits : g.count ≢ 0 → g.read_at < capacity g
     read_fits h = elim wf.0 [ inl e ↦ omega (arith, e, wf.1, h) | inr l ↦ omega (arith, l) ]
 
     pub write_fits : window g ≢ 0 → write_at g < capacity g
-    write_fits h = elim (storage_index_is g g.held) [ inl p ↦ omega (arith, p.0, p.1, wf.1, h) | inr p ↦ omega (arith, p.0, p.1, wf.1, h, read_at_le g wf) ]
+    write_fits h = elim (storage_index_is g g.count) [ inl p ↦ omega (arith, p.0, p.1, wf.1, h) | inr p ↦ omega (arith, p.0, p.1, wf.1, h, read_at_le g wf) ]
 
-    pub queue_front : (x : T) → x ≡ get_or g.storage g.read_at x → g.held ≢ 0 → queue g ≡ x ∷ drop 1 (queue g)
+    pub queue_front : (x : T) → x ≡ get_or g.storage g.read_at x → g.count ≢ 0 → queue g ≡ x ∷ drop 1 (queue g)
     queue_front x e h =
         let fits = read_fits h in
         first_of (queue g) x (sym (take_one g.storage g.read_at x fits e) ∙ held_value 0 1 g.read_at (omega (arith, h)) (omega (arith, fits)) read_index_is)
@@ -278,13 +278,13 @@ module _ {T : Type 0} where
     pub enqueued_one : (w : T) → window g ≢ 0 → Enqueued g (w ∷ []) (written (with_enqueued 1 g) (write_at g) (w ∷ []))
     enqueued_one w h = enqueued_law 1 (omega (arith, write_fits h, h)) (w ∷ []) refl
 
-    pub dequeued_one : (w : T) → g.held ≢ 0 → Dequeued g 1 (w ∷ []) (written (with_dequeued 1 g) g.read_at (w ∷ []))
+    pub dequeued_one : (w : T) → g.count ≢ 0 → Dequeued g 1 (w ∷ []) (written (with_dequeued 1 g) g.read_at (w ∷ []))
     dequeued_one w h = dequeued_law 1 (omega (arith, read_fits h, h)) (w ∷ []) refl
 
     pub next_written : (w : T) → window g ≢ 0 → SpareWritten g 0 (w ∷ []) (written g (write_at g) (w ∷ []))
     next_written w h = spare_law 0 (write_at g) (w ∷ []) (omega (arith, h)) (omega (arith, write_fits h)) write_index_is
 
-    pub front_written : (w : T) → g.held ≢ 0 → QueueWritten g 0 (w ∷ []) (written g g.read_at (w ∷ []))
+    pub front_written : (w : T) → g.count ≢ 0 → QueueWritten g 0 (w ∷ []) (written g g.read_at (w ∷ []))
     front_written w h = held_law 0 g.read_at (w ∷ []) (omega (arith, h)) (omega (arith, read_fits h)) read_index_is
 
     -- what a closure that was run on the next free element leaves, by its answer
@@ -294,7 +294,7 @@ module _ {T : Type 0} where
     next_either w some (Err x) h e = (λ no. absurd (false≢true no), λ _. subst (SpareWritten g 0 (w ∷ [])) (sym e) (next_written w some))
 
     -- and on the first element of the queue
-    pub front_either : {A E : Type 0} (w : T) → g.held ≢ 0 → (answer : Result A E) (h : RingState T) → h ≡ written (if is_ok answer then with_dequeued 1 g else g) g.read_at (w ∷ [])
+    pub front_either : {A E : Type 0} (w : T) → g.count ≢ 0 → (answer : Result A E) (h : RingState T) → h ≡ written (if is_ok answer then with_dequeued 1 g else g) g.read_at (w ∷ [])
         → (IsOk answer → Dequeued g 1 (w ∷ []) h) × (IsErr answer → QueueWritten g 0 (w ∷ []) h)
     front_either w some (Ok x) h e = (λ _. subst (Dequeued g 1 (w ∷ [])) (sym e) (dequeued_one w some), λ no. absurd (false≢true no))
     front_either w some (Err x) h e = (λ no. absurd (false≢true no), λ _. subst (QueueWritten g 0 (w ∷ [])) (sym e) (front_written w some))
@@ -305,11 +305,11 @@ module _ {T : Type 0} where
     well = subst WellFormed is wf'
 
     -- one write leaves the ring well-formed
-    pub once_wf : (p : ℕ) (a st : List T) → st ≡ overwrite v.storage p a → WellFormed (ring st v.read_at v.held)
-    once_wf p a st e = subst (λ l. WellFormed (ring l v.read_at v.held)) (sym e) (written_wf v wf' p a)
+    pub once_wf : (p : ℕ) (a st : List T) → st ≡ overwrite v.storage p a → WellFormed (ring st v.read_at v.count)
+    once_wf p a st e = subst (λ l. WellFormed (ring l v.read_at v.count)) (sym e) (written_wf v wf' p a)
 
     -- so does a write to the queue after which elements were dequeued
-    pub off_wf : (k p m : ℕ) (a st : List T) → p ≡ storage_index g k → k ≤ capacity g → m ≤ v.held → st ≡ overwrite v.storage v.read_at a → WellFormed (ring st p m)
+    pub off_wf : (k p m : ℕ) (a st : List T) → p ≡ storage_index g k → k ≤ capacity g → m ≤ v.count → st ≡ overwrite v.storage v.read_at a → WellFormed (ring st p m)
     off_wf k p m a st ep le few e =
         let long : length st ≡ length v.storage = ap length e ∙ length-overwrite v.storage v.read_at a in
         let size : length v.storage ≡ length g.storage = ap (λ o. length o.storage) is in
@@ -320,20 +320,20 @@ module _ {T : Type 0} where
         (at, omega (arith, few, wf'.1, long))
 
     -- and one after which elements were enqueued
-    pub in_wf : (p n : ℕ) (a st : List T) → n ≤ window g → st ≡ overwrite v.storage p a → WellFormed (ring st v.read_at (v.held + n))
+    pub in_wf : (p n : ℕ) (a st : List T) → n ≤ window g → st ≡ overwrite v.storage p a → WellFormed (ring st v.read_at (v.count + n))
     in_wf p n a st le e =
         let w = once_wf p a st e in
         let long : length st ≡ length v.storage = ap length e ∙ length-overwrite v.storage p a in
-        (w.0, omega (arith, wf'.1, long, ap (λ o. o.held) is, ap (λ o. length o.storage) is, le))
+        (w.0, omega (arith, wf'.1, long, ap (λ o. o.count) is, ap (λ o. length o.storage) is, le))
 
     -- an index that is found after a write
-    pub storage_index_after : (n p q : ℕ) (a st : List T) → st ≡ overwrite v.storage q a → p ≡ storage_index (ring st v.read_at v.held) n → p ≡ storage_index g n
+    pub storage_index_after : (n p q : ℕ) (a st : List T) → st ≡ overwrite v.storage q a → p ≡ storage_index (ring st v.read_at v.count) n → p ≡ storage_index g n
     storage_index_after n p q a st e ep =
         let long : length st ≡ length g.storage = ap length e ∙ length-overwrite v.storage q a ∙ ap (λ o. length o.storage) is in
         ep ∙ ap₂ (λ m r. if nat_lt n (m - r) then r + n else n - (m - r)) long (ap (λ o. o.read_at) is)
 
-    same_held : v.held ≡ g.held
-    same_held = ap (λ o. o.held) is
+    same_held : v.count ≡ g.count
+    same_held = ap (λ o. o.count) is
 
     same_storage : v.storage ≡ g.storage
     same_storage = ap (λ o. o.storage) is
@@ -341,7 +341,7 @@ module _ {T : Type 0} where
     -- `write_unallocated`: a is written from the index p on, and the rest of the data at the beginning
     pub wrapping_clause : (i n p k : ℕ) (src a b st : List T) → n ≡ min (length src) (window g - i) → p ≡ spare_index g i → k ≡ min n (capacity g - p)
         → a ≡ take k src → b ≡ take (n - k) (drop k src) → st ≡ overwrite (overwrite v.storage p a) 0 b
-        → ring st v.read_at v.held ≡ written_wrapping g (spare_index g i) (take n src)
+        → ring st v.read_at v.count ≡ written_wrapping g (spare_index g i) (take n src)
     wrapping_clause i n p k src a b st en at ek ea eb es =
         let ws : List T = take n src in
         let long : length ws ≡ n = length-take-le n src (omega (arith, en)) in
@@ -350,12 +350,12 @@ module _ {T : Type 0} where
         let two : b ≡ drop k ws = eb ∙ sym (drop-take k (n - k) src) ∙ ap (λ (m : ℕ). drop k (take m src)) (omega (arith, ek)) in
         let parts : st ≡ overwrite (overwrite g.storage p (take k ws)) 0 (drop k ws) = es ∙ ap₂ (λ x y. overwrite (overwrite v.storage p x) 0 y) one two ∙ ap (λ l. overwrite (overwrite l p (take k ws)) 0 (drop k ws)) same_storage in
         let all : st ≡ overwrite (overwrite g.storage p ws) 0 (drop (length g.storage - p) ws) = parts ∙ wrapping_is g.storage ws p k within (omega (arith, ek, long)) in
-        ap (λ l. ring l v.read_at v.held) all ∙ ap (λ o. ring (overwrite (overwrite g.storage p ws) 0 (drop (length g.storage - p) ws)) o.read_at o.held) is ∙ ap (λ q. written_wrapping g q ws) at
+        ap (λ l. ring l v.read_at v.count) all ∙ ap (λ o. ring (overwrite (overwrite g.storage p ws) 0 (drop (length g.storage - p) ws)) o.read_at o.count) is ∙ ap (λ q. written_wrapping g q ws) at
 
     -- the same where all of the data comes before the storage's end
     pub once_clause : (i n p k : ℕ) (src a st : List T) → n ≡ min (length src) (window g - i) → p ≡ spare_index g i → k ≡ min n (capacity g - p) → n ≤ k
         → a ≡ take k src → st ≡ overwrite v.storage p a
-        → ring st v.read_at v.held ≡ written_wrapping g (spare_index g i) (take n src)
+        → ring st v.read_at v.count ≡ written_wrapping g (spare_index g i) (take n src)
     once_clause i n p k src a st en at ek le ea es =
         let none : n - k ≡ 0 = omega (arith, le) in
         wrapping_clause i n p k src a [] st en at ek ea (sym (ap (λ (m : ℕ). take m (drop k src)) none)) (es ∙ sym (overwrite_none (overwrite v.storage p a) 0))
@@ -365,10 +365,10 @@ module _ {T : Type 0} where
     ahead_clause i n src h en e = subst (SpareWritten g i (take n src)) (sym e) (wrapping_at g well i (take n src) (omega (arith, en, length-take-le n src (omega (arith, en)))))
 
     -- two writes leave the ring well-formed
-    pub twice_wf : (p q : ℕ) (a b st : List T) → st ≡ overwrite (overwrite v.storage p a) q b → WellFormed (ring st v.read_at v.held)
-    twice_wf p q a b st e = subst (λ l. WellFormed (ring l v.read_at v.held)) (sym e) (written_wf (written v p a) (written_wf v wf' p a) q b)
+    pub twice_wf : (p q : ℕ) (a b st : List T) → st ≡ overwrite (overwrite v.storage p a) q b → WellFormed (ring st v.read_at v.count)
+    twice_wf p q a b st e = subst (λ l. WellFormed (ring l v.read_at v.count)) (sym e) (written_wf (written v p a) (written_wf v wf' p a) q b)
 
-    read_on : (o n p k : ℕ) (b : List T) → n ≤ g.held - o → o ≤ g.held → p ≡ storage_index g o → k ≡ min n (capacity g - p) → b ≡ take (n - k) g.storage → b ≡ take (n - k) (drop k (drop o (queue g)))
+    read_on : (o n p k : ℕ) (b : List T) → n ≤ g.count - o → o ≤ g.count → p ≡ storage_index g o → k ≡ min n (capacity g - p) → b ≡ take (n - k) g.storage → b ≡ take (n - k) (drop k (drop o (queue g)))
     read_on o n p k b le lo ep ek eb = elim (cases_lt k n) [
       | inl more ↦
           let within = storage_index_le g well o (omega (arith, lo, (well).1)) in
@@ -381,14 +381,14 @@ module _ {T : Type 0} where
           eb ∙ ap (λ (j : ℕ). take j g.storage) y ∙ sym (ap (λ (j : ℕ). take j (drop k (drop o (queue g)))) y)
     ]
 
-    clamped : (i o n : ℕ) → o ≡ min i g.held → n ≤ g.held - o → take n (drop o (queue g)) ≡ take n (drop i (queue g))
-    clamped i o n eo le = elim (cases_lt g.held i) [
+    clamped : (i o n : ℕ) → o ≡ min i g.count → n ≤ g.count - o → take n (drop o (queue g)) ≡ take n (drop i (queue g))
+    clamped i o n eo le = elim (cases_lt g.count i) [
       | inr h ↦ let same : o ≡ i = omega (arith, eo, h) in ap (λ (j : ℕ). take n (drop j (queue g))) same
       | inl h ↦ let none : n ≡ 0 = omega (arith, eo, h, le) in ap (λ (j : ℕ). take j (drop o (queue g))) none ∙ sym (ap (λ (j : ℕ). take j (drop i (queue g))) none)
     ]
 
     -- what is read from the index p on, up to the storage's end
-    read_first : (o n p k l : ℕ) (a : List T) → l ≡ k → n ≤ g.held - o → o ≤ g.held → p ≡ storage_index g o → k ≡ min n (capacity g - p) → a ≡ take l (drop p v.storage)
+    read_first : (o n p k l : ℕ) (a : List T) → l ≡ k → n ≤ g.count - o → o ≤ g.count → p ≡ storage_index g o → k ≡ min n (capacity g - p) → a ≡ take l (drop p v.storage)
         → (length a ≡ k) × (a ≡ take k (drop o (queue g)))
     read_first o n p k l a el le lo ep ek ea =
         let within : p ≤ capacity g = omega (arith, ep, storage_index_le g well o (omega (arith, lo, (well).1))) in
@@ -397,13 +397,13 @@ module _ {T : Type 0} where
         (r.0, r.1 ∙ held_value g well o k p (omega (arith, ek, le, lo)) (omega (arith, ek, within)) at)
 
     -- `read_allocated`: a is read from the index p on, and the rest of what is read at the beginning
-    pub read_clause : (i n p k l : ℕ) (to a b : List T) → l ≡ k → n ≤ g.held - i → p ≡ held_index g i → k ≡ min n (capacity g - p)
+    pub read_clause : (i n p k l : ℕ) (to a b : List T) → l ≡ k → n ≤ g.count - i → p ≡ queue_index g i → k ≡ min n (capacity g - p)
         → a ≡ take l (drop p v.storage) → b ≡ take (n - k) v.storage
         → take k (a ++ drop k to) ++ (b ++ drop (n - k) (drop k (a ++ drop k to))) ≡ take n (drop i (queue g)) ++ drop n to
     read_clause i n p k l to a b el le ep ek ea eb =
-        let o : ℕ = min i g.held in
-        let lo : o ≤ g.held = omega arith in
-        let few : n ≤ g.held - o = omega (arith, le) in
+        let o : ℕ = min i g.count in
+        let lo : o ≤ g.count = omega arith in
+        let few : n ≤ g.count - o = omega (arith, le) in
         let r = read_first o n p k l a el few lo ep ek ea in
         let two : b ≡ take (n - k) (drop k (drop o (queue g))) = read_on o n p k b few lo ep ek (eb ∙ ap (take (n - k)) same_storage) in
         let m : k + (n - k) ≡ n = omega (arith, ek) in
@@ -412,32 +412,32 @@ module _ {T : Type 0} where
         ap₂ ◌++◌ (take_at a (drop k to) k r.0) (ap (λ (l : List T). b ++ l) rest) ∙ sym (append_assoc a b (drop n to)) ∙ ap (λ (l : List T). l ++ drop n to) both
 
     -- the same where all of it comes before the storage's end
-    pub read_once_clause : (i n p k l : ℕ) (to a : List T) → l ≡ k → n ≤ g.held - i → p ≡ held_index g i → k ≡ min n (capacity g - p) → n ≤ k
+    pub read_once_clause : (i n p k l : ℕ) (to a : List T) → l ≡ k → n ≤ g.count - i → p ≡ queue_index g i → k ≡ min n (capacity g - p) → n ≤ k
         → a ≡ take l (drop p v.storage) → a ++ drop k to ≡ take n (drop i (queue g)) ++ drop n to
     read_once_clause i n p k l to a el le ep ek all ea =
-        let o : ℕ = min i g.held in
-        let few : n ≤ g.held - o = omega (arith, le) in
+        let o : ℕ = min i g.count in
+        let few : n ≤ g.count - o = omega (arith, le) in
         let r = read_first o n p k l a el few (omega arith) ep ek ea in
         let m : k ≡ n = omega (arith, ek, all) in
         ap (λ (l : List T). l ++ drop k to) r.1 ∙ ap (λ (j : ℕ). take j (drop o (queue g)) ++ drop j to) m ∙ ap (λ (l : List T). l ++ drop n to) (clamped i o n refl few)
 
     -- ---- elements that are enqueued or dequeued, and none that is written
-    pub with_enqueued_is : (k m : ℕ) → k ≡ m → ring v.storage v.read_at (v.held + k) ≡ with_enqueued m g
+    pub with_enqueued_is : (k m : ℕ) → k ≡ m → ring v.storage v.read_at (v.count + k) ≡ with_enqueued m g
     with_enqueued_is k m ek = ap (with_enqueued k) is ∙ ap (λ n. with_enqueued n g) ek
 
-    pub with_dequeued_is : (k m p : ℕ) → k ≡ m → p ≡ storage_index g m → ring v.storage p (v.held - k) ≡ with_dequeued m g
-    with_dequeued_is k m p ek ep = ap (λ o. ring o.storage p (o.held - k)) is ∙ ap₂ (λ j n. ring g.storage j (g.held - n)) ep ek
+    pub with_dequeued_is : (k m p : ℕ) → k ≡ m → p ≡ storage_index g m → ring v.storage p (v.count - k) ≡ with_dequeued m g
+    with_dequeued_is k m p ek ep = ap (λ o. ring o.storage p (o.count - k)) is ∙ ap₂ (λ j n. ring g.storage j (g.count - n)) ep ek
 
     -- ---- what stays once a part that was lent comes back as w
-    pub left_at : (p q : ℕ) → p ≡ q → (st w : List T) → st ≡ overwrite v.storage p w → ring st v.read_at v.held ≡ written g q w
-    left_at p q ep st w e = ap (λ b. ring b v.read_at v.held) e ∙ ap (λ o. written o p w) is ∙ ap (λ j. written g j w) ep
+    pub left_at : (p q : ℕ) → p ≡ q → (st w : List T) → st ≡ overwrite v.storage p w → ring st v.read_at v.count ≡ written g q w
+    left_at p q ep st w e = ap (λ b. ring b v.read_at v.count) e ∙ ap (λ o. written o p w) is ∙ ap (λ j. written g j w) ep
 
-    pub left_in : (k m p : ℕ) → k ≡ m → p ≡ write_at g → (st w : List T) → st ≡ overwrite v.storage p w → ring st v.read_at (v.held + k) ≡ written (with_enqueued m g) (write_at g) w
-    left_in k m p ek ep st w e = ap (λ b. ring b v.read_at (v.held + k)) e ∙ ap (λ o. written (with_enqueued k o) p w) is ∙ ap₂ (λ i j. written (with_enqueued i g) j w) ek ep
+    pub left_in : (k m p : ℕ) → k ≡ m → p ≡ write_at g → (st w : List T) → st ≡ overwrite v.storage p w → ring st v.read_at (v.count + k) ≡ written (with_enqueued m g) (write_at g) w
+    left_in k m p ek ep st w e = ap (λ b. ring b v.read_at (v.count + k)) e ∙ ap (λ o. written (with_enqueued k o) p w) is ∙ ap₂ (λ i j. written (with_enqueued i g) j w) ek ep
 
-    pub left_off : (k m p : ℕ) → k ≡ m → p ≡ storage_index g k → (st w : List T) → st ≡ overwrite v.storage v.read_at w → ring st p (v.held - k) ≡ written (with_dequeued m g) g.read_at w
+    pub left_off : (k m p : ℕ) → k ≡ m → p ≡ storage_index g k → (st w : List T) → st ≡ overwrite v.storage v.read_at w → ring st p (v.count - k) ≡ written (with_dequeued m g) g.read_at w
     left_off k m p ek ep st w e =
-        ap (λ b. ring b p (v.held - k)) e ∙ ap (λ o. ring (overwrite o.storage o.read_at w) p (o.held - k)) is ∙ ap (λ j. ring (overwrite g.storage g.read_at w) j (g.held - k)) ep
+        ap (λ b. ring b p (v.count - k)) e ∙ ap (λ o. ring (overwrite o.storage o.read_at w) p (o.count - k)) is ∙ ap (λ j. ring (overwrite g.storage g.read_at w) j (g.count - k)) ep
         ∙ ap (λ i. written (with_dequeued i g) g.read_at w) ek
 
     -- ---- what a part that is lent or shown holds, at first: m elements from the index p on
@@ -451,22 +451,22 @@ module _ {T : Type 0} where
         let stored : now ≡ take (contiguous_window_from g i n) (drop (spare_index g i) g.storage) = r.1 ∙ ap (λ q. take (contiguous_window_from g i n) (drop q g.storage)) ep in
         (r.0, stored ∙ spare_part_value g well i n ∙ ap (λ j. take j (drop i (spare g))) (sym r.0), stored ∙ ap (λ j. take j (drop (spare_index g i) g.storage)) (sym r.0))
 
-    pub shown_held : (i n p m : ℕ) → p ≡ held_index g i → m ≡ contiguous_held_from g i n → (now : List T) → now ≡ take m (drop p v.storage)
-        → (length now ≡ contiguous_held_from g i n) × (now ≡ take (length now) (drop i (queue g))) × (now ≡ take (length now) (drop (held_index g i) g.storage))
+    pub shown_held : (i n p m : ℕ) → p ≡ queue_index g i → m ≡ contiguous_queued_from g i n → (now : List T) → now ≡ take m (drop p v.storage)
+        → (length now ≡ contiguous_queued_from g i n) × (now ≡ take (length now) (drop i (queue g))) × (now ≡ take (length now) (drop (queue_index g i) g.storage))
     shown_held i n p m ep em now e =
-        let r = shown p m (contiguous_held_from g i n) em (omega (arith, ep, held_index_le g well i)) now e in
-        let stored : now ≡ take (contiguous_held_from g i n) (drop (held_index g i) g.storage) = r.1 ∙ ap (λ q. take (contiguous_held_from g i n) (drop q g.storage)) ep in
-        (r.0, stored ∙ held_part_value g well i n ∙ ap (λ j. take j (drop i (queue g))) (sym r.0), stored ∙ ap (λ j. take j (drop (held_index g i) g.storage)) (sym r.0))
+        let r = shown p m (contiguous_queued_from g i n) em (omega (arith, ep, held_index_le g well i)) now e in
+        let stored : now ≡ take (contiguous_queued_from g i n) (drop (queue_index g i) g.storage) = r.1 ∙ ap (λ q. take (contiguous_queued_from g i n) (drop q g.storage)) ep in
+        (r.0, stored ∙ held_part_value g well i n ∙ ap (λ j. take j (drop i (queue g))) (sym r.0), stored ∙ ap (λ j. take j (drop (queue_index g i) g.storage)) (sym r.0))
 
     pub shown_next : (p m k : ℕ) → p ≡ write_at g → m ≡ k → k ≤ contiguous_window g → (now : List T) → now ≡ take m (drop p v.storage)
         → (length now ≡ k) × (now ≡ take (length now) (spare g)) × (now ≡ take (length now) (drop (write_at g) g.storage))
     shown_next p m k ep em le now e =
-        let fits : write_at g + k ≤ capacity g = omega (arith, le, storage_index_le g well g.held (well).1) in
+        let fits : write_at g + k ≤ capacity g = omega (arith, le, storage_index_le g well g.count (well).1) in
         let r = shown p m k em (omega (arith, ep, fits)) now e in
         let stored : now ≡ take k (drop (write_at g) g.storage) = r.1 ∙ ap (λ q. take k (drop q g.storage)) ep in
         (r.0, stored ∙ spare_value g well 0 k (write_at g) (omega (arith, le)) fits (write_index_is g well) ∙ ap (λ j. take j (spare g)) (sym r.0), stored ∙ ap (λ j. take j (drop (write_at g) g.storage)) (sym r.0))
 
-    pub shown_front : (p m k : ℕ) → p ≡ g.read_at → m ≡ k → k ≤ contiguous_held g → (now : List T) → now ≡ take m (drop p v.storage)
+    pub shown_front : (p m k : ℕ) → p ≡ g.read_at → m ≡ k → k ≤ contiguous_queued g → (now : List T) → now ≡ take m (drop p v.storage)
         → (length now ≡ k) × (now ≡ take (length now) (queue g)) × (now ≡ take (length now) (drop g.read_at g.storage))
     shown_front p m k ep em le now e =
         let fits : g.read_at + k ≤ capacity g = omega (arith, le, read_at_le g well) in
@@ -480,20 +480,20 @@ module _ {T : Type 0} where
         let all = shown_next p m (contiguous_window g) ep em (omega arith) now e in
         (all.1 ∙ ap (λ j. take j (spare g)) all.0, all.0)
 
-    pub lent_front : (p m : ℕ) → p ≡ g.read_at → m ≡ contiguous_held g → (now : List T) → now ≡ take m (drop p v.storage) → (now ≡ take (contiguous_held g) (queue g)) × (length now ≡ contiguous_held g)
+    pub lent_front : (p m : ℕ) → p ≡ g.read_at → m ≡ contiguous_queued g → (now : List T) → now ≡ take m (drop p v.storage) → (now ≡ take (contiguous_queued g) (queue g)) × (length now ≡ contiguous_queued g)
     lent_front p m ep em now e =
-        let all = shown_front p m (contiguous_held g) ep em (omega arith) now e in
+        let all = shown_front p m (contiguous_queued g) ep em (omega arith) now e in
         (all.1 ∙ ap (λ j. take j (queue g)) all.0, all.0)
 
     -- and what stays of them, n of the elements w being enqueued, or dequeued
     pub left_in_from : (k n p : ℕ) → k ≡ n → p ≡ write_at g → (st w : List T) → st ≡ overwrite v.storage p w → length w ≡ contiguous_window g → n ≤ contiguous_window g
-        → (ring st v.read_at (v.held + k) ≡ written (with_enqueued n g) (write_at g) w) × EnqueuedFrom g n w (ring st v.read_at (v.held + k))
+        → (ring st v.read_at (v.count + k) ≡ written (with_enqueued n g) (write_at g) w) × EnqueuedFrom g n w (ring st v.read_at (v.count + k))
     left_in_from k n p ek ep st w e long le =
         let exact = left_in k n p ek ep st w e in
         (exact, subst (EnqueuedFrom g n w) (sym exact) (enqueued_from g well n w (omega (arith, long, le)) (omega (arith, long))))
 
-    pub left_off_from : (k n p : ℕ) → k ≡ n → p ≡ storage_index g n → (st w : List T) → st ≡ overwrite v.storage v.read_at w → length w ≡ contiguous_held g → n ≤ contiguous_held g
-        → (ring st p (v.held - k) ≡ written (with_dequeued n g) g.read_at w) × DequeuedFrom g n w (ring st p (v.held - k))
+    pub left_off_from : (k n p : ℕ) → k ≡ n → p ≡ storage_index g n → (st w : List T) → st ≡ overwrite v.storage v.read_at w → length w ≡ contiguous_queued g → n ≤ contiguous_queued g
+        → (ring st p (v.count - k) ≡ written (with_dequeued n g) g.read_at w) × DequeuedFrom g n w (ring st p (v.count - k))
     left_off_from k n p ek ep st w e long le =
         let exact = left_off k n p ek (ep ∙ ap (storage_index g) (sym ek)) st w e in
         (exact, subst (DequeuedFrom g n w) (sym exact) (dequeued_from g well n w (omega (arith, long, le)) (omega (arith, long))))
@@ -502,20 +502,20 @@ module _ {T : Type 0} where
   pub enqueue_clause : (r g w h : RingState T) (ws : List T) (n : ℕ) → r ≡ g → SpareWritten r 0 ws w → h ≡ with_enqueued n w → length ws ≡ n → n ≤ window g → Enqueued g ws h
   enqueue_clause r g w h ws n is s e l le =
       let t = subst (λ (o : RingState T). SpareWritten o 0 ws w) is s in
-      let long : length (spare g) ≡ window g = omega (arith, length-drop g.held (rotation g.storage g.read_at), length-rotation g.storage g.read_at) in
+      let long : length (spare g) ≡ window g = omega (arith, length-drop g.count (rotation g.storage g.read_at), length-rotation g.storage g.read_at) in
       let f = overwrite_front (spare g) ws n (omega (arith, l)) (omega (arith, l, long, le)) in
-      let q : queue (with_enqueued n w) ≡ queue g ++ ws = take_sum w.held n (rotation w.storage w.read_at) ∙ ap₂ ◌++◌ t.0 (ap (take n) t.1 ∙ f.0 ∙ take_all n ws (omega (arith, l))) in
-      let p : spare (with_enqueued n w) ≡ drop (length ws) (spare g) = sym (drop-drop n w.held (rotation w.storage w.read_at)) ∙ ap (drop n) t.1 ∙ ap (λ i. drop i (overwrite (spare g) 0 ws)) (sym l) ∙ f.1 in
+      let q : queue (with_enqueued n w) ≡ queue g ++ ws = take_sum w.count n (rotation w.storage w.read_at) ∙ ap₂ ◌++◌ t.0 (ap (take n) t.1 ∙ f.0 ∙ take_all n ws (omega (arith, l))) in
+      let p : spare (with_enqueued n w) ≡ drop (length ws) (spare g) = sym (drop-drop n w.count (rotation w.storage w.read_at)) ∙ ap (drop n) t.1 ∙ ap (λ i. drop i (overwrite (spare g) 0 ws)) (sym l) ∙ f.1 in
       subst (Enqueued g ws) (sym e) (q, p, t.2)
 
   -- ---- laws
-  pub restarted_is : (g : RingState T) → (queue (restarted g) ≡ queue g) × ((restarted g).held ≡ g.held) × ((restarted g).storage ≡ g.storage)
-  restarted_is g = elim (cases_lt 0 g.held) [
-    | inl h ↦ let e : restarted g ≡ g = ap (λ t. if t then ring g.storage 0 0 else g) (ne_eqb g.held 0 (omega (arith, h))) in (ap (λ o. queue o) e, ap (λ o. o.held) e, ap (λ o. o.storage) e)
+  pub restarted_is : (g : RingState T) → (queue (restarted g) ≡ queue g) × ((restarted g).count ≡ g.count) × ((restarted g).storage ≡ g.storage)
+  restarted_is g = elim (cases_lt 0 g.count) [
+    | inl h ↦ let e : restarted g ≡ g = ap (λ t. if t then ring g.storage 0 0 else g) (ne_eqb g.count 0 (omega (arith, h))) in (ap (λ o. queue o) e, ap (λ o. o.count) e, ap (λ o. o.storage) e)
     | inr h ↦
-        let z : g.held ≡ 0 = omega (arith, h) in
-        let e : restarted g ≡ ring g.storage 0 0 = ap (λ t. if t then ring g.storage 0 0 else g) (eq-eqb g.held 0 z) in
-        (ap (λ o. queue o) e ∙ sym (ap (λ n. take n (rotation g.storage g.read_at)) z), ap (λ o. o.held) e ∙ sym z, ap (λ o. o.storage) e)
+        let z : g.count ≡ 0 = omega (arith, h) in
+        let e : restarted g ≡ ring g.storage 0 0 = ap (λ t. if t then ring g.storage 0 0 else g) (eq-eqb g.count 0 z) in
+        (ap (λ o. queue o) e ∙ sym (ap (λ n. take n (rotation g.storage g.read_at)) z), ap (λ o. o.count) e ∙ sym z, ap (λ o. o.storage) e)
   ]
 
   -- the storage, from the rotated list
@@ -532,7 +532,7 @@ module _ {T : Type 0} where
 
   pub parts_are : (g h : RingState T) → WellFormed g → WellFormed h → g.read_at ≡ h.read_at → queue g ≡ queue h → spare g ≡ spare h → g ≡ h
   parts_are g h wg wh er eq es =
-      let n : g.held ≡ h.held = sym (length-queue g wg) ∙ ap length eq ∙ length-queue h wh in
+      let n : g.count ≡ h.count = sym (length-queue g wg) ∙ ap length eq ∙ length-queue h wh in
       let b : g.storage ≡ h.storage = back_is g wg ∙ ap₂ (λ l r. back l r) (ap₂ ◌++◌ eq es) er ∙ sym (back_is h wh) in
       ring_is g h b er n
 
@@ -544,5 +544,5 @@ storage_index_below c r j l =
     (cases_lt j (c - r))
 
 -- where an element is held, some contiguous ones are
-pub contiguous_held_some : {T : Type 0} (g : RingState T) (i n : ℕ) → g.held ≤ length g.storage → i < g.held → 0 < n → 0 < contiguous_held_from g i n
-contiguous_held_some g i n room l m = let below = storage_index_below (length g.storage) g.read_at (min i g.held) (omega arith) in omega arith
+pub contiguous_held_some : {T : Type 0} (g : RingState T) (i n : ℕ) → g.count ≤ length g.storage → i < g.count → 0 < n → 0 < contiguous_queued_from g i n
+contiguous_held_some g i n room l m = let below = storage_index_below (length g.storage) g.read_at (min i g.count) (omega arith) in omega arith

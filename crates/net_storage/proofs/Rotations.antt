@@ -176,37 +176,37 @@ module _ {T : Type 0} where
     read_at_le = elim wf.0 [ inl e ↦ omega (arith, e) | inr h ↦ omega (arith, h) ]
 
     pub whole : rotation g.storage g.read_at ≡ queue g ++ spare g
-    whole = sym (take-append-drop g.held (rotation g.storage g.read_at))
+    whole = sym (take-append-drop g.count (rotation g.storage g.read_at))
 
-    pub length-queue : length (queue g) ≡ g.held
-    length-queue = length-take-le g.held (rotation g.storage g.read_at) (omega (arith, length-rotation g.storage g.read_at, wf.1))
+    pub length-queue : length (queue g) ≡ g.count
+    length-queue = length-take-le g.count (rotation g.storage g.read_at) (omega (arith, length-rotation g.storage g.read_at, wf.1))
 
     pub length-spare : length (spare g) ≡ window g
-    length-spare = omega (arith, length-drop g.held (rotation g.storage g.read_at), length-rotation g.storage g.read_at)
+    length-spare = omega (arith, length-drop g.count (rotation g.storage g.read_at), length-rotation g.storage g.read_at)
 
     -- what is written to the spare part
-    pub spare-written : (i p : ℕ) (ws : List T) → i + length ws ≤ window g → p + length ws ≤ capacity g → IsStorageIndex (capacity g) g.read_at (g.held + i) p
+    pub spare-written : (i p : ℕ) (ws : List T) → i + length ws ≤ window g → p + length ws ≤ capacity g → IsStorageIndex (capacity g) g.read_at (g.count + i) p
         → (queue (written g p ws) ≡ queue g) × (spare (written g p ws) ≡ overwrite (spare g) i ws)
     spare-written i p ws hi hp at =
         let turned : rotation (overwrite g.storage p ws) g.read_at ≡ queue g ++ overwrite (spare g) i ws =
-        rotation-overwrite g.storage g.read_at (g.held + i) p ws read_at_le (omega (arith, wf.1)) hp at
-        ∙ ap (λ (l : List T). overwrite l (g.held + i) ws) whole ∙ overwrite-append_right (queue g) (spare g) ws g.held i length-queue (omega (arith, length-spare)) in
-        (ap (take g.held) turned ∙ take_at (queue g) (overwrite (spare g) i ws) g.held length-queue, ap (drop g.held) turned ∙ drop_at (queue g) (overwrite (spare g) i ws) g.held length-queue)
+        rotation-overwrite g.storage g.read_at (g.count + i) p ws read_at_le (omega (arith, wf.1)) hp at
+        ∙ ap (λ (l : List T). overwrite l (g.count + i) ws) whole ∙ overwrite-append_right (queue g) (spare g) ws g.count i length-queue (omega (arith, length-spare)) in
+        (ap (take g.count) turned ∙ take_at (queue g) (overwrite (spare g) i ws) g.count length-queue, ap (drop g.count) turned ∙ drop_at (queue g) (overwrite (spare g) i ws) g.count length-queue)
 
     -- what is written to the queue
-    pub queue-written : (i p : ℕ) (ws : List T) → i + length ws ≤ g.held → p + length ws ≤ capacity g → IsStorageIndex (capacity g) g.read_at i p
+    pub queue-written : (i p : ℕ) (ws : List T) → i + length ws ≤ g.count → p + length ws ≤ capacity g → IsStorageIndex (capacity g) g.read_at i p
         → (queue (written g p ws) ≡ overwrite (queue g) i ws) × (spare (written g p ws) ≡ spare g)
     queue-written i p ws hi hp at =
         let turned : rotation (overwrite g.storage p ws) g.read_at ≡ overwrite (queue g) i ws ++ spare g =
         rotation-overwrite g.storage g.read_at i p ws read_at_le (omega (arith, wf.1)) hp at
         ∙ ap (λ (l : List T). overwrite l i ws) whole ∙ overwrite-append_left (queue g) (spare g) ws i (omega (arith, length-queue)) in
-        let long : length (overwrite (queue g) i ws) ≡ g.held = length-overwrite (queue g) i ws ∙ length-queue in
-        (ap (take g.held) turned ∙ take_at (overwrite (queue g) i ws) (spare g) g.held long, ap (drop g.held) turned ∙ drop_at (overwrite (queue g) i ws) (spare g) g.held long)
+        let long : length (overwrite (queue g) i ws) ≡ g.count = length-overwrite (queue g) i ws ∙ length-queue in
+        (ap (take g.count) turned ∙ take_at (overwrite (queue g) i ws) (spare g) g.count long, ap (drop g.count) turned ∙ drop_at (overwrite (queue g) i ws) (spare g) g.count long)
 
     pub with_enqueued_parts : (k : ℕ) → k ≤ window g → (queue (with_enqueued k g) ≡ queue g ++ take k (spare g)) × (spare (with_enqueued k g) ≡ drop k (spare g))
-    with_enqueued_parts k h = (take_sum g.held k (rotation g.storage g.read_at), sym (drop-drop k g.held (rotation g.storage g.read_at)))
+    with_enqueued_parts k h = (take_sum g.count k (rotation g.storage g.read_at), sym (drop-drop k g.count (rotation g.storage g.read_at)))
 
-    pub with_dequeued_parts : (k : ℕ) → k ≤ g.held → (queue (with_dequeued k g) ≡ drop k (queue g)) × (spare (with_dequeued k g) ≡ spare g ++ take k (queue g))
+    pub with_dequeued_parts : (k : ℕ) → k ≤ g.count → (queue (with_dequeued k g) ≡ drop k (queue g)) × (spare (with_dequeued k g) ≡ spare g ++ take k (queue g))
     with_dequeued_parts k h =
         let all = rotation g.storage g.read_at in
         let turned : rotation g.storage (storage_index g k) ≡ drop k (queue g) ++ (spare g ++ take k (queue g)) =
@@ -214,9 +214,9 @@ module _ {T : Type 0} where
         ∙ ap (λ (l : List T). drop k l ++ take k l) whole
         ∙ ap₂ ◌++◌ (drop-append-le k (queue g) (spare g) (omega (arith, length-queue))) (take-append-le k (queue g) (spare g) (omega (arith, length-queue)))
         ∙ append_assoc (drop k (queue g)) (spare g) (take k (queue g)) in
-        let long : length (drop k (queue g)) ≡ g.held - k = omega (arith, length-drop k (queue g), length-queue) in (
-          ap (take (g.held - k)) turned ∙ take_at (drop k (queue g)) (spare g ++ take k (queue g)) (g.held - k) long,
-          ap (drop (g.held - k)) turned ∙ drop_at (drop k (queue g)) (spare g ++ take k (queue g)) (g.held - k) long,
+        let long : length (drop k (queue g)) ≡ g.count - k = omega (arith, length-drop k (queue g), length-queue) in (
+          ap (take (g.count - k)) turned ∙ take_at (drop k (queue g)) (spare g ++ take k (queue g)) (g.count - k) long,
+          ap (drop (g.count - k)) turned ∙ drop_at (drop k (queue g)) (spare g ++ take k (queue g)) (g.count - k) long,
         )
 
   -- a list that isn't empty has a first element

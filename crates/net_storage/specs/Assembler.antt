@@ -3,9 +3,9 @@ use Rattle.std.specs.Prelude.{ℕ, ◌-◌, ◌<◌, cond, nat_eq, List, [], ◌
 use Rattle.std.specs.Fmt.{decimal}
 use Rattle.net_storage.specs.Positions.{Positions, runs, with_range, maximal_runs}
 
--- the range (o, n) isn't empty, and s with it has more maximal runs than the limit
+-- the range (o, n) isn't empty, and s with it has more maximal runs than it may have
 abbrev pub MakesTooManyRuns : ℕ → Positions → ℕ → ℕ → Type 0
-MakesTooManyRuns limit s o n = (0 < n) × (limit < runs (with_range s o n))
+MakesTooManyRuns most_runs s o n = (0 < n) × (most_runs < runs (with_range s o n))
 
 -- a hole in parentheses and a space; nothing for a hole of 0
 abbrev pub hole_text : ℕ → List ℕ
@@ -17,5 +17,5 @@ text_from at [] = []
 text_from at (r ∷ rs) = hole_text (r.0 - at) ++ decimal (r.1 - r.0) ++ codes " " ++ text_from r.1 rs
 
 -- `[ `, the runs, `]`
-unfoldable pub runs_text : Positions → List ℕ
-runs_text s = codes "[ " ++ text_from 0 (maximal_runs s) ++ codes "]"
+unfoldable pub display_text : Positions → List ℕ
+display_text s = codes "[ " ++ text_from 0 (maximal_runs s) ++ codes "]"

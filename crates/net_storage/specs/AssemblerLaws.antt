@@ -8,27 +8,27 @@ use Rattle.net_storage.specs.Assembler.{MakesTooManyRuns}
 use Rattle.net_storage.specs.Turns.{binary_digits}
 
 -- what the contract of `add` says of a call
-pub record Adds (limit : ℕ) (old : Positions) (offset size : ℕ)
+pub record Adds (most_runs : ℕ) (old : Positions) (offset size : ℕ)
     (result : Result (Unit {0}) TooManyHolesError) (new : Positions) : Type 0 where
   pub ok : OnOk result (new ≡ with_range old offset size)
   pub err : OnErr result (new ≡ old)
-  pub refused : IsErr result ↔ MakesTooManyRuns limit old offset size
-  pub bound : runs new ≤ limit
+  pub refused : IsErr result ↔ MakesTooManyRuns most_runs old offset size
+  pub bound : runs new ≤ most_runs
 
 -- what the contract of `remove_front` says of a call
-pub record RemovesFront (limit : ℕ) (old : Positions) (result : ℕ) (new : Positions) : Type 0 where
+pub record RemovesFront (most_runs : ℕ) (old : Positions) (result : ℕ) (new : Positions) : Type 0 where
   pub count : result ≡ front old
   pub rest : new ≡ shift_down old (front old)
-  pub bound : runs new ≤ limit
+  pub bound : runs new ≤ most_runs
 
 -- what the contract of `add_then_remove_front` says of a call
-pub record AddsThenRemovesFront (limit : ℕ) (old : Positions) (offset size : ℕ)
+pub record AddsThenRemovesFront (most_runs : ℕ) (old : Positions) (offset size : ℕ)
     (result : Result ℕ TooManyHolesError) (new : Positions) : Type 0 where
   pub answer : let all = with_range old offset size in MatchResult result
       (λ n. (n ≡ front all) × (new ≡ shift_down all n))
       (λ _. new ≡ old)
-  pub refused : IsErr result ↔ ((0 < offset) × MakesTooManyRuns limit old offset size)
-  pub bound : runs new ≤ limit
+  pub refused : IsErr result ↔ ((0 < offset) × MakesTooManyRuns most_runs old offset size)
+  pub bound : runs new ≤ most_runs
 
 -- what the contract of `==` says of a call
 pub record Compares (s t : Positions) (result : Bool) : Type 0 where
@@ -36,9 +36,9 @@ pub record Compares (s t : Positions) (result : Bool) : Type 0 where
   pub same : IsTrue result ↔ (s ≡ t)
 
 -- what the contract of `iter_data` says of a call
-pub record Iterates (limit : ℕ) (s : Positions) (result : List (ℕ × ℕ)) : Type 0 where
+pub record Iterates (most_runs : ℕ) (s : Positions) (result : List (ℕ × ℕ)) : Type 0 where
   pub listed : result ≡ maximal_runs s
-  pub bound : length result ≤ limit
+  pub bound : length result ≤ most_runs
 
 -- what calls of `next`, one after another, answer and leave by its contract
 abbrev pub CallsNext : List (ℕ × ℕ) → List (Option (ℕ × ℕ)) → List (ℕ × ℕ) → Type 0
@@ -122,36 +122,36 @@ EqualAssemblers = (s t : Positions) (equal : Bool) → Compares s t equal →
 
 -- to add an accepted range again is accepted and changes nothing
 abbrev pub AddingAgain : Type 0
-AddingAgain = (limit offset size : ℕ) (s once twice : Positions)
+AddingAgain = (most_runs offset size : ℕ) (s once twice : Positions)
     (again : Result (Unit {0}) TooManyHolesError) →
-    Adds limit s offset size (Ok tt) once → Adds limit once offset size again twice →
+    Adds most_runs s offset size (Ok tt) once → Adds most_runs once offset size again twice →
     (again ≡ Ok tt) × (twice ≡ once)
 
 -- two ranges that are accepted in both orders leave equal assemblers
 abbrev pub AddingInBothOrders : Type 0
-AddingInBothOrders = (limit a m b n : ℕ) (s one two ab ba : Positions) (equal : Bool) →
-    Adds limit s a m (Ok tt) one → Adds limit one b n (Ok tt) ab →
-    Adds limit s b n (Ok tt) two → Adds limit two a m (Ok tt) ba →
+AddingInBothOrders = (most_runs a m b n : ℕ) (s one two ab ba : Positions) (equal : Bool) →
+    Adds most_runs s a m (Ok tt) one → Adds most_runs one b n (Ok tt) ab →
+    Adds most_runs s b n (Ok tt) two → Adds most_runs two a m (Ok tt) ba →
     Compares ab ba equal → IsTrue equal
 
 -- `add_then_remove_front` answers and leaves what `add` and then `remove_front` do, wherever that
 -- `add` is accepted
 abbrev pub AddingThenRemoving : Type 0
-AddingThenRemoving = (limit offset size count : ℕ) (s all rest both : Positions)
+AddingThenRemoving = (most_runs offset size count : ℕ) (s all rest both : Positions)
     (result : Result ℕ TooManyHolesError) →
-    Adds limit s offset size (Ok tt) all → RemovesFront limit all count rest →
-    AddsThenRemovesFront limit s offset size result both → (result ≡ Ok count) × (both ≡ rest)
+    Adds most_runs s offset size (Ok tt) all → RemovesFront most_runs all count rest →
+    AddsThenRemovesFront most_runs s offset size result both → (result ≡ Ok count) × (both ≡ rest)
 
 -- with offset 0 it is never refused
 abbrev pub FrontIsNeverRefused : Type 0
-FrontIsNeverRefused = (limit size : ℕ) (s both : Positions) (result : Result ℕ TooManyHolesError) →
-    AddsThenRemovesFront limit s 0 size result both → IsOk result
+FrontIsNeverRefused = (most_runs size : ℕ) (s both : Positions) (result : Result ℕ TooManyHolesError) →
+    AddsThenRemovesFront most_runs s 0 size result both → IsOk result
 
--- `iter_data` gives the maximal runs, at most as many as the limit, and ends: however often `next`
+-- `iter_data` gives the maximal runs, at most as many as the most_runs, and ends: however often `next`
 -- is called, it answers the runs in turn and then None
 abbrev pub IteratesMaximalRuns : Type 0
-IteratesMaximalRuns = (limit : ℕ) (s : Positions) (left last : List (ℕ × ℕ))
+IteratesMaximalRuns = (most_runs : ℕ) (s : Positions) (left last : List (ℕ × ℕ))
     (answers : List (Option (ℕ × ℕ))) →
-    Iterates limit s left → CallsNext left answers last →
-    AreMaximalRuns s left × (length left ≤ limit)
+    Iterates most_runs s left → CallsNext left answers last →
+    AreMaximalRuns s left × (length left ≤ most_runs)
     × (answers ≡ yielded left (length answers)) × (last ≡ drop (length answers) left)

@@ -41,8 +41,8 @@ module _ {F H R : Type 0} (g : Once F (MutBor H × (MutBor (List ℕ) × Unit {0
 
 module _ {F H R E : Type 0} (g : Once F (MutBor H × (MutBor (List ℕ) × Unit {0})) (Result R E × (MutBor H × (MutBor (List ℕ) × Unit {0})))) where
   -- f may be called once at the first packet
-  abbrev pub TakesFirst : F → PacketQueue H → Type 0
-  TakesFirst f q = (h : H) (bytes : List ℕ) → IsFirst q h bytes → TakesPacket g f h bytes
+  abbrev pub TakesFirstPacket : F → PacketQueue H → Type 0
+  TakesFirstPacket f q = (h : H) (bytes : List ℕ) → IsFirst q h bytes → TakesPacket g f h bytes
 
   -- f was handed the first packet, wrote its header and bytes anew and answered: the packet is gone from r where that is `Ok`, and else stays as f wrote it
   pub record HandedPacket (f : F) (q : PacketQueue H) (answer : Result R E) (r : PacketQueue H) : Type 0 where

@@ -16,33 +16,33 @@ module _ {H : Type 0} where
 
 -- ---- calls
 -- what one call did, with the headers and bytes that it was given, wrote or handed out. A call that answers `Full` or `Empty` changes nothing and is no call here; nor is `last_mut` where no packet is held
-pub data Call (H : Type 0) : Type 0 where
+pub data QueueCall (H : Type 0) : Type 0 where
   -- `reset`
-  Reset : Call H
+  Reset : QueueCall H
   -- `place`: the header, and the bytes that stand in the storage
-  Place : H → List ℕ → Call H
+  Place : H → List ℕ → QueueCall H
   -- `last_mut`: the bytes that were written
-  WriteLast : List ℕ → Call H
+  WriteLast : List ℕ → QueueCall H
   -- `enqueue`: the header, and the bytes that were written
-  Enqueue : H → List ℕ → Call H
+  Enqueue : H → List ℕ → QueueCall H
   -- `enqueue_with_infallible`: the header, the bytes that the closure wrote, and how many of them are the packet
-  EnqueueWith : H → List ℕ → ℕ → Call H
+  EnqueueWith : H → List ℕ → ℕ → QueueCall H
   -- `peek`
-  Peek : Call H
+  Peek : QueueCall H
   -- `dequeue_with`, whose closure answered `Err`: the header and the bytes that it wrote
-  DequeueErr : H → List ℕ → Call H
+  DequeueErr : H → List ℕ → QueueCall H
   -- `dequeue_with`, whose closure answered `Ok`: the header and the bytes that it was shown, and those that it wrote
-  DequeueOk : H → List ℕ → H → List ℕ → Call H
+  DequeueOk : H → List ℕ → H → List ℕ → QueueCall H
   -- `take`: the header and the bytes that were taken off
-  Take : H → List ℕ → Call H
+  Take : H → List ℕ → QueueCall H
   -- `freed_mut`: the bytes that were written
-  WriteFreed : List ℕ → Call H
+  WriteFreed : List ℕ → QueueCall H
   -- `dequeue`: the header and the bytes that were handed out, and the bytes that were then written
-  Dequeue : H → List ℕ → List ℕ → Call H
+  Dequeue : H → List ℕ → List ℕ → QueueCall H
 
 module _ {H : Type 0} where
   -- the call makes r of q, as its contract says
-  abbrev pub Makes : Call H → PacketQueue H → PacketQueue H → Type 0
+  abbrev pub Makes : QueueCall H → PacketQueue H → PacketQueue H → Type 0
   Makes Reset q r = r ≡ no_packets q.slot_count q.storage
   Makes (Place header bytes) q r = (placement q (length bytes) ≢ None) × (r ≡ placed_if_room q (length bytes) header) × (bytes ≡ last_bytes r)
   Makes (WriteLast bytes) q r = (q.packets ≢ []) × (length bytes ≡ first_size (only_last q.packets)) × (r ≡ last_written q bytes)
@@ -56,7 +56,7 @@ module _ {H : Type 0} where
   Makes (Dequeue header bytes written) q r = IsFirst q header bytes × (length written ≡ length bytes) × (r ≡ with_bytes (dequeued q) (skipped q).read_at written)
 
   -- the calls, one after another, make r of q
-  abbrev pub MakesAll : List (Call H) → PacketQueue H → PacketQueue H → Type 0
+  abbrev pub MakesAll : List (QueueCall H) → PacketQueue H → PacketQueue H → Type 0
   MakesAll [] q r = r ≡ q
   MakesAll (call ∷ calls) q r = (next : PacketQueue H) × Makes call q next × MakesAll calls next r
 
@@ -81,7 +81,7 @@ module _ {H : Type 0} where
   log_left header bytes log = record { accepted = log.accepted; left = log.left ++ ((header, bytes) ∷ []) }
 
   -- the log after a call. What `reset` drops counts as never accepted. The packet that a closure refuses is the first one that has not left
-  abbrev pub logged : Call H → Log H → Log H
+  abbrev pub logged : QueueCall H → Log H → Log H
   logged Reset log = record { accepted = log.left; left = log.left }
   logged (Place header bytes) log = log_accepted header bytes log
   logged (WriteLast bytes) log = record { accepted = with_last_bytes bytes log.accepted; left = log.left }
@@ -95,10 +95,10 @@ module _ {H : Type 0} where
   logged (Dequeue header bytes written) log = log_left header bytes log
 
   -- the log after calls, one after another
-  abbrev pub logged_all : List (Call H) → Log H → Log H
+  abbrev pub logged_all : List (QueueCall H) → Log H → Log H
   logged_all [] log = log
   logged_all (call ∷ calls) log = logged_all calls (logged call log)
 
   -- the log of calls from a queue with no packets on
-  abbrev pub history : List (Call H) → Log H
+  abbrev pub history : List (QueueCall H) → Log H
   history calls = logged_all calls (record { accepted = []; left = [] })

@@ -3,7 +3,7 @@ use Rattle.std.specs.Prelude.{◌≡◌, ℕ, zero, suc, ◌+◌, List, [], ◌�
 use Rattle.std.specs.Prelude.{Option}
 use Rattle.std.specs.declared.option.Option.TheVariants.{Some, None}
 use Rattle.net_storage.specs.Ring.{RingState, capacity, queue, WellFormed}
-use Rattle.net_storage.specs.Packets.{Packet, PacketQueue, packet, bytes_of, ArePlaced}
+use Rattle.net_storage.specs.Packets.{Packet, PacketQueue, packet, bytes_used, ArePlaced}
 use Rattle.net_storage.specs.declared.packet_metadata.PacketMetadata.{PacketMetadata}
 
 module _ {H : Type 0} where
@@ -27,7 +27,7 @@ module _ {H : Type 0} where
 
   -- the rings hold these packets
   abbrev pub Holds : RingState (PacketMetadata H) → RingState ℕ → List (Packet H) → Type 0
-  Holds m b ps = WellFormed m × WellFormed b × (queue m ≡ packet_slots ps) × (b.held ≡ bytes_of ps) × ArePlaced (capacity b) b.read_at 0 ps
+  Holds m b ps = WellFormed m × WellFormed b × (queue m ≡ packet_slots ps) × (b.count ≡ bytes_used ps) × ArePlaced (capacity b) b.read_at 0 ps
 
   abbrev pub packet_queue : RingState (PacketMetadata H) → RingState ℕ → PacketQueue H
   packet_queue m b = record { slot_count = capacity m; storage = b.storage; read_at = b.read_at; packets = packets_in 0 (queue m) }

@@ -42,9 +42,9 @@ module _ {H : Type 0} where
   packet h s g = record { header = h; size = s; gap = g }
 
   -- the bytes of the storage that packets take, their gaps counted
-  abbrev pub bytes_of : List (Packet H) → ℕ
-  bytes_of [] = 0
-  bytes_of (p ∷ ps) = p.gap + p.size + bytes_of ps
+  abbrev pub bytes_used : List (Packet H) → ℕ
+  bytes_used [] = 0
+  bytes_used (p ∷ ps) = p.gap + p.size + bytes_used ps
 
   -- the slots that packets use, their gaps counted
   abbrev pub slots_used : List (Packet H) → ℕ
@@ -53,7 +53,7 @@ module _ {H : Type 0} where
 
   -- the ring that the bytes are
   abbrev pub byte_ring : PacketQueue H → RingState ℕ
-  byte_ring q = ring q.storage q.read_at (bytes_of q.packets)
+  byte_ring q = ring q.storage q.read_at (bytes_used q.packets)
 
   -- a packet that comes o bytes after the place r of c: it doesn't reach past the storage's end, and a gap ends there
   abbrev pub IsPlaced : ℕ → ℕ → ℕ → Packet H → Type 0
@@ -111,7 +111,7 @@ module _ {H : Type 0} where
 
   -- where the last packet's bytes begin
   abbrev pub last_place : PacketQueue H → ℕ
-  last_place q = storage_index (byte_ring q) (bytes_of q.packets - first_size (only_last q.packets))
+  last_place q = storage_index (byte_ring q) (bytes_used q.packets - first_size (only_last q.packets))
 
   -- the last packet's bytes
   abbrev pub last_bytes : PacketQueue H → List ℕ

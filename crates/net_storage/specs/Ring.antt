@@ -5,7 +5,7 @@ use Rattle.net_storage.specs.Overwrite.{overwrite}
 pub record RingState (T : Type 0) : Type 0 where
   pub storage : List T
   pub read_at : ℕ
-  pub held : ℕ
+  pub count : ℕ
 
 -- the list from the index r on, followed by what stands before it
 abbrev pub rotation : {T : Type 0} → List T → ℕ → List T
@@ -13,27 +13,27 @@ rotation b r = drop r b ++ take r b
 
 module _ {T : Type 0} where
   abbrev pub ring : List T → ℕ → ℕ → RingState T
-  ring b r n = record { storage = b; read_at = r; held = n }
+  ring b r n = record { storage = b; read_at = r; count = n }
 
   abbrev pub capacity : RingState T → ℕ
   capacity g = length g.storage
 
   -- how many elements can still be enqueued
   abbrev pub window : RingState T → ℕ
-  window g = length g.storage - g.held
+  window g = length g.storage - g.count
 
   -- the read index is one of the storage, or 0 where that is empty; no more is held than it has
   abbrev pub WellFormed : RingState T → Type 0
-  WellFormed g = ((g.read_at ≡ 0) ⊎ (g.read_at < length g.storage)) × (g.held ≤ length g.storage)
+  WellFormed g = ((g.read_at ≡ 0) ⊎ (g.read_at < length g.storage)) × (g.count ≤ length g.storage)
 
   -- ---- the two parts of a ring
   -- the elements that are held, the next one to be read first
   abbrev pub queue : RingState T → List T
-  queue g = take g.held (rotation g.storage g.read_at)
+  queue g = take g.count (rotation g.storage g.read_at)
 
   -- the elements that are not held, the next one to be written first
   abbrev pub spare : RingState T → List T
-  spare g = drop g.held (rotation g.storage g.read_at)
+  spare g = drop g.count (rotation g.storage g.read_at)
 
   -- ---- indices of the storage
   -- the index that is i elements after the read index, wrapping at the storage's end
@@ -44,43 +44,43 @@ module _ {T : Type 0} where
 
   -- the index of the first spare element
   abbrev pub write_at : RingState T → ℕ
-  write_at g = storage_index g g.held
+  write_at g = storage_index g g.count
 
   -- how many spare elements are contiguous, from the first one on
   abbrev pub contiguous_window : RingState T → ℕ
   contiguous_window g = min (window g) (length g.storage - write_at g)
 
   -- how many elements of the queue are contiguous, from the first one on
-  abbrev pub contiguous_held : RingState T → ℕ
-  contiguous_held g = min g.held (length g.storage - g.read_at)
+  abbrev pub contiguous_queued : RingState T → ℕ
+  contiguous_queued g = min g.count (length g.storage - g.read_at)
 
   -- the contiguous elements at the front of the spare part, and those at the front of the queue
   abbrev pub contiguous_spare : RingState T → List T
   contiguous_spare g = take (contiguous_window g) (spare g)
 
   abbrev pub contiguous_queue : RingState T → List T
-  contiguous_queue g = take (contiguous_held g) (queue g)
+  contiguous_queue g = take (contiguous_queued g) (queue g)
 
   -- the index of element i of the spare part, and how many are contiguous from there on, of at most
   -- n; none where i is past the window
   abbrev pub spare_index : RingState T → ℕ → ℕ
-  spare_index g i = storage_index g (g.held + min i (window g))
+  spare_index g i = storage_index g (g.count + min i (window g))
 
   abbrev pub contiguous_window_from : RingState T → ℕ → ℕ → ℕ
   contiguous_window_from g i n = min n (min (window g - i) (length g.storage - spare_index g i))
 
   -- the index of element i of the queue, and how many are contiguous from there on, of at most n;
   -- none where i is past the queue
-  abbrev pub held_index : RingState T → ℕ → ℕ
-  held_index g i = storage_index g (min i g.held)
+  abbrev pub queue_index : RingState T → ℕ → ℕ
+  queue_index g i = storage_index g (min i g.count)
 
-  abbrev pub contiguous_held_from : RingState T → ℕ → ℕ → ℕ
-  contiguous_held_from g i n = min n (min (g.held - i) (length g.storage - held_index g i))
+  abbrev pub contiguous_queued_from : RingState T → ℕ → ℕ → ℕ
+  contiguous_queued_from g i n = min n (min (g.count - i) (length g.storage - queue_index g i))
 
   -- ---- what calls leave
   -- ws is written over the storage from the index p on; what reaches past its end is cut off
   abbrev pub written : RingState T → ℕ → List T → RingState T
-  written g p ws = ring (overwrite g.storage p ws) g.read_at g.held
+  written g p ws = ring (overwrite g.storage p ws) g.read_at g.count
 
   -- the same, and what reaches past the storage's end wraps to its beginning
   abbrev pub written_wrapping : RingState T → ℕ → List T → RingState T
@@ -88,16 +88,16 @@ module _ {T : Type 0} where
 
   -- k elements are enqueued as they stand: the first k spare ones are the last k of the queue
   abbrev pub with_enqueued : ℕ → RingState T → RingState T
-  with_enqueued k g = ring g.storage g.read_at (g.held + k)
+  with_enqueued k g = ring g.storage g.read_at (g.count + k)
 
   -- k elements are dequeued and stay in the storage: the first k of the queue are the last k spare
   -- ones
   abbrev pub with_dequeued : ℕ → RingState T → RingState T
-  with_dequeued k g = ring g.storage (storage_index g k) (g.held - k)
+  with_dequeued k g = ring g.storage (storage_index g k) (g.count - k)
 
   -- a ring with an empty queue is read from the storage's beginning on
   abbrev pub restarted : RingState T → RingState T
-  restarted g = if nat_eq g.held 0 then ring g.storage 0 0 else g
+  restarted g = if nat_eq g.count 0 then ring g.storage 0 0 else g
 
   -- ---- the same by queue and spare part
   -- ws came to the end of the queue, over the first spare elements

@@ -2,7 +2,7 @@
 use Rattle.std.specs.Prelude.{◌≡◌, ◌≤◌, ℕ, List, [], ◌∷◌, length, drop, Result, IsOk, IsErr, is_ok, if◌then◌else◌}
 use Rattle.std.specs.Borrow.{MutBor}
 use Rattle.std.specs.Fn.{Once, FnOnceTakesAtMut, FnOnceReturnsAtMut}
-use Rattle.net_storage.specs.Ring.{RingState, queue, spare, write_at, contiguous_window, contiguous_held, contiguous_spare, contiguous_queue, written, with_enqueued, with_dequeued, Enqueued, Dequeued, SpareWritten, QueueWritten, EnqueuedFrom, DequeuedFrom}
+use Rattle.net_storage.specs.Ring.{RingState, queue, spare, write_at, contiguous_window, contiguous_queued, contiguous_spare, contiguous_queue, written, with_enqueued, with_dequeued, Enqueued, Dequeued, SpareWritten, QueueWritten, EnqueuedFrom, DequeuedFrom}
 
 -- ---- the closure is lent one element
 module _ {F T R E : Type 0}
@@ -13,8 +13,8 @@ module _ {F T R E : Type 0}
 
   -- f was run on the next free element x, left y there and gave the answer: at `Ok` y came to the
   -- end of the queue, and at `Err` it stands at the front of the spare part
-  abbrev pub RanOnNext : F → RingState T → Result R E → RingState T → Type 0
-  RanOnNext f old answer new = (x : T) × (y : T)
+  abbrev pub CalledOnNext : F → RingState T → Result R E → RingState T → Type 0
+  CalledOnNext f old answer new = (x : T) × (y : T)
       × FnOnceReturnsAtMut g f x answer y
       × (spare old ≡ x ∷ drop 1 (spare old))
       × (new ≡ written (if is_ok answer then with_enqueued 1 old else old) (write_at old) (y ∷ []))
@@ -23,8 +23,8 @@ module _ {F T R E : Type 0}
 
   -- f was run on the first element x of the queue, left y there and gave the answer: at `Ok` y left
   -- the queue, and at `Err` it stands at its front
-  abbrev pub RanOnFirst : F → RingState T → Result R E → RingState T → Type 0
-  RanOnFirst f old answer new = (x : T) × (y : T)
+  abbrev pub CalledOnFirst : F → RingState T → Result R E → RingState T → Type 0
+  CalledOnFirst f old answer new = (x : T) × (y : T)
       × FnOnceReturnsAtMut g f x answer y
       × (queue old ≡ x ∷ drop 1 (queue old))
       × (new ≡ written (if is_ok answer then with_dequeued 1 old else old) old.read_at (y ∷ []))
@@ -40,8 +40,8 @@ module _ {F T R : Type 0}
 
   -- f was run on the contiguous spare elements, left ws there and gave the answer: the first ones
   -- of ws, as many as it counts, came to the end of the queue
-  abbrev pub RanOnSpare : F → RingState T → ℕ × R → RingState T → Type 0
-  RanOnSpare f old answer new = (ws : List T)
+  abbrev pub CalledOnSpare : F → RingState T → ℕ × R → RingState T → Type 0
+  CalledOnSpare f old answer new = (ws : List T)
       × FnOnceReturnsAtMut g f (contiguous_spare old) answer ws
       × (length ws ≡ contiguous_window old)
       × (new ≡ written (with_enqueued answer.0 old) (write_at old) ws)
@@ -49,9 +49,9 @@ module _ {F T R : Type 0}
 
   -- f was run on the contiguous elements at the front of the queue, left ws there and gave the
   -- answer: the first ones of ws, as many as it counts, left the queue
-  abbrev pub RanOnQueue : F → RingState T → ℕ × R → RingState T → Type 0
-  RanOnQueue f old answer new = (ws : List T)
+  abbrev pub CalledOnQueue : F → RingState T → ℕ × R → RingState T → Type 0
+  CalledOnQueue f old answer new = (ws : List T)
       × FnOnceReturnsAtMut g f (contiguous_queue old) answer ws
-      × (length ws ≡ contiguous_held old)
+      × (length ws ≡ contiguous_queued old)
       × (new ≡ written (with_dequeued answer.0 old) old.read_at ws)
       × DequeuedFrom old answer.0 ws new

@@ -4,5 +4,5 @@ use Rattle.net_storage.specs.Ring.{RingState, ring}
 use Rattle.net_storage.specs.declared.ring_buffer.Ring.TheInside.{Inside}
 
 module _ {T S : Type 0} where
-  abbrev pub view_of : (S → List T) → Inside T S → RingState T
-  view_of elements a = ring (elements a.storage) a.read_at a.length
+  abbrev pub ring_seen : (S → List T) → Inside T S → RingState T
+  ring_seen elements a = ring (elements a.storage) a.read_at a.length

@@ -3,9 +3,9 @@ ghost use Rattle.std.specs.Prelude.{◌≡◌, ◌≢◌, ◌≤◌, ◌<◌, �
 ghost use Rattle.std.specs.Borrow.{sem};
 ghost use Rattle.std.specs.declared.option.Option.TheVariants.{Some, None};
 ghost use Rattle.net_storage.specs.Ring.{capacity, window, queue, contiguous_window, restarted, WellFormed};
-ghost use Rattle.net_storage.specs.Packets.{bytes_of, slots_used, no_packets, byte_ring, placement, pushed, placed_if_room, only_last, last_bytes, last_written, enqueued, skipped, first_gap, first_size, first_bytes, IsFirstSized, IsFirst, dequeued, freed_place, freed_bytes, AreFreed, IsFreedAt, gap_for, slots_for, if_slots, with_bytes};
+ghost use Rattle.net_storage.specs.Packets.{bytes_used, slots_used, no_packets, byte_ring, placement, pushed, placed_if_room, only_last, last_bytes, last_written, enqueued, skipped, first_gap, first_size, first_bytes, IsFirstSized, IsFirst, dequeued, freed_place, freed_bytes, AreFreed, IsFreedAt, gap_for, slots_for, if_slots, with_bytes};
 ghost use Rattle.net_storage.specs.PacketSlots.{gap_slot, slot, IsFirstSlot, HasFirstSlot};
-ghost use Rattle.net_storage.specs.PacketCalls.{TakesRoom, CountsAtMost, WrotePacket, TakesPacket, GivesAtPacket, TakesFirst, HandedPacket, CopiedOut};
+ghost use Rattle.net_storage.specs.PacketCalls.{TakesRoom, CountsAtMost, WrotePacket, TakesPacket, GivesAtPacket, TakesFirstPacket, HandedPacket, CopiedOut};
 ghost use Rattle.net_storage.specs.PacketHistory.{contents};
 
 use crate::error::{Empty, Full};
@@ -102,7 +102,7 @@ impl<H, M: Elements<PacketMetadata<H>>, B: Elements<u8>> Packets<H, M, B> {
     /// packet lowers it.
     #[inline]
     pub fn payload_bytes_count(&self) -> usize
-        ensures { result ≡ bytes_of self.now.packets }
+        ensures { result ≡ bytes_used self.now.packets }
     {
         self.bytes.len()
     }
@@ -344,7 +344,7 @@ impl<H: Drop, M: Elements<PacketMetadata<H>>, B: Elements<u8>> Packets<H, M, B> 
         &mut self,
         f: F,
     ) -> Result<Result<R, E>, Empty>
-        requires { TakesFirst F.FnOnce f self.old }
+        requires { TakesFirstPacket F.FnOnce f self.old }
         ensures empty { IsErr result ↔ (length self.old.packets ≡ 0) }
         ensures unchanged { OnErr result (self.new ≡ self.old) }
         ensures handed { IfOk result (λ answer. HandedPacket F.FnOnce f self.old answer self.new) }
@@ -554,7 +554,7 @@ fn lift_header<H: Drop, M: Elements<PacketMetadata<H>>>(
 ) -> Result<(usize, H), Empty>
     requires well_formed { WellFormed slots.old }
     requires header { (size : ℕ) → IsFirstSlot slots.old size None → ⊥ }
-    ensures empty { IsErr result ↔ (slots.old.held ≡ 0) }
+    ensures empty { IsErr result ↔ (slots.old.count ≡ 0) }
     ensures unchanged { OnErr result (slots.new ≡ slots.old) }
     ensures first { IfOk result (λ r. IsFirstSlot slots.old r.0 (Some r.1)) }
     ensures left { IfOk result (λ r. HasFirstSlot slots.old r.0 None slots.new) }

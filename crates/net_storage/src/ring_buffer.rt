@@ -3,8 +3,8 @@ ghost use Rattle.std.specs.Prelude.{◌≡◌, ◌≢◌, ◌≤◌, ◌<◌, �
 ghost use Rattle.std.specs.Borrow.{sem};
 ghost use Rattle.std.specs.Fn.{FnOnceTakesAtMut};
 ghost use Rattle.std.specs.List.{AllZip};
-ghost use Rattle.net_storage.specs.Ring.{ring, capacity, window, queue, spare, storage_index, write_at, contiguous_window, contiguous_held, contiguous_spare, contiguous_queue, spare_index, contiguous_window_from, held_index, contiguous_held_from, written, written_wrapping, with_enqueued, with_dequeued, restarted, WellFormed, Enqueued, Dequeued, SpareWritten, QueueWritten};
-ghost use Rattle.net_storage.specs.RingCalls.{TakesFirstOf, RanOnNext, RanOnFirst, CountsWithin, RanOnSpare, RanOnQueue};
+ghost use Rattle.net_storage.specs.Ring.{ring, capacity, window, queue, spare, storage_index, write_at, contiguous_window, contiguous_queued, contiguous_spare, contiguous_queue, spare_index, contiguous_window_from, queue_index, contiguous_queued_from, written, written_wrapping, with_enqueued, with_dequeued, restarted, WellFormed, Enqueued, Dequeued, SpareWritten, QueueWritten};
+ghost use Rattle.net_storage.specs.RingCalls.{TakesFirstOf, CalledOnNext, CalledOnFirst, CountsWithin, CalledOnSpare, CalledOnQueue};
 
 use crate::error::{Empty, Full};
 use crate::managed::{Elements, ManagedSlice};
@@ -49,12 +49,12 @@ impl<T, S: Elements<T>> Model for Ring<T, S> {
 
     ghost Value = { RingState T };
 
-    ghost use Rattle.net_storage.specs.RingView.{view_of};
+    ghost use Rattle.net_storage.specs.RingView.{ring_seen};
     ghost use Rattle.net_storage.specs.Ring.{WellFormed};
 
-    ghost view = { view_of S.elements };
+    ghost view = { ring_seen S.elements };
 
-    ghost invariant = { λ a. WellFormed (view_of S.elements a) };
+    ghost invariant = { λ a. WellFormed (ring_seen S.elements a) };
 }
 
 // Written by hand: the storage alone has to be `Drop`, and nothing is asked of `T`.
@@ -119,7 +119,7 @@ impl<T, S: Elements<T>> Ring<T, S> {
     /// How many elements the ring holds.
     #[inline]
     pub fn len(&self) -> usize
-        ensures held { result ≡ self.now.held }
+        ensures count { result ≡ self.now.count }
         ensures queue { result ≡ length (queue self.now) }
         ensures within { result ≤ capacity self.now }
     {
@@ -131,7 +131,7 @@ impl<T, S: Elements<T>> Ring<T, S> {
     pub fn window(&self) -> usize
         ensures window { result ≡ window self.now }
         ensures spare { result ≡ length (spare self.now) }
-        ensures sum { self.now.held + result ≡ capacity self.now }
+        ensures sum { self.now.count + result ≡ capacity self.now }
     {
         self.capacity() - self.len()
     }
@@ -152,7 +152,7 @@ impl<T, S: Elements<T>> Ring<T, S> {
     /// Whether the ring holds nothing.
     #[inline]
     pub fn is_empty(&self) -> bool
-        ensures { result ≡ (self.now.held == 0) }
+        ensures { result ≡ (self.now.count == 0) }
     {
         self.len() == 0
     }
@@ -254,7 +254,7 @@ impl<T, S: Elements<T>> Ring<T, S> {
         requires callable { TakesFirstOf F.FnOnce f (spare self.old) }
         ensures full { IsErr result ↔ (window self.old ≡ 0) }
         ensures unchanged { OnErr result (self.new ≡ self.old) }
-        ensures called { IfOk result (λ answer. RanOnNext F.FnOnce f self.old answer self.new) }
+        ensures called { IfOk result (λ answer. CalledOnNext F.FnOnce f self.old answer self.new) }
     {
         if self.is_full() {
             return Err(Full);
@@ -306,9 +306,9 @@ impl<T, S: Elements<T>> Ring<T, S> {
         f: F,
     ) -> Result<Result<R, E>, Empty>
         requires callable { TakesFirstOf F.FnOnce f (queue self.old) }
-        ensures empty { IsErr result ↔ (self.old.held ≡ 0) }
+        ensures empty { IsErr result ↔ (self.old.count ≡ 0) }
         ensures unchanged { OnErr result (self.new ≡ self.old) }
-        ensures called { IfOk result (λ answer. RanOnFirst F.FnOnce f self.old answer self.new) }
+        ensures called { IfOk result (λ answer. CalledOnFirst F.FnOnce f self.old answer self.new) }
     {
         if self.is_empty() {
             return Err(Empty);
@@ -327,9 +327,9 @@ impl<T, S: Elements<T>> Ring<T, S> {
     pub fn dequeue_one(&mut self) -> Result<&mut T, Empty>
         ensures* writes_back { sem 𝓛 (lends_one_if T.row S.row S.Elements self.entry
             (with_dequeued 1 self.old) self.old.read_at result) }
-        ensures empty { IsErr result ↔ (self.old.held ≡ 0) }
+        ensures empty { IsErr result ↔ (self.old.count ≡ 0) }
         ensures value { IfOk result (λ r. queue self.old ≡ r.now ∷ drop 1 (queue self.old)) }
-        ensures dequeued { self.old.held ≢ 0 → (w : T) → Dequeued self.old 1 (w ∷ [])
+        ensures dequeued { self.old.count ≢ 0 → (w : T) → Dequeued self.old 1 (w ∷ [])
             (written (with_dequeued 1 self.old) self.old.read_at (w ∷ [])) }
     {
         if self.is_empty() {
@@ -340,7 +340,7 @@ impl<T, S: Elements<T>> Ring<T, S> {
 
     // `dequeue_one` where something is held, for the same reason.
     fn dequeue_first(&mut self) -> &mut T
-        requires { self.old.held ≢ 0 }
+        requires { self.old.count ≢ 0 }
         ensures* writes_back { sem 𝓛 (lends_one T.row S.row S.Elements self.entry
             (with_dequeued 1 self.old) self.old.read_at result) }
         ensures value { queue self.old ≡ result.now ∷ drop 1 (queue self.old) }
@@ -368,7 +368,7 @@ impl<T, S: Elements<T>> Ring<T, S> {
         requires callable { FnOnceTakesAtMut F.FnOnce f (contiguous_spare (restarted self.old)) }
         requires count { CountsWithin F.FnOnce f (contiguous_spare (restarted self.old))
             (contiguous_window (restarted self.old)) }
-        ensures called { RanOnSpare F.FnOnce f (restarted self.old) result self.new }
+        ensures called { CalledOnSpare F.FnOnce f (restarted self.old) result self.new }
     {
         self.restart();
         let from = self.storage_index(self.length);
@@ -408,8 +408,8 @@ impl<T, S: Elements<T>> Ring<T, S> {
     pub fn dequeue_many_with<R, F: FnOnce(&mut [T]) -> (usize, R)>(&mut self, f: F) -> (usize, R)
         requires callable { FnOnceTakesAtMut F.FnOnce f (contiguous_queue self.old) }
         requires count { CountsWithin F.FnOnce f (contiguous_queue self.old)
-            (contiguous_held self.old) }
-        ensures called { RanOnQueue F.FnOnce f self.old result self.new }
+            (contiguous_queued self.old) }
+        ensures called { CalledOnQueue F.FnOnce f self.old result self.new }
     {
         let from = self.read_at;
         let to = from + self.length.min(self.capacity() - from);
@@ -422,13 +422,13 @@ impl<T, S: Elements<T>> Ring<T, S> {
     /// Dequeues at most `size` elements, and lends them: as many as are contiguous.
     pub fn dequeue_many(&mut self, size: usize) -> &mut [T]
         ensures* writes_back { sem 𝓛 (lends_many T.row S.row S.Elements self.entry
-            (with_dequeued (min size (contiguous_held self.old)) self.old)
+            (with_dequeued (min size (contiguous_queued self.old)) self.old)
             self.old.read_at result) }
-        ensures count { length result.now ≡ min size (contiguous_held self.old) }
+        ensures count { length result.now ≡ min size (contiguous_queued self.old) }
         ensures value { result.now ≡ take (length result.now) (queue self.old) }
         ensures stored { result.now
             ≡ take (length result.now) (drop self.old.read_at self.old.storage) }
-        ensures dequeued { let k = min size (contiguous_held self.old) in
+        ensures dequeued { let k = min size (contiguous_queued self.old) in
             (ws : List T) → length ws ≡ k → Dequeued self.old k ws
             (written (with_dequeued k self.old) self.old.read_at ws) }
     {
@@ -474,11 +474,11 @@ impl<T, S: Elements<T>> Ring<T, S> {
     ///
     /// None where `offset` is past the queue.
     pub fn get_allocated(&self, offset: usize, size: usize) -> &[T]
-        ensures count { length result.now ≡ contiguous_held_from self.now offset size }
-        ensures not_empty { offset < self.now.held → 0 < size → 0 < length result.now }
+        ensures count { length result.now ≡ contiguous_queued_from self.now offset size }
+        ensures not_empty { offset < self.now.count → 0 < size → 0 < length result.now }
         ensures value { result.now ≡ take (length result.now) (drop offset (queue self.now)) }
         ensures stored { result.now
-            ≡ take (length result.now) (drop (held_index self.now offset) self.now.storage) }
+            ≡ take (length result.now) (drop (queue_index self.now offset) self.now.storage) }
     {
         let span = self.span(0, self.length, offset, size);
         self.storage.part(span.from, span.from + span.contiguous)
@@ -491,13 +491,13 @@ impl<T, S: Elements<T>> Ring<T, S> {
     /// after as before.
     pub fn get_allocated_mut(&mut self, offset: usize, size: usize) -> &mut [T]
         ensures* writes_back { sem 𝓛 (lends_many T.row S.row S.Elements self.entry
-            self.old (held_index self.old offset) result) }
-        ensures count { length result.now ≡ contiguous_held_from self.old offset size }
+            self.old (queue_index self.old offset) result) }
+        ensures count { length result.now ≡ contiguous_queued_from self.old offset size }
         ensures value { result.now ≡ take (length result.now) (drop offset (queue self.old)) }
         ensures stored { result.now
-            ≡ take (length result.now) (drop (held_index self.old offset) self.old.storage) }
-        ensures written { (ws : List T) → length ws ≡ contiguous_held_from self.old offset size →
-            QueueWritten self.old offset ws (written self.old (held_index self.old offset) ws) }
+            ≡ take (length result.now) (drop (queue_index self.old offset) self.old.storage) }
+        ensures written { (ws : List T) → length ws ≡ contiguous_queued_from self.old offset size →
+            QueueWritten self.old offset ws (written self.old (queue_index self.old offset) ws) }
     {
         let span = self.span(0, self.length, offset, size);
         self.storage
@@ -506,7 +506,7 @@ impl<T, S: Elements<T>> Ring<T, S> {
 
     /// Dequeues `count` elements. The ring must hold as many: `len` tells.
     pub fn dequeue_allocated(&mut self, count: usize)
-        requires { count ≤ self.old.held }
+        requires { count ≤ self.old.count }
         ensures ring { self.new ≡ with_dequeued count self.old }
         ensures dequeued { Dequeued self.old count (take count (queue self.old)) self.new }
     {
@@ -528,7 +528,7 @@ impl<T: Copy, S: Elements<T>> Ring<T, S> {
             ≡ with_enqueued result (written_wrapping g (write_at g) (take result «data».now)) }
         ensures enqueued { Enqueued (restarted self.old) (take result «data».now) self.new }
         ensures queue { queue self.new ≡ queue self.old ++ take result «data».now }
-        ensures same { (self.new.held ≡ self.old.held + result)
+        ensures same { (self.new.count ≡ self.old.count + result)
             × (capacity self.new ≡ capacity self.old) }
     {
         self.restart();
@@ -540,13 +540,13 @@ impl<T: Copy, S: Elements<T>> Ring<T, S> {
     /// Dequeues as many elements as `data` has room for and the ring holds, copies them to the
     /// beginning of `data`, and answers how many. The rest of `data` stays as it is.
     pub fn dequeue_slice(&mut self, data: &mut [T]) -> usize
-        ensures count { result ≡ min (length «data».old) self.old.held }
+        ensures count { result ≡ min (length «data».old) self.old.count }
         ensures of_queue { result ≡ min (length «data».old) (length (queue self.old)) }
         ensures given { «data».new ≡ take result (queue self.old) ++ drop result «data».old }
         ensures ring { self.new ≡ with_dequeued result self.old }
         ensures dequeued { Dequeued self.old result (take result (queue self.old)) self.new }
         ensures queue { queue self.new ≡ drop result (queue self.old) }
-        ensures same { (self.new.held ≡ self.old.held - result)
+        ensures same { (self.new.count ≡ self.old.count - result)
             × (capacity self.new ≡ capacity self.old) }
     {
         let count = self.read_allocated(0, data);
@@ -561,7 +561,7 @@ impl<T: Copy, S: Elements<T>> Ring<T, S> {
         ensures ring { self.new
             ≡ written_wrapping self.old (spare_index self.old offset) (take result «data».now) }
         ensures written { SpareWritten self.old offset (take result «data».now) self.new }
-        ensures same { (self.new.held ≡ self.old.held) × (capacity self.new ≡ capacity self.old) }
+        ensures same { (self.new.count ≡ self.old.count) × (capacity self.new ≡ capacity self.old) }
     {
         let Span {
             from,
@@ -583,7 +583,7 @@ impl<T: Copy, S: Elements<T>> Ring<T, S> {
     /// the beginning of `data`, and answers how many; 0 where `offset` is past the queue. The rest
     /// of `data` stays as it is, and nothing is dequeued.
     pub fn read_allocated(&mut self, offset: usize, data: &mut [T]) -> usize
-        ensures count { result ≡ min (length «data».old) (self.old.held - offset) }
+        ensures count { result ≡ min (length «data».old) (self.old.count - offset) }
         ensures given { «data».new
             ≡ take result (drop offset (queue self.old)) ++ drop result «data».old }
         ensures same { self.new ≡ self.old }

@@ -26,8 +26,8 @@ module _ {F R : Type 0} (g : Once F (Endpoint × (Bor (List ℕ) × Unit {0})) R
   GivesAtDatagram f e bytes r = (p : Bor (List ℕ)) × (p.now ≡ bytes) × g.post f (e, (p, tt)) r
 
   -- f may be called once at the first of the datagrams
-  abbrev pub TakesFirst : F → List (Endpoint × List ℕ) → Type 0
-  TakesFirst f ds = (e : Endpoint) (bytes : List ℕ) → ds ≡ (e, bytes) ∷ drop 1 ds → TakesDatagram f e bytes
+  abbrev pub TakesFirstDatagram : F → List (Endpoint × List ℕ) → Type 0
+  TakesFirstDatagram f ds = (e : Endpoint) (bytes : List ℕ) → ds ≡ (e, bytes) ∷ drop 1 ds → TakesDatagram f e bytes
 
 module _ {F R E : Type 0} (g : Once F (Endpoint × (Bor (List ℕ) × Unit {0})) (Result R E)) where
   -- f was handed the first of the datagrams ds and gave the answer: that datagram is gone from rest where the answer is `Ok`, and else nothing is

@@ -2,7 +2,7 @@
 ghost use Rattle.std.specs.Prelude.{◌≡◌, ◌∷◌, ◌++◌, [], OnOk, OnErr, IfOk, IsErr, ◌↔◌, ◌==◌, not, length, take, drop, min, true, false};
 ghost use Rattle.net_storage.specs.PacketHistory.{contents};
 ghost use Rattle.net_storage.specs.PacketCalls.{CopiedOut};
-ghost use Rattle.net_uses.specs.Datagrams.{Shown, TakesDatagram, GivesAtDatagram, TakesFirst, Dispatched};
+ghost use Rattle.net_uses.specs.Datagrams.{Shown, TakesDatagram, GivesAtDatagram, TakesFirstDatagram, Dispatched};
 
 use crate::endpoint::Endpoint;
 use net_storage::packet_buffer::laws;
@@ -120,7 +120,7 @@ impl<'a> UdpSocket<'a> {
         &mut self,
         emit: F,
     ) -> Result<Result<R, E>, Empty>
-        requires { TakesFirst F.FnOnce emit self.old.to_send }
+        requires { TakesFirstDatagram F.FnOnce emit self.old.to_send }
         ensures empty { IsErr result ↔ (self.old.to_send ≡ []) }
         ensures unchanged { OnErr result (self.new ≡ self.old) }
         ensures received { self.new.received ≡ self.old.received }
@@ -151,7 +151,7 @@ fn hand<R, E, F: FnOnce(Endpoint, &[u8]) -> Result<R, E>>(
     queue: &mut PacketBuffer<'_, Endpoint>,
     emit: F,
 ) -> Result<Result<R, E>, Empty>
-    requires { TakesFirst F.FnOnce emit (contents queue.old) }
+    requires { TakesFirstDatagram F.FnOnce emit (contents queue.old) }
     ensures empty { IsErr result ↔ (contents queue.old ≡ []) }
     ensures unchanged { OnErr result (queue.new ≡ queue.old) }
     ensures dispatched { IfOk result

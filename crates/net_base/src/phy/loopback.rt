@@ -27,11 +27,11 @@ pub struct Loopback<A: Allocator + Copy = Global> {
 }
 
 impl<A: Allocator + Copy> Model for Loopback<A> {
-    ghost use Rattle.net_base.specs.Loopback.{Frames, bytes_of};
+    ghost use Rattle.net_base.specs.Loopback.{Frames, frames_of};
 
     ghost Value = { Frames };
 
-    ghost view = { λ d. record { medium = d.medium; frames = bytes_of d.queue.items } };
+    ghost view = { λ d. record { medium = d.medium; frames = frames_of d.queue.items } };
 }
 
 impl<A: Allocator + Copy> Loopback<A> {

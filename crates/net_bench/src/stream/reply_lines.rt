@@ -1,7 +1,7 @@
 //! The replies of a receiver as text.
 ghost use Rattle.std.specs.Prelude.{◌≡◌, Some, flat_map, IfOk, Ok, string_bytes};
 ghost use Rattle.net_receiver.specs.Schedule.{Segmented, Gave, Shown};
-ghost use Rattle.net_receiver.specs.Commands.{answer_seen};
+ghost use Rattle.net_receiver.specs.Commands.{reply_seen};
 ghost use Rattle.net_bench.specs.StreamMode.{run_text, next_run_text, runs_text, accepted_line};
 ghost use Rattle.net_bench.specs.StreamMode.{reply_text as text_of_reply};
 
@@ -126,7 +126,7 @@ fn shown_text<A: Allocator + Copy>(
 
 /// A reply as a line.
 pub fn reply_text<A: Allocator + Copy>(alloc: A, reply: &Reply<A>) -> Result<String<A>, AllocError>
-    ensures { IfOk result (λ text. string_bytes text ≡ text_of_reply (answer_seen reply.now)) }
+    ensures { IfOk result (λ text. string_bytes text ≡ text_of_reply (reply_seen reply.now)) }
 {
     match reply {
         Reply::Segment(Ok(kept)) => kept_text(alloc, kept),

@@ -3,7 +3,7 @@
 ghost use Rattle.std.specs.Prelude.{◌≡◌, ◌≢◌, ◌≤◌, ◌++◌, ◌∷◌, ◌↔◌, [], ℕ, List, Bool, length, take, drop, if◌then◌else◌};
 ghost use Rattle.std.specs.declared.option.Option.TheVariants.{None};
 ghost use Rattle.net_storage.specs.Packets.{PacketQueue, WellPlaced, no_packets, IsFirst, IsFirstSized, placement, placed_if_room, only_last, last_bytes, last_written, last_cut, skipped, first_size, first_written, popped, handed, dequeued, with_bytes, freed_place, freed_bytes, AreFreed};
-ghost use Rattle.net_storage.specs.PacketHistory.{contents, with_last_bytes, Call, MakesAll, history};
+ghost use Rattle.net_storage.specs.PacketHistory.{contents, with_last_bytes, QueueCall, MakesAll, history};
 
 use crate::managed::Elements;
 use crate::packet_buffer::Packets;
@@ -95,7 +95,7 @@ pub fn looking_changes_nothing<H>()
 /// the header and the bytes last written to it, by who put it or by a closure that refused it. What
 /// `reset` drops counts as never accepted.
 pub fn accepted_packets_leave_in_turn<H>()
-    ensures { (slot_count : ℕ) (storage : List ℕ) (calls : List (Call H)) (r : PacketQueue H)
+    ensures { (slot_count : ℕ) (storage : List ℕ) (calls : List (QueueCall H)) (r : PacketQueue H)
         → MakesAll calls (no_packets slot_count storage) r
         → (history calls).left ++ contents r ≡ (history calls).accepted }
 {}

@@ -1,6 +1,6 @@
 //! Callers of a ring, proved from its contracts alone.
 ghost use Rattle.std.specs.Prelude.{◌≡◌, ◌≢◌, ◌<◌, ◌↔◌, ◌++◌, [], ◌∷◌, length, take, drop, min, ℕ, List, IsErr, OnOk, OnErr, IfOk, vec_len};
-ghost use Rattle.net_storage.specs.Ring.{window, queue, spare, contiguous_window, contiguous_held, contiguous_window_from, contiguous_held_from, restarted, Enqueued, Dequeued, SpareWritten, QueueWritten};
+ghost use Rattle.net_storage.specs.Ring.{window, queue, spare, contiguous_window, contiguous_queued, contiguous_window_from, contiguous_queued_from, restarted, Enqueued, Dequeued, SpareWritten, QueueWritten};
 
 use super::{Empty, Full, ManagedSlice, RingBuffer};
 use std::marker::Model;
@@ -34,7 +34,7 @@ pub fn stage(ring: &mut RingBuffer<'_, u8>, offset: usize, byte: u8)
 
 // A byte of the queue is written over.
 pub fn patch(ring: &mut RingBuffer<'_, u8>, offset: usize, byte: u8)
-    requires { 0 < contiguous_held_from ring.old offset 1 }
+    requires { 0 < contiguous_queued_from ring.old offset 1 }
     ensures { QueueWritten ring.old offset (byte ∷ []) ring.new }
 {
     ring.get_allocated_mut(offset, 1)[0] = byte;
@@ -42,7 +42,7 @@ pub fn patch(ring: &mut RingBuffer<'_, u8>, offset: usize, byte: u8)
 
 // The first byte of the queue is dequeued, and zero is left where it stood.
 pub fn dequeue_byte(ring: &mut RingBuffer<'_, u8>) -> u8
-    requires { 0 < contiguous_held ring.old }
+    requires { 0 < contiguous_queued ring.old }
     ensures parts { Dequeued ring.old 1 (0 ∷ []) ring.new }
     ensures byte { take 1 (queue ring.old) ≡ result ∷ [] }
 {
@@ -54,7 +54,7 @@ pub fn dequeue_byte(ring: &mut RingBuffer<'_, u8>) -> u8
 
 // The same by `dequeue_one`.
 pub fn dequeue_one_byte(ring: &mut RingBuffer<'_, u8>) -> Result<u8, Empty>
-    ensures empty { IsErr result ↔ (ring.old.held ≡ 0) }
+    ensures empty { IsErr result ↔ (ring.old.count ≡ 0) }
     ensures unchanged { OnErr result (ring.new ≡ ring.old) }
     ensures byte { IfOk result (λ byte. queue ring.old ≡ byte ∷ drop 1 (queue ring.old)) }
     ensures parts { OnOk result (Dequeued ring.old 1 (0 ∷ []) ring.new) }
@@ -78,7 +78,7 @@ pub fn write_and_enqueue(ring: &mut RingBuffer<'_, u8>, data: &[u8]) -> usize
 // A closure writes and then answers `Err`: what it wrote stays, and nothing is enqueued.
 pub fn write_and_refuse(ring: &mut RingBuffer<'_, u8>, byte: u8)
     ensures queue { queue ring.new ≡ queue ring.old }
-    ensures held { ring.new.held ≡ ring.old.held }
+    ensures held { ring.new.count ≡ ring.old.count }
     ensures spare { window ring.old ≢ 0 → SpareWritten ring.old 0 (byte ∷ []) ring.new }
 {
     let _ = ring.enqueue_one_with(|free| -> Result<(), ()> {

@@ -15,15 +15,15 @@ pub fn ring_is_its_parts<T>()
 
 /// What a ring holds and what it has room for are its capacity, and the lengths of its two parts.
 pub fn held_and_window_are_capacity<T>()
-    ensures { (g : RingState T) → WellFormed g → (g.held + window g ≡ capacity g)
-        × (length (queue g) ≡ g.held) × (length (spare g) ≡ window g) }
+    ensures { (g : RingState T) → WellFormed g → (g.count + window g ≡ capacity g)
+        × (length (queue g) ≡ g.count) × (length (spare g) ≡ window g) }
 {}
 
 /// Moving the read index of an empty ring to the storage's beginning changes neither the queue nor
 /// the counts.
 pub fn restarting_keeps_the_queue<T>()
     ensures { (g : RingState T) → (queue (restarted g) ≡ queue g)
-        × ((restarted g).held ≡ g.held) × ((restarted g).storage ≡ g.storage) }
+        × ((restarted g).count ≡ g.count) × ((restarted g).storage ≡ g.storage) }
 {}
 
 /// What was written over the whole of a storage is what it then holds.

@@ -1,6 +1,6 @@
 use Rattle.std.proofs.Common.{◌≡◌, ◌++◌, ◌∷◌, sym, ap, ◌∙◌, subst, arith, of_calls, List, ℕ, if◌then◌else◌, is_ok, length, drop, take}
 use Rattle.std.specs.declared.option.Option.TheVariants.{Some, None}
-use Rattle.net_storage.specs.Ring.{queue, capacity, WellFormed, contiguous_held}
+use Rattle.net_storage.specs.Ring.{queue, capacity, WellFormed, contiguous_queued}
 use Rattle.net_storage.specs.Packets.{first_gap, popped, first_written, handed}
 use Rattle.net_storage.specs.PacketSlots.{slot}
 use Rattle.net_storage.specs.PacketCalls.{GivesAtPacket}
@@ -81,10 +81,10 @@ returns-clause-handed g c =
     let left = sym k.1.leaves ∙ called.3 ∙ ap (λ l. called.0 ++ drop size l) k.1.shows in
     let front = lift_front m bytes c.self.invariant z size c.in_ok-size.header at c.args.self.now is in
     let gives = subst (λ l. GivesAtPacket g.F.FnOnce c.args.f c.in_ok-size.header (take size l) r.1.0 r.1.1 called.0) k.1.shows called.1 in
-    let whole = length-take-le size (take (contiguous_held bytes) (queue bytes)) (lift_fits m bytes c.self.invariant z size c.in_ok-size.header at) in
+    let whole = length-take-le size (take (contiguous_queued bytes) (queue bytes)) (lift_fits m bytes c.self.invariant z size c.in_ok-size.header at) in
     record {
       header = c.in_ok-size.header;
-      bytes = take size (take (contiguous_held bytes) (queue bytes));
+      bytes = take size (take (contiguous_queued bytes) (queue bytes));
       new_header = r.1.1;
       new_bytes = called.0;
       first = front;

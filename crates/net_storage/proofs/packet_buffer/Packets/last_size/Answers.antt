@@ -7,12 +7,12 @@ pub returns-in-Some : goal.returns-in-Some
 returns-in-Some g c =
     let s = c.saturating_sub.ensures in
     end_some c.self.inside.slots c.self.inside.bytes c.self.invariant c.saturating_sub.result (length c.get_allocated.result.now)
-    (omega (arith, c.len-used.ensures.held, s)) c.get_allocated.ensures.count c.get_allocated.result.now c.get_allocated.ensures.value c.in-Some.slot.now c.in-Some.ensures.value
+    (omega (arith, c.len-used.ensures.count, s)) c.get_allocated.ensures.count c.get_allocated.result.now c.get_allocated.ensures.value c.in-Some.slot.now c.in-Some.ensures.value
     ∙ ap (λ q. first_size (only_last q.packets)) c.self.view_is
 
 pub returns-in-None : goal.returns-in-None
 returns-in-None g c =
     let s = c.saturating_sub.ensures in
     end_none c.self.inside.slots c.self.inside.bytes c.self.invariant c.saturating_sub.result (length c.get_allocated.result.now)
-    (omega (arith, c.len-used.ensures.held, s)) c.get_allocated.ensures.count c.get_allocated.result.now c.get_allocated.ensures.value c.in-None.ensures.value
+    (omega (arith, c.len-used.ensures.count, s)) c.get_allocated.ensures.count c.get_allocated.result.now c.get_allocated.ensures.value c.in-None.ensures.value
     ∙ ap (λ q. first_size (only_last q.packets)) c.self.view_is

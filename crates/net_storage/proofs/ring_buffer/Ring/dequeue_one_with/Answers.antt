@@ -12,11 +12,11 @@ f-answer-requires g c =
     let old = c.args.self.now in
     let is = c.self.view_is in
     let x = c.item_mut.result.now in
-    let some : old.held ≢ 0 = search rules in
+    let some : old.count ≢ 0 = search rules in
     let here = c.item_mut.ensures.value ∙ ap (λ o. slice_index_or o.storage o.read_at x) is in
     c.requires.callable x (queue_front old (well _ _ is c.self.invariant) x here some) c.item_mut.result refl
 
-some : (g : _) (c : goal.Joined-is_ok g) → c.args.self.now.held ≢ 0
+some : (g : _) (c : goal.Joined-is_ok g) → c.args.self.now.count ≢ 0
 some g c = search rules
 
 pub invariant_of-self : goal.invariant_of-self
@@ -25,7 +25,7 @@ invariant_of-self g c =
     let long = ap length (g.met.S.Elements.item_written s c.self.inside.read_at c.f-answer.new.arg2) ∙ length-overwrite (g.S.Elements.elements s) c.self.inside.read_at (c.f-answer.new.arg2 ∷ []) in
     let size = ap (λ o. length o.storage) c.self.view_is in
     let read = ap (λ o. o.read_at) c.self.view_is in
-    let held = ap (λ o. o.held) c.self.view_is in
+    let held = ap (λ o. o.count) c.self.view_is in
     grind (arith, long, size, read, held)
 
 pub invariant_of-self-else-is_ok : goal.invariant_of-self-else-is_ok
@@ -44,12 +44,12 @@ returns-clause-called g c =
     let here = c.item_mut.ensures.value ∙ ap (λ o. slice_index_or o.storage o.read_at x) is in
     let law = g.met.S.Elements.item_written c.self.inside.storage c.self.inside.read_at y in
     let read = ap (λ o. o.read_at) is in
-    let held = ap (λ o. o.held) is in
+    let held = ap (λ o. o.count) is in
     let stored = law ∙ ap (λ o. overwrite o.storage o.read_at (y ∷ [])) is in
     let after : Bool → RingState _ = λ t. written (if t then with_dequeued 1 old else old) old.read_at (y ∷ []) in
     let left : c.if-is_ok.self ≡ written (if is_ok c.f-answer.result then with_dequeued 1 old else old) old.read_at (y ∷ []) = elim c.if-is_ok.branch [
-      | then-is_ok w ↦ ring_is _ (after true) (ap (λ o. o.storage) w.self-is ∙ stored) (omega (arith, ap (λ o. o.read_at) w.self-is)) (omega (arith, ap (λ o. o.held) w.self-is, held)) ∙ ap after (sym (sym c.is_ok.ensures.value ∙ w.if-is_ok.true))
-      | else-is_ok w ↦ ring_is _ (after false) (ap (λ o. o.storage) w.self-is ∙ stored) (omega (arith, ap (λ o. o.read_at) w.self-is, read)) (omega (arith, ap (λ o. o.held) w.self-is, held)) ∙ ap after (sym (sym c.is_ok.ensures.value ∙ w.if-is_ok.false))
+      | then-is_ok w ↦ ring_is _ (after true) (ap (λ o. o.storage) w.self-is ∙ stored) (omega (arith, ap (λ o. o.read_at) w.self-is)) (omega (arith, ap (λ o. o.count) w.self-is, held)) ∙ ap after (sym (sym c.is_ok.ensures.value ∙ w.if-is_ok.true))
+      | else-is_ok w ↦ ring_is _ (after false) (ap (λ o. o.storage) w.self-is ∙ stored) (omega (arith, ap (λ o. o.read_at) w.self-is, read)) (omega (arith, ap (λ o. o.count) w.self-is, held)) ∙ ap after (sym (sym c.is_ok.ensures.value ∙ w.if-is_ok.false))
     ] in
     let by_answer = front_either old wf y (some g c) c.f-answer.result _ left in (
       x,

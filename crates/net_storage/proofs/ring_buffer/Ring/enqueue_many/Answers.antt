@@ -10,7 +10,7 @@ returns g c =
     let k = c.min-count.result in
     let room : c.contiguous_window.result ≡ contiguous_window old = c.contiguous_window.ensures.count ∙ ap contiguous_window is in
     let count : k ≡ min c.args.size (contiguous_window old) = omega (arith, room) in
-    let at = c.storage_index-from.ensures.index ∙ ap (λ o. storage_index o o.held) is in
+    let at = c.storage_index-from.ensures.index ∙ ap (λ o. storage_index o o.count) is in
     let lent = shown_next _ _ is c.self.invariant _ _ k at (omega arith) (omega (arith, count)) _ c.part_mut.ensures.value in (
       (refl, λ w. left_in _ _ is c.self.invariant k _ _ count at _ w (g.met.S.Elements.part_written c.self.inside.storage c.storage_index-from.result w)),
       record {

@@ -9,7 +9,7 @@ pub f-answer-requires : goal.f-answer-requires
 f-answer-requires g c =
     let old = restarted c.args.self.now in
     let is = c.self.view_is ∙ c.restart.ensures in
-    let at = c.storage_index-from.ensures.index ∙ ap (λ o. storage_index o c.self.inside.length) c.restart.ensures ∙ ap (λ o. storage_index old o.held) is in
+    let at = c.storage_index-from.ensures.index ∙ ap (λ o. storage_index o c.self.inside.length) c.restart.ensures ∙ ap (λ o. storage_index old o.count) is in
     let run : c.contiguous_window.result ≡ contiguous_window old = c.contiguous_window.ensures.count ∙ ap contiguous_window c.restart.ensures in
     c.requires.callable c.part_mut.result (lent_next _ _ is c.self.invariant _ _ at (omega (arith, run)) _ c.part_mut.ensures.value).0
 
@@ -17,17 +17,17 @@ pub overflow_add-self : goal.overflow_add-self
 overflow_add-self g c =
     let old = restarted c.args.self.now in
     let is = c.self.view_is ∙ c.restart.ensures in
-    let at = c.storage_index-from.ensures.index ∙ ap (λ o. storage_index o c.self.inside.length) c.restart.ensures ∙ ap (λ o. storage_index old o.held) is in
+    let at = c.storage_index-from.ensures.index ∙ ap (λ o. storage_index o c.self.inside.length) c.restart.ensures ∙ ap (λ o. storage_index old o.count) is in
     let run : c.contiguous_window.result ≡ contiguous_window old = c.contiguous_window.ensures.count ∙ ap contiguous_window c.restart.ensures in
     let lent = lent_next _ _ is c.self.invariant _ _ at (omega (arith, run)) _ c.part_mut.ensures.value in
     let le = c.requires.count c.f-answer.result c.f-answer.new.arg2 (record { shown = c.part_mut.result; shows = lent.0; left = at_last c.part_mut.result c.f-answer.new.arg2; leaves = refl; met = c.f-answer.ensures }) in
-    record { fits = omega (arith, le, c.storage_index-from.ensures.within.1, ap capacity c.restart.ensures, ap (λ o. o.held) is, (well _ old is c.self.invariant).1) }
+    record { fits = omega (arith, le, c.storage_index-from.ensures.within.1, ap capacity c.restart.ensures, ap (λ o. o.count) is, (well _ old is c.self.invariant).1) }
 
 pub invariant_of-self : goal.invariant_of-self
 invariant_of-self g c =
     let old = restarted c.args.self.now in
     let is = c.self.view_is ∙ c.restart.ensures in
-    let at = c.storage_index-from.ensures.index ∙ ap (λ o. storage_index o c.self.inside.length) c.restart.ensures ∙ ap (λ o. storage_index old o.held) is in
+    let at = c.storage_index-from.ensures.index ∙ ap (λ o. storage_index o c.self.inside.length) c.restart.ensures ∙ ap (λ o. storage_index old o.count) is in
     let run : c.contiguous_window.result ≡ contiguous_window old = c.contiguous_window.ensures.count ∙ ap contiguous_window c.restart.ensures in
     let lent = lent_next _ _ is c.self.invariant _ _ at (omega (arith, run)) _ c.part_mut.ensures.value in
     let le = c.requires.count c.f-answer.result c.f-answer.new.arg2 (record { shown = c.part_mut.result; shows = lent.0; left = at_last c.part_mut.result c.f-answer.new.arg2; leaves = refl; met = c.f-answer.ensures }) in
@@ -37,7 +37,7 @@ pub returns : goal.returns
 returns g c =
     let old = restarted c.args.self.now in
     let is = c.self.view_is ∙ c.restart.ensures in
-    let at = c.storage_index-from.ensures.index ∙ ap (λ o. storage_index o c.self.inside.length) c.restart.ensures ∙ ap (λ o. storage_index old o.held) is in
+    let at = c.storage_index-from.ensures.index ∙ ap (λ o. storage_index o c.self.inside.length) c.restart.ensures ∙ ap (λ o. storage_index old o.count) is in
     let run : c.contiguous_window.result ≡ contiguous_window old = c.contiguous_window.ensures.count ∙ ap contiguous_window c.restart.ensures in
     let lent = lent_next _ _ is c.self.invariant _ _ at (omega (arith, run)) _ c.part_mut.ensures.value in
     let after = c.f-answer.new.arg2 in

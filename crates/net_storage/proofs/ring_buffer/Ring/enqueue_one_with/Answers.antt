@@ -12,7 +12,7 @@ f-answer-requires g c =
     let is = c.self.view_is in
     let x = c.item_mut.result.now in
     let some : window old ≢ 0 = search rules in
-    let at = c.storage_index-at.ensures.index ∙ ap (λ o. storage_index old o.held) is in
+    let at = c.storage_index-at.ensures.index ∙ ap (λ o. storage_index old o.count) is in
     let here = c.item_mut.ensures.value ∙ ap (λ o. slice_index_or o.storage c.storage_index-at.result x) is ∙ ap (λ i. slice_index_or old.storage i x) at in
     c.requires.callable x (spare_front old (well _ _ is c.self.invariant) x here some) c.item_mut.result refl
 
@@ -26,16 +26,16 @@ returns-clause-called g c =
     let wf = well _ _ is c.self.invariant in
     let x = c.item_mut.result.now in
     let y = c.f-answer.new.arg2 in
-    let at = c.storage_index-at.ensures.index ∙ ap (λ o. storage_index old o.held) is in
+    let at = c.storage_index-at.ensures.index ∙ ap (λ o. storage_index old o.count) is in
     let here = c.item_mut.ensures.value ∙ ap (λ o. slice_index_or o.storage c.storage_index-at.result x) is ∙ ap (λ i. slice_index_or old.storage i x) at in
     let law = g.met.S.Elements.item_written c.self.inside.storage c.storage_index-at.result y in
     let read = ap (λ o. o.read_at) is in
-    let held = ap (λ o. o.held) is in
+    let held = ap (λ o. o.count) is in
     let stored = law ∙ ap (λ o. overwrite o.storage c.storage_index-at.result (y ∷ [])) is ∙ ap (λ p. overwrite old.storage p (y ∷ [])) at in
     let after : Bool → RingState _ = λ t. written (if t then with_enqueued 1 old else old) (write_at old) (y ∷ []) in
     let left : c.if-is_ok.self ≡ written (if is_ok c.f-answer.result then with_enqueued 1 old else old) (write_at old) (y ∷ []) = elim c.if-is_ok.branch [
-      | then-is_ok w ↦ ring_is _ (after true) (ap (λ o. o.storage) w.self-is ∙ stored) (omega (arith, ap (λ o. o.read_at) w.self-is, read)) (omega (arith, ap (λ o. o.held) w.self-is, held)) ∙ ap after (sym (sym c.is_ok.ensures.value ∙ w.if-is_ok.true))
-      | else-is_ok w ↦ ring_is _ (after false) (ap (λ o. o.storage) w.self-is ∙ stored) (omega (arith, ap (λ o. o.read_at) w.self-is, read)) (omega (arith, ap (λ o. o.held) w.self-is, held)) ∙ ap after (sym (sym c.is_ok.ensures.value ∙ w.if-is_ok.false))
+      | then-is_ok w ↦ ring_is _ (after true) (ap (λ o. o.storage) w.self-is ∙ stored) (omega (arith, ap (λ o. o.read_at) w.self-is, read)) (omega (arith, ap (λ o. o.count) w.self-is, held)) ∙ ap after (sym (sym c.is_ok.ensures.value ∙ w.if-is_ok.true))
+      | else-is_ok w ↦ ring_is _ (after false) (ap (λ o. o.storage) w.self-is ∙ stored) (omega (arith, ap (λ o. o.read_at) w.self-is, read)) (omega (arith, ap (λ o. o.count) w.self-is, held)) ∙ ap after (sym (sym c.is_ok.ensures.value ∙ w.if-is_ok.false))
     ] in
     let by_answer = next_either old wf y (some g c) c.f-answer.result _ left in (
       x,

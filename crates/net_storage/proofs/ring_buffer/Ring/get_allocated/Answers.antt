@@ -1,5 +1,5 @@
 use Rattle.std.proofs.Common.{◌≡◌, ◌∙◌, ap, arith, subst}
-use Rattle.net_storage.specs.Ring.{storage_index, held_index, contiguous_held_from, WellFormed}
+use Rattle.net_storage.specs.Ring.{storage_index, queue_index, contiguous_queued_from, WellFormed}
 use Rattle.net_storage.proofs.RingFacts.{shown_held, contiguous_held_some}
 use Rattle.net_storage.proofs.ring_buffer.Ring.get_allocated.Goals as goal
 
@@ -7,8 +7,8 @@ pub returns : goal.returns
 returns g c =
     let old = c.args.self.now in
     let span = c.span-span.ensures in
-    let held = ap (λ o. o.held) c.self.view_is in
-    let at : c.span-span.result.from ≡ held_index old c.args.offset = span.from ∙ ap (storage_index old) (omega (arith, held)) in
-    let count : c.span-span.result.contiguous ≡ contiguous_held_from old c.args.offset c.args.size = omega (arith, span.count, span.contiguous, at, held) in
+    let held = ap (λ o. o.count) c.self.view_is in
+    let at : c.span-span.result.from ≡ queue_index old c.args.offset = span.from ∙ ap (storage_index old) (omega (arith, held)) in
+    let count : c.span-span.result.contiguous ≡ contiguous_queued_from old c.args.offset c.args.size = omega (arith, span.count, span.contiguous, at, held) in
     let lent = shown_held _ _ c.self.view_is c.self.invariant c.args.offset c.args.size _ _ at (omega (arith, count)) _ c.part.ensures in
     record { count = lent.0; not_empty = λ l m. (let h = contiguous_held_some old c.args.offset c.args.size (subst WellFormed c.self.view_is c.self.invariant).1 l m in omega (arith, h, lent.0)); value = lent.1; stored = lent.2 }

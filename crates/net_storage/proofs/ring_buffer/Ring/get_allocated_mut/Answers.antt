@@ -1,5 +1,5 @@
 use Rattle.std.proofs.Common.{◌≡◌, ◌∙◌, ◌+◌, min, refl, ap, arith}
-use Rattle.net_storage.specs.Ring.{capacity, storage_index, held_index, contiguous_held_from}
+use Rattle.net_storage.specs.Ring.{capacity, storage_index, queue_index, contiguous_queued_from}
 use Rattle.net_storage.proofs.RingFacts.{well, left_at, shown_held, held_part_law}
 use Rattle.net_storage.proofs.ring_buffer.Ring.get_allocated_mut.Goals as goal
 
@@ -8,10 +8,10 @@ returns g c =
     let old = c.args.self.now in
     let is = c.self.view_is in
     let span = c.span-span.ensures in
-    let held = ap (λ o. o.held) is in
+    let held = ap (λ o. o.count) is in
     let size = ap (λ o. capacity o) is in
-    let at : c.span-span.result.from ≡ held_index old c.args.offset = span.from ∙ ap (λ o. storage_index o (0 + min c.args.offset c.self.inside.length)) is ∙ ap (storage_index old) (omega (arith, held)) in
-    let count : c.span-span.result.contiguous ≡ contiguous_held_from old c.args.offset c.args.size = omega (arith, span.count, span.contiguous, at, held, size) in
+    let at : c.span-span.result.from ≡ queue_index old c.args.offset = span.from ∙ ap (λ o. storage_index o (0 + min c.args.offset c.self.inside.length)) is ∙ ap (storage_index old) (omega (arith, held)) in
+    let count : c.span-span.result.contiguous ≡ contiguous_queued_from old c.args.offset c.args.size = omega (arith, span.count, span.contiguous, at, held, size) in
     let lent = shown_held _ _ is c.self.invariant c.args.offset c.args.size _ _ at (omega (arith, count)) _ c.part_mut.ensures.value in (
       (refl, λ w. left_at _ _ is c.self.invariant _ _ at _ w (g.met.S.Elements.part_written c.self.inside.storage c.span-span.result.from w)),
       record {
