@@ -1,5 +1,5 @@
 //! A ring of elements over storage that is lent or owned.
-ghost use Rattle.std.specs.Prelude.{◌≡◌, ◌≢◌, ◌≤◌, ◌<◌, ◌-◌, ◌+◌, ◌^◌, ◌==◌, ◌↔◌, length, take, drop, ◌++◌, [], ◌∷◌, min, List, IsErr, OnErr, IfOk};
+ghost use Rattle.std.specs.Prelude.{◌≡◌, ◌≢◌, ◌≤◌, ◌<◌, ◌-◌, ◌+◌, ◌^◌, ◌==◌, ◌↔◌, length, take, drop, ◌++◌, [], ◌∷◌, min, List, IsTrue, IsErr, OnErr, IfOk};
 ghost use Rattle.std.specs.Borrow.{sem};
 ghost use Rattle.std.specs.Fn.{FnOnceTakesAtMut};
 ghost use Rattle.std.specs.List.{AllZip};
@@ -152,7 +152,8 @@ impl<T, S: Elements<T>> Ring<T, S> {
     /// Whether the ring holds nothing.
     #[inline]
     pub fn is_empty(&self) -> bool
-        ensures { result ≡ (self.now.count == 0) }
+        ensures count { result ≡ (self.now.count == 0) }
+        ensures none_queued { IsTrue result ↔ (queue self.now ≡ []) }
     {
         self.len() == 0
     }
@@ -160,7 +161,8 @@ impl<T, S: Elements<T>> Ring<T, S> {
     /// Whether no element can be enqueued.
     #[inline]
     pub fn is_full(&self) -> bool
-        ensures { result ≡ (window self.now == 0) }
+        ensures room { result ≡ (window self.now == 0) }
+        ensures none_spare { IsTrue result ↔ (spare self.now ≡ []) }
     {
         self.window() == 0
     }
