@@ -170,21 +170,32 @@ impl<'a, T> Elements<T> for ManagedSlice<'a, T> {
 impl<'a, T> From<&'a mut [T]> for ManagedSlice<'a, T> {
     ghost use Rattle.net_storage.specs.Managed.{elements};
 
+    ghost from_gives = { λ s r. elements r ≡ s.now };
+
     /// Storage that is lent.
-    fn from(slice: &'a mut [T]) -> Self
-        ensures { elements result ≡ slice.old }
-    {
+    fn from(slice: &'a mut [T]) -> Self {
         Self::Borrowed(slice)
+    }
+}
+
+impl<'a, T, const N: usize> From<&'a mut [T; N]> for ManagedSlice<'a, T> {
+    ghost use Rattle.net_storage.specs.Managed.{elements};
+
+    ghost from_gives = { λ s r. elements r ≡ s.now };
+
+    /// Storage that is lent as an array.
+    fn from(array: &'a mut [T; N]) -> Self {
+        Self::Borrowed(array)
     }
 }
 
 impl<'a, T> From<Vec<T>> for ManagedSlice<'a, T> {
     ghost use Rattle.net_storage.specs.Managed.{elements};
 
+    ghost from_gives = { λ s r. elements r ≡ s.items };
+
     /// Storage that is owned.
-    fn from(vec: Vec<T>) -> Self
-        ensures { elements result ≡ vec.items }
-    {
+    fn from(vec: Vec<T>) -> Self {
         Self::Owned(vec)
     }
 }

@@ -1,5 +1,5 @@
 //! A ring of elements over storage that is lent or owned.
-ghost use Rattle.std.specs.Prelude.{◌≡◌, ◌≢◌, ◌≤◌, ◌<◌, ◌-◌, ◌+◌, ◌^◌, ◌==◌, ◌↔◌, length, take, drop, ◌++◌, [], ◌∷◌, min, List, IsTrue, IsErr, OnErr, IfOk};
+ghost use Rattle.std.specs.Prelude.{◌≡◌, ◌≢◌, ◌≤◌, ◌<◌, ◌-◌, ◌+◌, ◌^◌, ◌==◌, ◌↔◌, length, take, drop, ◌++◌, [], ◌∷◌, min, List, IsTrue, IsErr, OnErr, IfOk, slice_get};
 ghost use Rattle.std.specs.Borrow.{sem};
 ghost use Rattle.std.specs.Fn.{FnOnceTakesAtMut};
 ghost use Rattle.std.specs.List.{AllZip};
@@ -73,12 +73,39 @@ impl<T, S: Elements<T> + Drop> Drop for Ring<T, S> {
 impl<'a, T> From<ManagedSlice<'a, T>> for RingBuffer<'a, T> {
     ghost use Rattle.net_storage.specs.Managed.{elements};
 
+    ghost from_gives = { λ s r. (r ≡ ring (elements s) 0 0)
+        × (queue r ≡ []) × (spare r ≡ elements s) };
+
     /// An empty ring over the storage, whose elements stay as they are.
-    fn from(storage: ManagedSlice<'a, T>) -> Self
-        ensures ring { result ≡ ring (elements storage.entry) 0 0 }
-        ensures parts { (queue result ≡ []) × (spare result ≡ elements storage.entry) }
-    {
+    fn from(storage: ManagedSlice<'a, T>) -> Self {
         Ring::new(storage)
+    }
+}
+
+impl<'a, T> From<&'a mut [T]> for RingBuffer<'a, T> {
+    ghost from_gives = { λ s r. (r ≡ ring s.now 0 0) × (queue r ≡ []) × (spare r ≡ s.now) };
+
+    /// An empty ring over elements that are lent, which stay as they are.
+    fn from(elements: &'a mut [T]) -> Self {
+        Ring::new(ManagedSlice::Borrowed(elements))
+    }
+}
+
+impl<'a, T, const N: usize> From<&'a mut [T; N]> for RingBuffer<'a, T> {
+    ghost from_gives = { λ s r. (r ≡ ring s.now 0 0) × (queue r ≡ []) × (spare r ≡ s.now) };
+
+    /// An empty ring over an array that is lent, whose elements stay as they are.
+    fn from(elements: &'a mut [T; N]) -> Self {
+        Ring::new(ManagedSlice::Borrowed(elements))
+    }
+}
+
+impl<'a, T> From<Vec<T>> for RingBuffer<'a, T> {
+    ghost from_gives = { λ s r. (r ≡ ring s.items 0 0) × (queue r ≡ []) × (spare r ≡ s.items) };
+
+    /// An empty ring over elements of its own, which stay as they are.
+    fn from(elements: Vec<T>) -> Self {
+        Ring::new(ManagedSlice::Owned(elements))
     }
 }
 
@@ -388,6 +415,7 @@ impl<T, S: Elements<T>> Ring<T, S> {
             (with_enqueued (min size (contiguous_window (restarted self.old))) (restarted self.old))
             (write_at (restarted self.old)) result) }
         ensures count { length result.now ≡ min size (contiguous_window (restarted self.old)) }
+        ensures not_empty { window self.old ≢ 0 → 0 < size → 0 < length result.now }
         ensures value { result.now ≡ take (length result.now) (spare (restarted self.old)) }
         ensures stored { let g = restarted self.old in
             result.now ≡ take (length result.now) (drop (write_at g) g.storage) }
@@ -427,6 +455,7 @@ impl<T, S: Elements<T>> Ring<T, S> {
             (with_dequeued (min size (contiguous_queued self.old)) self.old)
             self.old.read_at result) }
         ensures count { length result.now ≡ min size (contiguous_queued self.old) }
+        ensures not_empty { self.old.count ≢ 0 → 0 < size → 0 < length result.now }
         ensures value { result.now ≡ take (length result.now) (queue self.old) }
         ensures stored { result.now
             ≡ take (length result.now) (drop self.old.read_at self.old.storage) }
@@ -441,6 +470,20 @@ impl<T, S: Elements<T>> Ring<T, S> {
         self.storage.part_mut(from, from + count)
     }
 
+    /// How many free elements `get_unallocated` lends: of at most `size` from the one at `offset`
+    /// on, as many as are contiguous.
+    ///
+    /// An addition to smoltcp's calls, since nothing else can be asked of a ring while a part of it
+    /// is lent.
+    pub fn contiguous_unallocated(&self, offset: usize, size: usize) -> usize
+        ensures count { result ≡ contiguous_window_from self.now offset size }
+        ensures within { (result ≤ size) × (result ≤ window self.now - offset) }
+        ensures not_empty { offset < window self.now → 0 < size → 0 < result }
+    {
+        self.span(self.length, self.window(), offset, size)
+            .contiguous
+    }
+
     /// Lends at most `size` free elements from the one at `offset` on: as many as are contiguous.
     ///
     /// None where `offset` is past the window. The ring holds as many elements after as before.
@@ -448,6 +491,7 @@ impl<T, S: Elements<T>> Ring<T, S> {
         ensures* writes_back { sem 𝓛 (lends_many T.row S.row S.Elements self.entry
             self.old (spare_index self.old offset) result) }
         ensures count { length result.now ≡ contiguous_window_from self.old offset size }
+        ensures not_empty { offset < window self.old → 0 < size → 0 < length result.now }
         ensures value { result.now ≡ take (length result.now) (drop offset (spare self.old)) }
         ensures stored { result.now
             ≡ take (length result.now) (drop (spare_index self.old offset) self.old.storage) }
@@ -461,7 +505,7 @@ impl<T, S: Elements<T>> Ring<T, S> {
 
     /// Enqueues `count` elements, as they stand. There must be as many free ones: `window` tells.
     pub fn enqueue_unallocated(&mut self, count: usize)
-        requires { count ≤ window self.old }
+        requires window { count ≤ window self.old }
         ensures ring { self.new ≡ with_enqueued count self.old }
         ensures enqueued { Enqueued self.old (take count (spare self.old)) self.new }
         ensures of_spare { spare self.new ≡ drop count (spare self.old) }
@@ -469,6 +513,19 @@ impl<T, S: Elements<T>> Ring<T, S> {
         // Called for its clauses alone: by them the sum below does not wrap.
         let _capacity = self.capacity();
         self.length += count;
+    }
+
+    /// How many elements of the queue `get_allocated` shows and `get_allocated_mut` lends: of at
+    /// most `size` from the one at `offset` on, as many as are contiguous.
+    ///
+    /// An addition to smoltcp's calls, since nothing else can be asked of a ring while a part of it
+    /// is lent.
+    pub fn contiguous_allocated(&self, offset: usize, size: usize) -> usize
+        ensures count { result ≡ contiguous_queued_from self.now offset size }
+        ensures within { (result ≤ size) × (result ≤ self.now.count - offset) }
+        ensures not_empty { offset < self.now.count → 0 < size → 0 < result }
+    {
+        self.span(0, self.length, offset, size).contiguous
     }
 
     /// Shows at most `size` elements of the queue from the one at `offset` on: as many as are
@@ -479,6 +536,7 @@ impl<T, S: Elements<T>> Ring<T, S> {
         ensures count { length result.now ≡ contiguous_queued_from self.now offset size }
         ensures not_empty { offset < self.now.count → 0 < size → 0 < length result.now }
         ensures value { result.now ≡ take (length result.now) (drop offset (queue self.now)) }
+        ensures first { 0 < size → slice_get result.now 0 ≡ slice_get (queue self.now) offset }
         ensures stored { result.now
             ≡ take (length result.now) (drop (queue_index self.now offset) self.now.storage) }
     {
@@ -495,7 +553,9 @@ impl<T, S: Elements<T>> Ring<T, S> {
         ensures* writes_back { sem 𝓛 (lends_many T.row S.row S.Elements self.entry
             self.old (queue_index self.old offset) result) }
         ensures count { length result.now ≡ contiguous_queued_from self.old offset size }
+        ensures not_empty { offset < self.old.count → 0 < size → 0 < length result.now }
         ensures value { result.now ≡ take (length result.now) (drop offset (queue self.old)) }
+        ensures first { 0 < size → slice_get result.now 0 ≡ slice_get (queue self.old) offset }
         ensures stored { result.now
             ≡ take (length result.now) (drop (queue_index self.old offset) self.old.storage) }
         ensures written { (ws : List T) → length ws ≡ contiguous_queued_from self.old offset size →
@@ -508,7 +568,7 @@ impl<T, S: Elements<T>> Ring<T, S> {
 
     /// Dequeues `count` elements. The ring must hold as many: `len` tells.
     pub fn dequeue_allocated(&mut self, count: usize)
-        requires { count ≤ self.old.count }
+        requires len { count ≤ self.old.count }
         ensures ring { self.new ≡ with_dequeued count self.old }
         ensures dequeued { Dequeued self.old count (take count (queue self.old)) self.new }
     {
