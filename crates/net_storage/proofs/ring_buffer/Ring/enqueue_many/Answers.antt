@@ -6,7 +6,7 @@ use Rattle.net_storage.proofs.ring_buffer.Ring.enqueue_many.Goals as goal
 pub returns : goal.returns
 returns g c =
     let old = restarted c.args.self.now in
-    let is = c.self.view_is ∙ c.restart.ensures in
+    let is = c.self.view_is ∙ c.restart.ensures.ring in
     let k = c.min-count.result in
     let room : c.contiguous_window.result ≡ contiguous_window old = c.contiguous_window.ensures.count ∙ ap contiguous_window is in
     let count : k ≡ min c.args.size (contiguous_window old) = omega (arith, room) in
