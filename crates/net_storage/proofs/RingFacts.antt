@@ -4,7 +4,8 @@ use Rattle.std.proofs.Common.{append_assoc, ⊎_elim, lt-ltb, le-ltb}
 use Rattle.std.proofs.lemmas.Bool.{cond-true, cond-false}
 use Rattle.std.proofs.lemmas.List.{drop-take, take_at, drop_at, take-take, drop-drop, length-take-le, take-append-drop, take_all, drop_all, append-nil, nil_from_length}
 use Rattle.std.proofs.lemmas.Bool.{false≢true, cases_lt, ne_eqb, eq-eqb}
-use Rattle.std.specs.Prelude.{Result, IsOk, IsErr, is_ok}
+use Rattle.std.specs.Prelude.{Result, IsOk, IsErr, is_ok, slice_get}
+use Rattle.std.proofs.lemmas.Option.{slice_get_past}
 use Rattle.std.specs.declared.result.Result.TheVariants.{Ok, Err}
 use Rattle.net_storage.specs.Overwrite.{overwrite}
 use Rattle.net_storage.specs.Ring.{RingState, rotation, ring, capacity, window, queue, spare, storage_index, write_at, WellFormed, written, written_wrapping, with_enqueued, with_dequeued, restarted, contiguous_window, contiguous_queued, spare_index, contiguous_window_from, queue_index, contiguous_queued_from, Enqueued, Dequeued, SpareWritten, QueueWritten, EnqueuedFrom, DequeuedFrom}
@@ -543,6 +544,50 @@ storage_index_below c r j l =
     (λ (b : c - r ≤ j). subst (λ (p : ℕ). p < c) (sym (cond-false _ _ _ (le-ltb j (c - r) b))) (omega arith))
     (cases_lt j (c - r))
 
--- where an element is held, some contiguous ones are
-pub contiguous_held_some : {T : Type 0} (g : RingState T) (i n : ℕ) → g.count ≤ length g.storage → i < g.count → 0 < n → 0 < contiguous_queued_from g i n
+-- if an element is held, some contiguous ones are
+contiguous_held_some : {T : Type 0} (g : RingState T) (i n : ℕ) → g.count ≤ length g.storage → i < g.count → 0 < n → 0 < contiguous_queued_from g i n
 contiguous_held_some g i n room l m = let below = storage_index_below (length g.storage) g.read_at (min i g.count) (omega arith) in omega arith
+
+-- if an element is free, some contiguous ones are
+pub contiguous_free_some : {T : Type 0} (g : RingState T) (i n : ℕ) → i < window g → 0 < n → 0 < contiguous_window_from g i n
+contiguous_free_some g i n l m = let below = storage_index_below (length g.storage) g.read_at (g.count + min i (window g)) (omega (arith, l)) in omega (arith, l, m, below)
+
+-- the same of what comes next, also after an empty ring was moved to the storage's beginning
+pub contiguous_next_some : {T : Type 0} (g : RingState T) → window g ≢ 0 → 0 < contiguous_window g
+contiguous_next_some g l = let below = storage_index_below (length g.storage) g.read_at g.count (omega (arith, l)) in omega (arith, l, below)
+
+pub contiguous_restarted_some : {T : Type 0} (g : RingState T) → window g ≢ 0 → 0 < contiguous_window (restarted g)
+contiguous_restarted_some g l =
+    let same = restarted_is g in
+    contiguous_next_some (restarted g) (λ none. l (ap₂ (λ (s : List _) (n : ℕ). length s - n) (sym same.2) (sym same.1) ∙ none))
+
+pub contiguous_front_some : {T : Type 0} (g : RingState T) → WellFormed g → g.count ≢ 0 → 0 < contiguous_queued g
+contiguous_front_some g wf l = omega (arith, l, read_fits g wf l)
+
+slice_get_at : {T : Type 0} (xs : List T) (i : ℕ) → slice_get (drop i xs) 0 ≡ slice_get xs i
+slice_get_at [] zero = refl
+slice_get_at [] (suc i) = refl
+slice_get_at (x ∷ xs) zero = refl
+slice_get_at (x ∷ xs) (suc i) = slice_get_at xs i
+
+slice_get_front : {T : Type 0} (xs : List T) (n : ℕ) → 0 < n → slice_get (take n xs) 0 ≡ slice_get xs 0
+slice_get_front xs zero some = absurd (omega (arith, some))
+slice_get_front [] (suc n) some = refl
+slice_get_front (x ∷ xs) (suc n) some = refl
+
+-- the first of the elements that are shown from an index on, of which some are if there are any
+first_shown : {T : Type 0} (xs now : List T) (i : ℕ) → now ≡ take (length now) (drop i xs) → (i < length xs → 0 < length now) → slice_get now 0 ≡ slice_get xs i
+first_shown xs now i e some = elim (cases_lt 0 (length now)) [
+  | inl h ↦ ap (λ l. slice_get l 0) e ∙ slice_get_front (drop i xs) (length now) h ∙ slice_get_at xs i
+  | inr h ↦ elim (cases_lt i (length xs)) [
+    | inl l ↦ absurd (omega (arith, h, some l))
+    | inr r ↦ slice_get_past now 0 h ∙ sym (slice_get_past xs i r)
+  ]
+]
+
+-- a part of the queue that is shown from an index on has elements if there are any, and its first one is the one at that index
+pub first_held : {T : Type 0} (g : RingState T) → WellFormed g → (i n : ℕ) (now : List T) → length now ≡ contiguous_queued_from g i n → now ≡ take (length now) (drop i (queue g))
+    → (i < g.count → 0 < n → 0 < length now) × (0 < n → slice_get now 0 ≡ slice_get (queue g) i)
+first_held g wf i n now long is =
+    let some : i < g.count → 0 < n → 0 < length now = λ l m. (let h = contiguous_held_some g i n wf.1 l m in omega (arith, h, long)) in
+    (some, λ m. first_shown (queue g) now i is (λ l. some (omega (arith, l, length-queue g wf)) m))

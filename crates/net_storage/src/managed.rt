@@ -1,5 +1,6 @@
 //! Storage that is lent or owned.
-ghost use Rattle.std.specs.Prelude.{◌≡◌, ◌≤◌, ◌<◌, ◌-◌, length, take, drop, ◌∷◌, [], ℕ, List, slice_set, slice_index_or};
+ghost use Rattle.std.specs.Prelude.{◌≡◌, ◌≤◌, ◌<◌, ◌-◌, length, take, drop, ◌∷◌, [], ℕ, List};
+ghost use Rattle.std.specs.Prelude.{slice_set, slice_index_or};
 ghost use Rattle.std.specs.Borrow.{sem, Lends, Array};
 ghost use Rattle.net_storage.specs.Overwrite.{overwrite};
 ghost use Rattle.net_storage.specs.WholeLends.{lends_lent, lends_owned};
@@ -20,7 +21,7 @@ pub trait Elements<T> {
     // The value with one element replaced.
     ghost with_item: { Self → ℕ → T → Self };
 
-    /// How many elements there are.
+    /// Returns how many elements there are.
     fn count(&self) -> usize
         ensures { result ≡ length (elements self.now) };
 
@@ -170,21 +171,32 @@ impl<'a, T> Elements<T> for ManagedSlice<'a, T> {
 impl<'a, T> From<&'a mut [T]> for ManagedSlice<'a, T> {
     ghost use Rattle.net_storage.specs.Managed.{elements};
 
-    /// Storage that is lent.
-    fn from(slice: &'a mut [T]) -> Self
-        ensures { elements result ≡ slice.old }
-    {
+    ghost from_gives = { λ s r. elements r ≡ s.now };
+
+    /// Returns storage that is lent as a slice.
+    fn from(slice: &'a mut [T]) -> Self {
         Self::Borrowed(slice)
+    }
+}
+
+impl<'a, T, const N: usize> From<&'a mut [T; N]> for ManagedSlice<'a, T> {
+    ghost use Rattle.net_storage.specs.Managed.{elements};
+
+    ghost from_gives = { λ s r. elements r ≡ s.now };
+
+    /// Returns storage that is lent as an array.
+    fn from(array: &'a mut [T; N]) -> Self {
+        Self::Borrowed(array)
     }
 }
 
 impl<'a, T> From<Vec<T>> for ManagedSlice<'a, T> {
     ghost use Rattle.net_storage.specs.Managed.{elements};
 
-    /// Storage that is owned.
-    fn from(vec: Vec<T>) -> Self
-        ensures { elements result ≡ vec.items }
-    {
+    ghost from_gives = { λ s r. elements r ≡ s.items };
+
+    /// Returns storage that is owned.
+    fn from(vec: Vec<T>) -> Self {
         Self::Owned(vec)
     }
 }
@@ -193,7 +205,7 @@ impl<'a, T> ManagedSlice<'a, T> {
     ghost use Rattle.net_storage.specs.Managed.{elements};
     ghost use Rattle.net_storage.specs.ManagedLends.{lends_elements};
 
-    /// How many elements the storage has.
+    /// Returns how many elements the storage has.
     pub fn len(&self) -> usize
         ensures { result ≡ length (elements self.now) }
     {
@@ -224,8 +236,10 @@ impl<'a, T> ManagedSlice<'a, T> {
     }
 }
 
-// The two arms of `as_mut_slice`, each a function of its own since an arm lends by the clause of
-// one call.
+/// Lends all elements of a lent slice.
+///
+/// The two arms of `as_mut_slice` are functions of their own, since an arm lends by the clause of
+/// one call.
 fn lent_whole<'s, 'a, T>(slice: &'s mut &'a mut [T]) -> &'s mut [T]
     ensures* writes_back { sem 𝓛 (lends_lent T.row slice.entry result) }
     ensures value { result.now ≡ slice.old.now }
@@ -233,6 +247,7 @@ fn lent_whole<'s, 'a, T>(slice: &'s mut &'a mut [T]) -> &'s mut [T]
     slice
 }
 
+/// Lends all elements of a vector.
 fn owned_whole<T>(vec: &mut Vec<T>) -> &mut [T]
     ensures* writes_back { sem 𝓛 (lends_owned T.row vec.entry result) }
     ensures value { result.now ≡ vec.old.items }

@@ -1,11 +1,16 @@
 //! Callers of a ring, proved from its contracts alone.
-ghost use Rattle.std.specs.Prelude.{◌≡◌, ◌≢◌, ◌<◌, ◌↔◌, ◌++◌, [], ◌∷◌, length, take, drop, min, ℕ, List, IsErr, OnOk, OnErr, IfOk, vec_len};
-ghost use Rattle.net_storage.specs.Ring.{window, queue, spare, contiguous_window, contiguous_queued, contiguous_window_from, contiguous_queued_from, restarted, Enqueued, Dequeued, SpareWritten, QueueWritten};
+ghost use Rattle.std.specs.Prelude.{◌≡◌, ◌≢◌, ◌<◌, ◌↔◌, ◌++◌, [], ◌∷◌, length, take, drop, min, ℕ};
+ghost use Rattle.std.specs.Prelude.{List, IsErr, OnOk, OnErr, IfOk, vec_len};
+ghost use Rattle.net_storage.specs.Ring.{window, queue, spare, contiguous_window};
+ghost use Rattle.net_storage.specs.Ring.{contiguous_queued, contiguous_window_from};
+ghost use Rattle.net_storage.specs.Ring.{contiguous_queued_from, restarted, Enqueued, Dequeued};
+ghost use Rattle.net_storage.specs.Ring.{SpareWritten, QueueWritten};
 
-use super::{Empty, Full, ManagedSlice, RingBuffer};
+use super::{ManagedSlice, RingBuffer};
+use crate::error::{Empty, Full};
 use std::marker::Model;
 
-// A byte is written to the part that `enqueue_many` lends.
+/// A byte is written to the part that `enqueue_many` lends.
 pub fn enqueue_byte(ring: &mut RingBuffer<'_, u8>, byte: u8)
     requires { 0 < contiguous_window (restarted ring.old) }
     ensures parts { Enqueued (restarted ring.old) (byte ∷ []) ring.new }
@@ -14,7 +19,7 @@ pub fn enqueue_byte(ring: &mut RingBuffer<'_, u8>, byte: u8)
     ring.enqueue_many(1)[0] = byte;
 }
 
-// A byte is written to the element that `enqueue_one` lends.
+/// A byte is written to the element that `enqueue_one` lends.
 pub fn enqueue_one_byte(ring: &mut RingBuffer<'_, u8>, byte: u8) -> Result<(), Full>
     ensures full { IsErr result ↔ (window ring.old ≡ 0) }
     ensures unchanged { OnErr result (ring.new ≡ ring.old) }
@@ -24,7 +29,7 @@ pub fn enqueue_one_byte(ring: &mut RingBuffer<'_, u8>, byte: u8) -> Result<(), F
     Ok(())
 }
 
-// A byte is written to a free element, and stands there.
+/// A byte is written to a free element, and stands there.
 pub fn stage(ring: &mut RingBuffer<'_, u8>, offset: usize, byte: u8)
     requires { 0 < contiguous_window_from ring.old offset 1 }
     ensures { SpareWritten ring.old offset (byte ∷ []) ring.new }
@@ -32,7 +37,7 @@ pub fn stage(ring: &mut RingBuffer<'_, u8>, offset: usize, byte: u8)
     ring.get_unallocated(offset, 1)[0] = byte;
 }
 
-// A byte of the queue is written over.
+/// A byte of the queue is written over.
 pub fn patch(ring: &mut RingBuffer<'_, u8>, offset: usize, byte: u8)
     requires { 0 < contiguous_queued_from ring.old offset 1 }
     ensures { QueueWritten ring.old offset (byte ∷ []) ring.new }
@@ -40,7 +45,7 @@ pub fn patch(ring: &mut RingBuffer<'_, u8>, offset: usize, byte: u8)
     ring.get_allocated_mut(offset, 1)[0] = byte;
 }
 
-// The first byte of the queue is dequeued, and zero is left where it stood.
+/// The first byte of the queue is dequeued, and zero is left where it stood.
 pub fn dequeue_byte(ring: &mut RingBuffer<'_, u8>) -> u8
     requires { 0 < contiguous_queued ring.old }
     ensures parts { Dequeued ring.old 1 (0 ∷ []) ring.new }
@@ -52,7 +57,7 @@ pub fn dequeue_byte(ring: &mut RingBuffer<'_, u8>) -> u8
     byte
 }
 
-// The same by `dequeue_one`.
+/// The same by `dequeue_one`.
 pub fn dequeue_one_byte(ring: &mut RingBuffer<'_, u8>) -> Result<u8, Empty>
     ensures empty { IsErr result ↔ (ring.old.count ≡ 0) }
     ensures unchanged { OnErr result (ring.new ≡ ring.old) }
@@ -65,7 +70,7 @@ pub fn dequeue_one_byte(ring: &mut RingBuffer<'_, u8>) -> Result<u8, Empty>
     Ok(byte)
 }
 
-// Bytes are written ahead, and enqueued after.
+/// Bytes are written ahead, and enqueued after.
 pub fn write_and_enqueue(ring: &mut RingBuffer<'_, u8>, data: &[u8]) -> usize
     ensures count { result ≡ min (length «data».now) (window ring.old) }
     ensures queue { queue ring.new ≡ queue ring.old ++ take result «data».now }
@@ -75,7 +80,7 @@ pub fn write_and_enqueue(ring: &mut RingBuffer<'_, u8>, data: &[u8]) -> usize
     count
 }
 
-// A closure writes and then answers `Err`: what it wrote stays, and nothing is enqueued.
+/// A closure writes and then answers `Err`: what it wrote stays, and nothing is enqueued.
 pub fn write_and_refuse(ring: &mut RingBuffer<'_, u8>, byte: u8)
     ensures queue { queue ring.new ≡ queue ring.old }
     ensures held { ring.new.count ≡ ring.old.count }
@@ -87,7 +92,7 @@ pub fn write_and_refuse(ring: &mut RingBuffer<'_, u8>, byte: u8)
     });
 }
 
-// A closure that is run only where its slice has an element.
+/// A closure that is run only where its slice has an element.
 pub fn enqueue_first(ring: &mut RingBuffer<'_, u8>, byte: u8)
     requires { 0 < contiguous_window (restarted ring.old) }
     ensures { queue ring.new ≡ queue (restarted ring.old) ++ (byte ∷ []) }
@@ -98,7 +103,7 @@ pub fn enqueue_first(ring: &mut RingBuffer<'_, u8>, byte: u8)
     });
 }
 
-// Two rings in one struct, seen as a pair of their queues.
+/// Two rings in one struct, seen as a pair of their queues.
 #[derive(Drop)]
 pub struct Duplex<'a> {
     inbound: RingBuffer<'a, u8>,
@@ -144,7 +149,7 @@ impl<'a> Duplex<'a> {
     }
 }
 
-// A ring over a slice, made and dropped here.
+/// A ring over a slice, made and dropped here.
 pub fn room_of_slice(buffer: &mut [u8]) -> usize
     ensures { result ≡ length buffer.old }
 {
@@ -152,7 +157,7 @@ pub fn room_of_slice(buffer: &mut [u8]) -> usize
     ring.window()
 }
 
-// A ring over a vector, made and dropped here.
+/// A ring over a vector, made and dropped here.
 pub fn room_of_vector(vector: Vec<u8>) -> usize
     ensures { result ≡ vec_len vector }
 {

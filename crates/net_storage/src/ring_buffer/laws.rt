@@ -2,7 +2,8 @@
 ghost use Rattle.std.specs.Prelude.{◌≡◌, ◌+◌, List, length, take, drop, ℕ};
 ghost use Rattle.net_storage.specs.Managed.{elements, with_part};
 ghost use Rattle.net_storage.specs.Overwrite.{overwrite, OverwrittenAt};
-ghost use Rattle.net_storage.specs.Ring.{RingState, capacity, window, queue, spare, restarted, WellFormed};
+ghost use Rattle.net_storage.specs.Ring.{RingState, capacity, window, queue, spare, restarted};
+ghost use Rattle.net_storage.specs.Ring.{WellFormed};
 
 use crate::managed::ManagedSlice;
 
@@ -33,8 +34,8 @@ pub fn storage_is_what_was_written<T>(storage: &ManagedSlice<'_, T>)
 {}
 
 /// A list that was written over has as many elements as before; at each index it has the element
-/// that was written there, and the old one where none was; and where a part of it was written over
-/// itself it is as it was.
+/// that was written there, and the old one if none was; and if a part of it was written over itself
+/// it is as it was.
 pub fn overwritten<T>()
     ensures count { (xs ws : List T) (i : ℕ) → length (overwrite xs i ws) ≡ length xs }
     ensures element { (xs ws : List T) (i k : ℕ) (x : T) → OverwrittenAt xs i ws k x }

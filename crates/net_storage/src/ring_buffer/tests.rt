@@ -7,6 +7,7 @@ use super::callers::{
     write_and_refuse,
 };
 use super::*;
+use crate::error::{Empty, Full};
 use std::process::Abort;
 use std::test::Fail;
 

@@ -21,7 +21,7 @@ overflow_add-gap g c =
 pub enqueue_unallocated-requires : goal.enqueue_unallocated-requires
 enqueue_unallocated-requires g c =
     let e = ap (λ q. placement q c.args.size) c.self.view_is ∙ c.requires in
-    subst (λ o. c.args.gap + c.args.size ≤ Rattle.net_storage.specs.Ring.window o) (sym c.restart.ensures.ring) (byte_room c.self.inside.slots c.self.inside.bytes c.self.invariant c.args.gap c.args.size e)
+    omega (arith, subst (λ o. c.args.gap + c.args.size ≤ Rattle.net_storage.specs.Ring.window o) (sym c.restart.ensures.ring) (byte_room c.self.inside.slots c.self.inside.bytes c.self.invariant c.args.gap c.args.size e))
 
 pub invariant_of-self : goal.invariant_of-self
 invariant_of-self g c =

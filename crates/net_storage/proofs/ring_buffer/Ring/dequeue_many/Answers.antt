@@ -1,6 +1,6 @@
 use Rattle.std.proofs.Common.{◌≡◌, ◌-◌, ◌∙◌, refl, ap, min, arith}
 use Rattle.net_storage.specs.Ring.{contiguous_queued, storage_index}
-use Rattle.net_storage.proofs.RingFacts.{well, left_off, shown_front, dequeued_law}
+use Rattle.net_storage.proofs.RingFacts.{well, left_off, shown_front, dequeued_law, contiguous_front_some}
 use Rattle.net_storage.proofs.ring_buffer.Ring.dequeue_many.Goals as goal
 
 pub returns : goal.returns
@@ -16,6 +16,7 @@ returns g c =
       record {
         writes_back = tt;
         count = lent.0 ∙ count;
+        not_empty = λ l m. (let h = contiguous_front_some old (well _ _ is c.self.invariant) l in omega (arith, h, m, lent.0, count));
         value = lent.1;
         stored = lent.2;
         dequeued = dequeued_law _ (well _ _ is c.self.invariant) _ (omega arith);

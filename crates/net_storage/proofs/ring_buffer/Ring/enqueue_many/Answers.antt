@@ -1,12 +1,12 @@
 use Rattle.std.proofs.Common.{◌≡◌, ◌∙◌, refl, ap, min, arith}
 use Rattle.net_storage.specs.Ring.{restarted, contiguous_window, storage_index}
-use Rattle.net_storage.proofs.RingFacts.{well, left_in, shown_next, enqueued_law}
+use Rattle.net_storage.proofs.RingFacts.{well, left_in, shown_next, enqueued_law, contiguous_restarted_some}
 use Rattle.net_storage.proofs.ring_buffer.Ring.enqueue_many.Goals as goal
 
 pub returns : goal.returns
 returns g c =
     let old = restarted c.args.self.now in
-    let is = c.self.view_is ∙ c.restart.ensures in
+    let is = c.self.view_is ∙ c.restart.ensures.ring in
     let k = c.min-count.result in
     let room : c.contiguous_window.result ≡ contiguous_window old = c.contiguous_window.ensures.count ∙ ap contiguous_window is in
     let count : k ≡ min c.args.size (contiguous_window old) = omega (arith, room) in
@@ -16,6 +16,7 @@ returns g c =
       record {
         writes_back = tt;
         count = lent.0 ∙ count;
+        not_empty = λ l m. (let h = contiguous_restarted_some c.args.self.now l in omega (arith, h, m, lent.0, count));
         value = lent.1;
         stored = lent.2;
         enqueued = enqueued_law _ (well _ _ is c.self.invariant) _ (omega arith);

@@ -10,9 +10,9 @@ returns-clause-ring g c = with_enqueued_is _ _ c.self.view_is c.self.invariant _
 pub returns-clause-enqueued : goal.returns-clause-enqueued
 returns-clause-enqueued g c =
     let old = c.args.self.now in
-    subst (Enqueued old (take c.args.count (spare old))) (sym (returns-clause-ring g c)) (with_enqueued_law old (well _ _ c.self.view_is c.self.invariant) c.args.count c.requires)
+    subst (Enqueued old (take c.args.count (spare old))) (sym (returns-clause-ring g c)) (with_enqueued_law old (well _ _ c.self.view_is c.self.invariant) c.args.count c.requires.window)
 
 pub returns-clause-of_spare : goal.returns-clause-of_spare
 returns-clause-of_spare g c =
     let old = c.args.self.now in
-    ap spare (returns-clause-ring g c) ∙ (with_enqueued_parts old (well _ _ c.self.view_is c.self.invariant) c.args.count c.requires).1
+    ap spare (returns-clause-ring g c) ∙ (with_enqueued_parts old (well _ _ c.self.view_is c.self.invariant) c.args.count c.requires.window).1

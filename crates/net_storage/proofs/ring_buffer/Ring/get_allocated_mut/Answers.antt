@@ -1,6 +1,6 @@
 use Rattle.std.proofs.Common.{◌≡◌, ◌∙◌, ◌+◌, min, refl, ap, arith}
 use Rattle.net_storage.specs.Ring.{capacity, storage_index, queue_index, contiguous_queued_from}
-use Rattle.net_storage.proofs.RingFacts.{well, left_at, shown_held, held_part_law}
+use Rattle.net_storage.proofs.RingFacts.{well, left_at, shown_held, held_part_law, first_held}
 use Rattle.net_storage.proofs.ring_buffer.Ring.get_allocated_mut.Goals as goal
 
 pub returns : goal.returns
@@ -12,12 +12,16 @@ returns g c =
     let size = ap (λ o. capacity o) is in
     let at : c.span-span.result.from ≡ queue_index old c.args.offset = span.from ∙ ap (λ o. storage_index o (0 + min c.args.offset c.self.inside.length)) is ∙ ap (storage_index old) (omega (arith, held)) in
     let count : c.span-span.result.contiguous ≡ contiguous_queued_from old c.args.offset c.args.size = omega (arith, span.count, span.contiguous, at, held, size) in
-    let lent = shown_held _ _ is c.self.invariant c.args.offset c.args.size _ _ at (omega (arith, count)) _ c.part_mut.ensures.value in (
+    let lent = shown_held _ _ is c.self.invariant c.args.offset c.args.size _ _ at (omega (arith, count)) _ c.part_mut.ensures.value in
+    let wf = well _ _ is c.self.invariant in
+    let front = first_held old wf c.args.offset c.args.size _ lent.0 lent.1 in (
       (refl, λ w. left_at _ _ is c.self.invariant _ _ at _ w (g.met.S.Elements.part_written c.self.inside.storage c.span-span.result.from w)),
       record {
         writes_back = tt;
         count = lent.0;
+        not_empty = front.0;
         value = lent.1;
+        first = front.1;
         stored = lent.2;
         written = held_part_law _ (well _ _ is c.self.invariant) c.args.offset c.args.size;
       },

@@ -1,6 +1,6 @@
 use Rattle.std.proofs.Common.{◌≡◌, ◌∙◌, ◌+◌, min, refl, ap, arith}
 use Rattle.net_storage.specs.Ring.{capacity, storage_index, spare_index, contiguous_window_from}
-use Rattle.net_storage.proofs.RingFacts.{well, left_at, shown_spare, spare_part_law}
+use Rattle.net_storage.proofs.RingFacts.{well, left_at, shown_spare, spare_part_law, contiguous_free_some}
 use Rattle.net_storage.proofs.ring_buffer.Ring.get_unallocated.Goals as goal
 
 pub returns : goal.returns
@@ -17,6 +17,7 @@ returns g c =
       record {
         writes_back = tt;
         count = lent.0;
+        not_empty = λ l m. (let h = contiguous_free_some old c.args.offset c.args.size l m in omega (arith, h, lent.0));
         value = lent.1;
         stored = lent.2;
         written = spare_part_law _ (well _ _ is c.self.invariant) c.args.offset c.args.size;

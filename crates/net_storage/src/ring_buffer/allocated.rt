@@ -1,0 +1,104 @@
+//! Elements of the queue, shown, lent and read at an offset.
+ghost use Rattle.std.specs.Prelude.{◌≡◌, ◌≤◌, ◌<◌, ◌-◌, ◌+◌, length, take, drop, ◌++◌, min, List};
+ghost use Rattle.std.specs.Prelude.{slice_get};
+ghost use Rattle.std.specs.Borrow.{sem};
+ghost use Rattle.net_storage.specs.Ring.{ring, queue, queue_index, contiguous_queued_from, written};
+ghost use Rattle.net_storage.specs.Ring.{with_dequeued, Dequeued, QueueWritten};
+
+use super::{Ring, Span};
+use crate::managed::Elements;
+
+/// Elements of the queue, at an offset from the first one.
+impl<T, S: Elements<T>> Ring<T, S> {
+    ghost use Rattle.net_storage.specs.RingLends.{lends_many};
+
+    /// Returns how many elements of the queue `get_allocated` shows and `get_allocated_mut` lends:
+    /// of at most `size` from the one at `offset` on, as many as are contiguous.
+    ///
+    /// An addition to smoltcp's calls, since nothing else can be asked of a ring while a part of it
+    /// is lent.
+    pub fn contiguous_allocated(&self, offset: usize, size: usize) -> usize
+        ensures count { result ≡ contiguous_queued_from self.now offset size }
+        ensures within { (result ≤ size) × (result ≤ self.now.count - offset) }
+        ensures not_empty { offset < self.now.count → 0 < size → 0 < result }
+    {
+        self.span(0, self.length, offset, size).contiguous
+    }
+
+    /// Shows at most `size` elements of the queue from the one at `offset` on: as many as are
+    /// contiguous.
+    ///
+    /// None if `offset` is past the queue.
+    pub fn get_allocated(&self, offset: usize, size: usize) -> &[T]
+        ensures count { length result.now ≡ contiguous_queued_from self.now offset size }
+        ensures not_empty { offset < self.now.count → 0 < size → 0 < length result.now }
+        ensures value { result.now ≡ take (length result.now) (drop offset (queue self.now)) }
+        ensures first { 0 < size → slice_get result.now 0 ≡ slice_get (queue self.now) offset }
+        ensures stored { result.now
+            ≡ take (length result.now) (drop (queue_index self.now offset) self.now.storage) }
+    {
+        let span = self.span(0, self.length, offset, size);
+        self.storage.part(span.from, span.from + span.contiguous)
+    }
+
+    /// Lends at most `size` elements of the queue from the one at `offset` on: as many as are
+    /// contiguous.
+    ///
+    /// An addition to smoltcp's calls: `get_allocated`, for elements that are changed where they
+    /// stand. The ring holds as many after as before.
+    pub fn get_allocated_mut(&mut self, offset: usize, size: usize) -> &mut [T]
+        ensures* writes_back { sem 𝓛 (lends_many T.row S.row S.Elements self.entry
+            self.old (queue_index self.old offset) result) }
+        ensures count { length result.now ≡ contiguous_queued_from self.old offset size }
+        ensures not_empty { offset < self.old.count → 0 < size → 0 < length result.now }
+        ensures value { result.now ≡ take (length result.now) (drop offset (queue self.old)) }
+        ensures first { 0 < size → slice_get result.now 0 ≡ slice_get (queue self.old) offset }
+        ensures stored { result.now
+            ≡ take (length result.now) (drop (queue_index self.old offset) self.old.storage) }
+        ensures written { (ws : List T) → length ws ≡ contiguous_queued_from self.old offset size →
+            QueueWritten self.old offset ws (written self.old (queue_index self.old offset) ws) }
+    {
+        let span = self.span(0, self.length, offset, size);
+        self.storage
+            .part_mut(span.from, span.from + span.contiguous)
+    }
+
+    /// Dequeues `count` elements.
+    ///
+    /// The ring must hold as many, which `len` tells; smoltcp panics if it does not.
+    pub fn dequeue_allocated(&mut self, count: usize)
+        requires len { count ≤ self.old.count }
+        ensures ring { self.new ≡ with_dequeued count self.old }
+        ensures dequeued { Dequeued self.old count (take count (queue self.old)) self.new }
+    {
+        let next = self.storage_index(count);
+        self.read_at = next;
+        self.length -= count;
+    }
+}
+
+/// Elements of the queue that are copied out.
+impl<T: Copy, S: Elements<T>> Ring<T, S> {
+    /// Copies as many elements of the queue as `data` has room for, from the one at `offset` on, to
+    /// the beginning of `data`, and returns how many; 0 if `offset` is past the queue. The rest of
+    /// `data` stays as it is, and nothing is dequeued.
+    pub fn read_allocated(&mut self, offset: usize, data: &mut [T]) -> usize
+        ensures count { result ≡ min (length «data».old) (self.old.count - offset) }
+        ensures given { «data».new
+            ≡ take result (drop offset (queue self.old)) ++ drop result «data».old }
+        ensures same { self.new ≡ self.old }
+    {
+        let Span {
+            from,
+            count,
+            contiguous,
+        } = self.span(0, self.length, offset, data.len());
+        // The elements up to the storage's end.
+        data[..contiguous].copy_from_slice(self.storage.part(from, from + contiguous));
+        // The rest stands at its beginning.
+        if contiguous < count {
+            data[contiguous..count].copy_from_slice(self.storage.part(0, count - contiguous));
+        }
+        count
+    }
+}
