@@ -1,5 +1,5 @@
 -- What one call leaves and answers, as its callers want it.
-use Rattle.std.proofs.Common.{◌≡◌, ℕ, zero, suc, ◌+◌, ◌-◌, ◌<◌, ◌≤◌, min, Bool, true, false, cond, List, [], ◌∷◌, ◌++◌, length, take, drop, nat_eq, nat_lt, not, ◌&&◌, Some, is_some, unwrap_or, slice_get, slice_range, get_or, refl, sym, ap, subst, ◌∙◌, arith, ⊎_elim, Result, IsOk, IfOk, OnErr, IsTrue, All, length-append, eqb-true}
+use Rattle.std.proofs.Common.{◌≡◌, ℕ, zero, suc, ◌+◌, ◌-◌, ◌<◌, ◌≤◌, min, Bool, true, false, cond, List, [], ◌∷◌, ◌++◌, length, take, drop, nat_eq, nat_lt, not, ◌&&◌, Some, is_some, unwrap_or, slice_get, slice_range, get_or, refl, sym, ap, subst, ◌∙◌, arith, ⊎_elim, take_all, Result, Ok, Err, IsOk, IfOk, OnErr, IsTrue, All, length-append, eqb-true}
 use Rattle.std.specs.FinMap as fin
 use Rattle.std.specs.Option.{option_or}
 use Rattle.std.proofs.lemmas.Grind.{common_steps}
@@ -11,6 +11,15 @@ use Rattle.net_storage.specs.Positions.{Positions, runs, with_range}
 use Rattle.net_storage.specs.declared.assembler.error.TooManyHolesError.{TooManyHolesError}
 use Rattle.net_receiver.specs.declared.receiver.kept.Kept.{Kept}
 use Rattle.net_receiver.specs.KeptList.{Piece, piece, piece_at, clip}
+use Rattle.std.proofs.lemmas.List.Elements.{All-nil, All-cons, All-append}
+use Rattle.net_receiver.specs.KeptList.{next}
+use Rattle.net_receiver.specs.Schedule.{Show, State, Agrees, after_all, Follows, EndsBy}
+use Rattle.net_receiver.specs.Stored.{stored_reply, stored_after_all, setting, StandsFor}
+use Rattle.net_receiver.specs.Theorems.{ExecutedFor}
+use Rattle.net_receiver.specs.Truthful.{SaysOfLonger, NoneSay, SegmentSays, ReadSays, ShowSays, BothSay, EachSays, FreshReceivesFrom, AgreeingReceives, ReceivesByParts, ReceivesFromLonger}
+use Rattle.net_receiver.proofs.Step.{same_next}
+use Rattle.net_receiver.proofs.Run.{setting_kept}
+use Rattle.net_receiver.proofs.Truthful.{longer_at, longer_receives}
 use Rattle.net_receiver.specs.Schedule.{CommandSeen, ReplySeen, Segment, Read, bytes_read, PieceAgrees, Verdict, KeptNone, Refused, Keeps, verdict_of_part}
 use Rattle.net_receiver.specs.Stored.{Stored, HeldBytes, domain, laid_over, first_lacking, values_at, joined, stored_next, stored_verdict, stored_state_after, stored_answer, stored_read, stored_after, fresh_stored}
 use Rattle.net_receiver.specs.Theorems.{Executed}
@@ -165,3 +174,92 @@ any_order N v u pos xs r state answer =
     (record { first = refl; capacity = refl; read = refl; refused = refl; kept = tt; queued = tt; grows = omega arith })
     (record { first = refl; capacity = refl; read = refl; refused = tt; kept = refl; queued = omega arith; grows = omega arith }) in
     subst (λ z. AnyOrder v part.bytes z r) (sym state) (subst (AnyOrder v part.bytes (stored_state_after v (stored_verdict N v (piece pos xs)))) (sym answer) all)
+
+-- ---- what makes the relations
+pub says_of_longer : SaysOfLonger
+unfolding Says
+says_of_longer f pos x more xs h = λ p b from is. longer_at x more (p - f) b (h p b from is)
+
+pub none_say : NoneSay
+unfolding AllSay
+none_say f x = All-nil (IsTruthful f x)
+
+pub segment_says : SegmentSays
+unfolding Says AllSay
+segment_says f x pos xs cs h all = All-cons (IsTruthful f x) (Segment pos xs) cs h all
+
+pub read_says : ReadSays
+unfolding AllSay
+read_says f x count cs all = All-cons (IsTruthful f x) (Read count) cs tt all
+
+pub show_says : ShowSays
+unfolding AllSay
+show_says f x cs all = All-cons (IsTruthful f x) Show cs tt all
+
+pub both_say : BothSay
+unfolding AllSay
+both_say f x cs ds all more = All-append (IsTruthful f x) cs ds all more
+
+pub each_says : EachSays
+unfolding AllSay
+each_says f x cs all = all
+
+pub fresh_receives_as : FreshReceivesFrom
+fresh_receives_as f x v e = subst (ReceivesFrom f x) (sym e) (fresh_receives_from x f v.capacity)
+
+pub agreeing_receives : AgreeingReceives
+unfolding ReceivesFrom
+agreeing_receives f x v s e d all = (e, record { state = s; stands = d; agrees = subst (λ b. Agrees b s.kept x) (sym e) all })
+
+pub receives_by_parts : ReceivesByParts
+unfolding ReceivesFrom
+receives_by_parts f x v = ((λ h. h), (λ h. h))
+
+pub receives_from_longer : ReceivesFromLonger
+unfolding ReceivesFrom
+receives_from_longer f x more v h = (h.0, longer_receives x more v h.1)
+
+-- ---- one command, of which a refusal of memory leaves nothing
+pub executed_keeps : {T E : Type 0} (P : Stored → Type 0) (r : Result T E) (v u w : Stored) → IfOk r (λ _. u ≡ w) → OnErr r (u ≡ v) → P v → P w → P u
+executed_keeps P (Ok t) v u w ok err old new = subst P (sym ok) new
+executed_keeps P (Err e) v u w ok err old new = subst P (sym err) old
+
+pub executed_first : (N : ℕ) {T E : Type 0} (r : Result T E) (v u : Stored) (c : CommandSeen) → IfOk r (λ _. u ≡ stored_after N v c) → OnErr r (u ≡ v) → u.first ≡ v.first
+executed_first N r v u c ok err = executed_keeps (λ (y : Stored). y.first ≡ v.first) r v u (stored_after N v c) ok err refl (first_stays N v c)
+
+pub capacity_stays : (N : ℕ) (v : Stored) (c : CommandSeen) → (stored_after N v c).capacity ≡ v.capacity
+capacity_stays N v c = ap (λ w. w.capacity) (setting_kept N v c)
+
+pub executed_capacity : (N : ℕ) {T E : Type 0} (r : Result T E) (v u : Stored) (c : CommandSeen) → IfOk r (λ _. u ≡ stored_after N v c) → OnErr r (u ≡ v) → u.capacity ≡ v.capacity
+executed_capacity N r v u c ok err = executed_keeps (λ (y : Stored). y.capacity ≡ v.capacity) r v u (stored_after N v c) ok err refl (capacity_stays N v c)
+
+one_run : (N : ℕ) (v : Stored) (c : CommandSeen) → Executed N v (stored_after N v c) (c ∷ []) (stored_reply N v c ∷ []) (IsTrue true)
+one_run N v c = record { count = 1; within = omega arith; whole = λ _. refl; state = refl; answers = refl }
+
+pub one_receives_from : (N f : ℕ) (x : List ℕ) (v : Stored) (c : CommandSeen) → ReceivesFrom f x v → AllSay f x (c ∷ []) → ReceivesFrom f x (stored_after N v c)
+one_receives_from N f x v c r h = (run_receives_from N f x v (stored_after N v c) (c ∷ []) (stored_reply N v c ∷ []) true (one_run N v c) r h).0
+
+pub executed_receives : (N f : ℕ) (x : List ℕ) {T E : Type 0} (r : Result T E) (v u : Stored) (c : CommandSeen) → IfOk r (λ _. u ≡ stored_after N v c) → OnErr r (u ≡ v) → ReceivesFrom f x v → AllSay f x (c ∷ []) → ReceivesFrom f x u
+executed_receives N f x r v u c ok err from h = executed_keeps (ReceivesFrom f x) r v u (stored_after N v c) ok err from (one_receives_from N f x v c from h)
+
+pub executed_bytes : (N f : ℕ) (x : List ℕ) {T E : Type 0} (seen : T → ReplySeen) (r : Result T E) (v u : Stored) (c : CommandSeen) → IfOk r (λ _. u ≡ stored_after N v c) → IfOk r (λ t. seen t ≡ stored_reply N v c) → ReceivesFrom f x v → AllSay f x (c ∷ []) →
+    IfOk r (λ t. bytes_read (seen t ∷ []) ++ u.queue ≡ slice_range x v.read (stored_next u - u.first))
+executed_bytes N f x seen (Ok t) v u c ok is from h =
+    (λ i. bytes_read (is i ∷ []) ++ (ok i).queue)
+    ∙ (run_receives_from N f x v (stored_after N v c) (c ∷ []) (stored_reply N v c ∷ []) true (one_run N v c) from h).1
+    ∙ ap (λ (y : Stored). slice_range x v.read (stored_next y - y.first)) (sym ok)
+executed_bytes N f x seen (Err e) v u c ok is from h = tt
+
+pub capacity_kept : (most : ℕ) (v : Stored) (cs : List CommandSeen) → (stored_after_all most v cs).capacity ≡ v.capacity
+capacity_kept most v [] = refl
+capacity_kept most v (c ∷ cs) = capacity_kept most (stored_after most v c) cs ∙ capacity_stays most v c
+
+-- ---- segments that follow on one another
+pub reached : (N : ℕ) (v u : Stored) (cs : List CommandSeen) (rs : List ReplySeen) {T E : Type 0} (r : Result T E) (s : State) → u.first ≡ v.first → StandsFor v s → ExecutedFor N v u cs rs (IsOk r) s →
+    Follows (setting N v) s (stored_next v) cs → IfOk r (λ _. EndsBy (stored_next u) cs)
+reached N v u cs rs (Err e) s first d ran follows = tt
+reached N v u cs rs (Ok t) s first d ran follows =
+    let all : take ran.count cs ≡ cs = take_all ran.count cs (omega (arith, ran.whole refl)) in
+    let there : StandsFor u (after_all (setting N v) s cs) = subst (λ l. StandsFor u (after_all (setting N v) s l)) all ran.stands in
+    let end : stored_next u ≡ next v.first (after_all (setting N v) s cs).kept = same_next u (after_all (setting N v) s cs) there ∙ ap (λ b. next b (after_all (setting N v) s cs).kept) first in
+    subst (λ n. EndsBy n cs) (sym end) (ran.recovers refl (subst (λ n. Follows (setting N v) s n cs) (same_next v s d) follows))

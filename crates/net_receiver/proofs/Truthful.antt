@@ -76,7 +76,7 @@ pub one_receives : OneReceives
 one_receives most x v c r h = all_receive most x v (c ∷ []) r (All-cons (IsTruthful v.first x) c [] h (All-nil (IsTruthful v.first x)))
 
 -- a longer list
-longer_at : (x more : List ℕ) (i b : ℕ) → slice_get x i ≡ Some b → slice_get (x ++ more) i ≡ Some b
+pub longer_at : (x more : List ℕ) (i b : ℕ) → slice_get x i ≡ Some b → slice_get (x ++ more) i ≡ Some b
 longer_at [] more i b e = absurd (none_is_not b e)
 longer_at (y ∷ x) more zero b e = e
 longer_at (y ∷ x) more (suc i) b e = longer_at x more i b e

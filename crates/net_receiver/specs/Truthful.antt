@@ -1,12 +1,12 @@
 -- Segments that say what one stream has, and receivers that took nothing else.
---     Says f x pos xs      the bytes xs at pos are what the stream x has there; f is x's first position
+--     Says f x pos xs      the bytes xs at pos are what the stream x, which begins at f, has there
 --     AllSay f x cs      each segment of the commands says what x has
 --     ReceivesFrom f x v      the receiver v took nothing but parts of x
 --     QueueIsOf x v      the queue is what x has behind the bytes that were read
 --     kept_of v pos xs      the bytes of a segment that the window of v takes
 -- `Says`, `AllSay` and `ReceivesFrom` are not unfolded by a caller's proofs, which find them by the
 -- clauses of the calls and by the laws that make them.
-use Rattle.std.specs.Prelude.{◌≡◌, ℕ, ◌+◌, ◌-◌, ◌≤◌, List, ◌++◌, length, take, drop}
+use Rattle.std.specs.Prelude.{◌≡◌, ◌↔◌, ℕ, ◌+◌, ◌-◌, ◌≤◌, List, [], ◌∷◌, ◌++◌, length, take, drop}
 use Rattle.std.specs.Prelude.{slice_range, All, Bool, IsTrue}
 use Rattle.net_receiver.specs.KeptList.{piece}
 use Rattle.net_receiver.specs.Schedule.{CommandSeen, Segment, Read, Show, ReplySeen, bytes_read}
@@ -57,6 +57,55 @@ kept_of v pos xs = drop (stored_next v - pos) (take (v.first + v.read + v.capaci
 abbrev pub SaysWhatIsThere : Type 0
 SaysWhatIsThere = (f pos : ℕ) (x xs : List ℕ) → f ≤ pos →
     xs ≡ take (length xs) (drop (pos - f) x) → Says f x pos xs
+
+-- a longer stream has the same there
+abbrev pub SaysOfLonger : Type 0
+SaysOfLonger = (f pos : ℕ) (x more xs : List ℕ) → Says f x pos xs → Says f (x ++ more) pos xs
+
+-- no command, and then one more in front
+abbrev pub NoneSay : Type 0
+NoneSay = (f : ℕ) (x : List ℕ) → AllSay f x []
+
+abbrev pub SegmentSays : Type 0
+SegmentSays = (f : ℕ) (x : List ℕ) (pos : ℕ) (xs : List ℕ) (cs : List CommandSeen) →
+    Says f x pos xs → AllSay f x cs → AllSay f x (Segment pos xs ∷ cs)
+
+abbrev pub ReadSays : Type 0
+ReadSays = (f : ℕ) (x : List ℕ) (count : ℕ) (cs : List CommandSeen) →
+    AllSay f x cs → AllSay f x (Read count ∷ cs)
+
+abbrev pub ShowSays : Type 0
+ShowSays = (f : ℕ) (x : List ℕ) (cs : List CommandSeen) → AllSay f x cs → AllSay f x (Show ∷ cs)
+
+-- commands behind others
+abbrev pub BothSay : Type 0
+BothSay = (f : ℕ) (x : List ℕ) (cs ds : List CommandSeen) →
+    AllSay f x cs → AllSay f x ds → AllSay f x (cs ++ ds)
+
+-- commands of which each is truthful
+abbrev pub EachSays : Type 0
+EachSays = (f : ℕ) (x : List ℕ) (cs : List CommandSeen) →
+    All (IsTruthful f x) cs → AllSay f x cs
+
+-- what a fresh receiver stores
+abbrev pub FreshReceivesFrom : Type 0
+FreshReceivesFrom = (f : ℕ) (x : List ℕ) (v : Stored) →
+    v ≡ fresh_stored f v.capacity → ReceivesFrom f x v
+
+-- a receiver that stands for a kept list which agrees with x
+abbrev pub AgreeingReceives : Type 0
+AgreeingReceives = (f : ℕ) (x : List ℕ) (v : Stored) (s : State) →
+    v.first ≡ f → StandsFor v s → Agrees f s.kept x → ReceivesFrom f x v
+
+-- the relation by its two parts
+abbrev pub ReceivesByParts : Type 0
+ReceivesByParts = (f : ℕ) (x : List ℕ) (v : Stored) →
+    ReceivesFrom f x v ↔ ((v.first ≡ f) × Receives x v)
+
+-- what was received of x was received of each longer stream
+abbrev pub ReceivesFromLonger : Type 0
+ReceivesFromLonger = (f : ℕ) (x more : List ℕ) (v : Stored) →
+    ReceivesFrom f x v → ReceivesFrom f (x ++ more) v
 
 -- a kept list that agrees with x still does after truthful commands, whatever is kept of them
 abbrev pub TruthfulIsKept : Type 0
