@@ -15,3 +15,5 @@ pub mod Segment
 pub mod Whole
 pub mod SameBytes
 pub mod ReceiverLaws
+pub mod Truthful
+pub mod Called

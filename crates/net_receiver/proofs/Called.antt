@@ -1,0 +1,265 @@
+-- What one call leaves and answers, as its callers want it.
+use Rattle.std.proofs.Common.{◌≡◌, ℕ, zero, suc, ◌+◌, ◌-◌, ◌<◌, ◌≤◌, min, Bool, true, false, cond, List, [], ◌∷◌, ◌++◌, length, take, drop, nat_eq, nat_lt, not, ◌&&◌, Some, is_some, unwrap_or, slice_get, slice_range, get_or, refl, sym, ap, subst, ◌∙◌, arith, ⊎_elim, take_all, Result, Ok, Err, IsOk, IfOk, OnErr, IsTrue, All, length-append, eqb-true}
+use Rattle.std.specs.FinMap as fin
+use Rattle.std.specs.Option.{option_or}
+use Rattle.std.proofs.lemmas.Grind.{common_steps}
+use Rattle.std.proofs.lemmas.Bool.{both_ways, cases_lt, cases_Bool, cond-true, cond-false}
+use Rattle.std.proofs.lemmas.Option.{slice_get-get_or}
+use Rattle.std.proofs.lemmas.List.{take-append-drop}
+use Rattle.std.proofs.lemmas.List.FromFn.{length-map-range_with_len}
+use Rattle.net_storage.specs.Positions.{Positions, runs, with_range}
+use Rattle.net_storage.specs.declared.assembler.error.TooManyHolesError.{TooManyHolesError}
+use Rattle.net_receiver.specs.declared.receiver.kept.Kept.{Kept}
+use Rattle.net_receiver.specs.KeptList.{Piece, piece, piece_at, clip}
+use Rattle.std.proofs.lemmas.List.Elements.{All-nil, All-cons, All-append}
+use Rattle.net_receiver.specs.KeptList.{next}
+use Rattle.net_receiver.specs.Schedule.{Show, State, Agrees, after_all, Follows, EndsBy}
+use Rattle.net_receiver.specs.Stored.{stored_reply, stored_after_all, setting, StandsFor}
+use Rattle.net_receiver.specs.Theorems.{ExecutedFor}
+use Rattle.net_receiver.specs.Truthful.{SaysOfLonger, NoneSay, SegmentSays, ReadSays, ShowSays, BothSay, EachSays, FreshReceivesFrom, AgreeingReceives, ReceivesByParts, ReceivesFromLonger}
+use Rattle.net_receiver.proofs.Step.{same_next}
+use Rattle.net_receiver.proofs.Run.{setting_kept}
+use Rattle.net_receiver.proofs.Truthful.{longer_at, longer_receives}
+use Rattle.net_receiver.specs.Schedule.{CommandSeen, ReplySeen, Segment, Read, bytes_read, PieceAgrees, Verdict, KeptNone, Refused, Keeps, verdict_of_part}
+use Rattle.net_receiver.specs.Stored.{Stored, HeldBytes, domain, laid_over, first_lacking, values_at, joined, stored_next, stored_verdict, stored_state_after, stored_answer, stored_read, stored_after, fresh_stored}
+use Rattle.net_receiver.specs.Theorems.{Executed}
+use Rattle.net_receiver.specs.Truthful.{Receives, ReceivesFrom, Says, AllSay, IsTruthful, SaysWhatIsThere, QueueIsOf, kept_of}
+use Rattle.net_receiver.proofs.Maps.{get-lay, first_lacking_is}
+use Rattle.net_receiver.proofs.Covering.{piece_before, piece_from, slice_get-drop, slice_get-take}
+use Rattle.net_receiver.proofs.Recover.{follows_verdict}
+use Rattle.net_receiver.proofs.Run.{read_front}
+use Rattle.net_receiver.proofs.Truthful.{none_is_not, cond_some, one_receives, queue_is_of, fresh_receives, first_stays, first_kept, run_receives}
+
+-- ---- streams
+first_of : (N : ℕ) (v u : Stored) (c : CommandSeen) → u ≡ stored_after N v c → u.first ≡ v.first
+first_of N v u c e = ap (λ (y : Stored). y.first) e ∙ first_stays N v c
+
+pub segment_receives : (N f : ℕ) (x : List ℕ) (v u : Stored) (pos : ℕ) (xs : List ℕ) → u ≡ stored_after N v (Segment pos xs) → ReceivesFrom f x v → Says f x pos xs → ReceivesFrom f x u
+unfolding ReceivesFrom Says
+segment_receives N f x v u pos xs e r h = (
+  first_of N v u (Segment pos xs) e ∙ r.0,
+  subst (Receives x) (sym e) (one_receives N x v (Segment pos xs) r.1 (subst (λ b. PieceAgrees b x (piece pos xs)) (sym r.0) h)),
+)
+
+pub read_receives : (f : ℕ) (x : List ℕ) (v u : Stored) (n : ℕ) → u ≡ stored_read v n → ReceivesFrom f x v → ReceivesFrom f x u
+unfolding ReceivesFrom
+read_receives f x v u n e r = (first_of 0 v u (Read n) e ∙ r.0, subst (Receives x) (sym e) (one_receives 0 x v (Read n) r.1 tt))
+
+pub fresh_receives_from : (x : List ℕ) (first capacity : ℕ) → ReceivesFrom first x (fresh_stored first capacity)
+unfolding ReceivesFrom
+fresh_receives_from x first capacity = (refl, fresh_receives x first capacity)
+
+pub queue_of : (f : ℕ) (x : List ℕ) (v : Stored) → ReceivesFrom f x v → QueueIsOf x v
+unfolding ReceivesFrom
+queue_of f x v r = queue_is_of x v r.1
+
+pub run_receives_from : (N f : ℕ) (x : List ℕ) (v u : Stored) (cs : List CommandSeen) (rs : List ReplySeen) (complete : Bool) → Executed N v u cs rs (IsTrue complete) → ReceivesFrom f x v → AllSay f x cs →
+    ReceivesFrom f x u × (bytes_read rs ++ u.queue ≡ slice_range x v.read (stored_next u - u.first))
+unfolding ReceivesFrom AllSay
+run_receives_from N f x v u cs rs complete run r h =
+    let both = run_receives N x v u cs rs complete r.1 (subst (λ b. All (IsTruthful b x) cs) (sym r.0) h) run in
+    ((ap (λ (y : Stored). y.first) run.state ∙ first_kept N v (take run.count cs) ∙ r.0, both.0), both.1)
+
+pub says_what_is_there : SaysWhatIsThere
+unfolding Says
+says_what_is_there f pos x xs h e = λ p b from is.
+    ⊎_elim
+    (λ (l : p < pos). absurd (none_is_not b (sym (piece_before (piece pos xs) p l) ∙ is)))
+    (λ (l : pos ≤ p).
+    let at : (pos - f) + (p - pos) ≡ p - f = omega arith in
+    ap (slice_get x) (sym at)
+    ∙ sym (slice_get-drop (pos - f) x (p - pos))
+    ∙ cond_some (nat_lt (p - pos) (length xs)) (slice_get (drop (pos - f) x) (p - pos)) b
+    (sym (slice_get-take (length xs) (drop (pos - f) x) (p - pos)) ∙ ap (λ l. slice_get l (p - pos)) (sym e) ∙ sym (piece_from (piece pos xs) p l) ∙ is))
+    (cases_lt p pos)
+
+front_of : (x q : List ℕ) (a n : ℕ) → q ≡ take (length q) (drop a x) → n ≤ length q → take n q ≡ slice_range x a (a + n)
+front_of x q a n e h = grind (arith, common_steps)
+
+few_of : (q : List ℕ) (k n : ℕ) → n ≡ min k (length q) → take k q ≡ take n q
+few_of q k n e = grind (arith, common_steps)
+
+pub read_bytes : (f : ℕ) (x : List ℕ) (v : Stored) (into old : List ℕ) (n : ℕ) → n ≡ min (length old) (length v.queue) → into ≡ take (length old) v.queue ++ drop (length v.queue) old → ReceivesFrom f x v →
+    take n into ≡ slice_range x v.read (v.read + n)
+read_bytes f x v into old n count is r =
+    read_front v.queue into old n count is ∙ few_of v.queue (length old) n count ∙ front_of x v.queue v.read n (queue_of f x v r).queue (omega arith)
+
+-- ---- a segment
+values_of : (m : HeldBytes) (xs : List ℕ) (p n : ℕ) → length xs ≤ n → ((q i b : ℕ) → q ≡ p + i → slice_get xs i ≡ Some b → fin.get m q ≡ Some b) → take (length xs) (values_at m p n) ≡ xs
+values_of m [] p n h at = refl
+values_of m (x ∷ xs) p zero h at = absurd (omega arith)
+values_of m (x ∷ xs) p (suc n) h at =
+    let first : unwrap_or (fin.get m p) 0 ≡ x = ap (λ o. unwrap_or o 0) (at p 0 x (omega arith) refl) in
+    (λ i. first i ∷ values_of m xs (p + 1) n (omega arith) (λ q j b e is. at q (suc j) b (omega arith) is) i)
+
+laid_at : (v : Stored) (part : Piece) (q i b : ℕ) → q ≡ part.start + i → slice_get part.bytes i ≡ Some b → fin.get (laid_over v part) q ≡ Some b
+laid_at v part q i b e is =
+    let at : q - part.start ≡ i = omega arith in
+    get-lay v.held part.start part.bytes q ∙ ap (λ o. option_or o (fin.get v.held q)) (piece_from part q (omega arith) ∙ ap (slice_get part.bytes) at ∙ is)
+
+reaches : (v : Stored) (part : Piece) → part.start ≡ stored_next v → stored_next v + length part.bytes ≤ first_lacking (laid_over v part) (stored_next v)
+reaches v part at =
+    let m = first_lacking (laid_over v part) (stored_next v) in
+    let is = first_lacking_is (laid_over v part) (stored_next v) in
+    let from = is.from in
+    ⊎_elim (λ (l : m < stored_next v + length part.bytes).
+    absurd (both_ways (fin.contains_key (laid_over v part) m) is.here (ap is_some (laid_at v part m (m - part.start) (get_or part.bytes (m - part.start) 0) (omega arith) (slice_get-get_or part.bytes (m - part.start) 0 (omega arith))))))
+    (λ (l : stored_next v + length part.bytes ≤ m). l)
+    (cases_lt m (stored_next v + length part.bytes))
+
+splits_at : (q w part : List ℕ) (m : ℕ) → m ≡ length q + length part → take (length part) w ≡ part → q ++ w ≡ q ++ part ++ drop m (q ++ w)
+splits_at [] w part m n e = sym (take-append-drop (length part) w) ∙ ap (λ l. l ++ drop (length part) w) e ∙ ap (λ j. part ++ drop j w) (let h : length part ≡ m = omega arith in h)
+splits_at (y ∷ q) w part zero n e = absurd (omega arith)
+splits_at (y ∷ q) w part (suc m) n e = ap (λ l. y ∷ l) (splits_at q w part m (omega arith) e)
+
+splits : (q w part : List ℕ) → take (length part) w ≡ part → q ++ w ≡ q ++ part ++ drop (length q + length part) (q ++ w)
+splits q w part e = splits_at q w part (length q + length part) refl e
+
+splits_none : (q part : List ℕ) → length part ≡ 0 → q ≡ q ++ part ++ drop (length q + length part) q
+splits_none q part e = grind (arith, common_steps)
+
+-- what a segment that begins at or below `next` comes to
+pub record InOrder (v : Stored) (xs : List ℕ) (u : Stored) (r : Result Kept TooManyHolesError) : Type 0 where
+  pub accepted : IsOk r
+  pub joins : IfOk r (λ k. k.kept ≤ k.queued)
+  pub queue : u.queue ≡ v.queue ++ xs ++ drop (length v.queue + length xs) u.queue
+
+pub in_order : (N : ℕ) (v u : Stored) (pos : ℕ) (xs : List ℕ) (r : Result Kept TooManyHolesError) → u ≡ stored_state_after v (stored_verdict N v (piece pos xs)) → r ≡ stored_answer v (stored_verdict N v (piece pos xs)) →
+    pos ≤ stored_next v → InOrder v (kept_of v pos xs) u r
+in_order N v u pos xs r state answer h =
+    let n = stored_next v in
+    let part = clip n (v.first + v.read + v.capacity) (piece pos xs) in
+    let at : part.start ≡ n = omega arith in
+    let far = reaches v part at in
+    let all = follows_verdict (λ y. InOrder v part.bytes (stored_state_after v y) (stored_answer v y)) n N (domain v.held) part at
+    (λ none. record { accepted = refl; joins = omega arith; queue = splits_none v.queue part.bytes none })
+    (λ some. record {
+      accepted = refl;
+      joins = omega arith;
+      queue = splits v.queue (values_at (laid_over v part) n (first_lacking (laid_over v part) n - n)) part.bytes
+          (values_of (laid_over v part) part.bytes n (first_lacking (laid_over v part) n - n) (omega arith) (λ q i b e is. laid_at v part q i b (omega arith) is));
+    }) in
+    subst (λ z. InOrder v part.bytes z r) (sym state) (subst (InOrder v part.bytes (stored_state_after v (stored_verdict N v (piece pos xs)))) (sym answer) all)
+
+-- what any segment comes to
+pub record AnyOrder (v : Stored) (xs : List ℕ) (u : Stored) (r : Result Kept TooManyHolesError) : Type 0 where
+  pub first : u.first ≡ v.first
+  pub capacity : u.capacity ≡ v.capacity
+  pub read : u.read ≡ v.read
+  pub refused : OnErr r (u ≡ v)
+  pub kept : IfOk r (λ k. k.kept ≡ length xs)
+  pub queued : IfOk r (λ k. stored_next u ≡ stored_next v + k.queued)
+  pub grows : stored_next v ≤ stored_next u
+
+any_verdict : (P : Verdict → Type 0) (n most : ℕ) (h : Positions) (part : Piece) → (length part.bytes ≡ 0 → P KeptNone) → P Refused → P (Keeps part) → P (verdict_of_part n most h part)
+any_verdict P n most h part empty refused keeps =
+    ⊎_elim (λ (e : nat_eq (length part.bytes) 0 ≡ true). subst P (sym (cond-true _ _ _ e)) (empty (eqb-true (length part.bytes) 0 e)))
+    (λ (e : nat_eq (length part.bytes) 0 ≡ false). subst P (sym (cond-false _ _ _ e)) (both (not (is_some (piece_at part n)) && nat_lt most (runs (with_range h part.start (length part.bytes))))))
+    (cases_Bool (nat_eq (length part.bytes) 0))
+  where
+    both : (b : Bool) → P (cond b Refused (Keeps part))
+    both true = refused
+    both false = keeps
+
+pub any_order : (N : ℕ) (v u : Stored) (pos : ℕ) (xs : List ℕ) (r : Result Kept TooManyHolesError) → u ≡ stored_state_after v (stored_verdict N v (piece pos xs)) → r ≡ stored_answer v (stored_verdict N v (piece pos xs)) →
+    AnyOrder v (kept_of v pos xs) u r
+any_order N v u pos xs r state answer =
+    let n = stored_next v in
+    let part = clip n (v.first + v.read + v.capacity) (piece pos xs) in
+    let m = first_lacking (laid_over v part) n in
+    let more : length (values_at (laid_over v part) n (m - n)) ≡ m - n = length-map-range_with_len (λ q. unwrap_or (fin.get (laid_over v part) q) 0) n (m - n) in
+    let long : length (joined v part).queue ≡ length v.queue + (m - n) = length-append v.queue (values_at (laid_over v part) n (m - n)) ∙ ap (λ k. length v.queue + k) more in
+    let all = any_verdict (λ y. AnyOrder v part.bytes (stored_state_after v y) (stored_answer v y)) n N (domain v.held) part
+    (λ none. record { first = refl; capacity = refl; read = refl; refused = tt; kept = sym none; queued = omega arith; grows = omega arith })
+    (record { first = refl; capacity = refl; read = refl; refused = refl; kept = tt; queued = tt; grows = omega arith })
+    (record { first = refl; capacity = refl; read = refl; refused = tt; kept = refl; queued = omega arith; grows = omega arith }) in
+    subst (λ z. AnyOrder v part.bytes z r) (sym state) (subst (AnyOrder v part.bytes (stored_state_after v (stored_verdict N v (piece pos xs)))) (sym answer) all)
+
+-- ---- what makes the relations
+pub says_of_longer : SaysOfLonger
+unfolding Says
+says_of_longer f pos x more xs h = λ p b from is. longer_at x more (p - f) b (h p b from is)
+
+pub none_say : NoneSay
+unfolding AllSay
+none_say f x = All-nil (IsTruthful f x)
+
+pub segment_says : SegmentSays
+unfolding Says AllSay
+segment_says f x pos xs cs h all = All-cons (IsTruthful f x) (Segment pos xs) cs h all
+
+pub read_says : ReadSays
+unfolding AllSay
+read_says f x count cs all = All-cons (IsTruthful f x) (Read count) cs tt all
+
+pub show_says : ShowSays
+unfolding AllSay
+show_says f x cs all = All-cons (IsTruthful f x) Show cs tt all
+
+pub both_say : BothSay
+unfolding AllSay
+both_say f x cs ds all more = All-append (IsTruthful f x) cs ds all more
+
+pub each_says : EachSays
+unfolding AllSay
+each_says f x cs all = all
+
+pub fresh_receives_as : FreshReceivesFrom
+fresh_receives_as f x v e = subst (ReceivesFrom f x) (sym e) (fresh_receives_from x f v.capacity)
+
+pub agreeing_receives : AgreeingReceives
+unfolding ReceivesFrom
+agreeing_receives f x v s e d all = (e, record { state = s; stands = d; agrees = subst (λ b. Agrees b s.kept x) (sym e) all })
+
+pub receives_by_parts : ReceivesByParts
+unfolding ReceivesFrom
+receives_by_parts f x v = ((λ h. h), (λ h. h))
+
+pub receives_from_longer : ReceivesFromLonger
+unfolding ReceivesFrom
+receives_from_longer f x more v h = (h.0, longer_receives x more v h.1)
+
+-- ---- one command, of which a refusal of memory leaves nothing
+pub executed_keeps : {T E : Type 0} (P : Stored → Type 0) (r : Result T E) (v u w : Stored) → IfOk r (λ _. u ≡ w) → OnErr r (u ≡ v) → P v → P w → P u
+executed_keeps P (Ok t) v u w ok err old new = subst P (sym ok) new
+executed_keeps P (Err e) v u w ok err old new = subst P (sym err) old
+
+pub executed_first : (N : ℕ) {T E : Type 0} (r : Result T E) (v u : Stored) (c : CommandSeen) → IfOk r (λ _. u ≡ stored_after N v c) → OnErr r (u ≡ v) → u.first ≡ v.first
+executed_first N r v u c ok err = executed_keeps (λ (y : Stored). y.first ≡ v.first) r v u (stored_after N v c) ok err refl (first_stays N v c)
+
+pub capacity_stays : (N : ℕ) (v : Stored) (c : CommandSeen) → (stored_after N v c).capacity ≡ v.capacity
+capacity_stays N v c = ap (λ w. w.capacity) (setting_kept N v c)
+
+pub executed_capacity : (N : ℕ) {T E : Type 0} (r : Result T E) (v u : Stored) (c : CommandSeen) → IfOk r (λ _. u ≡ stored_after N v c) → OnErr r (u ≡ v) → u.capacity ≡ v.capacity
+executed_capacity N r v u c ok err = executed_keeps (λ (y : Stored). y.capacity ≡ v.capacity) r v u (stored_after N v c) ok err refl (capacity_stays N v c)
+
+one_run : (N : ℕ) (v : Stored) (c : CommandSeen) → Executed N v (stored_after N v c) (c ∷ []) (stored_reply N v c ∷ []) (IsTrue true)
+one_run N v c = record { count = 1; within = omega arith; whole = λ _. refl; state = refl; answers = refl }
+
+pub one_receives_from : (N f : ℕ) (x : List ℕ) (v : Stored) (c : CommandSeen) → ReceivesFrom f x v → AllSay f x (c ∷ []) → ReceivesFrom f x (stored_after N v c)
+one_receives_from N f x v c r h = (run_receives_from N f x v (stored_after N v c) (c ∷ []) (stored_reply N v c ∷ []) true (one_run N v c) r h).0
+
+pub executed_receives : (N f : ℕ) (x : List ℕ) {T E : Type 0} (r : Result T E) (v u : Stored) (c : CommandSeen) → IfOk r (λ _. u ≡ stored_after N v c) → OnErr r (u ≡ v) → ReceivesFrom f x v → AllSay f x (c ∷ []) → ReceivesFrom f x u
+executed_receives N f x r v u c ok err from h = executed_keeps (ReceivesFrom f x) r v u (stored_after N v c) ok err from (one_receives_from N f x v c from h)
+
+pub executed_bytes : (N f : ℕ) (x : List ℕ) {T E : Type 0} (seen : T → ReplySeen) (r : Result T E) (v u : Stored) (c : CommandSeen) → IfOk r (λ _. u ≡ stored_after N v c) → IfOk r (λ t. seen t ≡ stored_reply N v c) → ReceivesFrom f x v → AllSay f x (c ∷ []) →
+    IfOk r (λ t. bytes_read (seen t ∷ []) ++ u.queue ≡ slice_range x v.read (stored_next u - u.first))
+executed_bytes N f x seen (Ok t) v u c ok is from h =
+    (λ i. bytes_read (is i ∷ []) ++ (ok i).queue)
+    ∙ (run_receives_from N f x v (stored_after N v c) (c ∷ []) (stored_reply N v c ∷ []) true (one_run N v c) from h).1
+    ∙ ap (λ (y : Stored). slice_range x v.read (stored_next y - y.first)) (sym ok)
+executed_bytes N f x seen (Err e) v u c ok is from h = tt
+
+pub capacity_kept : (most : ℕ) (v : Stored) (cs : List CommandSeen) → (stored_after_all most v cs).capacity ≡ v.capacity
+capacity_kept most v [] = refl
+capacity_kept most v (c ∷ cs) = capacity_kept most (stored_after most v c) cs ∙ capacity_stays most v c
+
+-- ---- segments that follow on one another
+pub reached : (N : ℕ) (v u : Stored) (cs : List CommandSeen) (rs : List ReplySeen) {T E : Type 0} (r : Result T E) (s : State) → u.first ≡ v.first → StandsFor v s → ExecutedFor N v u cs rs (IsOk r) s →
+    Follows (setting N v) s (stored_next v) cs → IfOk r (λ _. EndsBy (stored_next u) cs)
+reached N v u cs rs (Err e) s first d ran follows = tt
+reached N v u cs rs (Ok t) s first d ran follows =
+    let all : take ran.count cs ≡ cs = take_all ran.count cs (omega (arith, ran.whole refl)) in
+    let there : StandsFor u (after_all (setting N v) s cs) = subst (λ l. StandsFor u (after_all (setting N v) s l)) all ran.stands in
+    let end : stored_next u ≡ next v.first (after_all (setting N v) s cs).kept = same_next u (after_all (setting N v) s cs) there ∙ ap (λ b. next b (after_all (setting N v) s cs).kept) first in
+    subst (λ n. EndsBy n cs) (sym end) (ran.recovers refl (subst (λ n. Follows (setting N v) s n cs) (same_next v s d) follows))

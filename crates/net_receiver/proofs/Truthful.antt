@@ -1,0 +1,186 @@
+-- What truthful segments leave.
+use Rattle.std.proofs.Common.{◌≡◌, ℕ, zero, suc, ◌+◌, ◌-◌, ◌<◌, ◌≤◌, max, Bool, true, false, cond, List, [], ◌∷◌, ◌++◌, length, take, drop, nat_lt, All, Option, Some, None, is_some, slice_get, slice_range, refl, sym, ap, subst, ◌∙◌, arith, length-append, length-drop, ⊎_elim, take-add}
+use Rattle.std.proofs.lemmas.Bool.{both_ways, cases_lt}
+use Rattle.std.proofs.lemmas.Option.{slice_get_within}
+use Rattle.std.proofs.lemmas.List.Elements.{All-nil, All-cons, All-head, All-tail}
+use Rattle.net_receiver.specs.KeptList.{Piece, piece, piece_at, clip, byte_at, next, bytes, held}
+use Rattle.net_receiver.specs.Schedule.{CommandSeen, Segment, Read, Show, Keeps, Setting, State, fresh, state_after, after, after_all, bytes_read, PieceAgrees, Agrees}
+use Rattle.net_receiver.specs.Stored.{Stored, domain, stored_state_after, fresh_stored, stored_next, stored_after, stored_after_all, setting}
+use Rattle.net_receiver.specs.Truthful.{IsTruthful, TruthfulIsKept, Receives, FreshReceives, OneReceives, AllReceive, LongerReceives, QueueIsOfStream, FreshStream, RunReceives, FirstStays, NextGrows, SegmentReadsNothing}
+use Rattle.net_receiver.proofs.Covering.{piece_before, piece_from, slice_get-drop, slice_get-take, next_is}
+use Rattle.net_receiver.proofs.Step.{verdict_cases, same_next, queue_length}
+use Rattle.net_receiver.proofs.Run.{schedule, setting_kept}
+use Rattle.net_receiver.proofs.Stream.{queue_agrees, agrees_at, stream}
+use Rattle.net_receiver.proofs.Whole.{fresh_stands}
+
+pub none_is_not : {A : Type 0} (b : A) → None ≡ Some b → ⊥
+none_is_not b e = both_ways false refl (ap is_some e)
+
+-- what a clip says, the whole says
+pub cond_some : {A : Type 0} (t : Bool) (o : Option A) (b : A) → cond t o None ≡ Some b → o ≡ Some b
+cond_some true o b e = e
+cond_some false o b e = absurd (none_is_not b e)
+
+clip_at : (low high : ℕ) (e : Piece) (p b : ℕ) → piece_at (clip low high e) p ≡ Some b → piece_at e p ≡ Some b
+clip_at low high e p b is =
+    ⊎_elim
+    (λ (l : p < max e.start low). absurd (none_is_not b (sym (piece_before (clip low high e) p l) ∙ is)))
+    (λ (l : max e.start low ≤ p).
+    let place : (low - e.start) + (p - max e.start low) ≡ p - e.start = omega arith in
+    piece_from e p (omega arith)
+    ∙ cond_some (nat_lt (p - e.start) (high - e.start)) (slice_get e.bytes (p - e.start)) b
+    (sym (slice_get-take (high - e.start) e.bytes (p - e.start))
+    ∙ ap (slice_get (take (high - e.start) e.bytes)) (sym place)
+    ∙ sym (slice_get-drop (low - e.start) (take (high - e.start) e.bytes) (p - max e.start low))
+    ∙ sym (piece_from (clip low high e) p l)
+    ∙ is))
+    (cases_lt p (max e.start low))
+
+clip_agrees : (f low high : ℕ) (x : List ℕ) (e : Piece) → PieceAgrees f x e → PieceAgrees f x (clip low high e)
+clip_agrees f low high x e h = λ p b from is. h p b from (clip_at low high e p b is)
+
+All-push : {X : Type 0} (P : X → Type 0) (xs : List X) (y : X) → All P xs → P y → All P (xs ++ y ∷ [])
+All-push P [] y all one = All-cons P y [] one (All-nil P)
+All-push P (x ∷ xs) y all one = All-cons P x (xs ++ y ∷ []) (All-head P x xs all) (All-push P xs y (All-tail P x xs all) one)
+
+one_kept : (w : Setting) (s : State) (x : List ℕ) (c : CommandSeen) → Agrees w.first s.kept x → IsTruthful w.first x c → Agrees w.first (after w s c).kept x
+one_kept w s x (Segment pos xs) all h =
+    let part = clip (next w.first s.kept) (w.first + s.read + w.capacity) (piece pos xs) in
+    verdict_cases (λ y. Agrees w.first (state_after s y).kept x) (next w.first s.kept) w.most_runs (held w.first s.kept) part all all
+    (All-push (PieceAgrees w.first x) s.kept part all (clip_agrees w.first (next w.first s.kept) (w.first + s.read + w.capacity) x (piece pos xs) h))
+one_kept w s x (Read count) all h = all
+one_kept w s x Show all h = all
+
+pub truthful_is_kept : TruthfulIsKept
+truthful_is_kept w s x [] all h = all
+truthful_is_kept w s x (c ∷ cs) all h =
+    truthful_is_kept w (after w s c) x cs (one_kept w s x c all (All-head (IsTruthful w.first x) c cs h)) (All-tail (IsTruthful w.first x) c cs h)
+
+pub fresh_receives : FreshReceives
+fresh_receives x first capacity = record { state = fresh; stands = fresh_stands first capacity; agrees = All-nil (PieceAgrees first x) }
+
+pub first_kept : (most : ℕ) (v : Stored) (cs : List CommandSeen) → (stored_after_all most v cs).first ≡ v.first
+first_kept most v [] = refl
+first_kept most v (c ∷ cs) = first_kept most (stored_after most v c) cs ∙ ap (λ w. w.first) (setting_kept most v c)
+
+pub all_receive : AllReceive
+all_receive most x v cs r h =
+    let w = setting most v in
+    record {
+      state = after_all w r.state cs;
+      stands = (schedule most v r.state r.stands cs).0;
+      agrees = subst (λ f. Agrees f (after_all w r.state cs).kept x) (sym (first_kept most v cs)) (truthful_is_kept w r.state x cs r.agrees h);
+    }
+
+pub one_receives : OneReceives
+one_receives most x v c r h = all_receive most x v (c ∷ []) r (All-cons (IsTruthful v.first x) c [] h (All-nil (IsTruthful v.first x)))
+
+-- a longer list
+pub longer_at : (x more : List ℕ) (i b : ℕ) → slice_get x i ≡ Some b → slice_get (x ++ more) i ≡ Some b
+longer_at [] more i b e = absurd (none_is_not b e)
+longer_at (y ∷ x) more zero b e = e
+longer_at (y ∷ x) more (suc i) b e = longer_at x more i b e
+
+All-map : {X : Type 0} (P Q : X → Type 0) → ((a : X) → P a → Q a) → (xs : List X) → All P xs → All Q xs
+All-map P Q f [] all = All-nil Q
+All-map P Q f (x ∷ xs) all = All-cons Q x xs (f x (All-head P x xs all)) (All-map P Q f xs (All-tail P x xs all))
+
+pub longer_receives : LongerReceives
+longer_receives x more v r = record {
+  state = r.state;
+  stands = r.stands;
+  agrees = All-map (PieceAgrees v.first x) (PieceAgrees v.first (x ++ more)) (λ e h p b from is. longer_at x more (p - v.first) b (h p b from is)) r.state.kept r.agrees;
+}
+
+some_of : {A : Type 0} (o : Option A) → is_some o ≡ true → (x : A) × (o ≡ Some x)
+some_of None e = absurd (both_ways false refl e)
+some_of (Some x) e = (x, refl)
+
+-- the bytes up to `next` are those of x
+covered_within : (f : ℕ) (k : List Piece) (x : List ℕ) → Agrees f k x → next f k - f ≤ length x
+covered_within f k x all =
+    ⊎_elim
+    (λ (l : f < next f k).
+    let there = some_of (byte_at k (next f k - 1)) ((next_is f k).before (next f k - 1) (omega arith) (omega arith)) in
+    let is : slice_get x (next f k - 1 - f) ≡ Some there.0 = agrees_at f k x all (next f k - 1) there.0 (omega arith) there.1 in
+    let near : next f k - 1 - f < length x = slice_get_within x (next f k - 1 - f) there.0 is in
+    omega arith)
+    (λ (l : next f k ≤ f). omega arith)
+    (cases_lt f (next f k))
+
+pub queue_is_of : QueueIsOfStream
+queue_is_of x v r =
+    let w = setting 0 v in
+    let s = r.state in
+    let d = r.stands in
+    let n = next v.first s.kept - (v.first + s.read) in
+    let long : length v.queue ≡ n = queue_length v s d in
+    let same : v.queue ≡ take n (drop s.read x) = d.queue ∙ queue_agrees w x s d.within r.agrees n (omega arith) in
+    let read : v.read ≡ s.read = d.read in
+    let is : v.queue ≡ take (length v.queue) (drop v.read x) = same ∙ (λ i. take (sym long i) (drop (sym read i) x)) in
+    let end : stored_next v ≡ next v.first s.kept = same_next v s d in
+    let wide = covered_within v.first s.kept x r.agrees in
+    let from = (next_is v.first s.kept).from in
+    let within = d.within in
+    let total : v.read + length v.queue ≡ stored_next v - v.first = omega arith in
+    record {
+      within = omega arith;
+      queue = is;
+      front = ap (λ l. take v.read x ++ l) is ∙ sym (take-add v.read (length v.queue) x) ∙ ap (λ m. take m x) total;
+      next = omega arith;
+    }
+
+pub fresh_stream : FreshStream
+fresh_stream most first capacity x cs h =
+    let v = fresh_stored first capacity in
+    let w = setting most v in
+    let d = fresh_stands first capacity in
+    let all = schedule most v fresh d cs in
+    let u = stored_after_all most v cs in
+    let t = after_all w fresh cs in
+    let agrees = truthful_is_kept w fresh x cs (All-nil (PieceAgrees first x)) h in
+    let f : u.first ≡ first = first_kept most v cs in
+    let end : stored_next u - first ≡ next first t.kept - first - 0 = (let e = same_next u t all.0 in let e' : next u.first t.kept ≡ next first t.kept = ap (λ b. next b t.kept) f in omega arith) in
+    (λ i. bytes_read (all.1 i) ++ (all.0.queue ∙ (λ j. bytes t.kept (f j + t.read) (next (f j) t.kept - (f j + t.read)))) i)
+    ∙ stream w x fresh d.within cs agrees
+    ∙ ap (λ m. take m x) (sym end)
+
+All-take : {X : Type 0} (P : X → Type 0) (n : ℕ) (xs : List X) → All P xs → All P (take n xs)
+All-take P zero xs all = All-nil P
+All-take P (suc n) [] all = All-nil P
+All-take P (suc n) (x ∷ xs) all = All-cons P x (take n xs) (All-head P x xs all) (All-take P n xs (All-tail P x xs all))
+
+pub run_receives : RunReceives
+run_receives most x v u cs rs complete r h run =
+    let w = setting most v in
+    let front = take run.count cs in
+    let kept = All-take (IsTruthful v.first x) run.count cs h in
+    let z = stored_after_all most v front in
+    let t = after_all w r.state front in
+    let d = schedule most v r.state r.stands front in
+    let f : z.first ≡ v.first = first_kept most v front in
+    let end : stored_next z - z.first ≡ next v.first t.kept - v.first = (let e = same_next z t d.0 in let e' : next z.first t.kept ≡ next v.first t.kept = ap (λ b. next b t.kept) f in omega arith) in (
+      subst (Receives x) (sym run.state) (all_receive most x v front r kept),
+      (λ i. bytes_read ((run.answers ∙ d.1) i) ++ (ap (λ y. y.queue) run.state ∙ d.0.queue ∙ (λ j. bytes t.kept (f j + t.read) (next (f j) t.kept - (f j + t.read)))) i)
+          ∙ stream w x r.state r.stands.within front (truthful_is_kept w r.state x front r.agrees kept)
+          ∙ (λ i. slice_range x (sym r.stands.read i) ((sym end ∙ ap (λ y. stored_next y - y.first) (sym run.state)) i)),
+    )
+
+-- ---- what commands change
+pub first_stays : FirstStays
+first_stays most v c = ap (λ w. w.first) (setting_kept most v c)
+
+-- each verdict on a segment
+segment_cases : (P : Stored → Type 0) (most : ℕ) (v : Stored) (pos : ℕ) (xs : List ℕ) → P v → ((part : Piece) → P (stored_state_after v (Keeps part))) → P (stored_after most v (Segment pos xs))
+segment_cases P most v pos xs same kept =
+    let part = clip (stored_next v) (v.first + v.read + v.capacity) (piece pos xs) in
+    verdict_cases (λ y. P (stored_state_after v y)) (stored_next v) most (domain v.held) part same same (kept part)
+
+pub next_grows_stored : NextGrows
+next_grows_stored most v (Segment pos xs) =
+    segment_cases (λ u. stored_next v ≤ stored_next u) most v pos xs (omega arith) (λ part. omega (arith, length-append {A = ℕ}))
+next_grows_stored most v (Read count) = omega (arith, length-drop count v.queue)
+next_grows_stored most v Show = omega arith
+
+pub segment_reads_nothing : SegmentReadsNothing
+segment_reads_nothing most v pos xs = segment_cases (λ u. u.read ≡ v.read) most v pos xs refl (λ part. refl)

@@ -1,0 +1,8 @@
+use Rattle.net_receiver.proofs.Step.{same_next, same_held}
+use Rattle.net_receiver.proofs.laws.states.Goals as goal
+
+pub returns-clause-next : goal.returns-clause-next
+returns-clause-next c = λ v s d. same_next v s d
+
+pub returns-clause-held : goal.returns-clause-held
+returns-clause-held c = λ v s d. same_held v s d
