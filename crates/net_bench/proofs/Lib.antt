@@ -5,7 +5,7 @@ pub mod Numerals
 pub mod Pending
 pub mod HexText
 pub mod RingParts
-pub mod RunProgress
+pub mod Progress
 pub mod SameText
 pub mod StreamStates
 pub mod StreamOutcomes

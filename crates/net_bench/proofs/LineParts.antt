@@ -6,7 +6,7 @@ use Rattle.std.proofs.lemmas.List.{take-append-drop, get_or-take, length-take-le
 use Rattle.std.proofs.lemmas.List.Elements.{All-head, All-tail, All-append, All-from_get_or}
 use Rattle.std.proofs.lemmas.List.Sums.{fails_before_first, passes_at_first}
 use Rattle.std.proofs.lemmas.Bool.Decides.{nat_tests}
-use Rattle.net_bench.specs.Text.{parts_of, lines_of, ended_lines, without_last, without_empty_last}
+use Rattle.net_bench.specs.Text.{parts_of, lines_of, ended_lines, unended_line, without_last, without_empty_last, last_part}
 use Rattle.net_bench.specs.Progress.{HasNoFeed}
 
 -- what a position is, found or not
@@ -98,3 +98,14 @@ lines-one (b ∷ line) some none = ap without_empty_last (slice_split_none (λ b
 -- a text with no line feed ends no line
 pub ended-none : (line : List ℕ) → HasNoFeed line → ended_lines line ≡ []
 ended-none line none = ap without_last (slice_split_none (λ b. b == 10) line none)
+
+last_part-append : (xs : List (List ℕ)) (y : List ℕ) → last_part (xs ++ (y ∷ [])) ≡ y
+last_part-append [] y = refl
+last_part-append (x ∷ []) y = refl
+last_part-append (x ∷ z ∷ xs) y = last_part-append (z ∷ xs) y
+
+-- what stands behind the last line feed
+pub unended-from_parts : (text : List ℕ) (lines : List (List ℕ)) (line : List ℕ) → HasNoFeed line →
+    parts_of text ≡ lines ++ parts_of line → unended_line text ≡ line
+unended-from_parts text lines line none e =
+    ap last_part (e ∙ ap (λ t. lines ++ t) (slice_split_none (λ b. b == 10) line none)) ∙ last_part-append lines line

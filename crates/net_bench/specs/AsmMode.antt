@@ -31,7 +31,7 @@ asm_command (verb ∷ offset ∷ size ∷ []) =
     else None
 asm_command _ = None
 
--- whether the range isn't empty, and the set with it has more maximal runs than the most_runs
+-- whether the range isn't empty, and the set with it has more than the most maximal runs
 abbrev pub makes_too_many_runs : ℕ → Positions → ℕ → ℕ → Bool
 makes_too_many_runs most_runs set offset size = nat_lt 0 size && nat_lt most_runs (runs (with_range set offset size))
 
@@ -66,7 +66,7 @@ asm_does most_runs set (AddThenRemoveFront offset size) = within_range offset si
 asm_does most_runs set RemoveFront = Ok (front_removed set)
 asm_does most_runs set Print = Ok (set, display_text set ++ codes "\n")
 
--- a line of the mode, with this most_runs of runs
+-- a line of the mode, with at most so many runs
 abbrev pub asm_rules : ℕ → Rules Positions
 asm_rules most_runs set words = asm_reply most_runs set (asm_command words)
   where

@@ -123,7 +123,7 @@ of_states = record {
 
 -- the schedules of a run
 pub record Schedules (S : Type 0) : Type 0 where
-  -- first position, capacity and limit of runs, the same for both
+  -- first position, capacity and most runs, the same for both
   pub setting : Setting
   -- the one that commands go to
   pub present : S

@@ -27,6 +27,16 @@ without_empty_last (part ∷ next ∷ parts) = part ∷ without_empty_last (next
 abbrev pub lines_of : List ℕ → List (List ℕ)
 lines_of input = without_empty_last (parts_of input)
 
+-- the last part
+abbrev pub last_part : List (List ℕ) → List ℕ
+last_part [] = []
+last_part (part ∷ []) = part
+last_part (part ∷ next ∷ parts) = last_part (next ∷ parts)
+
+-- the bytes behind the last line feed of the text, which begin a line
+abbrev pub unended_line : List ℕ → List ℕ
+unended_line text = last_part (parts_of text)
+
 -- the lines whose line feed stands in the text
 abbrev pub ended_lines : List ℕ → List (List ℕ)
 ended_lines text = without_last (parts_of text)

@@ -1,8 +1,8 @@
 -- What is written for the lines of an input, and which fault they have: for any mode, from what one line does.
-use Rattle.std.specs.Prelude.{◌≡◌, ℕ, List, [], ◌++◌, ◌∷◌, length, take, nat_lt, if◌then◌else◌, Option, Some, None, Result, Ok, Err}
+use Rattle.std.specs.Prelude.{◌≡◌, ℕ, List, [], ◌++◌, ◌∷◌, ◌≤◌, length, take, nat_lt, if◌then◌else◌, Option, Some, None, Result, Ok, Err}
 use Rattle.std.specs.Io.{StartsWith}
 use Rattle.std.specs.Io.KnownBytes.{Appends, Consumes}
-use Rattle.net_bench.specs.Text.{lines_of, ended_lines, words_of, next_number}
+use Rattle.net_bench.specs.Text.{lines_of, ended_lines, unended_line, words_of, next_number}
 use Rattle.net_bench.specs.declared.fault.Fault.{Fault}
 use Rattle.net_bench.specs.declared.fault.Fault.TheVariants as faults
 use Rattle.net_bench.specs.declared.error.BenchError.{BenchError}
@@ -83,8 +83,10 @@ ErrorOfLines all lines old new ReadFailed = ⊥
 
 -- what the error of a run says of its input, of what is left of that, and of what the writer held before and after
 abbrev pub ErrorOfInput : Transcript → List ℕ → Option (List ℕ) → Option (List ℕ) → Option (List ℕ) → BenchError → Type 0
--- the replies of all lines whose line feed stands in what the reads gave were written, and none of these lines has a fault
+-- the replies of all lines whose line feed stands in what the reads gave were written, none of these lines has a
+-- fault, and what came of the next line isn't too long
 ErrorOfInput all input left old new ReadFailed =
-    (given : List ℕ) × Consumes (Some input) left given × (all.fault (ended_lines given) ≡ None) × Appends old new (all.replies (ended_lines given))
+    (given : List ℕ) × Consumes (Some input) left given × (all.fault (ended_lines given) ≡ None)
+    × Appends old new (all.replies (ended_lines given)) × (length (unended_line given) ≤ 4096)
 -- any other error is one of the input's lines
 ErrorOfInput all input left old new e = ErrorOfLines all (lines_of input) old new e

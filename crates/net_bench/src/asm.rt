@@ -158,7 +158,7 @@ impl<const N: usize> AsmSession<N> {
     }
 
     /// Does what is to be done with a range, or finds that it is too long.
-    fn run_range<A: Allocator + Copy>(
+    fn execute_range<A: Allocator + Copy>(
         &mut self,
         alloc: A,
         verb: RangeVerb,
@@ -212,9 +212,15 @@ impl<A: Allocator + Copy, const N: usize> Session<A> for AsmSession<N> {
 
     ghost closing = { λ _. [] };
 
-    fn run_line(&mut self, alloc: A, line: &[u8]) -> Result<Result<String<A>, Fault>, AllocError> {
+    fn execute_line(
+        &mut self,
+        alloc: A,
+        line: &[u8],
+    ) -> Result<Result<String<A>, Fault>, AllocError> {
         match asm_line(line) {
-            Some(AsmLine::Range(verb, offset, size)) => self.run_range(alloc, verb, offset, size),
+            Some(AsmLine::Range(verb, offset, size)) => self.execute_range(
+                alloc, verb, offset, size,
+            ),
             Some(AsmLine::RemoveFront) => Ok(Ok(self.remove_front(alloc)?)),
             Some(AsmLine::Print) => Ok(Ok(self.print(alloc)?)),
             None => Ok(Err(Fault::BadCommand)),

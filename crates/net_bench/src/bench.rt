@@ -44,7 +44,7 @@ fn answer<A: Allocator + Copy, S: Session<A>, W: Write>(
     if line.len() > MAX_LINE {
         return Err(Fault::LineTooLong.at(number));
     }
-    let Ok(outcome) = session.run_line(alloc, line) else {
+    let Ok(outcome) = session.execute_line(alloc, line) else {
         return Err(BenchError::OutOfMemory);
     };
     match outcome {
@@ -141,7 +141,7 @@ impl<A: Allocator + Copy, S: Session<A>> Bench<A, S> {
     }
 
     /// Runs the lines that these bytes end, keeps what stands behind them, and gathers the replies.
-    fn run_ended<W: Write>(&mut self, bytes: &[u8], writer: &mut W) -> Result<(), BenchError>
+    fn execute_ended<W: Write>(&mut self, bytes: &[u8], writer: &mut W) -> Result<(), BenchError>
         ensures ok { OnOk result ((text : List ℕ)
             × Advances S.rules bytes.now self.old.number self.old.session self.old.line.items
             self.new.number self.new.session self.new.line.items text
@@ -174,7 +174,7 @@ impl<A: Allocator + Copy, S: Session<A>> Bench<A, S> {
             (lines_of (self.old.line.items ++ (bytes.now ++ more)))
             (W.contents writer.old) self.old.replies (W.contents writer.new) self.new.replies e) }
     {
-        let outcome = self.run_ended(bytes, writer);
+        let outcome = self.execute_ended(bytes, writer);
         self.replies.write_out(writer)?;
         outcome
     }
@@ -193,7 +193,7 @@ impl<A: Allocator + Copy, S: Session<A>> Bench<A, S> {
 
     /// Runs what has come of the last line, if anything has, and gathers its reply and the closing
     /// text.
-    fn run_last<W: Write>(&mut self, writer: &mut W) -> Result<(), BenchError>
+    fn execute_last<W: Write>(&mut self, writer: &mut W) -> Result<(), BenchError>
         ensures ok { OnOk result (
             let all = transcript S.rules S.closing self.old.number self.old.session in
             let lines = lines_of self.old.line.items in
@@ -225,14 +225,14 @@ impl<A: Allocator + Copy, S: Session<A>> Bench<A, S> {
             PendingError (transcript S.rules S.closing self.old.number self.old.session)
             (lines_of self.old.line.items) (W.contents writer.old) self.old.replies (W.contents writer.new) self.new.replies e) }
     {
-        let outcome = self.run_last(writer);
+        let outcome = self.execute_last(writer);
         self.replies.write_out(writer)?;
         outcome
     }
 }
 
 /// Runs the lines that the reader gives, from their first to their last, and writes the replies.
-pub fn run_lines<A: Allocator + Copy, S: Session<A> + Drop, R: Read, W: Write>(
+pub fn execute_lines<A: Allocator + Copy, S: Session<A> + Drop, R: Read, W: Write>(
     alloc: A,
     session: S,
     reader: &mut R,

@@ -1,6 +1,7 @@
 //! A bench for the storage types: command lines come in, and a reply line goes out for each.
 #![tactic(auto)]
 
+mod arguments;
 mod asm;
 mod bench;
 mod error;
@@ -25,17 +26,14 @@ mod words;
 use std::env;
 use std::process::ExitCode;
 
-/// The words after the program's name, or none where they can't be read.
+/// Returns the words after the program's name, or none if they can't be read.
 fn command_words(rt: &HostRuntime) -> Vec<String> {
-    let mut words = Vec::new(rt.alloc());
     let Ok(all) = env::args(rt) else {
-        return words;
+        return Vec::new(rt.alloc());
     };
-    for word in all.skip(1) {
-        if words.push(word).is_err() {
-            return Vec::new(rt.alloc());
-        }
-    }
+    let Ok(words) = arguments::gather(rt.alloc(), all.skip(1)) else {
+        return Vec::new(rt.alloc());
+    };
     words
 }
 

@@ -1,6 +1,6 @@
 //! The modes of the bench.
 ghost use Rattle.std.specs.Prelude.{◌≡◌, [], ◌∷◌, map, string_bytes, Option, Some, option_map, option_and_then};
-ghost use Rattle.net_bench.specs.Kinds.{limit_seen};
+ghost use Rattle.net_bench.specs.Kinds.{most_runs_seen};
 ghost use Rattle.net_bench.specs.Text.{number_of};
 ghost use Rattle.net_bench.specs.Modes.{mode_of, stream_of, at_most_64k, four_or_32};
 
@@ -10,9 +10,9 @@ use std::marker::Model;
 /// The most bytes of storage.
 const MAX_CAPACITY: u64 = 65536;
 
-/// The most runs that an assembler holds.
+/// The most runs that an assembler may have.
 #[derive(Debug, Clone, Copy, PartialEq, Eq)]
-pub enum RunLimit {
+pub enum MostRuns {
     /// Four runs.
     Four,
     /// Thirty-two runs.
@@ -25,10 +25,10 @@ pub enum ModeKind {
     /// A ring over this many bytes of storage.
     Ring(usize),
     /// An assembler of at most so many runs.
-    Asm(RunLimit),
+    Asm(MostRuns),
     /// Receivers of a stream that begins at this position, over this many bytes of storage, with at
     /// most so many held runs.
-    Stream(u64, usize, RunLimit),
+    Stream(u64, usize, MostRuns),
 }
 
 /// What a run does, as the words of a command line name it.
@@ -58,16 +58,16 @@ fn capacity(word: &[u8]) -> Option<usize>
     Some(number as usize)
 }
 
-/// The limit of runs that a word names: 4 or 32.
-fn run_limit(word: &[u8]) -> Option<RunLimit>
-    ensures { option_map limit_seen result ≡ option_and_then four_or_32 (number_of word.now) }
+/// Returns the most runs that a word names, 4 or 32, if it names one of these.
+fn most_runs_of(word: &[u8]) -> Option<MostRuns>
+    ensures { option_map most_runs_seen result ≡ option_and_then four_or_32 (number_of word.now) }
 {
     let number = text::number(word)?;
     if number == 4 {
-        return Some(RunLimit::Four);
+        return Some(MostRuns::Four);
     }
     if number == 32 {
-        return Some(RunLimit::ThirtyTwo);
+        return Some(MostRuns::ThirtyTwo);
     }
     None
 }
@@ -83,26 +83,31 @@ fn two_words(name: &[u8], number: &[u8]) -> Option<Mode>
         });
     }
     if name == b"asm".as_slice() {
-        let limit = run_limit(number)?;
+        let most_runs = most_runs_of(number)?;
         return Some(Mode {
-            kind: ModeKind::Asm(limit),
+            kind: ModeKind::Asm(most_runs),
         });
     }
     None
 }
 
 /// Mode `stream` with the numbers that these words write, and this first position.
-fn stream(name: &[u8], capacity_word: &[u8], limit_word: &[u8], first: Option<u64>) -> Option<Mode>
-    ensures { result ≡ stream_of name.now capacity_word.now limit_word.now first }
+fn stream(
+    name: &[u8],
+    capacity_word: &[u8],
+    most_runs_word: &[u8],
+    first: Option<u64>,
+) -> Option<Mode>
+    ensures { result ≡ stream_of name.now capacity_word.now most_runs_word.now first }
 {
     if name != b"stream".as_slice() {
         return None;
     }
     let capacity = capacity(capacity_word)?;
-    let limit = run_limit(limit_word)?;
+    let most_runs = most_runs_of(most_runs_word)?;
     let first = first?;
     Some(Mode {
-        kind: ModeKind::Stream(first, capacity, limit),
+        kind: ModeKind::Stream(first, capacity, most_runs),
     })
 }
 

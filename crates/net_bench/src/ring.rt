@@ -145,7 +145,11 @@ impl<A: Allocator + Copy> Session<A> for RingSession<'_> {
 
     ghost closing = { λ _. [] };
 
-    fn run_line(&mut self, alloc: A, line: &[u8]) -> Result<Result<String<A>, Fault>, AllocError> {
+    fn execute_line(
+        &mut self,
+        alloc: A,
+        line: &[u8],
+    ) -> Result<Result<String<A>, Fault>, AllocError> {
         match ring_line(alloc, line)? {
             Some(RingLine::Write(bytes)) => Ok(Ok(self.write(alloc, &bytes)?)),
             Some(RingLine::Read(number)) => Ok(Ok(self.read(alloc, number)?)),

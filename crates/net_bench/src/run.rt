@@ -7,9 +7,9 @@ ghost use Rattle.net_bench.specs.Kinds.{mode_seen};
 ghost use Rattle.net_bench.specs.declared.mode.ModeKind.TheVariants as kinds;
 
 use crate::asm::AsmSession;
-use crate::bench::run_lines;
+use crate::bench::execute_lines;
 use crate::error::BenchError;
-use crate::mode::{Mode, ModeKind, RunLimit};
+use crate::mode::{Mode, ModeKind, MostRuns};
 use crate::ring::RingSession;
 use crate::stream::StreamSession;
 use net_receiver::laws;
@@ -37,19 +37,24 @@ pub fn run<A: Allocator + Copy, R: Read, W: Write>(
         (W.contents writer.old) (W.contents writer.new) e)) }
 {
     match mode.kind() {
-        ModeKind::Ring(capacity) => run_ring(alloc, capacity, reader, writer),
-        ModeKind::Asm(RunLimit::Four) => run_lines(alloc, AsmSession::<4>::new(), reader, writer),
-        ModeKind::Asm(RunLimit::ThirtyTwo) => {
-            run_lines(alloc, AsmSession::<32>::new(), reader, writer)
+        ModeKind::Ring(capacity) => execute_ring(alloc, capacity, reader, writer),
+        ModeKind::Asm(MostRuns::Four) => execute_lines(
+            alloc,
+            AsmSession::<4>::new(),
+            reader,
+            writer,
+        ),
+        ModeKind::Asm(MostRuns::ThirtyTwo) => {
+            execute_lines(alloc, AsmSession::<32>::new(), reader, writer)
         }
-        ModeKind::Stream(first, capacity, limit) => {
-            run_stream(alloc, first, capacity, limit, reader, writer)
+        ModeKind::Stream(first, capacity, most_runs) => {
+            execute_stream(alloc, first, capacity, most_runs, reader, writer)
         }
     }
 }
 
 /// Runs mode `ring` over so many bytes of storage, all 0.
-fn run_ring<A: Allocator + Copy, R: Read, W: Write>(
+fn execute_ring<A: Allocator + Copy, R: Read, W: Write>(
     alloc: A,
     capacity: usize,
     reader: &mut R,
@@ -65,22 +70,22 @@ fn run_ring<A: Allocator + Copy, R: Read, W: Write>(
     let Ok(mut storage) = vec![in alloc; 0u8; capacity] else {
         return Err(BenchError::OutOfMemory);
     };
-    run_lines(alloc, RingSession::new(&mut storage), reader, writer)
+    execute_lines(alloc, RingSession::new(&mut storage), reader, writer)
 }
 
 /// Runs mode `stream` over so many bytes of storage, all 0, with at most so many held runs.
-fn run_stream<A: Allocator + Copy, R: Read, W: Write>(
+fn execute_stream<A: Allocator + Copy, R: Read, W: Write>(
     alloc: A,
     first: u64,
     capacity: usize,
-    limit: RunLimit,
+    most_runs: MostRuns,
     reader: &mut R,
     writer: &mut W,
 ) -> Result<(), BenchError>
-    ensures ok { let mode = mode_seen (kinds.Stream first capacity limit) in
+    ensures ok { let mode = mode_seen (kinds.Stream first capacity most_runs) in
         OnOk result (IfSome (R.remaining reader.old) (λ input. (fault mode input ≡ None)
         × Appends (W.contents writer.old) (W.contents writer.new) (out mode input))) }
-    ensures err { let mode = mode_seen (kinds.Stream first capacity limit) in
+    ensures err { let mode = mode_seen (kinds.Stream first capacity most_runs) in
         IfErr result (λ e. IfSome (R.remaining reader.old) (λ input.
         ErrorOfInput (transcript_of mode) input (R.remaining reader.new)
         (W.contents writer.old) (W.contents writer.new) e)) }
@@ -91,14 +96,14 @@ fn run_stream<A: Allocator + Copy, R: Read, W: Write>(
     };
     // The storage of the second schedule, for which memory is taken when it begins.
     let mut second = Vec::new(alloc);
-    match limit {
-        RunLimit::Four => {
+    match most_runs {
+        MostRuns::Four => {
             let session = StreamSession::<A, 4>::new(first, &mut storage, &mut second);
-            run_lines(alloc, session, reader, writer)
+            execute_lines(alloc, session, reader, writer)
         }
-        RunLimit::ThirtyTwo => {
+        MostRuns::ThirtyTwo => {
             let session = StreamSession::<A, 32>::new(first, &mut storage, &mut second);
-            run_lines(alloc, session, reader, writer)
+            execute_lines(alloc, session, reader, writer)
         }
     }
 }

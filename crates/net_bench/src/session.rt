@@ -16,7 +16,11 @@ pub trait Session<A: Allocator + Copy> {
 
     /// Does what a line of at most 4,096 bytes says, and makes its reply. After a fault, or where
     /// memory was refused, the session is over.
-    fn run_line(&mut self, alloc: A, line: &[u8]) -> Result<Result<String<A>, Fault>, AllocError>
+    fn execute_line(
+        &mut self,
+        alloc: A,
+        line: &[u8],
+    ) -> Result<Result<String<A>, Fault>, AllocError>
         ensures { IfOk result (λ outcome. MatchResult outcome
             (λ reply. rules self.old (words_of line.now) ≡ Ok (self.new, string_bytes reply))
             (λ fault. rules self.old (words_of line.now) ≡ Err fault)) };

@@ -195,7 +195,11 @@ impl<A: Allocator + Copy, const N: usize> Session<A> for StreamSession<'_, A, N>
 
     ghost closing = { stream_closing of_stored };
 
-    fn run_line(&mut self, alloc: A, line: &[u8]) -> Result<Result<String<A>, Fault>, AllocError> {
+    fn execute_line(
+        &mut self,
+        alloc: A,
+        line: &[u8],
+    ) -> Result<Result<String<A>, Fault>, AllocError> {
         match stream_line(alloc, line)? {
             Some(StreamLine::ToReceiver(command)) => self.command(alloc, command),
             Some(StreamLine::NextSchedule) => self.next_schedule(alloc),

@@ -1,5 +1,5 @@
 use Rattle.std.proofs.lemmas.Result.{IfErr-weaker}
-use Rattle.net_bench.proofs.RunProgress.{reply-failed}
+use Rattle.net_bench.proofs.Progress.{reply-failed}
 use Rattle.net_bench.proofs.bench.answer.Goals as goal
 
 pub returns-in-Ok-outcome-clause-err : goal.returns-in-Ok-outcome-clause-err

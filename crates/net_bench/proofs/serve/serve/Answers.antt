@@ -1,5 +1,5 @@
 use Rattle.net_bench.specs.Modes.{transcript_of}
-use Rattle.net_bench.proofs.RunProgress.{ErrorOfInput-flush}
+use Rattle.net_bench.proofs.Progress.{ErrorOfInput-flush}
 use Rattle.net_bench.proofs.serve.serve.Goals as goal
 
 pub returns-in_default-outcome-clause-err : goal.returns-in_default-outcome-clause-err

@@ -1,5 +1,5 @@
 use Rattle.std.proofs.lemmas.Result.{err_from_is_err_and}
-use Rattle.net_bench.proofs.RunProgress.{empty}
+use Rattle.net_bench.proofs.Progress.{empty}
 use Rattle.net_bench.proofs.bench.Bench.end_line.Goals as goal
 
 pub returns-in_err-answer-clause-err : goal.returns-in_err-answer-clause-err

@@ -1,6 +1,6 @@
 use Rattle.std.proofs.Common.{length}
-use Rattle.net_bench.proofs.RunProgress.{AfterLines}
-use Rattle.net_bench.proofs.bench.Bench.run_ended.Given as goal
+use Rattle.net_bench.proofs.Progress.{AfterLines}
+use Rattle.net_bench.proofs.bench.Bench.execute_ended.Given as goal
 
 -- the bytes before the rest led here
 abbrev pub invariant-lines : goal.invariant-lines

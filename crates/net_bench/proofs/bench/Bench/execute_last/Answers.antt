@@ -2,8 +2,8 @@ use Rattle.std.proofs.Common.{◌<◌, length, []}
 use Rattle.std.proofs.lemmas.Result.{err_from_is_err_and, on_ok_weaker, IfErr-weaker}
 use Rattle.std.proofs.lemmas.List.{append-nil}
 use Rattle.net_bench.proofs.LineParts.{lines-one}
-use Rattle.net_bench.proofs.RunProgress.{last-ok, last-err, none-ok, none-err, nonempty, empty}
-use Rattle.net_bench.proofs.bench.Bench.run_last.Goals as goal
+use Rattle.net_bench.proofs.Progress.{last-ok, last-err, none-ok, none-err, nonempty, empty}
+use Rattle.net_bench.proofs.bench.Bench.execute_last.Goals as goal
 
 pub returns-then-is_empty-clause-ok : goal.returns-then-is_empty-clause-ok
 returns-then-is_empty-clause-ok g c =

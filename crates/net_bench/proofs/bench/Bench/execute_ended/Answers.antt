@@ -2,8 +2,8 @@ use Rattle.std.proofs.Common.{◌≡◌, ◌==◌, false}
 use Rattle.std.proofs.lemmas.Result.{err_from_is_err_and, IfErr-weaker}
 use Rattle.std.proofs.lemmas.List.Elements.{All-append}
 use Rattle.net_bench.proofs.LineParts.{feed-found, feed-nowhere}
-use Rattle.net_bench.proofs.RunProgress.{AfterLines-more, AfterLines-err, AfterLines-long}
-use Rattle.net_bench.proofs.bench.Bench.run_ended.Goals as goal
+use Rattle.net_bench.proofs.Progress.{AfterLines-more, AfterLines-err, AfterLines-long}
+use Rattle.net_bench.proofs.bench.Bench.execute_ended.Goals as goal
 
 pub end_line-requires : goal.end_line-requires
 end_line-requires g c = (feed-found c.lines.rest.now c.in-Some.at c.in-Some.ensures).2

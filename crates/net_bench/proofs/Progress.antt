@@ -5,7 +5,7 @@ use Rattle.std.specs.Io.KnownBytes.{Appends, Keeps, Consumes, IsAtEnd}
 use Rattle.std.proofs.lemmas.List.{append-nil, take_rest}
 use Rattle.std.proofs.Math.Seq.{take-append-add}
 use Rattle.std.proofs.lemmas.Bool.Decides.{Decides-ltb, nat_tests}
-use Rattle.net_bench.specs.Text.{parts_of, lines_of, ended_lines, words_of, next_number}
+use Rattle.net_bench.specs.Text.{parts_of, lines_of, ended_lines, unended_line, words_of, next_number}
 use Rattle.net_bench.specs.Transcript.{Rules, by_step, line_step, text_of, replies_of, first_fault, Transcript, transcript, WritesFront, ErrorOfInput}
 use Rattle.net_bench.specs.Progress.{HasNoFeed, Advances, Gathers, IsPendingFault, PendingError}
 use Rattle.net_bench.specs.declared.fault.Fault.TheVariants as faults
@@ -13,7 +13,7 @@ use Rattle.net_bench.specs.declared.error.BenchError.{BenchError}
 use Rattle.net_bench.specs.declared.error.BenchError.TheVariants.{BadCommand, RangeTooLong, LineTooLong, TooManySchedules, OutOfMemory, ReadFailed, WriteFailed}
 use Rattle.net_bench.proofs.KnownBytes.{Appends-kept, Keeps-same, Consumes-two, Consumes-none, all-came, StartsWith-all}
 use Rattle.net_bench.proofs.Pending.{Gathers-two, Gathers-same, Gathers-out, Gathers-written, WritesFront-after, WritesFront-more, WritesFront-out, WritesFront-kept, StartsWith-none}
-use Rattle.net_bench.proofs.LineParts.{feed-found, parts-cons, parts-feed, parts-front, lines-from_parts, lines-nonempty, lines-one, ended-from_parts, ended-none}
+use Rattle.net_bench.proofs.LineParts.{feed-found, parts-cons, parts-feed, parts-front, lines-from_parts, lines-nonempty, lines-one, ended-from_parts, ended-none, unended-from_parts}
 
 -- the end of a line
 pub Advances-feed : {S : Type 0} (rules : Rules S) (bytes : List ℕ) (n : ℕ) (state : S) (line : List ℕ) (state' : S) (reply : List ℕ) → HasNoFeed line → HasNoFeed bytes → line_step rules state (line ++ bytes) ≡ Ok (state', reply) → Advances rules (bytes ++ (10 ∷ [])) n state line (next_number n) state' [] reply
@@ -284,15 +284,20 @@ AfterReads-end_err rules closing (Some input) now after old mid new session n st
     (PendingError-after rules closing c.given 1 session [] n state line c.text [] old mid new [] [] [] e c.goes c.gathered (rw (append-nil line) (rw (c.emptied, z) at h))))
 
 -- a read that fails
-pub AfterReads-failed : {S : Type 0} (rules : Rules S) (closing : S → List ℕ) (before now after old new : Option (List ℕ)) (session : S) (n : ℕ) (state : S) (line p : List ℕ) → HasNoFeed line → AfterReads rules before now old new session n state line p → Keeps now after → IfSome before (λ input. ErrorOfInput (transcript rules closing 1 session) input after old new ReadFailed)
-AfterReads-failed rules closing None now after old new session n state line p none c k = tt
-AfterReads-failed rules closing (Some input) now after old new session n state line p none c k = (
+pub AfterReads-failed : {S : Type 0} (rules : Rules S) (closing : S → List ℕ) (before now after old new : Option (List ℕ)) (session : S) (n : ℕ) (state : S) (line p : List ℕ) → HasNoFeed line → length line ≤ 4096 → AfterReads rules before now old new session n state line p → Keeps now after → IfSome before (λ input. ErrorOfInput (transcript rules closing 1 session) input after old new ReadFailed)
+AfterReads-failed rules closing None now after old new session n state line p none short c k = tt
+AfterReads-failed rules closing (Some input) now after old new session n state line p none short c k = (
   c.given,
   rw (← append-nil c.given) (Consumes-two (Some input) now after c.given [] c.read (Consumes-none now after k)),
   rw ended (c.goes.faults []),
   rw ended (Gathers-written old new _ (Gathers-two old new new [] [] [] c.text [] _ c.gathered (Gathers-same new []) (sym (c.goes.texts (λ _. []) [])))),
+  rw behind short,
 )
   where
+    behind : unended_line c.given ≡ line
+    behind = unended-from_parts c.given c.goes.lines line none
+        (ap parts_of (sym (append-nil c.given)) ∙ c.goes.parts [] ∙ ap (λ t. c.goes.lines ++ parts_of t) (append-nil line))
+
     ended : ended_lines c.given ≡ c.goes.lines ++ []
     ended = ap ended_lines (sym (append-nil c.given)) ∙ ended-from_parts (c.given ++ []) c.goes.lines line (c.goes.parts [] ∙ ap (λ t. c.goes.lines ++ parts_of t) (append-nil line))
         ∙ ap (λ t. c.goes.lines ++ t) (ended-none line none)

@@ -1,5 +1,5 @@
-use Rattle.net_bench.proofs.RunProgress.{AfterReads}
-use Rattle.net_bench.proofs.bench.run_lines.Given as goal
+use Rattle.net_bench.proofs.Progress.{AfterReads}
+use Rattle.net_bench.proofs.bench.execute_lines.Given as goal
 
 -- the bytes that came led here
 abbrev pub invariant-reads : goal.invariant-reads

@@ -1,8 +1,8 @@
 use Rattle.std.proofs.Common.{arith}
 use Rattle.std.proofs.lemmas.Result.{err_from_is_err_and, on_ok_weaker, IfErr-weaker}
-use Rattle.net_bench.proofs.RunProgress.{AfterReads-more, AfterReads-err, AfterReads-end, AfterReads-end_err, AfterReads-none, AfterReads-failed}
+use Rattle.net_bench.proofs.Progress.{AfterReads-more, AfterReads-err, AfterReads-end, AfterReads-end_err, AfterReads-none, AfterReads-failed}
 use Rattle.net_bench.proofs.KnownBytes.{Keeps-same}
-use Rattle.net_bench.proofs.bench.run_lines.Goals as goal
+use Rattle.net_bench.proofs.bench.execute_lines.Goals as goal
 
 pub returns-in-Ok-eq0-clause-ok : goal.returns-in-Ok-eq0-clause-ok
 returns-in-Ok-eq0-clause-ok g c =
@@ -19,7 +19,7 @@ returns-in_err-take-in-Ok-read-clause-err g c =
 
 pub returns-in-Err-clause-err : goal.returns-in-Err-clause-err
 returns-in-Err-clause-err g c =
-    AfterReads-failed g.S.Session.rules g.S.Session.closing (g.R.Read.remaining c.args.reader.now) _ _ (g.W.Write.contents c.args.writer.now) _ c.args.session _ _ _ _ c.reads.bench.unended c.reads.invariant c.in-Err.ensures.bytes
+    AfterReads-failed g.S.Session.rules g.S.Session.closing (g.R.Read.remaining c.args.reader.now) _ _ (g.W.Write.contents c.args.writer.now) _ c.args.session _ _ _ _ c.reads.bench.unended c.reads.bench.short c.reads.invariant c.in-Err.ensures.bytes
 
 pub reads-preserved : goal.reads-preserved
 reads-preserved g c =
@@ -27,7 +27,7 @@ reads-preserved g c =
 
 pub returns-clause-err : goal.returns-clause-err
 returns-clause-err g c =
-    AfterReads-failed g.S.Session.rules g.S.Session.closing (g.R.Read.remaining c.args.reader.now) _ _ (g.W.Write.contents c.args.writer.now) _ c.args.session _ _ _ _ c.reads.bench.unended c.reads.invariant (Keeps-same _)
+    AfterReads-failed g.S.Session.rules g.S.Session.closing (g.R.Read.remaining c.args.reader.now) _ _ (g.W.Write.contents c.args.writer.now) _ c.args.session _ _ _ _ c.reads.bench.unended c.reads.bench.short c.reads.invariant (Keeps-same _)
 
 pub reads-init : goal.reads-init
 reads-init g c = AfterReads-none g.S.Session.rules (g.R.Read.remaining c.args.reader.now) (g.W.Write.contents c.args.writer.now) c.args.session c.in-Ok.bench.session c.in-Ok.bench.number c.in-Ok.bench.line.items c.in-Ok.bench.replies c.in-Ok.ensures
