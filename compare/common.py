@@ -55,11 +55,11 @@ def port():
     sources = workspace / "crates" / "net_replay" / "src"
     shutil.rmtree(sources, ignore_errors=True)
     sources.mkdir(parents=True)
-    for file in (COMPARE / "port" / "net_replay" / "src").iterdir():
+    for file in [*(COMPARE / "port").iterdir(), *(COMPARE / "calls").iterdir()]:
         shutil.copy2(file, sources / file.stem)
     shutil.copy2(REPOSITORY / "HANDLES", workspace / "HANDLES")
     lines = (REPOSITORY / "crates.txt").read_text()
-    (workspace / "crates.txt").write_text(lines + "net_replay staticlib: net_storage net_base\n")
+    (workspace / "crates.txt").write_text(lines + "net_replay staticlib: net_storage net_base net_receiver\n")
     return workspace / "crates"
 
 
