@@ -83,12 +83,12 @@ def allocator():
     return Path(page).parent / "c" / "liblibc_c.a"
 
 
-def cargo(profile, packages, smoltcp, **variables):
-    """Builds packages of this folder's workspace, and answers the folder of what was built."""
+def cargo(profile, packages, smoltcp, folder=COMPARE, **variables):
+    """Builds packages of a workspace, and answers the folder of what was built."""
     target = Path(os.environ.get("CARGO_TARGET_DIR") or OUT / "target")
     words = ["cargo", "build", "--offline", "--profile", profile]
     for package in packages:
         words += ["--package", package]
     environment = os.environ | {"CARGO_TARGET_DIR": str(target), "SMOLTCP": str(smoltcp)} | variables
-    run(words, f"cargo_{packages[0]}", cwd=COMPARE, env=environment)
+    run(words, f"cargo_{packages[0]}", cwd=folder, env=environment)
     return target / profile

@@ -188,24 +188,27 @@ fn capabilities() -> Vec<Call> {
     all
 }
 
-/// So many scripts of so many adds, at 4 and 32 runs, most of them apart from one another, with removals between.
+/// So many scripts of 40 to 100 adds at 4 and 32 runs: first of ranges apart from one another, which fill an
+/// assembler, then of any, with removals between.
 pub fn many(seed: u64, count: u64) -> Group {
     let script = move |number: u64| {
         let mut random = Random::of_script(seed, number);
         let runs = if number % 4 == 0 { 4 } else { 32 };
-        let (step, first, adds) = (2 + random.below(2), random.below(2), 40 + random.below(61));
-        let calls = (0..adds).flat_map(|at| {
-            let apart = first + step * random.below((101 - first).div_ceil(step));
-            let (a, b) = match random.below(12) {
-                0 if at > 40 => (random.below(101), 1 + random.below(100)),
-                0..3 => (random.below(101), 1 + random.below(2)),
-                _ => (apart, 1 + random.below(8) / 7),
+        let step = 2 + random.below(2);
+        let mut apart: Vec<u64> = (random.below(3) / 2..=100).step_by(step as usize).collect();
+        (2..apart.len()).for_each(|at| apart.swap(at, 1 + random.below(at as u64) as usize));
+        let calls = (0..40 + random.below(61)).flat_map(|at| {
+            let (fills, size) = (at < 36, 1 + random.below(2) * random.below(2));
+            let (a, b) = match random.below(if fills { 40 } else { 16 }) {
+                0 if !fills => (random.below(101), 1 + random.below(100)),
+                0..3 => (random.below(101), size),
+                _ => (apart[at as usize % apart.len()], size.min(step - 1)),
             };
             let call = |number, a, b| Call { number, a, b, byte: 0 };
-            let between = match random.below(24) {
-                0 | 1 => Some(call(2, 0, 0)),
-                2 => Some(call(1, 0, 1 + random.below(4))),
-                3 => Some(call(4 + random.below(2), 0, 0)),
+            let between = match random.below(if fills { 400 } else { 16 }) {
+                0..3 => Some(call(2, 0, 0)),
+                3 => Some(call(1, 0, size)),
+                4 => Some(call(4 + random.below(2), 0, 0)),
                 _ => None,
             };
             between.into_iter().chain([call(random.below(8) / 7, a, b)])

@@ -78,7 +78,7 @@ impl Counts {
                 let (number, fell) = (script.calls[at].number, runs as u64 - seen[at].held);
                 full.calls += 1;
                 full.refused += u64::from(seen[at].answer == REFUSED);
-                full.removed += u64::from(number == 2 && fell == 1);
+                full.removed += u64::from(matches!(number, 1 | 2) && fell == 1);
                 full.joined += u64::from(number <= 1 && 2 * fell >= runs as u64);
             }
         }
@@ -89,9 +89,16 @@ impl Counts {
 enum Parting {
     Nowhere,
     /// By the call of this number, in a listed difference. What follows is not compared.
-    Known { at: usize, name: &'static str },
+    Known {
+        at: usize,
+        name: &'static str,
+    },
     /// In what is not listed, by the call of this number, or at the end in what is held.
-    Unknown { at: usize, port: Seen, original: Seen },
+    Unknown {
+        at: usize,
+        port: Seen,
+        original: Seen,
+    },
 }
 
 /// Where the two sides part, and what is seen of the port.
@@ -193,9 +200,15 @@ fn report(counts: &Counts) {
     }
     println!("{:<42} {:>12} {:>14} {:>12}", "all", total.scripts, total.calls, total.forbidden);
     println!("\ncalls of assemblers that held all the runs they can:");
-    println!("{:<10} {:>12} {:>14} {:>22} {:>26}", "runs", "calls", "refused", "a removal of the front", "half of the runs joined");
+    println!(
+        "{:<10} {:>12} {:>14} {:>22} {:>26}",
+        "runs", "calls", "refused", "a removal of the front", "half of the runs joined"
+    );
     for (runs, full) in &counts.full {
-        println!("{runs:<10} {:>12} {:>14} {:>22} {:>26}", full.calls, full.refused, full.removed, full.joined);
+        println!(
+            "{runs:<10} {:>12} {:>14} {:>22} {:>26}",
+            full.calls, full.refused, full.removed, full.joined
+        );
     }
     println!("\nlisted differences, each of which ends its script:");
     for (name, times) in &counts.known {
@@ -219,7 +232,7 @@ fn main() -> ExitCode {
         }
     }));
     let (seed, start, mut counts) = (flag("--seed", 1), Instant::now(), Counts::default());
-    let mut groups = vec![choose::many(seed, flag("--many", 50_000))];
+    let mut groups = vec![choose::many(seed, flag("--many", 20_000))];
     groups.extend(choose::enumerated(flag("--enumerate", 4) as u32));
     groups.push(choose::random(seed, flag("--scripts", 1_000_000), flag("--calls", 60)));
     for group in groups {

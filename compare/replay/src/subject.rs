@@ -73,7 +73,9 @@ impl Subject {
         let less = |x: usize| less(x as u64).map(|x| x as usize);
         match self {
             Subject::Ring { capacity } => less(capacity).map(|capacity| Subject::Ring { capacity }).collect(),
-            Subject::Cells { capacity } => less(capacity).map(|capacity| Subject::Cells { capacity }).collect(),
+            Subject::Cells { capacity } => {
+                less(capacity).map(|capacity| Subject::Cells { capacity }).collect()
+            }
             Subject::Packets { slots, bytes } => less(slots)
                 .map(|slots| Subject::Packets { slots, bytes })
                 .chain(less(bytes).map(|bytes| Subject::Packets { slots, bytes }))
