@@ -55,11 +55,11 @@ def port():
     sources = workspace / "crates" / "net_replay" / "src"
     shutil.rmtree(sources, ignore_errors=True)
     sources.mkdir(parents=True)
-    for file in (COMPARE / "port" / "net_replay" / "src").iterdir():
+    for file in [*(COMPARE / "port").iterdir(), *(COMPARE / "calls").iterdir()]:
         shutil.copy2(file, sources / file.stem)
     shutil.copy2(REPOSITORY / "HANDLES", workspace / "HANDLES")
     lines = (REPOSITORY / "crates.txt").read_text()
-    (workspace / "crates.txt").write_text(lines + "net_replay staticlib: net_storage net_base\n")
+    (workspace / "crates.txt").write_text(lines + "net_replay staticlib: net_storage net_base net_receiver\n")
     return workspace / "crates"
 
 
@@ -83,12 +83,12 @@ def allocator():
     return Path(page).parent / "c" / "liblibc_c.a"
 
 
-def cargo(profile, packages, smoltcp, **variables):
-    """Builds packages of this folder's workspace, and answers the folder of what was built."""
+def cargo(profile, packages, smoltcp, folder=COMPARE, **variables):
+    """Builds packages of a workspace, and answers the folder of what was built."""
     target = Path(os.environ.get("CARGO_TARGET_DIR") or OUT / "target")
     words = ["cargo", "build", "--offline", "--profile", profile]
     for package in packages:
         words += ["--package", package]
     environment = os.environ | {"CARGO_TARGET_DIR": str(target), "SMOLTCP": str(smoltcp)} | variables
-    run(words, f"cargo_{packages[0]}", cwd=COMPARE, env=environment)
+    run(words, f"cargo_{packages[0]}", cwd=folder, env=environment)
     return target / profile

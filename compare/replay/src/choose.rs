@@ -1,10 +1,16 @@
-//! Which scripts are replayed: all short ones over few calls, and long random ones.
-use crate::script::{Call, Script, Subject};
+//! Which scripts are replayed: all short ones over few calls, long random ones, and those of many runs.
+use crate::script::Call;
+use crate::subject::{Script, Subject};
 
 /// Numbers that follow from a seed (the generator SplitMix64).
 pub struct Random(pub u64);
 
 impl Random {
+    /// Numbers of their own for each script.
+    pub fn of_script(seed: u64, number: u64) -> Random {
+        Random(Random(Random(seed).word() ^ number).word())
+    }
+
     pub fn word(&mut self) -> u64 {
         self.0 = self.0.wrapping_add(0x9e3779b97f4a7c15);
         let word = (self.0 ^ (self.0 >> 30)).wrapping_mul(0xbf58476d1ce4e5b9);
@@ -31,29 +37,31 @@ impl Random {
     }
 }
 
-/// Each script of `length` calls out of `calls`, on each of `subjects`.
-pub struct All {
-    pub title: &'static str,
-    pub subjects: Vec<Subject>,
-    pub calls: Vec<Call>,
-    pub length: u32,
+/// Scripts that are told apart by their numbers, below `count`.
+pub struct Group {
+    pub how: &'static str,
+    pub name: String,
+    pub count: u64,
+    /// The script of a number, and what it is counted under.
+    pub script: Box<dyn Fn(u64) -> (&'static str, Script) + Sync>,
 }
 
-impl All {
-    pub fn count(&self) -> u64 {
-        (self.calls.len() as u64).pow(self.length)
-    }
-
-    /// The script of this number. The bytes that are written tell its calls apart.
-    pub fn script(&self, subject: Subject, number: u64) -> Script {
-        let mut rest = number;
-        let calls = (0..self.length).map(|at| {
-            let call = self.calls[(rest % self.calls.len() as u64) as usize];
-            rest /= self.calls.len() as u64;
+/// Each script of `length` calls out of `calls`, on each of `subjects`. The bytes that are written tell the
+/// calls of a script apart.
+fn all(title: &'static str, subjects: Vec<Subject>, calls: Vec<Call>, length: u32) -> Group {
+    let (choices, subject_count) = (calls.len() as u64, subjects.len() as u64);
+    let script = move |number: u64| {
+        let mut rest = number / subject_count;
+        let calls = (0..length).map(|at| {
+            let call = calls[(rest % choices) as usize];
+            rest /= choices;
             Call { byte: call.byte + 16 * u64::from(at + 1), ..call }
         });
-        Script { subject, calls: calls.collect() }
-    }
+        let subject = subjects[(number % subject_count) as usize];
+        (title, Script { subject, calls: calls.collect() })
+    };
+    let count = choices.pow(length) * subject_count;
+    Group { how: "enumerated", name: format!("{title}, {length} calls"), count, script: Box::new(script) }
 }
 
 fn calls(list: &[(u64, u64, u64)]) -> Vec<Call> {
@@ -61,7 +69,7 @@ fn calls(list: &[(u64, u64, u64)]) -> Vec<Call> {
 }
 
 /// What is enumerated, from scripts of one call on: a shortest script is found first.
-pub fn enumerated(longest: u32) -> Vec<All> {
+pub fn enumerated(longest: u32) -> Vec<Group> {
     let ring = calls(&[
         (0, 0, 0),
         (1, 0, 0),
@@ -102,7 +110,18 @@ pub fn enumerated(longest: u32) -> Vec<All> {
         (4, 0, 0),
         (5, 0, 0),
         (6, 0, 0),
+        (7, 1, 0),
+        (7, 2, 0),
+        (8, 1, 0),
     ]);
+    let mut receiver = calls(&[(1, 1, 0), (1, 3, 0)]);
+    receiver.extend((0..5).flat_map(|a| (0..4).map(move |b| Call { number: 0, a, b, byte: 1 })));
+    let mut receivers = Vec::new();
+    for runs in [1, 4, 32] {
+        for capacity in [0, 1, 3, 5] {
+            receivers.extend(firsts(2).map(|first| Subject::Receiver { runs, capacity, first }));
+        }
+    }
     let mut assembler = calls(&[(1, 0, 1), (1, 0, 3), (1, 2, 1), (2, 0, 0), (3, 0, 0), (4, 0, 0), (5, 0, 0)]);
     assembler.extend((0..6).flat_map(|a| (0..4).map(move |b| Call { number: 0, a, b, byte: 1 })));
     let rings = (0..4).map(|capacity| Subject::Ring { capacity }).collect::<Vec<_>>();
@@ -110,19 +129,27 @@ pub fn enumerated(longest: u32) -> Vec<All> {
     let queues = [(0, 2), (1, 2), (1, 3), (2, 2), (2, 3), (3, 3), (3, 4)];
     let queues = queues.map(|(slots, bytes)| Subject::Packets { slots, bytes });
     let assemblers = [1, 4, 32].map(|runs| Subject::Assembler { runs });
-    let mut all = Vec::new();
+    let mut groups = Vec::new();
     for length in 1..=longest {
-        all.push(All { title: "ring", subjects: rings.clone(), calls: ring.clone(), length });
-        all.push(All { title: "ring, reset", subjects: all_cells.clone(), calls: cells.clone(), length });
-        all.push(All { title: "packet queue", subjects: queues.to_vec(), calls: packets.clone(), length });
-        all.push(All { title: "assembler", subjects: assemblers.to_vec(), calls: assembler.clone(), length });
+        groups.push(all("ring", rings.clone(), ring.clone(), length));
+        groups.push(all("ring, reset", all_cells.clone(), cells.clone(), length));
+        groups.push(all("packet queue", queues.to_vec(), packets.clone(), length));
+        groups.push(all("assembler", assemblers.to_vec(), assembler.clone(), length));
+        if length < longest {
+            groups.push(all("receiver", receivers.clone(), receiver.clone(), length));
+        }
     }
-    all.push(All { title: "time", subjects: vec![Subject::Time], calls: times(), length: 1 });
+    groups.push(all("time", vec![Subject::Time], times(), 1));
     let media = [0, 1].map(|medium| Subject::Phy { medium }).to_vec();
-    all.push(All { title: "capabilities", subjects: media.clone(), calls: capabilities(), length: 1 });
+    groups.push(all("capabilities", media.clone(), capabilities(), 1));
     let frames = calls(&[(0, 0, 0), (0, 2, 5), (1, 0, 0), (2, 1, 0), (3, 0, 0)]);
-    all.push(All { title: "loopback", subjects: media, calls: frames, length: longest + 2 });
-    all
+    groups.push(all("loopback", media, frames, longest + 2));
+    groups
+}
+
+/// First positions of streams: 0, and some below powers of two.
+fn firsts(below: u64) -> [u64; 4] {
+    [0, (1 << 32) - below, (1 << 63) - below, 0u64.wrapping_sub(below + 3)]
 }
 
 /// Every call of time with each pair of numbers at which something changes.
@@ -161,9 +188,44 @@ fn capabilities() -> Vec<Call> {
     all
 }
 
-/// A random script of one subject of each kind in turn.
-pub fn random(random: &mut Random, kind: u64, longest: u64) -> (&'static str, Script) {
-    let (title, subject, limit) = match kind % 7 {
+/// So many scripts of 40 to 100 adds at 4 and 32 runs: first of ranges apart from one another, which fill an
+/// assembler, then of any, with removals between.
+pub fn many(seed: u64, count: u64) -> Group {
+    let script = move |number: u64| {
+        let mut random = Random::of_script(seed, number);
+        let runs = if number % 4 == 0 { 4 } else { 32 };
+        let step = 2 + random.below(2);
+        let mut apart: Vec<u64> = (random.below(3) / 2..=100).step_by(step as usize).collect();
+        (2..apart.len()).for_each(|at| apart.swap(at, 1 + random.below(at as u64) as usize));
+        let calls = (0..40 + random.below(61)).flat_map(|at| {
+            let (fills, size) = (at < 36, 1 + random.below(2) * random.below(2));
+            let (a, b) = match random.below(if fills { 40 } else { 16 }) {
+                0 if !fills => (random.below(101), 1 + random.below(100)),
+                0..3 => (random.below(101), size),
+                _ => (apart[at as usize % apart.len()], size.min(step - 1)),
+            };
+            let call = |number, a, b| Call { number, a, b, byte: 0 };
+            let between = match random.below(if fills { 400 } else { 16 }) {
+                0..3 => Some(call(2, 0, 0)),
+                3 => Some(call(1, 0, size)),
+                4 => Some(call(4 + random.below(2), 0, 0)),
+                _ => None,
+            };
+            between.into_iter().chain([call(random.below(8) / 7, a, b)])
+        });
+        ("assembler", Script { subject: Subject::Assembler { runs }, calls: calls.collect() })
+    };
+    Group { how: "many runs", name: "assembler".to_string(), count, script: Box::new(script) }
+}
+
+/// So many random scripts of up to `longest` calls, of one subject of each kind in turn.
+pub fn random(seed: u64, count: u64, longest: u64) -> Group {
+    let script = move |number: u64| one(&mut Random::of_script(!seed, number), number, longest);
+    Group { how: "random", name: format!("up to {longest} calls"), count, script: Box::new(script) }
+}
+
+fn one(random: &mut Random, kind: u64, longest: u64) -> (&'static str, Script) {
+    let (title, subject, limit) = match kind % 8 {
         0 => {
             let capacity = random.of(&[1, 2, 3, 5, 8, 13, 32, 64]);
             ("ring", Subject::Ring { capacity }, capacity as u64)
@@ -177,13 +239,34 @@ pub fn random(random: &mut Random, kind: u64, longest: u64) -> (&'static str, Sc
             let runs = random.of(&[1, 4, 32]);
             ("assembler", Subject::Assembler { runs }, random.of(&[8, 30, 300]))
         }
-        4 => ("time", Subject::Time, 3_000_000),
-        5 => ("random words", Subject::Rand { seed: random.word() }, 0),
+        4 => {
+            let (runs, capacity) = (random.of(&[1, 4, 32]), random.below(41) as usize);
+            let below = random.below(100);
+            let first = random.of(&firsts(below));
+            ("receiver", Subject::Receiver { runs, capacity, first }, 2 * capacity as u64)
+        }
+        5 => ("time", Subject::Time, 3_000_000),
+        6 => ("random words", Subject::Rand { seed: random.word() }, 0),
         _ => ("loopback, capabilities", Subject::Phy { medium: random.below(2) as usize }, 1_514),
     };
     let length = 1 + random.below(longest);
-    let calls = (0..length).map(|_| call(random, subject, limit)).collect();
+    let mut calls: Vec<Call> = (0..length).map(|_| call(random, subject, limit)).collect();
+    if matches!(subject, Subject::Receiver { .. }) {
+        move_on(&mut calls);
+    }
     (title, Script { subject, calls })
+}
+
+/// Has the segments of a stream begin about the bytes that reads have passed, which are guessed.
+fn move_on(calls: &mut [Call]) {
+    let mut passed: u64 = 0;
+    for call in calls {
+        if call.number == 0 {
+            call.a = call.a.saturating_add(passed);
+        } else {
+            passed += call.a / 2;
+        }
+    }
 }
 
 fn call(random: &mut Random, subject: Subject, limit: u64) -> Call {
@@ -195,6 +278,13 @@ fn call(random: &mut Random, subject: Subject, limit: u64) -> Call {
         Subject::Assembler { .. } if random.below(3) > 0 => {
             b = random.number(1 + limit / 10);
             return Call { number: random.below(5) / 4, a, b, byte };
+        }
+        // Segments come more often than reads, most of them short.
+        Subject::Receiver { .. } => {
+            let number = random.below(4) / 3;
+            let part = random.of(&[1, 4, 10]);
+            b = random.below(2 + limit / part);
+            return Call { number, a: if number == 0 { a } else { a / 2 }, b, byte };
         }
         // A ring and a queue seldom begin anew.
         Subject::Ring { .. } | Subject::Packets { .. } if number == 6 && random.below(8) > 0 => {

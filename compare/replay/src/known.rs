@@ -1,6 +1,8 @@
 //! The differences that docs/DIFFERENCES.md lists, told apart by name.
-use crate::original;
-use crate::script::{Call, FORBIDDEN, REFUSED, START, Seen, Subject, mix, mix_bytes};
+use crate::script::{Call, FORBIDDEN, REFUSED, START, Seen, mix, mix_bytes};
+use crate::side::{Duration, Global, Instant};
+use crate::subject::Subject;
+use crate::time::{mix_duration, mix_instant};
 
 /// A call on which the two sides differ: what was seen before it, and what each side made of it.
 pub struct Difference {
@@ -37,7 +39,7 @@ fn ring(d: &Difference, capacity: usize) -> Option<&'static str> {
 fn packets(d: &Difference) -> Option<&'static str> {
     let port_stays = d.port == Seen { answer: REFUSED, ..d.before };
     let more_held = d.original.held > d.before.held;
-    if d.call.number > 1 {
+    if !matches!(d.call.number, 0 | 1 | 7) {
         None
     } else if d.original.answer == REFUSED && port_stays && more_held {
         Some("packet queue: a refusal that leaves its padding behind in smoltcp")
@@ -67,17 +69,30 @@ fn time(d: &Difference) -> Option<&'static str> {
     let (a, b) = (i128::from(d.call.a as i64), i128::from(d.call.b));
     let cast = b > i128::from(i64::MAX);
     match d.call.number {
-        3 if cast && d.port.answer == original::exact_moment(a + b) => {
+        3 if cast && d.port.answer == exact_moment(a + b) => {
             Some("time: Instant + Duration, a Duration that smoltcp casts to i64; exact or forbidden here")
         }
-        4 if cast && d.port.answer == original::exact_moment(a - b) => {
+        4 if cast && d.port.answer == exact_moment(a - b) => {
             Some("time: Instant - Duration, a Duration that smoltcp casts to i64; exact or forbidden here")
         }
         5 if d.original.answer == FORBIDDEN
-            && d.port.answer == original::exact_distance((d.call.a as i64).abs_diff(d.call.b as i64)) =>
+            && d.port.answer == exact_distance((d.call.a as i64).abs_diff(d.call.b as i64)) =>
         {
             Some("time: Instant - Instant, a distance that overflows in smoltcp; exact here")
         }
         _ => None,
     }
+}
+
+/// What `Instant + Duration` and `Instant - Duration` answer where they are exact.
+fn exact_moment(micros: i128) -> u64 {
+    i64::try_from(micros).map_or(FORBIDDEN, |micros| {
+        let instant = Instant::from_micros(micros);
+        mix_instant(Global, mix_instant(Global, START, instant), instant)
+    })
+}
+
+/// What `Instant - Instant` answers where it is exact.
+fn exact_distance(micros: u64) -> u64 {
+    mix_duration(Global, START, Duration::from_micros(micros))
 }

@@ -1,19 +1,25 @@
 //! Replays calls on the port and on smoltcp, and compares what is seen after each.
 //!
-//! `replay [--enumerate LENGTH] [--scripts N] [--calls N] [--seed S]`: every script of up to LENGTH of a few
-//! calls, then N random ones of up to N calls. Status 1 where the two sides differ in what is not listed.
+//! `replay [--many N] [--enumerate LENGTH] [--scripts N] [--calls N] [--seed S]`: N scripts of many runs, every
+//! script of up to LENGTH of a few calls, and N random ones of up to N calls. Status 1 where the two sides
+//! differ in what is not listed.
+include!(concat!(env!("OUT_DIR"), "/calls.rs"));
 mod choose;
+mod join;
 mod known;
-mod original;
 mod port;
-mod script;
+mod shorten;
+mod side;
+mod subject;
 
-use choose::Random;
+use choose::Group;
 use known::Difference;
-use script::{Call, FORBIDDEN, Script, Seen, Subject};
+use script::{Call, FORBIDDEN, REFUSED, Seen};
 use std::collections::BTreeMap;
 use std::process::ExitCode;
-use std::sync::atomic::Ordering::Relaxed;
+use std::sync::atomic::{AtomicU64, Ordering::Relaxed};
+use std::time::Instant;
+use subject::{Script, Subject};
 
 /// What was replayed of one kind of subject.
 #[derive(Default)]
@@ -23,40 +29,96 @@ struct Count {
     forbidden: u64,
 }
 
-/// What was replayed, and how often each listed difference was met.
+/// What was met at an assembler that held as many runs as it can.
+#[derive(Default)]
+struct Full {
+    calls: u64,
+    refused: u64,
+    removed: u64,
+    joined: u64,
+}
+
+/// What was replayed, how often each listed difference was met, and what assemblers of so many runs met.
 #[derive(Default)]
 struct Counts {
     kinds: BTreeMap<(&'static str, &'static str), Count>,
     known: BTreeMap<&'static str, u64>,
+    full: BTreeMap<usize, Full>,
+}
+
+impl Counts {
+    fn add(&mut self, other: Counts) {
+        for (key, more) in other.kinds {
+            let count = self.kinds.entry(key).or_default();
+            count.scripts += more.scripts;
+            count.calls += more.calls;
+            count.forbidden += more.forbidden;
+        }
+        for (name, times) in other.known {
+            *self.known.entry(name).or_default() += times;
+        }
+        for (runs, more) in other.full {
+            let full = self.full.entry(runs).or_default();
+            full.calls += more.calls;
+            full.refused += more.refused;
+            full.removed += more.removed;
+            full.joined += more.joined;
+        }
+    }
+
+    /// Counts a script of which the calls before that of number `end` were equal, and what `seen` says of them.
+    fn count(&mut self, title: (&'static str, &'static str), script: &Script, seen: &[Seen], end: usize) {
+        let count = self.kinds.entry(title).or_default();
+        count.scripts += 1;
+        count.calls += end as u64;
+        count.forbidden += seen[..end].iter().filter(|seen| seen.answer == FORBIDDEN).count() as u64;
+        if let Subject::Assembler { runs } = script.subject {
+            let full = self.full.entry(runs).or_default();
+            for at in (1..end).filter(|&at| seen[at - 1].held == runs as u64) {
+                let (number, fell) = (script.calls[at].number, runs as u64 - seen[at].held);
+                full.calls += 1;
+                full.refused += u64::from(seen[at].answer == REFUSED);
+                full.removed += u64::from(matches!(number, 1 | 2) && fell == 1);
+                full.joined += u64::from(number <= 1 && 2 * fell >= runs as u64);
+            }
+        }
+    }
 }
 
 /// Where the two sides of a script part.
 enum Parting {
-    /// Nowhere: so many calls agree, of which so many are forbidden here and panic in smoltcp.
-    Nowhere { calls: u64, forbidden: u64 },
-    /// After so many calls, in a listed difference. What follows is not compared.
-    Known { calls: u64, name: &'static str },
-    /// In what is not listed, by the call of this number.
-    Unknown { at: usize, difference: Difference },
+    Nowhere,
+    /// By the call of this number, in a listed difference. What follows is not compared.
+    Known {
+        at: usize,
+        name: &'static str,
+    },
+    /// In what is not listed, by the call of this number, or at the end in what is held.
+    Unknown {
+        at: usize,
+        port: Seen,
+        original: Seen,
+    },
 }
 
-fn parting(script: &Script) -> Parting {
-    let (port, original) = (port::run(script), original::run(script));
-    let Some(at) = (0..script.calls.len()).find(|&at| port[at] != original[at]) else {
-        let forbidden = port.iter().filter(|seen| seen.answer == FORBIDDEN).count();
-        return Parting::Nowhere { calls: port.len() as u64, forbidden: forbidden as u64 };
+/// Where the two sides part, and what is seen of the port.
+fn parting(script: &Script) -> (Parting, Vec<Seen>) {
+    let (seen, original) = (port::run(script), side::run(script));
+    let Some(at) = (0..seen.len()).find(|&at| seen[at] != original[at]) else {
+        return (Parting::Nowhere, seen);
     };
-    let difference = Difference {
+    let difference = script.calls.get(at).map(|&call| Difference {
         subject: script.subject,
-        call: script.calls[at],
-        before: if at == 0 { fresh(script.subject) } else { port[at - 1] },
-        port: port[at],
+        call,
+        before: if at == 0 { fresh(script.subject) } else { seen[at - 1] },
+        port: seen[at],
         original: original[at],
+    });
+    let parting = match difference.as_ref().and_then(known::name) {
+        Some(name) => Parting::Known { at, name },
+        None => Parting::Unknown { at, port: seen[at], original: original[at] },
     };
-    match known::name(&difference) {
-        Some(name) => Parting::Known { calls: at as u64, name },
-        None => Parting::Unknown { at, difference },
-    }
+    (parting, seen)
 }
 
 /// What is seen of a subject that no call has changed.
@@ -70,80 +132,55 @@ fn fresh(subject: Subject) -> Seen {
     port::run(&Script { subject, calls: vec![Call { number, ..Call::default() }] })[0]
 }
 
-/// Replays one script. Answers false where the sides part in what is not listed, and shows the shortest
-/// script that does.
-fn replay(title: (&'static str, &'static str), script: &Script, counts: &mut Counts) -> bool {
-    let count = counts.kinds.entry(title).or_default();
-    count.scripts += 1;
-    match parting(script) {
-        Parting::Nowhere { calls, forbidden } => {
-            count.calls += calls;
-            count.forbidden += forbidden;
+/// Replays the scripts of a group on all processors; answers the first one that parts in what is not listed.
+fn replay(group: &Group, counts: &mut Counts) -> Option<Script> {
+    const PART: u64 = 1_000;
+    let (next, failed) = (AtomicU64::new(0), AtomicU64::new(u64::MAX));
+    let work = || {
+        let mut counts = Counts::default();
+        loop {
+            let from = next.fetch_add(PART, Relaxed);
+            if from >= group.count.min(failed.load(Relaxed)) {
+                return counts;
+            }
+            for number in from..group.count.min(from + PART) {
+                let (title, script) = (group.script)(number);
+                let (parting, seen) = parting(&script);
+                let end = match parting {
+                    Parting::Nowhere => script.calls.len(),
+                    Parting::Known { at, name } => {
+                        *counts.known.entry(name).or_default() += 1;
+                        at
+                    }
+                    Parting::Unknown { .. } => {
+                        failed.fetch_min(number, Relaxed);
+                        return counts;
+                    }
+                };
+                counts.count((group.how, title), &script, &seen, end);
+            }
         }
-        Parting::Known { calls, name } => {
-            count.calls += calls;
-            *counts.known.entry(name).or_default() += 1;
-        }
-        Parting::Unknown { at, .. } => {
-            show(&shortest(script, at));
-            return false;
-        }
-    }
-    true
-}
-
-/// The script cut after the call at which it parts, with every call left out and every number made smaller
-/// that isn't needed for a parting that is not listed.
-fn shortest(script: &Script, at: usize) -> Script {
-    let parts = |script: &Script| match parting(script) {
-        Parting::Unknown { at, .. } => Some(at + 1),
-        _ => None,
     };
-    let mut best = script.clone();
-    best.calls.truncate(at + 1);
-    loop {
-        let dropped = (0..best.calls.len()).map(|at| {
-            let mut calls = best.calls.clone();
-            calls.remove(at);
-            calls
-        });
-        let smaller = (0..best.calls.len()).flat_map(|at| {
-            let call = best.calls[at];
-            let less = |x: u64| [0, x / 2, x.saturating_sub(1)].into_iter().filter(move |&y| y < x);
-            let a = less(call.a).map(move |a| Call { a, ..call });
-            let b = less(call.b).map(move |b| Call { b, ..call });
-            let byte = less(call.byte).map(move |byte| Call { byte, ..call });
-            let calls = &best.calls;
-            a.chain(b).chain(byte).map(move |call| {
-                let mut calls = calls.clone();
-                calls[at] = call;
-                calls
-            })
-        });
-        let subject = best.subject;
-        let with_calls = dropped.chain(smaller).map(|calls| Script { subject, calls });
-        let with_less =
-            subject.smaller().into_iter().map(|subject| Script { subject, calls: best.calls.clone() });
-        let better = with_calls.chain(with_less).find_map(|mut script| {
-            let length = parts(&script)?;
-            script.calls.truncate(length);
-            Some(script)
-        });
-        match better {
-            Some(script) => best = script,
-            None => return best,
-        }
-    }
+    let threads = std::thread::available_parallelism().map_or(1, usize::from);
+    std::thread::scope(|scope| {
+        let workers: Vec<_> = (0..threads).map(|_| scope.spawn(work)).collect();
+        workers.into_iter().for_each(|worker| counts.add(worker.join().expect("a replay")));
+    });
+    let failed = failed.into_inner();
+    (failed != u64::MAX).then(|| (group.script)(failed).1)
 }
 
-/// Prints a script whose last call the two sides make differently of.
+/// Prints a script after whose last call the two sides differ.
 fn show(script: &Script) {
-    println!("A difference that docs/DIFFERENCES.md doesn't list, after the last of these calls:\n{script}");
-    if let Parting::Unknown { difference: d, .. } = parting(script) {
+    println!("{script}");
+    if let (Parting::Unknown { at, port, original }, _) = parting(script) {
+        if at == script.calls.len() {
+            println!("They differ in what is taken off at the end.");
+        }
         for (what, port, original) in [
-            ("answer", d.port.answer, d.original.answer),
-            ("state", d.port.state, d.original.state),
-            ("held", d.port.held, d.original.held),
+            ("answer", port.answer, original.answer),
+            ("state", port.state, original.state),
+            ("held", port.held, original.held),
         ] {
             let equal = if port == original { "equal" } else { "DIFFERS" };
             println!("{what:>8}: port {port:#018x}, smoltcp {original:#018x}, {equal}");
@@ -155,18 +192,24 @@ fn report(counts: &Counts) {
     let mut total = Count::default();
     println!("{:<42} {:>12} {:>14} {:>12}", "replayed", "scripts", "equal calls", "forbidden");
     for ((how, title), count) in &counts.kinds {
-        println!(
-            "{:<42} {:>12} {:>14} {:>12}",
-            format!("{how}: {title}"),
-            count.scripts,
-            count.calls,
-            count.forbidden
-        );
+        let name = format!("{how}: {title}");
+        println!("{name:<42} {:>12} {:>14} {:>12}", count.scripts, count.calls, count.forbidden);
         total.scripts += count.scripts;
         total.calls += count.calls;
         total.forbidden += count.forbidden;
     }
     println!("{:<42} {:>12} {:>14} {:>12}", "all", total.scripts, total.calls, total.forbidden);
+    println!("\ncalls of assemblers that held all the runs they can:");
+    println!(
+        "{:<10} {:>12} {:>14} {:>22} {:>26}",
+        "runs", "calls", "refused", "a removal of the front", "half of the runs joined"
+    );
+    for (runs, full) in &counts.full {
+        println!(
+            "{runs:<10} {:>12} {:>14} {:>22} {:>26}",
+            full.calls, full.refused, full.removed, full.joined
+        );
+    }
     println!("\nlisted differences, each of which ends its script:");
     for (name, times) in &counts.known {
         println!("{times:>10}  {name}");
@@ -182,30 +225,24 @@ fn flag(name: &str, default: u64) -> u64 {
 }
 
 fn main() -> ExitCode {
-    let (longest, scripts, calls) =
-        (flag("--enumerate", 4), flag("--scripts", 1_000_000), flag("--calls", 60));
-    let mut random = Random(flag("--seed", 1));
     // What smoltcp panics at is compared, and not printed.
     std::panic::set_hook(Box::new(|panic| {
-        if !original::CALLING.load(Relaxed) {
+        if !side::CALLING.get() {
             eprintln!("{panic}");
         }
     }));
-    let mut counts = Counts::default();
-    for all in choose::enumerated(longest as u32) {
-        for &subject in &all.subjects {
-            for number in 0..all.count() {
-                if !replay(("enumerated", all.title), &all.script(subject, number), &mut counts) {
-                    return ExitCode::FAILURE;
-                }
-            }
-        }
-    }
-    for number in 0..scripts {
-        let (title, script) = choose::random(&mut random, number, calls);
-        if !replay(("random", title), &script, &mut counts) {
+    let (seed, start, mut counts) = (flag("--seed", 1), Instant::now(), Counts::default());
+    let mut groups = vec![choose::many(seed, flag("--many", 20_000))];
+    groups.extend(choose::enumerated(flag("--enumerate", 4) as u32));
+    groups.push(choose::random(seed, flag("--scripts", 1_000_000), flag("--calls", 60)));
+    for group in groups {
+        if let Some(script) = replay(&group, &mut counts) {
+            println!("A difference that docs/DIFFERENCES.md doesn't list, after the last of these calls:\n");
+            shorten::show_shorter(script);
             return ExitCode::FAILURE;
         }
+        let (seconds, count) = (start.elapsed().as_secs_f64(), group.count);
+        eprintln!("{seconds:8.1} s  {}: {}: {count} scripts", group.how, group.name);
     }
     report(&counts);
     ExitCode::SUCCESS

@@ -1,53 +1,40 @@
-//! The port's side: the functions of `port/net_replay`.
-use crate::script::{Call, Script, Seen, Subject};
+//! The port's side: the function of `../port`.
+use crate::script::{Call, Seen};
+use crate::subject::{Script, Subject};
 
 unsafe extern "C" {
-    fn nr_ring(
+    fn nr_replay(
+        kind: u64,
+        first: u64,
+        count: usize,
         storage: *mut u8,
-        len: usize,
+        capacity: usize,
         calls: *const Call,
-        count: usize,
+        length: usize,
         seen: *mut Seen,
         places: usize,
     );
-    fn nr_cells(capacity: usize, calls: *const Call, count: usize, seen: *mut Seen, places: usize);
-    fn nr_packets(
-        slots: usize,
-        payload: *mut u8,
-        len: usize,
-        calls: *const Call,
-        count: usize,
-        seen: *mut Seen,
-        places: usize,
-    );
-    fn nr_assembler(runs: usize, calls: *const Call, count: usize, seen: *mut Seen, places: usize);
-    fn nr_time(calls: *const Call, count: usize, seen: *mut Seen, places: usize);
-    fn nr_rand(seed: u64, calls: *const Call, count: usize, seen: *mut Seen, places: usize);
-    fn nr_phy(medium: usize, calls: *const Call, count: usize, seen: *mut Seen, places: usize);
 }
 
-/// What the port answers to each call.
+/// What the port answers to each call, and what it holds at the end.
 pub fn run(script: &Script) -> Vec<Seen> {
-    let mut seen = vec![Seen::default(); script.calls.len()];
-    let (calls, count) = (script.calls.as_ptr(), script.calls.len());
+    let (kind, first, count, capacity) = match script.subject {
+        Subject::Ring { capacity } => (0, 0, 0, capacity),
+        Subject::Cells { capacity } => (1, 0, capacity, 0),
+        Subject::Packets { slots, bytes } => (2, 0, slots, bytes),
+        Subject::Assembler { runs } => (3, 0, runs, 0),
+        Subject::Receiver { runs, capacity, first } => (4, first, runs, capacity),
+        Subject::Time => (5, 0, 0, 0),
+        Subject::Rand { seed } => (6, seed, 0, 0),
+        Subject::Phy { medium } => (7, medium as u64, 0, 0),
+    };
+    let (calls, mut storage) = (&script.calls, vec![0; capacity]);
+    let mut seen = vec![Seen::default(); calls.len() + 1];
     let (place, places) = (seen.as_mut_ptr(), seen.len());
-    // Each pointer is that of a live slice of the length beside it, as the functions want.
+    // Each pointer is that of a live slice of the length beside it, as the function wants.
     unsafe {
-        match script.subject {
-            Subject::Ring { capacity } => {
-                let mut storage = vec![0; capacity];
-                nr_ring(storage.as_mut_ptr(), capacity, calls, count, place, places)
-            }
-            Subject::Cells { capacity } => nr_cells(capacity, calls, count, place, places),
-            Subject::Packets { slots, bytes } => {
-                let mut payload = vec![0; bytes];
-                nr_packets(slots, payload.as_mut_ptr(), bytes, calls, count, place, places)
-            }
-            Subject::Assembler { runs } => nr_assembler(runs, calls, count, place, places),
-            Subject::Time => nr_time(calls, count, place, places),
-            Subject::Rand { seed } => nr_rand(seed, calls, count, place, places),
-            Subject::Phy { medium } => nr_phy(medium, calls, count, place, places),
-        }
+        let storage = storage.as_mut_ptr();
+        nr_replay(kind, first, count, storage, capacity, calls.as_ptr(), calls.len(), place, places);
     }
     seen
 }

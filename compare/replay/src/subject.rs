@@ -1,25 +1,6 @@
-//! What a script is, and what is written down of each of its calls.
+//! What a script is.
+use crate::script::Call;
 use std::fmt;
-
-/// One call: its number in the list of its subject's calls, two arguments, and a byte to write. `a` is the
-/// first argument, an offset or else a size, and `b` the second, or the size that a closure answers.
-#[repr(C)]
-#[derive(Clone, Copy, Debug, Default, PartialEq, Eq)]
-pub struct Call {
-    pub number: u64,
-    pub a: u64,
-    pub b: u64,
-    pub byte: u64,
-}
-
-/// What a call answered, what could be seen after it, and how much was held then.
-#[repr(C)]
-#[derive(Clone, Copy, Debug, Default, PartialEq, Eq)]
-pub struct Seen {
-    pub answer: u64,
-    pub state: u64,
-    pub held: u64,
-}
 
 /// What the calls of a script are made on.
 #[derive(Clone, Copy, Debug, PartialEq, Eq)]
@@ -32,6 +13,8 @@ pub enum Subject {
     Packets { slots: usize, bytes: usize },
     /// An assembler of at most so many runs: 1, 4 or 32.
     Assembler { runs: usize },
+    /// A receiver of at most so many runs, 1, 4 or 32, whose stream begins at the position `first`.
+    Receiver { runs: usize, capacity: usize, first: u64 },
     /// Moments and durations; each call makes its own.
     Time,
     /// The generator.
@@ -41,7 +24,7 @@ pub enum Subject {
 }
 
 /// Calls, made one after the other on one subject.
-#[derive(Clone, Debug)]
+#[derive(Clone, Debug, PartialEq)]
 pub struct Script {
     pub subject: Subject,
     pub calls: Vec<Call>,
@@ -62,11 +45,12 @@ impl Subject {
             Subject::Cells { .. } => &["enqueue_one", "dequeue_one", "reset"],
             Subject::Packets { .. } => &[
                 "enqueue", "enqueue_with_infallible", "dequeue", "dequeue_with answering Ok",
-                "dequeue_with answering Err", "peek", "reset",
+                "dequeue_with answering Err", "peek", "reset", "push_slice", "pop_slice",
             ],
             Subject::Assembler { .. } => {
                 &["add", "add_then_remove_front", "remove_front", "clear", "clone", "== the clone"]
             }
+            Subject::Receiver { .. } => &["segment a behind the first position", "read"],
             Subject::Time => &[
                 "Instant::from_millis", "Instant::from_secs", "Instant::from_micros", "Instant + Duration",
                 "Instant - Duration", "Instant - Instant", "Instant::cmp", "Duration::from_millis",
@@ -84,18 +68,31 @@ impl Subject {
 }
 
 impl Subject {
-    /// The same with less storage.
+    /// The same with less storage, or begun at a lower position. A seed stays.
     pub fn smaller(self) -> Vec<Subject> {
-        let less = |x: usize| [x / 2, x.saturating_sub(1)].into_iter().filter(move |&y| y < x);
+        let less = |x: usize| less(x as u64).map(|x| x as usize);
         match self {
             Subject::Ring { capacity } => less(capacity).map(|capacity| Subject::Ring { capacity }).collect(),
+            Subject::Cells { capacity } => {
+                less(capacity).map(|capacity| Subject::Cells { capacity }).collect()
+            }
             Subject::Packets { slots, bytes } => less(slots)
                 .map(|slots| Subject::Packets { slots, bytes })
                 .chain(less(bytes).map(|bytes| Subject::Packets { slots, bytes }))
                 .collect(),
+            Subject::Receiver { runs, capacity, first } => less(capacity)
+                .map(|capacity| Subject::Receiver { runs, capacity, first })
+                .chain(self::less(first).map(|first| Subject::Receiver { runs, capacity, first }))
+                .collect(),
             _ => Vec::new(),
         }
     }
+}
+
+/// Numbers below `x`, the lowest first: 0, x - x/2, x - x/4, .., x - 1.
+pub fn less(x: u64) -> impl Iterator<Item = u64> {
+    let halved = (1..64).map(move |bits| x >> bits).take_while(|&part| part > 0);
+    (x > 0).then_some(0).into_iter().chain(halved.map(move |part| x - part))
 }
 
 impl fmt::Display for Script {
@@ -107,37 +104,4 @@ impl fmt::Display for Script {
         }
         Ok(())
     }
-}
-
-/// The digest of nothing.
-pub const START: u64 = 0xcbf29ce484222325;
-
-/// The answer of a call that was refused.
-pub const REFUSED: u64 = 1;
-
-/// The answer in place of a call that its condition forbids, and of one that panics.
-pub const FORBIDDEN: u64 = 2;
-
-/// The digest with one more number.
-pub fn mix(sum: u64, x: u64) -> u64 {
-    (sum ^ x).wrapping_mul(0x100000001b3)
-}
-
-/// The digest with bytes, and how many they are.
-pub fn mix_bytes(sum: u64, bytes: &[u8]) -> u64 {
-    bytes.iter().fold(mix(sum, bytes.len() as u64), |sum, &byte| mix(sum, byte.into()))
-}
-
-/// Writes rising bytes from `first` on.
-pub fn fill(part: &mut [u8], first: u64) {
-    for (at, byte) in part.iter_mut().enumerate() {
-        *byte = first.wrapping_add(at as u64) as u8;
-    }
-}
-
-/// The digest of a part that was lent, which is then written over.
-pub fn write_over(part: &mut [u8], first: u64) -> u64 {
-    let sum = mix_bytes(START, part);
-    fill(part, first);
-    sum
 }
