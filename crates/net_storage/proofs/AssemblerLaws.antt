@@ -10,7 +10,7 @@ use Rattle.std.proofs.lemmas.Int.Digits.{length-digits_of_step, length-digits_of
 use Rattle.net_storage.specs.Positions.{Positions, contains, with_range, front, runs, maximal_runs, AreMaximalRuns}
 use Rattle.net_storage.specs.Turns.{binary_digits}
 use Rattle.net_storage.specs.Assembler.{MakesTooManyRuns}
-use Rattle.net_storage.specs.AssemblerLaws.{CallsNext, yielded, EqualSets, MembersOfList, FirstMissingIsLeast, FrontIsLeastMissing, EqualMaximalRuns, MaximalRunsByNumber, EnoughBinaryDigits, EqualAssemblers, AddingAgain, AddingInBothOrders, IteratesMaximalRuns}
+use Rattle.net_storage.specs.AssemblerLaws.{CallsNext, yielded, EqualSets, MembersOfList, FirstMissingIsLeast, FrontIsLeastMissing, EqualMaximalRuns, MaximalRunsByNumber, EnoughBinaryDigits, EqualAssemblers, RangeAgain, AddingAgain, AddingInBothOrders, IteratesMaximalRuns}
 use Rattle.net_storage.proofs.Positions.{has, same_positions, contains-set_of_list, contains-with_range, first_missing-misses, first_missing-has, first_missing-le}
 use Rattle.net_storage.proofs.MaximalRuns.{are_maximal_runs, equal_maximal_runs, run_by_number, no_run_by_number}
 
@@ -84,11 +84,22 @@ or_swap false true false = refl
 or_swap false false true = refl
 or_swap false false false = refl
 
--- a range that is in a set already adds nothing to it
-with_range-again : (s : Positions) (o n : ℕ) → with_range (with_range s o n) o n ≡ with_range s o n
-with_range-again s o n =
+pub range_again : RangeAgain
+range_again s o n =
     same_positions _ _ (λ q. let here = nat_le o q && nat_lt q (o + n) in
     contains-with_range (with_range s o n) o n q ∙ ap (λ b. b || here) (contains-with_range s o n q) ∙ or_twice (contains s q) here ∙ sym (contains-with_range s o n q))
+
+-- a set that has a range already has no more runs with it
+again_runs : (most_runs o n : ℕ) (s once : Positions) → once ≡ with_range s o n → runs once ≤ most_runs → MakesTooManyRuns most_runs once o n → ⊥
+again_runs most_runs o n s once e l over =
+    let same : runs (with_range once o n) ≡ runs once = ap (λ (t : Positions). runs (with_range t o n)) e ∙ ap runs (range_again s o n) ∙ ap runs (sym e) in
+    let more = over.1 in
+    omega arith
+
+pub adding_again : AddingAgain
+adding_again most_runs o n s once twice (Ok u) e l ok err refused =
+    (refl, ok ∙ ap (λ (t : Positions). with_range t o n) e ∙ range_again s o n ∙ sym e)
+adding_again most_runs o n s once twice (Err x) e l ok err refused = absurd (again_runs most_runs o n s once e l (refused.0 refl))
 
 -- two ranges make one set in both orders
 with_range-swap : (s : Positions) (a m b n : ℕ) → with_range (with_range s a m) b n ≡ with_range (with_range s b n) a m
@@ -97,19 +108,8 @@ with_range-swap s a m b n =
     contains-with_range (with_range s a m) b n q ∙ ap (λ t. t || there) (contains-with_range s a m q) ∙ or_swap (contains s q) here there
     ∙ ap (λ t. t || here) (sym (contains-with_range s b n q)) ∙ sym (contains-with_range (with_range s b n) a m q))
 
-again_runs : (limit o n : ℕ) (s once : Positions) → once ≡ with_range s o n → runs once ≤ limit → MakesTooManyRuns limit once o n → ⊥
-again_runs limit o n s once e l over =
-    let same : runs (with_range once o n) ≡ runs once = ap (λ (t : Positions). runs (with_range t o n)) e ∙ ap runs (with_range-again s o n) ∙ ap runs (sym e) in
-    let more = over.1 in
-    omega arith
-
-pub adding_again : AddingAgain
-adding_again limit o n s once twice (Ok u) first second =
-    (refl, second.ok ∙ ap (λ (t : Positions). with_range t o n) first.ok ∙ with_range-again s o n ∙ sym first.ok)
-adding_again limit o n s once twice (Err e) first second = absurd (again_runs limit o n s once first.ok first.bound (second.refused.0 refl))
-
 pub adding_in_both_orders : AddingInBothOrders
-adding_in_both_orders limit a m b n s one two ab ba equal first second third fourth compared =
+adding_in_both_orders most_runs a m b n s one two ab ba equal first second third fourth compared =
     compared.same.1
     (second.ok ∙ ap (λ (t : Positions). with_range t b n) first.ok ∙ with_range-swap s a m b n ∙ ap (λ (t : Positions). with_range t a m) (sym third.ok) ∙ sym fourth.ok)
 
@@ -136,6 +136,6 @@ answered (l ∷ left) last (Some r ∷ answers) h =
     ((λ i. Some (sym same i) ∷ rest.0 i) ∙ ap (λ xs. Some l ∷ yielded xs n) (sym others), rest.1 ∙ ap (drop n) (sym others))
 
 pub iterates_maximal_runs : IteratesMaximalRuns
-iterates_maximal_runs limit s left last answers first calls =
+iterates_maximal_runs most_runs s left last answers first calls =
     let given = answered left last answers calls in
     (subst (AreMaximalRuns s) (sym first.listed) (are_maximal_runs s), first.bound, given.0, given.1)

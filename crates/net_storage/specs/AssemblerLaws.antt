@@ -111,6 +111,14 @@ MaximalRunsShiftedUp = (s : Positions) (n : ℕ) →
 abbrev pub AsManyRunsShiftedUp : Type 0
 AsManyRunsShiftedUp = (s : Positions) (n : ℕ) → runs (shift_up s n) ≡ runs s
 
+-- the empty set has no run
+abbrev pub NothingHasNoRun : Type 0
+NothingHasNoRun = runs nothing ≡ 0
+
+-- a range makes at most one run more
+abbrev pub OneRunMore : Type 0
+OneRunMore = (s : Positions) (offset size : ℕ) → runs (with_range s offset size) ≤ runs s + 1
+
 -- b binary digits are enough exactly for the numbers below 2 ^ b
 abbrev pub EnoughBinaryDigits : Type 0
 EnoughBinaryDigits = (n b : ℕ) → (n < 2 ^ b) ↔ (binary_digits n ≤ b)
@@ -120,11 +128,19 @@ abbrev pub EqualAssemblers : Type 0
 EqualAssemblers = (s t : Positions) (equal : Bool) → Compares s t equal →
     IsTrue equal ↔ ((p : ℕ) → contains s p ≡ contains t p)
 
--- to add an accepted range again is accepted and changes nothing
+-- a range that is in a set already adds nothing to it
+abbrev pub RangeAgain : Type 0
+RangeAgain = (s : Positions) (offset size : ℕ) →
+    with_range (with_range s offset size) offset size ≡ with_range s offset size
+
+-- to add an accepted range again is accepted and changes nothing: what the clauses of `add` say of
+-- the second call
 abbrev pub AddingAgain : Type 0
 AddingAgain = (most_runs offset size : ℕ) (s once twice : Positions)
     (again : Result (Unit {0}) TooManyHolesError) →
-    Adds most_runs s offset size (Ok tt) once → Adds most_runs once offset size again twice →
+    once ≡ with_range s offset size → runs once ≤ most_runs →
+    OnOk again (twice ≡ with_range once offset size) → OnErr again (twice ≡ once) →
+    (IsErr again ↔ MakesTooManyRuns most_runs once offset size) →
     (again ≡ Ok tt) × (twice ≡ once)
 
 -- two ranges that are accepted in both orders leave equal assemblers

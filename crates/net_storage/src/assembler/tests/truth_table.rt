@@ -1,0 +1,141 @@
+//! The same calls on an assembler and on a plain table of truth values.
+use crate::{Assembler, TooManyHolesError};
+use std::process::Abort;
+
+/// Ranges below 64 that touch, overlap, repeat and fill gaps.
+const RANGES: [(usize, usize); 48] = [
+    (20, 1),
+    (25, 8),
+    (3, 1),
+    (52, 5),
+    (6, 3),
+    (37, 0),
+    (58, 5),
+    (13, 0),
+    (5, 3),
+    (26, 1),
+    (15, 1),
+    (35, 3),
+    (3, 6),
+    (7, 2),
+    (40, 8),
+    (37, 0),
+    (36, 6),
+    (25, 0),
+    (14, 0),
+    (35, 1),
+    (18, 3),
+    (9, 5),
+    (7, 6),
+    (19, 5),
+    (52, 8),
+    (11, 1),
+    (37, 6),
+    (40, 2),
+    (23, 1),
+    (35, 12),
+    (4, 6),
+    (3, 6),
+    (13, 4),
+    (43, 5),
+    (27, 3),
+    (29, 6),
+    (59, 4),
+    (23, 2),
+    (15, 1),
+    (44, 2),
+    (5, 6),
+    (19, 5),
+    (31, 3),
+    (46, 4),
+    (18, 6),
+    (4, 1),
+    (32, 3),
+    (10, 3),
+];
+
+/// How many runs of true entries a table has.
+fn run_count(table: &[bool; 64]) -> usize {
+    let starts_inside = table.windows(2).filter(|pair| !pair[0] && pair[1]);
+    starts_inside.count().saturating_add(usize::from(table[0]))
+}
+
+/// The table with the entries of a range set.
+fn table_with(table: &[bool; 64], offset: usize, size: usize) -> [bool; 64] {
+    let mut all = *table;
+    for (place, entry) in all.iter_mut().enumerate() {
+        if offset <= place && place - offset < size {
+            *entry = true;
+        }
+    }
+    all
+}
+
+/// Checks that the runs of an assembler are those of a table.
+fn expect_table<const N: usize>(rt: &impl Abort, assembler: &Assembler<N>, table: &[bool; 64]) {
+    let mut shown = [false; 64];
+    let mut count = 0;
+    for (start, end) in assembler.iter_data() {
+        assert!(rt; start < end && end <= 64 && count < 64);
+        shown = table_with(&shown, start, end - start);
+        count += 1;
+    }
+    assert!(rt; shown == *table);
+    assert_eq!(rt; count, run_count(table));
+}
+
+/// Adds the ranges to an assembler that holds nothing and to a table, and compares both after each.
+fn compare_adds<const N: usize>(rt: &impl Abort, assembler: &mut Assembler<N>) {
+    let mut table = [false; 64];
+    for (offset, size) in RANGES {
+        assert!(rt; offset < 64 && size < 64);
+        let all = table_with(&table, offset, size);
+        if size > 0 && run_count(&all) > N {
+            assert_eq!(rt; assembler.add(offset, size), Err(TooManyHolesError));
+        } else {
+            assert_eq!(rt; assembler.add(offset, size), Ok(()));
+            table = all;
+        }
+        expect_table(rt, assembler, &table);
+    }
+}
+
+/// Adds each range and removes the front then, in an assembler that holds nothing and in a table,
+/// and compares both after each.
+fn compare_adds_with_removal<const N: usize>(rt: &impl Abort, assembler: &mut Assembler<N>) {
+    let mut table = [false; 64];
+    for (offset, size) in RANGES {
+        assert!(rt; offset < 64 && size < 64);
+        let all = table_with(&table, offset, size);
+        if offset > 0 && size > 0 && run_count(&all) > N {
+            assert_eq!(rt;
+                assembler.add_then_remove_front(offset, size),
+                Err(TooManyHolesError)
+            );
+        } else {
+            let front = all.iter().take_while(|present| **present).count();
+            assert_eq!(rt; assembler.add_then_remove_front(offset, size), Ok(front));
+            table = [false; 64];
+            for (place, &present) in all.iter().enumerate() {
+                if front <= place {
+                    table[place - front] = present;
+                }
+            }
+        }
+        expect_table(rt, assembler, &table);
+    }
+}
+
+#[test]
+fn adds_agree_with_a_table_of_truth_values(rt: HostRuntime) {
+    compare_adds(&rt, &mut Assembler::<1>::new());
+    compare_adds(&rt, &mut Assembler::<4>::new());
+    compare_adds(&rt, &mut Assembler::<32>::new());
+}
+
+#[test]
+fn adds_with_removal_agree_with_a_table_of_truth_values(rt: HostRuntime) {
+    compare_adds_with_removal(&rt, &mut Assembler::<1>::new());
+    compare_adds_with_removal(&rt, &mut Assembler::<4>::new());
+    compare_adds_with_removal(&rt, &mut Assembler::<32>::new());
+}
