@@ -1,11 +1,11 @@
 -- What one call leaves and answers, as its callers want it.
-use Rattle.std.proofs.Common.{◌≡◌, ℕ, zero, suc, ◌+◌, ◌-◌, ◌<◌, ◌≤◌, min, Bool, true, false, cond, List, [], ◌∷◌, ◌++◌, length, take, drop, nat_eq, nat_lt, not, ◌&&◌, Some, is_some, unwrap_or, slice_get, slice_range, get_or, refl, sym, ap, subst, ◌∙◌, arith, ⊎_elim, take_all, Result, Ok, Err, IsOk, IfOk, OnErr, IsTrue, All, length-append, eqb-true}
+use Rattle.std.proofs.Common.{◌≡◌, ℕ, zero, suc, ◌+◌, ◌-◌, ◌<◌, ◌≤◌, min, Bool, true, false, cond, List, [], ◌∷◌, ◌++◌, length, take, drop, nat_eq, nat_lt, not, ◌&&◌, Some, is_some, unwrap_or, slice_get, slice_range, get_or, refl, sym, ap, subst, ◌∙◌, arith, ⊎_elim, take_all, Result, Ok, Err, IsOk, IfOk, OnErr, IsTrue, All, length-append, length-take, length-drop, eqb-true}
 use Rattle.std.specs.FinMap as fin
 use Rattle.std.specs.Option.{option_or}
 use Rattle.std.proofs.lemmas.Grind.{common_steps}
 use Rattle.std.proofs.lemmas.Bool.{both_ways, cases_lt, cases_Bool, cond-true, cond-false}
 use Rattle.std.proofs.lemmas.Option.{slice_get-get_or}
-use Rattle.std.proofs.lemmas.List.{take-append-drop}
+use Rattle.std.proofs.lemmas.List.{take-append-drop, drop-take, drop-drop, take-take}
 use Rattle.std.proofs.lemmas.List.FromFn.{length-map-range_with_len}
 use Rattle.net_storage.specs.Positions.{Positions, runs, with_range}
 use Rattle.net_storage.specs.declared.assembler.error.TooManyHolesError.{TooManyHolesError}
@@ -263,3 +263,31 @@ reached N v u cs rs (Ok t) s first d ran follows =
     let there : StandsFor u (after_all (setting N v) s cs) = subst (λ l. StandsFor u (after_all (setting N v) s l)) all ran.stands in
     let end : stored_next u ≡ next v.first (after_all (setting N v) s cs).kept = same_next u (after_all (setting N v) s cs) there ∙ ap (λ b. next b (after_all (setting N v) s cs).kept) first in
     subst (λ n. EndsBy n cs) (sym end) (ran.recovers refl (subst (λ n. Follows (setting N v) s n cs) (same_next v s d) follows))
+
+-- ---- parts of the queue
+part_of : (x q bytes : List ℕ) (a o : ℕ) → q ≡ take (length q) (drop a x) → bytes ≡ take (length bytes) (drop o q) → bytes ≡ take (length bytes) (drop (a + o) x)
+part_of x q bytes a o e is =
+    let n = length bytes in
+    let m = length q in
+    let size : n ≡ min n (m - o) = ap length is ∙ length-take n (drop o q) ∙ ap (min n) (length-drop o q) in
+    ⊎_elim
+    (λ (l : m < o). (let none : n ≡ 0 = omega arith in is ∙ ap (λ k. take k (drop o q)) none ∙ ap (λ k. take k (drop (a + o) x)) (sym none)))
+    (λ (l : o ≤ m).
+    let all : m ≡ o + (m - o) = omega arith in
+    is
+    ∙ ap (take n) (ap (drop o) (e ∙ ap (λ k. take k (drop a x)) all) ∙ drop-take o (m - o) (drop a x) ∙ ap (take (m - o)) (drop-drop o a x))
+    ∙ take-take n (m - o) (drop (a + o) x) (omega arith))
+    (cases_lt m o)
+
+pub part_bytes : (f : ℕ) (x : List ℕ) (v : Stored) (bytes : List ℕ) (o : ℕ) → bytes ≡ take (length bytes) (drop o v.queue) → ReceivesFrom f x v → bytes ≡ take (length bytes) (drop (v.read + o) x)
+part_bytes f x v bytes o is r = part_of x v.queue bytes v.read o (queue_of f x v r).queue is
+
+pub front_bytes : (f : ℕ) (x : List ℕ) (v : Stored) (n : ℕ) → n ≤ length v.queue → ReceivesFrom f x v → take n v.queue ≡ slice_range x v.read (v.read + n)
+front_bytes f x v n few r = front_of x v.queue v.read n (queue_of f x v r).queue few
+
+-- a lent part is a front of the queue, and no more of it is counted
+pub counted_front : (inner outer bytes : List ℕ) (count : ℕ) → inner ≡ outer → bytes ≡ take (length bytes) inner → ((n : ℕ) → bytes ≡ take n outer → count ≤ length (take n outer)) →
+    (count ≤ length bytes) × (bytes ≡ take (length bytes) outer)
+counted_front inner outer bytes count same is few =
+    let there : bytes ≡ take (length bytes) outer = is ∙ ap (take (length bytes)) same in
+    (subst (λ xs. count ≤ length xs) (sym there) (few (length bytes) there), there)
