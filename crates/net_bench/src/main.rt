@@ -6,8 +6,6 @@ mod asm;
 mod bench;
 mod error;
 mod fault;
-#[cfg(test)]
-mod hostile;
 mod laws;
 mod mode;
 mod replies;
@@ -17,10 +15,8 @@ mod serve;
 mod session;
 mod stream;
 #[cfg(test)]
-mod streams;
+mod tests;
 mod text;
-#[cfg(test)]
-mod two_lists;
 mod words;
 
 use std::env;

@@ -16,9 +16,6 @@ use net_receiver::laws;
 use std::alloc::Allocator;
 use std::io::{Read, Write};
 
-#[cfg(test)]
-mod tests;
-
 /// Runs the lines that the reader gives, and writes the replies. It returns where the reader ends
 /// or fails, or at the first fault. Where reader and writer tell their bytes, as those over memory do:
 pub fn run<A: Allocator + Copy, R: Read, W: Write>(

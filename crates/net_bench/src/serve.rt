@@ -11,9 +11,6 @@ use crate::run::run;
 use std::alloc::Allocator;
 use std::io::{Read, Write};
 
-#[cfg(test)]
-mod tests;
-
 /// What standard error says of words that name no mode.
 const USAGE: &str = "usage: net_bench ring CAP | asm N | stream CAP N [FIRST]\n";
 

@@ -1,47 +1,31 @@
-//! Runs over memory, with readers and writers that give and take little, and that fail.
-use super::*;
-use crate::streams::{Sink, Source, command_words};
-use std::alloc::{AllocError, Global};
+//! Worked lines of each mode, with their replies.
+use super::streams::{NEVER, Sink, Source, ending};
+use crate::error::BenchError;
+use std::alloc::Global;
+use std::io::ErrorKind;
 use std::process::Abort;
 use std::test::Fail;
 
-/// The mode that the words of this line name.
-fn mode(alloc: Global, line: &str) -> Result<Mode, Fail> {
-    let words = command_words(alloc, line)?;
-    match Mode::from_words(&words) {
-        Some(mode) => Ok(mode),
-        None => Err(Fail::from(AllocError)),
-    }
-}
+/// A row: the mode's words, the input, the output and how the run ends.
+type Row<'a> = (&'a str, &'a [u8], &'a [u8], &'a str);
 
-/// The text of how a run ended.
-fn ended(alloc: Global, outcome: Result<(), BenchError>) -> Result<String, AllocError> {
-    match outcome {
-        Ok(()) => String::from_str(alloc, "Ok"),
-        Err(error) => format!(in alloc; "{error}"),
-    }
-}
-
-/// Each row: the mode, the input, the output and how the run ends. Each is run by readers and writers that give
-/// and take one byte, three bytes or all bytes a call.
-fn check_rows(
-    rt: &impl Abort,
-    alloc: Global,
-    rows: &[(&str, &[u8], &[u8], &str)],
-) -> Result<(), Fail> {
+/// Runs each row by readers and writers that give and take one byte, three bytes or all bytes a call.
+/// Without a fault one read more than those that give bytes is made, which sees the end.
+fn check_rows(rt: &impl Abort, alloc: Global, rows: &[Row<'_>]) -> Result<(), Fail> {
     for (words, input, output, end) in rows {
         for most in [1, 3, usize::MAX] {
-            let mode = mode(alloc, words)?;
-            let mut source = Source::new(input);
-            source.bytes_per_call = most;
-            let mut sink = Sink::new(alloc)?;
-            sink.bytes_per_call = most;
-            let outcome = run(alloc, mode, &mut source, &mut sink);
-            let text = ended(alloc, outcome)?;
+            let mut source = Source::failing(input, most, NEVER, ErrorKind::Other);
+            let mut sink = Sink::failing(alloc, most, NEVER, None)?;
+            let text = ending(alloc, alloc, words, &mut source, &mut sink)?;
             assert_eq!(rt; text.as_str(), *end, "{words}, {most} bytes a call");
             assert_eq!(rt;
                 sink.bytes.as_slice(),
                 *output,
+                "{words}, {most} bytes a call"
+            );
+            let reads = input.len().div_ceil(most).saturating_add(1);
+            assert!(rt;
+                *end != "Ok" || source.calls == reads,
                 "{words}, {most} bytes a call"
             );
         }
@@ -51,7 +35,7 @@ fn check_rows(
 
 #[test]
 fn answers_ring_lines(rt: HostRuntime) -> Result<(), Fail> {
-    let rows: [(&str, &[u8], &[u8], &str); 12] = [
+    let rows: [Row<'_>; 12] = [
         (
             "ring 4",
             b"w 616263\nr 2\nw 646566\nr 9\nr 1\n",
@@ -100,7 +84,7 @@ fn answers_ring_lines(rt: HostRuntime) -> Result<(), Fail> {
 
 #[test]
 fn answers_asm_lines(rt: HostRuntime) -> Result<(), Fail> {
-    let rows: [(&str, &[u8], &[u8], &str); 8] = [
+    let rows: [Row<'_>; 8] = [
         (
             "asm 4",
             b"a 100 10\na 50 10\na 40 30\np\n",
@@ -150,7 +134,7 @@ fn answers_asm_lines(rt: HostRuntime) -> Result<(), Fail> {
 
 #[test]
 fn answers_stream_lines(rt: HostRuntime) -> Result<(), Fail> {
-    let rows: [(&str, &[u8], &[u8], &str); 12] = [
+    let rows: [Row<'_>; 12] = [
         (
             "stream 16 4",
             b"s 0 68656c6c6f\nr 3\n?\n",
@@ -229,7 +213,7 @@ fn answers_stream_lines(rt: HostRuntime) -> Result<(), Fail> {
 
 #[test]
 fn compares_two_schedules(rt: HostRuntime) -> Result<(), Fail> {
-    let rows: [(&str, &[u8], &[u8], &str); 12] = [
+    let rows: [Row<'_>; 12] = [
         (
             "stream 16 4",
             b"s 0 61\ns 1 62\ns 2 63\n--\ns 2 63\ns 0 6162\n",
@@ -357,114 +341,6 @@ fn finds_long_lines(rt: HostRuntime) -> Result<(), Fail> {
         rt.alloc(),
         &[("ring 4096", &input, b"took 2047\n", "line 2: line too long")],
     )
-}
-
-#[test]
-fn finds_a_long_line_as_soon_as_its_bytes_were_read(rt: HostRuntime) -> Result<(), Fail> {
-    for (length, end) in [(4096, "read failed"), (4097, "line 1: line too long")] {
-        let input = vec![in rt.alloc(); b'w'; length]?;
-        let mut source = Source::new(&input);
-        source.failing_call = 1;
-        let mut sink = Sink::new(rt.alloc())?;
-        let outcome = run(
-            rt.alloc(),
-            mode(rt.alloc(), "ring 8")?,
-            &mut source,
-            &mut sink,
-        );
-        let text = ended(rt.alloc(), outcome)?;
-        assert_eq!(rt; text.as_str(), end);
-        assert!(rt; sink.bytes.is_empty());
-    }
-    Ok(())
-}
-
-#[test]
-fn reads_fail_in_turn(rt: HostRuntime) -> Result<(), Fail> {
-    let input = b"w 61\nr 1".as_slice();
-    for fails in 0..10 {
-        let mut source = Source::new(input);
-        source.bytes_per_call = 1;
-        source.failing_call = fails;
-        let mut sink = Sink::new(rt.alloc())?;
-        let outcome = run(
-            rt.alloc(),
-            mode(rt.alloc(), "ring 8")?,
-            &mut source,
-            &mut sink,
-        );
-        let text = ended(rt.alloc(), outcome)?;
-        let (end, output) = if fails < 5 {
-            ("read failed", b"".as_slice())
-        } else if fails < 9 {
-            ("read failed", b"took 1\n".as_slice())
-        } else {
-            ("Ok", b"took 1\nread 61\n".as_slice())
-        };
-        assert_eq!(rt; text.as_str(), end, "read {fails} fails");
-        assert_eq!(rt; sink.bytes.as_slice(), output, "read {fails} fails");
-    }
-    Ok(())
-}
-
-#[test]
-fn writes_fail_in_turn(rt: HostRuntime) -> Result<(), Fail> {
-    let input = b"w 6162\nr 1\nr 1\n".as_slice();
-    let output = b"took 2\nread 61\nread 62\n".as_slice();
-    for most in [0, 1, 5, 100] {
-        for fails in 0..30 {
-            let mut source = Source::new(input);
-            let mut sink = Sink::new(rt.alloc())?;
-            sink.bytes_per_call = most;
-            sink.failing_call = fails;
-            let outcome = run(
-                rt.alloc(),
-                mode(rt.alloc(), "ring 8")?,
-                &mut source,
-                &mut sink,
-            );
-            let text = ended(rt.alloc(), outcome)?;
-            let whole = sink.bytes.as_slice() == output;
-            assert_eq!(rt; text.as_str(), if whole { "Ok" } else { "write failed" });
-            assert!(rt; output.starts_with(&sink.bytes));
-            let tried = if whole {
-                sink.calls
-            } else {
-                sink.calls.saturating_sub(1)
-            };
-            assert!(rt;
-                sink.bytes.len() <= tried.saturating_mul(most),
-                "after a failed write none is tried"
-            );
-        }
-    }
-    Ok(())
-}
-
-#[test]
-fn writes_what_a_writer_takes(rt: HostRuntime) -> Result<(), Fail> {
-    let rows: [(usize, usize, &[u8], &str, usize); 3] = [
-        (5, 1, b"took ", "write failed", 2),
-        (1, usize::MAX, b"took 2\n", "Ok", 7),
-        (0, usize::MAX, b"", "write failed", 1),
-    ];
-    for (most, fails, output, end, calls) in rows {
-        let mut source = Source::new(b"w 6162\n");
-        let mut sink = Sink::new(rt.alloc())?;
-        sink.bytes_per_call = most;
-        sink.failing_call = fails;
-        let outcome = run(
-            rt.alloc(),
-            mode(rt.alloc(), "ring 8")?,
-            &mut source,
-            &mut sink,
-        );
-        let text = ended(rt.alloc(), outcome)?;
-        assert_eq!(rt; text.as_str(), end, "{most} bytes a call");
-        assert_eq!(rt; sink.bytes.as_slice(), output, "{most} bytes a call");
-        assert_eq!(rt; sink.calls, calls, "{most} bytes a call");
-    }
-    Ok(())
 }
 
 #[test]

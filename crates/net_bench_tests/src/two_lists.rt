@@ -1,4 +1,4 @@
-//! A device of net_base's trait that is no loopback, for tests.
+//! A device of two lists.
 ghost use Rattle.std.specs.Prelude.{◌≡◌, ◌∷◌, ◌++◌, [], List, ℕ};
 ghost use Rattle.net_base.specs.Loopback.{loopback_capabilities};
 ghost use Rattle.net_base.specs.declared.phy.medium.Medium.TheVariants.{Ip};
@@ -9,6 +9,7 @@ use std::alloc::{AllocError, Allocator, Global};
 use std::collections::VecDeque;
 use std::marker::Model;
 
+#[cfg(test)]
 mod tests;
 
 /// A device of two lists: frames to come, and frames that were sent. It keeps the moment at which it
