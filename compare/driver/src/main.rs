@@ -5,6 +5,7 @@
 mod port;
 mod rows;
 
+use port::PORT;
 use rows::Row;
 use std::ffi::{CString, c_char, c_int, c_void};
 use std::hint::black_box;
@@ -133,11 +134,10 @@ fn main() -> ExitCode {
     let again = again(words.get(1).expect("the path of smoltcp's second build"));
     let mut status = ExitCode::SUCCESS;
     for row in rows::rows() {
-        let Some(port) = port::PORT[row.workload] else { continue };
         if flag("--only").is_some_and(|word| !row.name.contains(word)) {
             continue;
         }
-        let (original, again) = (ORIGINAL[row.workload], again[row.workload]);
+        let (port, original, again) = (PORT[row.workload], ORIGINAL[row.workload], again[row.workload]);
         let mut buffers = Buffers::new(&row);
         if agree(&mut buffers, original, port) && agree(&mut buffers, original, again) {
             time(&row, [port, original, again], samples, milliseconds * 1e6);

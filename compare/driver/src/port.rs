@@ -17,7 +17,6 @@ unsafe extern "C" {
     fn np_packet(payload: *mut u8, len: usize, source: *const u8, source_len: usize, rounds: u64) -> u64;
     fn np_asm_add(n: u64, ops: *const usize, ops_len: usize, rounds: u64) -> u64;
     fn np_asm_front(n: u64, ops: *const usize, ops_len: usize, rounds: u64) -> u64;
-    #[cfg(stream)]
     fn np_stream(
         n: u64,
         storage: *mut u8,
@@ -35,25 +34,9 @@ unsafe extern "C" {
     fn np_loopback(frame: *const u8, frame_len: usize, rounds: u64) -> u64;
 }
 
-/// The workloads over the port, in the order of their names; None is not there.
-pub static PORT: [Option<Workload>; COUNT] = [
-    Some(ring_slice),
-    Some(ring_many),
-    Some(ring_ahead),
-    Some(ring_one),
-    Some(packet),
-    Some(asm_add),
-    Some(asm_front),
-    STREAM,
-    Some(rand),
-    Some(port),
-    Some(loopback),
-];
-
-#[cfg(stream)]
-const STREAM: Option<Workload> = Some(stream);
-#[cfg(not(stream))]
-const STREAM: Option<Workload> = None;
+/// The workloads over the port, in the order of their names.
+pub static PORT: [Workload; COUNT] =
+    [ring_slice, ring_many, ring_ahead, ring_one, packet, asm_add, asm_front, stream, rand, port, loopback];
 
 /// Writes a workload: each slice of the memory is a pointer and a length in C.
 macro_rules! workload {
@@ -71,7 +54,6 @@ workload!(ring_one = np_ring_one(m; m.storage.at, m.storage.len));
 workload!(packet = np_packet(m; m.storage.at, m.storage.len, m.source.at, m.source.len));
 workload!(asm_add = np_asm_add(m; m.number, m.ops.at, m.ops.len));
 workload!(asm_front = np_asm_front(m; m.number, m.ops.at, m.ops.len));
-#[cfg(stream)]
 workload!(stream = np_stream(m; m.number, m.storage.at, m.storage.len, m.ops.at, m.ops.len, m.source.at, m.source.len, m.sink.at, m.sink.len));
 workload!(rand = np_rand(m; m.number));
 workload!(port = np_port(m; m.number));

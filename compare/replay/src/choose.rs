@@ -64,57 +64,37 @@ fn all(title: &'static str, subjects: Vec<Subject>, calls: Vec<Call>, length: u3
     Group { how: "enumerated", name: format!("{title}, {length} calls"), count, script: Box::new(script) }
 }
 
-fn calls(list: &[(u64, u64, u64)]) -> Vec<Call> {
-    list.iter().map(|&(number, a, b)| Call { number, a, b, byte: 1 }).collect()
+/// The calls of these numbers, each with each pair of arguments beside them.
+fn calls(table: &[(&[u64], &[(u64, u64)])]) -> Vec<Call> {
+    let mut all = Vec::new();
+    for (numbers, pairs) in table {
+        for &number in *numbers {
+            all.extend(pairs.iter().map(|&(a, b)| Call { number, a, b, byte: 1 }));
+        }
+    }
+    all
 }
 
 /// What is enumerated, from scripts of one call on: a shortest script is found first.
 pub fn enumerated(longest: u32) -> Vec<Group> {
     let ring = calls(&[
-        (0, 0, 0),
-        (1, 0, 0),
-        (2, 1, 0),
-        (2, 2, 0),
-        (3, 1, 0),
-        (3, 2, 0),
-        (4, 2, 0),
-        (5, 2, 0),
-        (6, 0, 0),
-        (7, 1, 0),
-        (8, 1, 0),
-        (9, 0, 0),
-        (10, 0, 0),
-        (11, 0, 0),
-        (12, 0, 0),
-        (13, 1, 1),
-        (14, 0, 2),
-        (14, 1, 2),
-        (15, 1, 1),
-        (16, 1, 2),
-        (17, 1, 0),
-        (17, 2, 0),
-        (18, 1, 0),
+        (&[0, 1, 6, 9, 10, 11, 12], &[(0, 0)]),
+        (&[2, 3, 17], &[(1, 0), (2, 0)]),
+        (&[4, 5], &[(2, 0)]),
+        (&[7, 8, 18], &[(1, 0)]),
+        (&[13, 15], &[(1, 1)]),
+        (&[14], &[(0, 2), (1, 2)]),
+        (&[16], &[(1, 2)]),
     ]);
-    let cells = calls(&[(0, 0, 0), (1, 0, 0), (2, 0, 0)]);
+    let cells = calls(&[(&[0, 1, 2], &[(0, 0)])]);
     let packets = calls(&[
-        (0, 0, 0),
-        (0, 1, 0),
-        (0, 2, 0),
-        (0, 3, 0),
-        (1, 1, 1),
-        (1, 2, 1),
-        (1, 2, 2),
-        (1, 3, 0),
-        (2, 0, 0),
-        (3, 0, 0),
-        (4, 0, 0),
-        (5, 0, 0),
-        (6, 0, 0),
-        (7, 1, 0),
-        (7, 2, 0),
-        (8, 1, 0),
+        (&[0], &[(0, 0), (1, 0), (2, 0), (3, 0)]),
+        (&[1], &[(1, 1), (2, 1), (2, 2), (3, 0)]),
+        (&[2, 3, 4, 5, 6], &[(0, 0)]),
+        (&[7], &[(1, 0), (2, 0)]),
+        (&[8], &[(1, 0)]),
     ]);
-    let mut receiver = calls(&[(1, 1, 0), (1, 3, 0)]);
+    let mut receiver = calls(&[(&[1], &[(1, 0), (3, 0)])]);
     receiver.extend((0..5).flat_map(|a| (0..4).map(move |b| Call { number: 0, a, b, byte: 1 })));
     let mut receivers = Vec::new();
     for runs in [1, 4, 32] {
@@ -122,7 +102,7 @@ pub fn enumerated(longest: u32) -> Vec<Group> {
             receivers.extend(firsts(2).map(|first| Subject::Receiver { runs, capacity, first }));
         }
     }
-    let mut assembler = calls(&[(1, 0, 1), (1, 0, 3), (1, 2, 1), (2, 0, 0), (3, 0, 0), (4, 0, 0), (5, 0, 0)]);
+    let mut assembler = calls(&[(&[1], &[(0, 1), (0, 3), (2, 1)]), (&[2, 3, 4, 5], &[(0, 0)])]);
     assembler.extend((0..6).flat_map(|a| (0..4).map(move |b| Call { number: 0, a, b, byte: 1 })));
     let rings = (0..4).map(|capacity| Subject::Ring { capacity }).collect::<Vec<_>>();
     let all_cells = (0..4).map(|capacity| Subject::Cells { capacity }).collect::<Vec<_>>();
@@ -142,7 +122,7 @@ pub fn enumerated(longest: u32) -> Vec<Group> {
     groups.push(all("time", vec![Subject::Time], times(), 1));
     let media = [0, 1].map(|medium| Subject::Phy { medium }).to_vec();
     groups.push(all("capabilities", media.clone(), capabilities(), 1));
-    let frames = calls(&[(0, 0, 0), (0, 2, 5), (1, 0, 0), (2, 1, 0), (3, 0, 0)]);
+    let frames = calls(&[(&[0], &[(0, 0), (2, 5)]), (&[1, 3], &[(0, 0)]), (&[2], &[(1, 0)])]);
     groups.push(all("loopback", media, frames, longest + 2));
     groups
 }

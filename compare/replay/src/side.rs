@@ -123,21 +123,14 @@ impl<H> Copies<H> for PacketBuffer<'_, H> {
     }
 }
 
-/// The port's conditions: every call is made on smoltcp's side, which panics where one forbids it.
-macro_rules! conditions {
-    ($name:ident of $type:ty: $($with:ident($($argument:ty),*)),*; $($of:ident($number:ty)),*) => {
-        pub trait $name {
-            $(fn $with(&self, $(_: $argument),*) -> bool { true })*
-            $(fn $of(_: $number) -> bool { true })*
-        }
-        impl $name for $type {}
+/// What a call makes, whatever the port's condition says: smoltcp panics where one forbids it.
+macro_rules! allowed {
+    ($condition:expr, $made:expr) => {
+        $made
     };
 }
 
-conditions!(OfInstant of Instant: can_add(Duration), can_sub(Duration); fits_millis(i64), fits_secs(i64));
-conditions!(OfDuration of Duration: can_add(Duration), can_sub(Duration), can_mul(u32);
-    fits_millis(u64), fits_secs(u64), fits_core(std::time::Duration));
-conditions!(OfCapabilities of DeviceCapabilities: has_ip_mtu(), fits_ip_header(usize););
+pub(crate) use allowed;
 
 /// `From` of the standard library's duration, by the port's name.
 pub trait FromCore {
@@ -186,10 +179,6 @@ impl<const N: usize> Assembler<N> {
             4 => Build::Four(original4::storage::Assembler::new()),
             _ => Build::ThirtyTwo(original32::storage::Assembler::new()),
         })
-    }
-
-    pub fn fits(_: usize, _: usize) -> bool {
-        true
     }
 
     pub fn add(&mut self, offset: usize, size: usize) -> Result<(), ()> {
