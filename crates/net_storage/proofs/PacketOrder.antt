@@ -103,6 +103,7 @@ module _ {H : Type 0} where
     at = storage_index g (g.count + gap)
 
     accepted_go : contents (mk (capacity m) (overwrite g.storage at ws) g.read_at (kept ++ (packet hd k gap ∷ []))) ≡ contents (packet_queue m b) ++ ((hd, take k ws) ∷ [])
+    unfolding contents
     accepted_go =
         let fits = here m b h gap s e in
         let room = byte_room m b h gap s e in
@@ -257,16 +258,21 @@ module _ {H : Type 0} where
 
   module _ (q : PacketQueue H) (ok : WellPlaced q) where
     pub gap_dropped : contents (skipped q) ≡ contents q
+    unfolding contents
     gap_dropped = skipped_go q.storage q.read_at q.packets ok.0
 
     pub shown : (hd : H) (ws : List ℕ) → IsFirst q hd ws → contents q ≡ (hd, ws) ∷ drop 1 (contents q)
+    unfolding contents
     shown hd ws f = shown_go q.storage q.read_at q.packets ok.0 ok.1 hd ws f.0 f.1
 
     pub refused : (hd : H) (ws : List ℕ) → q.packets ≢ [] → length ws ≡ first_size q.packets → contents (first_written (skipped q) hd ws) ≡ (hd, ws) ∷ drop 1 (contents q)
+    unfolding contents
     refused hd ws some long = refused_go q.storage q.read_at q.packets ok.0 ok.1 some hd ws long
 
     pub left : contents (dequeued q) ≡ drop 1 (contents q)
+    unfolding contents
     left = left_go q.storage q.read_at q.packets ok.0
 
     pub left_with : (hd : H) (ws : List ℕ) → length ws ≡ first_size q.packets → contents (popped (first_written (skipped q) hd ws)) ≡ drop 1 (contents q)
+    unfolding contents
     left_with hd ws long = left_with_go q.storage q.read_at q.packets ok.0 ok.1 hd ws long _ refl

@@ -1,6 +1,8 @@
 -- Over whole runs, a queue's packets leave in the order in which they came.
-use Rattle.std.proofs.Common.{◌≢◌, ◌≡◌, ℕ, ◌+◌, ◌-◌, ◌≤◌, List, [], ◌∷◌, ◌++◌, length, take, drop, refl, sym, ap, ap₂, ◌∙◌, subst, inl, inr, arith, ◌⊎◌, ◌<◌, append_assoc, length-append, length-drop, suc, ◌↔◌, Bool, true, false, if◌then◌else◌}
+use Rattle.std.proofs.Common.{◌≢◌, ◌≡◌, ℕ, ◌+◌, ◌-◌, ◌≤◌, List, [], ◌∷◌, ◌++◌, length, take, drop, refl, sym, ap, ap₂, ◌∙◌, subst, inl, inr, arith, ◌⊎◌, ◌<◌, append_assoc, length-append, length-drop, suc, ◌↔◌, Bool, true, false, if◌then◌else◌, ◌==◌, Result, Ok, Err, IsErr, IfOk}
 use Rattle.std.proofs.lemmas.List.{append-nil, take_all, nil_from_length, length-take-le}
+use Rattle.std.proofs.lemmas.Bool.{eqb-true, eq-eqb}
+use Rattle.std.proofs.lemmas.Option.{none-some}
 use Rattle.std.proofs.Math.Seq.{set-append_seam}
 use Rattle.std.specs.Prelude.{set}
 use Rattle.std.specs.declared.option.Option.TheVariants.{Some, None}
@@ -15,6 +17,11 @@ use Rattle.net_storage.proofs.PacketFacts.{bytes_append, place_cases, place_plac
 use Rattle.net_storage.proofs.PacketSteps.{closed, last_append, before_append, last_fits, front_fits, push_well, close_gap}
 use Rattle.net_storage.proofs.PacketOrder.{some_of, contents_append}
 use Rattle.net_storage.proofs.PacketOrder as order
+
+-- what two clauses say of an answer that is `Ok`
+pub if_both : {X E : Type 0} {P Q R : X → Type 0} (r : Result X E) → ((x : X) → P x → Q x → R x) → IfOk r P → IfOk r Q → IfOk r R
+if_both (Ok x) both p q = both x p q
+if_both (Err e) both p q = tt
 
 -- a list that is not empty ends in an element
 ends_in : {X : Type 0} (xs : List X) → xs ≢ [] → (ys : List X) × (y : X) × (xs ≡ ys ++ (y ∷ []))
@@ -119,6 +126,7 @@ module _ {H : Type 0} where
   -- the last packet is written again
   last_go : (n : ℕ) (st : List ℕ) (r : ℕ) (ps : List (Packet H)) (p : Packet H) (ws : List ℕ) → let q = mk n st r (ps ++ (p ∷ [])) in WellPlaced q → length ws ≡ first_size (only_last q.packets)
       → (front : List (H × List ℕ)) × (old : List ℕ) × (contents q ≡ front ++ ((p.header, old) ∷ [])) × (contents (last_written q ws) ≡ front ++ ((p.header, ws) ∷ []))
+  unfolding contents
   last_go n st r ps p ws ok long =
       let q = mk n st r (ps ++ (p ∷ [])) in
       let c = byte_ring q in
@@ -156,6 +164,7 @@ module _ {H : Type 0} where
       (l.0, end.1.header, l.1, ap contents is ∙ l.2, ap (λ o. contents (last_written o ws)) is ∙ l.3)
 
   pub freed_contents : (q : PacketQueue H) → WellPlaced q → (ws : List ℕ) → AreFreed q (length ws) → contents (with_bytes q (freed_place q (length ws)) ws) ≡ contents q
+  unfolding contents
   freed_contents q ok ws f =
       let c = byte_ring q in
       let s = length ws in
@@ -204,6 +213,7 @@ module _ {H : Type 0} where
   length-contents_of (p ∷ ps) bs = ap suc (length-contents_of ps (drop (p.gap + p.size) bs))
 
   pub contents_count : (q : PacketQueue H) → length (contents q) ≡ length q.packets
+  unfolding contents
   contents_count q = length-contents_of q.packets (queue (byte_ring q))
 
   pub contents_none : (q : PacketQueue H) → (contents q ≡ []) ↔ (length q.packets ≡ 0)
@@ -270,6 +280,59 @@ module _ {H : Type 0} where
   kept_contents q ok hd ws true f = order.left_with q ok hd ws (sym (ap first_size f.0))
   kept_contents q ok hd ws false f = order.refused q ok hd ws (some_first q.packets hd (length ws) f.0) (sym (ap first_size f.0)) ∙ sym (order.shown q ok hd ws f)
 
+  -- ---- what clauses of the calls say
+  pub is_empty_none : (q : PacketQueue H) (b : Bool) → b ≡ (length q.packets == 0) → (b ≡ true) ↔ (contents q ≡ [])
+  is_empty_none q b is =
+      let n = contents_none q in (
+        λ t. n.1 (eqb-true (length q.packets) 0 (sym is ∙ t)),
+        λ e. is ∙ eq-eqb (length q.packets) 0 (n.0 e),
+      )
+
+  pub no_contents : (slots : ℕ) (storage : List ℕ) → contents {H = H} (no_packets slots storage) ≡ []
+  unfolding contents
+  no_contents slots storage = refl
+
+  pub none_of : {P : Type 0} (q : PacketQueue H) → P ↔ (length q.packets ≡ 0) → P ↔ (contents q ≡ [])
+  none_of q e =
+      let n = contents_none q in
+      (λ h. n.1 (e.0 h), λ h. e.1 (n.0 h))
+
+  last_any : (n : ℕ) (st : List ℕ) (r : ℕ) (ps : List (Packet H)) (ws : List ℕ) → WellPlaced (mk n st r ps) → length ws ≡ first_size (only_last ps)
+      → contents (last_written (mk n st r ps) ws) ≡ with_last_bytes ws (contents (mk n st r ps))
+  unfolding contents
+  last_any n st r [] ws ok long = refl
+  last_any n st r (p ∷ ps) ws ok long = last_is_written (mk n st r (p ∷ ps)) ok ws (λ e. let k = ap length e in absurd (omega (arith, k))) long
+
+  pub last_shown : (q : PacketQueue H) → WellPlaced q → (ws : List ℕ) → length ws ≡ first_size (only_last q.packets) → contents (last_written q ws) ≡ with_last_bytes ws (contents q)
+  last_shown q ok ws long = last_any q.slot_count q.storage q.read_at q.packets ws ok long
+
+  -- a packet that was placed
+  module _ (q : PacketQueue H) (ok : WellPlaced q) (s : ℕ) (hd : H) (gap : ℕ) (e : placement q s ≡ Some gap) (n : PacketQueue H) (is : n ≡ placed_if_room q s hd) where
+    room : placement q s ≢ None
+    room z = absurd (none-some _ (sym z ∙ e))
+
+    pub accepted_as : (ws : List ℕ) → length ws ≡ s → contents (last_written n ws) ≡ contents q ++ ((hd, ws) ∷ [])
+    accepted_as ws long = ap (λ o. contents (last_written o ws)) is ∙ order.accepted q ok s hd ws room long
+
+    pub stands_as : contents n ≡ contents q ++ ((hd, last_bytes n) ∷ [])
+    stands_as = ap contents is ∙ placed_stands q ok s hd room ∙ ap (λ o. contents q ++ ((hd, last_bytes o) ∷ [])) (sym is)
+
+  -- the first packet, which was taken off
+  pub taken_as : (q : PacketQueue H) → WellPlaced q → (hd : H) (s : ℕ) → IsFirstSized q.packets hd s → (n : PacketQueue H) → n ≡ dequeued q → contents q ≡ (hd, freed_bytes n s) ∷ contents n
+  taken_as q ok hd s first n is = taken_contents q ok hd s first ∙ ap (λ o. (hd, freed_bytes o s) ∷ contents o) (sym is)
+
+  pub left_as : (q : PacketQueue H) → WellPlaced q → (n : PacketQueue H) → n ≡ dequeued q → contents n ≡ drop 1 (contents q)
+  left_as q ok n is = ap contents is ∙ order.left q ok
+
+  pub freed_unseen : (q : PacketQueue H) → WellPlaced q → (s : ℕ) → AreFreed q s → (ws : List ℕ) → length ws ≡ s → contents (with_bytes q (freed_place q s) ws) ≡ contents q
+  freed_unseen q ok s free ws long =
+      ap (λ (n : ℕ). contents (with_bytes q (freed_place q n) ws)) (sym long) ∙ freed_contents q ok ws (subst (λ (n : ℕ). AreFreed q n) (sym long) free)
+
+  pub handed_contents : (q : PacketQueue H) → WellPlaced q → (hd : H) (ws : List ℕ) (new : H) (news : List ℕ) (gone : Bool) → IsFirst q hd ws → length news ≡ length ws
+      → contents (handed gone q new news) ≡ (if gone then drop 1 (contents q) else ((new, news) ∷ drop 1 (contents q)))
+  handed_contents q ok hd ws new news true f long = order.left_with q ok new news (long ∙ sym (ap first_size f.0))
+  handed_contents q ok hd ws new news false f long = order.refused q ok new news (some_first q.packets hd (length ws) f.0) (long ∙ sym (ap first_size f.0))
+
   -- ---- the log of a run
   -- the packets that left, followed by those that are held, are those that came
   abbrev InTurn : Log H → PacketQueue H → Type 0
@@ -286,6 +349,7 @@ module _ {H : Type 0} where
   first_entry (p ∷ ps) bs some = (_, refl)
 
   anew : (log : Log H) (q r : PacketQueue H) (p : H × List ℕ) → InTurn log q → q.packets ≢ [] → contents r ≡ p ∷ drop 1 (contents q) → log.left ++ contents r ≡ set log.accepted (length log.left) p
+  unfolding contents
   anew log q r p turn some is =
       let f = first_entry q.packets (queue (byte_ring q)) some in
       ap (λ l. log.left ++ l) is ∙ sym (set-append_seam log.left f.0 (drop 1 (contents q)) p) ∙ ap (λ l. set (log.left ++ l) (length log.left) p) (sym f.1) ∙ ap (λ l. set l (length log.left) p) turn
@@ -296,6 +360,7 @@ module _ {H : Type 0} where
       ∙ ap (with_last_bytes ws) (append_assoc log.left front ((hd, old) ∷ []) ∙ ap (λ l. log.left ++ l) (sym was) ∙ turn)
 
   call_turn : (call : QueueCall H) (log : Log H) (q r : PacketQueue H) → WellPlaced q → Makes call q r → InTurn log q → InTurn (logged call log) r
+  unfolding contents
   call_turn Reset log q r ok is turn = ap (λ o. log.left ++ contents o) is ∙ append-nil log.left
   call_turn (Place hd ws) log q r ok does turn =
       more log q r (hd, ws) turn (ap contents does.1 ∙ placed_contents q ok hd ws does.0 (does.2 ∙ ap last_bytes does.1))
@@ -322,5 +387,6 @@ module _ {H : Type 0} where
       calls_turn calls (logged call log) run.0 r (keeps call q run.0 ok run.1) run.2 (call_turn call log q run.0 ok run.1 turn)
 
   pub in_turn : (slots : ℕ) (storage : List ℕ) (calls : List (QueueCall H)) (r : PacketQueue H) → MakesAll calls (no_packets slots storage) r → InTurn (history calls) r
+  unfolding contents
   in_turn slots storage calls r run =
       calls_turn calls (record { accepted = []; left = [] }) (no_packets slots storage) r ((inl refl, omega arith), tt, omega arith) run refl

@@ -1,8 +1,9 @@
 -- Calls of a closure at a packet: at the bytes that it is given, or at its header and bytes; and bytes that are copied out.
-use Rattle.std.specs.Prelude.{◌≡◌, ◌≤◌, ℕ, List, ◌∷◌, ◌++◌, Result, is_ok, length, min, take, drop}
+use Rattle.std.specs.Prelude.{◌≡◌, ◌≤◌, ℕ, List, [], ◌∷◌, ◌++◌, Result, is_ok, if◌then◌else◌, length, min, take, drop}
 use Rattle.std.specs.Borrow.{MutBor}
 use Rattle.std.specs.Fn.{Once, FnOnceTakesAtMut, FnOnceReturnsAtMut}
 use Rattle.net_storage.specs.Packets.{PacketQueue, IsRoom, IsFirst, placed_if_room, last_written, last_cut, handed}
+use Rattle.net_storage.specs.PacketHistory.{contents}
 
 -- ---- the closure writes a new packet
 module _ {F H : Type 0} (g : Once F (MutBor (List ℕ) × Unit {0}) (ℕ × (MutBor (List ℕ) × Unit {0}))) where
@@ -22,6 +23,7 @@ module _ {F H : Type 0} (g : Once F (MutBor (List ℕ) × Unit {0}) (ℕ × (Mut
     pub met : FnOnceReturnsAtMut g f room k bytes
     pub size : length bytes ≡ s
     pub at_most : k ≤ s
+    pub accepted : contents r ≡ contents q ++ ((h, take k bytes) ∷ [])
     pub made : r ≡ last_cut k (last_written (placed_if_room q s h) bytes)
 
 -- ---- the closure is handed the first packet
@@ -53,6 +55,8 @@ module _ {F H R E : Type 0} (g : Once F (MutBor H × (MutBor (List ℕ) × Unit 
     pub first : IsFirst q header bytes
     pub gives : GivesAtPacket g f header bytes answer new_header new_bytes
     pub size : length new_bytes ≡ length bytes
+    pub shown : contents q ≡ (header, bytes) ∷ drop 1 (contents q)
+    pub left : contents r ≡ (if is_ok answer then drop 1 (contents q) else ((new_header, new_bytes) ∷ drop 1 (contents q)))
     pub made : r ≡ handed (is_ok answer) q new_header new_bytes
 
 -- ---- a packet is copied out

@@ -11,7 +11,7 @@ module _ {H : Type 0} where
   contents_of (p ∷ ps) bs = (p.header, take p.size (drop p.gap bs)) ∷ contents_of ps (drop (p.gap + p.size) bs)
 
   -- the headers and bytes of the packets that are held, the first one first
-  abbrev pub contents : PacketQueue H → List (H × List ℕ)
+  unfoldable pub contents : PacketQueue H → List (H × List ℕ)
   contents q = contents_of q.packets (queue (byte_ring q))
 
 -- ---- calls

@@ -1,12 +1,12 @@
 //! A queue of packets, each with a header, over storage that is lent or owned.
-ghost use Rattle.std.specs.Prelude.{◌≡◌, ◌≢◌, ◌≤◌, ◌<◌, ◌^◌, ◌-◌, ◌+◌, ◌==◌, ◌↔◌, ◌∷◌, ◌++◌, [], ℕ, List, IsErr, IfOk, OnErr, OnOk, length, min, take, drop, is_ok, if◌then◌else◌};
+ghost use Rattle.std.specs.Prelude.{◌≡◌, ◌≢◌, ◌≤◌, ◌<◌, ◌^◌, ◌-◌, ◌+◌, ◌==◌, ◌↔◌, ◌∷◌, ◌++◌, [], ℕ, List, IsErr, IsTrue, IfOk, OnErr, OnOk, length, min, take, drop, is_ok, if◌then◌else◌};
 ghost use Rattle.std.specs.Borrow.{sem};
 ghost use Rattle.std.specs.declared.option.Option.TheVariants.{Some, None};
 ghost use Rattle.net_storage.specs.Ring.{capacity, window, queue, contiguous_window, restarted, WellFormed};
-ghost use Rattle.net_storage.specs.Packets.{bytes_used, slots_used, no_packets, byte_ring, placement, pushed, placed_if_room, only_last, last_bytes, last_written, enqueued, skipped, first_gap, first_size, first_bytes, IsFirstSized, IsFirst, dequeued, freed_place, freed_bytes, AreFreed, IsFreedAt, gap_for, slots_for, if_slots, with_bytes};
+ghost use Rattle.net_storage.specs.Packets.{WellPlaced, bytes_used, slots_used, no_packets, byte_ring, placement, pushed, placed_if_room, only_last, last_bytes, last_written, enqueued, skipped, first_gap, first_size, first_bytes, IsFirstSized, IsFirst, dequeued, freed_place, freed_bytes, AreFreed, IsFreedAt, gap_for, slots_for, if_slots, with_bytes};
 ghost use Rattle.net_storage.specs.PacketSlots.{gap_slot, slot, IsFirstSlot, HasFirstSlot};
 ghost use Rattle.net_storage.specs.PacketCalls.{TakesRoom, CountsAtMost, WrotePacket, TakesPacket, GivesAtPacket, TakesFirstPacket, HandedPacket, CopiedOut};
-ghost use Rattle.net_storage.specs.PacketHistory.{contents};
+ghost use Rattle.net_storage.specs.PacketHistory.{contents, with_last_bytes};
 
 use crate::error::{Empty, Full};
 use crate::managed::{Elements, ManagedSlice};
@@ -57,7 +57,8 @@ impl<H, M: Elements<PacketMetadata<H>>, B: Elements<u8>> Packets<H, M, B> {
     /// A queue with no packets, which has as many slots as `slots` has elements, and room for as
     /// many bytes as `bytes` has.
     pub fn new(slots: M, bytes: B) -> Self
-        ensures { result ≡ no_packets (length (M.elements slots)) (B.elements bytes) }
+        ensures none { contents result ≡ [] }
+        ensures made { result ≡ no_packets (length (M.elements slots)) (B.elements bytes) }
     {
         Packets {
             slots: Ring::new(slots),
@@ -68,7 +69,8 @@ impl<H, M: Elements<PacketMetadata<H>>, B: Elements<u8>> Packets<H, M, B> {
     /// Whether no packet is held.
     #[inline]
     pub fn is_empty(&self) -> bool
-        ensures { result ≡ (length self.now.packets == 0) }
+        ensures none { IsTrue result ↔ (contents self.now ≡ []) }
+        ensures packets { result ≡ (length self.now.packets == 0) }
     {
         self.slots.is_empty()
     }
@@ -121,7 +123,8 @@ impl<H, M: Elements<PacketMetadata<H>>, B: Elements<u8>> Packets<H, M, B> {
     ///
     /// smoltcp keeps this call to itself.
     pub fn reset(&mut self)
-        ensures { self.new ≡ no_packets self.old.slot_count self.old.storage }
+        ensures none { contents self.new ≡ [] }
+        ensures made { self.new ≡ no_packets self.old.slot_count self.old.storage }
     {
         self.slots.clear();
         self.bytes.clear();
@@ -143,7 +146,8 @@ impl<H, M: Elements<PacketMetadata<H>>, B: Elements<u8>> Packets<H, M, B> {
     // The gap before a packet of `size` bytes, if it can be placed.
     #[inline]
     fn placement(&self, size: usize) -> Option<usize>
-        ensures { result ≡ placement self.now size }
+        ensures gap { result ≡ placement self.now size }
+        ensures well_placed { WellPlaced self.now }
     {
         let (contiguous, window) = self.free_runs();
         let free = self.slots.window();
@@ -152,7 +156,8 @@ impl<H, M: Elements<PacketMetadata<H>>, B: Elements<u8>> Packets<H, M, B> {
 
     // The size of the last packet, or 0.
     fn last_size(&self) -> usize
-        ensures { result ≡ first_size (only_last self.now.packets) }
+        ensures size { result ≡ first_size (only_last self.now.packets) }
+        ensures well_placed { WellPlaced self.now }
     {
         let used = self.slots.len();
         match self.slots.get_allocated(used.saturating_sub(1), 1).first() {
@@ -164,7 +169,8 @@ impl<H, M: Elements<PacketMetadata<H>>, B: Elements<u8>> Packets<H, M, B> {
     // The gap before the first packet, or 0.
     #[inline]
     fn first_gap(&self) -> usize
-        ensures { result ≡ first_gap self.now.packets }
+        ensures gap { result ≡ first_gap self.now.packets }
+        ensures well_placed { WellPlaced self.now }
     {
         match self.slots.get_allocated(0, 1).first() {
             Some(slot) => { if slot.header.is_none() { slot.size } else { 0 } }
@@ -177,6 +183,7 @@ impl<H, M: Elements<PacketMetadata<H>>, B: Elements<u8>> Packets<H, M, B> {
     fn skip(&mut self)
         ensures skipped { self.new ≡ skipped self.old }
         ensures unchanged { first_gap self.old.packets ≡ 0 → self.new ≡ self.old }
+        ensures well_placed { WellPlaced self.old }
     {
         let gap = self.first_gap();
         if gap > 0 {
@@ -231,6 +238,11 @@ impl<H: Drop, M: Elements<PacketMetadata<H>>, B: Elements<u8>> Packets<H, M, B> 
     /// storage's beginning on. With `last_mut` this is [`Packets::enqueue`] in two steps, of which
     /// callers know exactly what they leave.
     pub fn place(&mut self, size: usize, header: H) -> Result<(), Full>
+        ensures accepted { OnOk result ((ws : List ℕ) → length ws ≡ size
+            → contents (last_written self.new ws) ≡ contents self.old ++ (header, ws) ∷ []) }
+        ensures stands { OnOk result
+            (contents self.new ≡ contents self.old ++ (header, last_bytes self.new) ∷ []) }
+        ensures unchanged { OnErr result (self.new ≡ self.old) }
         ensures full { IsErr result ↔ (placement self.old size ≡ None) }
         ensures placed { self.new ≡ placed_if_room self.old size header }
         ensures size { OnOk result (first_size (only_last self.new.packets) ≡ size) }
@@ -246,6 +258,8 @@ impl<H: Drop, M: Elements<PacketMetadata<H>>, B: Elements<u8>> Packets<H, M, B> 
     pub fn last_mut(&mut self) -> &mut [u8]
         ensures* writes_back { sem 𝓛 (lends_bytes H.row M.row B.row M.Elements B.Elements
             self.entry result (last_written self.old)) }
+        ensures written { (ws : List ℕ) → length ws ≡ length result.now
+            → contents (last_written self.old ws) ≡ with_last_bytes ws (contents self.old) }
         ensures value { result.now ≡ last_bytes self.old }
         ensures size { length result.now ≡ first_size (only_last self.old.packets) }
     {
@@ -308,6 +322,10 @@ impl<H: Drop, M: Elements<PacketMetadata<H>>, B: Elements<u8>> Packets<H, M, B> 
     /// Answers `Empty`, and changes nothing, where no packet is held. With `freed_mut` this is
     /// [`Packets::dequeue`] in two steps, of which callers know exactly what they leave.
     pub fn take(&mut self) -> Result<(H, usize), Empty>
+        ensures none { IsErr result ↔ (contents self.old ≡ []) }
+        ensures taken { IfOk result
+            (λ r. contents self.old ≡ (r.0, freed_bytes self.new r.1) ∷ contents self.new) }
+        ensures left { OnOk result (contents self.new ≡ drop 1 (contents self.old)) }
         ensures empty { IsErr result ↔ (length self.old.packets ≡ 0) }
         ensures unchanged { OnErr result (self.new ≡ self.old) }
         ensures first { IfOk result (λ r. IsFirstSized self.old.packets r.0 r.1) }
@@ -328,6 +346,8 @@ impl<H: Drop, M: Elements<PacketMetadata<H>>, B: Elements<u8>> Packets<H, M, B> 
         requires { AreFreed self.old size }
         ensures* writes_back { sem 𝓛 (lends_bytes H.row M.row B.row M.Elements B.Elements
             self.entry result (with_bytes self.old (freed_place self.old size))) }
+        ensures unseen { (ws : List ℕ) → length ws ≡ size
+            → contents (with_bytes self.old (freed_place self.old size) ws) ≡ contents self.old }
         ensures value { result.now ≡ freed_bytes self.old size }
         ensures size { length result.now ≡ size }
     {
@@ -345,6 +365,7 @@ impl<H: Drop, M: Elements<PacketMetadata<H>>, B: Elements<u8>> Packets<H, M, B> 
         f: F,
     ) -> Result<Result<R, E>, Empty>
         requires { TakesFirstPacket F.FnOnce f self.old }
+        ensures none { IsErr result ↔ (contents self.old ≡ []) }
         ensures empty { IsErr result ↔ (length self.old.packets ≡ 0) }
         ensures unchanged { OnErr result (self.new ≡ self.old) }
         ensures handed { IfOk result (λ answer. HandedPacket F.FnOnce f self.old answer self.new) }
@@ -368,6 +389,10 @@ impl<H: Drop, M: Elements<PacketMetadata<H>>, B: Elements<u8>> Packets<H, M, B> 
     pub fn peek(&mut self) -> Result<(&H, &[u8]), Empty>
         ensures* skips { sem 𝓛 (ends_as H.row M.row B.row M.Elements B.Elements
             self.entry (skipped self.old)) }
+        ensures none { IsErr result ↔ (contents self.old ≡ []) }
+        ensures shown { IfOk result
+            (λ r. contents self.old ≡ (r.0.now, r.1.now) ∷ drop 1 (contents self.old)) }
+        ensures same { contents (skipped self.old) ≡ contents self.old }
         ensures empty { IsErr result ↔ (length self.old.packets ≡ 0) }
         ensures unchanged { OnErr result (skipped self.old ≡ self.old) }
         ensures first { IfOk result (λ r. IsFirstSized self.old.packets r.0.now (length r.1.now)) }
@@ -386,6 +411,9 @@ impl<H: Drop, M: Elements<PacketMetadata<H>>, B: Elements<u8>> Packets<H, M, B> 
     pub fn enqueue(&mut self, size: usize, header: H) -> Result<&mut [u8], Full>
         ensures* writes_back { sem 𝓛 (lends_bytes_if H.row M.row B.row M.Elements B.Elements
             self.entry result (last_written (placed_if_room self.old size header))) }
+        ensures accepted { IfOk result (λ r. (ws : List ℕ) → length ws ≡ size
+            → contents (last_written (placed_if_room self.old size header) ws)
+            ≡ contents self.old ++ (header, ws) ∷ []) }
         ensures full { IsErr result ↔ (placement self.old size ≡ None) }
         ensures value { IfOk result
             (λ r. r.now ≡ last_bytes (placed_if_room self.old size header)) }
@@ -403,6 +431,12 @@ impl<H: Drop, M: Elements<PacketMetadata<H>>, B: Elements<u8>> Packets<H, M, B> 
     pub fn dequeue(&mut self) -> Result<(H, &mut [u8]), Empty>
         ensures* writes_back { sem 𝓛 (lends_packet_if H.row M.row B.row M.Elements B.Elements
             self.entry result (with_bytes (dequeued self.old) (skipped self.old).read_at)) }
+        ensures none { IsErr result ↔ (contents self.old ≡ []) }
+        ensures shown { IfOk result
+            (λ r. contents self.old ≡ (r.0, r.1.now) ∷ drop 1 (contents self.old)) }
+        ensures left { IfOk result (λ r. (ws : List ℕ) → length ws ≡ length r.1.now
+            → contents (with_bytes (dequeued self.old) (skipped self.old).read_at ws)
+            ≡ drop 1 (contents self.old)) }
         ensures empty { IsErr result ↔ (length self.old.packets ≡ 0) }
         ensures first { IfOk result (λ r. IsFirst self.old r.0 r.1.now) }
     {
@@ -423,8 +457,6 @@ impl<H: Drop, M: Elements<PacketMetadata<H>>, B: Elements<u8>> Packets<H, M, B> 
         ensures pushed { OnOk result
             (contents self.new ≡ contents self.old ++ (header, «data».now) ∷ []) }
     {
-        laws::packets_leave_in_order::<H>();
-        laws::well_placed(self);
         self.place(data.len(), header)?;
         self.last_mut().copy_from_slice(data);
         Ok(())
@@ -435,14 +467,13 @@ impl<H: Drop, M: Elements<PacketMetadata<H>>, B: Elements<u8>> Packets<H, M, B> 
     ///
     /// Answers `Empty`, and changes nothing, where no packet is held. smoltcp has no such call.
     pub fn pop_slice(&mut self, into: &mut [u8]) -> Result<(H, usize), Empty>
+        ensures none { IsErr result ↔ (contents self.old ≡ []) }
         ensures empty { IsErr result ↔ (length self.old.packets ≡ 0) }
         ensures unchanged { OnErr result ((self.new ≡ self.old) × (into.new ≡ into.old)) }
         ensures made { OnOk result (self.new ≡ dequeued self.old) }
         ensures popped { IfOk result
             (λ r. CopiedOut (contents self.old) r.0 into.old r.1 (contents self.new) into.new) }
     {
-        laws::the_two_steps_apart::<H>();
-        laws::well_placed(self);
         let (header, size) = self.take()?;
         let count = copy(into, self.freed_mut(size));
         Ok((header, count))

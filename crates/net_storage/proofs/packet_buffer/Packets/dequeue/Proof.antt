@@ -1,5 +1,5 @@
 -- `dequeue` takes the first packet off by `take`, and hands on its header and what `freed_mut` lends.
-use mathlib.Core.Path.{◌≡◌, refl, sym, subst, ap, ◌∙◌}
+use mathlib.Core.Path.{◌≡◌, refl, sym, subst, ap, ap₂, ◌∙◌}
 use mathlib.Core.Logic.{◌≢◌, inl, inr}
 use mathlib.Core.List.{List, [], ◌∷◌, ◌++◌}
 use Prim.Native.Nat.{ℕ, ◌<◌, ◌^◌}
@@ -49,12 +49,13 @@ use denote.Triple.Walked.{Stays, stay_dropped, walk_of, ends_at, Goes-spent_ref}
 use Rattle.std.proofs.VecSteps.Shapes.{after, head, front, arm_body}
 use Rattle.std.proofs.Common.{arith}
 use Rattle.std.proofs.raw_atomic.Walks.{proved_at}
-use Rattle.std.proofs.mem.Facts.{says_two}
 use Rattle.std.proofs.ResultValues.{ok_of, err_of, and_tt}
 use Rattle.std.specs.Prelude.{Ok, Err, IsErr, IfOk, OnOk, OnErr, ◌↔◌}
 use Rattle.std.specs.contracts.result.Result as RS
-use Rattle.net_storage.specs.Packets.{skipped, dequeued, freed_place, AreFreed, IsFirstSized, IsFirst, first_size, without_first_gap, with_bytes}
+use Rattle.net_storage.specs.Packets.{skipped, dequeued, freed_place, freed_bytes, AreFreed, IsFirstSized, IsFirst, first_size, without_first_gap, with_bytes}
 use Rattle.net_storage.specs.contracts.error.Empty as EM
+use Rattle.net_storage.specs.PacketHistory.{contents}
+use Rattle.net_storage.proofs.SaidFacts.{says_five}
 use Rattle.net_storage.proofs.LendInside.{lent, Back, lends_inside, comes_inside}
 use Rattle.net_storage.proofs.ResultParts.{no_fields, alone, ok_or_err, ok_had, err_had, pair_had, pair_of, pair_val, pair_typed}
 use Rattle.net_storage.proofs.PacketSteps.{freed_less}
@@ -160,25 +161,33 @@ module _ (G : Given) {M : Type 1} {𝓤 : Ura M} (𝓛 : Logic 𝓤) (𝓜 : Mod
     to_freed s = ((κs, qs, bounds, (record self { now = y }, (s, tt)), (mut_vals self, (vint w64 s ∷ [], tt))), tt)
 
     -- the end at `Err`, where self ends as it was
-    refuses : length x.packets ≡ 0 → ent 𝓤 (sep 𝓤 (sem 𝓛 (ends_as x)) (sep 𝓤 (𝓛.A.lft κs.0 qs.0) (mean 𝓛 (others G 𝓤 κs qs)))) (Post (live 1 (of_list (no_fields ∷ []))))
+    refuses : length x.packets ≡ 0 → contents x ≡ [] → ent 𝓤 (sep 𝓤 (sem 𝓛 (ends_as x)) (sep 𝓤 (𝓛.A.lft κs.0 qs.0) (mean 𝓛 (others G 𝓤 κs qs)))) (Post (live 1 (of_list (no_fields ∷ []))))
     unfolding follows_by
-    refuses none =
+    refuses none no_contents =
         qed 𝓛 (‵ (ends_as x) ∷ ‵ (flft κs.0 qs.0) ∷ others G 𝓤 κs qs ∷ []) ∵
         nothing ! $ feq_i ! (List Val) (no_fields ∷ []) (no_fields ∷ []) refl $ fjoin ! $ fpack ! (Valss []) (within (Declared.shape EM.the_type) tt (no_fields ∷ [])) tt $
         use1 𝓛 (‵ ((RS.the_row Both EM.the_row).own_val (Err (record {})) (live 1 (of_list (no_fields ∷ [])) ∷ []))) (err_of 𝓛 Both EM.the_row (record {}) no_fields) $
         suffices ! _ (ends_at 𝓛 (ended G) (stayed G) held bound (live 1 (of_list (no_fields ∷ []))) (Err (record {})) (tt, tt) (tt, tt)) $
-        nothing ! $ nothing ! $ fjoin ! $ join ! $ move ! (2 ∷ 3 ∷ []) $ join ! $ join ! $ frame ! $ says_two ! (((λ _. none), (λ _. refl)), tt) $ done !
+        nothing ! $ nothing ! $ fjoin ! $ join ! $ move ! (2 ∷ 3 ∷ []) $ join ! $ join ! $ frame ! $ says_five ! (((λ _. no_contents), (λ _. refl)), tt, tt, ((λ _. none), (λ _. refl)), tt) $ done !
+
+    -- the first packet has the header h and the bytes ws
+    abbrev Shows : G.H.Denot → List ℕ → Type 0
+    Shows h ws = contents x ≡ (h, ws) ∷ drop-list 1 (contents x)
+
+    -- what the contents are, once n bytes from the place k on are written
+    abbrev Leaves : ℕ → ℕ → Type 0
+    Leaves n k = (ws : List ℕ) → length ws ≡ n → contents (with_bytes y k ws) ≡ drop-list 1 (contents x)
 
     -- the end at `Ok`, where self follows the part
-    lends : (h : G.H.Denot) (hv : Val) (r : MutBor (List ℕ)) (w : Val) → length x.packets ≢ 0 → IsFirst x h r.now
+    lends : (h : G.H.Denot) (hv : Val) (r : MutBor (List ℕ)) (w : Val) → length x.packets ≢ 0 → contents x ≢ [] → Shows h r.now → Leaves (length r.now) from → IsFirst x h r.now
         → ent 𝓤 (sep 𝓤 (sem 𝓛 ((Header G).own_val h (hv ∷ []))) (sep 𝓤 (sem 𝓛 (Part.own_val r (w ∷ []))) (sep 𝓤 (sem 𝓛 (follow from r)) (sep 𝓤 (𝓛.A.lft κs.0 qs.0) (mean 𝓛 (others G 𝓤 κs qs)))))) (Post (live 0 (of_list (pair_val hv w ∷ []))))
     unfolding follows_by
-    lends h hv r w is_some is_front =
+    lends h hv r w is_some has_some shown leaves is_front =
         qed 𝓛 (‵ ((Header G).own_val h (hv ∷ [])) ∷ ‵ (Part.own_val r (w ∷ [])) ∷ ‵ (follow from r) ∷ ‵ (flft κs.0 qs.0) ∷ others G 𝓤 κs qs ∷ []) ∵
         use2 𝓛 (‵ (Both.own_val (h, r) (pair_val hv w ∷ []))) (pair_of 𝓛 (Header G) Part h r hv w) $
         use1 𝓛 (‵ ((RS.the_row Both EM.the_row).own_val (Ok (h, r)) (live 0 (of_list (pair_val hv w ∷ [])) ∷ []))) (ok_of 𝓛 Both EM.the_row (h, r) (pair_val hv w)) $
         suffices ! _ (ends_at 𝓛 (ended G) (stayed G) held bound (live 0 (of_list (pair_val hv w ∷ []))) (Ok (h, r)) (tt, tt) (tt, tt)) $
-        nothing ! $ nothing ! $ fjoin ! $ join ! $ move ! (2 ∷ 3 ∷ []) $ join ! $ join ! $ frame ! $ says_two ! (((λ f. absurd (subst T (sym f) tt)), (λ e. absurd (is_some e))), is_front) $ done !
+        nothing ! $ nothing ! $ fjoin ! $ join ! $ move ! (2 ∷ 3 ∷ []) $ join ! $ join ! $ frame ! $ says_five ! (((λ f. absurd (subst T (sym f) tt)), (λ e. absurd (has_some e))), shown, leaves, ((λ f. absurd (subst T (sym f) tt)), (λ e. absurd (is_some e))), is_front) $ done !
 
     walk : ent 𝓤 (on_entry 𝓛 (ended G).signature κs qs bound.0.3 bound.0.4) (WpFn 𝓤 H 𝓣.C 𝓣.Λ (function G) (vptr self.ref_ptr.0 self.ref_ptr.1 ∷ []) Post)
     unfolding follows_by
@@ -197,10 +206,11 @@ module _ (G : Given) {M : Type 1} {𝓤 : Ura M} (𝓛 : Logic 𝓤) (𝓜 : Mod
         nothing ! $ use1 𝓛 (raw (Asked G 𝓤 κs (emp 𝓤))) (asked G 𝓛 κs live-in (emp 𝓤)) $ move ! (1 ∷ 0 ∷ []) $ join ! $ use1 𝓛 (raw (Take.pre (to_take p))) (id⊢ 𝓤 _) $
         calls_at ! (framed 𝓤 H 𝓜 𝓣) Take take-met (to_take p) (and_then ! (get ! refl) (no_more !)) (λ v.
         use1 𝓛 (later (some (λ (r : Answer.Denot). ((‵ (flft (κ' p) p.1) ⊛ others G 𝓤 κs qs) ⊛ ‵ (Answer.own_val r (v ∷ []))) ⊛ some (λ (ws : Q G × Unit {0}). ‵ (lasts (take.ended G.H G.N G.B G.slots G.slots_by G.bytes G.bytes_by G.drops_by) (to_take p).0.0 (to_take p).0.3 ws)
+        ⊛ raw (fact 𝓤 (IsErr r ↔ (contents x ≡ []))) ⊛ raw (fact 𝓤 (IfOk r (λ t. contents x ≡ (t.0, freed_bytes ws.0 t.1) ∷ contents ws.0))) ⊛ raw (fact 𝓤 (OnOk r (contents ws.0 ≡ drop-list 1 (contents x))))
         ⊛ raw (fact 𝓤 (IsErr r ↔ (length x.packets ≡ 0))) ⊛ raw (fact 𝓤 (OnErr r (ws.0 ≡ x))) ⊛ raw (fact 𝓤 (IfOk r (λ t. IsFirstSized x.packets t.0 t.1))) ⊛ raw (fact 𝓤 (OnOk r (ws.0 ≡ y)))
         ⊛ raw (fact 𝓤 (IfOk r (λ t. AreFreed ws.0 t.1 × (freed_place ws.0 t.1 ≡ from)))))))) (id⊢ 𝓤 (Take.post (to_take p) v)) $
-        await ! tt $ pick ! (λ r. split ! $ split ! $ move ! (2 ∷ []) $ pick ! (λ ws. split3 ! $ move ! (1 ∷ []) $ heard ! _ (λ empty. move ! (1 ∷ []) $ split3 ! $
-        heard ! _ (λ unchanged. heard ! _ (λ is_first. split ! $ heard ! _ (λ is_taken. heard ! _ (λ is_freed. fsplit ! $ fsplit ! $ move ! (3 ∷ []) $ split ! $
+        await ! tt $ pick ! (λ r. split ! $ split ! $ move ! (2 ∷ []) $ pick ! (λ ws. split3 ! $ move ! (1 ∷ []) $ heard ! _ (λ none. move ! (1 ∷ []) $ split3 ! $
+        heard ! _ (λ taken. heard ! _ (λ left. split3 ! $ heard ! _ (λ empty. heard ! _ (λ unchanged. split3 ! $ heard ! _ (λ is_first. heard ! _ (λ is_taken. heard ! _ (λ is_freed. fsplit ! $ fsplit ! $ move ! (3 ∷ []) $ split ! $
         -- [the token; the other tokens; the loan's last value; its borrow; nothing; the answer; the way back]
         move ! (0 ∷ 2 ∷ 6 ∷ []) $ use3 𝓛 (later (‵ (mine ws.0) ⊛ ‵ (flft κs.0 qs.0))) (comes_inside 𝓛 κs.0 (Self G) qs.0 self p ws.0) $ await ! tt $ split ! $
         move ! (3 ∷ []) $ drop ! $ move ! (3 ∷ []) $ drop ! $
@@ -213,6 +223,8 @@ module _ (G : Given) {M : Type 1} {𝓤 : Ura M} (𝓛 : Logic 𝓤) (𝓜 : Mod
               let is_y : ws.0 ≡ y = subst (λ t. OnOk t (ws.0 ≡ y)) c.1 is_taken in
               let front_is : IsFirstSized x.packets h s = subst (λ t. IfOk t (λ u. IsFirstSized x.packets u.0 u.1)) c.1 is_first in
               let lies : AreFreed y s × (freed_place y s ≡ from) = subst (λ m. AreFreed m s × (freed_place m s ≡ from)) is_y (subst (λ t. IfOk t (λ u. AreFreed ws.0 u.1 × (freed_place ws.0 u.1 ≡ from))) c.1 is_freed) in
+              let lists : contents x ≡ (h, freed_bytes y s) ∷ contents y = subst (λ m. contents x ≡ (h, freed_bytes m s) ∷ contents m) is_y (subst (λ t. IfOk t (λ u. contents x ≡ (u.0, freed_bytes ws.0 u.1) ∷ contents ws.0)) c.1 taken) in
+              let rest : contents y ≡ drop-list 1 (contents x) = subst (λ m. contents m ≡ drop-list 1 (contents x)) is_y (subst (λ t. OnOk t (contents ws.0 ≡ drop-list 1 (contents x))) c.1 left) in
               rewrite ! 0 (λ (m : Q G). ‵ (mine m)) is_y refl $ rewrite ! 3 (λ (t : Answer.Denot). ‵ (Answer.own_val t (v ∷ []))) c.1 refl $ move ! (3 ∷ []) $
               ok_had ! (Tuple (Header G ∷ usize ∷ [])) EM.the_row c.0 v (λ ts is_v. pair_had ! (Header G) usize h s ts (λ us vs is_pair. peeks ! (Header G) (Is (Header G)) (shows 𝓛 (Header G)) h us (λ is_h.
               let one = alone (layout G.H) us (((param_laws 0 G.H G.laws).lawful 𝓛).typed h us is_h) in
@@ -232,8 +244,8 @@ module _ (G : Given) {M : Type 1} {𝓤 : Ura M} (𝓛 : Logic 𝓤) (𝓜 : Mod
               move ! (1 ∷ 0 ∷ []) $ join ! $ use1 𝓛 (raw (Freed.pre (to_freed k))) (id⊢ 𝓤 _) $
               calls_at ! (framed 𝓤 H 𝓜 𝓣) Freed freed-met (to_freed k) (and_then ! (get ! refl) (and_then ! (number ! 3 s (passed G) tt (get ! refl)) (no_more !))) (λ u.
               use1 𝓛 (later (some (λ (m : MutBor (List ℕ)). ((‵ (flft κs.0 qs.0) ⊛ others G 𝓤 κs qs) ⊛ ‵ (Part.own_val m (u ∷ []))) ⊛ some (λ (ws : Unit {0} × (Unit {0} × Unit {0})). ‵ (lasts (freed.ended G.H G.N G.B G.slots G.slots_by G.bytes G.bytes_by G.drops_by) (to_freed k).0.0 (to_freed k).0.3 ws)
-              ⊛ ‵ (follow (freed_place y k) m) ⊛ raw (fact 𝓤 (m.now ≡ take-list k (drop-list (freed_place y k) y.storage))) ⊛ raw (fact 𝓤 (length m.now ≡ k)))))) (id⊢ 𝓤 (Freed.post (to_freed k) u)) $
-              await ! tt $ pick ! (λ m. split ! $ split ! $ move ! (2 ∷ []) $ pick ! (λ _. split3 ! $ drop ! $ move ! (1 ∷ []) $ split ! $ heard ! _ (λ value. heard ! _ (λ size.
+              ⊛ ‵ (follow (freed_place y k) m) ⊛ raw (fact 𝓤 ((l : List ℕ) → length l ≡ k → contents (with_bytes y (freed_place y k) l) ≡ contents y)) ⊛ raw (fact 𝓤 (m.now ≡ take-list k (drop-list (freed_place y k) y.storage))) ⊛ raw (fact 𝓤 (length m.now ≡ k)))))) (id⊢ 𝓤 (Freed.post (to_freed k) u)) $
+              await ! tt $ pick ! (λ m. split ! $ split ! $ move ! (2 ∷ []) $ pick ! (λ _. split3 ! $ drop ! $ move ! (1 ∷ []) $ split3 ! $ heard ! _ (λ unseen. heard ! _ (λ value. heard ! _ (λ size.
               -- [what self follows; the tokens; the part; the header]
               -- the size that the clause `front` says
               let sized : length m.now ≡ s = omega (arith, size) in
@@ -245,7 +257,9 @@ module _ (G : Given) {M : Type 1} {𝓤 : Ura M} (𝓛 : Logic 𝓤) (𝓜 : Mod
               lands_as ! (ap only ok.0.0) refl (tt, (tt, (record { fits = fits }, tt))) $ sets ! (agg ! (and_then ! (get ! refl) (and_then ! (get ! refl) (no_more !)))) refl both $
               sets ! (agg ! (and_then ! (lit ! tt) (and_then ! (get ! refl) (no_more !)))) refl (and_tt _ both.0, (record { fits = lit< tt }, (both.1, tt))) $
               rewrite ! 0 (λ (l : List Val). ‵ (Part.own_val m l)) ok.0.0 refl $ returns ! (look_at ! 0 refl) $ free_all ! refl $ keep ! (3 ∷ 0 ∷ 1 ∷ 2 ∷ []) $
-              by ! (lends h hv m w (λ e. subst T (sym (subst (λ t. IsErr t) c.1 (empty.1 e))) tt) (subst (IsFirstSized x.packets h) (sym sized) front_is, value ∙ (λ i. take-list (sym sizes i) (drop-list (lies.1 i) x.storage))))))))))))))
+              let shown : Shows h m.now = lists ∙ ap₂ (λ (l : List ℕ) (t : List (G.H.Denot × List ℕ)). (h, l) ∷ t) (sym value) rest in
+              let leaves : Leaves (length m.now) from = λ l long. subst (λ (p : ℕ). contents (with_bytes y p l) ≡ contents y) lies.1 (unseen l (long ∙ size)) ∙ rest in
+              by ! (lends h hv m w (λ e. subst T (sym (subst (λ t. IsErr t) c.1 (empty.1 e))) tt) (λ e. subst T (sym (subst (λ t. IsErr t) c.1 (none.1 e))) tt) shown leaves (subst (IsFirstSized x.packets h) (sym sized) front_is, value ∙ (λ i. take-list (sym sizes i) (drop-list (lies.1 i) x.storage)))))))))))))))
           | inr c ↦
               let is_x : ws.0 ≡ x = subst (λ t. OnErr t (ws.0 ≡ x)) c.1 unchanged in
               rewrite ! 0 (λ (m : Q G). ‵ (mine m)) is_x refl $ rewrite ! 3 (λ (t : Answer.Denot). ‵ (Answer.own_val t (v ∷ []))) c.1 refl $ move ! (3 ∷ []) $
@@ -255,8 +269,8 @@ module _ (G : Given) {M : Type 1} {𝓤 : Ura M} (𝓛 : Logic 𝓤) (𝓜 : Mod
               fsplit3 ! $ drop ! $ use1 𝓛 (‵ (ends_as x)) (𝓛.names.obs-res self.ghost_name ((Self G).coded.code x)) $
               -- [what self ends as; its borrow; the token; the other tokens]
               sets ! (agg ! (no_more !)) refl (tt, tt) $ sets ! (agg ! (and_then ! (lit ! tt) (and_then ! (get ! refl) (no_more !)))) refl (tt, (record { fits = lit< tt }, (tt, tt))) $
-              returns_within ! Post refl (look_at ! 0 refl) $ free_all ! refl $ keep ! (0 ∷ 2 ∷ 3 ∷ []) $ by ! (refuses (empty.0 (subst (λ t. IsErr t) (sym c.1) refl)))))
-        ]))))))))))
+              returns_within ! Post refl (look_at ! 0 refl) $ free_all ! refl $ keep ! (0 ∷ 2 ∷ 3 ∷ []) $ by ! (refuses (empty.0 (subst (λ t. IsErr t) (sym c.1) refl)) (none.0 (subst (λ t. IsErr t) (sym c.1) refl)))))
+        ])))))))))))))
 
   module _ (z : (walk_of 𝓛 (ended G) (stayed G) held).Ghost) where
     abbrev Rs : List RattleType

@@ -1,11 +1,14 @@
-use Rattle.std.proofs.Common.{◌≡◌, ◌++◌, ◌∷◌, sym, ap, ◌∙◌, subst, arith, of_calls, List, ℕ, if◌then◌else◌, is_ok, length, drop, take}
+use Rattle.std.proofs.Common.{◌≡◌, ◌++◌, ◌∷◌, sym, ap, ◌∙◌, subst, arith, of_calls, List, ℕ, if◌then◌else◌, is_ok, length, drop, take, rules}
 use Rattle.std.specs.declared.option.Option.TheVariants.{Some, None}
 use Rattle.net_storage.specs.Ring.{queue, capacity, WellFormed, contiguous_queued}
 use Rattle.net_storage.specs.Packets.{first_gap, popped, first_written, handed}
+use Rattle.net_storage.specs.PacketHistory.{contents}
 use Rattle.net_storage.specs.PacketSlots.{slot}
 use Rattle.net_storage.specs.PacketCalls.{GivesAtPacket}
 use Rattle.std.proofs.lemmas.List.{length-take-le}
 use Rattle.net_storage.proofs.PacketFacts.{off_wf}
+use Rattle.net_storage.proofs.PacketOrder as order
+use Rattle.net_storage.proofs.PacketRuns.{handed_contents, none_of}
 use Rattle.net_storage.proofs.PacketSteps.{close_gap, lift_fits, lift_front, off_kept, off_left, on_kept, on_left}
 use Rattle.net_storage.proofs.packet_buffer.Packets.dequeue_with.Goals as goal
 use Rattle.net_storage.proofs.packet_buffer.Packets.dequeue_with.Goals.{then-is_ok, else-is_ok}
@@ -82,15 +85,10 @@ returns-clause-handed g c =
     let front = lift_front m bytes c.self.invariant z size c.in_ok-size.header at c.args.self.now is in
     let gives = subst (λ l. GivesAtPacket g.F.FnOnce c.args.f c.in_ok-size.header (take size l) r.1.0 r.1.1 called.0) k.1.shows called.1 in
     let whole = length-take-le size (take (contiguous_queued bytes) (queue bytes)) (lift_fits m bytes c.self.invariant z size c.in_ok-size.header at) in
-    record {
-      header = c.in_ok-size.header;
-      bytes = take size (take (contiguous_queued bytes) (queue bytes));
-      new_header = r.1.1;
-      new_bytes = called.0;
-      first = front;
-      gives = gives;
-      size = called.2 ∙ sym whole;
-      made = elim c.if-is_ok.branch [
+    let q = c.args.self.now in
+    let ok = c.skip.ensures.well_placed in
+    let long : length called.0 ≡ length (take size (take (contiguous_queued bytes) (queue bytes))) = called.2 ∙ sym whole in
+    let made : c.if-is_ok.self ≡ handed (is_ok r.1.0) q r.1.1 called.0 = elim c.if-is_ok.branch [
         | then-is_ok w ↦
             let all = count ∙ ap (λ t. if t then size else 0) (sym w.if-is_ok.ensures.value) in
             let em = w.dequeue_allocated.ensures.dequeued.0 ∙ rest in
@@ -101,5 +99,22 @@ returns-clause-handed g c =
             let none = count ∙ ap (λ t. if t then size else 0) (sym w.if-is_ok.ensures.value) in
             let em = w.put_header.ensures.queue size None (lifted.0 ∙ ap (λ l. slot size None ∷ l) (sym rest)) ∙ ap (λ l. slot size (Some r.1.1) ∷ l) rest in
             w.self-is ∙ on_left m bytes c.self.invariant z size c.in_ok-size.header at k.0 called.0 left called.2 r.0 c.dequeue_many_with-answer.new.self k.3 none r.1.1 w.put_header.new.slots em w.put_header.ensures.well_formed (w.put_header.ensures.capacity ∙ lifted.2) ∙ ap (λ q. first_written q r.1.1 called.0) is ∙ ap (λ t. handed t c.args.self.now r.1.1 called.0) w.if-is_ok.ensures.value
-      ];
+      ] in
+    record {
+      header = c.in_ok-size.header;
+      bytes = take size (take (contiguous_queued bytes) (queue bytes));
+      new_header = r.1.1;
+      new_bytes = called.0;
+      first = front;
+      gives = gives;
+      size = long;
+      shown = order.shown q ok c.in_ok-size.header (take size (take (contiguous_queued bytes) (queue bytes))) front;
+      left = ap contents made ∙ handed_contents q ok c.in_ok-size.header (take size (take (contiguous_queued bytes) (queue bytes))) r.1.1 called.0 (is_ok r.1.0) front long;
+      made = made;
     }
+
+pub returns-in_err-size-clause-none : goal.returns-in_err-size-clause-none
+returns-in_err-size-clause-none g c = none_of c.args.self.now (search rules)
+
+pub returns-clause-none : goal.returns-clause-none
+returns-clause-none g c = none_of c.args.self.now (search rules)

@@ -48,13 +48,14 @@ use denote.Triple.Walked.{Stays, stay_dropped, walk_of, ends_at, Goes-spent_ref,
 use Rattle.std.proofs.VecSteps.Shapes.{after, head, front, arm_body}
 use Rattle.std.proofs.Common.{arith}
 use Rattle.std.proofs.raw_atomic.Walks.{proved_at}
-use Rattle.std.proofs.mem.Facts.{says_three}
 use Rattle.std.proofs.ResultValues.{ok_of, err_of}
-use Rattle.std.specs.Prelude.{Ok, Err, IsErr, OnOk, ◌↔◌}
+use Rattle.std.specs.Prelude.{Ok, Err, IsErr, OnOk, OnErr, ◌↔◌}
 use Rattle.std.specs.declared.option.Option.TheVariants.{None}
 use Rattle.std.specs.contracts.result.Result as RS
 use Rattle.net_storage.specs.Packets.{placement, pushed_if, placed_if_room, only_last as last-of, first_size, last_bytes, last_written}
 use Rattle.net_storage.specs.contracts.error.Full as FU
+use Rattle.net_storage.specs.PacketHistory.{contents, with_last_bytes}
+use Rattle.net_storage.proofs.SaidFacts.{says_four}
 use Rattle.net_storage.proofs.LendInside.{lent, Back, lends_inside, comes_inside}
 use Rattle.net_storage.proofs.ResultParts.{no_fields, alone, ok_or_err, ok_had, err_had}
 use Rattle.net_storage.proofs.PassedNumber.{second_passed, number_of, number_fits, number}
@@ -164,18 +165,22 @@ module _ (G : Given) {M : Type 1} {𝓤 : Ura M} (𝓛 : Logic 𝓤) (𝓜 : Mod
         nothing ! $ feq_i ! (List Val) (no_fields ∷ []) (no_fields ∷ []) refl $ fjoin ! $ fpack ! (Valss []) (within (Declared.shape FU.the_type) tt (no_fields ∷ [])) tt $
         use1 𝓛 (‵ ((RS.the_row Part FU.the_row).own_val (Err (record {})) (live 1 (of_list (no_fields ∷ [])) ∷ []))) (err_of 𝓛 Part FU.the_row (record {}) no_fields) $
         suffices ! _ (ends_at 𝓛 (ended G) (stayed G) held bound (live 1 (of_list (no_fields ∷ []))) (Err (record {})) (tt, (tt, (tt, tt))) (tt, (tt, (tt, tt)))) $
-        nothing ! $ nothing ! $ fjoin ! $ nothing ! $ fjoin ! $ nothing ! $ fjoin ! $ join ! $ move ! (2 ∷ 3 ∷ []) $ join ! $ join ! $ frame ! $ says_three ! (((λ _. none), (λ _. refl)), tt, tt) $ done !
+        nothing ! $ nothing ! $ fjoin ! $ nothing ! $ fjoin ! $ nothing ! $ fjoin ! $ join ! $ move ! (2 ∷ 3 ∷ []) $ join ! $ join ! $ frame ! $ says_four ! (tt, ((λ _. none), (λ _. refl)), tt, tt) $ done !
+
+    -- what the contents are, once the packet of q that came last is written
+    abbrev Accepts : ℕ → Q G → Type 0
+    Accepts s q = (ws : List ℕ) → length ws ≡ s → contents (last_written q ws) ≡ contents x ++ ((h, ws) ∷ [])
 
     -- the end at `Ok`, where self follows the part
-    lends : (r : MutBor (List ℕ)) (w : Val) → placement x n ≢ None → r.now ≡ last_bytes (placed_if_room x n h) → length r.now ≡ n
+    lends : (r : MutBor (List ℕ)) (w : Val) → placement x n ≢ None → Accepts n (placed_if_room x n h) → r.now ≡ last_bytes (placed_if_room x n h) → length r.now ≡ n
         → ent 𝓤 (sep 𝓤 (sem 𝓛 (Part.own_val r (w ∷ []))) (sep 𝓤 (sem 𝓛 (follow (placed_if_room x n h) r)) (sep 𝓤 (𝓛.A.lft κs.0 qs.0) (mean 𝓛 (others G 𝓤 κs qs))))) (Post (live 0 (of_list (w ∷ []))))
     unfolding follows_by
-    lends r w is_placed value size =
+    lends r w is_placed accepted value size =
         qed 𝓛 (‵ (Part.own_val r (w ∷ [])) ∷ ‵ (follow (placed_if_room x n h) r) ∷ ‵ (flft κs.0 qs.0) ∷ others G 𝓤 κs qs ∷ []) ∵
         use1 𝓛 (‵ ((RS.the_row Part FU.the_row).own_val (Ok r) (live 0 (of_list (w ∷ [])) ∷ []))) (ok_of 𝓛 Part FU.the_row r w) $
         suffices ! _ (ends_at 𝓛 (ended G) (stayed G) held bound (live 0 (of_list (w ∷ []))) (Ok r) (tt, (tt, (tt, tt))) (tt, (tt, (tt, tt)))) $
         nothing ! $ nothing ! $ fjoin ! $ nothing ! $ fjoin ! $ nothing ! $ fjoin ! $ join ! $ move ! (2 ∷ 3 ∷ []) $ join ! $ join ! $ frame ! $
-        says_three ! (((λ f. absurd (subst T (sym f) tt)), (λ e. absurd (is_placed e))), value, size) $ done !
+        says_four ! (accepted, ((λ f. absurd (subst T (sym f) tt)), (λ e. absurd (is_placed e))), value, size) $ done !
 
     walk : n < 2 ^ 64 → T (has_ty (layout G.H) hv) × WT hv
         → ent 𝓤 (on_entry 𝓛 (ended G).signature κs qs bound.0.3 bound.0.4) (WpFn 𝓤 H 𝓣.C 𝓣.Λ (function G) (vptr self.ref_ptr.0 self.ref_ptr.1 ∷ vint w64 n ∷ hv ∷ []) Post)
@@ -196,8 +201,10 @@ module _ (G : Given) {M : Type 1} {𝓤 : Ura M} (𝓛 : Logic 𝓤) (𝓜 : Mod
         calls_at ! (framed 𝓤 H 𝓜 𝓣) Place place-met (to_place p) (and_then ! (get ! refl) (and_then ! (number ! 2 n (passed G) tt (get ! refl)) (and_then ! (get ! refl) (no_more !)))) (λ v.
         use1 𝓛 (later (some (λ (r : Answer.Denot). ((‵ (flft (κ' p) p.1) ⊛ others G 𝓤 κs qs) ⊛ ‵ (Answer.own_val r (v ∷ []))) ⊛
         some (λ (ws : Q G × (Unit {0} × (Unit {0} × Unit {0}))). ‵ (lasts (place.ended G.H G.N G.B G.slots G.slots_by G.bytes G.bytes_by G.drops_by) (to_place p).0.0 (to_place p).0.3 ws)
+        ⊛ raw (fact 𝓤 (OnOk r (Accepts k ws.0))) ⊛ raw (fact 𝓤 (OnOk r (contents ws.0 ≡ contents x ++ ((h, last_bytes ws.0) ∷ [])))) ⊛ raw (fact 𝓤 (OnErr r (ws.0 ≡ x)))
         ⊛ raw (fact 𝓤 (IsErr r ↔ (placement x k ≡ None))) ⊛ raw (fact 𝓤 (ws.0 ≡ y)) ⊛ raw (fact 𝓤 (OnOk r (first_size (last-of ws.0.packets) ≡ k))))))) (id⊢ 𝓤 (Place.post (to_place p) v)) $
-        await ! tt $ pick ! (λ r. split ! $ split ! $ move ! (2 ∷ []) $ pick ! (λ ws. split3 ! $ move ! (1 ∷ []) $ heard ! _ (λ full. move ! (1 ∷ []) $ split ! $ heard ! _ (λ is_y. heard ! _ (λ is_sized. fsplit ! $ fsplit ! $
+        await ! tt $ pick ! (λ r. split ! $ split ! $ move ! (2 ∷ []) $ pick ! (λ ws. split3 ! $ move ! (1 ∷ []) $ heard ! _ (λ accepts. move ! (1 ∷ []) $
+        split3 ! $ heard ! _ (λ stands. heard ! _ (λ unchanged. split3 ! $ heard ! _ (λ full. heard ! _ (λ is_y. heard ! _ (λ is_sized. fsplit ! $ fsplit ! $
         rewrite ! 0 (λ (m : Q G). ‵ (fres p.2 ((Self G).coded.code m))) is_y refl $ move ! (3 ∷ []) $ split ! $
         -- [the token; the other tokens; the loan's last value; its borrow; nothing; the answer; the way back]
         move ! (0 ∷ 2 ∷ 6 ∷ []) $ use3 𝓛 (later (‵ (mine y) ⊛ ‵ (flft κs.0 qs.0))) (comes_inside 𝓛 κs.0 (Self G) qs.0 self p y) $ await ! tt $ split ! $
@@ -207,6 +214,7 @@ module _ (G : Given) {M : Type 1} {𝓤 : Ura M} (𝓛 : Logic 𝓤) (𝓜 : Mod
           | inl c ↦
               let is_placed : placement x k ≢ None = λ e. subst T (sym (subst (λ t. IsErr t) c.1 (full.1 e))) tt in
               let sizes : first_size (last-of y.packets) ≡ k = subst (λ m. first_size (last-of m.packets) ≡ k) is_y (subst (λ t. OnOk t (first_size (last-of ws.0.packets) ≡ k)) c.1 is_sized) in
+              let accepted : Accepts k y = subst (Accepts k) is_y (subst (λ t. OnOk t (Accepts k ws.0)) c.1 accepts) in
               rewrite ! 3 (λ (t : Answer.Denot). ‵ (Answer.own_val t (v ∷ []))) c.1 refl $ move ! (3 ∷ []) $ ok_had ! unit FU.the_row c.0 v (λ us is_v. peeks ! unit (Is unit) (shows 𝓛 unit) c.0 us (λ is_unit. drop ! $
               lands_as ! (is_v ∙ ap (λ (l : List Val). live 0 (of_list (l ++ []))) is_unit) refl (tt, (record { fits = lit< tt }, (tt, tt))) $
               first ! $ switches_on ! (get_tag ! (vrt ! refl (fld ! refl (stop !))) (whole !)) $ exec ! 𝓣.C 𝓣.Λ En (arm_body 0 (front (after 3 (function G).body))) Then $
@@ -216,8 +224,8 @@ module _ (G : Given) {M : Type 1} {𝓤 : Ura M} (𝓛 : Logic 𝓤) (𝓜 : Mod
               nothing ! $ use1 𝓛 (raw (Asked G 𝓤 κs (emp 𝓤))) (asked G 𝓛 κs live-in (emp 𝓤)) $ move ! (1 ∷ 0 ∷ []) $ join ! $ use1 𝓛 (raw (Last.pre to_last)) (id⊢ 𝓤 _) $
               calls_at ! (framed 𝓤 H 𝓜 𝓣) Last last-met to_last (and_then ! (get ! refl) (no_more !)) (λ u.
               use1 𝓛 (later (some (λ (m : MutBor (List ℕ)). ((‵ (flft κs.0 qs.0) ⊛ others G 𝓤 κs qs) ⊛ ‵ (Part.own_val m (u ∷ []))) ⊛ some (λ (ws : Unit {0} × Unit {0}). ‵ (lasts (last.ended G.H G.N G.B G.slots G.slots_by G.bytes G.bytes_by G.drops_by) to_last.0.0 to_last.0.3 ws)
-              ⊛ ‵ (follow y m) ⊛ raw (fact 𝓤 (m.now ≡ last_bytes y)) ⊛ raw (fact 𝓤 (length m.now ≡ first_size (last-of y.packets))))))) (id⊢ 𝓤 (Last.post to_last u)) $
-              await ! tt $ pick ! (λ m. split ! $ split ! $ move ! (2 ∷ []) $ pick ! (λ _. split3 ! $ drop ! $ move ! (1 ∷ []) $ split ! $ heard ! _ (λ value. heard ! _ (λ size.
+              ⊛ ‵ (follow y m) ⊛ raw (fact 𝓤 ((l : List ℕ) → length l ≡ length m.now → contents (last_written y l) ≡ with_last_bytes l (contents y))) ⊛ raw (fact 𝓤 (m.now ≡ last_bytes y)) ⊛ raw (fact 𝓤 (length m.now ≡ first_size (last-of y.packets))))))) (id⊢ 𝓤 (Last.post to_last u)) $
+              await ! tt $ pick ! (λ m. split ! $ split ! $ move ! (2 ∷ []) $ pick ! (λ _. split3 ! $ drop ! $ move ! (1 ∷ []) $ split3 ! $ heard ! _ (λ written. heard ! _ (λ value. heard ! _ (λ size.
               -- [what self follows; the tokens; the part]
               move ! (2 ∷ []) $ peeks ! Part (Is Part) (shows 𝓛 Part) m (u ∷ []) (λ ok.
               let w : Val = slice_val m.ref_ptr (length m.now) in
@@ -227,7 +235,7 @@ module _ (G : Given) {M : Type 1} {𝓤 : Ura M} (𝓛 : Logic 𝓤) (𝓜 : Mod
               lands_as ! (ap only ok.0.0) refl (tt, (tt, (record { fits = fits }, tt))) $
               sets ! (agg ! (and_then ! (lit ! tt) (and_then ! (get ! refl) (no_more !)))) refl (tt, (record { fits = lit< tt }, ((tt, (record { fits = fits }, tt)), tt))) $
               rewrite ! 0 (λ (l : List Val). ‵ (Part.own_val m l)) ok.0.0 refl $ returns ! (look_at ! 0 refl) $ free_all ! refl $ keep ! (0 ∷ 1 ∷ 2 ∷ []) $
-              by ! (lends m w is_placed value sized)))))))))
+              by ! (lends m w is_placed accepted value sized))))))))))
           | inr c ↦
               let none : placement x k ≡ None = full.0 (subst (λ t. IsErr t) (sym c.1) refl) in
               rewrite ! 0 (λ (m : Q G). ‵ (mine m)) (ap (λ m. pushed_if x m k h) none) refl $
@@ -238,7 +246,7 @@ module _ (G : Given) {M : Type 1} {𝓤 : Ura M} (𝓛 : Logic 𝓤) (𝓜 : Mod
               -- [what self ends as; its borrow; the token; the other tokens]
               sets ! (agg ! (no_more !)) refl (tt, tt) $ sets ! (agg ! (and_then ! (lit ! tt) (and_then ! (get ! refl) (no_more !)))) refl (tt, (record { fits = lit< tt }, (tt, tt))) $
               returns_within ! Post refl (look_at ! 0 refl) $ free_all ! refl $ keep ! (0 ∷ 2 ∷ 3 ∷ []) $ by ! (refuses none)))
-        ]))))))))
+        ])))))))))))
 
   module _ (z : (walk_of 𝓛 (ended G) (stayed G) held).Ghost) where
     abbrev Rs : List RattleType

@@ -1,10 +1,12 @@
-use Rattle.std.proofs.Common.{◌≡◌, ◌+◌, ◌++◌, ◌∷◌, [], refl, sym, ap, ◌∙◌, subst, arith, rules}
+use Rattle.std.proofs.Common.{◌≡◌, ◌+◌, ◌++◌, ◌∷◌, [], refl, sym, ap, ◌∙◌, subst, arith, length, rules}
 use Rattle.std.specs.declared.option.Option.TheVariants.{Some}
 use Rattle.std.specs.Fn.{FnOnceReturnsAtMut}
 use denote.MutBor.{at_last}
 use Rattle.net_storage.specs.Ring.{window, queue, spare_index, with_enqueued, written}
 use Rattle.net_storage.specs.Packets.{placement, placed_if_room, last_written, last_cut, IsRoom}
+use Rattle.net_storage.specs.PacketHistory.{contents}
 use Rattle.net_storage.specs.PacketSlots.{slot, gap_slot}
+use Rattle.net_storage.proofs.PacketOrder as order
 use Rattle.net_storage.proofs.PacketSteps.{free_room, byte_room, fill_room, fill_holds, fill_left}
 use Rattle.net_storage.proofs.Rotations.{length-overwrite}
 use Rattle.net_storage.proofs.packet_buffer.Packets.enqueue_with_infallible.Goals as goal
@@ -13,7 +15,7 @@ pub f-count-requires : goal.f-count-requires
 f-count-requires g c =
     let m = c.self.inside.slots in
     let b = c.self.inside.bytes in
-    let e = ap (λ q. placement q c.args.max_size) c.self.view_is ∙ sym c.in-Some.ensures in
+    let e = ap (λ q. placement q c.args.max_size) c.self.view_is ∙ sym c.in-Some.ensures.gap in
     let now = c.get_unallocated.result.now in
     let room = subst (λ q. IsRoom q c.args.max_size c.args.header now) c.self.view_is
     (fill_room m b c.self.invariant c.in-Some.gap c.args.max_size e c.args.header c.restart.new.bytes c.restart.ensures.ring now c.get_unallocated.ensures.stored c.get_unallocated.ensures.count) in
@@ -23,7 +25,7 @@ pub overflow_add-gap : goal.overflow_add-gap
 overflow_add-gap g c =
     let m = c.self.inside.slots in
     let b = c.self.inside.bytes in
-    let e = ap (λ q. placement q c.args.max_size) c.self.view_is ∙ sym c.in-Some.ensures in
+    let e = ap (λ q. placement q c.args.max_size) c.self.view_is ∙ sym c.in-Some.ensures.gap in
     let now = c.get_unallocated.result.now in
     let room = subst (λ q. IsRoom q c.args.max_size c.args.header now) c.self.view_is
     (fill_room m b c.self.invariant c.in-Some.gap c.args.max_size e c.args.header c.restart.new.bytes c.restart.ensures.ring now c.get_unallocated.ensures.stored c.get_unallocated.ensures.count) in
@@ -38,7 +40,7 @@ pub enqueue_unallocated-requires : goal.enqueue_unallocated-requires
 enqueue_unallocated-requires g c =
     let m = c.self.inside.slots in
     let b = c.self.inside.bytes in
-    let e = ap (λ q. placement q c.args.max_size) c.self.view_is ∙ sym c.in-Some.ensures in
+    let e = ap (λ q. placement q c.args.max_size) c.self.view_is ∙ sym c.in-Some.ensures.gap in
     let now = c.get_unallocated.result.now in
     let room = subst (λ q. IsRoom q c.args.max_size c.args.header now) c.self.view_is
     (fill_room m b c.self.invariant c.in-Some.gap c.args.max_size e c.args.header c.restart.new.bytes c.restart.ensures.ring now c.get_unallocated.ensures.stored c.get_unallocated.ensures.count) in
@@ -54,14 +56,14 @@ pub push_slots-requires-clause-free : goal.push_slots-requires-clause-free
 push_slots-requires-clause-free g c =
     let m = c.self.inside.slots in
     let b = c.self.inside.bytes in
-    let e = ap (λ q. placement q c.args.max_size) c.self.view_is ∙ sym c.in-Some.ensures in
+    let e = ap (λ q. placement q c.args.max_size) c.self.view_is ∙ sym c.in-Some.ensures.gap in
     free_room m b c.self.invariant c.in-Some.gap c.args.max_size e
 
 pub invariant_of-self : goal.invariant_of-self
 invariant_of-self g c =
     let m = c.self.inside.slots in
     let b = c.self.inside.bytes in
-    let e = ap (λ q. placement q c.args.max_size) c.self.view_is ∙ sym c.in-Some.ensures in
+    let e = ap (λ q. placement q c.args.max_size) c.self.view_is ∙ sym c.in-Some.ensures.gap in
     let now = c.get_unallocated.result.now in
     let room = subst (λ q. IsRoom q c.args.max_size c.args.header now) c.self.view_is
     (fill_room m b c.self.invariant c.in-Some.gap c.args.max_size e c.args.header c.restart.new.bytes c.restart.ensures.ring now c.get_unallocated.ensures.stored c.get_unallocated.ensures.count) in
@@ -74,7 +76,7 @@ pub returns-clause-wrote : goal.returns-clause-wrote
 returns-clause-wrote g c =
     let m = c.self.inside.slots in
     let b = c.self.inside.bytes in
-    let e = ap (λ q. placement q c.args.max_size) c.self.view_is ∙ sym c.in-Some.ensures in
+    let e = ap (λ q. placement q c.args.max_size) c.self.view_is ∙ sym c.in-Some.ensures.gap in
     let now = c.get_unallocated.result.now in
     let room = subst (λ q. IsRoom q c.args.max_size c.args.header now) c.self.view_is
     (fill_room m b c.self.invariant c.in-Some.gap c.args.max_size e c.args.header c.restart.new.bytes c.restart.ensures.ring now c.get_unallocated.ensures.stored c.get_unallocated.ensures.count) in
@@ -87,4 +89,6 @@ returns-clause-wrote g c =
     let filled : c.enqueue_unallocated.new.self ≡ with_enqueued (c.in-Some.gap + count) (written b1 (spare_index b1 c.in-Some.gap) after) = search rules in
     let left = fill_left m b c.self.invariant c.in-Some.gap c.args.max_size e c.args.header b1 c.restart.ensures.ring count le after c.push_slots.new.slots put c.push_slots.ensures.well_formed c.enqueue_unallocated.new.self filled c.push_slots.ensures.capacity
     ∙ ap (λ q. last_cut count (last_written (placed_if_room q c.args.max_size c.args.header) after)) c.self.view_is in
-    record { room = now; bytes = after; is_room = room; met = search met; size = c.f-count.auto.arg2 ∙ room.2; at_most = search le; made = search left }
+    let long : length after ≡ c.args.max_size = c.f-count.auto.arg2 ∙ room.2 in
+    let accepted = ap contents left ∙ order.accepted_with c.args.self.now c.placement.ensures.well_placed c.args.max_size c.args.header after room.0 long count le in
+    record { room = now; bytes = after; is_room = room; met = search met; size = long; at_most = search le; accepted = search accepted; made = search left }

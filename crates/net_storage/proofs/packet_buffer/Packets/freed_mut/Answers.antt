@@ -1,8 +1,9 @@
 use Rattle.std.proofs.Common.{◌≡◌, refl, sym, ap, ◌∙◌, ◌-◌, subst, arith, length, rules}
 use Rattle.net_storage.specs.Ring.{queue, spare_index, contiguous_window_from, window}
-use Rattle.net_storage.specs.Packets.{freed_place, AreFreed}
+use Rattle.net_storage.specs.Packets.{freed_place, AreFreed, WellPlaced}
 use Rattle.net_storage.specs.PacketSlots.{packet_queue, packets_in}
-use Rattle.net_storage.proofs.PacketSteps.{freed_room, freed_at, freed_run, freed_ends, freed_value, written_holds}
+use Rattle.net_storage.proofs.PacketSteps.{freed_room, freed_at, freed_run, freed_ends, freed_value, written_holds, well_placed}
+use Rattle.net_storage.proofs.PacketRuns.{freed_unseen}
 use Rattle.net_storage.proofs.packet_buffer.Packets.freed_mut.Goals as goal
 
 pub overflow_sub-before : goal.overflow_sub-before
@@ -28,6 +29,7 @@ returns g c =
       (refl, freed_ends m b c.self.invariant size f c.args.self.now c.self.view_is _ (search at)),
       record {
         writes_back = tt;
+        unseen = freed_unseen c.args.self.now (subst (λ q. WellPlaced q) c.self.view_is (well_placed m b c.self.invariant)) size c.requires;
         value = freed_value m b c.self.invariant size f c.args.self.now c.self.view_is _ (search at) now c.get_unallocated.ensures.stored long;
         size = long;
       },

@@ -19,6 +19,6 @@ returns-clause-popped g c =
     let is : r ≡ dequeued q = c.in_ok-header.ensures.dequeued in
     let left : with_bytes r (freed_place r size) bytes ≡ dequeued q = freed_stay r size bytes c.freed_mut.ensures.value ∙ is in
     let shown : contents q ≡ (h, bytes) ∷ contents (dequeued q) =
-    c.the_two_steps_apart.ensures.taken q h size c.well_placed.ensures c.in_ok-header.ensures.first
-    ∙ ap (λ (l : List ℕ). (h, l) ∷ contents (dequeued q)) (sym (c.freed_mut.ensures.value ∙ ap (λ o. freed_bytes o size) is)) in
+    c.in_ok-header.ensures.taken ∙ ap (λ o. (h, freed_bytes r size) ∷ contents o) is
+    ∙ ap (λ (l : List ℕ). (h, l) ∷ contents (dequeued q)) (sym c.freed_mut.ensures.value) in
     record { bytes = bytes; first = shown ∙ ap (λ o. (h, bytes) ∷ contents o) (sym left); count = c.copy-count.ensures.count; copied = c.copy-count.ensures.copied }
