@@ -1,0 +1,169 @@
+-- What a stream on its way stays, step by step.
+use Rattle.std.proofs.Common.{◌≡◌, ℕ, ◌-◌, ◌≤◌, ◌<◌, ◌^◌, ◌&&◌, nat_le, Bool, true, false, cond, drop, Result, Ok, Err, OnOk, OnErr, List, [], ◌∷◌, ◌++◌, All, Option, Some, refl, sym, ap, subst, ◌∙◌, ⊎_elim, le_trans}
+use Rattle.std.proofs.lemmas.List.Elements.{All-nil, All-cons, All-head, All-tail}
+use Rattle.net_receiver.specs.Stored.{Stored, stored_next}
+use Rattle.net_receiver.specs.Truthful.{ReceivesFrom, Says}
+use Rattle.net_stream.specs.Outgoing.{Outgoing, outgoing, Sends, acknowledged, end_of}
+use Rattle.net_stream.specs.Frames.{frame_of, decoded, RoundTrip, FrameSays, FrameWithin}
+use Rattle.net_stream.specs.Fates.{FatesSeen}
+use Rattle.net_stream.specs.Carrying.{PathSeen, Carries, MayReturn}
+
+-- ---- lists
+pub All-push : {X : Type 0} (P : X → Type 0) (xs : List X) (y : X) → All P xs → P y → All P (xs ++ y ∷ [])
+All-push P [] y all one = All-cons P y [] one (All-nil P)
+All-push P (x ∷ xs) y all one = All-cons P x (xs ++ y ∷ []) (All-head P x xs all) (All-push P xs y (All-tail P x xs all) one)
+
+pub All-map : {X : Type 0} (P Q : X → Type 0) → ((a : X) → P a → Q a) → (xs : List X) → All P xs → All Q xs
+All-map P Q f [] all = All-nil Q
+All-map P Q f (x ∷ xs) all = All-cons Q x xs (f x (All-head P x xs all)) (All-map P Q f xs (All-tail P x xs all))
+
+-- ---- frames
+same_parts : (pos p : ℕ) (xs ys : List ℕ) → ◌≡◌ {A = Option (ℕ × List ℕ)} (Some (pos, xs)) (Some (p, ys)) → (pos ≡ p) × (xs ≡ ys)
+same_parts pos p xs ys e = (let both : ◌≡◌ {A = ℕ × List ℕ} (pos, xs) (p, ys) = cc in (ap (λ q. q.0) both, ap (λ q. q.1) both))
+
+-- a frame says what was encoded
+pub encoded : RoundTrip → (f : ℕ) (w : List ℕ) (pos : ℕ) (xs : List ℕ) → pos < 2 ^ 64 → Says f w pos xs → FrameSays f w (frame_of pos xs)
+encoded trip f w pos xs h says = λ p ys is.
+    let e = same_parts pos p xs ys (sym (trip pos xs h) ∙ is) in
+    subst (λ q. Says f w q ys) e.0 (subst (Says f w pos) e.1 says)
+
+pub encoded_ack : RoundTrip → (limit n : ℕ) (xs : List ℕ) → n < 2 ^ 64 → n ≤ limit → FrameWithin limit (frame_of n xs)
+encoded_ack trip limit n xs h within = λ p ys is.
+    let e = same_parts n p xs ys (sym (trip n xs h) ∙ is) in
+    subst (λ q. q ≤ limit) e.0 within
+
+-- ---- steps
+module _ (f : ℕ) (w : List ℕ) where
+  -- the receiver took something
+  pub took : (s : Outgoing) (r u : Stored) (there back : PathSeen) → (ReceivesFrom f w r → ReceivesFrom f w u) → stored_next r ≤ stored_next u → Carries f w s r there back → Carries f w s u there back
+  took s r u there back receives more c =
+      let wider : (frame : List ℕ) → FrameWithin (stored_next r) frame → FrameWithin (stored_next u) frame = λ frame within p ys at. le_trans (within p ys at) more in
+      record {
+        sends = c.sends;
+        receives = receives c.receives;
+        coming = c.coming;
+        late = c.late;
+        going_back = All-map (FrameWithin (stored_next r)) (FrameWithin (stored_next u)) wider back.ahead c.going_back;
+        late_back = All-map (FrameWithin (stored_next r)) (FrameWithin (stored_next u)) wider back.late c.late_back;
+        behind = le_trans c.behind more;
+      }
+
+  -- the frames on their way are others
+  pub coming_are : (s : Outgoing) (r : Stored) (there there' back : PathSeen) → (Sends f w s → All (FrameSays f w) there.ahead → All (FrameSays f w) there'.ahead) → (All (FrameSays f w) there.late → All (FrameSays f w) there'.late) →
+      Carries f w s r there back → Carries f w s r there' back
+  coming_are s r there there' back ahead late c = record {
+    sends = c.sends;
+    receives = c.receives;
+    coming = ahead c.sends c.coming;
+    late = late c.late;
+    going_back = c.going_back;
+    late_back = c.late_back;
+    behind = c.behind;
+  }
+
+  -- the acknowledgements on their way are others
+  pub going_are : (s : Outgoing) (r : Stored) (there back back' : PathSeen) → (All (FrameWithin (stored_next r)) back.ahead → All (FrameWithin (stored_next r)) back'.ahead) → (All (FrameWithin (stored_next r)) back.late → All (FrameWithin (stored_next r)) back'.late) →
+      Carries f w s r there back → Carries f w s r there back'
+  going_are s r there back back' ahead late c = record {
+    sends = c.sends;
+    receives = c.receives;
+    coming = c.coming;
+    late = c.late;
+    going_back = ahead c.going_back;
+    late_back = late c.late_back;
+    behind = c.behind;
+  }
+
+  -- an acknowledgement was sent
+  pub answered : (s : Outgoing) (r : Stored) (there back back' : PathSeen) (ack : List ℕ) → back' ≡ record back { ahead = back.ahead ++ ack ∷ [] } → FrameWithin (stored_next r) ack → Carries f w s r there back → Carries f w s r there back'
+  answered s r there back back' ack is within c =
+      going_are s r there back back'
+      (λ all. subst (All (FrameWithin (stored_next r))) (sym (ap (λ p. p.ahead) is)) (All-push (FrameWithin (stored_next r)) back.ahead ack all within))
+      (subst (All (FrameWithin (stored_next r))) (sym (ap (λ p. p.late) is))) c
+
+-- whether a call answered Ok or not
+pub either : {T E : Type 0} {A B : Type 0} (P : Type 0) (r : Result T E) → OnOk r A → OnErr r B → (A → P) → (B → P) → P
+either P (Ok t) a b f h = f a
+either P (Err e) a b f h = h b
+
+-- ---- the sender took an acknowledgement
+no_further : (v : Outgoing) (n limit : ℕ) → v.base ≤ limit → n ≤ limit → (acknowledged v n).base ≤ limit
+no_further v n limit h k = both (nat_le v.base n && nat_le n (end_of v))
+  where
+    both : (t : Bool) → (cond t (outgoing v.capacity n (drop (n - v.base) v.queue)) v).base ≤ limit
+    both true = k
+    both false = h
+
+pub acked : (f : ℕ) (w : List ℕ) (s t : Outgoing) (r : Stored) (there back : PathSeen) (frame : List ℕ) (n : ℕ) (xs : List ℕ) →
+    decoded frame ≡ Some (n, xs) → t ≡ acknowledged s n → (Sends f w s → Sends f w t) → FrameWithin (stored_next r) frame → Carries f w s r there back → Carries f w t r there back
+acked f w s t r there back frame n xs at is sends within c = record {
+  sends = sends c.sends;
+  receives = c.receives;
+  coming = c.coming;
+  late = c.late;
+  going_back = c.going_back;
+  late_back = c.late_back;
+  behind = subst (λ v. v.base ≤ stored_next r) (sym is) (no_further s n (stored_next r) c.behind (within n xs at));
+}
+
+-- ---- a frame was taken off a list of frames that all have P
+pub rest_of : {X : Type 0} (P : X → Type 0) (x : X) (old left new : List X) → old ≡ x ∷ left → new ≡ left → All P old → P x × All P new
+rest_of P x old left new is same all =
+    let both = subst (All P) is all in
+    (All-head P x left both, subst (All P) (sym same) (All-tail P x left both))
+
+-- it met its fate, and may be among the late ones
+may_return : (P : List ℕ → Type 0) (frame : List ℕ) (old new : PathSeen) → P frame → MayReturn frame old new → (All P old.ahead → All P new.ahead) × (All P old.late → All P new.late)
+may_return P frame old new one again =
+    ⊎_elim {C = (All P old.ahead → All P new.ahead) × (All P old.late → All P new.late)}
+    (λ (e : new ≡ old). (subst (All P) (sym (ap (λ p. p.ahead) e)), subst (All P) (sym (ap (λ p. p.late) e))))
+    (λ (e : new ≡ record old { late = old.late ++ frame ∷ [] }). (
+      subst (All P) (sym (ap (λ p. p.ahead) e)),
+      λ all. subst (All P) (sym (ap (λ p. p.late) e)) (All-push P old.late frame all one),
+    ))
+    again
+
+-- before it meets its fate: what it says, and what is on its way without it
+pub before : (f : ℕ) (w : List ℕ) (s : Outgoing) (r : Stored) (t0 t1 t2 back : PathSeen) (frame : List ℕ) (left : FatesSeen) → t0 ≡ record t1 { ahead = frame ∷ t1.ahead } → t2 ≡ record t1 { fates = left } →
+    Carries f w s r t0 back → FrameSays f w frame × Carries f w s r t2 back
+before f w s r t0 t1 t2 back frame left first drawn c =
+    let rest = rest_of (FrameSays f w) frame t0.ahead t1.ahead t2.ahead (ap (λ p. p.ahead) first) (ap (λ p. p.ahead) drawn) c.coming in
+    let late : t0.late ≡ t2.late = ap (λ p. p.late) first ∙ sym (ap (λ p. p.late) drawn) in
+    (rest.0, coming_are f w s r t0 t2 back (λ _ _. rest.1) (subst (All (FrameSays f w)) late) c)
+
+-- of the frames: t0 had it first, t1 has it no more, t2 has drawn its fate, and t3 may have it among the late ones
+pub frame_met : (f : ℕ) (w : List ℕ) (s : Outgoing) (r u : Stored) (t0 t1 t2 t3 back back' : PathSeen) (frame : List ℕ) (left : FatesSeen) →
+    t0 ≡ record t1 { ahead = frame ∷ t1.ahead } → t2 ≡ record t1 { fates = left } → MayReturn frame t2 t3 →
+    (FrameSays f w frame → Carries f w s r t2 back → Carries f w s u t2 back') → Carries f w s r t0 back → Carries f w s u t3 back'
+frame_met f w s r u t0 t1 t2 t3 back back' frame left first drawn again met c =
+    let here = before f w s r t0 t1 t2 back frame left first drawn c in
+    let back_there = may_return (FrameSays f w) frame t2 t3 here.0 again in
+    coming_are f w s u t2 t3 back' (λ _. back_there.0) back_there.1 (met here.0 here.1)
+
+-- the same of the acknowledgements
+pub ack_met : (f : ℕ) (w : List ℕ) (s t : Outgoing) (r : Stored) (there b0 b1 b2 b3 : PathSeen) (frame : List ℕ) (left : FatesSeen) →
+    b0 ≡ record b1 { ahead = frame ∷ b1.ahead } → b2 ≡ record b1 { fates = left } → MayReturn frame b2 b3 →
+    (FrameWithin (stored_next r) frame → Carries f w s r there b2 → Carries f w t r there b2) → Carries f w s r there b0 → Carries f w t r there b3
+ack_met f w s t r there b0 b1 b2 b3 frame left first drawn again met c =
+    let n = stored_next r in
+    let rest = rest_of (FrameWithin n) frame b0.ahead b1.ahead b2.ahead (ap (λ p. p.ahead) first) (ap (λ p. p.ahead) drawn) c.going_back in
+    let late : b0.late ≡ b2.late = ap (λ p. p.late) first ∙ sym (ap (λ p. p.late) drawn) in
+    let here = going_are f w s r there b0 b2 (λ _. rest.1) (subst (All (FrameWithin n)) late) c in
+    let back_there = may_return (FrameWithin n) frame b2 b3 rest.0 again in
+    going_are f w t r there b2 b3 back_there.0 back_there.1 (met rest.0 here)
+
+-- a late frame was taken
+pub late_met : (f : ℕ) (w : List ℕ) (s : Outgoing) (r u : Stored) (t0 t1 back back' : PathSeen) (frame : List ℕ) →
+    t0 ≡ record t1 { late = frame ∷ t1.late } →
+    (FrameSays f w frame → Carries f w s r t1 back → Carries f w s u t1 back') → Carries f w s r t0 back → Carries f w s u t1 back'
+late_met f w s r u t0 t1 back back' frame first met c =
+    let rest = rest_of (FrameSays f w) frame t0.late t1.late t1.late (ap (λ p. p.late) first) refl c.late in
+    met rest.0 (coming_are f w s r t0 t1 back (λ _. subst (All (FrameSays f w)) (ap (λ p. p.ahead) first)) (λ _. rest.1) c)
+
+pub late_ack_met : (f : ℕ) (w : List ℕ) (s t : Outgoing) (r : Stored) (there b0 b1 : PathSeen) (frame : List ℕ) →
+    b0 ≡ record b1 { late = frame ∷ b1.late } →
+    (FrameWithin (stored_next r) frame → Carries f w s r there b1 → Carries f w t r there b1) → Carries f w s r there b0 → Carries f w t r there b1
+late_ack_met f w s t r there b0 b1 frame first met c =
+    let n = stored_next r in
+    let rest = rest_of (FrameWithin n) frame b0.late b1.late b1.late (ap (λ p. p.late) first) refl c.late_back in
+    met rest.0 (going_are f w s r there b0 b1 (subst (All (FrameWithin n)) (ap (λ p. p.ahead) first)) (λ _. rest.1) c)

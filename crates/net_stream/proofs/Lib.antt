@@ -1,0 +1,5 @@
+-- The lemmas behind the contracts.
+pub mod Parts
+pub mod Carried
+pub mod Reached
+pub mod Results

@@ -1,0 +1,43 @@
+use Rattle.std.proofs.Common.{[], ◌+◌, ◌<◌, ◌≤◌, ◌^◌, ◌≡◌, Some, length, max, sym, ap, subst, ◌∙◌, arith, ⊎_elim}
+use Rattle.std.proofs.lemmas.Bool.{both_ways, cases_lt}
+use Rattle.net_receiver.specs.Stored.{stored_next}
+use Rattle.net_stream.specs.Outgoing.{end_of}
+use Rattle.net_stream.specs.Frames.{frame_of}
+use Rattle.net_stream.specs.Carrying.{Carries}
+use Rattle.net_stream.specs.Progress.{reach_one}
+use Rattle.net_stream.proofs.Carried.{took, answered, encoded_ack, either}
+use Rattle.net_stream.proofs.Reached.{says_ends, segment_reaches, no_word_reaches}
+use Rattle.net_stream.proofs.link.arrive.Goals as goal
+
+pub returns-then-not-fits-clause-reaches : goal.returns-then-not-fits-clause-reaches
+returns-then-not-fits-clause-reaches g c = λ f w s there says carries room.
+    let n = stored_next c.args.receiver.now in
+    let pos = c.in-Some.pos in
+    let xs = c.in-Some.payload.now in
+    let end = carries.sends.end in
+    let ends = says_ends f w pos xs (says pos xs c.in-Some.ensures) in
+    let past : 2 ^ 64 ≤ pos + length xs =
+    ⊎_elim (λ (l : pos + length xs < 2 ^ 64). absurd (both_ways c.fits.result c.if-not-fits.true (c.fits.ensures.1 l))) (λ (l : 2 ^ 64 ≤ pos + length xs). l) (cases_lt (pos + length xs) (2 ^ 64)) in
+    subst (λ o. reach_one n o ≤ n) (sym c.in-Some.ensures) (no_word_reaches n (end_of s) pos xs room.word past (omega arith))
+
+pub returns-clause-carried : goal.returns-clause-carried
+returns-clause-carried g c = λ f w s there says carries.
+    let u = c.segment.new.self in
+    let back = c.args.back.now in
+    let more = took f w s c.args.receiver.now u there back (λ r. c.segment.ensures.receives f w r (says c.in-Some.pos c.in-Some.payload.now c.in-Some.ensures)) c.segment.ensures.grows carries in
+    let fits : c.next.result < 2 ^ 64 = omega arith in
+    let within : c.next.result ≤ stored_next u = omega arith in
+    either (Carries f w s u there c.send.new.self) c.send.result c.send.ensures.ok c.send.ensures.err
+    (λ e. answered f w s u there back c.send.new.self (frame_of c.next.result []) e (encoded_ack c.round_trip.ensures (stored_next u) c.next.result [] fits within) more)
+    (λ e. subst (Carries f w s u there) (sym e) more)
+
+pub returns-clause-reaches : goal.returns-clause-reaches
+returns-clause-reaches g c = λ f w s there says carries room.
+    let v = c.args.receiver.now in
+    let u = c.segment.new.self in
+    let pos = c.in-Some.pos in
+    let xs = c.in-Some.payload.now in
+    let end = carries.sends.end in
+    let ends = says_ends f w pos xs (says pos xs c.in-Some.ensures) in
+    subst (λ o. reach_one (stored_next v) o ≤ stored_next u) (sym c.in-Some.ensures)
+    (segment_reaches v u (end_of s) pos xs c.segment.result c.segment.ensures.accepted c.segment.ensures.kept c.segment.ensures.queued c.segment.ensures.in_order c.segment.ensures.grows (omega arith) room.window)

@@ -1,0 +1,27 @@
+use Rattle.std.proofs.Common.{◌≡◌, ◌∷◌, ◌∙◌, sym, ap, le_trans}
+use Rattle.net_stream.proofs.Carried.{late_met}
+use Rattle.net_stream.proofs.link.pass_late_frames.Goals as goal
+
+pub returns-in_err-arrive-clause-carried : goal.returns-in_err-arrive-clause-carried
+returns-in_err-arrive-clause-carried g c = λ f w s h.
+    let t1 = c.take_late.new.self in
+    let first : c.late.there ≡ record t1 { late = c.frame-frame.result.now ∷ t1.late } = c.in-Some.ensures ∙ ap (λ x. record t1 { late = x ∷ t1.late }) (sym c.frame-frame.ensures) in
+    late_met f w s c.late.receiver c.arrive.new.receiver c.late.there t1 c.late.back c.arrive.new.back c.frame-frame.result.now first (c.arrive.ensures.carried f w s t1) (c.late.invariant.carried f w s h)
+
+pub returns-in_err-arrive-clause-grows : goal.returns-in_err-arrive-clause-grows
+returns-in_err-arrive-clause-grows g c = le_trans c.late.invariant.grows c.arrive.ensures.grows
+
+pub late-preserved : goal.late-preserved
+late-preserved g c =
+    let i = c.late.invariant in
+    let t1 = c.take_late.new.self in
+    let first : c.late.there ≡ record t1 { late = c.frame-frame.result.now ∷ t1.late } = c.in-Some.ensures ∙ ap (λ x. record t1 { late = x ∷ t1.late }) (sym c.frame-frame.ensures) in
+    record {
+      carried = λ f w s h. late_met f w s c.late.receiver c.arrive.new.receiver c.late.there t1 c.late.back c.arrive.new.back c.frame-frame.result.now first (c.arrive.ensures.carried f w s t1) (i.carried f w s h);
+      limit = c.arrive.ensures.limit ∙ i.limit;
+      read = c.arrive.ensures.read ∙ i.read;
+      ahead = sym (ap (λ p. p.ahead) first) ∙ i.ahead;
+      fates = sym (ap (λ p. p.fates) first) ∙ i.fates;
+      back_fates = c.arrive.ensures.fates ∙ i.back_fates;
+      grows = le_trans i.grows c.arrive.ensures.grows;
+    }

@@ -1,0 +1,67 @@
+use Rattle.std.proofs.Common.{◌≡◌, ◌≤◌, ◌<◌, ◌^◌, ◌++◌, ◌∷◌, [], ◌∙◌, length, sym, ap, subst, arith, le_trans}
+use Rattle.net_receiver.specs.Stored.{stored_next}
+use Rattle.net_stream.specs.Outgoing.{end_of}
+use Rattle.net_stream.specs.Frames.{frame_of, frames_from}
+use Rattle.net_stream.specs.Fates.{AllCome}
+use Rattle.net_stream.specs.Carrying.{PathSeen, Carries}
+use Rattle.net_stream.specs.Progress.{reach, acked_all}
+use Rattle.net_stream.proofs.Carried.{answered, encoded_ack}
+use Rattle.net_stream.proofs.Reached.{room_same, sent_reaches, first_is, acked_to_end}
+use Rattle.net_stream.proofs.Results.{OnOk-map}
+use Rattle.net_stream.proofs.link.pass_round.Goals as goal
+
+pub returns-in_err-transmit-clause-carried : goal.returns-in_err-transmit-clause-carried
+returns-in_err-transmit-clause-carried g c = λ f w h. c.transmit.ensures.carried f w c.args.receiver.now c.args.back.now h
+
+pub returns-in_err-pass_late_frames-clause-carried : goal.returns-in_err-pass_late_frames-clause-carried
+returns-in_err-pass_late_frames-clause-carried g c = λ f w h. c.pass_late_frames.ensures.carried f w c.args.sender.now (c.transmit.ensures.carried f w c.args.receiver.now c.args.back.now h)
+
+pub returns-in_err-pass_frames-clause-carried : goal.returns-in_err-pass_frames-clause-carried
+returns-in_err-pass_frames-clause-carried g c = λ f w h.
+    c.pass_frames.ensures.carried f w c.args.sender.now (c.pass_late_frames.ensures.carried f w c.args.sender.now (c.transmit.ensures.carried f w c.args.receiver.now c.args.back.now h))
+
+pub returns-in_err-send-clause-carried : goal.returns-in_err-send-clause-carried
+returns-in_err-send-clause-carried g c = λ f w h.
+    subst (Carries f w c.args.sender.now c.pass_frames.new.receiver c.pass_frames.new.there) (sym c.in_err-send.ensures.err)
+    (c.pass_frames.ensures.carried f w c.args.sender.now (c.pass_late_frames.ensures.carried f w c.args.sender.now (c.transmit.ensures.carried f w c.args.receiver.now c.args.back.now h)))
+
+pub returns-clause-carried : goal.returns-clause-carried
+returns-clause-carried g c = λ f w h.
+    let r = c.pass_frames.new.receiver in
+    let there = c.pass_frames.new.there in
+    let came = c.pass_frames.ensures.carried f w c.args.sender.now (c.pass_late_frames.ensures.carried f w c.args.sender.now (c.transmit.ensures.carried f w c.args.receiver.now c.args.back.now h)) in
+    let word : c.next.result < 2 ^ 64 = omega arith in
+    let within : c.next.result ≤ stored_next r = omega arith in
+    let told = answered f w c.args.sender.now r there c.pass_frames.new.back c.send.new.self (frame_of c.next.result []) c.in_ok-send.ensures.ok (encoded_ack c.round_trip.ensures (stored_next r) c.next.result [] word within) came in
+    c.pass_acks.ensures.carried f w r there (c.pass_late_acks.ensures.carried f w r there told)
+
+pub returns-clause-progress : goal.returns-clause-progress
+returns-clause-progress g c = OnOk-map c.pass_acks.result
+    (λ acked f w carries room come come_back.
+    let s = c.args.sender.now in
+    let r1 = c.pass_late_frames.new.receiver in
+    let r2 = c.pass_frames.new.receiver in
+    let t2 = c.pass_late_frames.new.there in
+    let b4 = c.pass_late_acks.new.back in
+    let s4 = c.pass_late_acks.new.sender in
+    let sent = c.in_ok-transmit.ensures.sent in
+    let late = c.pass_late_frames.ensures in
+    let c1 = c.transmit.ensures.carried f w c.args.receiver.now c.args.back.now carries in
+    let c2 = late.carried f w s c1 in
+    let c3 = c.pass_frames.ensures.carried f w s c2 in
+    let come1 : AllCome t2.fates = subst AllCome (sym (late.fates ∙ ap (λ p. p.fates) sent.sent)) come in
+    let far : reach (stored_next r1) t2.ahead ≤ stored_next r2 = c.in_ok-pass_frames.ensures.reaches f w s c2 (room_same s c.args.receiver.now r1 late.limit room) come1 in
+    let ahead : t2.ahead ≡ c.args.there.now.ahead ++ frames_from s.base sent.parts = late.ahead ∙ ap (λ p. p.ahead) sent.sent in
+    let all : end_of s ≤ reach (stored_next r1) t2.ahead =
+    sent_reaches c.round_trip.ensures (stored_next r1) s.base s.queue sent.parts c.args.there.now.ahead t2.ahead ahead sent.all room.word (le_trans carries.behind late.grows) in
+    let within = (c.queue.ensures.receives f w c3.receives).within in
+    let first = first_is f w r2 c3.receives in
+    let end = carries.sends.end in
+    let next : stored_next r2 ≡ end_of s = omega arith in
+    let told = c.in_ok-send.ensures.ok in
+    let come2 : AllCome b4.fates = subst AllCome (sym (c.pass_late_acks.ensures.fates ∙ ap (λ p. p.fates) told ∙ c.pass_frames.ensures.fates ∙ late.back_fates)) come_back in
+    let last : b4.ahead ≡ c.pass_frames.new.back.ahead ++ frame_of c.next.result [] ∷ [] = c.pass_late_acks.ensures.ahead ∙ ap (λ p. p.ahead) told in
+    let word : c.next.result < 2 ^ 64 = omega arith in
+    let empty = acked_to_end c.round_trip.ensures s4 c.next.result c.pass_frames.new.back.ahead (c.next.ensures ∙ next ∙ sym c.pass_late_acks.ensures.end) word in
+    (next, ap (λ v. length v.queue) (acked come2) ∙ ap (λ l. length (acked_all s4 l).queue) last ∙ empty))
+    c.pass_acks.ensures.acked

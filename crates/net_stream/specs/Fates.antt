@@ -1,0 +1,62 @@
+-- What becomes of frames.
+--     fate_of rates word      the fate that a word of 32 bits stands for
+--     next_fate v, after_fate v      the next fate: the first of a list, and behind it drawn ones
+--     comes fate, returns fate      whether a frame comes at once, and whether it comes late
+--     AllCome v      every frame comes at once
+use Rattle.std.specs.Prelude.{ℕ, ◌+◌, ◌/◌, ◌%◌, nat_lt, if◌then◌else◌, Bool, true, false}
+use Rattle.std.specs.Prelude.{◌≡◌, List, [], ◌∷◌, All}
+use Rattle.net_base.specs.Generator.{successor, word}
+use Rattle.net_stream.specs.declared.fate.Fate.{Fate}
+use Rattle.net_stream.specs.declared.fate.Fate.TheVariants.{Delivered, Lost, Repeated, Late}
+use Rattle.net_stream.specs.declared.fate.Rates.{Rates}
+
+-- the last two digits of a word decide whether the frame is lost, the two before them whether it is
+-- repeated, and the two before those whether it is late
+abbrev pub fate_of : Rates → ℕ → Fate
+fate_of rates word =
+    if nat_lt (word % 100) rates.lost then Lost
+    else if nat_lt (word / 100 % 100) rates.repeated then Repeated
+    else if nat_lt (word / 10000 % 100) rates.late then Late
+    else Delivered
+
+-- whether a frame comes at once
+abbrev pub comes : Fate → Bool
+comes Delivered = true
+comes Lost = false
+comes Repeated = true
+comes Late = false
+
+-- whether a frame comes late, for the first time or once more
+abbrev pub returns : Fate → Bool
+returns Delivered = false
+returns Lost = false
+returns Repeated = true
+returns Late = true
+
+-- the fates of a list, and behind it those of the words that follow a generator's state
+pub record FatesSeen : Type 0 where
+  pub listed : List Fate
+  pub state : ℕ
+  pub rates : Rates
+
+-- the next fate, from the list that is left
+abbrev pub next_of : Rates → ℕ → List Fate → Fate
+next_of rates state [] = fate_of rates (word (successor state))
+next_of rates state (x ∷ xs) = x
+
+-- what is left then
+abbrev pub after_of : Rates → ℕ → List Fate → FatesSeen
+after_of rates state [] = record { listed = []; state = successor state; rates = rates }
+after_of rates state (x ∷ xs) = record { listed = xs; state = state; rates = rates }
+
+abbrev pub next_fate : FatesSeen → Fate
+next_fate v = next_of v.rates v.state v.listed
+
+abbrev pub after_fate : FatesSeen → FatesSeen
+after_fate v = after_of v.rates v.state v.listed
+
+-- every frame comes at once: each fate of the list says so, and none is drawn that is lost or late
+pub record AllCome (v : FatesSeen) : Type 0 where
+  pub listed : All (λ fate. comes fate ≡ true) v.listed
+  pub lost : v.rates.lost ≡ 0
+  pub late : v.rates.late ≡ 0

@@ -1,0 +1,40 @@
+-- Frames as bytes.
+--     frame_of pos xs      the position in 8 bytes, the most significant first, and then the bytes
+--     decoded frame      what a frame says: its position and its bytes, if it has a position
+--     frames_from p parts      the frames of parts that follow one another from position p on
+use Rattle.std.specs.Prelude.{◌≡◌, ℕ, ◌+◌, ◌<◌, ◌≤◌, ◌^◌, if◌then◌else◌, nat_lt}
+use Rattle.std.specs.Prelude.{List, [], ◌∷◌, ◌++◌, length, take, drop, Option, Some, None}
+use Rattle.std.specs.Int.{w64, to_be_bytes, from_be_bytes}
+use Rattle.net_receiver.specs.Truthful.{Says}
+
+-- a position and its bytes as a frame
+abbrev pub frame_of : ℕ → List ℕ → List ℕ
+frame_of pos xs = to_be_bytes w64 pos ++ xs
+
+-- a frame of less than 8 bytes says nothing
+abbrev pub decoded : List ℕ → Option (ℕ × List ℕ)
+decoded frame =
+    if nat_lt (length frame) 8 then None
+    else Some (from_be_bytes w64 (take 8 frame), drop 8 frame)
+
+-- decoding finds what was encoded
+abbrev pub RoundTrip : Type 0
+RoundTrip = (pos : ℕ) (xs : List ℕ) → pos < 2 ^ 64 → decoded (frame_of pos xs) ≡ Some (pos, xs)
+
+-- the frames of parts that follow one another
+abbrev pub frames_from : ℕ → List (List ℕ) → List (List ℕ)
+frames_from p [] = []
+frames_from p (xs ∷ parts) = frame_of p xs ∷ frames_from (p + length xs) parts
+
+-- parts, one behind the other
+abbrev pub joined : List (List ℕ) → List ℕ
+joined [] = []
+joined (xs ∷ parts) = xs ++ joined parts
+
+-- the frame brings nothing but what the stream w has, whose first byte has position f
+abbrev pub FrameSays : ℕ → List ℕ → List ℕ → Type 0
+FrameSays f w frame = (pos : ℕ) (xs : List ℕ) → decoded frame ≡ Some (pos, xs) → Says f w pos xs
+
+-- the frame acknowledges nothing past n
+abbrev pub FrameWithin : ℕ → List ℕ → Type 0
+FrameWithin n frame = (pos : ℕ) (xs : List ℕ) → decoded frame ≡ Some (pos, xs) → pos ≤ n

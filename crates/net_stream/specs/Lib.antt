@@ -1,0 +1,7 @@
+-- The definitions that the contracts cite.
+pub mod Outgoing
+pub mod Frames
+pub mod Fates
+pub mod Counting
+pub mod Carrying
+pub mod Progress

@@ -1,0 +1,36 @@
+-- What a sender keeps, and the stream that it sends.
+--     Outgoing      the capacity, the position of the first byte that is kept, and the bytes kept
+--     acknowledged v n      what is kept once all below position n was acknowledged
+--     Sends f w v      w was written to a sender, its first byte at position f, and v is what it keeps
+use Rattle.std.specs.Prelude.{◌≡◌, ℕ, ◌+◌, ◌-◌, ◌≤◌, ◌^◌, ◌&&◌, nat_le, min, if◌then◌else◌}
+use Rattle.std.specs.Prelude.{List, length, drop}
+
+-- what a sender is seen as
+pub record Outgoing : Type 0 where
+  pub capacity : ℕ
+  pub base : ℕ
+  pub queue : List ℕ
+
+-- a sender of this capacity, which keeps these bytes from position `base` on
+abbrev pub outgoing : ℕ → ℕ → List ℕ → Outgoing
+outgoing capacity base queue = record { capacity = capacity; base = base; queue = queue }
+
+-- the position behind the last byte
+abbrev pub end_of : Outgoing → ℕ
+end_of v = v.base + length v.queue
+
+-- how many bytes can be written: those that have room, as far as positions go
+abbrev pub room_of : Outgoing → ℕ
+room_of v = min (v.capacity - length v.queue) (2 ^ 64 - 1 - end_of v)
+
+-- numbers outside what is kept change nothing
+abbrev pub acknowledged : Outgoing → ℕ → Outgoing
+acknowledged v n =
+    if nat_le v.base n && nat_le n (end_of v) then outgoing v.capacity n (drop (n - v.base) v.queue)
+    else v
+
+-- what is kept is the rest of w, from its position on
+pub record Sends (f : ℕ) (w : List ℕ) (v : Outgoing) : Type 0 where
+  pub from : f ≤ v.base
+  pub end : end_of v ≡ f + length w
+  pub queue : v.queue ≡ drop (v.base - f) w

@@ -1,0 +1,36 @@
+-- How far frames and acknowledgements bring a receiver and a sender, once they have come.
+--     reach p frames      how far a receiver is at least that has all before p, once the frames have come
+--     acked_all s frames      a sender once the acknowledgements have come
+--     HasRoom s r      the receiver's free window ends behind all that the sender keeps
+use Rattle.std.specs.Prelude.{◌≡◌, ℕ, ◌+◌, ◌<◌, ◌≤◌, ◌^◌, max, nat_le, if◌then◌else◌}
+use Rattle.std.specs.Prelude.{List, [], ◌∷◌, length, Option, Some, None}
+use Rattle.net_receiver.specs.Stored.{Stored}
+use Rattle.net_stream.specs.Outgoing.{Outgoing, end_of, acknowledged}
+use Rattle.net_stream.specs.Frames.{decoded}
+
+-- a frame that begins past p brings nothing that counts
+abbrev pub reach_one : ℕ → Option (ℕ × List ℕ) → ℕ
+reach_one p None = p
+reach_one p (Some (pos, xs)) = if nat_le pos p then max p (pos + length xs) else p
+
+abbrev pub reach : ℕ → List (List ℕ) → ℕ
+reach p [] = p
+reach p (frame ∷ frames) = reach (reach_one p (decoded frame)) frames
+
+-- a sender that took what an acknowledgement says
+abbrev pub acked_by : Outgoing → Option (ℕ × List ℕ) → Outgoing
+acked_by s None = s
+acked_by s (Some (n, xs)) = acknowledged s n
+
+abbrev pub acked_all : Outgoing → List (List ℕ) → Outgoing
+acked_all s [] = s
+acked_all s (frame ∷ frames) = acked_all (acked_by s (decoded frame)) frames
+
+-- where a receiver's free window ends
+abbrev pub limit_of : Stored → ℕ
+limit_of r = r.first + r.read + r.capacity
+
+-- there is room for all that the sender keeps, and its positions fit a word
+pub record HasRoom (s : Outgoing) (r : Stored) : Type 0 where
+  pub window : end_of s ≤ limit_of r
+  pub word : end_of s < 2 ^ 64

@@ -1,0 +1,55 @@
+//! What is counted of a copy.
+ghost use Rattle.std.specs.Prelude.{◌≡◌};
+ghost use Rattle.net_stream.specs.Counting.{met};
+
+use crate::fate::Fate;
+
+/// What is counted of a copy. Each count stays at the greatest number of 64 bits.
+#[derive(Debug, Default, Clone, Copy, PartialEq, Eq, Drop)]
+pub struct Counts {
+    /// How many bytes the reader gave.
+    pub taken: u64,
+    /// How many bytes were handed to the writer.
+    pub bytes: u64,
+    /// How many frames were sent, acknowledgements too.
+    pub sent: u64,
+    /// How many bytes the frames carried behind their positions.
+    pub payload: u64,
+    /// How many frames were lost.
+    pub lost: u64,
+    /// How many frames came once more.
+    pub repeated: u64,
+    /// How many frames came in the next round.
+    pub late: u64,
+    /// How many segments the receiver refused.
+    pub refused: u64,
+    /// How many rounds were made.
+    pub rounds: u64,
+    /// How many of the last rounds brought nothing on.
+    pub stalled: u64,
+}
+
+impl Counts {
+    /// Nothing is counted yet.
+    pub fn new() -> Counts {
+        Counts::default()
+    }
+
+    /// Counts a frame that was sent, and its fate.
+    pub fn meet(&mut self, fate: Fate)
+        ensures { self.new ≡ met fate self.old }
+    {
+        self.sent = self.sent.saturating_add(1);
+        match fate {
+            Fate::Delivered => {}
+            Fate::Lost => self.lost = self.lost.saturating_add(1),
+            Fate::Repeated => self.repeated = self.repeated.saturating_add(1),
+            Fate::Late => self.late = self.late.saturating_add(1),
+        }
+    }
+
+    /// How many bytes were sent more than once: what the frames carried beyond what the reader gave.
+    pub fn sent_again(&self) -> u64 {
+        self.payload.saturating_sub(self.taken)
+    }
+}
