@@ -1,7 +1,10 @@
 -- A ring by its storage, the index where it is read and how many elements it holds.
-use Rattle.std.specs.Prelude.{◌≡◌, ◌⊎◌, ℕ, ◌+◌, ◌-◌, ◌<◌, ◌≤◌, nat_lt, nat_eq, min, if◌then◌else◌, List, ◌++◌, length, take, drop}
+use Rattle.std.specs.Prelude.{◌≡◌, ◌⊎◌, ℕ, ◌+◌, ◌-◌, ◌<◌, ◌≤◌, nat_lt, nat_eq, min, if◌then◌else◌}
+use Rattle.std.specs.Prelude.{List, ◌++◌, length, take, drop}
 use Rattle.net_storage.specs.Overwrite.{overwrite}
 
+-- what a contract sees of a ring: its storage, the index where it is read, and how many elements
+-- are queued
 pub record RingState (T : Type 0) : Type 0 where
   pub storage : List T
   pub read_at : ℕ
@@ -12,9 +15,11 @@ abbrev pub rotation : {T : Type 0} → List T → ℕ → List T
 rotation b r = drop r b ++ take r b
 
 module _ {T : Type 0} where
+  -- the ring of a storage b, a read index r and n queued elements
   abbrev pub ring : List T → ℕ → ℕ → RingState T
   ring b r n = record { storage = b; read_at = r; count = n }
 
+  -- how many elements the storage has
   abbrev pub capacity : RingState T → ℕ
   capacity g = length g.storage
 
@@ -22,16 +27,17 @@ module _ {T : Type 0} where
   abbrev pub window : RingState T → ℕ
   window g = length g.storage - g.count
 
-  -- the read index is one of the storage, or 0 where that is empty; no more is held than it has
+  -- the read index is one of the storage, or 0 if that is empty; no more is queued than it has
   abbrev pub WellFormed : RingState T → Type 0
-  WellFormed g = ((g.read_at ≡ 0) ⊎ (g.read_at < length g.storage)) × (g.count ≤ length g.storage)
+  WellFormed g =
+      ((g.read_at ≡ 0) ⊎ (g.read_at < length g.storage)) × (g.count ≤ length g.storage)
 
   -- ---- the two parts of a ring
-  -- the elements that are held, the next one to be read first
+  -- the queued elements, the next one to be read first
   abbrev pub queue : RingState T → List T
   queue g = take g.count (rotation g.storage g.read_at)
 
-  -- the elements that are not held, the next one to be written first
+  -- the free elements, the next one to be written first
   abbrev pub spare : RingState T → List T
   spare g = drop g.count (rotation g.storage g.read_at)
 
@@ -54,26 +60,29 @@ module _ {T : Type 0} where
   abbrev pub contiguous_queued : RingState T → ℕ
   contiguous_queued g = min g.count (length g.storage - g.read_at)
 
-  -- the contiguous elements at the front of the spare part, and those at the front of the queue
+  -- the contiguous elements at the front of the spare part
   abbrev pub contiguous_spare : RingState T → List T
   contiguous_spare g = take (contiguous_window g) (spare g)
 
+  -- the contiguous elements at the front of the queue
   abbrev pub contiguous_queue : RingState T → List T
   contiguous_queue g = take (contiguous_queued g) (queue g)
 
-  -- the index of element i of the spare part, and how many are contiguous from there on, of at most
-  -- n; none where i is past the window
+  -- the index of element i of the spare part, or of its end if i is past the window
   abbrev pub spare_index : RingState T → ℕ → ℕ
   spare_index g i = storage_index g (g.count + min i (window g))
 
+  -- of at most n spare elements from element i on, how many are contiguous; none if i is past the
+  -- window
   abbrev pub contiguous_window_from : RingState T → ℕ → ℕ → ℕ
   contiguous_window_from g i n = min n (min (window g - i) (length g.storage - spare_index g i))
 
-  -- the index of element i of the queue, and how many are contiguous from there on, of at most n;
-  -- none where i is past the queue
+  -- the index of element i of the queue, or of its end if i is past the queue
   abbrev pub queue_index : RingState T → ℕ → ℕ
   queue_index g i = storage_index g (min i g.count)
 
+  -- of at most n elements of the queue from element i on, how many are contiguous; none if i is
+  -- past the queue
   abbrev pub contiguous_queued_from : RingState T → ℕ → ℕ → ℕ
   contiguous_queued_from g i n = min n (min (g.count - i) (length g.storage - queue_index g i))
 

@@ -1,8 +1,12 @@
 -- What the calls of a ring that run a closure ask of it, and what they leave.
-use Rattle.std.specs.Prelude.{◌≡◌, ◌≤◌, ℕ, List, [], ◌∷◌, length, drop, Result, IsOk, IsErr, is_ok, if◌then◌else◌}
+use Rattle.std.specs.Prelude.{◌≡◌, ◌≤◌, ℕ, List, [], ◌∷◌, length, drop, Result, IsOk, IsErr, is_ok}
+use Rattle.std.specs.Prelude.{if◌then◌else◌}
 use Rattle.std.specs.Borrow.{MutBor}
 use Rattle.std.specs.Fn.{Once, FnOnceTakesAtMut, FnOnceReturnsAtMut}
-use Rattle.net_storage.specs.Ring.{RingState, queue, spare, write_at, contiguous_window, contiguous_queued, contiguous_spare, contiguous_queue, written, with_enqueued, with_dequeued, Enqueued, Dequeued, SpareWritten, QueueWritten, EnqueuedFrom, DequeuedFrom}
+use Rattle.net_storage.specs.Ring.{RingState, queue, spare, write_at, contiguous_window}
+use Rattle.net_storage.specs.Ring.{contiguous_queued, contiguous_spare, contiguous_queue, written}
+use Rattle.net_storage.specs.Ring.{with_enqueued, with_dequeued, Enqueued, Dequeued, SpareWritten}
+use Rattle.net_storage.specs.Ring.{QueueWritten, EnqueuedFrom, DequeuedFrom}
 
 -- ---- the closure is lent one element
 module _ {F T R E : Type 0}

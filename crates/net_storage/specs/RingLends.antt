@@ -15,7 +15,7 @@ abbrev pub lends_one : (T S : RattleType) (g : Ghosts S.Denot T.Denot)
     → MutBor (RingState T.Denot) → RingState T.Denot → ℕ → MutBor T.Denot → Fml
 lends_one T S g s after p r = Lends (the_row T S g) T s r (λ w. written after p (w ∷ []))
 
--- the same where there is one; the ring is unchanged at Err
+-- the same if there is one; the ring is unchanged at Err
 abbrev pub lends_one_if : {E : Type 0} (T S : RattleType) (g : Ghosts S.Denot T.Denot)
     → MutBor (RingState T.Denot) → RingState T.Denot → ℕ → Result (MutBor T.Denot) E → Fml
 lends_one_if T S g s after p r =

@@ -217,8 +217,8 @@ impl<T, S: Elements<T>> Ring<T, S> {
         }
     }
 
-    /// Returns, of the `available` elements that begin `start` elements after the read index, at most
-    /// `size` from the one at `offset` on; none if `offset` is past them.
+    /// Returns, of the `available` elements that begin `start` elements after the read index, at
+    /// most `size` from the one at `offset` on; none if `offset` is past them.
     #[inline]
     fn span(&self, start: usize, available: usize, offset: usize, size: usize) -> Span
         requires { start + available ≤ capacity self.now }

@@ -45,7 +45,7 @@ pub fn patch(ring: &mut RingBuffer<'_, u8>, offset: usize, byte: u8)
     ring.get_allocated_mut(offset, 1)[0] = byte;
 }
 
-/// The first byte of the queue is dequeued, and zero is left where it stood.
+/// The first byte of the queue is dequeued, and zero is left in its place.
 pub fn dequeue_byte(ring: &mut RingBuffer<'_, u8>) -> u8
     requires { 0 < contiguous_queued ring.old }
     ensures parts { Dequeued ring.old 1 (0 ∷ []) ring.new }
@@ -80,10 +80,10 @@ pub fn write_and_enqueue(ring: &mut RingBuffer<'_, u8>, data: &[u8]) -> usize
     count
 }
 
-/// A closure writes and then answers `Err`: what it wrote stays, and nothing is enqueued.
+/// A closure writes and then returns `Err`: what it wrote stays, and nothing is enqueued.
 pub fn write_and_refuse(ring: &mut RingBuffer<'_, u8>, byte: u8)
     ensures queue { queue ring.new ≡ queue ring.old }
-    ensures held { ring.new.count ≡ ring.old.count }
+    ensures count { ring.new.count ≡ ring.old.count }
     ensures spare { window ring.old ≢ 0 → SpareWritten ring.old 0 (byte ∷ []) ring.new }
 {
     let _ = ring.enqueue_one_with(|free| -> Result<(), ()> {
@@ -92,7 +92,7 @@ pub fn write_and_refuse(ring: &mut RingBuffer<'_, u8>, byte: u8)
     });
 }
 
-/// A closure that is run only where its slice has an element.
+/// A closure that may run only on a slice that has an element.
 pub fn enqueue_first(ring: &mut RingBuffer<'_, u8>, byte: u8)
     requires { 0 < contiguous_window (restarted ring.old) }
     ensures { queue ring.new ≡ queue (restarted ring.old) ++ (byte ∷ []) }

@@ -14,8 +14,8 @@ pub fn ring_is_its_parts<T>()
         g.read_at ≡ h.read_at → queue g ≡ queue h → spare g ≡ spare h → g ≡ h }
 {}
 
-/// What a ring holds and what it has room for are its capacity, and the lengths of its two parts.
-pub fn held_and_window_are_capacity<T>()
+/// What is queued and what is free are a ring's capacity, and the lengths of its two parts.
+pub fn count_and_window_are_capacity<T>()
     ensures { (g : RingState T) → WellFormed g → (g.count + window g ≡ capacity g)
         × (length (queue g) ≡ g.count) × (length (spare g) ≡ window g) }
 {}

@@ -16,8 +16,8 @@ impl<T, S: Elements<T>> Ring<T, S> {
     /// Runs `f` on the next free element, enqueues it if `f` returns `Ok`, and returns what `f`
     /// returned.
     ///
-    /// What `f` wrote stays in the storage in both cases. A full ring returns `Full`, stays as it is
-    /// and does not run `f`.
+    /// What `f` wrote stays in the storage in both cases. A full ring returns `Full`, stays as it
+    /// is and does not run `f`.
     pub fn enqueue_one_with<R, E, F: FnOnce(&mut T) -> Result<R, E>>(
         &mut self,
         f: F,
@@ -71,11 +71,11 @@ impl<T, S: Elements<T>> Ring<T, S> {
         self.storage.item_mut(at)
     }
 
-    /// Runs `f` on the first element of the queue, dequeues it if `f` returns `Ok`, and returns what
-    /// `f` returned.
+    /// Runs `f` on the first element of the queue, dequeues it if `f` returns `Ok`, and returns
+    /// what `f` returned.
     ///
-    /// What `f` wrote stays in the storage in both cases. An empty ring returns `Empty`, stays as it
-    /// is and does not run `f`.
+    /// What `f` wrote stays in the storage in both cases. An empty ring returns `Empty`, stays as
+    /// it is and does not run `f`.
     pub fn dequeue_one_with<R, E, F: FnOnce(&mut T) -> Result<R, E>>(
         &mut self,
         f: F,
