@@ -1,7 +1,8 @@
 use crate::requests::Requests;
 use std::alloc::{AllocError, Allocator, Global};
 
-/// An allocator that counts the requests for memory and refuses exactly one of them.
+/// An allocator that counts the requests for memory and their bytes, and refuses exactly one of
+/// them.
 ///
 /// Each growth of a list is a request too, and a list whose growth is refused stays as it was. A
 /// `&Refusing` is an allocator that is copied.
@@ -23,13 +24,19 @@ impl<A: Allocator> Refusing<A> {
     pub fn requests(&self) -> usize {
         self.requests.count()
     }
+
+    /// How many bytes the requests asked for in all, those of the one that was refused included. A
+    /// growth of a list asks for all bytes of its new room.
+    pub fn bytes(&self) -> usize {
+        self.requests.bytes()
+    }
 }
 
 unsafe impl<A: Allocator> Allocator for Refusing<A> {
     ghost dealloc_token = { λ heap ty ptr. A.dealloc_token heap.inner ty ptr };
 
     fn allocate(&self, size: usize, align: usize) -> Result<*mut u8, AllocError> {
-        if self.requests.refuses_next() {
+        if self.requests.refuses_next(size) {
             return Err(AllocError);
         }
         self.inner.allocate(size, align)

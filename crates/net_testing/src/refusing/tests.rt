@@ -1,19 +1,31 @@
 use super::*;
 
-#[test]
-fn one_request_is_refused(rt: HostRuntime) -> Result<(), AllocError> {
-    for refused in 0..4 {
-        let memory = Refusing::new(rt.alloc(), refused);
-        for number in 0..3 {
-            let block: Result<Vec<u8, &Refusing>, AllocError> = Vec::with_capacity(&memory, 8);
-            assert!(rt;
-                block.is_err() == (number == refused),
-                "{number} of {refused}"
-            );
-        }
-        assert_eq!(rt; memory.requests(), 3);
+/// Makes so many requests of `size` bytes each, of which the one of number `refused` is refused.
+/// Returns whether that one was, and no other.
+fn refuses_one(alloc: Global, refused: usize, requests: usize, size: usize) -> bool {
+    let memory = Refusing::new(alloc, refused);
+    let mut is_right = true;
+    for number in 0..requests {
+        let block: Result<Vec<u8, &Refusing>, AllocError> = Vec::with_capacity(&memory, size);
+        is_right = is_right && block.is_err() == (number == refused);
     }
-    Ok(())
+    is_right && memory.requests() == requests && memory.bytes() == requests.saturating_mul(size)
+}
+
+#[test]
+fn one_request_is_refused(rt: HostRuntime) {
+    for (refused, requests, size) in [
+        (0, 3, 8),
+        (1, 3, 8),
+        (2, 3, 1),
+        (3, 3, 8),
+        (1_000, 1_100, 4_096),
+    ] {
+        assert!(rt;
+            refuses_one(rt.alloc(), refused, requests, size),
+            "{refused} of {requests}"
+        );
+    }
 }
 
 /// A list asks for the room of the bytes that it is made of, and again when that is full.
@@ -21,6 +33,7 @@ fn one_request_is_refused(rt: HostRuntime) -> Result<(), AllocError> {
 fn a_list_keeps_its_bytes_where_it_can_not_grow(rt: HostRuntime) -> Result<(), AllocError> {
     let memory = Refusing::new(rt.alloc(), 1);
     let mut bytes: Vec<u8, &Refusing> = Vec::from_slice(&memory, b"abcdefgh")?;
+    assert_eq!(rt; memory.bytes(), 8);
     assert!(rt; bytes.push(b'i').is_err());
     assert!(rt; bytes.as_slice() == b"abcdefgh".as_slice());
     bytes.push(b'j')?;

@@ -83,16 +83,16 @@ module _ (Z : Al) {M : Type 1} {𝓤 : Ura M} (𝓛 : Logic 𝓤) (at_mem : Memo
         let p : ℕ × ℕ = (r.ref_ptr.0, r.ref_ptr.1 + up (align (α Z)) 0) in
         let c : ℕ × ℕ = (r.ref_ptr.0, r.ref_ptr.1 + up 8 (up (align (α Z)) 0 + size (α Z))) in
         let y : (Takes Z 𝓛 at_mem run).Ghost = at_takes Z 𝓛 at_mem run κ₁ q₁ p h n a τ in
-        let z : (Counts 𝓛 at_mem run).Ghost = at_counts 𝓛 at_mem run κ₁ q₁ c r.now.requests in
+        let z : (Counts 𝓛 at_mem run).Ghost = at_counts 𝓛 at_mem run κ₁ q₁ c r.now.requests n in
         let Said : Type 0 = (capped (size τ) ≡ n) × (capped (align τ) ≡ a) in
         qed 𝓛 (((‵ (flft κ₁ q₁) ⊛ ‵ (flft κ₂ q₂) ⊛ ‵ ftrue) ⊛ ‵ (owns (types_at (ended Z).signature.params bound.0.0) bound.0.3 bound.0.4)) ∷ (raw (fact 𝓤 (κ₂ ⊑ Z.row.lives)) ⊛ raw (fact 𝓤 Said)) ∷ []) ∵
         move ! (1 ∷ []) $ split ! $ heard ! (κ₂ ⊑ Z.row.lives) (λ le. heard ! Said (λ said.
         split ! $ split ! $ move ! (2 ∷ []) $ fsplit ! $ fsplit ! $ move ! (1 ∷ []) $ unhide ! $ fsplit ! $ fsplit ! $ use1 𝓛 (‵ (seen Z κ₁ p h)) (id⊢ 𝓤 _) $ move ! (1 ∷ []) $ fsplit ! $ keep ! (0 ∷ 6 ∷ 2 ∷ 7 ∷ []) $
         enter ! 𝓣.C 𝓣.Λ (here Z) vs _ $ alloc_all ! (λ l. pass_all ! refl ((tt, tt), ((tt, record { fits = fn }), ((tt, record { fits = fa }), tt))) $
         sets ! (addr ! (through ! refl (fld ! refl (stop !)))) refl (tt, tt) $
-        use2 𝓛 (raw ((Counts 𝓛 at_mem run).pre z)) (Counts-goes 𝓛 at_mem run κ₁ q₁ c r.now.requests) $
-        calls_at ! (fm_of 𝓤 H 𝓛.laws 𝓣) (Counts 𝓛 at_mem run) kn z (and_then ! (get ! refl) (no_more !)) (λ u.
-        use1 𝓛 (later (some (λ (t : Bool). given (u ≡ vbool t) (‵ (flft κ₁ q₁))))) (Counts-gives 𝓛 at_mem run κ₁ q₁ c r.now.requests u) $ await ! tt $ pick ! (λ t. learn ! (λ eu. lands_as ! eu refl (tt, tt) $
+        use2 𝓛 (raw ((Counts 𝓛 at_mem run).pre z)) (Counts-goes 𝓛 at_mem run κ₁ q₁ c r.now.requests n fn) $
+        calls_at ! (fm_of 𝓤 H 𝓛.laws 𝓣) (Counts 𝓛 at_mem run) kn z (and_then ! (get ! refl) (and_then ! (get ! refl) (no_more !))) (λ u.
+        use1 𝓛 (later (some (λ (t : Bool). given (u ≡ vbool t) (‵ (flft κ₁ q₁))))) (Counts-gives 𝓛 at_mem run κ₁ q₁ c r.now.requests n u) $ await ! tt $ pick ! (λ t. learn ! (λ eu. lands_as ! eu refl (tt, tt) $
         -- [the token; the inner allocator]
         first ! $ branches ! (get ! refl)
         (λ refused. move ! (1 ∷ []) $ drop ! $ nothing ! $
