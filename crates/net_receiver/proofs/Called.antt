@@ -151,7 +151,7 @@ pub record AnyOrder (v : Stored) (xs : List ℕ) (u : Stored) (r : Result Kept T
   pub queued : IfOk r (λ k. stored_next u ≡ stored_next v + k.queued)
   pub grows : stored_next v ≤ stored_next u
 
-any_verdict : (P : Verdict → Type 0) (n most : ℕ) (h : Positions) (part : Piece) → (length part.bytes ≡ 0 → P KeptNone) → P Refused → P (Keeps part) → P (verdict_of_part n most h part)
+pub any_verdict : (P : Verdict → Type 0) (n most : ℕ) (h : Positions) (part : Piece) → (length part.bytes ≡ 0 → P KeptNone) → P Refused → P (Keeps part) → P (verdict_of_part n most h part)
 any_verdict P n most h part empty refused keeps =
     ⊎_elim (λ (e : nat_eq (length part.bytes) 0 ≡ true). subst P (sym (cond-true _ _ _ e)) (empty (eqb-true (length part.bytes) 0 e)))
     (λ (e : nat_eq (length part.bytes) 0 ≡ false). subst P (sym (cond-false _ _ _ e)) (both (not (is_some (piece_at part n)) && nat_lt most (runs (with_range h part.start (length part.bytes))))))

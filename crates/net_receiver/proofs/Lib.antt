@@ -17,3 +17,4 @@ pub mod SameBytes
 pub mod ReceiverLaws
 pub mod Truthful
 pub mod Called
+pub mod Resending

@@ -21,7 +21,7 @@ pub cond_some : {A : Type 0} (t : Bool) (o : Option A) (b : A) → cond t o None
 cond_some true o b e = e
 cond_some false o b e = absurd (none_is_not b e)
 
-clip_at : (low high : ℕ) (e : Piece) (p b : ℕ) → piece_at (clip low high e) p ≡ Some b → piece_at e p ≡ Some b
+pub clip_at : (low high : ℕ) (e : Piece) (p b : ℕ) → piece_at (clip low high e) p ≡ Some b → piece_at e p ≡ Some b
 clip_at low high e p b is =
     ⊎_elim
     (λ (l : p < max e.start low). absurd (none_is_not b (sym (piece_before (clip low high e) p l) ∙ is)))
@@ -171,7 +171,7 @@ pub first_stays : FirstStays
 first_stays most v c = ap (λ w. w.first) (setting_kept most v c)
 
 -- each verdict on a segment
-segment_cases : (P : Stored → Type 0) (most : ℕ) (v : Stored) (pos : ℕ) (xs : List ℕ) → P v → ((part : Piece) → P (stored_state_after v (Keeps part))) → P (stored_after most v (Segment pos xs))
+pub segment_cases : (P : Stored → Type 0) (most : ℕ) (v : Stored) (pos : ℕ) (xs : List ℕ) → P v → ((part : Piece) → P (stored_state_after v (Keeps part))) → P (stored_after most v (Segment pos xs))
 segment_cases P most v pos xs same kept =
     let part = clip (stored_next v) (v.first + v.read + v.capacity) (piece pos xs) in
     verdict_cases (λ y. P (stored_state_after v y)) (stored_next v) most (domain v.held) part same same (kept part)

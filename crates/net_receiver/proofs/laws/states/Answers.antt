@@ -1,4 +1,8 @@
+use Rattle.std.proofs.Common.{subst, sym}
+use Rattle.net_receiver.specs.Schedule.{fresh}
+use Rattle.net_receiver.specs.Stored.{Stored, StandsFor}
 use Rattle.net_receiver.proofs.Step.{same_next, same_held}
+use Rattle.net_receiver.proofs.Whole.{fresh_stands}
 use Rattle.net_receiver.proofs.laws.states.Goals as goal
 
 pub returns-clause-next : goal.returns-clause-next
@@ -6,3 +10,6 @@ returns-clause-next c = λ v s d. same_next v s d
 
 pub returns-clause-held : goal.returns-clause-held
 returns-clause-held c = λ v s d. same_held v s d
+
+pub returns-clause-fresh : goal.returns-clause-fresh
+returns-clause-fresh c = λ first v e. subst (λ (y : Stored). StandsFor y fresh) (sym e) (fresh_stands first v.capacity)

@@ -1,0 +1,258 @@
+-- Segments that come again, and segments that together cover a range.
+use Rattle.std.proofs.Common.{◌≡◌, ◌⊎◌, inl, inr, ℕ, ◌+◌, ◌-◌, ◌<◌, ◌≤◌, max, min, Bool, true, false, cond, ◌&&◌, ◌||◌, List, [], ◌∷◌, ◌++◌, length, take, drop, nat_le, nat_lt, Option, Some, None, is_some, unwrap_or, slice_get, All, IsTrue, refl, sym, ap, subst, ◌∙◌, arith, ⊎_elim, le-leb, leb-true, lt-ltb, le_trans, length-append, length-take, length-drop}
+use Rattle.std.specs.Option.{option_or}
+use Rattle.std.specs.Ordering.{nat_cmp}
+use Rattle.std.specs.Cmp.{nat_cmp_total}
+use Rattle.std.specs.FinMap as fin
+use Rattle.std.proofs.lemmas.Bool.{both_ways, cases_lt, cases_order, cond-true, lt-leb, and_from}
+use Rattle.std.proofs.lemmas.Option.{slice_get-get_or}
+use Rattle.std.proofs.lemmas.List.{append-nil}
+use Rattle.std.proofs.lemmas.List.Elements.{All-head, All-tail}
+use Rattle.std.proofs.lemmas.List.FromFn.{length-map-range_with_len}
+use Rattle.net_receiver.specs.KeptList.{Piece, piece, piece_at, end, clip}
+use Rattle.net_receiver.specs.Schedule.{CommandSeen, Segment, Read, Show, Segmented, IsAccepted, Verdict, KeptNone, Refused, Keeps}
+use Rattle.net_receiver.specs.Stored.{HeldBytes, Stored, domain, laid_over, first_lacking, values_at, joined, joined_from, stored_next, stored_verdict, stored_state_after, stored_answer, stored_read, stored_after, stored_reply, stored_after_all, stored_replies, IsSound}
+use Rattle.net_receiver.specs.Resending.{IsHeld, HeldChangesNothing, SecondCopy, Has, HasStays, AcceptedBrings, HasAllReaches, Brings, Completes}
+use Rattle.net_receiver.proofs.Search.{IsFirst, first_unique}
+use Rattle.net_receiver.proofs.Covering.{piece_before, piece_past, piece_from, piece_has, slice_get-drop, slice_get-take}
+use Rattle.net_receiver.proofs.Maps.{get-lay, first_lacking_is, same_both}
+use Rattle.net_receiver.proofs.Step.{verdict_cases, none_of}
+use Rattle.net_receiver.proofs.Truthful.{none_is_not, clip_at, segment_cases, next_grows_stored}
+use Rattle.net_receiver.proofs.Called.{any_verdict}
+
+-- ---- what a kept part leaves
+module _ (v : Stored) (part : Piece) where
+  abbrev laid : HeldBytes
+  laid = laid_over v part
+
+  abbrev n : ℕ
+  n = stored_next v
+
+  abbrev m : ℕ
+  m = first_lacking laid n
+
+  first : IsFirst (fin.contains_key laid) n m
+  first = first_lacking_is laid n
+
+  next_joined : stored_next (joined v part) ≡ m
+  next_joined =
+      let from = first.from in
+      let more : length (values_at laid n (m - n)) ≡ m - n = length-map-range_with_len (λ q. unwrap_or (fin.get laid q) 0) n (m - n) in
+      let long : length (v.queue ++ values_at laid n (m - n)) ≡ length v.queue + (m - n) = length-append v.queue (values_at laid n (m - n)) ∙ ap (λ k. length v.queue + k) more in
+      omega arith
+
+  get_left : (p : ℕ) → fin.get (joined v part).held p ≡ cond (nat_le m p) (fin.get laid p) None
+  get_left p = fin.get-retain_keys laid (λ q. nat_le m q) p (λ x e. ap (nat_le m) (sym (fin.nat_cmp-IsAntisymmetric p x e)))
+
+  -- a position of the laid bytes is queued then, or still held
+  has_laid : (p : ℕ) → fin.contains_key laid p ≡ true → Has (joined v part) p
+  has_laid p h =
+      let at = next_joined in
+      ⊎_elim (λ (l : p < m). inl (omega arith))
+      (λ (l : m ≤ p). inr (ap is_some (get_left p ∙ cond-true _ _ _ (le-leb m p l)) ∙ h))
+      (cases_lt p m)
+
+  laid_part : (p : ℕ) → is_some (piece_at part p) ≡ true → fin.contains_key laid p ≡ true
+  laid_part p h = ap is_some (get-lay v.held part.start part.bytes p) ∙ either (piece_at part p) (fin.get v.held p) h
+    where
+      either : (a b : Option ℕ) → is_some a ≡ true → is_some (option_or a b) ≡ true
+      either None b e = absurd (both_ways false refl e)
+      either (Some x) b e = refl
+
+  laid_held : (p : ℕ) → fin.contains_key v.held p ≡ true → fin.contains_key laid p ≡ true
+  laid_held p h = ap is_some (get-lay v.held part.start part.bytes p) ∙ either (piece_at part p) (fin.get v.held p) h
+    where
+      either : (a b : Option ℕ) → is_some b ≡ true → is_some (option_or a b) ≡ true
+      either None b e = e
+      either (Some x) b e = refl
+
+  has_joined : (p : ℕ) → Has v p → Has (joined v part) p
+  has_joined p h =
+      let at = next_joined in
+      let from = first.from in
+      ⊎_elim (λ (l : p < stored_next v). inl (omega arith)) (λ (k : fin.contains_key v.held p ≡ true). has_laid p (laid_held p k)) h
+
+  missing_joined : fin.contains_key (joined v part).held (stored_next (joined v part)) ≡ false
+  missing_joined =
+      ap (fin.contains_key (joined v part).held) next_joined
+      ∙ ap is_some (get_left m ∙ ap (λ o. cond (nat_le m m) o None) (none_of (fin.get laid m) first.here) ∙ same_both (nat_le m m) None)
+
+  above_joined : (p : ℕ) → fin.contains_key (joined v part).held p ≡ true → stored_next (joined v part) < p
+  above_joined p h =
+      let at = next_joined in
+      ⊎_elim (λ (same : m ≡ p). absurd (both_ways _ missing_joined (ap (fin.contains_key (joined v part).held) (at ∙ same) ∙ h)))
+      (⊎_elim (λ (l : m < p). omega arith)
+      (λ (l : p < m). absurd (both_ways _ (ap is_some (get_left p ∙ ap (λ b. cond b (fin.get laid p) None) (lt-leb m p l))) h)))
+      (cases_order m p)
+
+-- a clip has what the whole has between its limits
+at_clip : (low high : ℕ) (e : Piece) (p b : ℕ) → low ≤ p → p < high → piece_at e p ≡ Some b → piece_at (clip low high e) p ≡ Some b
+at_clip low high e p b from to is =
+    ⊎_elim
+    (λ (l : p < e.start). absurd (none_is_not b (sym (piece_before e p l) ∙ is)))
+    (λ (l : e.start ≤ p).
+    let place : (low - e.start) + (p - max e.start low) ≡ p - e.start = omega arith in
+    piece_from (clip low high e) p (omega arith)
+    ∙ slice_get-drop (low - e.start) (take (high - e.start) e.bytes) (p - max e.start low)
+    ∙ ap (slice_get (take (high - e.start) e.bytes)) place
+    ∙ slice_get-take (high - e.start) e.bytes (p - e.start)
+    ∙ cond-true _ _ _ (lt-ltb (p - e.start) (high - e.start) (omega arith))
+    ∙ sym (piece_from e p l)
+    ∙ is)
+    (cases_lt p e.start)
+
+-- where a clip has a byte
+clip_within : (low high : ℕ) (e : Piece) (p b : ℕ) → piece_at (clip low high e) p ≡ Some b → (low ≤ p) × (p < high)
+clip_within low high e p b is =
+    let part = clip low high e in
+    let cut = length-drop (low - e.start) (take (high - e.start) e.bytes) in
+    let size = length-take (high - e.start) e.bytes in
+    ⊎_elim
+    (λ (l : p < part.start). absurd (none_is_not b (sym (piece_before part p l) ∙ is)))
+    (λ (l : part.start ≤ p). ⊎_elim
+    (λ (k : p < end part). (omega arith, omega arith))
+    (λ (k : end part ≤ p). absurd (none_is_not b (sym (piece_past part p k) ∙ is)))
+    (cases_lt p (end part)))
+    (cases_lt p part.start)
+
+-- ---- segments that come again
+kept_held : (v : Stored) (part : Piece) → ((p : ℕ) → fin.contains_key v.held p ≡ true → stored_next v < p) → ((q b : ℕ) → piece_at part q ≡ Some b → fin.get v.held q ≡ Some b) → joined v part ≡ v
+kept_held v part above same =
+    (λ i. joined_from v (stored_next v) (laid_same i) (lacking_same i)) ∙ (λ i. record { first = v.first; capacity = v.capacity; read = v.read; queue = queue_same i; held = held_same i })
+  where
+    or_same : (o : Option ℕ) (m : Option ℕ) → ((b : ℕ) → o ≡ Some b → m ≡ Some b) → option_or o m ≡ m
+    or_same None m h = refl
+    or_same (Some b) m h = sym (h b refl)
+
+    laid_same : laid_over v part ≡ v.held
+    laid_same = fin.same_map nat_cmp_total fin.nat_cmp-IsAntisymmetric _ _ (λ q. get-lay v.held part.start part.bytes q ∙ or_same (piece_at part q) (fin.get v.held q) (same q))
+
+    missing : (b : Bool) → fin.contains_key v.held (stored_next v) ≡ b → b ≡ false
+    missing true h = (let l = above (stored_next v) h in absurd (omega arith))
+    missing false h = refl
+
+    here : fin.contains_key v.held (stored_next v) ≡ false
+    here = missing (fin.contains_key v.held (stored_next v)) refl
+
+    at : IsFirst (fin.contains_key v.held) (stored_next v) (stored_next v)
+    at = record { from = omega arith; before = λ q a b. absurd (omega arith); here = here }
+
+    lacking_same : first_lacking (laid_over v part) (stored_next v) ≡ stored_next v
+    lacking_same = ap (λ l. first_lacking l (stored_next v)) laid_same ∙ first_unique (fin.contains_key v.held) (stored_next v) _ _ (first_lacking_is v.held (stored_next v)) at
+
+    queue_same : v.queue ++ values_at v.held (stored_next v) (stored_next v - stored_next v) ≡ v.queue
+    queue_same = (let none : stored_next v - stored_next v ≡ 0 = omega arith in ap (λ k. v.queue ++ values_at v.held (stored_next v) k) none ∙ append-nil v.queue)
+
+    held_same : fin.retain_keys v.held (λ p. nat_le (stored_next v) p) ≡ v.held
+    held_same = fin.same_map nat_cmp_total fin.nat_cmp-IsAntisymmetric _ _ (λ q.
+        fin.get-retain_keys v.held (λ p. nat_le (stored_next v) p) q (λ x e. ap (nat_le (stored_next v)) (sym (fin.nat_cmp-IsAntisymmetric q x e)))
+        ∙ kept q (fin.get v.held q) refl)
+      where
+        kept : (q : ℕ) (o : Option ℕ) → fin.get v.held q ≡ o → cond (nat_le (stored_next v) q) o None ≡ o
+        kept q None e = same_both (nat_le (stored_next v) q) None
+        kept q (Some b) e = (let l = above q (ap is_some e) in cond-true _ _ _ (le-leb (stored_next v) q (omega arith)))
+
+held_changes_nothing_above : (most : ℕ) (v : Stored) (pos : ℕ) (xs : List ℕ) → ((p : ℕ) → fin.contains_key v.held p ≡ true → stored_next v < p) → IsHeld v pos xs → stored_after most v (Segment pos xs) ≡ v
+held_changes_nothing_above most v pos xs above held =
+    let part = clip (stored_next v) (v.first + v.read + v.capacity) (piece pos xs) in
+    verdict_cases (λ y. stored_state_after v y ≡ v) (stored_next v) most (domain v.held) part refl refl
+    (kept_held v part above (λ q b is.
+    let within = clip_within (stored_next v) (v.first + v.read + v.capacity) (piece pos xs) q b is in
+    held q b within.0 within.1 (clip_at (stored_next v) (v.first + v.read + v.capacity) (piece pos xs) q b is)))
+
+pub held_changes_nothing : HeldChangesNothing
+held_changes_nothing most v pos xs sound held = held_changes_nothing_above most v pos xs sound.above held
+
+pub second_copy : SecondCopy
+second_copy most v pos xs sound =
+    let e : Piece = piece pos xs in
+    let part = clip (stored_next v) (v.first + v.read + v.capacity) e in
+    verdict_cases (λ y. stored_verdict most v e ≡ y → stored_after most (stored_state_after v y) (Segment pos xs) ≡ stored_state_after v y) (stored_next v) most (domain v.held) part
+    (λ is. ap (stored_state_after v) is)
+    (λ is. ap (stored_state_after v) is)
+    (λ is. held_changes_nothing_above most (joined v part) pos xs (above_joined v part) (λ p b from to at.
+    let there = next_joined v part in
+    let grown = (first v part).from in
+    get_left v part p
+    ∙ cond-true _ _ _ (le-leb (m v part) p (omega arith))
+    ∙ get-lay v.held part.start part.bytes p
+    ∙ ap (λ o. option_or o (fin.get v.held p)) (at_clip (stored_next v) (v.first + v.read + v.capacity) e p b (omega arith) to at)))
+    refl
+
+-- ---- segments that cover a range
+pub has_stays : HasStays
+has_stays most v (Segment pos xs) p h = segment_cases (λ u. Has u p) most v pos xs h (λ part. has_joined v part p h)
+has_stays most v (Read count) p h =
+    let size = length-drop count v.queue in
+    ⊎_elim (λ (l : p < stored_next v). inl (omega arith)) (λ (k : fin.contains_key v.held p ≡ true). inr k) h
+has_stays most v Show p h = h
+
+pub accepted_brings : AcceptedBrings
+accepted_brings most v pos xs p accepted from to below =
+    let part = clip (stored_next v) (v.first + v.read + v.capacity) (piece pos xs) in
+    let cut = length-drop (stored_next v - pos) (take (v.first + v.read + v.capacity - pos) xs) in
+    let size = length-take (v.first + v.read + v.capacity - pos) xs in
+    any_verdict (λ y. IsAccepted (Segmented (stored_answer v y)) → Has (stored_state_after v y) p) (stored_next v) most (domain v.held) part
+    (λ none _. inl (omega arith))
+    (λ no. absurd no)
+    (λ _. ⊎_elim (λ (l : p < stored_next v). has_joined v part p (inl l))
+    (λ (l : stored_next v ≤ p). has_laid v part p (laid_part v part p (piece_has part p ∙ and_from _ _ (le-leb part.start p (omega arith)) (lt-ltb p (part.start + length part.bytes) (omega arith)))))
+    (cases_lt p (stored_next v)))
+    accepted
+
+-- the first missing position stays missing among the held ones
+missing_stays : (most : ℕ) (v : Stored) (c : CommandSeen) → fin.contains_key v.held (stored_next v) ≡ false → fin.contains_key (stored_after most v c).held (stored_next (stored_after most v c)) ≡ false
+missing_stays most v (Segment pos xs) h = segment_cases (λ u. fin.contains_key u.held (stored_next u) ≡ false) most v pos xs h (λ part. missing_joined v part)
+missing_stays most v (Read count) h =
+    let size = length-drop count v.queue in
+    let same : stored_next (stored_read v count) ≡ stored_next v = omega arith in
+    ap (fin.contains_key v.held) same ∙ h
+missing_stays most v Show h = h
+
+-- so does the end of the free window, or it rises
+limit_rises : (most : ℕ) (v : Stored) (c : CommandSeen) → v.first + v.read + v.capacity ≤ (stored_after most v c).first + (stored_after most v c).read + (stored_after most v c).capacity
+limit_rises most v (Segment pos xs) = segment_cases (λ u. v.first + v.read + v.capacity ≤ u.first + u.read + u.capacity) most v pos xs (omega arith) (λ part. omega arith)
+limit_rises most v (Read count) = omega arith
+limit_rises most v Show = omega arith
+
+missing_of : (v : Stored) → ((p : ℕ) → fin.contains_key v.held p ≡ true → stored_next v < p) → fin.contains_key v.held (stored_next v) ≡ false
+missing_of v above = by (fin.contains_key v.held (stored_next v)) refl
+  where
+    by : (b : Bool) → fin.contains_key v.held (stored_next v) ≡ b → b ≡ false
+    by true h = (let l = above (stored_next v) h in absurd (omega arith))
+    by false h = refl
+
+reaches_all : (v : Stored) (end : ℕ) → fin.contains_key v.held (stored_next v) ≡ false → ((p : ℕ) → stored_next v ≤ p → p < end → Has v p) → end ≤ stored_next v
+reaches_all v end missing all =
+    ⊎_elim (λ (l : stored_next v < end).
+    ⊎_elim (λ (k : stored_next v < stored_next v). absurd (omega arith)) (λ (k : fin.contains_key v.held (stored_next v) ≡ true). absurd (both_ways _ missing k)) (all (stored_next v) (omega arith) l))
+    (λ (l : end ≤ stored_next v). l)
+    (cases_lt (stored_next v) end)
+
+pub has_all_reaches : HasAllReaches
+has_all_reaches most v end sound all = reaches_all v end (missing_of v sound.above) all
+
+-- each position that is missing at first is had already, or brought later
+completes_from : (most : ℕ) (cs : List CommandSeen) (v : Stored) (end : ℕ) → fin.contains_key v.held (stored_next v) ≡ false → end ≤ v.first + v.read + v.capacity → All IsAccepted (stored_replies most v cs) →
+    ((p : ℕ) → stored_next v ≤ p → p < end → Has v p ⊎ Brings cs p) → end ≤ stored_next (stored_after_all most v cs)
+completes_from most [] v end missing within accepted all = reaches_all v end missing (λ p a b. ⊎_elim (λ (h : Has v p). h) (λ no. absurd no) (all p a b))
+completes_from most (Segment pos xs ∷ cs) v end missing within accepted all =
+    let u = stored_after most v (Segment pos xs) in
+    let higher = limit_rises most v (Segment pos xs) in
+    let grown = next_grows_stored most v (Segment pos xs) in
+    let now : IsAccepted (stored_reply most v (Segment pos xs)) = All-head IsAccepted (stored_reply most v (Segment pos xs)) (stored_replies most u cs) accepted in
+    completes_from most cs u end (missing_stays most v (Segment pos xs) missing) (le_trans within higher) (All-tail IsAccepted (stored_reply most v (Segment pos xs)) (stored_replies most u cs) accepted)
+    (λ p a b. ⊎_elim (λ (h : Has v p). inl (has_stays most v (Segment pos xs) p h))
+    (λ (h : ((pos ≤ p) × (p < pos + length xs)) ⊎ Brings cs p). ⊎_elim (λ (k : (pos ≤ p) × (p < pos + length xs)). inl (accepted_brings most v pos xs p now k.0 k.1 (le_trans b within))) (λ (k : Brings cs p). inr k) h)
+    (all p (le_trans grown a) b))
+completes_from most (Read count ∷ cs) v end missing within accepted all =
+    let u = stored_after most v (Read count) in
+    let higher = limit_rises most v (Read count) in
+    let grown = next_grows_stored most v (Read count) in
+    completes_from most cs u end (missing_stays most v (Read count) missing) (le_trans within higher) (All-tail IsAccepted (stored_reply most v (Read count)) (stored_replies most u cs) accepted)
+    (λ p a b. ⊎_elim (λ (h : Has v p). inl (has_stays most v (Read count) p h)) (λ (k : Brings cs p). inr k) (all p (le_trans grown a) b))
+completes_from most (Show ∷ cs) v end missing within accepted all =
+    completes_from most cs v end missing within (All-tail IsAccepted (stored_reply most v Show) (stored_replies most v cs) accepted) all
+
+pub completes : Completes
+completes most v cs end sound within accepted all = completes_from most cs v end (missing_of v sound.above) within accepted (λ p a b. inr (all p a b))

@@ -1,0 +1,30 @@
+-- Sequence numbers of 32 bits, and the positions that they stand for.
+--     number_at i pos      the number of a position, where position 0 has the number i
+--     ahead_of a b      how far the number b is ahead of a, going round at 2^32
+--     ComesBefore a b      b is ahead of a by less than half the range
+--     IsNear next pos      pos lies within half the range around next
+use Rattle.std.specs.Prelude.{◌≡◌, ℕ, ◌+◌, ◌-◌, ◌<◌, ◌≤◌, ◌%◌, ◌^◌}
+
+-- the number of a position, where position 0 has the number i
+abbrev pub number_at : ℕ → ℕ → ℕ
+number_at i pos = (i + pos) % 2 ^ 32
+
+-- how far b is ahead of a
+abbrev pub ahead_of : ℕ → ℕ → ℕ
+ahead_of a b = (b + 2 ^ 32 - a) % 2 ^ 32
+
+-- b is ahead of a by less than half the range, and by 1 at least
+abbrev pub ComesBefore : ℕ → ℕ → Type 0
+ComesBefore a b = (0 < ahead_of a b) × (ahead_of a b < 2 ^ 31)
+
+-- at most 2^31 positions before next, or less than 2^31 after it
+abbrev pub IsNear : ℕ → ℕ → Type 0
+IsNear next pos = (pos < next + 2 ^ 31) × (next ≤ pos + 2 ^ 31)
+
+-- to add to a number is to add to the position
+abbrev pub NumbersAdd : Type 0
+NumbersAdd = (i pos n : ℕ) → number_at i (pos + n) ≡ (number_at i pos + n) % 2 ^ 32
+
+-- of two positions less than half the range apart, the lower one's number comes before the other's
+abbrev pub NumbersAreOrdered : Type 0
+NumbersAreOrdered = (i p q : ℕ) → p < q → q < p + 2 ^ 31 → ComesBefore (number_at i p) (number_at i q)

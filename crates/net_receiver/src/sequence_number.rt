@@ -1,0 +1,100 @@
+//! Sequence numbers, which wrap.
+ghost use Rattle.std.specs.Prelude.{◌≡◌, ◌↔◌, ℕ, ◌<◌, ◌^◌, IsTrue, IfSome, Some};
+ghost use Rattle.net_receiver.specs.SequenceNumbers.{number_at, ahead_of, ComesBefore, IsNear};
+
+use std::marker::Model;
+use std::ops::Add;
+
+/// The number by which TCP names a byte of a stream: 32 bits, and after the greatest comes 0.
+///
+/// A contract sees a whole number below 2^32. A receiver counts in positions of 64 bits, which do
+/// not wrap; `at` and `position` go from one to the other. smoltcp's `SeqNumber` is an `i32` and has
+/// no positions.
+#[derive(Debug, Copy, Clone, PartialEq, Eq)]
+pub struct SequenceNumber {
+    number: u32,
+}
+
+impl Model for SequenceNumber {
+    ghost Value = { ℕ };
+
+    ghost view = { λ s. s.number };
+
+    ghost inverse = { λ n. record { number = n } };
+}
+
+impl SequenceNumber {
+    /// This number.
+    pub fn new(number: u32) -> Self
+        ensures { result ≡ number }
+    {
+        SequenceNumber { number }
+    }
+
+    /// The number as it is sent.
+    pub fn get(self) -> u32
+        ensures { result ≡ self }
+    {
+        self.number
+    }
+
+    /// The number of a stream's position, where position 0 has the number `initial`.
+    pub fn at(initial: SequenceNumber, pos: u64) -> Self
+        ensures { result ≡ number_at initial pos }
+    {
+        SequenceNumber {
+            number: initial.number.wrapping_add((pos & 0xffff_ffff) as u32),
+        }
+    }
+
+    /// The position nearest to `next` that has this number, where position 0 has the number
+    /// `initial`: less than 2^31 after `next`, or at most 2^31 before it. `None` if no position
+    /// there has it.
+    pub fn position(self, initial: SequenceNumber, next: u64) -> Option<u64>
+        ensures number { IfSome result (λ pos. number_at initial pos ≡ self) }
+        ensures near { IfSome result (λ pos. IsNear next pos) }
+        ensures found { (pos : ℕ) → pos < 2 ^ 64 → number_at initial pos ≡ self → IsNear next pos →
+            result ≡ Some pos }
+    {
+        let ahead = self.ahead_of(Self::at(initial, next));
+        if ahead < 0x8000_0000 {
+            next.checked_add(u64::from(ahead))
+        } else {
+            next.checked_sub(0x1_0000_0000 - u64::from(ahead))
+        }
+    }
+
+    /// How far this number is ahead of another one, going round at 2^32.
+    pub fn ahead_of(self, other: SequenceNumber) -> u32
+        ensures { result ≡ ahead_of other self }
+    {
+        self.number.wrapping_sub(other.number)
+    }
+
+    /// Whether another number is ahead of this one by less than 2^31, and is not the same. Of two
+    /// numbers that are 2^31 apart neither is before the other.
+    pub fn is_before(self, other: SequenceNumber) -> bool
+        ensures { IsTrue result ↔ ComesBefore self other }
+    {
+        let ahead = other.ahead_of(self);
+        0 < ahead && ahead < 0x8000_0000
+    }
+}
+
+/// The number so many bytes on, going round at 2^32.
+impl Add<u32> for SequenceNumber {
+    type Output = SequenceNumber;
+
+    ghost use Rattle.std.specs.Prelude.{◌+◌, ◌%◌};
+
+    ghost add_gives = { λ s n r. r ≡ (s + n) % 2 ^ 32 };
+
+    fn add(self, rhs: u32) -> SequenceNumber {
+        SequenceNumber {
+            number: self.number.wrapping_add(rhs),
+        }
+    }
+}
+
+#[cfg(test)]
+mod tests;
