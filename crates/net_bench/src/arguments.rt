@@ -14,5 +14,9 @@ pub fn gather<A: Allocator + Copy, I: Iterator<Item = String>>(
     requires finite { IsFinite (I.remaining words) }
     ensures { IfOk result (λ all. Drains I.next_gives words all.items) }
 {
-    words.collect(alloc)
+    let mut all = Vec::new(alloc);
+    for word in words {
+        all.push(word)?;
+    }
+    Ok(all)
 }

@@ -6,6 +6,7 @@ ghost use Rattle.net_bench.specs.AsmMode.{asm_rules, asm_command, range_command,
 ghost use Rattle.net_bench.specs.AsmMode.{added, added_then_front_removed, RemoveFront, Print};
 ghost use Rattle.net_bench.specs.AsmLines.{asm_command_seen, range_command_seen};
 
+use crate::buffers::Buffers;
 use crate::fault::Fault;
 use crate::session::Session;
 use crate::words::Words;
@@ -63,19 +64,6 @@ impl<const N: usize> Model for AsmSession<N> {
     ghost view = { λ s. s.assembler };
 }
 
-/// What one word says.
-fn plain_line(verb: &[u8]) -> Option<AsmLine>
-    ensures { option_map asm_command_seen result ≡ asm_command (verb.now ∷ []) }
-{
-    if verb == b"f".as_slice() {
-        return Some(AsmLine::RemoveFront);
-    }
-    if verb == b"p".as_slice() {
-        return Some(AsmLine::Print);
-    }
-    None
-}
-
 /// What is done with the range that two words name, if both are numbers.
 fn range(verb: RangeVerb, offset: &[u8], size: &[u8]) -> Option<AsmLine>
     ensures { option_map asm_command_seen result
@@ -86,27 +74,29 @@ fn range(verb: RangeVerb, offset: &[u8], size: &[u8]) -> Option<AsmLine>
     Some(AsmLine::Range(verb, offset as usize, size as usize))
 }
 
-/// What three words say.
-fn range_line(verb: &[u8], offset: &[u8], size: &[u8]) -> Option<AsmLine>
-    ensures { option_map asm_command_seen result
-        ≡ asm_command (verb.now ∷ offset.now ∷ size.now ∷ []) }
-{
-    if verb == b"a".as_slice() {
-        return range(RangeVerb::Add, offset, size);
-    }
-    if verb == b"t".as_slice() {
-        return range(RangeVerb::AddThenRemoveFront, offset, size);
-    }
-    None
-}
-
-/// What a line says.
+/// Returns what a line says, if it is one of the mode's.
 fn asm_line(line: &[u8]) -> Option<AsmLine>
     ensures { option_map asm_command_seen result ≡ asm_command (words_of line.now) }
 {
     match words::split_words(line) {
-        Words::One(verb) => plain_line(verb),
-        Words::Three(verb, offset, size) => range_line(verb, offset, size),
+        Words::One(verb) => {
+            if verb == b"f".as_slice() {
+                return Some(AsmLine::RemoveFront);
+            }
+            if verb == b"p".as_slice() {
+                return Some(AsmLine::Print);
+            }
+            None
+        }
+        Words::Three(verb, offset, size) => {
+            if verb == b"a".as_slice() {
+                return range(RangeVerb::Add, offset, size);
+            }
+            if verb == b"t".as_slice() {
+                return range(RangeVerb::AddThenRemoveFront, offset, size);
+            }
+            None
+        }
         Words::Two(_, _) | Words::More => None,
     }
 }
@@ -125,7 +115,7 @@ impl<const N: usize> AsmSession<N> {
     /// Adds a range that fits, and makes the reply.
     fn add<A: Allocator + Copy>(
         &mut self,
-        alloc: A,
+        buffers: &mut Buffers<A>,
         offset: usize,
         size: usize,
     ) -> Result<String<A>, AllocError>
@@ -137,13 +127,13 @@ impl<const N: usize> AsmSession<N> {
             Ok(()) => "ok\n",
             Err(_) => REFUSED,
         };
-        String::from_str(alloc, reply)
+        text::plain(buffers, reply)
     }
 
     /// Adds a range that fits and removes the front then, and makes the reply.
     fn add_then_remove_front<A: Allocator + Copy>(
         &mut self,
-        alloc: A,
+        buffers: &mut Buffers<A>,
         offset: usize,
         size: usize,
     ) -> Result<String<A>, AllocError>
@@ -152,15 +142,15 @@ impl<const N: usize> AsmSession<N> {
             added_then_front_removed N self.old offset size ≡ (self.new, string_bytes reply)) }
     {
         match self.assembler.add_then_remove_front(offset, size) {
-            Ok(front) => front_text(alloc, front),
-            Err(_) => String::from_str(alloc, REFUSED),
+            Ok(front) => front_text(buffers, front),
+            Err(_) => text::plain(buffers, REFUSED),
         }
     }
 
     /// Does what is to be done with a range, or finds that it is too long.
     fn execute_range<A: Allocator + Copy>(
         &mut self,
-        alloc: A,
+        buffers: &mut Buffers<A>,
         verb: RangeVerb,
         offset: usize,
         size: usize,
@@ -174,37 +164,43 @@ impl<const N: usize> AsmSession<N> {
             return Ok(Err(Fault::RangeTooLong));
         }
         match verb {
-            RangeVerb::Add => Ok(Ok(self.add(alloc, offset, size)?)),
+            RangeVerb::Add => Ok(Ok(self.add(buffers, offset, size)?)),
             RangeVerb::AddThenRemoveFront => {
-                Ok(Ok(self.add_then_remove_front(alloc, offset, size)?))
+                Ok(Ok(self.add_then_remove_front(buffers, offset, size)?))
             }
         }
     }
 
     /// Removes the front.
-    fn remove_front<A: Allocator + Copy>(&mut self, alloc: A) -> Result<String<A>, AllocError>
+    fn remove_front<A: Allocator + Copy>(
+        &mut self,
+        buffers: &mut Buffers<A>,
+    ) -> Result<String<A>, AllocError>
         ensures { IfOk result (λ reply.
             asm_does N self.old RemoveFront ≡ Ok (self.new, string_bytes reply)) }
     {
-        front_text(alloc, self.assembler.remove_front())
+        front_text(buffers, self.assembler.remove_front())
     }
 
     /// Shows the runs.
-    fn print<A: Allocator + Copy>(&self, alloc: A) -> Result<String<A>, AllocError>
+    fn print<A: Allocator + Copy>(&self, buffers: &mut Buffers<A>) -> Result<String<A>, AllocError>
         ensures { IfOk result (λ reply.
             asm_does N self.now Print ≡ Ok (self.now, string_bytes reply)) }
     {
         let assembler = &self.assembler;
-        text::displayed(alloc, PRINT_ROOM, format_args!("{assembler}\n"))
+        text::displayed(buffers, PRINT_ROOM, format_args!("{assembler}\n"))
     }
 }
 
 /// The reply that says how long the front was.
-fn front_text<A: Allocator + Copy>(alloc: A, length: usize) -> Result<String<A>, AllocError>
+fn front_text<A: Allocator + Copy>(
+    buffers: &mut Buffers<A>,
+    length: usize,
+) -> Result<String<A>, AllocError>
     ensures { IfOk result (λ text.
         string_bytes text ≡ codes "front " ++ decimal length ++ codes "\n") }
 {
-    text::displayed(alloc, FRONT_ROOM, format_args!("front {length}\n"))
+    text::displayed(buffers, FRONT_ROOM, format_args!("front {length}\n"))
 }
 
 impl<A: Allocator + Copy, const N: usize> Session<A> for AsmSession<N> {
@@ -214,15 +210,15 @@ impl<A: Allocator + Copy, const N: usize> Session<A> for AsmSession<N> {
 
     fn execute_line(
         &mut self,
-        alloc: A,
+        buffers: &mut Buffers<A>,
         line: &[u8],
     ) -> Result<Result<String<A>, Fault>, AllocError> {
         match asm_line(line) {
             Some(AsmLine::Range(verb, offset, size)) => self.execute_range(
-                alloc, verb, offset, size,
+                buffers, verb, offset, size,
             ),
-            Some(AsmLine::RemoveFront) => Ok(Ok(self.remove_front(alloc)?)),
-            Some(AsmLine::Print) => Ok(Ok(self.print(alloc)?)),
+            Some(AsmLine::RemoveFront) => Ok(Ok(self.remove_front(buffers)?)),
+            Some(AsmLine::Print) => Ok(Ok(self.print(buffers)?)),
             None => Ok(Err(Fault::BadCommand)),
         }
     }

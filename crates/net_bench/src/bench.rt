@@ -5,6 +5,7 @@ ghost use Rattle.net_bench.specs.Text.{lines_of, next_number};
 ghost use Rattle.net_bench.specs.Transcript.{line_step, transcript, WritesFront, ErrorOfInput};
 ghost use Rattle.net_bench.specs.Progress.{HasNoFeed, Advances, Gathers, PendingError};
 
+use crate::buffers::Buffers;
 use crate::error::BenchError;
 use crate::fault::Fault;
 use crate::replies::Replies;
@@ -27,7 +28,7 @@ fn feed_at(bytes: &[u8]) -> Option<usize>
 
 /// Runs a line of this number, and gathers its reply.
 fn answer<A: Allocator + Copy, S: Session<A>, W: Write>(
-    alloc: A,
+    buffers: &mut Buffers<A>,
     session: &mut S,
     number: u64,
     line: &[u8],
@@ -44,11 +45,15 @@ fn answer<A: Allocator + Copy, S: Session<A>, W: Write>(
     if line.len() > MAX_LINE {
         return Err(Fault::LineTooLong.at(number));
     }
-    let Ok(outcome) = session.execute_line(alloc, line) else {
+    let Ok(outcome) = session.execute_line(buffers, line) else {
         return Err(BenchError::OutOfMemory);
     };
     match outcome {
-        Ok(reply) => replies.gather(reply.as_bytes(), writer),
+        Ok(reply) => {
+            let gathered = replies.gather(reply.as_bytes(), writer);
+            buffers.keep_text(reply);
+            gathered
+        }
         Err(fault) => Err(fault.at(number)),
     }
 }
@@ -57,7 +62,7 @@ fn answer<A: Allocator + Copy, S: Session<A>, W: Write>(
 /// and the replies that are pending.
 #[derive(Drop)]
 struct Bench<A: Allocator + Copy, S> {
-    alloc: A,
+    buffers: Buffers<A>,
     session: S,
     number: u64,
     line: Vec<u8, A>,
@@ -76,7 +81,7 @@ impl<A: Allocator + Copy, S: Session<A>> Bench<A, S> {
             × (bench.line.items ≡ []) × (bench.replies ≡ [])) }
     {
         Ok(Bench {
-            alloc,
+            buffers: Buffers::new(alloc),
             session,
             number: 1,
             line: Vec::with_capacity(alloc, MAX_LINE)?,
@@ -117,7 +122,7 @@ impl<A: Allocator + Copy, S: Session<A>> Bench<A, S> {
     {
         if self.line.is_empty() {
             answer(
-                self.alloc,
+                &mut self.buffers,
                 &mut self.session,
                 self.number,
                 bytes,
@@ -127,7 +132,7 @@ impl<A: Allocator + Copy, S: Session<A>> Bench<A, S> {
         } else {
             self.keep(bytes)?;
             answer(
-                self.alloc,
+                &mut self.buffers,
                 &mut self.session,
                 self.number,
                 &self.line,

@@ -4,6 +4,7 @@
 mod arguments;
 mod asm;
 mod bench;
+mod buffers;
 mod error;
 mod fault;
 mod laws;

@@ -5,6 +5,7 @@ ghost use Rattle.net_bench.specs.RingMode.{ring_rules, ring_command, ring_does, 
 ghost use Rattle.net_bench.specs.RingMode.{Write, Read};
 ghost use Rattle.net_bench.specs.RingLines.{ring_command_seen};
 
+use crate::buffers::Buffers;
 use crate::fault::Fault;
 use crate::session::Session;
 use crate::words::Words;
@@ -46,31 +47,24 @@ impl<'a> Model for RingSession<'a> {
     ghost invariant = { λ s. length (queue s.ring) ≡ s.ring.count };
 }
 
-/// What two words say.
-fn ring_words<A: Allocator + Copy>(
-    alloc: A,
-    verb: &[u8],
-    word: &[u8],
+/// Returns what a line says, if it is one of the mode's.
+fn ring_line<A: Allocator + Copy>(
+    buffers: &mut Buffers<A>,
+    line: &[u8],
 ) -> Result<Option<RingLine<A>>, AllocError>
-    ensures { IfOk result (λ found.
-        option_map ring_command_seen found ≡ ring_command (verb.now ∷ word.now ∷ [])) }
-{
-    if verb == b"w".as_slice() {
-        return Ok(text::bytes(alloc, word)?.map(|bytes| RingLine::Write(bytes)));
-    }
-    if verb == b"r".as_slice() {
-        return Ok(text::number(word).map(|number| RingLine::Read(number)));
-    }
-    Ok(None)
-}
-
-/// What a line says.
-fn ring_line<A: Allocator + Copy>(alloc: A, line: &[u8]) -> Result<Option<RingLine<A>>, AllocError>
     ensures { IfOk result (λ found.
         option_map ring_command_seen found ≡ ring_command (words_of line.now)) }
 {
     match words::split_words(line) {
-        Words::Two(verb, word) => ring_words(alloc, verb, word),
+        Words::Two(verb, word) => {
+            if verb == b"w".as_slice() {
+                return Ok(text::bytes(buffers, word)?.map(|bytes| RingLine::Write(bytes)));
+            }
+            if verb == b"r".as_slice() {
+                return Ok(text::number(word).map(|number| RingLine::Read(number)));
+            }
+            Ok(None)
+        }
         Words::One(_) | Words::Three(_, _, _) | Words::More => Ok(None),
     }
 }
@@ -98,26 +92,30 @@ impl<'a> RingSession<'a> {
     /// Takes in what there is room for, and says how much that was.
     fn write<A: Allocator + Copy>(
         &mut self,
-        alloc: A,
+        buffers: &mut Buffers<A>,
         bytes: &[u8],
     ) -> Result<String<A>, AllocError>
         ensures { IfOk result (λ reply.
             ring_does self.old (Write bytes.now) ≡ (self.new, string_bytes reply)) }
     {
         let count = self.put(bytes);
-        text::displayed(alloc, TOOK_ROOM, format_args!("took {count}\n"))
+        text::displayed(buffers, TOOK_ROOM, format_args!("took {count}\n"))
     }
 
     /// The reply that shows so many bytes from the front, of the one part or the two in which they
     /// lie in the storage.
-    fn shown<A: Allocator + Copy>(&self, alloc: A, count: usize) -> Result<String<A>, AllocError>
+    fn shown<A: Allocator + Copy>(
+        &self,
+        buffers: &mut Buffers<A>,
+        count: usize,
+    ) -> Result<String<A>, AllocError>
         requires { count ≤ length self.now.bytes }
         ensures { IfOk result (λ reply. string_bytes reply
             ≡ codes "read " ++ hex_text (take count self.now.bytes) ++ codes "\n") }
     {
         let first = self.ring.get_allocated(0, count);
         let second = self.ring.get_allocated(first.len(), count - first.len());
-        text::read_reply(alloc, first, second)
+        text::read_reply(buffers, first, second)
     }
 
     /// Takes so many bytes off the front.
@@ -129,12 +127,16 @@ impl<'a> RingSession<'a> {
     }
 
     /// Shows as many bytes as are asked for and there, and takes them off.
-    fn read<A: Allocator + Copy>(&mut self, alloc: A, number: u64) -> Result<String<A>, AllocError>
+    fn read<A: Allocator + Copy>(
+        &mut self,
+        buffers: &mut Buffers<A>,
+        number: u64,
+    ) -> Result<String<A>, AllocError>
         ensures { IfOk result (λ reply.
             ring_does self.old (Read number) ≡ (self.new, string_bytes reply)) }
     {
         let count = (self.ring.len() as u64).min(number) as usize;
-        let reply = self.shown(alloc, count)?;
+        let reply = self.shown(buffers, count)?;
         self.take_off(count);
         Ok(reply)
     }
@@ -147,12 +149,16 @@ impl<A: Allocator + Copy> Session<A> for RingSession<'_> {
 
     fn execute_line(
         &mut self,
-        alloc: A,
+        buffers: &mut Buffers<A>,
         line: &[u8],
     ) -> Result<Result<String<A>, Fault>, AllocError> {
-        match ring_line(alloc, line)? {
-            Some(RingLine::Write(bytes)) => Ok(Ok(self.write(alloc, &bytes)?)),
-            Some(RingLine::Read(number)) => Ok(Ok(self.read(alloc, number)?)),
+        match ring_line(buffers, line)? {
+            Some(RingLine::Write(bytes)) => {
+                let reply = self.write(buffers, &bytes)?;
+                buffers.keep_bytes(bytes);
+                Ok(Ok(reply))
+            }
+            Some(RingLine::Read(number)) => Ok(Ok(self.read(buffers, number)?)),
             None => Ok(Err(Fault::BadCommand)),
         }
     }

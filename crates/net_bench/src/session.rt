@@ -3,6 +3,7 @@ ghost use Rattle.std.specs.Prelude.{◌≡◌, List, ℕ, Ok, Err, IfOk, MatchRe
 ghost use Rattle.net_bench.specs.Text.{words_of};
 ghost use Rattle.net_bench.specs.Transcript.{Rules};
 
+use crate::buffers::Buffers;
 use crate::fault::Fault;
 use std::alloc::{AllocError, Allocator};
 
@@ -14,11 +15,11 @@ pub trait Session<A: Allocator + Copy> {
     /// What is written after the last line.
     ghost closing: { Self → List ℕ };
 
-    /// Does what a line of at most 4,096 bytes says, and makes its reply. After a fault, or where
-    /// memory was refused, the session is over.
+    /// Does what a line of at most 4,096 bytes says, and makes its reply, in memory of the buffers.
+    /// After a fault, or if memory was refused, the session is over.
     fn execute_line(
         &mut self,
-        alloc: A,
+        buffers: &mut Buffers<A>,
         line: &[u8],
     ) -> Result<Result<String<A>, Fault>, AllocError>
         ensures { IfOk result (λ outcome. MatchResult outcome

@@ -1,18 +1,21 @@
 //! Mode `stream`: segments of a stream come in any order, and its bytes go out in order.
 ghost use Rattle.std.specs.Prelude.{◌≡◌, [], ◌∷◌, IfOk, MatchResult, Ok, Err, string_bytes, option_map, ◌≤◌, length};
-ghost use Rattle.net_receiver.specs.Commands.{command_seen};
-ghost use Rattle.net_bench.specs.Text.{words_of};
-ghost use Rattle.net_bench.specs.StreamMode.{ToReceiver, NextSchedule, stream_command};
+ghost use Rattle.net_receiver.specs.Commands.{command_seen, reply_seen, CommandFits};
+ghost use Rattle.net_receiver.specs.Stored.{stored_after, stored_reply};
+ghost use Rattle.net_bench.specs.Text.{words_of, number_of, hex_bytes};
+ghost use Rattle.net_bench.specs.StreamMode.{ToReceiver, NextSchedule, segment_command};
+ghost use Rattle.net_bench.specs.StreamMode.{stream_command};
 ghost use Rattle.net_bench.specs.StreamMode.{first_schedule, stream_does, stream_rules};
 ghost use Rattle.net_bench.specs.StreamMode.{stream_closing, end_fits};
 ghost use Rattle.net_bench.specs.StreamLines.{stream_command_seen};
 ghost use Rattle.net_bench.specs.StreamStored.{of_stored};
 
+use crate::buffers::Buffers;
 use crate::fault::Fault;
 use crate::session::Session;
 use crate::words::Words;
 use crate::{text, words};
-use net_receiver::{Command, Receiver, execute};
+use net_receiver::{Command, Receiver, Reply, execute};
 use net_storage::ManagedSlice;
 use std::alloc::{AllocError, Allocator};
 use std::marker::Model;
@@ -60,64 +63,56 @@ impl<'a, A: Allocator + Copy, const N: usize> Model for StreamSession<'a, A, N> 
     ghost invariant = { λ s. (1 ≤ N) × (s.ended ≡ None → IsSome s.second) };
 }
 
-/// What one word says.
-fn plain_line<A: Allocator + Copy>(verb: &[u8]) -> Option<StreamLine<A>>
-    ensures { option_map stream_command_seen result ≡ stream_command (verb.now ∷ []) }
-{
-    if verb == b"?".as_slice() {
-        return Some(StreamLine::ToReceiver(Command::Show));
-    }
-    if verb == b"--".as_slice() {
-        return Some(StreamLine::NextSchedule);
-    }
-    None
-}
-
-/// What two words say.
-fn read_line<A: Allocator + Copy>(verb: &[u8], count: &[u8]) -> Option<StreamLine<A>>
-    ensures { option_map stream_command_seen result ≡ stream_command (verb.now ∷ count.now ∷ []) }
-{
-    if verb == b"r".as_slice() {
-        let count = text::number(count)?;
-        return Some(StreamLine::ToReceiver(Command::Read(count)));
-    }
-    None
-}
-
-/// What three words say.
-fn segment_line<A: Allocator + Copy>(
-    alloc: A,
-    verb: &[u8],
+/// Returns the segment that two words name, if they do.
+fn segment<A: Allocator + Copy>(
+    buffers: &mut Buffers<A>,
     position: &[u8],
     bytes: &[u8],
 ) -> Result<Option<StreamLine<A>>, AllocError>
     ensures { IfOk result (λ found. option_map stream_command_seen found
-        ≡ stream_command (verb.now ∷ position.now ∷ bytes.now ∷ [])) }
+        ≡ segment_command (number_of position.now) (hex_bytes bytes.now)) }
 {
-    if verb != b"s".as_slice() {
-        return Ok(None);
-    }
     let Some(pos) = text::number(position) else {
         return Ok(None);
     };
-    let Some(bytes) = text::bytes(alloc, bytes)? else {
+    let Some(bytes) = text::bytes(buffers, bytes)? else {
         return Ok(None);
     };
     Ok(Some(StreamLine::ToReceiver(Command::Segment { pos, bytes })))
 }
 
-/// What a line says.
+/// Returns what a line says, if it is one of the mode's.
 fn stream_line<A: Allocator + Copy>(
-    alloc: A,
+    buffers: &mut Buffers<A>,
     line: &[u8],
 ) -> Result<Option<StreamLine<A>>, AllocError>
     ensures { IfOk result (λ found.
         option_map stream_command_seen found ≡ stream_command (words_of line.now)) }
 {
     match words::split_words(line) {
-        Words::One(verb) => Ok(plain_line(verb)),
-        Words::Two(verb, count) => Ok(read_line(verb, count)),
-        Words::Three(verb, position, bytes) => segment_line(alloc, verb, position, bytes),
+        Words::One(verb) => {
+            if verb == b"?".as_slice() {
+                return Ok(Some(StreamLine::ToReceiver(Command::Show)));
+            }
+            if verb == b"--".as_slice() {
+                return Ok(Some(StreamLine::NextSchedule));
+            }
+            Ok(None)
+        }
+        Words::Two(verb, count) => {
+            if verb == b"r".as_slice() {
+                return Ok(text::number(count).map(|count| StreamLine::ToReceiver(Command::Read(
+                    count,
+                ))));
+            }
+            Ok(None)
+        }
+        Words::Three(verb, position, bytes) => {
+            if verb == b"s".as_slice() {
+                return segment(buffers, position, bytes);
+            }
+            Ok(None)
+        }
         Words::More => Ok(None),
     }
 }
@@ -129,6 +124,46 @@ fn fits<A: Allocator + Copy, const N: usize>(command: &Command<A>) -> bool
     match command {
         Command::Segment { pos, bytes } => Receiver::<N>::fits(*pos, bytes.len()),
         Command::Read(_) | Command::Show => true,
+    }
+}
+
+/// Does a command as `execute` does, but reads into memory of the buffers.
+fn execute_within<A: Allocator + Copy, const N: usize>(
+    buffers: &mut Buffers<A>,
+    receiver: &mut Receiver<'_, N>,
+    command: &Command<A>,
+) -> Result<Reply<A>, AllocError>
+    requires { CommandFits command.now }
+    ensures state { let seen = command_seen command.now in
+        IfOk result (λ _. receiver.new ≡ stored_after N receiver.old seen) }
+    ensures answer { let seen = command_seen command.now in
+        IfOk result (λ reply. reply_seen reply ≡ stored_reply N receiver.old seen) }
+{
+    match command {
+        Command::Read(count) => {
+            let queued = receiver.queued();
+            let taken = (*count).min(queued as u64) as usize;
+            let mut bytes = buffers.take_bytes(taken)?;
+            receiver.read(&mut bytes);
+            Ok(Reply::Read(bytes))
+        }
+        Command::Segment { pos: _, bytes: _ } | Command::Show => {
+            execute(buffers.alloc(), receiver, command)
+        }
+    }
+}
+
+/// Keeps the memory of bytes that were read.
+fn keep_read<A: Allocator + Copy>(buffers: &mut Buffers<A>, reply: Reply<A>) {
+    match reply {
+        Reply::Read(bytes) => buffers.keep_bytes(bytes),
+        Reply::Segment(_answer) => {}
+        Reply::Show {
+            next: _next,
+            queued: _queued,
+            window: _window,
+            held: _held,
+        } => {}
     }
 }
 
@@ -153,10 +188,10 @@ impl<'a, A: Allocator + Copy, const N: usize> StreamSession<'a, A, N> {
         }
     }
 
-    /// Runs a command, and shows its reply.
+    /// Does a command, and shows its reply.
     fn command(
         &mut self,
-        alloc: A,
+        buffers: &mut Buffers<A>,
         command: Command<A>,
     ) -> Result<Result<String<A>, Fault>, AllocError>
         ensures { let done = stream_does of_stored self.old (ToReceiver (command_seen command)) in
@@ -167,12 +202,20 @@ impl<'a, A: Allocator + Copy, const N: usize> StreamSession<'a, A, N> {
         if !fits::<A, N>(&command) {
             return Ok(Err(Fault::RangeTooLong));
         }
-        let reply = execute(alloc, &mut self.present, &command)?;
-        Ok(Ok(reply_lines::reply_text(alloc, &reply)?))
+        let reply = execute_within(buffers, &mut self.present, &command)?;
+        if let Command::Segment { pos: _, bytes } = command {
+            buffers.keep_bytes(bytes);
+        }
+        let text = reply_lines::reply_text(buffers, &reply)?;
+        keep_read(buffers, reply);
+        Ok(Ok(text))
     }
 
     /// Begins the second schedule.
-    fn next_schedule(&mut self, alloc: A) -> Result<Result<String<A>, Fault>, AllocError>
+    fn next_schedule(
+        &mut self,
+        buffers: &mut Buffers<A>,
+    ) -> Result<Result<String<A>, Fault>, AllocError>
         ensures { let done = stream_does of_stored self.old NextSchedule in
             IfOk result (λ outcome. MatchResult outcome
             (λ reply. done ≡ Ok (self.new, string_bytes reply))
@@ -181,12 +224,12 @@ impl<'a, A: Allocator + Copy, const N: usize> StreamSession<'a, A, N> {
         if self.ended.is_some() {
             return Ok(Err(Fault::TooManySchedules));
         }
-        let storage = vec![in alloc; 0u8; self.capacity]?;
+        let storage = vec![in buffers.alloc(); 0u8; self.capacity]?;
         let second = self.second.take().unwrap();
         *second = storage;
         let fresh = Receiver::new_at(ManagedSlice::from(second.as_mut_slice()), self.first);
         self.ended = Some(mem::replace(&mut self.present, fresh));
-        Ok(Ok(String::new(alloc)))
+        Ok(Ok(buffers.take_text(0)?))
     }
 }
 
@@ -197,12 +240,12 @@ impl<A: Allocator + Copy, const N: usize> Session<A> for StreamSession<'_, A, N>
 
     fn execute_line(
         &mut self,
-        alloc: A,
+        buffers: &mut Buffers<A>,
         line: &[u8],
     ) -> Result<Result<String<A>, Fault>, AllocError> {
-        match stream_line(alloc, line)? {
-            Some(StreamLine::ToReceiver(command)) => self.command(alloc, command),
-            Some(StreamLine::NextSchedule) => self.next_schedule(alloc),
+        match stream_line(buffers, line)? {
+            Some(StreamLine::ToReceiver(command)) => self.command(buffers, command),
+            Some(StreamLine::NextSchedule) => self.next_schedule(buffers),
             None => Ok(Err(Fault::BadCommand)),
         }
     }

@@ -3,7 +3,7 @@ ghost use Rattle.std.specs.Prelude.{◌≡◌, ◌+◌, ◌*◌, ◌++◌, lengt
 ghost use Rattle.hex.specs.Hex.{encode_lower};
 ghost use Rattle.net_bench.specs.Text.{begins_numeral, number_of, hex_bytes, hex_text};
 
-use hex::FromHexError;
+use crate::buffers::Buffers;
 use std::alloc::{AllocError, Allocator};
 use std::fmt::Display;
 
@@ -31,34 +31,50 @@ pub fn number(word: &[u8]) -> Option<u64>
     Some(value)
 }
 
-/// The bytes that a word writes: `-` for none, or one or more pairs of hexadecimal digits in either
-/// case.
-pub fn bytes<A: Allocator + Copy>(alloc: A, word: &[u8]) -> Result<Option<Vec<u8, A>>, AllocError>
+/// Returns the bytes that a word writes, if it writes some: `-` for none, or one or more pairs of
+/// hexadecimal digits in either case.
+pub fn bytes<A: Allocator + Copy>(
+    buffers: &mut Buffers<A>,
+    word: &[u8],
+) -> Result<Option<Vec<u8, A>>, AllocError>
     ensures { IfOk result (λ found. option_map (λ bytes. bytes.items) found ≡ hex_bytes word.now) }
 {
     if word == b"-".as_slice() {
-        return Ok(Some(Vec::new(alloc)));
+        return Ok(Some(buffers.take_bytes(0)?));
     }
     if word.is_empty() {
         return Ok(None);
     }
-    match hex::decode(alloc, word) {
-        Ok(bytes) => Ok(Some(bytes)),
-        Err(FromHexError::OutOfMemory) => Err(AllocError),
+    let mut bytes = buffers.take_bytes(word.len() / 2)?;
+    match hex::decode_to_slice(word, bytes.as_mut_slice()) {
+        Ok(()) => Ok(Some(bytes)),
         Err(_) => Ok(None),
     }
 }
 
-/// The text that a value displays, in memory for `room` bytes: one request, if that is enough.
+/// Returns a text as it stands.
+pub fn plain<A: Allocator + Copy>(
+    buffers: &mut Buffers<A>,
+    text: &str,
+) -> Result<String<A>, AllocError>
+    ensures { IfOk result (λ reply. string_bytes reply ≡ text.now) }
+{
+    let mut reply = buffers.take_text(text.len())?;
+    reply.push_str(text)?;
+    Ok(reply)
+}
+
+/// Returns the text that a value displays, in memory for `room` bytes: one request at most, if that
+/// is enough.
 pub fn displayed<A: Allocator + Copy, D: Display + Drop>(
-    alloc: A,
+    buffers: &mut Buffers<A>,
     room: usize,
     value: D,
 ) -> Result<String<A>, AllocError>
     ensures { IfOk result (λ text.
         IfSome (D.output value) (λ bytes. string_bytes text ≡ bytes)) }
 {
-    let mut text = String::with_capacity(alloc, room)?;
+    let mut text = buffers.take_text(room)?;
     match write!(text, "{value}") {
         Ok(()) => Ok(text),
         Err(_) => Err(AllocError),
@@ -90,7 +106,7 @@ fn put_read_reply(first: &[u8], second: &[u8], reply: &mut [u8])
 
 /// The bytes of the reply that shows two parts, of which one has a byte.
 fn read_reply_bytes<A: Allocator + Copy>(
-    alloc: A,
+    buffers: &mut Buffers<A>,
     first: &[u8],
     second: &[u8],
 ) -> Result<Vec<u8, A>, AllocError>
@@ -103,7 +119,8 @@ fn read_reply_bytes<A: Allocator + Copy>(
     let Some(length) = digits.checked_add(6) else {
         return Err(AllocError);
     };
-    let mut reply = vec![in alloc; 0u8; length]?;
+    let mut reply = buffers.take_text(length)?.into_bytes();
+    reply.resize(length, 0)?;
     put_read_reply(first, second, reply.as_mut_slice());
     Ok(reply)
 }
@@ -111,7 +128,7 @@ fn read_reply_bytes<A: Allocator + Copy>(
 /// The reply that shows the bytes of two parts, the second behind the first. One request for memory
 /// is made, and each byte is looked at once.
 pub fn read_reply<A: Allocator + Copy>(
-    alloc: A,
+    buffers: &mut Buffers<A>,
     first: &[u8],
     second: &[u8],
 ) -> Result<String<A>, AllocError>
@@ -119,8 +136,8 @@ pub fn read_reply<A: Allocator + Copy>(
         ≡ codes "read " ++ hex_text (first.now ++ second.now) ++ codes "\n") }
 {
     if first.len().saturating_add(second.len()) == 0 {
-        return String::from_str(alloc, "read -\n");
+        return plain(buffers, "read -\n");
     }
-    let reply = read_reply_bytes(alloc, first, second)?;
+    let reply = read_reply_bytes(buffers, first, second)?;
     Ok(String::from_utf8(reply).unwrap())
 }

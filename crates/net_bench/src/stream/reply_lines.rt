@@ -2,25 +2,14 @@
 ghost use Rattle.std.specs.Prelude.{◌≡◌, Some, flat_map, IfOk, Ok, string_bytes};
 ghost use Rattle.net_receiver.specs.Schedule.{Segmented, Gave, Shown};
 ghost use Rattle.net_receiver.specs.Commands.{reply_seen};
-ghost use Rattle.net_bench.specs.StreamMode.{run_text, next_run_text, runs_text, accepted_line};
+ghost use Rattle.net_bench.specs.StreamMode.{next_run_text, runs_text, accepted_line};
 ghost use Rattle.net_bench.specs.StreamMode.{reply_text as text_of_reply};
 
+use crate::buffers::Buffers;
 use crate::text;
 use net_receiver::{Kept, Reply};
 use std::alloc::{AllocError, Allocator};
 use std::fmt;
-
-/// A run of positions: the first, and the first behind it.
-#[derive(Drop)]
-struct Run(u64, u64);
-
-impl fmt::Display for Run {
-    ghost output = { λ run. Some (run_text (run.0, run.1)) };
-
-    fn fmt<W: fmt::Write>(&self, f: &mut fmt::Formatter<W>) -> fmt::Result {
-        write!(f, "{}-{}", self.0, self.1)
-    }
-}
 
 /// Runs behind another, a comma before each.
 #[derive(Drop)]
@@ -56,17 +45,26 @@ impl fmt::Display for Runs<'_> {
     }
 }
 
-/// The most bytes of a line that says what was kept: eight numbers of at most 20 digits, and 25
-/// bytes beside them.
-const ACCEPTED_ROOM: usize = 185;
+/// The most bytes of a number's text.
+const NUMBER_ROOM: usize = 20;
 
-/// The most bytes of a line that shows a receiver with 32 held runs: 41 bytes for each, and a comma
-/// behind it, three numbers of at most 20 digits, and 28 bytes beside them.
-const SHOWN_ROOM: usize = 88 + 42 * 32;
+/// The most bytes of a run's text and a comma: two numbers, and a dash between them.
+const RUN_ROOM: usize = 2 * NUMBER_ROOM + 2;
+
+/// How many runs the answer to a segment reports at most.
+const REPORTED: usize = 3;
+
+/// The most bytes of a line that says what was kept: two numbers, the reported runs, and 20 bytes
+/// beside them.
+const ACCEPTED_ROOM: usize = 20 + 2 * NUMBER_ROOM + RUN_ROOM * REPORTED;
+
+/// The most bytes of a line that shows a receiver: three numbers, 32 held runs, and 28 bytes beside
+/// them.
+const SHOWN_ROOM: usize = 28 + 3 * NUMBER_ROOM + RUN_ROOM * 32;
 
 /// What was kept of a segment and the first held runs, as a line.
 fn accepted_text<A: Allocator + Copy>(
-    alloc: A,
+    buffers: &mut Buffers<A>,
     kept: usize,
     queued: usize,
     sack: &[(u64, u64)],
@@ -75,39 +73,45 @@ fn accepted_text<A: Allocator + Copy>(
 {
     let sack = Runs(sack);
     text::displayed(
-        alloc,
+        buffers,
         ACCEPTED_ROOM,
         format_args!("kept {kept} queued {queued} sack {sack}\n"),
     )
 }
 
 /// What was kept of a segment, as a line.
-fn kept_text<A: Allocator + Copy>(alloc: A, kept: &Kept) -> Result<String<A>, AllocError>
+fn kept_text<A: Allocator + Copy>(
+    buffers: &mut Buffers<A>,
+    kept: &Kept,
+) -> Result<String<A>, AllocError>
     ensures { IfOk result (λ text. string_bytes text ≡ text_of_reply (Segmented (Ok kept.now))) }
 {
     let [first, second, third] = kept.sack;
     let Some(first) = first else {
-        return accepted_text(alloc, kept.kept, kept.queued, &[]);
+        return accepted_text(buffers, kept.kept, kept.queued, &[]);
     };
     let Some(second) = second else {
-        return accepted_text(alloc, kept.kept, kept.queued, &[first]);
+        return accepted_text(buffers, kept.kept, kept.queued, &[first]);
     };
     let Some(third) = third else {
-        return accepted_text(alloc, kept.kept, kept.queued, &[first, second]);
+        return accepted_text(buffers, kept.kept, kept.queued, &[first, second]);
     };
-    accepted_text(alloc, kept.kept, kept.queued, &[first, second, third])
+    accepted_text(buffers, kept.kept, kept.queued, &[first, second, third])
 }
 
 /// The bytes that were read, as a line.
-fn read_text<A: Allocator + Copy>(alloc: A, bytes: &[u8]) -> Result<String<A>, AllocError>
+fn read_text<A: Allocator + Copy>(
+    buffers: &mut Buffers<A>,
+    bytes: &[u8],
+) -> Result<String<A>, AllocError>
     ensures { IfOk result (λ text. string_bytes text ≡ text_of_reply (Gave bytes.now)) }
 {
-    text::read_reply(alloc, bytes, &[])
+    text::read_reply(buffers, bytes, &[])
 }
 
 /// A receiver's numbers and held runs, as a line.
 fn shown_text<A: Allocator + Copy>(
-    alloc: A,
+    buffers: &mut Buffers<A>,
     next: u64,
     queued: usize,
     window: usize,
@@ -118,25 +122,28 @@ fn shown_text<A: Allocator + Copy>(
 {
     let held = Runs(held);
     text::displayed(
-        alloc,
+        buffers,
         SHOWN_ROOM,
         format_args!("next {next} queued {queued} window {window} held {held}\n"),
     )
 }
 
 /// A reply as a line.
-pub fn reply_text<A: Allocator + Copy>(alloc: A, reply: &Reply<A>) -> Result<String<A>, AllocError>
+pub fn reply_text<A: Allocator + Copy>(
+    buffers: &mut Buffers<A>,
+    reply: &Reply<A>,
+) -> Result<String<A>, AllocError>
     ensures { IfOk result (λ text. string_bytes text ≡ text_of_reply (reply_seen reply.now)) }
 {
     match reply {
-        Reply::Segment(Ok(kept)) => kept_text(alloc, kept),
-        Reply::Segment(Err(_)) => String::from_str(alloc, "refused too many holes\n"),
-        Reply::Read(bytes) => read_text(alloc, bytes),
+        Reply::Segment(Ok(kept)) => kept_text(buffers, kept),
+        Reply::Segment(Err(_)) => text::plain(buffers, "refused too many holes\n"),
+        Reply::Read(bytes) => read_text(buffers, bytes),
         Reply::Show {
             next,
             queued,
             window,
             held,
-        } => shown_text(alloc, *next, *queued, *window, held),
+        } => shown_text(buffers, *next, *queued, *window, held),
     }
 }

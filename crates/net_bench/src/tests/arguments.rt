@@ -12,19 +12,19 @@ fn gathers_all_words_or_none(rt: HostRuntime) -> Result<(), Fail> {
     let mut refusals = 0usize;
     for refused in 0..8 {
         let heap = Refusing::new(rt.alloc(), refused);
-        // With a filter none knows beforehand how many words come, so the list grows twice.
-        let words = command_words(rt.alloc(), LINE)?
-            .into_iter()
-            .filter(|_| true);
+        let words = command_words(rt.alloc(), LINE)?.into_iter();
         let Ok(gathered) = gather(&heap, words) else {
+            assert_eq!(rt; heap.requests(), refused.saturating_add(1));
             refusals = refusals.saturating_add(1);
             continue;
         };
+        assert_eq!(rt; heap.requests(), refusals, "request {refused}");
         assert_eq!(rt; gathered.len(), 6, "request {refused}");
         for (word, wanted) in gathered.iter().zip(LINE.split(' ')) {
             assert_eq!(rt; word.as_str(), wanted, "request {refused}");
         }
     }
-    assert!(rt; 0 < refusals && refusals < 8);
+    // The list grows for the first word, and for the fifth.
+    assert_eq!(rt; refusals, 2);
     Ok(())
 }

@@ -52,38 +52,41 @@ fn check_refusals(rt: &impl Abort, alloc: Global, words: &str, parts: &[Part]) -
 
 #[test]
 fn each_request_for_memory_is_refused_in_turn(rt: HostRuntime) -> Result<(), Fail> {
-    // The bytes of a line are asked for, and its reply.
+    // The buffers of a line's bytes and of a reply's text grow only for what is longer than before.
     let ring = [
         Part(b"", b"", 3),
         Part(b"w 6162\n", b"took 2\n", 2),
-        Part(b"w -\n", b"took 0\n", 1),
-        Part(b"r 1\n", b"read 61\n", 1),
-        Part(b"r 9\n", b"read 62\n", 1),
-        Part(b"r 9", b"read -\n", 1),
+        Part(b"w -\n", b"took 0\n", 0),
+        Part(b"r 1\n", b"read 61\n", 0),
+        Part(b"w 636465666768696a6b6c6d6e6f70\n", b"took 14\n", 1),
+        Part(b"r 99\n", b"read 62636465666768696a6b6c6d6e6f70\n", 1),
+        Part(b"r 9", b"read -\n", 0),
     ];
-    check_refusals(&rt, rt.alloc(), "ring 8", &ring)?;
+    check_refusals(&rt, rt.alloc(), "ring 16", &ring)?;
     let asm = [
         Part(b"", b"", 2),
         Part(b"a 2 3\n", b"ok\n", 1),
         Part(b"t 0 1\n", b"front 1\n", 1),
         Part(b"p\n", b"[ (1) 3 ]\n", 1),
-        Part(b"f", b"front 0\n", 1),
+        Part(b"f\n", b"front 0\n", 0),
+        Part(b"p", b"[ (1) 3 ]\n", 0),
     ];
     check_refusals(&rt, rt.alloc(), "asm 4", &asm)?;
     check_refusals(&rt, rt.alloc(), "asm 32", &asm)?;
-    // Beside them the bytes of a read, and the runs that are shown, if there are any. The second
-    // schedule asks for its storage, and the line that compares two schedules asks for nothing.
+    // The runs that are shown are asked for, if there are any. The second schedule asks for its
+    // storage, and the line that compares two schedules asks for nothing.
     let stream = [
         Part(b"", b"", 3),
         Part(b"s 2 6162\n", b"kept 2 queued 0 sack 2-4\n", 2),
         Part(b"?\n", b"next 0 queued 0 window 8 held 2-4\n", 2),
-        Part(b"s 0 6364\n", b"kept 2 queued 4 sack -\n", 2),
-        Part(b"?\n", b"next 4 queued 4 window 4 held -\n", 1),
-        Part(b"r 9\n", b"read 63646162\n", 2),
-        Part(b"r 9\n", b"read -\n", 1),
+        Part(b"?\n", b"next 0 queued 0 window 8 held 2-4\n", 1),
+        Part(b"s 0 6364\n", b"kept 2 queued 4 sack -\n", 0),
+        Part(b"?\n", b"next 4 queued 4 window 4 held -\n", 0),
+        Part(b"r 9\n", b"read 63646162\n", 0),
+        Part(b"r 9\n", b"read -\n", 0),
         Part(b"--\n", b"", 1),
-        Part(b"s 0 63646162\n", b"kept 4 queued 4 sack -\n", 2),
-        Part(b"r 4", b"read 63646162\n", 2),
+        Part(b"s 0 63646162\n", b"kept 4 queued 4 sack -\n", 0),
+        Part(b"r 4", b"read 63646162\n", 0),
         Part(b"", b"same\n", 0),
     ];
     check_refusals(&rt, rt.alloc(), "stream 8 4", &stream)?;
