@@ -1,4 +1,8 @@
 //! A generator of random words, and the source ports that are drawn from it.
+//!
+//! The generator is the one of smoltcp's `rand.rs`, which names it sPCG32, with the same constants:
+//! a linear congruential state of 64 bits, whose word is the state shifted right by an amount that
+//! its top three bits choose, after the family of generators PCG of M. E. O'Neill.
 
 ghost use Rattle.std.specs.Prelude.{◌≡◌, ℕ};
 ghost use Rattle.net_base.specs.Generator.{successor, word, draw, IsPort};
@@ -25,8 +29,10 @@ impl Model for Rand {
 }
 
 impl Rand {
+    /// What the state is multiplied by.
     const MULTIPLIER: u64 = 0xbb2efcec3c39611d;
 
+    /// What is then added.
     const INCREMENT: u64 = 0x7590ef39;
 
     /// A generator whose state is the seed. Any seed is allowed.
@@ -36,7 +42,7 @@ impl Rand {
         Rand { state: seed }
     }
 
-    /// Moves to the next state, and answers its word of 32 bits.
+    /// Moves to the next state, and returns its word of 32 bits.
     pub fn rand_u32(&mut self) -> u32
         ensures state { self.new ≡ successor self.old }
         ensures value { result ≡ word self.new }
@@ -50,7 +56,7 @@ impl Rand {
         ((state >> shift) & 0xffff_ffff) as u32
     }
 
-    /// Moves to the next state, and answers its draw of 16 bits: the two halves of its word,
+    /// Moves to the next state, and returns its draw of 16 bits: the two halves of its word,
     /// combined by exclusive or.
     pub fn rand_u16(&mut self) -> u16
         ensures state { self.new ≡ successor self.old }
@@ -60,7 +66,7 @@ impl Rand {
         ((n ^ (n >> 16)) & 0xffff) as u16
     }
 
-    /// Draws 16 bits until a draw is above 1024, answers that draw, and stays at its state.
+    /// Draws 16 bits until a draw is above 1024, returns that draw, and stays at its state.
     ///
     /// It returns from every state, after at most 2^64 draws: `laws::full_period` says that each
     /// state lies ahead of each other, so one whose draw is above 1024 does.

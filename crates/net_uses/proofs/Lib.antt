@@ -1,3 +1,4 @@
 pub mod Results
 pub mod FragmentFacts
 pub mod FrameFacts
+pub mod SocketFacts

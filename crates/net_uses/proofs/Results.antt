@@ -15,3 +15,8 @@ OnErr-always (Err e) p = p
 pub IfOk-both : {T E : Type 0} {P Q R : T → Type 0} (r : Result T E) → ((t : T) → P t → Q t → R t) → IfOk r P → IfOk r Q → IfOk r R
 IfOk-both (Ok t) f p q = f t p q
 IfOk-both (Err e) f p q = p
+
+-- a fact of an `Err` gives another
+pub OnErr-map : {T E P Q : Type 0} (r : Result T E) → (P → Q) → OnErr r P → OnErr r Q
+OnErr-map (Ok t) f p = p
+OnErr-map (Err e) f p = f p

@@ -1,16 +1,38 @@
 -- What a socket holds, and what it hands out.
-use Rattle.std.specs.Prelude.{◌≡◌, ℕ, List, ◌∷◌, ◌++◌, Result, is_ok, if◌then◌else◌, length, min, take, drop}
+use Rattle.std.specs.Prelude.{◌≡◌, ℕ, ◌+◌, List, ◌∷◌, ◌++◌, Result, is_ok}
+use Rattle.std.specs.Prelude.{if◌then◌else◌, length, min, take, drop}
 use Rattle.std.specs.Borrow.{Bor}
 use Rattle.std.specs.Fn.{Once}
+use Rattle.net_storage.specs.Packets.{PacketQueue, slots_used, skipped, handed}
+use Rattle.net_storage.specs.PacketHistory.{contents}
 use Rattle.net_uses.specs.declared.endpoint.Endpoint.{Endpoint}
 
--- the datagrams that were received, and those that are to be sent, each with its endpoint and its bytes, the first one first
-pub record Datagrams : Type 0 where
-  pub received : List (Endpoint × List ℕ)
-  pub to_send : List (Endpoint × List ℕ)
+-- the two queues of a socket, each with its slots, its storage and where its packets lie
+pub record SocketState : Type 0 where
+  pub inbound : PacketQueue Endpoint
+  pub outbound : PacketQueue Endpoint
 
--- the first of the datagrams ds has the endpoint e, and as many of its bytes as xs has elements, n of them, were copied over the first of xs, which made ys
-pub record Shown (ds : List (Endpoint × List ℕ)) (e : Endpoint) (n : ℕ) (xs : List ℕ) (ys : List ℕ) : Type 0 where
+-- the datagrams that were received, each with its endpoint and its bytes, the first one first
+abbrev pub received : SocketState → List (Endpoint × List ℕ)
+received s = contents s.inbound
+
+-- the datagrams that are to be sent, likewise
+abbrev pub to_send : SocketState → List (Endpoint × List ℕ)
+to_send s = contents s.outbound
+
+-- two queues have as many slots and as many bytes of storage
+abbrev pub SameCapacity : PacketQueue Endpoint → PacketQueue Endpoint → Type 0
+SameCapacity q r = (q.slot_count ≡ r.slot_count) × (length q.storage ≡ length r.storage)
+
+-- a socket has the slots and bytes that it had, in both directions
+abbrev pub KeepsCapacity : SocketState → SocketState → Type 0
+KeepsCapacity old new =
+    SameCapacity new.inbound old.inbound × SameCapacity new.outbound old.outbound
+
+-- the first of the datagrams ds has the endpoint e, and as many of its bytes as xs has elements, n
+-- of them, were copied over the first of xs, which made ys
+pub record Shown (ds : List (Endpoint × List ℕ)) (e : Endpoint) (n : ℕ) (xs : List ℕ)
+    (ys : List ℕ) : Type 0 where
   pub bytes : List ℕ
   pub first : ds ≡ (e, bytes) ∷ drop 1 ds
   pub count : n ≡ min (length bytes) (length xs)
@@ -27,13 +49,17 @@ module _ {F R : Type 0} (g : Once F (Endpoint × (Bor (List ℕ) × Unit {0})) R
 
   -- f may be called once at the first of the datagrams
   abbrev pub TakesFirstDatagram : F → List (Endpoint × List ℕ) → Type 0
-  TakesFirstDatagram f ds = (e : Endpoint) (bytes : List ℕ) → ds ≡ (e, bytes) ∷ drop 1 ds → TakesDatagram f e bytes
+  TakesFirstDatagram f ds =
+      (e : Endpoint) (bytes : List ℕ) → ds ≡ (e, bytes) ∷ drop 1 ds → TakesDatagram f e bytes
 
 module _ {F R E : Type 0} (g : Once F (Endpoint × (Bor (List ℕ) × Unit {0})) (Result R E)) where
-  -- f was handed the first of the datagrams ds and gave the answer: that datagram is gone from rest where the answer is `Ok`, and else nothing is
-  pub record Dispatched (f : F) (ds : List (Endpoint × List ℕ)) (answer : Result R E) (rest : List (Endpoint × List ℕ)) : Type 0 where
+  -- f was handed the first datagram of the queue q and gave the answer: that datagram is gone from
+  -- the queue r where the answer is `Ok`, and else nothing is
+  pub record Dispatched (f : F) (q : PacketQueue Endpoint) (answer : Result R E)
+      (r : PacketQueue Endpoint) : Type 0 where
     pub endpoint : Endpoint
     pub bytes : List ℕ
-    pub first : ds ≡ (endpoint, bytes) ∷ drop 1 ds
+    pub first : contents q ≡ (endpoint, bytes) ∷ drop 1 (contents q)
     pub gives : GivesAtDatagram g f endpoint bytes answer
-    pub left : rest ≡ (if is_ok answer then drop 1 ds else ds)
+    pub left : contents r ≡ (if is_ok answer then drop 1 (contents q) else contents q)
+    pub made : r ≡ handed (is_ok answer) q endpoint bytes

@@ -1,5 +1,6 @@
 -- What a buffer holds after many fragments.
-use Rattle.std.specs.Prelude.{◌≡◌, Bool, ◌+◌, ◌-◌, ◌<◌, ◌&&◌, ℕ, List, [], ◌∷◌, length, if◌then◌else◌, nat_le, nat_lt, slice_index_or, IsTrue}
+use Rattle.std.specs.Prelude.{◌≡◌, Bool, ◌+◌, ◌-◌, ◌<◌, ◌&&◌, ℕ, List, [], ◌∷◌, length}
+use Rattle.std.specs.Prelude.{if◌then◌else◌, nat_le, nat_lt, slice_index_or, IsTrue}
 use Rattle.net_storage.specs.Positions.{contains, nothing}
 use Rattle.net_uses.specs.Fragments.{FragmentState, fragment_added}
 
@@ -20,9 +21,13 @@ last_byte p d (f ∷ fs) = last_byte p (if covers p f then slice_index_or f.1 (p
 -- the byte at each position is that of the last fragment there, and where none is it is as it was
 abbrev pub LastFragmentStands : Type 0
 LastFragmentStands = (b : FragmentState) (fs : List (ℕ × List ℕ)) (p d : ℕ) → p < length b.bytes
-    → slice_index_or (after_fragments b fs).bytes p d ≡ last_byte p (slice_index_or b.bytes p d) fs
+    → slice_index_or (after_fragments b fs).bytes p d
+    ≡ last_byte p (slice_index_or b.bytes p d) fs
 
--- at each position that came since nothing had come, the byte is that of the last fragment there, whatever stood in the buffer
+-- at each position that came since nothing had come, the byte is that of the last fragment there,
+-- whatever stood in the buffer
 abbrev pub OldBytesAreGone : Type 0
-OldBytesAreGone = (b : FragmentState) (fs : List (ℕ × List ℕ)) (p d : ℕ) → b.present ≡ nothing → p < length b.bytes
-    → IsTrue (contains (after_fragments b fs).present p) → slice_index_or (after_fragments b fs).bytes p 0 ≡ last_byte p d fs
+OldBytesAreGone = (b : FragmentState) (fs : List (ℕ × List ℕ)) (p d : ℕ)
+    → b.present ≡ nothing → p < length b.bytes
+    → IsTrue (contains (after_fragments b fs).present p)
+    → slice_index_or (after_fragments b fs).bytes p 0 ≡ last_byte p d fs

@@ -1,5 +1,5 @@
 -- Frames that pass, one after another.
-use Rattle.std.specs.Prelude.{◌≡◌, ◌<◌, ℕ, List, [], ◌∷◌, ◌++◌, length}
+use Rattle.std.specs.Prelude.{◌≡◌, ◌<◌, ◌⊎◌, ℕ, List, [], ◌∷◌, ◌++◌, length}
 
 -- each of the frames in turn, by the relation step, makes y of x
 abbrev pub Each : {D : Type 0} → (D → List ℕ → D → Type 0) → D → List (List ℕ) → D → Type 0
@@ -21,3 +21,16 @@ module _ {A B : Type 0} (taken : A → List ℕ → A → Type 0) (sent : B → 
     pub count : length frames < n
     pub taken_off : Each taken x (frames ++ (lost ∷ [])) x'
     pub sent_on : Each sent y frames y'
+
+module _ {A B : Type 0} (taken : A → List ℕ → A → Type 0) (is_idle : A → Type 0)
+    (idled : A → A → Type 0) (is_busy : B → Type 0) (sent : B → List ℕ → B → Type 0) where
+  -- no frame passes: the one device has no room to send, or the other has none to hand over and
+  -- becomes what it then becomes
+  abbrev pub Stops : A → A → B → Type 0
+  Stops x x' y = (is_busy y × (x' ≡ x)) ⊎ (is_idle x × idled x x')
+
+  -- n frames passed, and then either these were as many as are to pass, or no other one passes
+  pub record Passed (max n : ℕ) (x x' : A) (y y' : B) : Type 0 where
+    pub between : A
+    pub passed : Forwarded taken sent n x between y y'
+    pub ended : ((n ≡ max) × (x' ≡ between)) ⊎ Stops between x' y'

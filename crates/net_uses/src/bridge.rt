@@ -1,26 +1,29 @@
 //! A bridge of two devices.
-ghost use Rattle.std.specs.Prelude.{◌≡◌, ◌≤◌, ◌⊎◌, ℕ, List, OnErr, IfOk, Ok, true, false};
-ghost use Rattle.net_uses.specs.Frames.{Forwarded, ForwardedAndLost};
+ghost use Rattle.std.specs.Prelude.{◌≡◌, ◌≤◌, ◌+◌, ◌∷◌, ◌++◌, [], ℕ, List, OnErr, IfOk, Ok, true};
+ghost use Rattle.std.specs.Prelude.{false};
+ghost use Rattle.std.specs.Prelude.{length};
+ghost use Rattle.net_uses.specs.Frames.{Passed, Stops, ForwardedAndLost};
 
-use net_base::phy::{Device, RxToken};
+use net_base::phy::{Device, FrameLists, RxToken};
 use net_base::time::Instant;
 use std::alloc::AllocError;
 
 #[cfg(test)]
 mod tests;
 
-/// Takes one frame off one device and sends that very frame on another. Answers whether it did.
-/// Where it answers false, both devices are as they were, and one had no frame to hand over or the
-/// other no room to send one.
+/// Takes one frame off one device and sends that very frame on another. Returns whether it did.
+/// If it returns false, one device had no frame to hand over, and is what it then becomes, by
+/// default what it was, or the other had no room to send one; nothing was sent.
 ///
-/// Where memory is refused, the frame was taken and nothing was sent.
+/// If memory is refused, the frame was taken and nothing was sent.
 pub fn forward_one<A: Device, B: Device>(
     from: &mut A,
     to: &mut B,
     timestamp: Instant,
 ) -> Result<bool, AllocError>
-    ensures stopped { result ≡ Ok false → A.is_idle from.old ⊎ B.is_busy to.old }
-    ensures unchanged { result ≡ Ok false → (from.new ≡ from.old) × (to.new ≡ to.old) }
+    ensures stopped { result ≡ Ok false
+        → Stops A.taken A.is_idle A.idled B.is_busy B.sent from.old from.new to.old }
+    ensures unsent { result ≡ Ok false → to.new ≡ to.old }
     ensures forwarded { result ≡ Ok true
         → (frame : List ℕ) × A.taken from.old frame from.new × B.sent to.old frame to.new }
     ensures err { OnErr result
@@ -38,20 +41,19 @@ pub fn forward_one<A: Device, B: Device>(
     Ok(true)
 }
 
-/// Takes at most `max` frames off one device and sends them, in order, on another. Answers how many
-/// those are: fewer than `max` only where the one device has no frame left to hand over or the
-/// other no room to send one.
+/// Takes at most `max` frames off one device and sends them, in order, on another. Returns how many
+/// those are: fewer than `max` only if the one device has no frame left to hand over or the other
+/// no room to send one.
 ///
-/// Where memory is refused, the frame that was taken last is lost, and each one before it was sent.
+/// If memory is refused, the frame that was taken last is lost, and each one before it was sent.
 pub fn forward<A: Device, B: Device>(
     from: &mut A,
     to: &mut B,
     timestamp: Instant,
     max: usize,
 ) -> Result<usize, AllocError>
-    ensures forwarded { IfOk result
-        (λ n. (n ≤ max) × Forwarded A.taken B.sent n from.old from.new to.old to.new) }
-    ensures stopped { IfOk result (λ n. (n ≡ max) ⊎ (A.is_idle from.new ⊎ B.is_busy to.new)) }
+    ensures forwarded { IfOk result (λ n. (n ≤ max)
+        × Passed A.taken A.is_idle A.idled B.is_busy B.sent max n from.old from.new to.old to.new) }
     ensures err { OnErr result
         (ForwardedAndLost A.taken B.sent max from.old from.new to.old to.new) }
 {
@@ -61,4 +63,27 @@ pub fn forward<A: Device, B: Device>(
         }
     }
     Ok(max)
+}
+
+/// As `forward`, between devices whose frames stand in lists, of which it says what passed as
+/// lists.
+pub fn forward_lists<A: FrameLists, B: FrameLists>(
+    from: &mut A,
+    to: &mut B,
+    timestamp: Instant,
+    max: usize,
+) -> Result<usize, AllocError>
+    ensures forwarded { IfOk result (λ n. (n ≤ max)
+        × Passed A.taken A.is_idle A.idled B.is_busy B.sent max n from.old from.new to.old to.new) }
+    ensures lists { IfOk result (λ _. (moved : List (List ℕ))
+        × (A.incoming from.old ≡ moved ++ A.incoming from.new)
+        × (B.outgoing to.new ≡ B.outgoing to.old ++ moved)) }
+    ensures count { IfOk result
+        (λ n. length (A.incoming from.old) ≡ n + length (A.incoming from.new)) }
+    ensures err { OnErr result (ForwardedAndLost A.taken B.sent max from.old from.new to.old to.new) }
+    ensures lost { OnErr result ((moved : List (List ℕ)) × (frame : List ℕ)
+        × (A.incoming from.old ≡ moved ++ frame ∷ A.incoming from.new)
+        × (B.outgoing to.new ≡ B.outgoing to.old ++ moved)) }
+{
+    forward(from, to, timestamp, max)
 }

@@ -1,5 +1,6 @@
 //! A packet that comes in fragments.
-ghost use Rattle.std.specs.Prelude.{◌≡◌, ◌↔◌, ◌+◌, ◌<◌, ◌≤◌, ◌⊎◌, ℕ, IsTrue, IsSome, IsErr, IfSome, OnOk, OnErr, ◌<ℤ◌, Err, length, take};
+ghost use Rattle.std.specs.Prelude.{◌≡◌, ◌↔◌, ◌+◌, ◌<◌, ◌≤◌, ◌⊎◌, ℕ, IsTrue, IsSome, IsErr, IfSome};
+ghost use Rattle.std.specs.Prelude.{OnOk, OnErr, ◌<ℤ◌, Err, length, take};
 ghost use Rattle.std.specs.declared.option.Option.TheVariants.{Some, None};
 ghost use Rattle.net_storage.specs.Positions.{nothing};
 ghost use Rattle.net_storage.specs.Assembler.{MakesTooManyRuns};
@@ -76,7 +77,7 @@ impl<B: Elements<u8>, const N: usize> Fragments<B, N> {
 
     /// A fragment comes, whose first byte is that of the packet at `offset`.
     ///
-    /// It is refused, and nothing changes, exactly where it reaches past the buffer's end, which is
+    /// It is refused, and nothing changes, exactly if it reaches past the buffer's end, which is
     /// `TooLong`, or would leave more than `N` maximal runs.
     pub fn add(&mut self, offset: usize, data: &[u8]) -> Result<(), FragmentError>
         ensures ok { OnOk result (self.new ≡ fragment_added self.old offset «data».now) }
@@ -102,7 +103,7 @@ impl<B: Elements<u8>, const N: usize> Fragments<B, N> {
     /// The packet has `size` bytes. Another size that was given before is forgotten, which smoltcp
     /// refuses.
     ///
-    /// It is refused as `TooLong`, and nothing changes, exactly where the buffer has fewer bytes.
+    /// It is refused as `TooLong`, and nothing changes, exactly if the buffer has fewer bytes.
     pub fn set_total_size(&mut self, size: usize) -> Result<(), FragmentError>
         ensures ok { OnOk result (self.new ≡ record self.old { total = Some size }) }
         ensures err { OnErr result (self.new ≡ self.old) }
@@ -116,7 +117,7 @@ impl<B: Elements<u8>, const N: usize> Fragments<B, N> {
         Ok(())
     }
 
-    /// The bytes of the packet. `None` exactly where its size is not known or one of its bytes is
+    /// The bytes of the packet. `None` exactly if its size is not known or one of its bytes is
     /// missing.
     pub fn assemble(&self) -> Option<&[u8]>
         ensures complete { IsSome result ↔ ((size : ℕ) × IsComplete self.now size) }

@@ -11,7 +11,7 @@ pub mod fragment_buffer;
 mod inbox;
 mod udp_socket;
 
-pub use bridge::{forward, forward_one};
+pub use bridge::{forward, forward_lists, forward_one};
 pub use endpoint::Endpoint;
 pub use fragment_buffer::{FragmentBuffer, FragmentError, Fragments};
 pub use inbox::Inbox;

@@ -1,12 +1,17 @@
 //! A socket of datagrams, each with the endpoint that it comes from or goes to.
-ghost use Rattle.std.specs.Prelude.{◌≡◌, ◌∷◌, ◌++◌, [], OnOk, OnErr, IfOk, IsErr, ◌↔◌, ◌==◌, not, length, take, drop, min, true, false};
+ghost use Rattle.std.specs.Prelude.{◌≡◌, ◌∷◌, ◌++◌, [], ℕ, OnOk, OnErr, IfOk, IsErr, IsTrue, IsFalse};
+ghost use Rattle.std.specs.Prelude.{◌↔◌, ◌==◌, ◌<◌, not, length, take, drop, min, is_ok};
+ghost use Rattle.std.specs.declared.option.Option.TheVariants.{None};
+ghost use Rattle.net_storage.specs.Packets.{placement, slots_used, enqueued, dequeued, skipped};
 ghost use Rattle.net_storage.specs.PacketHistory.{contents};
 ghost use Rattle.net_storage.specs.PacketCalls.{CopiedOut};
-ghost use Rattle.net_uses.specs.Datagrams.{Shown, TakesDatagram, GivesAtDatagram, TakesFirstDatagram, Dispatched};
+ghost use Rattle.net_uses.specs.Datagrams.{received, to_send, SameCapacity, KeepsCapacity};
+ghost use Rattle.net_uses.specs.Datagrams.{Shown, TakesDatagram, GivesAtDatagram};
+ghost use Rattle.net_uses.specs.Datagrams.{TakesFirstDatagram, Dispatched};
 
 use crate::endpoint::Endpoint;
 use net_storage::packet_buffer::laws;
-use net_storage::{Empty, Full, PacketBuffer};
+use net_storage::{Empty, Full, PacketBuffer, ring_buffer};
 use std::marker::Model;
 
 #[cfg(test)]
@@ -15,9 +20,10 @@ mod tests;
 /// Datagrams that were received, and datagrams to be sent, over two packet queues whose header is
 /// an endpoint.
 ///
-/// Contracts see the two lists of datagrams, each with its endpoint and its bytes, and nothing
-/// else. The user calls `send_slice`, `recv_slice` and `peek_slice`, and the stack below calls
-/// `process` and `dispatch`.
+/// Contracts see the two queues, and through them the two lists of datagrams, `received` and
+/// `to_send`, each datagram with its endpoint and its bytes. A call never changes how many slots
+/// and bytes a queue has. The user calls `send_slice`, `recv_slice` and `peek_slice`, and the stack
+/// below calls `process` and `dispatch`.
 #[derive(Drop)]
 pub struct UdpSocket<'a> {
     inbound: PacketBuffer<'a, Endpoint>,
@@ -25,117 +31,148 @@ pub struct UdpSocket<'a> {
 }
 
 impl<'a> Model for UdpSocket<'a> {
-    ghost use Rattle.net_storage.specs.PacketHistory.{contents};
-    ghost use Rattle.net_uses.specs.Datagrams.{Datagrams};
+    ghost use Rattle.net_uses.specs.Datagrams.{SocketState};
 
-    ghost Value = { Datagrams };
+    ghost Value = { SocketState };
 
-    ghost view = { λ s. record { received = contents s.inbound; to_send = contents s.outbound } };
+    ghost view = { λ s. record { inbound = s.inbound; outbound = s.outbound } };
 }
 
 impl<'a> UdpSocket<'a> {
     /// A socket over two queues: what `inbound` holds was received, and what `outbound` holds is to
     /// be sent.
     pub fn new(inbound: PacketBuffer<'a, Endpoint>, outbound: PacketBuffer<'a, Endpoint>) -> Self
-        ensures received { result.received ≡ contents inbound.entry }
-        ensures to_send { result.to_send ≡ contents outbound.entry }
+        ensures inbound { result.inbound ≡ inbound.entry }
+        ensures outbound { result.outbound ≡ outbound.entry }
     {
         UdpSocket { inbound, outbound }
     }
 
-    /// A datagram of the bytes `data` comes to the end of those to be sent.
+    /// A datagram of the bytes `data` comes to the end of those to be sent. Any endpoint is taken.
     ///
-    /// `Full` changes nothing. It is answered where the queue has no slot for the datagram, or no
-    /// such number of bytes free in a row.
+    /// `Full` changes nothing. It is returned exactly if the queue can't place a packet of so many
+    /// bytes: if it has no slot free for it and for the gap that it may need, or not so many bytes
+    /// free in a row.
     pub fn send_slice(&mut self, data: &[u8], to: Endpoint) -> Result<(), Full>
-        ensures received { self.new.received ≡ self.old.received }
-        ensures sent { OnOk result (self.new.to_send ≡ self.old.to_send ++ (to, «data».now) ∷ []) }
-        ensures full { OnErr result (self.new.to_send ≡ self.old.to_send) }
+        ensures inbound { self.new.inbound ≡ self.old.inbound }
+        ensures full { IsErr result ↔ (placement self.old.outbound (length «data».now) ≡ None) }
+        ensures unchanged { OnErr result (self.new ≡ self.old) }
+        ensures made { OnOk result (self.new.outbound ≡ enqueued self.old.outbound to «data».now) }
+        ensures sent { OnOk result (to_send self.new ≡ to_send self.old ++ (to, «data».now) ∷ []) }
+        ensures capacity { KeepsCapacity self.old self.new }
     {
-        self.outbound.push_slice(to, data)
+        put(&mut self.outbound, to, data)
     }
 
     /// Takes the first received datagram off, copies as many of its bytes as `into` has room for,
-    /// and answers how many those are, and where it came from. What does not fit is lost.
+    /// and returns how many those are, and where it came from. What does not fit is lost.
     ///
-    /// `Empty` changes nothing. smoltcp answers an error in place of the number where a datagram
-    /// does not fit, and loses it too.
+    /// `Empty` changes nothing. smoltcp returns an error in place of the number if a datagram does
+    /// not fit, and loses it too.
     pub fn recv_slice(&mut self, into: &mut [u8]) -> Result<(usize, Endpoint), Empty>
-        ensures empty { IsErr result ↔ (self.old.received ≡ []) }
+        ensures empty { IsErr result ↔ (received self.old ≡ []) }
         ensures unchanged { OnErr result ((self.new ≡ self.old) × (into.new ≡ into.old)) }
+        ensures made { OnOk result (self.new.inbound ≡ dequeued self.old.inbound) }
         ensures received { IfOk result
-            (λ r. CopiedOut self.old.received r.1 into.old r.0 self.new.received into.new) }
-        ensures to_send { self.new.to_send ≡ self.old.to_send }
+            (λ r. CopiedOut (received self.old) r.1 into.old r.0 (received self.new) into.new) }
+        ensures outbound { self.new.outbound ≡ self.old.outbound }
+        ensures capacity { KeepsCapacity self.old self.new }
     {
         laws::contents_are_packets::<Endpoint>();
         let (from, count) = self.inbound.pop_slice(into)?;
         Ok((count, from))
     }
 
-    /// Copies as many bytes of the first received datagram as `into` has room for, and answers how
-    /// many those are, and where it came from. The datagram stays.
+    /// Copies as many bytes of the first received datagram as `into` has room for, and returns how
+    /// many those are, and where it came from. The datagram stays. Only the gap before it, if there
+    /// is one, is given up, so that there may be room for one more.
     ///
-    /// `Empty` leaves `into` as it was.
+    /// `Empty` leaves the socket and `into` as they were.
     pub fn peek_slice(&mut self, into: &mut [u8]) -> Result<(usize, Endpoint), Empty>
-        ensures empty { IsErr result ↔ (self.old.received ≡ []) }
-        ensures unchanged { self.new ≡ self.old }
-        ensures unwritten { OnErr result (into.new ≡ into.old) }
-        ensures shown { IfOk result (λ r. Shown self.old.received r.1 r.0 into.old into.new) }
+        ensures empty { IsErr result ↔ (received self.old ≡ []) }
+        ensures unchanged { received self.new ≡ received self.old }
+        ensures inbound { self.new.inbound ≡ skipped self.old.inbound }
+        ensures outbound { self.new.outbound ≡ self.old.outbound }
+        ensures unwritten { OnErr result ((self.new ≡ self.old) × (into.new ≡ into.old)) }
+        ensures shown { IfOk result (λ r. Shown (received self.old) r.1 r.0 into.old into.new) }
+        ensures capacity { KeepsCapacity self.old self.new }
     {
         look(&mut self.inbound, into)
     }
 
     /// Whether a datagram was received that was not taken off.
     pub fn can_recv(&self) -> bool
-        ensures { result ≡ not (length self.now.received == 0) }
+        ensures { result ≡ not (length (received self.now) == 0) }
     {
         laws::contents_are_packets::<Endpoint>();
         !self.inbound.is_empty()
     }
 
-    /// Whether a slot is free for a datagram to be sent. `send_slice` can still answer `Full`, for
+    /// Whether a slot is free for a datagram to be sent. `send_slice` can still return `Full`, for
     /// want of bytes.
-    ///
-    /// It has no contract, since the two lists say nothing of slots.
-    pub fn can_send(&self) -> bool {
+    pub fn can_send(&self) -> bool
+        ensures slot { IsTrue result ↔ (slots_used self.now.outbound.packets
+            < self.now.outbound.slot_count) }
+        ensures none { IsFalse result → (size : ℕ) → placement self.now.outbound size ≡ None }
+    {
         !self.outbound.is_full()
     }
 
-    /// A datagram came in: it comes to the end of those that were received. Answers false, and
-    /// drops it and changes nothing, where there is no room for it.
+    /// A datagram came in: it comes to the end of those that were received. Returns false, drops it
+    /// and changes nothing, exactly if the queue can't place a packet of so many bytes.
     pub fn process(&mut self, from: Endpoint, data: &[u8]) -> bool
-        ensures to_send { self.new.to_send ≡ self.old.to_send }
-        ensures received { result ≡ true
-            → self.new.received ≡ self.old.received ++ (from, «data».now) ∷ [] }
-        ensures dropped { result ≡ false → self.new.received ≡ self.old.received }
+        ensures outbound { self.new.outbound ≡ self.old.outbound }
+        ensures full { IsFalse result ↔ (placement self.old.inbound (length «data».now) ≡ None) }
+        ensures made { IsTrue result
+            → self.new.inbound ≡ enqueued self.old.inbound from «data».now }
+        ensures received { IsTrue result
+            → received self.new ≡ received self.old ++ (from, «data».now) ∷ [] }
+        ensures dropped { IsFalse result → self.new ≡ self.old }
+        ensures capacity { KeepsCapacity self.old self.new }
     {
-        self.inbound.push_slice(from, data).is_ok()
+        put(&mut self.inbound, from, data).is_ok()
     }
 
-    /// Hands the first datagram to be sent to `emit`, with where it goes. Where that answers `Ok`,
-    /// the datagram is taken off; where it answers `Err`, it stays first.
+    /// Hands the first datagram to be sent to `emit`, with where it goes. If that returns `Ok`, the
+    /// datagram is taken off; if it returns `Err`, it stays first, and only the gap before it, if
+    /// there is one, is given up.
     ///
     /// `Empty` changes nothing, and `emit` is not run.
     pub fn dispatch<R, E, F: FnOnce(Endpoint, &[u8]) -> Result<R, E>>(
         &mut self,
         emit: F,
     ) -> Result<Result<R, E>, Empty>
-        requires { TakesFirstDatagram F.FnOnce emit self.old.to_send }
-        ensures empty { IsErr result ↔ (self.old.to_send ≡ []) }
+        requires { TakesFirstDatagram F.FnOnce emit (to_send self.old) }
+        ensures empty { IsErr result ↔ (to_send self.old ≡ []) }
         ensures unchanged { OnErr result (self.new ≡ self.old) }
-        ensures received { self.new.received ≡ self.old.received }
+        ensures inbound { self.new.inbound ≡ self.old.inbound }
         ensures dispatched { IfOk result
-            (λ r. Dispatched F.FnOnce emit self.old.to_send r self.new.to_send) }
+            (λ r. Dispatched F.FnOnce emit self.old.outbound r self.new.outbound) }
+        ensures capacity { KeepsCapacity self.old self.new }
     {
         hand(&mut self.outbound, emit)
     }
 }
 
-// The bytes of the first packet are copied as far as `into` has room.
+/// A packet with a copy of `data` comes last, or nothing changes.
+fn put(queue: &mut PacketBuffer<'_, Endpoint>, endpoint: Endpoint, data: &[u8]) -> Result<(), Full>
+    ensures full { IsErr result ↔ (placement queue.old (length «data».now) ≡ None) }
+    ensures unchanged { OnErr result (queue.new ≡ queue.old) }
+    ensures made { OnOk result (queue.new ≡ enqueued queue.old endpoint «data».now) }
+    ensures put { OnOk result
+        (contents queue.new ≡ contents queue.old ++ (endpoint, «data».now) ∷ []) }
+    ensures capacity { SameCapacity queue.new queue.old }
+{
+    ring_buffer::laws::overwritten::<u8>();
+    queue.push_slice(endpoint, data)
+}
+
+/// The bytes of the first packet are copied as far as `into` has room.
 fn look(queue: &mut PacketBuffer<'_, Endpoint>, into: &mut [u8]) -> Result<(usize, Endpoint), Empty>
     ensures contents { contents queue.new ≡ contents queue.old }
+    ensures skipped { queue.new ≡ skipped queue.old }
     ensures empty { IsErr result ↔ (contents queue.old ≡ []) }
-    ensures unwritten { OnErr result (into.new ≡ into.old) }
+    ensures unwritten { OnErr result ((queue.new ≡ queue.old) × (into.new ≡ into.old)) }
     ensures shown { IfOk result (λ r. Shown (contents queue.old) r.1 r.0 into.old into.new) }
 {
     laws::contents_are_packets::<Endpoint>();
@@ -146,7 +183,7 @@ fn look(queue: &mut PacketBuffer<'_, Endpoint>, into: &mut [u8]) -> Result<(usiz
     Ok((count, *header))
 }
 
-// The first packet is handed to `emit`, and taken off where that answers `Ok`.
+/// The first packet is handed to `emit`, and taken off if that returns `Ok`.
 fn hand<R, E, F: FnOnce(Endpoint, &[u8]) -> Result<R, E>>(
     queue: &mut PacketBuffer<'_, Endpoint>,
     emit: F,
@@ -154,9 +191,10 @@ fn hand<R, E, F: FnOnce(Endpoint, &[u8]) -> Result<R, E>>(
     requires { TakesFirstDatagram F.FnOnce emit (contents queue.old) }
     ensures empty { IsErr result ↔ (contents queue.old ≡ []) }
     ensures unchanged { OnErr result (queue.new ≡ queue.old) }
-    ensures dispatched { IfOk result
-        (λ r. Dispatched F.FnOnce emit (contents queue.old) r (contents queue.new)) }
+    ensures dispatched { IfOk result (λ r. Dispatched F.FnOnce emit queue.old r queue.new) }
+    ensures capacity { SameCapacity queue.new queue.old }
 {
+    ring_buffer::laws::overwritten::<u8>();
     laws::contents_are_packets::<Endpoint>();
     laws::packets_leave_in_order::<Endpoint>();
     laws::looking_changes_nothing::<Endpoint>();
@@ -171,7 +209,7 @@ fn hand<R, E, F: FnOnce(Endpoint, &[u8]) -> Result<R, E>>(
     )
 }
 
-// Copies as many bytes as both have, and answers how many.
+/// Copies as many bytes as both have, and returns how many.
 fn copy(into: &mut [u8], bytes: &[u8]) -> usize
     ensures count { result ≡ min (length bytes.now) (length into.old) }
     ensures copied { into.new ≡ take result bytes.now ++ drop result into.old }

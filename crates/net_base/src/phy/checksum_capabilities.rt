@@ -7,10 +7,15 @@ use crate::phy::Checksum;
 /// all of them.
 #[derive(Debug, Clone, Default, Drop)]
 pub struct ChecksumCapabilities {
+    /// Of IPv4 headers.
     pub ipv4: Checksum,
+    /// Of UDP datagrams.
     pub udp: Checksum,
+    /// Of TCP segments.
     pub tcp: Checksum,
+    /// Of ICMPv4 messages.
     pub icmpv4: Checksum,
+    /// Of ICMPv6 messages.
     pub icmpv6: Checksum,
 }
 

@@ -10,8 +10,8 @@ use std::alloc::AllocError;
 /// A device that hands over the frames that came in, and sends frames out.
 ///
 /// Tokens are owned: several can be held at once, and a transmit token can be spent on any device
-/// that has its type. Each device says what a frame that is taken off it, and a frame that is sent,
-/// change of it.
+/// that has its type. Each device says what a frame that is taken off it, a frame that is sent, and
+/// a `receive` that finds none, change of it.
 pub trait Device {
     /// A frame that the device has handed over.
     type RxToken: RxToken;
@@ -22,10 +22,14 @@ pub trait Device {
     /// A frame was taken off the device: what the device was, the frame, what it is.
     ghost taken: { Self → List ℕ → Self → Type 0 };
 
-    /// Holds of a device that has no frame to hand over. By default nothing is said of one.
+    /// Holds of a device whose `receive` may return `None`. By default nothing is said of one.
     ghost is_idle: { Self → Type 0 } = { λ _. Unit {0} };
 
-    /// Holds of a device that has no room to send a frame. By default nothing is said of one.
+    /// No frame was handed over: what the device was, what it is. By default it is as it was. A
+    /// device that may drop frames meanwhile, as a driver does with damaged ones, says here which.
+    ghost idled: { Self → Self → Type 0 } = { λ old new. new ≡ old };
+
+    /// Holds of a device whose `transmit` may return `None`. By default nothing is said of one.
     ghost is_busy: { Self → Type 0 } = { λ _. Unit {0} };
 
     /// A frame was sent: what the device was, the frame, what it is.
@@ -35,20 +39,20 @@ pub trait Device {
     ghost abilities: { Self → DeviceCapabilities };
 
     /// Takes the next frame off the device: a token that holds it, and a token to send one frame
-    /// with. `None` leaves the device as it was, and is answered only where it has no frame to hand
-    /// over.
+    /// with. Returns `None` only if `is_idle` holds of the device, as the device states it, and
+    /// then the device becomes what it states in `idled`.
     ///
     /// The second token is there so that a frame can be answered at once: a stack that replies to
-    /// an ICMP echo sends back the bytes that it holds in the first token, and neither keeps a copy
-    /// of them nor finds the device without room to send.
+    /// an ICMP echo needs no other call to get the right to send. `send` with it can still be
+    /// refused memory.
     ///
     /// The timestamp is the moment of the call. Any moment is allowed.
     fn receive(&mut self, timestamp: Instant) -> Option<(Self::RxToken, Self::TxToken)>
-        ensures { MatchOption result (is_idle self.old × (self.new ≡ self.old))
+        ensures { MatchOption result (is_idle self.old × idled self.old self.new)
             (λ tokens. taken self.old (Self.RxToken.bytes tokens.0) self.new) };
 
-    /// A token to send one frame with. `None` is answered only where the device has no room to send
-    /// one. The device stays as it was in both cases.
+    /// A token to send one frame with. Returns `None` only if `is_busy` holds of the device, as the
+    /// device states it. The device stays as it was in both cases.
     ///
     /// The timestamp is the moment of the call. Any moment is allowed.
     fn transmit(&mut self, timestamp: Instant) -> Option<Self::TxToken>
@@ -59,10 +63,10 @@ pub trait Device {
     fn capabilities(&self) -> DeviceCapabilities
         ensures { result ≡ abilities self.now };
 
-    /// Sends one frame: runs `f` once on `len` zero bytes, sends what `f` made of them, and answers
-    /// what `f` answered.
+    /// Sends one frame: runs `f` once on `len` zero bytes, sends what `f` made of them, and returns
+    /// what `f` returned.
     ///
-    /// Where memory is refused, `f` is let go without being run, hence its bound `Drop`, and the
+    /// If memory is refused, `f` is let go without being run, hence its bound `Drop`, and the
     /// device stays as it was. The token is spent in both cases.
     fn send<R, F: FnOnce(&mut [u8]) -> R + Drop>(
         &mut self,

@@ -18,10 +18,10 @@ pub struct DeviceCapabilities {
     /// What the frames of the device are.
     pub medium: Medium,
     /// The bytes of the longest frame. On Ethernet the 14 bytes of the Ethernet header are counted,
-    /// and the frame check sequence is not: it is the IP MTU plus 14. Where an operating system
+    /// and the frame check sequence is not: it is the IP MTU plus 14. If an operating system
     /// names the MTU of an Ethernet device it means the IP MTU, mostly 1500, which is 1514 here.
     pub max_transmission_unit: usize,
-    /// How many frames may be sent or received at once; `None` where there is no limit.
+    /// How many frames may be sent or received at once; `None` if there is no limit.
     pub max_burst_size: Option<usize>,
     /// What the stack does about checksums, which the device may take off it.
     pub checksum: ChecksumCapabilities,
@@ -42,7 +42,7 @@ impl DeviceCapabilities {
 
     /// The bytes of the longest IP packet: those of the longest frame, less 14 on Ethernet.
     pub fn ip_mtu(&self) -> usize
-        requires { HasIpMtu self.now }
+        requires has_ip_mtu { HasIpMtu self.now }
         ensures { result ≡ ip_mtu_of self.now }
     {
         match self.medium {
@@ -62,7 +62,7 @@ impl DeviceCapabilities {
     /// The bytes of the longest payload of an IPv4 fragment behind an IP header of so many bytes:
     /// what is left of the longest IP packet, down to a multiple of 8.
     pub fn max_ipv4_fragment_size(&self, ip_header_len: usize) -> usize
-        requires { FitsIpHeader self.now ip_header_len }
+        requires fits_ip_header { FitsIpHeader self.now ip_header_len }
         ensures { result ≡ fragment_size_of self.now ip_header_len }
     {
         let room = self.ip_mtu() - ip_header_len;

@@ -5,12 +5,12 @@ use crate::phy::{Device, RxToken};
 use crate::time::Instant;
 use std::alloc::AllocError;
 
-/// Takes one frame off the device and sends that very frame back. Answers whether there was one;
-/// where there was none, the device stays as it was.
+/// Takes one frame off the device and sends that very frame back. Returns whether there was one; if
+/// there was none, the device becomes what it states in `idled`, by default what it was.
 ///
-/// Where memory is refused, the frame was taken and nothing was sent.
+/// If memory is refused, the frame was taken and nothing was sent.
 pub fn echo_once<D: Device>(device: &mut D, timestamp: Instant) -> Result<bool, AllocError>
-    ensures idle { result ≡ Ok false → D.is_idle device.old × (device.new ≡ device.old) }
+    ensures idle { result ≡ Ok false → D.is_idle device.old × D.idled device.old device.new }
     ensures echoed { result ≡ Ok true → Echoed D.taken D.sent device.old device.new }
     ensures err { OnErr result ((frame : List ℕ) × D.taken device.old frame device.new) }
 {

@@ -1,10 +1,12 @@
 //! A device that receives what it sends.
 
 ghost use Rattle.std.specs.Prelude.{◌≡◌, ℕ, List, [], ◌∷◌, ◌++◌, MatchOption};
-ghost use Rattle.net_base.specs.Loopback.{loopback_capabilities};
+ghost use Rattle.std.proofs.Common.{ap};
+ghost use Rattle.net_base.specs.Loopback.{Frames, loopback_capabilities};
 
 use crate::phy::{
-    self, ChecksumCapabilities, Device, DeviceCapabilities, Medium, SegmentationCapabilities,
+    self, ChecksumCapabilities, Device, DeviceCapabilities, FrameLists, Medium,
+    SegmentationCapabilities,
 };
 use crate::time::Instant;
 use std::alloc::{AllocError, Allocator, Global};
@@ -61,8 +63,8 @@ impl<A: Allocator + Copy> Device for Loopback<A> {
 
     ghost sent = { λ old frame new. new ≡ record old { frames = old.frames ++ frame ∷ [] } };
 
-    /// Takes the first frame off the device. `None` exactly where it has none. The timestamp is not
-    /// read.
+    /// Takes the first frame off the device. `None` exactly if it has none. The timestamp is
+    /// not read.
     fn receive(&mut self, _timestamp: Instant) -> Option<(RxToken<A>, TxToken)>
         ensures { MatchOption result ((self.old.frames ≡ []) × (self.new ≡ self.old))
             (λ tokens. self.old ≡ record self.new { frames = tokens.0 ∷ self.new.frames }) }
@@ -71,7 +73,7 @@ impl<A: Allocator + Copy> Device for Loopback<A> {
         Some((RxToken { buffer }, TxToken(())))
     }
 
-    /// Always answers a token. The timestamp is not read.
+    /// Always returns a token. The timestamp is not read.
     fn transmit(&mut self, _timestamp: Instant) -> Option<TxToken> {
         Some(TxToken(()))
     }
@@ -102,6 +104,18 @@ impl<A: Allocator + Copy> Device for Loopback<A> {
         self.queue.push_back_reserved(frame);
         Ok(answer)
     }
+}
+
+impl<A: Allocator + Copy> FrameLists for Loopback<A> {
+    ghost incoming = { λ d. d.frames };
+
+    ghost outgoing = { λ d. d.frames };
+
+    ghost takes_first = { λ _ _ _ is. ap (λ (d : Frames). d.frames) is };
+
+    ghost keeps_all = { λ _ _ is. ap (λ (d : Frames). d.frames) is };
+
+    ghost sends_last = { λ _ _ _ is. ap (λ (d : Frames). d.frames) is };
 }
 
 /// A frame that a loopback device has handed over. Contracts see its bytes.

@@ -12,7 +12,7 @@ pub trait RxToken: Drop {
     /// Holds of a token whose frame has no metadata. By default every token is one.
     ghost is_plain: { Self → Type 0 } = { λ _. Unit {0} };
 
-    /// Runs `f` once on the frame, and answers what `f` answered.
+    /// Runs `f` once on the frame, and returns what `f` returned.
     fn consume<R, F: FnOnce(&[u8]) -> R>(self, f: F) -> R
         requires { FnOnceTakesAt F.FnOnce f (bytes self) }
         ensures { FnOnceReturnsAt F.FnOnce f (bytes self) result };

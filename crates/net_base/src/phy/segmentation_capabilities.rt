@@ -1,7 +1,7 @@
 use crate::phy::NonZeroUsize;
 
 /// The largest buffer, in bytes, that the device cuts into segments for each protocol pair; `None`,
-/// the default, where it cuts none. On Ethernet the 14 bytes of the Ethernet header are counted,
+/// the default, if it cuts none. On Ethernet the 14 bytes of the Ethernet header are counted,
 /// and the frame check sequence is not.
 #[derive(Debug, Clone, Default, Drop)]
 pub struct SegmentationCapabilities {

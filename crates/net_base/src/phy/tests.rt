@@ -2,7 +2,7 @@
 
 ghost use Rattle.std.specs.Prelude.{◌≡◌, [], ◌∷◌, ◌++◌, OnOk, OnErr, IsTrue};
 
-use crate::phy::{Device, Loopback, RxToken};
+use crate::phy::{Device, Loopback, Medium, NonZeroU16, NonZeroUsize, PacketMeta, RxToken};
 use crate::time::Instant;
 use std::alloc::{AllocError, Allocator};
 
@@ -19,7 +19,7 @@ pub fn send_bytes<A: Allocator + Copy>(
     device.send(token, bytes.len(), |buffer| buffer.copy_from_slice(bytes))
 }
 
-/// Takes the next frame off, and answers whether it is the bytes.
+/// Takes the next frame off, and returns whether it is the bytes.
 pub fn next_is<A: Allocator + Copy>(device: &mut Loopback<A>, bytes: &[u8]) -> bool
     ensures { IsTrue result → device.old.frames ≡ bytes.now ∷ device.new.frames }
 {
@@ -37,11 +37,24 @@ pub fn write_length(frame: &mut [u8]) {
     }
 }
 
-/// Takes the next frame off, and answers whether it has that length and begins with it.
+/// Takes the next frame off, and returns whether it has that length and begins with it.
 pub fn next_has_length(device: &mut Loopback, length: usize) -> bool {
     device.receive(Instant::ZERO).is_some_and(|(token, _token)| {
         let frame = token.frame();
         let marks = length.to_le_bytes();
         frame.len() == length && frame.iter().zip(&marks).all(|(byte, mark)| byte == mark)
     })
+}
+
+/// Whether a value is equal to itself, as `Eq` promises.
+fn is_itself<T: Eq>(value: &T) -> bool {
+    value == value
+}
+
+#[test]
+fn equality_is_an_equivalence(rt: HostRuntime) {
+    assert!(rt; is_itself(&Medium::Ip));
+    assert!(rt; is_itself(&PacketMeta::default()));
+    assert!(rt; is_itself(&NonZeroU16::new(1)));
+    assert!(rt; is_itself(&NonZeroUsize::new(1)));
 }

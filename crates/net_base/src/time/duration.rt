@@ -1,4 +1,5 @@
 ghost use Rattle.std.specs.Prelude.{◌≡◌, ◌↔◌, IsTrue, Some, ◌+◌, ◌-◌, ◌*◌, ◌/◌, ◌%◌, ◌^◌, ◌<◌, ◌≤◌};
+ghost use Rattle.std.specs.Prelude.{min, SomeIff};
 ghost use Rattle.std.specs.Duration.{as_nanos};
 ghost use Rattle.net_base.specs.Time.{IsLength, length_millis, length_text};
 
@@ -49,7 +50,7 @@ impl Duration {
 
     /// A length of so many milliseconds.
     pub fn from_millis(millis: u64) -> Duration
-        requires { IsLength (millis * 1_000) }
+        requires fits_millis { IsLength (millis * 1_000) }
         ensures { result ≡ millis * 1_000 }
     {
         Duration {
@@ -66,7 +67,7 @@ impl Duration {
 
     /// A length of so many seconds.
     pub fn from_secs(secs: u64) -> Duration
-        requires { IsLength (secs * 1_000_000) }
+        requires fits_secs { IsLength (secs * 1_000_000) }
         ensures { result ≡ secs * 1_000_000 }
     {
         Duration {
@@ -120,7 +121,7 @@ impl Duration {
     /// The whole microseconds of a duration of the standard library; its nanoseconds beyond them
     /// are left out.
     pub fn from_core(duration: std::time::Duration) -> Duration
-        requires { IsLength (as_nanos duration / 1_000) }
+        requires fits_core { IsLength (as_nanos duration / 1_000) }
         ensures { result ≡ as_nanos duration / 1_000 }
     {
         Duration {
@@ -147,6 +148,63 @@ impl Duration {
         ensures { IsTrue result ↔ IsLength (self.now * factor) }
     {
         self.micros.checked_mul(u64::from(factor)).is_some()
+    }
+
+    /// The sum, or `None` exactly if it is no length.
+    pub fn checked_add(self, rhs: Duration) -> Option<Duration>
+        ensures { SomeIff result (IsLength (self + rhs)) (self + rhs) }
+    {
+        self.micros
+            .checked_add(rhs.micros)
+            .map(Duration::from_micros)
+    }
+
+    /// The difference, or `None` exactly if it is no length: if `rhs` is the longer one.
+    pub fn checked_sub(self, rhs: Duration) -> Option<Duration>
+        ensures { SomeIff result (rhs ≤ self) (self - rhs) }
+    {
+        self.micros
+            .checked_sub(rhs.micros)
+            .map(Duration::from_micros)
+    }
+
+    /// The product, or `None` exactly if it is no length.
+    pub fn checked_mul(self, rhs: u32) -> Option<Duration>
+        ensures { SomeIff result (IsLength (self * rhs)) (self * rhs) }
+    {
+        self.micros
+            .checked_mul(u64::from(rhs))
+            .map(Duration::from_micros)
+    }
+
+    /// The quotient, or `None` exactly if the divisor is 0.
+    pub fn checked_div(self, rhs: u32) -> Option<Duration>
+        ensures { SomeIff result (0 < rhs) (self / rhs) }
+    {
+        self.micros
+            .checked_div(u64::from(rhs))
+            .map(Duration::from_micros)
+    }
+
+    /// The sum, or the greatest length if it is none.
+    pub fn saturating_add(self, rhs: Duration) -> Duration
+        ensures { result ≡ min (self + rhs) (2 ^ 64 - 1) }
+    {
+        Duration::from_micros(self.micros.saturating_add(rhs.micros))
+    }
+
+    /// The difference, or no time if `rhs` is the longer one.
+    pub fn saturating_sub(self, rhs: Duration) -> Duration
+        ensures { result ≡ self - rhs }
+    {
+        Duration::from_micros(self.micros.saturating_sub(rhs.micros))
+    }
+
+    /// The product, or the greatest length if it is none.
+    pub fn saturating_mul(self, rhs: u32) -> Duration
+        ensures { result ≡ min (self * rhs) (2 ^ 64 - 1) }
+    {
+        Duration::from_micros(self.micros.saturating_mul(u64::from(rhs)))
     }
 }
 

@@ -1,4 +1,6 @@
-ghost use Rattle.std.specs.Prelude.{◌≡◌, ◌↔◌, IsTrue, Some, pos, ◌+ℤ◌, ◌-ℤ◌, ◌*ℤ◌, int_div};
+ghost use Rattle.std.specs.Prelude.{◌≡◌, ◌↔◌, ◌-◌, ◌^◌, IsTrue, Some, pos, ◌+ℤ◌, ◌-ℤ◌, ◌*ℤ◌};
+ghost use Rattle.std.specs.Prelude.{int_div};
+ghost use Rattle.std.specs.Prelude.{negsuc, SomeIff};
 ghost use Rattle.net_base.specs.Time.{IsMoment, moment_secs, moment_micros, moment_millis};
 ghost use Rattle.net_base.specs.Time.{moment_text, distance};
 
@@ -38,7 +40,8 @@ impl Instant {
         Instant { micros }
     }
 
-    /// As `from_micros`.
+    /// As `from_micros`. It is no `const fn` here, as smoltcp's is: it is there so that code which
+    /// was written for smoltcp finds it.
     pub fn from_micros_const(micros: i64) -> Instant
         ensures { result ≡ micros }
     {
@@ -54,7 +57,7 @@ impl Instant {
 
     /// The moment so many milliseconds after the origin.
     pub fn from_millis(millis: i64) -> Instant
-        requires { IsMoment (millis *ℤ pos 1_000) }
+        requires fits_millis { IsMoment (millis *ℤ pos 1_000) }
         ensures { result ≡ millis *ℤ pos 1_000 }
     {
         Instant {
@@ -62,9 +65,9 @@ impl Instant {
         }
     }
 
-    /// As `from_millis`.
+    /// As `from_millis`. It is no `const fn` either.
     pub fn from_millis_const(millis: i64) -> Instant
-        requires { IsMoment (millis *ℤ pos 1_000) }
+        requires fits_millis { IsMoment (millis *ℤ pos 1_000) }
         ensures { result ≡ millis *ℤ pos 1_000 }
     {
         Instant::from_millis(millis)
@@ -79,7 +82,7 @@ impl Instant {
 
     /// The moment so many seconds after the origin.
     pub fn from_secs(secs: i64) -> Instant
-        requires { IsMoment (secs *ℤ pos 1_000_000) }
+        requires fits_secs { IsMoment (secs *ℤ pos 1_000_000) }
         ensures { result ≡ secs *ℤ pos 1_000_000 }
     {
         Instant {
@@ -134,6 +137,52 @@ impl Instant {
         ensures { IsTrue result ↔ IsMoment (self.now -ℤ pos duration) }
     {
         i64::try_from(i128::from(self.micros) - i128::from(duration.total_micros())).is_ok()
+    }
+
+    /// The moment so much later, or `None` exactly if there is none.
+    pub fn checked_add(&self, duration: Duration) -> Option<Instant>
+        ensures { SomeIff result (IsMoment (self.now +ℤ pos duration)) (self.now +ℤ pos duration) }
+    {
+        if self.can_add(duration) {
+            Some(*self + duration)
+        } else {
+            None
+        }
+    }
+
+    /// The moment so much earlier, or `None` exactly if there is none.
+    pub fn checked_sub(&self, duration: Duration) -> Option<Instant>
+        ensures { SomeIff result (IsMoment (self.now -ℤ pos duration)) (self.now -ℤ pos duration) }
+    {
+        if self.can_sub(duration) {
+            Some(*self - duration)
+        } else {
+            None
+        }
+    }
+
+    /// The moment so much later, or the last one if there is none.
+    pub fn saturating_add(&self, duration: Duration) -> Instant
+        ensures exact { IsMoment (self.now +ℤ pos duration) → result ≡ self.now +ℤ pos duration }
+        ensures last { (IsMoment (self.now +ℤ pos duration) → ⊥) → result ≡ pos (2 ^ 63 - 1) }
+    {
+        if self.can_add(duration) {
+            *self + duration
+        } else {
+            Instant::from_micros(i64::MAX)
+        }
+    }
+
+    /// The moment so much earlier, or the first one if there is none.
+    pub fn saturating_sub(&self, duration: Duration) -> Instant
+        ensures exact { IsMoment (self.now -ℤ pos duration) → result ≡ self.now -ℤ pos duration }
+        ensures first { (IsMoment (self.now -ℤ pos duration) → ⊥) → result ≡ negsuc (2 ^ 63 - 1) }
+    {
+        if self.can_sub(duration) {
+            *self - duration
+        } else {
+            Instant::from_micros(i64::MIN)
+        }
     }
 }
 

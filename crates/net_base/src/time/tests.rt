@@ -24,6 +24,7 @@ pub fn shows<T: Display + Drop>(alloc: Global, value: T, text: &str) -> Result<b
             && format!(in alloc; "{value:>30}")?.as_str() == text
             && format!(in alloc; "{value:*^8}")?.as_str() == text
             && format!(in alloc; "{value:<+09}")?.as_str() == text
+            && format!(in alloc; "{value:7}")?.as_str() == text
             && format!(in alloc; "{value:#.2}")?.as_str() == text,
     )
 }

@@ -1,7 +1,7 @@
 use super::*;
 use std::test::Fail;
 
-// Three fragments come out of order, and one of them twice, with other bytes.
+/// Three fragments come out of order, and one of them twice, with other bytes.
 #[test]
 fn fragments_in_any_order_make_a_packet(rt: HostRuntime) -> Result<(), Fail> {
     let mut bytes = [0u8; 8];

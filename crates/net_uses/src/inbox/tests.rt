@@ -1,7 +1,7 @@
 use super::*;
 use std::test::Fail;
 
-// A datagram is looked at twice where it lies.
+/// A datagram is looked at twice where it lies.
 #[test]
 fn the_first_datagram_is_shown_in_place(rt: HostRuntime) -> Result<(), Fail> {
     let mut slots = [PacketMetadata::<Endpoint>::EMPTY; 1];

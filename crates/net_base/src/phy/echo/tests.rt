@@ -8,12 +8,17 @@ use net_testing::Refusing;
 use std::alloc::Global;
 use std::marker::Model;
 
-/// Moves the first frame of a loopback device behind the others.
-fn rotate(device: &mut Loopback) -> Result<bool, AllocError>
+/// Moves the first frame of a loopback device behind the others, at that moment.
+fn rotate_at(device: &mut Loopback, timestamp: Instant) -> Result<bool, AllocError>
     ensures moved { result ≡ Ok true → (frame : List ℕ) × (rest : List (List ℕ))
         × (device.old.frames ≡ frame ∷ rest) × (device.new.frames ≡ rest ++ frame ∷ []) }
 {
-    echo_once(device, Instant::ZERO)
+    echo_once(device, timestamp)
+}
+
+/// The same at the origin.
+fn rotate(device: &mut Loopback) -> Result<bool, AllocError> {
+    rotate_at(device, Instant::ZERO)
 }
 
 #[test]
@@ -36,7 +41,7 @@ fn finds_nothing_on_an_empty_device(rt: HostRuntime) -> Result<(), AllocError> {
     Ok(())
 }
 
-/// Sends a frame of that length, sends it back, and answers whether it then comes.
+/// Sends a frame of that length, sends it back, and returns whether it then comes.
 fn comes_back(device: &mut Loopback, length: usize) -> Result<bool, AllocError> {
     let token = device.transmit(Instant::ZERO).unwrap();
     device.send(token, length, write_length)?;
@@ -44,7 +49,22 @@ fn comes_back(device: &mut Loopback, length: usize) -> Result<bool, AllocError> 
 }
 
 #[test]
-fn frames_of_0_to_70_000_bytes_are_sent_and_sent_back(rt: HostRuntime) -> Result<(), AllocError> {
+fn echoes_at_any_moment(rt: HostRuntime) -> Result<(), AllocError> {
+    let mut device = Loopback::new(rt.alloc(), Medium::Ethernet);
+    send_bytes(&mut device, b"ab")?;
+    for micros in [i64::MIN, -1, 1, 1_000_000, i64::MAX] {
+        assert!(rt;
+            rotate_at(&mut device, Instant::from_micros(micros))?,
+            "at {micros}"
+        );
+    }
+    assert!(rt; next_is(&mut device, b"ab"));
+    assert!(rt; device.receive(Instant::ZERO).is_none());
+    Ok(())
+}
+
+#[test]
+fn frames_of_many_lengths_are_sent_and_sent_back(rt: HostRuntime) -> Result<(), AllocError> {
     let mut device = Loopback::new(rt.alloc(), Medium::Ethernet);
     for length in 0..2_100 {
         assert!(rt; comes_back(&mut device, length)?, "at {length} bytes");
@@ -52,7 +72,7 @@ fn frames_of_0_to_70_000_bytes_are_sent_and_sent_back(rt: HostRuntime) -> Result
     for length in (2_100..=70_000).step_by(97) {
         assert!(rt; comes_back(&mut device, length)?, "at {length} bytes");
     }
-    for power in [4_096, 8_192, 16_384, 32_768, 65_536] {
+    for power in [4_096, 8_192, 16_384, 32_768, 65_536, 131_072, 1_000_000] {
         for length in [power - 1, power, power + 1] {
             assert!(rt; comes_back(&mut device, length)?, "at {length} bytes");
         }
@@ -61,16 +81,16 @@ fn frames_of_0_to_70_000_bytes_are_sent_and_sent_back(rt: HostRuntime) -> Result
 }
 
 #[test]
-fn a_hundred_frames_at_a_time_keep_their_order(rt: HostRuntime) -> Result<(), AllocError> {
+fn a_thousand_frames_at_a_time_keep_their_order(rt: HostRuntime) -> Result<(), AllocError> {
     let mut device = Loopback::new(rt.alloc(), Medium::Ethernet);
-    for length in 0..100usize {
+    for length in 0..1_000usize {
         let token = device.transmit(Instant::ZERO).unwrap();
         device.send(token, length, write_length)?;
     }
-    for length in 0..100usize {
+    for length in 0..1_000usize {
         assert!(rt; rotate(&mut device)?, "at {length} bytes");
     }
-    for length in 0..100usize {
+    for length in 0..1_000usize {
         assert!(rt; next_has_length(&mut device, length), "at {length} bytes");
     }
     assert!(rt; device.receive(Instant::ZERO).is_none());
@@ -138,6 +158,7 @@ fn asks_at_the_moment_that_it_was_given(rt: HostRuntime) -> Result<(), AllocErro
 struct Outcome {
     echoed: bool,
     requests: usize,
+    asked: usize,
     other_is_next: bool,
     echo_is_next: bool,
     is_over: bool,
@@ -150,10 +171,12 @@ fn rotate_refused(alloc: Global, refused: usize) -> Result<Outcome, AllocError> 
     let mut device = Loopback::new(&memory, Medium::Ip);
     send_bytes(&mut device, &[7; 200])?;
     send_bytes(&mut device, b"ab")?;
+    let before = memory.bytes();
     let echoed = echo_once(&mut device, Instant::ZERO).is_ok();
     Ok(Outcome {
         echoed,
         requests: memory.requests(),
+        asked: memory.bytes().saturating_sub(before),
         other_is_next: next_is(&mut device, b"ab"),
         echo_is_next: next_is(&mut device, &[7; 200]),
         is_over: device.receive(Instant::ZERO).is_none(),
@@ -161,14 +184,15 @@ fn rotate_refused(alloc: Global, refused: usize) -> Result<Outcome, AllocError> 
 }
 
 /// Three requests are made before the echo: for the queue, and for the bytes of both frames. The
-/// echo makes one, for the bytes: the queue has room, since a frame was taken off it. Where that is
-/// refused, the frame was taken and nothing was sent.
+/// echo makes one, for the 200 bytes: the queue has room, since a frame was taken off it. If that
+/// is refused, the frame was taken and nothing was sent.
 #[test]
 fn its_request_for_memory_is_refused(rt: HostRuntime) -> Result<(), AllocError> {
     for refused in 3..5usize {
         let outcome = rotate_refused(rt.alloc(), refused)?;
         assert!(rt; outcome.echoed == (refused == 4), "at request {refused}");
         assert_eq!(rt; outcome.requests, 4, "at request {refused}");
+        assert_eq!(rt; outcome.asked, 200, "at request {refused}");
         assert!(rt; outcome.other_is_next, "at request {refused}");
         assert!(rt;
             outcome.echo_is_next == outcome.echoed,

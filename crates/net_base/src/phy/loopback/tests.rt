@@ -50,14 +50,14 @@ fn sends_frames_beyond_its_longest(rt: HostRuntime) -> Result<(), AllocError> {
     assert!(rt; capabilities.medium == Medium::Ip && capabilities.max_transmission_unit == 65_535);
     assert!(rt; capabilities.max_burst_size.is_none() && !capabilities.checksum.tcp.rx());
     let token = device.transmit(Instant::ZERO).unwrap();
-    let answer = device.send(token, 70_000, |buffer| {
-        buffer.len() == 70_000 && buffer.iter().all(|&byte| byte == 0)
+    let answer = device.send(token, 1_000_000, |buffer| {
+        buffer.len() == 1_000_000 && buffer.iter().all(|&byte| byte == 0)
     })?;
     assert!(rt; answer);
     let length = device
         .receive(Instant::ZERO)
         .map(|(frame, _token)| frame.consume(|bytes| bytes.len()));
-    assert!(rt; length == Some(70_000));
+    assert!(rt; length == Some(1_000_000));
     Ok(())
 }
 
@@ -120,7 +120,7 @@ fn send_refused(alloc: Global, refused: usize) -> Outcome {
     }
 }
 
-/// A frame asks for room in the queue, where that is full, and then for its bytes. The queue has no
+/// A frame asks for room in the queue, if that is full, and then for its bytes. The queue has no
 /// room at first and then for four frames, so there are seven requests: of frames 0, 0, 1, 2, 3, 4
 /// and 4. The frames before the one that is refused arrive, and no others.
 #[test]

@@ -1,6 +1,7 @@
 use super::*;
 use std::hash::{DefaultHasher, Hash, Hasher};
 
+/// What the default hasher makes of the metadata.
 fn hash_of(meta: PacketMeta) -> u64 {
     let mut state = DefaultHasher::new();
     meta.hash(&mut state);

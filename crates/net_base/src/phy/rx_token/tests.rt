@@ -30,6 +30,7 @@ impl RxToken for Marked {
     }
 }
 
+/// The first byte of the token's frame, if there is one, and its metadata.
 fn first_byte_and_meta<T: RxToken>(token: T) -> (Option<u8>, PacketMeta)
     ensures { T.is_plain token → result.1 ≡ no_metadata }
 {

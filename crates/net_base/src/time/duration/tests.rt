@@ -107,3 +107,65 @@ fn converts_durations_of_the_standard_library(rt: HostRuntime) {
     assert!(rt; Duration::from_core(both) == Duration::from_millis(4_934));
     assert!(rt; std::time::Duration::from(Duration::from_millis(4_934)) == both);
 }
+
+#[test]
+fn sums_and_differences_stop_at_the_ends(rt: HostRuntime) {
+    for (left, right, sum, most, difference, least) in [
+        (7, 5, Some(12), 12, Some(2), 2),
+        (5, 7, Some(12), 12, None, 0),
+        (5, 5, Some(10), 10, Some(0), 0),
+        (
+            u64::MAX,
+            0,
+            Some(u64::MAX),
+            u64::MAX,
+            Some(u64::MAX),
+            u64::MAX,
+        ),
+        (
+            u64::MAX,
+            1,
+            None,
+            u64::MAX,
+            Some(u64::MAX - 1),
+            u64::MAX - 1,
+        ),
+        (1, u64::MAX, None, u64::MAX, None, 0),
+    ] {
+        let duration = Duration::from_micros(left);
+        let other = Duration::from_micros(right);
+        assert!(rt;
+            duration.checked_add(other) == sum.map(Duration::from_micros)
+                && duration.saturating_add(other).total_micros() == most
+                && duration.checked_sub(other) == difference.map(Duration::from_micros)
+                && duration.saturating_sub(other).total_micros() == least,
+            "{left} and {right}"
+        );
+    }
+}
+
+#[test]
+fn products_and_quotients_stop_at_the_ends(rt: HostRuntime) {
+    for (micros, factor, product, most, quotient) in [
+        (53, 4, Some(212), 212, Some(13)),
+        (53, 0, Some(0), 0, None),
+        (u64::MAX, 1, Some(u64::MAX), u64::MAX, Some(u64::MAX)),
+        (u64::MAX, 2, None, u64::MAX, Some(u64::MAX / 2)),
+        (
+            1 << 32,
+            u32::MAX,
+            Some((1 << 32) * 4_294_967_295),
+            (1 << 32) * 4_294_967_295,
+            Some(1),
+        ),
+        ((1 << 32) + 2, u32::MAX, None, u64::MAX, Some(1)),
+    ] {
+        let duration = Duration::from_micros(micros);
+        assert!(rt;
+            duration.checked_mul(factor) == product.map(Duration::from_micros)
+                && duration.saturating_mul(factor).total_micros() == most
+                && duration.checked_div(factor) == quotient.map(Duration::from_micros),
+            "{micros} and {factor}"
+        );
+    }
+}

@@ -88,3 +88,48 @@ fn whole_seconds_have_a_limit(rt: HostRuntime) {
             .is_ok_and(|copy| copy == Instant::from_secs(1))
     );
 }
+
+#[test]
+fn sums_stop_at_the_ends(rt: HostRuntime) {
+    for (micros, length, later, last, earlier, first) in [
+        (5, 7, Some(12), 12, Some(-2), -2),
+        (-5, 7, Some(2), 2, Some(-12), -12),
+        (
+            i64::MAX,
+            0,
+            Some(i64::MAX),
+            i64::MAX,
+            Some(i64::MAX),
+            i64::MAX,
+        ),
+        (
+            i64::MAX,
+            1,
+            None,
+            i64::MAX,
+            Some(i64::MAX - 1),
+            i64::MAX - 1,
+        ),
+        (
+            i64::MIN,
+            1,
+            Some(i64::MIN + 1),
+            i64::MIN + 1,
+            None,
+            i64::MIN,
+        ),
+        (i64::MAX, u64::MAX, None, i64::MAX, Some(i64::MIN), i64::MIN),
+        (i64::MIN, u64::MAX, Some(i64::MAX), i64::MAX, None, i64::MIN),
+        (0, u64::MAX, None, i64::MAX, None, i64::MIN),
+    ] {
+        let moment = Instant::from_micros(micros);
+        let duration = Duration::from_micros(length);
+        assert!(rt;
+            moment.checked_add(duration) == later.map(Instant::from_micros)
+                && moment.saturating_add(duration).total_micros() == last
+                && moment.checked_sub(duration) == earlier.map(Instant::from_micros)
+                && moment.saturating_sub(duration).total_micros() == first,
+            "{micros} and {length}"
+        );
+    }
+}

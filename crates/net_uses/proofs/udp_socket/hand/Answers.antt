@@ -4,6 +4,7 @@ use Rattle.net_storage.specs.PacketHistory.{contents}
 use Rattle.net_uses.specs.declared.endpoint.Endpoint.{Endpoint}
 use Rattle.net_uses.specs.Datagrams.{GivesAtDatagram}
 use Rattle.net_uses.proofs.Results.{IfOk-map}
+use Rattle.net_uses.proofs.SocketFacts.{handed_out_same}
 use Rattle.net_uses.proofs.udp_socket.hand.Goals as goal
 
 pub returns-clause-dispatched : goal.returns-clause-dispatched
@@ -25,5 +26,16 @@ returns-clause-dispatched g c =
       first = c.packets_leave_in_order.ensures.shown q k.header k.bytes c.well_placed.ensures k.first;
       gives = (called.0.0, called.0.1 ∙ gives.shows.1, subst (λ (to : Endpoint). g.F.FnOnce.post c.args.emit (to, (called.0.0, tt)) answer) gives.shows.0 called.0.2);
       left = left;
+      made = k.made ∙ ap₂ (λ h ws. handed (is_ok answer) q h ws) header bytes;
     })
     c.dequeue_with.ensures.handed
+
+pub returns-clause-capacity : goal.returns-clause-capacity
+returns-clause-capacity g c =
+    handed_out_same c.overwritten.ensures.count _ _ c.dequeue_with.result c.dequeue_with.ensures.unchanged
+    (IfOk-map c.dequeue_with.result (λ answer k. (is_ok answer, k.new_header, k.new_bytes, k.made)) c.dequeue_with.ensures.handed)
+
+pub dequeue_with-requires : goal.dequeue_with-requires
+dequeue_with-requires g c h bytes first x y is_header is_bytes p is_lent =
+    subst (λ (to : Endpoint). g.F.FnOnce.pre c.args.emit (to, (p, tt))) (sym is_header)
+    (c.requires h bytes (c.packets_leave_in_order.ensures.shown c.args.queue.now h bytes c.well_placed.ensures first) p (is_lent ∙ is_bytes))

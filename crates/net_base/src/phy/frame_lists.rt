@@ -1,0 +1,30 @@
+ghost use Rattle.std.specs.Prelude.{◌≡◌, ◌∷◌, ◌++◌, [], ℕ, List};
+
+use crate::phy::Device;
+
+/// A device whose frames stand in lists: those that come in are taken off the front of one, and
+/// those that are sent go to the end of one, which may be the same.
+///
+/// Each device that is one proves it by the three laws. What is known of frames that pass between
+/// such devices is then known as lists.
+pub trait FrameLists: Device {
+    /// The frames that wait to be taken off, the next first.
+    ghost incoming: { Self → List (List ℕ) };
+
+    /// The frames that were sent and are kept, the last one last.
+    ghost outgoing: { Self → List (List ℕ) };
+
+    /// The frame that is taken is the first one.
+    ghost takes_first: { (old : Self) (frame : List ℕ) (new : Self)
+        → Self.taken old frame new
+        → incoming old ≡ frame ∷ incoming new };
+
+    /// If no frame is handed over, none is lost.
+    ghost keeps_all: { (old new : Self) → Self.idled old new
+        → incoming new ≡ incoming old };
+
+    /// A frame that is sent is the last one.
+    ghost sends_last: { (old : Self) (frame : List ℕ) (new : Self)
+        → Self.sent old frame new
+        → outgoing new ≡ outgoing old ++ frame ∷ [] };
+}
