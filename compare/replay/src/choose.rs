@@ -244,7 +244,7 @@ fn move_on(calls: &mut [Call]) {
         if call.number == 0 {
             call.a = call.a.saturating_add(passed);
         } else {
-            passed += call.a / 2;
+            passed += call.a.min(40) / 2;
         }
     }
 }

@@ -21,65 +21,42 @@ use std::sync::atomic::{AtomicU64, Ordering::Relaxed};
 use std::time::Instant;
 use subject::{Script, Subject};
 
-/// What was replayed of one kind of subject.
-#[derive(Default)]
-struct Count {
-    scripts: u64,
-    calls: u64,
-    forbidden: u64,
+/// Numbers that are counted under a name.
+type Table<K> = BTreeMap<K, [u64; 4]>;
+
+fn add<K: Ord>(table: &mut Table<K>, key: K, numbers: [u64; 4]) {
+    let counts = table.entry(key).or_default();
+    counts.iter_mut().zip(numbers).for_each(|(count, number)| *count += number);
 }
 
-/// What was met at an assembler that held as many runs as it can.
-#[derive(Default)]
-struct Full {
-    calls: u64,
-    refused: u64,
-    removed: u64,
-    joined: u64,
-}
-
-/// What was replayed, how often each listed difference was met, and what assemblers of so many runs met.
+/// What was replayed: scripts, equal calls, and those of them that are forbidden; how often each listed
+/// difference was met; and of assemblers that held all the runs they can: calls, those refused, removals of the
+/// front, ranges that joined half of the runs or more.
 #[derive(Default)]
 struct Counts {
-    kinds: BTreeMap<(&'static str, &'static str), Count>,
-    known: BTreeMap<&'static str, u64>,
-    full: BTreeMap<usize, Full>,
+    kinds: Table<(&'static str, &'static str)>,
+    known: Table<&'static str>,
+    full: Table<usize>,
 }
 
 impl Counts {
     fn add(&mut self, other: Counts) {
-        for (key, more) in other.kinds {
-            let count = self.kinds.entry(key).or_default();
-            count.scripts += more.scripts;
-            count.calls += more.calls;
-            count.forbidden += more.forbidden;
-        }
-        for (name, times) in other.known {
-            *self.known.entry(name).or_default() += times;
-        }
-        for (runs, more) in other.full {
-            let full = self.full.entry(runs).or_default();
-            full.calls += more.calls;
-            full.refused += more.refused;
-            full.removed += more.removed;
-            full.joined += more.joined;
-        }
+        other.kinds.into_iter().for_each(|(key, numbers)| add(&mut self.kinds, key, numbers));
+        other.known.into_iter().for_each(|(key, numbers)| add(&mut self.known, key, numbers));
+        other.full.into_iter().for_each(|(key, numbers)| add(&mut self.full, key, numbers));
     }
 
     /// Counts a script of which the calls before that of number `end` were equal, and what `seen` says of them.
     fn count(&mut self, title: (&'static str, &'static str), script: &Script, seen: &[Seen], end: usize) {
-        let count = self.kinds.entry(title).or_default();
-        count.scripts += 1;
-        count.calls += end as u64;
-        count.forbidden += seen[..end].iter().filter(|seen| seen.answer == FORBIDDEN).count() as u64;
+        let forbidden = seen[..end].iter().filter(|seen| seen.answer == FORBIDDEN).count();
+        add(&mut self.kinds, title, [1, end as u64, forbidden as u64, 0]);
         if let Subject::Assembler { runs } = script.subject {
-            let full = self.full.entry(runs).or_default();
             for at in (1..end).filter(|&at| seen[at - 1].held == runs as u64) {
                 let (number, fell) = (script.calls[at].number, runs as u64 - seen[at].held);
-                full.calls += 1;
-                full.refused += u64::from(seen[at].answer == REFUSED);
-                full.removed += u64::from(matches!(number, 1 | 2) && fell == 1);
-                full.joined += u64::from(number <= 1 && 2 * fell >= runs as u64);
+                let refused = seen[at].answer == REFUSED;
+                let removed = matches!(number, 1 | 2) && fell == 1;
+                let joined = number <= 1 && 2 * fell >= runs as u64;
+                add(&mut self.full, runs, [1, refused.into(), removed.into(), joined.into()]);
             }
         }
     }
@@ -149,7 +126,7 @@ fn replay(group: &Group, counts: &mut Counts) -> Option<Script> {
                 let end = match parting {
                     Parting::Nowhere => script.calls.len(),
                     Parting::Known { at, name } => {
-                        *counts.known.entry(name).or_default() += 1;
+                        add(&mut counts.known, name, [1, 0, 0, 0]);
                         at
                     }
                     Parting::Unknown { .. } => {
@@ -189,30 +166,27 @@ fn show(script: &Script) {
 }
 
 fn report(counts: &Counts) {
-    let mut total = Count::default();
+    let line = |name: &str, [scripts, calls, forbidden, _]: [u64; 4]| {
+        println!("{name:<42} {scripts:>12} {calls:>14} {forbidden:>12}");
+    };
     println!("{:<42} {:>12} {:>14} {:>12}", "replayed", "scripts", "equal calls", "forbidden");
-    for ((how, title), count) in &counts.kinds {
-        let name = format!("{how}: {title}");
-        println!("{name:<42} {:>12} {:>14} {:>12}", count.scripts, count.calls, count.forbidden);
-        total.scripts += count.scripts;
-        total.calls += count.calls;
-        total.forbidden += count.forbidden;
+    let mut all = Table::new();
+    for ((how, title), &numbers) in &counts.kinds {
+        line(&format!("{how}: {title}"), numbers);
+        add(&mut all, "all", numbers);
     }
-    println!("{:<42} {:>12} {:>14} {:>12}", "all", total.scripts, total.calls, total.forbidden);
+    all.into_iter().for_each(|(name, numbers)| line(name, numbers));
     println!("\ncalls of assemblers that held all the runs they can:");
     println!(
-        "{:<10} {:>12} {:>14} {:>22} {:>26}",
-        "runs", "calls", "refused", "a removal of the front", "half of the runs joined"
+        "{:>4} {:>12} {:>12} {:>16} {:>16}",
+        "runs", "calls", "refused", "took the front", "joined half"
     );
-    for (runs, full) in &counts.full {
-        println!(
-            "{runs:<10} {:>12} {:>14} {:>22} {:>26}",
-            full.calls, full.refused, full.removed, full.joined
-        );
+    for (runs, [calls, refused, removed, joined]) in &counts.full {
+        println!("{runs:>4} {calls:>12} {refused:>12} {removed:>16} {joined:>16}");
     }
     println!("\nlisted differences, each of which ends its script:");
     for (name, times) in &counts.known {
-        println!("{times:>10}  {name}");
+        println!("{:>10}  {name}", times[0]);
     }
     println!("\nnothing else differs");
 }

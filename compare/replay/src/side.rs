@@ -125,7 +125,7 @@ impl<H> Copies<H> for PacketBuffer<'_, H> {
 
 /// What a call makes, whatever the port's condition says: smoltcp panics where one forbids it.
 macro_rules! allowed {
-    ($condition:expr, $made:expr) => {
+    ($condition:expr => $made:expr) => {
         $made
     };
 }
