@@ -14,6 +14,11 @@ module _ {H : Type 0} where
   unfoldable pub contents : PacketQueue H → List (H × List ℕ)
   contents q = contents_of q.packets (queue (byte_ring q))
 
+  -- the bytes of the first of these, or none if there is no first
+  abbrev pub front_bytes : List (H × List ℕ) → List ℕ
+  front_bytes [] = []
+  front_bytes (p ∷ ps) = p.1
+
 -- ---- calls
 -- what one call did, with the headers and bytes that it was given, wrote or handed out. A call that answers `Full` or `Empty` changes nothing and is no call here; nor is `last_mut` where no packet is held
 pub data QueueCall (H : Type 0) : Type 0 where

@@ -1,132 +1,191 @@
+//! Tables of calls with their answers, flags that closures set, and headers that are dropped.
 use super::*;
 use std::cell::Cell;
 use std::test::Fail;
 
-// A header that counts how often one of its kind is dropped.
-struct Counted<'a> {
-    drops: &'a Cell<u32>,
+/// A call on a queue, with what it is expected to return or to show.
+#[derive(Drop)]
+enum Step<'s> {
+    /// `enqueue` of a packet of so many bytes is accepted.
+    Fits(usize),
+    /// `enqueue` of a packet of so many bytes is refused.
+    Refused(usize),
+    /// `enqueue` of a packet with this header is accepted, and these bytes are written to it.
+    Write(u8, &'s [u8]),
+    /// `enqueue_with_infallible`, of whose first number of bytes the closure keeps the second one.
+    WriteWith(usize, usize),
+    /// `peek` shows this header and these bytes.
+    Peek(u8, &'s [u8]),
+    /// `dequeue` gives this header and these bytes.
+    Read(u8, &'s [u8]),
+    /// `dequeue` gives a packet of so many bytes.
+    Off(usize),
+    /// `peek` and `dequeue` are refused.
+    NoPackets,
+    /// So many slots are used.
+    Slots(usize),
+    /// So many bytes are used.
+    Bytes(usize),
+    /// There are so many slots and bytes in all.
+    Capacities(usize, usize),
+    /// `is_empty` and `is_full`.
+    IsEmptyIsFull(bool, bool),
+    /// `reset`.
+    Reset,
 }
 
-impl Drop for Counted<'_> {
-    fn drop(self) {
-        let Counted { drops } = self;
-        drops.set(drops.get().saturating_add(1));
+/// Returns whether a step goes as expected.
+fn goes(queue: &mut PacketBuffer<'_, u8>, step: &Step<'_>) -> bool {
+    match step {
+        Step::Fits(size) => queue.enqueue(*size, 0).is_ok(),
+        Step::Refused(size) => queue.enqueue(*size, 0).is_err(),
+        Step::Write(header, text) => write(queue, *header, text),
+        Step::WriteWith(size, count) => write_with(queue, *size, *count),
+        Step::Peek(header, text) => shows(queue, *header, text),
+        Step::Read(header, text) => gives(queue, *header, text),
+        Step::Off(size) => match queue.dequeue() {
+            Ok((_, bytes)) => bytes.len() == *size,
+            Err(Empty) => false,
+        },
+        Step::NoPackets => queue.peek().is_err() && queue.dequeue().is_err(),
+        Step::Slots(count) => queue.slots_used() == *count,
+        Step::Bytes(count) => queue.payload_bytes_count() == *count,
+        Step::Capacities(slots, bytes) => {
+            queue.packet_capacity() == *slots && queue.payload_capacity() == *bytes
+        }
+        Step::IsEmptyIsFull(empty, full) => queue.is_empty() == *empty && queue.is_full() == *full,
+        Step::Reset => {
+            queue.reset();
+            true
+        }
     }
 }
 
-// The length of the first packet, which is taken off.
-fn dequeued_length(queue: &mut PacketBuffer<'_, u8>) -> Option<usize> {
+/// Enqueues a packet and writes its bytes; returns whether it was accepted.
+fn write(queue: &mut PacketBuffer<'_, u8>, header: u8, text: &[u8]) -> bool {
+    match queue.enqueue(text.len(), header) {
+        Ok(bytes) => {
+            bytes.copy_from_slice(text);
+            true
+        }
+        Err(Full) => false,
+    }
+}
+
+/// Enqueues a packet of which a closure keeps `count` bytes; returns whether it was accepted so.
+fn write_with(queue: &mut PacketBuffer<'_, u8>, size: usize, count: usize) -> bool {
+    let kept = count.min(size);
+    match queue.enqueue_with_infallible(size, 0, move |_| kept) {
+        Ok(answer) => answer == count,
+        Err(Full) => false,
+    }
+}
+
+/// Returns whether `peek` shows this header and these bytes.
+fn shows(queue: &mut PacketBuffer<'_, u8>, header: u8, text: &[u8]) -> bool {
+    match queue.peek() {
+        Ok((shown, bytes)) => *shown == header && bytes == text,
+        Err(Empty) => false,
+    }
+}
+
+/// Returns whether `dequeue` gives this header and these bytes.
+fn gives(queue: &mut PacketBuffer<'_, u8>, header: u8, text: &[u8]) -> bool {
     match queue.dequeue() {
-        Ok((_, bytes)) => Some(bytes.len()),
-        Err(Empty) => None,
+        Ok((given, bytes)) => given == header && &*bytes == text,
+        Err(Empty) => false,
     }
 }
 
-fn enqueued(queue: &mut PacketBuffer<'_, u8>, size: usize) -> bool {
-    queue.enqueue(size, 0).is_ok()
+/// Returns the index of the first step that goes otherwise than expected, if there is one.
+fn first_difference(queue: &mut PacketBuffer<'_, u8>, steps: &[Step<'_>]) -> Option<usize> {
+    steps.iter().position(|step| !goes(queue, step))
 }
 
-#[test]
-fn bytes_come_out_as_they_were_written(rt: HostRuntime) -> Result<(), Fail> {
+/// The same from a queue with 4 slots, 16 bytes and no packets on.
+fn difference_from_empty(steps: &[Step<'_>]) -> Option<usize> {
     let mut slots = [PacketMetadata::<u8>::EMPTY; 4];
     let mut bytes = [0u8; 16];
     let mut queue = PacketBuffer::<u8>::new(
         ManagedSlice::Borrowed(&mut slots),
         ManagedSlice::Borrowed(&mut bytes),
     );
-    assert!(rt; queue.peek().is_err());
-    match queue.enqueue(6, 0) {
-        Ok(run) => run.copy_from_slice(b"abcdef"),
-        Err(Full) => assert!(rt; false),
-    }
-    assert!(rt; queue.enqueue(16, 0).is_err());
-    assert_eq!(rt; queue.slots_used(), 1);
-    match queue.peek() {
-        Ok((_, run)) => assert_eq!(rt; run, b"abcdef".as_slice()),
-        Err(Empty) => assert!(rt; false),
-    }
-    match queue.dequeue() {
-        Ok((_, run)) => assert_eq!(rt; &*run, b"abcdef".as_slice()),
-        Err(Empty) => assert!(rt; false),
-    }
-    assert!(rt; queue.dequeue().is_err());
-    assert!(rt; queue.peek().is_err());
+    first_difference(&mut queue, steps)
+}
+
+#[test]
+fn bytes_come_out_as_they_were_written(rt: HostRuntime) -> Result<(), Fail> {
+    let steps = [
+        Step::NoPackets,
+        Step::Write(0, b"abcdef"),
+        Step::Refused(16),
+        Step::Slots(1),
+        Step::Peek(0, b"abcdef"),
+        Step::Read(0, b"abcdef"),
+        Step::NoPackets,
+    ];
+    assert_eq!(rt; difference_from_empty(&steps), None);
     Ok(())
 }
 
 #[test]
 fn sizes_that_fit_and_sizes_that_do_not(rt: HostRuntime) -> Result<(), Fail> {
-    let mut slots = [PacketMetadata::<u8>::EMPTY; 4];
-    let mut bytes = [0u8; 16];
-    let mut queue = PacketBuffer::<u8>::new(
-        ManagedSlice::Borrowed(&mut slots),
-        ManagedSlice::Borrowed(&mut bytes),
-    );
-    assert_eq!(rt; queue.packet_capacity(), 4);
-    assert_eq!(rt; queue.payload_capacity(), 16);
-    assert!(rt; enqueued(&mut queue, 4));
-    assert!(rt; enqueued(&mut queue, 8));
-    assert_eq!(rt; dequeued_length(&mut queue), Some(4));
-    assert!(rt; !enqueued(&mut queue, 8));
-    assert_eq!(rt; queue.slots_used(), 1);
-    queue.reset();
-    assert!(rt; enqueued(&mut queue, 15));
-    assert_eq!(rt; dequeued_length(&mut queue), Some(15));
-    assert!(rt; enqueued(&mut queue, 16));
-    queue.reset();
-    assert!(rt; !enqueued(&mut queue, 32));
-    for _ in 0..4 {
-        assert!(rt; enqueued(&mut queue, 1));
-    }
-    assert!(rt; queue.is_full());
-    assert!(rt; !enqueued(&mut queue, 1));
-    queue.reset();
-    assert!(rt; enqueued(&mut queue, 6));
-    queue.reset();
-    assert!(rt; queue.is_empty());
-    assert!(rt; enqueued(&mut queue, 16));
-    queue.reset();
-    assert!(rt; enqueued(&mut queue, 12));
-    assert_eq!(rt; dequeued_length(&mut queue), Some(12));
-    assert!(rt; enqueued(&mut queue, 12));
-    queue.reset();
-    assert!(rt; enqueued(&mut queue, 4));
-    assert_eq!(rt; dequeued_length(&mut queue), Some(4));
-    assert!(rt; enqueued(&mut queue, 5));
+    let steps = [
+        Step::Capacities(4, 16),
+        Step::Fits(4),
+        Step::Fits(8),
+        Step::Off(4),
+        Step::Refused(8),
+        Step::Slots(1),
+        Step::Reset,
+        Step::Fits(15),
+        Step::Off(15),
+        Step::Fits(16),
+        Step::Reset,
+        Step::Refused(32),
+        Step::Fits(1),
+        Step::Fits(1),
+        Step::Fits(1),
+        Step::Fits(1),
+        Step::IsEmptyIsFull(false, true),
+        Step::Refused(1),
+        Step::Reset,
+        Step::Fits(6),
+        Step::Reset,
+        Step::IsEmptyIsFull(true, false),
+        Step::Fits(16),
+        Step::Reset,
+        Step::Fits(12),
+        Step::Off(12),
+        Step::Fits(12),
+        Step::Reset,
+        Step::Fits(4),
+        Step::Off(4),
+        Step::Fits(5),
+    ];
+    assert_eq!(rt; difference_from_empty(&steps), None);
     Ok(())
 }
 
 #[test]
 fn a_gap_goes_before_its_packet(rt: HostRuntime) -> Result<(), Fail> {
-    let mut slots = [PacketMetadata::<u8>::EMPTY; 4];
-    let mut bytes = [0u8; 16];
-    let mut queue = PacketBuffer::<u8>::new(
-        ManagedSlice::Borrowed(&mut slots),
-        ManagedSlice::Borrowed(&mut bytes),
-    );
-    assert!(rt; enqueued(&mut queue, 6));
-    assert!(rt; enqueued(&mut queue, 8));
-    assert_eq!(rt; dequeued_length(&mut queue), Some(6));
-    match queue.enqueue(4, 0) {
-        Ok(run) => run.copy_from_slice(b"abcd"),
-        Err(Full) => assert!(rt; false),
-    }
-    assert_eq!(rt; queue.slots_used(), 3);
-    assert_eq!(rt; queue.payload_bytes_count(), 14);
-    assert_eq!(rt; dequeued_length(&mut queue), Some(8));
-    assert_eq!(rt; queue.slots_used(), 2);
-    assert_eq!(rt; queue.payload_bytes_count(), 6);
-    match queue.peek() {
-        Ok((_, run)) => assert_eq!(rt; run, b"abcd".as_slice()),
-        Err(Empty) => assert!(rt; false),
-    }
-    assert_eq!(rt; queue.slots_used(), 1);
-    assert_eq!(rt; queue.payload_bytes_count(), 4);
-    match queue.dequeue() {
-        Ok((_, run)) => assert_eq!(rt; &*run, b"abcd".as_slice()),
-        Err(Empty) => assert!(rt; false),
-    }
-    assert_eq!(rt; queue.slots_used(), 0);
+    let steps = [
+        Step::Fits(6),
+        Step::Fits(8),
+        Step::Off(6),
+        Step::Write(0, b"abcd"),
+        Step::Slots(3),
+        Step::Bytes(14),
+        Step::Off(8),
+        Step::Slots(2),
+        Step::Bytes(6),
+        Step::Peek(0, b"abcd"),
+        Step::Slots(1),
+        Step::Bytes(4),
+        Step::Read(0, b"abcd"),
+        Step::Slots(0),
+    ];
+    assert_eq!(rt; difference_from_empty(&steps), None);
     Ok(())
 }
 
@@ -138,28 +197,28 @@ fn a_refused_packet_stays_and_its_gap_goes(rt: HostRuntime) -> Result<(), Fail> 
         ManagedSlice::Borrowed(&mut slots),
         ManagedSlice::Borrowed(&mut bytes),
     );
-    assert!(rt; enqueued(&mut queue, 6));
-    assert!(rt; enqueued(&mut queue, 8));
-    assert_eq!(rt; dequeued_length(&mut queue), Some(6));
-    match queue.enqueue(4, 0) {
-        Ok(run) => run.copy_from_slice(b"abcd"),
-        Err(Full) => assert!(rt; false),
-    }
-    assert_eq!(rt; queue.slots_used(), 3);
-    assert_eq!(rt; dequeued_length(&mut queue), Some(8));
+    let before = [
+        Step::Fits(6),
+        Step::Fits(8),
+        Step::Off(6),
+        Step::Write(0, b"abcd"),
+        Step::Slots(3),
+        Step::Off(8),
+    ];
+    assert_eq!(rt; first_difference(&mut queue, &before), None);
     let answer = queue.dequeue_with(|_, _| Result::<(), u32>::Err(123));
     assert!(rt; matches!(answer, Ok(Err(123))));
-    assert_eq!(rt; queue.slots_used(), 1);
+    assert_eq!(rt; first_difference(&mut queue, &[Step::Slots(1)]), None);
     let mut seen = [0u8; 4];
-    let answer = queue.dequeue_with(|_, run| {
-        if run.len() == 4 {
-            seen.copy_from_slice(run);
+    let answer = queue.dequeue_with(|_, shown| {
+        if shown.len() == 4 {
+            seen.copy_from_slice(shown);
         }
-        Result::<usize, u32>::Ok(run.len())
+        Result::<usize, u32>::Ok(shown.len())
     });
     assert!(rt; matches!(answer, Ok(Ok(4))));
     assert_eq!(rt; &seen, b"abcd");
-    assert_eq!(rt; queue.slots_used(), 0);
+    assert_eq!(rt; first_difference(&mut queue, &[Step::Slots(0)]), None);
     Ok(())
 }
 
@@ -171,34 +230,17 @@ fn what_a_refusing_closure_wrote_stays(rt: HostRuntime) -> Result<(), Fail> {
         ManagedSlice::Borrowed(&mut slots),
         ManagedSlice::Borrowed(&mut bytes),
     );
-    match queue.enqueue(2, 7) {
-        Ok(run) => run.copy_from_slice(b"ab"),
-        Err(Full) => assert!(rt; false),
-    }
-    let answer = queue.dequeue_with(|header, run| {
+    assert!(rt; write(&mut queue, 7, b"ab"));
+    let answer = queue.dequeue_with(|header, shown| {
         *header = 9;
-        if let Some(first) = run.first_mut() {
+        if let Some(first) = shown.first_mut() {
             *first = b'x';
         }
         Result::<(), u32>::Err(1)
     });
     assert!(rt; matches!(answer, Ok(Err(1))));
-    match queue.peek() {
-        Ok((header, run)) => {
-            assert_eq!(rt; *header, 9);
-            assert_eq!(rt; run, b"xb".as_slice());
-        }
-        Err(Empty) => assert!(rt; false),
-    }
-    assert_eq!(rt; queue.slots_used(), 1);
-    assert_eq!(rt; queue.payload_bytes_count(), 2);
-    match queue.dequeue() {
-        Ok((header, run)) => {
-            assert_eq!(rt; header, 9);
-            assert_eq!(rt; &*run, b"xb".as_slice());
-        }
-        Err(Empty) => assert!(rt; false),
-    }
+    let after = [Step::Peek(9, b"xb"), Step::Slots(1), Step::Bytes(2), Step::Read(9, b"xb")];
+    assert_eq!(rt; first_difference(&mut queue, &after), None);
     Ok(())
 }
 
@@ -210,21 +252,17 @@ fn a_full_queue_runs_no_closure_and_stays(rt: HostRuntime) -> Result<(), Fail> {
         ManagedSlice::Borrowed(&mut slots),
         ManagedSlice::Borrowed(&mut bytes),
     );
-    assert!(rt; enqueued(&mut queue, 12));
-    assert!(rt; enqueued(&mut queue, 1));
-    assert!(rt; enqueued(&mut queue, 1));
-    assert!(rt; enqueued(&mut queue, 1));
-    assert_eq!(rt; dequeued_length(&mut queue), Some(12));
-    let ran = Cell::new(false);
+    let before = [Step::Fits(12), Step::Fits(1), Step::Fits(1), Step::Fits(1), Step::Off(12)];
+    assert_eq!(rt; first_difference(&mut queue, &before), None);
+    let called = Cell::new(false);
     let answer = queue.enqueue_with_infallible(5, 0, |_| {
-        ran.set(true);
+        called.set(true);
         5
     });
     assert!(rt; matches!(answer, Err(Full)));
-    assert!(rt; !ran.get());
-    assert_eq!(rt; queue.slots_used(), 3);
-    assert_eq!(rt; queue.payload_bytes_count(), 3);
-    assert!(rt; enqueued(&mut queue, 1));
+    assert!(rt; !called.get());
+    let after = [Step::Slots(3), Step::Bytes(3), Step::Fits(1)];
+    assert_eq!(rt; first_difference(&mut queue, &after), None);
     Ok(())
 }
 
@@ -236,56 +274,47 @@ fn an_empty_queue_runs_no_closure(rt: HostRuntime) -> Result<(), Fail> {
         ManagedSlice::Borrowed(&mut slots),
         ManagedSlice::Borrowed(&mut bytes),
     );
-    let ran = Cell::new(false);
+    let called = Cell::new(false);
     let answer = queue.dequeue_with(|_, _| {
-        ran.set(true);
+        called.set(true);
         Result::<(), ()>::Ok(())
     });
     assert!(rt; matches!(answer, Err(Empty)));
-    assert!(rt; !ran.get());
+    assert!(rt; !called.get());
     Ok(())
 }
 
 #[test]
 fn a_closure_keeps_fewer_bytes_than_were_placed(rt: HostRuntime) -> Result<(), Fail> {
-    let mut slots = [PacketMetadata::<u8>::EMPTY; 4];
-    let mut bytes = [0u8; 16];
-    let mut queue = PacketBuffer::<u8>::new(
-        ManagedSlice::Borrowed(&mut slots),
-        ManagedSlice::Borrowed(&mut bytes),
-    );
-    assert!(rt; enqueued(&mut queue, 15));
-    assert_eq!(rt; dequeued_length(&mut queue), Some(15));
-    assert!(rt; matches!(queue.enqueue_with_infallible(16, 0, |_| 2), Ok(2)));
-    assert!(rt; enqueued(&mut queue, 0));
-    assert_eq!(rt; dequeued_length(&mut queue), Some(2));
-    assert_eq!(rt; dequeued_length(&mut queue), Some(0));
+    let steps = [
+        Step::Fits(15),
+        Step::Off(15),
+        Step::WriteWith(16, 2),
+        Step::Fits(0),
+        Step::Off(2),
+        Step::Off(0),
+    ];
+    assert_eq!(rt; difference_from_empty(&steps), None);
     Ok(())
 }
 
 #[test]
 fn packets_of_no_bytes_are_held(rt: HostRuntime) -> Result<(), Fail> {
-    let mut slots = [PacketMetadata::<u8>::EMPTY; 4];
-    let mut bytes = [0u8; 16];
-    let mut queue = PacketBuffer::<u8>::new(
-        ManagedSlice::Borrowed(&mut slots),
-        ManagedSlice::Borrowed(&mut bytes),
-    );
-    assert!(rt; enqueued(&mut queue, 10));
-    assert!(rt; enqueued(&mut queue, 4));
-    assert_eq!(rt; dequeued_length(&mut queue), Some(10));
-    assert!(rt; matches!(queue.enqueue_with_infallible(5, 0, |_| 0), Ok(0)));
-    assert_eq!(rt; queue.slots_used(), 3);
-    assert_eq!(rt; queue.payload_bytes_count(), 6);
-    assert_eq!(rt; dequeued_length(&mut queue), Some(4));
-    match queue.peek() {
-        Ok((_, run)) => assert_eq!(rt; run.len(), 0),
-        Err(Empty) => assert!(rt; false),
-    }
-    assert_eq!(rt; queue.slots_used(), 1);
-    assert_eq!(rt; queue.payload_bytes_count(), 0);
-    assert_eq!(rt; dequeued_length(&mut queue), Some(0));
-    assert_eq!(rt; dequeued_length(&mut queue), None);
+    let steps = [
+        Step::Fits(10),
+        Step::Fits(4),
+        Step::Off(10),
+        Step::WriteWith(5, 0),
+        Step::Slots(3),
+        Step::Bytes(6),
+        Step::Off(4),
+        Step::Peek(0, b""),
+        Step::Slots(1),
+        Step::Bytes(0),
+        Step::Off(0),
+        Step::NoPackets,
+    ];
+    assert_eq!(rt; difference_from_empty(&steps), None);
     Ok(())
 }
 
@@ -297,10 +326,8 @@ fn a_queue_without_bytes_holds_packets_of_none(rt: HostRuntime) -> Result<(), Fa
         ManagedSlice::Borrowed(&mut slots),
         ManagedSlice::Borrowed(&mut bytes),
     );
-    assert!(rt; enqueued(&mut queue, 0));
-    assert!(rt; !enqueued(&mut queue, 1));
-    assert!(rt; enqueued(&mut queue, 0));
-    assert!(rt; !enqueued(&mut queue, 0));
+    let steps = [Step::Fits(0), Step::Refused(1), Step::Fits(0), Step::Refused(0)];
+    assert_eq!(rt; first_difference(&mut queue, &steps), None);
     Ok(())
 }
 
@@ -321,43 +348,67 @@ fn the_two_steps_put_and_take(rt: HostRuntime) -> Result<(), Fail> {
     Ok(())
 }
 
+/// A header that counts how often one of its kind is dropped.
+struct Counted<'a> {
+    drops: &'a Cell<u32>,
+}
+
+impl Drop for Counted<'_> {
+    fn drop(self) {
+        let Counted { drops } = self;
+        drops.set(drops.get().saturating_add(1));
+    }
+}
+
+/// Tries each call that puts a packet of these bytes, and returns how many headers were dropped by
+/// that; `None` if a call accepts it.
+fn drops_of_refused<'c>(
+    queue: &mut PacketBuffer<'_, Counted<'c>>,
+    drops: &'c Cell<u32>,
+    text: &[u8],
+) -> Option<u32> {
+    let before = drops.get();
+    let size = text.len();
+    if queue.place(size, Counted { drops }).is_ok() {
+        return None;
+    }
+    if queue.enqueue(size, Counted { drops }).is_ok() {
+        return None;
+    }
+    if queue.push_slice(Counted { drops }, text).is_ok() {
+        return None;
+    }
+    if queue.enqueue_with_infallible(size, Counted { drops }, |_| 0).is_ok() {
+        return None;
+    }
+    Some(drops.get().saturating_sub(before))
+}
+
 #[test]
-fn a_refused_header_is_dropped(rt: HostRuntime) -> Result<(), Fail> {
+fn each_header_is_dropped(rt: HostRuntime) -> Result<(), Fail> {
     let drops = Cell::new(0u32);
-    let mut slots = [PacketMetadata::EMPTY, PacketMetadata::EMPTY];
-    let mut bytes = [0u8; 4];
     {
+        let mut slots = [PacketMetadata::EMPTY, PacketMetadata::EMPTY];
+        let mut bytes = [0u8; 4];
         let mut queue = PacketBuffer::<Counted<'_>>::new(
             ManagedSlice::Borrowed(&mut slots),
             ManagedSlice::Borrowed(&mut bytes),
         );
-        assert!(rt; queue.enqueue(3, Counted { drops: &drops }).is_ok());
+        assert!(rt; queue.place(3, Counted { drops: &drops }).is_ok());
         assert_eq!(rt; drops.get(), 0);
         // Three bytes are not free.
-        assert!(rt; queue.place(3, Counted { drops: &drops }).is_err());
-        assert_eq!(rt; drops.get(), 1);
-        assert!(rt;
-            queue
-                .enqueue_with_infallible(3, Counted { drops: &drops }, |_| 0)
-                .is_err()
-        );
-        assert_eq!(rt; drops.get(), 2);
+        assert_eq!(rt; drops_of_refused(&mut queue, &drops, b"abc"), Some(4));
         // No slot is free.
         assert!(rt; queue.place(0, Counted { drops: &drops }).is_ok());
-        assert!(rt; queue.place(0, Counted { drops: &drops }).is_err());
-        assert_eq!(rt; drops.get(), 3);
-        assert!(rt;
-            queue
-                .enqueue_with_infallible(0, Counted { drops: &drops }, |_| 0)
-                .is_err()
-        );
-        assert_eq!(rt; drops.get(), 4);
+        assert_eq!(rt; drops_of_refused(&mut queue, &drops, b""), Some(4));
         match queue.dequeue() {
             Ok((header, _)) => drop(header),
             Err(Empty) => assert!(rt; false),
         }
-        assert_eq!(rt; drops.get(), 5);
+        assert_eq!(rt; drops.get(), 9);
+        assert!(rt; queue.dequeue_with(|_, _| Result::<(), ()>::Ok(())).is_ok());
     }
+    assert_eq!(rt; drops.get(), 10);
     Ok(())
 }
 

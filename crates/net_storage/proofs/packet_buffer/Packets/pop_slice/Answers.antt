@@ -1,7 +1,7 @@
-use Rattle.std.proofs.Common.{◌≡◌, ◌∷◌, ◌∙◌, ℕ, List, sym, ap}
+use Rattle.std.proofs.Common.{◌≡◌, ◌∷◌, ◌++◌, ◌∙◌, ℕ, List, length, min, take, drop, sym, ap, rules}
 use Rattle.net_storage.specs.Packets.{dequeued, freed_place, freed_bytes, with_bytes}
-use Rattle.net_storage.specs.PacketHistory.{contents}
-use Rattle.net_storage.proofs.PacketRuns.{freed_stay}
+use Rattle.net_storage.specs.PacketHistory.{contents, front_bytes}
+use Rattle.net_storage.proofs.PacketRuns.{freed_stay, copied_whole}
 use Rattle.net_storage.proofs.packet_buffer.Packets.pop_slice.Goals as goal
 
 pub returns-clause-made : goal.returns-clause-made
@@ -22,3 +22,66 @@ returns-clause-popped g c =
     c.in_ok-header.ensures.taken ∙ ap (λ o. (h, freed_bytes r size) ∷ contents o) is
     ∙ ap (λ (l : List ℕ). (h, l) ∷ contents (dequeued q)) (sym c.freed_mut.ensures.value) in
     record { bytes = bytes; first = shown ∙ ap (λ o. (h, bytes) ∷ contents o) (sym left); count = c.copy-count.ensures.count; copied = c.copy-count.ensures.copied }
+
+pub returns-clause-count : goal.returns-clause-count
+returns-clause-count g c =
+    let q = c.args.self.now in
+    let r = c.take.new.self in
+    let h = c.in_ok-header.header in
+    let size = c.in_ok-header.size in
+    let bytes = c.freed_mut.result.now in
+    let is : r ≡ dequeued q = c.in_ok-header.ensures.dequeued in
+    let shown : contents q ≡ (h, bytes) ∷ contents (dequeued q) =
+    c.in_ok-header.ensures.taken ∙ ap (λ o. (h, freed_bytes r size) ∷ contents o) is
+    ∙ ap (λ (l : List ℕ). (h, l) ∷ contents (dequeued q)) (sym c.freed_mut.ensures.value) in
+    let first : contents q ≡ (h, bytes) ∷ contents (dequeued q) = shown in
+    let front : bytes ≡ front_bytes (contents q) = sym (ap front_bytes first) in
+    c.copy-count.ensures.count ∙ ap (λ (l : List ℕ). min (length l) (length c.args.into.now)) front
+
+pub returns-clause-bytes : goal.returns-clause-bytes
+returns-clause-bytes g c =
+    let q = c.args.self.now in
+    let r = c.take.new.self in
+    let h = c.in_ok-header.header in
+    let size = c.in_ok-header.size in
+    let bytes = c.freed_mut.result.now in
+    let is : r ≡ dequeued q = c.in_ok-header.ensures.dequeued in
+    let shown : contents q ≡ (h, bytes) ∷ contents (dequeued q) =
+    c.in_ok-header.ensures.taken ∙ ap (λ o. (h, freed_bytes r size) ∷ contents o) is
+    ∙ ap (λ (l : List ℕ). (h, l) ∷ contents (dequeued q)) (sym c.freed_mut.ensures.value) in
+    let first : contents q ≡ (h, bytes) ∷ contents (dequeued q) = shown in
+    let front : bytes ≡ front_bytes (contents q) = sym (ap front_bytes first) in
+    c.copy-count.ensures.copied ∙ ap (λ (l : List ℕ). take c.copy-count.result l ++ drop c.copy-count.result c.args.into.now) front
+
+pub returns-clause-whole : goal.returns-clause-whole
+returns-clause-whole g c =
+    let q = c.args.self.now in
+    let r = c.take.new.self in
+    let h = c.in_ok-header.header in
+    let size = c.in_ok-header.size in
+    let bytes = c.freed_mut.result.now in
+    let is : r ≡ dequeued q = c.in_ok-header.ensures.dequeued in
+    let shown : contents q ≡ (h, bytes) ∷ contents (dequeued q) =
+    c.in_ok-header.ensures.taken ∙ ap (λ o. (h, freed_bytes r size) ∷ contents o) is
+    ∙ ap (λ (l : List ℕ). (h, l) ∷ contents (dequeued q)) (sym c.freed_mut.ensures.value) in
+    let first : contents q ≡ (h, bytes) ∷ contents (dequeued q) = shown in
+    let front : bytes ≡ front_bytes (contents q) = sym (ap front_bytes first) in
+    λ long.
+    let same : length bytes ≡ length c.args.into.now = ap length front ∙ long in
+    copied_whole bytes c.args.into.now c.copy-count.new.into c.copy-count.result c.copy-count.ensures.count c.copy-count.ensures.copied same ∙ front
+
+pub returns-clause-left : goal.returns-clause-left
+returns-clause-left g c =
+    let q = c.args.self.now in
+    let r = c.take.new.self in
+    let h = c.in_ok-header.header in
+    let size = c.in_ok-header.size in
+    let bytes = c.freed_mut.result.now in
+    let is : r ≡ dequeued q = c.in_ok-header.ensures.dequeued in
+    let left : with_bytes r (freed_place r size) bytes ≡ dequeued q = freed_stay r size bytes c.freed_mut.ensures.value ∙ is in
+    let shown : contents q ≡ (h, bytes) ∷ contents (dequeued q) =
+    c.in_ok-header.ensures.taken ∙ ap (λ o. (h, freed_bytes r size) ∷ contents o) is
+    ∙ ap (λ (l : List ℕ). (h, l) ∷ contents (dequeued q)) (sym c.freed_mut.ensures.value) in
+    let first : contents q ≡ (h, bytes) ∷ contents (dequeued q) = shown in
+    let front : bytes ≡ front_bytes (contents q) = sym (ap front_bytes first) in
+    ap contents left ∙ ap (drop 1) (sym first)

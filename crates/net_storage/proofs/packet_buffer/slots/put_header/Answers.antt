@@ -2,7 +2,7 @@ use Rattle.std.proofs.Common.{◌∙◌, arith, set}
 use Rattle.std.proofs.lemmas.List.{length-set}
 use Rattle.net_storage.specs.Ring.{queue}
 use Rattle.net_storage.proofs.PacketSteps.{put_keeps}
-use Rattle.net_storage.proofs.packet_buffer.put_header.Goals as goal
+use Rattle.net_storage.proofs.packet_buffer.slots.put_header.Goals as goal
 
 pub returns-in-Some-clause-queue : goal.returns-in-Some-clause-queue
 returns-in-Some-clause-queue g c = λ size h e.

@@ -3,8 +3,8 @@ use Rattle.std.specs.declared.option.Option.TheVariants.{None}
 use Rattle.net_storage.specs.Ring.{queue}
 use Rattle.net_storage.specs.PacketSlots.{slot}
 use Rattle.net_storage.proofs.PacketFacts.{gap_slot_one, gap_slot_none}
-use Rattle.net_storage.proofs.packet_buffer.push_slots.Goals as goal
-use Rattle.net_storage.proofs.packet_buffer.push_slots.Goals.{then-gap-gt0, else-gap-gt0}
+use Rattle.net_storage.proofs.packet_buffer.slots.push_slots.Goals as goal
+use Rattle.net_storage.proofs.packet_buffer.slots.push_slots.Goals.{then-gap-gt0, else-gap-gt0}
 
 pub returns-clause-queue : goal.returns-clause-queue
 returns-clause-queue g c =

@@ -1,7 +1,7 @@
 use Rattle.std.proofs.Common.{◌≡◌, ap, ◌∙◌, if◌then◌else◌, refl, arith, rules}
 use Rattle.std.proofs.lemmas.List.{length-take-le}
-use Rattle.net_storage.proofs.packet_buffer.with_first.Goals as goal
-use Rattle.net_storage.proofs.packet_buffer.with_first.Goals.{then-is_ok, else-is_ok}
+use Rattle.net_storage.proofs.packet_buffer.closures.with_first.Goals as goal
+use Rattle.net_storage.proofs.packet_buffer.closures.with_first.Goals.{then-is_ok, else-is_ok}
 
 pub returns-clause-count : goal.returns-clause-count
 returns-clause-count g c = elim c.if-is_ok.branch [
@@ -11,7 +11,7 @@ returns-clause-count g c = elim c.if-is_ok.branch [
 
 pub returns-clause-called : goal.returns-clause-called
 returns-clause-called g c =
-    let all = length-take-le c.args.size c.args.run.now c.requires.fits in (
+    let all = length-take-le c.args.size c.args.queued.now c.requires.fits in (
       c.f-answer.new.arg3,
       record { header = _; bytes = _; shows = (refl, search rules); left = _; met = c.f-answer.ensures; leaves = (refl, refl) },
       omega (arith, c.f-answer.auto.arg3, all),

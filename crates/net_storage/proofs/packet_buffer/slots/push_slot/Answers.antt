@@ -1,6 +1,6 @@
 use Rattle.std.proofs.Common.{refl}
 use Rattle.net_storage.proofs.PacketFacts.{pushed_slot}
-use Rattle.net_storage.proofs.packet_buffer.push_slot.Goals as goal
+use Rattle.net_storage.proofs.packet_buffer.slots.push_slot.Goals as goal
 
 pub returns-in-Ok-clause-window : goal.returns-in-Ok-clause-window
 returns-in-Ok-clause-window g c = (pushed_slot c.args.slots.now _ c.args.«slot» c.requires.well_formed c.requires.free refl (c.enqueue_one.ensures.enqueued c.requires.free c.args.«slot»)).2
