@@ -14,16 +14,3 @@ pub struct Full;
 #[derive(Debug, Clone, Copy, PartialEq, Eq, Drop, Error)]
 #[error("buffer empty")]
 pub struct Empty;
-
-#[cfg(test)]
-mod tests {
-    use super::*;
-    use std::test::Fail;
-
-    #[test]
-    fn refusals_have_their_texts(rt: HostRuntime) -> Result<(), Fail> {
-        assert_eq!(rt; Full.to_string(rt.alloc())?.as_str(), "buffer full");
-        assert_eq!(rt; Empty.to_string(rt.alloc())?.as_str(), "buffer empty");
-        Ok(())
-    }
-}

@@ -7,9 +7,6 @@ ghost use Rattle.net_storage.specs.WholeLends.{lends_lent, lends_owned};
 
 use std::ops::IndexMut;
 
-#[cfg(test)]
-mod tests;
-
 /// A list of elements, parts of which can be shown and lent: what a ring keeps its elements in.
 pub trait Elements<T> {
     // The elements, in order.

@@ -18,8 +18,6 @@ mod placing;
 mod slices;
 mod slots;
 mod taking;
-#[cfg(test)]
-mod tests;
 
 /// A queue of packets over any storage: `M` holds the slots and `B` the bytes. [`PacketBuffer`] is
 /// its usual form.

@@ -10,14 +10,10 @@ use crate::resettable::Resettable;
 use std::marker::{Model, PhantomData};
 
 mod allocated;
-#[cfg(test)]
-mod callers;
 pub mod laws;
 mod many;
 mod one;
 mod slices;
-#[cfg(test)]
-mod tests;
 mod unallocated;
 
 /// A ring of elements over any storage; [`RingBuffer`] is the one over a [`ManagedSlice`].

@@ -6,8 +6,7 @@ ghost use Rattle.net_storage.specs.Ring.{contiguous_queued, contiguous_window_fr
 ghost use Rattle.net_storage.specs.Ring.{contiguous_queued_from, restarted, Enqueued, Dequeued};
 ghost use Rattle.net_storage.specs.Ring.{SpareWritten, QueueWritten};
 
-use super::{ManagedSlice, RingBuffer};
-use crate::error::{Empty, Full};
+use net_storage::{Empty, Full, ManagedSlice, RingBuffer};
 use std::marker::Model;
 
 /// A byte is written to the part that `enqueue_many` lends.

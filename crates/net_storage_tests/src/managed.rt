@@ -1,5 +1,5 @@
 //! Both forms of storage, at a concrete type.
-use super::*;
+use net_storage::ManagedSlice;
 use std::test::Fail;
 
 #[test]

@@ -1,5 +1,5 @@
 //! Steps of the tests of the assembler, and how they are taken.
-use crate::{Assembler, TooManyHolesError, Turns};
+use net_storage::{Assembler, TooManyHolesError, Turns};
 use std::alloc::Global;
 use std::process::Abort;
 use std::test::Fail;

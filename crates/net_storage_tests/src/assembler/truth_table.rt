@@ -1,5 +1,5 @@
 //! The same calls on an assembler and on a plain table of truth values.
-use crate::{Assembler, TooManyHolesError};
+use net_storage::{Assembler, TooManyHolesError};
 use std::process::Abort;
 
 /// Ranges below 64 that touch, overlap, repeat and fill gaps.

@@ -1,14 +1,14 @@
 //! Worked values as tables, each public call at a concrete type, and refusals that run no closure.
 ghost use Rattle.std.specs.Prelude.{◌≡◌};
 
+mod callers;
 mod steps;
 
-use super::callers::{
+use callers::{
     Duplex, dequeue_one_byte, enqueue_one_byte, room_of_slice, room_of_vector, write_and_enqueue,
     write_and_refuse,
 };
-use super::*;
-use crate::error::{Empty, Full};
+use net_storage::{Empty, Full, ManagedSlice, Resettable, Ring, RingBuffer};
 use std::process::Abort;
 use std::test::Fail;
 use steps::{Step, run};

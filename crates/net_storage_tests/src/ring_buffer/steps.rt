@@ -1,8 +1,7 @@
 //! A ring of bytes that is driven by a table: calls with what they return, lend and leave.
 ghost use Rattle.std.specs.Prelude.{◌≡◌, length};
 
-use super::super::RingBuffer;
-use crate::error::{Empty, Full};
+use net_storage::{Empty, Full, RingBuffer};
 use std::process::Abort;
 use std::test::Fail;
 

@@ -1,0 +1,16 @@
+//! The tests of `net_storage`, each through its public calls.
+//!
+//! They stand in a crate of their own, so that the library is proved once and its edits don't wait
+//! for them.
+#![tactic(auto)]
+
+#[cfg(test)]
+mod assembler;
+#[cfg(test)]
+mod error;
+#[cfg(test)]
+mod managed;
+#[cfg(test)]
+mod packet_buffer;
+#[cfg(test)]
+mod ring_buffer;
