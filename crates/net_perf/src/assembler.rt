@@ -5,6 +5,8 @@ use crate::checksum::{START, mix};
 use net_storage::Assembler;
 
 /// Adds each range of `ops`, pairs of offset and size, to an empty assembler, `rounds` times.
+///
+/// Returns a checksum of how many were refused, of the front, and of the runs that are left.
 fn add_at<const N: usize>(ops: &[usize], rounds: u64) -> u64
     requires some { 1 ≤ N }
     requires few { N ≤ 32 }
@@ -28,6 +30,9 @@ fn add_at<const N: usize>(ops: &[usize], rounds: u64) -> u64
 }
 
 /// Adds each range of `ops` and removes the front, `rounds` times.
+///
+/// Returns a checksum of the lengths that were removed, of how many ranges were refused, and of the
+/// runs that are left.
 fn front_at<const N: usize>(ops: &[usize], rounds: u64) -> u64
     requires some { 1 ≤ N }
     requires few { N ≤ 32 }
@@ -51,7 +56,7 @@ fn front_at<const N: usize>(ops: &[usize], rounds: u64) -> u64
     mix_runs(sum, &assembler)
 }
 
-/// The checksum with each run's start and end.
+/// Returns the checksum with each run's start and end.
 fn mix_runs<const N: usize>(sum: u64, assembler: &Assembler<N>) -> u64 {
     let mut sum = sum;
     for (start, end) in assembler.iter_data() {

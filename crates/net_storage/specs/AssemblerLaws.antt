@@ -1,9 +1,14 @@
 -- Laws of sets of positions and of what the contracts of an assembler's calls say.
-use Rattle.std.specs.Prelude.{◌≡◌, ◌↔◌, ℕ, zero, suc, ◌+◌, ◌-◌, ◌<◌, ◌≤◌, ◌^◌, Bool, ◌&&◌, ◌||◌, List, [], ◌∷◌, length, drop, nat_le, nat_eq, Option, Some, None, Result, Ok, IsTrue, IsFalse, IsOk, IsErr, OnOk, OnErr, MatchResult}
+use Rattle.std.specs.Prelude.{◌≡◌, ◌↔◌, ℕ, zero, suc, ◌+◌, ◌-◌, ◌<◌, ◌≤◌, ◌^◌, Bool, ◌&&◌, ◌||◌}
+use Rattle.std.specs.Prelude.{List, [], ◌∷◌, length, drop, nat_le, nat_eq, Option, Some, None}
+use Rattle.std.specs.Prelude.{Result, Ok, IsTrue, IsFalse, IsOk, IsErr, OnOk, OnErr, MatchResult}
 use Rattle.std.specs.List.{list_any, slice_get}
 use Rattle.std.specs.Iterator.{YieldsFirst}
 use Rattle.net_storage.specs.declared.assembler.error.TooManyHolesError.{TooManyHolesError}
-use Rattle.net_storage.specs.Positions.{Positions, contains, nothing, set_of_list, with_range, runs, first_missing, front, shift_down, shift_up, maximal_runs, runs_shifted_up, lies_in, are_same, IsFirstMissing, IsMaximalRun, AreMaximalRuns}
+use Rattle.net_storage.specs.Positions.{Positions, contains, nothing, set_of_list, with_range, runs}
+use Rattle.net_storage.specs.Positions.{first_missing, front, shift_down, shift_up, maximal_runs}
+use Rattle.net_storage.specs.Positions.{runs_shifted_up, lies_in, are_same, IsFirstMissing}
+use Rattle.net_storage.specs.Positions.{IsMaximalRun, AreMaximalRuns}
 use Rattle.net_storage.specs.Assembler.{MakesTooManyRuns}
 use Rattle.net_storage.specs.Turns.{binary_digits}
 
@@ -16,7 +21,8 @@ pub record Adds (most_runs : ℕ) (old : Positions) (offset size : ℕ)
   pub bound : runs new ≤ most_runs
 
 -- what the contract of `remove_front` says of a call
-pub record RemovesFront (most_runs : ℕ) (old : Positions) (result : ℕ) (new : Positions) : Type 0 where
+pub record RemovesFront (most_runs : ℕ) (old : Positions) (result : ℕ) (new : Positions) :
+    Type 0 where
   pub count : result ≡ front old
   pub rest : new ≡ shift_down old (front old)
   pub bound : runs new ≤ most_runs
@@ -160,11 +166,12 @@ AddingThenRemoving = (most_runs offset size count : ℕ) (s all rest both : Posi
 
 -- with offset 0 it is never refused
 abbrev pub FrontIsNeverRefused : Type 0
-FrontIsNeverRefused = (most_runs size : ℕ) (s both : Positions) (result : Result ℕ TooManyHolesError) →
+FrontIsNeverRefused = (most_runs size : ℕ) (s both : Positions)
+    (result : Result ℕ TooManyHolesError) →
     AddsThenRemovesFront most_runs s 0 size result both → IsOk result
 
--- `iter_data` gives the maximal runs, at most as many as the most_runs, and ends: however often `next`
--- is called, it answers the runs in turn and then None
+-- `iter_data` gives the maximal runs, at most most_runs of them, and ends: however often `next` is
+-- called, it answers the runs in turn and then None
 abbrev pub IteratesMaximalRuns : Type 0
 IteratesMaximalRuns = (most_runs : ℕ) (s : Positions) (left last : List (ℕ × ℕ))
     (answers : List (Option (ℕ × ℕ))) →

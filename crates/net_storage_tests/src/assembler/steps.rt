@@ -130,7 +130,7 @@ pub fn expect_text<const N: usize>(
 }
 
 /// Takes the steps, one after another, from an assembler with no position on.
-pub fn after<const N: usize>(
+pub fn take_steps<const N: usize>(
     rt: &impl Abort,
     alloc: Global,
     steps: &[Step<'_>],
@@ -141,16 +141,4 @@ pub fn after<const N: usize>(
         take_step(rt, alloc, &mut assembler, step)?;
     }
     Ok(assembler)
-}
-
-/// Takes the steps of each row, each row from an assembler with no position on.
-pub fn expect_rows<const N: usize>(
-    rt: &impl Abort,
-    alloc: Global,
-    rows: &[&[Step<'_>]],
-) -> Result<(), Fail> {
-    for steps in rows {
-        after::<N>(rt, alloc, steps)?;
-    }
-    Ok(())
 }
