@@ -27,4 +27,5 @@ NumbersAdd = (i pos n : ℕ) → number_at i (pos + n) ≡ (number_at i pos + n)
 
 -- of two positions less than half the range apart, the lower one's number comes before the other's
 abbrev pub NumbersAreOrdered : Type 0
-NumbersAreOrdered = (i p q : ℕ) → p < q → q < p + 2 ^ 31 → ComesBefore (number_at i p) (number_at i q)
+NumbersAreOrdered = (i p q : ℕ) → p < q → q < p + 2 ^ 31 →
+    ComesBefore (number_at i p) (number_at i q)

@@ -66,14 +66,17 @@ SaysOfLonger = (f pos : ℕ) (x more xs : List ℕ) → Says f x pos xs → Says
 abbrev pub NoneSay : Type 0
 NoneSay = (f : ℕ) (x : List ℕ) → AllSay f x []
 
+-- a truthful segment in front of truthful commands
 abbrev pub SegmentSays : Type 0
 SegmentSays = (f : ℕ) (x : List ℕ) (pos : ℕ) (xs : List ℕ) (cs : List CommandSeen) →
     Says f x pos xs → AllSay f x cs → AllSay f x (Segment pos xs ∷ cs)
 
+-- a read in front of truthful commands
 abbrev pub ReadSays : Type 0
 ReadSays = (f : ℕ) (x : List ℕ) (count : ℕ) (cs : List CommandSeen) →
     AllSay f x cs → AllSay f x (Read count ∷ cs)
 
+-- a show in front of truthful commands
 abbrev pub ShowSays : Type 0
 ShowSays = (f : ℕ) (x : List ℕ) (cs : List CommandSeen) → AllSay f x cs → AllSay f x (Show ∷ cs)
 
