@@ -1,0 +1,34 @@
+ghost use Rattle.std.specs.Prelude.{◌≡◌, ◌++◌, length, take, drop, min, IfSome, IfNone};
+
+use net_storage::{Empty, ManagedSlice, PacketBuffer, PacketMetadata};
+use net_uses::{Endpoint, UdpSocket};
+
+/// A datagram comes in at a socket over arrays, and is received: as much of it as `into` has room
+/// for. `None` if the socket has no room for it.
+pub fn pass_through(from: Endpoint, data: &[u8], into: &mut [u8]) -> Option<usize>
+    ensures count { IfSome result (λ n. n ≡ min (length data.now) (length into.old)) }
+    ensures copied { IfSome result (λ n. into.new ≡ take n data.now ++ drop n into.old) }
+    ensures none { IfNone result (into.new ≡ into.old) }
+{
+    let mut slots_in = [PacketMetadata::<Endpoint>::EMPTY; 4];
+    let mut bytes_in = [0u8; 64];
+    let mut slots_out = [PacketMetadata::<Endpoint>::EMPTY; 4];
+    let mut bytes_out = [0u8; 64];
+    let mut socket = UdpSocket::new(
+        PacketBuffer::new(
+            ManagedSlice::Borrowed(&mut slots_in),
+            ManagedSlice::Borrowed(&mut bytes_in),
+        ),
+        PacketBuffer::new(
+            ManagedSlice::Borrowed(&mut slots_out),
+            ManagedSlice::Borrowed(&mut bytes_out),
+        ),
+    );
+    if !socket.process(from, data) {
+        return None;
+    }
+    match socket.recv_slice(into) {
+        Ok((count, _from)) => Some(count),
+        Err(Empty) => None,
+    }
+}

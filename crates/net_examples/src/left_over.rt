@@ -1,0 +1,13 @@
+ghost use Rattle.std.specs.Prelude.{◌≡◌, ◌+◌, ◌++◌, length, take, min};
+ghost use Rattle.net_storage.specs.Ring.{queue, window};
+
+use net_storage::RingBuffer;
+
+/// Enqueues as many bytes as there is room for, and returns how many are left over.
+pub fn send_part(ring: &mut RingBuffer<'_, u8>, data: &[u8]) -> usize
+    ensures queue { queue ring.new ≡ queue ring.old ++ take (window ring.old) «data».now }
+    ensures rest { result + min (length «data».now) (window ring.old) ≡ length «data».now }
+{
+    let count = ring.enqueue_slice(data);
+    data.len() - count
+}

@@ -1,0 +1,31 @@
+//! The smallest users of the libraries, one for each kind. The pages of this repository quote them.
+#![tactic(auto)]
+
+mod datagram;
+mod device;
+mod first_element;
+mod in_order;
+mod left_over;
+mod line;
+mod message;
+mod outbox;
+mod ranges;
+mod refused;
+mod send_frame;
+mod timer;
+
+pub use datagram::pass_through;
+pub use device::Undamaged;
+pub use first_element::set_first;
+pub use in_order::receive;
+pub use left_over::send_part;
+pub use line::Line;
+pub use message::send;
+pub use outbox::Outbox;
+pub use ranges::came;
+pub use refused::is_made;
+pub use send_frame::send_bytes;
+pub use timer::Timer;
+
+#[cfg(test)]
+mod tests;

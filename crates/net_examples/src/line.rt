@@ -1,0 +1,27 @@
+ghost use Rattle.std.specs.Prelude.{◌≡◌, length, List, ℕ};
+ghost use Rattle.std.specs.Borrow.{sem};
+ghost use Rattle.net_storage.specs.Ring.{contiguous_window_from, spare_index, written, SpareWritten};
+
+use net_storage::{Elements, Ring};
+
+/// A line of bytes, over any storage.
+#[derive(Drop)]
+pub struct Line<S: Elements<u8>> {
+    pub ring: Ring<u8, S>,
+}
+
+impl<S: Elements<u8>> Line<S> {
+    ghost use Rattle.net_examples.specs.Line.{lends_free};
+
+    /// Lends contiguous free bytes from the one at `offset` on.
+    pub fn free(&mut self, offset: usize, size: usize) -> &mut [u8]
+        ensures* writes_back { sem 𝓛 (lends_free S.row S.Elements self.entry offset result) }
+        ensures count { length result.now ≡ contiguous_window_from self.old.ring offset size }
+        ensures written { (ws : List ℕ)
+            → length ws ≡ contiguous_window_from self.old.ring offset size
+            → SpareWritten self.old.ring offset ws
+            (written self.old.ring (spare_index self.old.ring offset) ws) }
+    {
+        self.ring.get_unallocated(offset, size)
+    }
+}

@@ -1,0 +1,16 @@
+ghost use Rattle.std.specs.Prelude.{◌≡◌, ◌++◌, IsTrue, IsFalse};
+ghost use Rattle.net_storage.specs.Ring.{queue};
+
+use net_storage::RingBuffer;
+
+/// Queues a whole message, or nothing of it where there isn't room.
+pub fn send(ring: &mut RingBuffer<'_, u8>, message: &[u8]) -> bool
+    ensures sent { IsTrue result → queue ring.new ≡ queue ring.old ++ message.now }
+    ensures refused { IsFalse result → ring.new ≡ ring.old }
+{
+    if message.len() > ring.window() {
+        return false;
+    }
+    ring.enqueue_slice(message);
+    true
+}

@@ -1,0 +1,47 @@
+ghost use Rattle.std.specs.Prelude.{◌≡◌, ◌++◌, [], length, take, drop, min};
+ghost use Rattle.net_storage.specs.Managed.{elements};
+
+use net_storage::{ManagedSlice, RingBuffer};
+use std::marker::Model;
+
+/// Bytes that wait to be sent. Contracts see them, the first one first.
+#[derive(Drop)]
+pub struct Outbox<'a> {
+    ring: RingBuffer<'a, u8>,
+}
+
+impl<'a> Model for Outbox<'a> {
+    ghost use Rattle.std.specs.Prelude.{List, ℕ};
+    ghost use Rattle.net_storage.specs.Ring.{queue};
+
+    ghost Value = { List ℕ };
+
+    ghost view = { λ o. queue o.ring };
+}
+
+impl<'a> Outbox<'a> {
+    /// No bytes, with room for as many as `storage` has.
+    pub fn new(storage: ManagedSlice<'a, u8>) -> Self
+        ensures { result ≡ [] }
+    {
+        Outbox {
+            ring: RingBuffer::new(storage),
+        }
+    }
+
+    /// Takes as many of the bytes as there is room for, and returns how many.
+    pub fn put(&mut self, bytes: &[u8]) -> usize
+        ensures { self.new ≡ self.old ++ take result bytes.now }
+    {
+        self.ring.enqueue_slice(bytes)
+    }
+
+    /// Gives the first bytes, as many as `into` has room for, and returns how many.
+    pub fn give(&mut self, into: &mut [u8]) -> usize
+        ensures count { result ≡ min (length into.old) (length self.old) }
+        ensures given { into.new ≡ take result self.old ++ drop result into.old }
+        ensures left { self.new ≡ drop result self.old }
+    {
+        self.ring.dequeue_slice(into)
+    }
+}

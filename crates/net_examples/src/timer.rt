@@ -1,0 +1,42 @@
+ghost use Rattle.std.specs.Prelude.{◌≡◌, ◌↔◌, ◌*◌, ◌-◌, ◌^◌, ◌+ℤ◌, ◌≤ℤ◌, pos, min, IsTrue};
+ghost use Rattle.net_base.specs.Time.{IsMoment};
+
+use net_base::time::{Duration, Instant};
+
+/// Expires a timeout after it was armed. Each time it may be made to wait twice as long.
+#[derive(Debug, Clone, Copy)]
+pub struct Timer {
+    timeout: Duration,
+    deadline: Instant,
+}
+
+impl Timer {
+    /// A timer that was armed at `now`.
+    pub fn new(timeout: Duration, now: Instant) -> Timer
+        ensures timeout { result.timeout ≡ timeout }
+        ensures deadline { IsMoment (now +ℤ pos timeout)
+            → result.deadline ≡ now +ℤ pos timeout }
+    {
+        Timer {
+            timeout,
+            deadline: now.saturating_add(timeout),
+        }
+    }
+
+    /// Whether the deadline has come.
+    pub fn is_expired(&self, now: Instant) -> bool
+        ensures { IsTrue result ↔ (self.now.deadline ≤ℤ now) }
+    {
+        self.deadline <= now
+    }
+
+    /// Arms it anew, to wait twice as long as before, or as long as can be.
+    pub fn back_off(&mut self, now: Instant)
+        ensures timeout { self.new.timeout ≡ min (self.old.timeout * 2) (2 ^ 64 - 1) }
+        ensures deadline { IsMoment (now +ℤ pos self.new.timeout)
+            → self.new.deadline ≡ now +ℤ pos self.new.timeout }
+    {
+        self.timeout = self.timeout.saturating_mul(2);
+        self.deadline = now.saturating_add(self.timeout);
+    }
+}
