@@ -403,30 +403,37 @@ fn drops_of_refused<'c>(
     Some(drops.get().saturating_sub(before))
 }
 
+/// Puts two packets, tries each call that is refused, and takes the packets off; returns whether
+/// each went as expected. The queue and its storage end with it.
+fn headers_come_and_go(drops: &Cell<u32>) -> bool {
+    let mut slots = [PacketMetadata::EMPTY, PacketMetadata::EMPTY];
+    let mut bytes = [0u8; 4];
+    let mut queue = PacketBuffer::<Counted<'_>>::new(
+        ManagedSlice::Borrowed(&mut slots),
+        ManagedSlice::Borrowed(&mut bytes),
+    );
+    let came = queue.place(3, Counted { drops }).is_ok();
+    let held = drops.get() == 0;
+    // Three bytes are not free.
+    let no_bytes = drops_of_refused(&mut queue, drops, b"abc") == Some(4);
+    // No slot is free.
+    let last = queue.place(0, Counted { drops }).is_ok();
+    let no_slot = drops_of_refused(&mut queue, drops, b"") == Some(4);
+    let off = match queue.dequeue() {
+        Ok((header, _)) => {
+            drop(header);
+            drops.get() == 9
+        }
+        Err(Empty) => false,
+    };
+    let given = queue.dequeue_with(|_, _| Result::<(), ()>::Ok(())).is_ok();
+    came && held && no_bytes && last && no_slot && off && given
+}
+
 #[test]
 fn each_header_is_dropped(rt: HostRuntime) -> Result<(), Fail> {
     let drops = Cell::new(0u32);
-    {
-        let mut slots = [PacketMetadata::EMPTY, PacketMetadata::EMPTY];
-        let mut bytes = [0u8; 4];
-        let mut queue = PacketBuffer::<Counted<'_>>::new(
-            ManagedSlice::Borrowed(&mut slots),
-            ManagedSlice::Borrowed(&mut bytes),
-        );
-        assert!(rt; queue.place(3, Counted { drops: &drops }).is_ok());
-        assert_eq!(rt; drops.get(), 0);
-        // Three bytes are not free.
-        assert_eq!(rt; drops_of_refused(&mut queue, &drops, b"abc"), Some(4));
-        // No slot is free.
-        assert!(rt; queue.place(0, Counted { drops: &drops }).is_ok());
-        assert_eq!(rt; drops_of_refused(&mut queue, &drops, b""), Some(4));
-        match queue.dequeue() {
-            Ok((header, _)) => drop(header),
-            Err(Empty) => assert!(rt; false),
-        }
-        assert_eq!(rt; drops.get(), 9);
-        assert!(rt; queue.dequeue_with(|_, _| Result::<(), ()>::Ok(())).is_ok());
-    }
+    assert!(rt; headers_come_and_go(&drops));
     assert_eq!(rt; drops.get(), 10);
     Ok(())
 }
