@@ -24,19 +24,19 @@ pub trait Elements<T> {
 
     /// Shows the elements from the index `from` up to `to`.
     fn part(&self, from: usize, to: usize) -> &[T]
-        requires { (from ≤ to) × (to ≤ length (elements self.now)) }
+        requires count { (from ≤ to) × (to ≤ length (elements self.now)) }
         ensures { result.now ≡ take (to - from) (drop from (elements self.now)) };
 
     /// Lends the elements from the index `from` up to `to`.
     fn part_mut(&mut self, from: usize, to: usize) -> &mut [T]
-        requires { (from ≤ to) × (to ≤ length (elements self.old)) }
+        requires count { (from ≤ to) × (to ≤ length (elements self.old)) }
         ensures* writes_back { sem 𝓛 (Lends Self.row (Array T.row 0) self.entry result
             (with_part self.old from)) }
         ensures value { result.now ≡ take (to - from) (drop from (elements self.old)) };
 
     /// Lends the element at the index `at`.
     fn item_mut(&mut self, at: usize) -> &mut T
-        requires { at < length (elements self.old) }
+        requires count { at < length (elements self.old) }
         ensures* writes_back { sem 𝓛 (Lends Self.row T.row self.entry result
             (with_item self.old at)) }
         ensures value { result.now ≡ slice_index_or (elements self.old) at result.now };
