@@ -1,4 +1,4 @@
-use Rattle.std.proofs.Common.{◌≡◌, ◌∙◌, ◌+◌, ap, take, length, min, sym, arith}
+use Rattle.std.proofs.Common.{◌≡◌, ◌∙◌, ap, take, min, sym, arith}
 use Rattle.std.proofs.lemmas.List.{length-set}
 use Rattle.net_storage.specs.RunLists.{runs_shifted_down}
 use Rattle.net_storage.proofs.Moves.{rest_more}
