@@ -1,5 +1,6 @@
 -- Mode asm: a set of positions in at most so many maximal runs.
-use Rattle.std.specs.Prelude.{ℕ, ◌+◌, ◌^◌, ◌&&◌, nat_lt, List, [], ◌∷◌, ◌++◌, codes, bytes_eq, decimal, if◌then◌else◌, Bool, Option, Some, None, Result, Ok, Err}
+use Rattle.std.specs.Prelude.{ℕ, ◌+◌, ◌^◌, ◌&&◌, nat_lt, List, [], ◌∷◌, ◌++◌, codes, bytes_eq}
+use Rattle.std.specs.Prelude.{decimal, if◌then◌else◌, Bool, Option, Some, None, Result, Ok, Err}
 use Rattle.net_storage.specs.Positions.{Positions, runs, with_range, front, shift_down}
 use Rattle.net_storage.specs.Assembler.{display_text}
 use Rattle.net_bench.specs.Text.{number_of}
@@ -27,13 +28,15 @@ asm_command (verb ∷ []) =
     else None
 asm_command (verb ∷ offset ∷ size ∷ []) =
     if bytes_eq verb (codes "a") then range_command Add (number_of offset) (number_of size)
-    else if bytes_eq verb (codes "t") then range_command AddThenRemoveFront (number_of offset) (number_of size)
+    else if bytes_eq verb (codes "t")
+    then range_command AddThenRemoveFront (number_of offset) (number_of size)
     else None
 asm_command _ = None
 
 -- whether the range isn't empty, and the set with it has more than the most maximal runs
 abbrev pub makes_too_many_runs : ℕ → Positions → ℕ → ℕ → Bool
-makes_too_many_runs most_runs set offset size = nat_lt 0 size && nat_lt most_runs (runs (with_range set offset size))
+makes_too_many_runs most_runs set offset size =
+    nat_lt 0 size && nat_lt most_runs (runs (with_range set offset size))
 
 -- the reply of a refusal
 abbrev pub refused_text : List ℕ
@@ -41,7 +44,8 @@ refused_text = codes "refused too many holes\n"
 
 -- the set without its front, counted from there, and the reply that says how long the front was
 abbrev pub front_removed : Positions → Positions × List ℕ
-front_removed set = (shift_down set (front set), codes "front " ++ decimal (front set) ++ codes "\n")
+front_removed set =
+    (shift_down set (front set), codes "front " ++ decimal (front set) ++ codes "\n")
 
 -- the set with a range, or unchanged where that has too many runs
 abbrev pub added : ℕ → Positions → ℕ → ℕ → Positions × List ℕ
@@ -57,12 +61,15 @@ added_then_front_removed most_runs set offset size =
 
 -- what a range's command does where 64 bits hold the range's end
 abbrev pub within_range : ℕ → ℕ → Positions × List ℕ → Result (Positions × List ℕ) Fault
-within_range offset size next = if nat_lt (offset + size) (2 ^ 64) then Ok next else Err faults.RangeTooLong
+within_range offset size next =
+    if nat_lt (offset + size) (2 ^ 64) then Ok next else Err faults.RangeTooLong
 
 -- what a command does to the set, and its reply
 abbrev pub asm_does : ℕ → Positions → AsmCommand → Result (Positions × List ℕ) Fault
-asm_does most_runs set (Add offset size) = within_range offset size (added most_runs set offset size)
-asm_does most_runs set (AddThenRemoveFront offset size) = within_range offset size (added_then_front_removed most_runs set offset size)
+asm_does most_runs set (Add offset size) =
+    within_range offset size (added most_runs set offset size)
+asm_does most_runs set (AddThenRemoveFront offset size) =
+    within_range offset size (added_then_front_removed most_runs set offset size)
 asm_does most_runs set RemoveFront = Ok (front_removed set)
 asm_does most_runs set Print = Ok (set, display_text set ++ codes "\n")
 

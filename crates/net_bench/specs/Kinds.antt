@@ -15,4 +15,5 @@ most_runs_seen counts.ThirtyTwo = 32
 abbrev pub mode_seen : ModeKind → Mode
 mode_seen (kinds.Ring capacity) = Ring capacity
 mode_seen (kinds.Asm most_runs) = Asm (most_runs_seen most_runs)
-mode_seen (kinds.Stream first capacity most_runs) = Stream (record { first = first; capacity = capacity; most_runs = most_runs_seen most_runs })
+mode_seen (kinds.Stream first capacity most_runs) =
+    Stream (record { first = first; capacity = capacity; most_runs = most_runs_seen most_runs })

@@ -1,5 +1,7 @@
 -- Mode ring: a bounded queue of bytes.
-use Rattle.std.specs.Prelude.{ℕ, ◌-◌, min, List, [], ◌∷◌, ◌++◌, length, take, drop, codes, bytes_eq, decimal, if◌then◌else◌, Option, Some, None, Result, Ok, Err, option_map}
+use Rattle.std.specs.Prelude.{ℕ, ◌-◌, min, List, [], ◌∷◌, ◌++◌, length, take, drop, codes, bytes_eq}
+use Rattle.std.specs.Prelude.{decimal, if◌then◌else◌, Option, Some, None, Result, Ok, Err}
+use Rattle.std.specs.Prelude.{option_map}
 use Rattle.net_bench.specs.Text.{number_of, hex_bytes, hex_text}
 use Rattle.net_bench.specs.Transcript.{Rules}
 use Rattle.net_bench.specs.declared.fault.Fault.{Fault}
@@ -31,12 +33,16 @@ ring_command _ = None
 abbrev pub ring_does : Queue → RingCommand → Queue × List ℕ
 -- as many bytes as there is room for join the queue
 ring_does queue (Write bytes) =
-    let count = min (length bytes) (queue.capacity - length queue.bytes) in
-    (record queue { bytes = queue.bytes ++ take count bytes }, codes "took " ++ decimal count ++ codes "\n")
+    let count = min (length bytes) (queue.capacity - length queue.bytes) in (
+      record queue { bytes = queue.bytes ++ take count bytes },
+      codes "took " ++ decimal count ++ codes "\n",
+    )
 -- as many bytes as are asked for and there leave it
 ring_does queue (Read number) =
-    let count = min number (length queue.bytes) in
-    (record queue { bytes = drop count queue.bytes }, codes "read " ++ hex_text (take count queue.bytes) ++ codes "\n")
+    let count = min number (length queue.bytes) in (
+      record queue { bytes = drop count queue.bytes },
+      codes "read " ++ hex_text (take count queue.bytes) ++ codes "\n",
+    )
 
 -- a line of the mode
 abbrev pub ring_rules : Rules Queue

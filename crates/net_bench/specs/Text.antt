@@ -1,5 +1,7 @@
 -- The text of the bench: lines, words, numbers and hex words.
-use Rattle.std.specs.Prelude.{ℕ, ◌+◌, ◌-◌, ◌^◌, ◌==◌, ◌&&◌, ◌||◌, nat_lt, min, if◌then◌else◌, Bool, List, [], ◌∷◌, length, slice_index, codes, bytes_eq, Option, Some, None}
+use Rattle.std.specs.Prelude.{ℕ, ◌+◌, ◌-◌, ◌^◌, ◌==◌, ◌&&◌, ◌||◌, nat_lt, min, if◌then◌else◌, Bool}
+use Rattle.std.specs.Prelude.{List, [], ◌∷◌, length, slice_index, codes, bytes_eq, Option, Some}
+use Rattle.std.specs.Prelude.{None}
 use Rattle.std.specs.List.{slice_split, list_all}
 use Rattle.std.specs.Result.{result_ok}
 use Rattle.std.specs.Char.{is_ascii_digit}
@@ -45,7 +47,8 @@ ended_lines text = without_last (parts_of text)
 abbrev pub next_number : ℕ → ℕ
 next_number n = min (n + 1) (2 ^ 64 - 1)
 
--- the words of a line, parted by exactly one space: a space too many makes an empty word, which no command has
+-- the words of a line, parted by exactly one space: a space too many makes an empty word, which no
+-- command has
 abbrev pub words_of : List ℕ → List (List ℕ)
 words_of line = slice_split (λ b. b == 32) line
 
@@ -59,7 +62,9 @@ is_numeral word = begins_numeral word && list_all is_ascii_digit word
 
 -- the number that a numeral writes, up to 2^64 - 1
 abbrev pub number_of : List ℕ → Option ℕ
-number_of word = if is_numeral word && nat_lt (digits_value 10 word) (2 ^ 64) then Some (digits_value 10 word) else None
+number_of word =
+    if is_numeral word && nat_lt (digits_value 10 word) (2 ^ 64)
+    then Some (digits_value 10 word) else None
 
 -- bytes: a dash for none, or one or more pairs of hex digits in either case
 abbrev pub hex_bytes : List ℕ → Option (List ℕ)

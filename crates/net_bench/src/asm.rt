@@ -1,5 +1,6 @@
 //! Mode `asm`: ranges are added to a set of positions, and its front is removed.
-ghost use Rattle.std.specs.Prelude.{◌≡◌, ◌+◌, ◌^◌, ◌<◌, [], ◌∷◌, ◌++◌, ◌≤◌, codes, decimal, IfOk, MatchResult, Ok, Err, string_bytes, option_map};
+ghost use Rattle.std.specs.Prelude.{◌≡◌, ◌+◌, ◌^◌, ◌<◌, [], ◌∷◌, ◌++◌, ◌≤◌, codes, decimal, IfOk};
+ghost use Rattle.std.specs.Prelude.{MatchResult, Ok, Err, string_bytes, option_map};
 ghost use Rattle.net_storage.specs.Positions.{nothing};
 ghost use Rattle.net_bench.specs.Text.{words_of, number_of};
 ghost use Rattle.net_bench.specs.AsmMode.{asm_rules, asm_command, range_command, asm_does};

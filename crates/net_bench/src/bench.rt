@@ -1,5 +1,6 @@
 //! Lines in, replies out, for any mode.
-ghost use Rattle.std.specs.Prelude.{◌≡◌, ℕ, List, [], ◌∷◌, ◌++◌, length, take, ◌<◌, ◌≤◌, ◌==◌, IfSome, IfOk, IfErr, OnOk, None, position, vec_capacity};
+ghost use Rattle.std.specs.Prelude.{◌≡◌, ℕ, List, [], ◌∷◌, ◌++◌, length, take, ◌<◌, ◌≤◌, ◌==◌};
+ghost use Rattle.std.specs.Prelude.{IfSome, IfOk, IfErr, OnOk, None, position, vec_capacity};
 ghost use Rattle.std.specs.Io.KnownBytes.{Appends};
 ghost use Rattle.net_bench.specs.Text.{lines_of, next_number};
 ghost use Rattle.net_bench.specs.Transcript.{line_step, transcript, WritesFront, ErrorOfInput};
@@ -19,7 +20,7 @@ const MAX_LINE: usize = 4096;
 /// How many bytes are asked for at once.
 const CHUNK: usize = 65536;
 
-/// Where the first line feed stands.
+/// Returns where the first line feed stands, if there is one.
 fn feed_at(bytes: &[u8]) -> Option<usize>
     ensures { result ≡ position (λ b. b == 10) bytes.now }
 {
@@ -207,7 +208,8 @@ impl<A: Allocator + Copy, S: Session<A>> Bench<A, S> {
             (W.contents writer.new) self.new.replies (all.text lines)) }
         ensures err { IfErr result (λ e.
             PendingError (transcript S.rules S.closing self.old.number self.old.session)
-            (lines_of self.old.line.items) (W.contents writer.old) self.old.replies (W.contents writer.new) self.new.replies e) }
+            (lines_of self.old.line.items) (W.contents writer.old) self.old.replies
+            (W.contents writer.new) self.new.replies e) }
     {
         if self.line.is_empty() {
             return self.close(writer);
@@ -228,7 +230,8 @@ impl<A: Allocator + Copy, S: Session<A>> Bench<A, S> {
             (W.contents writer.new) self.new.replies (all.text lines)) }
         ensures err { IfErr result (λ e.
             PendingError (transcript S.rules S.closing self.old.number self.old.session)
-            (lines_of self.old.line.items) (W.contents writer.old) self.old.replies (W.contents writer.new) self.new.replies e) }
+            (lines_of self.old.line.items) (W.contents writer.old) self.old.replies
+            (W.contents writer.new) self.new.replies e) }
     {
         let outcome = self.execute_last(writer);
         self.replies.write_out(writer)?;
@@ -246,7 +249,8 @@ pub fn execute_lines<A: Allocator + Copy, S: Session<A> + Drop, R: Read, W: Writ
     ensures ok { OnOk result (IfSome (R.remaining reader.old) (λ input.
         let all = transcript S.rules S.closing 1 session in
         let lines = lines_of input in
-        (all.fault lines ≡ None) × Appends (W.contents writer.old) (W.contents writer.new) (all.text lines))) }
+        (all.fault lines ≡ None)
+        × Appends (W.contents writer.old) (W.contents writer.new) (all.text lines))) }
     ensures err { IfErr result (λ e. IfSome (R.remaining reader.old) (λ input.
         ErrorOfInput (transcript S.rules S.closing 1 session) input (R.remaining reader.new)
         (W.contents writer.old) (W.contents writer.new) e)) }

@@ -4,8 +4,8 @@ ghost use Rattle.std.specs.Prelude.{◌≡◌, [], length, IfOk, string_bytes};
 use std::alloc::{AllocError, Allocator};
 use std::mem;
 
-/// A buffer for a reply's text and one for a line's bytes. Each is taken out while it is in use, and
-/// is handed back, so that the next line asks for memory only if it needs more.
+/// A buffer for a reply's text and one for a line's bytes. Each is taken out while it is in use,
+/// and is handed back, so that the next line asks for memory only if it needs more.
 #[derive(Drop)]
 pub struct Buffers<A: Allocator + Copy> {
     alloc: A,

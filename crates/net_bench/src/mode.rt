@@ -1,5 +1,6 @@
 //! The modes of the bench.
-ghost use Rattle.std.specs.Prelude.{◌≡◌, [], ◌∷◌, map, string_bytes, Option, Some, option_map, option_and_then};
+ghost use Rattle.std.specs.Prelude.{◌≡◌, [], ◌∷◌, map, string_bytes, Option, Some, option_map};
+ghost use Rattle.std.specs.Prelude.{option_and_then};
 ghost use Rattle.net_bench.specs.Kinds.{most_runs_seen};
 ghost use Rattle.net_bench.specs.Text.{number_of};
 ghost use Rattle.net_bench.specs.Modes.{mode_of, stream_of, at_most_64k, four_or_32};
@@ -47,7 +48,7 @@ impl Model for Mode {
     ghost view = { λ m. mode_seen m.kind };
 }
 
-/// The capacity that a word names, from 0 to 65,536.
+/// Returns the capacity that a word names, from 0 to 65,536, if it names one.
 fn capacity(word: &[u8]) -> Option<usize>
     ensures { result ≡ option_and_then at_most_64k (number_of word.now) }
 {
@@ -72,7 +73,7 @@ fn most_runs_of(word: &[u8]) -> Option<MostRuns>
     None
 }
 
-/// The mode that two words name.
+/// Returns the mode that two words name, if they name one.
 fn two_words(name: &[u8], number: &[u8]) -> Option<Mode>
     ensures { result ≡ mode_of (name.now ∷ number.now ∷ []) }
 {
@@ -114,8 +115,8 @@ fn stream(
 impl Mode {
     ghost use Rattle.net_bench.specs.Kinds.{mode_seen};
 
-    /// The mode that these words name: `ring CAP`, `asm N`, `stream CAP N` or `stream CAP N FIRST`.
-    /// No other words name one.
+    /// Returns the mode that these words name: `ring CAP`, `asm N`, `stream CAP N` or `stream CAP N
+    /// FIRST`. No other words name one.
     pub fn from_words(words: &[String]) -> Option<Mode>
         ensures { result ≡ mode_of (map string_bytes words.now) }
     {
@@ -141,7 +142,7 @@ impl Mode {
         None
     }
 
-    /// The mode with its numbers.
+    /// Returns the mode with its numbers.
     pub fn kind(self) -> ModeKind
         ensures { mode_seen result ≡ self }
     {

@@ -46,7 +46,7 @@ impl<A: Allocator + Copy> Model for Replies<A> {
 }
 
 impl<A: Allocator + Copy> Replies<A> {
-    /// No reply yet. The buffer's memory is taken here.
+    /// Returns an empty buffer, whose memory is taken here.
     pub fn new(alloc: A) -> Result<Replies<A>, AllocError>
         ensures { IfOk result (λ replies. replies ≡ []) }
     {
@@ -55,7 +55,7 @@ impl<A: Allocator + Copy> Replies<A> {
         })
     }
 
-    /// Gathers a reply. What is pending is written first where there is no room beside it, and a
+    /// Gathers a reply. What is pending is written first if there is no room beside it, and a
     /// reply that is longer than the whole buffer is written at once.
     pub fn gather<W: Write>(&mut self, reply: &[u8], writer: &mut W) -> Result<(), BenchError>
         ensures ok { OnOk result

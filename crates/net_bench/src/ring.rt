@@ -1,5 +1,6 @@
 //! Mode `ring`: bytes go in and come out in order.
-ghost use Rattle.std.specs.Prelude.{◌≡◌, ◌-◌, [], ◌∷◌, ◌++◌, IfOk, string_bytes, option_map, codes, length, min, ◌≤◌, take, drop};
+ghost use Rattle.std.specs.Prelude.{◌≡◌, ◌-◌, [], ◌∷◌, ◌++◌, IfOk, string_bytes, option_map, codes};
+ghost use Rattle.std.specs.Prelude.{length, min, ◌≤◌, take, drop};
 ghost use Rattle.net_bench.specs.Text.{words_of, hex_text};
 ghost use Rattle.net_bench.specs.RingMode.{ring_rules, ring_command, ring_does, empty_queue};
 ghost use Rattle.net_bench.specs.RingMode.{Write, Read};

@@ -17,7 +17,8 @@ use std::alloc::Allocator;
 use std::io::{Read, Write};
 
 /// Runs the lines that the reader gives, and writes the replies. It returns where the reader ends
-/// or fails, or at the first fault. Where reader and writer tell their bytes, as those over memory do:
+/// or fails, or at the first fault. Where reader and writer tell their bytes, as those over memory
+/// do:
 pub fn run<A: Allocator + Copy, R: Read, W: Write>(
     alloc: A,
     mode: Mode,

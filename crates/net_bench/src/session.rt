@@ -26,7 +26,7 @@ pub trait Session<A: Allocator + Copy> {
             (λ reply. rules self.old (words_of line.now) ≡ Ok (self.new, string_bytes reply))
             (λ fault. rules self.old (words_of line.now) ≡ Err fault)) };
 
-    /// The text after the last line.
+    /// Returns the text after the last line.
     fn closing_text(&self) -> &'static str
         ensures { result.now ≡ closing self.now };
 }

@@ -1,5 +1,6 @@
 //! Mode `stream`: segments of a stream come in any order, and its bytes go out in order.
-ghost use Rattle.std.specs.Prelude.{◌≡◌, [], ◌∷◌, IfOk, MatchResult, Ok, Err, string_bytes, option_map, ◌≤◌, length};
+ghost use Rattle.std.specs.Prelude.{◌≡◌, [], ◌∷◌, IfOk, MatchResult, Ok, Err, string_bytes};
+ghost use Rattle.std.specs.Prelude.{option_map, ◌≤◌, length};
 ghost use Rattle.net_receiver.specs.Commands.{command_seen, reply_seen, CommandFits};
 ghost use Rattle.net_receiver.specs.Stored.{stored_after, stored_reply};
 ghost use Rattle.net_bench.specs.Text.{words_of, number_of, hex_bytes};

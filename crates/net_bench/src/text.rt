@@ -1,5 +1,6 @@
 //! Numbers, bytes and replies as text.
-ghost use Rattle.std.specs.Prelude.{◌≡◌, ◌+◌, ◌*◌, ◌++◌, length, codes, IfOk, IfSome, option_map, string_bytes};
+ghost use Rattle.std.specs.Prelude.{◌≡◌, ◌+◌, ◌*◌, ◌++◌, length, codes, IfOk, IfSome, option_map};
+ghost use Rattle.std.specs.Prelude.{string_bytes};
 ghost use Rattle.hex.specs.Hex.{encode_lower};
 ghost use Rattle.net_bench.specs.Text.{begins_numeral, number_of, hex_bytes, hex_text};
 
@@ -14,7 +15,7 @@ fn begins_numeral(word: &[u8]) -> bool
     !word.is_empty() && (word[0] > b'0' || word.len() == 1)
 }
 
-/// The number that a word writes, if it is a numeral and 64 bits hold the number.
+/// Returns the number that a word writes, if it is a numeral and 64 bits hold the number.
 pub fn number(word: &[u8]) -> Option<u64>
     ensures { result ≡ number_of word.now }
 {
@@ -104,7 +105,7 @@ fn put_read_reply(first: &[u8], second: &[u8], reply: &mut [u8])
     end.copy_from_slice(b"\n");
 }
 
-/// The bytes of the reply that shows two parts, of which one has a byte.
+/// Returns the bytes of the reply that shows two parts, of which one has a byte.
 fn read_reply_bytes<A: Allocator + Copy>(
     buffers: &mut Buffers<A>,
     first: &[u8],
@@ -125,8 +126,8 @@ fn read_reply_bytes<A: Allocator + Copy>(
     Ok(reply)
 }
 
-/// The reply that shows the bytes of two parts, the second behind the first. One request for memory
-/// is made, and each byte is looked at once.
+/// Returns the reply that shows the bytes of two parts, the second behind the first. One request
+/// for memory is made at most, and each byte is looked at once.
 pub fn read_reply<A: Allocator + Copy>(
     buffers: &mut Buffers<A>,
     first: &[u8],

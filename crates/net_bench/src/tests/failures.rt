@@ -81,8 +81,8 @@ fn writes_each_reply_before_the_next_read(rt: HostRuntime) -> Result<(), Fail> {
     check_written(&rt, rt.alloc(), &cut, &[0, 7, 15])
 }
 
-/// The words of a mode, an input without a fault, its output, and where each of its first two replies
-/// ends there.
+/// The words of a mode, an input without a fault, its output, and where each of its first two
+/// replies ends there.
 type Script = (&'static str, &'static [u8], &'static [u8], [usize; 3]);
 
 /// A script for each mode.
@@ -163,7 +163,8 @@ fn each_read_fails_in_turn(rt: HostRuntime) -> Result<(), Fail> {
     Ok(())
 }
 
-/// Returns how many calls a writer needs that takes so many bytes a call, for texts of these lengths.
+/// Returns how many calls a writer needs that takes so many bytes a call, for texts of these
+/// lengths.
 fn calls_for(bytes_per_call: usize, together: &[usize]) -> usize {
     let mut calls = 0usize;
     for length in together {
@@ -188,8 +189,8 @@ fn taken_before(failing_call: usize, bytes_per_call: usize, together: &[usize]) 
     taken
 }
 
-/// Runs a script, with so many bytes a read, over a writer whose call of this number fails with this
-/// kind of error or takes 0 bytes. Replies of these lengths are written together.
+/// Runs a script, with so many bytes a read, over a writer whose call of this number fails with
+/// this kind of error or takes 0 bytes. Replies of these lengths are written together.
 fn check_failing_write(
     rt: &impl Abort,
     alloc: Global,
@@ -247,8 +248,8 @@ fn each_write_fails_in_turn(rt: HostRuntime) -> Result<(), Fail> {
     Ok(())
 }
 
-/// A line of so many bytes that no line feed ends, by reads of so many bytes of which one fails: how
-/// the run ends, and after how many reads.
+/// A line of so many bytes that no line feed ends, by reads of so many bytes of which one fails:
+/// how the run ends, and after how many reads.
 const LONG_LINES: [(usize, usize, usize, &str, usize); 8] = [
     (4096, 65536, 1, "read failed", 2),
     (4097, 65536, 1, "line 1: line too long", 1),

@@ -5,7 +5,8 @@ use std::alloc::Global;
 use std::process::Abort;
 use std::test::Fail;
 
-/// A part of a run: what is read, what is written for it, and how many requests for memory it makes.
+/// A part of a run: what is read, what is written for it, and how many requests for memory it
+/// makes.
 #[derive(Drop)]
 struct Part(&'static [u8], &'static [u8], usize);
 

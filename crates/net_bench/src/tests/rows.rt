@@ -9,8 +9,8 @@ use std::test::Fail;
 /// A row: the mode's words, the input, the output and how the run ends.
 type Row<'a> = (&'a str, &'a [u8], &'a [u8], &'a str);
 
-/// Runs each row by readers and writers that give and take one byte, three bytes or all bytes a call.
-/// Without a fault one read more than those that give bytes is made, which sees the end.
+/// Runs each row by readers and writers that give and take one byte, three bytes or all bytes a
+/// call. Without a fault one read more than those that give bytes is made, which sees the end.
 fn check_rows(rt: &impl Abort, alloc: Global, rows: &[Row<'_>]) -> Result<(), Fail> {
     for (words, input, output, end) in rows {
         for most in [1, 3, usize::MAX] {

@@ -15,8 +15,8 @@ const USAGE_LINE: &[u8] = b"usage: net_bench ring CAP | asm N | stream CAP N [FI
 struct Expected<'a>(&'a [u8], u8, &'a [u8], usize, usize);
 
 /// Runs the program over this reader and a writer that fails at this call, by flushes that do and
-/// don't fail. A failed flush is told only if nothing else is; there is one flush, and none with the
-/// usage line.
+/// don't fail. A failed flush is told only if nothing else is; there is one flush, and none with
+/// the usage line.
 fn check<A: Allocator + Copy>(
     rt: &impl Abort,
     alloc: Global,

@@ -66,8 +66,8 @@ impl Read for Source<'_> {
 }
 
 /// A writer that keeps what it takes: at most `bytes_per_call` bytes a call. Its call number
-/// `failing_call`, counted from 0, fails with this kind of error, or takes 0 bytes if there is none.
-/// Its flushes fail with `flush_kind`, if there is one.
+/// `failing_call`, counted from 0, fails with this kind of error, or takes 0 bytes if there is
+/// none. Its flushes fail with `flush_kind`, if there is one.
 #[derive(Drop)]
 pub struct Sink {
     pub bytes: Vec<u8>,
