@@ -43,21 +43,28 @@ fn a_token_sends_where_it_is_spent(rt: HostRuntime) -> Result<(), AllocError> {
     Ok(())
 }
 
+/// Sends a frame of so many bytes as it was lent, takes it off again, and returns whether it was
+/// lent as zeros and came with that length.
+fn passes_zeros(device: &mut Loopback, length: usize) -> Result<bool, AllocError> {
+    let token = device.transmit(Instant::ZERO).unwrap();
+    let is_zeros = device.send(token, length, |buffer| {
+        buffer.len() == length && buffer.iter().all(|&byte| byte == 0)
+    })?;
+    let received = device
+        .receive(Instant::ZERO)
+        .map(|(frame, _token)| frame.consume(|bytes| bytes.len()));
+    Ok(is_zeros && received == Some(length))
+}
+
 #[test]
 fn sends_frames_beyond_its_longest(rt: HostRuntime) -> Result<(), AllocError> {
     let mut device = Loopback::new(rt.alloc(), Medium::Ip);
     let capabilities = device.capabilities();
     assert!(rt; capabilities.medium == Medium::Ip && capabilities.max_transmission_unit == 65_535);
     assert!(rt; capabilities.max_burst_size.is_none() && !capabilities.checksum.tcp.rx());
-    let token = device.transmit(Instant::ZERO).unwrap();
-    let answer = device.send(token, 1_000_000, |buffer| {
-        buffer.len() == 1_000_000 && buffer.iter().all(|&byte| byte == 0)
-    })?;
-    assert!(rt; answer);
-    let length = device
-        .receive(Instant::ZERO)
-        .map(|(frame, _token)| frame.consume(|bytes| bytes.len()));
-    assert!(rt; length == Some(1_000_000));
+    for length in [65_536, 70_001, 100_000, 1_000_000] {
+        assert!(rt; passes_zeros(&mut device, length)?, "at {length} bytes");
+    }
     Ok(())
 }
 
