@@ -55,7 +55,7 @@ impl Counts {
                 let (number, fell) = (script.calls[at].number, runs as u64 - seen[at].held);
                 let refused = seen[at].answer == REFUSED;
                 let removed = matches!(number, 1 | 2) && fell == 1;
-                let joined = number <= 1 && 2 * fell >= runs as u64;
+                let joined = number <= 1 && fell > 1 && 2 * fell >= runs as u64;
                 add(&mut self.full, runs, [1, refused.into(), removed.into(), joined.into()]);
             }
         }
