@@ -30,7 +30,7 @@ def need():
 
 
 def run(words, log, **options):
-    """Runs a command with its output in a file of OUT; ends with the file's last lines where it fails."""
+    """Runs a command with its output in a file of OUT; ends with the file's last lines if it fails."""
     OUT.mkdir(parents=True, exist_ok=True)
     path = OUT / f"{log}.log"
     with open(path, "w") as file:
@@ -84,7 +84,7 @@ def allocator():
 
 
 def cargo(profile, packages, smoltcp, folder=COMPARE, **variables):
-    """Builds packages of a workspace, and answers the folder of what was built."""
+    """Builds packages of a workspace, and returns the folder of what was built."""
     target = Path(os.environ.get("CARGO_TARGET_DIR") or OUT / "target")
     words = ["cargo", "build", "--offline", "--profile", profile]
     for package in packages:

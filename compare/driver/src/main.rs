@@ -1,7 +1,7 @@
 //! Times the port, smoltcp, and smoltcp built a second time, in turns in one process.
 //!
 //! `driver AGAIN.so [--samples N] [--milliseconds N] [--only WORD]`: a line of words, parted by tabs, for each
-//! row. Status 1 where a checksum, the storage or the sink differs.
+//! row. Status 1 if a checksum, the storage or the sink differs.
 mod port;
 mod rows;
 

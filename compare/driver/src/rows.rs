@@ -100,7 +100,7 @@ fn fronts(runs: usize) -> [(&'static str, Vec<usize>); 4] {
 }
 
 /// So many ranges with offsets below `offsets` and sizes up to `sizes`, which a branch predictor
-/// learns where there are few.
+/// learns if there are few.
 fn random(count: usize, offsets: u64, sizes: u64) -> Vec<usize> {
     let mut word: u64 = 7;
     let mut below = |bound: u64| {

@@ -84,7 +84,7 @@ fn time(d: &Difference) -> Option<&'static str> {
     }
 }
 
-/// What `Instant + Duration` and `Instant - Duration` answer where they are exact.
+/// What `Instant + Duration` and `Instant - Duration` return if they are exact.
 fn exact_moment(micros: i128) -> u64 {
     i64::try_from(micros).map_or(FORBIDDEN, |micros| {
         let instant = Instant::from_micros(micros);
@@ -92,7 +92,7 @@ fn exact_moment(micros: i128) -> u64 {
     })
 }
 
-/// What `Instant - Instant` answers where it is exact.
+/// What `Instant - Instant` returns if it is exact.
 fn exact_distance(micros: u64) -> u64 {
     mix_duration(Global, START, Duration::from_micros(micros))
 }

@@ -1,7 +1,7 @@
 //! Replays calls on the port and on smoltcp, and compares what is seen after each.
 //!
 //! `replay [--many N] [--enumerate LENGTH] [--scripts N] [--calls N] [--seed S]`: N scripts of many runs, every
-//! script of up to LENGTH of a few calls, and N random ones of up to N calls. Status 1 where the two sides
+//! script of up to LENGTH of a few calls, and N random ones of up to N calls. Status 1 if the two sides
 //! differ in what is not listed.
 include!(concat!(env!("OUT_DIR"), "/calls.rs"));
 mod choose;
@@ -55,7 +55,7 @@ impl Counts {
                 let (number, fell) = (script.calls[at].number, runs as u64 - seen[at].held);
                 let refused = seen[at].answer == REFUSED;
                 let removed = matches!(number, 1 | 2) && fell == 1;
-                let joined = number <= 1 && 2 * fell >= runs as u64;
+                let joined = number <= 1 && fell > 1 && 2 * fell >= runs as u64;
                 add(&mut self.full, runs, [1, refused.into(), removed.into(), joined.into()]);
             }
         }
@@ -109,7 +109,7 @@ fn fresh(subject: Subject) -> Seen {
     port::run(&Script { subject, calls: vec![Call { number, ..Call::default() }] })[0]
 }
 
-/// Replays the scripts of a group on all processors; answers the first one that parts in what is not listed.
+/// Replays the scripts of a group on all processors, and returns the first one that parts in what is not listed.
 fn replay(group: &Group, counts: &mut Counts) -> Option<Script> {
     const PART: u64 = 1_000;
     let (next, failed) = (AtomicU64::new(0), AtomicU64::new(u64::MAX));

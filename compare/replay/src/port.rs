@@ -16,7 +16,7 @@ unsafe extern "C" {
     );
 }
 
-/// What the port answers to each call, and what it holds at the end.
+/// What the port returns for each call, and what it holds at the end.
 pub fn run(script: &Script) -> Vec<Seen> {
     let (kind, first, count, capacity) = match script.subject {
         Subject::Ring { capacity } => (0, 0, 0, capacity),

@@ -37,7 +37,7 @@ pub fn show_shorter(script: Script) {
 }
 
 impl Search {
-    /// Takes a script where its sides part in what is not listed, cut after the call by which they do.
+    /// Takes a script if its sides part in what is not listed, cut after the call by which they do.
     fn try_script(&mut self, mut script: Script) -> bool {
         if self.tries >= MOST_TRIES {
             return false;

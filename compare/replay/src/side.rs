@@ -24,7 +24,7 @@ thread_local! {
     pub static CALLING: std::cell::Cell<bool> = const { std::cell::Cell::new(false) };
 }
 
-/// What smoltcp answers to each call.
+/// What smoltcp returns for each call, and what it holds at the end.
 pub fn run(script: &Script) -> Vec<Seen> {
     let calls = &script.calls;
     match script.subject {
@@ -86,7 +86,7 @@ pub fn transmit(device: &mut Loopback, call: Call) -> u64 {
     device.transmit(Instant::from_micros(call.b as i64)).map_or(REFUSED, |token| send(token, call))
 }
 
-/// Receives a frame, and sends another by the token that came with it where the call's number is 2.
+/// Receives a frame, and sends another by the token that came with it if the call's number is 2.
 pub fn receive(device: &mut Loopback, call: Call) -> u64 {
     device.receive(Instant::from_micros(call.b as i64)).map_or(REFUSED, |(rx, tx)| {
         let sum = mix_meta(START, rx.meta());
@@ -123,7 +123,7 @@ impl<H> Copies<H> for PacketBuffer<'_, H> {
     }
 }
 
-/// What a call makes, whatever the port's condition says: smoltcp panics where one forbids it.
+/// What a call makes, whatever the port's condition says: smoltcp panics if one forbids it.
 macro_rules! allowed {
     ($condition:expr => $made:expr) => {
         $made

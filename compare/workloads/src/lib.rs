@@ -1,4 +1,4 @@
-//! The workloads of `crates/net_perf`, over smoltcp. Each makes its whole loop inside and answers a checksum.
+//! The workloads of `crates/net_perf`, over smoltcp. Each makes its whole loop inside and returns a checksum.
 pub mod receiver;
 
 use original4::doors::Rand;
@@ -33,7 +33,7 @@ pub struct Memory {
     pub rounds: u64,
 }
 
-/// Runs a workload and answers its checksum.
+/// Runs a workload and returns its checksum.
 pub type Workload = extern "C" fn(&Memory) -> u64;
 
 /// How many workloads there are.
