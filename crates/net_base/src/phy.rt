@@ -15,8 +15,6 @@ mod non_zero_usize;
 mod packet_meta;
 mod rx_token;
 mod segmentation_capabilities;
-#[cfg(test)]
-mod tests;
 mod tx_token;
 
 pub use checksum::Checksum;

@@ -81,6 +81,3 @@ impl Rand {
         }
     }
 }
-
-#[cfg(test)]
-mod tests;

@@ -3,8 +3,6 @@
 mod duration;
 mod instant;
 pub mod laws;
-#[cfg(test)]
-mod tests;
 
 pub use duration::Duration;
 pub use instant::Instant;

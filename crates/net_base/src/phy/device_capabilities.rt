@@ -69,6 +69,3 @@ impl DeviceCapabilities {
         room / IPV4_FRAGMENT_PAYLOAD_ALIGNMENT * IPV4_FRAGMENT_PAYLOAD_ALIGNMENT
     }
 }
-
-#[cfg(test)]
-mod tests;

@@ -21,6 +21,3 @@ pub fn echo_once<D: Device>(device: &mut D, timestamp: Instant) -> Result<bool, 
     device.send(tx, frame.len(), |buffer| buffer.copy_from_slice(frame))?;
     Ok(true)
 }
-
-#[cfg(test)]
-mod tests;

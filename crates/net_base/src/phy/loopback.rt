@@ -147,6 +147,3 @@ impl<A: Allocator + Copy> phy::RxToken for RxToken<A> {
 pub struct TxToken(());
 
 impl phy::TxToken for TxToken {}
-
-#[cfg(test)]
-mod tests;

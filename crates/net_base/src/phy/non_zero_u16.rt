@@ -39,6 +39,3 @@ impl NonZeroU16 {
         self.value
     }
 }
-
-#[cfg(test)]
-mod tests;

@@ -39,6 +39,3 @@ impl NonZeroUsize {
         self.value
     }
 }
-
-#[cfg(test)]
-mod tests;

@@ -10,6 +10,3 @@ pub struct PacketMeta {
     /// headers that it repeats not counted; `None` asks for no segmentation.
     pub segmentation_offload_size: Option<NonZeroU16>,
 }
-
-#[cfg(test)]
-mod tests;

@@ -29,6 +29,3 @@ pub trait RxToken: Drop {
         PacketMeta::default()
     }
 }
-
-#[cfg(test)]
-mod tests;

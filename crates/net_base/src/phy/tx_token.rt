@@ -14,6 +14,3 @@ pub trait TxToken: Drop {
         ensures { is_plain self.old → self.new ≡ self.old }
     {}
 }
-
-#[cfg(test)]
-mod tests;

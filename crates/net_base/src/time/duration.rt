@@ -384,6 +384,3 @@ impl From<Duration> for std::time::Duration {
         std::time::Duration::from_micros(duration.micros)
     }
 }
-
-#[cfg(test)]
-mod tests;

@@ -261,6 +261,3 @@ impl Sub<Instant> for Instant {
         Duration::from_micros(self.micros.abs_diff(rhs.micros))
     }
 }
-
-#[cfg(test)]
-mod tests;

@@ -1,4 +1,4 @@
-use super::*;
+use net_base::phy::NonZeroU16;
 
 #[test]
 fn all_but_zero(rt: HostRuntime) {

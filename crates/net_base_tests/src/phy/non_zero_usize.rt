@@ -1,4 +1,4 @@
-use super::*;
+use net_base::phy::NonZeroUsize;
 
 #[test]
 fn all_but_zero(rt: HostRuntime) {

@@ -2,8 +2,17 @@
 
 ghost use Rattle.std.specs.Prelude.{◌≡◌, [], ◌∷◌, ◌++◌, OnOk, OnErr, IsTrue};
 
-use crate::phy::{Device, Loopback, Medium, NonZeroU16, NonZeroUsize, PacketMeta, RxToken};
-use crate::time::Instant;
+mod device_capabilities;
+mod echo;
+mod loopback;
+mod non_zero_u16;
+mod non_zero_usize;
+mod packet_meta;
+mod rx_token;
+mod tx_token;
+
+use net_base::phy::{Device, Loopback, Medium, NonZeroU16, NonZeroUsize, PacketMeta, RxToken};
+use net_base::time::Instant;
 use std::alloc::{AllocError, Allocator};
 
 /// Sends the bytes as one frame.

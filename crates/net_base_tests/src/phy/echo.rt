@@ -1,11 +1,13 @@
 ghost use Rattle.std.specs.Prelude.{◌≡◌, ◌∷◌, ◌++◌, [], List, ℕ, Ok, true};
 ghost use Rattle.net_base.specs.DeviceCapabilities.{default_capabilities};
 
-use super::*;
-use crate::phy::tests::{next_has_length, next_is, send_bytes, write_length};
-use crate::phy::{DeviceCapabilities, Loopback, Medium, loopback};
+use super::{next_has_length, next_is, send_bytes, write_length};
+use net_base::phy::{
+    Device, DeviceCapabilities, Loopback, Medium, RxToken, TxToken, echo_once, loopback,
+};
+use net_base::time::Instant;
 use net_testing::Refusing;
-use std::alloc::Global;
+use std::alloc::{AllocError, Global};
 use std::marker::Model;
 
 /// Moves the first frame of a loopback device behind the others, at that moment.

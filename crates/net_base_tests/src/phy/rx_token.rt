@@ -1,7 +1,7 @@
 ghost use Rattle.std.specs.Prelude.{◌≡◌};
 ghost use Rattle.net_base.specs.PacketMeta.{no_metadata};
 
-use super::*;
+use net_base::phy::{PacketMeta, RxToken};
 
 /// A token whose frame has metadata.
 #[derive(Drop)]

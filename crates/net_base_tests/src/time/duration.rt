@@ -1,5 +1,5 @@
-use super::*;
-use crate::time::tests::{joined, shows};
+use super::{joined, shows};
+use net_base::time::Duration;
 use std::alloc::{AllocError, Global};
 
 /// Whether the length's text is that of its seconds and milliseconds.

@@ -1,5 +1,8 @@
 //! What the tests of moments and lengths share.
 
+mod duration;
+mod instant;
+
 use std::alloc::{AllocError, Global};
 use std::fmt::Display;
 

@@ -1,9 +1,11 @@
 ghost use Rattle.std.specs.Prelude.{◌≡◌, List, ℕ, [], ◌∷◌, ◌++◌, codes, OnOk, IsTrue};
 
-use super::*;
-use crate::phy::tests::{next_is, send_bytes};
-use crate::phy::{PacketMeta, RxToken as _, TxToken as _};
+use super::{next_is, send_bytes};
+use net_base::phy::loopback::{Loopback, RxToken, TxToken};
+use net_base::phy::{Device, Medium, PacketMeta, RxToken as _, TxToken as _};
+use net_base::time::Instant;
 use net_testing::Refusing;
+use std::alloc::{AllocError, Global};
 
 /// Loses the next frame by letting its token go, and lets a transmit token go.
 fn let_go(device: &mut Loopback) -> bool

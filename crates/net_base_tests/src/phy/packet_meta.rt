@@ -1,4 +1,4 @@
-use super::*;
+use net_base::phy::{NonZeroU16, PacketMeta};
 use std::hash::{DefaultHasher, Hash, Hasher};
 
 /// What the default hasher makes of the metadata.

@@ -1,5 +1,5 @@
-use super::*;
-use crate::time::tests::{joined, shows};
+use super::{joined, shows};
+use net_base::time::{Duration, Instant};
 use std::alloc::{AllocError, Global};
 
 #[test]

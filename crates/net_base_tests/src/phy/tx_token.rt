@@ -1,6 +1,6 @@
 ghost use Rattle.std.specs.Prelude.{◌≡◌};
 
-use super::*;
+use net_base::phy::{PacketMeta, TxToken};
 
 /// A token that keeps metadata.
 #[derive(Drop)]

@@ -1,4 +1,4 @@
-use super::*;
+use net_base::phy::{ChecksumCapabilities, DeviceCapabilities, Medium};
 use std::alloc::AllocError;
 
 #[test]
