@@ -2,7 +2,8 @@
 use crate::checksum::{START, mix};
 use net_storage::{ManagedSlice, RingBuffer};
 
-/// How many chunks stand in the ring before the first round: half of the storage, at most 64.
+/// Returns how many chunks stand in the ring before the first round: half of the storage, at most
+/// 64.
 fn lead(storage: &[u8], chunk: usize) -> usize {
     if chunk == 0 {
         return 0;
@@ -64,7 +65,8 @@ pub extern "C" fn np_ring_many(storage: &mut [u8], chunk: usize, rounds: u64) ->
     sum
 }
 
-/// Writes `source` twice ahead of the queue, the later part first, then enqueues both and takes as much off.
+/// Writes `source` twice ahead of the queue, the later part first, then enqueues both and takes as
+/// much off.
 #[unsafe(no_mangle)]
 pub extern "C" fn np_ring_ahead(storage: &mut [u8], source: &[u8], rounds: u64) -> u64 {
     let mut sum = START;
