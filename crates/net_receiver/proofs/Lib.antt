@@ -18,3 +18,4 @@ pub mod ReceiverLaws
 pub mod Truthful
 pub mod Called
 pub mod Resending
+pub mod Computed

@@ -1,17 +1,15 @@
 -- Segments that come again, and segments that together cover a range.
-use Rattle.std.proofs.Common.{◌≡◌, ◌⊎◌, inl, inr, ℕ, ◌+◌, ◌-◌, ◌<◌, ◌≤◌, max, min, Bool, true, false, cond, ◌&&◌, ◌||◌, List, [], ◌∷◌, ◌++◌, length, take, drop, nat_le, nat_lt, Option, Some, None, is_some, unwrap_or, slice_get, All, IsTrue, refl, sym, ap, subst, ◌∙◌, arith, ⊎_elim, le-leb, leb-true, lt-ltb, le_trans, length-append, length-take, length-drop}
+use Rattle.std.proofs.Common.{◌≡◌, ◌⊎◌, inl, inr, ℕ, ◌+◌, ◌-◌, ◌<◌, ◌≤◌, max, Bool, true, false, cond, List, [], ◌∷◌, ◌++◌, length, take, nat_le, Option, Some, None, is_some, unwrap_or, slice_get, All, refl, sym, ap, ◌∙◌, arith, ⊎_elim, le-leb, lt-ltb, le_trans, length-append, length-take, length-drop}
 use Rattle.std.specs.Option.{option_or}
-use Rattle.std.specs.Ordering.{nat_cmp}
 use Rattle.std.specs.Cmp.{nat_cmp_total}
 use Rattle.std.specs.FinMap as fin
 use Rattle.std.proofs.lemmas.Bool.{both_ways, cases_lt, cases_order, cond-true, lt-leb, and_from}
-use Rattle.std.proofs.lemmas.Option.{slice_get-get_or}
 use Rattle.std.proofs.lemmas.List.{append-nil}
 use Rattle.std.proofs.lemmas.List.Elements.{All-head, All-tail}
 use Rattle.std.proofs.lemmas.List.FromFn.{length-map-range_with_len}
 use Rattle.net_receiver.specs.KeptList.{Piece, piece, piece_at, end, clip}
-use Rattle.net_receiver.specs.Schedule.{CommandSeen, Segment, Read, Show, Segmented, IsAccepted, Verdict, KeptNone, Refused, Keeps}
-use Rattle.net_receiver.specs.Stored.{HeldBytes, Stored, domain, laid_over, first_lacking, values_at, joined, joined_from, stored_next, stored_verdict, stored_state_after, stored_answer, stored_read, stored_after, stored_reply, stored_after_all, stored_replies, IsSound}
+use Rattle.net_receiver.specs.Schedule.{CommandSeen, Segment, Read, Show, Segmented, IsAccepted}
+use Rattle.net_receiver.specs.Stored.{HeldBytes, Stored, domain, laid_over, first_lacking, values_at, joined, joined_from, stored_next, stored_verdict, stored_state_after, stored_answer, stored_read, stored_after, stored_reply, stored_after_all, stored_replies}
 use Rattle.net_receiver.specs.Resending.{IsHeld, HeldChangesNothing, SecondCopy, Has, HasStays, AcceptedBrings, HasAllReaches, Brings, Completes}
 use Rattle.net_receiver.proofs.Search.{IsFirst, first_unique}
 use Rattle.net_receiver.proofs.Covering.{piece_before, piece_past, piece_from, piece_has, slice_get-drop, slice_get-take}

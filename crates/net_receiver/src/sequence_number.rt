@@ -8,8 +8,8 @@ use std::ops::Add;
 /// The number by which TCP names a byte of a stream: 32 bits, and after the greatest comes 0.
 ///
 /// A contract sees a whole number below 2^32. A receiver counts in positions of 64 bits, which do
-/// not wrap; `at` and `position` go from one to the other. smoltcp's `SeqNumber` is an `i32` and has
-/// no positions.
+/// not wrap; `at` and `position` go from one to the other. smoltcp's `SeqNumber` is an `i32` and
+/// has no positions.
 #[derive(Debug, Copy, Clone, PartialEq, Eq)]
 pub struct SequenceNumber {
     number: u32,
@@ -24,21 +24,21 @@ impl Model for SequenceNumber {
 }
 
 impl SequenceNumber {
-    /// This number.
+    /// Returns this number.
     pub fn new(number: u32) -> Self
         ensures { result ≡ number }
     {
         SequenceNumber { number }
     }
 
-    /// The number as it is sent.
+    /// Returns the number as it is sent.
     pub fn get(self) -> u32
         ensures { result ≡ self }
     {
         self.number
     }
 
-    /// The number of a stream's position, where position 0 has the number `initial`.
+    /// Returns the number of a stream's position, if position 0 has the number `initial`.
     pub fn at(initial: SequenceNumber, pos: u64) -> Self
         ensures { result ≡ number_at initial pos }
     {
@@ -47,7 +47,7 @@ impl SequenceNumber {
         }
     }
 
-    /// The position nearest to `next` that has this number, where position 0 has the number
+    /// Returns the position nearest to `next` that has this number, if position 0 has the number
     /// `initial`: less than 2^31 after `next`, or at most 2^31 before it. `None` if no position
     /// there has it.
     pub fn position(self, initial: SequenceNumber, next: u64) -> Option<u64>
@@ -64,15 +64,15 @@ impl SequenceNumber {
         }
     }
 
-    /// How far this number is ahead of another one, going round at 2^32.
+    /// Returns how far this number is ahead of another one, going round at 2^32.
     pub fn ahead_of(self, other: SequenceNumber) -> u32
         ensures { result ≡ ahead_of other self }
     {
         self.number.wrapping_sub(other.number)
     }
 
-    /// Whether another number is ahead of this one by less than 2^31, and is not the same. Of two
-    /// numbers that are 2^31 apart neither is before the other.
+    /// Returns whether another number is ahead of this one by less than 2^31, and is not the same.
+    /// Of two numbers that are 2^31 apart neither is before the other.
     pub fn is_before(self, other: SequenceNumber) -> bool
         ensures { IsTrue result ↔ ComesBefore self other }
     {

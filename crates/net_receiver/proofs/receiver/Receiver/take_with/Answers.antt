@@ -1,5 +1,5 @@
 -- `f` was run on a front of the queue; what it counts is taken off, as by a read of that many bytes.
-use Rattle.std.proofs.Common.{◌≡◌, ◌∙◌, ◌≤◌, ap, length, min, arith}
+use Rattle.std.proofs.Common.{◌≡◌, ◌∙◌, ap, length, arith}
 use Rattle.net_storage.specs.Ring.{queue, spare}
 use Rattle.net_receiver.specs.Stored.{Stored, stored_read}
 use Rattle.net_receiver.proofs.Segment.{read_invariant}
