@@ -95,6 +95,3 @@ impl Add<u32> for SequenceNumber {
         }
     }
 }
-
-#[cfg(test)]
-mod tests;

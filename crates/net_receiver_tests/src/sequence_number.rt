@@ -1,4 +1,4 @@
-use super::*;
+use net_receiver::SequenceNumber;
 
 #[test]
 fn numbers_go_round(rt: HostRuntime) {

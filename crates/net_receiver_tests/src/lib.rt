@@ -1,0 +1,12 @@
+//! The tests of `net_receiver`, each through its public calls.
+//!
+//! They stand in a crate of their own, so that what stands on `net_receiver` doesn't wait for them
+//! and links nothing that only tests need.
+#![tactic(auto)]
+
+#[cfg(test)]
+mod receiver;
+#[cfg(test)]
+mod schedule;
+#[cfg(test)]
+mod sequence_number;
