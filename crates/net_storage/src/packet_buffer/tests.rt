@@ -239,7 +239,12 @@ fn what_a_refusing_closure_wrote_stays(rt: HostRuntime) -> Result<(), Fail> {
         Result::<(), u32>::Err(1)
     });
     assert!(rt; matches!(answer, Ok(Err(1))));
-    let after = [Step::Peek(9, b"xb"), Step::Slots(1), Step::Bytes(2), Step::Read(9, b"xb")];
+    let after = [
+        Step::Peek(9, b"xb"),
+        Step::Slots(1),
+        Step::Bytes(2),
+        Step::Read(9, b"xb"),
+    ];
     assert_eq!(rt; first_difference(&mut queue, &after), None);
     Ok(())
 }
@@ -252,7 +257,13 @@ fn a_full_queue_runs_no_closure_and_stays(rt: HostRuntime) -> Result<(), Fail> {
         ManagedSlice::Borrowed(&mut slots),
         ManagedSlice::Borrowed(&mut bytes),
     );
-    let before = [Step::Fits(12), Step::Fits(1), Step::Fits(1), Step::Fits(1), Step::Off(12)];
+    let before = [
+        Step::Fits(12),
+        Step::Fits(1),
+        Step::Fits(1),
+        Step::Fits(1),
+        Step::Off(12),
+    ];
     assert_eq!(rt; first_difference(&mut queue, &before), None);
     let called = Cell::new(false);
     let answer = queue.enqueue_with_infallible(5, 0, |_| {
@@ -326,7 +337,12 @@ fn a_queue_without_bytes_holds_packets_of_none(rt: HostRuntime) -> Result<(), Fa
         ManagedSlice::Borrowed(&mut slots),
         ManagedSlice::Borrowed(&mut bytes),
     );
-    let steps = [Step::Fits(0), Step::Refused(1), Step::Fits(0), Step::Refused(0)];
+    let steps = [
+        Step::Fits(0),
+        Step::Refused(1),
+        Step::Fits(0),
+        Step::Refused(0),
+    ];
     assert_eq!(rt; first_difference(&mut queue, &steps), None);
     Ok(())
 }
@@ -378,7 +394,10 @@ fn drops_of_refused<'c>(
     if queue.push_slice(Counted { drops }, text).is_ok() {
         return None;
     }
-    if queue.enqueue_with_infallible(size, Counted { drops }, |_| 0).is_ok() {
+    if queue
+        .enqueue_with_infallible(size, Counted { drops }, |_| 0)
+        .is_ok()
+    {
         return None;
     }
     Some(drops.get().saturating_sub(before))

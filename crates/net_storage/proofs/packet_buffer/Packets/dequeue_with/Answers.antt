@@ -89,17 +89,17 @@ returns-clause-handed g c =
     let ok = c.skip.ensures.well_placed in
     let long : length called.0 ≡ length (take size (take (contiguous_queued bytes) (queue bytes))) = called.2 ∙ sym whole in
     let made : c.if-is_ok.self ≡ handed (is_ok r.1.0) q r.1.1 called.0 = elim c.if-is_ok.branch [
-        | then-is_ok w ↦
-            let all = count ∙ ap (λ t. if t then size else 0) (sym w.if-is_ok.ensures.value) in
-            let em = w.dequeue_allocated.ensures.dequeued.0 ∙ rest in
-            let wfm = subst WellFormed (sym w.dequeue_allocated.ensures.ring) (off_wf c.lift_header.new.slots (slot size None) (drop 1 (queue m)) lifted.1 lifted.0) in
-            let cm = ap capacity w.dequeue_allocated.ensures.ring ∙ lifted.2 in
-            w.self-is ∙ off_left m bytes c.self.invariant z size c.in_ok-size.header at k.0 called.0 left called.2 r.0 c.dequeue_many_with-answer.new.self k.3 all w.dequeue_allocated.new.self em wfm cm r.1.1 ∙ ap (λ q. popped (first_written q r.1.1 called.0)) is ∙ ap (λ t. handed t c.args.self.now r.1.1 called.0) w.if-is_ok.ensures.value
-        | else-is_ok w ↦
-            let none = count ∙ ap (λ t. if t then size else 0) (sym w.if-is_ok.ensures.value) in
-            let em = w.put_header.ensures.queue size None (lifted.0 ∙ ap (λ l. slot size None ∷ l) (sym rest)) ∙ ap (λ l. slot size (Some r.1.1) ∷ l) rest in
-            w.self-is ∙ on_left m bytes c.self.invariant z size c.in_ok-size.header at k.0 called.0 left called.2 r.0 c.dequeue_many_with-answer.new.self k.3 none r.1.1 w.put_header.new.slots em w.put_header.ensures.well_formed (w.put_header.ensures.capacity ∙ lifted.2) ∙ ap (λ q. first_written q r.1.1 called.0) is ∙ ap (λ t. handed t c.args.self.now r.1.1 called.0) w.if-is_ok.ensures.value
-      ] in
+      | then-is_ok w ↦
+          let all = count ∙ ap (λ t. if t then size else 0) (sym w.if-is_ok.ensures.value) in
+          let em = w.dequeue_allocated.ensures.dequeued.0 ∙ rest in
+          let wfm = subst WellFormed (sym w.dequeue_allocated.ensures.ring) (off_wf c.lift_header.new.slots (slot size None) (drop 1 (queue m)) lifted.1 lifted.0) in
+          let cm = ap capacity w.dequeue_allocated.ensures.ring ∙ lifted.2 in
+          w.self-is ∙ off_left m bytes c.self.invariant z size c.in_ok-size.header at k.0 called.0 left called.2 r.0 c.dequeue_many_with-answer.new.self k.3 all w.dequeue_allocated.new.self em wfm cm r.1.1 ∙ ap (λ q. popped (first_written q r.1.1 called.0)) is ∙ ap (λ t. handed t c.args.self.now r.1.1 called.0) w.if-is_ok.ensures.value
+      | else-is_ok w ↦
+          let none = count ∙ ap (λ t. if t then size else 0) (sym w.if-is_ok.ensures.value) in
+          let em = w.put_header.ensures.queue size None (lifted.0 ∙ ap (λ l. slot size None ∷ l) (sym rest)) ∙ ap (λ l. slot size (Some r.1.1) ∷ l) rest in
+          w.self-is ∙ on_left m bytes c.self.invariant z size c.in_ok-size.header at k.0 called.0 left called.2 r.0 c.dequeue_many_with-answer.new.self k.3 none r.1.1 w.put_header.new.slots em w.put_header.ensures.well_formed (w.put_header.ensures.capacity ∙ lifted.2) ∙ ap (λ q. first_written q r.1.1 called.0) is ∙ ap (λ t. handed t c.args.self.now r.1.1 called.0) w.if-is_ok.ensures.value
+    ] in
     record {
       header = c.in_ok-size.header;
       bytes = take size (take (contiguous_queued bytes) (queue bytes));
