@@ -1,16 +1,21 @@
--- The packets of a queue as those who put and take them see them, and what a queue makes of them over many calls.
+-- The packets of a queue as those who put and take them see them, and what a queue makes of them
+-- over many calls.
 use Rattle.std.specs.Prelude.{◌≡◌, ◌≢◌, ◌≤◌, ℕ, ◌+◌, List, [], ◌∷◌, ◌++◌, length, take, drop, set}
 use Rattle.std.specs.declared.option.Option.TheVariants.{None}
 use Rattle.net_storage.specs.Ring.{queue}
-use Rattle.net_storage.specs.Packets.{Packet, PacketQueue, no_packets, byte_ring, placement, placed_if_room, only_last, last_bytes, last_written, last_cut, enqueued, first_size, skipped, first_written, IsFirst, popped, dequeued, freed_place, AreFreed, with_bytes}
+use Rattle.net_storage.specs.Packets.{Packet, PacketQueue, no_packets, byte_ring, placement}
+use Rattle.net_storage.specs.Packets.{placed_if_room, only_last, last_bytes, last_written, last_cut}
+use Rattle.net_storage.specs.Packets.{enqueued, first_size, skipped, first_written, IsFirst, popped}
+use Rattle.net_storage.specs.Packets.{dequeued, freed_place, AreFreed, with_bytes}
 
 module _ {H : Type 0} where
   -- the headers and bytes of packets whose bytes, gaps among them, are bs
   abbrev pub contents_of : List (Packet H) → List ℕ → List (H × List ℕ)
   contents_of [] bs = []
-  contents_of (p ∷ ps) bs = (p.header, take p.size (drop p.gap bs)) ∷ contents_of ps (drop (p.gap + p.size) bs)
+  contents_of (p ∷ ps) bs =
+      (p.header, take p.size (drop p.gap bs)) ∷ contents_of ps (drop (p.gap + p.size) bs)
 
-  -- the headers and bytes of the packets that are held, the first one first
+  -- the headers and bytes of the packets of a queue, the first one first: what a reader thinks of
   unfoldable pub contents : PacketQueue H → List (H × List ℕ)
   contents q = contents_of q.packets (queue (byte_ring q))
 
@@ -20,7 +25,9 @@ module _ {H : Type 0} where
   front_bytes (p ∷ ps) = p.1
 
 -- ---- calls
--- what one call did, with the headers and bytes that it was given, wrote or handed out. A call that answers `Full` or `Empty` changes nothing and is no call here; nor is `last_mut` where no packet is held
+-- what one call did, with the headers and bytes that it was given, wrote or handed out. A call that
+-- returns `Full` or `Empty` changes nothing and is no call here; nor is `last_mut` if there are no
+-- packets
 pub data QueueCall (H : Type 0) : Type 0 where
   -- `reset`
   Reset : QueueCall H
@@ -30,13 +37,15 @@ pub data QueueCall (H : Type 0) : Type 0 where
   WriteLast : List ℕ → QueueCall H
   -- `enqueue`: the header, and the bytes that were written
   Enqueue : H → List ℕ → QueueCall H
-  -- `enqueue_with_infallible`: the header, the bytes that the closure wrote, and how many of them are the packet
+  -- `enqueue_with_infallible`: the header, the bytes that the closure wrote, and how many of them
+  -- are the packet
   EnqueueWith : H → List ℕ → ℕ → QueueCall H
   -- `peek`
   Peek : QueueCall H
-  -- `dequeue_with`, whose closure answered `Err`: the header and the bytes that it wrote
+  -- `dequeue_with`, whose closure returned `Err`: the header and the bytes that it wrote
   DequeueErr : H → List ℕ → QueueCall H
-  -- `dequeue_with`, whose closure answered `Ok`: the header and the bytes that it was shown, and those that it wrote
+  -- `dequeue_with`, whose closure returned `Ok`: the header and the bytes that it was shown, and
+  -- those that it wrote
   DequeueOk : H → List ℕ → H → List ℕ → QueueCall H
   -- `take`: the header and the bytes that were taken off
   Take : H → List ℕ → QueueCall H
@@ -49,16 +58,30 @@ module _ {H : Type 0} where
   -- the call makes r of q, as its contract says
   abbrev pub Makes : QueueCall H → PacketQueue H → PacketQueue H → Type 0
   Makes Reset q r = r ≡ no_packets q.slot_count q.storage
-  Makes (Place header bytes) q r = (placement q (length bytes) ≢ None) × (r ≡ placed_if_room q (length bytes) header) × (bytes ≡ last_bytes r)
-  Makes (WriteLast bytes) q r = (q.packets ≢ []) × (length bytes ≡ first_size (only_last q.packets)) × (r ≡ last_written q bytes)
-  Makes (Enqueue header bytes) q r = (placement q (length bytes) ≢ None) × (r ≡ enqueued q header bytes)
-  Makes (EnqueueWith header bytes count) q r = (placement q (length bytes) ≢ None) × (count ≤ length bytes) × (r ≡ last_cut count (last_written (placed_if_room q (length bytes) header) bytes))
+  Makes (Place header bytes) q r =
+      (placement q (length bytes) ≢ None) × (r ≡ placed_if_room q (length bytes) header)
+      × (bytes ≡ last_bytes r)
+  Makes (WriteLast bytes) q r =
+      (q.packets ≢ []) × (length bytes ≡ first_size (only_last q.packets))
+      × (r ≡ last_written q bytes)
+  Makes (Enqueue header bytes) q r =
+      (placement q (length bytes) ≢ None) × (r ≡ enqueued q header bytes)
+  Makes (EnqueueWith header bytes count) q r =
+      (placement q (length bytes) ≢ None) × (count ≤ length bytes)
+      × (r ≡ last_cut count (last_written (placed_if_room q (length bytes) header) bytes))
   Makes Peek q r = r ≡ skipped q
-  Makes (DequeueErr after written) q r = (q.packets ≢ []) × (length written ≡ first_size q.packets) × (r ≡ first_written (skipped q) after written)
-  Makes (DequeueOk header bytes after written) q r = IsFirst q header bytes × (length written ≡ length bytes) × (r ≡ popped (first_written (skipped q) after written))
+  Makes (DequeueErr after written) q r =
+      (q.packets ≢ []) × (length written ≡ first_size q.packets)
+      × (r ≡ first_written (skipped q) after written)
+  Makes (DequeueOk header bytes after written) q r =
+      IsFirst q header bytes × (length written ≡ length bytes)
+      × (r ≡ popped (first_written (skipped q) after written))
   Makes (Take header bytes) q r = IsFirst q header bytes × (r ≡ dequeued q)
-  Makes (WriteFreed bytes) q r = AreFreed q (length bytes) × (r ≡ with_bytes q (freed_place q (length bytes)) bytes)
-  Makes (Dequeue header bytes written) q r = IsFirst q header bytes × (length written ≡ length bytes) × (r ≡ with_bytes (dequeued q) (skipped q).read_at written)
+  Makes (WriteFreed bytes) q r =
+      AreFreed q (length bytes) × (r ≡ with_bytes q (freed_place q (length bytes)) bytes)
+  Makes (Dequeue header bytes written) q r =
+      IsFirst q header bytes × (length written ≡ length bytes)
+      × (r ≡ with_bytes (dequeued q) (skipped q).read_at written)
 
   -- the calls, one after another, make r of q
   abbrev pub MakesAll : List (QueueCall H) → PacketQueue H → PacketQueue H → Type 0
@@ -66,7 +89,8 @@ module _ {H : Type 0} where
   MakesAll (call ∷ calls) q r = (next : PacketQueue H) × Makes call q next × MakesAll calls next r
 
 -- ---- what came and what left
--- the packets that were accepted, in order, each with the header and bytes last written to it while it was held, and those that left, in order, each as it was shown when it left
+-- the packets that were accepted, in order, each with the header and bytes last written to it while
+-- it was in the queue, and those that left, in order, each as it was shown when it left
 pub record Log (H : Type 0) : Type 0 where
   pub accepted : List (H × List ℕ)
   pub left : List (H × List ℕ)
@@ -78,22 +102,28 @@ module _ {H : Type 0} where
   with_last_bytes bytes (p ∷ []) = (p.0, bytes) ∷ []
   with_last_bytes bytes (p ∷ (o ∷ ps)) = p ∷ with_last_bytes bytes (o ∷ ps)
 
-  -- one more packet was accepted, and one more left
+  -- one more packet was accepted
   abbrev pub log_accepted : H → List ℕ → Log H → Log H
-  log_accepted header bytes log = record { accepted = log.accepted ++ ((header, bytes) ∷ []); left = log.left }
+  log_accepted header bytes log =
+      record { accepted = log.accepted ++ ((header, bytes) ∷ []); left = log.left }
 
+  -- one more packet left
   abbrev pub log_left : H → List ℕ → Log H → Log H
-  log_left header bytes log = record { accepted = log.accepted; left = log.left ++ ((header, bytes) ∷ []) }
+  log_left header bytes log =
+      record { accepted = log.accepted; left = log.left ++ ((header, bytes) ∷ []) }
 
-  -- the log after a call. What `reset` drops counts as never accepted. The packet that a closure refuses is the first one that has not left
+  -- the log after a call. What `reset` drops counts as never accepted. The packet that a closure
+  -- refuses is the first one that has not left
   abbrev pub logged : QueueCall H → Log H → Log H
   logged Reset log = record { accepted = log.left; left = log.left }
   logged (Place header bytes) log = log_accepted header bytes log
-  logged (WriteLast bytes) log = record { accepted = with_last_bytes bytes log.accepted; left = log.left }
+  logged (WriteLast bytes) log =
+      record { accepted = with_last_bytes bytes log.accepted; left = log.left }
   logged (Enqueue header bytes) log = log_accepted header bytes log
   logged (EnqueueWith header bytes count) log = log_accepted header (take count bytes) log
   logged Peek log = log
-  logged (DequeueErr after written) log = record { accepted = set log.accepted (length log.left) (after, written); left = log.left }
+  logged (DequeueErr after written) log =
+      record { accepted = set log.accepted (length log.left) (after, written); left = log.left }
   logged (DequeueOk header bytes after written) log = log_left header bytes log
   logged (Take header bytes) log = log_left header bytes log
   logged (WriteFreed bytes) log = log

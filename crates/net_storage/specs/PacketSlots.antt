@@ -7,10 +7,11 @@ use Rattle.net_storage.specs.Packets.{Packet, PacketQueue, packet, bytes_used, A
 use Rattle.net_storage.specs.declared.packet_metadata.PacketMetadata.{PacketMetadata}
 
 module _ {H : Type 0} where
+  -- the slot of s bytes with the header h, or with none
   abbrev pub slot : ℕ → Option H → PacketMetadata H
   slot s h = record { size = s; header = h }
 
-  -- a gap of size 0 has no slot
+  -- the slots of a gap: a gap of size 0 has none
   abbrev pub gap_slot : ℕ → List (PacketMetadata H)
   gap_slot zero = []
   gap_slot (suc g) = slot (suc g) None ∷ []
@@ -23,19 +24,34 @@ module _ {H : Type 0} where
   -- the packets of slots, after gap bytes of gaps
   abbrev pub packets_in : ℕ → List (PacketMetadata H) → List (Packet H)
   packets_in gap [] = []
-  packets_in gap (m ∷ ms) = elim m.header [ None ↦ packets_in (gap + m.size) ms | Some h ↦ packet h m.size gap ∷ packets_in 0 ms ]
+  packets_in gap (m ∷ ms) =
+      elim m.header [
+        | None ↦ packets_in (gap + m.size) ms
+        | Some h ↦ packet h m.size gap ∷ packets_in 0 ms
+      ]
 
   -- the rings hold these packets
   abbrev pub Holds : RingState (PacketMetadata H) → RingState ℕ → List (Packet H) → Type 0
-  Holds m b ps = WellFormed m × WellFormed b × (queue m ≡ packet_slots ps) × (b.count ≡ bytes_used ps) × ArePlaced (capacity b) b.read_at 0 ps
+  Holds m b ps =
+      WellFormed m × WellFormed b × (queue m ≡ packet_slots ps) × (b.count ≡ bytes_used ps)
+      × ArePlaced (capacity b) b.read_at 0 ps
 
+  -- the queue that the two rings hold
   abbrev pub packet_queue : RingState (PacketMetadata H) → RingState ℕ → PacketQueue H
-  packet_queue m b = record { slot_count = capacity m; storage = b.storage; read_at = b.read_at; packets = packets_in 0 (queue m) }
+  packet_queue m b =
+      record {
+        slot_count = capacity m;
+        storage = b.storage;
+        read_at = b.read_at;
+        packets = packets_in 0 (queue m);
+      }
 
   -- the first slot has this size and header
   abbrev pub IsFirstSlot : RingState (PacketMetadata H) → ℕ → Option H → Type 0
   IsFirstSlot m s h = queue m ≡ slot s h ∷ drop 1 (queue m)
 
   -- n is m, but its first slot has this size and header
-  abbrev pub HasFirstSlot : RingState (PacketMetadata H) → ℕ → Option H → RingState (PacketMetadata H) → Type 0
-  HasFirstSlot m s h n = (queue n ≡ slot s h ∷ drop 1 (queue m)) × WellFormed n × (capacity n ≡ capacity m)
+  abbrev pub HasFirstSlot : RingState (PacketMetadata H) → ℕ → Option H → RingState
+      (PacketMetadata H) → Type 0
+  HasFirstSlot m s h n =
+      (queue n ≡ slot s h ∷ drop 1 (queue m)) × WellFormed n × (capacity n ≡ capacity m)

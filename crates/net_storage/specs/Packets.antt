@@ -1,40 +1,28 @@
--- A queue of packets over a storage of bytes, and what each call makes of it.
-use Rattle.std.specs.Prelude.{◌≡◌, ◌≢◌, Bool, ℕ, zero, suc, ◌+◌, ◌-◌, ◌≤◌, nat_le, nat_lt, if◌then◌else◌, List, [], ◌∷◌, ◌++◌, length, take, drop, ⊤}
+-- A queue of packets over a storage of bytes, what decides which packets are refused, and what each
+-- call makes of the queue. Readers think of a queue as its `contents` (PacketHistory), the list of
+-- headers and bytes; the places here say only when there is room.
+use Rattle.std.specs.Prelude.{◌≡◌, ◌≢◌, Bool, ℕ, zero, suc, ◌+◌, ◌-◌, ◌≤◌, nat_le, nat_lt}
+use Rattle.std.specs.Prelude.{if◌then◌else◌, List, [], ◌∷◌, ◌++◌, length, take, drop, ⊤}
 use Rattle.std.specs.Prelude.{Option}
 use Rattle.std.specs.declared.option.Option.TheVariants.{Some, None}
 use Rattle.net_storage.specs.Overwrite.{overwrite}
-use Rattle.net_storage.specs.Ring.{RingState, ring, window, storage_index, restarted, contiguous_window, WellFormed}
+use Rattle.net_storage.specs.Ring.{RingState, ring, window, storage_index, restarted}
+use Rattle.net_storage.specs.Ring.{contiguous_window, WellFormed}
 
--- a packet: its header, how many bytes it has, and how many bytes of the storage are skipped before it
+-- a packet: its header, how many bytes it has, and how many bytes of the storage are skipped before
+-- it
 pub record Packet (H : Type 0) : Type 0 where
   pub header : H
   pub size : ℕ
   pub gap : ℕ
 
--- a queue of packets: how many slots it has, its storage, the place where that is read, and its packets in order
+-- a queue of packets: how many slots it has, its storage, the place where that is read, and its
+-- packets in order
 pub record PacketQueue (H : Type 0) : Type 0 where
   pub slot_count : ℕ
   pub storage : List ℕ
   pub read_at : ℕ
   pub packets : List (Packet H)
-
--- a packet uses a slot, and a gap one more
-abbrev pub slots_for : ℕ → ℕ
-slots_for zero = 1
-slots_for (suc gap) = 2
-
--- the gap before a packet of s bytes, where c bytes are free in a row and w in all
-abbrev pub gap_for : ℕ → ℕ → ℕ → Option ℕ
-gap_for s c w = if nat_le s c then Some 0 else if nat_le s (w - c) then Some c else None
-
--- that gap, where free slots are enough for it
-abbrev pub if_slots : ℕ → Option ℕ → Option ℕ
-if_slots free None = None
-if_slots free (Some gap) = if nat_le (slots_for gap) free then Some gap else None
-
--- the place that is i places after the place r of c, round the end
-abbrev pub place_in : ℕ → ℕ → ℕ → ℕ
-place_in c r i = if nat_lt i (c - r) then r + i else i - (c - r)
 
 module _ {H : Type 0} where
   -- the packet with the header h, s bytes and a gap of g bytes
@@ -46,35 +34,75 @@ module _ {H : Type 0} where
   bytes_used [] = 0
   bytes_used (p ∷ ps) = p.gap + p.size + bytes_used ps
 
+  -- the ring that the bytes are
+  abbrev pub byte_ring : PacketQueue H → RingState ℕ
+  byte_ring q = ring q.storage q.read_at (bytes_used q.packets)
+
+-- ---- what decides a refusal
+-- a packet uses a slot, and a gap one more
+abbrev pub slots_for : ℕ → ℕ
+slots_for zero = 1
+slots_for (suc gap) = 2
+
+-- the gap before a packet of s bytes, if c bytes are free in a row and w in all
+abbrev pub gap_for : ℕ → ℕ → ℕ → Option ℕ
+gap_for s c w = if nat_le s c then Some 0 else if nat_le s (w - c) then Some c else None
+
+-- that gap, if free slots are enough for it
+abbrev pub if_slots : ℕ → Option ℕ → Option ℕ
+if_slots free None = None
+if_slots free (Some gap) = if nat_le (slots_for gap) free then Some gap else None
+
+-- the place that is i places after the place r of c, round the end
+abbrev pub place_in : ℕ → ℕ → ℕ → ℕ
+place_in c r i = if nat_lt i (c - r) then r + i else i - (c - r)
+
+module _ {H : Type 0} where
   -- the slots that packets use, their gaps counted
   abbrev pub slots_used : List (Packet H) → ℕ
   slots_used [] = 0
   slots_used (p ∷ ps) = slots_for p.gap + slots_used ps
 
-  -- the ring that the bytes are
-  abbrev pub byte_ring : PacketQueue H → RingState ℕ
-  byte_ring q = ring q.storage q.read_at (bytes_used q.packets)
+  -- the gap before a packet of s bytes, if there are room and slots for it
+  abbrev pub placement : PacketQueue H → ℕ → Option ℕ
+  placement q s =
+      let g = restarted (byte_ring q) in
+      if_slots (q.slot_count - slots_used q.packets) (gap_for s (contiguous_window g) (window g))
 
-  -- a packet that comes o bytes after the place r of c: it doesn't reach past the storage's end, and a gap ends there
+  -- a packet that comes o bytes after the place r of c: it doesn't reach past the storage's end,
+  -- and a gap ends there
   abbrev pub IsPlaced : ℕ → ℕ → ℕ → Packet H → Type 0
-  IsPlaced c r o p = (place_in c r (o + p.gap) + p.size ≤ c) × (p.gap ≢ 0 → place_in c r o + p.gap ≡ c)
+  IsPlaced c r o p =
+      (place_in c r (o + p.gap) + p.size ≤ c) × (p.gap ≢ 0 → place_in c r o + p.gap ≡ c)
 
   -- packets of which the first comes o bytes after the place r of c
   abbrev pub ArePlaced : ℕ → ℕ → ℕ → List (Packet H) → Type 0
   ArePlaced c r o [] = ⊤
   ArePlaced c r o (p ∷ ps) = IsPlaced c r o p × ArePlaced c r (o + p.gap + p.size) ps
 
-  -- what holds of every queue: its bytes are a ring, in which each packet lies in a row and each gap ends at the storage's end; there is a slot for each packet and gap
+  -- what holds of every queue: its bytes are a ring, in which each packet lies in a row and each
+  -- gap ends at the storage's end; there is a slot for each packet and gap
   abbrev pub WellPlaced : PacketQueue H → Type 0
-  WellPlaced q = WellFormed (byte_ring q) × ArePlaced (length q.storage) q.read_at 0 q.packets × (slots_used q.packets ≤ q.slot_count)
+  WellPlaced q =
+      WellFormed (byte_ring q) × ArePlaced (length q.storage) q.read_at 0 q.packets
+      × (slots_used q.packets ≤ q.slot_count)
 
+-- ---- what calls leave
+module _ {H : Type 0} where
   -- a queue with no packets, as `new` and `reset` leave it
   abbrev pub no_packets : ℕ → List ℕ → PacketQueue H
-  no_packets slot_count storage = record { slot_count = slot_count; storage = storage; read_at = 0; packets = [] }
+  no_packets slot_count storage =
+      record { slot_count = slot_count; storage = storage; read_at = 0; packets = [] }
 
   -- the queue with ws written over its storage from the place p on
   abbrev pub with_bytes : PacketQueue H → ℕ → List ℕ → PacketQueue H
-  with_bytes q p ws = record { slot_count = q.slot_count; storage = overwrite q.storage p ws; read_at = q.read_at; packets = q.packets }
+  with_bytes q p ws =
+      record {
+        slot_count = q.slot_count;
+        storage = overwrite q.storage p ws;
+        read_at = q.read_at;
+        packets = q.packets;
+      }
 
   -- the size of the first packet
   abbrev pub first_size : List (Packet H) → ℕ
@@ -82,22 +110,22 @@ module _ {H : Type 0} where
   first_size (p ∷ ps) = p.size
 
   -- ---- a packet comes last
-  -- the gap before a packet of s bytes, where there are room and slots for it
-  abbrev pub placement : PacketQueue H → ℕ → Option ℕ
-  placement q s =
-      let g = restarted (byte_ring q) in
-      if_slots (q.slot_count - slots_used q.packets) (gap_for s (contiguous_window g) (window g))
-
   -- a packet of s bytes came last, after a gap
   abbrev pub pushed : PacketQueue H → ℕ → ℕ → H → PacketQueue H
-  pushed q gap s h = record { slot_count = q.slot_count; storage = q.storage; read_at = (restarted (byte_ring q)).read_at; packets = q.packets ++ (packet h s gap ∷ []) }
+  pushed q gap s h =
+      record {
+        slot_count = q.slot_count;
+        storage = q.storage;
+        read_at = (restarted (byte_ring q)).read_at;
+        packets = q.packets ++ (packet h s gap ∷ []);
+      }
 
-  -- the same, where there is a gap for it
+  -- the same, if there is a gap for it
   abbrev pub pushed_if : PacketQueue H → Option ℕ → ℕ → H → PacketQueue H
   pushed_if q None s h = q
   pushed_if q (Some gap) s h = pushed q gap s h
 
-  -- a packet of s bytes came last where it could be placed; its bytes are the storage's
+  -- a packet of s bytes came last if it could be placed; its bytes are the storage's
   abbrev pub placed_if_room : PacketQueue H → ℕ → H → PacketQueue H
   placed_if_room q s h = pushed_if q (placement q s) s h
 
@@ -111,7 +139,8 @@ module _ {H : Type 0} where
 
   -- where the last packet's bytes begin
   abbrev pub last_place : PacketQueue H → ℕ
-  last_place q = storage_index (byte_ring q) (bytes_used q.packets - first_size (only_last q.packets))
+  last_place q =
+      storage_index (byte_ring q) (bytes_used q.packets - first_size (only_last q.packets))
 
   -- the last packet's bytes
   abbrev pub last_bytes : PacketQueue H → List ℕ
@@ -121,7 +150,7 @@ module _ {H : Type 0} where
   abbrev pub last_written : PacketQueue H → List ℕ → PacketQueue H
   last_written q ws = with_bytes q (last_place q) ws
 
-  -- a packet with the header h and the bytes ws came last, where it could be placed
+  -- a packet with the header h and the bytes ws came last, if it could be placed
   abbrev pub enqueued : PacketQueue H → H → List ℕ → PacketQueue H
   enqueued q h ws = last_written (placed_if_room q (length ws) h) ws
 
@@ -132,11 +161,18 @@ module _ {H : Type 0} where
 
   -- the last packet has the first k of its bytes
   abbrev pub last_cut : ℕ → PacketQueue H → PacketQueue H
-  last_cut k q = record { slot_count = q.slot_count; storage = q.storage; read_at = q.read_at; packets = before_last q.packets ++ with_first_size k (only_last q.packets) }
+  last_cut k q =
+      record {
+        slot_count = q.slot_count;
+        storage = q.storage;
+        read_at = q.read_at;
+        packets = before_last q.packets ++ with_first_size k (only_last q.packets);
+      }
 
-  -- the list run is what a packet of s bytes is given, if it is placed
+  -- the list room is what a packet of s bytes is given, if it is placed
   abbrev pub IsRoom : PacketQueue H → ℕ → H → List ℕ → Type 0
-  IsRoom q s h run = (placement q s ≢ None) × (run ≡ last_bytes (placed_if_room q s h)) × (length run ≡ s)
+  IsRoom q s h room =
+      (placement q s ≢ None) × (room ≡ last_bytes (placed_if_room q s h)) × (length room ≡ s)
 
   -- ---- the first packet
   -- the gap before the first packet
@@ -151,7 +187,14 @@ module _ {H : Type 0} where
 
   -- the gap before the first packet is gone
   abbrev pub skipped : PacketQueue H → PacketQueue H
-  skipped q = record { slot_count = q.slot_count; storage = q.storage; read_at = storage_index (byte_ring q) (first_gap q.packets); packets = without_first_gap q.packets }
+  skipped q =
+      record {
+        slot_count = q.slot_count;
+        storage = q.storage;
+        read_at = storage_index (byte_ring q)
+            (first_gap q.packets);
+        packets = without_first_gap q.packets;
+      }
 
   -- the first packet has the header h and s bytes
   abbrev pub IsFirstSized : List (Packet H) → H → ℕ → Type 0
@@ -172,15 +215,29 @@ module _ {H : Type 0} where
 
   -- the first packet, whose gap is gone, has the header h and the bytes ws
   abbrev pub first_written : PacketQueue H → H → List ℕ → PacketQueue H
-  first_written q h ws = record { slot_count = q.slot_count; storage = overwrite q.storage q.read_at ws; read_at = q.read_at; packets = with_first_header h q.packets }
+  first_written q h ws =
+      record {
+        slot_count = q.slot_count;
+        storage = overwrite q.storage q.read_at ws;
+        read_at = q.read_at;
+        packets = with_first_header h q.packets;
+      }
 
   -- the first packet, whose gap is gone, was taken off
   abbrev pub popped : PacketQueue H → PacketQueue H
-  popped q = record { slot_count = q.slot_count; storage = q.storage; read_at = storage_index (byte_ring q) (first_size q.packets); packets = drop 1 q.packets }
+  popped q =
+      record {
+        slot_count = q.slot_count;
+        storage = q.storage;
+        read_at = storage_index (byte_ring q) (first_size q.packets);
+        packets = drop 1 q.packets;
+      }
 
-  -- the first packet was handed out and has the header h and the bytes ws: it is gone where gone is true, and else stays first, without its gap
+  -- the first packet was handed out and has the header h and the bytes ws: it is gone if gone is
+  -- true, and else stays first, without its gap
   abbrev pub handed : Bool → PacketQueue H → H → List ℕ → PacketQueue H
-  handed gone q h ws = if gone then popped (first_written (skipped q) h ws) else first_written (skipped q) h ws
+  handed gone q h ws =
+      if gone then popped (first_written (skipped q) h ws) else first_written (skipped q) h ws
 
   -- the first packet and its gap were taken off
   abbrev pub dequeued : PacketQueue H → PacketQueue H

@@ -139,7 +139,7 @@ impl<H, M: Elements<PacketMetadata<H>>, B: Elements<u8>> Packets<H, M, B> {
 impl<H, M: Elements<PacketMetadata<H>>, B: Elements<u8>> Packets<H, M, B> {
     /// Returns how many bytes are free in a row, and in all, if an empty ring begins anew.
     #[inline]
-    fn free_runs(&self) -> (usize, usize)
+    fn free_in_a_row(&self) -> (usize, usize)
         ensures contiguous { result.0 ≡ contiguous_window (restarted (byte_ring self.now)) }
         ensures window { result.1 ≡ window (restarted (byte_ring self.now)) }
     {
@@ -156,7 +156,7 @@ impl<H, M: Elements<PacketMetadata<H>>, B: Elements<u8>> Packets<H, M, B> {
         ensures gap { result ≡ placement self.now size }
         ensures well_placed { WellPlaced self.now }
     {
-        let (contiguous, window) = self.free_runs();
+        let (contiguous, window) = self.free_in_a_row();
         let free = self.slots.window();
         if_slots(free, gap_for(size, contiguous, window))
     }

@@ -1,9 +1,15 @@
 //! Laws of packet queues. No function here does anything: each is called for what its contract
 //! says.
-ghost use Rattle.std.specs.Prelude.{◌≡◌, ◌≢◌, ◌≤◌, ◌++◌, ◌∷◌, ◌↔◌, [], ℕ, List, Bool, length, take, drop, if◌then◌else◌};
+ghost use Rattle.std.specs.Prelude.{◌≡◌, ◌≢◌, ◌≤◌, ◌++◌, ◌∷◌, ◌↔◌, [], ℕ, List, Bool, length, take};
+ghost use Rattle.std.specs.Prelude.{drop, if◌then◌else◌};
 ghost use Rattle.std.specs.declared.option.Option.TheVariants.{None};
-ghost use Rattle.net_storage.specs.Packets.{PacketQueue, WellPlaced, no_packets, IsFirst, IsFirstSized, placement, placed_if_room, only_last, last_bytes, last_written, last_cut, skipped, first_size, first_written, popped, handed, dequeued, with_bytes, freed_place, freed_bytes, AreFreed};
-ghost use Rattle.net_storage.specs.PacketHistory.{contents, with_last_bytes, QueueCall, MakesAll, history};
+ghost use Rattle.net_storage.specs.Packets.{PacketQueue, WellPlaced, no_packets, IsFirst};
+ghost use Rattle.net_storage.specs.Packets.{IsFirstSized, placement, placed_if_room, only_last};
+ghost use Rattle.net_storage.specs.Packets.{last_bytes, last_written, last_cut, skipped};
+ghost use Rattle.net_storage.specs.Packets.{first_size, first_written, popped, handed, dequeued};
+ghost use Rattle.net_storage.specs.Packets.{with_bytes, freed_place, freed_bytes, AreFreed};
+ghost use Rattle.net_storage.specs.PacketHistory.{contents, with_last_bytes, QueueCall, MakesAll};
+ghost use Rattle.net_storage.specs.PacketHistory.{history};
 
 use crate::managed::Elements;
 use crate::packet_buffer::Packets;
@@ -17,7 +23,7 @@ pub fn well_placed<H, M: Elements<PacketMetadata<H>>, B: Elements<u8>>(queue: &P
     let _slots = queue.slots.capacity();
 }
 
-/// A queue has as many contents as packets, and so none exactly where it has no packets.
+/// A queue has as many contents as packets, and so none exactly if it has no packets.
 pub fn contents_are_packets<H>()
     ensures count { (q : PacketQueue H) → length (contents q) ≡ length q.packets }
     ensures none { (q : PacketQueue H) → (contents q ≡ []) ↔ (length q.packets ≡ 0) }
@@ -51,8 +57,8 @@ pub fn packets_leave_in_order<H>()
         → contents (popped (first_written (skipped q) header ws)) ≡ drop 1 (contents q) }
 {}
 
-/// What `place` and `last_mut`, and `take` and `freed_mut`, make of a queue's contents where they
-/// are used apart.
+/// What `place` and `last_mut`, and `take` and `freed_mut`, make of a queue's contents if they are
+/// used apart.
 ///
 /// A placed packet has the bytes that stand in the storage, until they are written. What
 /// `freed_mut` shows after `take` are the bytes of the packet that was taken off, and a write there
@@ -78,7 +84,7 @@ pub fn the_two_steps_apart<H>()
 
 /// A packet that was only looked at: after `peek` the same packet is taken off, and a closure that
 /// leaves the header and the bytes of the first packet as they were leaves the contents, less the
-/// packet where it answered `Ok`.
+/// packet if it returned `Ok`.
 pub fn looking_changes_nothing<H>()
     ensures peeked { (q : PacketQueue H) → WellPlaced q
         → contents (dequeued (skipped q)) ≡ drop 1 (contents q) }
@@ -91,7 +97,7 @@ pub fn looking_changes_nothing<H>()
 
 /// The packet that leaves k-th is the one that was accepted k-th. Over any calls, in any order,
 /// from a queue with no packets on, the packets that left, in order, followed by those that are
-/// still held, are exactly the packets that were accepted, in order. Each left, or is held, with
+/// still in the queue, are exactly the packets that were accepted, in order. Each left, or stays, with
 /// the header and the bytes last written to it, by who put it or by a closure that refused it. What
 /// `reset` drops counts as never accepted.
 pub fn accepted_packets_leave_in_turn<H>()

@@ -51,14 +51,14 @@ impl<H: Drop, M: Elements<PacketMetadata<H>>, B: Elements<u8>> Packets<H, M, B> 
         ensures size { length result.now ≡ first_size (only_last self.old.packets) }
     {
         let size = self.last_size();
-        self.run_mut(size)
+        self.last_part_mut(size)
     }
 
     /// Puts a packet of `size` bytes last and lends these bytes. Until they are written they are
     /// what stood in the storage.
     ///
     /// Returns `Full`, and drops the header and changes nothing, if no `size` bytes are free in a
-    /// row, or a slot is missing for the packet or its gap. smoltcp can leave padding behind when it
+    /// row, or a slot is missing for the packet or its gap. smoltcp can leave padding behind if it
     /// refuses.
     pub fn enqueue(&mut self, size: usize, header: H) -> Result<&mut [u8], Full>
         ensures* writes_back { sem 𝓛 (lends_bytes_if H.row M.row B.row M.Elements B.Elements
@@ -96,7 +96,7 @@ impl<H: Drop, M: Elements<PacketMetadata<H>>, B: Elements<u8>> Packets<H, M, B> 
     }
 
     /// Lends the last `size` bytes, which are those of the last packet.
-    fn run_mut(&mut self, size: usize) -> &mut [u8]
+    fn last_part_mut(&mut self, size: usize) -> &mut [u8]
         requires { size ≡ first_size (only_last self.old.packets) }
         ensures* writes_back { sem 𝓛 (lends_bytes H.row M.row B.row M.Elements B.Elements
             self.entry result (last_written self.old)) }

@@ -413,7 +413,7 @@ fn headers_come_and_go(drops: &Cell<u32>) -> bool {
         ManagedSlice::Borrowed(&mut bytes),
     );
     let came = queue.place(3, Counted { drops }).is_ok();
-    let held = drops.get() == 0;
+    let kept = drops.get() == 0;
     // Three bytes are not free.
     let no_bytes = drops_of_refused(&mut queue, drops, b"abc") == Some(4);
     // No slot is free.
@@ -427,7 +427,7 @@ fn headers_come_and_go(drops: &Cell<u32>) -> bool {
         Err(Empty) => false,
     };
     let given = queue.dequeue_with(|_, _| Result::<(), ()>::Ok(())).is_ok();
-    came && held && no_bytes && last && no_slot && off && given
+    came && kept && no_bytes && last && no_slot && off && given
 }
 
 #[test]

@@ -4,7 +4,7 @@ use Rattle.net_storage.proofs.packet_buffer.Packets.last_mut.Goals as goal
 
 pub returns : goal.returns
 returns g c =
-    let r = c.run_mut in (
+    let r = c.last_part_mut in (
       (refl, λ w. refl),
       record {
         writes_back = tt;

@@ -3,7 +3,7 @@ use Rattle.net_storage.specs.Ring.{queue, queue_index, contiguous_queued_from, w
 use Rattle.net_storage.specs.Packets.{only_last, first_size, last_written, last_bytes}
 use Rattle.net_storage.specs.PacketSlots.{packet_queue, packets_in}
 use Rattle.net_storage.proofs.PacketSteps.{end_held, end_run, end_place, written_holds}
-use Rattle.net_storage.proofs.packet_buffer.Packets.run_mut.Goals as goal
+use Rattle.net_storage.proofs.packet_buffer.Packets.last_part_mut.Goals as goal
 
 pub overflow_sub-before : goal.overflow_sub-before
 overflow_sub-before g c =
