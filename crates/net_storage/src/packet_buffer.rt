@@ -238,14 +238,3 @@ fn if_slots(free: usize, gap: Option<usize>) -> Option<usize>
         None => None,
     }
 }
-
-/// Moves the read index of an empty ring to the storage's beginning.
-fn restart<B: Elements<u8>>(bytes: &mut Ring<u8, B>)
-    ensures ring { bytes.new ≡ restarted bytes.old }
-    ensures fits { capacity bytes.new < 2 ^ 64 }
-{
-    let _capacity = bytes.capacity();
-    if bytes.is_empty() {
-        bytes.clear();
-    }
-}

@@ -7,8 +7,8 @@ ghost use Rattle.net_storage.specs.PacketCalls.{TakesRoom, CountsAtMost, WrotePa
 ghost use Rattle.net_storage.specs.PacketCalls.{GivesAtPacket, TakesFirstPacket, HandedPacket};
 ghost use Rattle.net_storage.specs.PacketHistory.{contents};
 
+use super::Packets;
 use super::slots::{lift_header, push_slots, put_header};
-use super::{Packets, restart};
 use crate::error::{Empty, Full};
 use crate::managed::Elements;
 use crate::packet_metadata::PacketMetadata;
@@ -38,7 +38,7 @@ impl<H: Drop, M: Elements<PacketMetadata<H>>, B: Elements<u8>> Packets<H, M, B> 
         let Some(gap) = self.placement(max_size) else {
             return Err(Full);
         };
-        restart(&mut self.bytes);
+        self.bytes.restart();
         let count = f(self.bytes.get_unallocated(gap, max_size));
         self.bytes.enqueue_unallocated(gap + count);
         push_slots(

@@ -7,8 +7,8 @@ ghost use Rattle.net_storage.specs.Packets.{placement, pushed, placed_if_room, o
 ghost use Rattle.net_storage.specs.Packets.{last_bytes, last_written, first_size};
 ghost use Rattle.net_storage.specs.PacketHistory.{contents, with_last_bytes};
 
+use super::Packets;
 use super::slots::push_slots;
-use super::{Packets, restart};
 use crate::error::Full;
 use crate::managed::Elements;
 use crate::packet_metadata::PacketMetadata;
@@ -91,7 +91,7 @@ impl<H: Drop, M: Elements<PacketMetadata<H>>, B: Elements<u8>> Packets<H, M, B> 
             },
         );
         let bytes = &mut self.bytes;
-        restart(bytes);
+        bytes.restart();
         bytes.enqueue_unallocated(gap + size);
     }
 

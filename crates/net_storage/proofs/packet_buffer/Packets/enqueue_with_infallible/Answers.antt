@@ -18,7 +18,7 @@ f-count-requires g c =
     let e = ap (λ q. placement q c.args.max_size) c.self.view_is ∙ sym c.in-Some.ensures.gap in
     let now = c.get_unallocated.result.now in
     let room = subst (λ q. IsRoom q c.args.max_size c.args.header now) c.self.view_is
-    (fill_room m b c.self.invariant c.in-Some.gap c.args.max_size e c.args.header c.restart.new.bytes c.restart.ensures.ring now c.get_unallocated.ensures.stored c.get_unallocated.ensures.count) in
+    (fill_room m b c.self.invariant c.in-Some.gap c.args.max_size e c.args.header c.restart.new.self c.restart.ensures.ring now c.get_unallocated.ensures.stored c.get_unallocated.ensures.count) in
     c.requires.callable now room c.get_unallocated.result refl
 
 pub overflow_add-gap : goal.overflow_add-gap
@@ -28,7 +28,7 @@ overflow_add-gap g c =
     let e = ap (λ q. placement q c.args.max_size) c.self.view_is ∙ sym c.in-Some.ensures.gap in
     let now = c.get_unallocated.result.now in
     let room = subst (λ q. IsRoom q c.args.max_size c.args.header now) c.self.view_is
-    (fill_room m b c.self.invariant c.in-Some.gap c.args.max_size e c.args.header c.restart.new.bytes c.restart.ensures.ring now c.get_unallocated.ensures.stored c.get_unallocated.ensures.count) in
+    (fill_room m b c.self.invariant c.in-Some.gap c.args.max_size e c.args.header c.restart.new.self c.restart.ensures.ring now c.get_unallocated.ensures.stored c.get_unallocated.ensures.count) in
     let after = c.f-count.new.arg2 in
     let met : FnOnceReturnsAtMut g.F.FnOnce c.args.f now c.f-count.result after = record { shown = c.get_unallocated.result; shows = refl; left = at_last c.get_unallocated.result after; leaves = refl; met = c.f-count.ensures } in
     let le = c.requires.count now after c.f-count.result room met in
@@ -43,13 +43,13 @@ enqueue_unallocated-requires g c =
     let e = ap (λ q. placement q c.args.max_size) c.self.view_is ∙ sym c.in-Some.ensures.gap in
     let now = c.get_unallocated.result.now in
     let room = subst (λ q. IsRoom q c.args.max_size c.args.header now) c.self.view_is
-    (fill_room m b c.self.invariant c.in-Some.gap c.args.max_size e c.args.header c.restart.new.bytes c.restart.ensures.ring now c.get_unallocated.ensures.stored c.get_unallocated.ensures.count) in
+    (fill_room m b c.self.invariant c.in-Some.gap c.args.max_size e c.args.header c.restart.new.self c.restart.ensures.ring now c.get_unallocated.ensures.stored c.get_unallocated.ensures.count) in
     let after = c.f-count.new.arg2 in
     let met : FnOnceReturnsAtMut g.F.FnOnce c.args.f now c.f-count.result after = record { shown = c.get_unallocated.result; shows = refl; left = at_last c.get_unallocated.result after; leaves = refl; met = c.f-count.ensures } in
     let le = c.requires.count now after c.f-count.result room met in
     let space = byte_room m b c.self.invariant c.in-Some.gap c.args.max_size e in
     let is = ap window c.restart.ensures.ring in
-    let long = length-overwrite c.restart.new.bytes.storage (spare_index c.restart.new.bytes c.in-Some.gap) after in
+    let long = length-overwrite c.restart.new.self.storage (spare_index c.restart.new.self c.in-Some.gap) after in
     omega (arith, le, space, is, long)
 
 pub push_slots-requires-clause-free : goal.push_slots-requires-clause-free
@@ -66,11 +66,11 @@ invariant_of-self g c =
     let e = ap (λ q. placement q c.args.max_size) c.self.view_is ∙ sym c.in-Some.ensures.gap in
     let now = c.get_unallocated.result.now in
     let room = subst (λ q. IsRoom q c.args.max_size c.args.header now) c.self.view_is
-    (fill_room m b c.self.invariant c.in-Some.gap c.args.max_size e c.args.header c.restart.new.bytes c.restart.ensures.ring now c.get_unallocated.ensures.stored c.get_unallocated.ensures.count) in
+    (fill_room m b c.self.invariant c.in-Some.gap c.args.max_size e c.args.header c.restart.new.self c.restart.ensures.ring now c.get_unallocated.ensures.stored c.get_unallocated.ensures.count) in
     let after = c.f-count.new.arg2 in
     let met : FnOnceReturnsAtMut g.F.FnOnce c.args.f now c.f-count.result after = record { shown = c.get_unallocated.result; shows = refl; left = at_last c.get_unallocated.result after; leaves = refl; met = c.f-count.ensures } in
     let le = c.requires.count now after c.f-count.result room met in
-    fill_holds m b c.self.invariant c.in-Some.gap c.args.max_size e c.args.header c.restart.new.bytes c.restart.ensures.ring _ (omega (arith, le)) after c.push_slots.new.slots c.push_slots.ensures.queue c.push_slots.ensures.well_formed c.enqueue_unallocated.new.self c.enqueue_unallocated.ensures.ring
+    fill_holds m b c.self.invariant c.in-Some.gap c.args.max_size e c.args.header c.restart.new.self c.restart.ensures.ring _ (omega (arith, le)) after c.push_slots.new.slots c.push_slots.ensures.queue c.push_slots.ensures.well_formed c.enqueue_unallocated.new.self c.enqueue_unallocated.ensures.ring
 
 pub returns-clause-wrote : goal.returns-clause-wrote
 returns-clause-wrote g c =
@@ -79,12 +79,12 @@ returns-clause-wrote g c =
     let e = ap (λ q. placement q c.args.max_size) c.self.view_is ∙ sym c.in-Some.ensures.gap in
     let now = c.get_unallocated.result.now in
     let room = subst (λ q. IsRoom q c.args.max_size c.args.header now) c.self.view_is
-    (fill_room m b c.self.invariant c.in-Some.gap c.args.max_size e c.args.header c.restart.new.bytes c.restart.ensures.ring now c.get_unallocated.ensures.stored c.get_unallocated.ensures.count) in
+    (fill_room m b c.self.invariant c.in-Some.gap c.args.max_size e c.args.header c.restart.new.self c.restart.ensures.ring now c.get_unallocated.ensures.stored c.get_unallocated.ensures.count) in
     let after = c.f-count.new.arg2 in
     let met : FnOnceReturnsAtMut g.F.FnOnce c.args.f now c.f-count.result after = record { shown = c.get_unallocated.result; shows = refl; left = at_last c.get_unallocated.result after; leaves = refl; met = c.f-count.ensures } in
     let le = c.requires.count now after c.f-count.result room met in
     let count = c.f-count.result in
-    let b1 = c.restart.new.bytes in
+    let b1 = c.restart.new.self in
     let put : queue c.push_slots.new.slots ≡ queue m ++ (gap_slot c.in-Some.gap ++ (slot count (Some c.args.header) ∷ [])) = search rules in
     let filled : c.enqueue_unallocated.new.self ≡ with_enqueued (c.in-Some.gap + count) (written b1 (spare_index b1 c.in-Some.gap) after) = search rules in
     let left = fill_left m b c.self.invariant c.in-Some.gap c.args.max_size e c.args.header b1 c.restart.ensures.ring count le after c.push_slots.new.slots put c.push_slots.ensures.well_formed c.enqueue_unallocated.new.self filled c.push_slots.ensures.capacity
