@@ -3,3 +3,5 @@ pub mod Parts
 pub mod Carried
 pub mod Reached
 pub mod Results
+pub mod KnownBytes
+pub mod Moved

@@ -140,9 +140,9 @@ returned frame old new again =
     again
 
 -- what a path is after the first of its frames met its fate
-step_of : (t0 t1 t2 t3 : PathSeen) (frame : List ℕ) (fate : Fate) → t0 ≡ record t1 { ahead = frame ∷ t1.ahead } → fate ≡ next_fate t1.fates → t2 ≡ record t1 { fates = after_fate t1.fates } → MayReturn frame t2 t3 → AllCome t0.fates →
-    (comes fate ≡ true) × AllCome t3.fates × (t0.ahead ≡ frame ∷ t3.ahead)
-step_of t0 t1 t2 t3 frame fate first is drawn again all =
+step_of : (t0 t1 t2 t3 : PathSeen) (frame : List ℕ) (lot : Fate) → t0 ≡ record t1 { ahead = frame ∷ t1.ahead } → lot ≡ next_fate t1.fates → t2 ≡ record t1 { fates = after_fate t1.fates } → MayReturn frame t2 t3 → AllCome t0.fates →
+    (comes lot ≡ true) × AllCome t3.fates × (t0.ahead ≡ frame ∷ t3.ahead)
+step_of t0 t1 t2 t3 frame lot first is drawn again all =
     let both = come_next t1.fates (subst AllCome (ap (λ p. p.fates) first) all) in
     let same = returned frame t2 t3 again in (
       ap comes is ∙ both.0,
@@ -150,16 +150,16 @@ step_of t0 t1 t2 t3 frame fate first is drawn again all =
       ap (λ p. p.ahead) first ∙ ap (λ l. frame ∷ l) (sym (same.0 ∙ ap (λ p. p.ahead) drawn)),
     )
 
-pub frame_reaches : (n m : ℕ) (t0 t1 t2 t3 : PathSeen) (frame : List ℕ) (fate : Fate) → t0 ≡ record t1 { ahead = frame ∷ t1.ahead } → fate ≡ next_fate t1.fates → t2 ≡ record t1 { fates = after_fate t1.fates } → MayReturn frame t2 t3 →
-    (comes fate ≡ true → reach_one n (decoded frame) ≤ m) → AllCome t0.fates → AllCome t3.fates × (reach n t0.ahead ≤ reach m t3.ahead)
-frame_reaches n m t0 t1 t2 t3 frame fate first is drawn again far all =
-    let step = step_of t0 t1 t2 t3 frame fate first is drawn again all in
+pub frame_reaches : (n m : ℕ) (t0 t1 t2 t3 : PathSeen) (frame : List ℕ) (lot : Fate) → t0 ≡ record t1 { ahead = frame ∷ t1.ahead } → lot ≡ next_fate t1.fates → t2 ≡ record t1 { fates = after_fate t1.fates } → MayReturn frame t2 t3 →
+    (comes lot ≡ true → reach_one n (decoded frame) ≤ m) → AllCome t0.fates → AllCome t3.fates × (reach n t0.ahead ≤ reach m t3.ahead)
+frame_reaches n m t0 t1 t2 t3 frame lot first is drawn again far all =
+    let step = step_of t0 t1 t2 t3 frame lot first is drawn again all in
     (step.1, subst (λ l. reach n l ≤ reach m t3.ahead) (sym step.2) (reach_mono (reach_one n (decoded frame)) m t3.ahead (far step.0)))
 
-pub ack_reaches : (s t : Outgoing) (t0 t1 t2 t3 : PathSeen) (frame : List ℕ) (fate : Fate) → t0 ≡ record t1 { ahead = frame ∷ t1.ahead } → fate ≡ next_fate t1.fates → t2 ≡ record t1 { fates = after_fate t1.fates } → MayReturn frame t2 t3 →
-    (comes fate ≡ true → t ≡ acked_by s (decoded frame)) → AllCome t0.fates → AllCome t3.fates × (acked_all s t0.ahead ≡ acked_all t t3.ahead)
-ack_reaches s t t0 t1 t2 t3 frame fate first is drawn again took all =
-    let step = step_of t0 t1 t2 t3 frame fate first is drawn again all in
+pub ack_reaches : (s t : Outgoing) (t0 t1 t2 t3 : PathSeen) (frame : List ℕ) (lot : Fate) → t0 ≡ record t1 { ahead = frame ∷ t1.ahead } → lot ≡ next_fate t1.fates → t2 ≡ record t1 { fates = after_fate t1.fates } → MayReturn frame t2 t3 →
+    (comes lot ≡ true → t ≡ acked_by s (decoded frame)) → AllCome t0.fates → AllCome t3.fates × (acked_all s t0.ahead ≡ acked_all t t3.ahead)
+ack_reaches s t t0 t1 t2 t3 frame lot first is drawn again took all =
+    let step = step_of t0 t1 t2 t3 frame lot first is drawn again all in
     (step.1, ap (acked_all s) step.2 ∙ ap (λ v. acked_all v t3.ahead) (sym (took step.0)))
 
 -- ---- acknowledgements

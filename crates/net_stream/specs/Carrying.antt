@@ -1,6 +1,6 @@
 -- A stream on its way: what is true of a sender, a receiver and the frames between them, whatever
 -- becomes of these.
---     PathSeen      the frames on their way in one direction, those that are late, and the fates to come
+--     PathSeen      the frames on their way in one direction, the late ones, and the fates to come
 --     Carries f w s r there back      the stream w, whose first byte has position f, is on its way
 --     SentAll s old new      all that a sender keeps was put on its way
 use Rattle.std.specs.Prelude.{◌≡◌, ℕ, ◌≤◌, ◌⊎◌, List, [], ◌∷◌, ◌++◌, All}
@@ -19,7 +19,8 @@ pub record PathSeen : Type 0 where
 -- w was written to the sender; each frame brings nothing but parts of w, and so did each that the
 -- receiver took; each acknowledgement is of bytes that the receiver has, and so was each that the
 -- sender took
-pub record Carries (f : ℕ) (w : List ℕ) (s : Outgoing) (r : Stored) (there back : PathSeen) : Type 0 where
+pub record Carries (f : ℕ) (w : List ℕ) (s : Outgoing) (r : Stored)
+    (there back : PathSeen) : Type 0 where
   pub sends : Sends f w s
   pub receives : ReceivesFrom f w r
   pub coming : All (FrameSays f w) there.ahead

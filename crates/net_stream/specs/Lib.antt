@@ -5,3 +5,4 @@ pub mod Fates
 pub mod Counting
 pub mod Carrying
 pub mod Progress
+pub mod Copying

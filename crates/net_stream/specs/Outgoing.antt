@@ -1,7 +1,7 @@
 -- What a sender keeps, and the stream that it sends.
 --     Outgoing      the capacity, the position of the first byte that is kept, and the bytes kept
 --     acknowledged v n      what is kept once all below position n was acknowledged
---     Sends f w v      w was written to a sender, its first byte at position f, and v is what it keeps
+--     Sends f w v      w was written to a sender, its first byte at position f; it keeps v
 use Rattle.std.specs.Prelude.{◌≡◌, ℕ, ◌+◌, ◌-◌, ◌≤◌, ◌^◌, ◌&&◌, nat_le, min, if◌then◌else◌}
 use Rattle.std.specs.Prelude.{List, length, drop}
 

@@ -1,5 +1,5 @@
 -- How far frames and acknowledgements bring a receiver and a sender, once they have come.
---     reach p frames      how far a receiver is at least that has all before p, once the frames have come
+--     reach p frames      how far a receiver comes at least that has all before p
 --     acked_all s frames      a sender once the acknowledgements have come
 --     HasRoom s r      the receiver's free window ends behind all that the sender keeps
 use Rattle.std.specs.Prelude.{◌≡◌, ℕ, ◌+◌, ◌<◌, ◌≤◌, ◌^◌, max, nat_le, if◌then◌else◌}

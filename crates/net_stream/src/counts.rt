@@ -1,11 +1,11 @@
 //! What is counted of a copy.
 ghost use Rattle.std.specs.Prelude.{◌≡◌};
-ghost use Rattle.net_stream.specs.Counting.{met};
+ghost use Rattle.net_stream.specs.Counting.{met, nothing_counted};
 
 use crate::fate::Fate;
 
 /// What is counted of a copy. Each count stays at the greatest number of 64 bits.
-#[derive(Debug, Default, Clone, Copy, PartialEq, Eq, Drop)]
+#[derive(Debug, Clone, Copy, PartialEq, Eq, Drop)]
 pub struct Counts {
     /// How many bytes the reader gave.
     pub taken: u64,
@@ -25,14 +25,27 @@ pub struct Counts {
     pub refused: u64,
     /// How many rounds were made.
     pub rounds: u64,
-    /// How many of the last rounds brought nothing on.
-    pub stalled: u64,
+    /// How many microseconds the rounds took, in simulated time.
+    pub micros: u64,
 }
 
 impl Counts {
     /// Nothing is counted yet.
-    pub fn new() -> Counts {
-        Counts::default()
+    pub fn new() -> Counts
+        ensures { result ≡ nothing_counted }
+    {
+        Counts {
+            taken: 0,
+            bytes: 0,
+            sent: 0,
+            payload: 0,
+            lost: 0,
+            repeated: 0,
+            late: 0,
+            refused: 0,
+            rounds: 0,
+            micros: 0,
+        }
     }
 
     /// Counts a frame that was sent, and its fate.
@@ -48,7 +61,7 @@ impl Counts {
         }
     }
 
-    /// How many bytes were sent more than once: what the frames carried beyond what the reader gave.
+    /// How many bytes were sent more than once: what frames carried beyond what the reader gave.
     pub fn sent_again(&self) -> u64 {
         self.payload.saturating_sub(self.taken)
     }

@@ -99,7 +99,7 @@ impl<'f> Fates<'f> {
         }
     }
 
-    /// The next fate: the first of the list, or where it has none that of the generator's next word.
+    /// The next fate: the first of the list, or if it has none that of the generator's next word.
     pub fn draw(&mut self) -> Fate
         ensures fate { result ≡ next_fate self.old }
         ensures state { self.new ≡ after_fate self.old }

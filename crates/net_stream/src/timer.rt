@@ -1,0 +1,47 @@
+//! How long a sender waits for an acknowledgement.
+ghost use Rattle.std.specs.Prelude.{◌≡◌, ◌*◌, min, if◌then◌else◌};
+ghost use Rattle.net_stream.specs.Counting.{round_trip_time, longest_wait};
+
+use net_base::time::{Duration, Instant};
+
+/// How many microseconds a frame and its acknowledgement are on their way.
+const ROUND_TRIP: u64 = 10_000;
+
+/// How many microseconds the longest wait takes.
+const LONGEST_WAIT: u64 = 1_000_000;
+
+/// The first wait for an acknowledgement: the time of a round trip.
+pub fn first_wait() -> Duration
+    ensures { result ≡ round_trip_time }
+{
+    Duration::from_micros(ROUND_TRIP)
+}
+
+/// The wait after one that brought nothing: twice as long, and at most a second.
+fn doubled(wait: Duration) -> Duration
+    ensures { result ≡ min (wait * 2) longest_wait }
+{
+    let micros = wait.total_micros();
+    if micros >= LONGEST_WAIT / 2 {
+        return Duration::from_micros(LONGEST_WAIT);
+    }
+    Duration::from_micros(micros * 2)
+}
+
+/// The wait after a round: a round trip if it brought something on, and twice the last one if not.
+pub fn next_wait(wait: Duration, moved: bool) -> Duration
+    ensures { result ≡ (if moved then round_trip_time else min (wait * 2) longest_wait) }
+{
+    if moved {
+        return first_wait();
+    }
+    doubled(wait)
+}
+
+/// The moment after a wait. Time stays at its last moment.
+pub fn later(now: Instant, wait: Duration) -> Instant {
+    if !now.can_add(wait) {
+        return now;
+    }
+    now + wait
+}
