@@ -5,9 +5,9 @@ use net_uses::{Endpoint, UdpSocket};
 
 /// A datagram comes in at a socket over arrays, and is received: as much of it as `into` has room
 /// for. `None` if the socket has no room for it.
-pub fn pass_through(from: Endpoint, data: &[u8], into: &mut [u8]) -> Option<usize>
-    ensures count { IfSome result (λ n. n ≡ min (length data.now) (length into.old)) }
-    ensures copied { IfSome result (λ n. into.new ≡ take n data.now ++ drop n into.old) }
+pub fn pass_through(from: Endpoint, bytes: &[u8], into: &mut [u8]) -> Option<usize>
+    ensures count { IfSome result (λ n. n ≡ min (length bytes.now) (length into.old)) }
+    ensures copied { IfSome result (λ n. into.new ≡ take n bytes.now ++ drop n into.old) }
     ensures none { IfNone result (into.new ≡ into.old) }
 {
     let mut slots_in = [PacketMetadata::<Endpoint>::EMPTY; 4];
@@ -24,7 +24,7 @@ pub fn pass_through(from: Endpoint, data: &[u8], into: &mut [u8]) -> Option<usiz
             ManagedSlice::Borrowed(&mut bytes_out),
         ),
     );
-    if !socket.process(from, data) {
+    if !socket.process(from, bytes) {
         return None;
     }
     match socket.recv_slice(into) {

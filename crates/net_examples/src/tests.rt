@@ -35,8 +35,8 @@ fn segments_are_read_in_order(rt: HostRuntime) {
     let mut storage = [0u8; 16];
     let mut receiver = Receiver::<4>::new(ManagedSlice::Borrowed(&mut storage));
     let mut into = [0u8; 16];
-    let segments = [(5, b", world".as_slice()), (0, b"hello".as_slice())];
-    assert_eq!(rt; receive(&mut receiver, &segments, &mut into), 12);
+    assert_eq!(rt; receive(&mut receiver, 5, b", world", &mut into), 0);
+    assert_eq!(rt; receive(&mut receiver, 0, b"hello", &mut into), 12);
     assert!(rt; into.starts_with(b"hello, world"));
 }
 
