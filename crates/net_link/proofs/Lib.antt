@@ -1,0 +1,2 @@
+-- The lemmas behind the contracts.
+pub mod Numerals

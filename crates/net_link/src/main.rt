@@ -1,0 +1,35 @@
+//! Copies standard input to standard output over a link that loses, repeats and reorders frames.
+#![tactic(auto)]
+
+mod report;
+mod serve;
+mod words;
+
+use std::env;
+use std::process::ExitCode;
+
+/// The words after the program's name, or none if they can't be read.
+fn command_words(rt: &HostRuntime) -> Vec<String> {
+    let mut words = Vec::new(rt.alloc());
+    let Ok(all) = env::args(rt) else {
+        return words;
+    };
+    for word in all.skip(1) {
+        if words.push(word).is_err() {
+            return Vec::new(rt.alloc());
+        }
+    }
+    words
+}
+
+fn main(rt: HostRuntime) -> ExitCode {
+    let words = command_words(&rt);
+    let status = serve::serve(
+        rt.alloc(),
+        &words,
+        &mut rt.stdin(),
+        &mut rt.stdout(),
+        &mut rt.stderr(),
+    );
+    ExitCode::from(status)
+}
