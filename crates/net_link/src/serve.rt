@@ -84,3 +84,6 @@ pub fn serve<A: Allocator + Copy, R: Read, W: Write, E: Write>(
     write_counts(errors, &counts);
     1
 }
+
+#[cfg(test)]
+mod tests;

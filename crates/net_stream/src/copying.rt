@@ -354,3 +354,6 @@ pub fn copy<A: Allocator + Copy, R: Read, W: Write>(
         counts,
     )
 }
+
+#[cfg(test)]
+mod tests;

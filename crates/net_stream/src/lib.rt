@@ -9,6 +9,8 @@ mod frame;
 mod link;
 mod path;
 mod sender;
+#[cfg(test)]
+mod streams;
 mod timer;
 
 pub use copying::{Settings, copy, copy_over};

@@ -1,0 +1,277 @@
+//! Copies over links of known fates: what arrives, what is counted, and how each error ends.
+ghost use Rattle.std.specs.Prelude.{◌≡◌, ℕ, true};
+ghost use Rattle.net_stream.specs.Copying.{Copied};
+
+use super::*;
+use crate::fate::{Fate, Rates};
+use crate::streams::{Sink, Source};
+use net_testing::Refusing;
+use std::alloc::Global;
+use std::test::Fail;
+
+/// A link that loses, repeats and delays nothing.
+const PERFECT: Rates = Rates {
+    lost: 0,
+    repeated: 0,
+    late: 0,
+};
+
+/// Settings of a copy from this position on.
+fn settings(first: u64, capacity: usize, payload: u32) -> Settings {
+    Settings {
+        first,
+        capacity,
+        payload,
+        rounds: 100,
+    }
+}
+
+/// Copies text over a link that draws its fates, and returns the text of how it ended.
+fn ending<A: Allocator + Copy>(
+    alloc: Global,
+    heap: A,
+    settings: Settings,
+    fates: Fates<'_>,
+    ack_fates: Fates<'_>,
+    source: &mut Source<'_>,
+    sink: &mut Sink,
+    counts: &mut Counts,
+) -> Result<String, Fail> {
+    match copy(heap, settings, fates, ack_fates, source, sink, counts) {
+        Ok(()) => Ok(String::from_str(alloc, "Ok")?),
+        Err(error) => Ok(format!(in alloc; "{error}")?),
+    }
+}
+
+/// How a copy of this text ends over a link of these rates, and whether all of it has come.
+fn comes(
+    alloc: Global,
+    text: &[u8],
+    capacity: usize,
+    seed: u64,
+    rates: Rates,
+) -> Result<bool, Fail> {
+    let mut source = Source::new(text);
+    let mut sink = Sink::new(alloc)?;
+    let mut counts = Counts::new();
+    let text_of = ending(
+        alloc,
+        alloc,
+        settings(7, capacity, 5),
+        Fates::new(&[], seed, rates),
+        Fates::new(&[], !seed, rates),
+        &mut source,
+        &mut sink,
+        &mut counts,
+    )?;
+    Ok(text_of.as_str() == "Ok" && sink.bytes.as_slice() == text)
+}
+
+#[test]
+fn all_comes_whatever_becomes_of_the_frames(rt: HostRuntime) -> Result<(), Fail> {
+    let text = b"A text of some words, which comes over a link byte for byte.".as_slice();
+    let links = [
+        PERFECT,
+        Rates {
+            lost: 30,
+            repeated: 0,
+            late: 0,
+        },
+        Rates {
+            lost: 0,
+            repeated: 60,
+            late: 0,
+        },
+        Rates {
+            lost: 0,
+            repeated: 0,
+            late: 60,
+        },
+        Rates {
+            lost: 20,
+            repeated: 30,
+            late: 30,
+        },
+    ];
+    for rates in links {
+        for capacity in [1usize, 7, 4096] {
+            for seed in 0..51u64 {
+                assert!(rt;
+                    comes(rt.alloc(), text, capacity, seed, rates)?,
+                    "{capacity} {seed}"
+                );
+            }
+        }
+    }
+    Ok(())
+}
+
+/// A copy: its first position, the fates of its frames, the rates behind them, its input, and then
+/// how it ends, how many bytes came, frames were sent, bytes were sent again and rounds were made.
+#[derive(Drop)]
+struct Case(
+    u64,
+    &'static [Fate],
+    Rates,
+    &'static [u8],
+    &'static str,
+    [u64; 4],
+);
+
+#[test]
+fn counts_are_those_of_the_fates(rt: HostRuntime) -> Result<(), Fail> {
+    let gone = Rates {
+        lost: 100,
+        repeated: 0,
+        late: 0,
+    };
+    let cases = [
+        // Three frames, an acknowledgement for each and one more; then the end is read, and one
+        // acknowledgement tells once more what has come.
+        Case(0, &[], PERFECT, b"abcdef", "Ok", [6, 8, 0, 2]),
+        // The second frame is lost, and all three are sent again but the first.
+        Case(
+            0,
+            &[Fate::Delivered, Fate::Lost, Fate::Delivered],
+            PERFECT,
+            b"abcdef",
+            "Ok",
+            [6, 11, 4, 2],
+        ),
+        Case(0, &[], gone, b"abcdef", "gave up", [0, 400, 594, 100]),
+        // 10 positions are left; the end isn't read once they are used up.
+        Case(
+            u64::MAX - 10,
+            &[],
+            PERFECT,
+            b"012345678",
+            "Ok",
+            [9, 12, 0, 2],
+        ),
+        Case(
+            u64::MAX - 10,
+            &[],
+            PERFECT,
+            b"0123456789a",
+            "gave up",
+            [10, 111, 0, 101],
+        ),
+    ];
+    for Case(first, listed, rates, text, end, numbers) in cases {
+        let mut source = Source::new(text);
+        let mut sink = Sink::new(rt.alloc())?;
+        let mut counts = Counts::new();
+        let told = ending(
+            rt.alloc(),
+            rt.alloc(),
+            settings(first, 16, 2),
+            Fates::new(listed, 1, rates),
+            Fates::new(&[], 1, PERFECT),
+            &mut source,
+            &mut sink,
+            &mut counts,
+        )?;
+        assert_eq!(rt; told.as_str(), end);
+        let counted = [
+            counts.bytes,
+            counts.sent,
+            counts.sent_again(),
+            counts.rounds,
+        ];
+        assert_eq!(rt; counted, numbers);
+        let front = &text[..sink.bytes.len().min(text.len())];
+        assert_eq!(rt; sink.bytes.as_slice(), front);
+        assert_eq!(rt; sink.bytes.len() as u64, counts.bytes);
+        assert_eq!(rt; sink.flushes, 1);
+    }
+    Ok(())
+}
+
+#[test]
+fn each_refusal_ends_a_copy(rt: HostRuntime) -> Result<(), Fail> {
+    // The request that is refused, the read, the write and the flush that fail, the end and how
+    // much came.
+    let never = usize::MAX;
+    let cases = [
+        (0, never, never, false, "out of memory", 0),
+        (1, never, never, false, "out of memory", 0),
+        (2, never, never, false, "out of memory", 0),
+        (3, never, never, false, "out of memory", 0),
+        (4, never, never, false, "out of memory", 0),
+        (never, 0, never, false, "read failed", 0),
+        (never, 1, never, false, "read failed", 6),
+        (never, never, 0, false, "write failed", 0),
+        (never, never, 1, false, "write failed", 4),
+        (never, never, never, true, "write failed", 6),
+        (never, never, never, false, "Ok", 6),
+    ];
+    for (refused, read_fails, write_fails, flush_fails, end, count) in cases {
+        let heap = Refusing::new(rt.alloc(), refused);
+        let mut source = Source::new(b"abcdef");
+        source.failing_call = read_fails;
+        let mut sink = Sink::new(rt.alloc())?;
+        sink.failing_call = write_fails;
+        sink.flush_fails = flush_fails;
+        sink.bytes_per_call = 4;
+        let mut counts = Counts::new();
+        let told = ending(
+            rt.alloc(),
+            &heap,
+            settings(0, 16, 2),
+            Fates::new(&[], 1, PERFECT),
+            Fates::new(&[], 1, PERFECT),
+            &mut source,
+            &mut sink,
+            &mut counts,
+        )?;
+        assert_eq!(rt; told.as_str(), end, "{refused} {read_fails} {write_fails}");
+        assert_eq!(rt; sink.bytes.as_slice(), &b"abcdef"[..count]);
+    }
+    Ok(())
+}
+
+/// Copies over a link that loses a fifth of its frames. Returns whether all came.
+fn over_a_bad_link<A: Allocator + Copy, R: Read, W: Write>(
+    alloc: A,
+    reader: &mut R,
+    writer: &mut W,
+) -> bool
+    ensures { result ≡ true → (bytes : ℕ) × Copied (R.remaining reader.old)
+        (R.remaining reader.new) (W.contents writer.old) (W.contents writer.new) bytes true true }
+{
+    let rates = Rates {
+        lost: 20,
+        repeated: 0,
+        late: 0,
+    };
+    let settings = Settings {
+        first: 0,
+        capacity: 65_536,
+        payload: 1_400,
+        rounds: 100,
+    };
+    let mut counts = Counts::new();
+    let fates = Fates::new(&[], 1, rates);
+    let ack_fates = Fates::new(&[], 2, rates);
+    match copy(
+        alloc,
+        settings,
+        fates,
+        ack_fates,
+        reader,
+        writer,
+        &mut counts,
+    ) {
+        Ok(()) => true,
+        Err(_) => false,
+    }
+}
+
+#[test]
+fn a_caller_copies(rt: HostRuntime) -> Result<(), Fail> {
+    let mut source = Source::new(b"abcdef");
+    let mut sink = Sink::new(rt.alloc())?;
+    assert!(rt; over_a_bad_link(rt.alloc(), &mut source, &mut sink));
+    assert_eq!(rt; sink.bytes.as_slice(), b"abcdef".as_slice());
+    Ok(())
+}
