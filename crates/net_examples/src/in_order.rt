@@ -1,26 +1,30 @@
-ghost use Rattle.std.specs.Prelude.{◌≡◌, ◌+◌, ◌≤◌, ◌<◌, ◌^◌, ℕ, List, length, take, slice_range};
+ghost use Rattle.std.specs.Prelude.{◌≡◌, ℕ, ◌+◌, List, take, slice_range};
 ghost use Rattle.net_receiver.specs.Truthful.{ReceivesFrom, Says};
 
-use net_receiver::Receiver;
+use net_receiver::{Receiver, laws};
+use net_storage::ManagedSlice;
 
-/// Gives a segment to the receiver, and then reads what is in order. Returns how many bytes were
-/// read. A segment that is refused is to be sent again.
-///
-/// If all segments so far said what one stream has, what is read is that stream's next bytes.
-pub fn receive<const N: usize>(
-    receiver: &mut Receiver<'_, N>,
-    position: u64,
-    bytes: &[u8],
-    into: &mut [u8],
-) -> usize
-    requires fits { position + length bytes.now < 2 ^ 64 }
-    ensures within { result ≤ length into.old }
-    ensures receives { (f : ℕ) (x : List ℕ) → ReceivesFrom f x receiver.old →
-        Says f x position bytes.now → ReceivesFrom f x receiver.new }
-    ensures read { (f : ℕ) (x : List ℕ) → ReceivesFrom f x receiver.old →
-        Says f x position bytes.now →
+/// A segment comes, and bytes are read: they are the stream's, from those read before on.
+pub fn receive(receiver: &mut Receiver<'_, 4>, pos: u64, payload: &[u8], into: &mut [u8]) -> usize
+    ensures receives { (x : List ℕ) → ReceivesFrom 0 x receiver.old → Says 0 x pos payload.now →
+        ReceivesFrom 0 x receiver.new }
+    ensures bytes { (x : List ℕ) → ReceivesFrom 0 x receiver.old → Says 0 x pos payload.now →
         take result into.new ≡ slice_range x receiver.old.read (receiver.old.read + result) }
 {
-    let _refused = receiver.segment(position, bytes);
+    if Receiver::<4>::fits(pos, payload.len()) {
+        let _accepted = receiver.segment(pos, payload).is_ok();
+    }
     receiver.read(into)
+}
+
+/// A receiver that the two halves of a stream came to, in the wrong order.
+pub fn receive_halves<'a>(storage: &'a mut [u8], stream: &[u8]) -> Receiver<'a, 4>
+    ensures { ReceivesFrom 0 stream.now result }
+{
+    laws::says();
+    let mut receiver = Receiver::new(ManagedSlice::Borrowed(storage));
+    let half = stream.len() / 2;
+    let _held = receiver.segment(half as u64, &stream[half..]).is_ok();
+    let _queued = receiver.segment(0, &stream[..half]).is_ok();
+    receiver
 }

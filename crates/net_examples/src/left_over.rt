@@ -4,10 +4,10 @@ ghost use Rattle.net_storage.specs.Ring.{queue, window};
 use net_storage::RingBuffer;
 
 /// Enqueues as many bytes as there is room for, and returns how many are left over.
-pub fn send_part(ring: &mut RingBuffer<'_, u8>, data: &[u8]) -> usize
-    ensures queue { queue ring.new ≡ queue ring.old ++ take (window ring.old) «data».now }
-    ensures rest { result + min (length «data».now) (window ring.old) ≡ length «data».now }
+pub fn send_part(ring: &mut RingBuffer<'_, u8>, bytes: &[u8]) -> usize
+    ensures queue { queue ring.new ≡ queue ring.old ++ take (window ring.old) bytes.now }
+    ensures rest { result + min (length bytes.now) (window ring.old) ≡ length bytes.now }
 {
-    let count = ring.enqueue_slice(data);
-    data.len() - count
+    let count = ring.enqueue_slice(bytes);
+    bytes.len() - count
 }

@@ -1,6 +1,8 @@
 //! Each example runs once.
 
-use crate::{Outbox, Timer, Undamaged, is_made, pass_through, receive, send_bytes};
+use crate::{
+    Outbox, Timer, Undamaged, is_made, over_a_bad_link, pass_through, receive, send_bytes,
+};
 use net_base::phy::{Device, Loopback, Medium};
 use net_base::time::{Duration, Instant};
 use net_receiver::Receiver;
@@ -38,6 +40,14 @@ fn segments_are_read_in_order(rt: HostRuntime) {
     assert_eq!(rt; receive(&mut receiver, 5, b", world", &mut into), 0);
     assert_eq!(rt; receive(&mut receiver, 0, b"hello", &mut into), 12);
     assert!(rt; into.starts_with(b"hello, world"));
+}
+
+#[test]
+fn a_stream_crosses_a_bad_link(rt: HostRuntime) {
+    let mut reader = b"abcdef".as_slice();
+    let mut writer = Vec::new(rt.alloc());
+    assert!(rt; over_a_bad_link(rt.alloc(), &mut reader, &mut writer));
+    assert_eq!(rt; writer.as_slice(), b"abcdef".as_slice());
 }
 
 #[test]

@@ -1,6 +1,4 @@
 //! Copies over links of known fates: what arrives, what is counted, and how each error ends.
-ghost use Rattle.std.specs.Prelude.{◌≡◌, ℕ, true};
-ghost use Rattle.net_stream.specs.Copying.{Copied};
 
 use super::*;
 use crate::fate::{Fate, Rates};
@@ -227,51 +225,5 @@ fn each_refusal_ends_a_copy(rt: HostRuntime) -> Result<(), Fail> {
         assert_eq!(rt; told.as_str(), end, "{refused} {read_fails} {write_fails}");
         assert_eq!(rt; sink.bytes.as_slice(), &b"abcdef"[..count]);
     }
-    Ok(())
-}
-
-/// Copies over a link that loses a fifth of its frames. Returns whether all came.
-fn over_a_bad_link<A: Allocator + Copy, R: Read, W: Write>(
-    alloc: A,
-    reader: &mut R,
-    writer: &mut W,
-) -> bool
-    ensures { result ≡ true → (bytes : ℕ) × Copied (R.remaining reader.old)
-        (R.remaining reader.new) (W.contents writer.old) (W.contents writer.new) bytes true true }
-{
-    let rates = Rates {
-        lost: 20,
-        repeated: 0,
-        late: 0,
-    };
-    let settings = Settings {
-        first: 0,
-        capacity: 65_536,
-        payload: 1_400,
-        rounds: 100,
-    };
-    let mut counts = Counts::new();
-    let fates = Fates::new(&[], 1, rates);
-    let ack_fates = Fates::new(&[], 2, rates);
-    match copy(
-        alloc,
-        settings,
-        fates,
-        ack_fates,
-        reader,
-        writer,
-        &mut counts,
-    ) {
-        Ok(()) => true,
-        Err(_) => false,
-    }
-}
-
-#[test]
-fn a_caller_copies(rt: HostRuntime) -> Result<(), Fail> {
-    let mut source = Source::new(b"abcdef");
-    let mut sink = Sink::new(rt.alloc())?;
-    assert!(rt; over_a_bad_link(rt.alloc(), &mut source, &mut sink));
-    assert_eq!(rt; sink.bytes.as_slice(), b"abcdef".as_slice());
     Ok(())
 }

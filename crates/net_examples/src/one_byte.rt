@@ -1,0 +1,24 @@
+ghost use Rattle.std.specs.Prelude.{◌≡◌, ◌<◌, [], ◌∷◌, IsTrue, IsFalse, slice_get};
+ghost use Rattle.net_storage.specs.Ring.{queue, window, SpareWritten};
+
+use net_storage::RingBuffer;
+
+/// Returns the byte of the queue at an index, if there is one.
+pub fn byte_at(ring: &RingBuffer<'_, u8>, at: usize) -> Option<u8>
+    ensures { result ≡ slice_get (queue ring.now) at }
+{
+    ring.get_allocated(at, 1).first().copied()
+}
+
+/// Writes a byte ahead of the queue, if its place is free, and returns whether it is.
+pub fn stage(ring: &mut RingBuffer<'_, u8>, offset: usize, byte: u8) -> bool
+    ensures staged { IsTrue result → SpareWritten ring.old offset (byte ∷ []) ring.new }
+    ensures refused { IsFalse result → ring.new ≡ ring.old }
+    ensures room { offset < window ring.old → IsTrue result }
+{
+    if ring.contiguous_unallocated(offset, 1) == 0 {
+        return false;
+    }
+    ring.get_unallocated(offset, 1)[0] = byte;
+    true
+}

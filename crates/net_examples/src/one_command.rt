@@ -1,0 +1,24 @@
+ghost use Rattle.std.specs.Prelude.{◌≡◌, IfOk};
+ghost use Rattle.net_receiver.specs.Commands.{command_seen, reply_seen, CommandFits};
+ghost use Rattle.net_receiver.specs.Stored.{stored_after, stored_reply};
+
+use net_receiver::{Command, Receiver, Reply, replay};
+use std::alloc::{AllocError, Global};
+
+/// Runs one command by a list of one: what `execute` does with less memory.
+pub fn execute_by_list<const N: usize>(
+    alloc: Global,
+    receiver: &mut Receiver<'_, N>,
+    command: Command,
+) -> Result<Reply, AllocError>
+    requires { CommandFits command }
+    ensures state { IfOk result
+        (λ _. receiver.new ≡ stored_after N receiver.old (command_seen command)) }
+    ensures answer { IfOk result (λ reply.
+        reply_seen reply ≡ stored_reply N receiver.old (command_seen command)) }
+{
+    let mut replies = Vec::new(alloc);
+    let commands = [command];
+    replay(alloc, receiver, &commands, &mut replies)?;
+    Ok(replies.swap_remove(0))
+}
