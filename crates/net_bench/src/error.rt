@@ -1,7 +1,7 @@
-//! How a run ends before the end of its input.
+//! How a run ends that has an error.
 use thiserror::Error;
 
-/// How a run ends before the end of its input. A number is that of the faulty line, counted from 1.
+/// How a run ends that has an error. A number is that of the faulty line, counted from 1.
 #[derive(Debug, Drop, Error)]
 pub enum BenchError {
     /// The line is no line of the mode.
@@ -19,10 +19,10 @@ pub enum BenchError {
     /// A request for memory was refused.
     #[error("out of memory")]
     OutOfMemory,
-    /// A read answered an error.
+    /// A read returned an error, or 2^64 - 1 reads were made.
     #[error("read failed")]
     ReadFailed,
-    /// A write answered an error, or took no byte.
+    /// A write returned an error, or took no byte.
     #[error("write failed")]
     WriteFailed,
 }

@@ -80,7 +80,7 @@ impl<'a> RingSession<'a> {
         }
     }
 
-    /// Takes in as many bytes as there is room for, and answers how many.
+    /// Takes in as many bytes as there is room for, and returns how many.
     fn put(&mut self, bytes: &[u8]) -> usize
         ensures count { result
             ≡ min (length bytes.now) (self.old.capacity - length self.old.bytes) }

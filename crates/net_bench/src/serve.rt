@@ -15,9 +15,9 @@ use std::io::{Read, Write};
 const USAGE: &str = "usage: net_bench ring CAP | asm N | stream CAP N [FIRST]\n";
 
 /// Runs the mode that the words name and flushes the writer once; a flush that fails after a run
-/// without a fault is a failed write. It writes what belongs on standard error to `errors`, whose
-/// own failure changes nothing. The exit status is 0 after a run and a flush that answered Ok, 1
-/// after an error, and 2 where the words name no mode: then nothing is read, and nothing is written
+/// without an error is a failed write. It writes what belongs on standard error to `errors`, whose
+/// own failure changes nothing. The exit status is 0 after a run and a flush that returned Ok, 1
+/// after an error, and 2 if the words name no mode: then nothing is read, and nothing is written
 /// but to `errors`.
 pub fn serve<A: Allocator + Copy, R: Read, W: Write, E: Write>(
     alloc: A,

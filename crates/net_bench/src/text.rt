@@ -127,7 +127,7 @@ fn read_reply_bytes<A: Allocator + Copy>(
 }
 
 /// Returns the reply that shows the bytes of two parts, the second behind the first. One request
-/// for memory is made at most, and each byte is looked at once.
+/// for memory is made at most; the text is zeroed, written, and then checked as UTF-8.
 pub fn read_reply<A: Allocator + Copy>(
     buffers: &mut Buffers<A>,
     first: &[u8],

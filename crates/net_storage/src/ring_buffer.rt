@@ -253,7 +253,7 @@ impl<T, S: Elements<T>> Ring<T, S> {
 
 /// Emptying a ring and resetting its elements.
 impl<T: Resettable, S: Elements<T>> Ring<T, S> {
-    /// Empties the ring, and resets each element of the storage once.
+    /// Empties the ring, and resets each element of the storage: it is left as its type states.
     pub fn reset(&mut self)
         ensures ring { self.new ≡ ring self.new.storage 0 0 }
         ensures parts { (queue self.new ≡ []) × (spare self.new ≡ self.new.storage) }

@@ -165,7 +165,7 @@ fn long_stream(alloc: Global) -> Result<(Vec<u8>, Vec<u8>), AllocError> {
 }
 
 /// Runs lines of mode `stream` by reads of 1,000 bytes and writes of 500, of which some may fail,
-/// and answers how many writes there were. All replies are written unless a write fails.
+/// and returns how many writes there were. All replies are written unless a write fails.
 fn check_long_stream(
     rt: &impl Abort,
     alloc: Global,
