@@ -6,5 +6,5 @@ pub returns-clause-says : goal.returns-clause-says
 returns-clause-says c = λ f w s h.
     let base = ap (λ v. v.base) c.self.view_is in
     let queue_is = ap (λ v. v.queue) c.self.view_is in
-    lent_says c.says.ensures f w c.args.self.now c.args.pos c.get_allocated.result.now s h
+    lent_says c.says.ensures.there f w c.args.self.now c.args.pos c.get_allocated.result.now s h
     (c.get_allocated.ensures.value ∙ (λ i. take (length c.get_allocated.result.now) (drop (c.args.pos - base i) (queue_is i))))
