@@ -1,7 +1,5 @@
-pub mod KnownBytes
 pub mod LineParts
 pub mod WordParts
-pub mod Numerals
 pub mod Pending
 pub mod HexText
 pub mod RingParts

@@ -7,7 +7,7 @@ use Rattle.std.proofs.Transfers.{starts_with_of_append}
 use Rattle.std.proofs.lemmas.List.{append-nil}
 use Rattle.net_bench.specs.Transcript.{WritesFront}
 use Rattle.net_bench.specs.Progress.{Gathers}
-use Rattle.net_bench.proofs.KnownBytes.{Appends-two, Appends-none, Keeps-same, StartsWith-after}
+use Rattle.net_text.proofs.KnownBytes.{Appends-two, Appends-none, Keeps-same, StartsWith-after}
 
 -- two texts, one after the other
 pub Gathers-two : (a b c : Option (List ℕ)) (p q r xs ys zs : List ℕ) → Gathers a p b q xs → Gathers b q c r ys → xs ++ ys ≡ zs → Gathers a p c r zs

@@ -11,7 +11,7 @@ use Rattle.net_bench.specs.Progress.{HasNoFeed, Advances, Gathers, IsPendingFaul
 use Rattle.net_bench.specs.declared.fault.Fault.TheVariants as faults
 use Rattle.net_bench.specs.declared.error.BenchError.{BenchError}
 use Rattle.net_bench.specs.declared.error.BenchError.TheVariants.{BadCommand, RangeTooLong, LineTooLong, TooManySchedules, OutOfMemory, ReadFailed, WriteFailed}
-use Rattle.net_bench.proofs.KnownBytes.{Appends-kept, Keeps-same, Consumes-two, Consumes-none, all-came, StartsWith-all}
+use Rattle.net_text.proofs.KnownBytes.{Appends-kept, Keeps-same, Consumes-two, Consumes-none, all-came, StartsWith-all}
 use Rattle.net_bench.proofs.Pending.{Gathers-two, Gathers-same, Gathers-out, Gathers-written, WritesFront-after, WritesFront-more, WritesFront-out, WritesFront-kept, StartsWith-none}
 use Rattle.net_bench.proofs.LineParts.{feed-found, parts-cons, parts-feed, parts-front, lines-from_parts, lines-nonempty, lines-one, ended-from_parts, ended-none, unended-from_parts}
 

@@ -3,7 +3,7 @@ use Rattle.std.specs.Prelude.{ℕ, ◌+◌, ◌^◌, ◌&&◌, nat_lt, List, [],
 use Rattle.std.specs.Prelude.{decimal, if◌then◌else◌, Bool, Option, Some, None, Result, Ok, Err}
 use Rattle.net_storage.specs.Positions.{Positions, runs, with_range, front, shift_down}
 use Rattle.net_storage.specs.Assembler.{display_text}
-use Rattle.net_bench.specs.Text.{number_of}
+use Rattle.net_text.specs.Numeral.{number_of}
 use Rattle.net_bench.specs.Transcript.{Rules}
 use Rattle.net_bench.specs.declared.fault.Fault.{Fault}
 use Rattle.net_bench.specs.declared.fault.Fault.TheVariants as faults

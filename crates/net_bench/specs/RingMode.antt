@@ -2,7 +2,8 @@
 use Rattle.std.specs.Prelude.{ℕ, ◌-◌, min, List, [], ◌∷◌, ◌++◌, length, take, drop, codes, bytes_eq}
 use Rattle.std.specs.Prelude.{decimal, if◌then◌else◌, Option, Some, None, Result, Ok, Err}
 use Rattle.std.specs.Prelude.{option_map}
-use Rattle.net_bench.specs.Text.{number_of, hex_bytes, hex_text}
+use Rattle.net_text.specs.Numeral.{number_of}
+use Rattle.net_bench.specs.Text.{hex_bytes, hex_text}
 use Rattle.net_bench.specs.Transcript.{Rules}
 use Rattle.net_bench.specs.declared.fault.Fault.{Fault}
 use Rattle.net_bench.specs.declared.fault.Fault.TheVariants as faults

@@ -4,7 +4,8 @@ use Rattle.std.specs.Cmp.Lexicographic.{pointwise}
 use Rattle.net_storage.specs.Positions.{maximal_runs}
 use Rattle.net_receiver.specs.KeptList.{next, bytes, held}
 use Rattle.net_receiver.specs.Schedule.{CommandSeen, Segment, Read, Show, ReplySeen, Segmented, Gave, Shown, Setting, State, fresh, after, reply}
-use Rattle.net_bench.specs.Text.{number_of, hex_bytes, hex_text}
+use Rattle.net_text.specs.Numeral.{number_of}
+use Rattle.net_bench.specs.Text.{hex_bytes, hex_text}
 use Rattle.net_bench.specs.Transcript.{Rules}
 use Rattle.net_bench.specs.AsmMode.{refused_text}
 use Rattle.net_bench.specs.declared.fault.Fault.{Fault}

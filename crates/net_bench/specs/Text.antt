@@ -52,20 +52,6 @@ next_number n = min (n + 1) (2 ^ 64 - 1)
 abbrev pub words_of : List ℕ → List (List ℕ)
 words_of line = slice_split (λ b. b == 32) line
 
--- a digit or more, with no leading 0 unless that is all
-abbrev pub begins_numeral : List ℕ → Bool
-begins_numeral word = nat_lt 0 (length word) && (nat_lt 48 (slice_index word 0) || length word == 1)
-
--- decimal digits, with no leading 0 unless the word is 0
-abbrev pub is_numeral : List ℕ → Bool
-is_numeral word = begins_numeral word && list_all is_ascii_digit word
-
--- the number that a numeral writes, up to 2^64 - 1
-abbrev pub number_of : List ℕ → Option ℕ
-number_of word =
-    if is_numeral word && nat_lt (digits_value 10 word) (2 ^ 64)
-    then Some (digits_value 10 word) else None
-
 -- bytes: a dash for none, or one or more pairs of hex digits in either case
 abbrev pub hex_bytes : List ℕ → Option (List ℕ)
 hex_bytes word =

@@ -2,7 +2,8 @@
 ghost use Rattle.std.specs.Prelude.{◌≡◌, ◌+◌, ◌^◌, ◌<◌, [], ◌∷◌, ◌++◌, ◌≤◌, codes, decimal, IfOk};
 ghost use Rattle.std.specs.Prelude.{MatchResult, Ok, Err, string_bytes, option_map};
 ghost use Rattle.net_storage.specs.Positions.{nothing};
-ghost use Rattle.net_bench.specs.Text.{words_of, number_of};
+ghost use Rattle.net_text.specs.Numeral.{number_of};
+ghost use Rattle.net_bench.specs.Text.{words_of};
 ghost use Rattle.net_bench.specs.AsmMode.{asm_rules, asm_command, range_command, asm_does};
 ghost use Rattle.net_bench.specs.AsmMode.{added, added_then_front_removed, RemoveFront, Print};
 ghost use Rattle.net_bench.specs.AsmLines.{asm_command_seen, range_command_seen};
@@ -13,6 +14,7 @@ use crate::session::Session;
 use crate::words::Words;
 use crate::{text, words};
 use net_storage::Assembler;
+use net_text::number;
 use std::alloc::{AllocError, Allocator};
 use std::marker::Model;
 
@@ -70,8 +72,8 @@ fn range(verb: RangeVerb, offset: &[u8], size: &[u8]) -> Option<AsmLine>
     ensures { option_map asm_command_seen result
         ≡ range_command (range_command_seen verb) (number_of offset.now) (number_of size.now) }
 {
-    let offset = text::number(offset)?;
-    let size = text::number(size)?;
+    let offset = number(offset)?;
+    let size = number(size)?;
     Some(AsmLine::Range(verb, offset as usize, size as usize))
 }
 

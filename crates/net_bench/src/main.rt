@@ -1,7 +1,6 @@
 //! A bench for the storage types: command lines come in, and a reply line goes out for each.
 #![tactic(auto)]
 
-mod arguments;
 mod asm;
 mod bench;
 mod buffers;
@@ -20,6 +19,7 @@ mod tests;
 mod text;
 mod words;
 
+use net_text::gather;
 use std::env;
 use std::process::ExitCode;
 
@@ -28,7 +28,7 @@ fn command_words(rt: &HostRuntime) -> Vec<String> {
     let Ok(all) = env::args(rt) else {
         return Vec::new(rt.alloc());
     };
-    let Ok(words) = arguments::gather(rt.alloc(), all.skip(1)) else {
+    let Ok(words) = gather(rt.alloc(), all.skip(1)) else {
         return Vec::new(rt.alloc());
     };
     words

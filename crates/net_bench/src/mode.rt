@@ -2,10 +2,10 @@
 ghost use Rattle.std.specs.Prelude.{◌≡◌, [], ◌∷◌, map, string_bytes, Option, Some, option_map};
 ghost use Rattle.std.specs.Prelude.{option_and_then};
 ghost use Rattle.net_bench.specs.Kinds.{most_runs_seen};
-ghost use Rattle.net_bench.specs.Text.{number_of};
+ghost use Rattle.net_text.specs.Numeral.{number_of};
 ghost use Rattle.net_bench.specs.Modes.{mode_of, stream_of, at_most_64k, four_or_32};
 
-use crate::text;
+use net_text::number;
 use std::marker::Model;
 
 /// The most bytes of storage.
@@ -52,7 +52,7 @@ impl Model for Mode {
 fn capacity(word: &[u8]) -> Option<usize>
     ensures { result ≡ option_and_then at_most_64k (number_of word.now) }
 {
-    let number = text::number(word)?;
+    let number = number(word)?;
     if number > MAX_CAPACITY {
         return None;
     }
@@ -63,7 +63,7 @@ fn capacity(word: &[u8]) -> Option<usize>
 fn most_runs_of(word: &[u8]) -> Option<MostRuns>
     ensures { option_map most_runs_seen result ≡ option_and_then four_or_32 (number_of word.now) }
 {
-    let number = text::number(word)?;
+    let number = number(word)?;
     if number == 4 {
         return Some(MostRuns::Four);
     }
@@ -136,7 +136,7 @@ impl Mode {
                 words[0].as_bytes(),
                 words[1].as_bytes(),
                 words[2].as_bytes(),
-                text::number(words[3].as_bytes()),
+                number(words[3].as_bytes()),
             );
         }
         None

@@ -12,6 +12,7 @@ use crate::session::Session;
 use crate::words::Words;
 use crate::{text, words};
 use net_storage::{ManagedSlice, RingBuffer};
+use net_text::number;
 use std::alloc::{AllocError, Allocator};
 use std::marker::Model;
 
@@ -62,7 +63,7 @@ fn ring_line<A: Allocator + Copy>(
                 return Ok(text::bytes(buffers, word)?.map(|bytes| RingLine::Write(bytes)));
             }
             if verb == b"r".as_slice() {
-                return Ok(text::number(word).map(|number| RingLine::Read(number)));
+                return Ok(number(word).map(|number| RingLine::Read(number)));
             }
             Ok(None)
         }

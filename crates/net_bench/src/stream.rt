@@ -3,7 +3,8 @@ ghost use Rattle.std.specs.Prelude.{◌≡◌, [], ◌∷◌, IfOk, MatchResult,
 ghost use Rattle.std.specs.Prelude.{option_map, ◌≤◌, length};
 ghost use Rattle.net_receiver.specs.Commands.{command_seen, reply_seen, CommandFits};
 ghost use Rattle.net_receiver.specs.Stored.{stored_after, stored_reply};
-ghost use Rattle.net_bench.specs.Text.{words_of, number_of, hex_bytes};
+ghost use Rattle.net_text.specs.Numeral.{number_of};
+ghost use Rattle.net_bench.specs.Text.{words_of, hex_bytes};
 ghost use Rattle.net_bench.specs.StreamMode.{ToReceiver, NextSchedule, segment_command};
 ghost use Rattle.net_bench.specs.StreamMode.{stream_command};
 ghost use Rattle.net_bench.specs.StreamMode.{first_schedule, stream_does, stream_rules};
@@ -18,6 +19,7 @@ use crate::words::Words;
 use crate::{text, words};
 use net_receiver::{Command, Receiver, Reply, execute};
 use net_storage::ManagedSlice;
+use net_text::number;
 use std::alloc::{AllocError, Allocator};
 use std::marker::Model;
 use std::mem;
@@ -73,7 +75,7 @@ fn segment<A: Allocator + Copy>(
     ensures { IfOk result (λ found. option_map stream_command_seen found
         ≡ segment_command (number_of position.now) (hex_bytes bytes.now)) }
 {
-    let Some(pos) = text::number(position) else {
+    let Some(pos) = number(position) else {
         return Ok(None);
     };
     let Some(bytes) = text::bytes(buffers, bytes)? else {
@@ -102,7 +104,7 @@ fn stream_line<A: Allocator + Copy>(
         }
         Words::Two(verb, count) => {
             if verb == b"r".as_slice() {
-                return Ok(text::number(count).map(|count| StreamLine::ToReceiver(Command::Read(
+                return Ok(number(count).map(|count| StreamLine::ToReceiver(Command::Read(
                     count,
                 ))));
             }

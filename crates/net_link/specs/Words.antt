@@ -1,27 +1,9 @@
 -- The words of a command line: LOSS SEED [REPEATED LATE [BYTES]].
---     number_of word      the number that a word writes
 --     plan_of words      what the words ask for, if they ask for anything
-use Rattle.std.specs.Prelude.{ℕ, ◌/◌, ◌^◌, ◌==◌, ◌&&◌, ◌||◌, nat_lt, nat_le}
-use Rattle.std.specs.Prelude.{if◌then◌else◌, Bool, length, slice_index}
+use Rattle.std.specs.Prelude.{ℕ, ◌/◌, ◌&&◌, nat_lt, nat_le, if◌then◌else◌}
 use Rattle.std.specs.Prelude.{List, [], ◌∷◌, Option, Some, None, option_map, option_and_then}
-use Rattle.std.specs.List.{list_all}
-use Rattle.std.specs.Char.{is_ascii_digit}
-use Rattle.std.specs.Str.Parse.{digits_value}
+use Rattle.net_text.specs.Numeral.{number_of}
 use Rattle.net_link.specs.declared.words.Plan.{Plan}
-
--- a digit or more, with no leading 0 unless that is all
-abbrev pub begins_numeral : List ℕ → Bool
-begins_numeral word = nat_lt 0 (length word) && (nat_lt 48 (slice_index word 0) || length word == 1)
-
--- decimal digits, with no leading 0 unless the word is 0
-abbrev pub is_numeral : List ℕ → Bool
-is_numeral word = begins_numeral word && list_all is_ascii_digit word
-
--- the number that a numeral writes, up to 2^64 - 1
-abbrev pub number_of : List ℕ → Option ℕ
-number_of word =
-    if is_numeral word && nat_lt (digits_value 10 word) (2 ^ 64) then Some (digits_value 10 word)
-    else None
 
 -- a percentage, from 0 to 99
 abbrev pub below_100 : ℕ → Option ℕ

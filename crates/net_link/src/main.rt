@@ -5,20 +5,18 @@ mod report;
 mod serve;
 mod words;
 
+use net_text::gather;
 use std::env;
 use std::process::ExitCode;
 
-/// The words after the program's name, or none if they can't be read.
+/// Returns the words after the program's name, or none if they can't be read.
 fn command_words(rt: &HostRuntime) -> Vec<String> {
-    let mut words = Vec::new(rt.alloc());
     let Ok(all) = env::args(rt) else {
-        return words;
+        return Vec::new(rt.alloc());
     };
-    for word in all.skip(1) {
-        if words.push(word).is_err() {
-            return Vec::new(rt.alloc());
-        }
-    }
+    let Ok(words) = gather(rt.alloc(), all.skip(1)) else {
+        return Vec::new(rt.alloc());
+    };
     words
 }
 

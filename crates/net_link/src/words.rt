@@ -1,6 +1,9 @@
 //! The words of a command line.
 ghost use Rattle.std.specs.Prelude.{◌≡◌, [], ◌∷◌, map, string_bytes, option_and_then};
-ghost use Rattle.net_link.specs.Words.{begins_numeral, number_of, percentage_of, one_to_64k, plan_from, plan_of};
+ghost use Rattle.net_text.specs.Numeral.{number_of};
+ghost use Rattle.net_link.specs.Words.{percentage_of, one_to_64k, plan_from, plan_of};
+
+use net_text::number;
 
 /// The most bytes of a frame's payload, if no word says otherwise.
 const PAYLOAD: u32 = 16_384;
@@ -21,30 +24,6 @@ pub struct Plan {
     pub late: u32,
     /// The most bytes of a frame's payload.
     pub payload: u32,
-}
-
-/// Whether a word begins as a numeral does: it has a digit, and no leading 0 unless it is `0`.
-fn begins_numeral(word: &[u8]) -> bool
-    ensures { result ≡ begins_numeral word.now }
-{
-    !word.is_empty() && (word[0] > b'0' || word.len() == 1)
-}
-
-/// The number that a word writes, if it is a numeral and 64 bits hold the number.
-fn number(word: &[u8]) -> Option<u64>
-    ensures { result ≡ number_of word.now }
-{
-    if !begins_numeral(word) {
-        return None;
-    }
-    let mut value = 0u64;
-    for &byte in word {
-        if !byte.is_ascii_digit() {
-            return None;
-        }
-        value = value.checked_mul(10)?.checked_add(u64::from(byte - b'0'))?;
-    }
-    Some(value)
 }
 
 /// The percentage that a word writes, from 0 to 99.

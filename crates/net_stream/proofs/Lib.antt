@@ -3,5 +3,4 @@ pub mod Parts
 pub mod Carried
 pub mod Reached
 pub mod Results
-pub mod KnownBytes
 pub mod Moved

@@ -16,7 +16,7 @@ use Rattle.net_stream.specs.declared.error.LinkError.{LinkError}
 use Rattle.net_stream.specs.declared.error.LinkError.TheVariants.{WriteFailed}
 use Rattle.net_stream.proofs.Carried.{All-map}
 use Rattle.net_stream.proofs.Reached.{first_is}
-use Rattle.net_stream.proofs.KnownBytes.{Appends-two, Appends-none, Appends-kept, Keeps-same, Consumes-two, Consumes-none, StartsWith-after}
+use Rattle.net_text.proofs.KnownBytes.{Appends-two, Appends-none, Appends-kept, Keeps-same, Consumes-two, Consumes-none, StartsWith-after}
 
 -- ---- a list that grows
 none_is_not : {A : Type 0} (b : A) → None ≡ Some b → ⊥

@@ -1,7 +1,7 @@
 //! The words of the command line, with memory and without.
 use super::streams::command_words;
-use crate::arguments::gather;
 use net_testing::Refusing;
+use net_text::gather;
 use std::test::Fail;
 
 /// Six words, of which one is empty.

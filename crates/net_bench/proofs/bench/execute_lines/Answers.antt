@@ -1,7 +1,7 @@
 use Rattle.std.proofs.Common.{arith}
 use Rattle.std.proofs.lemmas.Result.{err_from_is_err_and, on_ok_weaker, IfErr-weaker}
 use Rattle.net_bench.proofs.Progress.{AfterReads-more, AfterReads-err, AfterReads-end, AfterReads-end_err, AfterReads-none, AfterReads-failed}
-use Rattle.net_bench.proofs.KnownBytes.{Keeps-same}
+use Rattle.net_text.proofs.KnownBytes.{Keeps-same}
 use Rattle.net_bench.proofs.bench.execute_lines.Goals as goal
 
 pub returns-in-Ok-eq0-clause-ok : goal.returns-in-Ok-eq0-clause-ok

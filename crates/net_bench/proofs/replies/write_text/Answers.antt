@@ -1,7 +1,7 @@
 use Rattle.std.proofs.Common.{arith, refl}
 use Rattle.std.proofs.Math.Seq.{take-add}
 use Rattle.std.proofs.lemmas.List.{take_rest}
-use Rattle.net_bench.proofs.KnownBytes.{Appends-two}
+use Rattle.net_text.proofs.KnownBytes.{Appends-two}
 use Rattle.net_bench.proofs.replies.write_text.Goals as goal
 
 pub loop-written-preserved : goal.loop-written-preserved

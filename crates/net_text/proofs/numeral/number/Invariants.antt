@@ -2,7 +2,7 @@ use Rattle.std.proofs.Common.{◌≡◌, ◌<◌, ◌^◌, true, take}
 use Rattle.std.specs.List.{list_all}
 use Rattle.std.specs.Char.{is_ascii_digit}
 use Rattle.std.specs.Str.Parse.{digits_value}
-use Rattle.net_bench.proofs.text.number.Given as goal
+use Rattle.net_text.proofs.numeral.number.Given as goal
 
 -- digits came so far, and this is what they write
 abbrev pub invariant-loop-byte : goal.invariant-loop-byte

@@ -2,9 +2,9 @@ use Rattle.std.proofs.Common.{◌≡◌, ◌+◌, ◌^◌, ◌≤◌, true, leng
 use Rattle.std.specs.Char.{is_ascii_digit}
 use Rattle.std.specs.Str.Parse.{digits_value}
 use Rattle.std.proofs.lemmas.Bool.Decides.{nat_tests}
-use Rattle.net_link.specs.Words.{begins_numeral}
-use Rattle.net_link.proofs.Numerals.{digits-more, all-more, number-large, number-whole}
-use Rattle.net_link.proofs.words.number.Goals as goal
+use Rattle.net_text.specs.Numeral.{begins_numeral}
+use Rattle.net_text.proofs.Numerals.{digits-more, all-more, number-large, number-whole}
+use Rattle.net_text.proofs.numeral.number.Goals as goal
 
 pub returns-in_err-checked_mul : goal.returns-in_err-checked_mul
 returns-in_err-checked_mul c =

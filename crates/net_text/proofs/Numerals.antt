@@ -8,7 +8,7 @@ use Rattle.std.proofs.lemmas.Int.Digits.{digits_value_more}
 use Rattle.std.proofs.lemmas.List.{take_all}
 use Rattle.std.proofs.lemmas.List.Folds.{list_all_more}
 use Rattle.std.proofs.lemmas.Str.Parse.{digits_value-take-le}
-use Rattle.net_bench.specs.Text.{begins_numeral, number_of}
+use Rattle.net_text.specs.Numeral.{begins_numeral, number_of}
 
 and-false : (x : Bool) → (x && false) ≡ false
 and-false true = refl

@@ -1,2 +1,0 @@
--- The lemmas behind the contracts.
-pub mod Numerals
