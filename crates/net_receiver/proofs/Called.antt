@@ -15,7 +15,7 @@ use Rattle.net_receiver.specs.KeptList.{next}
 use Rattle.net_receiver.specs.Rules.{Show, CommandSeen, ReplySeen, Segment, Read, Verdict, KeptNone, Refused, Keeps, verdict_of_part, verdict, state_after, answer}
 use Rattle.net_receiver.specs.Schedule.{State, Agrees, after_all, Follows, EndsBy, bytes_read, PieceAgrees}
 use Rattle.net_receiver.specs.Stored.{stored_reply, stored_after_all, setting, StandsFor, Stored, HeldBytes, domain, laid_over, first_lacking, values_at, stored_next, by_stored, stored_read, stored_after, fresh_stored}
-use Rattle.net_receiver.specs.Theorems.{ExecutedFor}
+use Rattle.net_receiver.proofs.Whole.{ran}
 use Rattle.net_receiver.specs.Truthful.{SaysOfLonger, NoneSay, SegmentSays, ReadSays, ShowSays, BothSay, EachSays, FreshReceivesFrom, AgreeingReceives, ReceivesByParts, ReceivesFromLonger}
 use Rattle.net_receiver.proofs.Step.{same_next}
 use Rattle.net_receiver.proofs.Run.{setting_kept}
@@ -253,14 +253,16 @@ capacity_kept most v [] = refl
 capacity_kept most v (c ∷ cs) = capacity_kept most (stored_after most v c) cs ∙ capacity_stays most v c
 
 -- ---- segments that follow on one another
-pub reached : (N : ℕ) (v u : Stored) (cs : List CommandSeen) (rs : List ReplySeen) {T E : Type 0} (r : Result T E) (s : State) → u.first ≡ v.first → StandsFor v s → ExecutedFor N v u cs rs (IsOk r) s →
+pub reached : (N : ℕ) (v u : Stored) (cs : List CommandSeen) (rs : List ReplySeen) {T E : Type 0} (r : Result T E) (s : State) → Executed N v u cs rs (IsOk r) → StandsFor v s →
     Follows (setting N v) s (stored_next v) cs → IfOk r (λ _. EndsBy (stored_next u) cs)
-reached N v u cs rs (Err e) s first d ran follows = tt
-reached N v u cs rs (Ok t) s first d ran follows =
-    let all : take ran.count cs ≡ cs = take_all ran.count cs (omega (arith, ran.whole refl)) in
-    let there : StandsFor u (after_all (setting N v) s cs) = subst (λ l. StandsFor u (after_all (setting N v) s l)) all ran.stands in
+reached N v u cs rs (Err e) s run d follows = tt
+reached N v u cs rs (Ok t) s run d follows =
+    let first : u.first ≡ v.first = ap (λ (y : Stored). y.first) run.state ∙ first_kept N v (take run.count cs) in
+    let seen = ran N v u cs rs _ run.count run.within run.whole run.state run.answers s d in
+    let all : take seen.count cs ≡ cs = take_all seen.count cs (omega (arith, seen.whole refl)) in
+    let there : StandsFor u (after_all (setting N v) s cs) = subst (λ l. StandsFor u (after_all (setting N v) s l)) all seen.stands in
     let end : stored_next u ≡ next v.first (after_all (setting N v) s cs).kept = same_next u (after_all (setting N v) s cs) there ∙ ap (λ b. next b (after_all (setting N v) s cs).kept) first in
-    subst (λ n. EndsBy n cs) (sym end) (ran.recovers refl (subst (λ n. Follows (setting N v) s n cs) (same_next v s d) follows))
+    subst (λ n. EndsBy n cs) (sym end) (seen.recovers refl (subst (λ n. Follows (setting N v) s n cs) (same_next v s d) follows))
 
 -- ---- parts of the queue
 part_of : (x q bytes : List ℕ) (a o : ℕ) → q ≡ take (length q) (drop a x) → bytes ≡ take (length bytes) (drop o q) → bytes ≡ take (length bytes) (drop (a + o) x)
