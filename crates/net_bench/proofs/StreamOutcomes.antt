@@ -4,8 +4,8 @@ use Rattle.std.specs.Bool.{Decides}
 use Rattle.std.specs.Cmp.Lexicographic.{pointwise}
 use Rattle.std.proofs.lemmas.Bool.Decides.{Decides-eqb, Decides-and, same_from_decides}
 use Rattle.std.proofs.lemmas.Slice.Eq.{bytes_eq-Decides, slice_eq-Decides}
-use Rattle.net_receiver.specs.Stored.{Stored, IsSameState}
-use Rattle.net_bench.specs.StreamMode.{Outcome, same_run, same_outcome, Schedules, compared, stream_closing}
+use Rattle.net_receiver.specs.Stored.{Stored, IsSameState, by_stored}
+use Rattle.net_bench.specs.StreamMode.{Outcome, outcome, same_run, same_outcome, Schedules, compared, stream_closing}
 use Rattle.net_bench.specs.StreamStored.{of_stored}
 
 -- runs that are one
@@ -24,24 +24,24 @@ outcome_decides a b =
     (slice_eq-Decides run_decides a.held b.held (pointwise same_run a.held b.held) refl)
 
 -- the same receivers have one outcome
-module _ (w : _) (v u : Stored) where
-  outcomes : IsSameState v u → AreOne (of_stored.outcome w v) (of_stored.outcome w u)
+module _ (v u : Stored) where
+  outcomes : IsSameState v u → AreOne (outcome by_stored v) (outcome by_stored u)
   outcomes h = (((h.1, let n = ap length h.2 in omega (arith, h.0, h.1, n)), h.2), h.3)
 
-  states : AreOne (of_stored.outcome w v) (of_stored.outcome w u) → IsSameState v u
+  states : AreOne (outcome by_stored v) (outcome by_stored u) → IsSameState v u
   states h =
       let n = ap length h.0.1 in
       let first : v.first ≡ u.first = omega (arith, n, h.0.0.0, h.0.0.1) in (first, h.0.0.0, h.0.1, h.1)
 
-  same_decides : (same : Bool) → IsTrue same ↔ IsSameState v u → same ≡ same_outcome (of_stored.outcome w v) (of_stored.outcome w u)
+  same_decides : (same : Bool) → IsTrue same ↔ IsSameState v u → same ≡ same_outcome (outcome by_stored v) (outcome by_stored u)
   same_decides same exact =
-      let d = outcome_decides (of_stored.outcome w v) (of_stored.outcome w u) in
+      let d = outcome_decides (outcome by_stored v) (outcome by_stored u) in
       same_from_decides same _ ((λ h. outcomes (exact.0 h)), λ h. exact.1 (states h)) d
 
 closing_is : (x : Schedules Stored) (ended : Stored) (same : Bool) → x.ended ≡ Some ended → IsTrue same ↔ IsSameState ended x.present →
     cond same (codes "same\n") (codes "differs\n") ≡ stream_closing of_stored x
 closing_is x ended same there exact =
-    ap (λ s. cond s (codes "same\n") (codes "differs\n")) (same_decides x.setting ended x.present same exact) ∙ ap (compared of_stored x) (sym there)
+    ap (λ s. cond s (codes "same\n") (codes "differs\n")) (same_decides ended x.present same exact) ∙ ap (compared of_stored x) (sym there)
 
 -- the closing line, as `same_state` answers
 module _ (x y : Schedules Stored) (seen : x ≡ y) (ended : Stored) (same : Bool) (there : x.ended ≡ Some ended) (exact : IsTrue same ↔ IsSameState ended x.present) where

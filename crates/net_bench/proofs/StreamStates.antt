@@ -1,11 +1,11 @@
 -- What receivers store in mode stream stands for the states of schedules, line by line.
-use Rattle.std.proofs.Common.{◌≡◌, ℕ, ◌+◌, ◌-◌, [], ◌∷◌, cond, true, false, Option, Some, None, Ok, Err, refl, sym, ◌∙◌, ap, subst}
-use Rattle.net_receiver.specs.KeptList.{next, bytes}
-use Rattle.net_receiver.specs.Schedule.{CommandSeen, Segment, Read, Show, Verdict, KeptNone, Refused, Keeps, Setting, State, after, reply}
-use Rattle.net_receiver.specs.Stored.{Stored, stored_state_after, stored_after, stored_reply, setting, StandsFor}
+use Rattle.std.proofs.Common.{◌≡◌, ℕ, [], ◌∷◌, cond, true, false, Option, Some, None, Ok, Err, refl, sym, ◌∙◌, ap, subst}
+use Rattle.net_receiver.specs.Rules.{CommandSeen, Segment, Read, Show, Verdict, KeptNone, Refused, Keeps, state_after}
+use Rattle.net_receiver.specs.Schedule.{Setting, State, queue_bytes, by_kept, after, reply}
+use Rattle.net_receiver.specs.Stored.{Stored, by_stored, stored_after, stored_reply, setting, StandsFor}
 use Rattle.net_receiver.specs.Theorems.{FreshStands, EverySchedule}
 use Rattle.net_bench.specs.Transcript.{transcript}
-use Rattle.net_bench.specs.StreamMode.{StreamCommand, ToReceiver, NextSchedule, end_fits, stream_command, reply_text, comparison, of_states, Schedules, first_schedule, commanded, stream_does, stream_replies, stream_rules, compared, stream_closing}
+use Rattle.net_bench.specs.StreamMode.{StreamCommand, ToReceiver, NextSchedule, end_fits, stream_command, reply_text, outcome, comparison, of_states, Schedules, first_schedule, commanded, stream_does, stream_replies, stream_rules, compared, stream_closing}
 use Rattle.net_bench.specs.StreamStored.{of_stored}
 use Rattle.net_bench.specs.declared.fault.Fault.TheVariants as faults
 use Rattle.net_bench.proofs.SameText.{AlikeAfter, TreatsAlike, same_transcript}
@@ -28,7 +28,7 @@ record Alike (x : Schedules Stored) (y : Schedules State) : Type 0 where
   ended : EndedAlike y.setting x.ended y.ended
 
 -- no command changes the setting
-verdict_setting : (most : ℕ) (v : Stored) (verdict : Verdict) → setting most (stored_state_after v verdict) ≡ setting most v
+verdict_setting : (most : ℕ) (v : Stored) (verdict : Verdict) → setting most (state_after by_stored v verdict) ≡ setting most v
 verdict_setting most v KeptNone = refl
 verdict_setting most v Refused = refl
 verdict_setting most v (Keeps part) = refl
@@ -51,14 +51,13 @@ module _ (fresh_stands : FreshStands) (every : EverySchedule) where
       let here : stored_reply w.most_runs v c ≡ reply (setting w.most_runs v) s c = cc in
       here ∙ ap (λ u. reply u s c) h.setting
 
-  same_outcome_there : (w : Setting) (v : Stored) (s : State) → Stands w v s → of_stored.outcome w v ≡ of_states.outcome w s
+  same_outcome_there : (w : Setting) (v : Stored) (s : State) → Stands w v s → outcome by_stored v ≡ outcome (by_kept w) s
   same_outcome_there w v s h =
       let shown = same_reply w v s Show h in
-      let next_is : (of_stored.outcome w v).next ≡ (of_states.outcome w s).next = cc in
-      let held_is : (of_stored.outcome w v).held ≡ (of_states.outcome w s).held = cc in
+      let next_is : (outcome by_stored v).next ≡ (outcome (by_kept w) s).next = cc in
+      let held_is : (outcome by_stored v).held ≡ (outcome (by_kept w) s).held = cc in
       let first : v.first ≡ w.first = ap (λ u. u.first) h.setting in
-      let queue : v.queue ≡ bytes s.kept (w.first + s.read) (next w.first s.kept - (w.first + s.read)) =
-      h.state.queue ∙ ap (λ f. bytes s.kept (f + s.read) (next f s.kept - (f + s.read))) first in
+      let queue : v.queue ≡ queue_bytes w.first s = h.state.queue ∙ ap (λ f. queue_bytes f s) first in
       λ i. record { read = h.state.read i; next = next_is i; queue = queue i; held = held_is i }
 
   -- a line, where both settings are one

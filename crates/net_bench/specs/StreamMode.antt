@@ -1,9 +1,10 @@
 -- Mode stream: a schedule of segments and reads, or two of them, one after the other.
-use Rattle.std.specs.Prelude.{ℕ, ◌+◌, ◌^◌, ◌&&◌, ◌-◌, ◌==◌, nat_lt, if◌then◌else◌, Bool, true, List, [], ◌∷◌, ◌++◌, length, flat_map, codes, bytes_eq, decimal, Option, Some, None, option_map, Result, Ok, Err}
+use Rattle.std.specs.Prelude.{ℕ, ◌+◌, ◌^◌, ◌&&◌, ◌==◌, nat_lt, if◌then◌else◌, Bool, true, List, [], ◌∷◌, ◌++◌, length, flat_map, codes, bytes_eq, decimal, Option, Some, None, option_map, Result, Ok, Err}
 use Rattle.std.specs.Cmp.Lexicographic.{pointwise}
 use Rattle.net_storage.specs.Positions.{maximal_runs}
-use Rattle.net_receiver.specs.KeptList.{next, bytes, held}
-use Rattle.net_receiver.specs.Schedule.{CommandSeen, Segment, Read, Show, ReplySeen, Segmented, Gave, Shown, Setting, State, fresh, after, reply}
+use Rattle.net_receiver.specs.Rules.{CommandSeen, Segment, Read, Show, ReplySeen, Segmented, Gave}
+use Rattle.net_receiver.specs.Rules.{Shown, Keeping, after, reply}
+use Rattle.net_receiver.specs.Schedule.{Setting, State, fresh, by_kept}
 use Rattle.net_text.specs.Numeral.{number_of}
 use Rattle.net_bench.specs.Text.{hex_bytes, hex_text}
 use Rattle.net_bench.specs.Transcript.{Rules}
@@ -100,27 +101,23 @@ comparison a b = if same_outcome a b then codes "same\n" else codes "differs\n"
 
 -- ---- rules
 
--- what the rules of the mode are made of, whatever stands for a schedule: how one begins, what a command makes of it,
--- what the command is answered, and what is compared of it in the end
+-- what stands for a schedule: how one begins, and the way of keeping what its segments bring
 pub record Scheduling (S : Type 0) : Type 0 where
   pub begun : Setting → S
-  pub after : Setting → S → CommandSeen → S
-  pub reply : Setting → S → CommandSeen → ReplySeen
-  pub outcome : Setting → S → Outcome
+  pub keeping : Setting → Keeping S
+
+-- what a schedule is compared by in the end
+abbrev pub outcome : {S : Type 0} → Keeping S → S → Outcome
+outcome keeping s = record {
+  read = keeping.read s;
+  next = keeping.next s;
+  queue = keeping.queue s;
+  held = maximal_runs (keeping.held s);
+}
 
 -- a schedule as what it kept and how much of it was read
 abbrev pub of_states : Scheduling State
-of_states = record {
-  begun = λ w. fresh;
-  after = after;
-  reply = reply;
-  outcome = λ w s. record {
-    read = s.read;
-    next = next w.first s.kept;
-    queue = bytes s.kept (w.first + s.read) (next w.first s.kept - (w.first + s.read));
-    held = maximal_runs (held w.first s.kept);
-  };
-}
+of_states = record { begun = λ w. fresh; keeping = by_kept }
 
 -- the schedules of a run
 pub record Schedules (S : Type 0) : Type 0 where
@@ -138,10 +135,12 @@ module _ {S : Type 0} (scheduling : Scheduling S) where
 
   -- a command to the receiver, and its reply
   abbrev pub commanded : Schedules S → CommandSeen → Schedules S × List ℕ
-  commanded schedules command_seen = (
-    record schedules { present = scheduling.after schedules.setting schedules.present command_seen },
-    reply_text (scheduling.reply schedules.setting schedules.present command_seen),
-  )
+  commanded schedules command_seen =
+      let keeping = scheduling.keeping schedules.setting in
+      let most_runs = schedules.setting.most_runs in (
+        record schedules { present = after keeping most_runs schedules.present command_seen },
+        reply_text (reply keeping most_runs schedules.present command_seen),
+      )
 
   -- the second schedule begins, unless there is one: the receiver is a fresh one, and nothing is replied
   abbrev pub next_schedule : Schedules S → Option S → Result (Schedules S × List ℕ) Fault
@@ -166,7 +165,9 @@ module _ {S : Type 0} (scheduling : Scheduling S) where
   -- whether the outcome of the schedule that ended is that of the present one
   abbrev pub compared : Schedules S → Option S → List ℕ
   compared schedules None = []
-  compared schedules (Some ended) = comparison (scheduling.outcome schedules.setting ended) (scheduling.outcome schedules.setting schedules.present)
+  compared schedules (Some ended) =
+      let keeping = scheduling.keeping schedules.setting in
+      comparison (outcome keeping ended) (outcome keeping schedules.present)
 
   -- what is written after the last line: with one schedule nothing
   abbrev pub stream_closing : Schedules S → List ℕ

@@ -1,19 +1,13 @@
 -- The schedules of mode stream as their receivers store them.
 use Rattle.std.specs.Prelude.{ℕ, Option, refl}
 use Rattle.std.specs.Coded.{Coded, code_by, coded×, coded_ℕ, coded_option}
-use Rattle.net_storage.specs.Positions.{maximal_runs}
-use Rattle.net_receiver.specs.Stored.{Stored, fresh_stored, domain, stored_next, stored_after, stored_reply}
+use Rattle.net_receiver.specs.Stored.{Stored, fresh_stored, by_stored}
 use Rattle.net_receiver.specs.Parts.{stored_code}
 use Rattle.net_bench.specs.StreamMode.{Scheduling, Schedules}
 
 -- a schedule as what its receiver stores
 abbrev pub of_stored : Scheduling Stored
-of_stored = record {
-  begun = λ w. fresh_stored w.first w.capacity;
-  after = λ w. stored_after w.most_runs;
-  reply = λ w. stored_reply w.most_runs;
-  outcome = λ w v. record { read = v.read; next = stored_next v; queue = v.queue; held = maximal_runs (domain v.held) };
-}
+of_stored = record { begun = λ w. fresh_stored w.first w.capacity; keeping = λ w. by_stored }
 
 -- schedules as the tuple of what they are made of
 abbrev pub schedules_code : Coded (Schedules Stored)

@@ -4,7 +4,7 @@
 ghost use Rattle.std.specs.Prelude.{◌≡◌, ◌↔◌, ℕ, IsTrue, [], ◌∷◌, codes, Some, None, Ok};
 ghost use Rattle.net_storage.specs.Positions.{Positions};
 ghost use Rattle.net_storage.specs.Assembler.{MakesTooManyRuns};
-ghost use Rattle.net_receiver.specs.Schedule.{Segment, Segmented, Shown};
+ghost use Rattle.net_receiver.specs.Rules.{Segment, Segmented, Shown};
 ghost use Rattle.net_bench.specs.Text.{words_of};
 ghost use Rattle.net_bench.specs.AsmMode.{makes_too_many_runs};
 ghost use Rattle.net_bench.specs.StreamMode.{ToReceiver, stream_command, reply_text, comparison};

@@ -1,30 +1,28 @@
 -- What one call leaves and answers, as its callers want it.
-use Rattle.std.proofs.Common.{◌≡◌, ℕ, zero, suc, ◌+◌, ◌-◌, ◌<◌, ◌≤◌, min, Bool, true, false, cond, List, [], ◌∷◌, ◌++◌, length, take, drop, nat_eq, nat_lt, not, ◌&&◌, Some, is_some, unwrap_or, slice_get, slice_range, get_or, refl, sym, ap, subst, ◌∙◌, arith, ⊎_elim, take_all, Result, Ok, Err, IsOk, IfOk, OnErr, IsTrue, All, length-append, length-take, length-drop, eqb-true}
+use Rattle.std.proofs.Common.{◌≡◌, ℕ, zero, suc, ◌+◌, ◌-◌, ◌<◌, ◌≤◌, min, Bool, true, false, cond, List, [], ◌∷◌, ◌++◌, length, take, drop, nat_eq, nat_lt, not, ◌&&◌, Some, is_some, unwrap_or, slice_get, slice_range, get_or, refl, sym, ap, subst, ◌∙◌, arith, ⊎_elim, take_all, Result, Ok, Err, IsOk, IfOk, OnErr, IsTrue, All, length-take, length-drop, eqb-true}
 use Rattle.std.specs.FinMap as fin
 use Rattle.std.specs.Option.{option_or}
 use Rattle.std.proofs.lemmas.Grind.{common_steps}
 use Rattle.std.proofs.lemmas.Bool.{both_ways, cases_lt, cases_Bool, cond-true, cond-false}
 use Rattle.std.proofs.lemmas.Option.{slice_get-get_or}
 use Rattle.std.proofs.lemmas.List.{take-append-drop, drop-take, drop-drop, take-take}
-use Rattle.std.proofs.lemmas.List.FromFn.{length-map-range_with_len}
 use Rattle.net_storage.specs.Positions.{Positions, runs, with_range}
 use Rattle.net_storage.specs.declared.assembler.error.TooManyHolesError.{TooManyHolesError}
 use Rattle.net_receiver.specs.declared.receiver.kept.Kept.{Kept}
 use Rattle.net_receiver.specs.KeptList.{Piece, piece, piece_at, clip}
 use Rattle.std.proofs.lemmas.List.Elements.{All-nil, All-cons, All-append}
 use Rattle.net_receiver.specs.KeptList.{next}
-use Rattle.net_receiver.specs.Schedule.{Show, State, Agrees, after_all, Follows, EndsBy}
-use Rattle.net_receiver.specs.Stored.{stored_reply, stored_after_all, setting, StandsFor}
-use Rattle.net_receiver.specs.Theorems.{ExecutedFor}
+use Rattle.net_receiver.specs.Rules.{Show, CommandSeen, ReplySeen, Segment, Read, Verdict, KeptNone, Refused, Keeps, verdict_of_part, verdict, state_after, answer}
+use Rattle.net_receiver.specs.Schedule.{State, Agrees, after_all, Follows, EndsBy, bytes_read, PieceAgrees}
+use Rattle.net_receiver.specs.Stored.{stored_reply, stored_after_all, setting, StandsFor, Stored, HeldBytes, domain, laid_over, first_lacking, values_at, stored_next, by_stored, stored_read, stored_after, fresh_stored}
+use Rattle.net_receiver.proofs.Whole.{ran}
 use Rattle.net_receiver.specs.Truthful.{SaysOfLonger, NoneSay, SegmentSays, ReadSays, ShowSays, BothSay, EachSays, FreshReceivesFrom, AgreeingReceives, ReceivesByParts, ReceivesFromLonger}
 use Rattle.net_receiver.proofs.Step.{same_next}
 use Rattle.net_receiver.proofs.Run.{setting_kept}
 use Rattle.net_receiver.proofs.Truthful.{longer_at, longer_receives}
-use Rattle.net_receiver.specs.Schedule.{CommandSeen, ReplySeen, Segment, Read, bytes_read, PieceAgrees, Verdict, KeptNone, Refused, Keeps, verdict_of_part}
-use Rattle.net_receiver.specs.Stored.{Stored, HeldBytes, domain, laid_over, first_lacking, values_at, joined, stored_next, stored_verdict, stored_state_after, stored_answer, stored_read, stored_after, fresh_stored}
 use Rattle.net_receiver.specs.Theorems.{Executed}
 use Rattle.net_receiver.specs.Truthful.{Receives, ReceivesFrom, Says, AllSay, IsTruthful, SaysWhatIsThere, QueueIsOf, kept_of}
-use Rattle.net_receiver.proofs.Maps.{get-lay, first_lacking_is}
+use Rattle.net_receiver.proofs.Maps.{get-lay, first_lacking_is, next_joined}
 use Rattle.net_receiver.proofs.Covering.{piece_before, piece_from, slice_get-drop, slice_get-take}
 use Rattle.net_receiver.proofs.Recover.{follows_verdict}
 use Rattle.net_receiver.proofs.Run.{read_front}
@@ -124,14 +122,15 @@ pub record InOrder (v : Stored) (xs : List ℕ) (u : Stored) (r : Result Kept To
   pub joins : IfOk r (λ k. k.kept ≤ k.queued)
   pub queue : u.queue ≡ v.queue ++ xs ++ drop (length v.queue + length xs) u.queue
 
-pub in_order : (N : ℕ) (v u : Stored) (pos : ℕ) (xs : List ℕ) (r : Result Kept TooManyHolesError) → u ≡ stored_state_after v (stored_verdict N v (piece pos xs)) → r ≡ stored_answer v (stored_verdict N v (piece pos xs)) →
+pub in_order : (N : ℕ) (v u : Stored) (pos : ℕ) (xs : List ℕ) (r : Result Kept TooManyHolesError) → u ≡ state_after by_stored v (verdict by_stored N v (piece pos xs)) → r ≡ answer by_stored v (verdict by_stored N v (piece pos xs)) →
     pos ≤ stored_next v → InOrder v (kept_of v pos xs) u r
-in_order N v u pos xs r state answer h =
+in_order N v u pos xs r state told h =
     let n = stored_next v in
     let part = clip n (v.first + v.read + v.capacity) (piece pos xs) in
     let at : part.start ≡ n = omega arith in
     let far = reaches v part at in
-    let all = follows_verdict (λ y. InOrder v part.bytes (stored_state_after v y) (stored_answer v y)) n N (domain v.held) part at
+    let more = next_joined v part in
+    let all = follows_verdict (λ y. InOrder v part.bytes (state_after by_stored v y) (answer by_stored v y)) n N (domain v.held) part at
     (λ none. record { accepted = refl; joins = omega arith; queue = splits_none v.queue part.bytes none })
     (λ some. record {
       accepted = refl;
@@ -139,7 +138,7 @@ in_order N v u pos xs r state answer h =
       queue = splits v.queue (values_at (laid_over v part) n (first_lacking (laid_over v part) n - n)) part.bytes
           (values_of (laid_over v part) part.bytes n (first_lacking (laid_over v part) n - n) (omega arith) (λ q i b e is. laid_at v part q i b (omega arith) is));
     }) in
-    subst (λ z. InOrder v part.bytes z r) (sym state) (subst (InOrder v part.bytes (stored_state_after v (stored_verdict N v (piece pos xs)))) (sym answer) all)
+    subst (λ z. InOrder v part.bytes z r) (sym state) (subst (InOrder v part.bytes (state_after by_stored v (verdict by_stored N v (piece pos xs)))) (sym told) all)
 
 -- what any segment comes to
 pub record AnyOrder (v : Stored) (xs : List ℕ) (u : Stored) (r : Result Kept TooManyHolesError) : Type 0 where
@@ -161,19 +160,18 @@ any_verdict P n most h part empty refused keeps =
     both true = refused
     both false = keeps
 
-pub any_order : (N : ℕ) (v u : Stored) (pos : ℕ) (xs : List ℕ) (r : Result Kept TooManyHolesError) → u ≡ stored_state_after v (stored_verdict N v (piece pos xs)) → r ≡ stored_answer v (stored_verdict N v (piece pos xs)) →
+pub any_order : (N : ℕ) (v u : Stored) (pos : ℕ) (xs : List ℕ) (r : Result Kept TooManyHolesError) → u ≡ state_after by_stored v (verdict by_stored N v (piece pos xs)) → r ≡ answer by_stored v (verdict by_stored N v (piece pos xs)) →
     AnyOrder v (kept_of v pos xs) u r
-any_order N v u pos xs r state answer =
+any_order N v u pos xs r state told =
     let n = stored_next v in
     let part = clip n (v.first + v.read + v.capacity) (piece pos xs) in
-    let m = first_lacking (laid_over v part) n in
-    let more : length (values_at (laid_over v part) n (m - n)) ≡ m - n = length-map-range_with_len (λ q. unwrap_or (fin.get (laid_over v part) q) 0) n (m - n) in
-    let long : length (joined v part).queue ≡ length v.queue + (m - n) = length-append v.queue (values_at (laid_over v part) n (m - n)) ∙ ap (λ k. length v.queue + k) more in
-    let all = any_verdict (λ y. AnyOrder v part.bytes (stored_state_after v y) (stored_answer v y)) n N (domain v.held) part
+    let more = next_joined v part in
+    let from = (first_lacking_is (laid_over v part) n).from in
+    let all = any_verdict (λ y. AnyOrder v part.bytes (state_after by_stored v y) (answer by_stored v y)) n N (domain v.held) part
     (λ none. record { first = refl; capacity = refl; read = refl; refused = tt; kept = sym none; queued = omega arith; grows = omega arith })
     (record { first = refl; capacity = refl; read = refl; refused = refl; kept = tt; queued = tt; grows = omega arith })
     (record { first = refl; capacity = refl; read = refl; refused = tt; kept = refl; queued = omega arith; grows = omega arith }) in
-    subst (λ z. AnyOrder v part.bytes z r) (sym state) (subst (AnyOrder v part.bytes (stored_state_after v (stored_verdict N v (piece pos xs)))) (sym answer) all)
+    subst (λ z. AnyOrder v part.bytes z r) (sym state) (subst (AnyOrder v part.bytes (state_after by_stored v (verdict by_stored N v (piece pos xs)))) (sym told) all)
 
 -- ---- what makes the relations
 pub says_of_longer : SaysOfLonger
@@ -255,14 +253,16 @@ capacity_kept most v [] = refl
 capacity_kept most v (c ∷ cs) = capacity_kept most (stored_after most v c) cs ∙ capacity_stays most v c
 
 -- ---- segments that follow on one another
-pub reached : (N : ℕ) (v u : Stored) (cs : List CommandSeen) (rs : List ReplySeen) {T E : Type 0} (r : Result T E) (s : State) → u.first ≡ v.first → StandsFor v s → ExecutedFor N v u cs rs (IsOk r) s →
+pub reached : (N : ℕ) (v u : Stored) (cs : List CommandSeen) (rs : List ReplySeen) {T E : Type 0} (r : Result T E) (s : State) → Executed N v u cs rs (IsOk r) → StandsFor v s →
     Follows (setting N v) s (stored_next v) cs → IfOk r (λ _. EndsBy (stored_next u) cs)
-reached N v u cs rs (Err e) s first d ran follows = tt
-reached N v u cs rs (Ok t) s first d ran follows =
-    let all : take ran.count cs ≡ cs = take_all ran.count cs (omega (arith, ran.whole refl)) in
-    let there : StandsFor u (after_all (setting N v) s cs) = subst (λ l. StandsFor u (after_all (setting N v) s l)) all ran.stands in
+reached N v u cs rs (Err e) s run d follows = tt
+reached N v u cs rs (Ok t) s run d follows =
+    let first : u.first ≡ v.first = ap (λ (y : Stored). y.first) run.state ∙ first_kept N v (take run.count cs) in
+    let seen = ran N v u cs rs _ run.count run.within run.whole run.state run.answers s d in
+    let all : take seen.count cs ≡ cs = take_all seen.count cs (omega (arith, seen.whole refl)) in
+    let there : StandsFor u (after_all (setting N v) s cs) = subst (λ l. StandsFor u (after_all (setting N v) s l)) all seen.stands in
     let end : stored_next u ≡ next v.first (after_all (setting N v) s cs).kept = same_next u (after_all (setting N v) s cs) there ∙ ap (λ b. next b (after_all (setting N v) s cs).kept) first in
-    subst (λ n. EndsBy n cs) (sym end) (ran.recovers refl (subst (λ n. Follows (setting N v) s n cs) (same_next v s d) follows))
+    subst (λ n. EndsBy n cs) (sym end) (seen.recovers refl (subst (λ n. Follows (setting N v) s n cs) (same_next v s d) follows))
 
 -- ---- parts of the queue
 part_of : (x q bytes : List ℕ) (a o : ℕ) → q ≡ take (length q) (drop a x) → bytes ≡ take (length bytes) (drop o q) → bytes ≡ take (length bytes) (drop (a + o) x)

@@ -1,12 +1,13 @@
 -- The sets of a kept list as lists, and a schedule computed in full.
-use Rattle.std.proofs.Common.{◌≡◌, ℕ, zero, suc, ◌+◌, ◌-◌, ◌<◌, ◌≤◌, min, Bool, true, false, cond, not, ◌||◌, ◌==◌, List, [], ◌∷◌, ◌++◌, map, filter, flat_map, length, nat_lt, refl, sym, ap, subst, ◌∙◌, arith, ⊎_elim, lt-ltb, le-ltb, eq-eqb, ne_eqb, le_trans}
+use Rattle.std.proofs.Common.{◌≡◌, ℕ, zero, suc, ◌+◌, ◌-◌, ◌<◌, ◌≤◌, min, Bool, true, false, cond, not, ◌||◌, ◌==◌, List, [], ◌∷◌, ◌++◌, map, filter, flat_map, length, nat_lt, refl, sym, ap, subst, ◌∙◌, arith, ⊎_elim, lt-ltb, le-ltb, eq-eqb, ne_eqb, le_trans, take}
 use Rattle.std.specs.Option.{option_or}
 use Rattle.std.specs.List.{range_with_len}
 use Rattle.std.proofs.lemmas.Bool.{cond-true, cond-false, cases_order}
 use Rattle.net_storage.specs.Positions.{Positions, contains, positions, set_of_list, bound_of, missing_within, first_missing, begins_run, run_starts, runs, maximal_runs, with_range}
 use Rattle.net_storage.proofs.Positions.{has, Rises, contains-set_of_list, positions-set_of_list, same_positions, runs-maximal_runs}
 use Rattle.net_receiver.specs.KeptList.{Piece, piece, piece_at, clip, byte_at, bytes, covered_set, next, held}
-use Rattle.net_receiver.specs.Schedule.{CommandSeen, Segment, Read, Show, ReplySeen, Segmented, Gave, Shown, Setting, Refused, Keeps, verdict_of_part, State, state_after, fresh, answer, first_three, verdict, after, reply, replies}
+use Rattle.net_receiver.specs.Rules.{CommandSeen, Segment, Read, Show, ReplySeen, Segmented, Gave, Shown, Refused, Keeps, verdict_of_part, state_after, answer, first_three, verdict}
+use Rattle.net_receiver.specs.Schedule.{Setting, State, fresh, after, reply, replies, by_kept}
 use Rattle.net_receiver.specs.Computed.{is_in, put, rising, missing_of, missing_in, runs_in, listed, held_in, NextComputed, HeldComputed, RunsComputed, ByteComputed, took, WorkedSchedule}
 
 in_has : (ks : List ℕ) (q : ℕ) → is_in ks q ≡ has ks q
@@ -167,17 +168,17 @@ two_held = held_computed 0 two
 three_held : maximal_runs (held 0 three) ≡ []
 three_held = held_computed 0 three
 
-first_verdict : verdict w fresh first ≡ Keeps first
+first_verdict : verdict (by_kept w) 4 fresh first ≡ Keeps first
 first_verdict =
     (λ i. verdict_of_part (none_next i) 4 (held 0 []) (clip (none_next i) 16 first))
     ∙ ap (λ r. cond (nat_lt 4 r) Refused (Keeps first)) (let few : runs (with_range (held 0 []) 2 2) ≡ 1 = runs_computed 0 [] 2 2 in few)
 
-second_verdict : verdict w (kept one) second ≡ Keeps second
+second_verdict : verdict (by_kept w) 4 (kept one) second ≡ Keeps second
 second_verdict =
     (λ i. verdict_of_part (one_next i) 4 (held 0 one) (clip (one_next i) 16 second))
     ∙ ap (λ r. cond (nat_lt 4 r) Refused (Keeps second)) (let few : runs (with_range (held 0 one) 3 2) ≡ 1 = runs_computed 0 one 3 2 in few)
 
-third_verdict : verdict w (kept two) third ≡ Keeps third
+third_verdict : verdict (by_kept w) 4 (kept two) third ≡ Keeps third
 third_verdict = λ i. verdict_of_part (two_next i) 4 (held 0 two) (clip (two_next i) 16 third)
 
 step : (s t : State) (c : CommandSeen) (r : ReplySeen) (cs : List CommandSeen) (rs : List ReplySeen) → after w s c ≡ t → reply w s c ≡ r → replies w t cs ≡ rs → replies w s (c ∷ cs) ≡ r ∷ rs
@@ -190,21 +191,21 @@ bytes_three = refl
 pub worked_schedule : WorkedSchedule
 worked_schedule =
     step fresh (kept one) (Segment 2 (65 ∷ 65 ∷ [])) _ (Segment 3 (66 ∷ 66 ∷ []) ∷ Show ∷ Segment 0 (67 ∷ 67 ∷ []) ∷ Show ∷ Read 5 ∷ Show ∷ []) _
-    (ap (state_after fresh) first_verdict)
-    (ap (λ x. Segmented (answer 0 fresh x)) first_verdict ∙ (λ i. took 2 (one_next i - none_next i) (first_three (one_held i))))
+    (ap (state_after (by_kept w) fresh) first_verdict)
+    (ap (λ x. Segmented (answer (by_kept w) fresh x)) first_verdict ∙ (λ i. took 2 (one_next i - none_next i) (first_three (one_held i))))
     (step (kept one) (kept two) (Segment 3 (66 ∷ 66 ∷ [])) _ (Show ∷ Segment 0 (67 ∷ 67 ∷ []) ∷ Show ∷ Read 5 ∷ Show ∷ []) _
-    (ap (state_after (kept one)) second_verdict)
-    (ap (λ x. Segmented (answer 0 (kept one) x)) second_verdict ∙ (λ i. took 2 (two_next i - one_next i) (first_three (two_held i))))
+    (ap (state_after (by_kept w) (kept one)) second_verdict)
+    (ap (λ x. Segmented (answer (by_kept w) (kept one) x)) second_verdict ∙ (λ i. took 2 (two_next i - one_next i) (first_three (two_held i))))
     (step (kept two) (kept two) Show _ (Segment 0 (67 ∷ 67 ∷ []) ∷ Show ∷ Read 5 ∷ Show ∷ []) _ refl
-    (λ i. Shown (two_next i) (two_next i - 0) (16 - (two_next i - 0)) (two_held i))
+    (λ i. Shown (two_next i) (length (bytes two 0 (two_next i - 0))) (16 - length (bytes two 0 (two_next i - 0))) (two_held i))
     (step (kept two) (kept three) (Segment 0 (67 ∷ 67 ∷ [])) _ (Show ∷ Read 5 ∷ Show ∷ []) _
-    (ap (state_after (kept two)) third_verdict)
-    (ap (λ x. Segmented (answer 0 (kept two) x)) third_verdict ∙ (λ i. took 2 (three_next i - two_next i) (first_three (three_held i))))
+    (ap (state_after (by_kept w) (kept two)) third_verdict)
+    (ap (λ x. Segmented (answer (by_kept w) (kept two) x)) third_verdict ∙ (λ i. took 2 (three_next i - two_next i) (first_three (three_held i))))
     (step (kept three) (kept three) Show _ (Read 5 ∷ Show ∷ []) _ refl
-    (λ i. Shown (three_next i) (three_next i - 0) (16 - (three_next i - 0)) (three_held i))
+    (λ i. Shown (three_next i) (length (bytes three 0 (three_next i - 0))) (16 - length (bytes three 0 (three_next i - 0))) (three_held i))
     (step (kept three) (record { kept = three; read = 5 }) (Read 5) _ (Show ∷ []) _
     (λ i. record { kept = three; read = 0 + min 5 (three_next i - 0) })
-    ((λ i. Gave (bytes three 0 (min 5 (three_next i - 0)))) ∙ ap (λ xs. Gave xs) bytes_three)
+    ((λ i. Gave (take 5 (bytes three 0 (three_next i - 0)))) ∙ ap (λ xs. Gave xs) bytes_three)
     (step (record { kept = three; read = 5 }) (record { kept = three; read = 5 }) Show _ [] [] refl
-    (λ i. Shown (three_next i) (three_next i - 5) (16 - (three_next i - 5)) (three_held i))
+    (λ i. Shown (three_next i) (length (bytes three 5 (three_next i - 5))) (16 - length (bytes three 5 (three_next i - 5))) (three_held i))
     refl))))))

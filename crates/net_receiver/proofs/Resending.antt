@@ -1,19 +1,19 @@
 -- Segments that come again, and segments that together cover a range.
-use Rattle.std.proofs.Common.{◌≡◌, ◌⊎◌, inl, inr, ℕ, ◌+◌, ◌-◌, ◌<◌, ◌≤◌, max, Bool, true, false, cond, List, [], ◌∷◌, ◌++◌, length, take, nat_le, Option, Some, None, is_some, unwrap_or, slice_get, All, refl, sym, ap, ◌∙◌, arith, ⊎_elim, le-leb, lt-ltb, le_trans, length-append, length-take, length-drop}
+use Rattle.std.proofs.Common.{◌≡◌, ◌⊎◌, inl, inr, ℕ, ◌+◌, ◌-◌, ◌<◌, ◌≤◌, max, Bool, true, false, cond, List, [], ◌∷◌, ◌++◌, length, take, nat_le, Option, Some, None, is_some, slice_get, All, refl, sym, ap, ◌∙◌, arith, ⊎_elim, le-leb, lt-ltb, le_trans, length-take, length-drop}
 use Rattle.std.specs.Option.{option_or}
 use Rattle.std.specs.Cmp.{nat_cmp_total}
 use Rattle.std.specs.FinMap as fin
 use Rattle.std.proofs.lemmas.Bool.{both_ways, cases_lt, cases_order, cond-true, lt-leb, and_from}
 use Rattle.std.proofs.lemmas.List.{append-nil}
 use Rattle.std.proofs.lemmas.List.Elements.{All-head, All-tail}
-use Rattle.std.proofs.lemmas.List.FromFn.{length-map-range_with_len}
 use Rattle.net_receiver.specs.KeptList.{Piece, piece, piece_at, end, clip}
-use Rattle.net_receiver.specs.Schedule.{CommandSeen, Segment, Read, Show, Segmented, IsAccepted}
-use Rattle.net_receiver.specs.Stored.{HeldBytes, Stored, domain, laid_over, first_lacking, values_at, joined, joined_from, stored_next, stored_verdict, stored_state_after, stored_answer, stored_read, stored_after, stored_reply, stored_after_all, stored_replies}
+use Rattle.net_receiver.specs.Rules.{CommandSeen, Segment, Read, Show, Segmented, verdict, state_after, answer}
+use Rattle.net_receiver.specs.Schedule.{IsAccepted}
+use Rattle.net_receiver.specs.Stored.{HeldBytes, Stored, domain, laid_over, first_lacking, values_at, joined, joined_from, stored_next, by_stored, stored_read, stored_after, stored_reply, stored_after_all, stored_replies}
 use Rattle.net_receiver.specs.Resending.{IsHeld, HeldChangesNothing, SecondCopy, Has, HasStays, AcceptedBrings, HasAllReaches, Brings, Completes}
 use Rattle.net_receiver.proofs.Search.{IsFirst, first_unique}
 use Rattle.net_receiver.proofs.Covering.{piece_before, piece_past, piece_from, piece_has, slice_get-drop, slice_get-take}
-use Rattle.net_receiver.proofs.Maps.{get-lay, first_lacking_is, same_both}
+use Rattle.net_receiver.proofs.Maps.{get-lay, first_lacking_is, same_both, next_joined}
 use Rattle.net_receiver.proofs.Step.{verdict_cases, none_of}
 use Rattle.net_receiver.proofs.Truthful.{none_is_not, clip_at, segment_cases, next_grows_stored}
 use Rattle.net_receiver.proofs.Called.{any_verdict}
@@ -32,20 +32,13 @@ module _ (v : Stored) (part : Piece) where
   first : IsFirst (fin.contains_key laid) n m
   first = first_lacking_is laid n
 
-  next_joined : stored_next (joined v part) ≡ m
-  next_joined =
-      let from = first.from in
-      let more : length (values_at laid n (m - n)) ≡ m - n = length-map-range_with_len (λ q. unwrap_or (fin.get laid q) 0) n (m - n) in
-      let long : length (v.queue ++ values_at laid n (m - n)) ≡ length v.queue + (m - n) = length-append v.queue (values_at laid n (m - n)) ∙ ap (λ k. length v.queue + k) more in
-      omega arith
-
   get_left : (p : ℕ) → fin.get (joined v part).held p ≡ cond (nat_le m p) (fin.get laid p) None
   get_left p = fin.get-retain_keys laid (λ q. nat_le m q) p (λ x e. ap (nat_le m) (sym (fin.nat_cmp-IsAntisymmetric p x e)))
 
   -- a position of the laid bytes is queued then, or still held
   has_laid : (p : ℕ) → fin.contains_key laid p ≡ true → Has (joined v part) p
   has_laid p h =
-      let at = next_joined in
+      let at = next_joined v part in
       ⊎_elim (λ (l : p < m). inl (omega arith))
       (λ (l : m ≤ p). inr (ap is_some (get_left p ∙ cond-true _ _ _ (le-leb m p l)) ∙ h))
       (cases_lt p m)
@@ -66,18 +59,18 @@ module _ (v : Stored) (part : Piece) where
 
   has_joined : (p : ℕ) → Has v p → Has (joined v part) p
   has_joined p h =
-      let at = next_joined in
+      let at = next_joined v part in
       let from = first.from in
       ⊎_elim (λ (l : p < stored_next v). inl (omega arith)) (λ (k : fin.contains_key v.held p ≡ true). has_laid p (laid_held p k)) h
 
   missing_joined : fin.contains_key (joined v part).held (stored_next (joined v part)) ≡ false
   missing_joined =
-      ap (fin.contains_key (joined v part).held) next_joined
+      ap (fin.contains_key (joined v part).held) (next_joined v part)
       ∙ ap is_some (get_left m ∙ ap (λ o. cond (nat_le m m) o None) (none_of (fin.get laid m) first.here) ∙ same_both (nat_le m m) None)
 
   above_joined : (p : ℕ) → fin.contains_key (joined v part).held p ≡ true → stored_next (joined v part) < p
   above_joined p h =
-      let at = next_joined in
+      let at = next_joined v part in
       ⊎_elim (λ (same : m ≡ p). absurd (both_ways _ missing_joined (ap (fin.contains_key (joined v part).held) (at ∙ same) ∙ h)))
       (⊎_elim (λ (l : m < p). omega arith)
       (λ (l : p < m). absurd (both_ways _ (ap is_some (get_left p ∙ ap (λ b. cond b (fin.get laid p) None) (lt-leb m p l))) h)))
@@ -153,7 +146,7 @@ kept_held v part above same =
 held_changes_nothing_above : (most : ℕ) (v : Stored) (pos : ℕ) (xs : List ℕ) → ((p : ℕ) → fin.contains_key v.held p ≡ true → stored_next v < p) → IsHeld v pos xs → stored_after most v (Segment pos xs) ≡ v
 held_changes_nothing_above most v pos xs above held =
     let part = clip (stored_next v) (v.first + v.read + v.capacity) (piece pos xs) in
-    verdict_cases (λ y. stored_state_after v y ≡ v) (stored_next v) most (domain v.held) part refl refl
+    verdict_cases (λ y. state_after by_stored v y ≡ v) (stored_next v) most (domain v.held) part refl refl
     (kept_held v part above (λ q b is.
     let within = clip_within (stored_next v) (v.first + v.read + v.capacity) (piece pos xs) q b is in
     held q b within.0 within.1 (clip_at (stored_next v) (v.first + v.read + v.capacity) (piece pos xs) q b is)))
@@ -165,9 +158,9 @@ pub second_copy : SecondCopy
 second_copy most v pos xs sound =
     let e : Piece = piece pos xs in
     let part = clip (stored_next v) (v.first + v.read + v.capacity) e in
-    verdict_cases (λ y. stored_verdict most v e ≡ y → stored_after most (stored_state_after v y) (Segment pos xs) ≡ stored_state_after v y) (stored_next v) most (domain v.held) part
-    (λ is. ap (stored_state_after v) is)
-    (λ is. ap (stored_state_after v) is)
+    verdict_cases (λ y. verdict by_stored most v e ≡ y → stored_after most (state_after by_stored v y) (Segment pos xs) ≡ state_after by_stored v y) (stored_next v) most (domain v.held) part
+    (λ is. ap (state_after by_stored v) is)
+    (λ is. ap (state_after by_stored v) is)
     (λ is. held_changes_nothing_above most (joined v part) pos xs (above_joined v part) (λ p b from to at.
     let there = next_joined v part in
     let grown = (first v part).from in
@@ -190,7 +183,7 @@ accepted_brings most v pos xs p accepted from to below =
     let part = clip (stored_next v) (v.first + v.read + v.capacity) (piece pos xs) in
     let cut = length-drop (stored_next v - pos) (take (v.first + v.read + v.capacity - pos) xs) in
     let size = length-take (v.first + v.read + v.capacity - pos) xs in
-    any_verdict (λ y. IsAccepted (Segmented (stored_answer v y)) → Has (stored_state_after v y) p) (stored_next v) most (domain v.held) part
+    any_verdict (λ y. IsAccepted (Segmented (answer by_stored v y)) → Has (state_after by_stored v y) p) (stored_next v) most (domain v.held) part
     (λ none _. inl (omega arith))
     (λ no. absurd no)
     (λ _. ⊎_elim (λ (l : p < stored_next v). has_joined v part p (inl l))

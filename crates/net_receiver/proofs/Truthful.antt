@@ -4,8 +4,9 @@ use Rattle.std.proofs.lemmas.Bool.{both_ways, cases_lt}
 use Rattle.std.proofs.lemmas.Option.{slice_get_within}
 use Rattle.std.proofs.lemmas.List.Elements.{All-nil, All-cons, All-head, All-tail}
 use Rattle.net_receiver.specs.KeptList.{Piece, piece, piece_at, clip, byte_at, next, bytes, held}
-use Rattle.net_receiver.specs.Schedule.{CommandSeen, Segment, Read, Show, Keeps, Setting, State, fresh, state_after, after, after_all, bytes_read, PieceAgrees, Agrees}
-use Rattle.net_receiver.specs.Stored.{Stored, domain, stored_state_after, fresh_stored, stored_next, stored_after, stored_after_all, setting}
+use Rattle.net_receiver.specs.Rules.{CommandSeen, Segment, Read, Show, Keeps, state_after}
+use Rattle.net_receiver.specs.Schedule.{Setting, State, fresh, after, after_all, bytes_read, PieceAgrees, Agrees, by_kept}
+use Rattle.net_receiver.specs.Stored.{Stored, domain, by_stored, fresh_stored, stored_next, stored_after, stored_after_all, setting}
 use Rattle.net_receiver.specs.Truthful.{IsTruthful, TruthfulIsKept, Receives, FreshReceives, OneReceives, AllReceive, LongerReceives, QueueIsOfStream, FreshStream, RunReceives, FirstStays, NextGrows, SegmentReadsNothing}
 use Rattle.net_receiver.proofs.Covering.{piece_before, piece_from, slice_get-drop, slice_get-take, next_is}
 use Rattle.net_receiver.proofs.Step.{verdict_cases, same_next, queue_length}
@@ -46,7 +47,7 @@ All-push P (x ∷ xs) y all one = All-cons P x (xs ++ y ∷ []) (All-head P x xs
 one_kept : (w : Setting) (s : State) (x : List ℕ) (c : CommandSeen) → Agrees w.first s.kept x → IsTruthful w.first x c → Agrees w.first (after w s c).kept x
 one_kept w s x (Segment pos xs) all h =
     let part = clip (next w.first s.kept) (w.first + s.read + w.capacity) (piece pos xs) in
-    verdict_cases (λ y. Agrees w.first (state_after s y).kept x) (next w.first s.kept) w.most_runs (held w.first s.kept) part all all
+    verdict_cases (λ y. Agrees w.first (state_after (by_kept w) s y).kept x) (next w.first s.kept) w.most_runs (held w.first s.kept) part all all
     (All-push (PieceAgrees w.first x) s.kept part all (clip_agrees w.first (next w.first s.kept) (w.first + s.read + w.capacity) x (piece pos xs) h))
 one_kept w s x (Read count) all h = all
 one_kept w s x Show all h = all
@@ -171,10 +172,10 @@ pub first_stays : FirstStays
 first_stays most v c = ap (λ w. w.first) (setting_kept most v c)
 
 -- each verdict on a segment
-pub segment_cases : (P : Stored → Type 0) (most : ℕ) (v : Stored) (pos : ℕ) (xs : List ℕ) → P v → ((part : Piece) → P (stored_state_after v (Keeps part))) → P (stored_after most v (Segment pos xs))
+pub segment_cases : (P : Stored → Type 0) (most : ℕ) (v : Stored) (pos : ℕ) (xs : List ℕ) → P v → ((part : Piece) → P (state_after by_stored v (Keeps part))) → P (stored_after most v (Segment pos xs))
 segment_cases P most v pos xs same kept =
     let part = clip (stored_next v) (v.first + v.read + v.capacity) (piece pos xs) in
-    verdict_cases (λ y. P (stored_state_after v y)) (stored_next v) most (domain v.held) part same same (kept part)
+    verdict_cases (λ y. P (state_after by_stored v y)) (stored_next v) most (domain v.held) part same same (kept part)
 
 pub next_grows_stored : NextGrows
 next_grows_stored most v (Segment pos xs) =

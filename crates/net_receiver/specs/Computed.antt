@@ -11,8 +11,9 @@ use Rattle.std.specs.Option.{option_or}
 use Rattle.std.specs.List.{range_with_len}
 use Rattle.net_storage.specs.Positions.{bound_of, runs, with_range, maximal_runs}
 use Rattle.net_receiver.specs.KeptList.{Piece, piece_at, byte_at, next, held}
-use Rattle.net_receiver.specs.Schedule.{CommandSeen, Segment, Read, Show, ReplySeen, Segmented}
-use Rattle.net_receiver.specs.Schedule.{Gave, Shown, Setting, fresh, replies}
+use Rattle.net_receiver.specs.Rules.{CommandSeen, Segment, Read, Show, ReplySeen, Segmented, Gave}
+use Rattle.net_receiver.specs.Rules.{Shown}
+use Rattle.net_receiver.specs.Schedule.{Setting, fresh, replies}
 
 -- ---- lists of positions
 -- whether q is in ks

@@ -6,7 +6,8 @@ use Rattle.std.specs.Prelude.{◌≡◌, ◌⊎◌, ℕ, ◌+◌, ◌≤◌, ◌
 use Rattle.std.specs.Prelude.{All, IsTrue}
 use Rattle.std.specs.FinMap as fin
 use Rattle.net_receiver.specs.KeptList.{piece, piece_at}
-use Rattle.net_receiver.specs.Schedule.{CommandSeen, Segment, Read, Show, IsAccepted}
+use Rattle.net_receiver.specs.Rules.{CommandSeen, Segment, Read, Show}
+use Rattle.net_receiver.specs.Schedule.{IsAccepted}
 use Rattle.net_receiver.specs.Stored.{Stored, IsSound, stored_next, stored_after, stored_reply}
 use Rattle.net_receiver.specs.Stored.{stored_after_all, stored_replies}
 

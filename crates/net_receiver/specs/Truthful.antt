@@ -9,8 +9,8 @@
 use Rattle.std.specs.Prelude.{◌≡◌, ◌↔◌, ℕ, ◌+◌, ◌-◌, ◌≤◌, List, [], ◌∷◌, ◌++◌, length, take, drop}
 use Rattle.std.specs.Prelude.{slice_range, All, Bool, IsTrue}
 use Rattle.net_receiver.specs.KeptList.{piece}
-use Rattle.net_receiver.specs.Schedule.{CommandSeen, Segment, Read, Show, ReplySeen, bytes_read}
-use Rattle.net_receiver.specs.Schedule.{Setting, State, after_all, PieceAgrees, Agrees}
+use Rattle.net_receiver.specs.Rules.{CommandSeen, Segment, Read, Show, ReplySeen}
+use Rattle.net_receiver.specs.Schedule.{Setting, State, after_all, bytes_read, PieceAgrees, Agrees}
 use Rattle.net_receiver.specs.Stored.{Stored, fresh_stored, stored_next, stored_after, StandsFor}
 use Rattle.net_receiver.specs.Stored.{stored_after_all, stored_replies}
 use Rattle.net_receiver.specs.Theorems.{Executed}

@@ -1,6 +1,6 @@
 //! The replies of a receiver as text.
 ghost use Rattle.std.specs.Prelude.{◌≡◌, Some, flat_map, IfOk, Ok, string_bytes};
-ghost use Rattle.net_receiver.specs.Schedule.{Segmented, Gave, Shown};
+ghost use Rattle.net_receiver.specs.Rules.{Segmented, Gave, Shown};
 ghost use Rattle.net_receiver.specs.Commands.{reply_seen};
 ghost use Rattle.net_bench.specs.StreamMode.{next_run_text, runs_text, accepted_line};
 ghost use Rattle.net_bench.specs.StreamMode.{reply_text as text_of_reply};

@@ -1,5 +1,5 @@
 use Rattle.std.proofs.Common.{◌∙◌, ap, length}
-use Rattle.net_receiver.specs.Schedule.{Gave}
+use Rattle.net_receiver.specs.Rules.{Gave}
 use Rattle.net_receiver.proofs.Run.{read_front, read_reply}
 use Rattle.net_receiver.proofs.Called.{read_bytes}
 use Rattle.net_receiver.proofs.receiver.Receiver.peek_slice.Goals as goal

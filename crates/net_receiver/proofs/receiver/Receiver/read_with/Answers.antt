@@ -1,5 +1,5 @@
 use Rattle.std.proofs.Common.{◌≤◌, refl, take, length, arith}
-use Rattle.net_receiver.specs.Schedule.{Read, Gave}
+use Rattle.net_receiver.specs.Rules.{Read, Gave}
 use Rattle.net_receiver.proofs.Run.{steps}
 use Rattle.net_receiver.proofs.Called.{read_receives, front_bytes}
 use Rattle.net_receiver.proofs.receiver.Receiver.read_with.Goals as goal

@@ -1,0 +1,122 @@
+-- What a command does, and what it is answered: the rules, over any way of keeping what comes.
+--     CommandSeen, ReplySeen      a command, and its reply, as values
+--     Verdict      what becomes of a segment: nothing is kept, it is refused, or a part is kept
+--     Keeping S      what a state of type S tells, and what a kept part and a read make of it
+--     verdict keeping N s e      what becomes of the segment e in state s, N being the most runs
+--     after keeping N s c, reply keeping N s c      the state after one command, and its answer
+--     after_all keeping N s cs, replies keeping N s cs      the same of a list of commands
+-- `Schedule.antt` fills them with kept lists, `Stored.antt` with what a receiver stores.
+use Rattle.std.specs.Prelude.{ℕ, ◌+◌, ◌-◌, if◌then◌else◌, not, ◌&&◌, List, [], ◌∷◌, length, take}
+use Rattle.std.specs.Prelude.{nat_lt, nat_eq, slice_get, Option, is_some, Result, Ok, Err}
+use Rattle.net_storage.specs.declared.assembler.error.TooManyHolesError.{TooManyHolesError}
+use Rattle.net_storage.specs.Positions.{Positions, with_range, runs, maximal_runs}
+use Rattle.net_receiver.specs.declared.receiver.kept.Kept.{Kept}
+use Rattle.net_receiver.specs.KeptList.{Piece, piece, piece_at, clip}
+
+-- commands
+pub data CommandSeen : Type 0 where
+  Segment : ℕ → List ℕ → CommandSeen
+  Read : ℕ → CommandSeen
+  Show : CommandSeen
+
+-- replies
+pub data ReplySeen : Type 0 where
+  Segmented : Result Kept TooManyHolesError → ReplySeen
+  Gave : List ℕ → ReplySeen
+  Shown : ℕ → ℕ → ℕ → List (ℕ × ℕ) → ReplySeen
+
+-- what becomes of a segment
+pub data Verdict : Type 0 where
+  KeptNone : Verdict
+  Refused : Verdict
+  Keeps : Piece → Verdict
+
+-- the verdict of the kept part of a segment, where n is the first missing position
+abbrev pub verdict_of_part : ℕ → ℕ → Positions → Piece → Verdict
+verdict_of_part n most_runs held part =
+    if nat_eq (length part.bytes) 0 then KeptNone
+    else if not (is_some (piece_at part n))
+    && nat_lt most_runs (runs (with_range held part.start (length part.bytes))) then Refused
+    else Keeps part
+
+-- the first three of a list of runs, filled from the front
+abbrev pub first_three : List (ℕ × ℕ) → List (Option (ℕ × ℕ))
+first_three rs = slice_get rs 0 ∷ slice_get rs 1 ∷ slice_get rs 2 ∷ []
+
+-- the numbers, with the first three runs that are held afterwards
+abbrev pub with_sack : Result (ℕ × ℕ) TooManyHolesError → Positions → Result Kept TooManyHolesError
+with_sack (Ok n) held =
+    Ok (record { kept = n.0; queued = n.1; sack = first_three (maximal_runs held) })
+with_sack (Err e) held = Err e
+
+-- a way of keeping what comes: what its states tell, and what a kept part and a read make of them
+pub record Keeping (S : Type 0) : Type 0 where
+  -- the first position of the stream, and how many bytes there is room for
+  pub first : S → ℕ
+  pub capacity : S → ℕ
+  -- how many bytes were read
+  pub read : S → ℕ
+  -- the first missing position
+  pub next : S → ℕ
+  -- the bytes behind those that were read, up to the first missing position
+  pub queue : S → List ℕ
+  -- the positions above the first missing one whose bytes are there
+  pub held : S → Positions
+  -- the state with one more kept part
+  pub with_part : S → Piece → S
+  -- the state after a read of so many bytes, or of the whole queue if it is shorter
+  pub after_read : S → ℕ → S
+
+module _ {S : Type 0} (keeping : Keeping S) where
+  -- the limit of what is kept
+  abbrev pub limit : S → ℕ
+  limit s = keeping.first s + keeping.read s + keeping.capacity s
+
+  -- what is left of a segment
+  abbrev pub state_after : S → Verdict → S
+  state_after s KeptNone = s
+  state_after s Refused = s
+  state_after s (Keeps part) = keeping.with_part s part
+
+  -- how many bytes are kept, and how many join the queue, or the refusal
+  abbrev pub numbers : S → Verdict → Result (ℕ × ℕ) TooManyHolesError
+  numbers s KeptNone = Ok (0, 0)
+  numbers s Refused = Err (record {})
+  numbers s (Keeps part) =
+      Ok (length part.bytes, keeping.next (keeping.with_part s part) - keeping.next s)
+
+  -- the answer to a segment
+  abbrev pub answer : S → Verdict → Result Kept TooManyHolesError
+  answer s x = with_sack (numbers s x) (keeping.held (state_after s x))
+
+  module _ (most_runs : ℕ) where
+    -- what becomes of a segment in a state: its part from the first missing position on and below
+    -- the limit is kept or refused
+    abbrev pub verdict : S → Piece → Verdict
+    verdict s e =
+        verdict_of_part (keeping.next s) most_runs (keeping.held s)
+        (clip (keeping.next s) (limit s) e)
+
+    -- the state after a command
+    abbrev pub after : S → CommandSeen → S
+    after s (Segment pos xs) = state_after s (verdict s (piece pos xs))
+    after s (Read count) = keeping.after_read s count
+    after s Show = s
+
+    -- the reply to a command
+    abbrev pub reply : S → CommandSeen → ReplySeen
+    reply s (Segment pos xs) = Segmented (answer s (verdict s (piece pos xs)))
+    reply s (Read count) = Gave (take count (keeping.queue s))
+    reply s Show =
+        Shown (keeping.next s) (length (keeping.queue s))
+        (keeping.capacity s - length (keeping.queue s)) (maximal_runs (keeping.held s))
+
+    -- the state after commands
+    abbrev pub after_all : S → List CommandSeen → S
+    after_all s [] = s
+    after_all s (c ∷ cs) = after_all (after s c) cs
+
+    -- the replies to commands
+    abbrev pub replies : S → List CommandSeen → List ReplySeen
+    replies s [] = []
+    replies s (c ∷ cs) = reply s c ∷ replies (after s c) cs
