@@ -56,7 +56,7 @@ pub run_receives_from : (N f : ℕ) (x : List ℕ) (v u : Stored) (cs : List Com
 unfolding ReceivesFrom AllSay
 run_receives_from N f x v u cs rs complete run r h =
     let both = run_receives N x v u cs rs complete r.1 (subst (λ b. All (IsTruthful b x) cs) (sym r.0) h) run in
-    ((ap (λ (y : Stored). y.first) run.state ∙ first_kept N v (take run.count cs) ∙ r.0, both.0), both.1)
+    ((ap (λ (y : Stored). y.first) run.state ∙ first_kept N v (take run.front.count cs) ∙ r.0, both.0), both.1)
 
 pub says_what_is_there : SaysWhatIsThere
 unfolding Says
@@ -232,7 +232,7 @@ pub executed_capacity : (N : ℕ) {T E : Type 0} (r : Result T E) (v u : Stored)
 executed_capacity N r v u c ok err = executed_keeps (λ (y : Stored). y.capacity ≡ v.capacity) r v u (stored_after N v c) ok err refl (capacity_stays N v c)
 
 one_run : (N : ℕ) (v : Stored) (c : CommandSeen) → Executed N v (stored_after N v c) (c ∷ []) (stored_reply N v c ∷ []) (IsTrue true)
-one_run N v c = record { count = 1; within = omega arith; whole = λ _. refl; state = refl; answers = refl }
+one_run N v c = record { front = record { count = 1; within = omega arith; whole = λ _. refl }; state = refl; answers = refl }
 
 pub one_receives_from : (N f : ℕ) (x : List ℕ) (v : Stored) (c : CommandSeen) → ReceivesFrom f x v → AllSay f x (c ∷ []) → ReceivesFrom f x (stored_after N v c)
 one_receives_from N f x v c r h = (run_receives_from N f x v (stored_after N v c) (c ∷ []) (stored_reply N v c ∷ []) true (one_run N v c) r h).0
@@ -257,9 +257,9 @@ pub reached : (N : ℕ) (v u : Stored) (cs : List CommandSeen) (rs : List ReplyS
     Follows (setting N v) s (stored_next v) cs → IfOk r (λ _. EndsBy (stored_next u) cs)
 reached N v u cs rs (Err e) s run d follows = tt
 reached N v u cs rs (Ok t) s run d follows =
-    let first : u.first ≡ v.first = ap (λ (y : Stored). y.first) run.state ∙ first_kept N v (take run.count cs) in
-    let seen = ran N v u cs rs _ run.count run.within run.whole run.state run.answers s d in
-    let all : take seen.count cs ≡ cs = take_all seen.count cs (omega (arith, seen.whole refl)) in
+    let first : u.first ≡ v.first = ap (λ (y : Stored). y.first) run.state ∙ first_kept N v (take run.front.count cs) in
+    let seen = ran N v u cs rs _ run.front.count run.front.within run.front.whole run.state run.answers s d in
+    let all : take seen.front.count cs ≡ cs = take_all seen.front.count cs (omega (arith, seen.front.whole refl)) in
     let there : StandsFor u (after_all (setting N v) s cs) = subst (λ l. StandsFor u (after_all (setting N v) s l)) all seen.stands in
     let end : stored_next u ≡ next v.first (after_all (setting N v) s cs).kept = same_next u (after_all (setting N v) s cs) there ∙ ap (λ b. next b (after_all (setting N v) s cs).kept) first in
     subst (λ n. EndsBy n cs) (sym end) (seen.recovers refl (subst (λ n. Follows (setting N v) s n cs) (same_next v s d) follows))

@@ -154,8 +154,8 @@ All-take P (suc n) (x ∷ xs) all = All-cons P x (take n xs) (All-head P x xs al
 pub run_receives : RunReceives
 run_receives most x v u cs rs complete r h run =
     let w = setting most v in
-    let front = take run.count cs in
-    let kept = All-take (IsTruthful v.first x) run.count cs h in
+    let front = take run.front.count cs in
+    let kept = All-take (IsTruthful v.first x) run.front.count cs h in
     let z = stored_after_all most v front in
     let t = after_all w r.state front in
     let d = schedule most v r.state r.stands front in
