@@ -51,8 +51,9 @@ with_sack (Err e) held = Err e
 
 -- a way of keeping what comes: what its states tell, and what a kept part and a read make of them
 pub record Keeping (S : Type 0) : Type 0 where
-  -- the first position of the stream, and how many bytes there is room for
+  -- the first position of the stream
   pub first : S → ℕ
+  -- how many bytes there is room for
   pub capacity : S → ℕ
   -- how many bytes were read
   pub read : S → ℕ
@@ -72,7 +73,7 @@ module _ {S : Type 0} (keeping : Keeping S) where
   abbrev pub limit : S → ℕ
   limit s = keeping.first s + keeping.read s + keeping.capacity s
 
-  -- what is left of a segment
+  -- the state after a segment, by what becomes of it
   abbrev pub state_after : S → Verdict → S
   state_after s KeptNone = s
   state_after s Refused = s
@@ -90,8 +91,8 @@ module _ {S : Type 0} (keeping : Keeping S) where
   answer s x = with_sack (numbers s x) (keeping.held (state_after s x))
 
   module _ (most_runs : ℕ) where
-    -- what becomes of a segment in a state: its part from the first missing position on and below
-    -- the limit is kept or refused
+    -- what becomes of a segment in a state, whose kept part is that from the first missing position
+    -- on and below the limit
     abbrev pub verdict : S → Piece → Verdict
     verdict s e =
         verdict_of_part (keeping.next s) most_runs (keeping.held s)
