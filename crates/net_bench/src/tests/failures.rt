@@ -145,18 +145,28 @@ fn check_failing_read(
     Ok(())
 }
 
-#[test]
-fn each_read_fails_in_turn(rt: HostRuntime) -> Result<(), Fail> {
-    for script in SCRIPTS {
-        for bytes_per_call in [1, 3, 100] {
-            for failing_call in 0..20 {
-                let at = (bytes_per_call, failing_call);
-                check_failing_read(&rt, rt.alloc(), script, at, ErrorKind::Other)?;
-                check_failing_read(&rt, rt.alloc(), script, at, ErrorKind::Interrupted)?;
-            }
+/// Runs each script by reads of so many bytes that fail in turn.
+fn check_failing_reads(
+    rt: &impl Abort,
+    alloc: Global,
+    scripts: &[Script],
+    bytes_per_call: usize,
+) -> Result<(), Fail> {
+    for script in scripts {
+        for failing_call in 0..20 {
+            let at = (bytes_per_call, failing_call);
+            check_failing_read(rt, alloc, *script, at, ErrorKind::Other)?;
+            check_failing_read(rt, alloc, *script, at, ErrorKind::Interrupted)?;
         }
     }
     Ok(())
+}
+
+#[test]
+fn each_read_fails_in_turn(rt: HostRuntime) -> Result<(), Fail> {
+    check_failing_reads(&rt, rt.alloc(), &SCRIPTS, 1)?;
+    check_failing_reads(&rt, rt.alloc(), &SCRIPTS, 3)?;
+    check_failing_reads(&rt, rt.alloc(), &SCRIPTS, 100)
 }
 
 /// Returns how many calls a writer needs that takes so many bytes a call, for texts of these
@@ -216,37 +226,35 @@ fn check_failing_write(
     Ok(())
 }
 
-/// The same with all of the input in one read, and with a byte a read.
+/// Runs each script by writes of so many bytes that fail in turn, with all of the input in one read
+/// and with a byte a read.
 fn check_failing_writes(
     rt: &impl Abort,
     alloc: Global,
-    script: Script,
-    at: (usize, usize),
+    scripts: &[Script],
+    bytes_per_call: usize,
     kind: Option<ErrorKind>,
 ) -> Result<(), Fail> {
-    let [_, first, second] = script.3;
-    // The last line has no line feed, so its reply is written at the end of the input.
-    let last = script.2.len().saturating_sub(second);
-    check_failing_write(rt, alloc, script, (100, &[second, last]), at, kind)?;
-    let singly = [first, second.saturating_sub(first), last];
-    check_failing_write(rt, alloc, script, (1, &singly), at, kind)
+    for script in scripts {
+        let [_, first, second] = script.3;
+        // The last line has no line feed, so its reply is written at the end of the input.
+        let last = script.2.len().saturating_sub(second);
+        let both = [second, last];
+        let singly = [first, second.saturating_sub(first), last];
+        for failing_call in 0..30 {
+            let at = (bytes_per_call, failing_call);
+            check_failing_write(rt, alloc, *script, (100, &both), at, kind)?;
+            check_failing_write(rt, alloc, *script, (1, &singly), at, kind)?;
+        }
+    }
+    Ok(())
 }
 
 #[test]
 fn each_write_fails_in_turn(rt: HostRuntime) -> Result<(), Fail> {
-    for script in SCRIPTS {
+    for bytes_per_call in [1, 3, 100] {
         for kind in [Some(ErrorKind::Other), Some(ErrorKind::Interrupted), None] {
-            for bytes_per_call in [1, 3, 100] {
-                for failing_call in 0..30 {
-                    check_failing_writes(
-                        &rt,
-                        rt.alloc(),
-                        script,
-                        (bytes_per_call, failing_call),
-                        kind,
-                    )?;
-                }
-            }
+            check_failing_writes(&rt, rt.alloc(), &SCRIPTS, bytes_per_call, kind)?;
         }
     }
     Ok(())

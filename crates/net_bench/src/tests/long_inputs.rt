@@ -84,7 +84,7 @@ const TIMES: usize = 15000;
 fn check_repeated(
     rt: &impl Abort,
     alloc: Global,
-    (words, lines, replies): (&str, &[u8], &[u8]),
+    (words, lines, replies): Script<'_>,
     last: Option<&[u8]>,
     room: usize,
     end: &str,
@@ -111,40 +111,44 @@ fn check_repeated(
     Ok(())
 }
 
-#[test]
-fn runs_long_inputs(rt: HostRuntime) -> Result<(), Fail> {
-    let scripts: [(&str, &[u8], &[u8]); 3] = [
-        (
-            "ring 5",
-            b"w 616263\nr 2\nw 646566\nr 9\n",
-            b"took 3\nread 6162\ntook 3\nread 63646566\n",
-        ),
-        (
-            "asm 4",
-            b"a 10 5\nt 0 10\np\nf\n",
-            b"ok\nfront 15\n[ ]\nfront 0\n",
-        ),
-        (
-            "asm 32",
-            b"a 3 1\na 1 1\nt 0 1\nt 0 1\n",
-            b"ok\nok\nfront 2\nfront 2\n",
-        ),
-    ];
+/// Four lines of a mode and their replies.
+type Script<'a> = (&'a str, &'a [u8], &'a [u8]);
+
+/// Lines that leave their mode as they found it.
+const SCRIPTS: [Script<'static>; 3] = [
+    (
+        "ring 5",
+        b"w 616263\nr 2\nw 646566\nr 9\n",
+        b"took 3\nread 6162\ntook 3\nread 63646566\n",
+    ),
+    (
+        "asm 4",
+        b"a 10 5\nt 0 10\np\nf\n",
+        b"ok\nfront 15\n[ ]\nfront 0\n",
+    ),
+    (
+        "asm 32",
+        b"a 3 1\na 1 1\nt 0 1\nt 0 1\n",
+        b"ok\nok\nfront 2\nfront 2\n",
+    ),
+];
+
+/// Runs each script again and again: to its end, to a failed read, to a failed write and to a fault.
+fn check_scripts(rt: &impl Abort, alloc: Global, scripts: &[Script<'_>]) -> Result<(), Fail> {
     for script in scripts {
         let room = script.2.len().saturating_mul(TIMES).saturating_sub(1);
-        check_repeated(&rt, rt.alloc(), script, Some(b""), usize::MAX, "Ok")?;
-        check_repeated(&rt, rt.alloc(), script, None, usize::MAX, "read failed")?;
-        check_repeated(&rt, rt.alloc(), script, Some(b""), room, "write failed")?;
-        check_repeated(
-            &rt,
-            rt.alloc(),
-            script,
-            Some(b"x"),
-            usize::MAX,
-            "line 60001: bad command",
-        )?;
+        let fault = "line 60001: bad command";
+        check_repeated(rt, alloc, *script, Some(b""), usize::MAX, "Ok")?;
+        check_repeated(rt, alloc, *script, None, usize::MAX, "read failed")?;
+        check_repeated(rt, alloc, *script, Some(b""), room, "write failed")?;
+        check_repeated(rt, alloc, *script, Some(b"x"), usize::MAX, fault)?;
     }
     Ok(())
+}
+
+#[test]
+fn runs_long_inputs(rt: HostRuntime) -> Result<(), Fail> {
+    check_scripts(&rt, rt.alloc(), &SCRIPTS)
 }
 
 /// Segments of six bytes each that come in two parts, the later first, and are read in two parts:

@@ -136,12 +136,17 @@ const STATUSES: [Row<'static>; 13] = [
     ("stream 8 4", b"q", (b"", 1, b"line 1: bad command\n", 2, 0)),
 ];
 
-#[test]
-fn answers_each_status(rt: HostRuntime) -> Result<(), Fail> {
-    for (words, input, expected) in STATUSES {
-        check(&rt, rt.alloc(), words, (input, NEVER, NEVER), expected)?;
+/// Runs the program for each row.
+fn check_rows(rt: &impl Abort, alloc: Global, rows: &[Row<'_>]) -> Result<(), Fail> {
+    for (words, input, expected) in rows {
+        check(rt, alloc, words, (*input, NEVER, NEVER), *expected)?;
     }
     Ok(())
+}
+
+#[test]
+fn answers_each_status(rt: HostRuntime) -> Result<(), Fail> {
+    check_rows(&rt, rt.alloc(), &STATUSES)
 }
 
 /// Runs the program with no words at all.

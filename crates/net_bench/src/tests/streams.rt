@@ -162,14 +162,14 @@ pub fn ending<A: Allocator + Copy, R: Read, W: Write>(
 
 /// Runs the mode that a place names, in memory of `heap`: the run ends with this text, and this is
 /// all that is written.
-pub fn check_run<A: Allocator + Copy, R: Read>(
+pub fn check_run<A: Allocator + Copy>(
     rt: &impl Abort,
     (alloc, heap): (Global, A),
     place: Place<'_>,
-    (reader, sink): (&mut R, &mut Sink),
+    (source, sink): (&mut Source<'_>, &mut Sink),
     (end, output): (&str, &[u8]),
 ) -> Result<(), Fail> {
-    let text = ending(alloc, heap, place.0, reader, sink)?;
+    let text = ending(alloc, heap, place.0, source, sink)?;
     assert_text(rt, text.as_str(), end, place);
     assert_bytes(rt, &sink.bytes, output, place);
     Ok(())
