@@ -18,11 +18,12 @@ pub fn ring_lines()
     ensures fault { fault (Ring 4) (codes "w 61\nx 1\nw 62\n") ≡ Some (BenchError.BadCommand 2) }
 {}
 
-/// Which fault an assembler's lines have, and that mode `asm` refuses a range exactly if `Assembler`
-/// does.
+/// Which fault an assembler's lines have, and that mode `asm` refuses a range exactly if an
+/// `Assembler` does.
 pub fn asm_lines()
     ensures refused { (most offset size : ℕ) (set : Positions)
-        → IsTrue (makes_too_many_runs most set offset size) ↔ MakesTooManyRuns most set offset size }
+        → IsTrue (makes_too_many_runs most set offset size)
+        ↔ MakesTooManyRuns most set offset size }
     ensures range { fault (Asm 4) (codes "p\na 18446744073709551615 1\n")
         ≡ Some (BenchError.RangeTooLong 2) }
     ensures command { fault (Asm 4) (codes "a 18446744073709551615 x\n")

@@ -142,6 +142,25 @@ impl<'a> RingSession<'a> {
         self.take_off(count);
         Ok(reply)
     }
+
+    /// Does what a line says, and makes the reply.
+    fn execute<A: Allocator + Copy>(
+        &mut self,
+        buffers: &mut Buffers<A>,
+        line: RingLine<A>,
+    ) -> Result<String<A>, AllocError>
+        ensures { IfOk result (λ reply.
+            ring_does self.old (ring_command_seen line) ≡ (self.new, string_bytes reply)) }
+    {
+        match line {
+            RingLine::Write(bytes) => {
+                let reply = self.write(buffers, &bytes)?;
+                buffers.keep_bytes(bytes);
+                Ok(reply)
+            }
+            RingLine::Read(number) => self.read(buffers, number),
+        }
+    }
 }
 
 impl<A: Allocator + Copy> Session<A> for RingSession<'_> {
@@ -155,12 +174,7 @@ impl<A: Allocator + Copy> Session<A> for RingSession<'_> {
         line: &[u8],
     ) -> Result<Result<String<A>, Fault>, AllocError> {
         match ring_line(buffers, line)? {
-            Some(RingLine::Write(bytes)) => {
-                let reply = self.write(buffers, &bytes)?;
-                buffers.keep_bytes(bytes);
-                Ok(Ok(reply))
-            }
-            Some(RingLine::Read(number)) => Ok(Ok(self.read(buffers, number)?)),
+            Some(line) => Ok(Ok(self.execute(buffers, line)?)),
             None => Ok(Err(Fault::BadCommand)),
         }
     }

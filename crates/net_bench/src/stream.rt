@@ -2,7 +2,8 @@
 ghost use Rattle.std.specs.Prelude.{◌≡◌, [], ◌∷◌, IfOk, MatchResult, Ok, Err, string_bytes};
 ghost use Rattle.std.specs.Prelude.{option_map, ◌≤◌, length};
 ghost use Rattle.net_receiver.specs.Commands.{command_seen, reply_seen, CommandFits};
-ghost use Rattle.net_receiver.specs.Stored.{stored_after, stored_reply};
+ghost use Rattle.net_receiver.specs.Rules.{Read, Gave};
+ghost use Rattle.net_receiver.specs.Stored.{fresh_stored, stored_after, stored_reply};
 ghost use Rattle.net_text.specs.Numeral.{number_of};
 ghost use Rattle.net_bench.specs.Text.{words_of, hex_bytes};
 ghost use Rattle.net_bench.specs.StreamMode.{ToReceiver, NextSchedule, segment_command};
@@ -130,6 +131,23 @@ fn fits<A: Allocator + Copy, const N: usize>(command: &Command<A>) -> bool
     }
 }
 
+/// Reads at most so many bytes into memory of the buffers, and returns them.
+fn read_within<A: Allocator + Copy, const N: usize>(
+    buffers: &mut Buffers<A>,
+    receiver: &mut Receiver<'_, N>,
+    count: u64,
+) -> Result<Vec<u8, A>, AllocError>
+    ensures state { IfOk result (λ _. receiver.new ≡ stored_after N receiver.old (Read count)) }
+    ensures answer { IfOk result (λ bytes.
+        Gave bytes.items ≡ stored_reply N receiver.old (Read count)) }
+{
+    let queued = receiver.queued();
+    let taken = count.min(queued as u64) as usize;
+    let mut bytes = buffers.take_bytes(taken)?;
+    receiver.read(&mut bytes);
+    Ok(bytes)
+}
+
 /// Does a command as `execute` does, but reads into memory of the buffers.
 fn execute_within<A: Allocator + Copy, const N: usize>(
     buffers: &mut Buffers<A>,
@@ -143,17 +161,25 @@ fn execute_within<A: Allocator + Copy, const N: usize>(
         IfOk result (λ reply. reply_seen reply ≡ stored_reply N receiver.old seen) }
 {
     match command {
-        Command::Read(count) => {
-            let queued = receiver.queued();
-            let taken = (*count).min(queued as u64) as usize;
-            let mut bytes = buffers.take_bytes(taken)?;
-            receiver.read(&mut bytes);
-            Ok(Reply::Read(bytes))
-        }
+        Command::Read(count) => Ok(Reply::Read(read_within(buffers, receiver, *count)?)),
         Command::Segment { pos: _, bytes: _ } | Command::Show => {
             execute(buffers.alloc(), receiver, command)
         }
     }
+}
+
+/// Returns a fresh receiver of a stream that begins at `first`, over a storage that takes the place
+/// of what `second` holds.
+fn fresh_over<'a, A: Allocator + Copy, const N: usize>(
+    first: u64,
+    storage: Vec<u8, A>,
+    second: &'a mut Vec<u8, A>,
+) -> Receiver<'a, N>
+    requires { 1 ≤ N }
+    ensures { result ≡ fresh_stored first (length storage.items) }
+{
+    *second = storage;
+    Receiver::new_at(ManagedSlice::from(second.as_mut_slice()), first)
 }
 
 /// Keeps the memory of bytes that were read.
@@ -228,9 +254,7 @@ impl<'a, A: Allocator + Copy, const N: usize> StreamSession<'a, A, N> {
             return Ok(Err(Fault::TooManySchedules));
         }
         let storage = vec![in buffers.alloc(); 0u8; self.capacity]?;
-        let second = self.second.take().unwrap();
-        *second = storage;
-        let fresh = Receiver::new_at(ManagedSlice::from(second.as_mut_slice()), self.first);
+        let fresh = fresh_over(self.first, storage, self.second.take().unwrap());
         self.ended = Some(mem::replace(&mut self.present, fresh));
         Ok(Ok(buffers.take_text(0)?))
     }

@@ -1,7 +1,8 @@
 //! Runs over readers and writers that fail, and whose calls are counted.
 ghost use Rattle.std.specs.Prelude.{None};
 
-use super::streams::{NEVER, Sink, Source, ending};
+use super::assertions::{assert_count, assert_holds, assert_text};
+use super::streams::{NEVER, Sink, Source, check_run, ending};
 use std::alloc::Global;
 use std::cell::Cell;
 use std::io;
@@ -67,8 +68,8 @@ fn check_written(
     };
     let mut writer = Counter { written: &written };
     let text = ending(alloc, alloc, "ring 4", &mut reader, &mut writer)?;
-    assert_eq!(rt; text.as_str(), "Ok");
-    assert_eq!(rt; reader.seen.as_slice(), seen);
+    assert_text(rt, &text, "Ok", ("ring 4", 0));
+    assert_holds(rt, reader.seen.as_slice() == seen, ("ring 4", 0));
     Ok(())
 }
 
@@ -107,60 +108,65 @@ const SCRIPTS: [Script; 3] = [
     ),
 ];
 
+/// Returns the front of the output that is written for the lines which these first bytes of the
+/// input end.
+fn output_for((_, input, output, ends): Script, given: usize) -> &'static [u8] {
+    let ended = input[..given.min(input.len())]
+        .iter()
+        .filter(|b| **b == b'\n')
+        .count();
+    let end = ends.get(ended).copied().unwrap_or(0);
+    output.get(..end).unwrap_or(output)
+}
+
 /// Runs a script over a reader whose call of this number fails with this kind of error.
 fn check_failing_read(
     rt: &impl Abort,
     alloc: Global,
-    (words, input, output, ends): Script,
-    bytes_per_call: usize,
-    failing_call: usize,
+    script: Script,
+    (bytes_per_call, failing_call): (usize, usize),
     kind: ErrorKind,
 ) -> Result<(), Fail> {
+    let (words, input, output, _) = script;
     let mut source = Source::failing(input, bytes_per_call, failing_call, kind);
     let mut sink = Sink::new(alloc)?;
-    let text = ending(alloc, alloc, words, &mut source, &mut sink)?;
     // One more call sees the end.
     let giving_calls = input.len().div_ceil(bytes_per_call.max(1));
-    let given = input.len().min(failing_call.saturating_mul(bytes_per_call));
-    let ended = input[..given].iter().filter(|b| **b == b'\n').count();
-    let is_failed = failing_call <= giving_calls;
-    let written = if is_failed {
-        ends.get(ended).copied().unwrap_or(usize::MAX)
+    let given = failing_call.saturating_mul(bytes_per_call);
+    let wanted = if failing_call <= giving_calls {
+        ("read failed", output_for(script, given))
     } else {
-        output.len()
+        ("Ok", output)
     };
-    assert_eq!(rt; text.as_str(), if is_failed { "read failed" } else { "Ok" });
-    assert_eq!(rt;
-        Some(sink.bytes.as_slice()),
-        output.get(..written),
-        "read {failing_call}"
-    );
-    assert_eq!(rt;
-        source.calls,
-        failing_call.min(giving_calls).saturating_add(1)
-    );
+    let place = (words, failing_call);
+    check_run(rt, (alloc, alloc), place, (&mut source, &mut sink), wanted)?;
+    let calls = failing_call.min(giving_calls).saturating_add(1);
+    assert_count(rt, source.calls, calls, place);
+    Ok(())
+}
+
+/// Runs each script by reads of so many bytes that fail in turn.
+fn check_failing_reads(
+    rt: &impl Abort,
+    alloc: Global,
+    scripts: &[Script],
+    bytes_per_call: usize,
+) -> Result<(), Fail> {
+    for script in scripts {
+        for failing_call in 0..20 {
+            let at = (bytes_per_call, failing_call);
+            check_failing_read(rt, alloc, *script, at, ErrorKind::Other)?;
+            check_failing_read(rt, alloc, *script, at, ErrorKind::Interrupted)?;
+        }
+    }
     Ok(())
 }
 
 #[test]
 fn each_read_fails_in_turn(rt: HostRuntime) -> Result<(), Fail> {
-    for script in SCRIPTS {
-        for bytes_per_call in [1, 3, 100] {
-            for failing_call in 0..20 {
-                for kind in [ErrorKind::Other, ErrorKind::Interrupted] {
-                    check_failing_read(
-                        &rt,
-                        rt.alloc(),
-                        script,
-                        bytes_per_call,
-                        failing_call,
-                        kind,
-                    )?;
-                }
-            }
-        }
-    }
-    Ok(())
+    check_failing_reads(&rt, rt.alloc(), &SCRIPTS, 1)?;
+    check_failing_reads(&rt, rt.alloc(), &SCRIPTS, 3)?;
+    check_failing_reads(&rt, rt.alloc(), &SCRIPTS, 100)
 }
 
 /// Returns how many calls a writer needs that takes so many bytes a call, for texts of these
@@ -196,53 +202,59 @@ fn check_failing_write(
     alloc: Global,
     (words, input, output, _): Script,
     (bytes_read, together): (usize, &[usize]),
-    bytes_per_call: usize,
-    failing_call: usize,
+    (bytes_per_call, failing_call): (usize, usize),
     kind: Option<ErrorKind>,
 ) -> Result<(), Fail> {
     let mut source = Source::failing(input, bytes_read, NEVER, ErrorKind::Other);
     let mut sink = Sink::failing(alloc, bytes_per_call, failing_call, kind)?;
-    let text = ending(alloc, alloc, words, &mut source, &mut sink)?;
     let taken = taken_before(failing_call, bytes_per_call, together);
     let calls = calls_for(bytes_per_call, together);
-    let is_failed = failing_call < calls;
-    assert_eq!(rt;
-        text.as_str(),
-        if is_failed { "write failed" } else { "Ok" }
+    let end = if failing_call < calls {
+        "write failed"
+    } else {
+        "Ok"
+    };
+    let place = (words, failing_call);
+    let wanted = (end, output.get(..taken).unwrap_or(b"?"));
+    check_run(rt, (alloc, alloc), place, (&mut source, &mut sink), wanted)?;
+    assert_count(
+        rt,
+        sink.calls,
+        calls.min(failing_call.saturating_add(1)),
+        place,
     );
-    assert_eq!(rt;
-        Some(sink.bytes.as_slice()),
-        output.get(..taken),
-        "write {failing_call}"
-    );
-    assert_eq!(rt; sink.calls, calls.min(failing_call.saturating_add(1)));
+    Ok(())
+}
+
+/// Runs each script by writes of so many bytes that fail in turn, with all of the input in one read
+/// and with a byte a read.
+fn check_failing_writes(
+    rt: &impl Abort,
+    alloc: Global,
+    scripts: &[Script],
+    bytes_per_call: usize,
+    kind: Option<ErrorKind>,
+) -> Result<(), Fail> {
+    for script in scripts {
+        let [_, first, second] = script.3;
+        // The last line has no line feed, so its reply is written at the end of the input.
+        let last = script.2.len().saturating_sub(second);
+        let both = [second, last];
+        let singly = [first, second.saturating_sub(first), last];
+        for failing_call in 0..30 {
+            let at = (bytes_per_call, failing_call);
+            check_failing_write(rt, alloc, *script, (100, &both), at, kind)?;
+            check_failing_write(rt, alloc, *script, (1, &singly), at, kind)?;
+        }
+    }
     Ok(())
 }
 
 #[test]
 fn each_write_fails_in_turn(rt: HostRuntime) -> Result<(), Fail> {
-    for script in SCRIPTS {
-        let [_, first, second] = script.3;
-        // The last line has no line feed, so its reply is written at the end of the input.
-        let last = script.2.len().saturating_sub(second);
-        let singly = [first, second.saturating_sub(first), last];
-        let both = [second, last];
+    for bytes_per_call in [1, 3, 100] {
         for kind in [Some(ErrorKind::Other), Some(ErrorKind::Interrupted), None] {
-            for bytes_per_call in [1, 3, 100] {
-                for failing_call in 0..30 {
-                    for reads in [(100, both.as_slice()), (1, singly.as_slice())] {
-                        check_failing_write(
-                            &rt,
-                            rt.alloc(),
-                            script,
-                            reads,
-                            bytes_per_call,
-                            failing_call,
-                            kind,
-                        )?;
-                    }
-                }
-            }
+            check_failing_writes(&rt, rt.alloc(), &SCRIPTS, bytes_per_call, kind)?;
         }
     }
     Ok(())
@@ -261,17 +273,31 @@ const LONG_LINES: [(usize, usize, usize, &str, usize); 8] = [
     (4097, 1, 4097, "line 1: line too long", 4097),
 ];
 
+/// Runs a row of a long line: nothing is written.
+fn check_long_line(
+    rt: &impl Abort,
+    alloc: Global,
+    (length, bytes_per_call, failing_call, end, calls): (usize, usize, usize, &str, usize),
+) -> Result<(), Fail> {
+    let input = vec![in alloc; b'w'; length]?;
+    let mut source = Source::failing(&input, bytes_per_call, failing_call, ErrorKind::Other);
+    let mut sink = Sink::new(alloc)?;
+    let place = ("ring 8", length);
+    check_run(
+        rt,
+        (alloc, alloc),
+        place,
+        (&mut source, &mut sink),
+        (end, b""),
+    )?;
+    assert_count(rt, source.calls, calls, place);
+    Ok(())
+}
+
 #[test]
 fn finds_a_long_line_as_soon_as_its_bytes_were_read(rt: HostRuntime) -> Result<(), Fail> {
-    let bytes = vec![in rt.alloc(); b'w'; 8000]?;
-    for (length, bytes_per_call, failing_call, end, calls) in LONG_LINES {
-        let input = bytes.get(..length).unwrap_or(&[]);
-        let mut source = Source::failing(input, bytes_per_call, failing_call, ErrorKind::Other);
-        let mut sink = Sink::new(rt.alloc())?;
-        let text = ending(rt.alloc(), rt.alloc(), "ring 8", &mut source, &mut sink)?;
-        assert_eq!(rt; text.as_str(), end, "{length} bytes, read {failing_call}");
-        assert_eq!(rt; source.calls, calls, "{length} bytes, read {failing_call}");
-        assert!(rt; sink.bytes.is_empty());
+    for row in LONG_LINES {
+        check_long_line(&rt, rt.alloc(), row)?;
     }
     Ok(())
 }

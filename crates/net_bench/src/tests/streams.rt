@@ -1,11 +1,13 @@
 //! Readers and writers over memory, and how a run over them ends.
 ghost use Rattle.std.specs.Prelude.{Some};
 
+use super::assertions::{Place, assert_bytes, assert_text};
 use crate::mode::Mode;
 use crate::run::run;
 use std::alloc::{AllocError, Allocator, Global};
 use std::io;
 use std::io::{ErrorKind, Read, Write};
+use std::process::Abort;
 use std::test::Fail;
 
 /// The number of a call that never comes.
@@ -156,4 +158,19 @@ pub fn ending<A: Allocator + Copy, R: Read, W: Write>(
         Ok(()) => Ok(String::from_str(alloc, "Ok")?),
         Err(error) => Ok(format!(in alloc; "{error}")?),
     }
+}
+
+/// Runs the mode that a place names, in memory of `heap`: the run ends with this text, and this is
+/// all that is written.
+pub fn check_run<A: Allocator + Copy>(
+    rt: &impl Abort,
+    (alloc, heap): (Global, A),
+    place: Place<'_>,
+    (source, sink): (&mut Source<'_>, &mut Sink),
+    (end, output): (&str, &[u8]),
+) -> Result<(), Fail> {
+    let text = ending(alloc, heap, place.0, source, sink)?;
+    assert_text(rt, text.as_str(), end, place);
+    assert_bytes(rt, &sink.bytes, output, place);
+    Ok(())
 }
