@@ -1,6 +1,7 @@
 -- The lemmas behind the contracts.
 pub mod Parts
 pub mod Carried
+pub mod Ranges
 pub mod Reached
 pub mod Results
 pub mod KnownBytes

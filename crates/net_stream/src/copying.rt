@@ -68,6 +68,7 @@ fn hand_out<W: Write, const N: usize>(
     ensures kind { IfErr result (λ e. (gave_up e ≡ false) × (wrote_all e ≡ false)) }
 {
     laws::queue(receiver);
+    laws::completion();
     let count = receiver.read(chunk);
     write_text(writer, &chunk[..count])
 }

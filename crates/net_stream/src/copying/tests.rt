@@ -127,14 +127,14 @@ fn counts_are_those_of_the_fates(rt: HostRuntime) -> Result<(), Fail> {
         // Three frames, an acknowledgement for each and one more; then the end is read, and one
         // acknowledgement tells once more what has come.
         Case(0, &[], PERFECT, b"abcdef", "Ok", [6, 8, 0, 2]),
-        // The second frame is lost, and all three are sent again but the first.
+        // The second frame is lost, and it alone is sent again: the third was reported.
         Case(
             0,
             &[Fate::Delivered, Fate::Lost, Fate::Delivered],
             PERFECT,
             b"abcdef",
             "Ok",
-            [6, 11, 4, 2],
+            [6, 9, 2, 2],
         ),
         Case(0, &[], gone, b"abcdef", "gave up", [0, 400, 594, 100]),
         // 10 positions are left; the end isn't read once they are used up.

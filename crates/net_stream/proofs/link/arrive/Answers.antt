@@ -1,11 +1,12 @@
-use Rattle.std.proofs.Common.{[], ◌+◌, ◌<◌, ◌≤◌, ◌^◌, ◌≡◌, Some, length, max, sym, ap, subst, ◌∙◌, arith, ⊎_elim}
+use Rattle.std.proofs.Common.{ℕ, ◌+◌, ◌<◌, ◌≤◌, ◌^◌, length, sym, subst, arith, ⊎_elim}
 use Rattle.std.proofs.lemmas.Bool.{both_ways, cases_lt}
+use Rattle.net_receiver.specs.Schedule.{Segment}
 use Rattle.net_receiver.specs.Stored.{stored_next}
+use Rattle.net_receiver.specs.Resending.{Has}
 use Rattle.net_stream.specs.Outgoing.{end_of}
-use Rattle.net_stream.specs.Frames.{frame_of}
-use Rattle.net_stream.specs.Carrying.{Carries}
+use Rattle.net_stream.specs.Carrying.{Carries, answer_of}
 use Rattle.net_stream.specs.Progress.{reach_one}
-use Rattle.net_stream.proofs.Carried.{took, answered, encoded_ack, either}
+use Rattle.net_stream.proofs.Carried.{took, answered, either}
 use Rattle.net_stream.proofs.Reached.{says_ends, segment_reaches, no_word_reaches}
 use Rattle.net_stream.proofs.link.arrive.Goals as goal
 
@@ -22,13 +23,14 @@ returns-then-not-fits-clause-reaches g c = λ f w s there says carries room.
 
 pub returns-clause-carried : goal.returns-clause-carried
 returns-clause-carried g c = λ f w s there says carries.
+    let v = c.args.receiver.now in
     let u = c.segment.new.self in
     let back = c.args.back.now in
-    let more = took f w s c.args.receiver.now u there back (λ r. c.segment.ensures.receives f w r (says c.in-Some.pos c.in-Some.payload.now c.in-Some.ensures)) c.segment.ensures.grows carries in
-    let fits : c.next.result < 2 ^ 64 = omega arith in
-    let within : c.next.result ≤ stored_next u = omega arith in
-    either (Carries f w s u there c.send.new.self) c.send.result c.send.ensures.ok c.send.ensures.err
-    (λ e. answered f w s u there back c.send.new.self (frame_of c.next.result []) e (encoded_ack c.round_trip.ensures (stored_next u) c.next.result [] fits within) more)
+    let keeps : (p : ℕ) → Has v p → Has u p =
+    λ p h. subst (λ t. Has t p) (sym c.segment.ensures.state) (c.completion.ensures.stays g.row.N v (Segment c.in-Some.pos c.in-Some.payload.now) p h) in
+    let more = took f w s v u there back (λ r. c.segment.ensures.receives f w r (says c.in-Some.pos c.in-Some.payload.now c.in-Some.ensures)) c.segment.ensures.grows keeps carries in
+    either (Carries f w s u there c.answer.new.back) c.answer.result c.answer.ensures.ok c.answer.ensures.err
+    (λ e. answered f w s u there back c.answer.new.back (answer_of u) e c.answer.ensures.tells more)
     (λ e. subst (Carries f w s u there) (sym e) more)
 
 pub returns-clause-reaches : goal.returns-clause-reaches
