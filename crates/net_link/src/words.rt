@@ -1,6 +1,7 @@
 //! The words of a command line.
 ghost use Rattle.std.specs.Prelude.{◌≡◌, [], ◌∷◌, map, string_bytes, option_and_then};
-ghost use Rattle.net_link.specs.Words.{begins_numeral, number_of, percentage_of, one_to_64k, plan_from, plan_of};
+ghost use Rattle.net_link.specs.Words.{begins_numeral, number_of, percentage_of, one_to_64k};
+ghost use Rattle.net_link.specs.Words.{plan_from, plan_of};
 
 /// The most bytes of a frame's payload, if no word says otherwise.
 const PAYLOAD: u32 = 16_384;

@@ -2,6 +2,7 @@
 pub mod Parts
 pub mod Carried
 pub mod Ranges
+pub mod Arrived
 pub mod Reached
 pub mod Results
 pub mod KnownBytes

@@ -1,19 +1,22 @@
 -- Ranges that are reported: how bytes list them, and what a receiver tells of what it holds.
-use Rattle.std.proofs.Common.{◌≡◌, ◌||◌, ℕ, zero, suc, ◌+◌, ◌-◌, ◌<◌, ◌≤◌, ◌^◌, nat_lt, nat_le, nat_eq, true, false, List, [], ◌∷◌, ◌++◌, length, take, drop, All, Some, None, ⊎_elim, inr, refl, sym, ap, subst, ◌∙◌, arith, append_assoc, take-add, length-drop}
+use Rattle.std.proofs.Common.{Bool, not, cond, min, ◌≡◌, ◌||◌, ℕ, zero, suc, ◌+◌, ◌-◌, ◌<◌, ◌≤◌, ◌^◌, nat_lt, nat_le, nat_eq, true, false, List, [], ◌∷◌, ◌++◌, length, take, drop, All, Some, None, ⊎_elim, inr, refl, sym, ap, subst, ◌∙◌, arith, append_assoc, take-add, length-drop}
 use Rattle.std.specs.Cmp.{unsigned_tied}
 use Rattle.std.specs.FinMap as fin
 use Rattle.std.specs.Int.{w64, to_be_bytes}
-use Rattle.std.specs.List.{list_any}
+use Rattle.std.specs.List.{list_any, count_by, range_with_len}
 use Rattle.std.specs.Ordering.{nat_cmp, eq_by_cmp}
 use Rattle.std.proofs.lemmas.Bool.{false≢true, and_parts, cases_Bool, leb-true, ltb-true}
 use Rattle.std.proofs.lemmas.List.{append-nil, take_all, drop-drop}
+use Rattle.std.proofs.lemmas.List.Sums.{sum_by-append}
 use Rattle.std.proofs.lemmas.List.Elements.{All-head, All-tail}
 use Rattle.net_storage.specs.Positions.{Positions, contains, lies_in, IsMaximalRun, maximal_runs}
 use Rattle.net_storage.specs.AssemblerLaws.{MembersOfList, MaximalRunsOfEverySet}
 use Rattle.net_receiver.specs.Stored.{HeldBytes, Stored, stored_next, domain}
 use Rattle.net_stream.specs.Frames.{frame_of, RoundTrip}
-use Rattle.net_stream.specs.Reported.{most_reported, listed, range_to, range_from, first_range, with_more, ranges_of}
-use Rattle.net_stream.specs.Carrying.{HasReported, FrameTells, answer_of}
+use Rattle.net_stream.specs.Reported.{reports, unreported, most_reported, listed, range_to, range_from, first_range, with_more, ranges_of}
+use Rattle.net_stream.specs.Carrying.{HasReported, FrameTells, IsMarked, answer_of}
+use Rattle.net_stream.specs.Counting.{carrying}
+use Rattle.net_stream.specs.declared.counts.Counts.{Counts}
 use Rattle.net_stream.proofs.Carried.{same_parts}
 
 -- ---- what bytes list
@@ -106,3 +109,47 @@ answer_tells trip members maximal r word few words = λ n xs at.
       subst (λ k. k ≤ stored_next r) e.0 (omega arith),
       subst (λ ys. HasReported r (ranges_of most_reported ys)) e.1 (subst (HasReported r) (sym (ranges_listed trip most_reported rs words few)) (has_runs members maximal r most_reported)),
     )
+
+-- ---- how many positions were not reported
+range_both : (a k n : ℕ) → range_with_len a (k + n) ≡ range_with_len a k ++ range_with_len (a + k) n
+range_both a zero n = (λ i. range_with_len ((let e : a ≡ a + 0 = omega arith in e) i) ((let e : 0 + n ≡ n = omega arith in e) i))
+range_both a (suc k) n =
+    let one : suc k + n ≡ suc (k + n) = omega arith in
+    let place : a + 1 + k ≡ a + suc k = omega arith in
+    ap (range_with_len a) one ∙ ap (λ l. a ∷ l) (range_both (a + 1) k n ∙ ap (λ b. range_with_len (a + 1) k ++ range_with_len b n) place)
+
+count_both : (p : ℕ → Bool) (a k n : ℕ) → count_by p (range_with_len a (k + n)) ≡ count_by p (range_with_len a k) + count_by p (range_with_len (a + k) n)
+count_both p a k n = ap (count_by p) (range_both a k n) ∙ sum_by-append (λ x. cond (p x) 1 0) (range_with_len a k) (range_with_len (a + k) n)
+
+count_cons : (p : ℕ → Bool) (x : ℕ) (xs : List ℕ) → count_by p (x ∷ xs) ≡ cond (p x) 1 0 + count_by p xs
+count_cons p x xs = sum_by-append (λ y. cond (p y) 1 0) (x ∷ []) xs ∙ ap (λ n. n + count_by p xs) (let e : 0 + cond (p x) 1 0 ≡ cond (p x) 1 0 = omega arith in e)
+
+-- of positions that are marked all or none were reported
+pub count_marked : (ranges : List (ℕ × ℕ)) (a n : ℕ) (spared : Bool) → IsMarked ranges a n spared → unreported ranges a n ≡ cond spared 0 n
+count_marked ranges a zero true marked = refl
+count_marked ranges a zero false marked = refl
+count_marked ranges a (suc n) true marked =
+    let one : reports ranges a ≡ true = marked a (omega arith) (omega arith) in
+    let rest = count_marked ranges (a + 1) n true (λ q from to. marked q (omega arith) (omega arith)) in
+    count_cons (λ q. not (reports ranges q)) a (range_with_len (a + 1) n) ∙ ap (λ b. cond (not b) 1 0 + unreported ranges (a + 1) n) one ∙ (let e : 0 + unreported ranges (a + 1) n ≡ 0 = omega (arith, rest) in e)
+count_marked ranges a (suc n) false marked =
+    let one : reports ranges a ≡ false = marked a (omega arith) (omega arith) in
+    let rest = count_marked ranges (a + 1) n false (λ q from to. marked q (omega arith) (omega arith)) in
+    count_cons (λ q. not (reports ranges q)) a (range_with_len (a + 1) n) ∙ ap (λ b. cond (not b) 1 0 + unreported ranges (a + 1) n) one ∙ (let e : 1 + unreported ranges (a + 1) n ≡ suc n = omega (arith, rest) in e)
+
+-- what was counted of a part is counted of the parts so far
+pub counted_more : (ranges : List (ℕ × ℕ)) (b pos n : ℕ) (c0 c1 c2 : Counts) → b ≤ pos → c1 ≡ carrying (unreported ranges b (pos - b)) c0 → c2 ≡ carrying (unreported ranges pos n) c1 → c2 ≡ carrying (unreported ranges b (pos + n - b)) c0
+counted_more ranges b pos n c0 c1 c2 from so_far more =
+    let both = count_both (λ q. not (reports ranges q)) b (pos - b) n in
+    let here : b + (pos - b) ≡ pos = omega arith in
+    let size : (pos - b) + n ≡ pos + n - b = omega arith in
+    let all : unreported ranges b (pos + n - b) ≡ unreported ranges b (pos - b) + unreported ranges pos n =
+    ap (unreported ranges b) (sym size) ∙ both ∙ ap (λ k. unreported ranges b (pos - b) + unreported ranges k n) here in
+    more ∙ ap (carrying (unreported ranges pos n)) so_far ∙ (λ i. record c0 { payload = capped c0.payload (unreported ranges b (pos - b)) (unreported ranges pos n) (unreported ranges b (pos + n - b)) all i })
+  where
+    capped : (m x y z : ℕ) → z ≡ x + y → min (min (m + x) (2 ^ 64 - 1) + y) (2 ^ 64 - 1) ≡ min (m + z) (2 ^ 64 - 1)
+    capped m x y z e = omega arith
+
+-- nothing was counted
+pub counted_none : (n : ℕ) (c : Counts) → c.payload < 2 ^ 64 → n ≡ 0 → c ≡ carrying n c
+counted_none n c fits none = λ i. record c { payload = (let e : c.payload ≡ min (c.payload + n) (2 ^ 64 - 1) = omega arith in e) i }

@@ -265,6 +265,15 @@ marked_push ranges b p ((t, y) ∷ parts) spared xs e all one =
     let long : length (y ++ joined parts) ≡ length y + length (joined parts) = length-append y (joined parts) in
     (all.0, marked_push ranges (b + length y) p parts spared xs (omega arith) all.1 one)
 
+-- nothing was sent yet
+pub none_sent : (s : Outgoing) (pos : ℕ) (t : PathSeen) → pos ≡ s.base → (parts : List Part) × (joined parts ≡ take (pos - s.base) s.queue) × AreMarked s.reported s.base parts × Sent s.base parts t t
+none_sent s pos t e = (
+  [],
+  (let none : pos - s.base ≡ 0 = omega arith in ap (λ n. take n s.queue) (sym none)),
+  tt,
+  λ i. record { ahead = sym (append-nil t.ahead) i; late = t.late; fates = t.fates },
+)
+
 -- bytes that were reported need no frame
 pub spared_part : (s : Outgoing) (pos n : ℕ) (t : PathSeen) → 0 < n → pos + n ≤ end_of s → IsMarked s.reported pos n true → SentPart s pos n t t
 spared_part s pos n t some within marked = record {

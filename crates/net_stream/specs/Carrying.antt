@@ -4,10 +4,12 @@
 --     Carries f w s r there back      the stream w, whose first byte has position f, is on its way
 --     FrameTells r frame      an acknowledgement tells nothing but what the receiver has
 --     SentAll s old new      all that a sender keeps and that wasn't reported was put on its way
-use Rattle.std.specs.Prelude.{◌≡◌, ℕ, ◌+◌, ◌-◌, ◌<◌, ◌≤◌, ◌⊎◌, Bool, IsTrue, Some}
+use Rattle.std.specs.Prelude.{◌≡◌, ℕ, ◌+◌, ◌-◌, ◌<◌, ◌≤◌, ◌^◌, ◌⊎◌, nat_lt, if◌then◌else◌, Bool}
+use Rattle.std.specs.Prelude.{IsTrue, Option, Some, None}
 use Rattle.std.specs.Prelude.{List, [], ◌∷◌, ◌++◌, length, take, drop, All}
 use Rattle.net_storage.specs.Positions.{maximal_runs}
-use Rattle.net_receiver.specs.Stored.{Stored, stored_next, domain}
+use Rattle.net_receiver.specs.Schedule.{Segment}
+use Rattle.net_receiver.specs.Stored.{Stored, stored_next, stored_after, domain}
 use Rattle.net_receiver.specs.Truthful.{ReceivesFrom}
 use Rattle.net_receiver.specs.Resending.{Has}
 use Rattle.net_stream.specs.Outgoing.{Outgoing, Sends, end_of}
@@ -35,6 +37,21 @@ FrameTells r frame = (n : ℕ) (xs : List ℕ) → decoded frame ≡ Some (n, xs
 abbrev pub answer_of : Stored → List ℕ
 answer_of r =
     frame_of (stored_next r) (listed (take most_reported (maximal_runs (domain r.held))))
+
+-- what a receiver stores once a frame came: one that is too short for a position changes nothing,
+-- nor does one whose positions go past 64 bits
+abbrev pub arrived : ℕ → Stored → Option (ℕ × List ℕ) → Stored
+arrived most_runs r None = r
+arrived most_runs r (Some (pos, xs)) =
+    if nat_lt (pos + length xs) (2 ^ 64) then stored_after most_runs r (Segment pos xs) else r
+
+-- what is on its way back then, where the receiver stores r: its answer behind what was there
+abbrev pub with_answer : Stored → Option (ℕ × List ℕ) → PathSeen → PathSeen
+with_answer r None back = back
+with_answer r (Some (pos, xs)) back =
+    if nat_lt (pos + length xs) (2 ^ 64)
+    then record back { ahead = back.ahead ++ answer_of r ∷ [] }
+    else back
 
 -- w was written to the sender; each frame brings nothing but parts of w, and so did each that the
 -- receiver took; each acknowledgement tells of bytes that the receiver has, and so did each that

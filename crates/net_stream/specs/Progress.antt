@@ -3,8 +3,8 @@
 --     Reaches ranges end p frames      frames bring it to `end`, if it has the ranges too
 --     acked_all s frames      a sender once the acknowledgements have come
 --     HasRoom s r      the receiver's free window ends behind all that the sender keeps
-use Rattle.std.specs.Prelude.{◌≡◌, ℕ, ◌+◌, ◌-◌, ◌<◌, ◌≤◌, ◌^◌, ◌⊎◌, max, nat_le, if◌then◌else◌, true}
-use Rattle.std.specs.Prelude.{List, [], ◌∷◌, length, Option, Some, None}
+use Rattle.std.specs.Prelude.{◌≡◌, ℕ, ◌+◌, ◌-◌, ◌<◌, ◌≤◌, ◌^◌, ◌⊎◌, max, nat_le, if◌then◌else◌}
+use Rattle.std.specs.Prelude.{true, List, [], ◌∷◌, length, Option, Some, None}
 use Rattle.net_receiver.specs.Stored.{Stored}
 use Rattle.net_stream.specs.Outgoing.{Outgoing, end_of, acknowledged}
 use Rattle.net_stream.specs.Frames.{decoded}

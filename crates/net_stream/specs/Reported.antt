@@ -1,15 +1,20 @@
 -- Ranges of positions that a receiver reports to a sender: each a start and an end, not included.
 --     reports ranges p      whether the position p lies in one of the ranges
+--     unreported ranges p n      how many of the n positions from p on lie in none of the ranges
 --     listed ranges      the ranges as bytes: each start, and each end, in 8 bytes
 --     ranges_of n xs      the first n ranges that bytes list
-use Rattle.std.specs.Prelude.{ℕ, zero, suc, Bool, List, [], ◌∷◌, Option, Some, None}
-use Rattle.std.specs.List.{list_any}
+use Rattle.std.specs.Prelude.{ℕ, zero, suc, Bool, not, List, [], ◌∷◌, Option, Some, None}
+use Rattle.std.specs.List.{list_any, count_by, range_with_len}
 use Rattle.net_storage.specs.Positions.{lies_in}
 use Rattle.net_stream.specs.Frames.{frame_of, decoded}
 
 -- whether a position lies in one of the ranges
 abbrev pub reports : List (ℕ × ℕ) → ℕ → Bool
 reports ranges p = list_any (lies_in p) ranges
+
+-- how many positions lie in none of them, of the n positions from p on
+abbrev pub unreported : List (ℕ × ℕ) → ℕ → ℕ → ℕ
+unreported ranges p n = count_by (λ q. not (reports ranges q)) (range_with_len p n)
 
 -- an acknowledgement reports no more ranges than this
 abbrev pub most_reported : ℕ

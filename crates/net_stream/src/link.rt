@@ -1,11 +1,16 @@
 //! One round: frames go to a receiver and acknowledgements to a sender, whatever becomes of them.
-ghost use Rattle.std.specs.Prelude.{◌≡◌, ◌≤◌, ◌<◌, ◌∷◌, ◌++◌, [], ℕ, List, length, true, IfOk, OnOk, OnErr, IsTrue, IsFalse};
+ghost use Rattle.std.specs.Prelude.{◌≡◌, ◌≤◌, ◌<◌, ◌∷◌, ◌++◌, [], ℕ, List, length, true};
+ghost use Rattle.std.specs.Prelude.{IfOk, OnOk, OnErr, IsTrue, IsFalse};
 ghost use Rattle.net_receiver.specs.Stored.{Stored, stored_next};
 ghost use Rattle.net_stream.specs.Outgoing.{Outgoing, end_of};
 ghost use Rattle.net_stream.specs.Frames.{decoded, FrameSays};
 ghost use Rattle.net_stream.specs.Fates.{comes, next_fate, after_fate, AllCome};
-ghost use Rattle.net_stream.specs.Carrying.{PathSeen, Carries, FrameTells, SentPart, SentAll, MayReturn, answer_of};
-ghost use Rattle.net_stream.specs.Progress.{reach_one, Reaches, acked_by, acked_all, limit_of, HasRoom};
+ghost use Rattle.net_stream.specs.Reported.{unreported};
+ghost use Rattle.net_stream.specs.Counting.{carrying, refusing};
+ghost use Rattle.net_stream.specs.Carrying.{PathSeen, Carries, FrameTells, SentPart, SentAll};
+ghost use Rattle.net_stream.specs.Carrying.{MayReturn, answer_of, arrived, with_answer};
+ghost use Rattle.net_stream.specs.Progress.{reach_one, Reaches, acked_by, acked_all, limit_of};
+ghost use Rattle.net_stream.specs.Progress.{HasRoom};
 
 use crate::counts::Counts;
 use crate::fate::Fate;
@@ -19,8 +24,8 @@ use net_receiver::{Receiver, laws};
 use net_storage::assembler;
 use std::alloc::{AllocError, Allocator};
 
-/// Sends a frame of bytes that the sender keeps, from the one at `pos` on and at most `max`, none of
-/// which was reported; or spares those that were. Returns how many bytes it was about.
+/// Sends a frame of at most `max` of the bytes that the sender keeps, from the one at `pos` on, none
+/// of which was reported; or spares those that were. Returns how many bytes it was about.
 fn transmit_part<A: Allocator + Copy>(
     sender: &Sender<'_>,
     there: &mut Path<'_, A>,
@@ -35,8 +40,11 @@ fn transmit_part<A: Allocator + Copy>(
     ensures carried { (f : ℕ) (w : List ℕ) (r : Stored) (back : PathSeen) →
         Carries f w sender.now r there.old back → Carries f w sender.now r there.new back }
     ensures sent { IfOk result (λ n. SentPart sender.now pos n there.old there.new) }
+    ensures counted { IfOk result (λ n.
+        counts.new ≡ carrying (unreported sender.now.reported pos n) counts.old) }
 {
     round_trip();
+    let payload = counts.payload;
     let spared = sender.reported_from(pos);
     if spared > 0 {
         return Ok(spared);
@@ -44,7 +52,7 @@ fn transmit_part<A: Allocator + Copy>(
     let room = (sender.next_reported(pos) - pos) as usize;
     let bytes = sender.segment(pos, max.min(room));
     there.send(now, pos, bytes)?;
-    counts.payload = counts.payload.saturating_add(bytes.len() as u64);
+    counts.payload = payload.saturating_add(bytes.len() as u64);
     Ok(bytes.len() as u64)
 }
 
@@ -60,6 +68,8 @@ pub fn transmit<A: Allocator + Copy>(
     ensures carried { (f : ℕ) (w : List ℕ) (r : Stored) (back : PathSeen) →
         Carries f w sender.now r there.old back → Carries f w sender.now r there.new back }
     ensures sent { OnOk result (SentAll sender.now there.old there.new) }
+    ensures counted { OnOk result (counts.new ≡ carrying (unreported sender.now.reported
+        sender.now.base (length sender.now.queue)) counts.old) }
 {
     let max = max.max(1) as usize;
     let mut pos = sender.base();
@@ -90,7 +100,8 @@ fn answer<A: Allocator + Copy, const N: usize>(
     back.send(now, receiver.next(), &report[..len])
 }
 
-/// A frame comes to the receiver, which acknowledges all that it has.
+/// A frame comes to the receiver, which acknowledges all that it has: the first missing position, and
+/// the first 32 held runs.
 pub fn arrive<A: Allocator + Copy, const N: usize>(
     receiver: &mut Receiver<'_, N>,
     back: &mut Path<'_, A>,
@@ -98,6 +109,10 @@ pub fn arrive<A: Allocator + Copy, const N: usize>(
     frame: &[u8],
     counts: &mut Counts,
 ) -> Result<(), AllocError>
+    ensures state { receiver.new ≡ arrived N receiver.old (decoded frame.now) }
+    ensures answers { OnOk result
+        (back.new ≡ with_answer receiver.new (decoded frame.now) back.old) }
+    ensures counted { counts.new ≡ refusing N receiver.old (decoded frame.now) counts.old }
     ensures carried { (f : ℕ) (w : List ℕ) (s : Outgoing) (there : PathSeen) →
         FrameSays f w frame.now → Carries f w s receiver.old there back.old
         → Carries f w s receiver.new there back.new }
@@ -117,9 +132,8 @@ pub fn arrive<A: Allocator + Copy, const N: usize>(
     if !Receiver::<N>::fits(pos, payload.len()) {
         return Ok(());
     }
-    if receiver.segment(pos, payload).is_err() {
-        counts.refused = counts.refused.saturating_add(1);
-    }
+    let refused = receiver.segment(pos, payload).is_err();
+    counts.refuse_if(refused);
     answer(receiver, back, now)
 }
 

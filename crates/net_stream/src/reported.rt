@@ -1,5 +1,6 @@
 //! What a receiver reports of the bytes that it holds out of order.
-ghost use Rattle.std.specs.Prelude.{◌≡◌, ◌+◌, ◌-◌, ◌^◌, ◌<◌, ◌≤◌, ◌++◌, ◌∷◌, [], ℕ, List, length, take, All, IsTrue, IsFalse, MatchOption, None, Some};
+ghost use Rattle.std.specs.Prelude.{◌≡◌, ◌+◌, ◌-◌, ◌^◌, ◌<◌, ◌≤◌, ◌++◌, ◌∷◌, [], ℕ, length, take};
+ghost use Rattle.std.specs.Prelude.{All, IsTrue, IsFalse, MatchOption, None, Some};
 ghost use Rattle.std.specs.Int.{w64, to_be_bytes};
 ghost use Rattle.net_storage.specs.Positions.{maximal_runs};
 ghost use Rattle.net_receiver.specs.Stored.{domain};
@@ -46,8 +47,8 @@ impl Reported {
         }
     }
 
-    /// Returns the first 32 of the ranges that bytes list, each as its start and its end in 8 bytes,
-    /// the most significant first. Less than 16 bytes list none.
+    /// Returns the first 32 of the ranges that bytes list: each start and each end in 8 bytes, the
+    /// most significant first. Less than 16 bytes list none.
     pub fn of_bytes(bytes: &[u8]) -> Reported
         ensures { result ≡ ranges_of most_reported bytes.now }
     {
@@ -72,7 +73,8 @@ impl Reported {
         self.count += 1;
     }
 
-    /// Returns how many positions from `pos` on lie in the first range that has `pos`: 0 if none has.
+    /// Returns how many positions from `pos` on lie in the first range that has `pos`, or 0 if none
+    /// has it.
     pub fn count_from(&self, pos: u64) -> u64
         ensures inside { (q : ℕ) → pos ≤ q → q < pos + result → IsTrue (reports self.now q) }
         ensures none { result ≡ 0 → IsFalse (reports self.now pos) }

@@ -1,5 +1,6 @@
 //! The sender of a stream.
-ghost use Rattle.std.specs.Prelude.{◌≡◌, ◌+◌, ◌-◌, ◌<◌, ◌≤◌, ◌==◌, ◌^◌, ◌++◌, ℕ, List, [], length, take, drop, min, IsTrue, IsFalse};
+ghost use Rattle.std.specs.Prelude.{◌≡◌, ◌+◌, ◌-◌, ◌<◌, ◌≤◌, ◌==◌, ◌^◌, ◌++◌, ℕ, List, []};
+ghost use Rattle.std.specs.Prelude.{length, take, drop, min, IsTrue, IsFalse};
 ghost use Rattle.net_storage.specs.Managed.{elements};
 ghost use Rattle.net_receiver.specs.Truthful.{Says};
 ghost use Rattle.net_stream.specs.Outgoing.{outgoing, end_of, room_of, acknowledged, Sends};
@@ -15,7 +16,8 @@ use std::marker::Model;
 /// Positions are absolute and counted in bytes, as a `Receiver` counts them. Contracts see the
 /// capacity, the position of the first byte that is kept, the bytes that are kept, and the ranges
 /// that the last acknowledgement reported; `Sends f w` says of a sender that all bytes that were
-/// ever written to it are `w`, the first at position `f`. No call takes memory. smoltcp's TCP socket has the transmit buffer as a part of itself.
+/// ever written to it are `w`, the first at position `f`. No call takes memory. smoltcp's TCP
+/// socket has the transmit buffer as a part of itself, and takes no notice of reported ranges.
 #[derive(Drop)]
 pub struct Sender<'a> {
     ring: RingBuffer<'a, u8>,

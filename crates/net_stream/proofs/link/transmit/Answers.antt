@@ -1,10 +1,26 @@
-use Rattle.std.proofs.Common.{arith}
-use Rattle.net_stream.proofs.Reached.{sent_more, sent_to_end}
+use Rattle.std.proofs.Common.{◌≡◌, ◌-◌, ◌∙◌, length, ap, arith}
+use Rattle.net_stream.specs.Reported.{unreported}
+use Rattle.net_stream.specs.Counting.{carrying}
+use Rattle.net_stream.proofs.Ranges.{counted_more, counted_none}
+use Rattle.net_stream.proofs.Reached.{none_sent, sent_more, sent_to_end}
 use Rattle.net_stream.proofs.link.transmit.Goals as goal
+
+pub loop-pos-init : goal.loop-pos-init
+loop-pos-init g c =
+    let s = c.args.sender.now in
+    let none : c.base-pos.result - s.base ≡ 0 = omega arith in
+    record {
+      from = omega arith;
+      within = omega arith;
+      carried = λ f w r back h. h;
+      sent = none_sent s c.base-pos.result c.args.there.now c.base-pos.ensures;
+      counted = counted_none _ c.args.counts.now (omega arith) (ap (unreported s.reported s.base) none);
+    }
 
 pub loop-pos-preserved : goal.loop-pos-preserved
 loop-pos-preserved g c =
     let i = c.loop-pos.invariant in
+    let s = c.args.sender.now in
     let part = c.in_ok-count.ensures.sent in
     let some = part.some in
     let end = part.within in
@@ -13,6 +29,7 @@ loop-pos-preserved g c =
       within = omega arith;
       carried = λ f w r back h. c.transmit_part.ensures.carried f w r back (i.carried f w r back h);
       sent = sent_more c.args.sender.now c.loop-pos.pos c.in_ok-count.count i.sent.0 c.args.there.now c.loop-pos.there c.transmit_part.new.there i.sent.1 i.sent.2 i.sent.3 part i.from i.within;
+      counted = counted_more s.reported s.base c.loop-pos.pos c.in_ok-count.count c.args.counts.now c.loop-pos.counts c.transmit_part.new.counts i.from i.counted c.in_ok-count.ensures.counted;
     }
 
 pub returns-in_err-count-clause-carried : goal.returns-in_err-count-clause-carried
@@ -22,3 +39,10 @@ pub returns-clause-sent : goal.returns-clause-sent
 returns-clause-sent g c =
     let i = c.loop-pos.invariant in
     sent_to_end c.args.sender.now c.loop-pos.pos i.sent.0 c.args.there.now c.loop-pos.there i.sent.1 i.sent.2 i.sent.3 (omega arith)
+
+pub returns-clause-counted : goal.returns-clause-counted
+returns-clause-counted g c =
+    let s = c.args.sender.now in
+    let i = c.loop-pos.invariant in
+    let all : c.loop-pos.pos - s.base ≡ length s.queue = (let from = i.from in let within = i.within in omega arith) in
+    i.counted ∙ ap (λ n. carrying (unreported s.reported s.base n) c.args.counts.now) all
