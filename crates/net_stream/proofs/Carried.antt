@@ -3,10 +3,12 @@ use Rattle.std.proofs.Common.{◌≡◌, ℕ, ◌-◌, ◌≤◌, ◌<◌, ◌^�
 use Rattle.std.proofs.lemmas.List.Elements.{All-nil, All-cons, All-head, All-tail}
 use Rattle.net_receiver.specs.Stored.{Stored, stored_next}
 use Rattle.net_receiver.specs.Truthful.{ReceivesFrom, Says}
+use Rattle.net_receiver.specs.Resending.{Has}
 use Rattle.net_stream.specs.Outgoing.{Outgoing, outgoing, Sends, acknowledged, end_of}
-use Rattle.net_stream.specs.Frames.{frame_of, decoded, RoundTrip, FrameSays, FrameWithin}
+use Rattle.net_stream.specs.Frames.{frame_of, decoded, RoundTrip, FrameSays}
+use Rattle.net_stream.specs.Reported.{most_reported, ranges_of}
 use Rattle.net_stream.specs.Fates.{FatesSeen}
-use Rattle.net_stream.specs.Carrying.{PathSeen, Carries, MayReturn}
+use Rattle.net_stream.specs.Carrying.{PathSeen, Carries, HasReported, FrameTells, MayReturn}
 
 -- ---- lists
 pub All-push : {X : Type 0} (P : X → Type 0) (xs : List X) (y : X) → All P xs → P y → All P (xs ++ y ∷ [])
@@ -18,7 +20,7 @@ All-map P Q f [] all = All-nil Q
 All-map P Q f (x ∷ xs) all = All-cons Q x xs (f x (All-head P x xs all)) (All-map P Q f xs (All-tail P x xs all))
 
 -- ---- frames
-same_parts : (pos p : ℕ) (xs ys : List ℕ) → ◌≡◌ {A = Option (ℕ × List ℕ)} (Some (pos, xs)) (Some (p, ys)) → (pos ≡ p) × (xs ≡ ys)
+pub same_parts : (pos p : ℕ) (xs ys : List ℕ) → ◌≡◌ {A = Option (ℕ × List ℕ)} (Some (pos, xs)) (Some (p, ys)) → (pos ≡ p) × (xs ≡ ys)
 same_parts pos p xs ys e = (let both : ◌≡◌ {A = ℕ × List ℕ} (pos, xs) (p, ys) = cc in (ap (λ q. q.0) both, ap (λ q. q.1) both))
 
 -- a frame says what was encoded
@@ -27,25 +29,21 @@ encoded trip f w pos xs h says = λ p ys is.
     let e = same_parts pos p xs ys (sym (trip pos xs h) ∙ is) in
     subst (λ q. Says f w q ys) e.0 (subst (Says f w pos) e.1 says)
 
-pub encoded_ack : RoundTrip → (limit n : ℕ) (xs : List ℕ) → n < 2 ^ 64 → n ≤ limit → FrameWithin limit (frame_of n xs)
-encoded_ack trip limit n xs h within = λ p ys is.
-    let e = same_parts n p xs ys (sym (trip n xs h) ∙ is) in
-    subst (λ q. q ≤ limit) e.0 within
-
 -- ---- steps
 module _ (f : ℕ) (w : List ℕ) where
-  -- the receiver took something
-  pub took : (s : Outgoing) (r u : Stored) (there back : PathSeen) → (ReceivesFrom f w r → ReceivesFrom f w u) → stored_next r ≤ stored_next u → Carries f w s r there back → Carries f w s u there back
-  took s r u there back receives more c =
-      let wider : (frame : List ℕ) → FrameWithin (stored_next r) frame → FrameWithin (stored_next u) frame = λ frame within p ys at. le_trans (within p ys at) more in
+  -- the receiver took something, and keeps what it had
+  pub took : (s : Outgoing) (r u : Stored) (there back : PathSeen) → (ReceivesFrom f w r → ReceivesFrom f w u) → stored_next r ≤ stored_next u → ((p : ℕ) → Has r p → Has u p) → Carries f w s r there back → Carries f w s u there back
+  took s r u there back receives more keeps c =
+      let wider : (frame : List ℕ) → FrameTells r frame → FrameTells u frame = λ frame tells n xs at. (let t = tells n xs at in (le_trans t.0 more, λ p h. keeps p (t.1 p h))) in
       record {
         sends = c.sends;
         receives = receives c.receives;
         coming = c.coming;
         late = c.late;
-        going_back = All-map (FrameWithin (stored_next r)) (FrameWithin (stored_next u)) wider back.ahead c.going_back;
-        late_back = All-map (FrameWithin (stored_next r)) (FrameWithin (stored_next u)) wider back.late c.late_back;
+        going_back = All-map (FrameTells r) (FrameTells u) wider back.ahead c.going_back;
+        late_back = All-map (FrameTells r) (FrameTells u) wider back.late c.late_back;
         behind = le_trans c.behind more;
+        reported = λ p h. keeps p (c.reported p h);
       }
 
   -- the frames on their way are others
@@ -59,10 +57,11 @@ module _ (f : ℕ) (w : List ℕ) where
     going_back = c.going_back;
     late_back = c.late_back;
     behind = c.behind;
+    reported = c.reported;
   }
 
   -- the acknowledgements on their way are others
-  pub going_are : (s : Outgoing) (r : Stored) (there back back' : PathSeen) → (All (FrameWithin (stored_next r)) back.ahead → All (FrameWithin (stored_next r)) back'.ahead) → (All (FrameWithin (stored_next r)) back.late → All (FrameWithin (stored_next r)) back'.late) →
+  pub going_are : (s : Outgoing) (r : Stored) (there back back' : PathSeen) → (All (FrameTells r) back.ahead → All (FrameTells r) back'.ahead) → (All (FrameTells r) back.late → All (FrameTells r) back'.late) →
       Carries f w s r there back → Carries f w s r there back'
   going_are s r there back back' ahead late c = record {
     sends = c.sends;
@@ -72,14 +71,22 @@ module _ (f : ℕ) (w : List ℕ) where
     going_back = ahead c.going_back;
     late_back = late c.late_back;
     behind = c.behind;
+    reported = c.reported;
   }
 
   -- an acknowledgement was sent
-  pub answered : (s : Outgoing) (r : Stored) (there back back' : PathSeen) (ack : List ℕ) → back' ≡ record back { ahead = back.ahead ++ ack ∷ [] } → FrameWithin (stored_next r) ack → Carries f w s r there back → Carries f w s r there back'
+  pub answered : (s : Outgoing) (r : Stored) (there back back' : PathSeen) (ack : List ℕ) → back' ≡ record back { ahead = back.ahead ++ ack ∷ [] } → FrameTells r ack → Carries f w s r there back → Carries f w s r there back'
   answered s r there back back' ack is within c =
       going_are s r there back back'
-      (λ all. subst (All (FrameWithin (stored_next r))) (sym (ap (λ p. p.ahead) is)) (All-push (FrameWithin (stored_next r)) back.ahead ack all within))
-      (subst (All (FrameWithin (stored_next r))) (sym (ap (λ p. p.late) is))) c
+      (λ all. subst (All (FrameTells r)) (sym (ap (λ p. p.ahead) is)) (All-push (FrameTells r) back.ahead ack all within))
+      (subst (All (FrameTells r)) (sym (ap (λ p. p.late) is))) c
+
+-- a frame was sent that says what the stream has
+pub sent_says : (f : ℕ) (w : List ℕ) (s : Outgoing) (r : Stored) (there there' back : PathSeen) (pos : ℕ) (xs : List ℕ) → RoundTrip → pos < 2 ^ 64 → there' ≡ record there { ahead = there.ahead ++ frame_of pos xs ∷ [] } → Says f w pos xs → Carries f w s r there back → Carries f w s r there' back
+sent_says f w s r there there' back pos xs trip word is says c =
+    coming_are f w s r there there' back
+    (λ _ all. subst (All (FrameSays f w)) (sym (ap (λ p. p.ahead) is)) (All-push (FrameSays f w) there.ahead (frame_of pos xs) all (encoded trip f w pos xs word says)))
+    (subst (All (FrameSays f w)) (sym (ap (λ p. p.late) is))) c
 
 -- whether a call answered Ok or not
 pub either : {T E : Type 0} {A B : Type 0} (P : Type 0) (r : Result T E) → OnOk r A → OnErr r B → (A → P) → (B → P) → P
@@ -87,24 +94,35 @@ either P (Ok t) a b f h = f a
 either P (Err e) a b f h = h b
 
 -- ---- the sender took an acknowledgement
-no_further : (v : Outgoing) (n limit : ℕ) → v.base ≤ limit → n ≤ limit → (acknowledged v n).base ≤ limit
-no_further v n limit h k = both (nat_le v.base n && nat_le n (end_of v))
+no_further : (v : Outgoing) (n : ℕ) (ranges : List (ℕ × ℕ)) (limit : ℕ) → v.base ≤ limit → n ≤ limit → (acknowledged v n ranges).base ≤ limit
+no_further v n ranges limit h k = both (nat_le v.base n && nat_le n (end_of v))
   where
-    both : (t : Bool) → (cond t (outgoing v.capacity n (drop (n - v.base) v.queue)) v).base ≤ limit
+    both : (t : Bool) → (cond t (outgoing v.capacity n (drop (n - v.base) v.queue) ranges) v).base ≤ limit
+    both true = k
+    both false = h
+
+-- what was reported before or is reported now, the receiver has
+still_had : (r : Stored) (v : Outgoing) (n : ℕ) (ranges : List (ℕ × ℕ)) → HasReported r v.reported → HasReported r ranges → HasReported r (acknowledged v n ranges).reported
+still_had r v n ranges h k = both (nat_le v.base n && nat_le n (end_of v))
+  where
+    both : (t : Bool) → HasReported r (cond t (outgoing v.capacity n (drop (n - v.base) v.queue) ranges) v).reported
     both true = k
     both false = h
 
 pub acked : (f : ℕ) (w : List ℕ) (s t : Outgoing) (r : Stored) (there back : PathSeen) (frame : List ℕ) (n : ℕ) (xs : List ℕ) →
-    decoded frame ≡ Some (n, xs) → t ≡ acknowledged s n → (Sends f w s → Sends f w t) → FrameWithin (stored_next r) frame → Carries f w s r there back → Carries f w t r there back
-acked f w s t r there back frame n xs at is sends within c = record {
-  sends = sends c.sends;
-  receives = c.receives;
-  coming = c.coming;
-  late = c.late;
-  going_back = c.going_back;
-  late_back = c.late_back;
-  behind = subst (λ v. v.base ≤ stored_next r) (sym is) (no_further s n (stored_next r) c.behind (within n xs at));
-}
+    decoded frame ≡ Some (n, xs) → t ≡ acknowledged s n (ranges_of most_reported xs) → (Sends f w s → Sends f w t) → FrameTells r frame → Carries f w s r there back → Carries f w t r there back
+acked f w s t r there back frame n xs at is sends tells c =
+    let told = tells n xs at in
+    record {
+      sends = sends c.sends;
+      receives = c.receives;
+      coming = c.coming;
+      late = c.late;
+      going_back = c.going_back;
+      late_back = c.late_back;
+      behind = subst (λ v. v.base ≤ stored_next r) (sym is) (no_further s n (ranges_of most_reported xs) (stored_next r) c.behind told.0);
+      reported = subst (λ v. HasReported r v.reported) (sym is) (still_had r s n (ranges_of most_reported xs) c.reported told.1);
+    }
 
 -- ---- a frame was taken off a list of frames that all have P
 pub rest_of : {X : Type 0} (P : X → Type 0) (x : X) (old left new : List X) → old ≡ x ∷ left → new ≡ left → All P old → P x × All P new
@@ -143,13 +161,12 @@ frame_met f w s r u t0 t1 t2 t3 back back' frame left first drawn again met c =
 -- the same of the acknowledgements
 pub ack_met : (f : ℕ) (w : List ℕ) (s t : Outgoing) (r : Stored) (there b0 b1 b2 b3 : PathSeen) (frame : List ℕ) (left : FatesSeen) →
     b0 ≡ record b1 { ahead = frame ∷ b1.ahead } → b2 ≡ record b1 { fates = left } → MayReturn frame b2 b3 →
-    (FrameWithin (stored_next r) frame → Carries f w s r there b2 → Carries f w t r there b2) → Carries f w s r there b0 → Carries f w t r there b3
+    (FrameTells r frame → Carries f w s r there b2 → Carries f w t r there b2) → Carries f w s r there b0 → Carries f w t r there b3
 ack_met f w s t r there b0 b1 b2 b3 frame left first drawn again met c =
-    let n = stored_next r in
-    let rest = rest_of (FrameWithin n) frame b0.ahead b1.ahead b2.ahead (ap (λ p. p.ahead) first) (ap (λ p. p.ahead) drawn) c.going_back in
+    let rest = rest_of (FrameTells r) frame b0.ahead b1.ahead b2.ahead (ap (λ p. p.ahead) first) (ap (λ p. p.ahead) drawn) c.going_back in
     let late : b0.late ≡ b2.late = ap (λ p. p.late) first ∙ sym (ap (λ p. p.late) drawn) in
-    let here = going_are f w s r there b0 b2 (λ _. rest.1) (subst (All (FrameWithin n)) late) c in
-    let back_there = may_return (FrameWithin n) frame b2 b3 rest.0 again in
+    let here = going_are f w s r there b0 b2 (λ _. rest.1) (subst (All (FrameTells r)) late) c in
+    let back_there = may_return (FrameTells r) frame b2 b3 rest.0 again in
     going_are f w t r there b2 b3 back_there.0 back_there.1 (met rest.0 here)
 
 -- a late frame was taken
@@ -162,8 +179,7 @@ late_met f w s r u t0 t1 back back' frame first met c =
 
 pub late_ack_met : (f : ℕ) (w : List ℕ) (s t : Outgoing) (r : Stored) (there b0 b1 : PathSeen) (frame : List ℕ) →
     b0 ≡ record b1 { late = frame ∷ b1.late } →
-    (FrameWithin (stored_next r) frame → Carries f w s r there b1 → Carries f w t r there b1) → Carries f w s r there b0 → Carries f w t r there b1
+    (FrameTells r frame → Carries f w s r there b1 → Carries f w t r there b1) → Carries f w s r there b0 → Carries f w t r there b1
 late_ack_met f w s t r there b0 b1 frame first met c =
-    let n = stored_next r in
-    let rest = rest_of (FrameWithin n) frame b0.late b1.late b1.late (ap (λ p. p.late) first) refl c.late_back in
-    met rest.0 (going_are f w s r there b0 b1 (subst (All (FrameWithin n)) (ap (λ p. p.ahead) first)) (λ _. rest.1) c)
+    let rest = rest_of (FrameTells r) frame b0.late b1.late b1.late (ap (λ p. p.late) first) refl c.late_back in
+    met rest.0 (going_are f w s r there b0 b1 (subst (All (FrameTells r)) (ap (λ p. p.ahead) first)) (λ _. rest.1) c)

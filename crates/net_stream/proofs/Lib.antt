@@ -1,6 +1,8 @@
 -- The lemmas behind the contracts.
 pub mod Parts
 pub mod Carried
+pub mod Ranges
+pub mod Arrived
 pub mod Reached
 pub mod Results
 pub mod Moved

@@ -4,13 +4,13 @@ use Rattle.std.specs.Io.{StartsWith}
 use Rattle.std.specs.Io.KnownBytes.{Appends, Consumes, IsAtEnd, Keeps}
 use Rattle.std.specs.Result.{is_ok}
 use Rattle.std.proofs.lemmas.Bool.{both_ways}
-use Rattle.std.proofs.lemmas.List.{append-nil, take_all, take-take, take-append-le}
+use Rattle.std.proofs.lemmas.List.{take_all, take-take, take-append-le}
 use Rattle.std.proofs.lemmas.List.Elements.{All-nil}
 use Rattle.net_receiver.specs.Stored.{Stored, stored_next}
 use Rattle.net_receiver.specs.Truthful.{ReceivesFrom, Says, LongerReceives, QueueIsOf, QueueIsOfStream}
 use Rattle.net_stream.specs.Outgoing.{Outgoing, Sends}
-use Rattle.net_stream.specs.Frames.{FrameSays, FrameWithin}
-use Rattle.net_stream.specs.Carrying.{PathSeen, Carries}
+use Rattle.net_stream.specs.Frames.{FrameSays}
+use Rattle.net_stream.specs.Carrying.{PathSeen, Carries, HasReported, FrameTells}
 use Rattle.net_stream.specs.Copying.{Moving, HandedOut, HandedFront, WroteFront, Copied, FlushedAfter, counts_all, gave_up}
 use Rattle.net_stream.specs.declared.error.LinkError.{LinkError}
 use Rattle.net_stream.specs.declared.error.LinkError.TheVariants.{WriteFailed}
@@ -44,9 +44,9 @@ queue_from queue f w r h = queue w r h.1
 
 -- ---- the reader gave some bytes
 pub fed : LongerReceives → QueueIsOfStream → (f : ℕ) (s t : Outgoing) (r : Stored) (there back : PathSeen) (old now next held holds : Option (List ℕ)) (more more' : Bool) (bs : List ℕ) →
-    Consumes now next bs → t.base ≡ s.base → ((w : List ℕ) → Sends f w s → Sends f (w ++ bs) t) → (more' ≡ false → IsAtEnd next) →
+    Consumes now next bs → t.base ≡ s.base → t.reported ≡ s.reported → ((w : List ℕ) → Sends f w s → Sends f (w ++ bs) t) → (more' ≡ false → IsAtEnd next) →
     Moving f s r there back old now held holds more → Moving f t r there back old next held holds more'
-fed longer queue f s t r there back old now next held holds more more' bs consumed base sends ended m =
+fed longer queue f s t r there back old now next held holds more more' bs consumed base reported sends ended m =
     let c = m.carries in
     let q = queue_from queue f m.given r c.receives in
     let short : r.read ≤ length m.given = (let h = q.within in omega arith) in
@@ -61,6 +61,7 @@ fed longer queue f s t r there back old now next held holds more more' bs consum
         going_back = c.going_back;
         late_back = c.late_back;
         behind = subst (λ n. n ≤ stored_next r) (sym base) c.behind;
+        reported = subst (HasReported r) (sym reported) c.reported;
       };
       appended = subst (Appends held holds) (sym (take-append-le r.read m.given bs short)) m.appended;
       ended = ended;
@@ -151,9 +152,9 @@ module _ (f : ℕ) (old now held : Option (List ℕ)) where
       record { given = m.given; written = m.given; consumed = m.consumed; appended = subst (Appends held holds) (take_all r.read m.given all) m.appended; front = take_all (length m.given) m.given (omega arith); count = λ _. long; whole = λ _. (refl, m.ended none) }
 
 -- nothing was read or written yet
-pub nothing_moved : (first : ℕ) (s : Outgoing) (r : Stored) (there back : PathSeen) (old held : Option (List ℕ)) → Sends first [] s → s.base ≡ first → ReceivesFrom first [] r → r.read ≡ 0 → r.first ≡ first → there.ahead ≡ [] → there.late ≡ [] → back.ahead ≡ [] → back.late ≡ [] →
+pub nothing_moved : (first : ℕ) (s : Outgoing) (r : Stored) (there back : PathSeen) (old held : Option (List ℕ)) → Sends first [] s → s.base ≡ first → s.reported ≡ [] → ReceivesFrom first [] r → r.read ≡ 0 → r.first ≡ first → there.ahead ≡ [] → there.late ≡ [] → back.ahead ≡ [] → back.late ≡ [] →
     Moving first s r there back old old held held true
-nothing_moved first s r there back old held sends base receives read from none none_late none_back none_late_back =
+nothing_moved first s r there back old held sends base none_reported receives read from none none_late none_back none_late_back =
     record {
       given = [];
       consumed = Consumes-none old old (Keeps-same old);
@@ -162,9 +163,10 @@ nothing_moved first s r there back old held sends base receives read from none n
         receives = receives;
         coming = subst (All (FrameSays first [])) (sym none) (All-nil (FrameSays first []));
         late = subst (All (FrameSays first [])) (sym none_late) (All-nil (FrameSays first []));
-        going_back = subst (All (FrameWithin (stored_next r))) (sym none_back) (All-nil (FrameWithin (stored_next r)));
-        late_back = subst (All (FrameWithin (stored_next r))) (sym none_late_back) (All-nil (FrameWithin (stored_next r)));
+        going_back = subst (All (FrameTells r)) (sym none_back) (All-nil (FrameTells r));
+        late_back = subst (All (FrameTells r)) (sym none_late_back) (All-nil (FrameTells r));
         behind = omega arith;
+        reported = subst (HasReported r) (sym none_reported) (λ p h. absurd (both_ways false refl h));
       };
       appended = subst (λ n. Appends held held (take n [])) (sym read) (Appends-none held held (Keeps-same held));
       ended = λ e. absurd (both_ways true e refl);

@@ -1,5 +1,5 @@
 -- What a sender lends.
-use Rattle.std.proofs.Common.{◌≡◌, ℕ, ◌+◌, ◌-◌, ◌≤◌, List, length, take, drop, sym, ap, ◌∙◌, arith}
+use Rattle.std.proofs.Common.{◌≡◌, ℕ, ◌+◌, ◌-◌, ◌≤◌, List, length, take, drop, ap, ◌∙◌, arith}
 use Rattle.std.proofs.lemmas.List.{drop-drop}
 use Rattle.net_receiver.specs.Truthful.{Says, SaysWhatIsThere}
 use Rattle.net_stream.specs.Outgoing.{Outgoing, Sends}

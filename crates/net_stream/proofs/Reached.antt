@@ -1,23 +1,26 @@
 -- How far frames and acknowledgements bring a receiver and a sender.
-use Rattle.std.proofs.Common.{◌≡◌, ℕ, zero, suc, ◌+◌, ◌-◌, ◌<◌, ◌≤◌, ◌^◌, ◌%◌, ◌/◌, max, min, nat_lt, nat_le, ◌&&◌, Bool, true, false, cond, Result, Ok, Err, IsOk, IfOk, List, [], ◌∷◌, ◌++◌, length, take, drop, get_or, All, Option, Some, None, slice_get, refl, sym, ap, subst, ◌∙◌, arith, ⊎_elim, le_trans, length-append, length-take, length-drop, append_assoc, take-add}
+use Rattle.std.proofs.Common.{◌≡◌, ℕ, ◌+◌, ◌-◌, ◌<◌, ◌≤◌, ◌^◌, ◌%◌, ◌/◌, max, min, nat_lt, nat_le, ◌&&◌, Bool, true, false, cond, Result, Ok, Err, IsOk, IfOk, List, [], ◌∷◌, ◌++◌, length, take, drop, get_or, All, Option, Some, None, slice_get, refl, sym, ap, subst, ◌∙◌, arith, ⊎_elim, inl, inr, le_trans, length-append, length-take, length-drop, append_assoc, take-add}
 use Rattle.std.proofs.lemmas.Bool.{both_ways, cases_lt, cases_Bool, cond-true, cond-false, le-leb, lt-leb, le-ltb, leb-true, and_parts, and_from, false≢true}
 use Rattle.std.proofs.lemmas.Option.{slice_get_within, slice_get-get_or}
-use Rattle.std.proofs.lemmas.List.{append-nil}
+use Rattle.std.specs.FinMap as fin
+use Rattle.std.proofs.lemmas.List.{append-nil, take_all}
 use Rattle.std.proofs.lemmas.List.Elements.{All-head, All-tail}
 use Rattle.net_base.specs.Generator.{successor, word}
 use Rattle.net_storage.specs.declared.assembler.error.TooManyHolesError.{TooManyHolesError}
 use Rattle.net_receiver.specs.declared.receiver.kept.Kept.{Kept}
 use Rattle.net_receiver.specs.KeptList.{piece, piece_at}
-use Rattle.net_receiver.specs.Stored.{Stored, stored_next}
+use Rattle.net_receiver.specs.Stored.{Stored, stored_next, IsSound}
 use Rattle.net_receiver.specs.Truthful.{ReceivesFrom, Says, kept_of}
-use Rattle.net_stream.specs.Outgoing.{Outgoing, outgoing, Sends, acknowledged, end_of}
-use Rattle.net_stream.specs.Frames.{frame_of, frames_from, joined, decoded, RoundTrip}
+use Rattle.net_receiver.specs.Resending.{Has}
+use Rattle.net_stream.specs.Outgoing.{Outgoing, outgoing, acknowledged, end_of}
+use Rattle.net_stream.specs.Frames.{Part, frame_of, frames_from, joined, decoded, RoundTrip}
+use Rattle.net_stream.specs.Reported.{reports, most_reported, ranges_of}
 use Rattle.net_stream.specs.Fates.{FatesSeen, next_of, after_of, next_fate, after_fate, comes, AllCome}
 use Rattle.net_stream.specs.declared.fate.Fate.{Fate}
 use Rattle.net_stream.specs.declared.fate.Fate.TheVariants.{Delivered, Lost, Repeated, Late}
 use Rattle.net_stream.specs.declared.fate.Rates.{Rates}
-use Rattle.net_stream.specs.Carrying.{PathSeen, Sent, MayReturn}
-use Rattle.net_stream.specs.Progress.{reach_one, reach, acked_by, acked_all, limit_of, HasRoom}
+use Rattle.net_stream.specs.Carrying.{PathSeen, HasReported, IsMarked, AreMarked, Sent, SentPart, SentAll, MayReturn}
+use Rattle.net_stream.specs.Progress.{reach_one, Reaches, acked_by, acked_all, limit_of, HasRoom}
 
 -- ---- where a truthful segment ends
 pub says_ends : (f : ℕ) (w : List ℕ) (pos : ℕ) (xs : List ℕ) → Says f w pos xs → pos + length xs ≤ max pos (f + length w)
@@ -68,48 +71,75 @@ segment_reaches v u e pos xs r accepted kept queued order grows end room =
 pub no_word_reaches : (n e pos : ℕ) (xs : List ℕ) → e < 2 ^ 64 → 2 ^ 64 ≤ pos + length xs → pos + length xs ≤ max pos e → reach_one n (Some (pos, xs)) ≤ n
 no_word_reaches n e pos xs k past end = reach_cases (λ m. m ≤ n) n pos (pos + length xs) (λ h. omega arith) (omega arith)
 
--- ---- lists of frames
-pub one_from : (p : ℕ) (o : Option (ℕ × List ℕ)) → p ≤ reach_one p o
+one_from : (p : ℕ) (o : Option (ℕ × List ℕ)) → p ≤ reach_one p o
 one_from p None = omega arith
 one_from p (Some (pos, xs)) = reach_cases (λ m. p ≤ m) p pos (pos + length xs) (λ h. omega arith) (omega arith)
 
-one_mono : (p q : ℕ) (o : Option (ℕ × List ℕ)) → p ≤ q → reach_one p o ≤ reach_one q o
-one_mono p q None h = h
-one_mono p q (Some (pos, xs)) h =
-    reach_cases (λ m. m ≤ reach_one q (Some (pos, xs))) p pos (pos + length xs)
-    (λ k. subst (λ m. max p (pos + length xs) ≤ m) (sym (cond-true _ _ _ (le-leb pos q (le_trans k h)))) (omega arith))
-    (le_trans h (one_from q (Some (pos, xs))))
+-- ---- lists of frames
+-- the first frame counts
+abbrev Counts : List (ℕ × ℕ) → ℕ → ℕ → List ℕ → List (List ℕ) → Type 0
+Counts ranges end p frame frames = (pos : ℕ) × (xs : List ℕ) × (decoded frame ≡ Some (pos, xs)) × IsMarked ranges p (pos - p) true × Reaches ranges end (max p (pos + length xs)) frames
 
-pub reach_mono : (p q : ℕ) (frames : List (List ℕ)) → p ≤ q → reach p frames ≤ reach q frames
-reach_mono p q [] h = h
-reach_mono p q (frame ∷ frames) h = reach_mono (reach_one p (decoded frame)) (reach_one q (decoded frame)) frames (one_mono p q (decoded frame) h)
+-- whoever has more comes as far
+reaches_mono : (ranges : List (ℕ × ℕ)) (end p q : ℕ) (frames : List (List ℕ)) → p ≤ q → Reaches ranges end p frames → Reaches ranges end q frames
+reaches_mono ranges end p q [] h r = λ k from to. r k (le_trans h from) (omega arith)
+reaches_mono ranges end p q (frame ∷ frames) h r =
+    ⊎_elim {C = Reaches ranges end q (frame ∷ frames)}
+    (λ (k : Reaches ranges end p frames). inl (reaches_mono ranges end p q frames h k))
+    (λ (k : Counts ranges end p frame frames). inr (k.0, k.1, k.2, (λ j from to. k.3 j (le_trans h from) (omega arith)), reaches_mono ranges end (max p (k.0 + length k.1)) (max q (k.0 + length k.1)) frames (omega arith) k.4))
+    r
 
-pub reach_from : (p : ℕ) (frames : List (List ℕ)) → p ≤ reach p frames
-reach_from p [] = omega arith
-reach_from p (frame ∷ frames) = le_trans (one_from p (decoded frame)) (reach_from (reach_one p (decoded frame)) frames)
+-- frames in front take nothing away
+reaches_behind : (ranges : List (ℕ × ℕ)) (end p : ℕ) (old frames : List (List ℕ)) → Reaches ranges end p frames → Reaches ranges end p (old ++ frames)
+reaches_behind ranges end p [] frames r = r
+reaches_behind ranges end p (x ∷ old) frames r = inl (reaches_behind ranges end p old frames r)
 
-reach_append : (p : ℕ) (xs ys : List (List ℕ)) → reach p (xs ++ ys) ≡ reach (reach p xs) ys
-reach_append p [] ys = refl
-reach_append p (x ∷ xs) ys = reach_append (reach_one p (decoded x)) xs ys
+-- a receiver's first missing position is not one that it has
+missing : (most : ℕ) (r : Stored) → IsSound most r → Has r (stored_next r) → ⊥
+missing most r sound h =
+    ⊎_elim {C = ⊥}
+    (λ (l : stored_next r < stored_next r). omega arith)
+    (λ (k : fin.contains_key r.held (stored_next r) ≡ true). (let l = sound.above (stored_next r) k in omega arith))
+    h
 
--- frames that follow one another bring a receiver to their end
-reach_parts : RoundTrip → (b p : ℕ) (parts : List (List ℕ)) → b + length (joined parts) < 2 ^ 64 → b ≤ p → b + length (joined parts) ≤ reach p (frames_from b parts)
-reach_parts trip b p [] fits h = omega arith
-reach_parts trip b p (xs ∷ parts) fits h =
+-- a receiver that has all up to a position is not below it
+pub no_gap : (most : ℕ) (r : Stored) (ranges : List (ℕ × ℕ)) (pos : ℕ) → IsSound most r → HasReported r ranges → IsMarked ranges (stored_next r) (pos - stored_next r) true → pos ≤ stored_next r
+no_gap most r ranges pos sound had marked =
+    ⊎_elim {C = pos ≤ stored_next r}
+    (λ (l : stored_next r < pos). absurd (missing most r sound (had (stored_next r) (marked (stored_next r) (omega arith) (omega arith)))))
+    (λ (l : pos ≤ stored_next r). l)
+    (cases_lt (stored_next r) pos)
+
+-- once the first frame has come, the others bring the receiver as far
+brought : (most : ℕ) (ranges : List (ℕ × ℕ)) (end : ℕ) (r : Stored) (m : ℕ) (frame : List ℕ) (frames : List (List ℕ)) → IsSound most r → HasReported r ranges → reach_one (stored_next r) (decoded frame) ≤ m →
+    Reaches ranges end (stored_next r) (frame ∷ frames) → Reaches ranges end m frames
+brought most ranges end r m frame frames sound had far reaches =
+    ⊎_elim {C = Reaches ranges end m frames}
+    (λ (k : Reaches ranges end (stored_next r) frames). reaches_mono ranges end (stored_next r) m frames (le_trans (one_from (stored_next r) (decoded frame)) far) k)
+    (λ (k : Counts ranges end (stored_next r) frame frames).
+    let near : k.0 ≤ stored_next r = no_gap most r ranges k.0 sound had k.3 in
+    let at : reach_one (stored_next r) (Some (k.0, k.1)) ≤ m = subst (λ o. reach_one (stored_next r) o ≤ m) k.2 far in
+    let one : max (stored_next r) (k.0 + length k.1) ≤ m = subst (λ j. j ≤ m) (cond-true _ _ _ (le-leb k.0 (stored_next r) near)) at in
+    reaches_mono ranges end (max (stored_next r) (k.0 + length k.1)) m frames one k.4)
+    reaches
+
+-- the frames of parts that follow one another bring a receiver to their end
+reaches_parts : RoundTrip → (ranges : List (ℕ × ℕ)) (end b p : ℕ) (parts : List Part) → end ≡ b + length (joined parts) → end < 2 ^ 64 → AreMarked ranges b parts → ((q : ℕ) → p ≤ q → q < b → reports ranges q ≡ true) → Reaches ranges end p (frames_from b parts)
+reaches_parts trip ranges end b p [] is word marked gap = λ q from to. gap q from (omega arith)
+reaches_parts trip ranges end b p ((true, xs) ∷ parts) is word marked gap =
+    let both : length (xs ++ joined parts) ≡ length xs + length (joined parts) = length-append xs (joined parts) in
+    reaches_parts trip ranges end (b + length xs) p parts (omega arith) word marked.1
+    (λ q from to. ⊎_elim {C = reports ranges q ≡ true} (λ (l : q < b). gap q from l) (λ (l : b ≤ q). marked.0 q l to) (cases_lt q b))
+reaches_parts trip ranges end b p ((false, xs) ∷ parts) is word marked gap =
     let both : length (xs ++ joined parts) ≡ length xs + length (joined parts) = length-append xs (joined parts) in
     let at : decoded (frame_of b xs) ≡ Some (b, xs) = trip b xs (omega arith) in
-    let one : b + length xs ≤ reach_one p (decoded (frame_of b xs)) =
-    subst (λ o. b + length xs ≤ reach_one p o) (sym at) (subst (λ m. b + length xs ≤ m) (sym (cond-true _ _ _ (le-leb b p h))) (omega arith)) in
-    let rest = reach_parts trip (b + length xs) (reach_one p (decoded (frame_of b xs))) parts (omega arith) one in
-    let same : b + length xs + length (joined parts) ≡ b + length (xs ++ joined parts) = omega arith in
-    subst (λ m. m ≤ reach (reach_one p (decoded (frame_of b xs))) (frames_from (b + length xs) parts)) same rest
+    inr (b, xs, at, (λ q from to. gap q from (omega arith)), reaches_parts trip ranges end (b + length xs) (max p (b + length xs)) parts (omega arith) word marked.1 (λ q from to. absurd (omega arith)))
 
-pub sent_reaches : RoundTrip → (p b : ℕ) (q : List ℕ) (parts old new : List (List ℕ)) → new ≡ old ++ frames_from b parts → joined parts ≡ q → b + length q < 2 ^ 64 → b ≤ p → b + length q ≤ reach p new
-sent_reaches trip p b q parts old new is all word h =
+pub sent_reaches : RoundTrip → (ranges : List (ℕ × ℕ)) (p b : ℕ) (q : List ℕ) (parts : List Part) (old new : List (List ℕ)) → new ≡ old ++ frames_from b parts → joined parts ≡ q → AreMarked ranges b parts → b + length q < 2 ^ 64 → b ≤ p → Reaches ranges (b + length q) p new
+sent_reaches trip ranges p b q parts old new is all marked word h =
     let long : length (joined parts) ≡ length q = ap length all in
-    let far = reach_parts trip b (reach p old) parts (omega arith) (le_trans h (reach_from p old)) in
-    let same : reach p new ≡ reach (reach p old) (frames_from b parts) = ap (reach p) is ∙ reach_append p old (frames_from b parts) in
-    omega arith
+    subst (Reaches ranges (b + length q) p) (sym is)
+    (reaches_behind ranges (b + length q) p old (frames_from b parts) (reaches_parts trip ranges (b + length q) b p parts (omega arith) word marked (λ k from to. absurd (omega arith))))
 
 -- ---- fates
 drawn_comes : (t u v : Bool) → t ≡ false → v ≡ false → comes (cond t Lost (cond u Repeated (cond v Late Delivered))) ≡ true
@@ -150,11 +180,12 @@ step_of t0 t1 t2 t3 frame lot first is drawn again all =
       ap (λ p. p.ahead) first ∙ ap (λ l. frame ∷ l) (sym (same.0 ∙ ap (λ p. p.ahead) drawn)),
     )
 
-pub frame_reaches : (n m : ℕ) (t0 t1 t2 t3 : PathSeen) (frame : List ℕ) (lot : Fate) → t0 ≡ record t1 { ahead = frame ∷ t1.ahead } → lot ≡ next_fate t1.fates → t2 ≡ record t1 { fates = after_fate t1.fates } → MayReturn frame t2 t3 →
-    (comes lot ≡ true → reach_one n (decoded frame) ≤ m) → AllCome t0.fates → AllCome t3.fates × (reach n t0.ahead ≤ reach m t3.ahead)
-frame_reaches n m t0 t1 t2 t3 frame lot first is drawn again far all =
+pub frame_reaches : (most : ℕ) (ranges : List (ℕ × ℕ)) (r : Stored) (m : ℕ) (t0 t1 t2 t3 : PathSeen) (frame : List ℕ) (lot : Fate) → IsSound most r → HasReported r ranges →
+    t0 ≡ record t1 { ahead = frame ∷ t1.ahead } → lot ≡ next_fate t1.fates → t2 ≡ record t1 { fates = after_fate t1.fates } → MayReturn frame t2 t3 →
+    (comes lot ≡ true → reach_one (stored_next r) (decoded frame) ≤ m) → AllCome t0.fates → AllCome t3.fates × ((end : ℕ) → Reaches ranges end (stored_next r) t0.ahead → Reaches ranges end m t3.ahead)
+frame_reaches most ranges r m t0 t1 t2 t3 frame lot sound had first is drawn again far all =
     let step = step_of t0 t1 t2 t3 frame lot first is drawn again all in
-    (step.1, subst (λ l. reach n l ≤ reach m t3.ahead) (sym step.2) (reach_mono (reach_one n (decoded frame)) m t3.ahead (far step.0)))
+    (step.1, λ end reaches. brought most ranges end r m frame t3.ahead sound had (far step.0) (subst (Reaches ranges end (stored_next r)) step.2 reaches))
 
 pub ack_reaches : (s t : Outgoing) (t0 t1 t2 t3 : PathSeen) (frame : List ℕ) (lot : Fate) → t0 ≡ record t1 { ahead = frame ∷ t1.ahead } → lot ≡ next_fate t1.fates → t2 ≡ record t1 { fates = after_fate t1.fates } → MayReturn frame t2 t3 →
     (comes lot ≡ true → t ≡ acked_by s (decoded frame)) → AllCome t0.fates → AllCome t3.fates × (acked_all s t0.ahead ≡ acked_all t t3.ahead)
@@ -163,12 +194,12 @@ ack_reaches s t t0 t1 t2 t3 frame lot first is drawn again took all =
     (step.1, ap (acked_all s) step.2 ∙ ap (λ v. acked_all v t3.ahead) (sym (took step.0)))
 
 -- ---- acknowledgements
-acked_keeps_end : (s : Outgoing) (n : ℕ) → end_of (acknowledged s n) ≡ end_of s
-acked_keeps_end s n =
+acked_keeps_end : (s : Outgoing) (n : ℕ) (ranges : List (ℕ × ℕ)) → end_of (acknowledged s n ranges) ≡ end_of s
+acked_keeps_end s n ranges =
     ⊎_elim
     (λ (e : (nat_le s.base n && nat_le n (end_of s)) ≡ true).
-    ap end_of (cond-true _ (outgoing s.capacity n (drop (n - s.base) s.queue)) s e) ∙ kept_end e)
-    (λ (e : (nat_le s.base n && nat_le n (end_of s)) ≡ false). ap end_of (cond-false _ (outgoing s.capacity n (drop (n - s.base) s.queue)) s e))
+    ap end_of (cond-true _ (outgoing s.capacity n (drop (n - s.base) s.queue) ranges) s e) ∙ kept_end e)
+    (λ (e : (nat_le s.base n && nat_le n (end_of s)) ≡ false). ap end_of (cond-false _ (outgoing s.capacity n (drop (n - s.base) s.queue) ranges) s e))
     (cases_Bool (nat_le s.base n && nat_le n (end_of s)))
   where
     kept_end : (nat_le s.base n && nat_le n (end_of s)) ≡ true → n + length (drop (n - s.base) s.queue) ≡ end_of s
@@ -181,7 +212,7 @@ acked_keeps_end s n =
 
 pub by_keeps_end : (s : Outgoing) (o : Option (ℕ × List ℕ)) → end_of (acked_by s o) ≡ end_of s
 by_keeps_end s None = refl
-by_keeps_end s (Some (n, xs)) = acked_keeps_end s n
+by_keeps_end s (Some (n, xs)) = acked_keeps_end s n (ranges_of most_reported xs)
 
 pub all_keep_end : (s : Outgoing) (frames : List (List ℕ)) → end_of (acked_all s frames) ≡ end_of s
 all_keep_end s [] = refl
@@ -191,21 +222,21 @@ acked_append : (s : Outgoing) (xs ys : List (List ℕ)) → acked_all s (xs ++ y
 acked_append s [] ys = refl
 acked_append s (x ∷ xs) ys = acked_append (acked_by s (decoded x)) xs ys
 
-empty_after : (s : Outgoing) → length (acknowledged s (end_of s)).queue ≡ 0
-empty_after s =
+empty_after : (s : Outgoing) (ranges : List (ℕ × ℕ)) → length (acknowledged s (end_of s) ranges).queue ≡ 0
+empty_after s ranges =
     let e : (nat_le s.base (end_of s) && nat_le (end_of s) (end_of s)) ≡ true = and_from _ _ (le-leb s.base (end_of s) (omega arith)) (le-leb (end_of s) (end_of s) (omega arith)) in
     let long : length (drop (end_of s - s.base) s.queue) ≡ length s.queue - (end_of s - s.base) = length-drop (end_of s - s.base) s.queue in
-    ap (λ v. length v.queue) (cond-true _ (outgoing s.capacity (end_of s) (drop (end_of s - s.base) s.queue)) s e) ∙ (let z : length (drop (end_of s - s.base) s.queue) ≡ 0 = omega arith in z)
+    ap (λ v. length v.queue) (cond-true _ (outgoing s.capacity (end_of s) (drop (end_of s - s.base) s.queue) ranges) s e) ∙ (let z : length (drop (end_of s - s.base) s.queue) ≡ 0 = omega arith in z)
 
 -- the last acknowledgement is of all that was sent
-pub acked_to_end : RoundTrip → (s : Outgoing) (n : ℕ) (front : List (List ℕ)) → n ≡ end_of s → n < 2 ^ 64 → length (acked_all s (front ++ frame_of n [] ∷ [])).queue ≡ 0
-acked_to_end trip s n front is word =
+pub acked_to_end : RoundTrip → (s : Outgoing) (n : ℕ) (xs : List ℕ) (front : List (List ℕ)) → n ≡ end_of s → n < 2 ^ 64 → length (acked_all s (front ++ frame_of n xs ∷ [])).queue ≡ 0
+acked_to_end trip s n xs front is word =
     let t = acked_all s front in
     let end : n ≡ end_of t = is ∙ sym (all_keep_end s front) in
-    ap (λ v. length v.queue) (acked_append s front (frame_of n [] ∷ []))
-    ∙ ap (λ o. length (acked_by t o).queue) (trip n [] word)
-    ∙ ap (λ m. length (acknowledged t m).queue) end
-    ∙ empty_after t
+    ap (λ v. length v.queue) (acked_append s front (frame_of n xs ∷ []))
+    ∙ ap (λ o. length (acked_by t o).queue) (trip n xs word)
+    ∙ ap (λ m. length (acknowledged t m (ranges_of most_reported xs)).queue) end
+    ∙ empty_after t (ranges_of most_reported xs)
 
 pub room_same : (s : Outgoing) (v u : Stored) → limit_of u ≡ limit_of v → HasRoom s v → HasRoom s u
 room_same s v u e room = record { window = (let h = room.window in omega arith); word = room.word }
@@ -215,26 +246,65 @@ unfolding ReceivesFrom
 first_is f w r h = h.0
 
 -- ---- what was sent so far
-joined_push : (parts : List (List ℕ)) (xs : List ℕ) → joined (parts ++ xs ∷ []) ≡ joined parts ++ xs
-joined_push [] xs = append-nil xs
-joined_push (y ∷ parts) xs = ap (λ l. y ++ l) (joined_push parts xs) ∙ sym (append_assoc y (joined parts) xs)
+joined_push : (parts : List Part) (spared : Bool) (xs : List ℕ) → joined (parts ++ (spared, xs) ∷ []) ≡ joined parts ++ xs
+joined_push [] spared xs = append-nil xs
+joined_push ((t, y) ∷ parts) spared xs = ap (λ l. y ++ l) (joined_push parts spared xs) ∙ sym (append_assoc y (joined parts) xs)
 
-frames_push : (b p : ℕ) (parts : List (List ℕ)) (xs : List ℕ) → p ≡ b + length (joined parts) → frames_from b (parts ++ xs ∷ []) ≡ frames_from b parts ++ frame_of p xs ∷ []
-frames_push b p [] xs e = ap (λ n. frame_of n xs ∷ []) (let h : b ≡ p = omega arith in h)
-frames_push b p (y ∷ parts) xs e =
+frames_push : (b p : ℕ) (parts : List Part) (spared : Bool) (xs : List ℕ) → p ≡ b + length (joined parts) → frames_from b (parts ++ (spared, xs) ∷ []) ≡ frames_from b parts ++ frames_from p ((spared, xs) ∷ [])
+frames_push b p [] spared xs e = ap (λ n. frames_from n ((spared, xs) ∷ [])) (let h : b ≡ p = omega arith in h)
+frames_push b p ((true, y) ∷ parts) spared xs e =
     let long : length (y ++ joined parts) ≡ length y + length (joined parts) = length-append y (joined parts) in
-    ap (λ l. frame_of b y ∷ l) (frames_push (b + length y) p parts xs (omega arith))
+    frames_push (b + length y) p parts spared xs (omega arith)
+frames_push b p ((false, y) ∷ parts) spared xs e =
+    let long : length (y ++ joined parts) ≡ length y + length (joined parts) = length-append y (joined parts) in
+    ap (λ l. frame_of b y ∷ l) (frames_push (b + length y) p parts spared xs (omega arith))
 
-pub sent_more : (b pos : ℕ) (q : List ℕ) (parts : List (List ℕ)) (xs : List ℕ) (t0 t1 t2 : PathSeen) → joined parts ≡ take (pos - b) q → Sent b parts t0 t1 → xs ≡ take (length xs) (drop (pos - b) q) →
-    t2 ≡ record t1 { ahead = t1.ahead ++ frame_of pos xs ∷ [] } → b ≤ pos → pos - b ≤ length q →
-    (more : List (List ℕ)) × (joined more ≡ take (pos + length xs - b) q) × Sent b more t0 t2
-sent_more b pos q parts xs t0 t1 t2 all sent is step from within =
+marked_push : (ranges : List (ℕ × ℕ)) (b p : ℕ) (parts : List Part) (spared : Bool) (xs : List ℕ) → p ≡ b + length (joined parts) → AreMarked ranges b parts → IsMarked ranges p (length xs) spared → AreMarked ranges b (parts ++ (spared, xs) ∷ [])
+marked_push ranges b p [] spared xs e all one = (subst (λ n. IsMarked ranges n (length xs) spared) (let h : p ≡ b = omega arith in h) one, tt)
+marked_push ranges b p ((t, y) ∷ parts) spared xs e all one =
+    let long : length (y ++ joined parts) ≡ length y + length (joined parts) = length-append y (joined parts) in
+    (all.0, marked_push ranges (b + length y) p parts spared xs (omega arith) all.1 one)
+
+-- nothing was sent yet
+pub none_sent : (s : Outgoing) (pos : ℕ) (t : PathSeen) → pos ≡ s.base → (parts : List Part) × (joined parts ≡ take (pos - s.base) s.queue) × AreMarked s.reported s.base parts × Sent s.base parts t t
+none_sent s pos t e = (
+  [],
+  (let none : pos - s.base ≡ 0 = omega arith in ap (λ n. take n s.queue) (sym none)),
+  tt,
+  λ i. record { ahead = sym (append-nil t.ahead) i; late = t.late; fates = t.fates },
+)
+
+-- bytes that were reported need no frame
+pub spared_part : (s : Outgoing) (pos n : ℕ) (t : PathSeen) → 0 < n → pos + n ≤ end_of s → IsMarked s.reported pos n true → SentPart s pos n t t
+spared_part s pos n t some within marked = record {
+  some = some;
+  within = within;
+  spared = true;
+  marked = marked;
+  sent = λ i. record { ahead = sym (append-nil t.ahead) i; late = t.late; fates = t.fates };
+}
+
+pub sent_more : (s : Outgoing) (pos n : ℕ) (parts : List Part) (t0 t1 t2 : PathSeen) → joined parts ≡ take (pos - s.base) s.queue → AreMarked s.reported s.base parts → Sent s.base parts t0 t1 → SentPart s pos n t1 t2 → s.base ≤ pos → pos ≤ end_of s →
+    (more : List Part) × (joined more ≡ take (pos + n - s.base) s.queue) × AreMarked s.reported s.base more × Sent s.base more t0 t2
+sent_more s pos n parts t0 t1 t2 all marked sent part from within =
+    let b = s.base in
+    let q = s.queue in
+    let xs = take n (drop (pos - b) q) in
+    let few = part.within in
+    let size : length xs ≡ n = omega (arith, length-take n (drop (pos - b) q), length-drop (pos - b) q) in
     let long : length (joined parts) ≡ pos - b = ap length all ∙ (let h : length (take (pos - b) q) ≡ pos - b = omega (arith, length-take (pos - b) q) in h) in
-    let place : (pos - b) + length xs ≡ pos + length xs - b = omega arith in
+    let place : (pos - b) + n ≡ pos + n - b = omega arith in
     let at : pos ≡ b + length (joined parts) = omega arith in
-    let ahead : t1.ahead ++ frame_of pos xs ∷ [] ≡ t0.ahead ++ frames_from b (parts ++ xs ∷ []) =
-    ap (λ p. p.ahead ++ frame_of pos xs ∷ []) sent ∙ append_assoc t0.ahead (frames_from b parts) (frame_of pos xs ∷ []) ∙ ap (λ l. t0.ahead ++ l) (sym (frames_push b pos parts xs at)) in (
-      parts ++ xs ∷ [],
-      joined_push parts xs ∙ ap (λ l. l ++ xs) all ∙ ap (λ l. take (pos - b) q ++ l) is ∙ sym (take-add (pos - b) (length xs) q) ∙ ap (λ n. take n q) place,
-      step ∙ (λ i. record { ahead = ahead i; late = (ap (λ p. p.late) sent) i; fates = (ap (λ p. p.fates) sent) i }),
+    let last = frames_from pos ((part.spared, xs) ∷ []) in
+    let ahead : t1.ahead ++ last ≡ t0.ahead ++ frames_from b (parts ++ (part.spared, xs) ∷ []) =
+    ap (λ p. p.ahead ++ last) sent ∙ append_assoc t0.ahead (frames_from b parts) last ∙ ap (λ l. t0.ahead ++ l) (sym (frames_push b pos parts part.spared xs at)) in (
+      parts ++ (part.spared, xs) ∷ [],
+      joined_push parts part.spared xs ∙ ap (λ l. l ++ xs) all ∙ sym (take-add (pos - b) n q) ∙ ap (λ k. take k q) place,
+      marked_push s.reported b pos parts part.spared xs at marked (subst (λ k. IsMarked s.reported pos k part.spared) (sym size) part.marked),
+      part.sent ∙ (λ i. record { ahead = ahead i; late = (ap (λ p. p.late) sent) i; fates = (ap (λ p. p.fates) sent) i }),
     )
+
+-- once all that is kept was sent
+pub sent_to_end : (s : Outgoing) (pos : ℕ) (parts : List Part) (t0 t1 : PathSeen) → joined parts ≡ take (pos - s.base) s.queue → AreMarked s.reported s.base parts → Sent s.base parts t0 t1 → end_of s ≤ pos → SentAll s t0 t1
+sent_to_end s pos parts t0 t1 all marked sent end =
+    record { parts = parts; all = all ∙ take_all (pos - s.base) s.queue (omega arith); marked = marked; sent = sent }

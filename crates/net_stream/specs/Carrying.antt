@@ -2,12 +2,19 @@
 -- becomes of these.
 --     PathSeen      the frames on their way in one direction, the late ones, and the fates to come
 --     Carries f w s r there back      the stream w, whose first byte has position f, is on its way
---     SentAll s old new      all that a sender keeps was put on its way
-use Rattle.std.specs.Prelude.{◌≡◌, ℕ, ◌≤◌, ◌⊎◌, List, [], ◌∷◌, ◌++◌, All}
-use Rattle.net_receiver.specs.Stored.{Stored, stored_next}
+--     FrameTells r frame      an acknowledgement tells nothing but what the receiver has
+--     SentAll s old new      all that a sender keeps and that wasn't reported was put on its way
+use Rattle.std.specs.Prelude.{◌≡◌, ℕ, ◌+◌, ◌-◌, ◌<◌, ◌≤◌, ◌^◌, ◌⊎◌, nat_lt, if◌then◌else◌, Bool}
+use Rattle.std.specs.Prelude.{IsTrue, Option, Some, None}
+use Rattle.std.specs.Prelude.{List, [], ◌∷◌, ◌++◌, length, take, drop, All}
+use Rattle.net_storage.specs.Positions.{maximal_runs}
+use Rattle.net_receiver.specs.Rules.{Segment}
+use Rattle.net_receiver.specs.Stored.{Stored, stored_next, stored_after, domain}
 use Rattle.net_receiver.specs.Truthful.{ReceivesFrom}
-use Rattle.net_stream.specs.Outgoing.{Outgoing, Sends}
-use Rattle.net_stream.specs.Frames.{frames_from, joined, FrameSays, FrameWithin}
+use Rattle.net_receiver.specs.Resending.{Has}
+use Rattle.net_stream.specs.Outgoing.{Outgoing, Sends, end_of}
+use Rattle.net_stream.specs.Frames.{Part, frame_of, frames_from, joined, decoded, FrameSays}
+use Rattle.net_stream.specs.Reported.{reports, most_reported, listed, ranges_of}
 use Rattle.net_stream.specs.Fates.{FatesSeen}
 
 -- one direction of a link
@@ -16,27 +23,79 @@ pub record PathSeen : Type 0 where
   pub late : List (List ℕ)
   pub fates : FatesSeen
 
+-- the receiver has each position of the ranges
+abbrev pub HasReported : Stored → List (ℕ × ℕ) → Type 0
+HasReported r ranges = (p : ℕ) → IsTrue (reports ranges p) → Has r p
+
+-- an acknowledgement is of nothing past the first missing position, and reports nothing but
+-- positions that the receiver has
+abbrev pub FrameTells : Stored → List ℕ → Type 0
+FrameTells r frame = (n : ℕ) (xs : List ℕ) → decoded frame ≡ Some (n, xs) →
+    (n ≤ stored_next r) × HasReported r (ranges_of most_reported xs)
+
+-- an acknowledgement of what a receiver has: the first missing position, and the first held runs
+abbrev pub answer_of : Stored → List ℕ
+answer_of r =
+    frame_of (stored_next r) (listed (take most_reported (maximal_runs (domain r.held))))
+
+-- what a receiver stores once a frame came: one that is too short for a position changes nothing,
+-- nor does one whose positions go past 64 bits
+abbrev pub arrived : ℕ → Stored → Option (ℕ × List ℕ) → Stored
+arrived most_runs r None = r
+arrived most_runs r (Some (pos, xs)) =
+    if nat_lt (pos + length xs) (2 ^ 64) then stored_after most_runs r (Segment pos xs) else r
+
+-- what is on its way back then, where the receiver stores r: its answer behind what was there
+abbrev pub with_answer : Stored → Option (ℕ × List ℕ) → PathSeen → PathSeen
+with_answer r None back = back
+with_answer r (Some (pos, xs)) back =
+    if nat_lt (pos + length xs) (2 ^ 64)
+    then record back { ahead = back.ahead ++ answer_of r ∷ [] }
+    else back
+
 -- w was written to the sender; each frame brings nothing but parts of w, and so did each that the
--- receiver took; each acknowledgement is of bytes that the receiver has, and so was each that the
--- sender took
+-- receiver took; each acknowledgement tells of bytes that the receiver has, and so did each that
+-- the sender took
 pub record Carries (f : ℕ) (w : List ℕ) (s : Outgoing) (r : Stored)
     (there back : PathSeen) : Type 0 where
   pub sends : Sends f w s
   pub receives : ReceivesFrom f w r
   pub coming : All (FrameSays f w) there.ahead
   pub late : All (FrameSays f w) there.late
-  pub going_back : All (FrameWithin (stored_next r)) back.ahead
-  pub late_back : All (FrameWithin (stored_next r)) back.late
+  pub going_back : All (FrameTells r) back.ahead
+  pub late_back : All (FrameTells r) back.late
   pub behind : s.base ≤ stored_next r
+  pub reported : HasReported r s.reported
 
 -- the frames of these parts were put behind those on their way
-abbrev pub Sent : ℕ → List (List ℕ) → PathSeen → PathSeen → Type 0
+abbrev pub Sent : ℕ → List Part → PathSeen → PathSeen → Type 0
 Sent p parts old new = new ≡ record old { ahead = old.ahead ++ frames_from p parts }
 
--- frames of all that the sender keeps were put on their way, in order, each byte in one of them
+-- each of n positions from p on lies in the ranges if `spared` is true, and none does if it is
+-- false
+abbrev pub IsMarked : List (ℕ × ℕ) → ℕ → ℕ → Bool → Type 0
+IsMarked ranges p n spared = (q : ℕ) → p ≤ q → q < p + n → reports ranges q ≡ spared
+
+-- parts that follow one another from position p on are spared exactly where they lie in the ranges
+abbrev pub AreMarked : List (ℕ × ℕ) → ℕ → List Part → Type 0
+AreMarked ranges p [] = Unit {0}
+AreMarked ranges p ((spared, xs) ∷ parts) =
+    IsMarked ranges p (length xs) spared × AreMarked ranges (p + length xs) parts
+
+-- n of the bytes that the sender keeps, from position p on, were spared or put on their way
+pub record SentPart (s : Outgoing) (p n : ℕ) (old new : PathSeen) : Type 0 where
+  pub some : 0 < n
+  pub within : p + n ≤ end_of s
+  pub spared : Bool
+  pub marked : IsMarked s.reported p n spared
+  pub sent : Sent p ((spared, take n (drop (p - s.base) s.queue)) ∷ []) old new
+
+-- frames of all that the sender keeps were put on their way, in order: each byte in one of them if
+-- it wasn't reported, and in none if it was
 pub record SentAll (s : Outgoing) (old new : PathSeen) : Type 0 where
-  pub parts : List (List ℕ)
+  pub parts : List Part
   pub all : joined parts ≡ s.queue
+  pub marked : AreMarked s.reported s.base parts
   pub sent : Sent s.base parts old new
 
 -- the frame was put among the late ones, or nothing changed

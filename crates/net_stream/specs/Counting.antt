@@ -1,7 +1,12 @@
 -- What is counted.
 --     more n      one more, up to the greatest number of 64 bits
 --     met fate counts      a frame met its fate
-use Rattle.std.specs.Prelude.{ℕ, ◌+◌, ◌-◌, ◌^◌, min}
+--     carrying n counts      frames carried n bytes
+--     is_refused reply, refusing most_runs r frame counts      a receiver refused a segment
+use Rattle.std.specs.Prelude.{ℕ, ◌+◌, ◌-◌, ◌^◌, ◌&&◌, min, nat_lt, if◌then◌else◌, Bool, true, false}
+use Rattle.std.specs.Prelude.{List, length, Option, Some, None, Ok, Err}
+use Rattle.net_receiver.specs.Rules.{ReplySeen, Segmented, Gave, Shown, Segment}
+use Rattle.net_receiver.specs.Stored.{Stored, stored_reply}
 use Rattle.net_stream.specs.declared.fate.Fate.{Fate}
 use Rattle.net_stream.specs.declared.fate.Fate.TheVariants.{Delivered, Lost, Repeated, Late}
 use Rattle.net_stream.specs.declared.counts.Counts.{Counts}
@@ -16,6 +21,26 @@ met Delivered c = record c { sent = more c.sent }
 met Lost c = record c { sent = more c.sent; lost = more c.lost }
 met Repeated c = record c { sent = more c.sent; repeated = more c.repeated }
 met Late c = record c { sent = more c.sent; late = more c.late }
+
+-- n bytes were put on their way, as far as 64 bits go
+abbrev pub carrying : ℕ → Counts → Counts
+carrying n c = record c { payload = min (c.payload + n) (2 ^ 64 - 1) }
+
+-- whether a reply refuses a segment
+abbrev pub is_refused : ReplySeen → Bool
+is_refused (Segmented (Ok kept)) = false
+is_refused (Segmented (Err e)) = true
+is_refused (Gave xs) = false
+is_refused (Shown n q r h) = false
+
+-- a frame came to a receiver, which may have refused what it says
+abbrev pub refusing : ℕ → Stored → Option (ℕ × List ℕ) → Counts → Counts
+refusing most_runs r None c = c
+refusing most_runs r (Some (pos, xs)) c =
+    if nat_lt (pos + length xs) (2 ^ 64)
+    && is_refused (stored_reply most_runs r (Segment pos xs))
+    then record c { refused = more c.refused }
+    else c
 
 -- nothing was done yet
 abbrev pub nothing_counted : Counts

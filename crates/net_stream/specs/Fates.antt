@@ -3,7 +3,7 @@
 --     next_fate v, after_fate v      the next fate: the first of a list, and behind it drawn ones
 --     comes fate, returns fate      whether a frame comes at once, and whether it comes late
 --     AllCome v      every frame comes at once
-use Rattle.std.specs.Prelude.{ℕ, ◌+◌, ◌/◌, ◌%◌, nat_lt, if◌then◌else◌, Bool, true, false}
+use Rattle.std.specs.Prelude.{ℕ, ◌/◌, ◌%◌, nat_lt, if◌then◌else◌, Bool, true, false}
 use Rattle.std.specs.Prelude.{◌≡◌, List, [], ◌∷◌, All}
 use Rattle.net_base.specs.Generator.{successor, word}
 use Rattle.net_stream.specs.declared.fate.Fate.{Fate}

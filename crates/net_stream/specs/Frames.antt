@@ -1,8 +1,9 @@
 -- Frames as bytes.
 --     frame_of pos xs      the position in 8 bytes, the most significant first, and then the bytes
 --     decoded frame      what a frame says: its position and its bytes, if it has a position
+--     Part      some bytes, and whether they are spared: then no frame has them
 --     frames_from p parts      the frames of parts that follow one another from position p on
-use Rattle.std.specs.Prelude.{◌≡◌, ℕ, ◌+◌, ◌<◌, ◌≤◌, ◌^◌, if◌then◌else◌, nat_lt}
+use Rattle.std.specs.Prelude.{◌≡◌, ℕ, ◌+◌, ◌<◌, ◌^◌, if◌then◌else◌, nat_lt, Bool, true, false}
 use Rattle.std.specs.Prelude.{List, [], ◌∷◌, ◌++◌, length, take, drop, Option, Some, None}
 use Rattle.std.specs.Int.{w64, to_be_bytes, from_be_bytes}
 use Rattle.net_receiver.specs.Truthful.{Says}
@@ -21,20 +22,21 @@ decoded frame =
 abbrev pub RoundTrip : Type 0
 RoundTrip = (pos : ℕ) (xs : List ℕ) → pos < 2 ^ 64 → decoded (frame_of pos xs) ≡ Some (pos, xs)
 
--- the frames of parts that follow one another
-abbrev pub frames_from : ℕ → List (List ℕ) → List (List ℕ)
-frames_from p [] = []
-frames_from p (xs ∷ parts) = frame_of p xs ∷ frames_from (p + length xs) parts
+-- some bytes, and whether they are spared
+abbrev pub Part : Type 0
+Part = Bool × List ℕ
 
--- parts, one behind the other
-abbrev pub joined : List (List ℕ) → List ℕ
+-- the frames of the parts that are not spared, which follow one another
+abbrev pub frames_from : ℕ → List Part → List (List ℕ)
+frames_from p [] = []
+frames_from p ((true, xs) ∷ parts) = frames_from (p + length xs) parts
+frames_from p ((false, xs) ∷ parts) = frame_of p xs ∷ frames_from (p + length xs) parts
+
+-- the bytes of parts, one behind the other
+abbrev pub joined : List Part → List ℕ
 joined [] = []
-joined (xs ∷ parts) = xs ++ joined parts
+joined ((spared, xs) ∷ parts) = xs ++ joined parts
 
 -- the frame brings nothing but what the stream w has, whose first byte has position f
 abbrev pub FrameSays : ℕ → List ℕ → List ℕ → Type 0
 FrameSays f w frame = (pos : ℕ) (xs : List ℕ) → decoded frame ≡ Some (pos, xs) → Says f w pos xs
-
--- the frame acknowledges nothing past n
-abbrev pub FrameWithin : ℕ → List ℕ → Type 0
-FrameWithin n frame = (pos : ℕ) (xs : List ℕ) → decoded frame ≡ Some (pos, xs) → pos ≤ n

@@ -1,26 +1,35 @@
 -- How far frames and acknowledgements bring a receiver and a sender, once they have come.
---     reach p frames      how far a receiver comes at least that has all before p
+--     reach_one p frame      how far a receiver comes at least that has all before p
+--     Reaches ranges end p frames      frames bring it to `end`, if it has the ranges too
 --     acked_all s frames      a sender once the acknowledgements have come
 --     HasRoom s r      the receiver's free window ends behind all that the sender keeps
-use Rattle.std.specs.Prelude.{◌≡◌, ℕ, ◌+◌, ◌<◌, ◌≤◌, ◌^◌, max, nat_le, if◌then◌else◌}
-use Rattle.std.specs.Prelude.{List, [], ◌∷◌, length, Option, Some, None}
+use Rattle.std.specs.Prelude.{◌≡◌, ℕ, ◌+◌, ◌-◌, ◌<◌, ◌≤◌, ◌^◌, ◌⊎◌, max, nat_le, if◌then◌else◌}
+use Rattle.std.specs.Prelude.{true, List, [], ◌∷◌, length, Option, Some, None}
 use Rattle.net_receiver.specs.Stored.{Stored}
 use Rattle.net_stream.specs.Outgoing.{Outgoing, end_of, acknowledged}
 use Rattle.net_stream.specs.Frames.{decoded}
+use Rattle.net_stream.specs.Reported.{most_reported, ranges_of}
+use Rattle.net_stream.specs.Carrying.{IsMarked}
 
 -- a frame that begins past p brings nothing that counts
 abbrev pub reach_one : ℕ → Option (ℕ × List ℕ) → ℕ
 reach_one p None = p
 reach_one p (Some (pos, xs)) = if nat_le pos p then max p (pos + length xs) else p
 
-abbrev pub reach : ℕ → List (List ℕ) → ℕ
-reach p [] = p
-reach p (frame ∷ frames) = reach (reach_one p (decoded frame)) frames
+-- frames bring a receiver to the position `end` that has all before p and what the ranges report:
+-- some of them one after another, each of which begins where nothing before it is missing
+abbrev pub Reaches : List (ℕ × ℕ) → ℕ → ℕ → List (List ℕ) → Type 0
+Reaches ranges end p [] = IsMarked ranges p (end - p) true
+Reaches ranges end p (frame ∷ frames) =
+    Reaches ranges end p frames
+    ⊎ ((pos : ℕ) × (xs : List ℕ) × (decoded frame ≡ Some (pos, xs))
+    × IsMarked ranges p (pos - p) true
+    × Reaches ranges end (max p (pos + length xs)) frames)
 
 -- a sender that took what an acknowledgement says
 abbrev pub acked_by : Outgoing → Option (ℕ × List ℕ) → Outgoing
 acked_by s None = s
-acked_by s (Some (n, xs)) = acknowledged s n
+acked_by s (Some (n, xs)) = acknowledged s n (ranges_of most_reported xs)
 
 abbrev pub acked_all : Outgoing → List (List ℕ) → Outgoing
 acked_all s [] = s

@@ -1,11 +1,13 @@
 //! From a reader over a link to a writer.
-ghost use Rattle.std.specs.Prelude.{◌≡◌, ◌≤◌, ◌+◌, ℕ, length, false, List, Option, OnOk, OnErr, IfOk, IfErr, true};
+ghost use Rattle.std.specs.Prelude.{◌≡◌, ◌≤◌, ◌+◌, ℕ, length, List, Option, true, false};
+ghost use Rattle.std.specs.Prelude.{OnOk, OnErr, IfOk, IfErr};
 ghost use Rattle.std.specs.Result.{is_ok};
 ghost use Rattle.std.specs.Io.KnownBytes.{Appends, Keeps};
 ghost use Rattle.net_receiver.specs.Stored.{Stored};
 ghost use Rattle.net_stream.specs.Outgoing.{Outgoing};
 ghost use Rattle.net_stream.specs.Carrying.{PathSeen, Carries};
-ghost use Rattle.net_stream.specs.Copying.{Moving, HandedOut, HandedFront, WroteFront, Copied, gave_up, wrote_all, counts_all, FlushedAfter};
+ghost use Rattle.net_stream.specs.Copying.{Moving, HandedOut, HandedFront, WroteFront, Copied};
+ghost use Rattle.net_stream.specs.Copying.{gave_up, wrote_all, counts_all, FlushedAfter};
 
 use crate::counts::Counts;
 use crate::error::LinkError;
@@ -68,6 +70,7 @@ fn hand_out<W: Write, const N: usize>(
     ensures kind { IfErr result (λ e. (gave_up e ≡ false) × (wrote_all e ≡ false)) }
 {
     laws::queue(receiver);
+    laws::completion();
     let count = receiver.read(chunk);
     write_text(writer, &chunk[..count])
 }

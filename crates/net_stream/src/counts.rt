@@ -1,6 +1,6 @@
 //! What is counted of a copy.
-ghost use Rattle.std.specs.Prelude.{◌≡◌};
-ghost use Rattle.net_stream.specs.Counting.{met, nothing_counted};
+ghost use Rattle.std.specs.Prelude.{◌≡◌, if◌then◌else◌};
+ghost use Rattle.net_stream.specs.Counting.{more, met, nothing_counted};
 
 use crate::fate::Fate;
 
@@ -58,6 +58,16 @@ impl Counts {
             Fate::Lost => self.lost = self.lost.saturating_add(1),
             Fate::Repeated => self.repeated = self.repeated.saturating_add(1),
             Fate::Late => self.late = self.late.saturating_add(1),
+        }
+    }
+
+    /// Counts a segment, if it was refused.
+    pub fn refuse_if(&mut self, refused: bool)
+        ensures { self.new
+            ≡ (if refused then record self.old { refused = more self.old.refused } else self.old) }
+    {
+        if refused {
+            self.refused = self.refused.saturating_add(1);
         }
     }
 

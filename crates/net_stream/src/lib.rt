@@ -8,6 +8,7 @@ mod fate;
 mod frame;
 mod link;
 mod path;
+mod reported;
 mod sender;
 #[cfg(test)]
 mod streams;
@@ -20,4 +21,5 @@ pub use fate::{Fate, Fates, Rates};
 pub use frame::{decode, round_trip, send_again, send_frame};
 pub use link::{acknowledge, arrive, pass_round, transmit};
 pub use path::Path;
+pub use reported::Reported;
 pub use sender::Sender;

@@ -1,24 +1,63 @@
 //! One round: frames go to a receiver and acknowledgements to a sender, whatever becomes of them.
-ghost use Rattle.std.specs.Prelude.{◌≡◌, ◌≤◌, ◌<◌, ◌∷◌, [], ℕ, List, length, true, IfOk, OnOk, IsTrue, IsFalse};
+ghost use Rattle.std.specs.Prelude.{◌≡◌, ◌≤◌, ◌<◌, ◌∷◌, ◌++◌, [], ℕ, List, length, true};
+ghost use Rattle.std.specs.Prelude.{IfOk, OnOk, OnErr, IsTrue, IsFalse};
 ghost use Rattle.net_receiver.specs.Stored.{Stored, stored_next};
 ghost use Rattle.net_stream.specs.Outgoing.{Outgoing, end_of};
-ghost use Rattle.net_stream.specs.Frames.{decoded, FrameSays, FrameWithin};
+ghost use Rattle.net_stream.specs.Frames.{decoded, FrameSays};
 ghost use Rattle.net_stream.specs.Fates.{comes, next_fate, after_fate, AllCome};
-ghost use Rattle.net_stream.specs.Carrying.{PathSeen, Carries, SentAll, MayReturn};
-ghost use Rattle.net_stream.specs.Progress.{reach_one, reach, acked_by, acked_all, limit_of, HasRoom};
+ghost use Rattle.net_stream.specs.Reported.{unreported};
+ghost use Rattle.net_stream.specs.Counting.{carrying, refusing};
+ghost use Rattle.net_stream.specs.Carrying.{PathSeen, Carries, FrameTells, SentPart, SentAll};
+ghost use Rattle.net_stream.specs.Carrying.{MayReturn, answer_of, arrived, with_answer};
+ghost use Rattle.net_stream.specs.Progress.{reach_one, Reaches, acked_by, acked_all, limit_of};
+ghost use Rattle.net_stream.specs.Progress.{HasRoom};
 
 use crate::counts::Counts;
 use crate::fate::Fate;
 use crate::frame::{decode, round_trip};
 use crate::path::Path;
+use crate::reported::{REPORT_LEN, Reported, list_held};
 use crate::sender::Sender;
 use net_base::phy::RxToken;
 use net_base::time::Instant;
 use net_receiver::{Receiver, laws};
+use net_storage::assembler;
 use std::alloc::{AllocError, Allocator};
 
-/// Puts frames of all that the sender keeps on their way, each of at most `max` bytes of payload.
-/// A `max` of 0 counts as 1.
+/// Sends a frame of at most `max` of the bytes that the sender keeps, from the one at `pos` on, none
+/// of which was reported; or spares those that were. Returns how many bytes it was about.
+fn transmit_part<A: Allocator + Copy>(
+    sender: &Sender<'_>,
+    there: &mut Path<'_, A>,
+    now: Instant,
+    pos: u64,
+    max: usize,
+    counts: &mut Counts,
+) -> Result<u64, AllocError>
+    requires from { sender.now.base ≤ pos }
+    requires kept { pos < end_of sender.now }
+    requires some { 0 < max }
+    ensures carried { (f : ℕ) (w : List ℕ) (r : Stored) (back : PathSeen) →
+        Carries f w sender.now r there.old back → Carries f w sender.now r there.new back }
+    ensures sent { IfOk result (λ n. SentPart sender.now pos n there.old there.new) }
+    ensures counted { IfOk result (λ n.
+        counts.new ≡ carrying (unreported sender.now.reported pos n) counts.old) }
+{
+    round_trip();
+    let payload = counts.payload;
+    let spared = sender.reported_from(pos);
+    if spared > 0 {
+        return Ok(spared);
+    }
+    let room = (sender.next_reported(pos) - pos) as usize;
+    let bytes = sender.segment(pos, max.min(room));
+    there.send(now, pos, bytes)?;
+    counts.payload = payload.saturating_add(bytes.len() as u64);
+    Ok(bytes.len() as u64)
+}
+
+/// Puts frames of all that the sender keeps on their way, but of what the receiver reported, each
+/// of at most `max` bytes of payload. A `max` of 0 counts as 1.
 pub fn transmit<A: Allocator + Copy>(
     sender: &Sender<'_>,
     there: &mut Path<'_, A>,
@@ -29,20 +68,40 @@ pub fn transmit<A: Allocator + Copy>(
     ensures carried { (f : ℕ) (w : List ℕ) (r : Stored) (back : PathSeen) →
         Carries f w sender.now r there.old back → Carries f w sender.now r there.new back }
     ensures sent { OnOk result (SentAll sender.now there.old there.new) }
+    ensures counted { OnOk result (counts.new ≡ carrying (unreported sender.now.reported
+        sender.now.base (length sender.now.queue)) counts.old) }
 {
-    round_trip();
     let max = max.max(1) as usize;
     let mut pos = sender.base();
     while pos < sender.end() {
-        let bytes = sender.segment(pos, max);
-        there.send(now, pos, bytes)?;
-        counts.payload = counts.payload.saturating_add(bytes.len() as u64);
-        pos += bytes.len() as u64;
+        let count = transmit_part(sender, there, now, pos, max, counts)?;
+        pos += count;
     }
     Ok(())
 }
 
-/// A frame comes to the receiver, which acknowledges all that it has.
+/// Puts an acknowledgement of all that the receiver has on its way: the first missing position, and
+/// the first 32 held runs.
+fn answer<A: Allocator + Copy, const N: usize>(
+    receiver: &Receiver<'_, N>,
+    back: &mut Path<'_, A>,
+    now: Instant,
+) -> Result<(), AllocError>
+    ensures tells { FrameTells receiver.now (answer_of receiver.now) }
+    ensures ok { OnOk result (back.new
+        ≡ record back.old { ahead = back.old.ahead ++ answer_of receiver.now ∷ [] }) }
+    ensures err { OnErr result (back.new ≡ back.old) }
+{
+    round_trip();
+    assembler::laws::members();
+    assembler::laws::maximal_runs();
+    let mut report = [0u8; REPORT_LEN];
+    let len = list_held(receiver, &mut report);
+    back.send(now, receiver.next(), &report[..len])
+}
+
+/// A frame comes to the receiver, which acknowledges all that it has: the first missing position, and
+/// the first 32 held runs.
 pub fn arrive<A: Allocator + Copy, const N: usize>(
     receiver: &mut Receiver<'_, N>,
     back: &mut Path<'_, A>,
@@ -50,6 +109,10 @@ pub fn arrive<A: Allocator + Copy, const N: usize>(
     frame: &[u8],
     counts: &mut Counts,
 ) -> Result<(), AllocError>
+    ensures state { receiver.new ≡ arrived N receiver.old (decoded frame.now) }
+    ensures answers { OnOk result
+        (back.new ≡ with_answer receiver.new (decoded frame.now) back.old) }
+    ensures counted { counts.new ≡ refusing N receiver.old (decoded frame.now) counts.old }
     ensures carried { (f : ℕ) (w : List ℕ) (s : Outgoing) (there : PathSeen) →
         FrameSays f w frame.now → Carries f w s receiver.old there back.old
         → Carries f w s receiver.new there back.new }
@@ -62,30 +125,29 @@ pub fn arrive<A: Allocator + Copy, const N: usize>(
     ensures grows { stored_next receiver.old ≤ stored_next receiver.new }
     ensures fates { back.new.fates ≡ back.old.fates }
 {
-    round_trip();
+    laws::completion();
     let Some((pos, payload)) = decode(frame) else {
         return Ok(());
     };
     if !Receiver::<N>::fits(pos, payload.len()) {
         return Ok(());
     }
-    if receiver.segment(pos, payload).is_err() {
-        counts.refused = counts.refused.saturating_add(1);
-    }
-    back.send(now, receiver.next(), &[])
+    let refused = receiver.segment(pos, payload).is_err();
+    counts.refuse_if(refused);
+    answer(receiver, back, now)
 }
 
 /// An acknowledgement comes to the sender.
 pub fn acknowledge(sender: &mut Sender<'_>, frame: &[u8])
     ensures carried { (f : ℕ) (w : List ℕ) (r : Stored) (there back : PathSeen) →
-        FrameWithin (stored_next r) frame.now → Carries f w sender.old r there back
+        FrameTells r frame.now → Carries f w sender.old r there back
         → Carries f w sender.new r there back }
     ensures acked { sender.new ≡ acked_by sender.old (decoded frame.now) }
 {
-    let Some((next, _payload)) = decode(frame) else {
+    let Some((next, report)) = decode(frame) else {
         return;
     };
-    sender.acknowledge(next);
+    sender.acknowledge(next, Reported::of_bytes(report));
 }
 
 /// A frame comes to the receiver, if its fate is to come at once.
@@ -117,7 +179,7 @@ fn arrive_if<A: Allocator + Copy, const N: usize>(
 /// An acknowledgement comes to the sender, if its fate is to come at once.
 fn acknowledge_if(sender: &mut Sender<'_>, frame: &[u8], fate: Fate)
     ensures carried { (f : ℕ) (w : List ℕ) (r : Stored) (there back : PathSeen) →
-        FrameWithin (stored_next r) frame.now → Carries f w sender.old r there back
+        FrameTells r frame.now → Carries f w sender.old r there back
         → Carries f w sender.new r there back }
     ensures acked { comes fate ≡ true → sender.new ≡ acked_by sender.old (decoded frame.now) }
 {
@@ -158,13 +220,14 @@ fn pass_frame<A: Allocator + Copy, const N: usize>(
     ensures reaches { (f : ℕ) (w : List ℕ) (s : Outgoing) →
         Carries f w s receiver.old there.old back.old → HasRoom s receiver.old
         → AllCome there.old.fates → AllCome there.new.fates
-        × (reach (stored_next receiver.old) there.old.ahead
-        ≤ reach (stored_next receiver.new) there.new.ahead) }
+        × ((end : ℕ) → Reaches s.reported end (stored_next receiver.old) there.old.ahead
+        → Reaches s.reported end (stored_next receiver.new) there.new.ahead) }
     ensures fates { back.new.fates ≡ back.old.fates }
     ensures shorter { IfOk result (λ some. IsTrue some →
         length there.new.ahead < length there.old.ahead) }
     ensures none { IfOk result (λ some. IsFalse some → there.new.ahead ≡ []) }
 {
+    laws::is_sound(receiver);
     let Some(token) = there.take(now) else {
         return Ok(false);
     };
@@ -242,12 +305,14 @@ fn pass_frames<A: Allocator + Copy, const N: usize>(
     ensures read { receiver.new.read ≡ receiver.old.read }
     ensures reaches { OnOk result ((f : ℕ) (w : List ℕ) (s : Outgoing) →
         Carries f w s receiver.old there.old back.old → HasRoom s receiver.old
-        → AllCome there.old.fates
-        → reach (stored_next receiver.old) there.old.ahead ≤ stored_next receiver.new) }
+        → AllCome there.old.fates → (end : ℕ)
+        → Reaches s.reported end (stored_next receiver.old) there.old.ahead
+        → end ≤ stored_next receiver.new) }
     ensures fates { back.new.fates ≡ back.old.fates }
 {
     'frames: loop {
         if !pass_frame(receiver, there, back, now, counts)? {
+            laws::is_sound(receiver);
             return Ok(());
         }
     }
@@ -290,9 +355,9 @@ fn pass_acks<A: Allocator + Copy>(
     }
 }
 
-/// One round: all that the sender keeps is put on its way, late frames of the round before come,
-/// the frames on their way meet their fates, the receiver acknowledges once more what it has, and
-/// so the acknowledgements.
+/// One round: all that the sender keeps and that wasn't reported is put on its way, late frames of
+/// the round before come, the frames on their way meet their fates, the receiver acknowledges once
+/// more what it has, and so the acknowledgements.
 ///
 /// Whatever becomes of them, the stream stays on its way (`carried`). If the fates of a round let
 /// each frame and each acknowledgement come, the receiver then has all that the sender had, and the
@@ -320,7 +385,7 @@ pub fn pass_round<A: Allocator + Copy, const N: usize>(
     pass_late_frames(receiver, there, back, now, counts)?;
     pass_frames(receiver, there, back, now, counts)?;
     laws::queue(receiver);
-    back.send(now, receiver.next(), &[])?;
+    answer(receiver, back, now)?;
     pass_late_acks(sender, back, now);
     pass_acks(sender, back, now, counts)
 }

@@ -1,9 +1,12 @@
 //! The sender of a stream.
-ghost use Rattle.std.specs.Prelude.{◌≡◌, ◌+◌, ◌-◌, ◌<◌, ◌≤◌, ◌==◌, ◌^◌, ◌++◌, ℕ, List, [], length, take, drop, min};
+ghost use Rattle.std.specs.Prelude.{◌≡◌, ◌+◌, ◌-◌, ◌<◌, ◌≤◌, ◌==◌, ◌^◌, ◌++◌, ℕ, List, []};
+ghost use Rattle.std.specs.Prelude.{length, take, drop, min, IsTrue, IsFalse};
 ghost use Rattle.net_storage.specs.Managed.{elements};
 ghost use Rattle.net_receiver.specs.Truthful.{Says};
 ghost use Rattle.net_stream.specs.Outgoing.{outgoing, end_of, room_of, acknowledged, Sends};
+ghost use Rattle.net_stream.specs.Reported.{reports};
 
+use crate::reported::Reported;
 use net_receiver::laws;
 use net_storage::{ManagedSlice, RingBuffer};
 use std::marker::Model;
@@ -11,13 +14,15 @@ use std::marker::Model;
 /// The sender of a stream: it keeps the bytes that were written and not yet acknowledged.
 ///
 /// Positions are absolute and counted in bytes, as a `Receiver` counts them. Contracts see the
-/// capacity, the position of the first byte that is kept, and the bytes that are kept; `Sends f w`
-/// says of a sender that all bytes that were ever written to it are `w`, the first at position `f`.
-/// No call takes memory. smoltcp's TCP socket has the transmit buffer as a part of itself.
+/// capacity, the position of the first byte that is kept, the bytes that are kept, and the ranges
+/// that the last acknowledgement reported; `Sends f w` says of a sender that all bytes that were
+/// ever written to it are `w`, the first at position `f`. No call takes memory. smoltcp's TCP
+/// socket has the transmit buffer as a part of itself, and takes no notice of reported ranges.
 #[derive(Drop)]
 pub struct Sender<'a> {
     ring: RingBuffer<'a, u8>,
     base: u64,
+    reported: Reported,
 }
 
 impl<'a> Model for Sender<'a> {
@@ -27,7 +32,7 @@ impl<'a> Model for Sender<'a> {
 
     ghost Value = { Outgoing };
 
-    ghost view = { λ s. outgoing (capacity s.ring) s.base (queue s.ring) };
+    ghost view = { λ s. outgoing (capacity s.ring) s.base (queue s.ring) s.reported };
 
     ghost invariant = { λ s. s.base + length (queue s.ring) < 2 ^ 64 };
 }
@@ -35,7 +40,7 @@ impl<'a> Model for Sender<'a> {
 impl<'a> Sender<'a> {
     /// A sender of a stream that begins at position 0: `new_at` with 0.
     pub fn new(storage: ManagedSlice<'a, u8>) -> Self
-        ensures state { result ≡ outgoing (length (elements storage.entry)) 0 [] }
+        ensures state { result ≡ outgoing (length (elements storage.entry)) 0 [] [] }
         ensures sends { Sends 0 [] result }
     {
         Self::new_at(storage, 0)
@@ -45,12 +50,13 @@ impl<'a> Sender<'a> {
     ///
     /// Its capacity is the length of `storage` in bytes, of which 0 is allowed.
     pub fn new_at(storage: ManagedSlice<'a, u8>, first: u64) -> Self
-        ensures state { result ≡ outgoing (length (elements storage.entry)) first [] }
+        ensures state { result ≡ outgoing (length (elements storage.entry)) first [] [] }
         ensures sends { Sends first [] result }
     {
         Sender {
             ring: RingBuffer::new(storage),
             base: first,
+            reported: Reported::new(),
         }
     }
 
@@ -93,8 +99,8 @@ impl<'a> Sender<'a> {
     /// Keeps the first of these bytes, as many as `window` says, and returns how many.
     pub fn write(&mut self, bytes: &[u8]) -> usize
         ensures count { result ≡ min (length bytes.now) (room_of self.old) }
-        ensures state { self.new ≡ outgoing self.old.capacity self.old.base
-            (self.old.queue ++ take result bytes.now) }
+        ensures state { self.new
+            ≡ record self.old { queue = self.old.queue ++ take result bytes.now } }
         ensures sends { (f : ℕ) (w : List ℕ) → Sends f w self.old
             → Sends f (w ++ take result bytes.now) self.new }
     {
@@ -123,9 +129,32 @@ impl<'a> Sender<'a> {
         self.ring.get_allocated((pos - self.base) as usize, max)
     }
 
-    /// Lets go the bytes below `next`. A number outside what is kept changes nothing.
-    pub fn acknowledge(&mut self, next: u64)
-        ensures state { self.new ≡ acknowledged self.old next }
+    /// Returns how many of the bytes that are kept, from the one at `pos` on, lie in the first
+    /// reported range that has `pos`: 0 if none has, or the byte isn't kept.
+    pub fn reported_from(&self, pos: u64) -> u64
+        ensures inside { (q : ℕ) → pos ≤ q → q < pos + result
+            → IsTrue (reports self.now.reported q) }
+        ensures none { pos < end_of self.now → result ≡ 0
+            → IsFalse (reports self.now.reported pos) }
+        ensures within { pos ≤ end_of self.now → pos + result ≤ end_of self.now }
+    {
+        let left = self.end().saturating_sub(pos);
+        self.reported.count_from(pos).min(left)
+    }
+
+    /// Returns the first start of a reported range above `pos`, or 2^64 - 1 if there is none.
+    pub fn next_reported(&self, pos: u64) -> u64
+        ensures above { pos < end_of self.now → pos < result }
+        ensures between { IsFalse (reports self.now.reported pos) →
+            (q : ℕ) → pos ≤ q → q < result → IsFalse (reports self.now.reported q) }
+    {
+        self.reported.next_start(pos)
+    }
+
+    /// Lets go the bytes below `next`, and keeps in mind what the receiver reported beyond it, in
+    /// place of what it reported before. A number outside what is kept changes nothing.
+    pub fn acknowledge(&mut self, next: u64, reported: Reported)
+        ensures state { self.new ≡ acknowledged self.old next reported }
         ensures sends { (f : ℕ) (w : List ℕ) → Sends f w self.old → Sends f w self.new }
     {
         if next < self.base || next > self.end() {
@@ -133,5 +162,6 @@ impl<'a> Sender<'a> {
         }
         self.ring.dequeue_allocated((next - self.base) as usize);
         self.base = next;
+        self.reported = reported;
     }
 }

@@ -127,14 +127,23 @@ fn counts_are_those_of_the_fates(rt: HostRuntime) -> Result<(), Fail> {
         // Three frames, an acknowledgement for each and one more; then the end is read, and one
         // acknowledgement tells once more what has come.
         Case(0, &[], PERFECT, b"abcdef", "Ok", [6, 8, 0, 2]),
-        // The second frame is lost, and all three are sent again but the first.
+        // The second frame is lost, and it alone is sent again: the third was reported.
         Case(
             0,
             &[Fate::Delivered, Fate::Lost, Fate::Delivered],
             PERFECT,
             b"abcdef",
             "Ok",
-            [6, 11, 4, 2],
+            [6, 9, 2, 2],
+        ),
+        // The first and the third are lost, and both are sent again.
+        Case(
+            0,
+            &[Fate::Lost, Fate::Delivered, Fate::Lost],
+            PERFECT,
+            b"abcdef",
+            "Ok",
+            [6, 10, 4, 2],
         ),
         Case(0, &[], gone, b"abcdef", "gave up", [0, 400, 594, 100]),
         // 10 positions are left; the end isn't read once they are used up.
@@ -224,6 +233,39 @@ fn each_refusal_ends_a_copy(rt: HostRuntime) -> Result<(), Fail> {
         )?;
         assert_eq!(rt; told.as_str(), end, "{refused} {read_fails} {write_fails}");
         assert_eq!(rt; sink.bytes.as_slice(), &b"abcdef"[..count]);
+    }
+    Ok(())
+}
+
+#[test]
+fn each_refused_request_leaves_a_front(rt: HostRuntime) -> Result<(), Fail> {
+    let text = b"abcdefghijklmnopqrstuvwxyz".as_slice();
+    let rates = Rates {
+        lost: 30,
+        repeated: 20,
+        late: 20,
+    };
+    for refused in 0..80usize {
+        let heap = Refusing::new(rt.alloc(), refused);
+        let mut source = Source::new(text);
+        let mut sink = Sink::new(rt.alloc())?;
+        let mut counts = Counts::new();
+        let told = ending(
+            rt.alloc(),
+            &heap,
+            settings(0, 16, 2),
+            Fates::new(&[], 7, rates),
+            Fates::new(&[], 8, rates),
+            &mut source,
+            &mut sink,
+            &mut counts,
+        )?;
+        assert!(rt; told.as_str() == "out of memory" || sink.bytes.as_slice() == text);
+        assert_eq!(rt;
+            sink.bytes.as_slice(),
+            &text[..sink.bytes.len().min(text.len())]
+        );
+        assert_eq!(rt; sink.bytes.len() as u64, counts.bytes, "{refused}");
     }
     Ok(())
 }

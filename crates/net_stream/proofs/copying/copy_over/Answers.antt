@@ -8,7 +8,7 @@ exchange-ended-requires g c = (
   (
     ap (λ v. v.read) c.new_at-receiver.ensures.state,
     nothing_moved c.args.settings.first c.new_at-sender.result c.new_at-receiver.result c.new-there.result c.new-back.result (g.R.Read.remaining c.args.reader.now) (g.W.Write.contents c.args.writer.now)
-        c.new_at-sender.ensures.sends (ap (λ v. v.base) c.new_at-sender.ensures.state) (c.new_at-receiver.ensures.receives []) (ap (λ v. v.read) c.new_at-receiver.ensures.state) (ap (λ v. v.first) c.new_at-receiver.ensures.state)
+        c.new_at-sender.ensures.sends (ap (λ v. v.base) c.new_at-sender.ensures.state) (ap (λ v. v.reported) c.new_at-sender.ensures.state) (c.new_at-receiver.ensures.receives []) (ap (λ v. v.read) c.new_at-receiver.ensures.state) (ap (λ v. v.first) c.new_at-receiver.ensures.state)
         (ap (λ p. p.ahead) c.new-there.ensures) (ap (λ p. p.late) c.new-there.ensures) (ap (λ p. p.ahead) c.new-back.ensures) (ap (λ p. p.late) c.new-back.ensures),
   ),
 )

@@ -1,4 +1,4 @@
-use Rattle.std.proofs.Common.{◌≡◌, true, refl, arith}
+use Rattle.std.proofs.Common.{true, refl, arith}
 use Rattle.net_stream.proofs.Moved.{so_far}
 use Rattle.net_stream.proofs.copying.exchange.Goals as goal
 

@@ -13,6 +13,6 @@ returns-in-Ok-clause-moving g c = λ f r there back old held holds.
     let all : length given ≤ c.write.result = omega (arith, length-take c.in-Ok.count c.read.new.buf) in
     let is : c.args.more.now ≡ true = c.if-not-more.false in
     fed c.truthful.ensures.longer c.truthful.ensures.queue f c.args.sender.now c.write.new.self r there back old (g.R.Read.remaining c.args.reader.now) (g.R.Read.remaining c.read.new.self) held holds c.args.more.now c.args.more.now
-    given c.in-Ok.ensures.bytes.0 (ap (λ v. v.base) c.write.ensures.state)
+    given c.in-Ok.ensures.bytes.0 (ap (λ v. v.base) c.write.ensures.state) (ap (λ v. v.reported) c.write.ensures.state)
     (λ w s. subst (λ xs. Sends f (w ++ xs) c.write.new.self) (take_all c.write.result given all) (c.write.ensures.sends f w s))
     (λ e. absurd (both_ways c.args.more.now e is))

@@ -1,5 +1,7 @@
-use Rattle.std.proofs.Common.{◌≡◌, ◌+◌, ◌≤◌, ◌∙◌, length, ap, sym, arith}
+use Rattle.std.proofs.Common.{◌≡◌, ◌+◌, ◌≤◌, ◌∙◌, length, ap, sym, subst, arith}
+use Rattle.net_receiver.specs.Rules.{Read}
 use Rattle.net_receiver.specs.Stored.{stored_next}
+use Rattle.net_receiver.specs.Resending.{Has}
 use Rattle.net_stream.proofs.Carried.{took}
 use Rattle.net_stream.proofs.Moved.{handed_out, handed_front}
 use Rattle.net_stream.proofs.Results.{OnOk-map, OnErr-map}
@@ -7,9 +9,11 @@ use Rattle.net_stream.proofs.copying.hand_out.Goals as goal
 
 pub returns-clause-carried : goal.returns-clause-carried
 returns-clause-carried g c = λ f w s there back.
+    let v = c.args.receiver.now in
     let same = c.read-count.ensures.next in
-    let more : stored_next c.args.receiver.now ≤ stored_next c.read-count.new.self = omega arith in
-    took f w s c.args.receiver.now c.read-count.new.self there back (c.read-count.ensures.receives f w) more
+    let more : stored_next v ≤ stored_next c.read-count.new.self = omega arith in
+    took f w s v c.read-count.new.self there back (c.read-count.ensures.receives f w) more
+    (λ p h. subst (λ u. Has u p) (sym c.read-count.ensures.state) (c.completion.ensures.stays g.row.N v (Read (length c.args.chunk.now)) p h))
 
 pub returns-clause-ok : goal.returns-clause-ok
 returns-clause-ok g c =

@@ -1,4 +1,4 @@
-use Rattle.std.proofs.Common.{◌≡◌, ◌∙◌, true, ap, sym}
+use Rattle.std.proofs.Common.{◌≡◌, ◌∙◌, true, sym}
 use Rattle.net_stream.specs.Copying.{Moving, wrote_all}
 use Rattle.net_stream.proofs.Moved.{passed, handed, handed_less, so_far, all_done}
 use Rattle.net_stream.proofs.Reached.{first_is}

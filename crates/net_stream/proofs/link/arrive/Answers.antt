@@ -1,13 +1,39 @@
-use Rattle.std.proofs.Common.{[], ◌+◌, ◌<◌, ◌≤◌, ◌^◌, ◌≡◌, Some, length, max, sym, ap, subst, ◌∙◌, arith, ⊎_elim}
+use Rattle.std.proofs.Common.{◌≡◌, ◌∙◌, ℕ, ◌+◌, ◌<◌, ◌≤◌, ◌^◌, length, sym, subst, arith, ⊎_elim, Bool, true, false}
 use Rattle.std.proofs.lemmas.Bool.{both_ways, cases_lt}
+use Rattle.net_receiver.specs.Rules.{Segment}
 use Rattle.net_receiver.specs.Stored.{stored_next}
+use Rattle.net_receiver.specs.Resending.{Has}
 use Rattle.net_stream.specs.Outgoing.{end_of}
-use Rattle.net_stream.specs.Frames.{frame_of}
-use Rattle.net_stream.specs.Carrying.{Carries}
+use Rattle.net_stream.specs.Carrying.{Carries, answer_of}
 use Rattle.net_stream.specs.Progress.{reach_one}
-use Rattle.net_stream.proofs.Carried.{took, answered, encoded_ack, either}
+use Rattle.net_stream.proofs.Arrived.{past_arrived, past_answer, past_counted, taken_arrived, taken_answer, taken_counted}
+use Rattle.net_stream.proofs.Results.{OnOk-map}
+use Rattle.net_stream.proofs.Carried.{took, answered, either}
 use Rattle.net_stream.proofs.Reached.{says_ends, segment_reaches, no_word_reaches}
 use Rattle.net_stream.proofs.link.arrive.Goals as goal
+
+-- a test that says whether a segment fits
+past : (fits : Bool) (n : ℕ) → fits ≡ false → (n < 2 ^ 64 → fits ≡ true) → 2 ^ 64 ≤ n
+past fits n not if =
+    ⊎_elim {C = 2 ^ 64 ≤ n} (λ (l : n < 2 ^ 64). absurd (both_ways fits not (if l))) (λ (l : 2 ^ 64 ≤ n). l) (cases_lt n (2 ^ 64))
+
+pub returns-then-not-fits-clause-state : goal.returns-then-not-fits-clause-state
+returns-then-not-fits-clause-state g c =
+    let pos = c.in-Some.pos in
+    let xs = c.in-Some.payload.now in
+    past_arrived g.row.N c.args.receiver.now _ pos xs c.in-Some.ensures (past c.fits.result (pos + length xs) c.if-not-fits.true c.fits.ensures.1)
+
+pub returns-then-not-fits-clause-answers : goal.returns-then-not-fits-clause-answers
+returns-then-not-fits-clause-answers g c =
+    let pos = c.in-Some.pos in
+    let xs = c.in-Some.payload.now in
+    past_answer g.row.N c.args.receiver.now _ pos xs c.in-Some.ensures c.args.back.now (past c.fits.result (pos + length xs) c.if-not-fits.true c.fits.ensures.1)
+
+pub returns-then-not-fits-clause-counted : goal.returns-then-not-fits-clause-counted
+returns-then-not-fits-clause-counted g c =
+    let pos = c.in-Some.pos in
+    let xs = c.in-Some.payload.now in
+    past_counted g.row.N c.args.receiver.now _ pos xs c.in-Some.ensures c.args.counts.now (past c.fits.result (pos + length xs) c.if-not-fits.true c.fits.ensures.1)
 
 pub returns-then-not-fits-clause-reaches : goal.returns-then-not-fits-clause-reaches
 returns-then-not-fits-clause-reaches g c = λ f w s there says carries room.
@@ -16,19 +42,37 @@ returns-then-not-fits-clause-reaches g c = λ f w s there says carries room.
     let xs = c.in-Some.payload.now in
     let end = carries.sends.end in
     let ends = says_ends f w pos xs (says pos xs c.in-Some.ensures) in
-    let past : 2 ^ 64 ≤ pos + length xs =
-    ⊎_elim (λ (l : pos + length xs < 2 ^ 64). absurd (both_ways c.fits.result c.if-not-fits.true (c.fits.ensures.1 l))) (λ (l : 2 ^ 64 ≤ pos + length xs). l) (cases_lt (pos + length xs) (2 ^ 64)) in
-    subst (λ o. reach_one n o ≤ n) (sym c.in-Some.ensures) (no_word_reaches n (end_of s) pos xs room.word past (omega arith))
+    let far = past c.fits.result (pos + length xs) c.if-not-fits.true c.fits.ensures.1 in
+    subst (λ o. reach_one n o ≤ n) (sym c.in-Some.ensures) (no_word_reaches n (end_of s) pos xs room.word far (omega arith))
+
+pub returns-clause-state : goal.returns-clause-state
+returns-clause-state g c =
+    let pos = c.in-Some.pos in
+    let xs = c.in-Some.payload.now in
+    c.segment.ensures.state ∙ taken_arrived g.row.N c.args.receiver.now _ pos xs c.in-Some.ensures (c.fits.ensures.0 c.if-not-fits.false)
+
+pub returns-clause-answers : goal.returns-clause-answers
+returns-clause-answers g c =
+    let pos = c.in-Some.pos in
+    let xs = c.in-Some.payload.now in
+    OnOk-map c.answer.result (λ e. e ∙ taken_answer g.row.N c.segment.new.self _ pos xs c.in-Some.ensures c.args.back.now (c.fits.ensures.0 c.if-not-fits.false)) c.answer.ensures.ok
+
+pub returns-clause-counted : goal.returns-clause-counted
+returns-clause-counted g c =
+    let pos = c.in-Some.pos in
+    let xs = c.in-Some.payload.now in
+    c.refuse_if.ensures ∙ taken_counted g.row.N c.args.receiver.now _ pos xs c.in-Some.ensures c.args.counts.now c.segment.result c.is_err-refused.result (c.fits.ensures.0 c.if-not-fits.false) c.segment.ensures.answer c.is_err-refused.ensures.value
 
 pub returns-clause-carried : goal.returns-clause-carried
 returns-clause-carried g c = λ f w s there says carries.
+    let v = c.args.receiver.now in
     let u = c.segment.new.self in
     let back = c.args.back.now in
-    let more = took f w s c.args.receiver.now u there back (λ r. c.segment.ensures.receives f w r (says c.in-Some.pos c.in-Some.payload.now c.in-Some.ensures)) c.segment.ensures.grows carries in
-    let fits : c.next.result < 2 ^ 64 = omega arith in
-    let within : c.next.result ≤ stored_next u = omega arith in
-    either (Carries f w s u there c.send.new.self) c.send.result c.send.ensures.ok c.send.ensures.err
-    (λ e. answered f w s u there back c.send.new.self (frame_of c.next.result []) e (encoded_ack c.round_trip.ensures (stored_next u) c.next.result [] fits within) more)
+    let keeps : (p : ℕ) → Has v p → Has u p =
+    λ p h. subst (λ t. Has t p) (sym c.segment.ensures.state) (c.completion.ensures.stays g.row.N v (Segment c.in-Some.pos c.in-Some.payload.now) p h) in
+    let more = took f w s v u there back (λ r. c.segment.ensures.receives f w r (says c.in-Some.pos c.in-Some.payload.now c.in-Some.ensures)) c.segment.ensures.grows keeps carries in
+    either (Carries f w s u there c.answer.new.back) c.answer.result c.answer.ensures.ok c.answer.ensures.err
+    (λ e. answered f w s u there back c.answer.new.back (answer_of u) e c.answer.ensures.tells more)
     (λ e. subst (Carries f w s u there) (sym e) more)
 
 pub returns-clause-reaches : goal.returns-clause-reaches

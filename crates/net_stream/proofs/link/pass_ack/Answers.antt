@@ -1,5 +1,4 @@
-use Rattle.std.proofs.Common.{◌≡◌, ◌∷◌, ◌∙◌, inl, refl, sym, ap}
-use Rattle.net_stream.specs.Carrying.{PathSeen}
+use Rattle.std.proofs.Common.{◌≡◌, ◌∷◌, ◌∙◌, sym, ap}
 use Rattle.net_stream.specs.Fates.{after_fate}
 use Rattle.net_stream.proofs.Carried.{ack_met}
 use Rattle.net_stream.proofs.Reached.{ack_reaches}

@@ -1,6 +1,5 @@
 use Rattle.std.proofs.Common.{◌≡◌, ◌∷◌, ◌∙◌, inl, refl, sym, ap}
 use Rattle.net_receiver.specs.Stored.{stored_next}
-use Rattle.net_stream.specs.Carrying.{PathSeen}
 use Rattle.net_stream.specs.Fates.{after_fate}
 use Rattle.net_stream.proofs.Carried.{frame_met, before}
 use Rattle.net_stream.proofs.Reached.{frame_reaches}
@@ -17,7 +16,7 @@ pub returns-in_err-arrive_if-clause-reaches : goal.returns-in_err-arrive_if-clau
 returns-in_err-arrive_if-clause-reaches g c = λ f w s carries room.
     let t1 = c.take.new.self in
     let first : c.args.there.now ≡ record t1 { ahead = c.frame-frame.result.now ∷ t1.ahead } = c.in-Some.ensures ∙ ap (λ x. record t1 { ahead = x ∷ t1.ahead }) (sym c.frame-frame.ensures) in
-    frame_reaches (stored_next c.args.receiver.now) (stored_next c.arrive_if.new.receiver) c.args.there.now t1 c.draw-fate.new.self c.draw-fate.new.self c.frame-frame.result.now c.draw-fate.result first c.draw-fate.ensures.fate c.draw-fate.ensures.state (inl refl)
+    frame_reaches g.row.N s.reported c.args.receiver.now (stored_next c.arrive_if.new.receiver) c.args.there.now t1 c.draw-fate.new.self c.draw-fate.new.self c.frame-frame.result.now c.draw-fate.result c.is_sound.ensures carries.reported first c.draw-fate.ensures.fate c.draw-fate.ensures.state (inl refl)
     (λ at_once. let here = before f w s c.args.receiver.now c.args.there.now t1 c.draw-fate.new.self c.args.back.now c.frame-frame.result.now (after_fate t1.fates) first c.draw-fate.ensures.state carries in c.arrive_if.ensures.reaches at_once f w s c.draw-fate.new.self here.0 here.1 room)
 
 pub returns-in_err-return_if-clause-carried : goal.returns-in_err-return_if-clause-carried
@@ -31,7 +30,7 @@ pub returns-in_err-return_if-clause-reaches : goal.returns-in_err-return_if-clau
 returns-in_err-return_if-clause-reaches g c = λ f w s carries room.
     let t1 = c.take.new.self in
     let first : c.args.there.now ≡ record t1 { ahead = c.frame-frame.result.now ∷ t1.ahead } = c.in-Some.ensures ∙ ap (λ x. record t1 { ahead = x ∷ t1.ahead }) (sym c.frame-frame.ensures) in
-    frame_reaches (stored_next c.args.receiver.now) (stored_next c.arrive_if.new.receiver) c.args.there.now t1 c.draw-fate.new.self c.return_if.new.path c.frame-frame.result.now c.draw-fate.result first c.draw-fate.ensures.fate c.draw-fate.ensures.state c.return_if.ensures
+    frame_reaches g.row.N s.reported c.args.receiver.now (stored_next c.arrive_if.new.receiver) c.args.there.now t1 c.draw-fate.new.self c.return_if.new.path c.frame-frame.result.now c.draw-fate.result c.is_sound.ensures carries.reported first c.draw-fate.ensures.fate c.draw-fate.ensures.state c.return_if.ensures
     (λ at_once. let here = before f w s c.args.receiver.now c.args.there.now t1 c.draw-fate.new.self c.args.back.now c.frame-frame.result.now (after_fate t1.fates) first c.draw-fate.ensures.state carries in c.arrive_if.ensures.reaches at_once f w s c.draw-fate.new.self here.0 here.1 room)
 
 pub returns-clause-carried : goal.returns-clause-carried
@@ -45,5 +44,5 @@ pub returns-clause-reaches : goal.returns-clause-reaches
 returns-clause-reaches g c = λ f w s carries room.
     let t1 = c.take.new.self in
     let first : c.args.there.now ≡ record t1 { ahead = c.frame-frame.result.now ∷ t1.ahead } = c.in-Some.ensures ∙ ap (λ x. record t1 { ahead = x ∷ t1.ahead }) (sym c.frame-frame.ensures) in
-    frame_reaches (stored_next c.args.receiver.now) (stored_next c.arrive_if.new.receiver) c.args.there.now t1 c.draw-fate.new.self c.return_if.new.path c.frame-frame.result.now c.draw-fate.result first c.draw-fate.ensures.fate c.draw-fate.ensures.state c.return_if.ensures
+    frame_reaches g.row.N s.reported c.args.receiver.now (stored_next c.arrive_if.new.receiver) c.args.there.now t1 c.draw-fate.new.self c.return_if.new.path c.frame-frame.result.now c.draw-fate.result c.is_sound.ensures carries.reported first c.draw-fate.ensures.fate c.draw-fate.ensures.state c.return_if.ensures
     (λ at_once. let here = before f w s c.args.receiver.now c.args.there.now t1 c.draw-fate.new.self c.args.back.now c.frame-frame.result.now (after_fate t1.fates) first c.draw-fate.ensures.state carries in c.arrive_if.ensures.reaches at_once f w s c.draw-fate.new.self here.0 here.1 room)

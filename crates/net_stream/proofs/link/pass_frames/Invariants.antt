@@ -1,9 +1,9 @@
-use Rattle.std.proofs.Common.{◌≡◌, ◌≤◌, ℕ, List, length}
+use Rattle.std.proofs.Common.{◌≡◌, ℕ, List, length}
 use Rattle.net_receiver.specs.Stored.{stored_next}
 use Rattle.net_stream.specs.Outgoing.{Outgoing}
 use Rattle.net_stream.specs.Fates.{AllCome}
 use Rattle.net_stream.specs.Carrying.{Carries}
-use Rattle.net_stream.specs.Progress.{reach, limit_of, HasRoom}
+use Rattle.net_stream.specs.Progress.{Reaches, limit_of, HasRoom}
 use Rattle.net_stream.proofs.link.pass_frames.Given as goal
 
 abbrev pub invariant-frames : goal.invariant-frames
@@ -13,7 +13,7 @@ invariant-frames g l =
       limit : limit_of l.receiver ≡ limit_of l.fn.receiver;
       read : l.receiver.read ≡ l.fn.receiver.read;
       reaches : (f : ℕ) (w : List ℕ) (s : Outgoing) → Carries f w s l.fn.receiver l.fn.there l.fn.back → HasRoom s l.fn.receiver → AllCome l.fn.there.fates →
-          AllCome l.there.fates × (reach (stored_next l.fn.receiver) l.fn.there.ahead ≤ reach (stored_next l.receiver) l.there.ahead);
+          AllCome l.there.fates × ((end : ℕ) → Reaches s.reported end (stored_next l.fn.receiver) l.fn.there.ahead → Reaches s.reported end (stored_next l.receiver) l.there.ahead);
       fates : l.back.fates ≡ l.fn.back.fates;
     }
 

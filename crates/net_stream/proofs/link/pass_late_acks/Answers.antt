@@ -1,6 +1,6 @@
 use Rattle.std.proofs.Common.{◌≡◌, ◌∷◌, ◌∙◌, sym, ap, subst}
 use Rattle.net_stream.specs.Outgoing.{end_of}
-use Rattle.net_stream.specs.Carrying.{PathSeen, Carries}
+use Rattle.net_stream.specs.Carrying.{Carries}
 use Rattle.net_stream.proofs.Carried.{late_ack_met}
 use Rattle.net_stream.proofs.Reached.{by_keeps_end}
 use Rattle.net_stream.proofs.link.pass_late_acks.Goals as goal

@@ -1,11 +1,13 @@
-use Rattle.std.proofs.Common.{◌≡◌, ◌≤◌, ◌<◌, ◌^◌, ◌++◌, ◌∷◌, [], ◌∙◌, length, sym, ap, subst, arith, le_trans}
-use Rattle.net_receiver.specs.Stored.{stored_next}
+use Rattle.std.proofs.Common.{◌≡◌, ◌≤◌, ◌<◌, ◌^◌, ◌++◌, ◌∷◌, [], ◌∙◌, length, take, sym, ap, subst, arith, le_trans}
+use Rattle.net_storage.specs.Positions.{maximal_runs}
+use Rattle.net_receiver.specs.Stored.{stored_next, domain}
 use Rattle.net_stream.specs.Outgoing.{end_of}
-use Rattle.net_stream.specs.Frames.{frame_of, frames_from}
+use Rattle.net_stream.specs.Frames.{frames_from}
+use Rattle.net_stream.specs.Reported.{most_reported, listed}
 use Rattle.net_stream.specs.Fates.{AllCome}
-use Rattle.net_stream.specs.Carrying.{PathSeen, Carries}
-use Rattle.net_stream.specs.Progress.{reach, acked_all}
-use Rattle.net_stream.proofs.Carried.{answered, encoded_ack}
+use Rattle.net_stream.specs.Carrying.{Carries, answer_of}
+use Rattle.net_stream.specs.Progress.{Reaches, acked_all}
+use Rattle.net_stream.proofs.Carried.{answered}
 use Rattle.net_stream.proofs.Reached.{room_same, sent_reaches, first_is, acked_to_end}
 use Rattle.net_stream.proofs.Results.{OnOk-map}
 use Rattle.net_stream.proofs.link.pass_round.Goals as goal
@@ -20,9 +22,9 @@ pub returns-in_err-pass_frames-clause-carried : goal.returns-in_err-pass_frames-
 returns-in_err-pass_frames-clause-carried g c = λ f w h.
     c.pass_frames.ensures.carried f w c.args.sender.now (c.pass_late_frames.ensures.carried f w c.args.sender.now (c.transmit.ensures.carried f w c.args.receiver.now c.args.back.now h))
 
-pub returns-in_err-send-clause-carried : goal.returns-in_err-send-clause-carried
-returns-in_err-send-clause-carried g c = λ f w h.
-    subst (Carries f w c.args.sender.now c.pass_frames.new.receiver c.pass_frames.new.there) (sym c.in_err-send.ensures.err)
+pub returns-in_err-answer-clause-carried : goal.returns-in_err-answer-clause-carried
+returns-in_err-answer-clause-carried g c = λ f w h.
+    subst (Carries f w c.args.sender.now c.pass_frames.new.receiver c.pass_frames.new.there) (sym c.in_err-answer.ensures.err)
     (c.pass_frames.ensures.carried f w c.args.sender.now (c.pass_late_frames.ensures.carried f w c.args.sender.now (c.transmit.ensures.carried f w c.args.receiver.now c.args.back.now h)))
 
 pub returns-clause-carried : goal.returns-clause-carried
@@ -30,9 +32,7 @@ returns-clause-carried g c = λ f w h.
     let r = c.pass_frames.new.receiver in
     let there = c.pass_frames.new.there in
     let came = c.pass_frames.ensures.carried f w c.args.sender.now (c.pass_late_frames.ensures.carried f w c.args.sender.now (c.transmit.ensures.carried f w c.args.receiver.now c.args.back.now h)) in
-    let word : c.next.result < 2 ^ 64 = omega arith in
-    let within : c.next.result ≤ stored_next r = omega arith in
-    let told = answered f w c.args.sender.now r there c.pass_frames.new.back c.send.new.self (frame_of c.next.result []) c.in_ok-send.ensures.ok (encoded_ack c.round_trip.ensures (stored_next r) c.next.result [] word within) came in
+    let told = answered f w c.args.sender.now r there c.pass_frames.new.back c.answer.new.back (answer_of r) c.in_ok-answer.ensures.ok c.answer.ensures.tells came in
     c.pass_acks.ensures.carried f w r there (c.pass_late_acks.ensures.carried f w r there told)
 
 pub returns-clause-progress : goal.returns-clause-progress
@@ -50,18 +50,18 @@ returns-clause-progress g c = OnOk-map c.pass_acks.result
     let c2 = late.carried f w s c1 in
     let c3 = c.pass_frames.ensures.carried f w s c2 in
     let come1 : AllCome t2.fates = subst AllCome (sym (late.fates ∙ ap (λ p. p.fates) sent.sent)) come in
-    let far : reach (stored_next r1) t2.ahead ≤ stored_next r2 = c.in_ok-pass_frames.ensures.reaches f w s c2 (room_same s c.args.receiver.now r1 late.limit room) come1 in
     let ahead : t2.ahead ≡ c.args.there.now.ahead ++ frames_from s.base sent.parts = late.ahead ∙ ap (λ p. p.ahead) sent.sent in
-    let all : end_of s ≤ reach (stored_next r1) t2.ahead =
-    sent_reaches c.round_trip.ensures (stored_next r1) s.base s.queue sent.parts c.args.there.now.ahead t2.ahead ahead sent.all room.word (le_trans carries.behind late.grows) in
+    let reaches : Reaches s.reported (end_of s) (stored_next r1) t2.ahead =
+    sent_reaches c.round_trip.ensures s.reported (stored_next r1) s.base s.queue sent.parts c.args.there.now.ahead t2.ahead ahead sent.all sent.marked room.word (le_trans carries.behind late.grows) in
+    let all : end_of s ≤ stored_next r2 = c.in_ok-pass_frames.ensures.reaches f w s c2 (room_same s c.args.receiver.now r1 late.limit room) come1 (end_of s) reaches in
     let within = (c.queue.ensures.receives f w c3.receives).within in
     let first = first_is f w r2 c3.receives in
     let end = carries.sends.end in
     let next : stored_next r2 ≡ end_of s = omega arith in
-    let told = c.in_ok-send.ensures.ok in
+    let told = c.in_ok-answer.ensures.ok in
     let come2 : AllCome b4.fates = subst AllCome (sym (c.pass_late_acks.ensures.fates ∙ ap (λ p. p.fates) told ∙ c.pass_frames.ensures.fates ∙ late.back_fates)) come_back in
-    let last : b4.ahead ≡ c.pass_frames.new.back.ahead ++ frame_of c.next.result [] ∷ [] = c.pass_late_acks.ensures.ahead ∙ ap (λ p. p.ahead) told in
-    let word : c.next.result < 2 ^ 64 = omega arith in
-    let empty = acked_to_end c.round_trip.ensures s4 c.next.result c.pass_frames.new.back.ahead (c.next.ensures ∙ next ∙ sym c.pass_late_acks.ensures.end) word in
+    let last : b4.ahead ≡ c.pass_frames.new.back.ahead ++ answer_of r2 ∷ [] = c.pass_late_acks.ensures.ahead ∙ ap (λ p. p.ahead) told in
+    let word : stored_next r2 < 2 ^ 64 = (let h = room.word in omega arith) in
+    let empty = acked_to_end c.round_trip.ensures s4 (stored_next r2) (listed (take most_reported (maximal_runs (domain r2.held)))) c.pass_frames.new.back.ahead (next ∙ sym c.pass_late_acks.ensures.end) word in
     (next, ap (λ v. length v.queue) (acked come2) ∙ ap (λ l. length (acked_all s4 l).queue) last ∙ empty))
     c.pass_acks.ensures.acked

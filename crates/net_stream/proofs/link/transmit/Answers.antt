@@ -1,22 +1,48 @@
-use Rattle.std.proofs.Common.{◌<◌, ◌^◌, All, sym, ap, subst, arith}
-use Rattle.net_stream.specs.Frames.{frame_of, FrameSays}
-use Rattle.net_stream.proofs.Carried.{All-push, encoded}
-use Rattle.net_stream.proofs.Reached.{sent_more}
+use Rattle.std.proofs.Common.{◌≡◌, ◌-◌, ◌∙◌, length, ap, arith}
+use Rattle.net_stream.specs.Reported.{unreported}
+use Rattle.net_stream.specs.Counting.{carrying}
+use Rattle.net_stream.proofs.Ranges.{counted_more, counted_none}
+use Rattle.net_stream.proofs.Reached.{none_sent, sent_more, sent_to_end}
 use Rattle.net_stream.proofs.link.transmit.Goals as goal
+
+pub loop-pos-init : goal.loop-pos-init
+loop-pos-init g c =
+    let s = c.args.sender.now in
+    let none : c.base-pos.result - s.base ≡ 0 = omega arith in
+    record {
+      from = omega arith;
+      within = omega arith;
+      carried = λ f w r back h. h;
+      sent = none_sent s c.base-pos.result c.args.there.now c.base-pos.ensures;
+      counted = counted_none _ c.args.counts.now (omega arith) (ap (unreported s.reported s.base) none);
+    }
 
 pub loop-pos-preserved : goal.loop-pos-preserved
 loop-pos-preserved g c =
     let i = c.loop-pos.invariant in
     let s = c.args.sender.now in
-    let pos = c.loop-pos.pos in
-    let bytes = c.segment-bytes.result.now in
+    let part = c.in_ok-count.ensures.sent in
+    let some = part.some in
+    let end = part.within in
     record {
       from = omega arith;
       within = omega arith;
-      says = λ f w sends all.
-          let h : pos < 2 ^ 64 = omega arith in
-          subst (All (FrameSays f w)) (sym (ap (λ p. p.ahead) c.in_ok-send.ensures.ok))
-          (All-push (FrameSays f w) c.loop-pos.there.ahead (frame_of pos bytes) (i.says f w sends all)
-          (encoded c.round_trip.ensures f w pos bytes h (c.segment-bytes.ensures.says f w sends i.from)));
-      sent = sent_more s.base pos s.queue i.sent.0 bytes c.args.there.now c.loop-pos.there c.send.new.self i.sent.1 i.sent.2 c.segment-bytes.ensures.value c.in_ok-send.ensures.ok i.from (omega arith);
+      carried = λ f w r back h. c.transmit_part.ensures.carried f w r back (i.carried f w r back h);
+      sent = sent_more c.args.sender.now c.loop-pos.pos c.in_ok-count.count i.sent.0 c.args.there.now c.loop-pos.there c.transmit_part.new.there i.sent.1 i.sent.2 i.sent.3 part i.from i.within;
+      counted = counted_more s.reported s.base c.loop-pos.pos c.in_ok-count.count c.args.counts.now c.loop-pos.counts c.transmit_part.new.counts i.from i.counted c.in_ok-count.ensures.counted;
     }
+
+pub returns-in_err-count-clause-carried : goal.returns-in_err-count-clause-carried
+returns-in_err-count-clause-carried g c = λ f w r back h. c.transmit_part.ensures.carried f w r back (c.loop-pos.invariant.carried f w r back h)
+
+pub returns-clause-sent : goal.returns-clause-sent
+returns-clause-sent g c =
+    let i = c.loop-pos.invariant in
+    sent_to_end c.args.sender.now c.loop-pos.pos i.sent.0 c.args.there.now c.loop-pos.there i.sent.1 i.sent.2 i.sent.3 (omega arith)
+
+pub returns-clause-counted : goal.returns-clause-counted
+returns-clause-counted g c =
+    let s = c.args.sender.now in
+    let i = c.loop-pos.invariant in
+    let all : c.loop-pos.pos - s.base ≡ length s.queue = (let from = i.from in let within = i.within in omega arith) in
+    i.counted ∙ ap (λ n. carrying (unreported s.reported s.base n) c.args.counts.now) all

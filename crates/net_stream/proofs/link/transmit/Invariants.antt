@@ -1,17 +1,21 @@
-use Rattle.std.proofs.Common.{◌≡◌, ℕ, List, ◌≤◌, ◌-◌, take, All}
-use Rattle.net_stream.specs.Outgoing.{end_of, Sends}
-use Rattle.net_stream.specs.Frames.{joined, FrameSays}
-use Rattle.net_stream.specs.Carrying.{Sent}
+use Rattle.std.proofs.Common.{◌≡◌, ℕ, List, ◌≤◌, ◌-◌, take}
+use Rattle.net_receiver.specs.Stored.{Stored}
+use Rattle.net_stream.specs.Outgoing.{end_of}
+use Rattle.net_stream.specs.Frames.{Part, joined}
+use Rattle.net_stream.specs.Reported.{unreported}
+use Rattle.net_stream.specs.Counting.{carrying}
+use Rattle.net_stream.specs.Carrying.{PathSeen, Carries, AreMarked, Sent}
 use Rattle.net_stream.proofs.link.transmit.Given as goal
 
--- what was sent so far is the first of what the sender keeps, and says what the stream has
+-- the parts so far are the first of what the sender keeps
 abbrev pub invariant-loop-pos : goal.invariant-loop-pos
 invariant-loop-pos g l =
     record {
       from : l.sender.base ≤ l.pos;
       within : l.pos ≤ end_of l.sender;
-      says : (f : ℕ) (w : List ℕ) → Sends f w l.sender → All (FrameSays f w) l.fn.there.ahead → All (FrameSays f w) l.there.ahead;
-      sent : (parts : List (List ℕ)) × (joined parts ≡ take (l.pos - l.sender.base) l.sender.queue) × Sent l.sender.base parts l.fn.there l.there;
+      carried : (f : ℕ) (w : List ℕ) (r : Stored) (back : PathSeen) → Carries f w l.sender r l.fn.there back → Carries f w l.sender r l.there back;
+      sent : (parts : List Part) × (joined parts ≡ take (l.pos - l.sender.base) l.sender.queue) × AreMarked l.sender.reported l.sender.base parts × Sent l.sender.base parts l.fn.there l.there;
+      counted : l.counts ≡ carrying (unreported l.sender.reported l.sender.base (l.pos - l.sender.base)) l.fn.counts;
     }
 
 abbrev pub decreases-loop-pos : goal.decreases-loop-pos

@@ -1,0 +1,159 @@
+//! What a receiver reports of the bytes that it holds out of order.
+ghost use Rattle.std.specs.Prelude.{◌≡◌, ◌+◌, ◌-◌, ◌^◌, ◌<◌, ◌≤◌, ◌++◌, ◌∷◌, [], ℕ, length, take};
+ghost use Rattle.std.specs.Prelude.{All, IsTrue, IsFalse, MatchOption, None, Some};
+ghost use Rattle.std.specs.Int.{w64, to_be_bytes};
+ghost use Rattle.net_storage.specs.Positions.{maximal_runs};
+ghost use Rattle.net_receiver.specs.Stored.{domain};
+ghost use Rattle.net_stream.specs.Reported.{reports, most_reported, listed, first_range, ranges_of};
+
+use crate::frame::decode;
+use net_receiver::Receiver;
+use std::marker::Model;
+
+/// The most ranges that an acknowledgement reports.
+const MOST_REPORTED: usize = 32;
+
+/// How many bytes they take.
+pub(crate) const REPORT_LEN: usize = 16 * MOST_REPORTED;
+
+/// Ranges of positions that a receiver has reported: each a start and an end, end not included.
+///
+/// Contracts see the list of the ranges, of which there are at most 32. In TCP they are the blocks
+/// of a selective acknowledgement, of which a segment's header has room for three or four.
+#[derive(Drop)]
+pub struct Reported {
+    ranges: [(u64, u64); MOST_REPORTED],
+    count: usize,
+}
+
+impl Model for Reported {
+    ghost use Rattle.std.specs.Prelude.{ℕ, List, take, ◌≤◌};
+
+    ghost Value = { List (ℕ × ℕ) };
+
+    ghost view = { λ r. take r.count r.ranges };
+
+    ghost invariant = { λ r. r.count ≤ 32 };
+}
+
+impl Reported {
+    /// Returns no ranges.
+    pub fn new() -> Reported
+        ensures { result ≡ [] }
+    {
+        Reported {
+            ranges: [(0, 0); MOST_REPORTED],
+            count: 0,
+        }
+    }
+
+    /// Returns the first 32 of the ranges that bytes list: each start and each end in 8 bytes, the
+    /// most significant first. Less than 16 bytes list none.
+    pub fn of_bytes(bytes: &[u8]) -> Reported
+        ensures { result ≡ ranges_of most_reported bytes.now }
+    {
+        let mut reported = Reported::new();
+        let mut rest = bytes;
+        for _turn in 0..MOST_REPORTED {
+            let Some((start, end, behind)) = decode_range(rest) else {
+                return reported;
+            };
+            reported.push(start, end);
+            rest = behind;
+        }
+        reported
+    }
+
+    /// Puts a range behind the others.
+    fn push(&mut self, start: u64, end: u64)
+        requires { length self.old < most_reported }
+        ensures { self.new ≡ self.old ++ (start, end) ∷ [] }
+    {
+        self.ranges[self.count] = (start, end);
+        self.count += 1;
+    }
+
+    /// Returns how many positions from `pos` on lie in the first range that has `pos`, or 0 if none
+    /// has it.
+    pub fn count_from(&self, pos: u64) -> u64
+        ensures inside { (q : ℕ) → pos ≤ q → q < pos + result → IsTrue (reports self.now q) }
+        ensures none { result ≡ 0 → IsFalse (reports self.now pos) }
+    {
+        for i in 0..self.count {
+            let (start, end) = self.ranges[i];
+            if start <= pos && pos < end {
+                return end - pos;
+            }
+        }
+        0
+    }
+
+    /// Returns the first start of a range above `pos`, or 2^64 - 1 if there is none.
+    pub fn next_start(&self, pos: u64) -> u64
+        ensures above { pos < 2 ^ 64 - 1 → pos < result }
+        ensures between { IsFalse (reports self.now pos) →
+            (q : ℕ) → pos ≤ q → q < result → IsFalse (reports self.now q) }
+    {
+        let mut nearest = u64::MAX;
+        for i in 0..self.count {
+            let (start, _end) = self.ranges[i];
+            nearest = nearer(pos, start, nearest);
+        }
+        nearest
+    }
+}
+
+/// Returns the lesser of two positions, if the first is above `pos`, and else the second.
+fn nearer(pos: u64, start: u64, nearest: u64) -> u64
+    ensures least { result ≤ nearest }
+    ensures start { pos < start → result ≤ start }
+    ensures above { pos < nearest → pos < result }
+{
+    if start <= pos {
+        return nearest;
+    }
+    start.min(nearest)
+}
+
+/// Reads the first range that bytes list. Returns it with the bytes behind it, or `None` if there
+/// are less than 16.
+fn decode_range(bytes: &[u8]) -> Option<(u64, u64, &[u8])>
+    ensures { MatchOption result (first_range bytes.now ≡ None)
+        (λ parts. first_range bytes.now ≡ Some (parts.0, parts.1, parts.2.now)) }
+{
+    let (start, rest) = decode(bytes)?;
+    let (end, rest) = decode(rest)?;
+    Some((start, end, rest))
+}
+
+/// Writes a word at a place of a buffer, in 8 bytes, the most significant first.
+fn write_word(buffer: &mut [u8], at: usize, word: u64)
+    requires { at + 8 ≤ length buffer.old }
+    ensures len { length buffer.new ≡ length buffer.old }
+    ensures front { take (at + 8) buffer.new ≡ take at buffer.old ++ to_be_bytes w64 word }
+    ensures fits { word < 2 ^ 64 }
+{
+    buffer[at..at + 8].copy_from_slice(&word.to_be_bytes());
+}
+
+/// Lists the first 32 of a receiver's held runs in a buffer of 512 bytes. Returns how many bytes
+/// they take.
+pub(crate) fn list_held<const N: usize>(receiver: &Receiver<'_, N>, buffer: &mut [u8]) -> usize
+    requires { length buffer.old ≡ 512 }
+    ensures len { length buffer.new ≡ 512 }
+    ensures bound { result ≤ 512 }
+    ensures listed { take result buffer.new
+        ≡ listed (take most_reported (maximal_runs (domain receiver.now.held))) }
+    ensures words { All (λ run. (run.0 < 2 ^ 64) × (run.1 < 2 ^ 64))
+        (take most_reported (maximal_runs (domain receiver.now.held))) }
+{
+    let mut runs = receiver.held();
+    for i in 0..MOST_REPORTED {
+        let Some((start, end)) = runs.next() else {
+            return 16 * i;
+        };
+        write_word(buffer, 16 * i, start);
+        write_word(buffer, 16 * i + 8, end);
+    }
+    REPORT_LEN
+}
