@@ -414,27 +414,28 @@ fn headers_come_and_go(drops: &Cell<u32>) -> bool {
     );
     let came = queue.place(3, Counted { drops }).is_ok();
     let kept = drops.get() == 0;
-    // Three bytes are not free.
+    // Three bytes are not free, and five are more than the storage has.
     let no_bytes = drops_of_refused(&mut queue, drops, b"abc") == Some(4);
+    let too_long = drops_of_refused(&mut queue, drops, b"abcde") == Some(4);
     // No slot is free.
     let last = queue.place(0, Counted { drops }).is_ok();
     let no_slot = drops_of_refused(&mut queue, drops, b"") == Some(4);
     let off = match queue.dequeue() {
         Ok((header, _)) => {
             drop(header);
-            drops.get() == 9
+            drops.get() == 13
         }
         Err(Empty) => false,
     };
     let given = queue.dequeue_with(|_, _| Result::<(), ()>::Ok(())).is_ok();
-    came && kept && no_bytes && last && no_slot && off && given
+    came && kept && no_bytes && too_long && last && no_slot && off && given
 }
 
 #[test]
 fn each_header_is_dropped(rt: HostRuntime) -> Result<(), Fail> {
     let drops = Cell::new(0u32);
     assert!(rt; headers_come_and_go(&drops));
-    assert_eq!(rt; drops.get(), 10);
+    assert_eq!(rt; drops.get(), 14);
     Ok(())
 }
 
