@@ -29,14 +29,17 @@ unsafe extern "C" {
         sink_len: usize,
         rounds: u64,
     ) -> u64;
+    fn np_stream_lent(storage: *mut u8, len: usize, source: *const u8, source_len: usize, rounds: u64) -> u64;
     fn np_rand(seed: u64, count: u64) -> u64;
     fn np_port(seed: u64, count: u64) -> u64;
     fn np_loopback(frame: *const u8, frame_len: usize, rounds: u64) -> u64;
 }
 
 /// The workloads over the port, in the order of their names.
-pub static PORT: [Workload; COUNT] =
-    [ring_slice, ring_many, ring_ahead, ring_one, packet, asm_add, asm_front, stream, rand, port, loopback];
+pub static PORT: [Workload; COUNT] = [
+    ring_slice, ring_many, ring_ahead, ring_one, packet, asm_add, asm_front, stream, stream_lent, rand, port,
+    loopback,
+];
 
 /// Writes a workload: each slice of the memory is a pointer and a length in C.
 macro_rules! workload {
@@ -55,6 +58,7 @@ workload!(packet = np_packet(m; m.storage.at, m.storage.len, m.source.at, m.sour
 workload!(asm_add = np_asm_add(m; m.number, m.ops.at, m.ops.len));
 workload!(asm_front = np_asm_front(m; m.number, m.ops.at, m.ops.len));
 workload!(stream = np_stream(m; m.number, m.storage.at, m.storage.len, m.ops.at, m.ops.len, m.source.at, m.source.len, m.sink.at, m.sink.len));
+workload!(stream_lent = np_stream_lent(m; m.storage.at, m.storage.len, m.source.at, m.source.len));
 workload!(rand = np_rand(m; m.number));
 workload!(port = np_port(m; m.number));
 workload!(loopback = np_loopback(m; m.source.at, m.source.len));

@@ -47,6 +47,10 @@ pub fn rows() -> Vec<Row> {
             all.push(Row { number: runs as u64, calls: 44, ops, ..memory });
         }
     }
+    for size in [64, 1_460] {
+        let more = format!("size {size}");
+        all.push(Row { storage: RING, source: size, calls: 5, ..row("stream_lent", &more) });
+    }
     all.push(Row { number: 1, ..row("rand", "") });
     all.push(Row { number: 1, ..row("port", "") });
     for size in [64, 1_514] {

@@ -37,17 +37,19 @@ pub struct Memory {
 pub type Workload = extern "C" fn(&Memory) -> u64;
 
 /// How many workloads there are.
-pub const COUNT: usize = 11;
+pub const COUNT: usize = 12;
 
 /// Their names, `np_` of `crates/net_perf` left out.
 pub const NAMES: [&str; COUNT] = [
-    "ring_slice", "ring_many", "ring_ahead", "ring_one", "packet", "asm_add", "asm_front", "stream", "rand",
-    "port", "loopback",
+    "ring_slice", "ring_many", "ring_ahead", "ring_one", "packet", "asm_add", "asm_front", "stream",
+    "stream_lent", "rand", "port", "loopback",
 ];
 
 /// The workloads over smoltcp, in the order of their names.
-pub static ORIGINAL: [Workload; COUNT] =
-    [ring_slice, ring_many, ring_ahead, ring_one, packet, asm_add, asm_front, stream, rand, port, loopback];
+pub static ORIGINAL: [Workload; COUNT] = [
+    ring_slice, ring_many, ring_ahead, ring_one, packet, asm_add, asm_front, stream, stream_lent, rand, port,
+    loopback,
+];
 
 const START: u64 = 0xcbf29ce484222325;
 
@@ -234,6 +236,25 @@ fn receive<A: Assembler>(m: &Memory) -> u64 {
                 break;
             }
             sum = mix_ends(sum, &sink[..count]);
+        }
+    }
+    sum
+}
+
+extern "C" fn stream_lent(m: &Memory) -> u64 {
+    let source = m.source.slice();
+    let (mut sum, mut receiver) = (START, Receiver::<Assembler4>::new(m.storage.slice(), 0));
+    for _ in 0..m.rounds {
+        let Some(segment) = receiver.segment(receiver.next(), source) else {
+            return sum;
+        };
+        sum = mix(sum, segment.queued as u64);
+        // The queue has two parts at most.
+        for _ in 0..2 {
+            sum = mix_ends(sum, receiver.peek());
+            let (count, front) =
+                receiver.read_with(|bytes| (bytes.len(), bytes.first().copied().unwrap_or(0)));
+            sum = mix(mix(sum, count as u64), front.into());
         }
     }
     sum

@@ -112,6 +112,20 @@ impl<'a, A: Assembler> Receiver<'a, A> {
         count
     }
 
+    /// The bytes in a row at the front of the queue.
+    #[inline]
+    pub fn peek(&self) -> &[u8] {
+        self.ring.get_allocated(0, self.ring.len())
+    }
+
+    /// Hands them to a closure, and takes off as many as it counts.
+    #[inline]
+    pub fn read_with<R>(&mut self, f: impl FnOnce(&[u8]) -> (usize, R)) -> (usize, R) {
+        let answer = self.ring.dequeue_many_with(|bytes| f(bytes));
+        self.read += answer.0 as u64;
+        answer
+    }
+
     /// The runs that are kept beyond the queue, by their positions.
     pub fn held(&self) -> Vec<(u64, u64)> {
         let (next, mut held) = (self.next(), Vec::new());

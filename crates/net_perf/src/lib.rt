@@ -1,4 +1,5 @@
-//! Functions for C that run a whole workload each and answer a checksum, to time this library against the original.
+//! Functions for C that run a whole workload each and answer a checksum, to time this library
+//! against the original.
 #![tactic(auto)]
 
 mod assembler;

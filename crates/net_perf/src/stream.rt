@@ -1,5 +1,5 @@
 //! Workloads of the receiver.
-ghost use Rattle.std.specs.Prelude.{◌≤◌};
+ghost use Rattle.std.specs.Prelude.{◌≡◌, ◌≤◌, length};
 
 use crate::checksum::{START, mix};
 use net_receiver::Receiver;
@@ -67,6 +67,49 @@ fn stream_at<const N: usize>(
         sum = mix(sum, refused);
         sum = mix_reads(sum, &mut receiver, sink);
         base = base.wrapping_add(data.len() as u64);
+    }
+    sum
+}
+
+/// Returns the checksum with a length, and the first and the last byte.
+fn mix_ends(sum: u64, bytes: &[u8]) -> u64 {
+    let sum = mix(sum, bytes.len() as u64);
+    if bytes.is_empty() {
+        return sum;
+    }
+    let sum = mix(sum, bytes[0] as u64);
+    mix(sum, bytes[bytes.len() - 1] as u64)
+}
+
+/// Returns how many bytes there are, and the first, or 0 if there is none.
+fn count_and_first(bytes: &[u8]) -> (usize, u8)
+    ensures { result.0 ≡ length bytes.now }
+{
+    (bytes.len(), bytes.first().copied().unwrap_or(0))
+}
+
+/// Sends `source` as the next segment, and looks at what is queued by `peek` and takes it off by
+/// `read_with`, `rounds` times.
+#[unsafe(no_mangle)]
+pub extern "C" fn np_stream_lent(storage: &mut [u8], source: &[u8], rounds: u64) -> u64 {
+    let mut sum = START;
+    let mut receiver = Receiver::<4>::new(ManagedSlice::Borrowed(storage));
+    for _ in 0..rounds {
+        let pos = receiver.next();
+        if !Receiver::<4>::fits(pos, source.len()) {
+            return sum;
+        }
+        let Ok(answer) = receiver.segment(pos, source) else {
+            return sum;
+        };
+        sum = mix(sum, answer.queued as u64);
+        // The queue has two parts at most.
+        for _ in 0..2 {
+            sum = mix_ends(sum, receiver.peek(0, receiver.queued()));
+            let (count, first) = receiver.read_with(count_and_first);
+            sum = mix(sum, count as u64);
+            sum = mix(sum, first as u64);
+        }
     }
     sum
 }

@@ -4,22 +4,22 @@ use Rattle.std.proofs.lemmas.Bool.{cases_lt, le-leb, lt-leb, lt-ltb, le-ltb, cas
 use Rattle.std.proofs.lemmas.Option.{none-some, cond_some}
 use Rattle.std.specs.Prelude.{Option, true}
 use Rattle.std.specs.declared.option.Option.TheVariants.{Some, None}
-use Rattle.net_storage.specs.Ring.{RingState, ring, capacity, window, queue, write_at, WellFormed, restarted, with_enqueued, with_dequeued, written, Enqueued}
-use Rattle.net_storage.specs.Packets.{Packet, packet, bytes_used, slots_used, slots_for, place_in, IsPlaced, ArePlaced, gap_for, if_slots}
+use Rattle.net_storage.specs.Ring.{RingState, ring, index_after, capacity, window, queue, write_at, WellFormed, restarted, with_enqueued, with_dequeued, written, Enqueued}
+use Rattle.net_storage.specs.Packets.{Packet, packet, bytes_used, slots_used, slots_for, IsPlaced, ArePlaced, gap_for, if_slots}
 use Rattle.net_storage.specs.PacketSlots.{slot, gap_slot, packet_slots, packets_in, Holds}
 use Rattle.net_storage.specs.declared.packet_metadata.PacketMetadata.{PacketMetadata}
 use Rattle.net_storage.proofs.Rotations.{length-queue, length-overwrite}
 
 -- ---- places of a ring of c elements that is read from r on
-pub place_cases : (c r i : ℕ) → ((i < c - r) × (place_in c r i ≡ r + i)) ⊎ ((c - r ≤ i) × (place_in c r i ≡ i - (c - r)))
+pub place_cases : (c r i : ℕ) → ((i < c - r) × (index_after c r i ≡ r + i)) ⊎ ((c - r ≤ i) × (index_after c r i ≡ i - (c - r)))
 place_cases c r i = elim (cases_lt i (c - r)) [
   | inl h ↦ inl (h, ap (λ (t : Bool). if t then r + i else i - (c - r)) (lt-ltb i (c - r) h))
   | inr h ↦ inr (h, ap (λ (t : Bool). if t then r + i else i - (c - r)) (le-ltb i (c - r) h))
 ]
 
-pub place_place : (c r k j : ℕ) → (r ≡ 0) ⊎ (r < c) → k + j ≤ c → place_in c (place_in c r k) j ≡ place_in c r (k + j)
+pub place_place : (c r k j : ℕ) → (r ≡ 0) ⊎ (r < c) → k + j ≤ c → index_after c (index_after c r k) j ≡ index_after c r (k + j)
 place_place c r k j wf le =
-    let q = place_in c r k in
+    let q = index_after c r k in
     elim (place_cases c r k) [
       | inl a ↦ elim (place_cases c r (k + j)) [
         | inl b ↦ elim (place_cases c q j) [ inl d ↦ omega (arith, a.0, a.1, b.0, b.1, d.0, d.1) | inr d ↦ absurd (omega (arith, a.0, a.1, b.0, b.1, d.0)) ]
@@ -34,19 +34,19 @@ place_place c r k j wf le =
       ]
     ]
 
-pub place_le_in : (c r i : ℕ) → (r ≡ 0) ⊎ (r < c) → i ≤ c → place_in c r i ≤ c
+pub place_le_in : (c r i : ℕ) → (r ≡ 0) ⊎ (r < c) → i ≤ c → index_after c r i ≤ c
 place_le_in c r i wf le = elim (place_cases c r i) [
   | inl a ↦ omega (arith, a.0, a.1)
   | inr a ↦ elim wf [ inl z ↦ omega (arith, z, le, a.1) | inr l ↦ omega (arith, l, le, a.1) ]
 ]
 
-pub place_wf : (c r i : ℕ) → (r ≡ 0) ⊎ (r < c) → i ≤ c → (place_in c r i ≡ 0) ⊎ (place_in c r i < c)
+pub place_wf : (c r i : ℕ) → (r ≡ 0) ⊎ (r < c) → i ≤ c → (index_after c r i ≡ 0) ⊎ (index_after c r i < c)
 place_wf c r i wf le = elim (place_cases c r i) [
   | inl a ↦ inr (omega (arith, a.0, a.1))
   | inr a ↦ elim wf [ inl z ↦ inl (omega (arith, z, le, a.0, a.1)) | inr l ↦ inr (omega (arith, l, le, a.0, a.1)) ]
 ]
 
-pub place_zero : (c r : ℕ) → (r ≡ 0) ⊎ (r < c) → place_in c r 0 ≡ r
+pub place_zero : (c r : ℕ) → (r ≡ 0) ⊎ (r < c) → index_after c r 0 ≡ r
 place_zero c r wf = elim (place_cases c r 0) [
   | inl a ↦ omega (arith, a.1)
   | inr a ↦ elim wf [ inl z ↦ omega (arith, z, a.0, a.1) | inr l ↦ absurd (omega (arith, l, a.0)) ]
@@ -84,17 +84,17 @@ gap_some s c w gap e = elim (cases_lt c s) [
 ]
 
 -- where a packet of s bytes comes, in a ring of c elements that is read from r on and holds n
-pub placed_here : (c r n s gap : ℕ) → (r ≡ 0) ⊎ (r < c) → n ≤ c → gap_for s (min (c - n) (c - place_in c r n)) (c - n) ≡ Some gap
-    → (place_in c r (n + gap) + s ≤ c) × (gap ≢ 0 → place_in c r n + gap ≡ c) × (n + gap + s ≤ c)
+pub placed_here : (c r n s gap : ℕ) → (r ≡ 0) ⊎ (r < c) → n ≤ c → gap_for s (min (c - n) (c - index_after c r n)) (c - n) ≡ Some gap
+    → (index_after c r (n + gap) + s ≤ c) × (gap ≢ 0 → index_after c r n + gap ≡ c) × (n + gap + s ≤ c)
 placed_here c r n s gap wf le e =
     let at = place_le_in c r n wf le in
-    elim (gap_some s (min (c - n) (c - place_in c r n)) (c - n) gap e) [
+    elim (gap_some s (min (c - n) (c - index_after c r n)) (c - n) gap e) [
       | inl h ↦
           let z : n + gap ≡ n = omega (arith, h.0) in
-          let zz = ap (place_in c r) z in
+          let zz = ap (index_after c r) z in
           (omega (arith, zz, h.1, at), λ k. absurd (k h.0), omega (arith, h.0, h.1, le))
       | inr h ↦
-          let ends : place_in c r n + gap ≡ c = omega (arith, h.0, h.1, h.2, at, le) in
+          let ends : index_after c r n + gap ≡ c = omega (arith, h.0, h.1, h.2, at, le) in
           let fits : n + gap + s ≤ c = omega (arith, h.0, h.1, h.2, le) in (
             elim (place_cases c r n) [
               | inl a ↦ elim (place_cases c r (n + gap)) [ inl b ↦ absurd (omega (arith, a.0, a.1, b.0, ends)) | inr b ↦ omega (arith, a.0, a.1, b.0, b.1, ends, fits) ]
@@ -158,40 +158,40 @@ module _ {H : Type 0} where
       (a.0, placed_append c r (o + q.gap + q.size) ps p a.1 (subst (λ (n : ℕ). IsPlaced c r n p) e i))
 
   -- where no bytes are held, packets are placed from any place on
-  pub placed_anew : (c r o : ℕ) (ps : List (Packet H)) → bytes_used ps ≡ 0 → place_in c r o ≤ c → ArePlaced c r o ps
+  pub placed_anew : (c r o : ℕ) (ps : List (Packet H)) → bytes_used ps ≡ 0 → index_after c r o ≤ c → ArePlaced c r o ps
   placed_anew c r o [] e le = tt
   placed_anew c r o (p ∷ ps) e le =
       let g : p.gap ≡ 0 = omega (arith, e) in let s : p.size ≡ 0 = omega (arith, e) in
       let at : o + p.gap ≡ o = omega (arith, g) in
       let next : o + p.gap + p.size ≡ o = omega (arith, g, s) in
-      let at_is = ap (place_in c r) at in
-      let next_is = ap (place_in c r) next in
+      let at_is = ap (index_after c r) at in
+      let next_is = ap (index_after c r) next in
       ((omega (arith, at_is, s, le), λ n. absurd (n g)), placed_anew c r (o + p.gap + p.size) ps (omega (arith, e)) (omega (arith, next_is, le)))
 
   -- the same packets from a later place on
-  pub placed_from : (c r k o : ℕ) (ps : List (Packet H)) → (r ≡ 0) ⊎ (r < c) → k + o + bytes_used ps ≤ c → ArePlaced c r (k + o) ps → ArePlaced c (place_in c r k) o ps
+  pub placed_from : (c r k o : ℕ) (ps : List (Packet H)) → (r ≡ 0) ⊎ (r < c) → k + o + bytes_used ps ≤ c → ArePlaced c r (k + o) ps → ArePlaced c (index_after c r k) o ps
   placed_from c r k o [] wf le a = tt
   placed_from c r k o (p ∷ ps) wf le a =
       let one = place_place c r k (o + p.gap) wf (omega (arith, le)) in
       let two = place_place c r k o wf (omega (arith, le)) in
       let e : k + (o + p.gap) ≡ k + o + p.gap = omega arith in
-      let one_is = ap (place_in c r) e in
+      let one_is = ap (index_after c r) e in
       let n : k + o + p.gap + p.size ≡ k + (o + p.gap + p.size) = omega arith in (
         (omega (arith, one, one_is, a.0.0), λ z. let w = a.0.1 z in omega (arith, two, w)),
         placed_from c r k (o + p.gap + p.size) ps wf (omega (arith, le)) (subst (λ (j : ℕ). ArePlaced c r j ps) n a.1),
       )
 
   -- the same packets once the gap before the first one is gone
-  pub placed_skip : (c r : ℕ) (p : Packet H) (ps : List (Packet H)) → (r ≡ 0) ⊎ (r < c) → bytes_used (p ∷ ps) ≤ c → ArePlaced c r 0 (p ∷ ps) → ArePlaced c (place_in c r p.gap) 0 (packet p.header p.size 0 ∷ ps)
+  pub placed_skip : (c r : ℕ) (p : Packet H) (ps : List (Packet H)) → (r ≡ 0) ⊎ (r < c) → bytes_used (p ∷ ps) ≤ c → ArePlaced c r 0 (p ∷ ps) → ArePlaced c (index_after c r p.gap) 0 (packet p.header p.size 0 ∷ ps)
   placed_skip c r p ps wf le a =
       let at = place_place c r p.gap (0 + 0) wf (omega (arith, le)) in
       let z : p.gap + (0 + 0) ≡ 0 + p.gap = omega arith in
-      let at_is = ap (place_in c r) z in
+      let at_is = ap (index_after c r) z in
       let n : 0 + p.gap + p.size ≡ p.gap + (0 + 0 + p.size) = omega arith in
       ((omega (arith, at, at_is, a.0.0), λ k. absurd (k refl)), placed_from c r p.gap (0 + 0 + p.size) ps wf (omega (arith, le)) (subst (λ (j : ℕ). ArePlaced c r j ps) n a.1))
 
   -- and once the first one, which has no gap, is gone
-  pub placed_pop : (c r : ℕ) (p : Packet H) (ps : List (Packet H)) → (r ≡ 0) ⊎ (r < c) → bytes_used (p ∷ ps) ≤ c → p.gap ≡ 0 → ArePlaced c r 0 (p ∷ ps) → ArePlaced c (place_in c r p.size) 0 ps
+  pub placed_pop : (c r : ℕ) (p : Packet H) (ps : List (Packet H)) → (r ≡ 0) ⊎ (r < c) → bytes_used (p ∷ ps) ≤ c → p.gap ≡ 0 → ArePlaced c r 0 (p ∷ ps) → ArePlaced c (index_after c r p.size) 0 ps
   placed_pop c r p ps wf le z a =
       let k : 0 + p.gap + p.size ≡ p.size + 0 = omega (arith, z) in
       placed_from c r p.size 0 ps wf (omega (arith, le)) (subst (λ (j : ℕ). ArePlaced c r j ps) k a.1)

@@ -4,8 +4,8 @@ use Rattle.std.proofs.lemmas.List.{take_at, drop_at, nil_from_length, take_all, 
 use Rattle.std.specs.Prelude.{Option, replicate}
 use Rattle.std.specs.declared.option.Option.TheVariants.{Some, None}
 use Rattle.net_storage.specs.Overwrite.{overwrite}
-use Rattle.net_storage.specs.Ring.{RingState, ring, capacity, window, queue, spare, storage_index, WellFormed, restarted, with_enqueued, written}
-use Rattle.net_storage.specs.Packets.{Packet, PacketQueue, packet, bytes_used, slots_used, byte_ring, place_in, ArePlaced, placement, placed_if_room, last_written, last_cut, first_gap, first_size, without_first_gap, skipped, IsFirstSized, IsFirst, with_first_header, first_written, popped, dequeued, WellPlaced}
+use Rattle.net_storage.specs.Ring.{RingState, ring, index_after, capacity, window, queue, spare, storage_index, WellFormed, restarted, with_enqueued, written}
+use Rattle.net_storage.specs.Packets.{Packet, PacketQueue, packet, bytes_used, slots_used, byte_ring, ArePlaced, placement, placed_if_room, last_written, last_cut, first_gap, first_size, without_first_gap, skipped, IsFirstSized, IsFirst, with_first_header, first_written, popped, dequeued, WellPlaced}
 use Rattle.net_storage.specs.PacketSlots.{slot, packet_slots, packets_in, Holds, packet_queue}
 use Rattle.net_storage.specs.PacketHistory.{contents_of, contents}
 use Rattle.net_storage.specs.declared.packet_metadata.PacketMetadata.{PacketMetadata}
@@ -197,7 +197,7 @@ module _ {H : Type 0} where
   first_run st r p ps wf a =
       let c = bytes st r (p ∷ ps) in
       let z : 0 + p.gap ≡ p.gap = omega arith in
-      let at = ap (place_in (length st) r) z in
+      let at = ap (index_after (length st) r) z in
       let fits : storage_index c p.gap + p.size ≤ length st = omega (arith, at, a.0.0) in
       (fits, held_value c wf p.gap p.size (storage_index c p.gap) (omega arith) fits (storage_index_is c p.gap))
 

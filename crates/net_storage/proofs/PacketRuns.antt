@@ -1,5 +1,5 @@
 -- Over whole runs, a queue's packets leave in the order in which they came.
-use Rattle.std.proofs.Common.{◌≢◌, ◌≡◌, ℕ, ◌+◌, ◌-◌, ◌≤◌, List, [], ◌∷◌, ◌++◌, length, take, drop, refl, sym, ap, ap₂, ◌∙◌, subst, inl, inr, arith, ◌⊎◌, ◌<◌, append_assoc, length-append, length-drop, suc, ◌↔◌, Bool, true, false, if◌then◌else◌, ◌==◌, Result, Ok, Err, IsErr, IfOk, min}
+use Rattle.std.proofs.Common.{◌≢◌, ◌≡◌, ℕ, ◌+◌, ◌-◌, ◌≤◌, List, [], ◌∷◌, ◌++◌, length, take, drop, refl, sym, ap, ap₂, ◌∙◌, subst, inl, inr, arith, ◌⊎◌, ◌<◌, append_assoc, length-append, length-drop, suc, ◌↔◌, Bool, true, false, if◌then◌else◌, ◌==◌, Result, Ok, Err, IfOk, min}
 use Rattle.std.proofs.lemmas.List.{append-nil, take_all, drop_all, nil_from_length, length-take-le}
 use Rattle.std.proofs.lemmas.Bool.{eqb-true, eq-eqb}
 use Rattle.std.proofs.lemmas.Option.{none-some}
@@ -7,8 +7,8 @@ use Rattle.std.proofs.Math.Seq.{set-append_seam}
 use Rattle.std.specs.Prelude.{set}
 use Rattle.std.specs.declared.option.Option.TheVariants.{Some, None}
 use Rattle.net_storage.specs.Overwrite.{overwrite}
-use Rattle.net_storage.specs.Ring.{queue, storage_index}
-use Rattle.net_storage.specs.Packets.{Packet, PacketQueue, no_packets, packet, bytes_used, slots_used, byte_ring, place_in, ArePlaced, placement, pushed, pushed_if, placed_if_room, only_last, last_place, last_bytes, last_written, last_cut, with_first_size, first_gap, first_size, without_first_gap, skipped, with_first_header, first_written, popped, dequeued, handed, freed_place, freed_bytes, AreFreed, with_bytes, first_bytes, IsFirst, IsFirstSized, WellPlaced}
+use Rattle.net_storage.specs.Ring.{index_after, queue, storage_index}
+use Rattle.net_storage.specs.Packets.{Packet, PacketQueue, no_packets, packet, bytes_used, slots_used, byte_ring, ArePlaced, placement, pushed, pushed_if, placed_if_room, only_last, last_place, last_bytes, last_written, last_cut, with_first_size, first_gap, first_size, without_first_gap, skipped, with_first_header, first_written, popped, dequeued, handed, freed_place, freed_bytes, AreFreed, with_bytes, first_bytes, IsFirst, IsFirstSized, WellPlaced}
 use Rattle.net_storage.specs.PacketHistory.{contents_of, contents, QueueCall, Reset, Place, WriteLast, Enqueue, EnqueueWith, Peek, DequeueErr, DequeueOk, Take, WriteFreed, Dequeue, Log, Makes, MakesAll, with_last_bytes, logged, logged_all, history}
 use Rattle.net_storage.proofs.Overwrites.{overwrite-same}
 use Rattle.net_storage.proofs.Rotations.{IsStorageIndex, length-overwrite, length-queue, cut, overwrite_at, storage_index_is}
@@ -141,7 +141,7 @@ module _ {H : Type 0} where
       let f = last_fits (length st) r 0 q.packets ok.0.0 (omega (arith, ok.0.1)) ok.1 in
       let i : ℕ = bytes_used q.packets - first_size (only_last q.packets) in
       let z : 0 + bytes_used q.packets - first_size (only_last q.packets) ≡ i = omega arith in
-      let at = ap (place_in (length st) r) z in
+      let at = ap (index_after (length st) r) z in
       let w = (held_law c ok.0 i (last_place q) ws (omega (arith, long, f.0)) (omega (arith, long, at, f.1)) (storage_index_is c i)).0 in
       let all = length-queue c ok.0 in
       let c1 = cut (bytes_used ps) bs (omega (arith, all, sum)) in let a = c1.0 in let v = c1.1 in
@@ -196,7 +196,7 @@ module _ {H : Type 0} where
       let f = front_fits c r ps ok.0.0 ok.0.1 ok.1 z in
       let back : s + (c - s) ≡ c = omega (arith, f.1) in
       let round : freed_place (popped (mk n st r ps)) s ≡ r =
-      place_place c r s (c - s) ok.0.0 (omega (arith, f.1)) ∙ ap (place_in c r) back ∙ (elim (place_cases c r c) [ inl h ↦ absurd (omega (arith, h.0)) | inr h ↦ omega (arith, h.1, f.1) ]) in
+      place_place c r s (c - s) ok.0.0 (omega (arith, f.1)) ∙ ap (index_after c r) back ∙ (elim (place_cases c r c) [ inl h ↦ absurd (omega (arith, h.0)) | inr h ↦ omega (arith, h.1, f.1) ]) in
       (round, (omega (arith, rest, ok.0.1), omega (arith, round, f.1)))
 
   pub off_contents : (q : PacketQueue H) → WellPlaced q → (ws : List ℕ) → length ws ≡ first_size q.packets → contents (with_bytes (dequeued q) (skipped q).read_at ws) ≡ contents (dequeued q)
@@ -233,7 +233,7 @@ module _ {H : Type 0} where
       let w = placed_well q ok s hd some in
       let f = last_fits (length o.storage) o.read_at 0 o.packets w.0.0 (omega (arith, w.0.1)) w.1 in
       let z : 0 + bytes_used o.packets - first_size (only_last o.packets) ≡ bytes_used o.packets - first_size (only_last o.packets) = omega arith in
-      let at = ap (place_in (length o.storage) o.read_at) z in
+      let at = ap (index_after (length o.storage) o.read_at) z in
       let long = length-drop (last_place o) o.storage in
       let size : first_size (only_last o.packets) ≡ s = ap (λ (p : PacketQueue H). first_size (only_last p.packets)) (placed_is q ok s hd g.0 g.1) ∙ ap first_size (last_append q.packets (packet hd s g.0)) in
       let n : length (last_bytes o) ≡ s = length-take-le (first_size (only_last o.packets)) (drop (last_place o) o.storage) (omega (arith, at, f.1, long)) ∙ size in

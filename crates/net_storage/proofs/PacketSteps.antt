@@ -7,8 +7,8 @@ use Rattle.std.specs.Prelude.{true, Option}
 use Rattle.std.specs.List.{slice_get}
 use Rattle.std.specs.declared.option.Option.TheVariants.{Some, None}
 use Rattle.net_storage.specs.Overwrite.{overwrite}
-use Rattle.net_storage.specs.Ring.{RingState, ring, rotation, capacity, window, queue, storage_index, WellFormed, restarted, with_enqueued, with_dequeued, written, contiguous_window, contiguous_queued, queue_index, contiguous_queued_from, spare_index, contiguous_window_from}
-use Rattle.net_storage.specs.Packets.{Packet, PacketQueue, packet, bytes_used, slots_used, slots_for, byte_ring, place_in, IsPlaced, ArePlaced, gap_for, placement, pushed, placed_if_room, pushed_if, only_last, before_last, last_place, last_bytes, last_written, last_cut, with_first_size, IsRoom, first_gap, first_size, without_first_gap, skipped, IsFirstSized, first_bytes, IsFirst, with_first_header, first_written, popped, freed_place, AreFreed, WellPlaced, with_bytes}
+use Rattle.net_storage.specs.Ring.{RingState, ring, index_after, freed_index, rotation, capacity, window, queue, storage_index, WellFormed, restarted, with_enqueued, with_dequeued, written, contiguous_window, contiguous_queued, queue_index, contiguous_queued_from, spare_index, contiguous_window_from}
+use Rattle.net_storage.specs.Packets.{Packet, PacketQueue, packet, bytes_used, slots_used, slots_for, byte_ring, IsPlaced, ArePlaced, gap_for, placement, pushed, placed_if_room, pushed_if, only_last, before_last, last_place, last_bytes, last_written, last_cut, with_first_size, IsRoom, first_gap, first_size, without_first_gap, skipped, IsFirstSized, first_bytes, IsFirst, with_first_header, first_written, popped, freed_place, AreFreed, WellPlaced, with_bytes}
 use Rattle.net_storage.specs.PacketSlots.{slot, gap_slot, packet_slots, packets_in, Holds, packet_queue}
 use Rattle.net_storage.specs.declared.packet_metadata.PacketMetadata.{PacketMetadata}
 use Rattle.net_storage.proofs.Rotations.{length-overwrite, length-queue, with_dequeued_parts, part-rotation, cut, overwrite_at, read_at_le}
@@ -81,7 +81,7 @@ module _ {H : Type 0} where
     pub wfg : WellFormed g
     wfg = restart_wf b h.1
 
-    pub here : (place_in room g.read_at (g.count + gap) + s ≤ room) × (gap ≢ 0 → place_in room g.read_at g.count + gap ≡ room) × (g.count + gap + s ≤ room)
+    pub here : (index_after room g.read_at (g.count + gap) + s ≤ room) × (gap ≢ 0 → index_after room g.read_at g.count + gap ≡ room) × (g.count + gap + s ≤ room)
     here = placed_here room g.read_at g.count s gap wfg.0 wfg.1 for_g
 
     pub free_room : slots_for gap ≤ window m
@@ -144,17 +144,17 @@ module _ {H : Type 0} where
       end_size : first_size (only_last all) ≡ s
       end_size = ap first_size (last_append held_packets (packet hd s gap))
 
-      push_place : last_place (pushed before gap s hd) ≡ place_in room g.read_at (g.count + gap)
+      push_place : last_place (pushed before gap s hd) ≡ index_after room g.read_at (g.count + gap)
       push_place =
           let sum = bytes_append held_packets (packet hd s gap) in
           let n : bytes_used all - first_size (only_last all) ≡ g.count + gap = omega (arith, sum, end_size, held_g) in
-          ap (place_in (length b.storage) (restarted (byte_ring before)).read_at) n
-          ∙ ap (λ (o : RingState ℕ). place_in (length b.storage) (restarted o).read_at (g.count + gap)) same
-          ∙ ap (λ (st : List ℕ). place_in (length st) g.read_at (g.count + gap)) (sym (restart_storage b))
+          ap (index_after (length b.storage) (restarted (byte_ring before)).read_at) n
+          ∙ ap (λ (o : RingState ℕ). index_after (length b.storage) (restarted o).read_at (g.count + gap)) same
+          ∙ ap (λ (st : List ℕ). index_after (length st) g.read_at (g.count + gap)) (sym (restart_storage b))
 
       -- where the last packet's bytes begin
       abbrev at : ℕ
-      at = place_in room g.read_at (g.count + gap)
+      at = index_after room g.read_at (g.count + gap)
 
       pub put_is : (ws : List ℕ) → mk (capacity m) (overwrite g.storage at ws) g.read_at all ≡ last_written (placed_if_room before s hd) ws
       put_is ws =
@@ -170,10 +170,10 @@ module _ {H : Type 0} where
           ∙ ap (last_cut k) (put_is ws)
 
       module _ (b1 : RingState ℕ) (is : b1 ≡ g) where
-        fill_at : spare_index b1 gap ≡ place_in room g.read_at (g.count + gap)
+        fill_at : spare_index b1 gap ≡ index_after room g.read_at (g.count + gap)
         fill_at =
             let z : g.count + min gap (window g) ≡ g.count + gap = omega (arith, byte_room) in
-            ap (λ o. spare_index o gap) is ∙ ap (place_in room g.read_at) z
+            ap (λ o. spare_index o gap) is ∙ ap (index_after room g.read_at) z
 
         fill_place : spare_index b1 gap ≡ last_place (placed_if_room before s hd)
         fill_place = fill_at ∙ sym push_place ∙ ap last_place (sym pushed_is)
@@ -222,22 +222,22 @@ module _ {H : Type 0} where
 
   -- where the last packet is
   pub last_fits : (c r o : ℕ) (ps : List (Packet H)) → (r ≡ 0) ⊎ (r < c) → o + bytes_used ps ≤ c → ArePlaced c r o ps
-      → (first_size (only_last ps) ≤ bytes_used ps) × (place_in c r (o + bytes_used ps - first_size (only_last ps)) + first_size (only_last ps) ≤ c)
+      → (first_size (only_last ps) ≤ bytes_used ps) × (index_after c r (o + bytes_used ps - first_size (only_last ps)) + first_size (only_last ps) ≤ c)
   last_fits c r o [] wf le a =
       let at = place_le_in c r o wf (omega (arith, le)) in
       let z : o + 0 - 0 ≡ o = omega arith in
-      let is = ap (place_in c r) z in
+      let is = ap (index_after c r) z in
       (omega arith, omega (arith, is, at))
   last_fits c r o (p ∷ []) wf le a =
       let s = ap first_size (last_one p) in
       let z : o + (p.gap + p.size + 0) - first_size (only_last (p ∷ [])) ≡ o + p.gap = omega (arith, s) in
-      let is = ap (place_in c r) z in
+      let is = ap (index_after c r) z in
       (omega (arith, s), omega (arith, is, s, a.0.0))
   last_fits c r o (p ∷ (q ∷ ps)) wf le a =
       let s = ap first_size (last_cons p q ps) in
       let rest = last_fits c r (o + p.gap + p.size) (q ∷ ps) wf (omega (arith, le)) a.1 in
       let z : o + bytes_used (p ∷ (q ∷ ps)) - first_size (only_last (p ∷ (q ∷ ps))) ≡ o + p.gap + p.size + bytes_used (q ∷ ps) - first_size (only_last (q ∷ ps)) = omega (arith, s) in
-      let is = ap (place_in c r) z in
+      let is = ap (index_after c r) z in
       (omega (arith, s, rest.0), omega (arith, is, s, rest.1))
 
   -- the slots of packets end in that of the last one
@@ -256,7 +256,7 @@ module _ {H : Type 0} where
     abbrev end : ℕ
     end = first_size (only_last (packets_in 0 (queue m)))
 
-    ends : (end ≤ bytes_used (packets_in 0 (queue m))) × (place_in (capacity b) b.read_at (0 + bytes_used (packets_in 0 (queue m)) - end) + end ≤ capacity b)
+    ends : (end ≤ bytes_used (packets_in 0 (queue m))) × (index_after (capacity b) b.read_at (0 + bytes_used (packets_in 0 (queue m)) - end) + end ≤ capacity b)
     ends = last_fits (capacity b) b.read_at 0 (packets_in 0 (queue m)) h.1.0 (omega (arith, h.3, h.1.1)) h.4
 
     pub end_held : end ≤ b.count
@@ -265,12 +265,12 @@ module _ {H : Type 0} where
     pub end_place : queue_index b (b.count - end) ≡ last_place (packet_queue m b)
     end_place =
         let z : min (b.count - end) b.count ≡ bytes_used (packets_in 0 (queue m)) - end = omega (arith, h.3) in
-        ap (place_in (capacity b) b.read_at) z
+        ap (index_after (capacity b) b.read_at) z
 
     pub end_run : contiguous_queued_from b (b.count - end) end ≡ end
     end_run =
         let z : min (b.count - end) b.count ≡ 0 + bytes_used (packets_in 0 (queue m)) - end = omega (arith, h.3) in
-        let at = ap (place_in (capacity b) b.read_at) z in
+        let at = ap (index_after (capacity b) b.read_at) z in
         omega (arith, at, ends.0, ends.1, h.3)
 
   -- ---- the gap before the first packet goes
@@ -335,7 +335,7 @@ module _ {H : Type 0} where
   front_fits c r [] wf le a z = (omega arith, elim wf [ inl e ↦ omega (arith, e) | inr l ↦ omega (arith, l) ])
   front_fits c r (p ∷ ps) wf le a z =
       let n : 0 + p.gap ≡ 0 = omega (arith, z) in
-      let is = ap (place_in c r) n in
+      let is = ap (index_after c r) n in
       let at = place_zero c r wf in
       (omega arith, omega (arith, is, at, a.0.0))
 
@@ -362,7 +362,7 @@ module _ {H : Type 0} where
     front_in_row = omega (arith, h.3, fits.0, fits.1)
 
     pub front_at : queue_index b 0 ≡ b.read_at
-    front_at = let n : min 0 b.count ≡ 0 = omega arith in ap (place_in (capacity b) b.read_at) n ∙ place_zero (capacity b) b.read_at h.1.0
+    front_at = let n : min 0 b.count ≡ 0 = omega arith in ap (index_after (capacity b) b.read_at) n ∙ place_zero (capacity b) b.read_at h.1.0
 
     pub front_run : contiguous_queued_from b 0 front ≡ front
     front_run = let at = front_at in omega (arith, h.3, fits.0, fits.1, at)
@@ -466,7 +466,7 @@ module _ {H : Type 0} where
     some le =
         let long = length-queue m h.0 in
         let at : min k m.count ≡ m.count - 1 = omega (arith, ek) in
-        let is = ap (place_in (capacity m) m.read_at) at in
+        let is = ap (index_after (capacity m) m.read_at) at in
         let w = place_wf (capacity m) m.read_at (m.count - 1) h.0.0 (omega (arith, h.0.1)) in
         elim w [ inl z ↦ omega (arith, z, is, en, long, le, ek, h.0.1) | inr z ↦ omega (arith, z, is, en, long, le, ek, h.0.1) ]
 
@@ -496,27 +496,18 @@ module _ {H : Type 0} where
         ],
       )
 
-  module _ (m : RingState (PacketMetadata H)) (b : RingState ℕ) (h : Holds m b (packets_in 0 (queue m))) (s : ℕ) (f : AreFreed (packet_queue m b) s) where
-    pub freed_room : s ≤ window b
-    freed_room = let n = h.3 in omega (arith, f.0, n)
+  module _ (m : RingState (PacketMetadata H)) (b : RingState ℕ) (s : ℕ) where
+    -- they lie in a row in the ring of bytes
+    pub freed_fits : AreFreed (packet_queue m b) s → (s ≤ capacity b) × (freed_index b s + s ≤ capacity b)
+    freed_fits f = (omega (arith, f.0), f.1)
 
-    pub freed_at : spare_index b (window b - s) ≡ freed_place (packet_queue m b) s
-    freed_at =
-        let n = h.3 in
-        let z : b.count + min (window b - s) (window b) ≡ length b.storage - s = omega (arith, f.0, n, h.1.1) in
-        ap (place_in (capacity b) b.read_at) z
+    -- they are lent
+    module _ (q : PacketQueue H) (is : packet_queue m b ≡ q) where
+      pub freed_ends : (ws : List ℕ) → packet_queue m (written b (freed_index b s) ws) ≡ with_bytes q (freed_place q s) ws
+      freed_ends ws = ap (λ (o : PacketQueue H). with_bytes o (freed_place o s) ws) is
 
-    pub freed_run : contiguous_window_from b (window b - s) s ≡ s
-    freed_run = let at = freed_at in let n = h.3 in omega (arith, f.0, f.1, n, at)
-
-    -- they are lent from the place p on
-    module _ (q : PacketQueue H) (is : packet_queue m b ≡ q) (p : ℕ) (at : p ≡ freed_place (packet_queue m b) s) where
-      pub freed_ends : (ws : List ℕ) → packet_queue m (written b p ws) ≡ with_bytes q (freed_place q s) ws
-      freed_ends ws = ap (λ (p : ℕ). packet_queue m (written b p ws)) at ∙ ap (λ (o : PacketQueue H). with_bytes o (freed_place o s) ws) is
-
-      pub freed_value : (now : List ℕ) → now ≡ take (length now) (drop p b.storage) → length now ≡ s → now ≡ take s (drop (freed_place q s) q.storage)
-      freed_value now stored long =
-          stored ∙ ap₂ (λ (n p : ℕ). take n (drop p b.storage)) long at ∙ ap (λ (o : PacketQueue H). take s (drop (freed_place o s) o.storage)) is
+      pub freed_value : (now : List ℕ) → now ≡ take s (drop (freed_index b s) b.storage) → now ≡ take s (drop (freed_place q s) q.storage)
+      freed_value now stored = stored ∙ ap (λ (o : PacketQueue H). take s (drop (freed_place o s) o.storage)) is
 
 -- ---- a write to a part of which the rest stays as it was
 over_part : (st ws : List ℕ) (r n : ℕ) → r + n ≤ length st → length ws ≤ n → overwrite st r (ws ++ drop (length ws) (take n (drop r st))) ≡ overwrite st r ws
@@ -604,7 +595,7 @@ module _ {H : Type 0} where
         off_is : b2 ≡ with_dequeued (first_size kept) (written b b.read_at ws)
         off_is =
             bytes_are ∙ ap (λ (n : ℕ). written (with_dequeued n b) b.read_at ws) (all ∙ size_is)
-            ∙ ap (λ (c : ℕ). ring (overwrite b.storage b.read_at ws) (place_in c b.read_at (first_size kept)) (b.count - first_size kept)) long_is
+            ∙ ap (λ (c : ℕ). ring (overwrite b.storage b.read_at ws) (index_after c b.read_at (first_size kept)) (b.count - first_size kept)) long_is
 
         off_holds : Holds m2 (with_dequeued (first_size kept) (written b b.read_at ws)) (drop 1 kept)
         off_holds = pop_holds m (written b b.read_at ws) (written_holds m b kept h b.read_at ws) z m2 (em ∙ first_is.3) wfm
@@ -615,8 +606,8 @@ module _ {H : Type 0} where
         pub off_left : capacity m2 ≡ capacity m → (new : H) → packet_queue m2 b2 ≡ popped (first_written (packet_queue m b) new ws)
         off_left cm new =
             ap (packet_queue m2) off_is ∙ viewed m2 _ _ off_holds
-            ∙ ap (λ (n : ℕ). mk n (overwrite b.storage b.read_at ws) (place_in (length (overwrite b.storage b.read_at ws)) b.read_at (first_size kept)) (drop 1 kept)) cm
-            ∙ ap₂ (λ (n : ℕ) (l : List (Packet H)). mk (capacity m) (overwrite b.storage b.read_at ws) (place_in (length (overwrite b.storage b.read_at ws)) b.read_at n) l) (sym (headed_size new kept)) (sym (headed_rest new kept))
+            ∙ ap (λ (n : ℕ). mk n (overwrite b.storage b.read_at ws) (index_after (length (overwrite b.storage b.read_at ws)) b.read_at (first_size kept)) (drop 1 kept)) cm
+            ∙ ap₂ (λ (n : ℕ) (l : List (Packet H)). mk (capacity m) (overwrite b.storage b.read_at ws) (index_after (length (overwrite b.storage b.read_at ws)) b.read_at n) l) (sym (headed_size new kept)) (sym (headed_rest new kept))
 
       -- it stays
       module _ (none : k ≡ 0) (new : H) (m2 : RingState (PacketMetadata H)) (em : queue m2 ≡ slot s (Some new) ∷ drop 1 (queue m)) (wfm : WellFormed m2) where

@@ -8,7 +8,7 @@ use Rattle.std.specs.Prelude.{Result, IsOk, IsErr, is_ok, slice_get}
 use Rattle.std.proofs.lemmas.Option.{slice_get_past}
 use Rattle.std.specs.declared.result.Result.TheVariants.{Ok, Err}
 use Rattle.net_storage.specs.Overwrite.{overwrite}
-use Rattle.net_storage.specs.Ring.{RingState, rotation, ring, capacity, window, queue, spare, storage_index, write_at, WellFormed, written, written_wrapping, with_enqueued, with_dequeued, restarted, contiguous_window, contiguous_queued, spare_index, contiguous_window_from, queue_index, contiguous_queued_from, Enqueued, Dequeued, SpareWritten, QueueWritten, EnqueuedFrom, DequeuedFrom}
+use Rattle.net_storage.specs.Ring.{RingState, freed_index, rotation, ring, capacity, window, queue, spare, storage_index, write_at, WellFormed, written, written_wrapping, with_enqueued, with_dequeued, restarted, contiguous_window, contiguous_queued, spare_index, contiguous_window_from, queue_index, contiguous_queued_from, Enqueued, Dequeued, SpareWritten, QueueWritten, EnqueuedFrom, DequeuedFrom}
 use Rattle.net_storage.proofs.Rotations.{IsStorageIndex, cut, length-rotation, overwrite_at, length-overwrite, storage_index_is, part-rotation, read_at_le, whole, length-queue, length-spare, spare-written, queue-written, with_enqueued_parts, with_dequeued_parts, take_sum}
 
 module _ {T : Type 0} where
@@ -452,6 +452,24 @@ module _ {T : Type 0} where
         let stored : now ≡ take (contiguous_window_from g i n) (drop (spare_index g i) g.storage) = r.1 ∙ ap (λ q. take (contiguous_window_from g i n) (drop q g.storage)) ep in
         (r.0, stored ∙ spare_part_value g well i n ∙ ap (λ j. take j (drop i (spare g))) (sym r.0), stored ∙ ap (λ j. take j (drop (spare_index g i) g.storage)) (sym r.0))
 
+    -- the last k spare elements, as they are shown from the index p on, and where p is
+    pub shown_freed : (k p m : ℕ) → k ≤ capacity g → freed_index g k + k ≤ capacity g → p ≡ freed_index g k → m ≡ k → (now : List T) → now ≡ take m (drop p v.storage)
+        → (length now ≡ k) × (now ≡ take k (drop (freed_index g k) g.storage))
+    shown_freed k p m le fits ep em now e =
+        let r = shown p m k em (omega (arith, ep, fits)) now e in
+        (r.0, r.1 ∙ ap (λ q. take k (drop q g.storage)) ep)
+
+    pub freed_before : (k : ℕ) → k ≤ capacity g → k ≤ v.read_at → v.read_at - k ≡ freed_index g k
+    freed_before k le h =
+        let r = ap (λ o. o.read_at) is in
+        elim (storage_index_is g (capacity g - k)) [ inl i ↦ omega (arith, r, i.0, i.1) | inr i ↦ omega (arith, r, i.0, i.1, read_at_le g well) ]
+
+    pub freed_round : (k : ℕ) → k ≤ capacity g → v.read_at < k → capacity v - (k - v.read_at) ≡ freed_index g k
+    freed_round k le h =
+        let r = ap (λ o. o.read_at) is in
+        let n = ap (λ o. capacity o) is in
+        elim (storage_index_is g (capacity g - k)) [ inl i ↦ omega (arith, r, n, i.0, i.1) | inr i ↦ omega (arith, r, n, i.0, i.1) ]
+
     pub shown_held : (i n p m : ℕ) → p ≡ queue_index g i → m ≡ contiguous_queued_from g i n → (now : List T) → now ≡ take m (drop p v.storage)
         → (length now ≡ contiguous_queued_from g i n) × (now ≡ take (length now) (drop i (queue g))) × (now ≡ take (length now) (drop (queue_index g i) g.storage))
     shown_held i n p m ep em now e =
@@ -591,3 +609,14 @@ pub first_held : {T : Type 0} (g : RingState T) → WellFormed g → (i n : ℕ)
 first_held g wf i n now long is =
     let some : i < g.count → 0 < n → 0 < length now = λ l m. (let h = contiguous_held_some g i n wf.1 l m in omega (arith, h, long)) in
     (some, λ m. first_shown (queue g) now i is (λ l. some (omega (arith, l, length-queue g wf)) m))
+
+-- a list's first element alone, or nothing if it has none
+pub take_first : {T : Type 0} (q : List T) (k : ℕ) → k ≡ min (length q) 1 → take k q ≡ take 1 q
+take_first [] zero e = refl
+take_first [] (suc k) e = absurd (omega (arith, e))
+take_first (x ∷ q) k e = let one : k ≡ 1 = omega (arith, e) in ap (λ n. take n (x ∷ q)) one
+
+-- and what stands first in it
+pub first_taken : {T : Type 0} (q l : List T) → l ≡ take 1 q → slice_get l 0 ≡ slice_get q 0
+first_taken [] l e = ap (λ o. slice_get o 0) e
+first_taken (x ∷ q) l e = ap (λ o. slice_get o 0) e

@@ -1,13 +1,13 @@
 -- A queue of packets over a storage of bytes, what decides which packets are refused, and what each
 -- call makes of the queue. Readers think of a queue as its `contents` (PacketHistory), the list of
 -- headers and bytes; the places here say only when there is room.
-use Rattle.std.specs.Prelude.{◌≡◌, ◌≢◌, Bool, ℕ, zero, suc, ◌+◌, ◌-◌, ◌≤◌, nat_le, nat_lt}
+use Rattle.std.specs.Prelude.{◌≡◌, ◌≢◌, Bool, ℕ, zero, suc, ◌+◌, ◌-◌, ◌≤◌, nat_le}
 use Rattle.std.specs.Prelude.{if◌then◌else◌, List, [], ◌∷◌, ◌++◌, length, take, drop, ⊤}
 use Rattle.std.specs.Prelude.{Option}
 use Rattle.std.specs.declared.option.Option.TheVariants.{Some, None}
 use Rattle.net_storage.specs.Overwrite.{overwrite}
-use Rattle.net_storage.specs.Ring.{RingState, ring, window, storage_index, restarted}
-use Rattle.net_storage.specs.Ring.{contiguous_window, WellFormed}
+use Rattle.net_storage.specs.Ring.{RingState, ring, window, index_after, storage_index, freed_index}
+use Rattle.net_storage.specs.Ring.{contiguous_window, restarted, WellFormed}
 
 -- a packet: its header, how many bytes it has, and how many bytes of the storage are skipped before
 -- it
@@ -53,10 +53,6 @@ abbrev pub if_slots : ℕ → Option ℕ → Option ℕ
 if_slots free None = None
 if_slots free (Some gap) = if nat_le (slots_for gap) free then Some gap else None
 
--- the place that is i places after the place r of c, round the end
-abbrev pub place_in : ℕ → ℕ → ℕ → ℕ
-place_in c r i = if nat_lt i (c - r) then r + i else i - (c - r)
-
 module _ {H : Type 0} where
   -- the slots that packets use, their gaps counted
   abbrev pub slots_used : List (Packet H) → ℕ
@@ -73,7 +69,7 @@ module _ {H : Type 0} where
   -- and a gap ends there
   abbrev pub IsPlaced : ℕ → ℕ → ℕ → Packet H → Type 0
   IsPlaced c r o p =
-      (place_in c r (o + p.gap) + p.size ≤ c) × (p.gap ≢ 0 → place_in c r o + p.gap ≡ c)
+      (index_after c r (o + p.gap) + p.size ≤ c) × (p.gap ≢ 0 → index_after c r o + p.gap ≡ c)
 
   -- packets of which the first comes o bytes after the place r of c
   abbrev pub ArePlaced : ℕ → ℕ → ℕ → List (Packet H) → Type 0
@@ -245,7 +241,7 @@ module _ {H : Type 0} where
 
   -- where the s bytes before the read index begin
   abbrev pub freed_place : PacketQueue H → ℕ → ℕ
-  freed_place q s = storage_index (byte_ring q) (length q.storage - s)
+  freed_place q s = freed_index (byte_ring q) s
 
   -- these bytes
   abbrev pub freed_bytes : PacketQueue H → ℕ → List ℕ

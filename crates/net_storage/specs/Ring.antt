@@ -10,6 +10,10 @@ pub record RingState (T : Type 0) : Type 0 where
   pub read_at : ℕ
   pub count : ℕ
 
+-- of a storage of c elements, the index that is i elements after the index r, wrapping at its end
+abbrev pub index_after : ℕ → ℕ → ℕ → ℕ
+index_after c r i = if nat_lt i (c - r) then r + i else i - (c - r)
+
 -- the list from the index r on, followed by what stands before it
 abbrev pub rotation : {T : Type 0} → List T → ℕ → List T
 rotation b r = drop r b ++ take r b
@@ -44,9 +48,7 @@ module _ {T : Type 0} where
   -- ---- indices of the storage
   -- the index that is i elements after the read index, wrapping at the storage's end
   abbrev pub storage_index : RingState T → ℕ → ℕ
-  storage_index g i =
-      if nat_lt i (length g.storage - g.read_at) then g.read_at + i
-      else i - (length g.storage - g.read_at)
+  storage_index g i = index_after (length g.storage) g.read_at i
 
   -- the index of the first spare element
   abbrev pub write_at : RingState T → ℕ
@@ -85,6 +87,10 @@ module _ {T : Type 0} where
   -- past the queue
   abbrev pub contiguous_queued_from : RingState T → ℕ → ℕ → ℕ
   contiguous_queued_from g i n = min n (min (g.count - i) (length g.storage - queue_index g i))
+
+  -- the index where the last k elements of the spare part begin: k elements before the read index
+  abbrev pub freed_index : RingState T → ℕ → ℕ
+  freed_index g k = storage_index g (length g.storage - k)
 
   -- ---- what calls leave
   -- ws is written over the storage from the index p on; what reaches past its end is cut off

@@ -20,7 +20,22 @@ enum Step<'s> {
     Read(u8, &'s [u8]),
     /// `dequeue` gives a packet of so many bytes.
     Off(usize),
-    /// `peek` and `dequeue` are refused.
+    /// `push_slice` of a packet with this header and these bytes, and whether it is accepted.
+    Push(u8, &'s [u8], bool),
+    /// `pop_slice` into zeros gives this header and so many bytes, and the zeros became these.
+    Pop(u8, usize, &'s [u8]),
+    /// `place` of a packet with this header is accepted, and these bytes are written by `last_mut`.
+    Place(u8, &'s [u8]),
+    /// `take` gives this header, and `freed_mut` these bytes.
+    Take(u8, &'s [u8]),
+    /// `enqueue_with_infallible` of so many bytes is refused, and its closure isn't run.
+    RefusedWith(usize),
+    /// `dequeue_with` by a closure that returns `Ok` if it is shown these bytes.
+    ReadWith(&'s [u8]),
+    /// `dequeue_with` by a closure that leaves this header and first byte, and returns `Err`.
+    Return(u8, u8),
+    /// `peek`, `dequeue`, `take` and `pop_slice` are refused, and so is `dequeue_with`, whose
+    /// closure isn't run.
     NoPackets,
     /// So many slots are used.
     Slots(usize),
@@ -43,11 +58,15 @@ fn goes(queue: &mut PacketBuffer<'_, u8>, step: &Step<'_>) -> bool {
         Step::WriteWith(size, count) => write_with(queue, *size, *count),
         Step::Peek(header, text) => shows(queue, *header, text),
         Step::Read(header, text) => gives(queue, *header, text),
-        Step::Off(size) => match queue.dequeue() {
-            Ok((_, bytes)) => bytes.len() == *size,
-            Err(Empty) => false,
-        },
-        Step::NoPackets => queue.peek().is_err() && queue.dequeue().is_err(),
+        Step::Off(size) => gives_size(queue, *size),
+        Step::Push(header, text, accepted) => queue.push_slice(*header, text).is_ok() == *accepted,
+        Step::Pop(header, count, after) => pops(queue, *header, *count, after),
+        Step::Place(header, text) => places(queue, *header, text),
+        Step::Take(header, text) => takes(queue, *header, text),
+        Step::RefusedWith(size) => refuses_closure(queue, *size),
+        Step::ReadWith(text) => reads_with(queue, text),
+        Step::Return(header, first) => returns_packet(queue, *header, *first),
+        Step::NoPackets => gives_nothing(queue) && hands_nothing(queue),
         Step::Slots(count) => queue.slots_used() == *count,
         Step::Bytes(count) => queue.payload_bytes_count() == *count,
         Step::Capacities(slots, bytes) => {
@@ -97,9 +116,92 @@ fn gives(queue: &mut PacketBuffer<'_, u8>, header: u8, text: &[u8]) -> bool {
     }
 }
 
+/// Returns whether `dequeue` gives a packet of so many bytes.
+fn gives_size(queue: &mut PacketBuffer<'_, u8>, size: usize) -> bool {
+    match queue.dequeue() {
+        Ok((_, bytes)) => bytes.len() == size,
+        Err(Empty) => false,
+    }
+}
+
+/// Returns whether `pop_slice` into zeros gives this header and count, and the zeros become these.
+fn pops(queue: &mut PacketBuffer<'_, u8>, header: u8, count: usize, after: &[u8]) -> bool {
+    let mut zeros = [0u8; 16];
+    let into = &mut zeros[..after.len().min(16)];
+    queue.pop_slice(into) == Ok((header, count)) && *into == *after
+}
+
+/// Places a packet and writes its bytes; returns whether it was accepted.
+fn places(queue: &mut PacketBuffer<'_, u8>, header: u8, text: &[u8]) -> bool {
+    if queue.place(text.len(), header).is_err() {
+        return false;
+    }
+    queue.last_mut().copy_from_slice(text);
+    true
+}
+
+/// Returns whether `take` gives this header, and `freed_mut` these bytes.
+fn takes(queue: &mut PacketBuffer<'_, u8>, header: u8, text: &[u8]) -> bool {
+    let Ok((given, size)) = queue.take() else {
+        return false;
+    };
+    given == header && *queue.freed_mut(size) == *text
+}
+
+/// Returns whether `enqueue_with_infallible` is refused and its closure isn't run.
+fn refuses_closure(queue: &mut PacketBuffer<'_, u8>, size: usize) -> bool {
+    let called = Cell::new(false);
+    let answer = queue.enqueue_with_infallible(size, 0, |_| {
+        called.set(true);
+        0
+    });
+    answer == Err(Full) && !called.get()
+}
+
+/// Returns whether `dequeue_with` shows these bytes.
+fn reads_with(queue: &mut PacketBuffer<'_, u8>, text: &[u8]) -> bool {
+    let answer = queue.dequeue_with(|_, shown| -> Result<bool, ()> { Ok(*shown == *text) });
+    answer == Ok(Ok(true))
+}
+
+/// Writes to the first packet and returns it; returns whether the closure was run.
+fn returns_packet(queue: &mut PacketBuffer<'_, u8>, left: u8, byte: u8) -> bool {
+    let answer = queue.dequeue_with(|header, shown| -> Result<(), u32> {
+        *header = left;
+        if let Some(first) = shown.first_mut() {
+            *first = byte;
+        }
+        Err(123)
+    });
+    answer == Ok(Err(123))
+}
+
+/// Returns whether each call that gives a packet is refused.
+fn gives_nothing(queue: &mut PacketBuffer<'_, u8>) -> bool {
+    queue.peek().is_err()
+        && queue.dequeue().is_err()
+        && queue.take().is_err()
+        && queue.pop_slice(&mut []).is_err()
+}
+
+/// Returns whether `dequeue_with` is refused and its closure isn't run.
+fn hands_nothing(queue: &mut PacketBuffer<'_, u8>) -> bool {
+    let called = Cell::new(false);
+    let answer = queue.dequeue_with(|_, _| -> Result<(), ()> {
+        called.set(true);
+        Ok(())
+    });
+    answer == Err(Empty) && !called.get()
+}
+
 /// Returns the index of the first step that goes otherwise than expected, if there is one.
 fn first_difference(queue: &mut PacketBuffer<'_, u8>, steps: &[Step<'_>]) -> Option<usize> {
-    steps.iter().position(|step| !goes(queue, step))
+    for (number, step) in steps.iter().enumerate() {
+        if !goes(queue, step) {
+            return Some(number);
+        }
+    }
+    None
 }
 
 /// The same from a queue with 4 slots, 16 bytes and no packets on.
@@ -191,107 +293,50 @@ fn a_gap_goes_before_its_packet(rt: HostRuntime) -> Result<(), Fail> {
 
 #[test]
 fn a_refused_packet_stays_and_its_gap_goes(rt: HostRuntime) -> Result<(), Fail> {
-    let mut slots = [PacketMetadata::<u8>::EMPTY; 4];
-    let mut bytes = [0u8; 16];
-    let mut queue = PacketBuffer::<u8>::new(
-        ManagedSlice::Borrowed(&mut slots),
-        ManagedSlice::Borrowed(&mut bytes),
-    );
-    let before = [
+    let steps = [
         Step::Fits(6),
         Step::Fits(8),
         Step::Off(6),
         Step::Write(0, b"abcd"),
         Step::Slots(3),
         Step::Off(8),
+        Step::Return(0, b'a'),
+        Step::Slots(1),
+        Step::ReadWith(b"abcd"),
+        Step::Slots(0),
     ];
-    assert_eq!(rt; first_difference(&mut queue, &before), None);
-    let answer = queue.dequeue_with(|_, _| Result::<(), u32>::Err(123));
-    assert!(rt; matches!(answer, Ok(Err(123))));
-    assert_eq!(rt; first_difference(&mut queue, &[Step::Slots(1)]), None);
-    let mut seen = [0u8; 4];
-    let answer = queue.dequeue_with(|_, shown| {
-        if shown.len() == 4 {
-            seen.copy_from_slice(shown);
-        }
-        Result::<usize, u32>::Ok(shown.len())
-    });
-    assert!(rt; matches!(answer, Ok(Ok(4))));
-    assert_eq!(rt; &seen, b"abcd");
-    assert_eq!(rt; first_difference(&mut queue, &[Step::Slots(0)]), None);
+    assert_eq!(rt; difference_from_empty(&steps), None);
     Ok(())
 }
 
 #[test]
 fn what_a_refusing_closure_wrote_stays(rt: HostRuntime) -> Result<(), Fail> {
-    let mut slots = [PacketMetadata::<u8>::EMPTY; 4];
-    let mut bytes = [0u8; 16];
-    let mut queue = PacketBuffer::<u8>::new(
-        ManagedSlice::Borrowed(&mut slots),
-        ManagedSlice::Borrowed(&mut bytes),
-    );
-    assert!(rt; write(&mut queue, 7, b"ab"));
-    let answer = queue.dequeue_with(|header, shown| {
-        *header = 9;
-        if let Some(first) = shown.first_mut() {
-            *first = b'x';
-        }
-        Result::<(), u32>::Err(1)
-    });
-    assert!(rt; matches!(answer, Ok(Err(1))));
-    let after = [
+    let steps = [
+        Step::Write(7, b"ab"),
+        Step::Return(9, b'x'),
         Step::Peek(9, b"xb"),
         Step::Slots(1),
         Step::Bytes(2),
         Step::Read(9, b"xb"),
     ];
-    assert_eq!(rt; first_difference(&mut queue, &after), None);
+    assert_eq!(rt; difference_from_empty(&steps), None);
     Ok(())
 }
 
 #[test]
 fn a_full_queue_runs_no_closure_and_stays(rt: HostRuntime) -> Result<(), Fail> {
-    let mut slots = [PacketMetadata::<u8>::EMPTY; 4];
-    let mut bytes = [0u8; 16];
-    let mut queue = PacketBuffer::<u8>::new(
-        ManagedSlice::Borrowed(&mut slots),
-        ManagedSlice::Borrowed(&mut bytes),
-    );
-    let before = [
+    let steps = [
         Step::Fits(12),
         Step::Fits(1),
         Step::Fits(1),
         Step::Fits(1),
         Step::Off(12),
+        Step::RefusedWith(5),
+        Step::Slots(3),
+        Step::Bytes(3),
+        Step::Fits(1),
     ];
-    assert_eq!(rt; first_difference(&mut queue, &before), None);
-    let called = Cell::new(false);
-    let answer = queue.enqueue_with_infallible(5, 0, |_| {
-        called.set(true);
-        5
-    });
-    assert!(rt; matches!(answer, Err(Full)));
-    assert!(rt; !called.get());
-    let after = [Step::Slots(3), Step::Bytes(3), Step::Fits(1)];
-    assert_eq!(rt; first_difference(&mut queue, &after), None);
-    Ok(())
-}
-
-#[test]
-fn an_empty_queue_runs_no_closure(rt: HostRuntime) -> Result<(), Fail> {
-    let mut slots = [PacketMetadata::<u8>::EMPTY; 4];
-    let mut bytes = [0u8; 16];
-    let mut queue = PacketBuffer::<u8>::new(
-        ManagedSlice::Borrowed(&mut slots),
-        ManagedSlice::Borrowed(&mut bytes),
-    );
-    let called = Cell::new(false);
-    let answer = queue.dequeue_with(|_, _| {
-        called.set(true);
-        Result::<(), ()>::Ok(())
-    });
-    assert!(rt; matches!(answer, Err(Empty)));
-    assert!(rt; !called.get());
+    assert_eq!(rt; difference_from_empty(&steps), None);
     Ok(())
 }
 
@@ -352,15 +397,8 @@ fn the_two_steps_put_and_take(rt: HostRuntime) -> Result<(), Fail> {
     let slots = [PacketMetadata::<u8>::EMPTY; 2].to_vec(rt.alloc())?;
     let bytes = [0u8; 4].to_vec(rt.alloc())?;
     let mut queue = PacketBuffer::<u8>::new(ManagedSlice::Owned(slots), ManagedSlice::Owned(bytes));
-    assert!(rt; queue.place(2, 5).is_ok());
-    queue.last_mut().copy_from_slice(b"ab");
-    match queue.take() {
-        Ok((header, size)) => {
-            assert_eq!(rt; header, 5);
-            assert_eq!(rt; &*queue.freed_mut(size), b"ab".as_slice());
-        }
-        Err(Empty) => assert!(rt; false),
-    }
+    let steps = [Step::Place(5, b"ab"), Step::Take(5, b"ab"), Step::NoPackets];
+    assert_eq!(rt; first_difference(&mut queue, &steps), None);
     Ok(())
 }
 
@@ -414,47 +452,41 @@ fn headers_come_and_go(drops: &Cell<u32>) -> bool {
     );
     let came = queue.place(3, Counted { drops }).is_ok();
     let kept = drops.get() == 0;
-    // Three bytes are not free.
+    // Three bytes are not free, and five are more than the storage has.
     let no_bytes = drops_of_refused(&mut queue, drops, b"abc") == Some(4);
+    let too_long = drops_of_refused(&mut queue, drops, b"abcde") == Some(4);
     // No slot is free.
     let last = queue.place(0, Counted { drops }).is_ok();
     let no_slot = drops_of_refused(&mut queue, drops, b"") == Some(4);
-    let off = match queue.dequeue() {
-        Ok((header, _)) => {
-            drop(header);
-            drops.get() == 9
-        }
-        Err(Empty) => false,
-    };
-    let given = queue.dequeue_with(|_, _| Result::<(), ()>::Ok(())).is_ok();
-    came && kept && no_bytes && last && no_slot && off && given
+    let off = queue.dequeue().is_ok();
+    let off = off && drops.get() == 13 && closure_takes_off(&mut queue);
+    came && kept && no_bytes && too_long && last && no_slot && off
+}
+
+/// Returns whether `dequeue_with` takes a packet off.
+fn closure_takes_off(queue: &mut PacketBuffer<'_, Counted<'_>>) -> bool {
+    queue.dequeue_with(|_, _| Result::<(), ()>::Ok(())).is_ok()
 }
 
 #[test]
 fn each_header_is_dropped(rt: HostRuntime) -> Result<(), Fail> {
     let drops = Cell::new(0u32);
     assert!(rt; headers_come_and_go(&drops));
-    assert_eq!(rt; drops.get(), 10);
+    assert_eq!(rt; drops.get(), 14);
     Ok(())
 }
 
 #[test]
 fn slices_go_in_and_come_out(rt: HostRuntime) -> Result<(), Fail> {
-    let mut slots = [PacketMetadata::<u8>::EMPTY; 2];
-    let mut bytes = [0u8; 4];
-    let mut queue = PacketBuffer::<u8>::new(
-        ManagedSlice::Borrowed(&mut slots),
-        ManagedSlice::Borrowed(&mut bytes),
-    );
-    assert!(rt; queue.push_slice(7, b"abc").is_ok());
-    assert!(rt; queue.push_slice(8, b"de").is_err());
-    let mut into = [0u8; 2];
-    match queue.pop_slice(&mut into) {
-        Ok(answer) => assert_eq!(rt; answer, (7, 2)),
-        Err(Empty) => assert!(rt; false),
-    }
-    assert_eq!(rt; &into, b"ab");
-    assert!(rt; queue.pop_slice(&mut into).is_err());
+    let steps = [
+        Step::Push(7, b"abcdefghijklmno", true),
+        Step::Push(8, b"de", false),
+        Step::Pop(7, 2, b"ab"),
+        Step::NoPackets,
+        Step::Push(9, b"fg", true),
+        Step::Pop(9, 2, b"fg\0"),
+    ];
+    assert_eq!(rt; difference_from_empty(&steps), None);
     Ok(())
 }
 

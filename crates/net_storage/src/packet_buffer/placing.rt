@@ -74,7 +74,7 @@ impl<H: Drop, M: Elements<PacketMetadata<H>>, B: Elements<u8>> Packets<H, M, B> 
         let Ok(()) = self.place(size, header) else {
             return Err(Full);
         };
-        Ok(self.last_mut())
+        Ok(self.last_part_mut(size))
     }
 
     /// Puts a packet last, after `gap` bytes.
@@ -96,7 +96,7 @@ impl<H: Drop, M: Elements<PacketMetadata<H>>, B: Elements<u8>> Packets<H, M, B> 
     }
 
     /// Lends the last `size` bytes, which are those of the last packet.
-    fn last_part_mut(&mut self, size: usize) -> &mut [u8]
+    pub(super) fn last_part_mut(&mut self, size: usize) -> &mut [u8]
         requires { size ≡ first_size (only_last self.old.packets) }
         ensures* writes_back { sem 𝓛 (lends_bytes H.row M.row B.row M.Elements B.Elements
             self.entry result (last_written self.old)) }

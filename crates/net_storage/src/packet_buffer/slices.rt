@@ -25,7 +25,7 @@ impl<H: Drop, M: Elements<PacketMetadata<H>>, B: Elements<u8>> Packets<H, M, B> 
         ensures made { OnOk result (self.new ≡ enqueued self.old header «data».now) }
     {
         self.place(data.len(), header)?;
-        self.last_mut().copy_from_slice(data);
+        self.last_part_mut(data.len()).copy_from_slice(data);
         Ok(())
     }
 

@@ -71,8 +71,7 @@ impl<H: Drop, M: Elements<PacketMetadata<H>>, B: Elements<u8>> Packets<H, M, B> 
         ensures value { result.now ≡ freed_bytes self.old size }
         ensures size { length result.now ≡ size }
     {
-        let before = self.bytes.window() - size;
-        self.bytes.get_unallocated(before, size)
+        self.bytes.get_freed(size)
     }
 
     /// Takes the first packet and its gap off, hands its header out and lends its bytes.
@@ -106,7 +105,7 @@ impl<H, M: Elements<PacketMetadata<H>>, B: Elements<u8>> Packets<H, M, B> {
         ensures first { IfOk result (λ r. IsFirstSized self.now.packets r.0.now (length r.1.now)) }
         ensures bytes { IfOk result (λ r. r.1.now ≡ first_bytes self.now) }
     {
-        let Some(slot) = self.slots.get_allocated(0, 1).first() else {
+        let Some(slot) = self.slots.front().first() else {
             return Err(Empty);
         };
         match &slot.header {

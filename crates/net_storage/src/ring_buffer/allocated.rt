@@ -63,6 +63,19 @@ impl<T, S: Elements<T>> Ring<T, S> {
             .part_mut(span.from, span.from + span.contiguous)
     }
 
+    /// Shows the first element of the queue, or nothing if there is none: `get_allocated(0, 1)` in
+    /// fewer steps.
+    #[inline]
+    pub(crate) fn front(&self) -> &[T]
+        ensures value { result.now ≡ take 1 (queue self.now) }
+        ensures first { slice_get result.now 0 ≡ slice_get (queue self.now) 0 }
+    {
+        // Called for its clauses alone: by them the sum below does not wrap.
+        let _capacity = self.capacity();
+        let from = self.read_at;
+        self.storage.part(from, from + self.length.min(1))
+    }
+
     /// Dequeues `count` elements.
     ///
     /// The ring must hold as many, which `len` tells; smoltcp panics if it does not.

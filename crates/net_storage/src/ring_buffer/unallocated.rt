@@ -1,7 +1,7 @@
 //! Free elements, lent and written at an offset.
 ghost use Rattle.std.specs.Prelude.{◌≡◌, ◌≤◌, ◌<◌, ◌-◌, ◌+◌, length, take, drop, min, List};
 ghost use Rattle.std.specs.Borrow.{sem};
-ghost use Rattle.net_storage.specs.Ring.{ring, capacity, window, spare, spare_index};
+ghost use Rattle.net_storage.specs.Ring.{ring, capacity, window, spare, spare_index, freed_index};
 ghost use Rattle.net_storage.specs.Ring.{contiguous_window_from, written, written_wrapping};
 ghost use Rattle.net_storage.specs.Ring.{with_enqueued, Enqueued, SpareWritten};
 
@@ -43,6 +43,25 @@ impl<T, S: Elements<T>> Ring<T, S> {
         let span = self.span(self.length, self.window(), offset, size);
         self.storage
             .part_mut(span.from, span.from + span.contiguous)
+    }
+
+    /// Lends the last `size` free elements: those before the read index. Condition: they are
+    /// contiguous.
+    #[inline]
+    pub(crate) fn get_freed(&mut self, size: usize) -> &mut [T]
+        requires size { size ≤ capacity self.old }
+        requires contiguous { freed_index self.old size + size ≤ capacity self.old }
+        ensures* writes_back { sem 𝓛 (lends_many T.row S.row S.Elements self.entry
+            self.old (freed_index self.old size) result) }
+        ensures count { length result.now ≡ size }
+        ensures stored { result.now ≡ take size (drop (freed_index self.old size) self.old.storage) }
+    {
+        let from = if size <= self.read_at {
+            self.read_at - size
+        } else {
+            self.capacity() - (size - self.read_at)
+        };
+        self.storage.part_mut(from, from + size)
     }
 
     /// Enqueues `count` elements, as they stand.

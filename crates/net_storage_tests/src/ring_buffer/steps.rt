@@ -52,7 +52,8 @@ pub enum Step<'t> {
     DequeueOneWith(Option<u8>, u8, bool),
     /// `write_unallocated`: the offset, the elements, and how many are written.
     WriteUnallocated(usize, &'t [u8], usize),
-    /// `get_unallocated` and `contiguous_unallocated`: offset, size, and the elements that are lent.
+    /// `get_unallocated` and `contiguous_unallocated`: offset, size, and the elements that are
+    /// lent.
     GetUnallocated(usize, usize, &'t [u8]),
     /// `get_unallocated`: offset, size, how many are lent, and the text that is written there.
     FillUnallocated(usize, usize, usize, &'t [u8]),

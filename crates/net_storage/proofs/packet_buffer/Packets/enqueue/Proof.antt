@@ -1,4 +1,4 @@
--- `enqueue` places the packet by `place`, and hands on what `last_mut` lends.
+-- `enqueue` places the packet by `place`, and hands on what `last_part_mut` lends.
 use mathlib.Core.Path.{◌≡◌, refl, sym, subst, ap, ◌∙◌}
 use mathlib.Core.Logic.{◌≢◌, inl, inr}
 use mathlib.Core.List.{List, [], ◌∷◌, ◌++◌}
@@ -16,9 +16,9 @@ use prog.Model.{Model}
 use types.Logic.{Logic, sem}
 use contract.BorrowLft.{◌⊑◌, ⊑_trans, meet_⊑_right}
 use contract.Lifetimes.{Lfts, Shares, AllOutlive}
-use contract.Monad.{fact}
+use contract.Monad.{fact, fact_i}
 use contract.Running.{Running, MachineTables, tables}
-use types.Kit.{mean, any_q, Post as After, rewrite, frame, ‵, raw, ◌⊛◌, some, later, at_ret, ◌$◌, ◌∵◌, !, qed, by, move, keep, drop, split, split3, join, fsplit, fsplit3, fjoin, feq_i, fpack, pick, suffices, use1, use2, use3, await, done}
+use types.Kit.{mean, any_q, Post as After, rewrite, frame, ‵, raw, ◌⊛◌, some, later, at_ret, ◌$◌, ◌∵◌, !, qed, by, move, keep, drop, split, split3, join, fsplit, fsplit3, fjoin, feq_i, fpack, pick, suffices, use0, use1, use2, use3, await, done}
 use types.Run.{stop, fld, addr, lit, of_opd, no_more, and_then, first, skips, switches_on, exec, returns, returns_within, enter}
 use types.ByLocal.{lands_as, alloc_all, pass_all, free_all, look_at, get, get_tag, through, sets, env}
 use types.Part.{agg, whole}
@@ -54,7 +54,7 @@ use Rattle.std.specs.declared.option.Option.TheVariants.{None}
 use Rattle.std.specs.contracts.result.Result as RS
 use Rattle.net_storage.specs.Packets.{placement, pushed_if, placed_if_room, only_last as last-of, first_size, last_bytes, last_written}
 use Rattle.net_storage.specs.contracts.error.Full as FU
-use Rattle.net_storage.specs.PacketHistory.{contents, with_last_bytes}
+use Rattle.net_storage.specs.PacketHistory.{contents}
 use Rattle.net_storage.proofs.SaidFacts.{says_four}
 use Rattle.net_storage.proofs.LendInside.{lent, Back, lends_inside, comes_inside}
 use Rattle.net_storage.proofs.ResultParts.{no_fields, alone, ok_or_err, ok_had, err_had}
@@ -63,9 +63,9 @@ use Rattle.net_storage.proofs.WalkedQueue.{Given, args, Header, Self, Q, Live, o
 use Rattle.net_storage.specs.contracts.packet_buffer.Packets.place as place
 use Rattle.net_storage.proofs.packet_buffer.Packets.place.Symbol.{name as #place}
 use Rattle.net_storage.proofs.packet_buffer.Packets.place.Met as place_met
-use Rattle.net_storage.specs.contracts.packet_buffer.Packets.last_mut as last
-use Rattle.net_storage.proofs.packet_buffer.Packets.last_mut.Symbol.{name as #last}
-use Rattle.net_storage.proofs.packet_buffer.Packets.last_mut.Met as last_met
+use Rattle.net_storage.specs.contracts.packet_buffer.Packets.last_part_mut as last
+use Rattle.net_storage.proofs.packet_buffer.Packets.last_part_mut.Symbol.{name as #last}
+use Rattle.net_storage.proofs.packet_buffer.Packets.last_part_mut.Met as last_met
 use Rattle.net_storage.specs.contracts.packet_buffer.Packets.enqueue as F
 use Rattle.net_storage.specs.contracts.packet_buffer.Packets.enqueue.Key.{name as #self}
 use Rattle.net_storage.proofs.packet_buffer.Packets.enqueue.Statement as stated
@@ -78,6 +78,10 @@ module _ (G : Given) where
   -- what `place` is passed for the size
   abbrev passed : Operand
   passed = second_passed (head (after 2 function.body))
+
+  -- what `last_part_mut` is passed for it
+  abbrev lent_size : Operand
+  lent_size = second_passed (head (after 5 function.body))
 
   abbrev ended : Ended
   ended = F.ended G.H G.N G.B G.slots G.slots_by G.bytes G.bytes_by G.drops_by
@@ -109,6 +113,10 @@ module _ (G : Given) {M : Type 1} {𝓤 : Ura M} (𝓛 : Logic 𝓤) (𝓜 : Mod
     -- the size that `place` is passed
     abbrev k : ℕ
     k = number_of n (passed G)
+
+    -- and the one that `last_part_mut` is
+    abbrev j : ℕ
+    j = number_of n (lent_size G)
 
     -- the queue with the packet in it, if it could be placed
     abbrev y : Q G
@@ -155,7 +163,11 @@ module _ (G : Given) {M : Type 1} {𝓤 : Ura M} (𝓛 : Logic 𝓤) (𝓜 : Mod
       )
 
     abbrev to_last : Last.Ghost
-    to_last = ((κs, qs, bounds, (record self { now = y }, tt), (mut_vals self, tt)), tt)
+    to_last = ((κs, qs, bounds, (record self { now = y }, (j, tt)), (mut_vals self, (vint w64 j ∷ [], tt))), tt)
+
+    -- what `last_part_mut` requires
+    abbrev Sized : Type 0
+    Sized = j ≡ first_size (last-of y.packets)
 
     -- the end at `Err`, where self ends as it was
     refuses : placement x n ≡ None → ent 𝓤 (sep 𝓤 (sem 𝓛 (ends_as x)) (sep 𝓤 (𝓛.A.lft κs.0 qs.0) (mean 𝓛 (others G 𝓤 κs qs)))) (Post (live 1 (of_list (no_fields ∷ []))))
@@ -220,12 +232,13 @@ module _ (G : Given) {M : Type 1} {𝓤 : Ura M} (𝓛 : Logic 𝓤) (𝓜 : Mod
               first ! $ switches_on ! (get_tag ! (vrt ! refl (fld ! refl (stop !))) (whole !)) $ exec ! 𝓣.C 𝓣.Λ En (arm_body 0 (front (after 3 (function G).body))) Then $
               skips ! $ exec ! 𝓣.C 𝓣.Λ En (after 4 (function G).body) (at_ret En Post) $
               sets ! (addr ! (through ! refl (stop !))) refl (tt, tt) $
-              nothing ! $ move ! (1 ∷ 0 ∷ []) $ fjoin ! $ move ! (1 ∷ 2 ∷ []) $ join ! $ join ! $
-              nothing ! $ use1 𝓛 (raw (Asked G 𝓤 κs (emp 𝓤))) (asked G 𝓛 κs live-in (emp 𝓤)) $ move ! (1 ∷ 0 ∷ []) $ join ! $ use1 𝓛 (raw (Last.pre to_last)) (id⊢ 𝓤 _) $
-              calls_at ! (framed 𝓤 H 𝓜 𝓣) Last last-met to_last (and_then ! (get ! refl) (no_more !)) (λ u.
-              use1 𝓛 (later (some (λ (m : MutBor (List ℕ)). ((‵ (flft κs.0 qs.0) ⊛ others G 𝓤 κs qs) ⊛ ‵ (Part.own_val m (u ∷ []))) ⊛ some (λ (ws : Unit {0} × Unit {0}). ‵ (lasts (last.ended G.H G.N G.B G.slots G.slots_by G.bytes G.bytes_by G.drops_by) to_last.0.0 to_last.0.3 ws)
-              ⊛ ‵ (follow y m) ⊛ raw (fact 𝓤 ((l : List ℕ) → length l ≡ length m.now → contents (last_written y l) ≡ with_last_bytes l (contents y))) ⊛ raw (fact 𝓤 (m.now ≡ last_bytes y)) ⊛ raw (fact 𝓤 (length m.now ≡ first_size (last-of y.packets))))))) (id⊢ 𝓤 (Last.post to_last u)) $
-              await ! tt $ pick ! (λ m. split ! $ split ! $ move ! (2 ∷ []) $ pick ! (λ _. split3 ! $ drop ! $ move ! (1 ∷ []) $ split3 ! $ heard ! _ (λ written. heard ! _ (λ value. heard ! _ (λ size.
+              nothing ! $ owned ! usize (Is usize) (uint_Makes 𝓛 w64) j _ (refl, number_fits 2 n (lent_size G) tt fits-n) $ fjoin ! $ move ! (1 ∷ 0 ∷ []) $ fjoin ! $ move ! (1 ∷ 2 ∷ []) $ join ! $ join ! $
+              use0 𝓛 (raw (fact 𝓤 Sized)) (fact_i 𝓤 _ (emp 𝓤) (sym sizes)) $ use1 𝓛 (raw (Asked G 𝓤 κs (fact 𝓤 Sized))) (asked G 𝓛 κs live-in (fact 𝓤 Sized)) $
+              move ! (1 ∷ 0 ∷ []) $ join ! $ use1 𝓛 (raw (Last.pre to_last)) (id⊢ 𝓤 _) $
+              calls_at ! (framed 𝓤 H 𝓜 𝓣) Last last-met to_last (and_then ! (get ! refl) (and_then ! (number ! 2 n (lent_size G) tt (get ! refl)) (no_more !))) (λ u.
+              use1 𝓛 (later (some (λ (m : MutBor (List ℕ)). ((‵ (flft κs.0 qs.0) ⊛ others G 𝓤 κs qs) ⊛ ‵ (Part.own_val m (u ∷ []))) ⊛ some (λ (ws : Unit {0} × (Unit {0} × Unit {0})). ‵ (lasts (last.ended G.H G.N G.B G.slots G.slots_by G.bytes G.bytes_by G.drops_by) to_last.0.0 to_last.0.3 ws)
+              ⊛ ‵ (follow y m) ⊛ raw (fact 𝓤 (m.now ≡ last_bytes y)) ⊛ raw (fact 𝓤 (length m.now ≡ first_size (last-of y.packets))))))) (id⊢ 𝓤 (Last.post to_last u)) $
+              await ! tt $ pick ! (λ m. split ! $ split ! $ move ! (2 ∷ []) $ pick ! (λ _. split3 ! $ drop ! $ move ! (1 ∷ []) $ split ! $ heard ! _ (λ value. heard ! _ (λ size.
               -- [what self follows; the tokens; the part]
               move ! (2 ∷ []) $ peeks ! Part (Is Part) (shows 𝓛 Part) m (u ∷ []) (λ ok.
               let w : Val = slice_val m.ref_ptr (length m.now) in
@@ -235,7 +248,7 @@ module _ (G : Given) {M : Type 1} {𝓤 : Ura M} (𝓛 : Logic 𝓤) (𝓜 : Mod
               lands_as ! (ap only ok.0.0) refl (tt, (tt, (record { fits = fits }, tt))) $
               sets ! (agg ! (and_then ! (lit ! tt) (and_then ! (get ! refl) (no_more !)))) refl (tt, (record { fits = lit< tt }, ((tt, (record { fits = fits }, tt)), tt))) $
               rewrite ! 0 (λ (l : List Val). ‵ (Part.own_val m l)) ok.0.0 refl $ returns ! (look_at ! 0 refl) $ free_all ! refl $ keep ! (0 ∷ 1 ∷ 2 ∷ []) $
-              by ! (lends m w is_placed accepted value sized))))))))))
+              by ! (lends m w is_placed accepted value sized)))))))))
           | inr c ↦
               let none : placement x k ≡ None = full.0 (subst (λ t. IsErr t) (sym c.1) refl) in
               rewrite ! 0 (λ (m : Q G). ‵ (mine m)) (ap (λ m. pushed_if x m k h) none) refl $
@@ -271,6 +284,6 @@ pub enqueue_spec : {M : Type 1} → stated.statement M
 enqueue_spec 𝓤 𝓛 𝓜 𝓡 wired X Y Z LX LY LZ g gd b bd hd gm bm hm =
     let G : Given = record { H = X; N = Y; B = Z; laws = LX; slots = g; slots_by = gd; bytes = b; bytes_by = bd; drops_by = hd } in
     let first = place_met.met 𝓤 𝓛 𝓜 𝓡 (code.calls-net_storage::packet_buffer::Packets::place 𝓡.env wired) X Y Z LX LY LZ g gd b bd hd gm bm hm in
-    let second = last_met.met 𝓤 𝓛 𝓜 𝓡 (code.calls-net_storage::packet_buffer::Packets::last_mut 𝓡.env wired) X Y Z LX LY LZ g gd b bd hd gm bm hm in
+    let second = last_met.met 𝓤 𝓛 𝓜 𝓡 (code.calls-net_storage::packet_buffer::Packets::last_part_mut 𝓡.env wired) X Y Z LX LY LZ g gd b bd hd gm bm hm in
     proved_at 𝓛 (ended G) (stayed G) (held G 𝓛 𝓜 𝓡 first second) 𝓜 𝓡 (Goes-spent_ref 𝓛 4 (0 ∷ []) tt (plain (λ _. Self G)), (Goes-dropped 𝓛 4 (plain (λ _. usize)) yes (λ κs x f. refl), (Goes-dropped 𝓛 4 (plain (λ _. Header G)) no (λ κs x f. refl), tt)))
     (#self (args G)) (function G) (code.unfolded 𝓤 𝓛.H 𝓜 𝓡 wired (X, (Y, (Z, tt))) gd bd hd) (entry G 𝓛 𝓜 𝓡 first second)

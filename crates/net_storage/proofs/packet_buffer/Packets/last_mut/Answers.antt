@@ -1,4 +1,4 @@
-use Rattle.std.proofs.Common.{◌∙◌, refl, rules}
+use Rattle.std.proofs.Common.{◌∙◌, refl}
 use Rattle.net_storage.proofs.PacketRuns.{last_shown}
 use Rattle.net_storage.proofs.packet_buffer.Packets.last_mut.Goals as goal
 

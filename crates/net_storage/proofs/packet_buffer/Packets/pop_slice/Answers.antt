@@ -1,4 +1,4 @@
-use Rattle.std.proofs.Common.{◌≡◌, ◌∷◌, ◌++◌, ◌∙◌, ℕ, List, length, min, take, drop, sym, ap, rules}
+use Rattle.std.proofs.Common.{◌≡◌, ◌∷◌, ◌++◌, ◌∙◌, ℕ, List, length, min, take, drop, sym, ap}
 use Rattle.net_storage.specs.Packets.{dequeued, freed_place, freed_bytes, with_bytes}
 use Rattle.net_storage.specs.PacketHistory.{contents, front_bytes}
 use Rattle.net_storage.proofs.PacketRuns.{freed_stay, copied_whole}
