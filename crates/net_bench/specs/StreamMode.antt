@@ -2,7 +2,8 @@
 use Rattle.std.specs.Prelude.{ℕ, ◌+◌, ◌^◌, ◌&&◌, ◌==◌, nat_lt, if◌then◌else◌, Bool, true, List, [], ◌∷◌, ◌++◌, length, flat_map, codes, bytes_eq, decimal, Option, Some, None, option_map, Result, Ok, Err}
 use Rattle.std.specs.Cmp.Lexicographic.{pointwise}
 use Rattle.net_storage.specs.Positions.{maximal_runs}
-use Rattle.net_receiver.specs.Rules.{CommandSeen, Segment, Read, Show, ReplySeen, Segmented, Gave, Shown, Keeping, after, reply}
+use Rattle.net_receiver.specs.Rules.{CommandSeen, Segment, Read, Show, ReplySeen, Segmented, Gave, Shown}
+use Rattle.net_receiver.specs.Rules.{Keeping, after, reply}
 use Rattle.net_receiver.specs.Schedule.{Setting, State, fresh, by_kept}
 use Rattle.net_bench.specs.Text.{number_of, hex_bytes, hex_text}
 use Rattle.net_bench.specs.Transcript.{Rules}
