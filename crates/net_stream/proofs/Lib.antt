@@ -4,6 +4,7 @@ pub mod Carried
 pub mod Ranges
 pub mod Arrived
 pub mod Reached
+pub mod Counted
 pub mod Results
 pub mod KnownBytes
 pub mod Moved
