@@ -4,5 +4,6 @@ pub mod Carried
 pub mod Ranges
 pub mod Arrived
 pub mod Reached
+pub mod Counted
 pub mod Results
 pub mod Moved

@@ -162,7 +162,7 @@ pub come_next : (v : FatesSeen) → AllCome v → (comes (next_fate v) ≡ true)
 come_next v h = come_one v.rates v.state v.listed h.lost h.late h.listed
 
 -- ---- one step
-returned : (frame : List ℕ) (old new : PathSeen) → MayReturn frame old new → (new.ahead ≡ old.ahead) × (new.fates ≡ old.fates)
+pub returned : (frame : List ℕ) (old new : PathSeen) → MayReturn frame old new → (new.ahead ≡ old.ahead) × (new.fates ≡ old.fates)
 returned frame old new again =
     ⊎_elim {C = (new.ahead ≡ old.ahead) × (new.fates ≡ old.fates)}
     (λ (e : new ≡ old). (ap (λ p. p.ahead) e, ap (λ p. p.fates) e))

@@ -1,12 +1,15 @@
 -- What is counted.
 --     more n      one more, up to the greatest number of 64 bits
 --     met fate counts      a frame met its fate
+--     met_all n v counts      n frames met their fates, the next of v
+--     SameButRefused counts counts'      all is the same but the refused segments
 --     carrying n counts      frames carried n bytes
 --     is_refused reply, refusing most_runs r frame counts      a receiver refused a segment
-use Rattle.std.specs.Prelude.{ℕ, ◌+◌, ◌-◌, ◌^◌, ◌&&◌, min, nat_lt, if◌then◌else◌, Bool, true, false}
+use Rattle.std.specs.Prelude.{◌≡◌, ℕ, zero, suc, ◌+◌, ◌-◌, ◌^◌, ◌&&◌, min, nat_lt, if◌then◌else◌, Bool, true, false}
 use Rattle.std.specs.Prelude.{List, length, Option, Some, None, Ok, Err}
 use Rattle.net_receiver.specs.Rules.{ReplySeen, Segmented, Gave, Shown, Segment}
 use Rattle.net_receiver.specs.Stored.{Stored, stored_reply}
+use Rattle.net_stream.specs.Fates.{FatesSeen, next_fate, after_fate}
 use Rattle.net_stream.specs.declared.fate.Fate.{Fate}
 use Rattle.net_stream.specs.declared.fate.Fate.TheVariants.{Delivered, Lost, Repeated, Late}
 use Rattle.net_stream.specs.declared.counts.Counts.{Counts}
@@ -21,6 +24,15 @@ met Delivered c = record c { sent = more c.sent }
 met Lost c = record c { sent = more c.sent; lost = more c.lost }
 met Repeated c = record c { sent = more c.sent; repeated = more c.repeated }
 met Late c = record c { sent = more c.sent; late = more c.late }
+
+-- n frames were sent and met the fates that come next
+abbrev pub met_all : ℕ → FatesSeen → Counts → Counts
+met_all zero v c = c
+met_all (suc n) v c = met_all n (after_fate v) (met (next_fate v) c)
+
+-- how many segments were refused may differ
+abbrev pub SameButRefused : Counts → Counts → Type 0
+SameButRefused c d = record c { refused = 0 } ≡ record d { refused = 0 }
 
 -- n bytes were put on their way, as far as 64 bits go
 abbrev pub carrying : ℕ → Counts → Counts

@@ -31,6 +31,7 @@ abbrev pub acked_by : Outgoing → Option (ℕ × List ℕ) → Outgoing
 acked_by s None = s
 acked_by s (Some (n, xs)) = acknowledged s n (ranges_of most_reported xs)
 
+-- the same of several acknowledgements, one after another
 abbrev pub acked_all : Outgoing → List (List ℕ) → Outgoing
 acked_all s [] = s
 acked_all s (frame ∷ frames) = acked_all (acked_by s (decoded frame)) frames

@@ -1,12 +1,12 @@
 //! One round: frames go to a receiver and acknowledgements to a sender, whatever becomes of them.
-ghost use Rattle.std.specs.Prelude.{◌≡◌, ◌≤◌, ◌<◌, ◌∷◌, ◌++◌, [], ℕ, List, length, true};
+ghost use Rattle.std.specs.Prelude.{◌≡◌, ◌+◌, ◌≤◌, ◌<◌, ◌∷◌, ◌++◌, [], ℕ, List, length, true};
 ghost use Rattle.std.specs.Prelude.{IfOk, OnOk, OnErr, IsTrue, IsFalse};
 ghost use Rattle.net_receiver.specs.Stored.{Stored, stored_next};
 ghost use Rattle.net_stream.specs.Outgoing.{Outgoing, end_of};
 ghost use Rattle.net_stream.specs.Frames.{decoded, FrameSays};
 ghost use Rattle.net_stream.specs.Fates.{comes, next_fate, after_fate, AllCome};
 ghost use Rattle.net_stream.specs.Reported.{unreported};
-ghost use Rattle.net_stream.specs.Counting.{carrying, refusing};
+ghost use Rattle.net_stream.specs.Counting.{met, met_all, SameButRefused, carrying, refusing};
 ghost use Rattle.net_stream.specs.Carrying.{PathSeen, Carries, FrameTells, SentPart, SentAll};
 ghost use Rattle.net_stream.specs.Carrying.{MayReturn, answer_of, arrived, with_answer};
 ghost use Rattle.net_stream.specs.Progress.{reach_one, Reaches, acked_by, acked_all, limit_of};
@@ -159,6 +159,7 @@ fn arrive_if<A: Allocator + Copy, const N: usize>(
     fate: Fate,
     counts: &mut Counts,
 ) -> Result<(), AllocError>
+    ensures counted { SameButRefused counts.new counts.old }
     ensures carried { (f : ℕ) (w : List ℕ) (s : Outgoing) (there : PathSeen) →
         FrameSays f w frame.now → Carries f w s receiver.old there back.old
         → Carries f w s receiver.new there back.new }
@@ -225,6 +226,12 @@ fn pass_frame<A: Allocator + Copy, const N: usize>(
     ensures fates { back.new.fates ≡ back.old.fates }
     ensures shorter { IfOk result (λ some. IsTrue some →
         length there.new.ahead < length there.old.ahead) }
+    ensures met { IfOk result (λ some. IsTrue some →
+        (there.new.fates ≡ after_fate there.old.fates)
+        × SameButRefused counts.new (met (next_fate there.old.fates) counts.old)
+        × (length there.old.ahead ≡ length there.new.ahead + 1)) }
+    ensures unmet { IfOk result (λ some. IsFalse some →
+        (there.new ≡ there.old) × (counts.new ≡ counts.old)) }
     ensures none { IfOk result (λ some. IsFalse some → there.new.ahead ≡ []) }
 {
     laws::is_sound(receiver);
@@ -252,6 +259,12 @@ fn pass_ack<A: Allocator + Copy>(
         × (acked_all sender.old back.old.ahead ≡ acked_all sender.new back.new.ahead) }
     ensures shorter { IfOk result (λ some. IsTrue some →
         length back.new.ahead < length back.old.ahead) }
+    ensures met { IfOk result (λ some. IsTrue some →
+        (back.new.fates ≡ after_fate back.old.fates)
+        × SameButRefused counts.new (met (next_fate back.old.fates) counts.old)
+        × (length back.old.ahead ≡ length back.new.ahead + 1)) }
+    ensures unmet { IfOk result (λ some. IsFalse some →
+        (back.new ≡ back.old) × (counts.new ≡ counts.old)) }
     ensures none { IfOk result (λ some. IsFalse some → back.new.ahead ≡ []) }
 {
     let Some(token) = back.take(now) else {
@@ -276,6 +289,7 @@ fn pass_late_frames<A: Allocator + Copy, const N: usize>(
     ensures carried { (f : ℕ) (w : List ℕ) (s : Outgoing) →
         Carries f w s receiver.old there.old back.old
         → Carries f w s receiver.new there.new back.new }
+    ensures counted { SameButRefused counts.new counts.old }
     ensures limit { limit_of receiver.new ≡ limit_of receiver.old }
     ensures read { receiver.new.read ≡ receiver.old.read }
     ensures ahead { there.new.ahead ≡ there.old.ahead }
@@ -301,6 +315,8 @@ fn pass_frames<A: Allocator + Copy, const N: usize>(
     ensures carried { (f : ℕ) (w : List ℕ) (s : Outgoing) →
         Carries f w s receiver.old there.old back.old
         → Carries f w s receiver.new there.new back.new }
+    ensures counted { OnOk result (SameButRefused counts.new
+        (met_all (length there.old.ahead) there.old.fates counts.old)) }
     ensures limit { limit_of receiver.new ≡ limit_of receiver.old }
     ensures read { receiver.new.read ≡ receiver.old.read }
     ensures reaches { OnOk result ((f : ℕ) (w : List ℕ) (s : Outgoing) →
@@ -345,6 +361,8 @@ fn pass_acks<A: Allocator + Copy>(
 ) -> Result<(), AllocError>
     ensures carried { (f : ℕ) (w : List ℕ) (r : Stored) (there : PathSeen) →
         Carries f w sender.old r there back.old → Carries f w sender.new r there back.new }
+    ensures counted { OnOk result (SameButRefused counts.new
+        (met_all (length back.old.ahead) back.old.fates counts.old)) }
     ensures acked { OnOk result (AllCome back.old.fates
         → sender.new ≡ acked_all sender.old back.old.ahead) }
 {
@@ -374,6 +392,9 @@ pub fn pass_round<A: Allocator + Copy, const N: usize>(
     ensures carried { (f : ℕ) (w : List ℕ) →
         Carries f w sender.old receiver.old there.old back.old
         → Carries f w sender.new receiver.new there.new back.new }
+    ensures counted { OnOk result ((frames acks : ℕ) × SameButRefused counts.new
+        (met_all acks back.old.fates (met_all frames there.old.fates (carrying (unreported
+        sender.old.reported sender.old.base (length sender.old.queue)) counts.old)))) }
     ensures read { receiver.new.read ≡ receiver.old.read }
     ensures progress { OnOk result ((f : ℕ) (w : List ℕ) →
         Carries f w sender.old receiver.old there.old back.old → HasRoom sender.old receiver.old

@@ -2,6 +2,7 @@ use Rattle.std.proofs.Common.{◌≡◌, ℕ, List, length}
 use Rattle.net_receiver.specs.Stored.{stored_next}
 use Rattle.net_stream.specs.Outgoing.{Outgoing}
 use Rattle.net_stream.specs.Fates.{AllCome}
+use Rattle.net_stream.specs.Counting.{met_all, SameButRefused}
 use Rattle.net_stream.specs.Carrying.{Carries}
 use Rattle.net_stream.specs.Progress.{Reaches, limit_of, HasRoom}
 use Rattle.net_stream.proofs.link.pass_frames.Given as goal
@@ -10,6 +11,7 @@ abbrev pub invariant-frames : goal.invariant-frames
 invariant-frames g l =
     record {
       carried : (f : ℕ) (w : List ℕ) (s : Outgoing) → Carries f w s l.fn.receiver l.fn.there l.fn.back → Carries f w s l.receiver l.there l.back;
+      counted : SameButRefused (met_all (length l.there.ahead) l.there.fates l.counts) (met_all (length l.fn.there.ahead) l.fn.there.fates l.fn.counts);
       limit : limit_of l.receiver ≡ limit_of l.fn.receiver;
       read : l.receiver.read ≡ l.fn.receiver.read;
       reaches : (f : ℕ) (w : List ℕ) (s : Outgoing) → Carries f w s l.fn.receiver l.fn.there l.fn.back → HasRoom s l.fn.receiver → AllCome l.fn.there.fates →

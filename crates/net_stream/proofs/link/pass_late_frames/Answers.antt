@@ -1,4 +1,6 @@
 use Rattle.std.proofs.Common.{◌≡◌, ◌∷◌, ◌∙◌, sym, ap, le_trans}
+use Rattle.net_stream.specs.Frames.{decoded}
+use Rattle.net_stream.proofs.Counted.{same_refusing}
 use Rattle.net_stream.proofs.Carried.{late_met}
 use Rattle.net_stream.proofs.link.pass_late_frames.Goals as goal
 
@@ -11,6 +13,10 @@ returns-in_err-arrive-clause-carried g c = λ f w s h.
 pub returns-in_err-arrive-clause-grows : goal.returns-in_err-arrive-clause-grows
 returns-in_err-arrive-clause-grows g c = le_trans c.late.invariant.grows c.arrive.ensures.grows
 
+pub returns-in_err-arrive-clause-counted : goal.returns-in_err-arrive-clause-counted
+returns-in_err-arrive-clause-counted g c =
+    same_refusing g.row.N c.late.receiver (decoded c.frame-frame.result.now) c.late.counts c.arrive.new.counts c.arrive.ensures.counted ∙ c.late.invariant.counted
+
 pub late-preserved : goal.late-preserved
 late-preserved g c =
     let i = c.late.invariant in
@@ -18,6 +24,7 @@ late-preserved g c =
     let first : c.late.there ≡ record t1 { late = c.frame-frame.result.now ∷ t1.late } = c.in-Some.ensures ∙ ap (λ x. record t1 { late = x ∷ t1.late }) (sym c.frame-frame.ensures) in
     record {
       carried = λ f w s h. late_met f w s c.late.receiver c.arrive.new.receiver c.late.there t1 c.late.back c.arrive.new.back c.frame-frame.result.now first (c.arrive.ensures.carried f w s t1) (i.carried f w s h);
+      counted = same_refusing g.row.N c.late.receiver (decoded c.frame-frame.result.now) c.late.counts c.arrive.new.counts c.arrive.ensures.counted ∙ i.counted;
       limit = c.arrive.ensures.limit ∙ i.limit;
       read = c.arrive.ensures.read ∙ i.read;
       ahead = sym (ap (λ p. p.ahead) first) ∙ i.ahead;

@@ -3,12 +3,14 @@ use Rattle.net_storage.specs.Positions.{maximal_runs}
 use Rattle.net_receiver.specs.Stored.{stored_next, domain}
 use Rattle.net_stream.specs.Outgoing.{end_of}
 use Rattle.net_stream.specs.Frames.{frames_from}
-use Rattle.net_stream.specs.Reported.{most_reported, listed}
+use Rattle.net_stream.specs.Reported.{unreported, most_reported, listed}
+use Rattle.net_stream.specs.Counting.{met_all, SameButRefused, carrying}
 use Rattle.net_stream.specs.Fates.{AllCome}
 use Rattle.net_stream.specs.Carrying.{Carries, answer_of}
 use Rattle.net_stream.specs.Progress.{Reaches, acked_all}
 use Rattle.net_stream.proofs.Carried.{answered}
 use Rattle.net_stream.proofs.Reached.{room_same, sent_reaches, first_is, acked_to_end}
+use Rattle.net_stream.proofs.Counted.{same_equal, same_met}
 use Rattle.net_stream.proofs.Results.{OnOk-map}
 use Rattle.net_stream.proofs.link.pass_round.Goals as goal
 
@@ -65,3 +67,27 @@ returns-clause-progress g c = OnOk-map c.pass_acks.result
     let empty = acked_to_end c.round_trip.ensures s4 (stored_next r2) (listed (take most_reported (maximal_runs (domain r2.held)))) c.pass_frames.new.back.ahead (next ∙ sym c.pass_late_acks.ensures.end) word in
     (next, ap (λ v. length v.queue) (acked come2) ∙ ap (λ l. length (acked_all s4 l).queue) last ∙ empty))
     c.pass_acks.ensures.acked
+
+pub returns-clause-counted : goal.returns-clause-counted
+returns-clause-counted g c = OnOk-map c.pass_acks.result
+    (λ acked.
+    let s = c.args.sender.now in
+    let t2 = c.pass_late_frames.new.there in
+    let b4 = c.pass_late_acks.new.back in
+    let sent = c.in_ok-transmit.ensures.sent in
+    let frames = length t2.ahead in
+    let acks = length b4.ahead in
+    let carried = carrying (unreported s.reported s.base (length s.queue)) c.args.counts.now in
+    let late = c.pass_late_frames.new.counts in
+    let there : t2.fates ≡ c.args.there.now.fates = c.pass_late_frames.ensures.fates ∙ ap (λ p. p.fates) sent.sent in
+    let back : b4.fates ≡ c.args.back.now.fates = c.pass_late_acks.ensures.fates ∙ ap (λ p. p.fates) c.in_ok-answer.ensures.ok ∙ c.pass_frames.ensures.fates ∙ c.pass_late_frames.ensures.back_fates in
+    let so_far : SameButRefused late carried = c.pass_late_frames.ensures.counted ∙ same_equal c.transmit.new.counts carried c.in_ok-transmit.ensures.counted in
+    let framed : SameButRefused c.pass_frames.new.counts (met_all frames t2.fates carried) = c.in_ok-pass_frames.ensures.counted ∙ same_met frames t2.fates late carried so_far in (
+      frames,
+      acks,
+      acked
+          ∙ same_met acks b4.fates c.pass_frames.new.counts (met_all frames t2.fates carried) framed
+          ∙ ap (λ v. record (met_all acks v (met_all frames t2.fates carried)) { refused = 0 }) back
+          ∙ ap (λ v. record (met_all acks c.args.back.now.fates (met_all frames v carried)) { refused = 0 }) there,
+    ))
+    c.pass_acks.ensures.counted

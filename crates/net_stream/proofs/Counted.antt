@@ -1,0 +1,61 @@
+-- What is counted of frames that met their fates.
+use Rattle.std.proofs.Common.{◌≡◌, ◌&&◌, ℕ, zero, suc, ◌+◌, ◌^◌, nat_lt, Bool, true, false, cond, List, ◌∷◌, length, Option, Some, None, refl, sym, ap, subst, ◌∙◌, arith}
+use Rattle.net_receiver.specs.Schedule.{Segment}
+use Rattle.net_receiver.specs.Stored.{Stored, stored_reply}
+use Rattle.net_stream.specs.declared.counts.Counts.{Counts}
+use Rattle.net_stream.specs.declared.fate.Fate.{Fate}
+use Rattle.net_stream.specs.declared.fate.Fate.TheVariants.{Delivered, Lost, Repeated, Late}
+use Rattle.net_stream.specs.Fates.{FatesSeen, next_fate, after_fate}
+use Rattle.net_stream.specs.Counting.{more, met, met_all, SameButRefused, is_refused, refusing}
+use Rattle.net_stream.specs.Carrying.{PathSeen, MayReturn}
+use Rattle.net_stream.proofs.Reached.{returned}
+
+pub same_equal : (c d : Counts) → c ≡ d → SameButRefused c d
+same_equal c d e = λ i. record (e i) { refused = 0 }
+
+-- a fate is counted of each alike
+same_one : (lot : Fate) (c d : Counts) → SameButRefused c d → SameButRefused (met lot c) (met lot d)
+same_one Delivered c d same = ap (met Delivered) same
+same_one Lost c d same = ap (met Lost) same
+same_one Repeated c d same = ap (met Repeated) same
+same_one Late c d same = ap (met Late) same
+
+pub same_met : (n : ℕ) (v : FatesSeen) (c d : Counts) → SameButRefused c d → SameButRefused (met_all n v c) (met_all n v d)
+same_met zero v c d same = same
+same_met (suc n) v c d same = same_met n (after_fate v) (met (next_fate v) c) (met (next_fate v) d) (same_one (next_fate v) c d same)
+
+-- a frame that comes changes no other count
+refusing_is : (most : ℕ) (r : Stored) (o : Option (ℕ × List ℕ)) (c : Counts) → SameButRefused (refusing most r o c) c
+refusing_is most r None c = refl
+refusing_is most r (Some (pos, xs)) c = both (nat_lt (pos + length xs) (2 ^ 64) && is_refused (stored_reply most r (Segment pos xs)))
+  where
+    both : (b : Bool) → SameButRefused (cond b (record c { refused = more c.refused }) c) c
+    both true = refl
+    both false = refl
+
+pub same_refusing : (most : ℕ) (r : Stored) (o : Option (ℕ × List ℕ)) (c d : Counts) → d ≡ refusing most r o c → SameButRefused d c
+same_refusing most r o c d is = same_equal d (refusing most r o c) is ∙ refusing_is most r o c
+
+-- one frame met its fate
+pub met_one : (t0 t1 t2 t3 : PathSeen) (frame : List ℕ) (lot : Fate) (c c1 c2 : Counts) → t0 ≡ record t1 { ahead = frame ∷ t1.ahead } → lot ≡ next_fate t1.fates → t2 ≡ record t1 { fates = after_fate t1.fates } → MayReturn frame t2 t3 → c1 ≡ met lot c → SameButRefused c2 c1 →
+    (t3.fates ≡ after_fate t0.fates) × SameButRefused c2 (met (next_fate t0.fates) c) × (length t0.ahead ≡ length t3.ahead + 1)
+met_one t0 t1 t2 t3 frame lot c c1 c2 first is drawn again counted same =
+    let kept = returned frame t2 t3 again in
+    let fates : t1.fates ≡ t0.fates = sym (ap (λ p. p.fates) first) in
+    let ahead : t0.ahead ≡ frame ∷ t3.ahead = ap (λ p. p.ahead) first ∙ ap (λ l. frame ∷ l) (sym (kept.0 ∙ ap (λ p. p.ahead) drawn)) in (
+      kept.1 ∙ ap (λ p. p.fates) drawn ∙ ap after_fate fates,
+      same ∙ same_equal c1 (met (next_fate t0.fates) c) (counted ∙ ap (λ l. met l c) (is ∙ ap next_fate fates)),
+      ap length ahead ∙ (let e : length (frame ∷ t3.ahead) ≡ length t3.ahead + 1 = omega arith in e),
+    )
+
+-- so are the frames that are left
+pub met_left : (v v' : FatesSeen) (c c' : Counts) (m n : ℕ) → m ≡ n + 1 → v' ≡ after_fate v → SameButRefused c' (met (next_fate v) c) → SameButRefused (met_all n v' c') (met_all m v c)
+met_left v v' c c' m n is left same =
+    let k : m ≡ suc n = omega arith in
+    ap (λ u. record (met_all n u c') { refused = 0 }) left
+    ∙ same_met n (after_fate v) c' (met (next_fate v) c) same
+    ∙ ap (λ j. record (met_all j v c) { refused = 0 }) (sym k)
+
+-- no frame is left
+pub met_end : (v : FatesSeen) (c c' d : Counts) (m : ℕ) → c' ≡ c → m ≡ 0 → SameButRefused (met_all m v c) d → SameButRefused c' d
+met_end v c c' d m is none so_far = same_equal c' c is ∙ subst (λ n. SameButRefused (met_all n v c) d) none so_far
