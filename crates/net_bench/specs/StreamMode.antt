@@ -33,7 +33,8 @@ stream_command (verb ∷ []) =
     else if bytes_eq verb (codes "--") then Some NextSchedule
     else None
 stream_command (verb ∷ number ∷ []) =
-    if bytes_eq verb (codes "r") then option_map (λ count. ToReceiver (Read count)) (number_of number)
+    if bytes_eq verb (codes "r")
+    then option_map (λ count. ToReceiver (Read count)) (number_of number)
     else None
 stream_command (verb ∷ position ∷ bytes ∷ []) =
     if bytes_eq verb (codes "s") then segment_command (number_of position) (hex_bytes bytes)
@@ -69,7 +70,8 @@ leading_runs _ = []
 -- the reply to a segment that isn't refused
 abbrev pub accepted_line : ℕ → ℕ → List (ℕ × ℕ) → List ℕ
 accepted_line kept queued sack =
-    codes "kept " ++ decimal kept ++ codes " queued " ++ decimal queued ++ codes " sack " ++ runs_text sack ++ codes "\n"
+    codes "kept " ++ decimal kept ++ codes " queued " ++ decimal queued
+    ++ codes " sack " ++ runs_text sack ++ codes "\n"
 
 -- the reply line
 abbrev pub reply_text : ReplySeen → List ℕ
@@ -77,12 +79,13 @@ reply_text (Segmented (Ok kept)) = accepted_line kept.kept kept.queued (leading_
 reply_text (Segmented (Err refused)) = refused_text
 reply_text (Gave bytes) = codes "read " ++ hex_text bytes ++ codes "\n"
 reply_text (Shown next queued window held) =
-    codes "next " ++ decimal next ++ codes " queued " ++ decimal queued ++ codes " window " ++ decimal window ++ codes " held " ++ runs_text held ++ codes "\n"
+    codes "next " ++ decimal next ++ codes " queued " ++ decimal queued
+    ++ codes " window " ++ decimal window ++ codes " held " ++ runs_text held ++ codes "\n"
 
 -- ---- what a schedule leaves
 
--- what is compared of two schedules: the count of bytes read, the first missing position, the bytes from what was read
--- to there, and the maximal runs of held positions
+-- what is compared of two schedules: the count of bytes read, the first missing position, the bytes
+-- from what was read to there, and the maximal runs of held positions
 pub record Outcome : Type 0 where
   pub read : ℕ
   pub next : ℕ
@@ -95,7 +98,9 @@ same_run a b = (a.0 == b.0) && (a.1 == b.1)
 
 -- whether two outcomes are one
 abbrev pub same_outcome : Outcome → Outcome → Bool
-same_outcome a b = (a.read == b.read) && (a.next == b.next) && bytes_eq a.queue b.queue && pointwise same_run a.held b.held
+same_outcome a b =
+    (a.read == b.read) && (a.next == b.next) && bytes_eq a.queue b.queue
+    && pointwise same_run a.held b.held
 
 -- the line that says whether two outcomes are one
 abbrev pub comparison : Outcome → Outcome → List ℕ
@@ -144,19 +149,29 @@ module _ {S : Type 0} (scheduling : Scheduling S) where
         reply_text (reply keeping most_runs schedules.present command_seen),
       )
 
-  -- the second schedule begins, unless there is one: the receiver is a fresh one, and nothing is replied
+  -- the second schedule begins, unless there is one: the receiver is a fresh one, and nothing is
+  -- replied
   abbrev pub next_schedule : Schedules S → Option S → Result (Schedules S × List ℕ) Fault
   next_schedule schedules None =
-      Ok (record schedules { present = scheduling.begun schedules.setting; ended = Some schedules.present }, [])
+      Ok (
+        record schedules {
+          present = scheduling.begun schedules.setting;
+          ended = Some schedules.present;
+        },
+        [],
+      )
   next_schedule schedules (Some ended) = Err faults.TooManySchedules
 
   -- what a line does, and its reply
   abbrev pub stream_does : Schedules S → StreamCommand → Result (Schedules S × List ℕ) Fault
-  stream_does schedules (ToReceiver command_seen) = if end_fits command_seen then Ok (commanded schedules command_seen) else Err faults.RangeTooLong
+  stream_does schedules (ToReceiver command_seen) =
+      if end_fits command_seen then Ok (commanded schedules command_seen)
+      else Err faults.RangeTooLong
   stream_does schedules NextSchedule = next_schedule schedules schedules.ended
 
   -- what the words of a line do, as the command that they are, if they are one
-  abbrev pub stream_replies : Schedules S → Option StreamCommand → Result (Schedules S × List ℕ) Fault
+  abbrev pub stream_replies
+      : Schedules S → Option StreamCommand → Result (Schedules S × List ℕ) Fault
   stream_replies schedules (Some command) = stream_does schedules command
   stream_replies schedules None = Err faults.BadCommand
 

@@ -12,7 +12,13 @@ of_stored = record { begun = λ w. fresh_stored w.first w.capacity; keeping = λ
 -- schedules as the tuple of what they are made of
 abbrev pub schedules_code : Coded (Schedules Stored)
 schedules_code =
-    code_by (ℕ × (ℕ × (ℕ × (Stored × Option Stored)))) (coded× coded_ℕ (coded× coded_ℕ (coded× coded_ℕ (coded× stored_code (coded_option stored_code)))))
+    code_by (ℕ × (ℕ × (ℕ × (Stored × Option Stored))))
+    (coded× coded_ℕ
+    (coded× coded_ℕ (coded× coded_ℕ (coded× stored_code (coded_option stored_code)))))
     (λ s. (s.setting.first, (s.setting.capacity, (s.setting.most_runs, (s.present, s.ended)))))
-    (λ p. record { setting = record { first = p.0; capacity = p.1.0; most_runs = p.1.1.0 }; present = p.1.1.1.0; ended = p.1.1.1.1 })
+    (λ p. record {
+      setting = record { first = p.0; capacity = p.1.0; most_runs = p.1.1.0 };
+      present = p.1.1.1.0;
+      ended = p.1.1.1.1;
+    })
     (λ _. refl)

@@ -18,7 +18,8 @@ pub record FragmentState : Type 0 where
 abbrev pub state_code : Coded FragmentState
 state_code =
     code_by (List ℕ × (Positions × (Option ℕ × ℤ)))
-    (coded× (coded_list coded_ℕ) (coded× (set.code coded_ℕ) (coded× (coded_option coded_ℕ) coded_ℤ)))
+    (coded× (coded_list coded_ℕ)
+    (coded× (set.code coded_ℕ) (coded× (coded_option coded_ℕ) coded_ℤ)))
     (λ b. (b.bytes, (b.present, (b.total, b.expires_at))))
     (λ p. record { bytes = p.0; present = p.1.0; total = p.1.1.0; expires_at = p.1.1.1 })
     (λ _. refl)

@@ -80,7 +80,8 @@ pub fn forward_lists<A: FrameLists, B: FrameLists>(
         × (B.outgoing to.new ≡ B.outgoing to.old ++ moved)) }
     ensures count { IfOk result
         (λ n. length (A.incoming from.old) ≡ n + length (A.incoming from.new)) }
-    ensures err { OnErr result (ForwardedAndLost A.taken B.sent max from.old from.new to.old to.new) }
+    ensures err { OnErr result
+        (ForwardedAndLost A.taken B.sent max from.old from.new to.old to.new) }
     ensures lost { OnErr result ((moved : List (List ℕ)) × (frame : List ℕ)
         × (A.incoming from.old ≡ moved ++ frame ∷ A.incoming from.new)
         × (B.outgoing to.new ≡ B.outgoing to.old ++ moved)) }
