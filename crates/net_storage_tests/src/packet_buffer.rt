@@ -1,108 +1,13 @@
-//! Tables of calls with their answers, flags that closures set, and headers that are dropped.
-use net_storage::{Empty, Full, ManagedSlice, PacketBuffer, PacketMetadata};
+//! Tables of calls with their answers, and headers that are dropped.
+mod steps;
+
+use net_storage::{ManagedSlice, PacketBuffer, PacketMetadata};
 use std::cell::Cell;
 use std::test::Fail;
+use steps::{Step, first_difference};
 
-/// A call on a queue, with what it is expected to return or to show.
-#[derive(Drop)]
-enum Step<'s> {
-    /// `enqueue` of a packet of so many bytes is accepted.
-    Fits(usize),
-    /// `enqueue` of a packet of so many bytes is refused.
-    Refused(usize),
-    /// `enqueue` of a packet with this header is accepted, and these bytes are written to it.
-    Write(u8, &'s [u8]),
-    /// `enqueue_with_infallible`, of whose first number of bytes the closure keeps the second one.
-    WriteWith(usize, usize),
-    /// `peek` shows this header and these bytes.
-    Peek(u8, &'s [u8]),
-    /// `dequeue` gives this header and these bytes.
-    Read(u8, &'s [u8]),
-    /// `dequeue` gives a packet of so many bytes.
-    Off(usize),
-    /// `peek` and `dequeue` are refused.
-    NoPackets,
-    /// So many slots are used.
-    Slots(usize),
-    /// So many bytes are used.
-    Bytes(usize),
-    /// There are so many slots and bytes in all.
-    Capacities(usize, usize),
-    /// `is_empty` and `is_full`.
-    IsEmptyIsFull(bool, bool),
-    /// `reset`.
-    Reset,
-}
-
-/// Returns whether a step goes as expected.
-fn goes(queue: &mut PacketBuffer<'_, u8>, step: &Step<'_>) -> bool {
-    match step {
-        Step::Fits(size) => queue.enqueue(*size, 0).is_ok(),
-        Step::Refused(size) => queue.enqueue(*size, 0).is_err(),
-        Step::Write(header, text) => write(queue, *header, text),
-        Step::WriteWith(size, count) => write_with(queue, *size, *count),
-        Step::Peek(header, text) => shows(queue, *header, text),
-        Step::Read(header, text) => gives(queue, *header, text),
-        Step::Off(size) => match queue.dequeue() {
-            Ok((_, bytes)) => bytes.len() == *size,
-            Err(Empty) => false,
-        },
-        Step::NoPackets => queue.peek().is_err() && queue.dequeue().is_err(),
-        Step::Slots(count) => queue.slots_used() == *count,
-        Step::Bytes(count) => queue.payload_bytes_count() == *count,
-        Step::Capacities(slots, bytes) => {
-            queue.packet_capacity() == *slots && queue.payload_capacity() == *bytes
-        }
-        Step::IsEmptyIsFull(empty, full) => queue.is_empty() == *empty && queue.is_full() == *full,
-        Step::Reset => {
-            queue.reset();
-            true
-        }
-    }
-}
-
-/// Enqueues a packet and writes its bytes; returns whether it was accepted.
-fn write(queue: &mut PacketBuffer<'_, u8>, header: u8, text: &[u8]) -> bool {
-    match queue.enqueue(text.len(), header) {
-        Ok(bytes) => {
-            bytes.copy_from_slice(text);
-            true
-        }
-        Err(Full) => false,
-    }
-}
-
-/// Enqueues a packet of which a closure keeps `count` bytes; returns whether it was accepted so.
-fn write_with(queue: &mut PacketBuffer<'_, u8>, size: usize, count: usize) -> bool {
-    let kept = count.min(size);
-    match queue.enqueue_with_infallible(size, 0, move |_| kept) {
-        Ok(answer) => answer == count,
-        Err(Full) => false,
-    }
-}
-
-/// Returns whether `peek` shows this header and these bytes.
-fn shows(queue: &mut PacketBuffer<'_, u8>, header: u8, text: &[u8]) -> bool {
-    match queue.peek() {
-        Ok((shown, bytes)) => *shown == header && bytes == text,
-        Err(Empty) => false,
-    }
-}
-
-/// Returns whether `dequeue` gives this header and these bytes.
-fn gives(queue: &mut PacketBuffer<'_, u8>, header: u8, text: &[u8]) -> bool {
-    match queue.dequeue() {
-        Ok((given, bytes)) => given == header && &*bytes == text,
-        Err(Empty) => false,
-    }
-}
-
-/// Returns the index of the first step that goes otherwise than expected, if there is one.
-fn first_difference(queue: &mut PacketBuffer<'_, u8>, steps: &[Step<'_>]) -> Option<usize> {
-    steps.iter().position(|step| !goes(queue, step))
-}
-
-/// The same from a queue with 4 slots, 16 bytes and no packets on.
+/// Returns the index of the first step that goes otherwise than expected, if there is one, from a
+/// queue with 4 slots, 16 bytes and no packets on.
 fn difference_from_empty(steps: &[Step<'_>]) -> Option<usize> {
     let mut slots = [PacketMetadata::<u8>::EMPTY; 4];
     let mut bytes = [0u8; 16];
@@ -191,107 +96,50 @@ fn a_gap_goes_before_its_packet(rt: HostRuntime) -> Result<(), Fail> {
 
 #[test]
 fn a_refused_packet_stays_and_its_gap_goes(rt: HostRuntime) -> Result<(), Fail> {
-    let mut slots = [PacketMetadata::<u8>::EMPTY; 4];
-    let mut bytes = [0u8; 16];
-    let mut queue = PacketBuffer::<u8>::new(
-        ManagedSlice::Borrowed(&mut slots),
-        ManagedSlice::Borrowed(&mut bytes),
-    );
-    let before = [
+    let steps = [
         Step::Fits(6),
         Step::Fits(8),
         Step::Off(6),
         Step::Write(0, b"abcd"),
         Step::Slots(3),
         Step::Off(8),
+        Step::Return(0, b'a'),
+        Step::Slots(1),
+        Step::ReadWith(b"abcd"),
+        Step::Slots(0),
     ];
-    assert_eq!(rt; first_difference(&mut queue, &before), None);
-    let answer = queue.dequeue_with(|_, _| Result::<(), u32>::Err(123));
-    assert!(rt; matches!(answer, Ok(Err(123))));
-    assert_eq!(rt; first_difference(&mut queue, &[Step::Slots(1)]), None);
-    let mut seen = [0u8; 4];
-    let answer = queue.dequeue_with(|_, shown| {
-        if shown.len() == 4 {
-            seen.copy_from_slice(shown);
-        }
-        Result::<usize, u32>::Ok(shown.len())
-    });
-    assert!(rt; matches!(answer, Ok(Ok(4))));
-    assert_eq!(rt; &seen, b"abcd");
-    assert_eq!(rt; first_difference(&mut queue, &[Step::Slots(0)]), None);
+    assert_eq!(rt; difference_from_empty(&steps), None);
     Ok(())
 }
 
 #[test]
 fn what_a_refusing_closure_wrote_stays(rt: HostRuntime) -> Result<(), Fail> {
-    let mut slots = [PacketMetadata::<u8>::EMPTY; 4];
-    let mut bytes = [0u8; 16];
-    let mut queue = PacketBuffer::<u8>::new(
-        ManagedSlice::Borrowed(&mut slots),
-        ManagedSlice::Borrowed(&mut bytes),
-    );
-    assert!(rt; write(&mut queue, 7, b"ab"));
-    let answer = queue.dequeue_with(|header, shown| {
-        *header = 9;
-        if let Some(first) = shown.first_mut() {
-            *first = b'x';
-        }
-        Result::<(), u32>::Err(1)
-    });
-    assert!(rt; matches!(answer, Ok(Err(1))));
-    let after = [
+    let steps = [
+        Step::Write(7, b"ab"),
+        Step::Return(9, b'x'),
         Step::Peek(9, b"xb"),
         Step::Slots(1),
         Step::Bytes(2),
         Step::Read(9, b"xb"),
     ];
-    assert_eq!(rt; first_difference(&mut queue, &after), None);
+    assert_eq!(rt; difference_from_empty(&steps), None);
     Ok(())
 }
 
 #[test]
 fn a_full_queue_runs_no_closure_and_stays(rt: HostRuntime) -> Result<(), Fail> {
-    let mut slots = [PacketMetadata::<u8>::EMPTY; 4];
-    let mut bytes = [0u8; 16];
-    let mut queue = PacketBuffer::<u8>::new(
-        ManagedSlice::Borrowed(&mut slots),
-        ManagedSlice::Borrowed(&mut bytes),
-    );
-    let before = [
+    let steps = [
         Step::Fits(12),
         Step::Fits(1),
         Step::Fits(1),
         Step::Fits(1),
         Step::Off(12),
+        Step::RefusedWith(5),
+        Step::Slots(3),
+        Step::Bytes(3),
+        Step::Fits(1),
     ];
-    assert_eq!(rt; first_difference(&mut queue, &before), None);
-    let called = Cell::new(false);
-    let answer = queue.enqueue_with_infallible(5, 0, |_| {
-        called.set(true);
-        5
-    });
-    assert!(rt; matches!(answer, Err(Full)));
-    assert!(rt; !called.get());
-    let after = [Step::Slots(3), Step::Bytes(3), Step::Fits(1)];
-    assert_eq!(rt; first_difference(&mut queue, &after), None);
-    Ok(())
-}
-
-#[test]
-fn an_empty_queue_runs_no_closure(rt: HostRuntime) -> Result<(), Fail> {
-    let mut slots = [PacketMetadata::<u8>::EMPTY; 4];
-    let mut bytes = [0u8; 16];
-    let mut queue = PacketBuffer::<u8>::new(
-        ManagedSlice::Borrowed(&mut slots),
-        ManagedSlice::Borrowed(&mut bytes),
-    );
-    let called = Cell::new(false);
-    let answer = queue.dequeue_with(|_, _| {
-        called.set(true);
-        Result::<(), ()>::Ok(())
-    });
-    assert!(rt; matches!(answer, Err(Empty)));
-    assert!(rt; !called.get());
+    assert_eq!(rt; difference_from_empty(&steps), None);
     Ok(())
 }
 
@@ -352,15 +200,8 @@ fn the_two_steps_put_and_take(rt: HostRuntime) -> Result<(), Fail> {
     let slots = [PacketMetadata::<u8>::EMPTY; 2].to_vec(rt.alloc())?;
     let bytes = [0u8; 4].to_vec(rt.alloc())?;
     let mut queue = PacketBuffer::<u8>::new(ManagedSlice::Owned(slots), ManagedSlice::Owned(bytes));
-    assert!(rt; queue.place(2, 5).is_ok());
-    queue.last_mut().copy_from_slice(b"ab");
-    match queue.take() {
-        Ok((header, size)) => {
-            assert_eq!(rt; header, 5);
-            assert_eq!(rt; &*queue.freed_mut(size), b"ab".as_slice());
-        }
-        Err(Empty) => assert!(rt; false),
-    }
+    let steps = [Step::Place(5, b"ab"), Step::Take(5, b"ab"), Step::NoPackets];
+    assert_eq!(rt; first_difference(&mut queue, &steps), None);
     Ok(())
 }
 
@@ -420,15 +261,14 @@ fn headers_come_and_go(drops: &Cell<u32>) -> bool {
     // No slot is free.
     let last = queue.place(0, Counted { drops }).is_ok();
     let no_slot = drops_of_refused(&mut queue, drops, b"") == Some(4);
-    let off = match queue.dequeue() {
-        Ok((header, _)) => {
-            drop(header);
-            drops.get() == 13
-        }
-        Err(Empty) => false,
-    };
-    let given = queue.dequeue_with(|_, _| Result::<(), ()>::Ok(())).is_ok();
-    came && kept && no_bytes && too_long && last && no_slot && off && given
+    let off = queue.dequeue().is_ok();
+    let off = off && drops.get() == 13 && closure_takes_off(&mut queue);
+    came && kept && no_bytes && too_long && last && no_slot && off
+}
+
+/// Returns whether `dequeue_with` takes a packet off.
+fn closure_takes_off(queue: &mut PacketBuffer<'_, Counted<'_>>) -> bool {
+    queue.dequeue_with(|_, _| Result::<(), ()>::Ok(())).is_ok()
 }
 
 #[test]
@@ -441,21 +281,15 @@ fn each_header_is_dropped(rt: HostRuntime) -> Result<(), Fail> {
 
 #[test]
 fn slices_go_in_and_come_out(rt: HostRuntime) -> Result<(), Fail> {
-    let mut slots = [PacketMetadata::<u8>::EMPTY; 2];
-    let mut bytes = [0u8; 4];
-    let mut queue = PacketBuffer::<u8>::new(
-        ManagedSlice::Borrowed(&mut slots),
-        ManagedSlice::Borrowed(&mut bytes),
-    );
-    assert!(rt; queue.push_slice(7, b"abc").is_ok());
-    assert!(rt; queue.push_slice(8, b"de").is_err());
-    let mut into = [0u8; 2];
-    match queue.pop_slice(&mut into) {
-        Ok(answer) => assert_eq!(rt; answer, (7, 2)),
-        Err(Empty) => assert!(rt; false),
-    }
-    assert_eq!(rt; &into, b"ab");
-    assert!(rt; queue.pop_slice(&mut into).is_err());
+    let steps = [
+        Step::Push(7, b"abcdefghijklmno", true),
+        Step::Push(8, b"de", false),
+        Step::Pop(7, 2, b"ab"),
+        Step::NoPackets,
+        Step::Push(9, b"fg", true),
+        Step::Pop(9, 2, b"fg\0"),
+    ];
+    assert_eq!(rt; difference_from_empty(&steps), None);
     Ok(())
 }
 

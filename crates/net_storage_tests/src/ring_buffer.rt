@@ -125,10 +125,10 @@ fn an_empty_ring_starts_again(rt: HostRuntime) -> Result<(), Fail> {
 fn zero_sized_elements(rt: HostRuntime) -> Result<(), Fail> {
     let mut buffer = [(); 3];
     let mut ring = RingBuffer::from(&mut buffer);
-    assert_eq!(rt; ring.enqueue_many(5).len(), 3);
-    assert_eq!(rt; ring.window(), 0);
+    assert!(rt; ring.enqueue_many(5).len() == 3);
+    assert!(rt; ring.window() == 0);
     assert!(rt; ring.enqueue_one().is_err());
-    assert_eq!(rt; ring.len(), 3);
+    assert!(rt; ring.len() == 3);
     assert!(rt; ring.len() >= 2);
     ring.dequeue_allocated(2);
     zero_sized_elements_again(&rt, &mut ring)
@@ -136,11 +136,11 @@ fn zero_sized_elements(rt: HostRuntime) -> Result<(), Fail> {
 
 /// Goes on with one of three elements that have no size, which stands last.
 fn zero_sized_elements_again(rt: &impl Abort, ring: &mut RingBuffer<'_, ()>) -> Result<(), Fail> {
-    assert_eq!(rt; ring.window(), 2);
-    assert_eq!(rt; ring.contiguous_window(), 2);
-    assert_eq!(rt; ring.enqueue_many(5).len(), 2);
-    assert_eq!(rt; ring.enqueue_many(5).len(), 0);
-    assert_eq!(rt; ring.len(), 3);
+    assert!(rt; ring.window() == 2);
+    assert!(rt; ring.contiguous_window() == 2);
+    assert!(rt; ring.enqueue_many(5).len() == 2);
+    assert!(rt; ring.enqueue_many(5).len() == 0);
+    assert!(rt; ring.len() == 3);
     Ok(())
 }
 
@@ -330,6 +330,11 @@ fn two_rings_in_one_struct(rt: HostRuntime) -> Result<(), Fail> {
     let mut out = [0u8; 4];
     assert_eq!(rt; duplex.take(&mut out), 3);
     assert_eq!(rt; &out, b"xyz\0");
+    Ok(())
+}
+
+#[test]
+fn rings_are_made_and_dropped(rt: HostRuntime) -> Result<(), Fail> {
     let mut other = [0u8; 3];
     assert_eq!(rt; room_of_slice(&mut other), 3);
     assert_eq!(rt; room_of_vector([0u8; 5].to_vec(rt.alloc())?), 5);
