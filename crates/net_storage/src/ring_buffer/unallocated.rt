@@ -45,8 +45,8 @@ impl<T, S: Elements<T>> Ring<T, S> {
             .part_mut(span.from, span.from + span.contiguous)
     }
 
-    /// Lends the last `size` free elements: those before the read index. Condition: they are
-    /// contiguous.
+    /// Lends the `size` elements before the read index, which are the last free ones if as many are
+    /// free. Condition: they are contiguous.
     #[inline]
     pub(crate) fn get_freed(&mut self, size: usize) -> &mut [T]
         requires size { size ≤ capacity self.old }
@@ -54,7 +54,8 @@ impl<T, S: Elements<T>> Ring<T, S> {
         ensures* writes_back { sem 𝓛 (lends_many T.row S.row S.Elements self.entry
             self.old (freed_index self.old size) result) }
         ensures count { length result.now ≡ size }
-        ensures stored { result.now ≡ take size (drop (freed_index self.old size) self.old.storage) }
+        ensures stored { result.now
+            ≡ take size (drop (freed_index self.old size) self.old.storage) }
     {
         let from = if size <= self.read_at {
             self.read_at - size
