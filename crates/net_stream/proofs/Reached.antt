@@ -77,8 +77,8 @@ one_from p (Some (pos, xs)) = reach_cases (λ m. p ≤ m) p pos (pos + length xs
 
 -- ---- lists of frames
 -- the first frame counts
-abbrev Counts : List (ℕ × ℕ) → ℕ → ℕ → List ℕ → List (List ℕ) → Type 0
-Counts ranges end p frame frames = (pos : ℕ) × (xs : List ℕ) × (decoded frame ≡ Some (pos, xs)) × IsMarked ranges p (pos - p) true × Reaches ranges end (max p (pos + length xs)) frames
+abbrev FirstCounts : List (ℕ × ℕ) → ℕ → ℕ → List ℕ → List (List ℕ) → Type 0
+FirstCounts ranges end p frame frames = (pos : ℕ) × (xs : List ℕ) × (decoded frame ≡ Some (pos, xs)) × IsMarked ranges p (pos - p) true × Reaches ranges end (max p (pos + length xs)) frames
 
 -- whoever has more comes as far
 reaches_mono : (ranges : List (ℕ × ℕ)) (end p q : ℕ) (frames : List (List ℕ)) → p ≤ q → Reaches ranges end p frames → Reaches ranges end q frames
@@ -86,7 +86,7 @@ reaches_mono ranges end p q [] h r = λ k from to. r k (le_trans h from) (omega 
 reaches_mono ranges end p q (frame ∷ frames) h r =
     ⊎_elim {C = Reaches ranges end q (frame ∷ frames)}
     (λ (k : Reaches ranges end p frames). inl (reaches_mono ranges end p q frames h k))
-    (λ (k : Counts ranges end p frame frames). inr (k.0, k.1, k.2, (λ j from to. k.3 j (le_trans h from) (omega arith)), reaches_mono ranges end (max p (k.0 + length k.1)) (max q (k.0 + length k.1)) frames (omega arith) k.4))
+    (λ (k : FirstCounts ranges end p frame frames). inr (k.0, k.1, k.2, (λ j from to. k.3 j (le_trans h from) (omega arith)), reaches_mono ranges end (max p (k.0 + length k.1)) (max q (k.0 + length k.1)) frames (omega arith) k.4))
     r
 
 -- frames in front take nothing away
@@ -116,7 +116,7 @@ brought : (most : ℕ) (ranges : List (ℕ × ℕ)) (end : ℕ) (r : Stored) (m 
 brought most ranges end r m frame frames sound had far reaches =
     ⊎_elim {C = Reaches ranges end m frames}
     (λ (k : Reaches ranges end (stored_next r) frames). reaches_mono ranges end (stored_next r) m frames (le_trans (one_from (stored_next r) (decoded frame)) far) k)
-    (λ (k : Counts ranges end (stored_next r) frame frames).
+    (λ (k : FirstCounts ranges end (stored_next r) frame frames).
     let near : k.0 ≤ stored_next r = no_gap most r ranges k.0 sound had k.3 in
     let at : reach_one (stored_next r) (Some (k.0, k.1)) ≤ m = subst (λ o. reach_one (stored_next r) o ≤ m) k.2 far in
     let one : max (stored_next r) (k.0 + length k.1) ≤ m = subst (λ j. j ≤ m) (cond-true _ _ _ (le-leb k.0 (stored_next r) near)) at in

@@ -3,6 +3,8 @@
 --     PathSeen      the frames on their way in one direction, the late ones, and the fates to come
 --     Carries f w s r there back      the stream w, whose first byte has position f, is on its way
 --     FrameTells r frame      an acknowledgement tells nothing but what the receiver has
+--     answer_of r      the acknowledgement of a receiver
+--     arrived N r frame, with_answer r frame back      what a frame that comes leaves
 --     SentAll s old new      all that a sender keeps and that wasn't reported was put on its way
 use Rattle.std.specs.Prelude.{◌≡◌, ℕ, ◌+◌, ◌-◌, ◌<◌, ◌≤◌, ◌^◌, ◌⊎◌, nat_lt, if◌then◌else◌, Bool}
 use Rattle.std.specs.Prelude.{IsTrue, Option, Some, None}

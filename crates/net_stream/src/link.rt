@@ -24,8 +24,8 @@ use net_receiver::{Receiver, laws};
 use net_storage::assembler;
 use std::alloc::{AllocError, Allocator};
 
-/// Sends a frame of at most `max` of the bytes that the sender keeps, from the one at `pos` on, none
-/// of which was reported; or spares those that were. Returns how many bytes it was about.
+/// Sends a frame of at most `max` of the bytes that the sender keeps, from the one at `pos` on, of
+/// which none was reported; or spares those that were. Returns how many bytes it was about.
 fn transmit_part<A: Allocator + Copy>(
     sender: &Sender<'_>,
     there: &mut Path<'_, A>,
@@ -100,8 +100,9 @@ fn answer<A: Allocator + Copy, const N: usize>(
     back.send(now, receiver.next(), &report[..len])
 }
 
-/// A frame comes to the receiver, which acknowledges all that it has: the first missing position, and
-/// the first 32 held runs.
+/// A frame comes to the receiver, which acknowledges all that it has: the first missing position,
+/// and the first 32 held runs. A frame that is too short for a position does nothing, nor does one
+/// whose positions go past 64 bits.
 pub fn arrive<A: Allocator + Copy, const N: usize>(
     receiver: &mut Receiver<'_, N>,
     back: &mut Path<'_, A>,
