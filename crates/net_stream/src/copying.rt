@@ -357,6 +357,3 @@ pub fn copy<A: Allocator + Copy, R: Read, W: Write>(
         counts,
     )
 }
-
-#[cfg(test)]
-mod tests;

@@ -10,8 +10,6 @@ mod link;
 mod path;
 mod reported;
 mod sender;
-#[cfg(test)]
-mod streams;
 mod timer;
 
 pub use copying::{Settings, copy, copy_over};

@@ -1,10 +1,9 @@
 //! Copies over links of known fates: what arrives, what is counted, and how each error ends.
 
-use super::*;
-use crate::fate::{Fate, Rates};
 use crate::streams::{Sink, Source};
+use net_stream::{Counts, Fate, Fates, Rates, Settings, copy};
 use net_testing::Refusing;
-use std::alloc::Global;
+use std::alloc::{Allocator, Global};
 use std::test::Fail;
 
 /// A link that loses, repeats and delays nothing.

@@ -1,0 +1,10 @@
+//! The tests of `net_stream`, each through its public calls.
+//!
+//! They stand in a crate of their own, so that what stands on `net_stream` doesn't wait for them
+//! and links nothing that only tests need.
+#![tactic(auto)]
+
+#[cfg(test)]
+mod copying;
+#[cfg(test)]
+mod streams;
