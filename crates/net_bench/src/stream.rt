@@ -105,9 +105,7 @@ fn stream_line<A: Allocator + Copy>(
         }
         Words::Two(verb, count) => {
             if verb == b"r".as_slice() {
-                return Ok(number(count).map(|count| StreamLine::ToReceiver(Command::Read(
-                    count,
-                ))));
+                return Ok(number(count).map(|count| StreamLine::ToReceiver(Command::Read(count))));
             }
             Ok(None)
         }
