@@ -1,4 +1,4 @@
-//! Each example runs once.
+//! Examples as their users call them.
 
 use crate::{
     Outbox, Timer, Undamaged, is_made, over_a_bad_link, pass_through, receive, send_bytes,

@@ -13,7 +13,7 @@ use std::io::{Read, Write};
 /// What standard error says of words that ask for nothing.
 const USAGE: &str = "usage: net_link LOSS SEED [REPEATED LATE [BYTES]]\n";
 
-/// How many bytes are on their way at most: the capacity of the sender and of the receiver.
+/// The capacity of the sender and of the receiver, in bytes.
 const CAPACITY: usize = 262_144;
 
 /// After how many rounds in a row that bring nothing on it gives up.

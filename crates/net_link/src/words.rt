@@ -20,7 +20,7 @@ pub struct Plan {
     pub seed: u64,
     /// Of a hundred frames that are not lost, how many come twice.
     pub repeated: u32,
-    /// Of a hundred other frames, how many come late.
+    /// Of a hundred frames that are neither, how many come late.
     pub late: u32,
     /// The most bytes of a frame's payload.
     pub payload: u32,

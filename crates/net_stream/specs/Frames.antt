@@ -12,7 +12,7 @@ use Rattle.net_receiver.specs.Truthful.{Says}
 abbrev pub frame_of : ℕ → List ℕ → List ℕ
 frame_of pos xs = to_be_bytes w64 pos ++ xs
 
--- a frame of less than 8 bytes says nothing
+-- a frame of fewer than 8 bytes says nothing
 abbrev pub decoded : List ℕ → Option (ℕ × List ℕ)
 decoded frame =
     if nat_lt (length frame) 8 then None

@@ -44,7 +44,7 @@ abbrev pub with_more : (List ℕ → List (ℕ × ℕ)) → Option (ℕ × ℕ �
 with_more more None = []
 with_more more (Some (start, end, rest)) = (start, end) ∷ more rest
 
--- the first n ranges that bytes list, or all of them; less than 16 bytes list none
+-- the first n ranges that bytes list, or all of them; fewer than 16 bytes list none
 unfoldable pub ranges_of : ℕ → List ℕ → List (ℕ × ℕ)
 ranges_of zero xs = []
 ranges_of (suc n) xs = with_more (ranges_of n) (first_range xs)

@@ -30,11 +30,13 @@ const MOST_RUNS: usize = 32;
 pub struct Settings {
     /// The position of the stream's first byte.
     pub first: u64,
-    /// How many bytes the sender keeps at most, and the receiver: the window.
+    /// How many bytes the sender keeps at most, and the receiver: the window. With 0 a copy gives
+    /// up.
     pub capacity: usize,
     /// The most bytes of a frame's payload; 0 counts as 1.
     pub payload: u32,
-    /// After how many rounds in a row that bring nothing on a copy gives up.
+    /// After how many rounds in a row in which nothing was written and nothing let go a copy gives
+    /// up: with 0 at once.
     pub rounds: u64,
 }
 

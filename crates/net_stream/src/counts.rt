@@ -9,17 +9,17 @@ use crate::fate::Fate;
 pub struct Counts {
     /// How many bytes the reader gave.
     pub taken: u64,
-    /// How many bytes were handed to the writer.
+    /// How many bytes were written, up to a failed write.
     pub bytes: u64,
     /// How many frames were sent, acknowledgements too.
     pub sent: u64,
-    /// How many bytes the frames carried behind their positions.
+    /// How many bytes of the stream the frames carried, those that were sent again included.
     pub payload: u64,
     /// How many frames were lost.
     pub lost: u64,
-    /// How many frames came once more.
+    /// How many frames were repeated.
     pub repeated: u64,
-    /// How many frames came in the next round.
+    /// How many frames came only in the next round.
     pub late: u64,
     /// How many segments the receiver refused.
     pub refused: u64,

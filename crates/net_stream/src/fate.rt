@@ -18,7 +18,8 @@ pub enum Fate {
     Late,
 }
 
-/// Of a hundred frames, about how many meet each fate: percentages, each for itself.
+/// How many frames in a hundred, about, meet each fate; each rate is of those that the rates before
+/// it leave.
 #[derive(Debug, Clone, Copy, PartialEq, Eq, Drop)]
 pub struct Rates {
     /// How many are lost. 100 and more lose each frame.

@@ -24,8 +24,9 @@ use net_receiver::{Receiver, laws};
 use net_storage::assembler;
 use std::alloc::{AllocError, Allocator};
 
-/// Sends a frame of at most `max` of the bytes that the sender keeps, from the one at `pos` on, of
-/// which none was reported; or spares those that were. Returns how many bytes it was about.
+/// If the byte at `pos` was reported, spares it and those that follow it in that range; else sends
+/// a frame of at most `max` bytes from there on, none of them reported. Returns how many bytes were
+/// spared or sent.
 fn transmit_part<A: Allocator + Copy>(
     sender: &Sender<'_>,
     there: &mut Path<'_, A>,
@@ -138,7 +139,8 @@ pub fn arrive<A: Allocator + Copy, const N: usize>(
     answer(receiver, back, now)
 }
 
-/// An acknowledgement comes to the sender.
+/// An acknowledgement comes to the sender. One that is too short for a position, or whose position
+/// lies outside what is kept, changes nothing.
 pub fn acknowledge(sender: &mut Sender<'_>, frame: &[u8])
     ensures carried { (f : ℕ) (w : List ℕ) (r : Stored) (there back : PathSeen) →
         FrameTells r frame.now → Carries f w sender.old r there back
@@ -376,11 +378,12 @@ fn pass_acks<A: Allocator + Copy>(
 
 /// One round: all that the sender keeps and that wasn't reported is put on its way, late frames of
 /// the round before come, the frames on their way meet their fates, the receiver acknowledges once
-/// more what it has, and so the acknowledgements.
+/// more what it has, and late acknowledgements and those on their way come likewise.
 ///
-/// Whatever becomes of them, the stream stays on its way (`carried`). If the fates of a round let
-/// each frame and each acknowledgement come, the receiver then has all that the sender had, and the
-/// sender keeps nothing more (`progress`), from any state.
+/// Whatever becomes of them, the stream stays on its way (`carried`). If every fate to come, in
+/// both directions, lets its frame come, and the receiver's window has room for all that the sender
+/// keeps, the receiver then has all that the sender had, and the sender keeps nothing more
+/// (`progress`), from any state.
 pub fn pass_round<A: Allocator + Copy, const N: usize>(
     sender: &mut Sender<'_>,
     receiver: &mut Receiver<'_, N>,

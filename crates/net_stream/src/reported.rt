@@ -116,7 +116,7 @@ fn nearer(pos: u64, start: u64, nearest: u64) -> u64
 }
 
 /// Reads the first range that bytes list. Returns it with the bytes behind it, or `None` if there
-/// are less than 16.
+/// are fewer than 16.
 fn decode_range(bytes: &[u8]) -> Option<(u64, u64, &[u8])>
     ensures { MatchOption result (first_range bytes.now ≡ None)
         (λ parts. first_range bytes.now ≡ Some (parts.0, parts.1, parts.2.now)) }

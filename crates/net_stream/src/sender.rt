@@ -130,7 +130,7 @@ impl<'a> Sender<'a> {
     }
 
     /// Returns how many of the bytes that are kept, from the one at `pos` on, lie in the first
-    /// reported range that has `pos`: 0 if none has, or the byte isn't kept.
+    /// reported range that has `pos`: 0 if none has, or `pos` is at or past the end.
     pub fn reported_from(&self, pos: u64) -> u64
         ensures inside { (q : ℕ) → pos ≤ q → q < pos + result
             → IsTrue (reports self.now.reported q) }
@@ -152,7 +152,7 @@ impl<'a> Sender<'a> {
     }
 
     /// Lets go the bytes below `next`, and keeps in mind what the receiver reported beyond it, in
-    /// place of what it reported before. A number outside what is kept changes nothing.
+    /// place of what it reported before. A position outside what is kept changes nothing.
     pub fn acknowledge(&mut self, next: u64, reported: Reported)
         ensures state { self.new ≡ acknowledged self.old next reported }
         ensures sends { (f : ℕ) (w : List ℕ) → Sends f w self.old → Sends f w self.new }
