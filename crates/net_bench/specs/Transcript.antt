@@ -99,8 +99,7 @@ ErrorOfLines all lines old new ReadFailed = ⊥
 abbrev pub ErrorOfInput : Transcript → List ℕ → Option (List ℕ) → Option (List ℕ) →
     Option (List ℕ) → BenchError → Type 0
 -- the replies of all lines whose line feed stands in what the reads gave were written, none of
--- these lines has a
--- fault, and what came of the next line isn't too long
+-- these lines has a fault, and what came of the next line isn't too long
 ErrorOfInput all input left old new ReadFailed =
     (given : List ℕ) × Consumes (Some input) left given × (all.fault (ended_lines given) ≡ None)
     × Appends old new (all.replies (ended_lines given)) × (length (unended_line given) ≤ 4096)

@@ -15,7 +15,7 @@ module _ {H : Type 0} where
   contents_of (p ∷ ps) bs =
       (p.header, take p.size (drop p.gap bs)) ∷ contents_of ps (drop (p.gap + p.size) bs)
 
-  -- the headers and bytes of the packets of a queue, the first one first: what a reader thinks of
+  -- the headers and bytes of the packets of a queue, the first one first
   unfoldable pub contents : PacketQueue H → List (H × List ℕ)
   contents q = contents_of q.packets (queue (byte_ring q))
 

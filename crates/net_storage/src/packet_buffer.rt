@@ -24,8 +24,8 @@ mod taking;
 ///
 /// A packet has a header and bytes that lie in a row in the storage. If a packet does not fit
 /// before the storage's end, it is placed at the storage's beginning, and the bytes before the end
-/// are skipped as its gap. A packet uses one slot, and a gap, which is never of 0 bytes,
-/// one more. Packets leave in the order in which they came.
+/// are skipped as its gap. A packet uses one slot, and a gap, which is never of 0 bytes, one more.
+/// Packets leave in the order in which they came.
 ///
 /// Contracts lead with `contents q`, the list of the headers and bytes of a queue's packets. Which
 /// packets are refused is seen by its placement: the number of its slots, its storage, the place

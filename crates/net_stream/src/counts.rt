@@ -1,5 +1,5 @@
 //! What is counted of a copy.
-ghost use Rattle.std.specs.Prelude.{◌≡◌, if◌then◌else◌};
+ghost use Rattle.std.specs.Prelude.{◌≡◌, ◌-◌, if◌then◌else◌};
 ghost use Rattle.net_stream.specs.Counting.{more, met, nothing_counted};
 
 use crate::fate::Fate;
@@ -71,8 +71,11 @@ impl Counts {
         }
     }
 
-    /// How many bytes were sent more than once: what frames carried beyond what the reader gave.
-    pub fn sent_again(&self) -> u64 {
+    /// Returns how many bytes were sent more than once: what frames carried beyond what the reader
+    /// gave.
+    pub fn sent_again(&self) -> u64
+        ensures { result ≡ self.now.payload - self.now.taken }
+    {
         self.payload.saturating_sub(self.taken)
     }
 }

@@ -382,8 +382,8 @@ fn pass_acks<A: Allocator + Copy>(
 ///
 /// Whatever becomes of them, the stream stays on its way (`carried`). If every fate to come, in
 /// both directions, lets its frame come, and the receiver's window has room for all that the sender
-/// keeps, the receiver then has all that the sender had, and the sender keeps nothing more
-/// (`progress`), from any state.
+/// keeps, then on `Ok` the receiver has all that the sender had, and the sender keeps nothing more
+/// (`progress`), from any state that carries a stream.
 pub fn pass_round<A: Allocator + Copy, const N: usize>(
     sender: &mut Sender<'_>,
     receiver: &mut Receiver<'_, N>,

@@ -151,8 +151,8 @@ impl<'a> Sender<'a> {
         self.reported.next_start(pos)
     }
 
-    /// Lets go the bytes below `next`, and keeps in mind what the receiver reported beyond it, in
-    /// place of what it reported before. A position outside what is kept changes nothing.
+    /// Lets go the bytes below `next`, and keeps the ranges that the receiver reported, in place of
+    /// those that it reported before. A position outside what is kept changes nothing.
     pub fn acknowledge(&mut self, next: u64, reported: Reported)
         ensures state { self.new ≡ acknowledged self.old next reported }
         ensures sends { (f : ℕ) (w : List ℕ) → Sends f w self.old → Sends f w self.new }
