@@ -3,8 +3,8 @@
     (cd crates/net_storage && rm -rf out && rt check --jobs 1) && python3 docs/proof_times.py net_storage [ROWS]
 
 A check with one job proves one thing after another and writes a file behind each, so the time between
-two files is what the second took. The libraries below the crate have to be checked before, or their time
-is not in `out`.
+two files is what the second took; with more jobs it may be counted for a neighbour. A crate's own time alone
+is counted: the libraries below it have an `out` of their own.
 """
 import collections
 import pathlib
@@ -36,7 +36,7 @@ def main():
     print(f"| {crate} | Seconds |\n|---|---:|")
     for function, taken in seconds.most_common(rows):
         print(f"| `{function}` | {taken:.1f} |")
-    print(f"| all {len(seconds)} | {sum(seconds.values()):.0f} |")
+    print(f"| all of {len(seconds)} functions and modules | {sum(seconds.values()):.0f} |")
 
 
 if __name__ == "__main__":
