@@ -48,7 +48,7 @@ impl Reported {
     }
 
     /// Returns the first 32 of the ranges that bytes list: each start and each end in 8 bytes, the
-    /// most significant first. Less than 16 bytes list none.
+    /// most significant first. Fewer than 16 bytes list none.
     pub fn of_bytes(bytes: &[u8]) -> Reported
         ensures { result ≡ ranges_of most_reported bytes.now }
     {
@@ -75,7 +75,7 @@ impl Reported {
 
     /// Returns how many positions from `pos` on lie in the first range that has `pos`, or 0 if none
     /// has it.
-    pub fn count_from(&self, pos: u64) -> u64
+    pub(crate) fn count_from(&self, pos: u64) -> u64
         ensures inside { (q : ℕ) → pos ≤ q → q < pos + result → IsTrue (reports self.now q) }
         ensures none { result ≡ 0 → IsFalse (reports self.now pos) }
     {
@@ -89,7 +89,7 @@ impl Reported {
     }
 
     /// Returns the first start of a range above `pos`, or 2^64 - 1 if there is none.
-    pub fn next_start(&self, pos: u64) -> u64
+    pub(crate) fn next_start(&self, pos: u64) -> u64
         ensures above { pos < 2 ^ 64 - 1 → pos < result }
         ensures between { IsFalse (reports self.now pos) →
             (q : ℕ) → pos ≤ q → q < result → IsFalse (reports self.now q) }

@@ -60,35 +60,35 @@ impl<'a> Sender<'a> {
         }
     }
 
-    /// The position of the first byte that is kept: all before it is acknowledged.
+    /// Returns the position of the first byte that is kept: all before it is acknowledged.
     pub fn base(&self) -> u64
         ensures { result ≡ self.now.base }
     {
         self.base
     }
 
-    /// The position behind the last byte that was written.
+    /// Returns the position behind the last byte that was written.
     pub fn end(&self) -> u64
         ensures end { result ≡ end_of self.now }
     {
         self.base + self.ring.len() as u64
     }
 
-    /// How many bytes are kept.
+    /// Returns how many bytes are kept.
     pub fn len(&self) -> usize
         ensures { result ≡ length self.now.queue }
     {
         self.ring.len()
     }
 
-    /// Whether all that was written is acknowledged.
+    /// Returns whether all that was written is acknowledged.
     pub fn is_empty(&self) -> bool
         ensures { result ≡ (length self.now.queue == 0) }
     {
         self.len() == 0
     }
 
-    /// How many bytes `write` would take: those that have room, as far as positions go.
+    /// Returns how many bytes `write` would take: those that have room, as far as positions go.
     pub fn window(&self) -> usize
         ensures { result ≡ room_of self.now }
     {
@@ -131,7 +131,7 @@ impl<'a> Sender<'a> {
 
     /// Returns how many of the bytes that are kept, from the one at `pos` on, lie in the first
     /// reported range that has `pos`: 0 if none has, or `pos` is at or past the end.
-    pub fn reported_from(&self, pos: u64) -> u64
+    pub(crate) fn reported_from(&self, pos: u64) -> u64
         ensures inside { (q : ℕ) → pos ≤ q → q < pos + result
             → IsTrue (reports self.now.reported q) }
         ensures none { pos < end_of self.now → result ≡ 0
@@ -143,7 +143,7 @@ impl<'a> Sender<'a> {
     }
 
     /// Returns the first start of a reported range above `pos`, or 2^64 - 1 if there is none.
-    pub fn next_reported(&self, pos: u64) -> u64
+    pub(crate) fn next_reported(&self, pos: u64) -> u64
         ensures above { pos < end_of self.now → pos < result }
         ensures between { IsFalse (reports self.now.reported pos) →
             (q : ℕ) → pos ≤ q → q < result → IsFalse (reports self.now.reported q) }
