@@ -1,4 +1,4 @@
-//! The program's statuses, what it says on standard error, and how often it calls its streams.
+//! The statuses of `serve`, what it says of errors, and how often it calls its streams.
 use crate::assertions::{assert_bytes, assert_count};
 use crate::endings::command_words;
 use net_lines::serve;
@@ -14,7 +14,7 @@ const USAGE_LINE: &[u8] = b"usage: net_bench ring CAP | asm N | stream CAP N [FI
 /// What is written, the status, what standard error says, and how many reads and writes there are.
 type Expected<'a> = (&'a [u8], u8, &'a [u8], usize, usize);
 
-/// Runs the program over these streams, and this comes of it; there is one flush, and none with the
+/// Calls `serve` over these streams, and this comes of it; there is one flush, and none with the
 /// usage line.
 fn check_status<A: Allocator + Copy>(
     rt: &impl Abort,
@@ -36,7 +36,7 @@ fn check_status<A: Allocator + Copy>(
     Ok(())
 }
 
-/// Runs the program over this reader and a writer that fails at this call, by a flush that fails
+/// Calls `serve` over this reader and a writer that fails at this call, by a flush that fails
 /// with this kind of error, if there is one. A failed flush is told only if nothing else is.
 fn check_flush(
     rt: &impl Abort,
@@ -64,7 +64,7 @@ fn check_flush(
     )
 }
 
-/// Runs the program by flushes that do and don't fail.
+/// Calls `serve` by flushes that do and don't fail.
 fn check(
     rt: &impl Abort,
     alloc: Global,
@@ -136,7 +136,7 @@ const STATUSES: [Row<'static>; 13] = [
     ("stream 8 4", b"q", (b"", 1, b"line 1: bad command\n", 2, 0)),
 ];
 
-/// Runs the program for each row.
+/// Calls `serve` for each row.
 fn check_rows(rt: &impl Abort, alloc: Global, rows: &[Row<'_>]) -> Result<(), Fail> {
     for (words, input, expected) in rows {
         check(rt, alloc, words, (*input, NEVER, NEVER), *expected)?;
@@ -149,7 +149,7 @@ fn answers_each_status(rt: HostRuntime) -> Result<(), Fail> {
     check_rows(&rt, rt.alloc(), &STATUSES)
 }
 
-/// Runs the program with no words at all.
+/// Calls `serve` with no words at all.
 fn check_no_words(rt: &impl Abort, alloc: Global) -> Result<(), Fail> {
     let none = Vec::new(alloc);
     let mut errors = Sink::new(alloc)?;
@@ -256,7 +256,7 @@ fn says_that_memory_was_refused(rt: HostRuntime) -> Result<(), Fail> {
     Ok(())
 }
 
-/// Runs the program where standard error takes nothing.
+/// Calls `serve` where the writer of errors takes nothing.
 fn check_untold(rt: &impl Abort, alloc: Global, line: &str, status: u8) -> Result<(), Fail> {
     let words = command_words(alloc, line)?;
     let mut source = Source::new(b"w 61\nx\n");
