@@ -1,24 +1,7 @@
 //! A bench for the storage types: command lines come in, and a reply line goes out for each.
 #![tactic(auto)]
 
-mod asm;
-mod bench;
-mod buffers;
-mod error;
-mod fault;
-mod laws;
-mod mode;
-mod replies;
-mod ring;
-mod run;
-mod serve;
-mod session;
-mod stream;
-#[cfg(test)]
-mod tests;
-mod text;
-mod words;
-
+use net_lines::serve;
 use net_text::gather;
 use std::env;
 use std::process::ExitCode;
@@ -36,7 +19,7 @@ fn command_words(rt: &HostRuntime) -> Vec<String> {
 
 fn main(rt: HostRuntime) -> ExitCode {
     let words = command_words(&rt);
-    let status = serve::serve(
+    let status = serve(
         rt.alloc(),
         &words,
         &mut rt.stdin(),

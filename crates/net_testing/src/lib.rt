@@ -1,7 +1,12 @@
-//! What tests of other crates share: memory that is refused at one known request.
+//! What tests of other crates share: memory that is refused at one known request, and readers and
+//! writers over memory that give and take little, and that fail at one known call.
 #![tactic(auto)]
 
 mod refusing;
 mod requests;
+mod sink;
+mod source;
 
 pub use refusing::Refusing;
+pub use sink::Sink;
+pub use source::{NEVER, Source};

@@ -1,0 +1,82 @@
+-- Mode asm: a set of positions in at most so many maximal runs.
+use Rattle.std.specs.Prelude.{ℕ, ◌+◌, ◌^◌, ◌&&◌, nat_lt, List, [], ◌∷◌, ◌++◌, codes, bytes_eq}
+use Rattle.std.specs.Prelude.{decimal, if◌then◌else◌, Bool, Option, Some, None, Result, Ok, Err}
+use Rattle.net_storage.specs.Positions.{Positions, runs, with_range, front, shift_down}
+use Rattle.net_storage.specs.Assembler.{display_text}
+use Rattle.net_text.specs.Numeral.{number_of}
+use Rattle.net_lines.specs.Transcript.{Rules}
+use Rattle.net_lines.specs.declared.fault.Fault.{Fault}
+use Rattle.net_lines.specs.declared.fault.Fault.TheVariants as faults
+
+-- a command of the mode; a range is its offset and its size
+pub data AsmCommand : Type 0 where
+  Add : ℕ → ℕ → AsmCommand
+  AddThenRemoveFront : ℕ → ℕ → AsmCommand
+  RemoveFront : AsmCommand
+  Print : AsmCommand
+
+-- a command with a range, where both of its words are numbers
+abbrev pub range_command : (ℕ → ℕ → AsmCommand) → Option ℕ → Option ℕ → Option AsmCommand
+range_command command (Some offset) (Some size) = Some (command offset size)
+range_command command _ _ = None
+
+-- `f`, `p`, `a NUM NUM` and `t NUM NUM`
+abbrev pub asm_command : List (List ℕ) → Option AsmCommand
+asm_command (verb ∷ []) =
+    if bytes_eq verb (codes "f") then Some RemoveFront
+    else if bytes_eq verb (codes "p") then Some Print
+    else None
+asm_command (verb ∷ offset ∷ size ∷ []) =
+    if bytes_eq verb (codes "a") then range_command Add (number_of offset) (number_of size)
+    else if bytes_eq verb (codes "t")
+    then range_command AddThenRemoveFront (number_of offset) (number_of size)
+    else None
+asm_command _ = None
+
+-- whether the range isn't empty, and the set with it has more than the most maximal runs
+abbrev pub makes_too_many_runs : ℕ → Positions → ℕ → ℕ → Bool
+makes_too_many_runs most_runs set offset size =
+    nat_lt 0 size && nat_lt most_runs (runs (with_range set offset size))
+
+-- the reply of a refusal
+abbrev pub refused_text : List ℕ
+refused_text = codes "refused too many holes\n"
+
+-- the set without its front, counted from there, and the reply that says how long the front was
+abbrev pub front_removed : Positions → Positions × List ℕ
+front_removed set =
+    (shift_down set (front set), codes "front " ++ decimal (front set) ++ codes "\n")
+
+-- the set with a range, or unchanged where that has too many runs
+abbrev pub added : ℕ → Positions → ℕ → ℕ → Positions × List ℕ
+added most_runs set offset size =
+    if makes_too_many_runs most_runs set offset size then (set, refused_text)
+    else (with_range set offset size, codes "ok\n")
+
+-- the same, and the front is removed then; a range at 0 is never refused
+abbrev pub added_then_front_removed : ℕ → Positions → ℕ → ℕ → Positions × List ℕ
+added_then_front_removed most_runs set offset size =
+    if nat_lt 0 offset && makes_too_many_runs most_runs set offset size then (set, refused_text)
+    else front_removed (with_range set offset size)
+
+-- what a range's command does where 64 bits hold the range's end
+abbrev pub within_range : ℕ → ℕ → Positions × List ℕ → Result (Positions × List ℕ) Fault
+within_range offset size next =
+    if nat_lt (offset + size) (2 ^ 64) then Ok next else Err faults.RangeTooLong
+
+-- what a command does to the set, and its reply
+abbrev pub asm_does : ℕ → Positions → AsmCommand → Result (Positions × List ℕ) Fault
+asm_does most_runs set (Add offset size) =
+    within_range offset size (added most_runs set offset size)
+asm_does most_runs set (AddThenRemoveFront offset size) =
+    within_range offset size (added_then_front_removed most_runs set offset size)
+asm_does most_runs set RemoveFront = Ok (front_removed set)
+asm_does most_runs set Print = Ok (set, display_text set ++ codes "\n")
+
+-- a line of the mode, with at most so many runs
+abbrev pub asm_rules : ℕ → Rules Positions
+asm_rules most_runs set words = asm_reply most_runs set (asm_command words)
+  where
+    asm_reply : ℕ → Positions → Option AsmCommand → Result (Positions × List ℕ) Fault
+    asm_reply most_runs set (Some command) = asm_does most_runs set command
+    asm_reply most_runs set None = Err faults.BadCommand

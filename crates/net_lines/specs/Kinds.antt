@@ -1,0 +1,19 @@
+-- The modes that the code keeps, as modes with their numbers.
+use Rattle.std.specs.Prelude.{ℕ}
+use Rattle.net_lines.specs.Modes.{Mode, Ring, Asm, Stream}
+use Rattle.net_lines.specs.declared.mode.ModeKind.{ModeKind}
+use Rattle.net_lines.specs.declared.mode.ModeKind.TheVariants as kinds
+use Rattle.net_lines.specs.declared.mode.MostRuns.{MostRuns}
+use Rattle.net_lines.specs.declared.mode.MostRuns.TheVariants as counts
+
+-- how many runs these are
+abbrev pub most_runs_seen : MostRuns → ℕ
+most_runs_seen counts.Four = 4
+most_runs_seen counts.ThirtyTwo = 32
+
+-- the mode that a kind is
+abbrev pub mode_seen : ModeKind → Mode
+mode_seen (kinds.Ring capacity) = Ring capacity
+mode_seen (kinds.Asm most_runs) = Asm (most_runs_seen most_runs)
+mode_seen (kinds.Stream first capacity most_runs) =
+    Stream (record { first = first; capacity = capacity; most_runs = most_runs_seen most_runs })

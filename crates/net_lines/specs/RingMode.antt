@@ -1,0 +1,54 @@
+-- Mode ring: a bounded queue of bytes.
+use Rattle.std.specs.Prelude.{ℕ, ◌-◌, min, List, [], ◌∷◌, ◌++◌, length, take, drop, codes, bytes_eq}
+use Rattle.std.specs.Prelude.{decimal, if◌then◌else◌, Option, Some, None, Result, Ok, Err}
+use Rattle.std.specs.Prelude.{option_map}
+use Rattle.net_text.specs.Numeral.{number_of}
+use Rattle.net_lines.specs.Text.{hex_bytes, hex_text}
+use Rattle.net_lines.specs.Transcript.{Rules}
+use Rattle.net_lines.specs.declared.fault.Fault.{Fault}
+use Rattle.net_lines.specs.declared.fault.Fault.TheVariants as faults
+
+-- a queue of bytes, and the most that it holds
+pub record Queue : Type 0 where
+  pub capacity : ℕ
+  pub bytes : List ℕ
+
+-- an empty queue
+abbrev pub empty_queue : ℕ → Queue
+empty_queue capacity = record { capacity = capacity; bytes = [] }
+
+-- a command of the mode
+pub data RingCommand : Type 0 where
+  Write : List ℕ → RingCommand
+  Read : ℕ → RingCommand
+
+-- `w HEX` and `r NUM`
+abbrev pub ring_command : List (List ℕ) → Option RingCommand
+ring_command (verb ∷ word ∷ []) =
+    if bytes_eq verb (codes "w") then option_map Write (hex_bytes word)
+    else if bytes_eq verb (codes "r") then option_map Read (number_of word)
+    else None
+ring_command _ = None
+
+-- what a command does to the queue, and its reply
+abbrev pub ring_does : Queue → RingCommand → Queue × List ℕ
+-- as many bytes as there is room for join the queue
+ring_does queue (Write bytes) =
+    let count = min (length bytes) (queue.capacity - length queue.bytes) in (
+      record queue { bytes = queue.bytes ++ take count bytes },
+      codes "took " ++ decimal count ++ codes "\n",
+    )
+-- as many bytes as are asked for and there leave it
+ring_does queue (Read number) =
+    let count = min number (length queue.bytes) in (
+      record queue { bytes = drop count queue.bytes },
+      codes "read " ++ hex_text (take count queue.bytes) ++ codes "\n",
+    )
+
+-- a line of the mode
+abbrev pub ring_rules : Rules Queue
+ring_rules queue words = ring_reply queue (ring_command words)
+  where
+    ring_reply : Queue → Option RingCommand → Result (Queue × List ℕ) Fault
+    ring_reply queue (Some command) = Ok (ring_does queue command)
+    ring_reply queue None = Err faults.BadCommand

@@ -1,0 +1,271 @@
+//! Lines in, replies out, for any mode.
+ghost use Rattle.std.specs.Prelude.{◌≡◌, ℕ, List, [], ◌∷◌, ◌++◌, length, take, ◌<◌, ◌≤◌, ◌==◌};
+ghost use Rattle.std.specs.Prelude.{IfSome, IfOk, IfErr, OnOk, None, position, vec_capacity};
+ghost use Rattle.std.specs.Io.KnownBytes.{Appends};
+ghost use Rattle.net_lines.specs.Text.{lines_of, next_number};
+ghost use Rattle.net_lines.specs.Transcript.{line_step, transcript, WritesFront, ErrorOfInput};
+ghost use Rattle.net_lines.specs.Progress.{HasNoFeed, Advances, Gathers, PendingError};
+
+use crate::buffers::Buffers;
+use crate::error::BenchError;
+use crate::fault::Fault;
+use crate::replies::Replies;
+use crate::session::Session;
+use std::alloc::{AllocError, Allocator};
+use std::io::{Read, Write};
+
+/// The most bytes of a line, without its line feed.
+const MAX_LINE: usize = 4096;
+
+/// How many bytes are asked for at once.
+const CHUNK: usize = 65536;
+
+/// Returns where the first line feed stands, if there is one.
+fn feed_at(bytes: &[u8]) -> Option<usize>
+    ensures { result ≡ position (λ b. b == 10) bytes.now }
+{
+    bytes.iter().position(|b| *b == b'\n')
+}
+
+/// Runs a line of this number, and gathers its reply.
+fn answer<A: Allocator + Copy, S: Session<A>, W: Write>(
+    buffers: &mut Buffers<A>,
+    session: &mut S,
+    number: u64,
+    line: &[u8],
+    replies: &mut Replies<A>,
+    writer: &mut W,
+) -> Result<(), BenchError>
+    ensures ok { OnOk result ((reply : List ℕ)
+        × (line_step S.rules session.old line.now ≡ Ok (session.new, reply))
+        × Gathers (W.contents writer.old) replies.old (W.contents writer.new) replies.new reply) }
+    ensures err { IfErr result (λ e. (more : List (List ℕ)) →
+        PendingError (transcript S.rules S.closing number session.old) (line.now ∷ more)
+        (W.contents writer.old) replies.old (W.contents writer.new) replies.new e) }
+{
+    if line.len() > MAX_LINE {
+        return Err(Fault::LineTooLong.at(number));
+    }
+    let Ok(outcome) = session.execute_line(buffers, line) else {
+        return Err(BenchError::OutOfMemory);
+    };
+    match outcome {
+        Ok(reply) => {
+            let gathered = replies.gather(reply.as_bytes(), writer);
+            buffers.keep_text(reply);
+            gathered
+        }
+        Err(fault) => Err(fault.at(number)),
+    }
+}
+
+/// A run under way: the mode's state, the number of the line that comes next, what has come of it,
+/// and the replies that are pending.
+#[derive(Drop)]
+struct Bench<A: Allocator + Copy, S> {
+    buffers: Buffers<A>,
+    session: S,
+    number: u64,
+    line: Vec<u8, A>,
+    replies: Replies<A>,
+    ghost short: { length line.items ≤ 4096 },
+    ghost unended: { HasNoFeed line.items },
+    ghost room: { 4096 ≤ vec_capacity line },
+}
+
+impl<A: Allocator + Copy, S: Session<A>> Bench<A, S> {
+    /// A run whose first line comes next. All memory for lines and replies is taken here.
+    fn new(alloc: A, session: S) -> Result<Bench<A, S>, AllocError>
+    where
+        S: Drop,
+        ensures { IfOk result (λ bench. (bench.session ≡ session) × (bench.number ≡ 1)
+            × (bench.line.items ≡ []) × (bench.replies ≡ [])) }
+    {
+        Ok(Bench {
+            buffers: Buffers::new(alloc),
+            session,
+            number: 1,
+            line: Vec::with_capacity(alloc, MAX_LINE)?,
+            replies: Replies::new(alloc)?,
+        })
+    }
+
+    /// Keeps the beginning of a line, for the bytes that come after it.
+    fn keep(&mut self, bytes: &[u8]) -> Result<(), BenchError>
+        requires { HasNoFeed bytes.now }
+        ensures ok { OnOk result ((self.new.line.items ≡ self.old.line.items ++ bytes.now)
+            × (self.new.number ≡ self.old.number) × (self.new.session ≡ self.old.session)) }
+        ensures err { IfErr result (λ e. (e ≡ BenchError.LineTooLong self.old.number)
+            × (4096 < length (self.old.line.items ++ bytes.now))) }
+        ensures replies { self.new.replies ≡ self.old.replies }
+    {
+        if bytes.len() > MAX_LINE - self.line.len() {
+            return Err(Fault::LineTooLong.at(self.number));
+        }
+        self.line.extend_from_slice(bytes).unwrap();
+        Ok(())
+    }
+
+    /// Runs the line that these bytes end, and gathers its reply.
+    fn end_line<W: Write>(&mut self, bytes: &[u8], writer: &mut W) -> Result<(), BenchError>
+        requires { HasNoFeed bytes.now }
+        ensures ok { OnOk result ((reply : List ℕ)
+            × (line_step S.rules self.old.session (self.old.line.items ++ bytes.now)
+            ≡ Ok (self.new.session, reply))
+            × (self.new.number ≡ next_number self.old.number)
+            × (self.new.line.items ≡ [])
+            × Gathers (W.contents writer.old) self.old.replies
+            (W.contents writer.new) self.new.replies reply) }
+        ensures err { IfErr result (λ e. (more : List (List ℕ)) →
+            PendingError (transcript S.rules S.closing self.old.number self.old.session)
+            ((self.old.line.items ++ bytes.now) ∷ more)
+            (W.contents writer.old) self.old.replies (W.contents writer.new) self.new.replies e) }
+    {
+        if self.line.is_empty() {
+            answer(
+                &mut self.buffers,
+                &mut self.session,
+                self.number,
+                bytes,
+                &mut self.replies,
+                writer,
+            )?;
+        } else {
+            self.keep(bytes)?;
+            answer(
+                &mut self.buffers,
+                &mut self.session,
+                self.number,
+                &self.line,
+                &mut self.replies,
+                writer,
+            )?;
+            self.line.clear();
+        }
+        self.number = self.number.saturating_add(1);
+        Ok(())
+    }
+
+    /// Runs the lines that these bytes end, keeps what stands behind them, and gathers the replies.
+    fn execute_ended<W: Write>(&mut self, bytes: &[u8], writer: &mut W) -> Result<(), BenchError>
+        ensures ok { OnOk result ((text : List ℕ)
+            × Advances S.rules bytes.now self.old.number self.old.session self.old.line.items
+            self.new.number self.new.session self.new.line.items text
+            × Gathers (W.contents writer.old) self.old.replies
+            (W.contents writer.new) self.new.replies text) }
+        ensures err { IfErr result (λ e. (more : List ℕ) →
+            PendingError (transcript S.rules S.closing self.old.number self.old.session)
+            (lines_of (self.old.line.items ++ (bytes.now ++ more)))
+            (W.contents writer.old) self.old.replies (W.contents writer.new) self.new.replies e) }
+    {
+        let mut rest = bytes;
+        // The label is the loop's name in its proof.
+        'lines: while let Some(at) = feed_at(rest) {
+            self.end_line(&rest[..at], writer)?;
+            rest = &rest[at + 1..];
+        }
+        self.keep(rest)
+    }
+
+    /// Takes the next bytes of the input. No reply is pending when it returns.
+    fn take<W: Write>(&mut self, bytes: &[u8], writer: &mut W) -> Result<(), BenchError>
+        ensures emptied { self.new.replies ≡ [] }
+        ensures ok { OnOk result ((text : List ℕ)
+            × Advances S.rules bytes.now self.old.number self.old.session self.old.line.items
+            self.new.number self.new.session self.new.line.items text
+            × Gathers (W.contents writer.old) self.old.replies
+            (W.contents writer.new) self.new.replies text) }
+        ensures err { IfErr result (λ e. (more : List ℕ) →
+            PendingError (transcript S.rules S.closing self.old.number self.old.session)
+            (lines_of (self.old.line.items ++ (bytes.now ++ more)))
+            (W.contents writer.old) self.old.replies (W.contents writer.new) self.new.replies e) }
+    {
+        let outcome = self.execute_ended(bytes, writer);
+        self.replies.write_out(writer)?;
+        outcome
+    }
+
+    /// Gathers the closing text.
+    fn close<W: Write>(&mut self, writer: &mut W) -> Result<(), BenchError>
+        ensures ok { OnOk result (Gathers (W.contents writer.old) self.old.replies
+            (W.contents writer.new) self.new.replies (S.closing self.old.session)) }
+        ensures err { IfErr result (λ e. (e ≡ BenchError.WriteFailed) × (self.new.replies ≡ [])
+            × WritesFront (self.old.replies ++ S.closing self.old.session)
+            (W.contents writer.old) (W.contents writer.new)) }
+    {
+        let closing = self.session.closing_text();
+        self.replies.gather(closing.as_bytes(), writer)
+    }
+
+    /// Runs what has come of the last line, if anything has, and gathers its reply and the closing
+    /// text.
+    fn execute_last<W: Write>(&mut self, writer: &mut W) -> Result<(), BenchError>
+        ensures ok { OnOk result (
+            let all = transcript S.rules S.closing self.old.number self.old.session in
+            let lines = lines_of self.old.line.items in
+            (all.fault lines ≡ None)
+            × Gathers (W.contents writer.old) self.old.replies
+            (W.contents writer.new) self.new.replies (all.text lines)) }
+        ensures err { IfErr result (λ e.
+            PendingError (transcript S.rules S.closing self.old.number self.old.session)
+            (lines_of self.old.line.items) (W.contents writer.old) self.old.replies
+            (W.contents writer.new) self.new.replies e) }
+    {
+        if self.line.is_empty() {
+            return self.close(writer);
+        }
+        self.end_line(&[], writer)?;
+        self.close(writer)
+    }
+
+    /// Runs what has come of the last line, if anything has, and writes its reply and the closing
+    /// text. No reply is pending when it returns.
+    fn finish<W: Write>(&mut self, writer: &mut W) -> Result<(), BenchError>
+        ensures emptied { self.new.replies ≡ [] }
+        ensures ok { OnOk result (
+            let all = transcript S.rules S.closing self.old.number self.old.session in
+            let lines = lines_of self.old.line.items in
+            (all.fault lines ≡ None)
+            × Gathers (W.contents writer.old) self.old.replies
+            (W.contents writer.new) self.new.replies (all.text lines)) }
+        ensures err { IfErr result (λ e.
+            PendingError (transcript S.rules S.closing self.old.number self.old.session)
+            (lines_of self.old.line.items) (W.contents writer.old) self.old.replies
+            (W.contents writer.new) self.new.replies e) }
+    {
+        let outcome = self.execute_last(writer);
+        self.replies.write_out(writer)?;
+        outcome
+    }
+}
+
+/// Runs the lines that the reader gives, from their first to their last, and writes the replies.
+pub fn execute_lines<A: Allocator + Copy, S: Session<A> + Drop, R: Read, W: Write>(
+    alloc: A,
+    session: S,
+    reader: &mut R,
+    writer: &mut W,
+) -> Result<(), BenchError>
+    ensures ok { OnOk result (IfSome (R.remaining reader.old) (λ input.
+        let all = transcript S.rules S.closing 1 session in
+        let lines = lines_of input in
+        (all.fault lines ≡ None)
+        × Appends (W.contents writer.old) (W.contents writer.new) (all.text lines))) }
+    ensures err { IfErr result (λ e. IfSome (R.remaining reader.old) (λ input.
+        ErrorOfInput (transcript S.rules S.closing 1 session) input (R.remaining reader.new)
+        (W.contents writer.old) (W.contents writer.new) e)) }
+{
+    let Ok(mut bench) = Bench::new(alloc, session) else {
+        return Err(BenchError::OutOfMemory);
+    };
+    let mut chunk = [0u8; CHUNK];
+    // The bound is what shows that the loop ends; the label is its name in its proof.
+    'reads: for _ in 0..u64::MAX {
+        match reader.read(&mut chunk) {
+            Ok(0) => return bench.finish(writer),
+            Ok(count) => bench.take(&chunk[..count], writer)?,
+            Err(_) => return Err(BenchError::ReadFailed),
+        }
+    }
+    Err(BenchError::ReadFailed)
+}

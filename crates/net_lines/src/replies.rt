@@ -1,0 +1,89 @@
+//! Replies on their way to a writer, which takes many at once.
+ghost use Rattle.std.specs.Prelude.{◌≡◌, [], ◌++◌, length, ◌≤◌, IfOk, OnOk, IfErr, vec_capacity};
+ghost use Rattle.std.specs.Io.KnownBytes.{Appends};
+ghost use Rattle.net_lines.specs.Transcript.{WritesFront};
+ghost use Rattle.net_lines.specs.Progress.{Gathers};
+ghost use Rattle.net_lines.specs.declared.error.BenchError.{BenchError};
+
+use crate::error::BenchError;
+use std::alloc::{AllocError, Allocator};
+use std::io::Write;
+use std::marker::Model;
+
+/// How many bytes of replies are gathered before they are written.
+const ROOM: usize = 65536;
+
+/// Writes all of the text. An error ends it after a beginning of the text; nothing is tried again.
+fn write_text<W: Write>(writer: &mut W, text: &[u8]) -> Result<(), BenchError>
+    ensures ok { OnOk result (Appends (W.contents writer.old) (W.contents writer.new) text.now) }
+    ensures err { IfErr result (λ e. (e ≡ BenchError.WriteFailed)
+        × WritesFront text.now (W.contents writer.old) (W.contents writer.new)) }
+{
+    let mut written = 0;
+    while written < text.len() {
+        match writer.write(&text[written..]) {
+            Ok(0) | Err(_) => return Err(BenchError::WriteFailed),
+            Ok(count) => written += count,
+        }
+    }
+    Ok(())
+}
+
+/// Replies that are to be written, in a buffer whose size never changes.
+#[derive(Drop)]
+pub struct Replies<A: Allocator + Copy> {
+    pending: Vec<u8, A>,
+    ghost within: { length pending.items ≤ 65536 },
+    ghost room: { 65536 ≤ vec_capacity pending },
+}
+
+impl<A: Allocator + Copy> Model for Replies<A> {
+    ghost use Rattle.std.specs.Prelude.{ℕ, List};
+
+    ghost Value = { List ℕ };
+
+    ghost view = { λ r. r.pending.items };
+}
+
+impl<A: Allocator + Copy> Replies<A> {
+    /// Returns an empty buffer, whose memory is taken here.
+    pub fn new(alloc: A) -> Result<Replies<A>, AllocError>
+        ensures { IfOk result (λ replies. replies ≡ []) }
+    {
+        Ok(Replies {
+            pending: Vec::with_capacity(alloc, ROOM)?,
+        })
+    }
+
+    /// Gathers a reply. What is pending is written first if there is no room beside it, and a
+    /// reply that is longer than the whole buffer is written at once.
+    pub fn gather<W: Write>(&mut self, reply: &[u8], writer: &mut W) -> Result<(), BenchError>
+        ensures ok { OnOk result
+            (Gathers (W.contents writer.old) self.old (W.contents writer.new) self.new reply.now) }
+        ensures err { IfErr result (λ e. (e ≡ BenchError.WriteFailed) × (self.new ≡ [])
+            × WritesFront (self.old ++ reply.now) (W.contents writer.old) (W.contents writer.new)) }
+    {
+        if reply.len() > ROOM - self.pending.len() {
+            self.write_out(writer)?;
+            if reply.len() > ROOM {
+                return write_text(writer, reply);
+            }
+        }
+        self.pending.extend_from_slice(reply).unwrap();
+        Ok(())
+    }
+
+    /// Writes what is pending. Nothing is pending afterwards, so that after an error nothing is
+    /// tried again.
+    pub fn write_out<W: Write>(&mut self, writer: &mut W) -> Result<(), BenchError>
+        ensures emptied { self.new ≡ [] }
+        ensures ok { OnOk result
+            (Appends (W.contents writer.old) (W.contents writer.new) self.old) }
+        ensures err { IfErr result (λ e. (e ≡ BenchError.WriteFailed)
+            × WritesFront self.old (W.contents writer.old) (W.contents writer.new)) }
+    {
+        let outcome = write_text(writer, &self.pending);
+        self.pending.clear();
+        outcome
+    }
+}

@@ -1,0 +1,285 @@
+//! Mode `stream`: segments of a stream come in any order, and its bytes go out in order.
+ghost use Rattle.std.specs.Prelude.{◌≡◌, [], ◌∷◌, IfOk, MatchResult, Ok, Err, string_bytes};
+ghost use Rattle.std.specs.Prelude.{option_map, ◌≤◌, length};
+ghost use Rattle.net_receiver.specs.Commands.{command_seen, reply_seen, CommandFits};
+ghost use Rattle.net_receiver.specs.Rules.{Read, Gave};
+ghost use Rattle.net_receiver.specs.Stored.{fresh_stored, stored_after, stored_reply};
+ghost use Rattle.net_text.specs.Numeral.{number_of};
+ghost use Rattle.net_lines.specs.Text.{words_of, hex_bytes};
+ghost use Rattle.net_lines.specs.StreamMode.{ToReceiver, NextSchedule, segment_command};
+ghost use Rattle.net_lines.specs.StreamMode.{stream_command};
+ghost use Rattle.net_lines.specs.StreamMode.{first_schedule, stream_does, stream_rules};
+ghost use Rattle.net_lines.specs.StreamMode.{stream_closing, end_fits};
+ghost use Rattle.net_lines.specs.StreamLines.{stream_command_seen};
+ghost use Rattle.net_lines.specs.StreamStored.{of_stored};
+
+use crate::buffers::Buffers;
+use crate::fault::Fault;
+use crate::session::Session;
+use crate::words::Words;
+use crate::{text, words};
+use net_receiver::{Command, Receiver, Reply, execute};
+use net_storage::ManagedSlice;
+use net_text::number;
+use std::alloc::{AllocError, Allocator};
+use std::marker::Model;
+use std::mem;
+
+mod reply_lines;
+
+/// A line of the mode.
+#[derive(Drop)]
+pub enum StreamLine<A: Allocator + Copy> {
+    /// `s NUM HEX`, `r NUM` or `?`: a command to the receiver.
+    ToReceiver(Command<A>),
+    /// `--`: the second schedule begins.
+    NextSchedule,
+}
+
+/// A receiver that lines send segments to and read from, and the one before it where `--` has come.
+///
+/// The storage of the second schedule is made when it begins, in the list that `second` lends.
+#[derive(Drop)]
+pub struct StreamSession<'a, A: Allocator + Copy, const N: usize> {
+    first: u64,
+    capacity: usize,
+    present: Receiver<'a, N>,
+    ended: Option<Receiver<'a, N>>,
+    second: Option<&'a mut Vec<u8, A>>,
+}
+
+impl<'a, A: Allocator + Copy, const N: usize> Model for StreamSession<'a, A, N> {
+    ghost use Rattle.std.specs.Prelude.{◌≡◌, ◌≤◌, None, IsSome};
+    ghost use Rattle.net_receiver.specs.Stored.{Stored};
+    ghost use Rattle.net_lines.specs.StreamMode.{Schedules};
+    ghost use Rattle.net_lines.specs.StreamStored.{schedules_code};
+
+    ghost Value = { Schedules Stored };
+
+    ghost coded = { schedules_code };
+
+    ghost view = { λ s. record {
+      setting = record { first = s.first; capacity = s.capacity; most_runs = N };
+      present = s.present;
+      ended = s.ended;
+    } };
+
+    ghost invariant = { λ s. (1 ≤ N) × (s.ended ≡ None → IsSome s.second) };
+}
+
+/// Returns the segment that two words name, if they do.
+fn segment<A: Allocator + Copy>(
+    buffers: &mut Buffers<A>,
+    position: &[u8],
+    bytes: &[u8],
+) -> Result<Option<StreamLine<A>>, AllocError>
+    ensures { IfOk result (λ found. option_map stream_command_seen found
+        ≡ segment_command (number_of position.now) (hex_bytes bytes.now)) }
+{
+    let Some(pos) = number(position) else {
+        return Ok(None);
+    };
+    let Some(bytes) = text::bytes(buffers, bytes)? else {
+        return Ok(None);
+    };
+    Ok(Some(StreamLine::ToReceiver(Command::Segment { pos, bytes })))
+}
+
+/// Returns what a line says, if it is one of the mode's.
+fn stream_line<A: Allocator + Copy>(
+    buffers: &mut Buffers<A>,
+    line: &[u8],
+) -> Result<Option<StreamLine<A>>, AllocError>
+    ensures { IfOk result (λ found.
+        option_map stream_command_seen found ≡ stream_command (words_of line.now)) }
+{
+    match words::split_words(line) {
+        Words::One(verb) => {
+            if verb == b"?".as_slice() {
+                return Ok(Some(StreamLine::ToReceiver(Command::Show)));
+            }
+            if verb == b"--".as_slice() {
+                return Ok(Some(StreamLine::NextSchedule));
+            }
+            Ok(None)
+        }
+        Words::Two(verb, count) => {
+            if verb == b"r".as_slice() {
+                return Ok(number(count).map(|count| StreamLine::ToReceiver(Command::Read(count))));
+            }
+            Ok(None)
+        }
+        Words::Three(verb, position, bytes) => {
+            if verb == b"s".as_slice() {
+                return segment(buffers, position, bytes);
+            }
+            Ok(None)
+        }
+        Words::More => Ok(None),
+    }
+}
+
+/// Whether a segment's end is at most the greatest number.
+fn fits<A: Allocator + Copy, const N: usize>(command: &Command<A>) -> bool
+    ensures { result ≡ end_fits (command_seen command.now) }
+{
+    match command {
+        Command::Segment { pos, bytes } => Receiver::<N>::fits(*pos, bytes.len()),
+        Command::Read(_) | Command::Show => true,
+    }
+}
+
+/// Reads at most so many bytes into memory of the buffers, and returns them.
+fn read_within<A: Allocator + Copy, const N: usize>(
+    buffers: &mut Buffers<A>,
+    receiver: &mut Receiver<'_, N>,
+    count: u64,
+) -> Result<Vec<u8, A>, AllocError>
+    ensures state { IfOk result (λ _. receiver.new ≡ stored_after N receiver.old (Read count)) }
+    ensures answer { IfOk result (λ bytes.
+        Gave bytes.items ≡ stored_reply N receiver.old (Read count)) }
+{
+    let queued = receiver.queued();
+    let taken = count.min(queued as u64) as usize;
+    let mut bytes = buffers.take_bytes(taken)?;
+    receiver.read(&mut bytes);
+    Ok(bytes)
+}
+
+/// Does a command as `execute` does, but reads into memory of the buffers.
+fn execute_within<A: Allocator + Copy, const N: usize>(
+    buffers: &mut Buffers<A>,
+    receiver: &mut Receiver<'_, N>,
+    command: &Command<A>,
+) -> Result<Reply<A>, AllocError>
+    requires { CommandFits command.now }
+    ensures state { let seen = command_seen command.now in
+        IfOk result (λ _. receiver.new ≡ stored_after N receiver.old seen) }
+    ensures answer { let seen = command_seen command.now in
+        IfOk result (λ reply. reply_seen reply ≡ stored_reply N receiver.old seen) }
+{
+    match command {
+        Command::Read(count) => Ok(Reply::Read(read_within(buffers, receiver, *count)?)),
+        Command::Segment { pos: _, bytes: _ } | Command::Show => {
+            execute(buffers.alloc(), receiver, command)
+        }
+    }
+}
+
+/// Returns a fresh receiver of a stream that begins at `first`, over a storage that takes the place
+/// of what `second` holds.
+fn fresh_over<'a, A: Allocator + Copy, const N: usize>(
+    first: u64,
+    storage: Vec<u8, A>,
+    second: &'a mut Vec<u8, A>,
+) -> Receiver<'a, N>
+    requires { 1 ≤ N }
+    ensures { result ≡ fresh_stored first (length storage.items) }
+{
+    *second = storage;
+    Receiver::new_at(ManagedSlice::from(second.as_mut_slice()), first)
+}
+
+/// Keeps the memory of bytes that were read.
+fn keep_read<A: Allocator + Copy>(buffers: &mut Buffers<A>, reply: Reply<A>) {
+    match reply {
+        Reply::Read(bytes) => buffers.keep_bytes(bytes),
+        Reply::Segment(_answer) => {}
+        Reply::Show {
+            next: _next,
+            queued: _queued,
+            window: _window,
+            held: _held,
+        } => {}
+    }
+}
+
+impl<'a, A: Allocator + Copy, const N: usize> StreamSession<'a, A, N> {
+    /// A fresh receiver of a stream that begins at `first`, over this storage. The storage of the
+    /// second schedule takes the place of what `second` holds.
+    pub fn new(
+        first: u64,
+        storage: &'a mut [u8],
+        second: &'a mut Vec<u8, A>,
+    ) -> StreamSession<'a, A, N>
+        requires { 1 ≤ N }
+        ensures { result ≡ first_schedule of_stored
+            (record { first = first; capacity = length storage.old; most_runs = N }) }
+    {
+        StreamSession {
+            first,
+            capacity: storage.len(),
+            present: Receiver::new_at(ManagedSlice::from(storage), first),
+            ended: None,
+            second: Some(second),
+        }
+    }
+
+    /// Does a command, and shows its reply.
+    fn command(
+        &mut self,
+        buffers: &mut Buffers<A>,
+        command: Command<A>,
+    ) -> Result<Result<String<A>, Fault>, AllocError>
+        ensures { let done = stream_does of_stored self.old (ToReceiver (command_seen command)) in
+            IfOk result (λ outcome. MatchResult outcome
+            (λ reply. done ≡ Ok (self.new, string_bytes reply))
+            (λ fault. done ≡ Err fault)) }
+    {
+        if !fits::<A, N>(&command) {
+            return Ok(Err(Fault::RangeTooLong));
+        }
+        let reply = execute_within(buffers, &mut self.present, &command)?;
+        if let Command::Segment { pos: _, bytes } = command {
+            buffers.keep_bytes(bytes);
+        }
+        let text = reply_lines::reply_text(buffers, &reply)?;
+        keep_read(buffers, reply);
+        Ok(Ok(text))
+    }
+
+    /// Begins the second schedule.
+    fn next_schedule(
+        &mut self,
+        buffers: &mut Buffers<A>,
+    ) -> Result<Result<String<A>, Fault>, AllocError>
+        ensures { let done = stream_does of_stored self.old NextSchedule in
+            IfOk result (λ outcome. MatchResult outcome
+            (λ reply. done ≡ Ok (self.new, string_bytes reply))
+            (λ fault. done ≡ Err fault)) }
+    {
+        if self.ended.is_some() {
+            return Ok(Err(Fault::TooManySchedules));
+        }
+        let storage = vec![in buffers.alloc(); 0u8; self.capacity]?;
+        let fresh = fresh_over(self.first, storage, self.second.take().unwrap());
+        self.ended = Some(mem::replace(&mut self.present, fresh));
+        Ok(Ok(buffers.take_text(0)?))
+    }
+}
+
+impl<A: Allocator + Copy, const N: usize> Session<A> for StreamSession<'_, A, N> {
+    ghost rules = { stream_rules of_stored };
+
+    ghost closing = { stream_closing of_stored };
+
+    fn execute_line(
+        &mut self,
+        buffers: &mut Buffers<A>,
+        line: &[u8],
+    ) -> Result<Result<String<A>, Fault>, AllocError> {
+        match stream_line(buffers, line)? {
+            Some(StreamLine::ToReceiver(command)) => self.command(buffers, command),
+            Some(StreamLine::NextSchedule) => self.next_schedule(buffers),
+            None => Ok(Err(Fault::BadCommand)),
+        }
+    }
+
+    fn closing_text(&self) -> &'static str {
+        match &self.ended {
+            None => "",
+            Some(ended) if ended.same_state(&self.present) => "same\n",
+            Some(_) => "differs\n",
+        }
+    }
+}
