@@ -28,6 +28,16 @@ pub fn send_bytes<A: Allocator + Copy>(
     device.send(token, bytes.len(), |buffer| buffer.copy_from_slice(bytes))
 }
 
+/// Sends the bytes as one frame, and returns whether there was memory for it.
+pub fn sends<A: Allocator + Copy>(device: &mut Loopback<A>, bytes: &[u8]) -> bool {
+    send_bytes(device, bytes).is_ok()
+}
+
+/// Takes the next frame off, if there is one, and returns whether there was none.
+pub fn is_over<A: Allocator + Copy>(device: &mut Loopback<A>) -> bool {
+    device.receive(Instant::ZERO).is_none()
+}
+
 /// Takes the next frame off, and returns whether it is the bytes.
 pub fn next_is<A: Allocator + Copy>(device: &mut Loopback<A>, bytes: &[u8]) -> bool
     ensures { IsTrue result → device.old.frames ≡ bytes.now ∷ device.new.frames }
@@ -40,19 +50,24 @@ pub fn next_is<A: Allocator + Copy>(device: &mut Loopback<A>, bytes: &[u8]) -> b
 
 /// Writes a frame's length into its first bytes.
 pub fn write_length(frame: &mut [u8]) {
-    let length = frame.len().to_le_bytes();
-    for (byte, mark) in frame.iter_mut().zip(length) {
-        *byte = mark;
-    }
+    let marks = frame.len().to_le_bytes();
+    let count = frame.len().min(8);
+    frame[..count].copy_from_slice(&marks[..count]);
 }
 
 /// Takes the next frame off, and returns whether it has that length and begins with it.
 pub fn next_has_length(device: &mut Loopback, length: usize) -> bool {
-    device.receive(Instant::ZERO).is_some_and(|(token, _token)| {
-        let frame = token.frame();
-        let marks = length.to_le_bytes();
-        frame.len() == length && frame.iter().zip(&marks).all(|(byte, mark)| byte == mark)
-    })
+    match device.receive(Instant::ZERO) {
+        Some((frame, _token)) => has_length(frame.frame(), length),
+        None => false,
+    }
+}
+
+/// Returns whether a frame has that length and begins with it.
+fn has_length(frame: &[u8], length: usize) -> bool {
+    let marks = length.to_le_bytes();
+    let count = length.min(8);
+    frame.len() == length && frame.starts_with(&marks[..count])
 }
 
 /// Whether a value is equal to itself, as `Eq` promises.
@@ -62,8 +77,6 @@ fn is_itself<T: Eq>(value: &T) -> bool {
 
 #[test]
 fn equality_is_an_equivalence(rt: HostRuntime) {
-    assert!(rt; is_itself(&Medium::Ip));
-    assert!(rt; is_itself(&PacketMeta::default()));
-    assert!(rt; is_itself(&NonZeroU16::new(1)));
-    assert!(rt; is_itself(&NonZeroUsize::new(1)));
+    let own = is_itself(&Medium::Ip) && is_itself(&PacketMeta::default());
+    assert!(rt; own && is_itself(&NonZeroU16::new(1)) && is_itself(&NonZeroUsize::new(1)));
 }

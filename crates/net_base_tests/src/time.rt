@@ -9,15 +9,20 @@ use std::fmt::Display;
 /// The text of whole seconds and of the milliseconds beyond them, which are filled on the left by
 /// the digit 0 to three places.
 pub fn joined<T: Display + Drop>(alloc: Global, secs: T, millis: T) -> Result<String, AllocError> {
-    let mut text = secs.to_string(alloc)?;
     let fraction = millis.to_string(alloc)?;
+    let mut text = secs.to_string(alloc)?;
+    push_filled(&mut text, fraction.as_str())?;
+    Ok(text)
+}
+
+/// Appends a point, the fraction with zeros before it, and the unit.
+fn push_filled(text: &mut String, fraction: &str) -> Result<(), AllocError> {
     text.push_str(".")?;
     for _ in fraction.len()..3 {
         text.push_str("0")?;
     }
-    text.push_str(fraction.as_str())?;
-    text.push_str("s")?;
-    Ok(text)
+    text.push_str(fraction)?;
+    text.push_str("s")
 }
 
 /// Whether the value has that text, whatever options are set.

@@ -1,10 +1,9 @@
 //! Texts of refusals.
+use crate::text::is_text;
 use net_storage::{Empty, Full};
-use std::test::Fail;
 
 #[test]
-fn refusals_have_their_texts(rt: HostRuntime) -> Result<(), Fail> {
-    assert_eq!(rt; Full.to_string(rt.alloc())?.as_str(), "buffer full");
-    assert_eq!(rt; Empty.to_string(rt.alloc())?.as_str(), "buffer empty");
-    Ok(())
+fn refusals_have_their_texts(rt: HostRuntime) {
+    let full = is_text(Full.to_string(rt.alloc()), "buffer full");
+    assert!(rt; full && is_text(Empty.to_string(rt.alloc()), "buffer empty"));
 }

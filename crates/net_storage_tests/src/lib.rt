@@ -14,3 +14,5 @@ mod managed;
 mod packet_buffer;
 #[cfg(test)]
 mod ring_buffer;
+#[cfg(test)]
+mod text;

@@ -2,20 +2,24 @@
 use net_storage::ManagedSlice;
 use std::test::Fail;
 
+/// Turns the elements of a storage round, and returns whether they are as many as these, and then
+/// these.
+fn turns_into(storage: &mut ManagedSlice<'_, u8>, elements: &[u8]) -> bool {
+    let count = storage.len();
+    storage.as_mut_slice().reverse();
+    count == elements.len() && *storage.as_slice() == *elements
+}
+
 #[test]
 fn lent_storage_shows_its_elements(rt: HostRuntime) {
     let mut buffer = [1u8, 2, 3];
     let mut lent = ManagedSlice::from(buffer.as_mut_slice());
-    assert_eq!(rt; lent.len(), 3);
-    lent.as_mut_slice().reverse();
-    assert_eq!(rt; lent.as_slice(), [3u8, 2, 1].as_slice());
+    assert!(rt; turns_into(&mut lent, &[3, 2, 1]));
 }
 
 #[test]
 fn owned_storage_shows_its_elements(rt: HostRuntime) -> Result<(), Fail> {
     let mut owned = ManagedSlice::from([4u8, 5].to_vec(rt.alloc())?);
-    assert_eq!(rt; owned.len(), 2);
-    owned.as_mut_slice().reverse();
-    assert_eq!(rt; owned.as_slice(), [5u8, 4].as_slice());
+    assert!(rt; turns_into(&mut owned, &[5, 4]));
     Ok(())
 }

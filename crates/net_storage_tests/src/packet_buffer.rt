@@ -217,6 +217,44 @@ impl Drop for Counted<'_> {
     }
 }
 
+/// Returns whether `place` refuses a packet of so many bytes.
+fn place_refuses<'c>(
+    queue: &mut PacketBuffer<'_, Counted<'c>>,
+    drops: &'c Cell<u32>,
+    size: usize,
+) -> bool {
+    queue.place(size, Counted { drops }).is_err()
+}
+
+/// Returns whether `enqueue` refuses a packet of so many bytes.
+fn enqueue_refuses<'c>(
+    queue: &mut PacketBuffer<'_, Counted<'c>>,
+    drops: &'c Cell<u32>,
+    size: usize,
+) -> bool {
+    queue.enqueue(size, Counted { drops }).is_err()
+}
+
+/// Returns whether `push_slice` refuses these bytes.
+fn push_refuses<'c>(
+    queue: &mut PacketBuffer<'_, Counted<'c>>,
+    drops: &'c Cell<u32>,
+    text: &[u8],
+) -> bool {
+    queue.push_slice(Counted { drops }, text).is_err()
+}
+
+/// Returns whether `enqueue_with_infallible` refuses a packet of so many bytes.
+fn closure_is_refused<'c>(
+    queue: &mut PacketBuffer<'_, Counted<'c>>,
+    drops: &'c Cell<u32>,
+    size: usize,
+) -> bool {
+    queue
+        .enqueue_with_infallible(size, Counted { drops }, |_| 0)
+        .is_err()
+}
+
 /// Tries each call that puts a packet of these bytes, and returns how many headers were dropped by
 /// that; `None` if a call accepts it.
 fn drops_of_refused<'c>(
@@ -226,22 +264,11 @@ fn drops_of_refused<'c>(
 ) -> Option<u32> {
     let before = drops.get();
     let size = text.len();
-    if queue.place(size, Counted { drops }).is_ok() {
-        return None;
-    }
-    if queue.enqueue(size, Counted { drops }).is_ok() {
-        return None;
-    }
-    if queue.push_slice(Counted { drops }, text).is_ok() {
-        return None;
-    }
-    if queue
-        .enqueue_with_infallible(size, Counted { drops }, |_| 0)
-        .is_ok()
-    {
-        return None;
-    }
-    Some(drops.get().saturating_sub(before))
+    let all_refused = place_refuses(queue, drops, size)
+        && enqueue_refuses(queue, drops, size)
+        && push_refuses(queue, drops, text)
+        && closure_is_refused(queue, drops, size);
+    all_refused.then_some(drops.get().saturating_sub(before))
 }
 
 /// Puts two packets, tries each call that is refused, and takes the packets off; returns whether
@@ -253,17 +280,22 @@ fn headers_come_and_go(drops: &Cell<u32>) -> bool {
         ManagedSlice::Borrowed(&mut slots),
         ManagedSlice::Borrowed(&mut bytes),
     );
-    let came = queue.place(3, Counted { drops }).is_ok();
+    let came = !place_refuses(&mut queue, drops, 3);
     let kept = drops.get() == 0;
     // Three bytes are not free, and five are more than the storage has.
     let no_bytes = drops_of_refused(&mut queue, drops, b"abc") == Some(4);
     let too_long = drops_of_refused(&mut queue, drops, b"abcde") == Some(4);
     // No slot is free.
-    let last = queue.place(0, Counted { drops }).is_ok();
+    let last = !place_refuses(&mut queue, drops, 0);
     let no_slot = drops_of_refused(&mut queue, drops, b"") == Some(4);
-    let off = queue.dequeue().is_ok();
+    let off = dequeue_takes_off(&mut queue);
     let off = off && drops.get() == 13 && closure_takes_off(&mut queue);
     came && kept && no_bytes && too_long && last && no_slot && off
+}
+
+/// Returns whether `dequeue` takes a packet off.
+fn dequeue_takes_off(queue: &mut PacketBuffer<'_, Counted<'_>>) -> bool {
+    queue.dequeue().is_ok()
 }
 
 /// Returns whether `dequeue_with` takes a packet off.

@@ -8,7 +8,7 @@ use callers::{
     Duplex, dequeue_one_byte, enqueue_one_byte, room_of_slice, room_of_vector, write_and_enqueue,
     write_and_refuse,
 };
-use net_storage::{Empty, Full, ManagedSlice, Resettable, Ring, RingBuffer};
+use net_storage::{Empty, ManagedSlice, Resettable, Ring, RingBuffer};
 use std::process::Abort;
 use std::test::Fail;
 use steps::{Step, run};
@@ -121,27 +121,39 @@ fn an_empty_ring_starts_again(rt: HostRuntime) -> Result<(), Fail> {
     run_over(&rt, &mut [0; 8], &steps)
 }
 
-#[test]
-fn zero_sized_elements(rt: HostRuntime) -> Result<(), Fail> {
-    let mut buffer = [(); 3];
-    let mut ring = RingBuffer::from(&mut buffer);
-    assert!(rt; ring.enqueue_many(5).len() == 3);
-    assert!(rt; ring.window() == 0);
-    assert!(rt; ring.enqueue_one().is_err());
-    assert!(rt; ring.len() == 3);
-    assert!(rt; ring.len() >= 2);
-    ring.dequeue_allocated(2);
-    zero_sized_elements_again(&rt, &mut ring)
+/// Returns whether `enqueue_many` of five elements that have no size enqueues so many.
+fn enqueues_units(ring: &mut RingBuffer<'_, ()>, count: usize) -> bool {
+    ring.enqueue_many(5).len() == count
 }
 
-/// Goes on with one of three elements that have no size, which stands last.
-fn zero_sized_elements_again(rt: &impl Abort, ring: &mut RingBuffer<'_, ()>) -> Result<(), Fail> {
-    assert!(rt; ring.window() == 2);
-    assert!(rt; ring.contiguous_window() == 2);
-    assert!(rt; ring.enqueue_many(5).len() == 2);
-    assert!(rt; ring.enqueue_many(5).len() == 0);
-    assert!(rt; ring.len() == 3);
-    Ok(())
+/// Returns whether `enqueue_one` is refused.
+fn enqueues_no_unit(ring: &mut RingBuffer<'_, ()>) -> bool {
+    ring.enqueue_one().is_err()
+}
+
+/// Takes two elements that have no size off, and returns whether there were two.
+fn dequeues_two_units(ring: &mut RingBuffer<'_, ()>) -> bool {
+    if ring.len() < 2 {
+        return false;
+    }
+    ring.dequeue_allocated(2);
+    true
+}
+
+/// Returns whether a ring has so many elements, and so many free ones up to its storage's end.
+fn has_units(ring: &RingBuffer<'_, ()>, count: usize, free: usize) -> bool {
+    ring.len() == count && ring.window() == free && ring.contiguous_window() == free
+}
+
+#[test]
+fn zero_sized_elements(rt: HostRuntime) {
+    let mut buffer = [(); 3];
+    let mut ring = RingBuffer::from(&mut buffer);
+    let filled = enqueues_units(&mut ring, 3) && enqueues_no_unit(&mut ring);
+    let taken = has_units(&ring, 3, 0) && dequeues_two_units(&mut ring);
+    let again = has_units(&ring, 1, 2) && enqueues_units(&mut ring, 2);
+    assert!(rt; filled && taken && again && enqueues_units(&mut ring, 0));
+    assert!(rt; has_units(&ring, 3, 0));
 }
 
 #[test]
@@ -255,7 +267,7 @@ fn single_elements_are_lent(rt: HostRuntime) -> Result<(), Fail> {
     run_over(&rt, &mut [b'.'; 2], &steps)
 }
 
-#[derive(Debug, Clone, Copy, PartialEq, Eq)]
+#[derive(Clone, Copy, PartialEq, Eq)]
 struct Slot(u8);
 
 impl Resettable for Slot {
@@ -266,15 +278,23 @@ impl Resettable for Slot {
     }
 }
 
+/// Enqueues an element, and returns whether there was room.
+fn enqueues_slot(ring: &mut RingBuffer<'_, Slot>) -> bool {
+    ring.enqueue_one().is_ok()
+}
+
+/// Returns whether a ring holds nothing, and three free elements are 0.
+fn is_reset(ring: &mut RingBuffer<'_, Slot>) -> bool {
+    ring.is_empty() && *ring.get_unallocated(0, 3) == *[Slot(0); 3].as_slice()
+}
+
 #[test]
-fn every_element_is_reset(rt: HostRuntime) -> Result<(), Fail> {
+fn every_element_is_reset(rt: HostRuntime) {
     let mut buffer = [Slot(5); 3];
     let mut ring = RingBuffer::from(&mut buffer);
-    assert!(rt; ring.enqueue_one().is_ok());
+    let enqueued = enqueues_slot(&mut ring);
     ring.reset();
-    assert_eq!(rt; ring.len(), 0);
-    assert_eq!(rt; &*ring.get_unallocated(0, 3), [Slot(0); 3].as_slice());
-    Ok(())
+    assert!(rt; enqueued && is_reset(&mut ring));
 }
 
 #[test]
@@ -301,20 +321,34 @@ fn refusals_run_no_closure(rt: HostRuntime) -> Result<(), Fail> {
     run_over(&rt, &mut [0; 1], &steps)
 }
 
+/// Returns whether a caller enqueues a byte.
+fn takes_byte(ring: &mut RingBuffer<'_, u8>, byte: u8) -> bool {
+    enqueue_one_byte(ring, byte).is_ok()
+}
+
+/// Returns whether a caller gets this from the front.
+fn gives_byte(ring: &mut RingBuffer<'_, u8>, answer: Result<u8, Empty>) -> bool {
+    dequeue_one_byte(ring) == answer
+}
+
 #[test]
 fn callers_write_and_read_back(rt: HostRuntime) -> Result<(), Fail> {
     let mut buffer = [0; 4];
     let mut ring = RingBuffer::from(&mut buffer);
-    assert_eq!(rt; enqueue_one_byte(&mut ring, b'a'), Ok(()));
-    assert_eq!(rt; enqueue_one_byte(&mut ring, b'b'), Ok(()));
+    assert!(rt; takes_byte(&mut ring, b'a') && takes_byte(&mut ring, b'b'));
     write_and_refuse(&mut ring, b'c');
     run(&rt, &mut ring, &[Step::GetUnallocated(0, 1, b"c")])?;
-    assert_eq!(rt; write_and_enqueue(&mut ring, b"def"), 2);
-    assert_eq!(rt; enqueue_one_byte(&mut ring, b'g'), Err(Full));
-    assert_eq!(rt; dequeue_one_byte(&mut ring), Ok(b'a'));
+    let written = write_and_enqueue(&mut ring, b"def") == 2;
+    assert!(rt; written && !takes_byte(&mut ring, b'g') && gives_byte(&mut ring, Ok(b'a')));
     run(&rt, &mut ring, &[Step::DequeueSlice(3, b"bde\0")])?;
-    assert_eq!(rt; dequeue_one_byte(&mut ring), Err(Empty));
+    assert!(rt; gives_byte(&mut ring, Err(Empty)));
     Ok(())
+}
+
+/// Returns whether so many bytes are taken into zeros, which become these.
+fn takes_out(duplex: &mut Duplex<'_>, count: usize, after: &[u8; 4]) -> bool {
+    let mut out = [0; 4];
+    duplex.take(&mut out) == count && out == *after
 }
 
 #[test]
@@ -325,11 +359,8 @@ fn two_rings_in_one_struct(rt: HostRuntime) -> Result<(), Fail> {
         ManagedSlice::Borrowed(&mut buffer),
         ManagedSlice::Owned(vector),
     );
-    assert_eq!(rt; duplex.send(b"abc"), 2);
-    assert_eq!(rt; duplex.receive(b"xyz"), 3);
-    let mut out = [0u8; 4];
-    assert_eq!(rt; duplex.take(&mut out), 3);
-    assert_eq!(rt; &out, b"xyz\0");
+    assert!(rt; duplex.send(b"abc") == 2 && duplex.receive(b"xyz") == 3);
+    assert!(rt; takes_out(&mut duplex, 3, b"xyz\0"));
     Ok(())
 }
 

@@ -1,14 +1,15 @@
 ghost use Rattle.std.specs.Prelude.{◌≡◌, ◌∷◌, ◌++◌, [], List, ℕ, Ok, true};
 ghost use Rattle.net_base.specs.DeviceCapabilities.{default_capabilities};
 
-use super::{next_has_length, next_is, send_bytes, write_length};
+use super::{is_over, next_has_length, next_is, sends, write_length};
 use net_base::phy::{
     Device, DeviceCapabilities, Loopback, Medium, RxToken, TxToken, echo_once, loopback,
 };
 use net_base::time::Instant;
 use net_testing::Refusing;
-use std::alloc::{AllocError, Global};
+use std::alloc::{AllocError, Allocator, Global};
 use std::marker::Model;
+use std::process::Abort;
 
 /// Moves the first frame of a loopback device behind the others, at that moment.
 fn rotate_at(device: &mut Loopback, timestamp: Instant) -> Result<bool, AllocError>
@@ -18,85 +19,86 @@ fn rotate_at(device: &mut Loopback, timestamp: Instant) -> Result<bool, AllocErr
     echo_once(device, timestamp)
 }
 
-/// The same at the origin.
-fn rotate(device: &mut Loopback) -> Result<bool, AllocError> {
-    rotate_at(device, Instant::ZERO)
+/// Moves the first frame behind the others, at so many microseconds, and returns whether there was
+/// one.
+fn rotates_at(device: &mut Loopback, micros: i64) -> bool {
+    rotate_at(device, Instant::from_micros(micros)) == Ok(true)
+}
+
+/// Returns whether there is no frame to move.
+fn finds_nothing(device: &mut Loopback) -> bool {
+    rotate_at(device, Instant::ZERO) == Ok(false)
 }
 
 #[test]
-fn echoes_on_a_loopback_device(rt: HostRuntime) -> Result<(), AllocError> {
+fn echoes_on_a_loopback_device(rt: HostRuntime) {
     let mut device = Loopback::new(rt.alloc(), Medium::Ethernet);
-    send_bytes(&mut device, b"ab")?;
-    send_bytes(&mut device, b"cd")?;
-    assert!(rt; rotate(&mut device)?);
-    assert!(rt; next_is(&mut device, b"cd"));
-    assert!(rt; next_is(&mut device, b"ab"));
-    assert!(rt; device.receive(Instant::ZERO).is_none());
-    Ok(())
+    let sent = sends(&mut device, b"ab") && sends(&mut device, b"cd");
+    assert!(rt; sent && rotates_at(&mut device, 0) && next_is(&mut device, b"cd"));
+    assert!(rt; next_is(&mut device, b"ab") && is_over(&mut device));
 }
 
 #[test]
-fn finds_nothing_on_an_empty_device(rt: HostRuntime) -> Result<(), AllocError> {
+fn finds_nothing_on_an_empty_device(rt: HostRuntime) {
     let mut device = Loopback::new(rt.alloc(), Medium::Ethernet);
-    assert!(rt; !rotate(&mut device)?);
-    assert!(rt; device.receive(Instant::ZERO).is_none());
-    Ok(())
+    assert!(rt; finds_nothing(&mut device) && is_over(&mut device));
+}
+
+/// Sends a frame of that length, and returns whether there was memory for it.
+fn sends_length(device: &mut Loopback, length: usize) -> bool {
+    let token = device.transmit(Instant::ZERO).unwrap();
+    device.send(token, length, write_length).is_ok()
 }
 
 /// Sends a frame of that length, sends it back, and returns whether it then comes.
-fn comes_back(device: &mut Loopback, length: usize) -> Result<bool, AllocError> {
-    let token = device.transmit(Instant::ZERO).unwrap();
-    device.send(token, length, write_length)?;
-    Ok(rotate(device)? && next_has_length(device, length))
+fn comes_back(device: &mut Loopback, length: usize) -> bool {
+    sends_length(device, length) && rotates_at(device, 0) && next_has_length(device, length)
+}
+
+/// Checks that a frame of that length comes back.
+fn check_length(rt: &impl Abort, device: &mut Loopback, length: usize) {
+    assert!(rt; comes_back(device, length), "at {length} bytes");
 }
 
 #[test]
-fn echoes_at_any_moment(rt: HostRuntime) -> Result<(), AllocError> {
+fn echoes_at_any_moment(rt: HostRuntime) {
     let mut device = Loopback::new(rt.alloc(), Medium::Ethernet);
-    send_bytes(&mut device, b"ab")?;
+    assert!(rt; sends(&mut device, b"ab"));
     for micros in [i64::MIN, -1, 1, 1_000_000, i64::MAX] {
-        assert!(rt;
-            rotate_at(&mut device, Instant::from_micros(micros))?,
-            "at {micros}"
-        );
+        assert!(rt; rotates_at(&mut device, micros), "at {micros}");
     }
-    assert!(rt; next_is(&mut device, b"ab"));
-    assert!(rt; device.receive(Instant::ZERO).is_none());
-    Ok(())
+    assert!(rt; next_is(&mut device, b"ab") && is_over(&mut device));
 }
 
 #[test]
-fn frames_of_many_lengths_are_sent_and_sent_back(rt: HostRuntime) -> Result<(), AllocError> {
+fn frames_of_many_lengths_are_sent_and_sent_back(rt: HostRuntime) {
     let mut device = Loopback::new(rt.alloc(), Medium::Ethernet);
     for length in 0..2_100 {
-        assert!(rt; comes_back(&mut device, length)?, "at {length} bytes");
+        check_length(&rt, &mut device, length);
     }
     for length in (2_100..=70_000).step_by(97) {
-        assert!(rt; comes_back(&mut device, length)?, "at {length} bytes");
+        check_length(&rt, &mut device, length);
     }
     for power in [4_096, 8_192, 16_384, 32_768, 65_536, 131_072, 1_000_000] {
-        for length in [power - 1, power, power + 1] {
-            assert!(rt; comes_back(&mut device, length)?, "at {length} bytes");
-        }
+        check_length(&rt, &mut device, power - 1);
+        check_length(&rt, &mut device, power);
+        check_length(&rt, &mut device, power + 1);
     }
-    Ok(())
 }
 
 #[test]
-fn a_thousand_frames_at_a_time_keep_their_order(rt: HostRuntime) -> Result<(), AllocError> {
+fn a_thousand_frames_at_a_time_keep_their_order(rt: HostRuntime) {
     let mut device = Loopback::new(rt.alloc(), Medium::Ethernet);
-    for length in 0..1_000usize {
-        let token = device.transmit(Instant::ZERO).unwrap();
-        device.send(token, length, write_length)?;
+    for length in 0..1_000 {
+        assert!(rt; sends_length(&mut device, length), "at {length} bytes");
     }
     for length in 0..1_000usize {
-        assert!(rt; rotate(&mut device)?, "at {length} bytes");
+        assert!(rt; rotates_at(&mut device, 0), "at {length} bytes");
     }
-    for length in 0..1_000usize {
+    for length in 0..1_000 {
         assert!(rt; next_has_length(&mut device, length), "at {length} bytes");
     }
-    assert!(rt; device.receive(Instant::ZERO).is_none());
-    Ok(())
+    assert!(rt; is_over(&mut device));
 }
 
 /// A device without frames, which keeps the moment at which it was last asked for one.
@@ -145,19 +147,24 @@ impl Device for Asked {
     }
 }
 
+/// Returns whether an echo at so many microseconds asks for a frame then, and there is none.
+fn is_asked_at(device: &mut Asked, micros: i64) -> bool {
+    let found = echo_once(device, Instant::from_micros(micros));
+    found == Ok(false) && device.at.total_micros() == micros
+}
+
 #[test]
-fn asks_at_the_moment_that_it_was_given(rt: HostRuntime) -> Result<(), AllocError> {
+fn asks_at_the_moment_that_it_was_given(rt: HostRuntime) {
     let mut device = Asked { at: Instant::ZERO };
     for micros in [i64::MIN, -1_000, -1, 0, 1, i64::MAX] {
-        assert!(rt; !echo_once(&mut device, Instant::from_micros(micros))?);
-        assert_eq!(rt; device.at.total_micros(), micros);
+        assert!(rt; is_asked_at(&mut device, micros), "at {micros}");
     }
-    Ok(())
 }
 
 /// What came of an echo, of whose requests for memory one was refused.
 #[derive(Drop)]
 struct Outcome {
+    sent: bool,
     echoed: bool,
     requests: usize,
     asked: usize,
@@ -168,39 +175,45 @@ struct Outcome {
 
 /// Echoes a frame of 200 bytes on a loopback device that has one of 2 bytes behind it, and refuses
 /// the request for memory of that number. Then takes the frames off the device.
-fn rotate_refused(alloc: Global, refused: usize) -> Result<Outcome, AllocError> {
+fn rotate_refused(alloc: Global, refused: usize) -> Outcome {
     let memory = Refusing::new(alloc, refused);
     let mut device = Loopback::new(&memory, Medium::Ip);
-    send_bytes(&mut device, &[7; 200])?;
-    send_bytes(&mut device, b"ab")?;
+    let sent = sends(&mut device, &[7; 200]) && sends(&mut device, b"ab");
     let before = memory.bytes();
-    let echoed = echo_once(&mut device, Instant::ZERO).is_ok();
-    Ok(Outcome {
-        echoed,
+    Outcome {
+        sent,
+        echoed: echoes(&mut device),
         requests: memory.requests(),
         asked: memory.bytes().saturating_sub(before),
         other_is_next: next_is(&mut device, b"ab"),
         echo_is_next: next_is(&mut device, &[7; 200]),
-        is_over: device.receive(Instant::ZERO).is_none(),
-    })
+        is_over: is_over(&mut device),
+    }
+}
+
+/// Echoes the next frame, and returns whether there was memory for it.
+fn echoes<A: Allocator + Copy>(device: &mut Loopback<A>) -> bool {
+    echo_once(device, Instant::ZERO).is_ok()
+}
+
+/// Returns whether the frame comes back exactly if this is so, all else as it should.
+fn is_expected(outcome: &Outcome, echoed: bool) -> bool {
+    outcome.sent
+        && outcome.echoed == echoed
+        && outcome.requests == 4
+        && outcome.asked == 200
+        && outcome.other_is_next
+        && outcome.echo_is_next == echoed
+        && outcome.is_over
 }
 
 /// Three requests are made before the echo: for the queue, and for the bytes of both frames. The
 /// echo makes one, for the 200 bytes: the queue has room, since a frame was taken off it. If that
 /// is refused, the frame was taken and nothing was sent.
 #[test]
-fn its_request_for_memory_is_refused(rt: HostRuntime) -> Result<(), AllocError> {
+fn its_request_for_memory_is_refused(rt: HostRuntime) {
     for refused in 3..5usize {
-        let outcome = rotate_refused(rt.alloc(), refused)?;
-        assert!(rt; outcome.echoed == (refused == 4), "at request {refused}");
-        assert_eq!(rt; outcome.requests, 4, "at request {refused}");
-        assert_eq!(rt; outcome.asked, 200, "at request {refused}");
-        assert!(rt; outcome.other_is_next, "at request {refused}");
-        assert!(rt;
-            outcome.echo_is_next == outcome.echoed,
-            "at request {refused}"
-        );
-        assert!(rt; outcome.is_over, "at request {refused}");
+        let outcome = rotate_refused(rt.alloc(), refused);
+        assert!(rt; is_expected(&outcome, refused == 4), "at request {refused}");
     }
-    Ok(())
 }

@@ -1,11 +1,11 @@
 ghost use Rattle.std.specs.Prelude.{◌≡◌, List, ℕ, [], ◌∷◌, ◌++◌, codes, OnOk, IsTrue};
 
-use super::{next_is, send_bytes};
+use super::{is_over, next_is, sends};
 use net_base::phy::loopback::{Loopback, RxToken, TxToken};
 use net_base::phy::{Device, Medium, PacketMeta, RxToken as _, TxToken as _};
 use net_base::time::Instant;
 use net_testing::Refusing;
-use std::alloc::{AllocError, Global};
+use std::alloc::{AllocError, Allocator, Global};
 
 /// Loses the next frame by letting its token go, and lets a transmit token go.
 fn let_go(device: &mut Loopback) -> bool
@@ -25,65 +25,86 @@ fn send_elsewhere(from: &mut Loopback, to: &mut Loopback) -> Result<(), AllocErr
 }
 
 #[test]
-fn frames_come_in_order_until_none_is_left(rt: HostRuntime) -> Result<(), AllocError> {
+fn frames_come_in_order_until_none_is_left(rt: HostRuntime) {
     let mut device = Loopback::new(rt.alloc(), Medium::Ethernet);
-    send_bytes(&mut device, b"ab")?;
-    send_bytes(&mut device, b"")?;
-    assert!(rt; let_go(&mut device));
-    assert!(rt; next_is(&mut device, b""));
-    assert!(rt; device.receive(Instant::ZERO).is_none());
-    Ok(())
+    let sent = sends(&mut device, b"ab") && sends(&mut device, b"");
+    let came = let_go(&mut device) && next_is(&mut device, b"");
+    assert!(rt; sent && came && is_over(&mut device));
+}
+
+/// Spends the token of one device on another, and returns whether the frame comes there alone.
+fn comes_elsewhere(from: &mut Loopback, to: &mut Loopback) -> bool {
+    send_elsewhere(from, to).is_ok() && is_over(from) && next_is(to, b"ab")
 }
 
 #[test]
-fn a_token_sends_where_it_is_spent(rt: HostRuntime) -> Result<(), AllocError> {
+fn a_token_sends_where_it_is_spent(rt: HostRuntime) {
     let mut from = Loopback::new(rt.alloc(), Medium::Ethernet);
     let mut to = Loopback::new(rt.alloc(), Medium::Ip);
-    send_elsewhere(&mut from, &mut to)?;
-    assert!(rt; from.receive(Instant::ZERO).is_none());
-    assert!(rt; next_is(&mut to, b"ab"));
-    Ok(())
+    assert!(rt; comes_elsewhere(&mut from, &mut to));
 }
 
-/// Sends a frame of so many bytes as it was lent, takes it off again, and returns whether it was
-/// lent as zeros and came with that length.
-fn passes_zeros(device: &mut Loopback, length: usize) -> Result<bool, AllocError> {
+/// Sends a frame of so many bytes as it was lent, and returns whether it was lent as zeros.
+fn sends_zeros(device: &mut Loopback, length: usize) -> bool {
     let token = device.transmit(Instant::ZERO).unwrap();
     let is_zeros = device.send(token, length, |buffer| {
         buffer.len() == length && buffer.iter().all(|&byte| byte == 0)
-    })?;
-    let received = device
-        .receive(Instant::ZERO)
-        .map(|(frame, _token)| frame.consume(|bytes| bytes.len()));
-    Ok(is_zeros && received == Some(length))
-}
-
-#[test]
-fn sends_frames_beyond_its_longest(rt: HostRuntime) -> Result<(), AllocError> {
-    let mut device = Loopback::new(rt.alloc(), Medium::Ip);
-    let capabilities = device.capabilities();
-    assert!(rt; capabilities.medium == Medium::Ip && capabilities.max_transmission_unit == 65_535);
-    assert!(rt; capabilities.max_burst_size.is_none() && !capabilities.checksum.tcp.rx());
-    for length in [65_536, 70_001, 100_000, 1_000_000] {
-        assert!(rt; passes_zeros(&mut device, length)?, "at {length} bytes");
-    }
-    Ok(())
-}
-
-#[test]
-fn its_tokens_have_no_metadata(rt: HostRuntime) -> Result<(), AllocError> {
-    let mut device = Loopback::new(rt.alloc(), Medium::Ip);
-    send_bytes(&mut device, b"ab")?;
-    let has_none = device.receive(Instant::ZERO).is_some_and(|(frame, token)| {
-        let mut token = token;
-        token.set_meta(PacketMeta {
-            id: 7,
-            ..PacketMeta::default()
-        });
-        frame.meta() == PacketMeta::default()
     });
-    assert!(rt; has_none);
-    Ok(())
+    is_zeros == Ok(true)
+}
+
+/// Takes the next frame off by `consume`, and returns whether it has that length.
+fn consumes_length(device: &mut Loopback, length: usize) -> bool {
+    match device.receive(Instant::ZERO) {
+        Some((frame, _token)) => frame.consume(|bytes| bytes.len()) == length,
+        None => false,
+    }
+}
+
+/// Returns whether the device says what a loopback device of medium IP can do.
+fn says_what_it_can(device: &Loopback) -> bool {
+    let capabilities = device.capabilities();
+    capabilities.medium == Medium::Ip
+        && capabilities.max_transmission_unit == 65_535
+        && capabilities.max_burst_size.is_none()
+        && !capabilities.checksum.tcp.rx()
+}
+
+#[test]
+fn sends_frames_beyond_its_longest(rt: HostRuntime) {
+    let mut device = Loopback::new(rt.alloc(), Medium::Ip);
+    assert!(rt; says_what_it_can(&device));
+    for length in [65_536, 70_001, 100_000, 1_000_000] {
+        let passed = sends_zeros(&mut device, length) && consumes_length(&mut device, length);
+        assert!(rt; passed, "at {length} bytes");
+    }
+}
+
+/// Metadata with this identifier alone.
+fn marked(id: u32) -> PacketMeta {
+    PacketMeta {
+        id,
+        ..PacketMeta::default()
+    }
+}
+
+/// Takes the next frame off, gives the token that sends metadata, and returns whether there was a
+/// frame, and without metadata.
+fn comes_unmarked(device: &mut Loopback) -> bool {
+    match device.receive(Instant::ZERO) {
+        Some((frame, mut token)) => {
+            token.set_meta(marked(7));
+            frame.meta() == PacketMeta::default()
+        }
+        None => false,
+    }
+}
+
+#[test]
+fn its_tokens_have_no_metadata(rt: HostRuntime) {
+    let mut device = Loopback::new(rt.alloc(), Medium::Ip);
+    let sent = sends(&mut device, b"ab");
+    assert!(rt; sent && comes_unmarked(&mut device));
 }
 
 /// What came of five frames that were sent in turn, of whose requests for memory one was refused.
@@ -103,30 +124,50 @@ fn send_refused(alloc: Global, refused: usize) -> Outcome {
     let mut device = Loopback::new(&memory, Medium::Ip);
     let mut sent = 0u8;
     let mut ran = 0u8;
-    for number in 0..5u8 {
-        let token = device.transmit(Instant::ZERO).unwrap();
-        let answer = device.send(token, 200, |buffer| {
-            ran = ran.saturating_add(1);
-            buffer.fill(number);
-        });
-        if answer.is_err() {
+    for number in 0..5 {
+        if !sends_number(&mut device, number, &mut ran) {
             break;
         }
         sent = sent.saturating_add(1);
-    }
-    let mut arrived = 0u8;
-    for number in 0..sent {
-        if next_is(&mut device, &[number; 200]) {
-            arrived = arrived.saturating_add(1);
-        }
     }
     Outcome {
         sent,
         ran,
         requests: memory.requests(),
-        arrived,
-        is_over: device.receive(Instant::ZERO).is_none(),
+        arrived: count_arrived(&mut device, sent),
+        is_over: is_over(&mut device),
     }
+}
+
+/// Sends a frame of 200 bytes that are this number, by a closure that counts how often it is run,
+/// and returns whether there was memory for it.
+fn sends_number<A: Allocator + Copy>(device: &mut Loopback<A>, number: u8, ran: &mut u8) -> bool {
+    let token = device.transmit(Instant::ZERO).unwrap();
+    let answer = device.send(token, 200, |buffer| {
+        *ran = ran.saturating_add(1);
+        buffer.fill(number);
+    });
+    answer.is_ok()
+}
+
+/// Takes so many frames off, and returns how many are 200 bytes that are the frame's number.
+fn count_arrived<A: Allocator + Copy>(device: &mut Loopback<A>, sent: u8) -> u8 {
+    let mut arrived = 0u8;
+    for number in 0..sent {
+        if next_is(device, &[number; 200]) {
+            arrived = arrived.saturating_add(1);
+        }
+    }
+    arrived
+}
+
+/// Returns whether so many frames were sent and arrived, and no others, by so many requests.
+fn is_expected(outcome: &Outcome, sent: u8, requests: usize) -> bool {
+    outcome.sent == sent
+        && outcome.ran == sent
+        && outcome.requests == requests
+        && outcome.arrived == sent
+        && outcome.is_over
 }
 
 /// A frame asks for room in the queue, if that is full, and then for its bytes. The queue has no
@@ -134,30 +175,29 @@ fn send_refused(alloc: Global, refused: usize) -> Outcome {
 /// and 4. The frames before the one that is refused arrive, and no others.
 #[test]
 fn each_request_for_memory_is_refused_in_turn(rt: HostRuntime) {
-    let sent = [0, 0, 1, 2, 3, 4, 4, 5];
-    for refused in 0..8usize {
+    for (refused, sent) in [0, 0, 1, 2, 3, 4, 4, 5].iter().enumerate() {
         let outcome = send_refused(rt.alloc(), refused);
-        let requests = if refused < 7 { refused + 1 } else { 7 };
-        assert_eq!(rt; outcome.sent, sent[refused], "at request {refused}");
-        assert_eq!(rt; outcome.ran, outcome.sent, "at request {refused}");
-        assert_eq!(rt; outcome.requests, requests, "at request {refused}");
-        assert_eq!(rt; outcome.arrived, outcome.sent, "at request {refused}");
-        assert!(rt; outcome.is_over, "at request {refused}");
+        let requests = refused.min(6).saturating_add(1);
+        assert!(rt;
+            is_expected(&outcome, *sent, requests),
+            "at request {refused}"
+        );
     }
 }
 
-#[test]
-fn a_frame_beyond_all_memory_is_refused(rt: HostRuntime) -> Result<(), AllocError> {
-    let mut device = Loopback::new(rt.alloc(), Medium::Ip);
-    send_bytes(&mut device, b"ab")?;
+/// Returns whether a frame of the greatest length is refused and its closure isn't run.
+fn refuses_greatest(device: &mut Loopback) -> bool {
     let mut ran = false;
     let token = device.transmit(Instant::ZERO).unwrap();
     let sent = device.send(token, usize::MAX, |_buffer| {
         ran = true;
     });
-    assert!(rt; sent.is_err());
-    assert!(rt; !ran);
-    assert!(rt; next_is(&mut device, b"ab"));
-    assert!(rt; device.receive(Instant::ZERO).is_none());
-    Ok(())
+    sent.is_err() && !ran
+}
+
+#[test]
+fn a_frame_beyond_all_memory_is_refused(rt: HostRuntime) {
+    let mut device = Loopback::new(rt.alloc(), Medium::Ip);
+    let refused = sends(&mut device, b"ab") && refuses_greatest(&mut device);
+    assert!(rt; refused && next_is(&mut device, b"ab") && is_over(&mut device));
 }

@@ -18,59 +18,83 @@ fn send_back(device: &mut TwoLists, timestamp: Instant) -> Result<bool, AllocErr
     echo_once(device, timestamp)
 }
 
-#[test]
-fn echoes_over_two_lists(rt: HostRuntime) -> Result<(), AllocError> {
-    let mut device = TwoLists {
-        to_come: VecDeque::new(rt.alloc()),
-        sent: VecDeque::new(rt.alloc()),
+/// A device over this memory, with no frames.
+fn without_frames<A: Allocator + Copy>(alloc: A) -> TwoLists<A> {
+    TwoLists {
+        to_come: VecDeque::new(alloc),
+        sent: VecDeque::new(alloc),
         asked_at: Instant::ZERO,
-    };
-    device
-        .to_come
-        .push_back(Vec::from_slice(rt.alloc(), b"ab")?)?;
-    device.sent.push_back(Vec::from_slice(rt.alloc(), b"xy")?)?;
-    for (moment, found) in [(7, true), (8, false)] {
-        assert!(rt; send_back(&mut device, Instant::from_micros(moment))? == found);
-        assert!(rt; device.asked_at == Instant::from_micros(moment));
-        assert!(rt; device.to_come.is_empty());
-        assert_eq!(rt; device.sent.len(), 2);
-        assert!(rt; is_back(&device.sent, b"ab"));
+    }
+}
+
+/// Puts these bytes behind the frames.
+fn put<A: Allocator + Copy>(
+    frames: &mut VecDeque<Vec<u8, A>, A>,
+    alloc: A,
+    bytes: &[u8],
+) -> Result<(), AllocError> {
+    frames.push_back(Vec::from_slice(alloc, bytes)?)?;
+    Ok(())
+}
+
+/// Returns whether the first frame comes back at so many microseconds, if one is there, and the
+/// device is asked then; two frames are sent then, of which it is the last one.
+fn is_sent_back(device: &mut TwoLists, micros: i64, found: bool) -> bool {
+    let moment = Instant::from_micros(micros);
+    send_back(device, moment) == Ok(found)
+        && device.asked_at == moment
+        && device.to_come.is_empty()
+        && device.sent.len() == 2
+        && is_back(&device.sent, b"ab")
+}
+
+#[test]
+fn echoes_over_two_lists(rt: HostRuntime) {
+    let mut device = without_frames(rt.alloc());
+    let waits = put(&mut device.to_come, rt.alloc(), b"ab").is_ok();
+    let is_put = put(&mut device.sent, rt.alloc(), b"xy").is_ok();
+    assert!(rt; waits && is_put && is_sent_back(&mut device, 7, true));
+    assert!(rt; is_sent_back(&mut device, 8, false));
+}
+
+/// Puts two frames that come and four that were sent.
+fn put_six<A: Allocator + Copy>(device: &mut TwoLists<A>, alloc: A) -> Result<(), AllocError> {
+    put(&mut device.to_come, alloc, &[7; 200])?;
+    put(&mut device.to_come, alloc, &[7; 2])?;
+    for _ in 0..4 {
+        put(&mut device.sent, alloc, &[1; 2])?;
     }
     Ok(())
+}
+
+/// Returns whether the first of two frames was taken and, if this is so, sent.
+fn is_left<A: Allocator + Copy>(device: &TwoLists<A>, is_sent: bool) -> bool {
+    device.to_come.len() == 1
+        && device.sent.len() == if is_sent { 5 } else { 4 }
+        && is_back(&device.sent, &[7; 200]) == is_sent
+}
+
+/// Returns whether there is memory for an echo.
+fn echoes<A: Allocator + Copy>(device: &mut TwoLists<A>) -> bool {
+    echo_once(device, Instant::ZERO).is_ok()
+}
+
+/// Refuses the request for memory of that number, and returns whether an echo then succeeds if
+/// this is so, and so many requests were made.
+fn goes_so(alloc: Global, (refused, succeeds, requests): (usize, bool, usize)) -> bool {
+    let heap = Refusing::new(alloc, refused);
+    let mut device = without_frames(&heap);
+    let before = put_six(&mut device, &heap).is_ok() && heap.requests() == 8;
+    let echoed = echoes(&mut device) == succeeds && heap.requests() == requests;
+    before && echoed && is_left(&device, succeeds)
 }
 
 /// Eight requests for memory are made before the echo: for two queues, and for the bytes of six
 /// frames. The echo makes two: for a place in the queue of frames sent, which is full with four,
 /// and for the bytes.
 #[test]
-fn each_refusal_takes_the_frame_and_sends_nothing(rt: HostRuntime) -> Result<(), AllocError> {
-    for (refused, echoes, requests) in [(8, false, 9), (9, false, 10), (10, true, 10)] {
-        let heap = Refusing::new(rt.alloc(), refused);
-        let mut device = TwoLists {
-            to_come: VecDeque::new(&heap),
-            sent: VecDeque::new(&heap),
-            asked_at: Instant::ZERO,
-        };
-        for length in [200, 2] {
-            device.to_come.push_back(vec![in &heap; 7u8; length]?)?;
-        }
-        for _ in 0..4 {
-            device.sent.push_back(vec![in &heap; 1u8; 2]?)?;
-        }
-        assert_eq!(rt; heap.requests(), 8);
-        let echoed = echo_once(&mut device, Instant::ZERO).is_ok();
-        assert!(rt; echoed == echoes, "request {refused}");
-        assert_eq!(rt; heap.requests(), requests, "request {refused}");
-        assert_eq!(rt; device.to_come.len(), 1, "request {refused}");
-        assert_eq!(rt;
-            device.sent.len(),
-            if echoes { 5 } else { 4 },
-            "request {refused}"
-        );
-        assert!(rt;
-            is_back(&device.sent, &[7; 200]) == echoes,
-            "request {refused}"
-        );
+fn each_refusal_takes_the_frame_and_sends_nothing(rt: HostRuntime) {
+    for row in [(8, false, 9), (9, false, 10), (10, true, 10)] {
+        assert!(rt; goes_so(rt.alloc(), row), "request {}", row.0);
     }
-    Ok(())
 }

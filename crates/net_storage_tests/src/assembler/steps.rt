@@ -1,10 +1,13 @@
 //! Steps of the tests of the assembler, and how they are taken.
-use net_storage::{Assembler, TooManyHolesError, Turns};
+ghost use Rattle.std.specs.Prelude.{◌≤◌};
+
+use crate::text::is_text;
+use net_storage::{Assembler, Turns};
 use std::alloc::Global;
 use std::process::Abort;
 
 /// A call of an assembler with what it has to return, or what has to be seen of the assembler.
-#[derive(Drop)]
+#[derive(Clone, Copy)]
 pub enum Step<'a> {
     /// `add` of a range, which is accepted.
     Adds(usize, usize),
@@ -22,8 +25,6 @@ pub enum Step<'a> {
     Removes(usize),
     /// `peek_front`.
     Front(usize),
-    /// `clear`.
-    Clears,
     /// `is_empty`.
     IsEmpty(bool),
     /// `contains` of a position.
@@ -40,110 +41,136 @@ pub enum Step<'a> {
 
 use Step::*;
 
-/// Takes one step.
-fn take_step<const N: usize>(
-    rt: &impl Abort,
-    alloc: Global,
+/// Adds a range, and returns whether it is accepted or refused as expected.
+fn adds<const N: usize>(
     assembler: &mut Assembler<N>,
-    step: &Step<'_>,
-) {
-    match *step {
-        Adds(offset, size) => {
-            assert!(rt; Assembler::<N>::fits(offset, size));
-            assert_eq!(rt; assembler.add(offset, size), Ok(()));
-        }
-        Refuses(offset, size) => {
-            assert!(rt; Assembler::<N>::fits(offset, size));
-            assert_eq!(rt; assembler.add(offset, size), Err(TooManyHolesError));
-        }
-        Counts(offset, size, accepted) => {
-            assert!(rt; Assembler::<N>::fits(offset, size));
-            let answer = assembler.add_counted(offset, size, &mut Turns::new());
-            assert_eq!(rt; answer.is_ok(), accepted);
-        }
-        Fills => {
-            assert!(rt; N < 1000);
-            for c in 1..N + 1 {
-                assert_eq!(rt; assembler.add(c * 10, 3), Ok(()));
-            }
-        }
-        Completes(offset, size, removed) => {
-            assert!(rt; Assembler::<N>::fits(offset, size));
-            assert_eq!(rt; assembler.add_then_remove_front(offset, size), Ok(removed));
-        }
-        RefusesToComplete(offset, size) => {
-            assert!(rt; Assembler::<N>::fits(offset, size));
-            let answer = assembler.add_then_remove_front(offset, size);
-            assert_eq!(rt; answer, Err(TooManyHolesError));
-        }
-        Removes(removed) => assert_eq!(rt; assembler.remove_front(), removed),
-        Front(size) => assert_eq!(rt; assembler.peek_front(), size),
-        Clears => assembler.clear(),
-        IsEmpty(empty) => assert_eq!(rt; assembler.is_empty(), empty),
-        Contains(position, present) => assert_eq!(rt; assembler.contains(position), present),
-        RunAt(number, found) => assert_eq!(rt; assembler.run_at(number), found),
-        Runs(runs) => expect_runs(rt, assembler, runs),
-        IsFull => expect_full(rt, assembler),
-        Text(text) => expect_text(rt, alloc, assembler, text),
-    }
+    offset: usize,
+    size: usize,
+    accepted: bool,
+) -> bool {
+    Assembler::<N>::fits(offset, size) && assembler.add(offset, size).is_ok() == accepted
 }
 
-/// Checks that the runs of an assembler are those given, and that none comes behind them.
-pub fn expect_runs<const N: usize>(
-    rt: &impl Abort,
+/// The same by `add_counted`.
+fn counts<const N: usize>(
+    assembler: &mut Assembler<N>,
+    offset: usize,
+    size: usize,
+    accepted: bool,
+) -> bool {
+    Assembler::<N>::fits(offset, size)
+        && assembler
+            .add_counted(offset, size, &mut Turns::new())
+            .is_ok()
+            == accepted
+}
+
+/// Adds 3 positions at each multiple of 10 from 10 on, as many as there is room for, and returns
+/// whether all are accepted.
+fn fills<const N: usize>(assembler: &mut Assembler<N>) -> bool {
+    for number in 1..=N {
+        if !adds(assembler, number.saturating_mul(10), 3, true) {
+            return false;
+        }
+    }
+    true
+}
+
+/// Adds a range and removes the front, and returns whether so many positions are removed, or the
+/// range is refused as expected.
+fn completes<const N: usize>(
+    assembler: &mut Assembler<N>,
+    offset: usize,
+    size: usize,
+    removed: Option<usize>,
+) -> bool {
+    Assembler::<N>::fits(offset, size)
+        && assembler.add_then_remove_front(offset, size).ok() == removed
+}
+
+/// Returns whether this is the run of that number.
+fn is_run<const N: usize>(
     assembler: &Assembler<N>,
-    runs: &[(usize, usize)],
-) {
+    number: usize,
+    found: Option<(usize, usize)>,
+) -> bool {
+    assembler.run_at(number) == found
+}
+
+/// Returns whether the runs of an assembler are those given, and none comes behind them.
+pub fn has_runs<const N: usize>(assembler: &Assembler<N>, runs: &[(usize, usize)]) -> bool {
     let mut rest = assembler.iter_data();
     for &run in runs {
-        assert_eq!(rt; rest.next(), Some(run));
+        if rest.next() != Some(run) {
+            return false;
+        }
     }
-    assert_eq!(rt; rest.next(), None);
-    assert_eq!(rt; rest.next(), None);
+    rest.next().is_none() && rest.next().is_none()
 }
 
-/// Checks that the runs of an assembler are those that `Fills` leaves.
-pub fn expect_full<const N: usize>(rt: &impl Abort, assembler: &Assembler<N>) {
-    assert!(rt; N < 1000);
+/// Returns whether the runs of an assembler are those that `Fills` leaves.
+fn is_full<const N: usize>(assembler: &Assembler<N>) -> bool {
     let mut rest = assembler.iter_data();
-    for c in 1..N + 1 {
-        assert_eq!(rt; rest.next(), Some((c * 10, c * 10 + 3)));
+    for number in 1..=N {
+        let start = number.saturating_mul(10);
+        if rest.next() != Some((start, start.saturating_add(3))) {
+            return false;
+        }
     }
-    assert_eq!(rt; rest.next(), None);
+    rest.next().is_none()
 }
 
-/// Checks that an assembler has that text, whatever options are set.
-pub fn expect_text<const N: usize>(
-    rt: &impl Abort,
-    alloc: Global,
-    assembler: &Assembler<N>,
-    text: &str,
-) {
-    assert!(rt; is_text(assembler.to_string(alloc), text));
-    assert!(rt; is_text(format!(in alloc; "{assembler:>300}"), text));
-    assert!(rt; is_text(format!(in alloc; "{assembler:*^8}"), text));
-    assert!(rt; is_text(format!(in alloc; "{assembler:<+09}"), text));
-    assert!(rt; is_text(format!(in alloc; "{assembler:#.2}"), text));
+/// Returns whether an assembler has that text, whatever options are set.
+pub fn has_text<const N: usize>(alloc: Global, assembler: &Assembler<N>, text: &str) -> bool {
+    is_text(assembler.to_string(alloc), text)
+        && is_text(format!(in alloc; "{assembler:>300}"), text)
+        && is_text(format!(in alloc; "{assembler:*^8}"), text)
+        && is_text(format!(in alloc; "{assembler:<+09}"), text)
+        && is_text(format!(in alloc; "{assembler:#.2}"), text)
 }
 
-/// Returns whether a text was made, and is this one.
-pub fn is_text<E: Drop>(made: Result<String, E>, text: &str) -> bool {
-    match made {
-        Ok(made) => made.as_str() == text,
-        Err(_) => false,
+/// Takes one step, and returns whether it goes as expected.
+fn goes<const N: usize>(alloc: Global, assembler: &mut Assembler<N>, step: Step<'_>) -> bool {
+    match step {
+        Adds(offset, size) => adds(assembler, offset, size, true),
+        Refuses(offset, size) => adds(assembler, offset, size, false),
+        Counts(offset, size, accepted) => counts(assembler, offset, size, accepted),
+        Fills => fills(assembler),
+        Completes(offset, size, removed) => completes(assembler, offset, size, Some(removed)),
+        RefusesToComplete(offset, size) => completes(assembler, offset, size, None),
+        Removes(removed) => assembler.remove_front() == removed,
+        Front(size) => assembler.peek_front() == size,
+        IsEmpty(empty) => assembler.is_empty() == empty,
+        Contains(position, present) => assembler.contains(position) == present,
+        RunAt(number, found) => is_run(assembler, number, found),
+        Runs(runs) => has_runs(assembler, runs),
+        IsFull => is_full(assembler),
+        Text(text) => has_text(alloc, assembler, text),
     }
 }
 
-/// Takes the steps, one after another, from an assembler with no position on.
+/// Takes the steps, one after another, and names the first one that goes otherwise than expected,
+/// by the number of their table and its own.
 pub fn take_steps<const N: usize>(
     rt: &impl Abort,
     alloc: Global,
+    assembler: &mut Assembler<N>,
+    table: usize,
     steps: &[Step<'_>],
-) -> Assembler<N> {
-    assert!(rt; 1 <= N);
-    let mut assembler = Assembler::new();
-    for step in steps {
-        take_step(rt, alloc, &mut assembler, step);
+) {
+    for (number, step) in steps.iter().enumerate() {
+        assert!(rt;
+            goes(alloc, assembler, *step),
+            "table {table}, step {number}"
+        );
     }
-    assembler
+}
+
+/// Takes the steps of each table from an assembler with no position on.
+pub fn take_tables<const N: usize>(rt: &impl Abort, alloc: Global, tables: &[&[Step<'_>]])
+    requires { 1 ≤ N }
+{
+    for (number, steps) in tables.iter().enumerate() {
+        take_steps(rt, alloc, &mut Assembler::<N>::new(), number, steps);
+    }
 }

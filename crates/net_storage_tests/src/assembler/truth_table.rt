@@ -1,5 +1,5 @@
 //! The same calls on an assembler and on a plain table of truth values.
-use net_storage::{Assembler, TooManyHolesError};
+use net_storage::Assembler;
 use std::process::Abort;
 
 /// Ranges below 64 that touch, overlap, repeat and fill gaps.
@@ -71,32 +71,71 @@ fn table_with(table: &[bool; 64], offset: usize, size: usize) -> [bool; 64] {
     all
 }
 
-/// Checks that the runs of an assembler are those of a table.
-fn expect_table<const N: usize>(rt: &impl Abort, assembler: &Assembler<N>, table: &[bool; 64]) {
+/// Returns whether the runs of an assembler are those of a table.
+fn agrees<const N: usize>(assembler: &Assembler<N>, table: &[bool; 64]) -> bool {
     let mut shown = [false; 64];
-    let mut count = 0;
+    let mut count: usize = 0;
     for (start, end) in assembler.iter_data() {
-        assert!(rt; start < end && end <= 64 && count < 64);
+        if start >= end || end > 64 {
+            return false;
+        }
         shown = table_with(&shown, start, end - start);
-        count += 1;
+        count = count.saturating_add(1);
     }
-    assert!(rt; shown == *table);
-    assert!(rt; count == run_count(table));
+    shown == *table && count == run_count(table)
+}
+
+/// Adds a range to an assembler and to a table, and returns whether both are then alike, and the
+/// range was refused if its runs would be too many.
+fn add_agrees<const N: usize>(
+    assembler: &mut Assembler<N>,
+    table: &mut [bool; 64],
+    (offset, size): (usize, usize),
+) -> bool {
+    if !Assembler::<N>::fits(offset, size) {
+        return false;
+    }
+    let all = table_with(table, offset, size);
+    let refused = size > 0 && run_count(&all) > N;
+    if !refused {
+        *table = all;
+    }
+    assembler.add(offset, size).is_err() == refused && agrees(assembler, table)
+}
+
+/// The table without its first entries, so many of them.
+fn table_without(table: &[bool; 64], count: usize) -> [bool; 64] {
+    let mut rest = [false; 64];
+    for (entry, &present) in rest.iter_mut().zip(table.iter().skip(count)) {
+        *entry = present;
+    }
+    rest
+}
+
+/// The same with the front removed then.
+fn add_then_remove_agrees<const N: usize>(
+    assembler: &mut Assembler<N>,
+    table: &mut [bool; 64],
+    (offset, size): (usize, usize),
+) -> bool {
+    if !Assembler::<N>::fits(offset, size) {
+        return false;
+    }
+    let all = table_with(table, offset, size);
+    let front = all.iter().take_while(|present| **present).count();
+    let refused = offset > 0 && size > 0 && run_count(&all) > N;
+    if !refused {
+        *table = table_without(&all, front);
+    }
+    let removed = if refused { None } else { Some(front) };
+    assembler.add_then_remove_front(offset, size).ok() == removed && agrees(assembler, table)
 }
 
 /// Adds the ranges to an assembler that holds nothing and to a table, and compares both after each.
 fn compare_adds<const N: usize>(rt: &impl Abort, assembler: &mut Assembler<N>) {
     let mut table = [false; 64];
-    for (offset, size) in RANGES {
-        assert!(rt; offset < 64 && size < 64);
-        let all = table_with(&table, offset, size);
-        if size > 0 && run_count(&all) > N {
-            assert!(rt; assembler.add(offset, size) == Err(TooManyHolesError));
-        } else {
-            assert!(rt; assembler.add(offset, size) == Ok(()));
-            table = all;
-        }
-        expect_table(rt, assembler, &table);
+    for (number, range) in RANGES.iter().enumerate() {
+        assert!(rt; add_agrees(assembler, &mut table, *range), "range {number}");
     }
 }
 
@@ -104,23 +143,9 @@ fn compare_adds<const N: usize>(rt: &impl Abort, assembler: &mut Assembler<N>) {
 /// and compares both after each.
 fn compare_adds_with_removal<const N: usize>(rt: &impl Abort, assembler: &mut Assembler<N>) {
     let mut table = [false; 64];
-    for (offset, size) in RANGES {
-        assert!(rt; offset < 64 && size < 64);
-        let all = table_with(&table, offset, size);
-        if offset > 0 && size > 0 && run_count(&all) > N {
-            let answer = assembler.add_then_remove_front(offset, size);
-            assert!(rt; answer == Err(TooManyHolesError));
-        } else {
-            let front = all.iter().take_while(|present| **present).count();
-            assert!(rt; assembler.add_then_remove_front(offset, size) == Ok(front));
-            table = [false; 64];
-            for (place, &present) in all.iter().enumerate() {
-                if front <= place {
-                    table[place - front] = present;
-                }
-            }
-        }
-        expect_table(rt, assembler, &table);
+    for (number, range) in RANGES.iter().enumerate() {
+        let agrees = add_then_remove_agrees(assembler, &mut table, *range);
+        assert!(rt; agrees, "range {number}");
     }
 }
 

@@ -3,7 +3,7 @@ use net_storage::{Empty, Full, PacketBuffer};
 use std::cell::Cell;
 
 /// A call on a queue, with what it is expected to return or to show.
-#[derive(Drop)]
+#[derive(Clone, Copy)]
 pub enum Step<'s> {
     /// `enqueue` of a packet of so many bytes is accepted.
     Fits(usize),
@@ -49,34 +49,44 @@ pub enum Step<'s> {
 }
 
 /// Returns whether a step goes as expected.
-fn goes(queue: &mut PacketBuffer<'_, u8>, step: &Step<'_>) -> bool {
+fn goes(queue: &mut PacketBuffer<'_, u8>, step: Step<'_>) -> bool {
     match step {
-        Step::Fits(size) => queue.enqueue(*size, 0).is_ok(),
-        Step::Refused(size) => queue.enqueue(*size, 0).is_err(),
-        Step::Write(header, text) => write(queue, *header, text),
-        Step::WriteWith(size, count) => write_with(queue, *size, *count),
-        Step::Peek(header, text) => shows(queue, *header, text),
-        Step::Read(header, text) => gives(queue, *header, text),
-        Step::Off(size) => gives_size(queue, *size),
-        Step::Push(header, text, accepted) => queue.push_slice(*header, text).is_ok() == *accepted,
-        Step::Pop(header, count, after) => pops(queue, *header, *count, after),
-        Step::Place(header, text) => places(queue, *header, text),
-        Step::Take(header, text) => takes(queue, *header, text),
-        Step::RefusedWith(size) => refuses_closure(queue, *size),
+        Step::Fits(size) => fits(queue, size),
+        Step::Refused(size) => !fits(queue, size),
+        Step::Write(header, text) => write(queue, header, text),
+        Step::WriteWith(size, count) => write_with(queue, size, count),
+        Step::Peek(header, text) => shows(queue, header, text),
+        Step::Read(header, text) => gives(queue, header, text),
+        Step::Off(size) => gives_size(queue, size),
+        Step::Push(header, text, accepted) => pushes(queue, header, text) == accepted,
+        Step::Pop(header, count, after) => pops(queue, header, count, after),
+        Step::Place(header, text) => places(queue, header, text),
+        Step::Take(header, text) => takes(queue, header, text),
+        Step::RefusedWith(size) => refuses_closure(queue, size),
         Step::ReadWith(text) => reads_with(queue, text),
-        Step::Return(header, first) => returns_packet(queue, *header, *first),
-        Step::NoPackets => gives_nothing(queue) && hands_nothing(queue),
-        Step::Slots(count) => queue.slots_used() == *count,
-        Step::Bytes(count) => queue.payload_bytes_count() == *count,
+        Step::Return(header, first) => returns_packet(queue, header, first),
+        Step::NoPackets => has_no_packets(queue),
+        Step::Slots(count) => queue.slots_used() == count,
+        Step::Bytes(count) => queue.payload_bytes_count() == count,
         Step::Capacities(slots, bytes) => {
-            queue.packet_capacity() == *slots && queue.payload_capacity() == *bytes
+            queue.packet_capacity() == slots && queue.payload_capacity() == bytes
         }
-        Step::IsEmptyIsFull(empty, full) => queue.is_empty() == *empty && queue.is_full() == *full,
+        Step::IsEmptyIsFull(empty, full) => queue.is_empty() == empty && queue.is_full() == full,
         Step::Reset => {
             queue.reset();
             true
         }
     }
+}
+
+/// Enqueues a packet of so many bytes; returns whether it was accepted.
+fn fits(queue: &mut PacketBuffer<'_, u8>, size: usize) -> bool {
+    queue.enqueue(size, 0).is_ok()
+}
+
+/// Pushes a packet of these bytes; returns whether it was accepted.
+fn pushes(queue: &mut PacketBuffer<'_, u8>, header: u8, text: &[u8]) -> bool {
+    queue.push_slice(header, text).is_ok()
 }
 
 /// Enqueues a packet and writes its bytes; returns whether it was accepted.
@@ -99,10 +109,15 @@ fn write_with(queue: &mut PacketBuffer<'_, u8>, size: usize, count: usize) -> bo
     }
 }
 
+/// Returns whether a packet has this header and these bytes.
+fn is_packet((given, bytes): (u8, &[u8]), header: u8, text: &[u8]) -> bool {
+    given == header && *bytes == *text
+}
+
 /// Returns whether `peek` shows this header and these bytes.
 fn shows(queue: &mut PacketBuffer<'_, u8>, header: u8, text: &[u8]) -> bool {
     match queue.peek() {
-        Ok((shown, bytes)) => *shown == header && bytes == text,
+        Ok((shown, bytes)) => is_packet((*shown, bytes), header, text),
         Err(Empty) => false,
     }
 }
@@ -110,7 +125,7 @@ fn shows(queue: &mut PacketBuffer<'_, u8>, header: u8, text: &[u8]) -> bool {
 /// Returns whether `dequeue` gives this header and these bytes.
 fn gives(queue: &mut PacketBuffer<'_, u8>, header: u8, text: &[u8]) -> bool {
     match queue.dequeue() {
-        Ok((given, bytes)) => given == header && &*bytes == text,
+        Ok((given, bytes)) => is_packet((given, bytes), header, text),
         Err(Empty) => false,
     }
 }
@@ -175,12 +190,24 @@ fn returns_packet(queue: &mut PacketBuffer<'_, u8>, left: u8, byte: u8) -> bool 
     answer == Ok(Err(123))
 }
 
-/// Returns whether each call that gives a packet is refused.
-fn gives_nothing(queue: &mut PacketBuffer<'_, u8>) -> bool {
+/// Returns whether `peek` is refused.
+fn shows_nothing(queue: &mut PacketBuffer<'_, u8>) -> bool {
     queue.peek().is_err()
-        && queue.dequeue().is_err()
-        && queue.take().is_err()
-        && queue.pop_slice(&mut []).is_err()
+}
+
+/// Returns whether `dequeue` is refused.
+fn gives_nothing(queue: &mut PacketBuffer<'_, u8>) -> bool {
+    queue.dequeue().is_err()
+}
+
+/// Returns whether `take` is refused.
+fn takes_nothing(queue: &mut PacketBuffer<'_, u8>) -> bool {
+    queue.take().is_err()
+}
+
+/// Returns whether `pop_slice` is refused.
+fn pops_nothing(queue: &mut PacketBuffer<'_, u8>) -> bool {
+    queue.pop_slice(&mut []).is_err()
 }
 
 /// Returns whether `dequeue_with` is refused and its closure isn't run.
@@ -193,10 +220,19 @@ fn hands_nothing(queue: &mut PacketBuffer<'_, u8>) -> bool {
     answer == Err(Empty) && !called.get()
 }
 
+/// Returns whether each call that gives a packet is refused.
+fn has_no_packets(queue: &mut PacketBuffer<'_, u8>) -> bool {
+    shows_nothing(queue)
+        && gives_nothing(queue)
+        && takes_nothing(queue)
+        && pops_nothing(queue)
+        && hands_nothing(queue)
+}
+
 /// Returns the index of the first step that goes otherwise than expected, if there is one.
 pub fn first_difference(queue: &mut PacketBuffer<'_, u8>, steps: &[Step<'_>]) -> Option<usize> {
     for (number, step) in steps.iter().enumerate() {
-        if !goes(queue, step) {
+        if !goes(queue, *step) {
             return Some(number);
         }
     }
