@@ -1,4 +1,3 @@
-pub mod Results
 pub mod FragmentFacts
 pub mod FrameFacts
 pub mod SocketFacts

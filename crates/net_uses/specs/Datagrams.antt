@@ -1,9 +1,9 @@
 -- What a socket holds, and what it hands out.
-use Rattle.std.specs.Prelude.{◌≡◌, ℕ, ◌+◌, List, ◌∷◌, ◌++◌, Result, is_ok}
+use Rattle.std.specs.Prelude.{◌≡◌, ℕ, List, ◌∷◌, ◌++◌, Result, is_ok}
 use Rattle.std.specs.Prelude.{if◌then◌else◌, length, min, take, drop}
 use Rattle.std.specs.Borrow.{Bor}
 use Rattle.std.specs.Fn.{Once}
-use Rattle.net_storage.specs.Packets.{PacketQueue, slots_used, skipped, handed}
+use Rattle.net_storage.specs.Packets.{PacketQueue, handed}
 use Rattle.net_storage.specs.PacketHistory.{contents}
 use Rattle.net_uses.specs.declared.endpoint.Endpoint.{Endpoint}
 

@@ -8,9 +8,6 @@ use net_base::phy::{Device, FrameLists, RxToken};
 use net_base::time::Instant;
 use std::alloc::AllocError;
 
-#[cfg(test)]
-mod tests;
-
 /// Takes one frame off one device and sends that very frame on another. Returns whether it did.
 /// If it returns false, one device had no frame to hand over, and is what it then becomes, by
 /// default what it was, or the other had no room to send one; nothing was sent.

@@ -11,8 +11,6 @@ use net_storage::{Assembler, Elements, ManagedSlice, assembler};
 use std::marker::Model;
 
 pub mod laws;
-#[cfg(test)]
-mod tests;
 
 /// Why a fragment or a size is refused.
 #[derive(Debug, Clone, Copy, PartialEq, Eq, Drop)]

@@ -8,9 +8,6 @@ use net_storage::packet_buffer::laws;
 use net_storage::{Elements, Empty, PacketMetadata, Packets};
 use std::marker::Model;
 
-#[cfg(test)]
-mod tests;
-
 /// Datagrams that came in, over any storage.
 ///
 /// A struct that lends on what a queue in its field lends is generic in the queue's storage, as

@@ -15,9 +15,6 @@ use net_storage::packet_buffer::laws;
 use net_storage::{Empty, Full, PacketBuffer, ring_buffer};
 use std::marker::Model;
 
-#[cfg(test)]
-mod tests;
-
 /// Datagrams that were received, and datagrams to be sent, over two packet queues whose header is
 /// an endpoint.
 ///

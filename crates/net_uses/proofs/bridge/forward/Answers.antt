@@ -1,6 +1,6 @@
 use Rattle.std.proofs.Common.{◌≡◌, ◌∷◌, ◌++◌, [], Ok, true, sym, ap, subst, arith, rules, length-append}
 use Rattle.net_uses.specs.Frames.{Each, ForwardedAndLost}
-use Rattle.net_uses.proofs.Results.{OnErr-always}
+use Rattle.std.proofs.lemmas.Result.{MatchResult-from_err}
 use Rattle.net_uses.proofs.FrameFacts.{each_more}
 use Rattle.net_uses.proofs.bridge.forward.Goals as goal
 
@@ -16,7 +16,7 @@ returns-in_err-forward_one-clause-err g c =
       taken_off = each_more g.A.Device.taken _ _ _ i.frames e.0 i.taken_off e.1;
       sent_on = subst (λ y. Each g.B.Device.sent c.args.to.now i.frames y) (sym e.2) i.sent_on;
     } in
-    OnErr-always c.from_residual.result lost
+    MatchResult-from_err c.from_residual.result _ _ c.from_residual.ensures.0 (λ _. lost)
 
 pub loop-count-preserved : goal.loop-count-preserved
 loop-count-preserved g c =

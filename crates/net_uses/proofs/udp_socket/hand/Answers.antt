@@ -3,14 +3,14 @@ use Rattle.net_storage.specs.Packets.{handed}
 use Rattle.net_storage.specs.PacketHistory.{contents}
 use Rattle.net_uses.specs.declared.endpoint.Endpoint.{Endpoint}
 use Rattle.net_uses.specs.Datagrams.{GivesAtDatagram}
-use Rattle.net_uses.proofs.Results.{IfOk-map}
+use Rattle.std.proofs.lemmas.Result.{IfOk-weaker}
 use Rattle.net_uses.proofs.SocketFacts.{handed_out_same}
 use Rattle.net_uses.proofs.udp_socket.hand.Goals as goal
 
 pub returns-clause-dispatched : goal.returns-clause-dispatched
 returns-clause-dispatched g c =
     let q = c.args.queue.now in
-    IfOk-map c.dequeue_with.result
+    IfOk-weaker c.dequeue_with.result _ _
     (λ answer k.
     let gives = k.gives in
     let met = gives.met in
@@ -33,7 +33,7 @@ returns-clause-dispatched g c =
 pub returns-clause-capacity : goal.returns-clause-capacity
 returns-clause-capacity g c =
     handed_out_same c.overwritten.ensures.count _ _ c.dequeue_with.result c.dequeue_with.ensures.unchanged
-    (IfOk-map c.dequeue_with.result (λ answer k. (is_ok answer, k.new_header, k.new_bytes, k.made)) c.dequeue_with.ensures.handed)
+    (IfOk-weaker c.dequeue_with.result _ _ (λ answer k. (is_ok answer, k.new_header, k.new_bytes, k.made)) c.dequeue_with.ensures.handed)
 
 pub dequeue_with-requires : goal.dequeue_with-requires
 dequeue_with-requires g c h bytes first x y is_header is_bytes p is_lent =

@@ -1,7 +1,11 @@
-use Rattle.std.proofs.Common.{◌≡◌, ◌∙◌, refl, ap}
+use Rattle.std.proofs.Common.{◌≡◌, ◌∙◌, refl, ap, Result, Ok, Err, IfOk}
 use Rattle.net_storage.specs.PacketHistory.{contents}
-use Rattle.net_uses.proofs.Results.{IfOk-both}
 use Rattle.net_uses.proofs.inbox.Inbox.first.Goals as goal
+
+-- two facts of what `Ok` holds give one
+IfOk-both : {T E : Type 0} {P Q R : T → Type 0} (r : Result T E) → ((t : T) → P t → Q t → R t) → IfOk r P → IfOk r Q → IfOk r R
+IfOk-both (Ok t) f p q = f t p q
+IfOk-both (Err e) f p q = p
 
 pub returns : goal.returns
 returns g c =

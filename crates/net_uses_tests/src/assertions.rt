@@ -1,0 +1,8 @@
+//! What tests compare: a function of its own, since an `assert!` makes the proof of the body that it
+//! stands in several times as long.
+use std::process::Abort;
+
+/// Stops the test unless this holds, of what has this name and number.
+pub fn assert_holds(rt: &impl Abort, fact: bool, (name, number): (&str, usize)) {
+    assert!(rt; fact, "{name}, {number}");
+}

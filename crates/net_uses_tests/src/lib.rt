@@ -1,0 +1,15 @@
+//! The tests of `net_uses`, each through its public calls.
+//!
+//! They stand in a crate of their own, so that what stands on `net_uses` doesn't wait for them.
+#![tactic(auto)]
+
+#[cfg(test)]
+mod assertions;
+#[cfg(test)]
+mod bridge;
+#[cfg(test)]
+mod fragment_buffer;
+#[cfg(test)]
+mod inbox;
+#[cfg(test)]
+mod udp_socket;
