@@ -1,8 +1,8 @@
-use Rattle.std.proofs.Common.{◌≡◌, ◌∷◌, ◌∙◌, inl, refl, sym, ap}
+use Rattle.std.proofs.Common.{◌≡◌, ◌∷◌, ◌∙◌, length, inl, refl, sym, ap}
 use Rattle.net_receiver.specs.Stored.{stored_next}
 use Rattle.net_stream.specs.Fates.{after_fate}
 use Rattle.net_stream.proofs.Carried.{frame_met, before}
-use Rattle.net_stream.proofs.Counted.{met_one}
+use Rattle.net_stream.proofs.Counted.{met_one, answers_step}
 use Rattle.net_stream.proofs.Reached.{frame_reaches}
 use Rattle.net_stream.proofs.link.pass_frame.Goals as goal
 
@@ -53,3 +53,9 @@ returns-clause-met g c = λ _.
     let t1 = c.take.new.self in
     let first : c.args.there.now ≡ record t1 { ahead = c.frame-frame.result.now ∷ t1.ahead } = c.in-Some.ensures ∙ ap (λ x. record t1 { ahead = x ∷ t1.ahead }) (sym c.frame-frame.ensures) in
     met_one c.args.there.now t1 c.draw-fate.new.self c.return_if.new.path c.frame-frame.result.now c.draw-fate.result c.args.counts.now c.meet.new.self c.arrive_if.new.counts first c.draw-fate.ensures.fate c.draw-fate.ensures.state c.return_if.ensures c.meet.ensures c.arrive_if.ensures.counted
+
+pub returns-clause-answers : goal.returns-clause-answers
+returns-clause-answers g c = λ _.
+    let t1 = c.take.new.self in
+    let first : c.args.there.now ≡ record t1 { ahead = c.frame-frame.result.now ∷ t1.ahead } = c.in-Some.ensures ∙ ap (λ x. record t1 { ahead = x ∷ t1.ahead }) (sym c.frame-frame.ensures) in
+    answers_step c.args.there.now t1 c.draw-fate.new.self c.return_if.new.path c.frame-frame.result.now c.draw-fate.result (length c.args.back.now.ahead) (length c.arrive_if.new.back.ahead) first c.draw-fate.ensures.fate c.draw-fate.ensures.state c.return_if.ensures c.in_ok-arrive_if.ensures.answers

@@ -1,6 +1,7 @@
-use Rattle.std.proofs.Common.{◌≡◌, ◌∷◌, ◌∙◌, sym, ap, le_trans}
+use Rattle.std.proofs.Common.{◌≡◌, ◌+◌, ◌∷◌, ◌∙◌, length, sym, ap, arith, le_trans}
 use Rattle.net_stream.specs.Frames.{decoded}
-use Rattle.net_stream.proofs.Counted.{same_refusing}
+use Rattle.net_stream.specs.Rounds.{answers_to}
+use Rattle.net_stream.proofs.Counted.{same_refusing, answers_one, answers_more}
 use Rattle.net_stream.proofs.Carried.{late_met}
 use Rattle.net_stream.proofs.link.pass_late_frames.Goals as goal
 
@@ -30,5 +31,10 @@ late-preserved g c =
       ahead = sym (ap (λ p. p.ahead) first) ∙ i.ahead;
       fates = sym (ap (λ p. p.fates) first) ∙ i.fates;
       back_fates = c.arrive.ensures.fates ∙ i.back_fates;
+      answers =
+          (let more = answers_more c.late.there t1 c.frame-frame.result.now first in
+          let one : length c.arrive.new.back.ahead ≡ length c.late.back.ahead + answers_to (decoded c.frame-frame.result.now) = ap (λ p. length p.ahead) c.in_ok-arrive.ensures.answers ∙ answers_one c.arrive.new.receiver (decoded c.frame-frame.result.now) c.late.back in
+          let so_far = i.answers in
+          omega (arith, more, one, so_far));
       grows = le_trans i.grows c.arrive.ensures.grows;
     }
