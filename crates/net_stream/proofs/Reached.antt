@@ -19,7 +19,7 @@ use Rattle.net_stream.specs.Fates.{FatesSeen, next_of, after_of, next_fate, afte
 use Rattle.net_stream.specs.declared.fate.Fate.{Fate}
 use Rattle.net_stream.specs.declared.fate.Fate.TheVariants.{Delivered, Lost, Repeated, Late}
 use Rattle.net_stream.specs.declared.fate.Rates.{Rates}
-use Rattle.net_stream.specs.Carrying.{PathSeen, HasReported, IsMarked, AreMarked, HasSize, Sent, SentPart, SentFront, MayReturn}
+use Rattle.net_stream.specs.Carrying.{PathSeen, HasReported, IsMarked, AreMarked, HasSize, SentPart, SentFront, MayReturn}
 use Rattle.net_stream.specs.Progress.{reach_one, Reaches, acked_by, acked_all, limit_of, HasRoom}
 use Rattle.net_stream.proofs.Carried.{All-push}
 

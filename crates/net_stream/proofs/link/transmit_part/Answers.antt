@@ -1,5 +1,4 @@
-use Rattle.std.proofs.Common.{◌-◌, ◌^◌, min, true, false, length, ◌≡◌, ◌+◌, ◌<◌, [], ◌++◌, ◌∷◌, ◌∙◌, ap, arith}
-use Rattle.net_stream.specs.Frames.{frame_of}
+use Rattle.std.proofs.Common.{◌-◌, ◌^◌, min, true, false, length, ◌≡◌, ◌+◌, ◌<◌, arith}
 use Rattle.net_stream.specs.Reported.{unreported}
 use Rattle.net_stream.proofs.Carried.{sent_says}
 use Rattle.net_stream.proofs.Ranges.{count_marked, counted_none}
