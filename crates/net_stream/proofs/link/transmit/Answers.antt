@@ -49,7 +49,7 @@ returns-clause-counted g c =
     let s = c.args.sender.now in
     let i = c.loop-pos.invariant in
     let all : c.loop-pos.pos - s.base ≡ length s.queue = (let from = i.from in let within = i.within in omega arith) in
-    i.counted ∙ ap (λ n. carrying (unreported s.reported s.base n) c.args.counts.now) all
+    subst (λ n. c.loop-pos.counts ≡ carrying (unreported s.reported s.base n) c.args.counts.now) all i.counted
 
 pub returns-in_err-count-clause-err : goal.returns-in_err-count-clause-err
 returns-in_err-count-clause-err g c =
