@@ -5,7 +5,7 @@ use Rattle.net_receiver.specs.Stored.{Stored, stored_reply}
 use Rattle.net_stream.specs.declared.counts.Counts.{Counts}
 use Rattle.net_stream.specs.declared.fate.Fate.{Fate}
 use Rattle.net_stream.specs.declared.fate.Fate.TheVariants.{Delivered, Lost, Repeated, Late}
-use Rattle.net_stream.specs.Fates.{FatesSeen, next_fate, after_fate, comes}
+use Rattle.net_stream.specs.Fates.{FatesSeen, next_fate, after_fate, after_all, comes}
 use Rattle.net_stream.specs.Counting.{more, met, met_all, SameButRefused, is_refused, refusing}
 use Rattle.net_stream.specs.Frames.{decoded}
 use Rattle.net_stream.specs.Carrying.{PathSeen, MayReturn, answer_of, with_answer}
@@ -57,6 +57,13 @@ met_left v v' c c' m n is left same =
     ap (λ u. record (met_all n u c') { refused = 0 }) left
     ∙ same_met n (after_fate v) c' (met (next_fate v) c) same
     ∙ ap (λ j. record (met_all j v c) { refused = 0 }) (sym k)
+
+-- the fates that are left in the end
+pub all_left : (v v' : FatesSeen) (m n : ℕ) → m ≡ n + 1 → v' ≡ after_fate v → after_all n v' ≡ after_all m v
+all_left v v' m n is left = (let k : suc n ≡ m = omega arith in ap (after_all n) left ∙ ap (λ j. after_all j v) k)
+
+pub none_left : (v v' u : FatesSeen) (n : ℕ) → v' ≡ v → n ≡ 0 → after_all n v ≡ u → v' ≡ u
+none_left v v' u n is none left = is ∙ ap (λ j. after_all j v) (sym none) ∙ left
 
 -- some frames met their fates so far, and the next one does
 abbrev pub MetSoFar : ℕ → FatesSeen → FatesSeen → Counts → Counts → Type 0

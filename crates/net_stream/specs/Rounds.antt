@@ -2,14 +2,15 @@
 --     answers_to said      how many acknowledgements a frame brings that comes
 --     answers_late frames, answers_met v frames      how many late frames bring, and how many those
 --                                                    that meet fates
---     RoundCounted s most there back old new      what a round counts, but for refused segments
+--     RoundCounted s most there back v v' old new      what a round counts, but for refused
+--                                                      segments, and what fates are left
 --     PartCounted v v' old new      what a round counts that ends early
-use Rattle.std.specs.Prelude.{ℕ, ◌+◌, ◌^◌, nat_lt, if◌then◌else◌}
+use Rattle.std.specs.Prelude.{◌≡◌, ℕ, ◌+◌, ◌^◌, nat_lt, if◌then◌else◌}
 use Rattle.std.specs.Prelude.{List, [], ◌∷◌, length, Option, Some, None}
 use Rattle.net_stream.specs.Outgoing.{Outgoing}
 use Rattle.net_stream.specs.Frames.{decoded}
 use Rattle.net_stream.specs.Reported.{unreported}
-use Rattle.net_stream.specs.Fates.{FatesSeen, next_fate, after_fate, comes}
+use Rattle.net_stream.specs.Fates.{FatesSeen, next_fate, after_fate, after_all, comes}
 use Rattle.net_stream.specs.Counting.{met_all, SameButRefused, carrying}
 use Rattle.net_stream.specs.Carrying.{PathSeen, SentAll}
 use Rattle.net_stream.specs.declared.counts.Counts.{Counts}
@@ -37,11 +38,13 @@ acks_of there ahead back =
     length back.ahead + answers_late there.late + answers_met there.fates ahead + 1
 
 -- all bytes that the sender keeps and that weren't reported are counted, and the fates of the
--- frames on their way then, and of the acknowledgements
-pub record RoundCounted (s : Outgoing) (most : ℕ) (there back : PathSeen)
+-- frames on their way then, and of the acknowledgements; v and v' are the fates that are left
+pub record RoundCounted (s : Outgoing) (most : ℕ) (there back : PathSeen) (v v' : FatesSeen)
     (old new : Counts) : Type 0 where
   pub sent : PathSeen
   pub all : SentAll s most there sent
+  pub left : v ≡ after_all (length sent.ahead) there.fates
+  pub left_back : v' ≡ after_all (acks_of there sent.ahead back) back.fates
   pub counted : SameButRefused new
       (met_all (acks_of there sent.ahead back) back.fates (met_all (length sent.ahead) there.fates
       (carrying (unreported s.reported s.base (length s.queue)) old)))

@@ -4,7 +4,7 @@ ghost use Rattle.std.specs.Prelude.{IfOk, OnOk, OnErr, IsTrue, IsFalse, if◌the
 ghost use Rattle.net_receiver.specs.Stored.{Stored, stored_next};
 ghost use Rattle.net_stream.specs.Outgoing.{Outgoing, end_of};
 ghost use Rattle.net_stream.specs.Frames.{decoded, FrameSays};
-ghost use Rattle.net_stream.specs.Fates.{comes, next_fate, after_fate, AllCome};
+ghost use Rattle.net_stream.specs.Fates.{comes, next_fate, after_fate, after_all, AllCome};
 ghost use Rattle.net_stream.specs.Reported.{unreported};
 ghost use Rattle.net_stream.specs.Counting.{met, met_all, SameButRefused, carrying, refusing};
 ghost use Rattle.net_stream.specs.Carrying.{PathSeen, Carries, FrameTells, SentPart, SentFront};
@@ -339,6 +339,8 @@ fn pass_frames<A: Allocator + Copy, const N: usize>(
         → Carries f w s receiver.new there.new back.new }
     ensures counted { OnOk result (SameButRefused counts.new
         (met_all (length there.old.ahead) there.old.fates counts.old)) }
+    ensures left { OnOk result
+        (there.new.fates ≡ after_all (length there.old.ahead) there.old.fates) }
     ensures err { OnErr result ((n : ℕ)
         × SameButRefused counts.new (met_all n there.old.fates counts.old)) }
     ensures answers { OnOk result (length back.new.ahead
@@ -389,6 +391,8 @@ fn pass_acks<A: Allocator + Copy>(
         Carries f w sender.old r there back.old → Carries f w sender.new r there back.new }
     ensures counted { OnOk result (SameButRefused counts.new
         (met_all (length back.old.ahead) back.old.fates counts.old)) }
+    ensures left { OnOk result
+        (back.new.fates ≡ after_all (length back.old.ahead) back.old.fates) }
     ensures err { OnErr result ((n : ℕ)
         × SameButRefused counts.new (met_all n back.old.fates counts.old)) }
     ensures acked { OnOk result (AllCome back.old.fates
@@ -422,7 +426,7 @@ pub fn pass_round<A: Allocator + Copy, const N: usize>(
         Carries f w sender.old receiver.old there.old back.old
         → Carries f w sender.new receiver.new there.new back.new }
     ensures counted { OnOk result (RoundCounted sender.old (most_of max) there.old back.old
-        counts.old counts.new) }
+        there.new.fates back.new.fates counts.old counts.new) }
     ensures err { OnErr result
         (PartCounted there.old.fates back.old.fates counts.old counts.new) }
     ensures read { receiver.new.read ≡ receiver.old.read }

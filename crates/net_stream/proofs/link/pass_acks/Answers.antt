@@ -1,5 +1,6 @@
 use Rattle.std.proofs.Common.{◌≡◌, ◌+◌, length, refl, sym, ap, ◌∙◌, arith}
-use Rattle.net_stream.proofs.Counted.{none_met, one_more_met, all_met, met_last}
+use Rattle.net_stream.specs.Fates.{after_all}
+use Rattle.net_stream.proofs.Counted.{all_left, none_left, none_met, one_more_met, all_met, met_last}
 use Rattle.net_stream.proofs.Results.{OnErr-always}
 use Rattle.net_stream.proofs.link.pass_acks.Goals as goal
 
@@ -12,6 +13,7 @@ returns-then-not-branch-clause-carried g c = λ f w r there h. c.pass_ack.ensure
 pub acks-preserved : goal.acks-preserved
 acks-preserved g c = record {
   carried = λ f w r there h. c.pass_ack.ensures.carried f w r there (c.acks.invariant.carried f w r there h);
+  left = (let one = c.in_ok-pass_ack.ensures.met c.if-not-branch.false in all_left c.acks.back.fates c.pass_ack.new.back.fates (length c.acks.back.ahead) (length c.pass_ack.new.back.ahead) one.2 one.0 ∙ c.acks.invariant.left);
   counted =
       (let one = c.in_ok-pass_ack.ensures.met c.if-not-branch.false in let so_far = c.acks.invariant.counted in let size = so_far.1 in let less = one.2 in
       (so_far.0 + 1, omega arith, one_more_met so_far.0 c.args.back.now.fates c.acks.back.fates c.pass_ack.new.back.fates c.args.counts.now c.acks.counts c.pass_ack.new.counts one.0 one.1 so_far.2));
@@ -36,6 +38,13 @@ pub acks-init : goal.acks-init
 acks-init g c =
     record {
       carried = λ f w r there h. h;
+      left = refl;
       counted = (0, omega arith, none_met c.args.back.now.fates c.args.counts.now);
       acked = λ come. (come, refl);
     }
+
+pub returns-then-not-branch-clause-left : goal.returns-then-not-branch-clause-left
+returns-then-not-branch-clause-left g c =
+    let none = c.in_ok-pass_ack.ensures.none c.if-not-branch.true in
+    let same = c.in_ok-pass_ack.ensures.unmet c.if-not-branch.true in
+    none_left c.acks.back.fates c.pass_ack.new.back.fates (after_all (length c.args.back.now.ahead) c.args.back.now.fates) (length c.acks.back.ahead) (ap (λ p. p.fates) same.0) (ap length (sym (ap (λ p. p.ahead) same.0) ∙ none)) c.acks.invariant.left

@@ -1,7 +1,8 @@
 use Rattle.std.proofs.Common.{◌≡◌, ◌+◌, length, refl, sym, ap, subst, ◌∙◌, arith}
 use Rattle.net_receiver.specs.Stored.{stored_next}
 use Rattle.net_stream.specs.Progress.{Reaches}
-use Rattle.net_stream.proofs.Counted.{none_met, one_more_met, all_met, met_last, answers_end}
+use Rattle.net_stream.specs.Fates.{after_all}
+use Rattle.net_stream.proofs.Counted.{all_left, none_left, none_met, one_more_met, all_met, met_last, answers_end}
 use Rattle.net_stream.proofs.Reached.{no_gap, room_same}
 use Rattle.net_stream.proofs.Results.{OnErr-always}
 use Rattle.net_stream.proofs.link.pass_frames.Goals as goal
@@ -42,6 +43,7 @@ pub frames-init : goal.frames-init
 frames-init g c =
     record {
       carried = λ f w s h. h;
+      left = refl;
       counted = (0, omega arith, none_met c.args.there.now.fates c.args.counts.now);
       answers = refl;
       limit = refl;
@@ -56,6 +58,7 @@ frames-preserved g c =
     let one = c.in_ok-pass_frame.ensures.met c.if-not-branch.false in
     record {
       carried = λ f w s h. c.pass_frame.ensures.carried f w s (i.carried f w s h);
+      left = all_left c.frames.there.fates c.pass_frame.new.there.fates (length c.frames.there.ahead) (length c.pass_frame.new.there.ahead) one.2 one.0 ∙ i.left;
       counted =
           (let so_far = i.counted in let size = so_far.1 in let less = one.2 in
           (so_far.0 + 1, omega arith, one_more_met so_far.0 c.args.there.now.fates c.frames.there.fates c.pass_frame.new.there.fates c.args.counts.now c.frames.counts c.pass_frame.new.counts one.0 one.1 so_far.2));
@@ -68,3 +71,9 @@ frames-preserved g c =
           (step.0, λ end reaches. step.1 end (before.1 end reaches));
       fates = c.pass_frame.ensures.fates ∙ i.fates;
     }
+
+pub returns-then-not-branch-clause-left : goal.returns-then-not-branch-clause-left
+returns-then-not-branch-clause-left g c =
+    let none = c.in_ok-pass_frame.ensures.none c.if-not-branch.true in
+    let same = c.in_ok-pass_frame.ensures.unmet c.if-not-branch.true in
+    none_left c.frames.there.fates c.pass_frame.new.there.fates (after_all (length c.args.there.now.ahead) c.args.there.now.fates) (length c.frames.there.ahead) (ap (λ p. p.fates) same.0) (ap length (sym (ap (λ p. p.ahead) same.0) ∙ none)) c.frames.invariant.left

@@ -8,13 +8,13 @@ use Rattle.net_stream.specs.Reported.{unreported, most_reported, listed}
 use Rattle.net_stream.specs.Counting.{met_all, SameButRefused, carrying}
 use Rattle.net_stream.specs.Rounds.{answers_late, answers_met, acks_of}
 use Rattle.net_stream.specs.declared.counts.Counts.{Counts}
-use Rattle.net_stream.specs.Fates.{FatesSeen, AllCome}
+use Rattle.net_stream.specs.Fates.{FatesSeen, after_all, AllCome}
 use Rattle.net_stream.specs.Carrying.{PathSeen, Carries, SentAll, most_of, answer_of}
 use Rattle.net_stream.specs.Progress.{Reaches, acked_all}
 use Rattle.net_stream.proofs.Carried.{answered}
 use Rattle.net_stream.proofs.Reached.{room_same, sent_reaches, first_is, acked_to_end}
 use Rattle.net_stream.proofs.Counted.{same_equal, same_met}
-use Rattle.net_stream.proofs.Results.{OnOk-map, OnErr-map, OnErr-always}
+use Rattle.net_stream.proofs.Results.{OnOk-map, OnOk-both, OnErr-map, OnErr-always}
 use Rattle.net_stream.proofs.link.pass_round.Goals as goal
 
 pub returns-in_err-transmit-clause-carried : goal.returns-in_err-transmit-clause-carried
@@ -79,8 +79,8 @@ framed s most n t0 t1 v c c1 c2 c3 sent carried late fates met =
     met ∙ same_met n v c2 bytes (late ∙ same_equal c1 bytes carried) ∙ ap (λ u. record (met_all n u bytes) { refused = 0 }) (fates ∙ ap (λ p. p.fates) sent.sent)
 
 pub returns-clause-counted : goal.returns-clause-counted
-returns-clause-counted g c = OnOk-map c.pass_acks.result
-    (λ acked.
+returns-clause-counted g c = OnOk-both c.pass_acks.result
+    (λ acked left_back.
     let s = c.args.sender.now in
     let t0 = c.args.there.now in
     let t1 = c.transmit.new.there in
@@ -101,12 +101,14 @@ returns-clause-counted g c = OnOk-map c.pass_acks.result
     record {
       sent = t1;
       all = sent;
+      left = c.in_ok-pass_frames.ensures.left ∙ (λ i. after_all (length (late.ahead i)) ((late.fates ∙ ap (λ p. p.fates) sent.sent) i));
+      left_back = left_back ∙ (λ i. after_all (acks i) (back i));
       counted =
           acked
           ∙ same_met (length b4.ahead) b4.fates c.pass_frames.new.counts (met_all (length t2.ahead) t0.fates bytes) there
           ∙ (λ i. record (met_all (acks i) (back i) (met_all (length (late.ahead i)) t0.fates bytes)) { refused = 0 });
     })
-    c.pass_acks.ensures.counted
+    c.pass_acks.ensures.counted c.pass_acks.ensures.left
 
 pub returns-in_err-transmit-clause-err : goal.returns-in_err-transmit-clause-err
 returns-in_err-transmit-clause-err g c =
