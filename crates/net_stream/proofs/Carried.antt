@@ -141,6 +141,13 @@ may_return P frame old new one again =
     ))
     again
 
+-- the first frame of a path, as the token tells it
+pub first_ahead : (t0 t1 : PathSeen) (x frame : List ℕ) → t0 ≡ record t1 { ahead = x ∷ t1.ahead } → frame ≡ x → t0 ≡ record t1 { ahead = frame ∷ t1.ahead }
+first_ahead t0 t1 x frame first is = first ∙ ap (λ y. record t1 { ahead = y ∷ t1.ahead }) (sym is)
+
+pub first_late : (t0 t1 : PathSeen) (x frame : List ℕ) → t0 ≡ record t1 { late = x ∷ t1.late } → frame ≡ x → t0 ≡ record t1 { late = frame ∷ t1.late }
+first_late t0 t1 x frame first is = first ∙ ap (λ y. record t1 { late = y ∷ t1.late }) (sym is)
+
 -- before it meets its fate: what it says, and what is on its way without it
 pub before : (f : ℕ) (w : List ℕ) (s : Outgoing) (r : Stored) (t0 t1 t2 back : PathSeen) (frame : List ℕ) (left : FatesSeen) → t0 ≡ record t1 { ahead = frame ∷ t1.ahead } → t2 ≡ record t1 { fates = left } →
     Carries f w s r t0 back → FrameSays f w frame × Carries f w s r t2 back

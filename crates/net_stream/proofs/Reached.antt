@@ -3,8 +3,8 @@ use Rattle.std.proofs.Common.{◌≡◌, ℕ, ◌+◌, ◌-◌, ◌<◌, ◌≤�
 use Rattle.std.proofs.lemmas.Bool.{both_ways, cases_lt, cases_Bool, cond-true, cond-false, le-leb, lt-leb, le-ltb, leb-true, and_parts, and_from, false≢true}
 use Rattle.std.proofs.lemmas.Option.{slice_get_within, slice_get-get_or}
 use Rattle.std.specs.FinMap as fin
-use Rattle.std.proofs.lemmas.List.{append-nil, take_all}
-use Rattle.std.proofs.lemmas.List.Elements.{All-head, All-tail}
+use Rattle.std.proofs.lemmas.List.{append-nil}
+use Rattle.std.proofs.lemmas.List.Elements.{All-nil, All-head, All-tail}
 use Rattle.net_base.specs.Generator.{successor, word}
 use Rattle.net_storage.specs.declared.assembler.error.TooManyHolesError.{TooManyHolesError}
 use Rattle.net_receiver.specs.declared.receiver.kept.Kept.{Kept}
@@ -19,8 +19,9 @@ use Rattle.net_stream.specs.Fates.{FatesSeen, next_of, after_of, next_fate, afte
 use Rattle.net_stream.specs.declared.fate.Fate.{Fate}
 use Rattle.net_stream.specs.declared.fate.Fate.TheVariants.{Delivered, Lost, Repeated, Late}
 use Rattle.net_stream.specs.declared.fate.Rates.{Rates}
-use Rattle.net_stream.specs.Carrying.{PathSeen, HasReported, IsMarked, AreMarked, Sent, SentPart, SentAll, MayReturn}
+use Rattle.net_stream.specs.Carrying.{PathSeen, HasReported, IsMarked, AreMarked, HasSize, SentPart, SentFront, MayReturn}
 use Rattle.net_stream.specs.Progress.{reach_one, Reaches, acked_by, acked_all, limit_of, HasRoom}
+use Rattle.net_stream.proofs.Carried.{All-push}
 
 -- ---- where a truthful segment ends
 pub says_ends : (f : ℕ) (w : List ℕ) (pos : ℕ) (xs : List ℕ) → Says f w pos xs → pos + length xs ≤ max pos (f + length w)
@@ -266,45 +267,61 @@ marked_push ranges b p ((t, y) ∷ parts) spared xs e all one =
     (all.0, marked_push ranges (b + length y) p parts spared xs (omega arith) all.1 one)
 
 -- nothing was sent yet
-pub none_sent : (s : Outgoing) (pos : ℕ) (t : PathSeen) → pos ≡ s.base → (parts : List Part) × (joined parts ≡ take (pos - s.base) s.queue) × AreMarked s.reported s.base parts × Sent s.base parts t t
-none_sent s pos t e = (
-  [],
-  (let none : pos - s.base ≡ 0 = omega arith in ap (λ n. take n s.queue) (sym none)),
-  tt,
-  λ i. record { ahead = sym (append-nil t.ahead) i; late = t.late; fates = t.fates },
-)
+pub none_sent : (s : Outgoing) (most : ℕ) (pos : ℕ) (t : PathSeen) → pos ≡ s.base → SentFront s most (pos - s.base) t t
+none_sent s most pos t e =
+    let none : pos - s.base ≡ 0 = omega arith in
+    record {
+      parts = [];
+      within = omega arith;
+      all = ap (λ n. take n s.queue) (sym none);
+      sizes = All-nil (HasSize most);
+      marked = tt;
+      sent = λ i. record { ahead = sym (append-nil t.ahead) i; late = t.late; fates = t.fates };
+    }
 
 -- bytes that were reported need no frame
-pub spared_part : (s : Outgoing) (pos n : ℕ) (t : PathSeen) → 0 < n → pos + n ≤ end_of s → IsMarked s.reported pos n true → SentPart s pos n t t
-spared_part s pos n t some within marked = record {
+pub spared_part : (s : Outgoing) (most pos n : ℕ) (t : PathSeen) → 0 < n → pos + n ≤ end_of s → IsMarked s.reported pos n true → SentPart s most pos n t t
+spared_part s most pos n t some within marked = record {
   some = some;
   within = within;
   spared = true;
+  short = λ e. absurd (both_ways true e refl);
   marked = marked;
   sent = λ i. record { ahead = sym (append-nil t.ahead) i; late = t.late; fates = t.fates };
 }
 
-pub sent_more : (s : Outgoing) (pos n : ℕ) (parts : List Part) (t0 t1 t2 : PathSeen) → joined parts ≡ take (pos - s.base) s.queue → AreMarked s.reported s.base parts → Sent s.base parts t0 t1 → SentPart s pos n t1 t2 → s.base ≤ pos → pos ≤ end_of s →
-    (more : List Part) × (joined more ≡ take (pos + n - s.base) s.queue) × AreMarked s.reported s.base more × Sent s.base more t0 t2
-sent_more s pos n parts t0 t1 t2 all marked sent part from within =
+-- a frame of others was sent
+pub sent_part : (s : Outgoing) (most pos : ℕ) (t0 t1 : PathSeen) (xs : List ℕ) → 0 < length xs → pos + length xs ≤ end_of s → length xs ≤ most → IsMarked s.reported pos (length xs) false → xs ≡ take (length xs) (drop (pos - s.base) s.queue) →
+    t1 ≡ record t0 { ahead = t0.ahead ++ frame_of pos xs ∷ [] } → SentPart s most pos (length xs) t0 t1
+sent_part s most pos t0 t1 xs some within short marked is sent = record {
+  some = some;
+  within = within;
+  spared = false;
+  short = λ _. short;
+  marked = marked;
+  sent = sent ∙ ap (λ ys. record t0 { ahead = t0.ahead ++ frame_of pos ys ∷ [] }) is;
+}
+
+-- what was sent of a part is sent of the first bytes too
+pub sent_more : (s : Outgoing) (most pos n : ℕ) (t0 t1 t2 : PathSeen) → SentFront s most (pos - s.base) t0 t1 → SentPart s most pos n t1 t2 → s.base ≤ pos → pos ≤ end_of s → SentFront s most (pos + n - s.base) t0 t2
+sent_more s most pos n t0 t1 t2 front part from within =
     let b = s.base in
     let q = s.queue in
     let xs = take n (drop (pos - b) q) in
     let few = part.within in
+    let some = part.some in
     let size : length xs ≡ n = omega (arith, length-take n (drop (pos - b) q), length-drop (pos - b) q) in
-    let long : length (joined parts) ≡ pos - b = ap length all ∙ (let h : length (take (pos - b) q) ≡ pos - b = omega (arith, length-take (pos - b) q) in h) in
+    let long : length (joined front.parts) ≡ pos - b = ap length front.all ∙ (let h : length (take (pos - b) q) ≡ pos - b = omega (arith, length-take (pos - b) q) in h) in
     let place : (pos - b) + n ≡ pos + n - b = omega arith in
-    let at : pos ≡ b + length (joined parts) = omega arith in
+    let at : pos ≡ b + length (joined front.parts) = omega arith in
     let last = frames_from pos ((part.spared, xs) ∷ []) in
-    let ahead : t1.ahead ++ last ≡ t0.ahead ++ frames_from b (parts ++ (part.spared, xs) ∷ []) =
-    ap (λ p. p.ahead ++ last) sent ∙ append_assoc t0.ahead (frames_from b parts) last ∙ ap (λ l. t0.ahead ++ l) (sym (frames_push b pos parts part.spared xs at)) in (
-      parts ++ (part.spared, xs) ∷ [],
-      joined_push parts part.spared xs ∙ ap (λ l. l ++ xs) all ∙ sym (take-add (pos - b) n q) ∙ ap (λ k. take k q) place,
-      marked_push s.reported b pos parts part.spared xs at marked (subst (λ k. IsMarked s.reported pos k part.spared) (sym size) part.marked),
-      part.sent ∙ (λ i. record { ahead = ahead i; late = (ap (λ p. p.late) sent) i; fates = (ap (λ p. p.fates) sent) i }),
-    )
-
--- once all that is kept was sent
-pub sent_to_end : (s : Outgoing) (pos : ℕ) (parts : List Part) (t0 t1 : PathSeen) → joined parts ≡ take (pos - s.base) s.queue → AreMarked s.reported s.base parts → Sent s.base parts t0 t1 → end_of s ≤ pos → SentAll s t0 t1
-sent_to_end s pos parts t0 t1 all marked sent end =
-    record { parts = parts; all = all ∙ take_all (pos - s.base) s.queue (omega arith); marked = marked; sent = sent }
+    let ahead : t1.ahead ++ last ≡ t0.ahead ++ frames_from b (front.parts ++ (part.spared, xs) ∷ []) =
+    ap (λ p. p.ahead ++ last) front.sent ∙ append_assoc t0.ahead (frames_from b front.parts) last ∙ ap (λ l. t0.ahead ++ l) (sym (frames_push b pos front.parts part.spared xs at)) in
+    record {
+      parts = front.parts ++ (part.spared, xs) ∷ [];
+      within = omega arith;
+      all = joined_push front.parts part.spared xs ∙ ap (λ l. l ++ xs) front.all ∙ sym (take-add (pos - b) n q) ∙ ap (λ k. take k q) place;
+      sizes = All-push (HasSize most) front.parts (part.spared, xs) front.sizes (subst (λ k. 0 < k) (sym size) some, λ e. subst (λ k. k ≤ most) (sym size) (part.short e));
+      marked = marked_push s.reported b pos front.parts part.spared xs at front.marked (subst (λ k. IsMarked s.reported pos k part.spared) (sym size) part.marked);
+      sent = part.sent ∙ (λ i. record { ahead = ahead i; late = (ap (λ p. p.late) front.sent) i; fates = (ap (λ p. p.fates) front.sent) i });
+    }

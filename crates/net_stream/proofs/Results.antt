@@ -6,6 +6,11 @@ pub OnOk-map : {T E : Type 0} {P Q : Type 0} (r : Result T E) → (P → Q) → 
 OnOk-map (Ok t) f p = f p
 OnOk-map (Err e) f p = p
 
+-- two facts that hold at `Ok` give another
+pub OnOk-both : {T E : Type 0} {P P' Q : Type 0} (r : Result T E) → (P → P' → Q) → OnOk r P → OnOk r P' → OnOk r Q
+OnOk-both (Ok t) f p q = f p q
+OnOk-both (Err e) f p q = p
+
 -- a fact that holds at `Err` gives another
 pub OnErr-map : {T E : Type 0} {P Q : Type 0} (r : Result T E) → (P → Q) → OnErr r P → OnErr r Q
 OnErr-map (Ok t) f p = p

@@ -5,9 +5,11 @@
 --     FrameTells r frame      an acknowledgement tells nothing but what the receiver has
 --     answer_of r      the acknowledgement of a receiver
 --     arrived N r frame, with_answer r frame back      what a frame that comes leaves
---     SentAll s old new      all that a sender keeps and that wasn't reported was put on its way
-use Rattle.std.specs.Prelude.{◌≡◌, ℕ, ◌+◌, ◌-◌, ◌<◌, ◌≤◌, ◌^◌, ◌⊎◌, nat_lt, if◌then◌else◌, Bool}
-use Rattle.std.specs.Prelude.{IsTrue, Option, Some, None}
+--     SentFront s most n old new      of the first n bytes that a sender keeps, frames of those that
+--                                     weren't reported were put on their way
+--     SentAll s most old new      the same of all that it keeps
+use Rattle.std.specs.Prelude.{◌≡◌, ℕ, ◌+◌, ◌-◌, ◌<◌, ◌≤◌, ◌^◌, ◌⊎◌, max, nat_lt, if◌then◌else◌}
+use Rattle.std.specs.Prelude.{Bool, false, IsTrue, Option, Some, None}
 use Rattle.std.specs.Prelude.{List, [], ◌∷◌, ◌++◌, length, take, drop, All}
 use Rattle.net_storage.specs.Positions.{maximal_runs}
 use Rattle.net_receiver.specs.Rules.{Segment}
@@ -84,21 +86,38 @@ AreMarked ranges p [] = Unit {0}
 AreMarked ranges p ((spared, xs) ∷ parts) =
     IsMarked ranges p (length xs) spared × AreMarked ranges (p + length xs) parts
 
--- n of the bytes that the sender keeps, from position p on, were spared or put on their way
-pub record SentPart (s : Outgoing) (p n : ℕ) (old new : PathSeen) : Type 0 where
+-- a part has bytes, and a frame of it at most so many
+abbrev pub HasSize : ℕ → Part → Type 0
+HasSize most part = (0 < length part.1) × (part.0 ≡ false → length part.1 ≤ most)
+
+-- the most bytes of a frame's payload: 0 counts as 1
+abbrev pub most_of : ℕ → ℕ
+most_of n = max n 1
+
+-- n of the bytes that the sender keeps, from position p on, were spared or put on their way, in a
+-- frame of at most so many bytes
+pub record SentPart (s : Outgoing) (most p n : ℕ) (old new : PathSeen) : Type 0 where
   pub some : 0 < n
   pub within : p + n ≤ end_of s
   pub spared : Bool
+  pub short : spared ≡ false → n ≤ most
   pub marked : IsMarked s.reported p n spared
   pub sent : Sent p ((spared, take n (drop (p - s.base) s.queue)) ∷ []) old new
 
--- frames of all that the sender keeps were put on their way, in order: each byte in one of them if
--- it wasn't reported, and in none if it was
-pub record SentAll (s : Outgoing) (old new : PathSeen) : Type 0 where
+-- frames of the first n bytes that the sender keeps were put on their way, in order: each byte in
+-- one of them if it wasn't reported, and in none if it was; each frame has at least one byte, and
+-- at most so many
+pub record SentFront (s : Outgoing) (most n : ℕ) (old new : PathSeen) : Type 0 where
   pub parts : List Part
-  pub all : joined parts ≡ s.queue
+  pub within : n ≤ length s.queue
+  pub all : joined parts ≡ take n s.queue
+  pub sizes : All (HasSize most) parts
   pub marked : AreMarked s.reported s.base parts
   pub sent : Sent s.base parts old new
+
+-- so were frames of all that it keeps
+abbrev pub SentAll : Outgoing → ℕ → PathSeen → PathSeen → Type 0
+SentAll s most = SentFront s most (length s.queue)
 
 -- the frame was put among the late ones, or nothing changed
 abbrev pub MayReturn : List ℕ → PathSeen → PathSeen → Type 0

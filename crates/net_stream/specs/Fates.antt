@@ -1,9 +1,10 @@
 -- What becomes of frames.
 --     fate_of rates word      the fate that a word of 32 bits stands for
 --     next_fate v, after_fate v      the next fate: the first of a list, and behind it drawn ones
+--     after_all n v      what is left of v once n fates have come
 --     comes fate, returns fate      whether a frame comes at once, and whether it comes late
 --     AllCome v      every frame comes at once
-use Rattle.std.specs.Prelude.{ℕ, ◌/◌, ◌%◌, nat_lt, if◌then◌else◌, Bool, true, false}
+use Rattle.std.specs.Prelude.{ℕ, zero, suc, ◌/◌, ◌%◌, nat_lt, if◌then◌else◌, Bool, true, false}
 use Rattle.std.specs.Prelude.{◌≡◌, List, [], ◌∷◌, All}
 use Rattle.net_base.specs.Generator.{successor, word}
 use Rattle.net_stream.specs.declared.fate.Fate.{Fate}
@@ -54,6 +55,11 @@ next_fate v = next_of v.rates v.state v.listed
 
 abbrev pub after_fate : FatesSeen → FatesSeen
 after_fate v = after_of v.rates v.state v.listed
+
+-- what is left once n fates have come
+abbrev pub after_all : ℕ → FatesSeen → FatesSeen
+after_all zero v = v
+after_all (suc n) v = after_all n (after_fate v)
 
 -- every frame comes at once: each fate of the list says so, and none is drawn that is lost or late
 pub record AllCome (v : FatesSeen) : Type 0 where

@@ -5,5 +5,6 @@ pub mod Reported
 pub mod Fates
 pub mod Counting
 pub mod Carrying
+pub mod Rounds
 pub mod Progress
 pub mod Copying

@@ -15,7 +15,7 @@ use crate::fate::Fates;
 use crate::link::pass_round;
 use crate::path::Path;
 use crate::sender::Sender;
-use crate::timer::{first_wait, later, next_wait};
+use crate::timer::{first_wait, next_wait};
 use net_base::time::Instant;
 use net_receiver::{Receiver, laws};
 use net_storage::ManagedSlice;
@@ -248,7 +248,7 @@ fn exchange<A: Allocator + Copy, R: Read, W: Write, const N: usize>(
         counts.rounds = round + 1;
         let moved = sender.base() != base || counts.bytes != bytes;
         stalled = stalled_after(stalled, moved);
-        now = later(now, wait);
+        now = now.saturating_add(wait);
         wait = next_wait(wait, moved);
     }
     counts.rounds = u64::MAX;

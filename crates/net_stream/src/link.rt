@@ -1,14 +1,17 @@
 //! One round: frames go to a receiver and acknowledgements to a sender, whatever becomes of them.
 ghost use Rattle.std.specs.Prelude.{◌≡◌, ◌+◌, ◌≤◌, ◌<◌, ◌∷◌, ◌++◌, [], ℕ, List, length, true};
-ghost use Rattle.std.specs.Prelude.{IfOk, OnOk, OnErr, IsTrue, IsFalse};
+ghost use Rattle.std.specs.Prelude.{IfOk, OnOk, OnErr, IsTrue, IsFalse, if◌then◌else◌};
 ghost use Rattle.net_receiver.specs.Stored.{Stored, stored_next};
 ghost use Rattle.net_stream.specs.Outgoing.{Outgoing, end_of};
 ghost use Rattle.net_stream.specs.Frames.{decoded, FrameSays};
-ghost use Rattle.net_stream.specs.Fates.{comes, next_fate, after_fate, AllCome};
+ghost use Rattle.net_stream.specs.Fates.{comes, next_fate, after_fate, after_all, AllCome};
 ghost use Rattle.net_stream.specs.Reported.{unreported};
 ghost use Rattle.net_stream.specs.Counting.{met, met_all, SameButRefused, carrying, refusing};
-ghost use Rattle.net_stream.specs.Carrying.{PathSeen, Carries, FrameTells, SentPart, SentAll};
-ghost use Rattle.net_stream.specs.Carrying.{MayReturn, answer_of, arrived, with_answer};
+ghost use Rattle.net_stream.specs.Carrying.{PathSeen, Carries, FrameTells, SentPart, SentFront};
+ghost use Rattle.net_stream.specs.Carrying.{SentAll, most_of, MayReturn};
+ghost use Rattle.net_stream.specs.Carrying.{answer_of, arrived, with_answer};
+ghost use Rattle.net_stream.specs.Rounds.{answers_to, answers_late, answers_met};
+ghost use Rattle.net_stream.specs.Rounds.{RoundCounted, PartCounted};
 ghost use Rattle.net_stream.specs.Progress.{reach_one, Reaches, acked_by, acked_all, limit_of};
 ghost use Rattle.net_stream.specs.Progress.{HasRoom};
 
@@ -40,9 +43,10 @@ fn transmit_part<A: Allocator + Copy>(
     requires some { 0 < max }
     ensures carried { (f : ℕ) (w : List ℕ) (r : Stored) (back : PathSeen) →
         Carries f w sender.now r there.old back → Carries f w sender.now r there.new back }
-    ensures sent { IfOk result (λ n. SentPart sender.now pos n there.old there.new) }
+    ensures sent { IfOk result (λ n. SentPart sender.now max pos n there.old there.new) }
     ensures counted { IfOk result (λ n.
         counts.new ≡ carrying (unreported sender.now.reported pos n) counts.old) }
+    ensures err { OnErr result ((there.new ≡ there.old) × (counts.new ≡ counts.old)) }
 {
     round_trip();
     let payload = counts.payload;
@@ -58,7 +62,8 @@ fn transmit_part<A: Allocator + Copy>(
 }
 
 /// Puts frames of all that the sender keeps on their way, but of what the receiver reported, each
-/// of at most `max` bytes of payload. A `max` of 0 counts as 1.
+/// of at most `max` bytes of payload. A `max` of 0 counts as 1. A refusal of memory leaves frames
+/// of a front of it on their way, and they are counted.
 pub fn transmit<A: Allocator + Copy>(
     sender: &Sender<'_>,
     there: &mut Path<'_, A>,
@@ -68,14 +73,17 @@ pub fn transmit<A: Allocator + Copy>(
 ) -> Result<(), AllocError>
     ensures carried { (f : ℕ) (w : List ℕ) (r : Stored) (back : PathSeen) →
         Carries f w sender.now r there.old back → Carries f w sender.now r there.new back }
-    ensures sent { OnOk result (SentAll sender.now there.old there.new) }
+    ensures sent { OnOk result (SentAll sender.now (most_of max) there.old there.new) }
     ensures counted { OnOk result (counts.new ≡ carrying (unreported sender.now.reported
         sender.now.base (length sender.now.queue)) counts.old) }
+    ensures err { OnErr result ((n : ℕ)
+        × SentFront sender.now (most_of max) n there.old there.new
+        × (counts.new ≡ carrying (unreported sender.now.reported sender.now.base n) counts.old)) }
 {
-    let max = max.max(1) as usize;
+    let most = max.max(1) as usize;
     let mut pos = sender.base();
     while pos < sender.end() {
-        let count = transmit_part(sender, there, now, pos, max, counts)?;
+        let count = transmit_part(sender, there, now, pos, most, counts)?;
         pos += count;
     }
     Ok(())
@@ -173,6 +181,8 @@ fn arrive_if<A: Allocator + Copy, const N: usize>(
         → HasRoom s receiver.old
         → reach_one (stored_next receiver.old) (decoded frame.now) ≤ stored_next receiver.new }
     ensures fates { back.new.fates ≡ back.old.fates }
+    ensures answers { OnOk result (length back.new.ahead ≡ length back.old.ahead
+        + (if comes fate then answers_to (decoded frame.now) else 0)) }
 {
     if !fate.comes() {
         return Ok(());
@@ -233,8 +243,13 @@ fn pass_frame<A: Allocator + Copy, const N: usize>(
         (there.new.fates ≡ after_fate there.old.fates)
         × SameButRefused counts.new (met (next_fate there.old.fates) counts.old)
         × (length there.old.ahead ≡ length there.new.ahead + 1)) }
+    ensures err { OnErr result
+        (SameButRefused counts.new (met (next_fate there.old.fates) counts.old)) }
+    ensures answers { IfOk result (λ some. IsTrue some →
+        length back.new.ahead + answers_met there.new.fates there.new.ahead
+        ≡ length back.old.ahead + answers_met there.old.fates there.old.ahead) }
     ensures unmet { IfOk result (λ some. IsFalse some →
-        (there.new ≡ there.old) × (counts.new ≡ counts.old)) }
+        (there.new ≡ there.old) × (back.new ≡ back.old) × (counts.new ≡ counts.old)) }
     ensures none { IfOk result (λ some. IsFalse some → there.new.ahead ≡ []) }
 {
     laws::is_sound(receiver);
@@ -266,6 +281,8 @@ fn pass_ack<A: Allocator + Copy>(
         (back.new.fates ≡ after_fate back.old.fates)
         × SameButRefused counts.new (met (next_fate back.old.fates) counts.old)
         × (length back.old.ahead ≡ length back.new.ahead + 1)) }
+    ensures err { OnErr result
+        (SameButRefused counts.new (met (next_fate back.old.fates) counts.old)) }
     ensures unmet { IfOk result (λ some. IsFalse some →
         (back.new ≡ back.old) × (counts.new ≡ counts.old)) }
     ensures none { IfOk result (λ some. IsFalse some → back.new.ahead ≡ []) }
@@ -299,6 +316,8 @@ fn pass_late_frames<A: Allocator + Copy, const N: usize>(
     ensures fates { there.new.fates ≡ there.old.fates }
     ensures back_fates { back.new.fates ≡ back.old.fates }
     ensures grows { stored_next receiver.old ≤ stored_next receiver.new }
+    ensures answers { OnOk result
+        (length back.new.ahead ≡ length back.old.ahead + answers_late there.old.late) }
 {
     'late: while let Some(token) = there.take_late(now) {
         let frame = token.frame();
@@ -320,6 +339,12 @@ fn pass_frames<A: Allocator + Copy, const N: usize>(
         → Carries f w s receiver.new there.new back.new }
     ensures counted { OnOk result (SameButRefused counts.new
         (met_all (length there.old.ahead) there.old.fates counts.old)) }
+    ensures left { OnOk result
+        (there.new.fates ≡ after_all (length there.old.ahead) there.old.fates) }
+    ensures err { OnErr result ((n : ℕ)
+        × SameButRefused counts.new (met_all n there.old.fates counts.old)) }
+    ensures answers { OnOk result (length back.new.ahead
+        ≡ length back.old.ahead + answers_met there.old.fates there.old.ahead) }
     ensures limit { limit_of receiver.new ≡ limit_of receiver.old }
     ensures read { receiver.new.read ≡ receiver.old.read }
     ensures reaches { OnOk result ((f : ℕ) (w : List ℕ) (s : Outgoing) →
@@ -366,6 +391,10 @@ fn pass_acks<A: Allocator + Copy>(
         Carries f w sender.old r there back.old → Carries f w sender.new r there back.new }
     ensures counted { OnOk result (SameButRefused counts.new
         (met_all (length back.old.ahead) back.old.fates counts.old)) }
+    ensures left { OnOk result
+        (back.new.fates ≡ after_all (length back.old.ahead) back.old.fates) }
+    ensures err { OnErr result ((n : ℕ)
+        × SameButRefused counts.new (met_all n back.old.fates counts.old)) }
     ensures acked { OnOk result (AllCome back.old.fates
         → sender.new ≡ acked_all sender.old back.old.ahead) }
 {
@@ -396,9 +425,10 @@ pub fn pass_round<A: Allocator + Copy, const N: usize>(
     ensures carried { (f : ℕ) (w : List ℕ) →
         Carries f w sender.old receiver.old there.old back.old
         → Carries f w sender.new receiver.new there.new back.new }
-    ensures counted { OnOk result ((frames acks : ℕ) × SameButRefused counts.new
-        (met_all acks back.old.fates (met_all frames there.old.fates (carrying (unreported
-        sender.old.reported sender.old.base (length sender.old.queue)) counts.old)))) }
+    ensures counted { OnOk result (RoundCounted sender.old (most_of max) there.old back.old
+        there.new.fates back.new.fates counts.old counts.new) }
+    ensures err { OnErr result
+        (PartCounted there.old.fates back.old.fates counts.old counts.new) }
     ensures read { receiver.new.read ≡ receiver.old.read }
     ensures progress { OnOk result ((f : ℕ) (w : List ℕ) →
         Carries f w sender.old receiver.old there.old back.old → HasRoom sender.old receiver.old

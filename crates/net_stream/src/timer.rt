@@ -2,7 +2,7 @@
 ghost use Rattle.std.specs.Prelude.{◌≡◌, ◌*◌, min, if◌then◌else◌};
 ghost use Rattle.net_stream.specs.Counting.{round_trip_time, longest_wait};
 
-use net_base::time::{Duration, Instant};
+use net_base::time::Duration;
 
 /// How many microseconds a frame and its acknowledgement are on their way.
 const ROUND_TRIP: u64 = 10_000;
@@ -36,12 +36,4 @@ pub fn next_wait(wait: Duration, moved: bool) -> Duration
         return first_wait();
     }
     doubled(wait)
-}
-
-/// The moment after a wait. Time stays at its last moment.
-pub fn later(now: Instant, wait: Duration) -> Instant {
-    if !now.can_add(wait) {
-        return now;
-    }
-    now + wait
 }

@@ -1,7 +1,7 @@
 //! Copies over links of known fates: what arrives, what is counted, and how each error ends.
 
 use crate::streams::{Sink, Source};
-use net_stream::{Counts, Fate, Fates, Rates, Settings, copy};
+use net_stream::{Counts, Fate, Fates, Rates, Settings, copy, copy_over};
 use net_testing::Refusing;
 use std::alloc::{Allocator, Global};
 use std::test::Fail;
@@ -190,6 +190,34 @@ fn counts_are_those_of_the_fates(rt: HostRuntime) -> Result<(), Fail> {
         assert_eq!(rt; sink.bytes.len() as u64, counts.bytes);
         assert_eq!(rt; sink.flushes, 1);
     }
+    Ok(())
+}
+
+/// A round reads as much as the third storage takes, keeps as much as the first, and the receiver
+/// takes as much as the second. The capacity of the settings isn't read.
+#[test]
+fn each_lent_storage_has_its_own_use(rt: HostRuntime) -> Result<(), Fail> {
+    let text = b"abcdefghij".as_slice();
+    let mut outgoing = [0u8; 9];
+    let mut incoming = [0u8; 2];
+    let mut chunk = [0u8; 4];
+    let mut source = Source::new(text);
+    let mut sink = Sink::new(rt.alloc())?;
+    let mut counts = Counts::new();
+    let ended = copy_over(
+        rt.alloc(),
+        settings(0, 0, 2),
+        Fates::new(&[], 1, PERFECT),
+        Fates::new(&[], 1, PERFECT),
+        &mut outgoing,
+        &mut incoming,
+        &mut chunk,
+        &mut source,
+        &mut sink,
+        &mut counts,
+    );
+    assert!(rt; ended.is_ok() && sink.bytes.as_slice() == text);
+    assert_eq!(rt; [counts.sent, counts.payload, counts.rounds], [33, 22, 5]);
     Ok(())
 }
 

@@ -1,6 +1,7 @@
-use Rattle.std.proofs.Common.{length, sym, ap, ◌∙◌}
-use Rattle.net_stream.specs.Counting.{met_all}
-use Rattle.net_stream.proofs.Counted.{met_left, met_end}
+use Rattle.std.proofs.Common.{◌≡◌, ◌+◌, length, refl, sym, ap, ◌∙◌, arith}
+use Rattle.net_stream.specs.Fates.{after_all}
+use Rattle.net_stream.proofs.Counted.{all_left, none_left, none_met, one_more_met, all_met, met_last}
+use Rattle.net_stream.proofs.Results.{OnErr-always}
 use Rattle.net_stream.proofs.link.pass_acks.Goals as goal
 
 pub returns-in_err-pass_ack-clause-carried : goal.returns-in_err-pass_ack-clause-carried
@@ -12,9 +13,10 @@ returns-then-not-branch-clause-carried g c = λ f w r there h. c.pass_ack.ensure
 pub acks-preserved : goal.acks-preserved
 acks-preserved g c = record {
   carried = λ f w r there h. c.pass_ack.ensures.carried f w r there (c.acks.invariant.carried f w r there h);
+  left = (let one = c.in_ok-pass_ack.ensures.met c.if-not-branch.false in all_left c.acks.back.fates c.pass_ack.new.back.fates (length c.acks.back.ahead) (length c.pass_ack.new.back.ahead) one.2 one.0 ∙ c.acks.invariant.left);
   counted =
-      (let one = c.in_ok-pass_ack.ensures.met c.if-not-branch.false in
-      met_left c.acks.back.fates c.pass_ack.new.back.fates c.acks.counts c.pass_ack.new.counts (length c.acks.back.ahead) (length c.pass_ack.new.back.ahead) one.2 one.0 one.1 ∙ c.acks.invariant.counted);
+      (let one = c.in_ok-pass_ack.ensures.met c.if-not-branch.false in let so_far = c.acks.invariant.counted in let size = so_far.1 in let less = one.2 in
+      (so_far.0 + 1, omega arith, one_more_met so_far.0 c.args.back.now.fates c.acks.back.fates c.pass_ack.new.back.fates c.args.counts.now c.acks.counts c.pass_ack.new.counts one.0 one.1 so_far.2));
   acked = λ all. let before = c.acks.invariant.acked all in let step = c.pass_ack.ensures.acked before.0 in (step.0, before.1 ∙ step.1);
 }
 
@@ -22,4 +24,27 @@ pub returns-then-not-branch-clause-counted : goal.returns-then-not-branch-clause
 returns-then-not-branch-clause-counted g c =
     let none = c.in_ok-pass_ack.ensures.none c.if-not-branch.true in
     let same = c.in_ok-pass_ack.ensures.unmet c.if-not-branch.true in
-    met_end c.acks.back.fates c.acks.counts c.pass_ack.new.counts (met_all (length c.args.back.now.ahead) c.args.back.now.fates c.args.counts.now) (length c.acks.back.ahead) same.1 (ap length (sym (ap (λ p. p.ahead) same.0) ∙ none)) c.acks.invariant.counted
+    let so_far = c.acks.invariant.counted in
+    let left : length c.acks.back.ahead ≡ 0 = ap length (sym (ap (λ p. p.ahead) same.0) ∙ none) in
+    let all = so_far.1 in
+    all_met so_far.0 (length c.args.back.now.ahead) c.args.back.now.fates c.acks.back.fates c.args.counts.now c.acks.counts c.pass_ack.new.counts same.1 (omega arith) so_far.2
+
+pub returns-in_err-pass_ack-clause-err : goal.returns-in_err-pass_ack-clause-err
+returns-in_err-pass_ack-clause-err g c =
+    let so_far = c.acks.invariant.counted in
+    OnErr-always c.from_residual.result (met_last so_far.0 c.args.back.now.fates c.acks.back.fates c.args.counts.now c.acks.counts c.pass_ack.new.counts c.in_err-pass_ack.ensures.err so_far.2)
+
+pub acks-init : goal.acks-init
+acks-init g c =
+    record {
+      carried = λ f w r there h. h;
+      left = refl;
+      counted = (0, omega arith, none_met c.args.back.now.fates c.args.counts.now);
+      acked = λ come. (come, refl);
+    }
+
+pub returns-then-not-branch-clause-left : goal.returns-then-not-branch-clause-left
+returns-then-not-branch-clause-left g c =
+    let none = c.in_ok-pass_ack.ensures.none c.if-not-branch.true in
+    let same = c.in_ok-pass_ack.ensures.unmet c.if-not-branch.true in
+    none_left c.acks.back.fates c.pass_ack.new.back.fates (after_all (length c.args.back.now.ahead) c.args.back.now.fates) (length c.acks.back.ahead) (ap (λ p. p.fates) same.0) (ap length (sym (ap (λ p. p.ahead) same.0) ∙ none)) c.acks.invariant.left

@@ -1,9 +1,10 @@
-use Rattle.std.proofs.Common.{length, sym, ap, subst, ◌∙◌}
+use Rattle.std.proofs.Common.{◌≡◌, ◌+◌, length, refl, sym, ap, subst, ◌∙◌, arith}
 use Rattle.net_receiver.specs.Stored.{stored_next}
-use Rattle.net_stream.specs.Counting.{met_all}
 use Rattle.net_stream.specs.Progress.{Reaches}
-use Rattle.net_stream.proofs.Counted.{met_left, met_end}
+use Rattle.net_stream.specs.Fates.{after_all}
+use Rattle.net_stream.proofs.Counted.{all_left, none_left, none_met, one_more_met, all_met, met_last, answers_end}
 use Rattle.net_stream.proofs.Reached.{no_gap, room_same}
+use Rattle.net_stream.proofs.Results.{OnErr-always}
 use Rattle.net_stream.proofs.link.pass_frames.Goals as goal
 
 pub returns-then-not-branch-clause-reaches : goal.returns-then-not-branch-clause-reaches
@@ -19,7 +20,37 @@ pub returns-then-not-branch-clause-counted : goal.returns-then-not-branch-clause
 returns-then-not-branch-clause-counted g c =
     let none = c.in_ok-pass_frame.ensures.none c.if-not-branch.true in
     let same = c.in_ok-pass_frame.ensures.unmet c.if-not-branch.true in
-    met_end c.frames.there.fates c.frames.counts c.pass_frame.new.counts (met_all (length c.args.there.now.ahead) c.args.there.now.fates c.args.counts.now) (length c.frames.there.ahead) same.1 (ap length (sym (ap (λ p. p.ahead) same.0) ∙ none)) c.frames.invariant.counted
+    let so_far = c.frames.invariant.counted in
+    let left : length c.frames.there.ahead ≡ 0 = ap length (sym (ap (λ p. p.ahead) same.0) ∙ none) in
+    let all = so_far.1 in
+    all_met so_far.0 (length c.args.there.now.ahead) c.args.there.now.fates c.frames.there.fates c.args.counts.now c.frames.counts c.pass_frame.new.counts same.2 (omega arith) so_far.2
+
+pub returns-then-not-branch-clause-answers : goal.returns-then-not-branch-clause-answers
+returns-then-not-branch-clause-answers g c =
+    let none = c.in_ok-pass_frame.ensures.none c.if-not-branch.true in
+    let same = c.in_ok-pass_frame.ensures.unmet c.if-not-branch.true in
+    let left = answers_end c.frames.there (sym (ap (λ p. p.ahead) same.0) ∙ none) in
+    let back : length c.pass_frame.new.back.ahead ≡ length c.frames.back.ahead = ap (λ p. length p.ahead) same.1 in
+    let so_far = c.frames.invariant.answers in
+    omega (arith, left, back, so_far)
+
+pub returns-in_err-pass_frame-clause-err : goal.returns-in_err-pass_frame-clause-err
+returns-in_err-pass_frame-clause-err g c =
+    let so_far = c.frames.invariant.counted in
+    OnErr-always c.from_residual.result (met_last so_far.0 c.args.there.now.fates c.frames.there.fates c.args.counts.now c.frames.counts c.pass_frame.new.counts c.in_err-pass_frame.ensures.err so_far.2)
+
+pub frames-init : goal.frames-init
+frames-init g c =
+    record {
+      carried = λ f w s h. h;
+      left = refl;
+      counted = (0, omega arith, none_met c.args.there.now.fates c.args.counts.now);
+      answers = refl;
+      limit = refl;
+      read = refl;
+      reaches = λ f w s carries room come. (come, λ end reaches. reaches);
+      fates = refl;
+    }
 
 pub frames-preserved : goal.frames-preserved
 frames-preserved g c =
@@ -27,7 +58,11 @@ frames-preserved g c =
     let one = c.in_ok-pass_frame.ensures.met c.if-not-branch.false in
     record {
       carried = λ f w s h. c.pass_frame.ensures.carried f w s (i.carried f w s h);
-      counted = met_left c.frames.there.fates c.pass_frame.new.there.fates c.frames.counts c.pass_frame.new.counts (length c.frames.there.ahead) (length c.pass_frame.new.there.ahead) one.2 one.0 one.1 ∙ i.counted;
+      left = all_left c.frames.there.fates c.pass_frame.new.there.fates (length c.frames.there.ahead) (length c.pass_frame.new.there.ahead) one.2 one.0 ∙ i.left;
+      counted =
+          (let so_far = i.counted in let size = so_far.1 in let less = one.2 in
+          (so_far.0 + 1, omega arith, one_more_met so_far.0 c.args.there.now.fates c.frames.there.fates c.pass_frame.new.there.fates c.args.counts.now c.frames.counts c.pass_frame.new.counts one.0 one.1 so_far.2));
+      answers = c.in_ok-pass_frame.ensures.answers c.if-not-branch.false ∙ i.answers;
       limit = c.pass_frame.ensures.limit ∙ i.limit;
       read = c.pass_frame.ensures.read ∙ i.read;
       reaches = λ f w s carries room come.
@@ -36,3 +71,9 @@ frames-preserved g c =
           (step.0, λ end reaches. step.1 end (before.1 end reaches));
       fates = c.pass_frame.ensures.fates ∙ i.fates;
     }
+
+pub returns-then-not-branch-clause-left : goal.returns-then-not-branch-clause-left
+returns-then-not-branch-clause-left g c =
+    let none = c.in_ok-pass_frame.ensures.none c.if-not-branch.true in
+    let same = c.in_ok-pass_frame.ensures.unmet c.if-not-branch.true in
+    none_left c.frames.there.fates c.pass_frame.new.there.fates (after_all (length c.args.there.now.ahead) c.args.there.now.fates) (length c.frames.there.ahead) (ap (λ p. p.fates) same.0) (ap length (sym (ap (λ p. p.ahead) same.0) ∙ none)) c.frames.invariant.left

@@ -1,17 +1,20 @@
-use Rattle.std.proofs.Common.{◌≡◌, ℕ, List, length}
+use Rattle.std.proofs.Common.{◌≡◌, ◌+◌, ℕ, List, length}
 use Rattle.net_receiver.specs.Stored.{stored_next}
 use Rattle.net_stream.specs.Outgoing.{Outgoing}
-use Rattle.net_stream.specs.Fates.{AllCome}
-use Rattle.net_stream.specs.Counting.{met_all, SameButRefused}
+use Rattle.net_stream.specs.Fates.{after_all, AllCome}
 use Rattle.net_stream.specs.Carrying.{Carries}
 use Rattle.net_stream.specs.Progress.{Reaches, limit_of, HasRoom}
+use Rattle.net_stream.specs.Rounds.{answers_met}
+use Rattle.net_stream.proofs.Counted.{MetSoFar}
 use Rattle.net_stream.proofs.link.pass_frames.Given as goal
 
 abbrev pub invariant-frames : goal.invariant-frames
 invariant-frames g l =
     record {
       carried : (f : ℕ) (w : List ℕ) (s : Outgoing) → Carries f w s l.fn.receiver l.fn.there l.fn.back → Carries f w s l.receiver l.there l.back;
-      counted : SameButRefused (met_all (length l.there.ahead) l.there.fates l.counts) (met_all (length l.fn.there.ahead) l.fn.there.fates l.fn.counts);
+      left : after_all (length l.there.ahead) l.there.fates ≡ after_all (length l.fn.there.ahead) l.fn.there.fates;
+      counted : (k : ℕ) × (k + length l.there.ahead ≡ length l.fn.there.ahead) × MetSoFar k l.fn.there.fates l.there.fates l.fn.counts l.counts;
+      answers : length l.back.ahead + answers_met l.there.fates l.there.ahead ≡ length l.fn.back.ahead + answers_met l.fn.there.fates l.fn.there.ahead;
       limit : limit_of l.receiver ≡ limit_of l.fn.receiver;
       read : l.receiver.read ≡ l.fn.receiver.read;
       reaches : (f : ℕ) (w : List ℕ) (s : Outgoing) → Carries f w s l.fn.receiver l.fn.there l.fn.back → HasRoom s l.fn.receiver → AllCome l.fn.there.fates →

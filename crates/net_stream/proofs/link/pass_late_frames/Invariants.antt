@@ -1,8 +1,9 @@
-use Rattle.std.proofs.Common.{◌≡◌, ◌≤◌, ℕ, List, length}
+use Rattle.std.proofs.Common.{◌≡◌, ◌≤◌, ◌+◌, ℕ, List, length}
 use Rattle.net_receiver.specs.Stored.{stored_next}
 use Rattle.net_stream.specs.Outgoing.{Outgoing}
 use Rattle.net_stream.specs.Counting.{SameButRefused}
 use Rattle.net_stream.specs.Carrying.{Carries}
+use Rattle.net_stream.specs.Rounds.{answers_late}
 use Rattle.net_stream.specs.Progress.{limit_of}
 use Rattle.net_stream.proofs.link.pass_late_frames.Given as goal
 
@@ -16,6 +17,7 @@ invariant-late g l =
       ahead : l.there.ahead ≡ l.fn.there.ahead;
       fates : l.there.fates ≡ l.fn.there.fates;
       back_fates : l.back.fates ≡ l.fn.back.fates;
+      answers : length l.back.ahead + answers_late l.there.late ≡ length l.fn.back.ahead + answers_late l.fn.there.late;
       grows : stored_next l.fn.receiver ≤ stored_next l.receiver;
     }
 

@@ -1,10 +1,9 @@
-use Rattle.std.proofs.Common.{◌≡◌, ℕ, List, ◌≤◌, ◌-◌, take}
+use Rattle.std.proofs.Common.{◌≡◌, ℕ, List, ◌≤◌, ◌-◌}
 use Rattle.net_receiver.specs.Stored.{Stored}
 use Rattle.net_stream.specs.Outgoing.{end_of}
-use Rattle.net_stream.specs.Frames.{Part, joined}
 use Rattle.net_stream.specs.Reported.{unreported}
 use Rattle.net_stream.specs.Counting.{carrying}
-use Rattle.net_stream.specs.Carrying.{PathSeen, Carries, AreMarked, Sent}
+use Rattle.net_stream.specs.Carrying.{PathSeen, Carries, SentFront}
 use Rattle.net_stream.proofs.link.transmit.Given as goal
 
 -- the parts so far are the first of what the sender keeps
@@ -14,7 +13,7 @@ invariant-loop-pos g l =
       from : l.sender.base ≤ l.pos;
       within : l.pos ≤ end_of l.sender;
       carried : (f : ℕ) (w : List ℕ) (r : Stored) (back : PathSeen) → Carries f w l.sender r l.fn.there back → Carries f w l.sender r l.there back;
-      sent : (parts : List Part) × (joined parts ≡ take (l.pos - l.sender.base) l.sender.queue) × AreMarked l.sender.reported l.sender.base parts × Sent l.sender.base parts l.fn.there l.there;
+      sent : SentFront l.sender l.most (l.pos - l.sender.base) l.fn.there l.there;
       counted : l.counts ≡ carrying (unreported l.sender.reported l.sender.base (l.pos - l.sender.base)) l.fn.counts;
     }
 

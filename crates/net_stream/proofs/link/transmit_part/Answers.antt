@@ -1,16 +1,15 @@
-use Rattle.std.proofs.Common.{◌-◌, ◌^◌, min, true, false, length, ◌≡◌, ◌+◌, ◌<◌, [], ◌++◌, ◌∷◌, ◌∙◌, ap, arith}
-use Rattle.net_stream.specs.Frames.{frame_of}
+use Rattle.std.proofs.Common.{◌-◌, ◌^◌, min, true, false, length, ◌≡◌, ◌+◌, ◌<◌, arith}
 use Rattle.net_stream.specs.Reported.{unreported}
 use Rattle.net_stream.proofs.Carried.{sent_says}
 use Rattle.net_stream.proofs.Ranges.{count_marked, counted_none}
-use Rattle.net_stream.proofs.Reached.{spared_part}
+use Rattle.net_stream.proofs.Reached.{spared_part, sent_part}
 use Rattle.net_stream.proofs.link.transmit_part.Goals as goal
 
 pub returns-then-spared-gt0-clause-sent : goal.returns-then-spared-gt0-clause-sent
 returns-then-spared-gt0-clause-sent g c =
     let from = c.requires.from in
     let kept = c.requires.kept in
-    spared_part c.args.sender.now c.args.pos c.reported_from-spared.result c.args.there.now (omega arith) (c.reported_from-spared.ensures.within (omega arith)) c.reported_from-spared.ensures.inside
+    spared_part c.args.sender.now c.args.max c.args.pos c.reported_from-spared.result c.args.there.now (omega arith) (c.reported_from-spared.ensures.within (omega arith)) c.reported_from-spared.ensures.inside
 
 pub overflow_sub-room : goal.overflow_sub-room
 overflow_sub-room g c = (let above = c.next_reported.ensures.above c.requires.kept in omega arith)
@@ -23,18 +22,12 @@ returns-clause-carried g c = λ f w r back h.
 pub returns-clause-sent : goal.returns-clause-sent
 returns-clause-sent g c =
     let s = c.args.sender.now in
-    let pos = c.args.pos in
-    let n = length c.segment-bytes.result.now in
     let most = c.segment-bytes.ensures.max in
     let above = c.next_reported.ensures.above c.requires.kept in
-    let some : 0 < n = c.segment-bytes.ensures.some c.requires.from c.requires.kept (omega arith) in
-    record {
-      some = some;
-      within = c.segment-bytes.ensures.within some;
-      spared = false;
-      marked = λ q from to. c.next_reported.ensures.between (c.reported_from-spared.ensures.none c.requires.kept (omega arith)) q from (omega arith);
-      sent = c.in_ok-send.ensures.ok ∙ ap (λ xs. record c.args.there.now { ahead = c.args.there.now.ahead ++ frame_of pos xs ∷ [] }) c.segment-bytes.ensures.value;
-    }
+    let some = c.segment-bytes.ensures.some c.requires.from c.requires.kept (omega arith) in
+    let none = c.reported_from-spared.ensures.none c.requires.kept (omega arith) in
+    sent_part s c.args.max c.args.pos c.args.there.now c.send.new.self c.segment-bytes.result.now some (c.segment-bytes.ensures.within some) (omega arith) (λ q from to. c.next_reported.ensures.between none q from (omega arith))
+    c.segment-bytes.ensures.value c.in_ok-send.ensures.ok
 
 pub returns-then-spared-gt0-clause-counted : goal.returns-then-spared-gt0-clause-counted
 returns-then-spared-gt0-clause-counted g c =
