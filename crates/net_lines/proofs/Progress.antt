@@ -1,5 +1,5 @@
 -- What a run writes over bytes that come in pieces.
-use Rattle.std.proofs.Common.{◌≡◌, ℕ, zero, suc, ◌+◌, ◌-◌, ◌<◌, ◌≤◌, List, [], ◌∷◌, ◌++◌, length, take, drop, true, false, ◌==◌, Option, Some, None, Result, Ok, Err, OnOk, IfErr, refl, sym, ◌∙◌, ap, append_assoc, arith, length-append, nat_lt, IfSome}
+use Rattle.std.proofs.Common.{◌≡◌, ℕ, zero, suc, ◌+◌, ◌-◌, ◌<◌, ◌≤◌, List, [], ◌∷◌, ◌++◌, length, take, drop, true, false, ◌==◌, Option, Some, None, Result, Ok, Err, OnOk, IfErr, IsOk, refl, sym, ◌∙◌, ap, append_assoc, arith, length-append, nat_lt, IfSome, true≢false}
 use Rattle.std.specs.List.{position}
 use Rattle.std.specs.Io.KnownBytes.{Appends, Keeps, Consumes, IsAtEnd}
 use Rattle.std.proofs.lemmas.List.{append-nil, take_rest}
@@ -303,7 +303,37 @@ AfterReads-failed rules closing (Some input) now after old new session n state l
         ∙ ap (λ t. c.goes.lines ++ t) (ended-none line none)
 
 -- a flush that fails after a run without a fault is a failed write of all of the text
-pub ErrorOfInput-flush : (all : Transcript) (before left old mid new : Option (List ℕ)) → IfSome before (λ input. (all.fault (lines_of input) ≡ None) × Appends old mid (all.text (lines_of input))) → Keeps mid new → IfSome before (λ input. (e : BenchError) × ErrorOfInput all input left old new e)
+ErrorOfInput-flush : (all : Transcript) (before left old mid new : Option (List ℕ)) → IfSome before (λ input. (all.fault (lines_of input) ≡ None) × Appends old mid (all.text (lines_of input))) → Keeps mid new → IfSome before (λ input. (e : BenchError) × ErrorOfInput all input left old new e)
 ErrorOfInput-flush all None left old mid new h k = tt
 ErrorOfInput-flush all (Some input) left old mid new h k =
     (WriteFailed, (all.text (lines_of input), StartsWith-all (all.text (lines_of input)), Appends-kept old mid new (all.text (lines_of input)) h.1 k))
+
+-- an error of a run, and a flush behind it
+ErrorOfInput-kept : (all : Transcript) (input : List ℕ) (left old mid new : Option (List ℕ)) (e : BenchError) → ErrorOfInput all input left old mid e → Keeps mid new → ErrorOfInput all input left old new e
+ErrorOfInput-kept all input left old mid new (BadCommand n) h k = (h.0, Appends-kept old mid new _ h.1 k)
+ErrorOfInput-kept all input left old mid new (RangeTooLong n) h k = (h.0, Appends-kept old mid new _ h.1 k)
+ErrorOfInput-kept all input left old mid new (LineTooLong n) h k = (h.0, Appends-kept old mid new _ h.1 k)
+ErrorOfInput-kept all input left old mid new (TooManySchedules n) h k = (h.0, Appends-kept old mid new _ h.1 k)
+ErrorOfInput-kept all input left old mid new OutOfMemory h k = (h.0, Appends-kept old mid new _ h.1 k)
+ErrorOfInput-kept all input left old mid new WriteFailed h k = (h.0, h.1, Appends-kept old mid new _ h.2 k)
+ErrorOfInput-kept all input left old mid new ReadFailed h k = (h.0, h.1, h.2, Appends-kept old mid new _ h.3 k, h.4)
+
+-- what a run and a flush behind it leave, however the run ended
+module _ (all : Transcript) (before old mid new : Option (List ℕ)) (k : Keeps mid new) where
+  pub flushed_ok : (r : Result (Unit {0}) BenchError) → IsOk r → OnOk r (IfSome before (λ input. (all.fault (lines_of input) ≡ None) × Appends old mid (all.text (lines_of input))))
+      → IfSome before (λ input. (all.fault (lines_of input) ≡ None) × Appends old new (all.text (lines_of input)))
+  flushed_ok (Err e) is_ok ok = absurd (true≢false (sym is_ok))
+  flushed_ok (Ok done) is_ok ok =
+      elim before as (λ b. IfSome b (λ input. (all.fault (lines_of input) ≡ None) × Appends old mid (all.text (lines_of input))) → IfSome b (λ input. (all.fault (lines_of input) ≡ None) × Appends old new (all.text (lines_of input)))) [
+        | None ↦ λ h. tt
+        | Some input ↦ λ h. (h.0, Appends-kept old mid new _ h.1 k)
+      ] ok
+
+  pub flushed_err : (left : Option (List ℕ)) (r : Result (Unit {0}) BenchError) → OnOk r (IfSome before (λ input. (all.fault (lines_of input) ≡ None) × Appends old mid (all.text (lines_of input))))
+      → IfErr r (λ e. IfSome before (λ input. ErrorOfInput all input left old mid e)) → IfSome before (λ input. (e : BenchError) × ErrorOfInput all input left old new e)
+  flushed_err left (Ok done) ok err = ErrorOfInput-flush all before left old mid new ok k
+  flushed_err left (Err e) ok err =
+      elim before as (λ b. IfSome b (λ input. ErrorOfInput all input left old mid e) → IfSome b (λ input. (e : BenchError) × ErrorOfInput all input left old new e)) [
+        | None ↦ λ h. tt
+        | Some input ↦ λ h. (e, ErrorOfInput-kept all input left old mid new e h k)
+      ] err

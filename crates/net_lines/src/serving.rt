@@ -1,5 +1,5 @@
 //! The program, from its words and streams to its exit status.
-ghost use Rattle.std.specs.Prelude.{◌≡◌, map, IfSome, None, ◌↔◌, string_bytes, ◌≤◌};
+ghost use Rattle.std.specs.Prelude.{◌≡◌, map, IfSome, None, ◌↔◌, string_bytes, ◌≤◌, IsOk};
 ghost use Rattle.std.specs.Io.KnownBytes.{Appends, Keeps};
 ghost use Rattle.net_lines.specs.Transcript.{ErrorOfInput};
 ghost use Rattle.net_lines.specs.Modes.{out, fault, mode_of, transcript_of};
@@ -44,9 +44,19 @@ pub fn serve<A: Allocator + Copy, R: Read, W: Write, E: Write>(
         return 2;
     };
     let outcome = run(alloc, mode, reader, writer);
-    let flushed = writer.flush();
+    let is_flushed = writer.flush().is_ok();
+    status_of(outcome, is_flushed, errors)
+}
+
+/// Returns the status of a run that ended so, and of a flush behind it that didn't fail or did. It
+/// writes the error, if there is one.
+fn status_of<E: Write>(outcome: Result<(), BenchError>, is_flushed: bool, errors: &mut E) -> u8
+    ensures status { result ≤ 1 }
+    ensures ok { result ≡ 0 → IsOk outcome }
+    ensures quiet { result ≡ 0 → Keeps (E.contents errors.old) (E.contents errors.new) }
+{
     let Err(error) = outcome else {
-        if flushed.is_ok() {
+        if is_flushed {
             return 0;
         }
         write_error(errors, BenchError::WriteFailed);
