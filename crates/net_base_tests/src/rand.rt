@@ -35,17 +35,42 @@ fn words_and_states_of_two_seeds(rt: HostRuntime) {
     assert_eq!(rt; first_of_seed_1(&mut one), 788_327_601);
 }
 
+/// Whether a seed's first draw is this.
+fn draws(seed: u64, first: u16) -> bool {
+    Rand::new(seed).rand_u16() == first
+}
+
+/// Whether a seed's second draw is this word.
+fn draws_word_then(seed: u64, word: u32) -> bool {
+    let mut rand = Rand::new(seed);
+    rand.rand_u16();
+    rand.rand_u32() == word
+}
+
+/// Whether a seed's first two draws are these.
+fn draws_twice(seed: u64, first: u16, second: u16) -> bool {
+    let mut rand = Rand::new(seed);
+    rand.rand_u16() == first && rand.rand_u16() == second
+}
+
+/// Whether a seed's first port is this.
+fn gives_port(seed: u64, port: u16) -> bool {
+    Rand::new(seed).rand_source_port() == port
+}
+
+/// Whether a seed's first port takes two draws.
+fn skips_for_port(seed: u64) -> bool {
+    let mut drawn = Rand::new(seed);
+    let mut ported = Rand::new(seed);
+    drawn.rand_u16();
+    drawn.rand_u16();
+    ported.rand_source_port();
+    ported.rand_u32() == drawn.rand_u32()
+}
+
 #[test]
 fn draws_and_ports_of_two_seeds(rt: HostRuntime) {
-    let mut drawn = Rand::new(0);
-    assert_eq!(rt; drawn.rand_u16(), 3);
-    assert_eq!(rt; drawn.rand_u32(), 4_260_165_794);
-    let mut drawn = Rand::new(0);
-    assert_eq!(rt; drawn.rand_u16(), 3);
-    assert_eq!(rt; drawn.rand_u16(), 1358);
-    let mut ported = Rand::new(0);
-    assert_eq!(rt; ported.rand_source_port(), 1358);
-    assert_eq!(rt; ported.rand_u32(), drawn.rand_u32());
-    assert_eq!(rt; Rand::new(1).rand_u16(), 49_741);
-    assert_eq!(rt; Rand::new(1).rand_source_port(), 49_741);
+    let words = draws(0, 3) && draws_word_then(0, 4_260_165_794) && draws(1, 49_741);
+    assert!(rt; words && draws_twice(0, 3, 1358));
+    assert!(rt; gives_port(0, 1358) && gives_port(1, 49_741) && skips_for_port(0));
 }

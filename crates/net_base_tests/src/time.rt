@@ -25,14 +25,20 @@ fn push_filled(text: &mut String, fraction: &str) -> Result<(), AllocError> {
     text.push_str("s")
 }
 
+/// Whether a text was made, and is this one.
+fn is_text<E: Drop>(made: Result<String, E>, text: &str) -> bool {
+    match made {
+        Ok(made) => made.as_str() == text,
+        Err(_) => false,
+    }
+}
+
 /// Whether the value has that text, whatever options are set.
-pub fn shows<T: Display + Drop>(alloc: Global, value: T, text: &str) -> Result<bool, AllocError> {
-    Ok(
-        value.to_string(alloc)?.as_str() == text
-            && format!(in alloc; "{value:>30}")?.as_str() == text
-            && format!(in alloc; "{value:*^8}")?.as_str() == text
-            && format!(in alloc; "{value:<+09}")?.as_str() == text
-            && format!(in alloc; "{value:7}")?.as_str() == text
-            && format!(in alloc; "{value:#.2}")?.as_str() == text,
-    )
+pub fn shows<T: Display + Drop>(alloc: Global, value: T, text: &str) -> bool {
+    is_text(value.to_string(alloc), text)
+        && is_text(format!(in alloc; "{value:>30}"), text)
+        && is_text(format!(in alloc; "{value:*^8}"), text)
+        && is_text(format!(in alloc; "{value:<+09}"), text)
+        && is_text(format!(in alloc; "{value:7}"), text)
+        && is_text(format!(in alloc; "{value:#.2}"), text)
 }

@@ -5,7 +5,7 @@ use std::alloc::{AllocError, Global};
 /// Whether the length's text is that of its seconds and milliseconds.
 fn prints(alloc: Global, micros: u64) -> Result<bool, AllocError> {
     let text = joined(alloc, micros / 1_000_000, micros % 1_000_000 / 1_000)?;
-    shows(alloc, Duration::from_micros(micros), text.as_str())
+    Ok(shows(alloc, Duration::from_micros(micros), text.as_str()))
 }
 
 #[test]
@@ -23,54 +23,66 @@ fn prints_each_fraction_and_each_size(rt: HostRuntime) -> Result<(), AllocError>
     Ok(())
 }
 
+/// Whether the length has these whole seconds, and these parts and totals of it.
+fn splits(duration: Duration, secs: u64, parts: (u64, u64), totals: (u64, u64)) -> bool {
+    duration.secs() == secs
+        && (duration.millis(), duration.micros()) == parts
+        && (duration.total_millis(), duration.total_micros()) == totals
+}
+
 #[test]
-fn prints_and_splits_lengths(rt: HostRuntime) -> Result<(), AllocError> {
-    assert!(rt; shows(rt.alloc(), Duration::MAX, "18446744073709.551s")?);
+fn prints_and_splits_lengths(rt: HostRuntime) {
+    assert!(rt; shows(rt.alloc(), Duration::MAX, "18446744073709.551s"));
     let duration = Duration::from_millis(4_934);
-    assert!(rt; shows(rt.alloc(), duration, "4.934s")?);
-    assert_eq!(rt; duration.secs(), 4);
-    assert_eq!(rt; duration.millis(), 934);
-    assert_eq!(rt; duration.micros(), 934_000);
-    assert_eq!(rt; duration.total_millis(), 4_934);
-    assert_eq!(rt; duration.total_micros(), 4_934_000);
-    Ok(())
+    assert!(rt; shows(rt.alloc(), duration, "4.934s"));
+    assert!(rt; splits(duration, 4, (934, 934_000), (4_934, 4_934_000)));
+}
+
+/// Whether a length is so many microseconds.
+fn is_micros(duration: Duration, micros: u64) -> bool {
+    duration.total_micros() == micros
 }
 
 #[test]
 fn calculates(rt: HostRuntime) {
-    assert_eq!(rt; (Duration::from_millis(53) / 4).total_micros(), 13_250);
-    assert!(rt; Duration::from_millis(13) * 22 == Duration::from_millis(286));
-    assert_eq!(rt;
-        (Duration::MAX << 1).total_micros(),
-        18_446_744_073_709_551_614
-    );
-    assert_eq!(rt; (Duration::MAX >> 63).total_micros(), 1);
-    assert!(rt; !Duration::from_millis(0).can_sub(Duration::from_millis(1)));
-    assert!(rt; !Duration::MAX.can_add(Duration::from_micros(1)));
-    assert!(rt; Duration::MAX.can_mul(1) && !Duration::MAX.can_mul(2));
-    assert!(rt;
-        Duration::from_micros(1) + Duration::from_micros(2) - Duration::from_micros(3)
-            == Duration::ZERO
-    );
-    assert!(rt; Duration::default() == Duration::ZERO);
-    assert!(rt; Duration::ZERO < Duration::MAX);
+    let scaled = is_micros(Duration::from_millis(53) / 4, 13_250)
+        && is_micros(Duration::from_millis(13) * 22, 286_000);
+    let shifted = is_micros(Duration::MAX << 1, 18_446_744_073_709_551_614)
+        && is_micros(Duration::MAX >> 63, 1);
+    let three = Duration::from_micros(1) + Duration::from_micros(2);
+    assert!(rt; scaled && shifted && is_micros(three - Duration::from_micros(3), 0));
+}
+
+#[test]
+fn knows_what_it_can_calculate(rt: HostRuntime) {
+    let none = Duration::from_millis(0);
+    let beyond = none.can_sub(Duration::from_millis(1))
+        || Duration::MAX.can_add(Duration::from_micros(1))
+        || Duration::MAX.can_mul(2);
+    assert!(rt; Duration::MAX.can_mul(1) && !beyond);
+    assert!(rt; Duration::default() == Duration::ZERO && Duration::ZERO < Duration::MAX);
+}
+
+/// Whether a length is so many milliseconds.
+fn is_millis(duration: &Duration, millis: u64) -> bool {
+    duration.total_millis() == millis
 }
 
 #[test]
 fn calculates_in_place(rt: HostRuntime) {
     let mut duration = Duration::from_millis(4);
     duration += Duration::from_millis(6);
-    assert_eq!(rt; duration.total_millis(), 10);
+    let added = is_millis(&duration, 10);
     duration -= Duration::from_millis(3);
-    assert_eq!(rt; duration.total_millis(), 7);
+    let taken = is_millis(&duration, 7);
     duration *= 6;
-    assert_eq!(rt; duration.total_millis(), 42);
+    let times = is_millis(&duration, 42);
     duration /= 2;
-    assert_eq!(rt; duration.total_millis(), 21);
+    let divided = is_millis(&duration, 21);
     duration <<= 2;
-    assert_eq!(rt; duration.total_millis(), 84);
+    let shifted = is_millis(&duration, 84);
     duration >>= 1;
-    assert_eq!(rt; duration.total_millis(), 42);
+    assert!(rt; added && taken && times && divided && shifted && is_millis(&duration, 42));
 }
 
 #[test]

@@ -3,7 +3,7 @@ use net_base::time::{Duration, Instant};
 use std::alloc::{AllocError, Global};
 
 #[test]
-fn prints_moments(rt: HostRuntime) -> Result<(), AllocError> {
+fn prints_moments(rt: HostRuntime) {
     for (millis, text) in [
         (74, "0.074s"),
         (5_674, "5.674s"),
@@ -12,17 +12,19 @@ fn prints_moments(rt: HostRuntime) -> Result<(), AllocError> {
         (-1_500, "-1.-500s"),
     ] {
         assert!(rt; Instant::fits_millis(millis));
-        assert!(rt; shows(rt.alloc(), Instant::from_millis(millis), text)?);
+        assert!(rt;
+            shows(rt.alloc(), Instant::from_millis(millis), text),
+            "at {millis}"
+        );
     }
     let least = Instant::from_micros(i64::MIN);
-    assert!(rt; shows(rt.alloc(), least, "-9223372036854.-775s")?);
-    Ok(())
+    assert!(rt; shows(rt.alloc(), least, "-9223372036854.-775s"));
 }
 
 /// Whether the moment's text is that of its seconds and milliseconds.
 fn prints(alloc: Global, micros: i64) -> Result<bool, AllocError> {
     let text = joined(alloc, micros / 1_000_000, micros % 1_000_000 / 1_000)?;
-    shows(alloc, Instant::from_micros(micros), text.as_str())
+    Ok(shows(alloc, Instant::from_micros(micros), text.as_str()))
 }
 
 #[test]
@@ -41,6 +43,11 @@ fn prints_each_fraction_and_each_size(rt: HostRuntime) -> Result<(), AllocError>
     Ok(())
 }
 
+/// Whether the moment has these whole seconds and these parts of a second.
+fn splits(instant: Instant, secs: i64, parts: (i64, i64)) -> bool {
+    instant.secs() == secs && (instant.millis(), instant.micros()) == parts
+}
+
 #[test]
 fn splits_moments(rt: HostRuntime) {
     for (millis, secs, part_millis, part_micros) in [
@@ -50,11 +57,17 @@ fn splits_moments(rt: HostRuntime) {
     ] {
         assert!(rt; Instant::fits_millis(millis));
         let instant = Instant::from_millis_const(millis);
-        assert_eq!(rt; instant.secs(), secs);
-        assert_eq!(rt; instant.millis(), part_millis);
-        assert_eq!(rt; instant.micros(), part_micros);
-        assert_eq!(rt; instant.total_millis(), millis);
+        let has_parts = splits(instant, secs, (part_millis, part_micros));
+        assert!(rt;
+            has_parts && instant.total_millis() == millis,
+            "at {millis}"
+        );
     }
+}
+
+/// Whether a moment is at so many microseconds.
+fn is_at(moment: &Instant, micros: i64) -> bool {
+    moment.total_micros() == micros
 }
 
 #[test]
@@ -62,20 +75,29 @@ fn adds_up_to_the_ends(rt: HostRuntime) {
     let least = Instant::from_micros(i64::MIN);
     let greatest = Instant::from_micros_const(i64::MAX);
     assert!(rt; least.can_add(Duration::MAX));
-    assert!(rt; least + Duration::MAX == greatest);
+    assert!(rt; is_at(&(least + Duration::MAX), i64::MAX));
     assert!(rt; greatest.can_sub(Duration::MAX));
-    assert!(rt; greatest - Duration::MAX == least);
-    assert!(rt; !least.can_sub(Duration::from_micros(1)));
-    assert!(rt; !Instant::ZERO.can_add(Duration::MAX));
-    assert_eq!(rt; (greatest - least).total_micros(), u64::MAX);
-    assert_eq!(rt; (least - greatest).total_micros(), u64::MAX);
-    assert!(rt; Instant::from_millis(7) - Duration::from_millis(5) == Instant::from_millis(2));
+    assert!(rt; is_at(&(greatest - Duration::MAX), i64::MIN));
+}
+
+#[test]
+fn adds_up_no_further(rt: HostRuntime) {
+    let least = Instant::from_micros(i64::MIN);
+    let greatest = Instant::from_micros_const(i64::MAX);
+    let beyond = least.can_sub(Duration::from_micros(1)) || Instant::ZERO.can_add(Duration::MAX);
+    assert!(rt; !beyond && Instant::ZERO < greatest);
+    assert!(rt; greatest - least == Duration::MAX && least - greatest == Duration::MAX);
+}
+
+#[test]
+fn adds_in_place(rt: HostRuntime) {
+    let earlier = Instant::from_millis(7) - Duration::from_millis(5);
     let mut moment = Instant::from_millis(4);
     moment += Duration::from_millis(6);
-    assert_eq!(rt; moment.total_micros(), 10_000);
+    let later = is_at(&moment, 10_000);
     moment -= Duration::from_millis(11);
-    assert_eq!(rt; moment.total_micros(), -1_000);
-    assert!(rt; moment < Instant::ZERO && Instant::ZERO < greatest);
+    assert!(rt; is_at(&earlier, 2_000) && later && is_at(&moment, -1_000));
+    assert!(rt; moment < Instant::ZERO);
 }
 
 #[test]

@@ -1,6 +1,4 @@
 //! Steps of the tests of the assembler, and how they are taken.
-ghost use Rattle.std.specs.Prelude.{◌≤◌};
-
 use crate::text::is_text;
 use net_storage::{Assembler, Turns};
 use std::alloc::Global;
@@ -166,11 +164,16 @@ pub fn take_steps<const N: usize>(
     }
 }
 
-/// Takes the steps of each table from an assembler with no position on.
-pub fn take_tables<const N: usize>(rt: &impl Abort, alloc: Global, tables: &[&[Step<'_>]])
-    requires { 1 ≤ N }
-{
+/// Takes the steps of each table from an assembler with no position on, which is cleared behind
+/// each.
+pub fn take_tables<const N: usize>(
+    rt: &impl Abort,
+    alloc: Global,
+    assembler: &mut Assembler<N>,
+    tables: &[&[Step<'_>]],
+) {
     for (number, steps) in tables.iter().enumerate() {
-        take_steps(rt, alloc, &mut Assembler::<N>::new(), number, steps);
+        take_steps(rt, alloc, assembler, number, steps);
+        assembler.clear();
     }
 }

@@ -1,8 +1,13 @@
-use Rattle.std.proofs.Common.{rules, ◌≡◌, ◌∙◌, ap, ◌-◌, take, drop, arith}
-use Rattle.net_storage.specs.Ring.{storage_index, spare_index}
+use Rattle.std.proofs.Common.{rules, ◌≡◌, ◌∙◌, ap, ◌-◌, take, drop, arith, ℕ, List, length}
+use Rattle.net_storage.specs.Ring.{RingState, capacity, storage_index, spare_index, written_wrapping}
 use Rattle.net_storage.specs.Overwrite.{overwrite}
-use Rattle.net_storage.proofs.RingFacts.{wrapping_clause, once_clause, ahead_clause, twice_wf}
+use Rattle.net_storage.proofs.Rotations.{length-overwrite}
+use Rattle.net_storage.proofs.RingFacts.{wrapping_clause, once_clause, ahead_clause, once_wf, twice_wf}
 use Rattle.net_storage.proofs.ring_buffer.Ring.write_unallocated.Goals as goal
+
+-- what is written changes neither the count nor the capacity
+same_after : {T : Type 0} (g h : RingState T) (p : ℕ) (ws : List T) → h ≡ written_wrapping g p ws → (h.count ≡ g.count) × (capacity h ≡ capacity g)
+same_after g h p ws e = (ap (λ o. o.count) e, ap capacity e ∙ length-overwrite (overwrite g.storage p ws) 0 (drop (length g.storage - p) ws) ∙ length-overwrite g.storage p ws)
 
 pub invariant_of-self : goal.invariant_of-self
 invariant_of-self g c =
@@ -44,3 +49,18 @@ returns-else-contiguous-count-clause-ring g c =
 pub returns-else-contiguous-count-clause-written : goal.returns-else-contiguous-count-clause-written
 returns-else-contiguous-count-clause-written g c =
     ahead_clause _ _ c.self.view_is c.self.invariant c.args.offset c.span-from.result.count c.args.«data».now _ (omega (arith, c.span-from.ensures.count, c.window.ensures.window)) (returns-else-contiguous-count-clause-ring g c)
+
+pub invariant_of-self-else-contiguous-count : goal.invariant_of-self-else-contiguous-count
+invariant_of-self-else-contiguous-count g c = once_wf _ _ c.self.view_is c.self.invariant c.span-from.result.from c.copy_from_slice.new.self _ (g.met.S.Elements.part_written c.self.inside.storage c.span-from.result.from c.copy_from_slice.new.self)
+
+pub returns-then-contiguous-count-clause-count : goal.returns-then-contiguous-count-clause-count
+returns-then-contiguous-count-clause-count g c = omega (arith, c.span-from.ensures.count, c.window.ensures.window)
+
+pub returns-else-contiguous-count-clause-count : goal.returns-else-contiguous-count-clause-count
+returns-else-contiguous-count-clause-count g c = omega (arith, c.span-from.ensures.count, c.window.ensures.window)
+
+pub returns-then-contiguous-count-clause-same : goal.returns-then-contiguous-count-clause-same
+returns-then-contiguous-count-clause-same g c = same_after c.args.self.now _ (spare_index c.args.self.now c.args.offset) (take c.span-from.result.count c.args.«data».now) (returns-then-contiguous-count-clause-ring g c)
+
+pub returns-else-contiguous-count-clause-same : goal.returns-else-contiguous-count-clause-same
+returns-else-contiguous-count-clause-same g c = same_after c.args.self.now _ (spare_index c.args.self.now c.args.offset) (take c.span-from.result.count c.args.«data».now) (returns-else-contiguous-count-clause-ring g c)
