@@ -5,5 +5,6 @@ pub mod Ranges
 pub mod Arrived
 pub mod Reached
 pub mod Counted
+pub mod Drawn
 pub mod Results
 pub mod Moved

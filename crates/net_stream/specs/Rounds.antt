@@ -5,13 +5,15 @@
 --     RoundCounted s most there back v v' old new      what a round counts, but for refused
 --                                                      segments, and what fates are left
 --     PartCounted v v' old new      what a round counts that ends early
+--     FatesCounted v v' counts      what is counted of the frames of rounds
+--     FatesSoFar v v' u u' counts      the same, with the fates u and u' left
 use Rattle.std.specs.Prelude.{◌≡◌, ℕ, ◌+◌, ◌^◌, nat_lt, if◌then◌else◌}
 use Rattle.std.specs.Prelude.{List, [], ◌∷◌, length, Option, Some, None}
 use Rattle.net_stream.specs.Outgoing.{Outgoing}
 use Rattle.net_stream.specs.Frames.{decoded}
 use Rattle.net_stream.specs.Reported.{unreported}
 use Rattle.net_stream.specs.Fates.{FatesSeen, next_fate, after_fate, after_all, comes}
-use Rattle.net_stream.specs.Counting.{met_all, SameButRefused, carrying}
+use Rattle.net_stream.specs.Counting.{met_all, SameButRefused, carrying, nothing_counted}
 use Rattle.net_stream.specs.Carrying.{PathSeen, SentAll}
 use Rattle.net_stream.specs.declared.counts.Counts.{Counts}
 
@@ -56,3 +58,22 @@ pub record PartCounted (v v' : FatesSeen) (old new : Counts) : Type 0 where
   pub frames : ℕ
   pub acks : ℕ
   pub counted : SameButRefused new (met_all acks v' (met_all frames v (carrying bytes old)))
+
+-- how many frames met each fate, without the other counts
+abbrev pub fates_only : Counts → Counts
+fates_only c = record c { taken = 0; bytes = 0; payload = 0; refused = 0; rounds = 0; micros = 0 }
+
+-- the counts of frames are those of the fates, the first of v and of v', of some frames and of some
+-- acknowledgements
+pub record FatesCounted (v v' : FatesSeen) (counts : Counts) : Type 0 where
+  pub frames : ℕ
+  pub acks : ℕ
+  pub counted : fates_only counts ≡ fates_only (met_all acks v' (met_all frames v nothing_counted))
+
+-- so they are, and u and u' are the fates that are left
+pub record FatesSoFar (v v' u u' : FatesSeen) (counts : Counts) : Type 0 where
+  pub frames : ℕ
+  pub acks : ℕ
+  pub left : u ≡ after_all frames v
+  pub left_back : u' ≡ after_all acks v'
+  pub counted : fates_only counts ≡ fates_only (met_all acks v' (met_all frames v nothing_counted))

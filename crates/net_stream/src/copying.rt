@@ -6,6 +6,8 @@ ghost use Rattle.std.specs.Io.KnownBytes.{Appends, Keeps};
 ghost use Rattle.net_receiver.specs.Stored.{Stored};
 ghost use Rattle.net_stream.specs.Outgoing.{Outgoing};
 ghost use Rattle.net_stream.specs.Carrying.{PathSeen, Carries};
+ghost use Rattle.net_stream.specs.Fates.{FatesSeen};
+ghost use Rattle.net_stream.specs.Rounds.{fates_only, FatesCounted, FatesSoFar};
 ghost use Rattle.net_stream.specs.Copying.{Moving, HandedOut, HandedFront, WroteFront, Copied};
 ghost use Rattle.net_stream.specs.Copying.{gave_up, wrote_all, counts_all, FlushedAfter};
 
@@ -91,6 +93,7 @@ fn feed<R: Read>(
         → Moving f sender.new r there back old (R.remaining reader.new) held holds more.new }
     ensures kind { IfErr result (λ e. (gave_up e ≡ false) × (wrote_all e ≡ true)) }
     ensures bytes { counts.new.bytes ≡ counts.old.bytes }
+    ensures fates { fates_only counts.new ≡ fates_only counts.old }
 {
     laws::truthful();
     let room = sender.window().min(chunk.len());
@@ -163,6 +166,11 @@ fn step<A: Allocator + Copy, R: Read, W: Write, const N: usize>(
         → Copied old (R.remaining reader.new) held (W.contents writer.new)
         counts.new.bytes false (wrote_all e)) }
     ensures kind { IfErr result (λ e. gave_up e ≡ false) }
+    ensures fates { (v v' : FatesSeen) →
+        FatesSoFar v v' there.old.fates back.old.fates counts.old → FatesCounted v v' counts.new }
+    ensures left { OnOk result ((v v' : FatesSeen) →
+        FatesSoFar v v' there.old.fates back.old.fates counts.old
+        → FatesSoFar v v' there.new.fates back.new.fates counts.new) }
 {
     laws::truthful();
     if let Err(error) = feed(sender, reader, chunk, more, counts) {
@@ -212,6 +220,7 @@ fn exchange<A: Allocator + Copy, R: Read, W: Write, const N: usize>(
         (W.contents writer.old) (W.contents writer.new)
         counts.new.bytes (is_ok result) (counts_all result) }
     ensures gave_up { IfErr result (λ e. gave_up e ≡ true → settings.rounds ≤ counts.new.rounds) }
+    ensures fates { FatesCounted there.old.fates back.old.fates counts.new }
 {
     laws::truthful();
     let mut more = true;
@@ -285,6 +294,7 @@ pub fn copy_over<A: Allocator + Copy, R: Read, W: Write>(
         (W.contents writer.old) (W.contents writer.new)
         counts.new.bytes (is_ok result) (counts_all result) }
     ensures gave_up { IfErr result (λ e. gave_up e ≡ true → settings.rounds ≤ counts.new.rounds) }
+    ensures fates { FatesCounted fates.entry ack_fates.entry counts.new }
 {
     let mut sender = Sender::new_at(ManagedSlice::Borrowed(outgoing), settings.first);
     let mut receiver = Receiver::<MOST_RUNS>::new_at(
@@ -319,7 +329,7 @@ fn storage_of<A: Allocator + Copy>(alloc: A, len: usize) -> Result<Vec<u8, A>, A
 ///
 /// Whatever becomes of them, what is written is a front of what was read, and all of it, to the
 /// reader's end, if the result is `Ok`. `counts.bytes` says how long that front is, but after a
-/// failed write. It gives up after so many rounds in a row that brought nothing on. At the end the
+/// failed write; what it counts of lost, repeated and late frames are their fates. It gives up after so many rounds in a row that brought nothing on. At the end the
 /// writer is flushed once; if all was written, a flush that fails is a failed write. A stream that
 /// uses all positions up to 2^64 - 2 gives up: the reader's end isn't looked for once none is left.
 pub fn copy<A: Allocator + Copy, R: Read, W: Write>(
@@ -335,6 +345,7 @@ pub fn copy<A: Allocator + Copy, R: Read, W: Write>(
         (W.contents writer.old) (W.contents writer.new)
         counts.new.bytes (is_ok result) (counts_all result) }
     ensures gave_up { IfErr result (λ e. gave_up e ≡ true → settings.rounds ≤ counts.new.rounds) }
+    ensures fates { FatesCounted fates.entry ack_fates.entry counts.new }
 {
     *counts = Counts::new();
     let Ok(mut outgoing) = storage_of(alloc, settings.capacity) else {

@@ -1,4 +1,6 @@
-use Rattle.std.proofs.Common.{[], ◌≤◌, ap, arith}
+use Rattle.std.proofs.Common.{[], ◌≤◌, ◌∙◌, ap, arith}
+use Rattle.net_stream.specs.Counting.{met_all, nothing_counted}
+use Rattle.net_stream.specs.Rounds.{fates_only}
 use Rattle.net_stream.proofs.Moved.{nothing_moved, flushed, gave_up_after}
 use Rattle.net_stream.proofs.copying.copy_over.Goals as goal
 
@@ -20,3 +22,15 @@ returns-clause-copied g c =
 
 pub returns-clause-gave_up : goal.returns-clause-gave_up
 returns-clause-gave_up g c = gave_up_after (c.args.settings.rounds ≤ c.exchange-ended.new.counts.rounds) c.exchange-ended.result c.flush_after.result c.flush_after.ensures.ended c.exchange-ended.ensures.gave_up
+
+pub returns-clause-fates : goal.returns-clause-fates
+returns-clause-fates g c =
+    let all = c.exchange-ended.ensures.fates in
+    record {
+      frames = all.frames;
+      acks = all.acks;
+      counted =
+          all.counted
+          ∙ ap (λ v. fates_only (met_all all.acks c.new-back.result.fates (met_all all.frames v nothing_counted))) (ap (λ p. p.fates) c.new-there.ensures)
+          ∙ ap (λ v. fates_only (met_all all.acks v (met_all all.frames c.args.fates nothing_counted))) (ap (λ p. p.fates) c.new-back.ensures);
+    }

@@ -1,5 +1,8 @@
 use Rattle.std.proofs.Common.{◌≡◌, ◌∙◌, true, sym}
 use Rattle.net_stream.specs.Copying.{Moving, wrote_all}
+use Rattle.net_stream.specs.Carrying.{most_of}
+use Rattle.net_stream.specs.Rounds.{RoundCounted, PartCounted}
+use Rattle.net_stream.proofs.Drawn.{fates_kept, part_met, round_met, met_so_far, was_ok, was_err}
 use Rattle.net_stream.proofs.Moved.{passed, handed, handed_less, so_far, all_done}
 use Rattle.net_stream.proofs.Reached.{first_is}
 use Rattle.net_stream.proofs.copying.step.Goals as goal
@@ -43,3 +46,48 @@ returns-clause-ok g c = λ old held m.
           all_done c.args.first old (g.R.Read.remaining c.feed.new.reader) held c.truthful.ensures.queue c.pass_round-passed.new.sender c.hand_out.new.receiver c.pass_round-passed.new.there c.pass_round-passed.new.back (g.W.Write.contents c.hand_out.new.writer) c.feed.new.more
           c.bytes_read-counts.result bytes all.0 all.1 all.2 moved,
     )
+
+pub returns-in-Err-clause-fates : goal.returns-in-Err-clause-fates
+returns-in-Err-clause-fates g c = λ v v' h.
+    let there = c.args.there.now.fates in
+    let back = c.args.back.now.fates in
+    met_so_far v v' there back c.feed.new.counts (fates_kept v v' there back c.args.counts.now c.feed.new.counts c.feed.ensures.fates h)
+
+pub returns-then-is_err-clause-fates : goal.returns-then-is_err-clause-fates
+returns-then-is_err-clause-fates g c = λ v v' h.
+    let there = c.args.there.now.fates in
+    let back = c.args.back.now.fates in
+    let part = was_err (PartCounted there back c.feed.new.counts c.pass_round-passed.new.counts) c.pass_round-passed.result (sym c.is_err.ensures.value ∙ c.if-is_err.true) c.pass_round-passed.ensures.err in
+    let all = part_met v v' there back c.feed.new.counts c.pass_round-passed.new.counts part (fates_kept v v' there back c.args.counts.now c.feed.new.counts c.feed.ensures.fates h) in
+    record { frames = all.frames; acks = all.acks; counted = all.counted }
+
+pub returns-in-Err-hand_out-clause-fates : goal.returns-in-Err-hand_out-clause-fates
+returns-in-Err-hand_out-clause-fates g c = λ v v' h.
+    let t0 = c.args.there.now in
+    let b0 = c.args.back.now in
+    let t1 = c.pass_round-passed.new.there.fates in
+    let b1 = c.pass_round-passed.new.back.fates in
+    let s = c.feed.new.sender in
+    let most = most_of c.args.max in
+    let d = c.pass_round-passed.new.counts in
+    let round = was_ok (RoundCounted s most t0 b0 t1 b1 c.feed.new.counts d) c.pass_round-passed.result (sym c.is_err.ensures.value ∙ c.if-is_err.false) c.pass_round-passed.ensures.counted in
+    let all = round_met v v' s most t0 b0 t1 b1 c.feed.new.counts d round (fates_kept v v' t0.fates b0.fates c.args.counts.now c.feed.new.counts c.feed.ensures.fates h) in
+    record { frames = all.frames; acks = all.acks; counted = all.counted }
+
+pub returns-clause-left : goal.returns-clause-left
+returns-clause-left g c = λ v v' h.
+    let t0 = c.args.there.now in
+    let b0 = c.args.back.now in
+    let t1 = c.pass_round-passed.new.there.fates in
+    let b1 = c.pass_round-passed.new.back.fates in
+    let s = c.feed.new.sender in
+    let most = most_of c.args.max in
+    let d = c.pass_round-passed.new.counts in
+    let round = was_ok (RoundCounted s most t0 b0 t1 b1 c.feed.new.counts d) c.pass_round-passed.result (sym c.is_err.ensures.value ∙ c.if-is_err.false) c.pass_round-passed.ensures.counted in
+    let all = round_met v v' s most t0 b0 t1 b1 c.feed.new.counts d round (fates_kept v v' t0.fates b0.fates c.args.counts.now c.feed.new.counts c.feed.ensures.fates h) in
+    record { frames = all.frames; acks = all.acks; left = all.left; left_back = all.left_back; counted = all.counted }
+
+pub returns-clause-fates : goal.returns-clause-fates
+returns-clause-fates g c = λ v v' h.
+    let all = returns-clause-left g c v v' h in
+    record { frames = all.frames; acks = all.acks; counted = all.counted }
