@@ -329,9 +329,10 @@ fn storage_of<A: Allocator + Copy>(alloc: A, len: usize) -> Result<Vec<u8, A>, A
 ///
 /// Whatever becomes of them, what is written is a front of what was read, and all of it, to the
 /// reader's end, if the result is `Ok`. `counts.bytes` says how long that front is, but after a
-/// failed write; what it counts of lost, repeated and late frames are their fates. It gives up after so many rounds in a row that brought nothing on. At the end the
-/// writer is flushed once; if all was written, a flush that fails is a failed write. A stream that
-/// uses all positions up to 2^64 - 2 gives up: the reader's end isn't looked for once none is left.
+/// failed write; what it counts of lost, repeated and late frames are their fates. It gives up after
+/// so many rounds in a row that brought nothing on. At the end the writer is flushed once; if all
+/// was written, a flush that fails is a failed write. A stream that uses all positions up to
+/// 2^64 - 2 gives up: the reader's end isn't looked for once none is left.
 pub fn copy<A: Allocator + Copy, R: Read, W: Write>(
     alloc: A,
     settings: Settings,

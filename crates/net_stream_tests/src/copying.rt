@@ -1,9 +1,9 @@
 //! Copies over links of known fates: what arrives, what is counted, and how each error ends.
 
-use crate::streams::{Sink, Source};
 use net_stream::{Counts, Fate, Fates, Rates, Settings, copy, copy_over};
-use net_testing::Refusing;
+use net_testing::{NEVER, Refusing, Sink, Source};
 use std::alloc::{Allocator, Global};
+use std::io::ErrorKind;
 use std::test::Fail;
 
 /// A link that loses, repeats and delays nothing.
@@ -225,27 +225,28 @@ fn each_lent_storage_has_its_own_use(rt: HostRuntime) -> Result<(), Fail> {
 fn each_refusal_ends_a_copy(rt: HostRuntime) -> Result<(), Fail> {
     // The request that is refused, the read, the write and the flush that fail, the end and how
     // much came.
-    let never = usize::MAX;
+    let other = Some(ErrorKind::Other);
     let cases = [
-        (0, never, never, false, "out of memory", 0),
-        (1, never, never, false, "out of memory", 0),
-        (2, never, never, false, "out of memory", 0),
-        (3, never, never, false, "out of memory", 0),
-        (4, never, never, false, "out of memory", 0),
-        (never, 0, never, false, "read failed", 0),
-        (never, 1, never, false, "read failed", 6),
-        (never, never, 0, false, "write failed", 0),
-        (never, never, 1, false, "write failed", 4),
-        (never, never, never, true, "write failed", 6),
-        (never, never, never, false, "Ok", 6),
+        (0, NEVER, NEVER, None, "out of memory", 0),
+        (1, NEVER, NEVER, None, "out of memory", 0),
+        (2, NEVER, NEVER, None, "out of memory", 0),
+        (3, NEVER, NEVER, None, "out of memory", 0),
+        (4, NEVER, NEVER, None, "out of memory", 0),
+        (NEVER, 0, NEVER, None, "read failed", 0),
+        (NEVER, 1, NEVER, None, "read failed", 6),
+        (NEVER, NEVER, 0, None, "write failed", 0),
+        (NEVER, NEVER, 1, None, "write failed", 4),
+        (NEVER, NEVER, NEVER, other, "write failed", 6),
+        (NEVER, NEVER, NEVER, None, "Ok", 6),
     ];
-    for (refused, read_fails, write_fails, flush_fails, end, count) in cases {
+    for (refused, read_fails, write_fails, flush_kind, end, count) in cases {
         let heap = Refusing::new(rt.alloc(), refused);
         let mut source = Source::new(b"abcdef");
         source.failing_call = read_fails;
         let mut sink = Sink::new(rt.alloc())?;
         sink.failing_call = write_fails;
-        sink.flush_fails = flush_fails;
+        sink.kind = other;
+        sink.flush_kind = flush_kind;
         sink.bytes_per_call = 4;
         let mut counts = Counts::new();
         let told = ending(

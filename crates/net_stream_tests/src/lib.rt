@@ -6,5 +6,3 @@
 
 #[cfg(test)]
 mod copying;
-#[cfg(test)]
-mod streams;

@@ -4,7 +4,7 @@ use Rattle.net_receiver.specs.Stored.{stored_next, domain}
 use Rattle.net_stream.specs.Frames.{frame_of}
 use Rattle.net_stream.specs.Reported.{most_reported}
 use Rattle.net_stream.proofs.Ranges.{answer_tells}
-use Rattle.net_stream.proofs.Results.{OnOk-map}
+use Rattle.std.proofs.lemmas.Result.{on_ok_weaker}
 use Rattle.net_stream.proofs.link.answer.Goals as goal
 
 pub returns-clause-tells : goal.returns-clause-tells
@@ -17,6 +17,6 @@ returns-clause-tells g c =
 pub returns-clause-ok : goal.returns-clause-ok
 returns-clause-ok g c =
     let back = c.args.back.now in
-    OnOk-map c.send.result
+    on_ok_weaker c.send.result
     (λ e. e ∙ (λ i. record back { ahead = back.ahead ++ frame_of (c.next.ensures i) (c.list_held-len.ensures.listed i) ∷ [] }))
     c.send.ensures.ok

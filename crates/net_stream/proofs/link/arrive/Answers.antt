@@ -7,7 +7,7 @@ use Rattle.net_stream.specs.Outgoing.{end_of}
 use Rattle.net_stream.specs.Carrying.{Carries, answer_of}
 use Rattle.net_stream.specs.Progress.{reach_one}
 use Rattle.net_stream.proofs.Arrived.{past_arrived, past_answer, past_counted, taken_arrived, taken_answer, taken_counted}
-use Rattle.net_stream.proofs.Results.{OnOk-map}
+use Rattle.std.proofs.lemmas.Result.{on_ok_weaker}
 use Rattle.net_stream.proofs.Carried.{took, answered, either}
 use Rattle.net_stream.proofs.Reached.{says_ends, segment_reaches, no_word_reaches}
 use Rattle.net_stream.proofs.link.arrive.Goals as goal
@@ -55,7 +55,7 @@ pub returns-clause-answers : goal.returns-clause-answers
 returns-clause-answers g c =
     let pos = c.in-Some.pos in
     let xs = c.in-Some.payload.now in
-    OnOk-map c.answer.result (λ e. e ∙ taken_answer g.row.N c.segment.new.self _ pos xs c.in-Some.ensures c.args.back.now (c.fits.ensures.0 c.if-not-fits.false)) c.answer.ensures.ok
+    on_ok_weaker c.answer.result (λ e. e ∙ taken_answer g.row.N c.segment.new.self _ pos xs c.in-Some.ensures c.args.back.now (c.fits.ensures.0 c.if-not-fits.false)) c.answer.ensures.ok
 
 pub returns-clause-counted : goal.returns-clause-counted
 returns-clause-counted g c =

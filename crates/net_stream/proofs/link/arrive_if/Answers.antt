@@ -2,7 +2,7 @@ use Rattle.std.proofs.Common.{◌+◌, cond, length, sym, ap, ◌∙◌}
 use Rattle.net_stream.specs.Frames.{decoded}
 use Rattle.net_stream.specs.Rounds.{answers_to}
 use Rattle.net_stream.proofs.Counted.{same_refusing, answers_one}
-use Rattle.net_stream.proofs.Results.{OnOk-map}
+use Rattle.std.proofs.lemmas.Result.{on_ok_weaker}
 use Rattle.net_stream.proofs.link.arrive_if.Goals as goal
 
 pub returns-clause-counted : goal.returns-clause-counted
@@ -12,6 +12,6 @@ pub returns-clause-answers : goal.returns-clause-answers
 returns-clause-answers g c =
     let back = c.args.back.now in
     let o = decoded c.args.frame.now in
-    OnOk-map c.arrive.result
+    on_ok_weaker c.arrive.result
     (λ e. ap (λ p. length p.ahead) e ∙ answers_one c.arrive.new.receiver o back ∙ ap (λ b. length back.ahead + cond b (answers_to o) 0) (sym c.if-not-comes.false ∙ c.comes.ensures))
     c.arrive.ensures.answers

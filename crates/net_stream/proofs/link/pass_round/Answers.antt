@@ -14,7 +14,8 @@ use Rattle.net_stream.specs.Progress.{Reaches, acked_all}
 use Rattle.net_stream.proofs.Carried.{answered}
 use Rattle.net_stream.proofs.Reached.{room_same, sent_reaches, first_is, acked_to_end}
 use Rattle.net_stream.proofs.Counted.{same_equal, same_met}
-use Rattle.net_stream.proofs.Results.{OnOk-map, OnOk-both, OnErr-map, OnErr-always}
+use Rattle.std.proofs.lemmas.Result.{on_ok_weaker, on_err_weaker}
+use Rattle.net_stream.proofs.Results.{OnOk-both, OnErr-always}
 use Rattle.net_stream.proofs.link.pass_round.Goals as goal
 
 pub returns-in_err-transmit-clause-carried : goal.returns-in_err-transmit-clause-carried
@@ -41,7 +42,7 @@ returns-clause-carried g c = λ f w h.
     c.pass_acks.ensures.carried f w r there (c.pass_late_acks.ensures.carried f w r there told)
 
 pub returns-clause-progress : goal.returns-clause-progress
-returns-clause-progress g c = OnOk-map c.pass_acks.result
+returns-clause-progress g c = on_ok_weaker c.pass_acks.result
     (λ acked f w carries room come come_back.
     let s = c.args.sender.now in
     let r1 = c.pass_late_frames.new.receiver in
@@ -151,7 +152,7 @@ returns-in_err-answer-clause-err g c =
     })
 
 pub returns-clause-err : goal.returns-clause-err
-returns-clause-err g c = OnErr-map c.pass_acks.result
+returns-clause-err g c = on_err_weaker c.pass_acks.result
     (λ acked.
     let s = c.args.sender.now in
     let t2 = c.pass_late_frames.new.there in
