@@ -46,6 +46,8 @@ def table(seen, seconds):
 
 
 def main():
+    if len(sys.argv) > 1:
+        sys.exit(__doc__)
     seen, begun = {}, time.monotonic()
     gate = subprocess.Popen(["rt", "ci"], cwd=pathlib.Path(__file__).resolve().parent.parent, stdout=sys.stderr)
     while gate.poll() is None:
