@@ -1,8 +1,10 @@
 #!/usr/bin/env python3
 """SMOLTCP=path timing.py [--samples N] [--milliseconds N] [--only WORD] [--lines N] [--runs N] [--svg FILE]
+SMOLTCP=path timing.py --peers [--samples N] [--milliseconds N] [--only WORD]
 
 Times the workloads of crates/net_perf over the port and over smoltcp in turns, and whole runs of net_bench beside
 a plain program over smoltcp. Prints tables in Markdown; --svg writes the plot. Status 1 where results differ.
+With --peers: the workloads over the port and over types of std in turns, and the memory of both.
 """
 import argparse
 import datetime
@@ -30,6 +32,8 @@ def workloads(built, arguments):
     words += ["--milliseconds", str(arguments.milliseconds)]
     if arguments.only:
         words += ["--only", arguments.only]
+    if arguments.peers:
+        words += ["--peers"]
     done = subprocess.run(words, stdout=subprocess.PIPE, text=True)
     lines = [line.split("\t") for line in done.stdout.splitlines()]
     differ = [line[1] for line in lines if line[0] == "DIFFER"]
@@ -43,17 +47,27 @@ def mean(ratios):
     return math.exp(statistics.fmean(map(math.log, ratios)))
 
 
-def workload_tables(rows):
+def workload_tables(rows, other="Original", ratios=("Pairs", "Noise")):
+    ratios = " | ".join(ratios)
     groups = {}
     for group, _, _, _, pairs, _, _, noise, _, _ in rows:
         groups.setdefault(group, []).append((pairs, noise))
-    print("| Group | Pairs | Noise |\n|---|---:|---:|")
-    for group, ratios in groups.items():
-        pairs, noise = zip(*ratios)
+    print(f"| Group | {ratios} |\n|---|---:|---:|")
+    for group, both in groups.items():
+        pairs, noise = zip(*both)
         print(f"| {group} | {mean(pairs):.2f} | {mean(noise):.2f} |")
-    print("\n| Row | Original, ns | Here, ns | Pairs | Noise |\n|---|---:|---:|---:|---:|")
+    print(f"\n| Row | {other}, ns | Here, ns | {ratios} |\n|---|---:|---:|---:|---:|")
     for _, name, original, port, pairs, _, _, noise, _, _ in rows:
         print(f"| {name} | {original:.2f} | {port:.2f} | {pairs:.2f} | {noise:.2f} |")
+
+
+def memory_table(built):
+    """What it takes to hold each second byte of 65,536 before the first one has come."""
+    done = subprocess.run([built / "memory"], stdout=subprocess.PIPE, text=True, check=True)
+    print("\n| Type | Held | Refused | Bytes asked for | Bytes spent |\n|---|---:|---:|---:|---:|")
+    for line in done.stdout.splitlines():
+        name, *numbers = line.split("\t")
+        print(f"| {name} | {' | '.join(f'{int(number):,}' for number in numbers)} |")
 
 
 def inputs(count):
@@ -130,16 +144,23 @@ def main():
     parser.add_argument("--lines", type=int, default=200_000)
     parser.add_argument("--runs", type=int, default=9)
     parser.add_argument("--svg")
+    parser.add_argument("--peers", action="store_true")
     arguments = parser.parse_args()
+    if arguments.peers:
+        arguments.lines = 0
     smoltcp = common.need()
     libraries = f"{common.static_library('net_perf')}:{common.allocator()}"
     built = common.cargo("release", ["driver", "again", "plain"], smoltcp, PORT_LIBS=libraries, RUSTFLAGS=FLAGS)
     bench = common.program("net_bench", ["ring", "1"]) if arguments.lines else None
     print(f"{datetime.date.today()}; {machine()}; {arguments.samples} samples of {arguments.milliseconds:g} ms a row\n")
     rows, differ = workloads(built, arguments)
-    workload_tables(rows)
-    if arguments.svg:
-        Path(arguments.svg).write_text(plot.svg(rows))
+    if arguments.peers:
+        workload_tables(rows, "Std", ("Here by std", "smoltcp by std"))
+        memory_table(built)
+    else:
+        workload_tables(rows)
+        if arguments.svg:
+            Path(arguments.svg).write_text(plot.svg(rows))
     if arguments.lines:
         print(f"\n{arguments.runs} whole runs of each program, in turns\n")
         differ += whole_runs(bench, built / "plain", arguments.lines, arguments.runs)

@@ -1,13 +1,23 @@
 #!/usr/bin/env python3
-"""Looks for each block of Rattle that a page quotes in the sources.
+"""Looks for what the pages quote in the sources.
 
-A block between the lines ```rust and ``` of README.md or of a crates/*/CALLING.md has to stand, line
-by line, in one file crates/*/src/**/*.rt, which the prover checks. How far it is indented doesn't
-matter, nor does the attribute `#![tactic(auto)]`, which stands in each crate's root. Says which
-blocks do not stand there, and ends with status 1 if there is one.
+The pages are README.md, docs/*.md and crates/*/CALLING.md. Of their blocks between ``` lines,
+
+- one marked `rust` has to stand, line by line, in one file crates/*/src/**/*.rt, which the prover checks. How
+  far it is indented doesn't matter, nor does the attribute `#![tactic(auto)]`, which stands in each crate's
+  root;
+- of one marked `text`, which tells contracts, each line that has a clause in braces has to stand in one file,
+  in order, but for a remark behind two spaces or more. Of each other function in it, `fn NAME` or
+  `fn TYPE::NAME`, a function of this name has to stand in the sources of the page's crate, and have each clause
+  that the block names, as `ensures NAME:` or `ensures NAME, NAME:`. What a clause says is compared too, `S`
+  standing for what `self` points to before a call and `S'` for that after it: it says how many clauses are
+  quoted and how many retold, in other words or shortened.
+
+Says what does not stand in the sources, and ends with status 1 if there is anything.
 """
 
 import pathlib
+import re
 import sys
 
 ROOT = pathlib.Path(__file__).resolve().parent.parent
@@ -20,14 +30,14 @@ def dedented(lines):
     return [line[cut:].rstrip() for line in lines]
 
 
-def blocks(page):
-    """The quoted blocks of a page, each with the number of its first line."""
+def blocks(page, kind):
+    """The blocks of a page that are marked so, each with the number of its first line."""
     block, begins = None, 0
     for number, line in enumerate(page.read_text().splitlines(), 1):
-        if block is None and line.strip() == "```rust":
+        if block is None and line.strip() == "```" + kind:
             block, begins = [], number + 1
         elif block is not None and line.strip() == "```":
-            yield begins, dedented(without_root_attribute(block))
+            yield begins, block
             block = None
         elif block is not None:
             block.append(line)
@@ -52,21 +62,115 @@ def stands_in(block, source):
     return False
 
 
+def stands_in_order(block, source):
+    """Whether each line of the block, but for its remark, stands in the source, in this order."""
+    lines = iter(line.strip() for line in source)
+    return all(re.split(r"\s{2,}", line.strip())[0] in lines for line in block if line.strip())
+
+
+def plain(clause):
+    """What a clause says, with one name for what `self` points to, and no more spaces than needed."""
+    clause = clause.replace("S'", "self.new")
+    clause = re.sub(r"(?<![\w.])S(?![\w'])", "self.old", clause)
+    clause = re.sub(r"\.entry|\.now|[«»]", "", clause.replace("self.now", "self.old"))
+    return re.sub(r"\s+", " ", clause).strip()
+
+
+def contract(lines):
+    """A function's lines from its first on, up to its body or to the semicolon in its place."""
+    depth = 0
+    for end, line in enumerate(lines):
+        if depth == 0 and line.strip() in ("{", "{}"):
+            return lines[:end]
+        depth += line.count("{") - line.count("}")
+        if depth == 0 and line.endswith(";") or depth == 1 and line.endswith("{"):
+            return lines[: end + 1]
+    return lines
+
+
+def functions(crate):
+    """Of each function in a crate's sources, by name: its clauses, by name. A clause without one has ''."""
+    found = {}
+    for path in sorted(crate.glob("src/**/*.rt")):
+        lines = [line for line in path.read_text().splitlines() if not line.strip().startswith("//")]
+        for start, line in enumerate(lines):
+            function = re.match(r"\s*(?:pub(?:\(crate\))? )?(?:const )?fn (\w+)", line)
+            if not function:
+                continue
+            clauses = found.setdefault(function.group(1), {})
+            text = "\n".join(contract(lines[start:])).rstrip(" ;{")
+            for part in re.split(r"\n\s*(?=(?:ensures|requires)\b)", text)[1:]:
+                clause = re.match(r"(?:ensures|requires)\*? ?(\w*) \{([\s\S]*)\}?$", part)
+                if clause:
+                    clauses.setdefault(clause.group(1), set()).add(plain(clause.group(2).rstrip(" }\n")))
+    return found
+
+
+def told(block):
+    """Each function that a block tells of: its name, and its clauses, each with its names and what it says."""
+    name, clauses = None, []
+    for part in block:
+        if re.match(r"(impl|trait|struct|enum|\w+ +seen as)\b", part) and name:
+            yield name, clauses
+            name, clauses = None, []
+        heading = re.match(r"\s*(?:pub )?fn (?:\w+::)*(\w+)", part)
+        if heading:
+            if name:
+                yield name, clauses
+            name, clauses = heading.group(1), []
+        for place, piece in enumerate(re.split(r"\s{4,}", part.strip())):
+            clause = re.match(r"(?:ensures|requires)\*? (\w+(?:, \w+)*): (.*)$", piece)
+            if place > 0 and not clause and clauses:
+                clause = re.match(r"(\w+): (.*)$", piece)
+            if clause:
+                clauses.append((clause.group(1).split(", "), clause.group(2)))
+            elif clauses and part.startswith("    ") and not heading:
+                clauses[-1] = clauses[-1][0], clauses[-1][1] + " " + piece
+    if name:
+        yield name, clauses
+
+
 def main():
-    sources = [
-        path.read_text().splitlines()
-        for path in sorted(ROOT.glob("crates/*/src/**/*.rt"))
-    ]
-    pages = [ROOT / "README.md", *sorted(ROOT.glob("crates/*/CALLING.md"))]
-    found, missing = 0, 0
+    crates = sorted(ROOT.glob("crates/*"))
+    sources = [path.read_text().splitlines() for path in sorted(ROOT.glob("crates/*/src/**/*.rt"))]
+    known = {crate: functions(crate) for crate in crates}
+    pages = [ROOT / "README.md", *sorted(ROOT.glob("docs/*.md")), *sorted(ROOT.glob("crates/*/CALLING.md"))]
+    counts = {"blocks": 0, "quoted": 0, "retold": 0}
+    missing = 0
+
+    def miss(page, number, what):
+        nonlocal missing
+        missing += 1
+        print(f"{page.relative_to(ROOT)}:{number}: {what}")
+
     for page in pages:
-        for number, block in blocks(page):
+        for number, block in blocks(page, "rust"):
+            block = dedented(without_root_attribute(block))
             if block and any(stands_in(block, source) for source in sources):
-                found += 1
+                counts["blocks"] += 1
             else:
-                missing += 1
-                print(f"{page.relative_to(ROOT)}:{number}: stands in no source: {block[:1]}")
-    print(f"{found} quoted blocks stand in the sources, {missing} do not")
+                miss(page, number, f"stands in no source: {block[:1]}")
+        for number, block in blocks(page, "text"):
+            if any(re.match(r"\s*(ensures|requires)[^:]*\{", line) for line in block):
+                if any(stands_in_order(block, source) for source in sources):
+                    counts["blocks"] += 1
+                else:
+                    miss(page, number, f"stands in no source: {block[:1]}")
+                continue
+            for name, clauses in told(block):
+                here = known.get(page.parent, {}).get(name)
+                if here is None:
+                    miss(page, number, f"there is no function {name}")
+                    continue
+                for names, says in clauses:
+                    for clause in names:
+                        if clause not in here:
+                            miss(page, number, f"{name} has no clause {clause}")
+                    quoted = len(names) == 1 and plain(says).rstrip(" }") in here.get(names[0], set())
+                    counts["quoted" if quoted else "retold"] += 1
+    print(f"{counts['blocks']} quoted blocks stand in the sources")
+    print(f"of the contracts that pages tell, {counts['quoted']} clauses are quoted and {counts['retold']} retold")
+    print(f"{missing} things stand in no source")
     return 1 if missing else 0
 
 

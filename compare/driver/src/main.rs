@@ -1,17 +1,19 @@
-//! Times the port, smoltcp, and smoltcp built a second time, in turns in one process.
+//! Times the port, smoltcp, and smoltcp built a second time, in turns in one process; with `--peers` the port,
+//! a type of std, and smoltcp.
 //!
-//! `driver AGAIN.so [--samples N] [--milliseconds N] [--only WORD]`: a line of words, parted by tabs, for each
-//! row. Status 1 if a checksum, the storage or the sink differs.
+//! `driver AGAIN.so [--peers] [--samples N] [--milliseconds N] [--only WORD]`: a line of words, parted by tabs,
+//! for each row. Status 1 if a checksum, the storage or the sink differs.
 mod port;
 mod rows;
 
+use peers::PEERS;
 use port::PORT;
 use rows::Row;
 use std::ffi::{CString, c_char, c_int, c_void};
 use std::hint::black_box;
 use std::process::ExitCode;
 use std::time::Instant;
-use workloads::{COUNT, Memory, ORIGINAL, Part, Workload};
+use workloads::{COUNT, Memory, NAMES, ORIGINAL, Part, Workload};
 
 unsafe extern "C" {
     fn dlopen(path: *const c_char, flags: c_int) -> *mut c_void;
@@ -72,13 +74,13 @@ fn part<T>(slice: &mut [T]) -> Part<T> {
     Part { at: slice.as_mut_ptr(), len: slice.len() }
 }
 
-/// Whether two sides leave the same after a few numbers of rounds.
-fn agree(buffers: &mut Buffers, one: Workload, other: Workload) -> bool {
+/// Whether two sides leave the same after a few numbers of rounds; in the storage too if both use it.
+fn agree(buffers: &mut Buffers, one: Workload, other: Workload, both_store: bool) -> bool {
     [0, 1, 2, 3, 100, 1000].into_iter().all(|rounds| {
         let (_, sum) = buffers.run(one, rounds);
         let (storage, sink) = (buffers.storage.clone(), buffers.sink.clone());
         let (_, other) = buffers.run(other, rounds);
-        (sum, storage, sink) == (other, buffers.storage.clone(), buffers.sink.clone())
+        (sum, sink) == (other, buffers.sink.clone()) && (!both_store || storage == buffers.storage)
     })
 }
 
@@ -103,13 +105,12 @@ fn rounds_for(buffers: &mut Buffers, workload: Workload, nanoseconds: f64) -> u6
     }
 }
 
-/// Times a row and prints its line.
-fn time(row: &Row, sides: [Workload; 3], samples: usize, nanoseconds: f64) {
+/// Times a row and prints its line: the neighbour of both others is the second side.
+fn time(group: &str, name: &str, row: &Row, sides: [Workload; 3], samples: usize, nanoseconds: f64) {
     let mut buffers = Buffers::new(row);
     let rounds = rounds_for(&mut buffers, sides[1], nanoseconds);
     let mut times = [vec![], vec![], vec![]];
     for sample in 0..samples {
-        // The original is the neighbour of both others.
         let turns = if sample % 2 == 0 { [0, 1, 2] } else { [2, 1, 0] };
         for side in turns {
             times[side].push(buffers.run(sides[side], rounds).0);
@@ -122,7 +123,7 @@ fn time(row: &Row, sides: [Workload; 3], samples: usize, nanoseconds: f64) {
     let numbers = [call(1), call(0), quantile(&pairs, 0.5), quantile(&pairs, 0.25), quantile(&pairs, 0.75)];
     let floor = [quantile(&noise, 0.5), quantile(&noise, 0.25), quantile(&noise, 0.75)];
     let words: Vec<String> = numbers.iter().chain(&floor).map(|number| format!("{number:.4}")).collect();
-    println!("{}\t{}\t{}", workloads::NAMES[row.workload], row.name, words.join("\t"));
+    println!("{group}\t{name}\t{}", words.join("\t"));
 }
 
 fn main() -> ExitCode {
@@ -132,18 +133,31 @@ fn main() -> ExitCode {
         |name: &str, default: f64| flag(name).map_or(default, |word| word.parse().expect("a number"));
     let (samples, milliseconds) = (number("--samples", 31.0) as usize, number("--milliseconds", 3.0));
     let again = again(words.get(1).expect("the path of smoltcp's second build"));
+    let peers = words.iter().any(|word| word == "--peers");
     let mut status = ExitCode::SUCCESS;
     for row in rows::rows() {
         if flag("--only").is_some_and(|word| !row.name.contains(word)) {
             continue;
         }
-        let (port, original, again) = (PORT[row.workload], ORIGINAL[row.workload], again[row.workload]);
-        let mut buffers = Buffers::new(&row);
-        if agree(&mut buffers, original, port) && agree(&mut buffers, original, again) {
-            time(&row, [port, original, again], samples, milliseconds * 1e6);
+        let (workload, port, original) = (NAMES[row.workload], PORT[row.workload], ORIGINAL[row.workload]);
+        let comparisons: Vec<(String, String, [Workload; 3])> = if peers {
+            let peers = PEERS.iter().filter_map(|peer| Some((peer.name, peer.workload(workload)?)));
+            peers
+                .map(|(peer, side)| {
+                    (format!("{workload}: {peer}"), format!("{}: {peer}", row.name), [port, side, original])
+                })
+                .collect()
         } else {
-            println!("DIFFER\t{}", row.name);
-            status = ExitCode::FAILURE;
+            vec![(workload.to_string(), row.name.clone(), [port, original, again[row.workload]])]
+        };
+        for (group, name, sides) in comparisons {
+            let mut buffers = Buffers::new(&row);
+            if agree(&mut buffers, original, port, true) && agree(&mut buffers, sides[1], sides[2], !peers) {
+                time(&group, &name, &row, sides, samples, milliseconds * 1e6);
+            } else {
+                println!("DIFFER\t{name}");
+                status = ExitCode::FAILURE;
+            }
         }
     }
     status

@@ -92,13 +92,17 @@ fn additions(runs: usize) -> [(&'static str, Vec<usize>); 5] {
 }
 
 /// What is added to an assembler of so many runs whose front is removed each time.
-fn fronts(runs: usize) -> [(&'static str, Vec<usize>); 4] {
+fn fronts(runs: usize) -> [(&'static str, Vec<usize>); 6] {
     let waiting = (1..runs).map(|at| ((1_000 + 2 * at) * SEGMENT, SEGMENT));
     let next = (0..64).map(|_| (0, SEGMENT));
+    let one = std::iter::once((1_000 * SEGMENT, SEGMENT));
+    let gaps = (0..64).map(|at| (if at % 2 == 0 { SEGMENT } else { 0 }, SEGMENT));
     [
         ("in order", in_order(64)),
         ("swapped", swapped(64)),
-        ("next, all but one wait", flat(waiting.chain(next))),
+        ("next, all but one wait", flat(waiting.chain(next.clone()))),
+        ("one waits", flat(one.chain(next))),
+        ("second first, then the gap", flat(gaps)),
         ("random, never learnt", random(16_384, 2_048, 32)),
     ]
 }

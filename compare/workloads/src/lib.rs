@@ -5,7 +5,7 @@ use original4::doors::Rand;
 use original4::phy::{Device, Loopback, Medium, RxToken, TxToken};
 use original4::storage::{PacketBuffer, PacketMetadata, RingBuffer};
 use original4::time::Instant;
-use receiver::{Assembler, Assembler4, Assembler32, Receiver};
+use receiver::{Assembler, Assembler4, Assembler32, Receiver, Stream};
 
 /// A slice that crosses the border of a library.
 #[repr(C)]
@@ -16,7 +16,7 @@ pub struct Part<T> {
 
 impl<T> Part<T> {
     /// The slice, for as long as the caller likes: `Memory` says who keeps it.
-    fn slice<'a>(&self) -> &'a mut [T] {
+    pub fn slice<'a>(&self) -> &'a mut [T] {
         unsafe { std::slice::from_raw_parts_mut(self.at, self.len) }
     }
 }
@@ -51,21 +51,24 @@ pub static ORIGINAL: [Workload; COUNT] = [
     loopback,
 ];
 
-const START: u64 = 0xcbf29ce484222325;
+/// The checksum of nothing.
+pub const START: u64 = 0xcbf29ce484222325;
 
-fn mix(sum: u64, x: u64) -> u64 {
+/// The checksum with one more number.
+#[inline]
+pub fn mix(sum: u64, x: u64) -> u64 {
     (sum ^ x).wrapping_mul(0x100000001b3)
 }
 
-/// How many chunks stand in a ring before the first round.
-fn lead(storage: &[u8], chunk: usize) -> usize {
-    (storage.len() / 2 / chunk).min(64)
+/// How many chunks stand in a ring of so many bytes before the first round.
+pub fn lead(bytes: usize, chunk: usize) -> usize {
+    (bytes / 2 / chunk).min(64)
 }
 
 extern "C" fn ring_slice(m: &Memory) -> u64 {
     let (storage, source, sink) = (m.storage.slice(), m.source.slice(), m.sink.slice());
     let (mut sum, chunk) = (START, source.len());
-    let lead = lead(storage, chunk);
+    let lead = lead(storage.len(), chunk);
     let mut ring = RingBuffer::new(storage);
     for _ in 0..lead {
         sum = mix(sum, ring.enqueue_slice(source) as u64);
@@ -82,7 +85,7 @@ extern "C" fn ring_slice(m: &Memory) -> u64 {
 extern "C" fn ring_many(m: &Memory) -> u64 {
     let (mut sum, chunk) = (START, m.number as usize);
     let storage = m.storage.slice();
-    let lead = lead(storage, chunk);
+    let lead = lead(storage.len(), chunk);
     let mut ring = RingBuffer::new(storage);
     for _ in 0..lead {
         sum = mix(sum, ring.enqueue_many(chunk).len() as u64);
@@ -123,7 +126,7 @@ extern "C" fn ring_ahead(m: &Memory) -> u64 {
 
 extern "C" fn ring_one(m: &Memory) -> u64 {
     let storage = m.storage.slice();
-    let (mut sum, lead) = (START, (storage.len() / 2).min(64));
+    let (mut sum, lead) = (START, lead(storage.len(), 1));
     let mut ring = RingBuffer::new(storage);
     let enqueue = |ring: &mut RingBuffer<'_, u8>, sum: &mut u64, byte: u8| match ring.enqueue_one() {
         Ok(place) => *place = byte,
@@ -140,7 +143,8 @@ extern "C" fn ring_one(m: &Memory) -> u64 {
 }
 
 /// The checksum with a payload's length, and its first and last byte.
-fn mix_ends(sum: u64, bytes: &[u8]) -> u64 {
+#[inline]
+pub fn mix_ends(sum: u64, bytes: &[u8]) -> u64 {
     let sum = mix(sum, bytes.len() as u64);
     match (bytes.first(), bytes.last()) {
         (Some(&first), Some(&last)) => mix(mix(sum, first.into()), last.into()),
@@ -172,7 +176,8 @@ extern "C" fn asm_add(m: &Memory) -> u64 {
     if m.number == 4 { add::<Assembler4>(m) } else { add::<Assembler32>(m) }
 }
 
-fn add<A: Assembler>(m: &Memory) -> u64 {
+/// Adds each range to an empty assembler, in each round.
+pub fn add<A: Assembler>(m: &Memory) -> u64 {
     let (mut sum, mut assembler) = (START, A::new());
     for _ in 0..m.rounds {
         assembler.clear();
@@ -189,7 +194,8 @@ extern "C" fn asm_front(m: &Memory) -> u64 {
     if m.number == 4 { front::<Assembler4>(m) } else { front::<Assembler32>(m) }
 }
 
-fn front<A: Assembler>(m: &Memory) -> u64 {
+/// Adds each range to an empty assembler and removes the front, in each round.
+pub fn front<A: Assembler>(m: &Memory) -> u64 {
     let (mut sum, mut assembler) = (START, A::new());
     for _ in 0..m.rounds {
         assembler.clear();
@@ -211,12 +217,17 @@ fn mix_runs<A: Assembler>(mut sum: u64, assembler: &A) -> u64 {
 }
 
 extern "C" fn stream(m: &Memory) -> u64 {
-    if m.number == 4 { receive::<Assembler4>(m) } else { receive::<Assembler32>(m) }
+    if m.number == 4 {
+        receive(m, Receiver::<Assembler4>::new(m.storage.slice(), 0))
+    } else {
+        receive(m, Receiver::<Assembler32>::new(m.storage.slice(), 0))
+    }
 }
 
-fn receive<A: Assembler>(m: &Memory) -> u64 {
+/// Sends each segment and reads all that is queued, in each round.
+pub fn receive(m: &Memory, mut receiver: impl Stream) -> u64 {
     let (data, sink) = (m.source.slice(), m.sink.slice());
-    let (mut sum, mut receiver) = (START, Receiver::<A>::new(m.storage.slice(), 0));
+    let mut sum = START;
     for round in 0..m.rounds {
         let base = round * data.len() as u64;
         let (mut kept, mut queued, mut refused) = (0, 0, 0);

@@ -60,6 +60,23 @@ pub struct Segment {
     pub queued: usize,
 }
 
+/// What a workload asks of a receiver. None is a refusal.
+pub trait Stream {
+    fn segment(&mut self, position: u64, bytes: &[u8]) -> Option<Segment>;
+    fn read(&mut self, into: &mut [u8]) -> usize;
+}
+
+impl<A: Assembler> Stream for Receiver<'_, A> {
+    #[inline]
+    fn segment(&mut self, position: u64, bytes: &[u8]) -> Option<Segment> {
+        self.segment(position, bytes)
+    }
+    #[inline]
+    fn read(&mut self, into: &mut [u8]) -> usize {
+        self.read(into)
+    }
+}
+
 /// A receiver of one stream.
 pub struct Receiver<'a, A> {
     ring: RingBuffer<'a, u8>,

@@ -16,7 +16,8 @@ const LAST_RESERVED_PORT: u16 = 1024;
 
 /// A generator of random words. Contracts see its state, a number below 2^64.
 ///
-/// The words are no secret: who knows one state knows all that follow.
+/// It serves for source ports and for tests. The words are no secret: who knows one state knows all
+/// that follow.
 #[derive(Debug, Drop)]
 pub struct Rand {
     state: u64,

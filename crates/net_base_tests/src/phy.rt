@@ -70,13 +70,23 @@ fn has_length(frame: &[u8], length: usize) -> bool {
     frame.len() == length && frame.starts_with(&marks[..count])
 }
 
-/// Whether a value is equal to itself, as `Eq` promises.
-fn is_itself<T: Eq>(value: &T) -> bool {
-    value == value
+/// Whether `==` finds a value equal to itself and not to the other one.
+fn tells_apart<T: Eq>(value: &T, other: &T) -> bool {
+    value == value && value != other
+}
+
+/// Metadata that asks for segments of so many bytes.
+fn cut_to(size: u16) -> PacketMeta {
+    PacketMeta {
+        id: 7,
+        segmentation_offload_size: NonZeroU16::new(size),
+    }
 }
 
 #[test]
-fn equality_is_an_equivalence(rt: HostRuntime) {
-    let own = is_itself(&Medium::Ip) && is_itself(&PacketMeta::default());
-    assert!(rt; own && is_itself(&NonZeroU16::new(1)) && is_itself(&NonZeroUsize::new(1)));
+fn what_differs_is_not_equal(rt: HostRuntime) {
+    assert!(rt; tells_apart(&Medium::Ip, &Medium::Ethernet));
+    assert!(rt; tells_apart(&cut_to(1_448), &cut_to(1_449)) && tells_apart(&cut_to(1), &cut_to(0)));
+    assert!(rt; tells_apart(&NonZeroU16::new(256), &NonZeroU16::new(257)));
+    assert!(rt; tells_apart(&NonZeroUsize::new(1 << 32), &NonZeroUsize::new(1)));
 }

@@ -1,11 +1,13 @@
-ghost use Rattle.std.specs.Prelude.{◌≡◌, ◌++◌, length, take, drop, min, IfSome, IfNone};
+ghost use Rattle.std.specs.Prelude.{◌≡◌, ◌≤◌, ◌↔◌, ◌++◌, length, take, drop, min, IfSome, IfNone};
+ghost use Rattle.std.specs.Prelude.{IsSome};
 
 use net_storage::{Empty, ManagedSlice, PacketBuffer, PacketMetadata};
 use net_uses::{Endpoint, UdpSocket};
 
 /// A datagram comes in at a socket over arrays, and is received: as much of it as `into` has room
-/// for. `None` if the socket has no room for it.
+/// for. `None` exactly if it has more than the 64 bytes that the socket has room for.
 pub fn pass_through(from: Endpoint, bytes: &[u8], into: &mut [u8]) -> Option<usize>
+    ensures room { IsSome result ↔ (length bytes.now ≤ 64) }
     ensures count { IfSome result (λ n. n ≡ min (length bytes.now) (length into.old)) }
     ensures copied { IfSome result (λ n. into.new ≡ take n bytes.now ++ drop n into.old) }
     ensures none { IfNone result (into.new ≡ into.old) }

@@ -24,6 +24,8 @@ impl<D: Device + Drop> Device for Undamaged<D> {
 
     ghost sent = { λ old frame new. D.sent old.device frame new.device };
 
+    ghost lacks_memory = { λ d len. D.lacks_memory d.device len };
+
     ghost abilities = { λ d. D.abilities d.device };
 
     /// Takes the next frame off. `None` also if that was too short, and then it is lost.

@@ -1,5 +1,5 @@
 ghost use Rattle.std.specs.Prelude.{◌≡◌, ℕ, ◌+◌, List, take, slice_range};
-ghost use Rattle.net_receiver.specs.Truthful.{ReceivesFrom, Says};
+ghost use Rattle.net_receiver.specs.OneStream.{ReceivesFrom, Says};
 
 use net_receiver::{Receiver, laws};
 use net_storage::ManagedSlice;

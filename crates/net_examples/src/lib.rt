@@ -1,6 +1,7 @@
 //! The smallest users of the libraries, one for each kind. The pages of this repository quote them.
 #![tactic(auto)]
 
+mod counted;
 mod datagram;
 mod device;
 mod first_element;
@@ -8,6 +9,7 @@ mod in_order;
 mod left_over;
 mod line;
 mod message;
+mod newlines;
 mod one_byte;
 mod one_command;
 mod outbox;
@@ -18,6 +20,7 @@ mod refused;
 mod send_frame;
 mod timer;
 
+pub use counted::Counted;
 pub use datagram::pass_through;
 pub use device::Undamaged;
 pub use first_element::set_first;
@@ -25,13 +28,14 @@ pub use in_order::{receive, receive_halves};
 pub use left_over::send_part;
 pub use line::Line;
 pub use message::send;
+pub use newlines::{line_end, take_line};
 pub use one_byte::{byte_at, stage};
 pub use one_command::execute_by_list;
 pub use outbox::Outbox;
 pub use over_a_link::over_a_bad_link;
 pub use packets::{push_packet, wipe_first};
 pub use ranges::came;
-pub use refused::is_made;
+pub use refused::requests_for_a_list;
 pub use send_frame::send_bytes;
 pub use timer::Timer;
 

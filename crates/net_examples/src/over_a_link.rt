@@ -1,18 +1,24 @@
-ghost use Rattle.std.specs.Prelude.{◌≡◌, ℕ, true};
-ghost use Rattle.net_stream.specs.Copying.{Copied};
+ghost use Rattle.std.specs.Prelude.{◌≡◌, ◌+◌, ◌-◌, ◌^◌, ◌<◌, ◌≤◌, true, IfErr};
+ghost use Rattle.std.specs.Result.{is_ok};
+ghost use Rattle.net_stream.specs.Copying.{Copied, gave_up};
 
-use net_stream::{Counts, Fates, Rates, Settings, copy};
+use net_stream::{Counts, Fates, LinkError, Rates, Settings, copy};
 use std::alloc::Allocator;
 use std::io::{Read, Write};
 
-/// Copies over a link that loses a fifth of its frames. Returns whether all came.
+/// Copies over a link that loses a fifth of its frames. It gives up only once a hundred frames or
+/// acknowledgements were lost, unless the reader gave 2^64 - 1 bytes.
 pub fn over_a_bad_link<A: Allocator + Copy, R: Read, W: Write>(
     alloc: A,
     reader: &mut R,
     writer: &mut W,
-) -> bool
-    ensures { result ≡ true → (bytes : ℕ) × Copied (R.remaining reader.old)
-        (R.remaining reader.new) (W.contents writer.old) (W.contents writer.new) bytes true true }
+    counts: &mut Counts,
+) -> Result<(), LinkError>
+    ensures copied { Copied (R.remaining reader.old) (R.remaining reader.new)
+        (W.contents writer.old) (W.contents writer.new)
+        counts.new.taken counts.new.bytes (is_ok result) }
+    ensures gave_up { IfErr result (λ e. gave_up e ≡ true → counts.new.taken < 2 ^ 64 - 1
+        → 100 ≤ counts.new.frames.lost + counts.new.frames.late) }
 {
     let rates = Rates {
         lost: 20,
@@ -23,21 +29,10 @@ pub fn over_a_bad_link<A: Allocator + Copy, R: Read, W: Write>(
         first: 0,
         capacity: 65_536,
         payload: 1_400,
+        flight: 4_096,
         rounds: 100,
     };
-    let mut counts = Counts::new();
     let fates = Fates::new(&[], 1, rates);
     let ack_fates = Fates::new(&[], 2, rates);
-    match copy(
-        alloc,
-        settings,
-        fates,
-        ack_fates,
-        reader,
-        writer,
-        &mut counts,
-    ) {
-        Ok(()) => true,
-        Err(_) => false,
-    }
+    copy(alloc, settings, fates, ack_fates, reader, writer, counts)
 }

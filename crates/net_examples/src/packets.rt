@@ -1,20 +1,27 @@
-ghost use Rattle.std.specs.Prelude.{◌≡◌, ◌∷◌, ◌++◌, [], OnOk, drop};
+ghost use Rattle.std.specs.Prelude.{◌≡◌, ◌↔◌, ◌∷◌, ◌++◌, [], OnOk, OnErr, IsErr, drop, length};
+ghost use Rattle.std.specs.declared.option.Option.TheVariants.{None};
 ghost use Rattle.net_storage.specs.PacketHistory.{contents};
+ghost use Rattle.net_storage.specs.Packets.{placement};
 
 use net_storage::{Empty, Full, PacketBuffer};
 
-/// Writes a packet in place.
+/// Writes a packet in place. It is refused exactly if the queue can't place so many bytes.
 pub fn push_packet(queue: &mut PacketBuffer<'_, u16>, header: u16, bytes: &[u8]) -> Result<(), Full>
-    ensures { OnOk result (contents queue.new ≡ contents queue.old ++ (header, bytes.now) ∷ []) }
+    ensures full { IsErr result ↔ (placement queue.old (length bytes.now) ≡ None) }
+    ensures pushed { OnOk result
+        (contents queue.new ≡ contents queue.old ++ (header, bytes.now) ∷ []) }
+    ensures unchanged { OnErr result (queue.new ≡ queue.old) }
 {
     queue.place(bytes.len(), header)?;
     queue.last_mut().copy_from_slice(bytes);
     Ok(())
 }
 
-/// Takes a packet off, and overwrites its bytes where they stood.
+/// Takes a packet off, if there is one, and overwrites its bytes where they stood.
 pub fn wipe_first(queue: &mut PacketBuffer<'_, u16>) -> Result<usize, Empty>
-    ensures { OnOk result (contents queue.new ≡ drop 1 (contents queue.old)) }
+    ensures empty { IsErr result ↔ (contents queue.old ≡ []) }
+    ensures taken { OnOk result (contents queue.new ≡ drop 1 (contents queue.old)) }
+    ensures unchanged { OnErr result (queue.new ≡ queue.old) }
 {
     let (_header, size) = queue.take()?;
     let bytes = queue.freed_mut(size);

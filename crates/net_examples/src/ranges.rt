@@ -1,16 +1,20 @@
-ghost use Rattle.std.specs.Prelude.{◌≡◌, ◌<◌, ◌^◌, ◌+◌, OnOk, OnErr};
-ghost use Rattle.net_storage.specs.Positions.{front, shift_down, with_range};
+ghost use Rattle.std.specs.Prelude.{◌≡◌, ◌↔◌, ◌<◌, ◌^◌, ◌+◌, OnOk, OnErr, IfOk, IsErr};
+ghost use Rattle.net_storage.specs.Assembler.{MakesTooManyRuns};
+ghost use Rattle.net_storage.specs.Positions.{front, with_range};
 
 use net_storage::{Assembler, TooManyHolesError};
 
-/// Adds the range of the bytes that came, and returns how many bytes are complete from the front.
+/// Adds the range of the bytes that came, and returns how many bytes are complete from the front. It
+/// is refused exactly if that would make more than `N` runs.
 pub fn came<const N: usize>(
     assembler: &mut Assembler<N>,
     offset: usize,
     size: usize,
 ) -> Result<usize, TooManyHolesError>
     requires { offset + size < 2 ^ 64 }
+    ensures refused { IsErr result ↔ MakesTooManyRuns N assembler.old offset size }
     ensures ok { OnOk result (assembler.new ≡ with_range assembler.old offset size) }
+    ensures front { IfOk result (λ count. count ≡ front assembler.new) }
     ensures err { OnErr result (assembler.new ≡ assembler.old) }
 {
     assembler.add(offset, size)?;

@@ -1,9 +1,10 @@
-use net_testing::Refusing;
+use net_testing::refuse_each;
 use std::alloc::{AllocError, Global};
 
-/// Whether a list of three bytes is made, where the request of number `refused` is refused.
-pub fn is_made(alloc: Global, refused: usize) -> bool {
-    let memory = Refusing::new(alloc, refused);
-    let bytes: Result<Vec<u8, &Refusing>, AllocError> = Vec::from_slice(&memory, b"abc");
-    bytes.is_ok()
+/// How many requests for memory it takes to make a list of three bytes.
+pub fn requests_for_a_list(alloc: Global) -> Option<usize> {
+    refuse_each(alloc, |memory| {
+        let bytes: Result<Vec<u8, _>, AllocError> = Vec::from_slice(memory, b"abc");
+        bytes.is_ok()
+    })
 }

@@ -1,12 +1,14 @@
 //! Examples as their users call them.
 
 use crate::{
-    Outbox, Timer, Undamaged, is_made, over_a_bad_link, pass_through, receive, send_bytes,
+    Counted, Outbox, Timer, Undamaged, line_end, over_a_bad_link, pass_through, receive,
+    requests_for_a_list, send_bytes, take_line,
 };
 use net_base::phy::{Device, Loopback, Medium};
 use net_base::time::{Duration, Instant};
 use net_receiver::Receiver;
-use net_storage::ManagedSlice;
+use net_storage::{ManagedSlice, RingBuffer};
+use net_stream::Counts;
 use net_uses::Endpoint;
 use std::alloc::AllocError;
 
@@ -18,6 +20,27 @@ fn bytes_wait_in_an_outbox(rt: HostRuntime) {
     assert_eq!(rt; outbox.put(b"abcdef"), 4);
     assert_eq!(rt; outbox.give(&mut into), 4);
     assert!(rt; into.starts_with(b"abcd"));
+}
+
+/// Whether a line of so many bytes is taken off, with its newline, and `into` begins with these.
+fn gives(ring: &mut RingBuffer<'_, u8>, into: &mut [u8], length: usize, bytes: &[u8]) -> bool {
+    take_line(ring, into) == Some(length) && into.starts_with(bytes)
+}
+
+/// The second line wraps, the third is longer than what it is read into, and the fourth isn't whole.
+#[test]
+fn lines_are_taken_off_a_ring(rt: HostRuntime) {
+    let mut storage = [0u8; 8];
+    let mut ring = RingBuffer::new(ManagedSlice::Borrowed(&mut storage));
+    let mut into = [0u8; 4];
+    let came = ring.enqueue_slice(b"abc\nde") == 6;
+    assert!(rt; came && gives(&mut ring, &mut into, 3, b"abc\n"));
+    assert!(rt; take_line(&mut ring, &mut into).is_none() && ring.len() == 2);
+    let came = ring.enqueue_slice(b"f\nlong\n") == 6;
+    assert!(rt; came && line_end(&ring) == Some(3) && gives(&mut ring, &mut into, 3, b"def\n"));
+    let came = ring.enqueue_slice(b"\nx") == 2;
+    assert!(rt; came && take_line(&mut ring, &mut into).is_none());
+    assert!(rt; gives(&mut ring, &mut [0u8; 5], 4, b"long\n") && line_end(&ring).is_none());
 }
 
 #[test]
@@ -46,7 +69,9 @@ fn segments_are_read_in_order(rt: HostRuntime) {
 fn a_stream_crosses_a_bad_link(rt: HostRuntime) {
     let mut reader = b"abcdef".as_slice();
     let mut writer = Vec::new(rt.alloc());
-    assert!(rt; over_a_bad_link(rt.alloc(), &mut reader, &mut writer));
+    let mut counts = Counts::new();
+    let ended = over_a_bad_link(rt.alloc(), &mut reader, &mut writer, &mut counts);
+    assert!(rt; ended.is_ok() && counts.bytes == 6);
     assert_eq!(rt; writer.as_slice(), b"abcdef".as_slice());
 }
 
@@ -72,6 +97,27 @@ fn short_frames_are_dropped(rt: HostRuntime) -> Result<(), AllocError> {
 }
 
 #[test]
-fn a_request_is_refused(rt: HostRuntime) {
-    assert!(rt; !is_made(rt.alloc(), 0) && is_made(rt.alloc(), 1));
+fn sent_frames_are_counted(rt: HostRuntime) -> Result<(), AllocError> {
+    let mut device = Counted {
+        device: Loopback::new(rt.alloc(), Medium::Ip),
+        sent: 0,
+    };
+    for length in 0..3usize {
+        assert!(rt; sends_zeros(&mut device, length)?);
+    }
+    assert!(rt; device.receive(Instant::ZERO).is_some() && device.sent == 3);
+    Ok(())
+}
+
+/// Sends a frame of so many zeros, if there is room for it.
+fn sends_zeros(device: &mut Counted<Loopback>, length: usize) -> Result<bool, AllocError> {
+    let Some(token) = device.transmit(Instant::ZERO) else {
+        return Ok(false);
+    };
+    device.send(token, length, |_buffer| true)
+}
+
+#[test]
+fn a_list_takes_one_request(rt: HostRuntime) {
+    assert_eq!(rt; requests_for_a_list(rt.alloc()), Some(1));
 }

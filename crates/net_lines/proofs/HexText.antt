@@ -37,4 +37,6 @@ IsAscii-digits xs = IsAscii-encode_with lower_digits xs (ascii-by_test lower_dig
 pub IsUtf8-reply : (xs ys : List ℕ) → IsUtf8 (codes "read " ++ ((encode_lower xs ++ encode_lower ys) ++ codes "\n"))
 IsUtf8-reply xs ys =
     IsUtf8-from_ascii _ (IsAscii-append (codes "read ") _ (ascii-by_test (codes "read ") refl)
-    (IsAscii-append (encode_lower xs ++ encode_lower ys) (codes "\n") (IsAscii-append (encode_lower xs) (encode_lower ys) (IsAscii-digits xs) (IsAscii-digits ys)) (ascii-by_test (codes "\n") refl)))
+    (IsAscii-append (encode_lower xs ++ encode_lower ys) (codes "\n")
+    (IsAscii-append (encode_lower xs) (encode_lower ys) (IsAscii-digits xs) (IsAscii-digits ys))
+    (ascii-by_test (codes "\n") refl)))

@@ -5,16 +5,18 @@ use Rattle.std.specs.Io.KnownBytes.{Appends}
 use Rattle.std.proofs.KnownBytes.{starts_with_rest}
 use Rattle.std.proofs.Transfers.{starts_with_of_append}
 use Rattle.std.proofs.lemmas.List.{append-nil}
-use Rattle.net_lines.specs.Transcript.{WritesFront}
+use Rattle.net_program.specs.Writing.{AppendsFront}
 use Rattle.net_lines.specs.Progress.{Gathers}
-use Rattle.net_text.proofs.KnownBytes.{Appends-two, Appends-none, Keeps-same, StartsWith-after}
+use Rattle.net_program.proofs.KnownBytes.{Appends-two, Appends-none, Keeps-same, StartsWith-after}
 
 -- two texts, one after the other
 pub Gathers-two : (a b c : Option (List ℕ)) (p q r xs ys zs : List ℕ) → Gathers a p b q xs → Gathers b q c r ys → xs ++ ys ≡ zs → Gathers a p c r zs
 Gathers-two a b c p q r xs ys zs f g e = record {
   written = f.written ++ g.written;
   appended = Appends-two a b c f.written g.written _ f.appended g.appended refl;
-  whole = ap (λ t. p ++ t) (sym e) ∙ sym (append_assoc p xs ys) ∙ ap (λ t. t ++ ys) f.whole ∙ append_assoc f.written q ys ∙ ap (λ t. f.written ++ t) g.whole ∙ sym (append_assoc f.written g.written r);
+  whole = ap (λ t. p ++ t) (sym e) ∙ sym (append_assoc p xs ys) ∙ ap (λ t. t ++ ys) f.whole ∙
+      append_assoc f.written q ys ∙ ap (λ t. f.written ++ t) g.whole ∙ sym
+      (append_assoc f.written g.written r);
 }
 
 -- nothing came
@@ -23,7 +25,12 @@ Gathers-same a p = record { written = []; appended = Appends-none a a (Keeps-sam
 
 -- what was pending was written, and then the text
 pub Gathers-through : (a b c : Option (List ℕ)) (p q xs : List ℕ) → Appends a b p → q ≡ [] → Appends b c xs → Gathers a p c q xs
-Gathers-through a b c p q xs w e v = record { written = p ++ xs; appended = Appends-two a b c p xs _ w v refl; whole = rw e (sym (append-nil (p ++ xs))) }
+Gathers-through a b c p q xs w e v = record {
+  written = p ++ xs;
+  appended =
+      Appends-two a b c p xs _ w v refl;
+  whole = rw e (sym (append-nil (p ++ xs)));
+}
 
 -- what was pending was written too
 pub Gathers-out : (a b c : Option (List ℕ)) (p q xs : List ℕ) → Gathers a p b q xs → Appends b c q → Gathers a p c [] xs
@@ -38,31 +45,58 @@ pub Gathers-written : (a b : Option (List ℕ)) (xs : List ℕ) → Gathers a []
 Gathers-written a b xs f = rw (f.whole ∙ append-nil f.written) f.appended
 
 -- a front of what comes after a text
-pub WritesFront-after : (a b c : Option (List ℕ)) (p q xs more : List ℕ) → Gathers a p b q xs → WritesFront (q ++ more) b c → WritesFront (p ++ (xs ++ more)) a c
-WritesFront-after a b c p q xs more f w =
-    rw whole (f.written ++ w.0, StartsWith-after f.written (q ++ more) w.0 w.1, Appends-two a b c f.written w.0 _ f.appended w.2 refl)
+pub AppendsFront-after : (a b c : Option (List ℕ)) (p q xs more : List ℕ) →
+    Gathers a p b q xs → AppendsFront b c (q ++ more) → AppendsFront a c (p ++ (xs ++ more))
+AppendsFront-after a b c p q xs more f w = record {
+  written = f.written ++ w.written;
+  front = rw whole (StartsWith-after f.written (q ++ more) w.written w.front);
+  appended = Appends-two a b c f.written w.written _ f.appended w.appended refl;
+}
   where
     whole : p ++ (xs ++ more) ≡ f.written ++ (q ++ more)
-    whole = sym (append_assoc p xs more) ∙ ap (λ t. t ++ more) f.whole ∙ append_assoc f.written q more
+    whole =
+        sym (append_assoc p xs more) ∙ ap (λ t. t ++ more) f.whole
+        ∙ append_assoc f.written q more
 
 -- what was pending was written, and then a front of the text
-pub WritesFront-behind : (a b c : Option (List ℕ)) (p xs : List ℕ) → Appends a b p → WritesFront xs b c → WritesFront (p ++ xs) a c
-WritesFront-behind a b c p xs w f = (p ++ f.0, StartsWith-after p xs f.0 f.1, Appends-two a b c p f.0 _ w f.2 refl)
+pub AppendsFront-behind : (a b c : Option (List ℕ)) (p xs : List ℕ) →
+    Appends a b p → AppendsFront b c xs → AppendsFront a c (p ++ xs)
+AppendsFront-behind a b c p xs w f = record {
+  written = p ++ f.written;
+  front = StartsWith-after p xs f.written f.front;
+  appended = Appends-two a b c p f.written _ w f.appended refl;
+}
 
 -- a front of a text is one of a longer text
-pub WritesFront-more : (xs more : List ℕ) (a b : Option (List ℕ)) → WritesFront xs a b → WritesFront (xs ++ more) a b
-WritesFront-more xs more a b w =
-    let e = starts_with_rest xs w.0 w.1 in
-    (w.0, starts_with_of_append (xs ++ more) w.0 _ (ap (λ t. t ++ more) e ∙ append_assoc w.0 _ more), w.2)
+pub AppendsFront-more : (xs more : List ℕ) (a b : Option (List ℕ)) →
+    AppendsFront a b xs → AppendsFront a b (xs ++ more)
+AppendsFront-more xs more a b w =
+    let e = starts_with_rest xs w.written w.front in
+    record {
+      written = w.written;
+      front =
+          starts_with_of_append (xs ++ more) w.written _
+          (ap (λ t. t ++ more) e ∙ append_assoc w.written _ more);
+      appended = w.appended;
+    }
 
 -- a front of what is pending after a text
-pub WritesFront-out : (a b c : Option (List ℕ)) (p q xs : List ℕ) → Gathers a p b q xs → WritesFront q b c → WritesFront (p ++ xs) a c
-WritesFront-out a b c p q xs f w =
-    rw f.whole (f.written ++ w.0, StartsWith-after f.written q w.0 w.1, Appends-two a b c f.written w.0 _ f.appended w.2 refl)
+pub AppendsFront-out : (a b c : Option (List ℕ)) (p q xs : List ℕ) →
+    Gathers a p b q xs → AppendsFront b c q → AppendsFront a c (p ++ xs)
+AppendsFront-out a b c p q xs f w = record {
+  written = f.written ++ w.written;
+  front = rw f.whole (StartsWith-after f.written q w.written w.front);
+  appended = Appends-two a b c f.written w.written _ f.appended w.appended refl;
+}
 
 -- no byte more
-pub WritesFront-kept : (a b c : Option (List ℕ)) (xs : List ℕ) → WritesFront xs a b → Appends b c [] → WritesFront xs a c
-WritesFront-kept a b c xs w h = (w.0, w.1, Appends-two a b c w.0 [] _ w.2 h (append-nil w.0))
+pub AppendsFront-kept : (a b c : Option (List ℕ)) (xs : List ℕ) →
+    AppendsFront a b xs → Appends b c [] → AppendsFront a c xs
+AppendsFront-kept a b c xs w h = record {
+  written = w.written;
+  front = w.front;
+  appended = Appends-two a b c w.written [] _ w.appended h (append-nil w.written);
+}
 
 -- a front of nothing is nothing
 pub StartsWith-none : (xs : List ℕ) → StartsWith [] xs → xs ≡ []

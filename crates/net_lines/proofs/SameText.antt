@@ -19,20 +19,26 @@ TreatsAlike {S} {T} Alike rules others = (s : S) (t : T) (words : List (List ℕ
 module _ {S T : Type 0} (Alike : S → T → Type 0) (rules : Rules S) (others : Rules T) (steps : TreatsAlike Alike rules others) where
   line_alike : (s : S) (t : T) (line : List ℕ) → Alike s t → AlikeAfter Alike (line_step rules s line) (line_step others t line)
   line_alike s t line a =
-      elim (nat_lt 4096 (length line)) as (λ long. AlikeAfter Alike (cond long (Err faults.LineTooLong) (rules s (words_of line))) (cond long (Err faults.LineTooLong) (others t (words_of line)))) [
+      elim (nat_lt 4096 (length line)) as (λ long. AlikeAfter Alike
+      (cond long (Err faults.LineTooLong) (rules s (words_of line)))
+      (cond long (Err faults.LineTooLong) (others t (words_of line)))) [
         | true ↦ refl
         | false ↦ steps s t (words_of line) a
       ]
 
   step_text : (f : S → List ℕ) (g : T → List ℕ) → ((s : S) (t : T) → Alike s t → f s ≡ g t) →
-      (r : Result (S × List ℕ) Fault) (q : Result (T × List ℕ) Fault) → AlikeAfter Alike r q → by_step (λ next reply. reply ++ f next) (λ _. []) r ≡ by_step (λ next reply. reply ++ g next) (λ _. []) q
+      (r : Result (S × List ℕ) Fault) (q : Result (T × List ℕ) Fault) → AlikeAfter Alike r q →
+      by_step (λ next reply. reply ++ f next) (λ _. []) r ≡ by_step (λ next reply. reply ++ g next)
+      (λ _. []) q
   step_text f g more (Ok a) (Ok b) h = ap₂ ◌++◌ h.1 (more a.0 b.0 h.0)
   step_text f g more (Err e) (Err e') h = refl
   step_text f g more (Ok a) (Err e) h = absurd h
   step_text f g more (Err e) (Ok b) h = absurd h
 
   step_fault : (n : ℕ) (f : S → Option _) (g : T → Option _) → ((s : S) (t : T) → Alike s t → f s ≡ g t) →
-      (r : Result (S × List ℕ) Fault) (q : Result (T × List ℕ) Fault) → AlikeAfter Alike r q → by_step (λ next reply. f next) (λ fault. Some (error_at n fault)) r ≡ by_step (λ next reply. g next) (λ fault. Some (error_at n fault)) q
+      (r : Result (S × List ℕ) Fault) (q : Result (T × List ℕ) Fault) → AlikeAfter Alike r q →
+      by_step (λ next reply. f next) (λ fault. Some (error_at n fault)) r ≡ by_step
+      (λ next reply. g next) (λ fault. Some (error_at n fault)) q
   step_fault n f g more (Ok a) (Ok b) h = more a.0 b.0 h.0
   step_fault n f g more (Err e) (Err e') h = ap (λ fault. Some (error_at n fault)) h
   step_fault n f g more (Ok a) (Err e) h = absurd h
@@ -42,13 +48,15 @@ module _ {S T : Type 0} (Alike : S → T → Type 0) (rules : Rules S) (others :
       (lines : List (List ℕ)) (s : S) (t : T) → Alike s t → text_of rules closing s lines ≡ text_of others other_closing t lines
   same_text closing other_closing closes [] s t a = closes s t a
   same_text closing other_closing closes (line ∷ lines) s t a =
-      step_text (λ next. text_of rules closing next lines) (λ next. text_of others other_closing next lines) (same_text closing other_closing closes lines)
+      step_text (λ next. text_of rules closing next lines) (λ next. text_of others other_closing next
+      lines) (same_text closing other_closing closes lines)
       (line_step rules s line) (line_step others t line) (line_alike s t line a)
 
   same_fault : (lines : List (List ℕ)) (n : ℕ) (s : S) (t : T) → Alike s t → first_fault rules n s lines ≡ first_fault others n t lines
   same_fault [] n s t a = refl
   same_fault (line ∷ lines) n s t a =
-      step_fault n (λ next. first_fault rules (next_number n) next lines) (λ next. first_fault others (next_number n) next lines) (same_fault lines (next_number n))
+      step_fault n (λ next. first_fault rules (next_number n) next lines)
+      (λ next. first_fault others (next_number n) next lines) (same_fault lines (next_number n))
       (line_step rules s line) (line_step others t line) (line_alike s t line a)
 
   -- one text, one list of replies and one fault, for every list of lines

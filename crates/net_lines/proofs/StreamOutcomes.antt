@@ -44,9 +44,12 @@ closing_is x ended same there exact =
     ap (λ s. cond s (codes "same\n") (codes "differs\n")) (same_decides ended x.present same exact) ∙ ap (compared of_stored x) (sym there)
 
 -- the closing line, as `same_state` answers
-module _ (x y : Schedules Stored) (seen : x ≡ y) (ended : Stored) (same : Bool) (there : x.ended ≡ Some ended) (exact : IsTrue same ↔ IsSameState ended x.present) where
+module _ (x y : Schedules Stored) (seen : x ≡ y) (ended : Stored) (same : Bool)
+    (there : x.ended ≡ Some ended) (exact : IsTrue same ↔ IsSameState ended x.present) where
   pub closing_same : same ≡ true → codes "same\n" ≡ stream_closing of_stored y
-  closing_same h = ap (λ s. cond s (codes "same\n") (codes "differs\n")) (sym h) ∙ closing_is x ended same there exact ∙ ap (stream_closing of_stored) seen
+  closing_same h = ap (λ s. cond s (codes "same\n") (codes "differs\n")) (sym h) ∙ closing_is x ended
+      same there exact ∙ ap (stream_closing of_stored) seen
 
   pub closing_differs : same ≡ false → codes "differs\n" ≡ stream_closing of_stored y
-  closing_differs h = ap (λ s. cond s (codes "same\n") (codes "differs\n")) (sym h) ∙ closing_is x ended same there exact ∙ ap (stream_closing of_stored) seen
+  closing_differs h = ap (λ s. cond s (codes "same\n") (codes "differs\n")) (sym h) ∙ closing_is x ended
+      same there exact ∙ ap (stream_closing of_stored) seen

@@ -1,5 +1,6 @@
 -- The words of a line, taken apart at its spaces.
-use Rattle.std.proofs.Common.{◌≡◌, ℕ, ◌+◌, ◌-◌, ◌≤◌, List, [], ◌∷◌, length, take, drop, true, false, cond, ◌==◌, Some, None, refl, sym, ◌∙◌, ap, arith}
+use Rattle.std.proofs.Common.{◌≡◌, ℕ, ◌+◌, ◌-◌, ◌≤◌, List, [], ◌∷◌, length, take, drop, true, false}
+use Rattle.std.proofs.Common.{cond, ◌==◌, Some, None, refl, sym, ◌∙◌, ap, arith}
 use Rattle.std.specs.List.{onto_first, position, position_or_len}
 use Rattle.std.proofs.lemmas.List.{take_rest}
 use Rattle.std.proofs.lemmas.List.Elements.{All-from_get_or}
@@ -9,7 +10,8 @@ use Rattle.net_lines.specs.Text.{words_of}
 use Rattle.net_lines.proofs.LineParts.{found-at, found-nowhere}
 
 -- the first space ends the first word
-pub words-first : (line : List ℕ) (at : ℕ) → Some at ≡ position (λ b. b == 32) line → words_of line ≡ take at line ∷ words_of (take (length line - (at + 1)) (drop (at + 1) line))
+pub words-first : (line : List ℕ) (at : ℕ) → Some at ≡ position (λ b. b == 32) line →
+    words_of line ≡ take at line ∷ words_of (take (length line - (at + 1)) (drop (at + 1) line))
 words-first line at h =
     let p = found-at (position_or_len (λ b. b == 32) line) (length line) at (sym h) in
     rw (take_rest line (at + 1)) (rw p.0 at (slice_split_first (λ b. b == 32) line 0 p.1))
@@ -34,7 +36,9 @@ words-cons (b ∷ line) =
     ]
 
 -- four words and more
-pub words-more : (line second third fourth a b c : List ℕ) → words_of line ≡ a ∷ words_of second → words_of second ≡ b ∷ words_of third → words_of third ≡ c ∷ words_of fourth → (a b c d : List ℕ) × (rest : List (List ℕ)) × (words_of line ≡ a ∷ b ∷ c ∷ d ∷ rest)
+pub words-more : (line second third fourth a b c : List ℕ) → words_of line ≡ a ∷ words_of second →
+    words_of second ≡ b ∷ words_of third → words_of third ≡ c ∷ words_of fourth →
+    (a b c d : List ℕ) × (rest : List (List ℕ)) × (words_of line ≡ a ∷ b ∷ c ∷ d ∷ rest)
 words-more line second third fourth a b c p q r =
     let s = words-cons fourth in
     (a, b, c, s.0, s.1, p ∙ ap (λ t. a ∷ t) (q ∙ ap (λ t. b ∷ t) (r ∙ ap (λ t. c ∷ t) s.2)))

@@ -1,37 +1,36 @@
 -- Mode asm: a set of positions in at most so many maximal runs.
 use Rattle.std.specs.Prelude.{ℕ, ◌+◌, ◌^◌, ◌&&◌, nat_lt, List, [], ◌∷◌, ◌++◌, codes, bytes_eq}
 use Rattle.std.specs.Prelude.{decimal, if◌then◌else◌, Bool, Option, Some, None, Result, Ok, Err}
+use Rattle.std.specs.Prelude.{option_map}
 use Rattle.net_storage.specs.Positions.{Positions, runs, with_range, front, shift_down}
 use Rattle.net_storage.specs.Assembler.{display_text}
-use Rattle.net_text.specs.Numeral.{number_of}
+use Rattle.net_program.specs.Numeral.{number_of}
 use Rattle.net_lines.specs.Transcript.{Rules}
+use Rattle.net_lines.specs.declared.asm.AsmLine.{AsmLine}
+use Rattle.net_lines.specs.declared.asm.AsmLine.TheVariants.{Add, AddThenRemoveFront}
+use Rattle.net_lines.specs.declared.asm.AsmLine.TheVariants.{RemoveFront, Print}
 use Rattle.net_lines.specs.declared.fault.Fault.{Fault}
 use Rattle.net_lines.specs.declared.fault.Fault.TheVariants as faults
 
--- a command of the mode; a range is its offset and its size
-pub data AsmCommand : Type 0 where
-  Add : ℕ → ℕ → AsmCommand
-  AddThenRemoveFront : ℕ → ℕ → AsmCommand
-  RemoveFront : AsmCommand
-  Print : AsmCommand
-
--- a command with a range, where both of its words are numbers
-abbrev pub range_command : (ℕ → ℕ → AsmCommand) → Option ℕ → Option ℕ → Option AsmCommand
-range_command command (Some offset) (Some size) = Some (command offset size)
-range_command command _ _ = None
+-- the offset and the size of a range, where both of its words are numbers
+abbrev pub range_of : Option ℕ → Option ℕ → Option (ℕ × ℕ)
+range_of (Some offset) (Some size) = Some (offset, size)
+range_of _ _ = None
 
 -- `f`, `p`, `a NUM NUM` and `t NUM NUM`
-abbrev pub asm_command : List (List ℕ) → Option AsmCommand
-asm_command (verb ∷ []) =
+abbrev pub asm_line : List (List ℕ) → Option AsmLine
+asm_line (verb ∷ []) =
     if bytes_eq verb (codes "f") then Some RemoveFront
     else if bytes_eq verb (codes "p") then Some Print
     else None
-asm_command (verb ∷ offset ∷ size ∷ []) =
-    if bytes_eq verb (codes "a") then range_command Add (number_of offset) (number_of size)
+asm_line (verb ∷ offset ∷ size ∷ []) =
+    if bytes_eq verb (codes "a")
+    then option_map (λ range. Add range.0 range.1) (range_of (number_of offset) (number_of size))
     else if bytes_eq verb (codes "t")
-    then range_command AddThenRemoveFront (number_of offset) (number_of size)
+    then option_map (λ range. AddThenRemoveFront range.0 range.1)
+    (range_of (number_of offset) (number_of size))
     else None
-asm_command _ = None
+asm_line _ = None
 
 -- whether the range isn't empty, and the set with it has more than the most maximal runs
 abbrev pub makes_too_many_runs : ℕ → Positions → ℕ → ℕ → Bool
@@ -64,8 +63,8 @@ abbrev pub within_range : ℕ → ℕ → Positions × List ℕ → Result (Posi
 within_range offset size next =
     if nat_lt (offset + size) (2 ^ 64) then Ok next else Err faults.RangeTooLong
 
--- what a command does to the set, and its reply
-abbrev pub asm_does : ℕ → Positions → AsmCommand → Result (Positions × List ℕ) Fault
+-- what a line does to the set, and its reply
+abbrev pub asm_does : ℕ → Positions → AsmLine → Result (Positions × List ℕ) Fault
 asm_does most_runs set (Add offset size) =
     within_range offset size (added most_runs set offset size)
 asm_does most_runs set (AddThenRemoveFront offset size) =
@@ -75,8 +74,8 @@ asm_does most_runs set Print = Ok (set, display_text set ++ codes "\n")
 
 -- a line of the mode, with at most so many runs
 abbrev pub asm_rules : ℕ → Rules Positions
-asm_rules most_runs set words = asm_reply most_runs set (asm_command words)
+asm_rules most_runs set words = asm_reply most_runs set (asm_line words)
   where
-    asm_reply : ℕ → Positions → Option AsmCommand → Result (Positions × List ℕ) Fault
-    asm_reply most_runs set (Some command) = asm_does most_runs set command
+    asm_reply : ℕ → Positions → Option AsmLine → Result (Positions × List ℕ) Fault
+    asm_reply most_runs set (Some line) = asm_does most_runs set line
     asm_reply most_runs set None = Err faults.BadCommand

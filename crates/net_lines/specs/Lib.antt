@@ -6,8 +6,8 @@ pub mod AsmMode
 pub mod StreamMode
 pub mod Modes
 pub mod RingLines
-pub mod AsmLines
 pub mod StreamLines
 pub mod StreamStored
 pub mod Words
 pub mod Kinds
+pub mod ErrorText

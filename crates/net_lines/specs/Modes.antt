@@ -1,7 +1,7 @@
 -- The modes: what their words are, and what each makes of an input.
 use Rattle.std.specs.Prelude.{ℕ, List, [], ◌∷◌, ◌==◌, ◌||◌, codes, bytes_eq, nat_le, if◌then◌else◌}
 use Rattle.std.specs.Prelude.{Option, Some, None, option_map, option_and_then}
-use Rattle.net_text.specs.Numeral.{number_of}
+use Rattle.net_program.specs.Numeral.{number_of}
 use Rattle.net_lines.specs.Text.{lines_of}
 use Rattle.net_lines.specs.Transcript.{Transcript, transcript}
 use Rattle.net_storage.specs.Positions.{nothing}

@@ -2,8 +2,9 @@
 use Rattle.std.specs.Prelude.{◌≡◌, ℕ, List, [], ◌++◌, false, ◌==◌, Option, Some, take}
 use Rattle.std.specs.List.{All}
 use Rattle.std.specs.Io.KnownBytes.{Appends}
+use Rattle.net_program.specs.Writing.{AppendsFront}
 use Rattle.net_lines.specs.Text.{parts_of}
-use Rattle.net_lines.specs.Transcript.{Rules, text_of, first_fault, Transcript, WritesFront}
+use Rattle.net_lines.specs.Transcript.{Rules, text_of, first_fault, Transcript}
 use Rattle.net_lines.specs.declared.error.BenchError.{BenchError}
 use Rattle.net_lines.specs.declared.error.BenchError.TheVariants.{BadCommand, RangeTooLong}
 use Rattle.net_lines.specs.declared.error.BenchError.TheVariants.{LineTooLong, TooManySchedules}
@@ -14,8 +15,8 @@ use Rattle.net_lines.specs.declared.error.BenchError.TheVariants.{WriteFailed}
 abbrev pub HasNoFeed : List ℕ → Type 0
 HasNoFeed line = All (λ b. (b == 10) ≡ false) line
 
--- From line number n, a state and the front of a line that came so far, these bytes lead to another
--- number, state and front, and to this text: whatever comes after them
+-- From line number n, a state and the beginning of a line that came so far, these bytes lead to another
+-- number, state and beginning, and to this text: whatever comes after them
 pub record Advances {S : Type 0} (rules : Rules S) (bytes : List ℕ) (n : ℕ) (state : S)
     (line : List ℕ) (n' : ℕ) (state' : S) (line' : List ℕ) (text : List ℕ) : Type 0 where
   -- the lines that these bytes end
@@ -27,7 +28,7 @@ pub record Advances {S : Type 0} (rules : Rules S) (bytes : List ℕ) (n : ℕ) 
   pub faults : (more : List (List ℕ)) →
       first_fault rules n state (lines ++ more) ≡ first_fault rules n' state' more
 
--- a text came to the replies that were pending: a front of both was written, and the rest is
+-- a text came to the replies that were pending: a prefix of both was written, and the rest is
 -- pending
 pub record Gathers (old : Option (List ℕ)) (pending : List ℕ) (new : Option (List ℕ))
     (pending' : List ℕ) (text : List ℕ) : Type 0 where
@@ -57,5 +58,5 @@ PendingError all lines old pending new pending' OutOfMemory =
     (k : ℕ) × Gathers old pending new pending' (all.replies (take k lines))
 -- nothing is pending after a failed write
 PendingError all lines old pending new pending' WriteFailed =
-    (pending' ≡ []) × WritesFront (pending ++ all.text lines) old new
+    (pending' ≡ []) × AppendsFront old new (pending ++ all.text lines)
 PendingError all lines old pending new pending' ReadFailed = ⊥

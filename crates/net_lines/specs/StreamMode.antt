@@ -7,7 +7,7 @@ use Rattle.net_storage.specs.Positions.{maximal_runs}
 use Rattle.net_receiver.specs.Rules.{CommandSeen, Segment, Read, Show, ReplySeen, Segmented, Gave}
 use Rattle.net_receiver.specs.Rules.{Shown, Keeping, after, reply}
 use Rattle.net_receiver.specs.Schedule.{Setting, State, fresh, by_kept}
-use Rattle.net_text.specs.Numeral.{number_of}
+use Rattle.net_program.specs.Numeral.{number_of}
 use Rattle.net_lines.specs.Text.{hex_bytes, hex_text}
 use Rattle.net_lines.specs.Transcript.{Rules}
 use Rattle.net_lines.specs.AsmMode.{refused_text}

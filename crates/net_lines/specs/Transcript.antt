@@ -2,8 +2,8 @@
 -- line does.
 use Rattle.std.specs.Prelude.{◌≡◌, ℕ, List, [], ◌++◌, ◌∷◌, ◌≤◌, length, take, nat_lt, if◌then◌else◌}
 use Rattle.std.specs.Prelude.{Option, Some, None, Result, Ok, Err}
-use Rattle.std.specs.Io.{StartsWith}
 use Rattle.std.specs.Io.KnownBytes.{Appends, Consumes}
+use Rattle.net_program.specs.Writing.{AppendsFront}
 use Rattle.net_lines.specs.Text.{lines_of, ended_lines, unended_line, words_of, next_number}
 use Rattle.net_lines.specs.declared.fault.Fault.{Fault}
 use Rattle.net_lines.specs.declared.fault.Fault.TheVariants as faults
@@ -76,10 +76,6 @@ abbrev pub IsFirstFault : Transcript → List (List ℕ) → Option (List ℕ) �
     BenchError → Type 0
 IsFirstFault all lines old new e = (all.fault lines ≡ Some e) × Appends old new (all.text lines)
 
--- a beginning of the text was written
-abbrev pub WritesFront : List ℕ → Option (List ℕ) → Option (List ℕ) → Type 0
-WritesFront text old new = (written : List ℕ) × StartsWith text written × Appends old new written
-
 -- what an error says of the lines, and of what a writer held before and after
 abbrev pub ErrorOfLines : Transcript → List (List ℕ) → Option (List ℕ) → Option (List ℕ) →
     BenchError → Type 0
@@ -90,7 +86,7 @@ ErrorOfLines all lines old new (TooManySchedules n) =
     IsFirstFault all lines old new (TooManySchedules n)
 -- whole replies of a beginning of the lines were written
 ErrorOfLines all lines old new OutOfMemory = (k : ℕ) × Appends old new (all.replies (take k lines))
-ErrorOfLines all lines old new WriteFailed = WritesFront (all.text lines) old new
+ErrorOfLines all lines old new WriteFailed = AppendsFront old new (all.text lines)
 -- a failed read says nothing of these lines, but of those that came
 ErrorOfLines all lines old new ReadFailed = ⊥
 

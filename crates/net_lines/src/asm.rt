@@ -1,20 +1,20 @@
 //! Mode `asm`: ranges are added to a set of positions, and its front is removed.
-ghost use Rattle.std.specs.Prelude.{◌≡◌, ◌+◌, ◌^◌, ◌<◌, [], ◌∷◌, ◌++◌, ◌≤◌, codes, decimal, IfOk};
-ghost use Rattle.std.specs.Prelude.{MatchResult, Ok, Err, string_bytes, option_map};
+ghost use Rattle.std.specs.Prelude.{◌≡◌, [], ◌∷◌, ◌++◌, ◌≤◌, codes, decimal, IfOk};
+ghost use Rattle.std.specs.Prelude.{MatchResult, Ok, Err, string_bytes};
 ghost use Rattle.net_storage.specs.Positions.{nothing};
-ghost use Rattle.net_text.specs.Numeral.{number_of};
+ghost use Rattle.net_program.specs.Numeral.{number_of};
 ghost use Rattle.net_lines.specs.Text.{words_of};
-ghost use Rattle.net_lines.specs.AsmMode.{asm_rules, asm_command, range_command, asm_does};
-ghost use Rattle.net_lines.specs.AsmMode.{added, added_then_front_removed, RemoveFront, Print};
-ghost use Rattle.net_lines.specs.AsmLines.{asm_command_seen, range_command_seen};
+ghost use Rattle.net_lines.specs.AsmMode.{asm_rules, asm_line, range_of, asm_does};
+ghost use Rattle.net_lines.specs.declared.asm.AsmLine.TheVariants.{Add, AddThenRemoveFront};
+ghost use Rattle.net_lines.specs.declared.asm.AsmLine.TheVariants.{RemoveFront, Print};
 
 use crate::buffers::Buffers;
 use crate::fault::Fault;
 use crate::session::Session;
 use crate::words::Words;
 use crate::{text, words};
+use net_program::number;
 use net_storage::Assembler;
-use net_text::number;
 use std::alloc::{AllocError, Allocator};
 use std::marker::Model;
 
@@ -29,20 +29,13 @@ const FRONT_ROOM: usize = 27;
 /// bytes beside them, and 4 bytes around all.
 const PRINT_ROOM: usize = 4 + 44 * 32;
 
-/// What is done with a range.
-#[derive(Clone, Copy)]
-pub enum RangeVerb {
-    /// `a`: the range is added.
-    Add,
-    /// `t`: the range is added, and then the front is removed.
-    AddThenRemoveFront,
-}
-
 /// A line of the mode.
 #[derive(Drop)]
 pub enum AsmLine {
-    /// `a NUM NUM` or `t NUM NUM`: what is done with the range of this offset and size.
-    Range(RangeVerb, usize, usize),
+    /// `a NUM NUM`: the range of this offset and size is added.
+    Add(usize, usize),
+    /// `t NUM NUM`: the range is added, and then the front is removed.
+    AddThenRemoveFront(usize, usize),
     /// `f`: the front is removed.
     RemoveFront,
     /// `p`: the runs are shown.
@@ -67,19 +60,18 @@ impl<const N: usize> Model for AsmSession<N> {
     ghost view = { λ s. s.assembler };
 }
 
-/// What is done with the range that two words name, if both are numbers.
-fn range(verb: RangeVerb, offset: &[u8], size: &[u8]) -> Option<AsmLine>
-    ensures { option_map asm_command_seen result
-        ≡ range_command (range_command_seen verb) (number_of offset.now) (number_of size.now) }
+/// The offset and the size of the range that two words name, if both are numbers.
+fn range(offset: &[u8], size: &[u8]) -> Option<(usize, usize)>
+    ensures { result ≡ range_of (number_of offset.now) (number_of size.now) }
 {
     let offset = number(offset)?;
     let size = number(size)?;
-    Some(AsmLine::Range(verb, offset as usize, size as usize))
+    Some((offset as usize, size as usize))
 }
 
 /// Returns what a line says, if it is one of the mode's.
 fn asm_line(line: &[u8]) -> Option<AsmLine>
-    ensures { option_map asm_command_seen result ≡ asm_command (words_of line.now) }
+    ensures { result ≡ asm_line (words_of line.now) }
 {
     match words::split_words(line) {
         Words::One(verb) => {
@@ -93,10 +85,12 @@ fn asm_line(line: &[u8]) -> Option<AsmLine>
         }
         Words::Three(verb, offset, size) => {
             if verb == b"a".as_slice() {
-                return range(RangeVerb::Add, offset, size);
+                let (offset, size) = range(offset, size)?;
+                return Some(AsmLine::Add(offset, size));
             }
             if verb == b"t".as_slice() {
-                return range(RangeVerb::AddThenRemoveFront, offset, size);
+                let (offset, size) = range(offset, size)?;
+                return Some(AsmLine::AddThenRemoveFront(offset, size));
             }
             None
         }
@@ -115,62 +109,45 @@ impl<const N: usize> AsmSession<N> {
         }
     }
 
-    /// Adds a range that fits, and makes the reply.
+    /// Adds a range, or finds that it is too long.
     fn add<A: Allocator + Copy>(
         &mut self,
         buffers: &mut Buffers<A>,
         offset: usize,
         size: usize,
-    ) -> Result<String<A>, AllocError>
-        requires { offset + size < 2 ^ 64 }
-        ensures { IfOk result (λ reply.
-            added N self.old offset size ≡ (self.new, string_bytes reply)) }
+    ) -> Result<Result<String<A>, Fault>, AllocError>
+        ensures { IfOk result (λ outcome. MatchResult outcome
+            (λ reply. asm_does N self.old (Add offset size) ≡ Ok (self.new, string_bytes reply))
+            (λ fault. asm_does N self.old (Add offset size) ≡ Err fault)) }
     {
+        if !Assembler::<N>::fits(offset, size) {
+            return Ok(Err(Fault::RangeTooLong));
+        }
         let reply = match self.assembler.add(offset, size) {
             Ok(()) => "ok\n",
             Err(_) => REFUSED,
         };
-        text::plain(buffers, reply)
+        Ok(Ok(text::plain(buffers, reply)?))
     }
 
-    /// Adds a range that fits and removes the front then, and makes the reply.
+    /// Adds a range and removes the front then, or finds that the range is too long.
     fn add_then_remove_front<A: Allocator + Copy>(
         &mut self,
         buffers: &mut Buffers<A>,
         offset: usize,
         size: usize,
-    ) -> Result<String<A>, AllocError>
-        requires { offset + size < 2 ^ 64 }
-        ensures { IfOk result (λ reply.
-            added_then_front_removed N self.old offset size ≡ (self.new, string_bytes reply)) }
-    {
-        match self.assembler.add_then_remove_front(offset, size) {
-            Ok(front) => front_text(buffers, front),
-            Err(_) => text::plain(buffers, REFUSED),
-        }
-    }
-
-    /// Does what is to be done with a range, or finds that it is too long.
-    fn execute_range<A: Allocator + Copy>(
-        &mut self,
-        buffers: &mut Buffers<A>,
-        verb: RangeVerb,
-        offset: usize,
-        size: usize,
     ) -> Result<Result<String<A>, Fault>, AllocError>
         ensures { IfOk result (λ outcome. MatchResult outcome
-            (λ reply. asm_does N self.old (range_command_seen verb offset size)
+            (λ reply. asm_does N self.old (AddThenRemoveFront offset size)
             ≡ Ok (self.new, string_bytes reply))
-            (λ fault. asm_does N self.old (range_command_seen verb offset size) ≡ Err fault)) }
+            (λ fault. asm_does N self.old (AddThenRemoveFront offset size) ≡ Err fault)) }
     {
         if !Assembler::<N>::fits(offset, size) {
             return Ok(Err(Fault::RangeTooLong));
         }
-        match verb {
-            RangeVerb::Add => Ok(Ok(self.add(buffers, offset, size)?)),
-            RangeVerb::AddThenRemoveFront => {
-                Ok(Ok(self.add_then_remove_front(buffers, offset, size)?))
-            }
+        match self.assembler.add_then_remove_front(offset, size) {
+            Ok(front) => Ok(Ok(front_text(buffers, front)?)),
+            Err(_) => Ok(Ok(text::plain(buffers, REFUSED)?)),
         }
     }
 
@@ -217,9 +194,10 @@ impl<A: Allocator + Copy, const N: usize> Session<A> for AsmSession<N> {
         line: &[u8],
     ) -> Result<Result<String<A>, Fault>, AllocError> {
         match asm_line(line) {
-            Some(AsmLine::Range(verb, offset, size)) => self.execute_range(
-                buffers, verb, offset, size,
-            ),
+            Some(AsmLine::Add(offset, size)) => self.add(buffers, offset, size),
+            Some(AsmLine::AddThenRemoveFront(offset, size)) => {
+                self.add_then_remove_front(buffers, offset, size)
+            }
             Some(AsmLine::RemoveFront) => Ok(Ok(self.remove_front(buffers)?)),
             Some(AsmLine::Print) => Ok(Ok(self.print(buffers)?)),
             None => Ok(Err(Fault::BadCommand)),

@@ -1,28 +1,43 @@
 //! How a run ends that has an error.
-use thiserror::Error;
+ghost use Rattle.std.specs.Prelude.{Some};
+ghost use Rattle.net_lines.specs.ErrorText.{error_text};
+
+use std::error::Error;
+use std::fmt;
 
 /// How a run ends that has an error. A number is that of the faulty line, counted from 1.
-#[derive(Debug, Drop, Error)]
+#[derive(Debug, Drop)]
 pub enum BenchError {
     /// The line is no line of the mode.
-    #[error("line {0}: bad command")]
     BadCommand(u64),
     /// The end of the line's range is above the greatest number.
-    #[error("line {0}: range too long")]
     RangeTooLong(u64),
     /// The line has more than 4,096 bytes.
-    #[error("line {0}: line too long")]
     LineTooLong(u64),
     /// The line begins a third schedule.
-    #[error("line {0}: too many schedules")]
     TooManySchedules(u64),
     /// A request for memory was refused.
-    #[error("out of memory")]
     OutOfMemory,
     /// A read returned an error, or 2^64 - 1 reads were made.
-    #[error("read failed")]
     ReadFailed,
     /// A write returned an error, or took no byte.
-    #[error("write failed")]
     WriteFailed,
 }
+
+impl fmt::Display for BenchError {
+    ghost output = { λ e. Some (error_text e) };
+
+    fn fmt<W: fmt::Write>(&self, f: &mut fmt::Formatter<W>) -> fmt::Result {
+        match self {
+            BenchError::BadCommand(line) => write!(f, "line {line}: bad command"),
+            BenchError::RangeTooLong(line) => write!(f, "line {line}: range too long"),
+            BenchError::LineTooLong(line) => write!(f, "line {line}: line too long"),
+            BenchError::TooManySchedules(line) => write!(f, "line {line}: too many schedules"),
+            BenchError::OutOfMemory => write!(f, "out of memory"),
+            BenchError::ReadFailed => write!(f, "read failed"),
+            BenchError::WriteFailed => write!(f, "write failed"),
+        }
+    }
+}
+
+impl Error for BenchError {}

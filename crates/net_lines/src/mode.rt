@@ -2,10 +2,10 @@
 ghost use Rattle.std.specs.Prelude.{◌≡◌, [], ◌∷◌, map, string_bytes, Option, Some, option_map};
 ghost use Rattle.std.specs.Prelude.{option_and_then};
 ghost use Rattle.net_lines.specs.Kinds.{most_runs_seen};
-ghost use Rattle.net_text.specs.Numeral.{number_of};
+ghost use Rattle.net_program.specs.Numeral.{number_of};
 ghost use Rattle.net_lines.specs.Modes.{mode_of, stream_of, at_most_64k, four_or_32};
 
-use net_text::number;
+use net_program::number;
 use std::marker::Model;
 
 /// The most bytes of storage.

@@ -1,11 +1,12 @@
 //! Replies on their way to a writer, which takes many at once.
 ghost use Rattle.std.specs.Prelude.{◌≡◌, [], ◌++◌, length, ◌≤◌, IfOk, OnOk, IfErr, vec_capacity};
 ghost use Rattle.std.specs.Io.KnownBytes.{Appends};
-ghost use Rattle.net_lines.specs.Transcript.{WritesFront};
+ghost use Rattle.net_program.specs.Writing.{AppendsFront};
 ghost use Rattle.net_lines.specs.Progress.{Gathers};
 ghost use Rattle.net_lines.specs.declared.error.BenchError.{BenchError};
 
 use crate::error::BenchError;
+use net_program::write_text;
 use std::alloc::{AllocError, Allocator};
 use std::io::Write;
 use std::marker::Model;
@@ -13,20 +14,16 @@ use std::marker::Model;
 /// How many bytes of replies are gathered before they are written.
 const ROOM: usize = 65536;
 
-/// Writes all of the text. An error ends it after a beginning of the text; nothing is tried again.
-fn write_text<W: Write>(writer: &mut W, text: &[u8]) -> Result<(), BenchError>
+/// Writes all of the text, or a prefix of it before a failed write.
+fn write_whole<W: Write>(writer: &mut W, text: &[u8]) -> Result<(), BenchError>
     ensures ok { OnOk result (Appends (W.contents writer.old) (W.contents writer.new) text.now) }
     ensures err { IfErr result (λ e. (e ≡ BenchError.WriteFailed)
-        × WritesFront text.now (W.contents writer.old) (W.contents writer.new)) }
+        × AppendsFront (W.contents writer.old) (W.contents writer.new) text.now) }
 {
-    let mut written = 0;
-    while written < text.len() {
-        match writer.write(&text[written..]) {
-            Ok(0) | Err(_) => return Err(BenchError::WriteFailed),
-            Ok(count) => written += count,
-        }
+    match write_text(writer, text) {
+        Ok(()) => Ok(()),
+        Err(_) => Err(BenchError::WriteFailed),
     }
-    Ok(())
 }
 
 /// Replies that are to be written, in a buffer whose size never changes.
@@ -61,12 +58,13 @@ impl<A: Allocator + Copy> Replies<A> {
         ensures ok { OnOk result
             (Gathers (W.contents writer.old) self.old (W.contents writer.new) self.new reply.now) }
         ensures err { IfErr result (λ e. (e ≡ BenchError.WriteFailed) × (self.new ≡ [])
-            × WritesFront (self.old ++ reply.now) (W.contents writer.old) (W.contents writer.new)) }
+            × AppendsFront (W.contents writer.old) (W.contents writer.new)
+            (self.old ++ reply.now)) }
     {
         if reply.len() > ROOM - self.pending.len() {
             self.write_out(writer)?;
             if reply.len() > ROOM {
-                return write_text(writer, reply);
+                return write_whole(writer, reply);
             }
         }
         self.pending.extend_from_slice(reply).unwrap();
@@ -80,9 +78,9 @@ impl<A: Allocator + Copy> Replies<A> {
         ensures ok { OnOk result
             (Appends (W.contents writer.old) (W.contents writer.new) self.old) }
         ensures err { IfErr result (λ e. (e ≡ BenchError.WriteFailed)
-            × WritesFront self.old (W.contents writer.old) (W.contents writer.new)) }
+            × AppendsFront (W.contents writer.old) (W.contents writer.new) self.old) }
     {
-        let outcome = write_text(writer, &self.pending);
+        let outcome = write_whole(writer, &self.pending);
         self.pending.clear();
         outcome
     }

@@ -11,8 +11,8 @@ use crate::fault::Fault;
 use crate::session::Session;
 use crate::words::Words;
 use crate::{text, words};
+use net_program::number;
 use net_storage::{ManagedSlice, RingBuffer};
-use net_text::number;
 use std::alloc::{AllocError, Allocator};
 use std::marker::Model;
 
@@ -104,7 +104,7 @@ impl<'a> RingSession<'a> {
         text::displayed(buffers, TOOK_ROOM, format_args!("took {count}\n"))
     }
 
-    /// The reply that shows so many bytes from the front, of the one part or the two in which they
+    /// The reply that shows so many bytes from the head of the queue, of the one part or the two in which they
     /// lie in the storage.
     fn shown<A: Allocator + Copy>(
         &self,
@@ -120,7 +120,7 @@ impl<'a> RingSession<'a> {
         text::read_reply(buffers, first, second)
     }
 
-    /// Takes so many bytes off the front.
+    /// Takes so many bytes off the head of the queue.
     fn take_off(&mut self, count: usize)
         requires { count ≤ length self.old.bytes }
         ensures { self.new ≡ record self.old { bytes = drop count self.old.bytes } }

@@ -109,7 +109,7 @@ const SCRIPTS: [Script; 3] = [
     ),
 ];
 
-/// Returns the front of the output that is written for the lines which these first bytes of the
+/// Returns the prefix of the output that is written for the lines which these first bytes of the
 /// input end.
 fn output_for((_, input, output, ends): Script, given: usize) -> &'static [u8] {
     let ended = input[..given.min(input.len())]

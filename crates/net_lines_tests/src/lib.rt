@@ -6,8 +6,6 @@
 #![tactic(auto)]
 
 #[cfg(test)]
-mod arguments;
-#[cfg(test)]
 mod assertions;
 #[cfg(test)]
 mod endings;
@@ -19,5 +17,3 @@ mod long_inputs;
 mod memory;
 #[cfg(test)]
 mod rows;
-#[cfg(test)]
-mod statuses;

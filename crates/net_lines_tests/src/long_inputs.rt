@@ -188,7 +188,7 @@ fn check_long_stream(
     Ok(sink.calls)
 }
 
-/// These bytes are a front of the others; all of them, or not, as it is told.
+/// These bytes are a prefix of the others; all of them, or not, as it is told.
 fn assert_front(rt: &impl Abort, front: &[u8], whole: &[u8], is_whole: bool) {
     let place = ("bytes", front.len());
     assert_holds(rt, whole.starts_with(front), place);

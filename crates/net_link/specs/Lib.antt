@@ -1,2 +1,4 @@
 -- The definitions that the contracts cite.
+pub mod Report
+pub mod Serving
 pub mod Words

@@ -2,7 +2,7 @@
 --     plan_of words      what the words ask for, if they ask for anything
 use Rattle.std.specs.Prelude.{ℕ, ◌/◌, ◌&&◌, nat_lt, nat_le, if◌then◌else◌}
 use Rattle.std.specs.Prelude.{List, [], ◌∷◌, Option, Some, None, option_map, option_and_then}
-use Rattle.net_text.specs.Numeral.{number_of}
+use Rattle.net_program.specs.Numeral.{number_of}
 use Rattle.net_link.specs.declared.words.Plan.{Plan}
 
 -- a percentage, from 0 to 99

@@ -5,29 +5,17 @@ mod report;
 mod serve;
 mod words;
 
-use net_text::gather;
-use std::env;
+use net_program::command_words;
 use std::process::ExitCode;
-
-/// Returns the words after the program's name, or none if they can't be read.
-fn command_words(rt: &HostRuntime) -> Vec<String> {
-    let Ok(all) = env::args(rt) else {
-        return Vec::new(rt.alloc());
-    };
-    let Ok(words) = gather(rt.alloc(), all.skip(1)) else {
-        return Vec::new(rt.alloc());
-    };
-    words
-}
 
 fn main(rt: HostRuntime) -> ExitCode {
     let words = command_words(&rt);
-    let status = serve::serve(
+    let ended = serve::serve(
         rt.alloc(),
         &words,
         &mut rt.stdin(),
         &mut rt.stdout(),
         &mut rt.stderr(),
     );
-    ExitCode::from(status)
+    ended.exit_code()
 }

@@ -1,9 +1,9 @@
 //! The words of a command line.
 ghost use Rattle.std.specs.Prelude.{◌≡◌, [], ◌∷◌, map, string_bytes, option_and_then};
-ghost use Rattle.net_text.specs.Numeral.{number_of};
+ghost use Rattle.net_program.specs.Numeral.{number_of};
 ghost use Rattle.net_link.specs.Words.{percentage_of, one_to_64k, plan_from, plan_of};
 
-use net_text::number;
+use net_program::number;
 
 /// The most bytes of a frame's payload, if no word says otherwise.
 const PAYLOAD: u32 = 16_384;

@@ -85,3 +85,13 @@ pub extern "C" fn np_asm_front(n: u64, ops: &[usize], rounds: u64) -> u64 {
         _ => 0,
     }
 }
+
+/// Returns how many bytes an assembler of `n` runs takes; `n` is 4 or 32.
+#[unsafe(no_mangle)]
+pub extern "C" fn np_asm_bytes(n: u64) -> usize {
+    match n {
+        4 => size_of::<Assembler<4>>(),
+        32 => size_of::<Assembler<32>>(),
+        _ => 0,
+    }
+}

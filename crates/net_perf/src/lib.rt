@@ -1,5 +1,5 @@
 //! Functions for C that run a whole workload each and answer a checksum, to time this library
-//! against the original.
+//! against the original; and `np_asm_bytes` and `np_receiver_bytes`, which answer a size.
 #![tactic(auto)]
 
 mod assembler;

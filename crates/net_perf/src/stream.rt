@@ -130,3 +130,13 @@ pub extern "C" fn np_stream(
         _ => 0,
     }
 }
+
+/// Returns how many bytes a receiver of `n` runs takes, its storage not counted; `n` is 4 or 32.
+#[unsafe(no_mangle)]
+pub extern "C" fn np_receiver_bytes(n: u64) -> usize {
+    match n {
+        4 => size_of::<Receiver<'_, 4>>(),
+        32 => size_of::<Receiver<'_, 32>>(),
+        _ => 0,
+    }
+}

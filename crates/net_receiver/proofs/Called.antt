@@ -1,9 +1,13 @@
 -- What one call leaves and answers, as its callers want it.
-use Rattle.std.proofs.Common.{◌≡◌, ℕ, zero, suc, ◌+◌, ◌-◌, ◌<◌, ◌≤◌, min, Bool, true, false, cond, List, [], ◌∷◌, ◌++◌, length, take, drop, nat_eq, nat_lt, not, ◌&&◌, Some, is_some, unwrap_or, slice_get, slice_range, get_or, refl, sym, ap, subst, ◌∙◌, arith, ⊎_elim, take_all, Result, Ok, Err, IsOk, IfOk, OnErr, IsTrue, All, length-take, length-drop, eqb-true}
+use Rattle.std.proofs.Common.{◌≡◌, ℕ, zero, suc, ◌+◌, ◌-◌, ◌<◌, ◌≤◌, min, Bool, true, false, cond}
+use Rattle.std.proofs.Common.{List, [], ◌∷◌, ◌++◌, length, take, drop, nat_eq, nat_lt, not, ◌&&◌}
+use Rattle.std.proofs.Common.{Some, is_some, unwrap_or, slice_get, slice_range, get_or, refl, sym}
+use Rattle.std.proofs.Common.{ap, subst, ◌∙◌, arith, ⊎_elim, take_all, Result, Ok, Err, IsOk, IfOk}
+use Rattle.std.proofs.Common.{OnErr, IsTrue, All, length-take, length-drop, eqb-true, le-ltb}
 use Rattle.std.specs.FinMap as fin
 use Rattle.std.specs.Option.{option_or}
 use Rattle.std.proofs.lemmas.Grind.{common_steps}
-use Rattle.std.proofs.lemmas.Bool.{both_ways, cases_lt, cases_Bool, cond-true, cond-false}
+use Rattle.std.proofs.lemmas.Bool.{both_ways, cases_lt, cases_Bool, cond-true, cond-false, false≢true}
 use Rattle.std.proofs.lemmas.Option.{slice_get-get_or}
 use Rattle.std.proofs.lemmas.List.{take-append-drop, drop-take, drop-drop, take-take}
 use Rattle.net_storage.specs.Positions.{Positions, runs, with_range}
@@ -11,19 +15,28 @@ use Rattle.net_storage.specs.declared.assembler.error.TooManyHolesError.{TooMany
 use Rattle.net_receiver.specs.declared.receiver.kept.Kept.{Kept}
 use Rattle.net_receiver.specs.KeptList.{Piece, piece, piece_at, clip}
 use Rattle.std.proofs.lemmas.List.Elements.{All-nil, All-cons, All-append}
-use Rattle.net_receiver.specs.KeptList.{next}
-use Rattle.net_receiver.specs.Rules.{Show, CommandSeen, ReplySeen, Segment, Read, Verdict, KeptNone, Refused, Keeps, verdict_of_part, verdict, state_after, answer}
-use Rattle.net_receiver.specs.Schedule.{State, Agrees, after_all, Follows, EndsBy, bytes_read, PieceAgrees}
-use Rattle.net_receiver.specs.Stored.{stored_reply, stored_after_all, setting, StandsFor, Stored, HeldBytes, domain, laid_over, first_lacking, values_at, stored_next, by_stored, stored_read, stored_after, fresh_stored}
+use Rattle.net_receiver.specs.KeptList.{byte_at, held_at, next}
+use Rattle.net_receiver.proofs.Stream.{agrees_at}
+use Rattle.net_receiver.specs.Rules.{Show, CommandSeen, ReplySeen, Segment, Read, Verdict, KeptNone}
+use Rattle.net_receiver.specs.Rules.{Refused, Keeps, verdict_of_part, verdict, state_after, answer}
+use Rattle.net_receiver.specs.Schedule.{State, Agrees, kept_after_all, Follows, EndsBy, bytes_read, PieceAgrees}
+use Rattle.net_receiver.specs.Stored.{stored_reply, stored_after_all, setting, StandsFor, Stored}
+use Rattle.net_receiver.specs.Stored.{HeldBytes, domain, held_with_part, first_lacking, values_at}
+use Rattle.net_receiver.specs.Stored.{stored_next, by_stored, stored_read, stored_after}
+use Rattle.net_receiver.specs.Stored.{fresh_stored}
 use Rattle.net_receiver.proofs.Whole.{ran}
-use Rattle.net_receiver.specs.Truthful.{SaysOfLonger, NoneSay, SegmentSays, ReadSays, ShowSays, BothSay, EachSays, FreshReceivesFrom, AgreeingReceives, ReceivesByParts, ReceivesFromLonger}
+use Rattle.net_receiver.specs.OneStream.{SaysOfLonger, NoneSay, SegmentSays, ReadSays, ShowSays}
+use Rattle.net_receiver.specs.OneStream.{BothSay, EachSays, FreshReceivesFrom, AgreeingReceives}
+use Rattle.net_receiver.specs.OneStream.{ReceivesByParts, ReceivesFromLonger, SegmentReceives}
+use Rattle.net_receiver.specs.OneStream.{HeldIsOfStream}
 use Rattle.net_receiver.proofs.Step.{same_next}
 use Rattle.net_receiver.proofs.Run.{setting_kept}
 use Rattle.net_receiver.proofs.Truthful.{longer_at, longer_receives}
-use Rattle.net_receiver.specs.Theorems.{Executed}
-use Rattle.net_receiver.specs.Truthful.{Receives, ReceivesFrom, Says, AllSay, IsTruthful, SaysWhatIsThere, QueueIsOf, kept_of}
+use Rattle.net_receiver.specs.Execution.{Executed}
+use Rattle.net_receiver.specs.Retransmission.{InOrderReaches}
+use Rattle.net_receiver.specs.OneStream.{CapacityStays, Receives, ReceivesFrom, Says, AllSay, IsTruthful, SaysWhatIsThere, QueueIsOf, kept_of}
 use Rattle.net_receiver.proofs.Maps.{get-lay, first_lacking_is, next_joined}
-use Rattle.net_receiver.proofs.Covering.{piece_before, piece_from, slice_get-drop, slice_get-take}
+use Rattle.net_receiver.proofs.Covering.{next_is, piece_before, piece_from, slice_get-drop, slice_get-take}
 use Rattle.net_receiver.proofs.Recover.{follows_verdict}
 use Rattle.net_receiver.proofs.Run.{read_front}
 use Rattle.net_receiver.proofs.Truthful.{none_is_not, cond_some, one_receives, queue_is_of, fresh_receives, first_stays, first_kept, run_receives}
@@ -32,7 +45,8 @@ use Rattle.net_receiver.proofs.Truthful.{none_is_not, cond_some, one_receives, q
 first_of : (N : ℕ) (v u : Stored) (c : CommandSeen) → u ≡ stored_after N v c → u.first ≡ v.first
 first_of N v u c e = ap (λ (y : Stored). y.first) e ∙ first_stays N v c
 
-pub segment_receives : (N f : ℕ) (x : List ℕ) (v u : Stored) (pos : ℕ) (xs : List ℕ) → u ≡ stored_after N v (Segment pos xs) → ReceivesFrom f x v → Says f x pos xs → ReceivesFrom f x u
+pub segment_receives : (N f : ℕ) (x : List ℕ) (v u : Stored) (pos : ℕ) (xs : List ℕ) →
+    u ≡ stored_after N v (Segment pos xs) → ReceivesFrom f x v → Says f x pos xs → ReceivesFrom f x u
 unfolding ReceivesFrom Says
 segment_receives N f x v u pos xs e r h = (
   first_of N v u (Segment pos xs) e ∙ r.0,
@@ -51,7 +65,9 @@ pub queue_of : (f : ℕ) (x : List ℕ) (v : Stored) → ReceivesFrom f x v → 
 unfolding ReceivesFrom
 queue_of f x v r = queue_is_of x v r.1
 
-pub run_receives_from : (N f : ℕ) (x : List ℕ) (v u : Stored) (cs : List CommandSeen) (rs : List ReplySeen) (complete : Bool) → Executed N v u cs rs (IsTrue complete) → ReceivesFrom f x v → AllSay f x cs →
+pub run_receives_from :
+    (N f : ℕ) (x : List ℕ) (v u : Stored) (cs : List CommandSeen) (rs : List ReplySeen) (complete : Bool) →
+    Executed N v u cs rs (IsTrue complete) → ReceivesFrom f x v → AllSay f x cs →
     ReceivesFrom f x u × (bytes_read rs ++ u.queue ≡ slice_range x v.read (stored_next u - u.first))
 unfolding ReceivesFrom AllSay
 run_receives_from N f x v u cs rs complete run r h =
@@ -77,36 +93,42 @@ front_of x q a n e h = grind (arith, common_steps)
 few_of : (q : List ℕ) (k n : ℕ) → n ≡ min k (length q) → take k q ≡ take n q
 few_of q k n e = grind (arith, common_steps)
 
-pub read_bytes : (f : ℕ) (x : List ℕ) (v : Stored) (into old : List ℕ) (n : ℕ) → n ≡ min (length old) (length v.queue) → into ≡ take (length old) v.queue ++ drop (length v.queue) old → ReceivesFrom f x v →
+pub read_bytes : (f : ℕ) (x : List ℕ) (v : Stored) (into old : List ℕ) (n : ℕ) → n ≡ min (length old) (length v.queue) →
+    into ≡ take (length old) v.queue ++ drop (length v.queue) old → ReceivesFrom f x v →
     take n into ≡ slice_range x v.read (v.read + n)
 read_bytes f x v into old n count is r =
     read_front v.queue into old n count is ∙ few_of v.queue (length old) n count ∙ front_of x v.queue v.read n (queue_of f x v r).queue (omega arith)
 
 -- ---- a segment
-values_of : (m : HeldBytes) (xs : List ℕ) (p n : ℕ) → length xs ≤ n → ((q i b : ℕ) → q ≡ p + i → slice_get xs i ≡ Some b → fin.get m q ≡ Some b) → take (length xs) (values_at m p n) ≡ xs
+values_of : (m : HeldBytes) (xs : List ℕ) (p n : ℕ) → length xs ≤ n →
+    ((q i b : ℕ) → q ≡ p + i → slice_get xs i ≡ Some b → fin.get m q ≡ Some b) → take (length xs) (values_at m p n) ≡ xs
 values_of m [] p n h at = refl
 values_of m (x ∷ xs) p zero h at = absurd (omega arith)
 values_of m (x ∷ xs) p (suc n) h at =
     let first : unwrap_or (fin.get m p) 0 ≡ x = ap (λ o. unwrap_or o 0) (at p 0 x (omega arith) refl) in
     (λ i. first i ∷ values_of m xs (p + 1) n (omega arith) (λ q j b e is. at q (suc j) b (omega arith) is) i)
 
-laid_at : (v : Stored) (part : Piece) (q i b : ℕ) → q ≡ part.start + i → slice_get part.bytes i ≡ Some b → fin.get (laid_over v part) q ≡ Some b
+laid_at : (v : Stored) (part : Piece) (q i b : ℕ) → q ≡ part.start + i → slice_get part.bytes i ≡ Some b → fin.get (held_with_part v part) q ≡ Some b
 laid_at v part q i b e is =
     let at : q - part.start ≡ i = omega arith in
     get-lay v.held part.start part.bytes q ∙ ap (λ o. option_or o (fin.get v.held q)) (piece_from part q (omega arith) ∙ ap (slice_get part.bytes) at ∙ is)
 
-reaches : (v : Stored) (part : Piece) → part.start ≡ stored_next v → stored_next v + length part.bytes ≤ first_lacking (laid_over v part) (stored_next v)
+reaches : (v : Stored) (part : Piece) → part.start ≡ stored_next v → stored_next v + length part.bytes ≤ first_lacking (held_with_part v part) (stored_next v)
 reaches v part at =
-    let m = first_lacking (laid_over v part) (stored_next v) in
-    let is = first_lacking_is (laid_over v part) (stored_next v) in
+    let m = first_lacking (held_with_part v part) (stored_next v) in
+    let is = first_lacking_is (held_with_part v part) (stored_next v) in
     let from = is.from in
     ⊎_elim (λ (l : m < stored_next v + length part.bytes).
-    absurd (both_ways (fin.contains_key (laid_over v part) m) is.here (ap is_some (laid_at v part m (m - part.start) (get_or part.bytes (m - part.start) 0) (omega arith) (slice_get-get_or part.bytes (m - part.start) 0 (omega arith))))))
+    absurd
+    (both_ways (fin.contains_key (held_with_part v part) m) is.here
+    (ap is_some
+    (laid_at v part m (m - part.start) (get_or part.bytes (m - part.start) 0) (omega arith) (slice_get-get_or part.bytes (m - part.start) 0 (omega arith))))))
     (λ (l : stored_next v + length part.bytes ≤ m). l)
     (cases_lt m (stored_next v + length part.bytes))
 
 splits_at : (q w part : List ℕ) (m : ℕ) → m ≡ length q + length part → take (length part) w ≡ part → q ++ w ≡ q ++ part ++ drop m (q ++ w)
-splits_at [] w part m n e = sym (take-append-drop (length part) w) ∙ ap (λ l. l ++ drop (length part) w) e ∙ ap (λ j. part ++ drop j w) (let h : length part ≡ m = omega arith in h)
+splits_at [] w part m n e =
+    sym (take-append-drop (length part) w) ∙ ap (λ l. l ++ drop (length part) w) e ∙ ap (λ j. part ++ drop j w) (let h : length part ≡ m = omega arith in h)
 splits_at (y ∷ q) w part zero n e = absurd (omega arith)
 splits_at (y ∷ q) w part (suc m) n e = ap (λ l. y ∷ l) (splits_at q w part m (omega arith) e)
 
@@ -122,7 +144,9 @@ pub record InOrder (v : Stored) (xs : List ℕ) (u : Stored) (r : Result Kept To
   pub joins : IfOk r (λ k. k.kept ≤ k.queued)
   pub queue : u.queue ≡ v.queue ++ xs ++ drop (length v.queue + length xs) u.queue
 
-pub in_order : (N : ℕ) (v u : Stored) (pos : ℕ) (xs : List ℕ) (r : Result Kept TooManyHolesError) → u ≡ state_after by_stored v (verdict by_stored N v (piece pos xs)) → r ≡ answer by_stored v (verdict by_stored N v (piece pos xs)) →
+pub in_order : (N : ℕ) (v u : Stored) (pos : ℕ) (xs : List ℕ) (r : Result Kept TooManyHolesError) →
+    u ≡ state_after by_stored v (verdict by_stored N v (piece pos xs)) →
+    r ≡ answer by_stored v (verdict by_stored N v (piece pos xs)) →
     pos ≤ stored_next v → InOrder v (kept_of v pos xs) u r
 in_order N v u pos xs r state told h =
     let n = stored_next v in
@@ -135,10 +159,11 @@ in_order N v u pos xs r state told h =
     (λ some. record {
       accepted = refl;
       joins = omega arith;
-      queue = splits v.queue (values_at (laid_over v part) n (first_lacking (laid_over v part) n - n)) part.bytes
-          (values_of (laid_over v part) part.bytes n (first_lacking (laid_over v part) n - n) (omega arith) (λ q i b e is. laid_at v part q i b (omega arith) is));
+      queue = splits v.queue (values_at (held_with_part v part) n (first_lacking (held_with_part v part) n - n)) part.bytes
+          (values_of (held_with_part v part) part.bytes n (first_lacking (held_with_part v part) n - n) (omega arith) (λ q i b e is. laid_at v part q i b (omega arith) is));
     }) in
-    subst (λ z. InOrder v part.bytes z r) (sym state) (subst (InOrder v part.bytes (state_after by_stored v (verdict by_stored N v (piece pos xs)))) (sym told) all)
+    subst (λ z. InOrder v part.bytes z r) (sym state)
+    (subst (InOrder v part.bytes (state_after by_stored v (verdict by_stored N v (piece pos xs)))) (sym told) all)
 
 -- what any segment comes to
 pub record AnyOrder (v : Stored) (xs : List ℕ) (u : Stored) (r : Result Kept TooManyHolesError) : Type 0 where
@@ -150,7 +175,8 @@ pub record AnyOrder (v : Stored) (xs : List ℕ) (u : Stored) (r : Result Kept T
   pub queued : IfOk r (λ k. stored_next u ≡ stored_next v + k.queued)
   pub grows : stored_next v ≤ stored_next u
 
-pub any_verdict : (P : Verdict → Type 0) (n most : ℕ) (h : Positions) (part : Piece) → (length part.bytes ≡ 0 → P KeptNone) → P Refused → P (Keeps part) → P (verdict_of_part n most h part)
+pub any_verdict : (P : Verdict → Type 0) (n most : ℕ) (h : Positions) (part : Piece) →
+    (length part.bytes ≡ 0 → P KeptNone) → P Refused → P (Keeps part) → P (verdict_of_part n most h part)
 any_verdict P n most h part empty refused keeps =
     ⊎_elim (λ (e : nat_eq (length part.bytes) 0 ≡ true). subst P (sym (cond-true _ _ _ e)) (empty (eqb-true (length part.bytes) 0 e)))
     (λ (e : nat_eq (length part.bytes) 0 ≡ false). subst P (sym (cond-false _ _ _ e)) (both (not (is_some (piece_at part n)) && nat_lt most (runs (with_range h part.start (length part.bytes))))))
@@ -160,18 +186,21 @@ any_verdict P n most h part empty refused keeps =
     both true = refused
     both false = keeps
 
-pub any_order : (N : ℕ) (v u : Stored) (pos : ℕ) (xs : List ℕ) (r : Result Kept TooManyHolesError) → u ≡ state_after by_stored v (verdict by_stored N v (piece pos xs)) → r ≡ answer by_stored v (verdict by_stored N v (piece pos xs)) →
+pub any_order : (N : ℕ) (v u : Stored) (pos : ℕ) (xs : List ℕ) (r : Result Kept TooManyHolesError) →
+    u ≡ state_after by_stored v (verdict by_stored N v (piece pos xs)) →
+    r ≡ answer by_stored v (verdict by_stored N v (piece pos xs)) →
     AnyOrder v (kept_of v pos xs) u r
 any_order N v u pos xs r state told =
     let n = stored_next v in
     let part = clip n (v.first + v.read + v.capacity) (piece pos xs) in
     let more = next_joined v part in
-    let from = (first_lacking_is (laid_over v part) n).from in
+    let from = (first_lacking_is (held_with_part v part) n).from in
     let all = any_verdict (λ y. AnyOrder v part.bytes (state_after by_stored v y) (answer by_stored v y)) n N (domain v.held) part
     (λ none. record { first = refl; capacity = refl; read = refl; refused = tt; kept = sym none; queued = omega arith; grows = omega arith })
     (record { first = refl; capacity = refl; read = refl; refused = refl; kept = tt; queued = tt; grows = omega arith })
     (record { first = refl; capacity = refl; read = refl; refused = tt; kept = refl; queued = omega arith; grows = omega arith }) in
-    subst (λ z. AnyOrder v part.bytes z r) (sym state) (subst (AnyOrder v part.bytes (state_after by_stored v (verdict by_stored N v (piece pos xs)))) (sym told) all)
+    subst (λ z. AnyOrder v part.bytes z r) (sym state)
+    (subst (AnyOrder v part.bytes (state_after by_stored v (verdict by_stored N v (piece pos xs)))) (sym told) all)
 
 -- ---- what makes the relations
 pub says_of_longer : SaysOfLonger
@@ -217,18 +246,37 @@ pub receives_from_longer : ReceivesFromLonger
 unfolding ReceivesFrom
 receives_from_longer f x more v h = (h.0, longer_receives x more v h.1)
 
+pub segment_receives_from : SegmentReceives
+segment_receives_from N f x v pos xs r h = segment_receives N f x v (stored_after N v (Segment pos xs)) pos xs refl r h
+
+pub held_of_stream : HeldIsOfStream
+unfolding ReceivesFrom
+held_of_stream f x v p b r is =
+    let s = r.1.state in
+    let low = (next_is v.first s.kept).from in
+    let there : held_at v.first s.kept p ≡ Some b = sym (r.1.stands.held p) ∙ is in
+    ⊎_elim
+    (λ (l : next v.first s.kept < p).
+    let from : v.first ≤ p = omega arith in
+    subst (λ g. slice_get x (p - g) ≡ Some b) r.0
+    (agrees_at v.first s.kept x r.1.agrees p b from (cond_some (nat_lt (next v.first s.kept) p) (byte_at s.kept p) b there)))
+    (λ (l : p ≤ next v.first s.kept). absurd (none_is_not b (sym (cond-false _ _ _ (le-ltb (next v.first s.kept) p l)) ∙ there)))
+    (cases_lt (next v.first s.kept) p)
+
 -- ---- one command, of which a refusal of memory leaves nothing
 pub executed_keeps : {T E : Type 0} (P : Stored → Type 0) (r : Result T E) (v u w : Stored) → IfOk r (λ _. u ≡ w) → OnErr r (u ≡ v) → P v → P w → P u
 executed_keeps P (Ok t) v u w ok err old new = subst P (sym ok) new
 executed_keeps P (Err e) v u w ok err old new = subst P (sym err) old
 
-pub executed_first : (N : ℕ) {T E : Type 0} (r : Result T E) (v u : Stored) (c : CommandSeen) → IfOk r (λ _. u ≡ stored_after N v c) → OnErr r (u ≡ v) → u.first ≡ v.first
+pub executed_first : (N : ℕ) {T E : Type 0} (r : Result T E) (v u : Stored) (c : CommandSeen) →
+    IfOk r (λ _. u ≡ stored_after N v c) → OnErr r (u ≡ v) → u.first ≡ v.first
 executed_first N r v u c ok err = executed_keeps (λ (y : Stored). y.first ≡ v.first) r v u (stored_after N v c) ok err refl (first_stays N v c)
 
-pub capacity_stays : (N : ℕ) (v : Stored) (c : CommandSeen) → (stored_after N v c).capacity ≡ v.capacity
+pub capacity_stays : CapacityStays
 capacity_stays N v c = ap (λ w. w.capacity) (setting_kept N v c)
 
-pub executed_capacity : (N : ℕ) {T E : Type 0} (r : Result T E) (v u : Stored) (c : CommandSeen) → IfOk r (λ _. u ≡ stored_after N v c) → OnErr r (u ≡ v) → u.capacity ≡ v.capacity
+pub executed_capacity : (N : ℕ) {T E : Type 0} (r : Result T E) (v u : Stored) (c : CommandSeen) →
+    IfOk r (λ _. u ≡ stored_after N v c) → OnErr r (u ≡ v) → u.capacity ≡ v.capacity
 executed_capacity N r v u c ok err = executed_keeps (λ (y : Stored). y.capacity ≡ v.capacity) r v u (stored_after N v c) ok err refl (capacity_stays N v c)
 
 one_run : (N : ℕ) (v : Stored) (c : CommandSeen) → Executed N v (stored_after N v c) (c ∷ []) (stored_reply N v c ∷ []) (IsTrue true)
@@ -237,10 +285,15 @@ one_run N v c = record { front = record { count = 1; within = omega arith; whole
 pub one_receives_from : (N f : ℕ) (x : List ℕ) (v : Stored) (c : CommandSeen) → ReceivesFrom f x v → AllSay f x (c ∷ []) → ReceivesFrom f x (stored_after N v c)
 one_receives_from N f x v c r h = (run_receives_from N f x v (stored_after N v c) (c ∷ []) (stored_reply N v c ∷ []) true (one_run N v c) r h).0
 
-pub executed_receives : (N f : ℕ) (x : List ℕ) {T E : Type 0} (r : Result T E) (v u : Stored) (c : CommandSeen) → IfOk r (λ _. u ≡ stored_after N v c) → OnErr r (u ≡ v) → ReceivesFrom f x v → AllSay f x (c ∷ []) → ReceivesFrom f x u
+pub executed_receives : (N f : ℕ) (x : List ℕ) {T E : Type 0} (r : Result T E) (v u : Stored) (c : CommandSeen) →
+    IfOk r (λ _. u ≡ stored_after N v c) → OnErr r (u ≡ v) → ReceivesFrom f x v → AllSay f x (c ∷ []) →
+    ReceivesFrom f x u
 executed_receives N f x r v u c ok err from h = executed_keeps (ReceivesFrom f x) r v u (stored_after N v c) ok err from (one_receives_from N f x v c from h)
 
-pub executed_bytes : (N f : ℕ) (x : List ℕ) {T E : Type 0} (seen : T → ReplySeen) (r : Result T E) (v u : Stored) (c : CommandSeen) → IfOk r (λ _. u ≡ stored_after N v c) → IfOk r (λ t. seen t ≡ stored_reply N v c) → ReceivesFrom f x v → AllSay f x (c ∷ []) →
+pub executed_bytes :
+    (N f : ℕ) (x : List ℕ) {T E : Type 0} (seen : T → ReplySeen) (r : Result T E) (v u : Stored) (c : CommandSeen) →
+    IfOk r (λ _. u ≡ stored_after N v c) → IfOk r (λ t. seen t ≡ stored_reply N v c) → ReceivesFrom f x v →
+    AllSay f x (c ∷ []) →
     IfOk r (λ t. bytes_read (seen t ∷ []) ++ u.queue ≡ slice_range x v.read (stored_next u - u.first))
 executed_bytes N f x seen (Ok t) v u c ok is from h =
     (λ i. bytes_read (is i ∷ []) ++ (ok i).queue)
@@ -253,19 +306,23 @@ capacity_kept most v [] = refl
 capacity_kept most v (c ∷ cs) = capacity_kept most (stored_after most v c) cs ∙ capacity_stays most v c
 
 -- ---- segments that follow on one another
-pub reached : (N : ℕ) (v u : Stored) (cs : List CommandSeen) (rs : List ReplySeen) {T E : Type 0} (r : Result T E) (s : State) → Executed N v u cs rs (IsOk r) → StandsFor v s →
+pub reached :
+    (N : ℕ) (v u : Stored) (cs : List CommandSeen) (rs : List ReplySeen) {T E : Type 0} (r : Result T E) (s : State) →
+    Executed N v u cs rs (IsOk r) → StandsFor v s →
     Follows (setting N v) s (stored_next v) cs → IfOk r (λ _. EndsBy (stored_next u) cs)
 reached N v u cs rs (Err e) s run d follows = tt
 reached N v u cs rs (Ok t) s run d follows =
     let first : u.first ≡ v.first = ap (λ (y : Stored). y.first) run.state ∙ first_kept N v (take run.front.count cs) in
     let seen = ran N v u cs rs _ run.front.count run.front.within run.front.whole run.state run.answers s d in
     let all : take seen.front.count cs ≡ cs = take_all seen.front.count cs (omega (arith, seen.front.whole refl)) in
-    let there : StandsFor u (after_all (setting N v) s cs) = subst (λ l. StandsFor u (after_all (setting N v) s l)) all seen.stands in
-    let end : stored_next u ≡ next v.first (after_all (setting N v) s cs).kept = same_next u (after_all (setting N v) s cs) there ∙ ap (λ b. next b (after_all (setting N v) s cs).kept) first in
+    let there : StandsFor u (kept_after_all (setting N v) s cs) = subst (λ l. StandsFor u (kept_after_all (setting N v) s l)) all seen.stands in
+    let end : stored_next u ≡ next v.first (kept_after_all (setting N v) s cs).kept =
+    same_next u (kept_after_all (setting N v) s cs) there ∙ ap (λ b. next b (kept_after_all (setting N v) s cs).kept) first in
     subst (λ n. EndsBy n cs) (sym end) (seen.recovers refl (subst (λ n. Follows (setting N v) s n cs) (same_next v s d) follows))
 
 -- ---- parts of the queue
-part_of : (x q bytes : List ℕ) (a o : ℕ) → q ≡ take (length q) (drop a x) → bytes ≡ take (length bytes) (drop o q) → bytes ≡ take (length bytes) (drop (a + o) x)
+part_of : (x q bytes : List ℕ) (a o : ℕ) → q ≡ take (length q) (drop a x) → bytes ≡ take (length bytes) (drop o q) →
+    bytes ≡ take (length bytes) (drop (a + o) x)
 part_of x q bytes a o e is =
     let n = length bytes in
     let m = length q in
@@ -279,15 +336,29 @@ part_of x q bytes a o e is =
     ∙ take-take n (m - o) (drop (a + o) x) (omega arith))
     (cases_lt m o)
 
-pub part_bytes : (f : ℕ) (x : List ℕ) (v : Stored) (bytes : List ℕ) (o : ℕ) → bytes ≡ take (length bytes) (drop o v.queue) → ReceivesFrom f x v → bytes ≡ take (length bytes) (drop (v.read + o) x)
+pub part_bytes : (f : ℕ) (x : List ℕ) (v : Stored) (bytes : List ℕ) (o : ℕ) →
+    bytes ≡ take (length bytes) (drop o v.queue) → ReceivesFrom f x v →
+    bytes ≡ take (length bytes) (drop (v.read + o) x)
 part_bytes f x v bytes o is r = part_of x v.queue bytes v.read o (queue_of f x v r).queue is
 
 pub front_bytes : (f : ℕ) (x : List ℕ) (v : Stored) (n : ℕ) → n ≤ length v.queue → ReceivesFrom f x v → take n v.queue ≡ slice_range x v.read (v.read + n)
 front_bytes f x v n few r = front_of x v.queue v.read n (queue_of f x v r).queue few
 
--- a lent part is a front of the queue, and no more of it is counted
-pub counted_front : (inner outer bytes : List ℕ) (count : ℕ) → inner ≡ outer → bytes ≡ take (length bytes) inner → ((n : ℕ) → bytes ≡ take n outer → count ≤ length (take n outer)) →
-    (count ≤ length bytes) × (bytes ≡ take (length bytes) outer)
-counted_front inner outer bytes count same is few =
-    let there : bytes ≡ take (length bytes) outer = is ∙ ap (take (length bytes)) same in
-    (subst (λ xs. count ≤ length xs) (sym there) (few (length bytes) there), there)
+-- ---- a segment in order
+pub in_order_reaches : InOrderReaches
+in_order_reaches N v pos xs h =
+    let u = stored_after N v (Segment pos xs) in
+    let limit = v.first + v.read + v.capacity in
+    let r = answer by_stored v (verdict by_stored N v (piece pos xs)) in
+    let near = in_order N v u pos xs r refl refl h in
+    let any = any_order N v u pos xs r refl refl in
+    let cut = length-take (limit - pos) xs in
+    let part : length (kept_of v pos xs) ≡ length (take (limit - pos) xs) - (stored_next v - pos)
+    = length-drop (stored_next v - pos) (take (limit - pos) xs) in
+    by (min (pos + length xs) limit) (stored_next u) (stored_next v) (length (kept_of v pos xs)) r
+    near.accepted any.kept any.queued near.joins (omega (arith, cut, part, h))
+  where
+    by : (e n m k : ℕ) (r : Result Kept TooManyHolesError) → IsOk r → IfOk r (λ t. t.kept ≡ k)
+        → IfOk r (λ t. n ≡ m + t.queued) → IfOk r (λ t. t.kept ≤ t.queued) → e ≤ m + k → e ≤ n
+    by e n m k (Ok t) ok kept queued joins h = omega (arith, kept, queued, joins, h)
+    by e n m k (Err x) ok kept queued joins h = absurd (false≢true ok)

@@ -1,14 +1,23 @@
 -- The sets of a kept list as lists, and a schedule computed in full.
-use Rattle.std.proofs.Common.{◌≡◌, ℕ, zero, suc, ◌+◌, ◌-◌, ◌<◌, ◌≤◌, min, Bool, true, false, cond, not, ◌||◌, ◌==◌, List, [], ◌∷◌, ◌++◌, map, filter, flat_map, length, nat_lt, refl, sym, ap, subst, ◌∙◌, arith, ⊎_elim, lt-ltb, le-ltb, eq-eqb, ne_eqb, le_trans, take}
+use Rattle.std.proofs.Common.{◌≡◌, ℕ, zero, suc, ◌+◌, ◌-◌, ◌<◌, ◌≤◌, min, Bool, true, false, cond}
+use Rattle.std.proofs.Common.{not, ◌||◌, ◌==◌, List, [], ◌∷◌, ◌++◌, map, filter, flat_map, length}
+use Rattle.std.proofs.Common.{nat_lt, refl, sym, ap, subst, ◌∙◌, arith, ⊎_elim, lt-ltb, le-ltb}
+use Rattle.std.proofs.Common.{eq-eqb, ne_eqb, le_trans, take}
 use Rattle.std.specs.Option.{option_or}
 use Rattle.std.specs.List.{range_with_len}
 use Rattle.std.proofs.lemmas.Bool.{cond-true, cond-false, cases_order}
-use Rattle.net_storage.specs.Positions.{Positions, contains, positions, set_of_list, bound_of, missing_within, first_missing, begins_run, run_starts, runs, maximal_runs, with_range}
+use Rattle.net_storage.specs.Positions.{Positions, contains, positions, set_of_list, bound_of}
+use Rattle.net_storage.specs.Positions.{missing_within, first_missing, begins_run, run_starts, runs}
+use Rattle.net_storage.specs.Positions.{maximal_runs, with_range}
 use Rattle.net_storage.proofs.Positions.{has, Rises, contains-set_of_list, positions-set_of_list, same_positions, runs-maximal_runs}
-use Rattle.net_receiver.specs.KeptList.{Piece, piece, piece_at, clip, byte_at, bytes, covered_set, next, held}
-use Rattle.net_receiver.specs.Rules.{CommandSeen, Segment, Read, Show, ReplySeen, Segmented, Gave, Shown, Refused, Keeps, verdict_of_part, state_after, answer, first_three, verdict}
-use Rattle.net_receiver.specs.Schedule.{Setting, State, fresh, after, reply, replies, by_kept}
-use Rattle.net_receiver.specs.Computed.{is_in, put, rising, missing_of, missing_in, runs_in, listed, held_in, NextComputed, HeldComputed, RunsComputed, ByteComputed, took, WorkedSchedule}
+use Rattle.net_receiver.specs.KeptList.{Piece, piece, piece_at, clip, byte_at, bytes, covered_set, next, held_positions}
+use Rattle.net_receiver.specs.Rules.{CommandSeen, Segment, Read, Show, ReplySeen, Segmented, Gave}
+use Rattle.net_receiver.specs.Rules.{Shown, Refused, Keeps, verdict_of_part, state_after, answer}
+use Rattle.net_receiver.specs.Rules.{first_three, verdict}
+use Rattle.net_receiver.specs.Schedule.{Setting, State, fresh, kept_after, kept_reply, kept_replies, by_kept}
+use Rattle.net_receiver.specs.WorkedExample.{is_in, put, rising, missing_of, missing_in, runs_in, covered_list}
+use Rattle.net_receiver.specs.WorkedExample.{held_in, NextComputed, HeldComputed, RunsComputed}
+use Rattle.net_receiver.specs.WorkedExample.{ByteComputed, segment_reply, WorkedSchedule}
 
 in_has : (ks : List ℕ) (q : ℕ) → is_in ks q ≡ has ks q
 in_has [] q = refl
@@ -37,7 +46,8 @@ or_swap false false x = refl
 put_has : (p : ℕ) (ks : List ℕ) (q : ℕ) → has (put p ks) q ≡ ((q == p) || has ks q)
 put_has p [] q = refl
 put_has p (k ∷ ks) q =
-    ⊎_elim (λ (e : p ≡ k). ap (λ l. has l q) (cond-false _ _ _ (le-ltb p k (omega arith)) ∙ cond-true _ _ _ (eq-eqb p k e)) ∙ or_twice (q == k) (has ks q) ∙ ap (λ j. (q == j) || ((q == k) || has ks q)) (sym e))
+    ⊎_elim
+    (λ (e : p ≡ k). ap (λ l. has l q) (cond-false _ _ _ (le-ltb p k (omega arith)) ∙ cond-true _ _ _ (eq-eqb p k e)) ∙ or_twice (q == k) (has ks q) ∙ ap (λ j. (q == j) || ((q == k) || has ks q)) (sym e))
     (⊎_elim
     (λ (less : p < k). ap (λ l. has l q) (cond-true _ _ _ (lt-ltb p k less)))
     (λ (more : k < p). ap (λ l. has l q) (cond-false _ _ _ (le-ltb p k (omega arith)) ∙ cond-false _ _ _ (ne_eqb p k (omega arith))) ∙ ap (λ b. (q == k) || b) (put_has p ks q) ∙ or_swap (q == k) (q == p) (has ks q)))
@@ -89,33 +99,36 @@ module _ (s : Positions) (ks : List ℕ) (is : s ≡ set_of_list ks) (up : Rises
   runs_number : runs s ≡ length (runs_in ks)
   runs_number = runs-maximal_runs s ∙ ap length runs_are
 
-covered_is : (k : List Piece) → covered_set k ≡ set_of_list (listed k)
+covered_is : (k : List Piece) → covered_set k ≡ set_of_list (covered_list k)
 unfolding covered_set
 covered_is k = rising_set (flat_map (λ e. range_with_len e.start (length e.bytes)) k)
 
-listed_rises : (k : List Piece) → Rises 0 (listed k)
+listed_rises : (k : List Piece) → Rises 0 (covered_list k)
 listed_rises k = rising_rises (flat_map (λ e. range_with_len e.start (length e.bytes)) k)
 
 pub next_computed : NextComputed
 unfolding next
-next_computed f k = missing_is (covered_set k) (listed k) (covered_is k) (listed_rises k) f
+next_computed f k = missing_is (covered_set k) (covered_list k) (covered_is k) (listed_rises k) f
 
-held_is : (f : ℕ) (k : List Piece) → held f k ≡ set_of_list (held_in f k)
-unfolding held
-held_is f k = λ i. set_of_list (filter (nat_lt (next_computed f k i)) (positions_are (covered_set k) (listed k) (covered_is k) (listed_rises k) i))
+held_is : (f : ℕ) (k : List Piece) → held_positions f k ≡ set_of_list (held_in f k)
+unfolding held_positions
+held_is f k = λ i. set_of_list (filter (nat_lt (next_computed f k i)) (positions_are (covered_set k) (covered_list k) (covered_is k) (listed_rises k) i))
 
 held_rises : (f : ℕ) (k : List Piece) → Rises 0 (held_in f k)
-held_rises f k = filter_rises (nat_lt (missing_in (listed k) f)) 0 (listed k) (listed_rises k)
+held_rises f k = filter_rises (nat_lt (missing_in (covered_list k) f)) 0 (covered_list k) (listed_rises k)
 
 pub held_computed : HeldComputed
-held_computed f k = runs_are (held f k) (held_in f k) (held_is f k) (held_rises f k)
+held_computed f k = runs_are (held_positions f k) (held_in f k) (held_is f k) (held_rises f k)
 
-range_is : (f : ℕ) (k : List Piece) (o n : ℕ) → with_range (held f k) o n ≡ set_of_list (rising (held_in f k ++ range_with_len o n))
+range_is : (f : ℕ) (k : List Piece) (o n : ℕ) → with_range (held_positions f k) o n ≡ set_of_list (rising (held_in f k ++ range_with_len o n))
 unfolding with_range
-range_is f k o n = ap (λ l. set_of_list (l ++ range_with_len o n)) (positions_are (held f k) (held_in f k) (held_is f k) (held_rises f k)) ∙ rising_set (held_in f k ++ range_with_len o n)
+range_is f k o n =
+    ap (λ l. set_of_list (l ++ range_with_len o n)) (positions_are (held_positions f k) (held_in f k) (held_is f k) (held_rises f k))
+    ∙ rising_set (held_in f k ++ range_with_len o n)
 
 pub runs_computed : RunsComputed
-runs_computed f k o n = runs_number (with_range (held f k) o n) (rising (held_in f k ++ range_with_len o n)) (range_is f k o n) (rising_rises (held_in f k ++ range_with_len o n))
+runs_computed f k o n =
+    runs_number (with_range (held_positions f k) o n) (rising (held_in f k ++ range_with_len o n)) (range_is f k o n) (rising_rises (held_in f k ++ range_with_len o n))
 
 pub byte_computed : ByteComputed
 unfolding byte_at
@@ -159,30 +172,31 @@ two_next = next_computed 0 two
 three_next : next 0 three ≡ 5
 three_next = next_computed 0 three
 
-one_held : maximal_runs (held 0 one) ≡ (2, 4) ∷ []
+one_held : maximal_runs (held_positions 0 one) ≡ (2, 4) ∷ []
 one_held = held_computed 0 one
 
-two_held : maximal_runs (held 0 two) ≡ (2, 5) ∷ []
+two_held : maximal_runs (held_positions 0 two) ≡ (2, 5) ∷ []
 two_held = held_computed 0 two
 
-three_held : maximal_runs (held 0 three) ≡ []
+three_held : maximal_runs (held_positions 0 three) ≡ []
 three_held = held_computed 0 three
 
 first_verdict : verdict (by_kept w) 4 fresh first ≡ Keeps first
 first_verdict =
-    (λ i. verdict_of_part (none_next i) 4 (held 0 []) (clip (none_next i) 16 first))
-    ∙ ap (λ r. cond (nat_lt 4 r) Refused (Keeps first)) (let few : runs (with_range (held 0 []) 2 2) ≡ 1 = runs_computed 0 [] 2 2 in few)
+    (λ i. verdict_of_part (none_next i) 4 (held_positions 0 []) (clip (none_next i) 16 first))
+    ∙ ap (λ r. cond (nat_lt 4 r) Refused (Keeps first)) (let few : runs (with_range (held_positions 0 []) 2 2) ≡ 1 = runs_computed 0 [] 2 2 in few)
 
 second_verdict : verdict (by_kept w) 4 (kept one) second ≡ Keeps second
 second_verdict =
-    (λ i. verdict_of_part (one_next i) 4 (held 0 one) (clip (one_next i) 16 second))
-    ∙ ap (λ r. cond (nat_lt 4 r) Refused (Keeps second)) (let few : runs (with_range (held 0 one) 3 2) ≡ 1 = runs_computed 0 one 3 2 in few)
+    (λ i. verdict_of_part (one_next i) 4 (held_positions 0 one) (clip (one_next i) 16 second))
+    ∙ ap (λ r. cond (nat_lt 4 r) Refused (Keeps second)) (let few : runs (with_range (held_positions 0 one) 3 2) ≡ 1 = runs_computed 0 one 3 2 in few)
 
 third_verdict : verdict (by_kept w) 4 (kept two) third ≡ Keeps third
-third_verdict = λ i. verdict_of_part (two_next i) 4 (held 0 two) (clip (two_next i) 16 third)
+third_verdict = λ i. verdict_of_part (two_next i) 4 (held_positions 0 two) (clip (two_next i) 16 third)
 
-step : (s t : State) (c : CommandSeen) (r : ReplySeen) (cs : List CommandSeen) (rs : List ReplySeen) → after w s c ≡ t → reply w s c ≡ r → replies w t cs ≡ rs → replies w s (c ∷ cs) ≡ r ∷ rs
-step s t c r cs rs left told rest = λ i. told i ∷ (ap (λ u. replies w u cs) left ∙ rest) i
+step : (s t : State) (c : CommandSeen) (r : ReplySeen) (cs : List CommandSeen) (rs : List ReplySeen) → kept_after w s c ≡ t →
+    kept_reply w s c ≡ r → kept_replies w t cs ≡ rs → kept_replies w s (c ∷ cs) ≡ r ∷ rs
+step s t c r cs rs left told rest = λ i. told i ∷ (ap (λ u. kept_replies w u cs) left ∙ rest) i
 
 bytes_three : bytes three 0 5 ≡ 67 ∷ 67 ∷ 65 ∷ 66 ∷ 66 ∷ []
 unfolding byte_at
@@ -192,15 +206,15 @@ pub worked_schedule : WorkedSchedule
 worked_schedule =
     step fresh (kept one) (Segment 2 (65 ∷ 65 ∷ [])) _ (Segment 3 (66 ∷ 66 ∷ []) ∷ Show ∷ Segment 0 (67 ∷ 67 ∷ []) ∷ Show ∷ Read 5 ∷ Show ∷ []) _
     (ap (state_after (by_kept w) fresh) first_verdict)
-    (ap (λ x. Segmented (answer (by_kept w) fresh x)) first_verdict ∙ (λ i. took 2 (one_next i - none_next i) (first_three (one_held i))))
+    (ap (λ x. Segmented (answer (by_kept w) fresh x)) first_verdict ∙ (λ i. segment_reply 2 (one_next i - none_next i) (first_three (one_held i))))
     (step (kept one) (kept two) (Segment 3 (66 ∷ 66 ∷ [])) _ (Show ∷ Segment 0 (67 ∷ 67 ∷ []) ∷ Show ∷ Read 5 ∷ Show ∷ []) _
     (ap (state_after (by_kept w) (kept one)) second_verdict)
-    (ap (λ x. Segmented (answer (by_kept w) (kept one) x)) second_verdict ∙ (λ i. took 2 (two_next i - one_next i) (first_three (two_held i))))
+    (ap (λ x. Segmented (answer (by_kept w) (kept one) x)) second_verdict ∙ (λ i. segment_reply 2 (two_next i - one_next i) (first_three (two_held i))))
     (step (kept two) (kept two) Show _ (Segment 0 (67 ∷ 67 ∷ []) ∷ Show ∷ Read 5 ∷ Show ∷ []) _ refl
     (λ i. Shown (two_next i) (length (bytes two 0 (two_next i - 0))) (16 - length (bytes two 0 (two_next i - 0))) (two_held i))
     (step (kept two) (kept three) (Segment 0 (67 ∷ 67 ∷ [])) _ (Show ∷ Read 5 ∷ Show ∷ []) _
     (ap (state_after (by_kept w) (kept two)) third_verdict)
-    (ap (λ x. Segmented (answer (by_kept w) (kept two) x)) third_verdict ∙ (λ i. took 2 (three_next i - two_next i) (first_three (three_held i))))
+    (ap (λ x. Segmented (answer (by_kept w) (kept two) x)) third_verdict ∙ (λ i. segment_reply 2 (three_next i - two_next i) (first_three (three_held i))))
     (step (kept three) (kept three) Show _ (Read 5 ∷ Show ∷ []) _ refl
     (λ i. Shown (three_next i) (length (bytes three 0 (three_next i - 0))) (16 - length (bytes three 0 (three_next i - 0))) (three_held i))
     (step (kept three) (record { kept = three; read = 5 }) (Read 5) _ (Show ∷ []) _

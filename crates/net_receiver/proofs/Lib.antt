@@ -13,9 +13,12 @@ pub mod Sound
 pub mod Placed
 pub mod Segment
 pub mod Whole
+pub mod Soundness
 pub mod SameBytes
 pub mod ReceiverLaws
 pub mod Truthful
 pub mod Called
 pub mod Resending
+pub mod Reading
+pub mod Contiguous
 pub mod Computed

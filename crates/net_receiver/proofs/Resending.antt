@@ -1,5 +1,8 @@
 -- Segments that come again, and segments that together cover a range.
-use Rattle.std.proofs.Common.{◌≡◌, ◌⊎◌, inl, inr, ℕ, ◌+◌, ◌-◌, ◌<◌, ◌≤◌, max, Bool, true, false, cond, List, [], ◌∷◌, ◌++◌, length, take, nat_le, Option, Some, None, is_some, slice_get, All, refl, sym, ap, ◌∙◌, arith, ⊎_elim, le-leb, lt-ltb, le_trans, length-take, length-drop}
+use Rattle.std.proofs.Common.{◌≡◌, ◌⊎◌, inl, inr, ℕ, ◌+◌, ◌-◌, ◌<◌, ◌≤◌, max, Bool, true, false}
+use Rattle.std.proofs.Common.{cond, List, [], ◌∷◌, ◌++◌, length, take, nat_le, Option, Some, None}
+use Rattle.std.proofs.Common.{is_some, slice_get, All, refl, sym, ap, ◌∙◌, arith, ⊎_elim, le-leb}
+use Rattle.std.proofs.Common.{lt-ltb, le_trans, length-take, length-drop}
 use Rattle.std.specs.Option.{option_or}
 use Rattle.std.specs.Cmp.{nat_cmp_total}
 use Rattle.std.specs.FinMap as fin
@@ -9,8 +12,11 @@ use Rattle.std.proofs.lemmas.List.Elements.{All-head, All-tail}
 use Rattle.net_receiver.specs.KeptList.{Piece, piece, piece_at, end, clip}
 use Rattle.net_receiver.specs.Rules.{CommandSeen, Segment, Read, Show, Segmented, verdict, state_after, answer}
 use Rattle.net_receiver.specs.Schedule.{IsAccepted}
-use Rattle.net_receiver.specs.Stored.{HeldBytes, Stored, domain, laid_over, first_lacking, values_at, joined, joined_from, stored_next, by_stored, stored_read, stored_after, stored_reply, stored_after_all, stored_replies}
-use Rattle.net_receiver.specs.Resending.{IsHeld, HeldChangesNothing, SecondCopy, Has, HasStays, AcceptedBrings, HasAllReaches, Brings, Completes}
+use Rattle.net_receiver.specs.Stored.{HeldBytes, Stored, domain, held_with_part, first_lacking}
+use Rattle.net_receiver.specs.Stored.{values_at, stored_with_part, queue_up_to, stored_next, by_stored}
+use Rattle.net_receiver.specs.Stored.{stored_read, stored_after, stored_reply, stored_after_all}
+use Rattle.net_receiver.specs.Stored.{stored_replies}
+use Rattle.net_receiver.specs.Retransmission.{IsHeld, HeldChangesNothing, SecondCopy, Has, HasStays, AcceptedBrings, HasAllReaches, Brings, Completes}
 use Rattle.net_receiver.proofs.Search.{IsFirst, first_unique}
 use Rattle.net_receiver.proofs.Covering.{piece_before, piece_past, piece_from, piece_has, slice_get-drop, slice_get-take}
 use Rattle.net_receiver.proofs.Maps.{get-lay, first_lacking_is, same_both, next_joined}
@@ -21,7 +27,7 @@ use Rattle.net_receiver.proofs.Called.{any_verdict}
 -- ---- what a kept part leaves
 module _ (v : Stored) (part : Piece) where
   abbrev laid : HeldBytes
-  laid = laid_over v part
+  laid = held_with_part v part
 
   abbrev n : ℕ
   n = stored_next v
@@ -32,11 +38,11 @@ module _ (v : Stored) (part : Piece) where
   first : IsFirst (fin.contains_key laid) n m
   first = first_lacking_is laid n
 
-  get_left : (p : ℕ) → fin.get (joined v part).held p ≡ cond (nat_le m p) (fin.get laid p) None
+  get_left : (p : ℕ) → fin.get (stored_with_part v part).held p ≡ cond (nat_le m p) (fin.get laid p) None
   get_left p = fin.get-retain_keys laid (λ q. nat_le m q) p (λ x e. ap (nat_le m) (sym (fin.nat_cmp-IsAntisymmetric p x e)))
 
   -- a position of the laid bytes is queued then, or still held
-  has_laid : (p : ℕ) → fin.contains_key laid p ≡ true → Has (joined v part) p
+  has_laid : (p : ℕ) → fin.contains_key laid p ≡ true → Has (stored_with_part v part) p
   has_laid p h =
       let at = next_joined v part in
       ⊎_elim (λ (l : p < m). inl (omega arith))
@@ -57,21 +63,21 @@ module _ (v : Stored) (part : Piece) where
       either None b e = e
       either (Some x) b e = refl
 
-  has_joined : (p : ℕ) → Has v p → Has (joined v part) p
+  has_joined : (p : ℕ) → Has v p → Has (stored_with_part v part) p
   has_joined p h =
       let at = next_joined v part in
       let from = first.from in
       ⊎_elim (λ (l : p < stored_next v). inl (omega arith)) (λ (k : fin.contains_key v.held p ≡ true). has_laid p (laid_held p k)) h
 
-  missing_joined : fin.contains_key (joined v part).held (stored_next (joined v part)) ≡ false
+  missing_joined : fin.contains_key (stored_with_part v part).held (stored_next (stored_with_part v part)) ≡ false
   missing_joined =
-      ap (fin.contains_key (joined v part).held) (next_joined v part)
+      ap (fin.contains_key (stored_with_part v part).held) (next_joined v part)
       ∙ ap is_some (get_left m ∙ ap (λ o. cond (nat_le m m) o None) (none_of (fin.get laid m) first.here) ∙ same_both (nat_le m m) None)
 
-  above_joined : (p : ℕ) → fin.contains_key (joined v part).held p ≡ true → stored_next (joined v part) < p
+  above_joined : (p : ℕ) → fin.contains_key (stored_with_part v part).held p ≡ true → stored_next (stored_with_part v part) < p
   above_joined p h =
       let at = next_joined v part in
-      ⊎_elim (λ (same : m ≡ p). absurd (both_ways _ missing_joined (ap (fin.contains_key (joined v part).held) (at ∙ same) ∙ h)))
+      ⊎_elim (λ (same : m ≡ p). absurd (both_ways _ missing_joined (ap (fin.contains_key (stored_with_part v part).held) (at ∙ same) ∙ h)))
       (⊎_elim (λ (l : m < p). omega arith)
       (λ (l : p < m). absurd (both_ways _ (ap is_some (get_left p ∙ ap (λ b. cond b (fin.get laid p) None) (lt-leb m p l))) h)))
       (cases_order m p)
@@ -107,16 +113,20 @@ clip_within low high e p b is =
     (cases_lt p part.start)
 
 -- ---- segments that come again
-kept_held : (v : Stored) (part : Piece) → ((p : ℕ) → fin.contains_key v.held p ≡ true → stored_next v < p) → ((q b : ℕ) → piece_at part q ≡ Some b → fin.get v.held q ≡ Some b) → joined v part ≡ v
+kept_held : (v : Stored) (part : Piece) → ((p : ℕ) → fin.contains_key v.held p ≡ true → stored_next v < p) →
+    ((q b : ℕ) → piece_at part q ≡ Some b → fin.get v.held q ≡ Some b) → stored_with_part v part ≡ v
 kept_held v part above same =
-    (λ i. joined_from v (stored_next v) (laid_same i) (lacking_same i)) ∙ (λ i. record { first = v.first; capacity = v.capacity; read = v.read; queue = queue_same i; held = held_same i })
+    (λ i. queue_up_to v (stored_next v) (laid_same i) (lacking_same i))
+    ∙ (λ i. record { first = v.first; capacity = v.capacity; read = v.read; queue = queue_same i; held = held_same i })
   where
     or_same : (o : Option ℕ) (m : Option ℕ) → ((b : ℕ) → o ≡ Some b → m ≡ Some b) → option_or o m ≡ m
     or_same None m h = refl
     or_same (Some b) m h = sym (h b refl)
 
-    laid_same : laid_over v part ≡ v.held
-    laid_same = fin.same_map nat_cmp_total fin.nat_cmp-IsAntisymmetric _ _ (λ q. get-lay v.held part.start part.bytes q ∙ or_same (piece_at part q) (fin.get v.held q) (same q))
+    laid_same : held_with_part v part ≡ v.held
+    laid_same =
+        fin.same_map nat_cmp_total fin.nat_cmp-IsAntisymmetric _ _
+        (λ q. get-lay v.held part.start part.bytes q ∙ or_same (piece_at part q) (fin.get v.held q) (same q))
 
     missing : (b : Bool) → fin.contains_key v.held (stored_next v) ≡ b → b ≡ false
     missing true h = (let l = above (stored_next v) h in absurd (omega arith))
@@ -128,11 +138,14 @@ kept_held v part above same =
     at : IsFirst (fin.contains_key v.held) (stored_next v) (stored_next v)
     at = record { from = omega arith; before = λ q a b. absurd (omega arith); here = here }
 
-    lacking_same : first_lacking (laid_over v part) (stored_next v) ≡ stored_next v
-    lacking_same = ap (λ l. first_lacking l (stored_next v)) laid_same ∙ first_unique (fin.contains_key v.held) (stored_next v) _ _ (first_lacking_is v.held (stored_next v)) at
+    lacking_same : first_lacking (held_with_part v part) (stored_next v) ≡ stored_next v
+    lacking_same =
+        ap (λ l. first_lacking l (stored_next v)) laid_same
+        ∙ first_unique (fin.contains_key v.held) (stored_next v) _ _ (first_lacking_is v.held (stored_next v)) at
 
     queue_same : v.queue ++ values_at v.held (stored_next v) (stored_next v - stored_next v) ≡ v.queue
-    queue_same = (let none : stored_next v - stored_next v ≡ 0 = omega arith in ap (λ k. v.queue ++ values_at v.held (stored_next v) k) none ∙ append-nil v.queue)
+    queue_same =
+        (let none : stored_next v - stored_next v ≡ 0 = omega arith in ap (λ k. v.queue ++ values_at v.held (stored_next v) k) none ∙ append-nil v.queue)
 
     held_same : fin.retain_keys v.held (λ p. nat_le (stored_next v) p) ≡ v.held
     held_same = fin.same_map nat_cmp_total fin.nat_cmp-IsAntisymmetric _ _ (λ q.
@@ -143,7 +156,9 @@ kept_held v part above same =
         kept q None e = same_both (nat_le (stored_next v) q) None
         kept q (Some b) e = (let l = above q (ap is_some e) in cond-true _ _ _ (le-leb (stored_next v) q (omega arith)))
 
-held_changes_nothing_above : (most : ℕ) (v : Stored) (pos : ℕ) (xs : List ℕ) → ((p : ℕ) → fin.contains_key v.held p ≡ true → stored_next v < p) → IsHeld v pos xs → stored_after most v (Segment pos xs) ≡ v
+held_changes_nothing_above : (most : ℕ) (v : Stored) (pos : ℕ) (xs : List ℕ) →
+    ((p : ℕ) → fin.contains_key v.held p ≡ true → stored_next v < p) → IsHeld v pos xs →
+    stored_after most v (Segment pos xs) ≡ v
 held_changes_nothing_above most v pos xs above held =
     let part = clip (stored_next v) (v.first + v.read + v.capacity) (piece pos xs) in
     verdict_cases (λ y. state_after by_stored v y ≡ v) (stored_next v) most (domain v.held) part refl refl
@@ -158,10 +173,12 @@ pub second_copy : SecondCopy
 second_copy most v pos xs sound =
     let e : Piece = piece pos xs in
     let part = clip (stored_next v) (v.first + v.read + v.capacity) e in
-    verdict_cases (λ y. verdict by_stored most v e ≡ y → stored_after most (state_after by_stored v y) (Segment pos xs) ≡ state_after by_stored v y) (stored_next v) most (domain v.held) part
+    verdict_cases
+    (λ y. verdict by_stored most v e ≡ y → stored_after most (state_after by_stored v y) (Segment pos xs) ≡ state_after by_stored v y)
+    (stored_next v) most (domain v.held) part
     (λ is. ap (state_after by_stored v) is)
     (λ is. ap (state_after by_stored v) is)
-    (λ is. held_changes_nothing_above most (joined v part) pos xs (above_joined v part) (λ p b from to at.
+    (λ is. held_changes_nothing_above most (stored_with_part v part) pos xs (above_joined v part) (λ p b from to at.
     let there = next_joined v part in
     let grown = (first v part).from in
     get_left v part p
@@ -192,7 +209,8 @@ accepted_brings most v pos xs p accepted from to below =
     accepted
 
 -- the first missing position stays missing among the held ones
-missing_stays : (most : ℕ) (v : Stored) (c : CommandSeen) → fin.contains_key v.held (stored_next v) ≡ false → fin.contains_key (stored_after most v c).held (stored_next (stored_after most v c)) ≡ false
+missing_stays : (most : ℕ) (v : Stored) (c : CommandSeen) → fin.contains_key v.held (stored_next v) ≡ false →
+    fin.contains_key (stored_after most v c).held (stored_next (stored_after most v c)) ≡ false
 missing_stays most v (Segment pos xs) h = segment_cases (λ u. fin.contains_key u.held (stored_next u) ≡ false) most v pos xs h (λ part. missing_joined v part)
 missing_stays most v (Read count) h =
     let size = length-drop count v.queue in
@@ -201,8 +219,10 @@ missing_stays most v (Read count) h =
 missing_stays most v Show h = h
 
 -- so does the end of the free window, or it rises
-limit_rises : (most : ℕ) (v : Stored) (c : CommandSeen) → v.first + v.read + v.capacity ≤ (stored_after most v c).first + (stored_after most v c).read + (stored_after most v c).capacity
-limit_rises most v (Segment pos xs) = segment_cases (λ u. v.first + v.read + v.capacity ≤ u.first + u.read + u.capacity) most v pos xs (omega arith) (λ part. omega arith)
+limit_rises : (most : ℕ) (v : Stored) (c : CommandSeen) →
+    v.first + v.read + v.capacity ≤ (stored_after most v c).first + (stored_after most v c).read + (stored_after most v c).capacity
+limit_rises most v (Segment pos xs) =
+    segment_cases (λ u. v.first + v.read + v.capacity ≤ u.first + u.read + u.capacity) most v pos xs (omega arith) (λ part. omega arith)
 limit_rises most v (Read count) = omega arith
 limit_rises most v Show = omega arith
 
@@ -216,7 +236,9 @@ missing_of v above = by (fin.contains_key v.held (stored_next v)) refl
 reaches_all : (v : Stored) (end : ℕ) → fin.contains_key v.held (stored_next v) ≡ false → ((p : ℕ) → stored_next v ≤ p → p < end → Has v p) → end ≤ stored_next v
 reaches_all v end missing all =
     ⊎_elim (λ (l : stored_next v < end).
-    ⊎_elim (λ (k : stored_next v < stored_next v). absurd (omega arith)) (λ (k : fin.contains_key v.held (stored_next v) ≡ true). absurd (both_ways _ missing k)) (all (stored_next v) (omega arith) l))
+    ⊎_elim (λ (k : stored_next v < stored_next v). absurd (omega arith))
+    (λ (k : fin.contains_key v.held (stored_next v) ≡ true). absurd (both_ways _ missing k))
+    (all (stored_next v) (omega arith) l))
     (λ (l : end ≤ stored_next v). l)
     (cases_lt (stored_next v) end)
 
@@ -224,15 +246,19 @@ pub has_all_reaches : HasAllReaches
 has_all_reaches most v end sound all = reaches_all v end (missing_of v sound.above) all
 
 -- each position that is missing at first is had already, or brought later
-completes_from : (most : ℕ) (cs : List CommandSeen) (v : Stored) (end : ℕ) → fin.contains_key v.held (stored_next v) ≡ false → end ≤ v.first + v.read + v.capacity → All IsAccepted (stored_replies most v cs) →
+completes_from : (most : ℕ) (cs : List CommandSeen) (v : Stored) (end : ℕ) →
+    fin.contains_key v.held (stored_next v) ≡ false → end ≤ v.first + v.read + v.capacity →
+    All IsAccepted (stored_replies most v cs) →
     ((p : ℕ) → stored_next v ≤ p → p < end → Has v p ⊎ Brings cs p) → end ≤ stored_next (stored_after_all most v cs)
 completes_from most [] v end missing within accepted all = reaches_all v end missing (λ p a b. ⊎_elim (λ (h : Has v p). h) (λ no. absurd no) (all p a b))
 completes_from most (Segment pos xs ∷ cs) v end missing within accepted all =
     let u = stored_after most v (Segment pos xs) in
     let higher = limit_rises most v (Segment pos xs) in
     let grown = next_grows_stored most v (Segment pos xs) in
-    let now : IsAccepted (stored_reply most v (Segment pos xs)) = All-head IsAccepted (stored_reply most v (Segment pos xs)) (stored_replies most u cs) accepted in
-    completes_from most cs u end (missing_stays most v (Segment pos xs) missing) (le_trans within higher) (All-tail IsAccepted (stored_reply most v (Segment pos xs)) (stored_replies most u cs) accepted)
+    let now : IsAccepted (stored_reply most v (Segment pos xs)) =
+    All-head IsAccepted (stored_reply most v (Segment pos xs)) (stored_replies most u cs) accepted in
+    completes_from most cs u end (missing_stays most v (Segment pos xs) missing) (le_trans within higher)
+    (All-tail IsAccepted (stored_reply most v (Segment pos xs)) (stored_replies most u cs) accepted)
     (λ p a b. ⊎_elim (λ (h : Has v p). inl (has_stays most v (Segment pos xs) p h))
     (λ (h : ((pos ≤ p) × (p < pos + length xs)) ⊎ Brings cs p). ⊎_elim (λ (k : (pos ≤ p) × (p < pos + length xs)). inl (accepted_brings most v pos xs p now k.0 k.1 (le_trans b within))) (λ (k : Brings cs p). inr k) h)
     (all p (le_trans grown a) b))
@@ -240,7 +266,8 @@ completes_from most (Read count ∷ cs) v end missing within accepted all =
     let u = stored_after most v (Read count) in
     let higher = limit_rises most v (Read count) in
     let grown = next_grows_stored most v (Read count) in
-    completes_from most cs u end (missing_stays most v (Read count) missing) (le_trans within higher) (All-tail IsAccepted (stored_reply most v (Read count)) (stored_replies most u cs) accepted)
+    completes_from most cs u end (missing_stays most v (Read count) missing) (le_trans within higher)
+    (All-tail IsAccepted (stored_reply most v (Read count)) (stored_replies most u cs) accepted)
     (λ p a b. ⊎_elim (λ (h : Has v p). inl (has_stays most v (Read count) p h)) (λ (k : Brings cs p). inr k) (all p (le_trans grown a) b))
 completes_from most (Show ∷ cs) v end missing within accepted all =
     completes_from most cs v end missing within (All-tail IsAccepted (stored_reply most v Show) (stored_replies most v cs) accepted) all

@@ -1,13 +1,19 @@
 -- What truthful segments leave.
-use Rattle.std.proofs.Common.{◌≡◌, ℕ, zero, suc, ◌+◌, ◌-◌, ◌<◌, ◌≤◌, max, Bool, true, false, cond, List, [], ◌∷◌, ◌++◌, length, take, drop, nat_lt, All, Option, Some, None, is_some, slice_get, slice_range, refl, sym, ap, subst, ◌∙◌, arith, length-append, length-drop, ⊎_elim, take-add}
+use Rattle.std.proofs.Common.{◌≡◌, ℕ, zero, suc, ◌+◌, ◌-◌, ◌<◌, ◌≤◌, max, Bool, true, false, cond}
+use Rattle.std.proofs.Common.{List, [], ◌∷◌, ◌++◌, length, take, drop, nat_lt, All, Option, Some}
+use Rattle.std.proofs.Common.{None, is_some, slice_get, slice_range, refl, sym, ap, subst, ◌∙◌}
+use Rattle.std.proofs.Common.{arith, length-append, length-drop, ⊎_elim, take-add}
 use Rattle.std.proofs.lemmas.Bool.{both_ways, cases_lt}
 use Rattle.std.proofs.lemmas.Option.{slice_get_within}
 use Rattle.std.proofs.lemmas.List.Elements.{All-nil, All-cons, All-head, All-tail}
-use Rattle.net_receiver.specs.KeptList.{Piece, piece, piece_at, clip, byte_at, next, bytes, held}
+use Rattle.net_receiver.specs.KeptList.{Piece, piece, piece_at, clip, byte_at, next, bytes, held_positions}
 use Rattle.net_receiver.specs.Rules.{CommandSeen, Segment, Read, Show, Keeps, state_after}
-use Rattle.net_receiver.specs.Schedule.{Setting, State, fresh, after, after_all, bytes_read, PieceAgrees, Agrees, by_kept}
+use Rattle.net_receiver.specs.Schedule.{Setting, State, fresh, kept_after, kept_after_all, bytes_read, PieceAgrees, Agrees, by_kept}
 use Rattle.net_receiver.specs.Stored.{Stored, domain, by_stored, fresh_stored, stored_next, stored_after, stored_after_all, setting}
-use Rattle.net_receiver.specs.Truthful.{IsTruthful, TruthfulIsKept, Receives, FreshReceives, OneReceives, AllReceive, LongerReceives, QueueIsOfStream, FreshStream, RunReceives, FirstStays, NextGrows, SegmentReadsNothing}
+use Rattle.net_receiver.specs.OneStream.{IsTruthful, TruthfulIsKept, Receives, FreshReceives}
+use Rattle.net_receiver.specs.OneStream.{OneReceives, AllReceive, LongerReceives, QueueIsOfStream}
+use Rattle.net_receiver.specs.OneStream.{FreshStream, RunReceives, FirstStays, NextGrows}
+use Rattle.net_receiver.specs.OneStream.{SegmentReadsNothing}
 use Rattle.net_receiver.proofs.Covering.{piece_before, piece_from, slice_get-drop, slice_get-take, next_is}
 use Rattle.net_receiver.proofs.Step.{verdict_cases, same_next, queue_length}
 use Rattle.net_receiver.proofs.Run.{schedule, setting_kept}
@@ -44,10 +50,10 @@ All-push : {X : Type 0} (P : X → Type 0) (xs : List X) (y : X) → All P xs �
 All-push P [] y all one = All-cons P y [] one (All-nil P)
 All-push P (x ∷ xs) y all one = All-cons P x (xs ++ y ∷ []) (All-head P x xs all) (All-push P xs y (All-tail P x xs all) one)
 
-one_kept : (w : Setting) (s : State) (x : List ℕ) (c : CommandSeen) → Agrees w.first s.kept x → IsTruthful w.first x c → Agrees w.first (after w s c).kept x
+one_kept : (w : Setting) (s : State) (x : List ℕ) (c : CommandSeen) → Agrees w.first s.kept x → IsTruthful w.first x c → Agrees w.first (kept_after w s c).kept x
 one_kept w s x (Segment pos xs) all h =
     let part = clip (next w.first s.kept) (w.first + s.read + w.capacity) (piece pos xs) in
-    verdict_cases (λ y. Agrees w.first (state_after (by_kept w) s y).kept x) (next w.first s.kept) w.most_runs (held w.first s.kept) part all all
+    verdict_cases (λ y. Agrees w.first (state_after (by_kept w) s y).kept x) (next w.first s.kept) w.most_runs (held_positions w.first s.kept) part all all
     (All-push (PieceAgrees w.first x) s.kept part all (clip_agrees w.first (next w.first s.kept) (w.first + s.read + w.capacity) x (piece pos xs) h))
 one_kept w s x (Read count) all h = all
 one_kept w s x Show all h = all
@@ -55,7 +61,7 @@ one_kept w s x Show all h = all
 pub truthful_is_kept : TruthfulIsKept
 truthful_is_kept w s x [] all h = all
 truthful_is_kept w s x (c ∷ cs) all h =
-    truthful_is_kept w (after w s c) x cs (one_kept w s x c all (All-head (IsTruthful w.first x) c cs h)) (All-tail (IsTruthful w.first x) c cs h)
+    truthful_is_kept w (kept_after w s c) x cs (one_kept w s x c all (All-head (IsTruthful w.first x) c cs h)) (All-tail (IsTruthful w.first x) c cs h)
 
 pub fresh_receives : FreshReceives
 fresh_receives x first capacity = record { state = fresh; stands = fresh_stands first capacity; agrees = All-nil (PieceAgrees first x) }
@@ -68,9 +74,9 @@ pub all_receive : AllReceive
 all_receive most x v cs r h =
     let w = setting most v in
     record {
-      state = after_all w r.state cs;
+      state = kept_after_all w r.state cs;
       stands = (schedule most v r.state r.stands cs).0;
-      agrees = subst (λ f. Agrees f (after_all w r.state cs).kept x) (sym (first_kept most v cs)) (truthful_is_kept w r.state x cs r.agrees h);
+      agrees = subst (λ f. Agrees f (kept_after_all w r.state cs).kept x) (sym (first_kept most v cs)) (truthful_is_kept w r.state x cs r.agrees h);
     }
 
 pub one_receives : OneReceives
@@ -90,7 +96,9 @@ pub longer_receives : LongerReceives
 longer_receives x more v r = record {
   state = r.state;
   stands = r.stands;
-  agrees = All-map (PieceAgrees v.first x) (PieceAgrees v.first (x ++ more)) (λ e h p b from is. longer_at x more (p - v.first) b (h p b from is)) r.state.kept r.agrees;
+  agrees =
+      All-map (PieceAgrees v.first x) (PieceAgrees v.first (x ++ more))
+      (λ e h p b from is. longer_at x more (p - v.first) b (h p b from is)) r.state.kept r.agrees;
 }
 
 some_of : {A : Type 0} (o : Option A) → is_some o ≡ true → (x : A) × (o ≡ Some x)
@@ -138,10 +146,11 @@ fresh_stream most first capacity x cs h =
     let d = fresh_stands first capacity in
     let all = schedule most v fresh d cs in
     let u = stored_after_all most v cs in
-    let t = after_all w fresh cs in
+    let t = kept_after_all w fresh cs in
     let agrees = truthful_is_kept w fresh x cs (All-nil (PieceAgrees first x)) h in
     let f : u.first ≡ first = first_kept most v cs in
-    let end : stored_next u - first ≡ next first t.kept - first - 0 = (let e = same_next u t all.0 in let e' : next u.first t.kept ≡ next first t.kept = ap (λ b. next b t.kept) f in omega arith) in
+    let end : stored_next u - first ≡ next first t.kept - first - 0 =
+    (let e = same_next u t all.0 in let e' : next u.first t.kept ≡ next first t.kept = ap (λ b. next b t.kept) f in omega arith) in
     (λ i. bytes_read (all.1 i) ++ (all.0.queue ∙ (λ j. bytes t.kept (f j + t.read) (next (f j) t.kept - (f j + t.read)))) i)
     ∙ stream w x fresh d.within cs agrees
     ∙ ap (λ m. take m x) (sym end)
@@ -157,7 +166,7 @@ run_receives most x v u cs rs complete r h run =
     let front = take run.front.count cs in
     let kept = All-take (IsTruthful v.first x) run.front.count cs h in
     let z = stored_after_all most v front in
-    let t = after_all w r.state front in
+    let t = kept_after_all w r.state front in
     let d = schedule most v r.state r.stands front in
     let f : z.first ≡ v.first = first_kept most v front in
     let end : stored_next z - z.first ≡ next v.first t.kept - v.first = (let e = same_next z t d.0 in let e' : next z.first t.kept ≡ next v.first t.kept = ap (λ b. next b t.kept) f in omega arith) in (
@@ -172,7 +181,8 @@ pub first_stays : FirstStays
 first_stays most v c = ap (λ w. w.first) (setting_kept most v c)
 
 -- each verdict on a segment
-pub segment_cases : (P : Stored → Type 0) (most : ℕ) (v : Stored) (pos : ℕ) (xs : List ℕ) → P v → ((part : Piece) → P (state_after by_stored v (Keeps part))) → P (stored_after most v (Segment pos xs))
+pub segment_cases : (P : Stored → Type 0) (most : ℕ) (v : Stored) (pos : ℕ) (xs : List ℕ) → P v →
+    ((part : Piece) → P (state_after by_stored v (Keeps part))) → P (stored_after most v (Segment pos xs))
 segment_cases P most v pos xs same kept =
     let part = clip (stored_next v) (v.first + v.read + v.capacity) (piece pos xs) in
     verdict_cases (λ y. P (state_after by_stored v y)) (stored_next v) most (domain v.held) part same same (kept part)

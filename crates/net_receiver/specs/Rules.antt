@@ -39,7 +39,7 @@ verdict_of_part n most_runs held part =
     && nat_lt most_runs (runs (with_range held part.start (length part.bytes))) then Refused
     else Keeps part
 
--- the first three of a list of runs, filled from the front
+-- the first three of a list of runs, filled from the first on
 abbrev pub first_three : List (ℕ × ℕ) → List (Option (ℕ × ℕ))
 first_three rs = slice_get rs 0 ∷ slice_get rs 1 ∷ slice_get rs 2 ∷ []
 

@@ -3,7 +3,7 @@
 --     ahead_of a b      how far the number b is ahead of a, going round at 2^32
 --     ComesBefore a b      b is ahead of a by less than half the range
 --     IsNear next pos      pos lies within half the range around next
-use Rattle.std.specs.Prelude.{◌≡◌, ℕ, ◌+◌, ◌-◌, ◌<◌, ◌≤◌, ◌%◌, ◌^◌}
+use Rattle.std.specs.Prelude.{◌≡◌, ◌≢◌, ◌↔◌, ◌⊎◌, ℕ, ◌+◌, ◌-◌, ◌<◌, ◌≤◌, ◌%◌, ◌^◌}
 
 -- the number of a position, where position 0 has the number i
 abbrev pub number_at : ℕ → ℕ → ℕ
@@ -25,7 +25,21 @@ IsNear next pos = (pos < next + 2 ^ 31) × (next ≤ pos + 2 ^ 31)
 abbrev pub NumbersAdd : Type 0
 NumbersAdd = (i pos n : ℕ) → number_at i (pos + n) ≡ (number_at i pos + n) % 2 ^ 32
 
--- of two positions less than half the range apart, the lower one's number comes before the other's
+-- of two positions less than the range apart, the lower one's number comes before the other's
+-- exactly if they are less than half the range apart
 abbrev pub NumbersAreOrdered : Type 0
-NumbersAreOrdered = (i p q : ℕ) → p < q → q < p + 2 ^ 31 →
-    ComesBefore (number_at i p) (number_at i q)
+NumbersAreOrdered = (i p q : ℕ) → p < q → q < p + 2 ^ 32 →
+    ComesBefore (number_at i p) (number_at i q) ↔ (q < p + 2 ^ 31)
+
+-- their numbers differ
+abbrev pub NumbersDiffer : Type 0
+NumbersDiffer = (i p q : ℕ) → p < q → q < p + 2 ^ 32 → number_at i p ≢ number_at i q
+
+-- of two numbers at most one comes before the other
+abbrev pub OrderIsOneWay : Type 0
+OrderIsOneWay = (a b : ℕ) → a < 2 ^ 32 → b < 2 ^ 32 → ComesBefore a b → ComesBefore b a → ⊥
+
+-- and one does, unless they are equal or half the range apart
+abbrev pub OrderIsTotal : Type 0
+OrderIsTotal = (a b : ℕ) → a < 2 ^ 32 → b < 2 ^ 32 → a ≢ b → ahead_of a b ≢ 2 ^ 31 →
+    ComesBefore a b ⊎ ComesBefore b a

@@ -5,6 +5,7 @@ use net_receiver::SequenceNumber;
 fn go_round(initial: SequenceNumber, third: SequenceNumber) -> bool {
     SequenceNumber::at(initial, 3) == third
         && initial + 3 == third
+        && initial != third
         && third.ahead_of(initial) == 3
         && initial.is_before(third)
         && !third.is_before(initial)

@@ -1,5 +1,6 @@
 -- Laws of sets of positions and of what the contracts of an assembler's calls say.
-use Rattle.std.proofs.Common.{◌≡◌, ℕ, zero, suc, ◌+◌, ◌/◌, ◌<◌, ◌≤◌, ◌^◌, Bool, true, false, ◌&&◌, ◌||◌, ◌==◌, List, [], ◌∷◌, length, drop, nat_le, nat_lt, nat_eq, refl, sym, ap, subst, ◌∙◌, arith}
+use Rattle.std.proofs.Common.{◌≡◌, ℕ, zero, suc, ◌+◌, ◌/◌, ◌<◌, ◌≤◌, ◌^◌, Bool, true, false, ◌&&◌, ◌||◌, ◌==◌, List}
+use Rattle.std.proofs.Common.{[], ◌∷◌, length, drop, nat_le, nat_lt, nat_eq, refl, sym, ap, subst, ◌∙◌, arith}
 use Rattle.std.specs.Prelude.{Option, Some, None, Ok, Err}
 use Rattle.std.specs.List.{list_any}
 use Rattle.std.specs.Int.Digits.{digits_of}
@@ -8,10 +9,14 @@ use Rattle.std.proofs.Math.Pow.{pow_mono}
 use Rattle.std.proofs.lemmas.Nat.{pow_pos}
 use Rattle.std.proofs.lemmas.Int.Digits.{length-digits_of_step, length-digits_of-le}
 use Rattle.net_storage.specs.Positions.{Positions, contains, with_range, front, runs, maximal_runs, AreMaximalRuns}
-use Rattle.net_storage.specs.Turns.{binary_digits}
+use Rattle.net_storage.specs.Turns.{TurnsWithin, binary_digits}
 use Rattle.net_storage.specs.Assembler.{MakesTooManyRuns}
-use Rattle.net_storage.specs.AssemblerLaws.{CallsNext, yielded, EqualSets, MembersOfList, FirstMissingIsLeast, FrontIsLeastMissing, EqualMaximalRuns, MaximalRunsByNumber, EnoughBinaryDigits, EqualAssemblers, RangeAgain, AddingAgain, AddingInBothOrders, IteratesMaximalRuns}
-use Rattle.net_storage.proofs.Positions.{has, same_positions, contains-set_of_list, contains-with_range, first_missing-misses, first_missing-has, first_missing-le}
+use Rattle.net_storage.specs.AssemblerLaws.{CallsNext, yielded, EqualSets, MembersOfList, FirstMissingIsLeast}
+use Rattle.net_storage.specs.AssemblerLaws.{FrontIsLeastMissing, EqualMaximalRuns, MaximalRunsByNumber}
+use Rattle.net_storage.specs.AssemblerLaws.{EnoughBinaryDigits, EqualAssemblers, RangeAgain, AddingAgain}
+use Rattle.net_storage.specs.AssemblerLaws.{AddingInBothOrders, IteratesMaximalRuns}
+use Rattle.net_storage.proofs.Positions.{has, same_positions, contains-set_of_list, contains-with_range}
+use Rattle.net_storage.proofs.Positions.{first_missing-misses, first_missing-has, first_missing-le}
 use Rattle.net_storage.proofs.MaximalRuns.{are_maximal_runs, equal_maximal_runs, run_by_number, no_run_by_number}
 
 pub equal_sets : EqualSets
@@ -87,7 +92,8 @@ or_swap false false false = refl
 pub range_again : RangeAgain
 range_again s o n =
     same_positions _ _ (λ q. let here = nat_le o q && nat_lt q (o + n) in
-    contains-with_range (with_range s o n) o n q ∙ ap (λ b. b || here) (contains-with_range s o n q) ∙ or_twice (contains s q) here ∙ sym (contains-with_range s o n q))
+    contains-with_range (with_range s o n) o n q ∙ ap (λ b. b || here) (contains-with_range s o n q)
+    ∙ or_twice (contains s q) here ∙ sym (contains-with_range s o n q))
 
 -- a set that has a range already has no more runs with it
 again_runs : (most_runs o n : ℕ) (s once : Positions) → once ≡ with_range s o n → runs once ≤ most_runs → MakesTooManyRuns most_runs once o n → ⊥
@@ -111,14 +117,16 @@ with_range-swap s a m b n =
 pub adding_in_both_orders : AddingInBothOrders
 adding_in_both_orders most_runs a m b n s one two ab ba equal first second third fourth compared =
     compared.same.1
-    (second.ok ∙ ap (λ (t : Positions). with_range t b n) first.ok ∙ with_range-swap s a m b n ∙ ap (λ (t : Positions). with_range t a m) (sym third.ok) ∙ sym fourth.ok)
+    (second.ok ∙ ap (λ (t : Positions). with_range t b n) first.ok ∙ with_range-swap s a m b n
+    ∙ ap (λ (t : Positions). with_range t a m) (sym third.ok) ∙ sym fourth.ok)
 
 drop-nothing : (n : ℕ) → let none : List (ℕ × ℕ) = [] in drop n none ≡ none
 drop-nothing zero = refl
 drop-nothing (suc n) = refl
 
 -- calls of `next` answer what is left, in turn, and then `None`
-answered : (left last : List (ℕ × ℕ)) (answers : List (Option (ℕ × ℕ))) → CallsNext left answers last → (answers ≡ yielded left (length answers)) × (last ≡ drop (length answers) left)
+answered : (left last : List (ℕ × ℕ)) (answers : List (Option (ℕ × ℕ))) → CallsNext left answers last →
+    (answers ≡ yielded left (length answers)) × (last ≡ drop (length answers) left)
 answered left last [] h = (refl, sym h)
 answered [] last (None ∷ answers) h =
     let ended : h.0 ≡ [] = h.1.1 in
@@ -139,3 +147,12 @@ pub iterates_maximal_runs : IteratesMaximalRuns
 iterates_maximal_runs most_runs s left last answers first calls =
     let given = answered left last answers calls in
     (subst (AreMaximalRuns s) (sym first.listed) (are_maximal_runs s), first.bound, given.0, given.1)
+
+-- counts that stay as they are
+pub no_turn : (looks moves : ℕ) (t : ℕ × ℕ) → TurnsWithin looks moves t t
+no_turn looks moves t = record {
+  looks_few = omega arith;
+  moves_few = omega arith;
+  no_look_lost = omega arith;
+  no_move_lost = omega arith;
+}

@@ -33,7 +33,8 @@ module _ {X : Type 0} where
   pub overwritten_at : (xs ws : List X) (i k : ℕ) (x : X) → OverwrittenAt xs i ws k x
   overwritten_at xs ws i k x h =
       get_or-take (length xs) (uncut xs i ws) k x h
-      ∙ pick i k (length ws) (get_or ws (k - i) x) (get_or xs k x) (get_or (uncut xs i ws) k x) (before xs ws i k x h) (inside xs ws i k x h) (behind xs ws i k x h)
+      ∙ pick i k (length ws) (get_or ws (k - i) x) (get_or xs k x) (get_or (uncut xs i ws) k x) (before xs ws i k x h) (inside xs ws i k x h)
+      (behind xs ws i k x h)
 
   -- the first n elements of a list, and what stands behind as many
   take_and_rest : (xs : List X) (n : ℕ) → take n xs ++ drop (length (take n xs)) xs ≡ xs
@@ -43,4 +44,5 @@ module _ {X : Type 0} where
 
   pub overwrite-same : (xs : List X) (i n : ℕ) → overwrite xs i (take n (drop i xs)) ≡ xs
   overwrite-same xs i n =
-      ap (λ (l : List X). take (length xs) (take i xs ++ l)) (take_and_rest (drop i xs) n) ∙ ap (take (length xs)) (take-append-drop i xs) ∙ take_all (length xs) xs (omega arith)
+      ap (λ (l : List X). take (length xs) (take i xs ++ l)) (take_and_rest (drop i xs) n)
+      ∙ ap (take (length xs)) (take-append-drop i xs) ∙ take_all (length xs) xs (omega arith)

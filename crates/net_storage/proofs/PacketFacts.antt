@@ -1,10 +1,10 @@
 -- What the two rings of a queue of packets say of its packets.
 use Rattle.std.proofs.Common.{◌≢◌, zero, suc, ◌≡◌, ℕ, ◌+◌, ◌-◌, ◌<◌, ◌≤◌, List, [], ◌∷◌, ◌++◌, length, min, refl, sym, ap, ◌∙◌, subst, inl, inr, arith, ◌⊎◌, append_assoc, nat_le, if◌then◌else◌, Bool, ◌==◌}
-use Rattle.std.proofs.lemmas.Bool.{cases_lt, le-leb, lt-leb, lt-ltb, le-ltb, cases_eq, eq-eqb, ne_eqb}
+use Rattle.std.proofs.lemmas.Bool.{cases_lt, le-leb, lt-leb, lt-ltb, le-ltb, ne_eqb}
 use Rattle.std.proofs.lemmas.Option.{none-some, cond_some}
 use Rattle.std.specs.Prelude.{Option, true}
 use Rattle.std.specs.declared.option.Option.TheVariants.{Some, None}
-use Rattle.net_storage.specs.Ring.{RingState, ring, index_after, capacity, window, queue, write_at, WellFormed, restarted, with_enqueued, with_dequeued, written, Enqueued}
+use Rattle.net_storage.specs.Ring.{RingState, index_after, capacity, window, queue, write_at, WellFormed, with_enqueued, with_dequeued, written, Enqueued}
 use Rattle.net_storage.specs.Packets.{Packet, packet, bytes_used, slots_used, slots_for, IsPlaced, ArePlaced, gap_for, if_slots}
 use Rattle.net_storage.specs.PacketSlots.{slot, gap_slot, packet_slots, packets_in, Holds}
 use Rattle.net_storage.specs.declared.packet_metadata.PacketMetadata.{PacketMetadata}
@@ -76,7 +76,8 @@ pub gap_some : (s c w gap : ℕ) → gap_for s c w ≡ Some gap → ((gap ≡ 0)
 gap_some s c w gap e = elim (cases_lt c s) [
   | inr h ↦ inl (sym (some_inj _ _ (sym (ap (λ (t : Bool). if t then Some 0 else if nat_le s (w - c) then Some c else None) (le-leb s c h)) ∙ e)), h)
   | inl h ↦
-      let f : (if nat_le s (w - c) then Some c else None) ≡ Some gap = sym (ap (λ (t : Bool). if t then Some 0 else if nat_le s (w - c) then Some c else None) (lt-leb s c h)) ∙ e in
+      let f : (if nat_le s (w - c) then Some c else None) ≡ Some gap =
+      sym (ap (λ (t : Bool). if t then Some 0 else if nat_le s (w - c) then Some c else None) (lt-leb s c h)) ∙ e in
       elim (cases_lt (w - c) s) [
         | inl n ↦ absurd (none-some _ (sym (ap (λ (t : Bool). if t then Some c else None) (lt-leb s (w - c) n)) ∙ f))
         | inr l ↦ inr (sym (some_inj _ _ (sym (ap (λ (t : Bool). if t then Some c else None) (le-leb s (w - c) l)) ∙ f)), h, l)
@@ -97,22 +98,16 @@ placed_here c r n s gap wf le e =
           let ends : index_after c r n + gap ≡ c = omega (arith, h.0, h.1, h.2, at, le) in
           let fits : n + gap + s ≤ c = omega (arith, h.0, h.1, h.2, le) in (
             elim (place_cases c r n) [
-              | inl a ↦ elim (place_cases c r (n + gap)) [ inl b ↦ absurd (omega (arith, a.0, a.1, b.0, ends)) | inr b ↦ omega (arith, a.0, a.1, b.0, b.1, ends, fits) ]
+              | inl a ↦ elim (place_cases c r (n + gap)) [
+                | inl b ↦ absurd (omega (arith, a.0, a.1, b.0, ends))
+                | inr b ↦ omega (arith, a.0, a.1, b.0, b.1, ends, fits)
+              ]
               | inr a ↦ absurd (omega (arith, a.0, a.1, ends, fits, h.0, h.1))
             ],
             λ k. ends,
             fits,
           )
     ]
-
-pub restart_cases : (b : RingState ℕ) → ((b.count ≡ 0) × (restarted b ≡ ring b.storage 0 0)) ⊎ ((b.count ≢ 0) × (restarted b ≡ b))
-restart_cases b = elim (cases_eq b.count 0) [
-  | inl h ↦ inl (h, ap (λ (t : Bool). if t then ring b.storage 0 0 else b) (eq-eqb b.count 0 h))
-  | inr h ↦ inr (h, ap (λ (t : Bool). if t then ring b.storage 0 0 else b) (ne_eqb b.count 0 h))
-]
-
-pub restart_wf : (b : RingState ℕ) → WellFormed b → WellFormed (restarted b)
-restart_wf b wf = elim (restart_cases b) [ inl h ↦ subst WellFormed (sym h.1) (inl refl, omega arith) | inr h ↦ subst WellFormed (sym h.1) wf ]
 
 module _ {H : Type 0} where
   -- ---- slots
@@ -137,11 +132,13 @@ module _ {H : Type 0} where
   slots_pos (p ∷ ps) = omega (arith, slots_pos ps, slots_for_pos p.gap)
 
   -- ---- a packet more
-  pub slots_append : (ps : List (Packet H)) (p : Packet H) → packet_slots (ps ++ (p ∷ [])) ≡ packet_slots ps ++ (gap_slot p.gap ++ (slot p.size (Some p.header) ∷ []))
+  pub slots_append : (ps : List (Packet H)) (p : Packet H)
+      → packet_slots (ps ++ (p ∷ [])) ≡ packet_slots ps ++ (gap_slot p.gap ++ (slot p.size (Some p.header) ∷ []))
   slots_append [] p = refl
   slots_append (q ∷ ps) p =
       let m = slot q.size (Some q.header) in
-      ap (λ (l : List (PacketMetadata H)). gap_slot q.gap ++ (m ∷ l)) (slots_append ps p) ∙ sym (append_assoc (gap_slot q.gap) (m ∷ packet_slots ps) (gap_slot p.gap ++ (slot p.size (Some p.header) ∷ [])))
+      ap (λ (l : List (PacketMetadata H)). gap_slot q.gap ++ (m ∷ l)) (slots_append ps p)
+      ∙ sym (append_assoc (gap_slot q.gap) (m ∷ packet_slots ps) (gap_slot p.gap ++ (slot p.size (Some p.header) ∷ [])))
 
   pub bytes_append : (ps : List (Packet H)) (p : Packet H) → bytes_used (ps ++ (p ∷ [])) ≡ bytes_used ps + p.gap + p.size
   bytes_append [] p = omega arith
@@ -151,7 +148,8 @@ module _ {H : Type 0} where
   slots_of_append [] p = omega arith
   slots_of_append (q ∷ ps) p = omega (arith, slots_of_append ps p)
 
-  pub placed_append : (c r o : ℕ) (ps : List (Packet H)) (p : Packet H) → ArePlaced c r o ps → IsPlaced c r (o + bytes_used ps) p → ArePlaced c r o (ps ++ (p ∷ []))
+  pub placed_append : (c r o : ℕ) (ps : List (Packet H)) (p : Packet H) → ArePlaced c r o ps → IsPlaced c r (o + bytes_used ps) p
+      → ArePlaced c r o (ps ++ (p ∷ []))
   placed_append c r o [] p a i = let e : o + 0 ≡ o = omega arith in (subst (λ (n : ℕ). IsPlaced c r n p) e i, tt)
   placed_append c r o (q ∷ ps) p a i =
       let e : o + bytes_used (q ∷ ps) ≡ o + q.gap + q.size + bytes_used ps = omega arith in
@@ -169,7 +167,8 @@ module _ {H : Type 0} where
       ((omega (arith, at_is, s, le), λ n. absurd (n g)), placed_anew c r (o + p.gap + p.size) ps (omega (arith, e)) (omega (arith, next_is, le)))
 
   -- the same packets from a later place on
-  pub placed_from : (c r k o : ℕ) (ps : List (Packet H)) → (r ≡ 0) ⊎ (r < c) → k + o + bytes_used ps ≤ c → ArePlaced c r (k + o) ps → ArePlaced c (index_after c r k) o ps
+  pub placed_from : (c r k o : ℕ) (ps : List (Packet H)) → (r ≡ 0) ⊎ (r < c) → k + o + bytes_used ps ≤ c
+      → ArePlaced c r (k + o) ps → ArePlaced c (index_after c r k) o ps
   placed_from c r k o [] wf le a = tt
   placed_from c r k o (p ∷ ps) wf le a =
       let one = place_place c r k (o + p.gap) wf (omega (arith, le)) in
@@ -182,16 +181,21 @@ module _ {H : Type 0} where
       )
 
   -- the same packets once the gap before the first one is gone
-  pub placed_skip : (c r : ℕ) (p : Packet H) (ps : List (Packet H)) → (r ≡ 0) ⊎ (r < c) → bytes_used (p ∷ ps) ≤ c → ArePlaced c r 0 (p ∷ ps) → ArePlaced c (index_after c r p.gap) 0 (packet p.header p.size 0 ∷ ps)
+  pub placed_skip : (c r : ℕ) (p : Packet H) (ps : List (Packet H)) → (r ≡ 0) ⊎ (r < c) → bytes_used (p ∷ ps) ≤ c
+      → ArePlaced c r 0 (p ∷ ps) → ArePlaced c (index_after c r p.gap) 0 (packet p.header p.size 0 ∷ ps)
   placed_skip c r p ps wf le a =
       let at = place_place c r p.gap (0 + 0) wf (omega (arith, le)) in
       let z : p.gap + (0 + 0) ≡ 0 + p.gap = omega arith in
       let at_is = ap (index_after c r) z in
-      let n : 0 + p.gap + p.size ≡ p.gap + (0 + 0 + p.size) = omega arith in
-      ((omega (arith, at, at_is, a.0.0), λ k. absurd (k refl)), placed_from c r p.gap (0 + 0 + p.size) ps wf (omega (arith, le)) (subst (λ (j : ℕ). ArePlaced c r j ps) n a.1))
+      let n : 0 + p.gap + p.size ≡ p.gap + (0 + 0 + p.size) = omega arith in (
+        (omega (arith, at, at_is, a.0.0), λ k. absurd (k refl)),
+        placed_from c r p.gap (0 + 0 + p.size) ps wf (omega (arith, le))
+            (subst (λ (j : ℕ). ArePlaced c r j ps) n a.1),
+      )
 
   -- and once the first one, which has no gap, is gone
-  pub placed_pop : (c r : ℕ) (p : Packet H) (ps : List (Packet H)) → (r ≡ 0) ⊎ (r < c) → bytes_used (p ∷ ps) ≤ c → p.gap ≡ 0 → ArePlaced c r 0 (p ∷ ps) → ArePlaced c (index_after c r p.size) 0 ps
+  pub placed_pop : (c r : ℕ) (p : Packet H) (ps : List (Packet H)) → (r ≡ 0) ⊎ (r < c) → bytes_used (p ∷ ps) ≤ c → p.gap ≡ 0
+      → ArePlaced c r 0 (p ∷ ps) → ArePlaced c (index_after c r p.size) 0 ps
   placed_pop c r p ps wf le z a =
       let k : 0 + p.gap + p.size ≡ p.size + 0 = omega (arith, z) in
       placed_from c r p.size 0 ps wf (omega (arith, le)) (subst (λ (j : ℕ). ArePlaced c r j ps) k a.1)
@@ -202,7 +206,8 @@ module _ {H : Type 0} where
 
   empty_go : (n : ℕ) (xs : List (Packet H)) → n ≡ slots_used xs → (n == 0) ≡ (length xs == 0)
   empty_go n [] e = ap (λ (k : ℕ). k == 0) e
-  empty_go n (x ∷ xs) e = let p = slots_pos (x ∷ xs) in ne_eqb n 0 (λ z. absurd (omega (arith, p, e, z))) ∙ sym (ne_eqb (length (x ∷ xs)) 0 (λ z. absurd (omega (arith, z))))
+  empty_go n (x ∷ xs) e = let p = slots_pos (x ∷ xs) in ne_eqb n 0 (λ z. absurd (omega (arith, p, e, z)))
+      ∙ sym (ne_eqb (length (x ∷ xs)) 0 (λ z. absurd (omega (arith, z))))
 
   pub empty_is : (m : RingState (PacketMetadata H)) (b : RingState ℕ) (ps : List (Packet H)) → Holds m b ps → (m.count == 0) ≡ (length ps == 0)
   empty_is m b ps h = empty_go m.count ps (held_is m b ps h)
@@ -216,7 +221,8 @@ module _ {H : Type 0} where
   gap_slot_none gap e = ap (λ (n : ℕ). gap_slot {H = H} n) e
 
 -- ---- what the ring of slots is after a slot came last
-pub pushed_slot : {T : Type 0} (g h : RingState T) (w : T) → WellFormed g → window g ≢ 0 → h ≡ written (with_enqueued 1 g) (write_at g) (w ∷ []) → Enqueued g (w ∷ []) h
+pub pushed_slot : {T : Type 0} (g h : RingState T) (w : T) → WellFormed g → window g ≢ 0
+    → h ≡ written (with_enqueued 1 g) (write_at g) (w ∷ []) → Enqueued g (w ∷ []) h
     → (queue h ≡ queue g ++ (w ∷ [])) × WellFormed h × (window h ≡ window g - 1) × (capacity h ≡ capacity g)
 pushed_slot g h w wf some e q =
     let cap : capacity h ≡ capacity g = ap capacity e ∙ length-overwrite g.storage (write_at g) (w ∷ []) in

@@ -26,7 +26,8 @@ take_over xs ws i k fits le =
     let whole : xs ≡ a ++ (part ++ z) = c1.2 ∙ ap (λ (l : List ℕ). a ++ l) c2.2 in
     let over : overwrite xs i ws ≡ a ++ (ws ++ z) = ap (λ (l : List ℕ). overwrite l i ws) whole ∙ overwrite_at a part z ws i c1.3 c2.3 in
     let front : take i xs ≡ a = ap (take i) c1.2 ∙ take_at a v i c1.3 in
-    ap (take (i + k)) over ∙ take_sum i k (a ++ (ws ++ z)) ∙ ap₂ ◌++◌ (take_at a (ws ++ z) i c1.3) (ap (take k) (drop_at a (ws ++ z) i c1.3) ∙ take-append-le k ws z le)
+    ap (take (i + k)) over ∙ take_sum i k (a ++ (ws ++ z))
+    ∙ ap₂ ◌++◌ (take_at a (ws ++ z) i c1.3) (ap (take k) (drop_at a (ws ++ z) i c1.3) ∙ take-append-le k ws z le)
     ∙ ap (λ (l : List ℕ). l ++ take k ws) (sym front)
 
 over_front : (xs ws : List ℕ) (s : ℕ) → s ≤ length xs → length ws ≡ s → (take s (overwrite xs 0 ws) ≡ ws) × (drop s (overwrite xs 0 ws) ≡ drop s xs)
@@ -36,7 +37,8 @@ over_front xs ws s fits long =
     (ap (take s) over ∙ take_at ws z s long, ap (drop s) over ∙ drop_at ws z s long ∙ sym (ap (drop s) c.2 ∙ drop_at part z s c.3))
 
 -- the queue of a ring to whose spare part ws was written past a gap, and of which k bytes came in with the gap
-filled_queue : (g : RingState ℕ) (wf : WellFormed g) (gap k : ℕ) (ws : List ℕ) → gap + length ws ≤ window g → storage_index g (g.count + gap) + length ws ≤ capacity g → k ≤ length ws
+filled_queue : (g : RingState ℕ) (wf : WellFormed g) (gap k : ℕ) (ws : List ℕ) → gap + length ws ≤ window g
+    → storage_index g (g.count + gap) + length ws ≤ capacity g → k ≤ length ws
     → queue (with_enqueued (gap + k) (written g (storage_index g (g.count + gap)) ws)) ≡ queue g ++ (take gap (spare g) ++ take k ws)
 filled_queue g wf gap k ws room fits le =
     let p = storage_index g (g.count + gap) in
@@ -50,7 +52,8 @@ module _ {H : Type 0} where
   abbrev mk : ℕ → List ℕ → ℕ → List (Packet H) → PacketQueue H
   mk n st r ps = record { slot_count = n; storage = st; read_at = r; packets = ps }
 
-  pub contents_append : (ps : List (Packet H)) (p : Packet H) (bs x ws : List ℕ) → length bs ≡ bytes_used ps → length x ≡ p.gap → contents_of (ps ++ (p ∷ [])) (bs ++ (x ++ ws)) ≡ contents_of ps bs ++ ((p.header, take p.size ws) ∷ [])
+  pub contents_append : (ps : List (Packet H)) (p : Packet H) (bs x ws : List ℕ) → length bs ≡ bytes_used ps → length x ≡ p.gap
+      → contents_of (ps ++ (p ∷ [])) (bs ++ (x ++ ws)) ≡ contents_of ps bs ++ ((p.header, take p.size ws) ∷ [])
   contents_append [] p bs x ws n l =
       let none : bs ≡ [] = nil_from_length bs n in
       ap (λ (y : List ℕ). contents_of (p ∷ []) (y ++ (x ++ ws))) none ∙ ap (λ (y : List ℕ). (p.header, take p.size y) ∷ []) (drop_at x ws p.gap l)
@@ -58,7 +61,8 @@ module _ {H : Type 0} where
       let y = x ++ ws in
       let d : drop o.gap (bs ++ y) ≡ drop o.gap bs ++ y = drop-append-le o.gap bs y (omega (arith, n)) in
       let k = length-drop o.gap bs in
-      let t : take o.size (drop o.gap (bs ++ y)) ≡ take o.size (drop o.gap bs) = ap (take o.size) d ∙ take-append-le o.size (drop o.gap bs) y (omega (arith, n, k)) in
+      let t : take o.size (drop o.gap (bs ++ y)) ≡ take o.size (drop o.gap bs) = ap (take o.size) d
+      ∙ take-append-le o.size (drop o.gap bs) y (omega (arith, n, k)) in
       let r : drop (o.gap + o.size) (bs ++ y) ≡ drop (o.gap + o.size) bs ++ y = drop-append-le (o.gap + o.size) bs y (omega (arith, n)) in
       let m = length-drop (o.gap + o.size) bs in
       ap₂ (λ (one rest : List ℕ). (o.header, one) ∷ contents_of (ps ++ (p ∷ [])) rest) t r
@@ -83,7 +87,8 @@ module _ {H : Type 0} where
         omega (arith, a, n, r, ok.2)
 
     queue_is : queue m ≡ packet_slots q.packets
-    queue_is = ap (take (slots_used q.packets)) (append-nil (packet_slots q.packets ++ fill)) ∙ take_at (packet_slots q.packets) fill (slots_used q.packets) (length-slots q.packets)
+    queue_is = ap (take (slots_used q.packets)) (append-nil (packet_slots q.packets ++ fill))
+        ∙ take_at (packet_slots q.packets) fill (slots_used q.packets) (length-slots q.packets)
 
     pub holds : Holds m b q.packets
     holds = ((inl refl, omega (arith, long, ok.2)), ok.0, queue_is, refl, ok.1)
@@ -92,7 +97,8 @@ module _ {H : Type 0} where
     is_queue = viewed m b q.packets holds ∙ ap (λ (n : ℕ). mk n q.storage q.read_at q.packets) long
 
   -- ---- a packet comes last
-  module _ (m : RingState (PacketMetadata H)) (b : RingState ℕ) (h : Holds m b (packets_in 0 (queue m))) (gap s : ℕ) (e : placement (packet_queue m b) s ≡ Some gap) (hd : H) (k : ℕ) (le : k ≤ s) (ws : List ℕ) (long : length ws ≡ s) where
+  module _ (m : RingState (PacketMetadata H)) (b : RingState ℕ) (h : Holds m b (packets_in 0 (queue m))) (gap s : ℕ) (e : placement (packet_queue m b) s
+      ≡ Some gap) (hd : H) (k : ℕ) (le : k ≤ s) (ws : List ℕ) (long : length ws ≡ s) where
     abbrev kept : List (Packet H)
     kept = packets_in 0 (queue m)
 
@@ -102,7 +108,8 @@ module _ {H : Type 0} where
     abbrev at : ℕ
     at = storage_index g (g.count + gap)
 
-    accepted_go : contents (mk (capacity m) (overwrite g.storage at ws) g.read_at (kept ++ (packet hd k gap ∷ []))) ≡ contents (packet_queue m b) ++ ((hd, take k ws) ∷ [])
+    accepted_go : contents (mk (capacity m) (overwrite g.storage at ws) g.read_at (kept ++ (packet hd k gap ∷ [])))
+        ≡ contents (packet_queue m b) ++ ((hd, take k ws) ∷ [])
     unfolding contents
     accepted_go =
         let fits = here m b h gap s e in
@@ -131,7 +138,8 @@ module _ {H : Type 0} where
           let gap = gap_is.0 in let e = gap_is.1 in
           let all : take s ws ≡ ws = take_all s ws (omega (arith, long)) in
           subst (λ (o : PacketQueue H). contents (last_written (placed_if_room o s hd) ws) ≡ contents o ++ ((hd, ws) ∷ [])) is
-          (sym (ap contents (put_is m b h gap s e hd ws)) ∙ accepted_go m b h gap s e hd s (omega arith) ws long ∙ ap (λ (l : List ℕ). contents (packet_queue m b) ++ ((hd, l) ∷ [])) all)
+          (sym (ap contents (put_is m b h gap s e hd ws)) ∙ accepted_go m b h gap s e hd s (omega arith) ws long
+          ∙ ap (λ (l : List ℕ). contents (packet_queue m b) ++ ((hd, l) ∷ [])) all)
 
       cut_go : (k : ℕ) → k ≤ s → contents (last_cut k (last_written (placed_if_room q s hd) ws)) ≡ contents q ++ ((hd, take k ws) ∷ [])
       cut_go k le =
@@ -155,7 +163,8 @@ module _ {H : Type 0} where
 
   -- the queue of bytes once a gap is gone
   skip_queue : (st : List ℕ) (r : ℕ) (p : Packet H) (ps : List (Packet H)) → WellFormed (bytes st r (p ∷ ps))
-      → (queue (bytes st (storage_index (bytes st r (p ∷ ps)) p.gap) (packet p.header p.size 0 ∷ ps)) ≡ drop p.gap (queue (bytes st r (p ∷ ps)))) × WellFormed (bytes st (storage_index (bytes st r (p ∷ ps)) p.gap) (packet p.header p.size 0 ∷ ps))
+      → (queue (bytes st (storage_index (bytes st r (p ∷ ps)) p.gap) (packet p.header p.size 0 ∷ ps)) ≡ drop p.gap (queue (bytes st r (p ∷ ps))))
+      × WellFormed (bytes st (storage_index (bytes st r (p ∷ ps)) p.gap) (packet p.header p.size 0 ∷ ps))
   skip_queue st r p ps wf =
       let c = bytes st r (p ∷ ps) in
       let n : p.gap + p.size + bytes_used ps - p.gap ≡ 0 + p.size + bytes_used ps = omega arith in (
@@ -172,13 +181,16 @@ module _ {H : Type 0} where
       sym (ap (λ (i : ℕ). queue (ring st (storage_index c s) i)) n) ∙ (with_dequeued_parts c wf s (omega arith)).0
 
   -- the queue of bytes once the first packet, which has no gap, is written
-  write_queue : (st : List ℕ) (r : ℕ) (h : H) (s : ℕ) (ps : List (Packet H)) (ws : List ℕ) → WellFormed (bytes st r (packet h s 0 ∷ ps)) → r + s ≤ length st → length ws ≡ s
-      → (queue (bytes (overwrite st r ws) r (packet h s 0 ∷ ps)) ≡ overwrite (queue (bytes st r (packet h s 0 ∷ ps))) 0 ws) × WellFormed (bytes (overwrite st r ws) r (packet h s 0 ∷ ps))
+  write_queue : (st : List ℕ) (r : ℕ) (h : H) (s : ℕ) (ps : List (Packet H)) (ws : List ℕ)
+      → WellFormed (bytes st r (packet h s 0 ∷ ps)) → r + s ≤ length st → length ws ≡ s
+      → (queue (bytes (overwrite st r ws) r (packet h s 0 ∷ ps)) ≡ overwrite (queue (bytes st r (packet h s 0 ∷ ps))) 0 ws)
+      × WellFormed (bytes (overwrite st r ws) r (packet h s 0 ∷ ps))
   write_queue st r h s ps ws wf fits long =
       let c = bytes st r (packet h s 0 ∷ ps) in
       ((held_law c wf 0 r ws (omega (arith, long)) (omega (arith, long, fits)) (read_index_is c wf)).0, written_wf c wf r ws)
 
-  contents_skip : (h : H) (s gap : ℕ) (ps : List (Packet H)) (bs : List ℕ) → contents_of (packet h s 0 ∷ ps) (drop gap bs) ≡ contents_of (packet h s gap ∷ ps) bs
+  contents_skip : (h : H) (s gap : ℕ) (ps : List (Packet H)) (bs : List ℕ)
+      → contents_of (packet h s 0 ∷ ps) (drop gap bs) ≡ contents_of (packet h s gap ∷ ps) bs
   contents_skip h s gap ps bs =
       let z : gap + 0 ≡ gap = omega arith in
       let n : gap + (0 + s) ≡ gap + s = omega arith in
@@ -186,14 +198,16 @@ module _ {H : Type 0} where
       ∙ ap (λ (l : List ℕ). (h, take s (drop gap bs)) ∷ contents_of ps l) (drop-drop (0 + s) gap bs ∙ ap (λ (i : ℕ). drop i bs) n)
 
   skipped_go : (st : List ℕ) (r : ℕ) (ps : List (Packet H)) → WellFormed (bytes st r ps)
-      → contents_of (without_first_gap ps) (queue (bytes st (storage_index (bytes st r ps) (first_gap ps)) (without_first_gap ps))) ≡ contents_of ps (queue (bytes st r ps))
+      → contents_of (without_first_gap ps) (queue (bytes st (storage_index (bytes st r ps) (first_gap ps)) (without_first_gap ps)))
+      ≡ contents_of ps (queue (bytes st r ps))
   skipped_go st r [] wf = refl
   skipped_go st r (p ∷ ps) wf =
       ap (contents_of (packet p.header p.size 0 ∷ ps)) (skip_queue st r p ps wf).0 ∙ contents_skip p.header p.size p.gap ps (queue (bytes st r (p ∷ ps)))
 
   -- where the first packet's bytes are
   first_run : (st : List ℕ) (r : ℕ) (p : Packet H) (ps : List (Packet H)) → WellFormed (bytes st r (p ∷ ps)) → ArePlaced (length st) r 0 (p ∷ ps)
-      → (storage_index (bytes st r (p ∷ ps)) p.gap + p.size ≤ length st) × (take p.size (drop (storage_index (bytes st r (p ∷ ps)) p.gap) st) ≡ take p.size (drop p.gap (queue (bytes st r (p ∷ ps)))))
+      → (storage_index (bytes st r (p ∷ ps)) p.gap + p.size ≤ length st)
+      × (take p.size (drop (storage_index (bytes st r (p ∷ ps)) p.gap) st) ≡ take p.size (drop p.gap (queue (bytes st r (p ∷ ps)))))
   first_run st r p ps wf a =
       let c = bytes st r (p ∷ ps) in
       let z : 0 + p.gap ≡ p.gap = omega arith in
@@ -201,15 +215,18 @@ module _ {H : Type 0} where
       let fits : storage_index c p.gap + p.size ≤ length st = omega (arith, at, a.0.0) in
       (fits, held_value c wf p.gap p.size (storage_index c p.gap) (omega arith) fits (storage_index_is c p.gap))
 
-  shown_go : (st : List ℕ) (r : ℕ) (ps : List (Packet H)) → WellFormed (bytes st r ps) → ArePlaced (length st) r 0 ps → (hd : H) (ws : List ℕ) → IsFirstSized ps hd (length ws)
-      → ws ≡ take (first_size (without_first_gap ps)) (drop (storage_index (bytes st r ps) (first_gap ps)) st) → contents_of ps (queue (bytes st r ps)) ≡ (hd, ws) ∷ drop 1 (contents_of ps (queue (bytes st r ps)))
+  shown_go : (st : List ℕ) (r : ℕ) (ps : List (Packet H)) → WellFormed (bytes st r ps) → ArePlaced (length st) r 0 ps
+      → (hd : H) (ws : List ℕ) → IsFirstSized ps hd (length ws)
+      → ws ≡ take (first_size (without_first_gap ps)) (drop (storage_index (bytes st r ps) (first_gap ps)) st)
+      → contents_of ps (queue (bytes st r ps)) ≡ (hd, ws) ∷ drop 1 (contents_of ps (queue (bytes st r ps)))
   shown_go st r [] wf a hd ws e f = absurd (let n = ap length e in omega (arith, n))
   shown_go st r (p ∷ ps) wf a hd ws e f =
       let head : p.header ≡ hd = ap (λ l. (head_or p l).header) e in
       let rest = contents_of ps (drop (p.gap + p.size) (queue (bytes st r (p ∷ ps)))) in
       ap₂ (λ (x : H) (y : List ℕ). (x, y) ∷ rest) head (sym (f ∙ (first_run st r p ps wf a).1))
 
-  contents_first : (h : H) (s : ℕ) (ps : List (Packet H)) (bs ws : List ℕ) → s ≤ length bs → length ws ≡ s → contents_of (packet h s 0 ∷ ps) (overwrite bs 0 ws) ≡ (h, ws) ∷ contents_of ps (drop s bs)
+  contents_first : (h : H) (s : ℕ) (ps : List (Packet H)) (bs ws : List ℕ) → s ≤ length bs → length ws ≡ s
+      → contents_of (packet h s 0 ∷ ps) (overwrite bs 0 ws) ≡ (h, ws) ∷ contents_of ps (drop s bs)
   contents_first h s ps bs ws fits long =
       let o = over_front bs ws s fits long in
       let n : 0 + s ≡ s = omega arith in
@@ -218,8 +235,12 @@ module _ {H : Type 0} where
   contents_rest : (h : H) (s : ℕ) (ps : List (Packet H)) (bs : List ℕ) → drop 1 (contents_of (packet h s 0 ∷ ps) bs) ≡ contents_of ps (drop s bs)
   contents_rest h s ps bs = let n : 0 + s ≡ s = omega arith in ap (λ (i : ℕ). contents_of ps (drop i bs)) n
 
-  refused_go : (st : List ℕ) (r : ℕ) (ps : List (Packet H)) → WellFormed (bytes st r ps) → ArePlaced (length st) r 0 ps → ps ≢ [] → (hd : H) (ws : List ℕ) → length ws ≡ first_size ps
-      → contents_of (with_first_header hd (without_first_gap ps)) (queue (bytes (overwrite st (storage_index (bytes st r ps) (first_gap ps)) ws) (storage_index (bytes st r ps) (first_gap ps)) (with_first_header hd (without_first_gap ps)))) ≡ (hd, ws) ∷ drop 1 (contents_of ps (queue (bytes st r ps)))
+  refused_go : (st : List ℕ) (r : ℕ) (ps : List (Packet H)) → WellFormed (bytes st r ps) → ArePlaced (length st) r 0 ps → ps ≢ []
+      → (hd : H) (ws : List ℕ) → length ws ≡ first_size ps
+      → contents_of (with_first_header hd (without_first_gap ps))
+      (queue (bytes (overwrite st (storage_index (bytes st r ps) (first_gap ps)) ws) (storage_index (bytes st r ps) (first_gap ps))
+      (with_first_header hd (without_first_gap ps))))
+      ≡ (hd, ws) ∷ drop 1 (contents_of ps (queue (bytes st r ps)))
   refused_go st r [] wf a some hd ws long = absurd (some refl)
   refused_go st r (p ∷ ps) wf a some hd ws long =
       let c = bytes st r (p ∷ ps) in
@@ -233,7 +254,10 @@ module _ {H : Type 0} where
       ∙ ap (λ l. (hd, ws) ∷ l) (sym (contents_rest p.header p.size ps (drop p.gap (queue c))) ∙ ap (drop 1) (contents_skip p.header p.size p.gap ps (queue c)))
 
   left_go : (st : List ℕ) (r : ℕ) (ps : List (Packet H)) → WellFormed (bytes st r ps)
-      → contents_of (drop 1 (without_first_gap ps)) (queue (bytes st (storage_index (bytes st (storage_index (bytes st r ps) (first_gap ps)) (without_first_gap ps)) (first_size (without_first_gap ps))) (drop 1 (without_first_gap ps)))) ≡ drop 1 (contents_of ps (queue (bytes st r ps)))
+      → contents_of (drop 1 (without_first_gap ps))
+      (queue (bytes st (storage_index (bytes st (storage_index (bytes st r ps) (first_gap ps)) (without_first_gap ps))
+      (first_size (without_first_gap ps))) (drop 1 (without_first_gap ps))))
+      ≡ drop 1 (contents_of ps (queue (bytes st r ps)))
   left_go st r [] wf = refl
   left_go st r (p ∷ ps) wf =
       let c = bytes st r (p ∷ ps) in
@@ -241,8 +265,12 @@ module _ {H : Type 0} where
       ap (contents_of ps) (pop_queue st (storage_index c p.gap) p.header p.size ps sk.1 ∙ ap (drop p.size) sk.0)
       ∙ sym (contents_rest p.header p.size ps (drop p.gap (queue c))) ∙ ap (drop 1) (contents_skip p.header p.size p.gap ps (queue c))
 
-  left_with_go : (st : List ℕ) (r : ℕ) (ps : List (Packet H)) → WellFormed (bytes st r ps) → ArePlaced (length st) r 0 ps → (hd : H) (ws : List ℕ) → length ws ≡ first_size ps → (o : List ℕ) → o ≡ overwrite st (storage_index (bytes st r ps) (first_gap ps)) ws
-      → contents_of (drop 1 (with_first_header hd (without_first_gap ps))) (queue (bytes o (storage_index (bytes o (storage_index (bytes st r ps) (first_gap ps)) (with_first_header hd (without_first_gap ps))) (first_size (with_first_header hd (without_first_gap ps)))) (drop 1 (with_first_header hd (without_first_gap ps))))) ≡ drop 1 (contents_of ps (queue (bytes st r ps)))
+  left_with_go : (st : List ℕ) (r : ℕ) (ps : List (Packet H)) → WellFormed (bytes st r ps) → ArePlaced (length st) r 0 ps
+      → (hd : H) (ws : List ℕ) → length ws ≡ first_size ps → (o : List ℕ) → o ≡ overwrite st (storage_index (bytes st r ps) (first_gap ps)) ws
+      → contents_of (drop 1 (with_first_header hd (without_first_gap ps)))
+      (queue (bytes o (storage_index (bytes o (storage_index (bytes st r ps) (first_gap ps)) (with_first_header hd (without_first_gap ps)))
+      (first_size (with_first_header hd (without_first_gap ps)))) (drop 1 (with_first_header hd (without_first_gap ps)))))
+      ≡ drop 1 (contents_of ps (queue (bytes st r ps)))
   left_with_go st r [] wf a hd ws long o is = refl
   left_with_go st r (p ∷ ps) wf a hd ws long o is =
       let c = bytes st r (p ∷ ps) in
@@ -253,7 +281,8 @@ module _ {H : Type 0} where
       let n = length-drop p.gap (queue c) in
       let q = length-queue c wf in
       ap (λ (l : List ℕ). contents_of ps (queue (bytes l (storage_index (bytes l from (packet hd p.size 0 ∷ ps)) p.size) ps))) is
-      ∙ ap (contents_of ps) (pop_queue (overwrite st from ws) from p.header p.size ps w.1 ∙ ap (drop p.size) (w.0 ∙ ap (λ (l : List ℕ). overwrite l 0 ws) sk.0) ∙ (over_front (drop p.gap (queue c)) ws p.size (omega (arith, n, q)) long).1)
+      ∙ ap (contents_of ps) (pop_queue (overwrite st from ws) from p.header p.size ps w.1
+      ∙ ap (drop p.size) (w.0 ∙ ap (λ (l : List ℕ). overwrite l 0 ws) sk.0) ∙ (over_front (drop p.gap (queue c)) ws p.size (omega (arith, n, q)) long).1)
       ∙ sym (contents_rest p.header p.size ps (drop p.gap (queue c))) ∙ ap (drop 1) (contents_skip p.header p.size p.gap ps (queue c))
 
   module _ (q : PacketQueue H) (ok : WellPlaced q) where
@@ -265,7 +294,8 @@ module _ {H : Type 0} where
     unfolding contents
     shown hd ws f = shown_go q.storage q.read_at q.packets ok.0 ok.1 hd ws f.0 f.1
 
-    pub refused : (hd : H) (ws : List ℕ) → q.packets ≢ [] → length ws ≡ first_size q.packets → contents (first_written (skipped q) hd ws) ≡ (hd, ws) ∷ drop 1 (contents q)
+    pub refused : (hd : H) (ws : List ℕ) → q.packets ≢ [] → length ws ≡ first_size q.packets
+        → contents (first_written (skipped q) hd ws) ≡ (hd, ws) ∷ drop 1 (contents q)
     unfolding contents
     refused hd ws some long = refused_go q.storage q.read_at q.packets ok.0 ok.1 some hd ws long
 

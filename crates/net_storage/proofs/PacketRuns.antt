@@ -9,7 +9,8 @@ use Rattle.std.specs.declared.option.Option.TheVariants.{Some, None}
 use Rattle.net_storage.specs.Overwrite.{overwrite}
 use Rattle.net_storage.specs.Ring.{index_after, queue, storage_index}
 use Rattle.net_storage.specs.Packets.{Packet, PacketQueue, no_packets, packet, bytes_used, slots_used, byte_ring, ArePlaced, placement, pushed, pushed_if, placed_if_room, only_last, last_place, last_bytes, last_written, last_cut, with_first_size, first_gap, first_size, without_first_gap, skipped, with_first_header, first_written, popped, dequeued, handed, freed_place, freed_bytes, AreFreed, with_bytes, first_bytes, IsFirst, IsFirstSized, WellPlaced}
-use Rattle.net_storage.specs.PacketHistory.{contents_of, contents, QueueCall, Reset, Place, WriteLast, Enqueue, EnqueueWith, Peek, DequeueErr, DequeueOk, Take, WriteFreed, Dequeue, Log, Makes, MakesAll, with_last_bytes, logged, logged_all, history}
+use Rattle.net_storage.specs.Log.{Log, empty_log}
+use Rattle.net_storage.specs.PacketHistory.{contents_of, contents, QueueCall, Reset, Place, WriteLast, Enqueue, EnqueueWith, Peek, DequeueErr, DequeueOk, Take, WriteFreed, Dequeue, Makes, MakesAll, with_last_bytes, logged, logged_all, history}
 use Rattle.net_storage.proofs.Overwrites.{overwrite-same}
 use Rattle.net_storage.proofs.Rotations.{IsStorageIndex, length-overwrite, length-queue, cut, overwrite_at, storage_index_is}
 use Rattle.net_storage.proofs.RingFacts.{held_law, spare_law}
@@ -43,7 +44,8 @@ module _ {H : Type 0} where
   -- ---- each step leaves the packets well placed
   with_bytes_well : (q : PacketQueue H) → WellPlaced q → (p : ℕ) (ws : List ℕ) → WellPlaced (with_bytes q p ws)
   with_bytes_well q ok p ws =
-      subst (λ (n : ℕ). (((q.read_at ≡ 0) ⊎ (q.read_at < n)) × (bytes_used q.packets ≤ n)) × ArePlaced n q.read_at 0 q.packets × (slots_used q.packets ≤ q.slot_count)) (sym (length-overwrite q.storage p ws)) ok
+      subst (λ (n : ℕ). (((q.read_at ≡ 0) ⊎ (q.read_at < n)) × (bytes_used q.packets ≤ n)) × ArePlaced n q.read_at 0 q.packets
+      × (slots_used q.packets ≤ q.slot_count)) (sym (length-overwrite q.storage p ws)) ok
 
   skipped_go : (n : ℕ) (st : List ℕ) (r : ℕ) (ps : List (Packet H)) → WellPlaced (mk n st r ps) → WellPlaced (skipped (mk n st r ps))
   skipped_go n st r [] ok = ((place_wf (length st) r 0 ok.0.0 (omega arith), ok.0.1), tt, ok.2)
@@ -58,7 +60,8 @@ module _ {H : Type 0} where
       let at = place_wf (length st) r p.size ok.0.0 (omega (arith, ok.0.1)) in
       ((at, omega (arith, ok.0.1)), placed_pop (length st) r p ps ok.0.0 ok.0.1 z ok.1, omega (arith, ok.2))
 
-  headed_go : (n : ℕ) (st : List ℕ) (r : ℕ) (ps : List (Packet H)) (hd : H) → WellPlaced (mk n st r ps) → WellPlaced (mk n st r (with_first_header hd ps)) × (first_gap (with_first_header hd ps) ≡ first_gap ps)
+  headed_go : (n : ℕ) (st : List ℕ) (r : ℕ) (ps : List (Packet H)) (hd : H) → WellPlaced (mk n st r ps)
+      → WellPlaced (mk n st r (with_first_header hd ps)) × (first_gap (with_first_header hd ps) ≡ first_gap ps)
   headed_go n st r [] hd ok = (ok, refl)
   headed_go n st r (p ∷ ps) hd ok = (ok, refl)
 
@@ -70,7 +73,8 @@ module _ {H : Type 0} where
     taken_well = popped_go q.slot_count q.storage _ (without_first_gap q.packets) (close_gap q.packets) skipped_well
 
     module _ (hd : H) (ws : List ℕ) where
-      written_headed : WellPlaced (first_written (skipped q) hd ws) × (first_gap (first_written (skipped q) hd ws).packets ≡ first_gap (without_first_gap q.packets))
+      written_headed : WellPlaced (first_written (skipped q) hd ws)
+          × (first_gap (first_written (skipped q) hd ws).packets ≡ first_gap (without_first_gap q.packets))
       written_headed =
           let at = (skipped q).read_at in
           headed_go q.slot_count (overwrite q.storage at ws) at (without_first_gap q.packets) hd (with_bytes_well (skipped q) skipped_well at ws)
@@ -110,7 +114,8 @@ module _ {H : Type 0} where
   keeps Reset q r ok is = subst WellPlaced (sym is) ((inl refl, omega arith), tt, omega arith)
   keeps (Place hd ws) q r ok does = subst WellPlaced (sym does.1) (placed_well q ok (length ws) hd does.0)
   keeps (WriteLast ws) q r ok does = subst WellPlaced (sym does.2) (with_bytes_well q ok (last_place q) ws)
-  keeps (Enqueue hd ws) q r ok does = subst WellPlaced (sym does.1) (let o = placed_if_room q (length ws) hd in with_bytes_well o (placed_well q ok (length ws) hd does.0) (last_place o) ws)
+  keeps (Enqueue hd ws) q r ok does =
+      subst WellPlaced (sym does.1) (let o = placed_if_room q (length ws) hd in with_bytes_well o (placed_well q ok (length ws) hd does.0) (last_place o) ws)
   keeps (EnqueueWith hd ws count) q r ok does = subst WellPlaced (sym does.2) (cut_well q ok (length ws) hd does.0 count does.1 ws)
   keeps Peek q r ok is = subst WellPlaced (sym is) (skipped_well q ok)
   keeps (DequeueErr hd ws) q r ok does = subst WellPlaced (sym does.2) (written_headed q ok hd ws).0
@@ -120,17 +125,21 @@ module _ {H : Type 0} where
   keeps (Dequeue hd ws written) q r ok does = subst WellPlaced (sym does.2) (with_bytes_well (dequeued q) (taken_well q ok) (skipped q).read_at written)
 
   -- ---- what a step makes of the contents
-  placed_contents : (q : PacketQueue H) → WellPlaced q → (hd : H) (ws : List ℕ) → placement q (length ws) ≢ None → ws ≡ last_bytes (placed_if_room q (length ws) hd)
+  placed_contents : (q : PacketQueue H) → WellPlaced q → (hd : H) (ws : List ℕ) → placement q (length ws) ≢ None
+      → ws ≡ last_bytes (placed_if_room q (length ws) hd)
       → contents (placed_if_room q (length ws) hd) ≡ contents q ++ ((hd, ws) ∷ [])
   placed_contents q ok hd ws some is =
       let o = placed_if_room q (length ws) hd in
       let same : last_written o ws ≡ o =
-      ap (last_written o) is ∙ ap (λ (st : List ℕ). mk o.slot_count st o.read_at o.packets) (overwrite-same o.storage (last_place o) (first_size (only_last o.packets))) in
+      ap (last_written o) is ∙ ap (λ (st : List ℕ). mk o.slot_count st o.read_at o.packets)
+      (overwrite-same o.storage (last_place o) (first_size (only_last o.packets))) in
       ap contents (sym same) ∙ order.accepted q ok (length ws) hd ws some refl
 
   -- the last packet is written again
-  last_go : (n : ℕ) (st : List ℕ) (r : ℕ) (ps : List (Packet H)) (p : Packet H) (ws : List ℕ) → let q = mk n st r (ps ++ (p ∷ [])) in WellPlaced q → length ws ≡ first_size (only_last q.packets)
-      → (front : List (H × List ℕ)) × (old : List ℕ) × (contents q ≡ front ++ ((p.header, old) ∷ [])) × (contents (last_written q ws) ≡ front ++ ((p.header, ws) ∷ []))
+  last_go : (n : ℕ) (st : List ℕ) (r : ℕ) (ps : List (Packet H)) (p : Packet H) (ws : List ℕ) → let q =
+      mk n st r (ps ++ (p ∷ [])) in WellPlaced q → length ws ≡ first_size (only_last q.packets)
+      → (front : List (H × List ℕ)) × (old : List ℕ) × (contents q ≡ front ++ ((p.header, old) ∷ []))
+      × (contents (last_written q ws) ≡ front ++ ((p.header, ws) ∷ []))
   unfolding contents
   last_go n st r ps p ws ok long =
       let q = mk n st r (ps ++ (p ∷ [])) in
@@ -161,14 +170,16 @@ module _ {H : Type 0} where
       )
 
   last_contents : (q : PacketQueue H) → WellPlaced q → (ws : List ℕ) → q.packets ≢ [] → length ws ≡ first_size (only_last q.packets)
-      → (front : List (H × List ℕ)) × (hd : H) × (old : List ℕ) × (contents q ≡ front ++ ((hd, old) ∷ [])) × (contents (last_written q ws) ≡ front ++ ((hd, ws) ∷ []))
+      → (front : List (H × List ℕ)) × (hd : H) × (old : List ℕ) × (contents q ≡ front ++ ((hd, old) ∷ []))
+      × (contents (last_written q ws) ≡ front ++ ((hd, ws) ∷ []))
   last_contents q ok ws some long =
       let end = ends_in q.packets some in
       let is : q ≡ mk q.slot_count q.storage q.read_at (end.0 ++ (end.1 ∷ [])) = ap (mk q.slot_count q.storage q.read_at) end.2 in
       let l = last_go q.slot_count q.storage q.read_at end.0 end.1 ws (subst WellPlaced is ok) (long ∙ ap (λ ps. first_size (only_last ps)) end.2) in
       (l.0, end.1.header, l.1, ap contents is ∙ l.2, ap (λ o. contents (last_written o ws)) is ∙ l.3)
 
-  pub freed_contents : (q : PacketQueue H) → WellPlaced q → (ws : List ℕ) → AreFreed q (length ws) → contents (with_bytes q (freed_place q (length ws)) ws) ≡ contents q
+  pub freed_contents : (q : PacketQueue H) → WellPlaced q → (ws : List ℕ) → AreFreed q (length ws)
+      → contents (with_bytes q (freed_place q (length ws)) ws) ≡ contents q
   unfolding contents
   freed_contents q ok ws f =
       let c = byte_ring q in
@@ -176,7 +187,8 @@ module _ {H : Type 0} where
       let i : ℕ = length q.storage - bytes_used q.packets - s in
       let z : length q.storage - s ≡ c.count + i = omega (arith, f.0, ok.0.1) in
       let at = ap (storage_index c) z in
-      let w = spare_law c ok.0 i (freed_place q s) ws (omega (arith, f.0)) f.1 (subst (λ (j : ℕ). IsStorageIndex (length q.storage) q.read_at j (freed_place q s)) z (storage_index_is c (length q.storage - s))) in
+      let w = spare_law c ok.0 i (freed_place q s) ws (omega (arith, f.0)) f.1
+      (subst (λ (j : ℕ). IsStorageIndex (length q.storage) q.read_at j (freed_place q s)) z (storage_index_is c (length q.storage - s))) in
       ap (contents_of q.packets) w.0
 
   close_size : (ps : List (Packet H)) → first_size (without_first_gap ps) ≡ first_size ps
@@ -188,7 +200,8 @@ module _ {H : Type 0} where
   rest_bytes [] = omega arith
   rest_bytes (p ∷ ps) = omega arith
 
-  off_go : (n : ℕ) (st : List ℕ) (r : ℕ) (ps : List (Packet H)) → WellPlaced (mk n st r ps) → first_gap ps ≡ 0 → let o = popped (mk n st r ps) in (freed_place o (first_size ps) ≡ r) × AreFreed o (first_size ps)
+  off_go : (n : ℕ) (st : List ℕ) (r : ℕ) (ps : List (Packet H)) → WellPlaced (mk n st r ps) → first_gap ps ≡ 0 → let o =
+      popped (mk n st r ps) in (freed_place o (first_size ps) ≡ r) × AreFreed o (first_size ps)
   off_go n st r ps ok z =
       let c = length st in
       let s = first_size ps in
@@ -196,10 +209,14 @@ module _ {H : Type 0} where
       let f = front_fits c r ps ok.0.0 ok.0.1 ok.1 z in
       let back : s + (c - s) ≡ c = omega (arith, f.1) in
       let round : freed_place (popped (mk n st r ps)) s ≡ r =
-      place_place c r s (c - s) ok.0.0 (omega (arith, f.1)) ∙ ap (index_after c r) back ∙ (elim (place_cases c r c) [ inl h ↦ absurd (omega (arith, h.0)) | inr h ↦ omega (arith, h.1, f.1) ]) in
+      place_place c r s (c - s) ok.0.0 (omega (arith, f.1)) ∙ ap (index_after c r) back ∙ (elim (place_cases c r c) [
+        | inl h ↦ absurd (omega (arith, h.0))
+        | inr h ↦ omega (arith, h.1, f.1)
+      ]) in
       (round, (omega (arith, rest, ok.0.1), omega (arith, round, f.1)))
 
-  pub off_contents : (q : PacketQueue H) → WellPlaced q → (ws : List ℕ) → length ws ≡ first_size q.packets → contents (with_bytes (dequeued q) (skipped q).read_at ws) ≡ contents (dequeued q)
+  pub off_contents : (q : PacketQueue H) → WellPlaced q → (ws : List ℕ) → length ws ≡ first_size q.packets
+      → contents (with_bytes (dequeued q) (skipped q).read_at ws) ≡ contents (dequeued q)
   off_contents q ok ws long =
       let f = off_go q.slot_count q.storage (skipped q).read_at (without_first_gap q.packets) (skipped_well q ok) (close_gap q.packets) in
       let size : first_size (without_first_gap q.packets) ≡ length ws = close_size q.packets ∙ sym long in
@@ -226,7 +243,8 @@ module _ {H : Type 0} where
       let n = contents_count q in
       (λ e. sym n ∙ ap length e, λ z. nil_from_length (contents q) (n ∙ z))
 
-  pub placed_stands : (q : PacketQueue H) → WellPlaced q → (s : ℕ) (hd : H) → placement q s ≢ None → contents (placed_if_room q s hd) ≡ contents q ++ ((hd, last_bytes (placed_if_room q s hd)) ∷ [])
+  pub placed_stands : (q : PacketQueue H) → WellPlaced q → (s : ℕ) (hd : H) → placement q s ≢ None
+      → contents (placed_if_room q s hd) ≡ contents q ++ ((hd, last_bytes (placed_if_room q s hd)) ∷ [])
   placed_stands q ok s hd some =
       let g = some_of (placement q s) some in
       let o = placed_if_room q s hd in
@@ -235,18 +253,24 @@ module _ {H : Type 0} where
       let z : 0 + bytes_used o.packets - first_size (only_last o.packets) ≡ bytes_used o.packets - first_size (only_last o.packets) = omega arith in
       let at = ap (index_after (length o.storage) o.read_at) z in
       let long = length-drop (last_place o) o.storage in
-      let size : first_size (only_last o.packets) ≡ s = ap (λ (p : PacketQueue H). first_size (only_last p.packets)) (placed_is q ok s hd g.0 g.1) ∙ ap first_size (last_append q.packets (packet hd s g.0)) in
-      let n : length (last_bytes o) ≡ s = length-take-le (first_size (only_last o.packets)) (drop (last_place o) o.storage) (omega (arith, at, f.1, long)) ∙ size in
+      let size : first_size (only_last o.packets) ≡ s =
+      ap (λ (p : PacketQueue H). first_size (only_last p.packets)) (placed_is q ok s hd g.0 g.1)
+      ∙ ap first_size (last_append q.packets (packet hd s g.0)) in
+      let n : length (last_bytes o) ≡ s =
+      length-take-le (first_size (only_last o.packets)) (drop (last_place o) o.storage) (omega (arith, at, f.1, long)) ∙ size in
       ap (λ (m : ℕ). contents (placed_if_room q m hd)) (sym n)
-      ∙ placed_contents q ok hd (last_bytes o) (subst (λ (m : ℕ). placement q m ≢ None) (sym n) some) (ap (λ (m : ℕ). last_bytes (placed_if_room q m hd)) (sym n))
+      ∙ placed_contents q ok hd (last_bytes o) (subst (λ (m : ℕ). placement q m ≢ None) (sym n) some)
+      (ap (λ (m : ℕ). last_bytes (placed_if_room q m hd)) (sym n))
 
-  pub last_is_written : (q : PacketQueue H) → WellPlaced q → (ws : List ℕ) → q.packets ≢ [] → length ws ≡ first_size (only_last q.packets) → contents (last_written q ws) ≡ with_last_bytes ws (contents q)
+  pub last_is_written : (q : PacketQueue H) → WellPlaced q → (ws : List ℕ) → q.packets ≢ []
+      → length ws ≡ first_size (only_last q.packets) → contents (last_written q ws) ≡ with_last_bytes ws (contents q)
   last_is_written q ok ws some long =
       let l = last_contents q ok ws some long in
       l.4 ∙ sym (last_entry l.0 l.1 l.2 ws) ∙ ap (with_last_bytes ws) (sym l.3)
 
   -- what was taken off stands before the read index
-  taken_bytes : (q : PacketQueue H) → WellPlaced q → (s : ℕ) → s ≡ first_size q.packets → (freed_bytes (dequeued q) s ≡ first_bytes (skipped q)) × (length (freed_bytes (dequeued q) s) ≡ s)
+  taken_bytes : (q : PacketQueue H) → WellPlaced q → (s : ℕ) → s ≡ first_size q.packets
+      → (freed_bytes (dequeued q) s ≡ first_bytes (skipped q)) × (length (freed_bytes (dequeued q) s) ≡ s)
   taken_bytes q ok s is =
       let f = off_go q.slot_count q.storage (skipped q).read_at (without_first_gap q.packets) (skipped_well q ok) (close_gap q.packets) in
       let size : first_size (without_first_gap q.packets) ≡ s = close_size q.packets ∙ sym is in
@@ -257,7 +281,8 @@ module _ {H : Type 0} where
         length-take-le s (drop (freed_place (dequeued q) s) q.storage) (omega (arith, long, fits.1)),
       )
 
-  pub taken_contents : (q : PacketQueue H) → WellPlaced q → (hd : H) (s : ℕ) → IsFirstSized q.packets hd s → contents q ≡ (hd, freed_bytes (dequeued q) s) ∷ contents (dequeued q)
+  pub taken_contents : (q : PacketQueue H) → WellPlaced q → (hd : H) (s : ℕ) → IsFirstSized q.packets hd s
+      → contents q ≡ (hd, freed_bytes (dequeued q) s) ∷ contents (dequeued q)
   taken_contents q ok hd s first =
       let t = taken_bytes q ok s (sym (ap first_size first)) in
       let sized = subst (λ (n : ℕ). IsFirstSized q.packets hd n) (sym t.1) first in
@@ -265,7 +290,8 @@ module _ {H : Type 0} where
 
   -- what stands before the read index is written over itself
   pub freed_stay : (q : PacketQueue H) (s : ℕ) (ws : List ℕ) → ws ≡ freed_bytes q s → with_bytes q (freed_place q s) ws ≡ q
-  freed_stay q s ws is = ap (with_bytes q (freed_place q s)) is ∙ ap (λ (st : List ℕ). mk q.slot_count st q.read_at q.packets) (overwrite-same q.storage (freed_place q s) s)
+  freed_stay q s ws is = ap (with_bytes q (freed_place q s)) is
+      ∙ ap (λ (st : List ℕ). mk q.slot_count st q.read_at q.packets) (overwrite-same q.storage (freed_place q s) s)
 
   pub peeked_contents : (q : PacketQueue H) → WellPlaced q → contents (dequeued (skipped q)) ≡ drop 1 (contents q)
   peeked_contents q ok = order.left (skipped q) (skipped_well q ok) ∙ ap (drop 1) (order.gap_dropped q ok)
@@ -281,9 +307,11 @@ module _ {H : Type 0} where
   some_first [] hd n e z = let k = ap length e in omega (arith, k)
   some_first (p ∷ ps) hd n e z = let k = ap length z in omega (arith, k)
 
-  pub kept_contents : (q : PacketQueue H) → WellPlaced q → (hd : H) (ws : List ℕ) (gone : Bool) → IsFirst q hd ws → contents (handed gone q hd ws) ≡ (if gone then drop 1 (contents q) else contents q)
+  pub kept_contents : (q : PacketQueue H) → WellPlaced q → (hd : H) (ws : List ℕ) (gone : Bool) → IsFirst q hd ws
+      → contents (handed gone q hd ws) ≡ (if gone then drop 1 (contents q) else contents q)
   kept_contents q ok hd ws true f = order.left_with q ok hd ws (sym (ap first_size f.0))
-  kept_contents q ok hd ws false f = order.refused q ok hd ws (some_first q.packets hd (length ws) f.0) (sym (ap first_size f.0)) ∙ sym (order.shown q ok hd ws f)
+  kept_contents q ok hd ws false f = order.refused q ok hd ws (some_first q.packets hd (length ws) f.0) (sym (ap first_size f.0))
+      ∙ sym (order.shown q ok hd ws f)
 
   -- ---- what clauses of the calls say
   pub is_empty_none : (q : PacketQueue H) (b : Bool) → b ≡ (length q.packets == 0) → (b ≡ true) ↔ (contents q ≡ [])
@@ -308,11 +336,13 @@ module _ {H : Type 0} where
   last_any n st r [] ws ok long = refl
   last_any n st r (p ∷ ps) ws ok long = last_is_written (mk n st r (p ∷ ps)) ok ws (λ e. let k = ap length e in absurd (omega (arith, k))) long
 
-  pub last_shown : (q : PacketQueue H) → WellPlaced q → (ws : List ℕ) → length ws ≡ first_size (only_last q.packets) → contents (last_written q ws) ≡ with_last_bytes ws (contents q)
+  pub last_shown : (q : PacketQueue H) → WellPlaced q → (ws : List ℕ) → length ws ≡ first_size (only_last q.packets)
+      → contents (last_written q ws) ≡ with_last_bytes ws (contents q)
   last_shown q ok ws long = last_any q.slot_count q.storage q.read_at q.packets ws ok long
 
   -- a packet that was placed
-  module _ (q : PacketQueue H) (ok : WellPlaced q) (s : ℕ) (hd : H) (gap : ℕ) (e : placement q s ≡ Some gap) (n : PacketQueue H) (is : n ≡ placed_if_room q s hd) where
+  module _ (q : PacketQueue H) (ok : WellPlaced q) (s : ℕ) (hd : H) (gap : ℕ) (e : placement q s
+      ≡ Some gap) (n : PacketQueue H) (is : n ≡ placed_if_room q s hd) where
     room : placement q s ≢ None
     room z = absurd (none-some _ (sym z ∙ e))
 
@@ -323,48 +353,56 @@ module _ {H : Type 0} where
     stands_as = ap contents is ∙ placed_stands q ok s hd room ∙ ap (λ o. contents q ++ ((hd, last_bytes o) ∷ [])) (sym is)
 
   -- the first packet, which was taken off
-  pub taken_as : (q : PacketQueue H) → WellPlaced q → (hd : H) (s : ℕ) → IsFirstSized q.packets hd s → (n : PacketQueue H) → n ≡ dequeued q → contents q ≡ (hd, freed_bytes n s) ∷ contents n
+  pub taken_as : (q : PacketQueue H) → WellPlaced q → (hd : H) (s : ℕ) → IsFirstSized q.packets hd s → (n : PacketQueue H)
+      → n ≡ dequeued q → contents q ≡ (hd, freed_bytes n s) ∷ contents n
   taken_as q ok hd s first n is = taken_contents q ok hd s first ∙ ap (λ o. (hd, freed_bytes o s) ∷ contents o) (sym is)
 
   pub left_as : (q : PacketQueue H) → WellPlaced q → (n : PacketQueue H) → n ≡ dequeued q → contents n ≡ drop 1 (contents q)
   left_as q ok n is = ap contents is ∙ order.left q ok
 
-  pub freed_unseen : (q : PacketQueue H) → WellPlaced q → (s : ℕ) → AreFreed q s → (ws : List ℕ) → length ws ≡ s → contents (with_bytes q (freed_place q s) ws) ≡ contents q
+  pub freed_unseen : (q : PacketQueue H) → WellPlaced q → (s : ℕ) → AreFreed q s → (ws : List ℕ) → length ws ≡ s
+      → contents (with_bytes q (freed_place q s) ws) ≡ contents q
   freed_unseen q ok s free ws long =
       ap (λ (n : ℕ). contents (with_bytes q (freed_place q n) ws)) (sym long) ∙ freed_contents q ok ws (subst (λ (n : ℕ). AreFreed q n) (sym long) free)
 
-  pub handed_contents : (q : PacketQueue H) → WellPlaced q → (hd : H) (ws : List ℕ) (new : H) (news : List ℕ) (gone : Bool) → IsFirst q hd ws → length news ≡ length ws
+  pub handed_contents : (q : PacketQueue H) → WellPlaced q → (hd : H) (ws : List ℕ) (new : H) (news : List ℕ) (gone : Bool)
+      → IsFirst q hd ws → length news ≡ length ws
       → contents (handed gone q new news) ≡ (if gone then drop 1 (contents q) else ((new, news) ∷ drop 1 (contents q)))
   handed_contents q ok hd ws new news true f long = order.left_with q ok new news (long ∙ sym (ap first_size f.0))
   handed_contents q ok hd ws new news false f long = order.refused q ok new news (some_first q.packets hd (length ws) f.0) (long ∙ sym (ap first_size f.0))
 
   -- ---- the log of a run
   -- the packets that left, followed by those that are held, are those that came
-  abbrev InTurn : Log H → PacketQueue H → Type 0
+  abbrev InTurn : Log (H × List ℕ) → PacketQueue H → Type 0
   InTurn log q = log.left ++ contents q ≡ log.accepted
 
-  more : (log : Log H) (q r : PacketQueue H) (p : H × List ℕ) → InTurn log q → contents r ≡ contents q ++ (p ∷ []) → log.left ++ contents r ≡ log.accepted ++ (p ∷ [])
+  more : (log : Log (H × List ℕ)) (q r : PacketQueue H) (p : H × List ℕ) → InTurn log q → contents r ≡ contents q ++ (p ∷ [])
+      → log.left ++ contents r ≡ log.accepted ++ (p ∷ [])
   more log q r p turn is = ap (λ l. log.left ++ l) is ∙ sym (append_assoc log.left (contents q) (p ∷ [])) ∙ ap (λ l. l ++ (p ∷ [])) turn
 
-  off : (log : Log H) (q r : PacketQueue H) (p : H × List ℕ) → InTurn log q → contents q ≡ p ∷ drop 1 (contents q) → contents r ≡ drop 1 (contents q) → (log.left ++ (p ∷ [])) ++ contents r ≡ log.accepted
+  off : (log : Log (H × List ℕ)) (q r : PacketQueue H) (p : H × List ℕ) → InTurn log q → contents q ≡ p ∷ drop 1 (contents q)
+      → contents r ≡ drop 1 (contents q) → (log.left ++ (p ∷ [])) ++ contents r ≡ log.accepted
   off log q r p turn first is = append_assoc log.left (p ∷ []) (contents r) ∙ ap (λ l. log.left ++ (p ∷ l)) is ∙ ap (λ l. log.left ++ l) (sym first) ∙ turn
 
   first_entry : (ps : List (Packet H)) (bs : List ℕ) → ps ≢ [] → (p : H × List ℕ) × (contents_of ps bs ≡ p ∷ drop 1 (contents_of ps bs))
   first_entry [] bs some = absurd (some refl)
   first_entry (p ∷ ps) bs some = (_, refl)
 
-  anew : (log : Log H) (q r : PacketQueue H) (p : H × List ℕ) → InTurn log q → q.packets ≢ [] → contents r ≡ p ∷ drop 1 (contents q) → log.left ++ contents r ≡ set log.accepted (length log.left) p
+  anew : (log : Log (H × List ℕ)) (q r : PacketQueue H) (p : H × List ℕ) → InTurn log q → q.packets ≢ []
+      → contents r ≡ p ∷ drop 1 (contents q) → log.left ++ contents r ≡ set log.accepted (length log.left) p
   unfolding contents
   anew log q r p turn some is =
       let f = first_entry q.packets (queue (byte_ring q)) some in
-      ap (λ l. log.left ++ l) is ∙ sym (set-append_seam log.left f.0 (drop 1 (contents q)) p) ∙ ap (λ l. set (log.left ++ l) (length log.left) p) (sym f.1) ∙ ap (λ l. set l (length log.left) p) turn
+      ap (λ l. log.left ++ l) is ∙ sym (set-append_seam log.left f.0 (drop 1 (contents q)) p)
+      ∙ ap (λ l. set (log.left ++ l) (length log.left) p) (sym f.1) ∙ ap (λ l. set l (length log.left) p) turn
 
-  again : (log : Log H) (q r : PacketQueue H) (ws : List ℕ) (front : List (H × List ℕ)) (hd : H) (old : List ℕ) → InTurn log q → contents q ≡ front ++ ((hd, old) ∷ []) → contents r ≡ front ++ ((hd, ws) ∷ []) → log.left ++ contents r ≡ with_last_bytes ws log.accepted
+  again : (log : Log (H × List ℕ)) (q r : PacketQueue H) (ws : List ℕ) (front : List (H × List ℕ)) (hd : H) (old : List ℕ)
+      → InTurn log q → contents q ≡ front ++ ((hd, old) ∷ []) → contents r ≡ front ++ ((hd, ws) ∷ []) → log.left ++ contents r ≡ with_last_bytes ws log.accepted
   again log q r ws front hd old turn was is =
       ap (λ l. log.left ++ l) is ∙ sym (append_assoc log.left front ((hd, ws) ∷ [])) ∙ sym (last_entry (log.left ++ front) hd old ws)
       ∙ ap (with_last_bytes ws) (append_assoc log.left front ((hd, old) ∷ []) ∙ ap (λ l. log.left ++ l) (sym was) ∙ turn)
 
-  call_turn : (call : QueueCall H) (log : Log H) (q r : PacketQueue H) → WellPlaced q → Makes call q r → InTurn log q → InTurn (logged call log) r
+  call_turn : (call : QueueCall H) (log : Log (H × List ℕ)) (q r : PacketQueue H) → WellPlaced q → Makes call q r → InTurn log q → InTurn (logged call log) r
   unfolding contents
   call_turn Reset log q r ok is turn = ap (λ o. log.left ++ contents o) is ∙ append-nil log.left
   call_turn (Place hd ws) log q r ok does turn =
@@ -386,12 +424,14 @@ module _ {H : Type 0} where
       let size = ap first_size does.0.0 in
       off log q r (hd, ws) turn (order.shown q ok hd ws does.0) (ap contents does.2 ∙ off_contents q ok written (does.1 ∙ sym size) ∙ order.left q ok)
 
-  calls_turn : (calls : List (QueueCall H)) (log : Log H) (q r : PacketQueue H) → WellPlaced q → MakesAll calls q r → InTurn log q → InTurn (logged_all calls log) r
+  calls_turn : (calls : List (QueueCall H)) (log : Log (H × List ℕ)) (q r : PacketQueue H) → WellPlaced q → MakesAll calls q r
+      → InTurn log q → InTurn (logged_all calls log) r
   calls_turn [] log q r ok run turn = ap (λ o. log.left ++ contents o) run ∙ turn
   calls_turn (call ∷ calls) log q r ok run turn =
       calls_turn calls (logged call log) run.0 r (keeps call q run.0 ok run.1) run.2 (call_turn call log q run.0 ok run.1 turn)
 
-  pub in_turn : (slots : ℕ) (storage : List ℕ) (calls : List (QueueCall H)) (r : PacketQueue H) → MakesAll calls (no_packets slots storage) r → InTurn (history calls) r
+  pub in_turn : (slots : ℕ) (storage : List ℕ) (calls : List (QueueCall H)) (r : PacketQueue H)
+      → MakesAll calls (no_packets slots storage) r → InTurn (history calls) r
   unfolding contents
   in_turn slots storage calls r run =
-      calls_turn calls (record { accepted = []; left = [] }) (no_packets slots storage) r ((inl refl, omega arith), tt, omega arith) run refl
+      calls_turn calls empty_log (no_packets slots storage) r ((inl refl, omega arith), tt, omega arith) run refl

@@ -12,8 +12,8 @@ use Rattle.net_storage.specs.Packets.{Packet, PacketQueue, packet, bytes_used, s
 use Rattle.net_storage.specs.PacketSlots.{slot, gap_slot, packet_slots, packets_in, Holds, packet_queue}
 use Rattle.net_storage.specs.declared.packet_metadata.PacketMetadata.{PacketMetadata}
 use Rattle.net_storage.proofs.Rotations.{length-overwrite, length-queue, with_dequeued_parts, part-rotation, cut, overwrite_at, read_at_le}
-use Rattle.net_storage.proofs.RingFacts.{read_index_is}
-use Rattle.net_storage.proofs.PacketFacts.{round, slots_append, slots_of_append, bytes_append, placed_append, placed_anew, placed_here, placed_skip, placed_pop, slots_some, restart_cases, restart_wf, held_is, place_zero, place_le_in, place_wf, gap_slot_one, gap_slot_none, place_cases}
+use Rattle.net_storage.proofs.RingFacts.{read_index_is, restart_cases, restart_wf}
+use Rattle.net_storage.proofs.PacketFacts.{round, slots_append, slots_of_append, bytes_append, placed_append, placed_anew, placed_here, placed_skip, placed_pop, slots_some, held_is, place_zero, place_le_in, place_wf, gap_slot_one, gap_slot_none, place_cases}
 
 module _ (b : RingState ℕ) where
   pub restart_held : (restarted b).count ≡ b.count
@@ -56,7 +56,8 @@ module _ {H : Type 0} where
   before_append ps p = let n = length-append ps (p ∷ []) in take_at ps (p ∷ []) (length (ps ++ (p ∷ [])) - 1) (omega (arith, n))
 
   -- ---- a packet comes last
-  module _ (m : RingState (PacketMetadata H)) (b : RingState ℕ) (h : Holds m b (packets_in 0 (queue m))) (gap s : ℕ) (e : placement (packet_queue m b) s ≡ Some gap) where
+  module _ (m : RingState (PacketMetadata H)) (b : RingState ℕ) (h : Holds m b (packets_in 0 (queue m))) (gap s : ℕ) (e : placement (packet_queue m b) s
+      ≡ Some gap) where
     abbrev held_packets : List (Packet H)
     held_packets = packets_in 0 (queue m)
 
@@ -72,8 +73,10 @@ module _ {H : Type 0} where
     pub same : byte_ring before ≡ b
     same = ap (λ (n : ℕ). ring b.storage b.read_at n) (sym h.3)
 
-    parts : (gap_for s (contiguous_window (restarted (byte_ring before))) (window (restarted (byte_ring before))) ≡ Some gap) × (slots_for gap ≤ capacity m - slots_used held_packets)
-    parts = slots_some (capacity m - slots_used held_packets) (gap_for s (contiguous_window (restarted (byte_ring before))) (window (restarted (byte_ring before)))) gap e
+    parts : (gap_for s (contiguous_window (restarted (byte_ring before))) (window (restarted (byte_ring before))) ≡ Some gap)
+        × (slots_for gap ≤ capacity m - slots_used held_packets)
+    parts = slots_some (capacity m - slots_used held_packets)
+        (gap_for s (contiguous_window (restarted (byte_ring before))) (window (restarted (byte_ring before)))) gap e
 
     for_g : gap_for s (contiguous_window g) (window g) ≡ Some gap
     for_g = sym (ap (λ o. gap_for s (contiguous_window (restarted o)) (window (restarted o))) same) ∙ parts.0
@@ -81,7 +84,8 @@ module _ {H : Type 0} where
     pub wfg : WellFormed g
     wfg = restart_wf b h.1
 
-    pub here : (index_after room g.read_at (g.count + gap) + s ≤ room) × (gap ≢ 0 → index_after room g.read_at g.count + gap ≡ room) × (g.count + gap + s ≤ room)
+    pub here : (index_after room g.read_at (g.count + gap) + s ≤ room)
+        × (gap ≢ 0 → index_after room g.read_at g.count + gap ≡ room) × (g.count + gap + s ≤ room)
     here = placed_here room g.read_at g.count s gap wfg.0 wfg.1 for_g
 
     pub free_room : slots_for gap ≤ window m
@@ -112,7 +116,8 @@ module _ {H : Type 0} where
         push_placed : ArePlaced room g.read_at 0 one_more
         push_placed =
             let at : IsPlaced room g.read_at (0 + bytes_used held_packets) (packet hd k gap) =
-            subst (λ (n : ℕ). IsPlaced room g.read_at n (packet hd k gap)) (let z : g.count ≡ 0 + bytes_used held_packets = omega (arith, held_g) in z) (omega (arith, here.0, le), here.1) in
+            subst (λ (n : ℕ). IsPlaced room g.read_at n (packet hd k gap)) (let z : g.count ≡ 0 + bytes_used held_packets =
+            omega (arith, held_g) in z) (omega (arith, here.0, le), here.1) in
             placed_append room g.read_at 0 held_packets (packet hd k gap) placed_g at
 
         pub push_well : WellPlaced (pushed before gap k hd)
@@ -126,7 +131,8 @@ module _ {H : Type 0} where
           pub push_holds : Holds m2 (with_enqueued (gap + k) g) one_more
           push_holds =
               let slots_all : queue m2 ≡ packet_slots one_more =
-              em ∙ ap (λ (l : List (PacketMetadata H)). l ++ (gap_slot gap ++ (slot k (Some hd) ∷ []))) h.2 ∙ sym (slots_append held_packets (packet hd k gap)) in
+              em ∙ ap (λ (l : List (PacketMetadata H)). l ++ (gap_slot gap ++ (slot k (Some hd) ∷ []))) h.2
+              ∙ sym (slots_append held_packets (packet hd k gap)) in
               let all = bytes_append held_packets (packet hd k gap) in
               (wfm, (wfg.0, omega (arith, here.2, le)), slots_all, omega (arith, held_g, all), push_placed)
 
@@ -163,7 +169,9 @@ module _ {H : Type 0} where
           ∙ ap (λ (p : ℕ). mk (capacity m) (overwrite b.storage p ws) (restarted (byte_ring before)).read_at all) (sym push_place)
           ∙ ap (λ (o : PacketQueue H). last_written o ws) (sym pushed_is)
 
-      pub cut_is : (k : ℕ) (ws : List ℕ) → mk (capacity m) (overwrite g.storage at ws) g.read_at (held_packets ++ (packet hd k gap ∷ [])) ≡ last_cut k (last_written (placed_if_room before s hd) ws)
+      pub cut_is : (k : ℕ) (ws : List ℕ)
+          → mk (capacity m) (overwrite g.storage at ws) g.read_at (held_packets ++ (packet hd k gap ∷ []))
+          ≡ last_cut k (last_written (placed_if_room before s hd) ws)
       cut_is k ws =
           ap₂ (λ (front back : List (Packet H)). mk (capacity m) (overwrite g.storage at ws) g.read_at (front ++ back))
           (sym (before_append held_packets (packet hd s gap))) (sym (ap (with_first_size k) (last_append held_packets (packet hd s gap))))
@@ -185,17 +193,21 @@ module _ {H : Type 0} where
             let c = ap capacity is in
             omega (arith, from, w, c, byte_room, here.0)
 
-        pub fill_room : (now : List ℕ) → now ≡ take (length now) (drop (spare_index b1 gap) b1.storage) → length now ≡ contiguous_window_from b1 gap s → IsRoom before s hd now
+        pub fill_room : (now : List ℕ) → now ≡ take (length now) (drop (spare_index b1 gap) b1.storage)
+            → length now ≡ contiguous_window_from b1 gap s → IsRoom before s hd now
         fill_room now stored count =
             let long : length now ≡ s = count ∙ fill_run in
             let size : first_size (only_last (placed_if_room before s hd).packets) ≡ s = ap (λ o. first_size (only_last o.packets)) pushed_is ∙ end_size in
-            let st : (placed_if_room before s hd).storage ≡ b1.storage = ap (λ o. o.storage) pushed_is ∙ sym (restart_storage b) ∙ ap (λ o. o.storage) (sym is) in
+            let st : (placed_if_room before s hd).storage ≡ b1.storage = ap (λ o. o.storage) pushed_is ∙ sym (restart_storage b)
+            ∙ ap (λ o. o.storage) (sym is) in
             let one : last_bytes (placed_if_room before s hd) ≡ take s (drop (spare_index b1 gap) b1.storage) =
             ap (λ (n : ℕ). take n (drop (last_place (placed_if_room before s hd)) (placed_if_room before s hd).storage)) size
             ∙ ap₂ (λ (p : ℕ) (l : List ℕ). take s (drop p l)) (sym fill_place) st in
             ((λ n. none-some gap (sym n ∙ e)), stored ∙ ap (λ (n : ℕ). take n (drop (spare_index b1 gap) b1.storage)) long ∙ sym one, long)
 
-        module _ (k : ℕ) (le : k ≤ s) (ws : List ℕ) (m2 : RingState (PacketMetadata H)) (em : queue m2 ≡ queue m ++ (gap_slot gap ++ (slot k (Some hd) ∷ []))) (wfm : WellFormed m2) (b3 : RingState ℕ) (after : b3 ≡ with_enqueued (gap + k) (written b1 (spare_index b1 gap) ws)) where
+        module _ (k : ℕ) (le : k ≤ s) (ws : List ℕ) (m2 : RingState (PacketMetadata H)) (em : queue m2
+            ≡ queue m ++ (gap_slot gap ++ (slot k (Some hd) ∷ []))) (wfm : WellFormed m2) (b3 : RingState ℕ) (after : b3
+            ≡ with_enqueued (gap + k) (written b1 (spare_index b1 gap) ws)) where
           after_is : b3 ≡ written (with_enqueued (gap + k) g) at ws
           after_is = after ∙ ap₂ (λ (o : RingState ℕ) (p : ℕ). with_enqueued (gap + k) (written o p ws)) is fill_at
 
@@ -236,12 +248,15 @@ module _ {H : Type 0} where
   last_fits c r o (p ∷ (q ∷ ps)) wf le a =
       let s = ap first_size (last_cons p q ps) in
       let rest = last_fits c r (o + p.gap + p.size) (q ∷ ps) wf (omega (arith, le)) a.1 in
-      let z : o + bytes_used (p ∷ (q ∷ ps)) - first_size (only_last (p ∷ (q ∷ ps))) ≡ o + p.gap + p.size + bytes_used (q ∷ ps) - first_size (only_last (q ∷ ps)) = omega (arith, s) in
+      let z : o + bytes_used (p ∷ (q ∷ ps)) - first_size (only_last (p ∷ (q ∷ ps)))
+      ≡ o + p.gap + p.size + bytes_used (q ∷ ps) - first_size (only_last (q ∷ ps)) =
+      omega (arith, s) in
       let is = ap (index_after c r) z in
       (omega (arith, s, rest.0), omega (arith, is, s, rest.1))
 
   -- the slots of packets end in that of the last one
-  pub slots_end : (p : Packet H) (ps : List (Packet H)) → (ms : List (PacketMetadata H)) × (x : PacketMetadata H) × (packet_slots (p ∷ ps) ≡ ms ++ (x ∷ [])) × (x.size ≡ first_size (only_last (p ∷ ps)))
+  pub slots_end : (p : Packet H) (ps : List (Packet H)) → (ms : List (PacketMetadata H)) × (x : PacketMetadata H)
+      × (packet_slots (p ∷ ps) ≡ ms ++ (x ∷ [])) × (x.size ≡ first_size (only_last (p ∷ ps)))
   slots_end p [] = (gap_slot p.gap, slot p.size (Some p.header), refl, sym (ap first_size (last_one p)))
   slots_end p (q ∷ ps) =
       let rest = slots_end q ps in
@@ -274,11 +289,13 @@ module _ {H : Type 0} where
         omega (arith, at, ends.0, ends.1, h.3)
 
   -- ---- the gap before the first packet goes
-  pub skip_holds : (m : RingState (PacketMetadata H)) (b : RingState ℕ) (ps : List (Packet H)) → Holds m b ps → 0 < first_gap ps → Holds (with_dequeued 1 m) (with_dequeued (first_gap ps) b) (without_first_gap ps)
+  pub skip_holds : (m : RingState (PacketMetadata H)) (b : RingState ℕ) (ps : List (Packet H)) → Holds m b ps → 0 < first_gap ps
+      → Holds (with_dequeued 1 m) (with_dequeued (first_gap ps) b) (without_first_gap ps)
   skip_holds m b [] h pos = absurd (omega arith)
   skip_holds m b (p ∷ ps) h pos =
       let wf = h.1 in
-      let some : queue m ≡ slot p.gap None ∷ (slot p.size (Some p.header) ∷ packet_slots ps) = h.2 ∙ ap (λ l. l ++ (slot p.size (Some p.header) ∷ packet_slots ps)) (gap_slot_one p.gap pos) in
+      let some : queue m ≡ slot p.gap None ∷ (slot p.size (Some p.header) ∷ packet_slots ps) = h.2
+      ∙ ap (λ l. l ++ (slot p.size (Some p.header) ∷ packet_slots ps)) (gap_slot_one p.gap pos) in
       let many : 1 ≤ m.count = omega (arith, length-queue m h.0, ap length some) in
       let off = with_dequeued_parts m h.0 1 many in
       let all : b.count ≡ p.gap + p.size + bytes_used ps = h.3 in (
@@ -302,17 +319,20 @@ module _ {H : Type 0} where
   close_first (p ∷ ps) x s e = ap (with_gap p.gap) e
 
   module _ (m : RingState (PacketMetadata H)) (b : RingState ℕ) (h : Holds m b (packets_in 0 (queue m))) where
-    pub skip_kept : 0 < first_gap (packets_in 0 (queue m)) → Holds (with_dequeued 1 m) (with_dequeued (first_gap (packets_in 0 (queue m))) b) (packets_in 0 (queue (with_dequeued 1 m)))
+    pub skip_kept : 0 < first_gap (packets_in 0 (queue m))
+        → Holds (with_dequeued 1 m) (with_dequeued (first_gap (packets_in 0 (queue m))) b) (packets_in 0 (queue (with_dequeued 1 m)))
     skip_kept pos =
         let ps = packets_in 0 (queue m) in
         closed (with_dequeued 1 m) (with_dequeued (first_gap ps) b) (without_first_gap ps) (skip_holds m b ps h pos)
 
     -- the same by what the two steps left
-    pub skip_keeps : (gap : ℕ) (q : PacketQueue H) (m2 : RingState (PacketMetadata H)) (b2 : RingState ℕ) → packet_queue m b ≡ q → gap ≡ first_gap q.packets → 0 < gap → m2 ≡ with_dequeued 1 m → b2 ≡ with_dequeued gap b → Holds m2 b2 (packets_in 0 (queue m2))
+    pub skip_keeps : (gap : ℕ) (q : PacketQueue H) (m2 : RingState (PacketMetadata H)) (b2 : RingState ℕ) → packet_queue m b ≡ q
+        → gap ≡ first_gap q.packets → 0 < gap → m2 ≡ with_dequeued 1 m → b2 ≡ with_dequeued gap b → Holds m2 b2 (packets_in 0 (queue m2))
     skip_keeps gap q m2 b2 is size some off freed =
         let all : gap ≡ first_gap (packets_in 0 (queue m)) = size ∙ ap (λ o. first_gap o.packets) (sym is) in
         subst (λ n. Holds n b2 (packets_in 0 (queue n))) (sym off)
-        (subst (λ o. Holds (with_dequeued 1 m) o (packets_in 0 (queue (with_dequeued 1 m)))) (sym (freed ∙ ap (λ n. with_dequeued n b) all)) (skip_kept (omega (arith, all, some))))
+        (subst (λ o. Holds (with_dequeued 1 m) o (packets_in 0 (queue (with_dequeued 1 m)))) (sym (freed
+        ∙ ap (λ n. with_dequeued n b) all)) (skip_kept (omega (arith, all, some))))
 
   -- ---- the first packet, whose gap is gone
   front_slots : (ps : List (Packet H)) (p : Packet H) → p.gap ≡ 0 → packet_slots (p ∷ ps) ≡ slot p.size (Some p.header) ∷ packet_slots ps
@@ -331,7 +351,8 @@ module _ {H : Type 0} where
       (p, refl, ap (first_or x) f, ap (drop 1) f, z)
 
   -- where the first packet is
-  pub front_fits : (c r : ℕ) (ps : List (Packet H)) → (r ≡ 0) ⊎ (r < c) → bytes_used ps ≤ c → ArePlaced c r 0 ps → first_gap ps ≡ 0 → (first_size ps ≤ bytes_used ps) × (r + first_size ps ≤ c)
+  pub front_fits : (c r : ℕ) (ps : List (Packet H)) → (r ≡ 0) ⊎ (r < c) → bytes_used ps ≤ c → ArePlaced c r 0 ps
+      → first_gap ps ≡ 0 → (first_size ps ≤ bytes_used ps) × (r + first_size ps ≤ c)
   front_fits c r [] wf le a z = (omega arith, elim wf [ inl e ↦ omega (arith, e) | inr l ↦ omega (arith, l) ])
   front_fits c r (p ∷ ps) wf le a z =
       let n : 0 + p.gap ≡ 0 = omega (arith, z) in
@@ -339,7 +360,8 @@ module _ {H : Type 0} where
       let at = place_zero c r wf in
       (omega arith, omega (arith, is, at, a.0.0))
 
-  pop_go : (m2 : RingState (PacketMetadata H)) (b : RingState ℕ) (ps : List (Packet H)) → WellFormed m2 → queue m2 ≡ packet_slots (drop 1 ps) → WellFormed b → b.count ≡ bytes_used ps → ArePlaced (capacity b) b.read_at 0 ps → first_gap ps ≡ 0
+  pop_go : (m2 : RingState (PacketMetadata H)) (b : RingState ℕ) (ps : List (Packet H)) → WellFormed m2
+      → queue m2 ≡ packet_slots (drop 1 ps) → WellFormed b → b.count ≡ bytes_used ps → ArePlaced (capacity b) b.read_at 0 ps → first_gap ps ≡ 0
       → Holds m2 (with_dequeued (first_size ps) b) (drop 1 ps)
   pop_go m2 b [] wfm em wf n a z =
       (wfm, (place_wf (capacity b) b.read_at 0 wf.0 (omega arith), omega (arith, wf.1)), em, omega (arith, n), tt)
@@ -369,13 +391,15 @@ module _ {H : Type 0} where
 
     -- the first slot is that of the first packet
     pub front_slot : (x : PacketMetadata H) → queue m ≡ x ∷ drop 1 (queue m)
-        → (p : Packet H) × (packets_in 0 (queue m) ≡ p ∷ drop 1 (packets_in 0 (queue m))) × (x ≡ slot p.size (Some p.header)) × (drop 1 (queue m) ≡ packet_slots (drop 1 (packets_in 0 (queue m)))) × (p.gap ≡ 0)
+        → (p : Packet H) × (packets_in 0 (queue m) ≡ p ∷ drop 1 (packets_in 0 (queue m))) × (x ≡ slot p.size (Some p.header))
+        × (drop 1 (queue m) ≡ packet_slots (drop 1 (packets_in 0 (queue m)))) × (p.gap ≡ 0)
     front_slot x e = front_is (packets_in 0 (queue m)) x (drop 1 (queue m)) (sym e ∙ h.2) z
 
     pub front_long : (x : PacketMetadata H) → queue m ≡ x ∷ drop 1 (queue m) → x.size ≡ front
     front_long x e = let f = front_slot x e in ap (λ y. y.size) f.2 ∙ sym (ap first_size f.1)
 
-    pub front_first : (x : PacketMetadata H) → queue m ≡ x ∷ drop 1 (queue m) → (hd : H) → x.header ≡ Some hd → (n : ℕ) → n ≡ front → (q : PacketQueue H) → packet_queue m b ≡ q → IsFirstSized q.packets hd n
+    pub front_first : (x : PacketMetadata H) → queue m ≡ x ∷ drop 1 (queue m) → (hd : H) → x.header ≡ Some hd → (n : ℕ)
+        → n ≡ front → (q : PacketQueue H) → packet_queue m b ≡ q → IsFirstSized q.packets hd n
     front_first x e hd i n en q is =
         let f = front_slot x e in
         let same : f.0.header ≡ hd = (cond_some true f.0.header hd (sym (ap (λ y. y.header) f.2) ∙ i)).1 in
@@ -387,7 +411,8 @@ module _ {H : Type 0} where
         subst (λ (o : PacketQueue H). IsFirstSized o.packets hd n) is whole
 
     -- the first packet goes
-    pub pop_holds : (m2 : RingState (PacketMetadata H)) → queue m2 ≡ packet_slots (drop 1 (packets_in 0 (queue m))) → WellFormed m2 → Holds m2 (with_dequeued front b) (drop 1 (packets_in 0 (queue m)))
+    pub pop_holds : (m2 : RingState (PacketMetadata H)) → queue m2 ≡ packet_slots (drop 1 (packets_in 0 (queue m)))
+        → WellFormed m2 → Holds m2 (with_dequeued front b) (drop 1 (packets_in 0 (queue m)))
     pop_holds m2 em wfm = pop_go m2 b (packets_in 0 (queue m)) wfm em h.1 h.3 h.4 z
 
 -- ---- the first element of a list that was read
@@ -404,7 +429,8 @@ module _ {X : Type 0} where
   first_read (y ∷ q) l (suc n) x e i = ap (λ z. z ∷ q) (sym (cond_some true x y (i ∙ ap (λ o. slice_get o 0) e)).1)
 
   -- the first element is written over
-  pub first_put : (q l n : List X) (x y z : X) → l ≡ take (length l) q → length l ≤ 1 → 0 < length l → x ≡ get_or l 0 x → q ≡ z ∷ drop 1 q → n ≡ overwrite q 0 (set l 0 y) → (x ≡ z) × (n ≡ y ∷ drop 1 q)
+  pub first_put : (q l n : List X) (x y z : X) → l ≡ take (length l) q → length l ≤ 1 → 0 < length l → x ≡ get_or l 0 x
+      → q ≡ z ∷ drop 1 q → n ≡ overwrite q 0 (set l 0 y) → (x ≡ z) × (n ≡ y ∷ drop 1 q)
   first_put q [] n x y z e one some i f en = absurd (omega (arith, some))
   first_put q (w ∷ (v ∷ l)) n x y z e one some i f en = absurd (omega (arith, one))
   first_put q (w ∷ []) n x y z e one some i f en =
@@ -427,14 +453,16 @@ module _ {X : Type 0} where
 
 module _ {H : Type 0} where
   -- the first slot's header is written over
-  pub put_keeps : (q l n : List (PacketMetadata H)) (x : PacketMetadata H) (s : ℕ) (h : Option H) (hd : H) → l ≡ take (length l) q → length l ≤ 1 → 0 < length l → x ≡ get_or l 0 x → q ≡ slot s h ∷ drop 1 q
+  pub put_keeps : (q l n : List (PacketMetadata H)) (x : PacketMetadata H) (s : ℕ) (h : Option H) (hd : H)
+      → l ≡ take (length l) q → length l ≤ 1 → 0 < length l → x ≡ get_or l 0 x → q ≡ slot s h ∷ drop 1 q
       → n ≡ overwrite q 0 (set l 0 (slot x.size (Some hd))) → n ≡ slot s (Some hd) ∷ drop 1 q
   put_keeps q l n x s h hd e one some i f en =
       let put = first_put q l n x (slot x.size (Some hd)) (slot s h) e one some i f en in
       put.1 ∙ ap (λ m. slot m.size (Some hd) ∷ drop 1 q) put.0
 
   -- the last slot's size is that of the last packet
-  end_go : (ps : List (Packet H)) (q : List (PacketMetadata H)) (l : List (PacketMetadata H)) (k n : ℕ) → q ≡ packet_slots ps → k ≡ length q - 1 → l ≡ take n (drop k q)
+  end_go : (ps : List (Packet H)) (q : List (PacketMetadata H)) (l : List (PacketMetadata H)) (k n : ℕ) → q ≡ packet_slots ps
+      → k ≡ length q - 1 → l ≡ take n (drop k q)
       → (x : PacketMetadata H) → Some x ≡ slice_get l 0 → x.size ≡ first_size (only_last ps)
   end_go [] q l k n eq ek el x i =
       let none : drop k q ≡ [] = ap (drop k) eq ∙ nil_from_length (drop k []) (let d = length-drop {A = PacketMetadata H} k [] in omega (arith, d)) in
@@ -448,7 +476,8 @@ module _ {H : Type 0} where
       let same = last_read s.0 s.1 l k n x (omega (arith, ek, long, many)) (el ∙ ap (λ o. take n (drop k o)) whole) i in
       ap (λ y. y.size) same ∙ s.3
 
-  none_go : (ps : List (Packet H)) (q : List (PacketMetadata H)) (l : List (PacketMetadata H)) (k n : ℕ) → q ≡ packet_slots ps → k ≡ length q - 1 → l ≡ take n (drop k q) → (1 ≤ length q → 1 ≤ n)
+  none_go : (ps : List (Packet H)) (q : List (PacketMetadata H)) (l : List (PacketMetadata H)) (k n : ℕ) → q ≡ packet_slots ps
+      → k ≡ length q - 1 → l ≡ take n (drop k q) → (1 ≤ length q → 1 ≤ n)
       → None ≡ slice_get l 0 → 0 ≡ first_size (only_last ps)
   none_go [] q l k n eq ek el some i = refl
   none_go (p ∷ ps) q l k n eq ek el some i =
@@ -458,7 +487,8 @@ module _ {H : Type 0} where
       let many = length-append s.0 (s.1 ∷ []) in
       absurd (last_unread s.0 s.1 l k n (omega (arith, ek, long, many)) (some (omega (arith, long, many))) (el ∙ ap (λ o. take n (drop k o)) whole) i)
 
-  module _ (m : RingState (PacketMetadata H)) (b : RingState ℕ) (h : Holds m b (packets_in 0 (queue m))) (k n : ℕ) (ek : k ≡ m.count - 1) (en : n ≡ contiguous_queued_from m k 1) (l : List (PacketMetadata H)) (el : l ≡ take n (drop k (queue m))) where
+  module _ (m : RingState (PacketMetadata H)) (b : RingState ℕ) (h : Holds m b (packets_in 0 (queue m))) (k n : ℕ) (ek : k
+      ≡ m.count - 1) (en : n ≡ contiguous_queued_from m k 1) (l : List (PacketMetadata H)) (el : l ≡ take n (drop k (queue m))) where
     back : k ≡ length (queue m) - 1
     back = let long = length-queue m h.0 in omega (arith, long, ek)
 
@@ -491,7 +521,10 @@ module _ {H : Type 0} where
       let r = q.read_at in (
         omega (arith, f.0, le),
         elim (place_cases c r (c - s)) [
-          | inl a ↦ elim (place_cases c r (c - k)) [ inl b ↦ omega (arith, f.0, f.1, le, a.0, a.1, b.0, b.1) | inr b ↦ omega (arith, f.0, f.1, le, a.0, a.1, b.0, b.1) ]
+          | inl a ↦ elim (place_cases c r (c - k)) [
+            | inl b ↦ omega (arith, f.0, f.1, le, a.0, a.1, b.0, b.1)
+            | inr b ↦ omega (arith, f.0, f.1, le, a.0, a.1, b.0, b.1)
+          ]
           | inr a ↦ elim (place_cases c r (c - k)) [ inl b ↦ absurd (omega (arith, le, a.0, b.0)) | inr b ↦ omega (arith, f.0, le, b.0, b.1) ]
         ],
       )
@@ -533,7 +566,8 @@ lent_is b wf =
     ∙ sym (part-rotation b.storage b.read_at 0 b.read_at (contiguous_queued b) r (omega (arith, wf.1)) (omega (arith, r)) (read_index_is b wf))
 
 module _ {H : Type 0} where
-  headed_go : (m2 : RingState (PacketMetadata H)) (b : RingState ℕ) (ps : List (Packet H)) (hd : H) → first_gap ps ≡ 0 → 0 < length ps → queue m2 ≡ slot (first_size ps) (Some hd) ∷ packet_slots (drop 1 ps) → WellFormed m2
+  headed_go : (m2 : RingState (PacketMetadata H)) (b : RingState ℕ) (ps : List (Packet H)) (hd : H) → first_gap ps ≡ 0
+      → 0 < length ps → queue m2 ≡ slot (first_size ps) (Some hd) ∷ packet_slots (drop 1 ps) → WellFormed m2
       → WellFormed b → b.count ≡ bytes_used ps → ArePlaced (capacity b) b.read_at 0 ps → Holds m2 b (with_first_header hd ps)
   headed_go m2 b [] hd z some em wfm wf n a = absurd (omega (arith, some))
   headed_go m2 b (p ∷ ps) hd z some em wfm wf n a = (wfm, wf, em ∙ sym (front_slots ps (packet hd p.size p.gap) z), n, a)
@@ -547,14 +581,16 @@ module _ {H : Type 0} where
   headed_rest hd (p ∷ ps) = refl
 
   -- ---- the first packet is lent, and is then taken off or stays
-  module _ (m : RingState (PacketMetadata H)) (b : RingState ℕ) (h : Holds m b (packets_in 0 (queue m))) (z : first_gap (packets_in 0 (queue m)) ≡ 0) (s : ℕ) (hd : H) (e : queue m ≡ slot s (Some hd) ∷ drop 1 (queue m)) where
+  module _ (m : RingState (PacketMetadata H)) (b : RingState ℕ) (h : Holds m b (packets_in 0 (queue m))) (z : first_gap (packets_in 0 (queue m))
+      ≡ 0) (s : ℕ) (hd : H) (e : queue m ≡ slot s (Some hd) ∷ drop 1 (queue m)) where
     abbrev kept : List (Packet H)
     kept = packets_in 0 (queue m)
 
     abbrev lent : List ℕ
     lent = take (contiguous_queued b) (queue b)
 
-    first_is : (p : Packet H) × (kept ≡ p ∷ drop 1 kept) × (slot s (Some hd) ≡ slot p.size (Some p.header)) × (drop 1 (queue m) ≡ packet_slots (drop 1 kept)) × (p.gap ≡ 0)
+    first_is : (p : Packet H) × (kept ≡ p ∷ drop 1 kept) × (slot s (Some hd) ≡ slot p.size (Some p.header))
+        × (drop 1 (queue m) ≡ packet_slots (drop 1 kept)) × (p.gap ≡ 0)
     first_is = front_slot m b h z (slot s (Some hd)) e
 
     size_is : s ≡ first_size kept
@@ -570,18 +606,25 @@ module _ {H : Type 0} where
         omega (arith, row, n, long)
 
     pub lift_bytes : take s lent ≡ first_bytes (packet_queue m b)
-    lift_bytes = ap (take s) (lent_is b h.1) ∙ take-take s (contiguous_queued b) (drop b.read_at b.storage) row ∙ ap (λ (n : ℕ). take n (drop b.read_at b.storage)) size_is
+    lift_bytes = ap (take s) (lent_is b h.1) ∙ take-take s (contiguous_queued b) (drop b.read_at b.storage) row
+        ∙ ap (λ (n : ℕ). take n (drop b.read_at b.storage)) size_is
 
     pub lift_front : (old : PacketQueue H) → packet_queue m b ≡ skipped old → IsFirst old hd (take s lent)
     lift_front old is =
-        let n : length (take s lent) ≡ s = length-take-le s lent lift_fits in
-        (close_first old.packets hd (length (take s lent)) (front_first m b h z (slot s (Some hd)) e hd refl (length (take s lent)) (n ∙ size_is) (skipped old) is), lift_bytes ∙ ap first_bytes is)
+        let n : length (take s lent) ≡ s = length-take-le s lent lift_fits in (
+          close_first old.packets hd (length (take s lent)) (front_first m b h z (slot s (Some hd)) e hd refl (length (take s lent)) (n
+              ∙ size_is) (skipped old) is),
+          lift_bytes
+              ∙ ap first_bytes is,
+        )
 
-    module _ (after ws : List ℕ) (left : after ≡ ws ++ drop s lent) (long : length ws ≡ s) (k : ℕ) (b2 : RingState ℕ) (is : b2 ≡ written (with_dequeued k b) b.read_at after) where
+    module _ (after ws : List ℕ) (left : after ≡ ws ++ drop s lent) (long : length ws ≡ s) (k : ℕ) (b2 : RingState ℕ) (is : b2
+        ≡ written (with_dequeued k b) b.read_at after) where
       over : overwrite b.storage b.read_at after ≡ overwrite b.storage b.read_at ws
       over =
           let fits : b.read_at + contiguous_queued b ≤ length b.storage = let r = read_at_le b h.1 in omega (arith, r) in
-          ap (overwrite b.storage b.read_at) (left ∙ ap (λ (n : ℕ). ws ++ drop n lent) (sym long) ∙ ap (λ (l : List ℕ). ws ++ drop (length ws) l) (lent_is b h.1))
+          ap (overwrite b.storage b.read_at) (left ∙ ap (λ (n : ℕ). ws ++ drop n lent) (sym long)
+          ∙ ap (λ (l : List ℕ). ws ++ drop (length ws) l) (lent_is b h.1))
           ∙ over_part b.storage ws b.read_at (contiguous_queued b) fits (omega (arith, long, row))
 
       bytes_are : b2 ≡ written (with_dequeued k b) b.read_at ws
@@ -606,25 +649,30 @@ module _ {H : Type 0} where
         pub off_left : capacity m2 ≡ capacity m → (new : H) → packet_queue m2 b2 ≡ popped (first_written (packet_queue m b) new ws)
         off_left cm new =
             ap (packet_queue m2) off_is ∙ viewed m2 _ _ off_holds
-            ∙ ap (λ (n : ℕ). mk n (overwrite b.storage b.read_at ws) (index_after (length (overwrite b.storage b.read_at ws)) b.read_at (first_size kept)) (drop 1 kept)) cm
-            ∙ ap₂ (λ (n : ℕ) (l : List (Packet H)). mk (capacity m) (overwrite b.storage b.read_at ws) (index_after (length (overwrite b.storage b.read_at ws)) b.read_at n) l) (sym (headed_size new kept)) (sym (headed_rest new kept))
+            ∙ ap (λ (n : ℕ). mk n (overwrite b.storage b.read_at ws)
+            (index_after (length (overwrite b.storage b.read_at ws)) b.read_at (first_size kept)) (drop 1 kept)) cm
+            ∙ ap₂ (λ (n : ℕ) (l : List (Packet H)). mk (capacity m) (overwrite b.storage b.read_at ws)
+            (index_after (length (overwrite b.storage b.read_at ws)) b.read_at n) l) (sym (headed_size new kept)) (sym (headed_rest new kept))
 
       -- it stays
       module _ (none : k ≡ 0) (new : H) (m2 : RingState (PacketMetadata H)) (em : queue m2 ≡ slot s (Some new) ∷ drop 1 (queue m)) (wfm : WellFormed m2) where
         on_is : b2 ≡ written b b.read_at ws
         on_is =
             bytes_are ∙ ap (λ (n : ℕ). written (with_dequeued n b) b.read_at ws) none
-            ∙ ap₂ (λ (r n : ℕ). ring (overwrite b.storage b.read_at ws) r n) (place_zero (capacity b) b.read_at h.1.0) (let n : b.count - 0 ≡ b.count = omega arith in n)
+            ∙ ap₂ (λ (r n : ℕ). ring (overwrite b.storage b.read_at ws) r n) (place_zero (capacity b) b.read_at h.1.0) (let n : b.count - 0 ≡ b.count =
+            omega arith in n)
 
         on_holds : Holds m2 (written b b.read_at ws) (with_first_header new kept)
         on_holds =
             let w = written_holds m b kept h b.read_at ws in
             let n = ap length first_is.1 in
-            headed_go m2 (written b b.read_at ws) kept new z (omega (arith, n)) (em ∙ ap₂ (λ (n : ℕ) (l : List (PacketMetadata H)). slot n (Some new) ∷ l) size_is first_is.3) wfm w.1 w.3 w.4
+            headed_go m2 (written b b.read_at ws) kept new z (omega (arith, n)) (em
+            ∙ ap₂ (λ (n : ℕ) (l : List (PacketMetadata H)). slot n (Some new) ∷ l) size_is first_is.3) wfm w.1 w.3 w.4
 
         pub on_kept : Holds m2 b2 (packets_in 0 (queue m2))
         on_kept = subst (λ (o : RingState ℕ). Holds m2 o (packets_in 0 (queue m2))) (sym on_is) (closed m2 _ _ on_holds)
 
         pub on_left : capacity m2 ≡ capacity m → packet_queue m2 b2 ≡ first_written (packet_queue m b) new ws
         on_left cm =
-            ap (packet_queue m2) on_is ∙ viewed m2 _ _ on_holds ∙ ap (λ (n : ℕ). mk n (overwrite b.storage b.read_at ws) b.read_at (with_first_header new kept)) cm
+            ap (packet_queue m2) on_is ∙ viewed m2 _ _ on_holds
+            ∙ ap (λ (n : ℕ). mk n (overwrite b.storage b.read_at ws) b.read_at (with_first_header new kept)) cm

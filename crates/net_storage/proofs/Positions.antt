@@ -1,5 +1,7 @@
 -- What membership, runs and shifts of a set of positions come to, whatever holds the set.
-use Rattle.std.proofs.Common.{◌≡◌, ℕ, zero, suc, ◌+◌, ◌-◌, ◌<◌, ◌≤◌, Bool, true, false, cond, not, ◌&&◌, ◌||◌, ◌==◌, List, [], ◌∷◌, ◌++◌, map, filter, length, nat_le, nat_lt, refl, sym, ap, subst, ◌∙◌, ◌⊎◌, inl, inr, arith, Decides, le-leb}
+use Rattle.std.proofs.Common.{◌≡◌, ℕ, zero, suc, ◌+◌, ◌-◌, ◌<◌, ◌≤◌, Bool, true, false, cond, not, ◌&&◌, ◌||◌, ◌==◌}
+use Rattle.std.proofs.Common.{List, [], ◌∷◌, ◌++◌, map, filter, length, nat_le, nat_lt, refl, sym, ap, subst, ◌∙◌}
+use Rattle.std.proofs.Common.{◌⊎◌, inl, inr, arith, Decides, le-leb}
 use Rattle.std.proofs.lemmas.Bool.{false≢true}
 use Rattle.std.proofs.lemmas.List.{length-map}
 use Rattle.std.proofs.lemmas.Bool.{eqb-true, eq-eqb, cases_lt, cases_eq, lt-leb}
@@ -10,7 +12,9 @@ use Rattle.std.specs.Cmp.{nat_cmp_total, unsigned_tied}
 use Rattle.std.specs.FinMap.{entries, contains_key-keys, get-from_entries, get-empty, same_map, nat_cmp-IsAntisymmetric, entries_sorted}
 use Rattle.std.specs.FinMap.Entries.{is_sorted, below_all, is_some-find}
 use Rattle.std.proofs.lemmas.Bool.Decides.{nat_tests}
-use Rattle.net_storage.specs.Positions.{Positions, contains, positions, set_of_list, nothing, with_range, begins_run, run_starts, runs, maximal_runs, runs_shifted_up, shift_down, shift_up, bound_of, missing_within, first_missing, are_same}
+use Rattle.net_storage.specs.Positions.{Positions, contains, positions, set_of_list, nothing, with_range, begins_run}
+use Rattle.net_storage.specs.Positions.{run_starts, runs, maximal_runs, runs_shifted_up, shift_down, shift_up}
+use Rattle.net_storage.specs.Positions.{bound_of, missing_within, first_missing, are_same}
 use Rattle.std.specs.Cmp.Lexicographic.{bytes_decides}
 
 -- membership in a list
@@ -115,7 +119,9 @@ positions_rise s = sorted_rises 0 (entries s) (entries_sorted s) (begins_at_zero
 
 pub rises-has : (low : ℕ) (ks : List ℕ) (q : ℕ) → Rises low ks → has ks q ≡ true → low ≤ q
 rises-has low [] q h m = absurd (false≢true m)
-rises-has low (k ∷ ks) q h m = by_or (q == k) (has ks q) (low ≤ q) (λ e. let same = eqb-true q k e in omega (arith, h.0)) (λ e. let l = rises-has (k + 1) ks q h.1 e in omega (arith, h.0)) m
+rises-has low (k ∷ ks) q h m = by_or (q == k) (has ks q) (low ≤ q)
+    (λ e. let same = eqb-true q k e in omega (arith, h.0))
+    (λ e. let l = rises-has (k + 1) ks q h.1 e in omega (arith, h.0)) m
 
 not_has : (low : ℕ) (ks : List ℕ) (q : ℕ) → Rises low ks → q < low → has ks q ≡ false
 not_has low ks q h l = not_true (has ks q) (λ m. let p = rises-has low ks q h m in omega arith)
@@ -128,7 +134,8 @@ has_tail x xs q l = grind (arith, nat_tests)
 
 tails : (x : ℕ) (xs ys : List ℕ) → Rises (x + 1) xs → Rises (x + 1) ys → ((q : ℕ) → has (x ∷ xs) q ≡ has (x ∷ ys) q) → (q : ℕ) → has xs q ≡ has ys q
 tails x xs ys h g is q =
-    either (cases_lt x q) (λ l. sym (has_tail x xs q l) ∙ is q ∙ has_tail x ys q l) (λ l. not_has (x + 1) xs q h (omega arith) ∙ sym (not_has (x + 1) ys q g (omega arith)))
+    either (cases_lt x q) (λ l. sym (has_tail x xs q l) ∙ is q ∙ has_tail x ys q l)
+    (λ l. not_has (x + 1) xs q h (omega arith) ∙ sym (not_has (x + 1) ys q g (omega arith)))
 
 -- two rising lists with the same members are equal
 pub rising_unique : (low : ℕ) (xs ys : List ℕ) → Rises low xs → Rises low ys → ((q : ℕ) → has xs q ≡ has ys q) → xs ≡ ys
@@ -146,11 +153,13 @@ rising_unique low (x ∷ xs) (y ∷ ys) h g is =
 
 -- a rising list is the positions of its set
 pub positions-set_of_list : (ks : List ℕ) → Rises 0 ks → positions (set_of_list ks) ≡ ks
-positions-set_of_list ks h = rising_unique 0 _ ks (positions_rise (set_of_list ks)) h (λ q. sym (contains-positions (set_of_list ks) q) ∙ contains-set_of_list ks q)
+positions-set_of_list ks h = rising_unique 0 _ ks (positions_rise (set_of_list ks)) h
+    (λ q. sym (contains-positions (set_of_list ks) q) ∙ contains-set_of_list ks q)
 
 has-below : (ks : List ℕ) (q : ℕ) → has ks q ≡ true → q < bound_of ks
 has-below [] q m = absurd (false≢true m)
-has-below (k ∷ ks) q m = by_or (q == k) (has ks q) (q < bound_of (k ∷ ks)) (λ e. let same = eqb-true q k e in omega arith) (λ e. let l = has-below ks q e in omega arith) m
+has-below (k ∷ ks) q m = by_or (q == k) (has ks q) (q < bound_of (k ∷ ks))
+    (λ e. let same = eqb-true q k e in omega arith) (λ e. let l = has-below ks q e in omega arith) m
 
 missing-at : (s : Positions) (n p : ℕ) → bound_of (positions s) ≤ p + n → contains s (missing_within s p n) ≡ false
 missing-at s zero p h = not_true _ (λ m. let l = has-below (positions s) p (sym (contains-positions s p) ∙ m) in omega arith)
@@ -170,7 +179,11 @@ missing-below s (suc n) p q h =
 
 missing-le : (s : Positions) (n p : ℕ) → p ≤ missing_within s p n
 missing-le s zero p = omega arith
-missing-le s (suc n) p = elim (contains s p) as (λ b. p ≤ cond b (missing_within s (p + 1) n) p) [ true ↦ (let l = missing-le s n (p + 1) in omega arith) | false ↦ omega arith ]
+missing-le s (suc n) p = elim (contains s p) as (λ b. p ≤ cond b (missing_within s (p + 1) n) p) [
+  | true ↦
+      (let l = missing-le s n (p + 1) in omega arith)
+  | false ↦ omega arith
+]
 
 -- the first missing position is missing, all before it are there, and it is the only such
 pub first_missing-misses : (s : Positions) (p : ℕ) → contains s (first_missing s p) ≡ false
@@ -200,7 +213,8 @@ or_true false = refl
 
 pub begins-true : (s : Positions) (p : ℕ) → (0 < p → contains s (p - 1) ≡ false) → begins_run s p ≡ true
 unfolding begins_run
-begins-true s p h = either (cases_eq p 0) (λ e. ap (λ b. b || not (contains s (p - 1))) (eq-eqb p 0 e)) (λ e. ap (λ b. (p == 0) || not b) (h (omega arith)) ∙ or_true (p == 0))
+begins-true s p h = either (cases_eq p 0) (λ e. ap (λ b. b || not (contains s (p - 1))) (eq-eqb p 0 e))
+    (λ e. ap (λ b. (p == 0) || not b) (h (omega arith)) ∙ or_true (p == 0))
 
 pub begins-false : (s : Positions) (p : ℕ) → 0 < p → contains s (p - 1) ≡ true → begins_run s p ≡ false
 unfolding begins_run
@@ -261,7 +275,8 @@ filter_up f g n (k ∷ ks) same =
       | false ↦ filter_up f g n ks same
     ]
 
-ends_up : (f g : ℕ → ℕ) (n : ℕ) (ks : List ℕ) → ((k : ℕ) → f (n + k) ≡ n + g k) → map (λ (p : ℕ). (p, f p)) (map (λ p. n + p) ks) ≡ runs_shifted_up n (map (λ (p : ℕ). (p, g p)) ks)
+ends_up : (f g : ℕ → ℕ) (n : ℕ) (ks : List ℕ) → ((k : ℕ) → f (n + k) ≡ n + g k) →
+    map (λ (p : ℕ). (p, f p)) (map (λ p. n + p) ks) ≡ runs_shifted_up n (map (λ (p : ℕ). (p, g p)) ks)
 ends_up f g n [] same = refl
 ends_up f g n (k ∷ ks) same = λ i. (n + k, same k i) ∷ ends_up f g n ks same i
 
@@ -289,7 +304,8 @@ module _ (s : Positions) (n : ℕ) where
   first_missing-shift_up : (p : ℕ) → first_missing (shift_up s n) (n + p) ≡ n + first_missing s p
   first_missing-shift_up p =
       let least = first_missing-le s p in
-      first_missing-is (shift_up s n) (n + p) (n + first_missing s p) (omega arith) (there (n + first_missing s p) (first_missing s p) refl ∙ first_missing-misses s p)
+      first_missing-is (shift_up s n) (n + p) (n + first_missing s p) (omega arith)
+      (there (n + first_missing s p) (first_missing s p) refl ∙ first_missing-misses s p)
       (λ q a b. there q (q - n) (omega arith) ∙ first_missing-has s p (q - n) (omega arith) (omega arith))
 
   run_starts-shift_up : run_starts (shift_up s n) ≡ map (λ p. n + p) (run_starts s)
@@ -310,5 +326,8 @@ module _ (s : Positions) (n : ℕ) where
 
 pub are_same_decides : (s t : Positions) → Decides (are_same s t) (s ≡ t)
 are_same_decides s t =
-    let d = bytes_decides (positions s) (positions t) in
-    (λ e. let same = d.0 e in same_positions s t (λ q. contains-positions s q ∙ ap (λ ks. has ks q) same ∙ sym (contains-positions t q)), λ e. d.1 (ap positions e))
+    let d = bytes_decides (positions s) (positions t) in (
+      λ e. let same = d.0 e in same_positions s t (λ q. contains-positions s q ∙ ap (λ ks. has ks q) same ∙ sym
+          (contains-positions t q)),
+      λ e. d.1 (ap positions e),
+    )

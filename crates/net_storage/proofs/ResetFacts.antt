@@ -7,11 +7,13 @@ use Rattle.net_storage.proofs.Rotations.{take_sum}
 use Rattle.net_storage.proofs.RingFacts.{take_one}
 
 module _ {T : Type 0} (R : T → T → Type 0) where
-  pub reset_more : (old xs : List T) (i : ℕ) (d y : T) → i < length xs → d ≡ get_or xs i d → AllZip R (take i old) (take i xs) × (drop i xs ≡ drop i old) → R (get_or xs i d) y
+  pub reset_more : (old xs : List T) (i : ℕ) (d y : T) → i < length xs → d ≡ get_or xs i d → AllZip R (take i old) (take i xs)
+      × (drop i xs ≡ drop i old) → R (get_or xs i d) y
       → AllZip R (take (i + 1) old) (take (i + 1) (set xs i y)) × (drop (i + 1) (set xs i y) ≡ drop (i + 1) old)
   reset_more old xs i d y h is before r =
       let x : T = get_or xs i d in
-      let next : take (i + 1) old ≡ take i old ++ (x ∷ []) = take_sum i 1 old ∙ ap (λ (l : List T). take i old ++ take 1 l) (sym before.1) ∙ ap (λ (l : List T). take i old ++ l) (take_one xs i x h (ap (get_or xs i) is)) in
+      let next : take (i + 1) old ≡ take i old ++ (x ∷ []) = take_sum i 1 old
+      ∙ ap (λ (l : List T). take i old ++ take 1 l) (sym before.1) ∙ ap (λ (l : List T). take i old ++ l) (take_one xs i x h (ap (get_or xs i) is)) in
       let set_there : take (i + 1) (set xs i y) ≡ take i xs ++ (y ∷ []) = take_more_set xs i y h in
       let pushed = AllZip-push R (take i old) (take i xs) x y before.0 r in
       let rest : drop (i + 1) (set xs i y) ≡ drop (i + 1) xs = drop-set-lt (i + 1) xs i y (omega arith) in (
@@ -20,4 +22,5 @@ module _ {T : Type 0} (R : T → T → Type 0) where
       )
 
   pub all_reset : (old xs : List T) (i : ℕ) → length old ≤ i → length xs ≡ length old → AllZip R (take i old) (take i xs) → AllZip R old xs
-  all_reset old xs i le long h = subst (λ (l : List T). AllZip R l xs) (take_all i old le) (subst (AllZip R (take i old)) (take_all i xs (omega (arith, long, le))) h)
+  all_reset old xs i le long h =
+      subst (λ (l : List T). AllZip R l xs) (take_all i old le) (subst (AllZip R (take i old)) (take_all i xs (omega (arith, long, le))) h)

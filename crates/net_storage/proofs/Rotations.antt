@@ -28,9 +28,12 @@ module _ {T : Type 0} where
   low x a m z ws r j hx ha hm =
       let long : length (x ++ a) ≡ r + j = omega (arith, length-append x a) in
       let l1 : overwrite (x ++ (a ++ (m ++ z))) (r + j) ws ≡ x ++ (a ++ (ws ++ z)) =
-      ap (λ (l : List T). overwrite l (r + j) ws) (sym (append_assoc x a (m ++ z))) ∙ overwrite_at (x ++ a) m z ws (r + j) long hm ∙ append_assoc x a (ws ++ z) in
-      let r1 : rotation (x ++ (a ++ (m ++ z))) r ≡ a ++ (m ++ (z ++ x)) = rotation_at x (a ++ (m ++ z)) r hx ∙ append_assoc a (m ++ z) x ∙ ap (λ (l : List T). a ++ l) (append_assoc m z x) in
-      ap (λ (l : List T). rotation l r) l1 ∙ rotation_at x (a ++ (ws ++ z)) r hx ∙ append_assoc a (ws ++ z) x ∙ ap (λ (l : List T). a ++ l) (append_assoc ws z x)
+      ap (λ (l : List T). overwrite l (r + j) ws) (sym (append_assoc x a (m ++ z)))
+      ∙ overwrite_at (x ++ a) m z ws (r + j) long hm ∙ append_assoc x a (ws ++ z) in
+      let r1 : rotation (x ++ (a ++ (m ++ z))) r ≡ a ++ (m ++ (z ++ x)) = rotation_at x (a ++ (m ++ z)) r hx
+      ∙ append_assoc a (m ++ z) x ∙ ap (λ (l : List T). a ++ l) (append_assoc m z x) in
+      ap (λ (l : List T). rotation l r) l1 ∙ rotation_at x (a ++ (ws ++ z)) r hx ∙ append_assoc a (ws ++ z) x
+      ∙ ap (λ (l : List T). a ++ l) (append_assoc ws z x)
       ∙ sym (ap (λ (l : List T). overwrite l j ws) r1 ∙ overwrite_at a m (z ++ x) ws j ha hm)
 
   high : (a m z y ws : List T) (r p j : ℕ) → length (a ++ (m ++ z)) ≡ r → length a ≡ p → length y + p ≡ j → length m ≡ length ws
@@ -38,7 +41,8 @@ module _ {T : Type 0} where
   high a m z y ws r p j hr ha hj hm =
       let l0 : (a ++ (m ++ z)) ++ y ≡ a ++ (m ++ (z ++ y)) = append_assoc a (m ++ z) y ∙ ap (λ (l : List T). a ++ l) (append_assoc m z y) in
       let back : a ++ (ws ++ (z ++ y)) ≡ (a ++ (ws ++ z)) ++ y = sym (append_assoc a (ws ++ z) y ∙ ap (λ (l : List T). a ++ l) (append_assoc ws z y)) in
-      let l1 : overwrite ((a ++ (m ++ z)) ++ y) p ws ≡ (a ++ (ws ++ z)) ++ y = ap (λ (l : List T). overwrite l p ws) l0 ∙ overwrite_at a m (z ++ y) ws p ha hm ∙ back in
+      let l1 : overwrite ((a ++ (m ++ z)) ++ y) p ws ≡ (a ++ (ws ++ z)) ++ y = ap (λ (l : List T). overwrite l p ws) l0
+      ∙ overwrite_at a m (z ++ y) ws p ha hm ∙ back in
       let same : length (a ++ (ws ++ z)) ≡ r = omega (arith, length-append a (ws ++ z), length-append ws z, length-append a (m ++ z), length-append m z) in
       let long : length (y ++ a) ≡ j = omega (arith, length-append y a) in
       let r1 : rotation ((a ++ (m ++ z)) ++ y) r ≡ (y ++ a) ++ (m ++ z) = rotation_at (a ++ (m ++ z)) y r hr ∙ sym (append_assoc y a (m ++ z)) in
@@ -99,7 +103,8 @@ module _ {T : Type 0} where
       let whole : s ≡ a ++ (m ++ z) = c2.2 ∙ ap (λ (l : List T). a ++ l) c3.2 in
       let long : length (f ++ a) ≡ n + i = omega (arith, length-append f a) in
       let P : List T → Type 0 = λ l. overwrite (f ++ l) (n + i) ws ≡ f ++ overwrite l i ws in
-      subst P (sym whole) (ap (λ (l : List T). overwrite l (n + i) ws) (sym (append_assoc f a (m ++ z))) ∙ overwrite_at (f ++ a) m z ws (n + i) long lm ∙ append_assoc f a (ws ++ z)
+      subst P (sym whole) (ap (λ (l : List T). overwrite l (n + i) ws) (sym (append_assoc f a (m ++ z)))
+      ∙ overwrite_at (f ++ a) m z ws (n + i) long lm ∙ append_assoc f a (ws ++ z)
       ∙ sym (ap (λ (l : List T). f ++ l) (overwrite_at a m z ws i la lm)))
 
   pub overwrite-append_left : (f s ws : List T) (i : ℕ) → i + length ws ≤ length f → overwrite (f ++ s) i ws ≡ overwrite f i ws ++ s
@@ -110,19 +115,22 @@ module _ {T : Type 0} where
       let lm : length m ≡ length ws = c3.3 in
       let whole : f ≡ a ++ (m ++ z) = c2.2 ∙ ap (λ (l : List T). a ++ l) c3.2 in
       let P : List T → Type 0 = λ l. overwrite (l ++ s) i ws ≡ overwrite l i ws ++ s in
-      subst P (sym whole) (ap (λ (l : List T). overwrite l i ws) (append_assoc a (m ++ z) s ∙ ap (λ (l : List T). a ++ l) (append_assoc m z s)) ∙ overwrite_at a m (z ++ s) ws i la lm
+      subst P (sym whole) (ap (λ (l : List T). overwrite l i ws) (append_assoc a (m ++ z) s ∙ ap (λ (l : List T). a ++ l) (append_assoc m z s))
+      ∙ overwrite_at a m (z ++ s) ws i la lm
       ∙ sym (ap (λ (l : List T). l ++ s) (overwrite_at a m z ws i la lm) ∙ append_assoc a (ws ++ z) s ∙ ap (λ (l : List T). a ++ l) (append_assoc ws z s)))
 
   pub storage_index_is : (g : RingState T) (j : ℕ) → IsStorageIndex (capacity g) g.read_at j (storage_index g j)
   storage_index_is g j = elim (cases_lt j (length g.storage - g.read_at)) [
     | inl h ↦ inl (h, ap (λ (t : Bool). if t then g.read_at + j else j - (length g.storage - g.read_at)) (lt-ltb j (length g.storage - g.read_at) h))
     | inr h ↦
-        let e : storage_index g j ≡ j - (length g.storage - g.read_at) = ap (λ (t : Bool). if t then g.read_at + j else j - (length g.storage - g.read_at)) (le-ltb j (length g.storage - g.read_at) h) in
+        let e : storage_index g j ≡ j - (length g.storage - g.read_at) =
+        ap (λ (t : Bool). if t then g.read_at + j else j - (length g.storage - g.read_at)) (le-ltb j (length g.storage - g.read_at) h) in
         inr (h, omega (arith, e))
   ]
 
   -- to read from k places on is to rotate by k more
-  pub rotation-storage_index : (b : List T) (r k p : ℕ) → r ≤ length b → k ≤ length b → IsStorageIndex (length b) r k p → rotation b p ≡ drop k (rotation b r) ++ take k (rotation b r)
+  pub rotation-storage_index : (b : List T) (r k p : ℕ) → r ≤ length b → k ≤ length b → IsStorageIndex (length b) r k p
+      → rotation b p ≡ drop k (rotation b r) ++ take k (rotation b r)
   rotation-storage_index b r k p hr hk (inl h) =
       let c1 = cut r b hr in let x = c1.0 in let y = c1.1 in let lx : length x ≡ r = c1.3 in let ly : length y ≡ length b - r = c1.4 in
       let c2 = cut k y (omega (arith, h.0)) in let a = c2.0 in let z = c2.1 in let la : length a ≡ k = c2.3 in
@@ -144,7 +152,8 @@ module _ {T : Type 0} where
       ∙ sym (ap (λ (l : List T). drop k l ++ take k l) r1 ∙ ap₂ ◌++◌ (drop_at (y ++ a) z k many) (take_at (y ++ a) z k many)))
 
   -- a part of the storage is a part of the rotated list
-  pub part-rotation : (b : List T) (r j p k : ℕ) → r ≤ length b → j + k ≤ length b → p + k ≤ length b → IsStorageIndex (length b) r j p → take k (drop p b) ≡ take k (drop j (rotation b r))
+  pub part-rotation : (b : List T) (r j p k : ℕ) → r ≤ length b → j + k ≤ length b → p + k ≤ length b
+      → IsStorageIndex (length b) r j p → take k (drop p b) ≡ take k (drop j (rotation b r))
   part-rotation b r j p k hr hj hp (inl h) =
       let c1 = cut r b hr in let x = c1.0 in let y = c1.1 in let lx : length x ≡ r = c1.3 in let ly : length y ≡ length b - r = c1.4 in
       let hp' : r + j + k ≤ length b = omega (arith, h.1) in
@@ -164,7 +173,8 @@ module _ {T : Type 0} where
       let many : length (y ++ a) ≡ j = omega (arith, length-append y a, h.1) in
       let r1 : rotation ((a ++ v) ++ y) r ≡ (y ++ a) ++ v = rotation_at (a ++ v) y r long ∙ sym (append_assoc y a v) in
       let P : List T → Type 0 = λ l. take k (drop p l) ≡ take k (drop j (rotation l r)) in
-      subst P (sym whole) (ap (λ (l : List T). take k (drop p l)) (append_assoc a v y) ∙ ap (take k) (drop_at a (v ++ y) p la) ∙ take-append-le k v y (omega arith)
+      subst P (sym whole) (ap (λ (l : List T). take k (drop p l)) (append_assoc a v y) ∙ ap (take k) (drop_at a (v ++ y) p la)
+      ∙ take-append-le k v y (omega arith)
       ∙ sym (ap (λ (l : List T). take k (drop j l)) r1 ∙ ap (take k) (drop_at (y ++ a) v j many)))
 
   pub take_sum : (n k : ℕ) (xs : List T) → take (n + k) xs ≡ take n xs ++ take k (drop n xs)
@@ -190,8 +200,12 @@ module _ {T : Type 0} where
     spare-written i p ws hi hp at =
         let turned : rotation (overwrite g.storage p ws) g.read_at ≡ queue g ++ overwrite (spare g) i ws =
         rotation-overwrite g.storage g.read_at (g.count + i) p ws read_at_le (omega (arith, wf.1)) hp at
-        ∙ ap (λ (l : List T). overwrite l (g.count + i) ws) whole ∙ overwrite-append_right (queue g) (spare g) ws g.count i length-queue (omega (arith, length-spare)) in
-        (ap (take g.count) turned ∙ take_at (queue g) (overwrite (spare g) i ws) g.count length-queue, ap (drop g.count) turned ∙ drop_at (queue g) (overwrite (spare g) i ws) g.count length-queue)
+        ∙ ap (λ (l : List T). overwrite l (g.count + i) ws) whole
+        ∙ overwrite-append_right (queue g) (spare g) ws g.count i length-queue (omega (arith, length-spare)) in (
+          ap (take g.count) turned ∙ take_at (queue g) (overwrite (spare g) i ws) g.count length-queue,
+          ap (drop g.count) turned
+              ∙ drop_at (queue g) (overwrite (spare g) i ws) g.count length-queue,
+        )
 
     -- what is written to the queue
     pub queue-written : (i p : ℕ) (ws : List T) → i + length ws ≤ g.count → p + length ws ≤ capacity g → IsStorageIndex (capacity g) g.read_at i p
@@ -200,10 +214,14 @@ module _ {T : Type 0} where
         let turned : rotation (overwrite g.storage p ws) g.read_at ≡ overwrite (queue g) i ws ++ spare g =
         rotation-overwrite g.storage g.read_at i p ws read_at_le (omega (arith, wf.1)) hp at
         ∙ ap (λ (l : List T). overwrite l i ws) whole ∙ overwrite-append_left (queue g) (spare g) ws i (omega (arith, length-queue)) in
-        let long : length (overwrite (queue g) i ws) ≡ g.count = length-overwrite (queue g) i ws ∙ length-queue in
-        (ap (take g.count) turned ∙ take_at (overwrite (queue g) i ws) (spare g) g.count long, ap (drop g.count) turned ∙ drop_at (overwrite (queue g) i ws) (spare g) g.count long)
+        let long : length (overwrite (queue g) i ws) ≡ g.count = length-overwrite (queue g) i ws ∙ length-queue in (
+          ap (take g.count) turned ∙ take_at (overwrite (queue g) i ws) (spare g) g.count long,
+          ap (drop g.count) turned
+              ∙ drop_at (overwrite (queue g) i ws) (spare g) g.count long,
+        )
 
-    pub with_enqueued_parts : (k : ℕ) → k ≤ window g → (queue (with_enqueued k g) ≡ queue g ++ take k (spare g)) × (spare (with_enqueued k g) ≡ drop k (spare g))
+    pub with_enqueued_parts : (k : ℕ) → k ≤ window g → (queue (with_enqueued k g) ≡ queue g ++ take k (spare g))
+        × (spare (with_enqueued k g) ≡ drop k (spare g))
     with_enqueued_parts k h = (take_sum g.count k (rotation g.storage g.read_at), sym (drop-drop k g.count (rotation g.storage g.read_at)))
 
     pub with_dequeued_parts : (k : ℕ) → k ≤ g.count → (queue (with_dequeued k g) ≡ drop k (queue g)) × (spare (with_dequeued k g) ≡ spare g ++ take k (queue g))

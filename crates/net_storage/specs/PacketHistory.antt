@@ -1,8 +1,9 @@
 -- The packets of a queue as those who put and take them see them, and what a queue makes of them
 -- over many calls.
-use Rattle.std.specs.Prelude.{◌≡◌, ◌≢◌, ◌≤◌, ℕ, ◌+◌, List, [], ◌∷◌, ◌++◌, length, take, drop, set}
+use Rattle.std.specs.Prelude.{◌≡◌, ◌≢◌, ◌≤◌, ℕ, ◌+◌, List, [], ◌∷◌, length, take, drop, set}
 use Rattle.std.specs.declared.option.Option.TheVariants.{None}
 use Rattle.net_storage.specs.Ring.{queue}
+use Rattle.net_storage.specs.Log.{Log, empty_log, log_accepted, log_left, log_dropped}
 use Rattle.net_storage.specs.Packets.{Packet, PacketQueue, no_packets, byte_ring, placement}
 use Rattle.net_storage.specs.Packets.{placed_if_room, only_last, last_bytes, last_written, last_cut}
 use Rattle.net_storage.specs.Packets.{enqueued, first_size, skipped, first_written, IsFirst, popped}
@@ -88,13 +89,7 @@ module _ {H : Type 0} where
   MakesAll [] q r = r ≡ q
   MakesAll (call ∷ calls) q r = (next : PacketQueue H) × Makes call q next × MakesAll calls next r
 
--- ---- what came and what left
--- the packets that were accepted, in order, each with the header and bytes last written to it while
--- it was in the queue, and those that left, in order, each as it was shown when it left
-pub record Log (H : Type 0) : Type 0 where
-  pub accepted : List (H × List ℕ)
-  pub left : List (H × List ℕ)
-
+-- ---- what came and what left: packets, each with its header and bytes
 module _ {H : Type 0} where
   -- the last packet has these bytes
   abbrev pub with_last_bytes : List ℕ → List (H × List ℕ) → List (H × List ℕ)
@@ -102,38 +97,28 @@ module _ {H : Type 0} where
   with_last_bytes bytes (p ∷ []) = (p.0, bytes) ∷ []
   with_last_bytes bytes (p ∷ (o ∷ ps)) = p ∷ with_last_bytes bytes (o ∷ ps)
 
-  -- one more packet was accepted
-  abbrev pub log_accepted : H → List ℕ → Log H → Log H
-  log_accepted header bytes log =
-      record { accepted = log.accepted ++ ((header, bytes) ∷ []); left = log.left }
-
-  -- one more packet left
-  abbrev pub log_left : H → List ℕ → Log H → Log H
-  log_left header bytes log =
-      record { accepted = log.accepted; left = log.left ++ ((header, bytes) ∷ []) }
-
   -- the log after a call. What `reset` drops counts as never accepted. The packet that a closure
   -- refuses is the first one that has not left
-  abbrev pub logged : QueueCall H → Log H → Log H
-  logged Reset log = record { accepted = log.left; left = log.left }
-  logged (Place header bytes) log = log_accepted header bytes log
+  abbrev pub logged : QueueCall H → Log (H × List ℕ) → Log (H × List ℕ)
+  logged Reset log = log_dropped log
+  logged (Place header bytes) log = log_accepted ((header, bytes) ∷ []) log
   logged (WriteLast bytes) log =
       record { accepted = with_last_bytes bytes log.accepted; left = log.left }
-  logged (Enqueue header bytes) log = log_accepted header bytes log
-  logged (EnqueueWith header bytes count) log = log_accepted header (take count bytes) log
+  logged (Enqueue header bytes) log = log_accepted ((header, bytes) ∷ []) log
+  logged (EnqueueWith header bytes count) log = log_accepted ((header, take count bytes) ∷ []) log
   logged Peek log = log
   logged (DequeueErr after written) log =
       record { accepted = set log.accepted (length log.left) (after, written); left = log.left }
-  logged (DequeueOk header bytes after written) log = log_left header bytes log
-  logged (Take header bytes) log = log_left header bytes log
+  logged (DequeueOk header bytes after written) log = log_left ((header, bytes) ∷ []) log
+  logged (Take header bytes) log = log_left ((header, bytes) ∷ []) log
   logged (WriteFreed bytes) log = log
-  logged (Dequeue header bytes written) log = log_left header bytes log
+  logged (Dequeue header bytes written) log = log_left ((header, bytes) ∷ []) log
 
   -- the log after calls, one after another
-  abbrev pub logged_all : List (QueueCall H) → Log H → Log H
+  abbrev pub logged_all : List (QueueCall H) → Log (H × List ℕ) → Log (H × List ℕ)
   logged_all [] log = log
   logged_all (call ∷ calls) log = logged_all calls (logged call log)
 
   -- the log of calls from a queue with no packets on
-  abbrev pub history : List (QueueCall H) → Log H
-  history calls = logged_all calls (record { accepted = []; left = [] })
+  abbrev pub history : List (QueueCall H) → Log (H × List ℕ)
+  history calls = logged_all calls empty_log

@@ -62,11 +62,11 @@ module _ {T : Type 0} where
   abbrev pub contiguous_queued : RingState T → ℕ
   contiguous_queued g = min g.count (length g.storage - g.read_at)
 
-  -- the contiguous elements at the front of the spare part
+  -- the contiguous elements at the beginning of the spare part
   abbrev pub contiguous_spare : RingState T → List T
   contiguous_spare g = take (contiguous_window g) (spare g)
 
-  -- the contiguous elements at the front of the queue
+  -- the contiguous elements at the head of the queue
   abbrev pub contiguous_queue : RingState T → List T
   contiguous_queue g = take (contiguous_queued g) (queue g)
 

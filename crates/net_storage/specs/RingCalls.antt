@@ -16,7 +16,7 @@ module _ {F T R E : Type 0}
   TakesFirstOf f xs = (x : T) → xs ≡ x ∷ drop 1 xs → FnOnceTakesAtMut g f x
 
   -- f was run on the next free element x, left y there and gave the answer: at `Ok` y came to the
-  -- end of the queue, and at `Err` it stands at the front of the spare part
+  -- end of the queue, and at `Err` it stands at the beginning of the spare part
   abbrev pub CalledOnNext : F → RingState T → Result R E → RingState T → Type 0
   CalledOnNext f old answer new = (x : T) × (y : T)
       × FnOnceReturnsAtMut g f x answer y
@@ -26,7 +26,7 @@ module _ {F T R E : Type 0}
       × (IsErr answer → SpareWritten old 0 (y ∷ []) new)
 
   -- f was run on the first element x of the queue, left y there and gave the answer: at `Ok` y left
-  -- the queue, and at `Err` it stands at its front
+  -- the queue, and at `Err` it stands at its head
   abbrev pub CalledOnFirst : F → RingState T → Result R E → RingState T → Type 0
   CalledOnFirst f old answer new = (x : T) × (y : T)
       × FnOnceReturnsAtMut g f x answer y
@@ -51,7 +51,7 @@ module _ {F T R : Type 0}
       × (new ≡ written (with_enqueued answer.0 old) (write_at old) ws)
       × EnqueuedFrom old answer.0 ws new
 
-  -- f was run on the contiguous elements at the front of the queue, left ws there and gave the
+  -- f was run on the contiguous elements at the head of the queue, left ws there and gave the
   -- answer: the first ones of ws, as many as it counts, left the queue
   abbrev pub CalledOnQueue : F → RingState T → ℕ × R → RingState T → Type 0
   CalledOnQueue f old answer new = (ws : List T)

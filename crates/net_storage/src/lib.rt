@@ -4,6 +4,7 @@
 
 pub mod assembler;
 mod error;
+pub mod laws;
 mod managed;
 pub mod packet_buffer;
 mod packet_metadata;

@@ -23,11 +23,19 @@ pub trait Elements<T> {
         ensures { result ≡ length (elements self.now) };
 
     /// Shows the elements from the index `from` up to `to`.
+    ///
+    /// # Requires
+    ///
+    /// `from` is at most `to`, and `to` at most `count()`.
     fn part(&self, from: usize, to: usize) -> &[T]
         requires count { (from ≤ to) × (to ≤ length (elements self.now)) }
         ensures { result.now ≡ take (to - from) (drop from (elements self.now)) };
 
     /// Lends the elements from the index `from` up to `to`.
+    ///
+    /// # Requires
+    ///
+    /// `from` is at most `to`, and `to` at most `count()`.
     fn part_mut(&mut self, from: usize, to: usize) -> &mut [T]
         requires count { (from ≤ to) × (to ≤ length (elements self.old)) }
         ensures* writes_back { sem 𝓛 (Lends Self.row (Array T.row 0) self.entry result
@@ -35,6 +43,10 @@ pub trait Elements<T> {
         ensures value { result.now ≡ take (to - from) (drop from (elements self.old)) };
 
     /// Lends the element at the index `at`.
+    ///
+    /// # Requires
+    ///
+    /// `at` is below `count()`.
     fn item_mut(&mut self, at: usize) -> &mut T
         requires count { at < length (elements self.old) }
         ensures* writes_back { sem 𝓛 (Lends Self.row T.row self.entry result
@@ -113,7 +125,8 @@ impl<T> Elements<T> for Vec<T> {
     ghost item_written = { λ s i w. item_written-list s.items i w };
 }
 
-/// Storage of a ring or of a packet queue: lent as a slice, or owned as a vector.
+/// Storage of a ring or of a packet queue: lent as a slice, or owned as a vector. So the same code
+/// serves with a heap and without.
 #[derive(Debug, Drop)]
 pub enum ManagedSlice<'a, T> {
     /// Elements that stand elsewhere, and are lent.

@@ -37,6 +37,8 @@ pub struct Packets<H, M: Elements<PacketMetadata<H>>, B: Elements<u8>> {
 }
 
 /// A queue of packets over lent or owned storage.
+///
+/// It serves sockets that send and receive whole packets, as those of UDP and ICMP.
 pub type PacketBuffer<'a, H> = Packets<
     H,
     ManagedSlice<'a, PacketMetadata<H>>,

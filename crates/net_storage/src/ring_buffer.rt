@@ -45,6 +45,9 @@ struct Span {
 }
 
 /// A ring of elements over storage that is lent or owned.
+///
+/// It serves as a queue, first in and first out, and as the buffer of a stream, which can be written
+/// ahead of what is queued.
 pub type RingBuffer<'a, T> = Ring<T, ManagedSlice<'a, T>>;
 
 impl<T, S: Elements<T>> Model for Ring<T, S> {

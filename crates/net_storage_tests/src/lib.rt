@@ -7,6 +7,12 @@
 #[cfg(test)]
 mod assembler;
 #[cfg(test)]
+mod counted;
+#[cfg(test)]
+mod display;
+#[cfg(test)]
+mod drops;
+#[cfg(test)]
 mod error;
 #[cfg(test)]
 mod managed;

@@ -1,6 +1,7 @@
 //! Tables of calls with their answers, and headers that are dropped.
 mod steps;
 
+use crate::counted::Counted;
 use net_storage::{ManagedSlice, PacketBuffer, PacketMetadata};
 use std::cell::Cell;
 use std::test::Fail;
@@ -203,18 +204,6 @@ fn the_two_steps_put_and_take(rt: HostRuntime) -> Result<(), Fail> {
     let steps = [Step::Place(5, b"ab"), Step::Take(5, b"ab"), Step::NoPackets];
     assert_eq!(rt; first_difference(&mut queue, &steps), None);
     Ok(())
-}
-
-/// A header that counts how often one of its kind is dropped.
-struct Counted<'a> {
-    drops: &'a Cell<u32>,
-}
-
-impl Drop for Counted<'_> {
-    fn drop(self) {
-        let Counted { drops } = self;
-        drops.set(drops.get().saturating_add(1));
-    }
 }
 
 /// Returns whether `place` refuses a packet of so many bytes.

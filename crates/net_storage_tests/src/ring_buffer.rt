@@ -83,10 +83,12 @@ fn the_queue_is_shown_up_to_the_end(rt: HostRuntime) -> Result<(), Fail> {
         Step::EnqueueSlice(b"efghijkl", 8),
         Step::DequeueMany(4, 4),
         Step::GetAllocated(4, 8, b"ijkl"),
+        Step::AsSlices(b"efghijkl", b""),
         Step::EnqueueSlice(b"abcd", 4),
         Step::GetAllocated(4, 8, b"ijkl"),
         Step::FillAllocated(6, 8, 2, b"xyz"),
         Step::GetAllocated(4, 8, b"ijxy"),
+        Step::AsSlices(b"efghijxy", b"abcd"),
     ];
     run_over(&rt, &mut [0; 12], &steps)
 }
@@ -326,7 +328,7 @@ fn takes_byte(ring: &mut RingBuffer<'_, u8>, byte: u8) -> bool {
     enqueue_one_byte(ring, byte).is_ok()
 }
 
-/// Returns whether a caller gets this from the front.
+/// Returns whether a caller gets this from the head.
 fn gives_byte(ring: &mut RingBuffer<'_, u8>, answer: Result<u8, Empty>) -> bool {
     dequeue_one_byte(ring) == answer
 }

@@ -6,7 +6,7 @@ use Rattle.net_storage.specs.declared.assembler.error.TooManyHolesError.{TooMany
 use Rattle.net_receiver.specs.declared.receiver.kept.Kept.{Kept}
 use Rattle.net_receiver.specs.Rules.{Segment, Segmented}
 use Rattle.net_receiver.specs.Stored.{Stored, stored_after, stored_reply}
-use Rattle.net_stream.specs.declared.counts.Counts.{Counts}
+use Rattle.net_stream.specs.declared.counts.FrameCounts.{FrameCounts}
 use Rattle.net_stream.specs.Carrying.{PathSeen, answer_of, arrived, with_answer}
 use Rattle.net_stream.specs.Counting.{more, is_refused, refusing}
 
@@ -18,7 +18,7 @@ module _ (most : ℕ) (r : Stored) (o : Option (ℕ × List ℕ)) (pos : ℕ) (x
   pub past_answer : (back : PathSeen) → 2 ^ 64 ≤ pos + length xs → back ≡ with_answer r o back
   past_answer back past = sym (ap (λ p. with_answer r p back) at ∙ cond-false _ (record back { ahead = back.ahead ++ answer_of r ∷ [] }) back (le-ltb (pos + length xs) (2 ^ 64) past))
 
-  pub past_counted : (c : Counts) → 2 ^ 64 ≤ pos + length xs → c ≡ refusing most r o c
+  pub past_counted : (c : FrameCounts) → 2 ^ 64 ≤ pos + length xs → c ≡ refusing most r o c
   past_counted c past =
       sym
       (ap (λ p. refusing most r p c) at
@@ -31,7 +31,7 @@ module _ (most : ℕ) (r : Stored) (o : Option (ℕ × List ℕ)) (pos : ℕ) (x
   pub taken_answer : (back : PathSeen) → pos + length xs < 2 ^ 64 → record back { ahead = back.ahead ++ answer_of r ∷ [] } ≡ with_answer r o back
   taken_answer back fits = sym (ap (λ p. with_answer r p back) at ∙ cond-true _ (record back { ahead = back.ahead ++ answer_of r ∷ [] }) back (lt-ltb (pos + length xs) (2 ^ 64) fits))
 
-  pub taken_counted : (c : Counts) (result : Result Kept TooManyHolesError) (refused : Bool) → pos + length xs < 2 ^ 64 → Segmented result ≡ stored_reply most r (Segment pos xs) → refused ≡ is_err result →
+  pub taken_counted : (c : FrameCounts) (result : Result Kept TooManyHolesError) (refused : Bool) → pos + length xs < 2 ^ 64 → Segmented result ≡ stored_reply most r (Segment pos xs) → refused ≡ is_err result →
       cond refused (record c { refused = more c.refused }) c ≡ refusing most r o c
   taken_counted c result refused fits reply is =
       ap (λ b. cond b (record c { refused = more c.refused }) c) (is ∙ told result ∙ ap is_refused reply)

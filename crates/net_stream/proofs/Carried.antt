@@ -1,14 +1,15 @@
 -- What a stream on its way stays, step by step.
-use Rattle.std.proofs.Common.{◌≡◌, ℕ, ◌-◌, ◌≤◌, ◌<◌, ◌^◌, ◌&&◌, nat_le, Bool, true, false, cond, drop, Result, Ok, Err, OnOk, OnErr, List, [], ◌∷◌, ◌++◌, All, Option, Some, refl, sym, ap, subst, ◌∙◌, ⊎_elim, le_trans}
+use Rattle.std.proofs.Common.{◌≡◌, ℕ, ◌≤◌, ◌<◌, ◌^◌, ◌&&◌, nat_le, Bool, true, false, cond, Result, Ok, Err, OnOk, OnErr, List, [], ◌∷◌, ◌++◌, All, Option, Some, refl, sym, ap, subst, ◌∙◌, ⊎_elim, le_trans, arith}
+use Rattle.std.proofs.lemmas.Bool.{both_ways}
 use Rattle.std.proofs.lemmas.List.Elements.{All-nil, All-cons, All-head, All-tail}
 use Rattle.net_receiver.specs.Stored.{Stored, stored_next}
-use Rattle.net_receiver.specs.Truthful.{ReceivesFrom, Says}
-use Rattle.net_receiver.specs.Resending.{Has}
-use Rattle.net_stream.specs.Outgoing.{Outgoing, outgoing, Sends, acknowledged, end_of}
+use Rattle.net_receiver.specs.OneStream.{ReceivesFrom, Says, SaysOfLonger, ReceivesFromLonger}
+use Rattle.net_receiver.specs.Retransmission.{Has}
+use Rattle.net_stream.specs.Outgoing.{Outgoing, let_go, Sends, acknowledged, end_of}
 use Rattle.net_stream.specs.Frames.{frame_of, decoded, RoundTrip, FrameSays}
 use Rattle.net_stream.specs.Reported.{most_reported, ranges_of}
 use Rattle.net_stream.specs.Fates.{FatesSeen}
-use Rattle.net_stream.specs.Carrying.{PathSeen, Carries, HasReported, FrameTells, MayReturn}
+use Rattle.net_stream.specs.Carrying.{PathSeen, IsUnderWay, HasReported, FrameTells, MayReturn}
 
 -- ---- lists
 pub All-push : {X : Type 0} (P : X → Type 0) (xs : List X) (y : X) → All P xs → P y → All P (xs ++ y ∷ [])
@@ -32,7 +33,7 @@ encoded trip f w pos xs h says = λ p ys is.
 -- ---- steps
 module _ (f : ℕ) (w : List ℕ) where
   -- the receiver took something, and keeps what it had
-  pub took : (s : Outgoing) (r u : Stored) (there back : PathSeen) → (ReceivesFrom f w r → ReceivesFrom f w u) → stored_next r ≤ stored_next u → ((p : ℕ) → Has r p → Has u p) → Carries f w s r there back → Carries f w s u there back
+  pub took : (s : Outgoing) (r u : Stored) (there back : PathSeen) → (ReceivesFrom f w r → ReceivesFrom f w u) → stored_next r ≤ stored_next u → ((p : ℕ) → Has r p → Has u p) → IsUnderWay f w s r there back → IsUnderWay f w s u there back
   took s r u there back receives more keeps c =
       let wider : (frame : List ℕ) → FrameTells r frame → FrameTells u frame = λ frame tells n xs at. (let t = tells n xs at in (le_trans t.0 more, λ p h. keeps p (t.1 p h))) in
       record {
@@ -48,7 +49,7 @@ module _ (f : ℕ) (w : List ℕ) where
 
   -- the frames on their way are others
   pub coming_are : (s : Outgoing) (r : Stored) (there there' back : PathSeen) → (Sends f w s → All (FrameSays f w) there.ahead → All (FrameSays f w) there'.ahead) → (All (FrameSays f w) there.late → All (FrameSays f w) there'.late) →
-      Carries f w s r there back → Carries f w s r there' back
+      IsUnderWay f w s r there back → IsUnderWay f w s r there' back
   coming_are s r there there' back ahead late c = record {
     sends = c.sends;
     receives = c.receives;
@@ -62,7 +63,7 @@ module _ (f : ℕ) (w : List ℕ) where
 
   -- the acknowledgements on their way are others
   pub going_are : (s : Outgoing) (r : Stored) (there back back' : PathSeen) → (All (FrameTells r) back.ahead → All (FrameTells r) back'.ahead) → (All (FrameTells r) back.late → All (FrameTells r) back'.late) →
-      Carries f w s r there back → Carries f w s r there back'
+      IsUnderWay f w s r there back → IsUnderWay f w s r there back'
   going_are s r there back back' ahead late c = record {
     sends = c.sends;
     receives = c.receives;
@@ -75,14 +76,43 @@ module _ (f : ℕ) (w : List ℕ) where
   }
 
   -- an acknowledgement was sent
-  pub answered : (s : Outgoing) (r : Stored) (there back back' : PathSeen) (ack : List ℕ) → back' ≡ record back { ahead = back.ahead ++ ack ∷ [] } → FrameTells r ack → Carries f w s r there back → Carries f w s r there back'
+  pub answered : (s : Outgoing) (r : Stored) (there back back' : PathSeen) (ack : List ℕ) → back' ≡ record back { ahead = back.ahead ++ ack ∷ [] } → FrameTells r ack → IsUnderWay f w s r there back → IsUnderWay f w s r there back'
   answered s r there back back' ack is within c =
       going_are s r there back back'
       (λ all. subst (All (FrameTells r)) (sym (ap (λ p. p.ahead) is)) (All-push (FrameTells r) back.ahead ack all within))
       (subst (All (FrameTells r)) (sym (ap (λ p. p.late) is))) c
 
+-- nothing was written yet
+pub begun : (f : ℕ) (s : Outgoing) (r : Stored) (there back : PathSeen) → Sends f [] s → s.base ≡ f → s.reported ≡ [] → ReceivesFrom f [] r → r.first ≡ f → there.ahead ≡ [] → there.late ≡ [] → back.ahead ≡ [] → back.late ≡ [] → IsUnderWay f [] s r there back
+begun f s r there back sends base none_reported receives from none none_late none_back none_late_back = record {
+  sends = sends;
+  receives = receives;
+  coming = subst (All (FrameSays f [])) (sym none) (All-nil (FrameSays f []));
+  late = subst (All (FrameSays f [])) (sym none_late) (All-nil (FrameSays f []));
+  going_back = subst (All (FrameTells r)) (sym none_back) (All-nil (FrameTells r));
+  late_back = subst (All (FrameTells r)) (sym none_late_back) (All-nil (FrameTells r));
+  behind = omega arith;
+  reported = subst (HasReported r) (sym none_reported) (λ p h. absurd (both_ways false refl h));
+}
+
+-- more was written
+pub written : SaysOfLonger → ReceivesFromLonger → (f : ℕ) (w more : List ℕ) (s t : Outgoing) (r : Stored) (there back : PathSeen) → t.base ≡ s.base → t.reported ≡ s.reported → (Sends f w s → Sends f (w ++ more) t) →
+    IsUnderWay f w s r there back → IsUnderWay f (w ++ more) t r there back
+written longer longer_from f w more s t r there back base reported sends c =
+    let longer_frame : (frame : List ℕ) → FrameSays f w frame → FrameSays f (w ++ more) frame = λ frame h pos xs is. longer f pos w more xs (h pos xs is) in
+    record {
+      sends = sends c.sends;
+      receives = longer_from f w more r c.receives;
+      coming = All-map (FrameSays f w) (FrameSays f (w ++ more)) longer_frame there.ahead c.coming;
+      late = All-map (FrameSays f w) (FrameSays f (w ++ more)) longer_frame there.late c.late;
+      going_back = c.going_back;
+      late_back = c.late_back;
+      behind = subst (λ n. n ≤ stored_next r) (sym base) c.behind;
+      reported = subst (HasReported r) (sym reported) c.reported;
+    }
+
 -- a frame was sent that says what the stream has
-pub sent_says : (f : ℕ) (w : List ℕ) (s : Outgoing) (r : Stored) (there there' back : PathSeen) (pos : ℕ) (xs : List ℕ) → RoundTrip → pos < 2 ^ 64 → there' ≡ record there { ahead = there.ahead ++ frame_of pos xs ∷ [] } → Says f w pos xs → Carries f w s r there back → Carries f w s r there' back
+pub sent_says : (f : ℕ) (w : List ℕ) (s : Outgoing) (r : Stored) (there there' back : PathSeen) (pos : ℕ) (xs : List ℕ) → RoundTrip → pos < 2 ^ 64 → there' ≡ record there { ahead = there.ahead ++ frame_of pos xs ∷ [] } → Says f w pos xs → IsUnderWay f w s r there back → IsUnderWay f w s r there' back
 sent_says f w s r there there' back pos xs trip word is says c =
     coming_are f w s r there there' back
     (λ _ all. subst (All (FrameSays f w)) (sym (ap (λ p. p.ahead) is)) (All-push (FrameSays f w) there.ahead (frame_of pos xs) all (encoded trip f w pos xs word says)))
@@ -97,7 +127,7 @@ either P (Err e) a b f h = h b
 no_further : (v : Outgoing) (n : ℕ) (ranges : List (ℕ × ℕ)) (limit : ℕ) → v.base ≤ limit → n ≤ limit → (acknowledged v n ranges).base ≤ limit
 no_further v n ranges limit h k = both (nat_le v.base n && nat_le n (end_of v))
   where
-    both : (t : Bool) → (cond t (outgoing v.capacity n (drop (n - v.base) v.queue) ranges) v).base ≤ limit
+    both : (t : Bool) → (cond t (let_go v n ranges) v).base ≤ limit
     both true = k
     both false = h
 
@@ -105,12 +135,12 @@ no_further v n ranges limit h k = both (nat_le v.base n && nat_le n (end_of v))
 still_had : (r : Stored) (v : Outgoing) (n : ℕ) (ranges : List (ℕ × ℕ)) → HasReported r v.reported → HasReported r ranges → HasReported r (acknowledged v n ranges).reported
 still_had r v n ranges h k = both (nat_le v.base n && nat_le n (end_of v))
   where
-    both : (t : Bool) → HasReported r (cond t (outgoing v.capacity n (drop (n - v.base) v.queue) ranges) v).reported
+    both : (t : Bool) → HasReported r (cond t (let_go v n ranges) v).reported
     both true = k
     both false = h
 
 pub acked : (f : ℕ) (w : List ℕ) (s t : Outgoing) (r : Stored) (there back : PathSeen) (frame : List ℕ) (n : ℕ) (xs : List ℕ) →
-    decoded frame ≡ Some (n, xs) → t ≡ acknowledged s n (ranges_of most_reported xs) → (Sends f w s → Sends f w t) → FrameTells r frame → Carries f w s r there back → Carries f w t r there back
+    decoded frame ≡ Some (n, xs) → t ≡ acknowledged s n (ranges_of most_reported xs) → (Sends f w s → Sends f w t) → FrameTells r frame → IsUnderWay f w s r there back → IsUnderWay f w t r there back
 acked f w s t r there back frame n xs at is sends tells c =
     let told = tells n xs at in
     record {
@@ -150,7 +180,7 @@ first_late t0 t1 x frame first is = first ∙ ap (λ y. record t1 { late = y ∷
 
 -- before it meets its fate: what it says, and what is on its way without it
 pub before : (f : ℕ) (w : List ℕ) (s : Outgoing) (r : Stored) (t0 t1 t2 back : PathSeen) (frame : List ℕ) (left : FatesSeen) → t0 ≡ record t1 { ahead = frame ∷ t1.ahead } → t2 ≡ record t1 { fates = left } →
-    Carries f w s r t0 back → FrameSays f w frame × Carries f w s r t2 back
+    IsUnderWay f w s r t0 back → FrameSays f w frame × IsUnderWay f w s r t2 back
 before f w s r t0 t1 t2 back frame left first drawn c =
     let rest = rest_of (FrameSays f w) frame t0.ahead t1.ahead t2.ahead (ap (λ p. p.ahead) first) (ap (λ p. p.ahead) drawn) c.coming in
     let late : t0.late ≡ t2.late = ap (λ p. p.late) first ∙ sym (ap (λ p. p.late) drawn) in
@@ -159,7 +189,7 @@ before f w s r t0 t1 t2 back frame left first drawn c =
 -- of the frames: t0 had it first, t1 has it no more, t2 has drawn its fate, and t3 may have it among the late ones
 pub frame_met : (f : ℕ) (w : List ℕ) (s : Outgoing) (r u : Stored) (t0 t1 t2 t3 back back' : PathSeen) (frame : List ℕ) (left : FatesSeen) →
     t0 ≡ record t1 { ahead = frame ∷ t1.ahead } → t2 ≡ record t1 { fates = left } → MayReturn frame t2 t3 →
-    (FrameSays f w frame → Carries f w s r t2 back → Carries f w s u t2 back') → Carries f w s r t0 back → Carries f w s u t3 back'
+    (FrameSays f w frame → IsUnderWay f w s r t2 back → IsUnderWay f w s u t2 back') → IsUnderWay f w s r t0 back → IsUnderWay f w s u t3 back'
 frame_met f w s r u t0 t1 t2 t3 back back' frame left first drawn again met c =
     let here = before f w s r t0 t1 t2 back frame left first drawn c in
     let back_there = may_return (FrameSays f w) frame t2 t3 here.0 again in
@@ -168,7 +198,7 @@ frame_met f w s r u t0 t1 t2 t3 back back' frame left first drawn again met c =
 -- the same of the acknowledgements
 pub ack_met : (f : ℕ) (w : List ℕ) (s t : Outgoing) (r : Stored) (there b0 b1 b2 b3 : PathSeen) (frame : List ℕ) (left : FatesSeen) →
     b0 ≡ record b1 { ahead = frame ∷ b1.ahead } → b2 ≡ record b1 { fates = left } → MayReturn frame b2 b3 →
-    (FrameTells r frame → Carries f w s r there b2 → Carries f w t r there b2) → Carries f w s r there b0 → Carries f w t r there b3
+    (FrameTells r frame → IsUnderWay f w s r there b2 → IsUnderWay f w t r there b2) → IsUnderWay f w s r there b0 → IsUnderWay f w t r there b3
 ack_met f w s t r there b0 b1 b2 b3 frame left first drawn again met c =
     let rest = rest_of (FrameTells r) frame b0.ahead b1.ahead b2.ahead (ap (λ p. p.ahead) first) (ap (λ p. p.ahead) drawn) c.going_back in
     let late : b0.late ≡ b2.late = ap (λ p. p.late) first ∙ sym (ap (λ p. p.late) drawn) in
@@ -179,14 +209,14 @@ ack_met f w s t r there b0 b1 b2 b3 frame left first drawn again met c =
 -- a late frame was taken
 pub late_met : (f : ℕ) (w : List ℕ) (s : Outgoing) (r u : Stored) (t0 t1 back back' : PathSeen) (frame : List ℕ) →
     t0 ≡ record t1 { late = frame ∷ t1.late } →
-    (FrameSays f w frame → Carries f w s r t1 back → Carries f w s u t1 back') → Carries f w s r t0 back → Carries f w s u t1 back'
+    (FrameSays f w frame → IsUnderWay f w s r t1 back → IsUnderWay f w s u t1 back') → IsUnderWay f w s r t0 back → IsUnderWay f w s u t1 back'
 late_met f w s r u t0 t1 back back' frame first met c =
     let rest = rest_of (FrameSays f w) frame t0.late t1.late t1.late (ap (λ p. p.late) first) refl c.late in
     met rest.0 (coming_are f w s r t0 t1 back (λ _. subst (All (FrameSays f w)) (ap (λ p. p.ahead) first)) (λ _. rest.1) c)
 
 pub late_ack_met : (f : ℕ) (w : List ℕ) (s t : Outgoing) (r : Stored) (there b0 b1 : PathSeen) (frame : List ℕ) →
     b0 ≡ record b1 { late = frame ∷ b1.late } →
-    (FrameTells r frame → Carries f w s r there b1 → Carries f w t r there b1) → Carries f w s r there b0 → Carries f w t r there b1
+    (FrameTells r frame → IsUnderWay f w s r there b1 → IsUnderWay f w t r there b1) → IsUnderWay f w s r there b0 → IsUnderWay f w t r there b1
 late_ack_met f w s t r there b0 b1 frame first met c =
     let rest = rest_of (FrameTells r) frame b0.late b1.late b1.late (ap (λ p. p.late) first) refl c.late_back in
     met rest.0 (going_are f w s r there b0 b1 (subst (All (FrameTells r)) (ap (λ p. p.ahead) first)) (λ _. rest.1) c)

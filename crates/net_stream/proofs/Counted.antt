@@ -1,33 +1,31 @@
 -- What is counted of frames that met their fates.
-use Rattle.std.proofs.Common.{◌≡◌, ◌&&◌, ℕ, zero, suc, ◌+◌, ◌^◌, nat_lt, Bool, true, false, cond, List, [], ◌∷◌, ◌++◌, length, length-append, Option, Some, None, refl, sym, ap, ◌∙◌, arith}
+use Rattle.std.proofs.Common.{◌≡◌, ◌&&◌, ℕ, zero, suc, ◌+◌, ◌^◌, nat_lt, Bool, true, false, cond, List, ◌∷◌, length, Option, Some, None, refl, sym, ap, ◌∙◌, arith}
 use Rattle.net_receiver.specs.Rules.{Segment}
 use Rattle.net_receiver.specs.Stored.{Stored, stored_reply}
-use Rattle.net_stream.specs.declared.counts.Counts.{Counts}
+use Rattle.net_stream.specs.declared.counts.FrameCounts.{FrameCounts}
 use Rattle.net_stream.specs.declared.fate.Fate.{Fate}
 use Rattle.net_stream.specs.declared.fate.Fate.TheVariants.{Delivered, Lost, Repeated, Late}
-use Rattle.net_stream.specs.Fates.{FatesSeen, next_fate, after_fate, after_all, comes}
+use Rattle.net_stream.specs.Fates.{FatesSeen, next_fate, after_fate, after_all}
 use Rattle.net_stream.specs.Counting.{more, met, met_all, SameButRefused, is_refused, refusing}
-use Rattle.net_stream.specs.Frames.{decoded}
-use Rattle.net_stream.specs.Carrying.{PathSeen, MayReturn, answer_of, with_answer}
-use Rattle.net_stream.specs.Rounds.{answers_to, answers_late, answers_met}
+use Rattle.net_stream.specs.Carrying.{PathSeen, MayReturn}
 use Rattle.net_stream.proofs.Reached.{returned}
 
-pub same_equal : (c d : Counts) → c ≡ d → SameButRefused c d
+pub same_equal : (c d : FrameCounts) → c ≡ d → SameButRefused c d
 same_equal c d e = λ i. record (e i) { refused = 0 }
 
 -- a fate is counted of each alike
-same_one : (lot : Fate) (c d : Counts) → SameButRefused c d → SameButRefused (met lot c) (met lot d)
+same_one : (lot : Fate) (c d : FrameCounts) → SameButRefused c d → SameButRefused (met lot c) (met lot d)
 same_one Delivered c d same = ap (met Delivered) same
 same_one Lost c d same = ap (met Lost) same
 same_one Repeated c d same = ap (met Repeated) same
 same_one Late c d same = ap (met Late) same
 
-pub same_met : (n : ℕ) (v : FatesSeen) (c d : Counts) → SameButRefused c d → SameButRefused (met_all n v c) (met_all n v d)
+pub same_met : (n : ℕ) (v : FatesSeen) (c d : FrameCounts) → SameButRefused c d → SameButRefused (met_all n v c) (met_all n v d)
 same_met zero v c d same = same
 same_met (suc n) v c d same = same_met n (after_fate v) (met (next_fate v) c) (met (next_fate v) d) (same_one (next_fate v) c d same)
 
 -- a frame that comes changes no other count
-refusing_is : (most : ℕ) (r : Stored) (o : Option (ℕ × List ℕ)) (c : Counts) → SameButRefused (refusing most r o c) c
+refusing_is : (most : ℕ) (r : Stored) (o : Option (ℕ × List ℕ)) (c : FrameCounts) → SameButRefused (refusing most r o c) c
 refusing_is most r None c = refl
 refusing_is most r (Some (pos, xs)) c = both (nat_lt (pos + length xs) (2 ^ 64) && is_refused (stored_reply most r (Segment pos xs)))
   where
@@ -35,11 +33,11 @@ refusing_is most r (Some (pos, xs)) c = both (nat_lt (pos + length xs) (2 ^ 64) 
     both true = refl
     both false = refl
 
-pub same_refusing : (most : ℕ) (r : Stored) (o : Option (ℕ × List ℕ)) (c d : Counts) → d ≡ refusing most r o c → SameButRefused d c
+pub same_refusing : (most : ℕ) (r : Stored) (o : Option (ℕ × List ℕ)) (c d : FrameCounts) → d ≡ refusing most r o c → SameButRefused d c
 same_refusing most r o c d is = same_equal d (refusing most r o c) is ∙ refusing_is most r o c
 
 -- one frame met its fate
-pub met_one : (t0 t1 t2 t3 : PathSeen) (frame : List ℕ) (lot : Fate) (c c1 c2 : Counts) → t0 ≡ record t1 { ahead = frame ∷ t1.ahead } → lot ≡ next_fate t1.fates → t2 ≡ record t1 { fates = after_fate t1.fates } → MayReturn frame t2 t3 → c1 ≡ met lot c → SameButRefused c2 c1 →
+pub met_one : (t0 t1 t2 t3 : PathSeen) (frame : List ℕ) (lot : Fate) (c c1 c2 : FrameCounts) → t0 ≡ record t1 { ahead = frame ∷ t1.ahead } → lot ≡ next_fate t1.fates → t2 ≡ record t1 { fates = after_fate t1.fates } → MayReturn frame t2 t3 → c1 ≡ met lot c → SameButRefused c2 c1 →
     (t3.fates ≡ after_fate t0.fates) × SameButRefused c2 (met (next_fate t0.fates) c) × (length t0.ahead ≡ length t3.ahead + 1)
 met_one t0 t1 t2 t3 frame lot c c1 c2 first is drawn again counted same =
     let kept = returned frame t2 t3 again in
@@ -51,7 +49,7 @@ met_one t0 t1 t2 t3 frame lot c c1 c2 first is drawn again counted same =
     )
 
 -- so are the frames that are left
-pub met_left : (v v' : FatesSeen) (c c' : Counts) (m n : ℕ) → m ≡ n + 1 → v' ≡ after_fate v → SameButRefused c' (met (next_fate v) c) → SameButRefused (met_all n v' c') (met_all m v c)
+pub met_left : (v v' : FatesSeen) (c c' : FrameCounts) (m n : ℕ) → m ≡ n + 1 → v' ≡ after_fate v → SameButRefused c' (met (next_fate v) c) → SameButRefused (met_all n v' c') (met_all m v c)
 met_left v v' c c' m n is left same =
     let k : m ≡ suc n = omega arith in
     ap (λ u. record (met_all n u c') { refused = 0 }) left
@@ -66,52 +64,23 @@ pub none_left : (v v' u : FatesSeen) (n : ℕ) → v' ≡ v → n ≡ 0 → afte
 none_left v v' u n is none left = is ∙ ap (λ j. after_all j v) (sym none) ∙ left
 
 -- some frames met their fates so far, and the next one does
-abbrev pub MetSoFar : ℕ → FatesSeen → FatesSeen → Counts → Counts → Type 0
+abbrev pub MetSoFar : ℕ → FatesSeen → FatesSeen → FrameCounts → FrameCounts → Type 0
 MetSoFar k v u c d = (n : ℕ) → SameButRefused (met_all n u d) (met_all (k + n) v c)
 
-pub none_met : (v : FatesSeen) (c : Counts) → MetSoFar 0 v v c c
+pub none_met : (v : FatesSeen) (c : FrameCounts) → MetSoFar 0 v v c c
 none_met v c = λ n. ap (λ j. record (met_all j v c) { refused = 0 }) (let e : n ≡ 0 + n = omega arith in e)
 
-pub one_more_met : (k : ℕ) (v u u' : FatesSeen) (c d d' : Counts) → u' ≡ after_fate u → SameButRefused d' (met (next_fate u) d) → MetSoFar k v u c d → MetSoFar (k + 1) v u' c d'
+pub one_more_met : (k : ℕ) (v u u' : FatesSeen) (c d d' : FrameCounts) → u' ≡ after_fate u → SameButRefused d' (met (next_fate u) d) → MetSoFar k v u c d → MetSoFar (k + 1) v u' c d'
 one_more_met k v u u' c d d' left same so_far = λ n.
     met_left u u' d d' (suc n) n (omega arith) left same
     ∙ so_far (suc n)
     ∙ ap (λ j. record (met_all j v c) { refused = 0 }) (let e : k + suc n ≡ k + 1 + n = omega arith in e)
 
 -- none is left of those that were on their way
-pub all_met : (k m : ℕ) (v u : FatesSeen) (c d d' : Counts) → d' ≡ d → k ≡ m → MetSoFar k v u c d → SameButRefused d' (met_all m v c)
+pub all_met : (k m : ℕ) (v u : FatesSeen) (c d d' : FrameCounts) → d' ≡ d → k ≡ m → MetSoFar k v u c d → SameButRefused d' (met_all m v c)
 all_met k m v u c d d' is all so_far =
     same_equal d' d is ∙ so_far 0 ∙ ap (λ j. record (met_all j v c) { refused = 0 }) (let e : k + 0 ≡ m = omega arith in e)
 
 -- one of them met its fate, and the call ended
-pub met_last : (k : ℕ) (v u : FatesSeen) (c d d' : Counts) → SameButRefused d' (met (next_fate u) d) → MetSoFar k v u c d → (n : ℕ) × SameButRefused d' (met_all n v c)
+pub met_last : (k : ℕ) (v u : FatesSeen) (c d d' : FrameCounts) → SameButRefused d' (met (next_fate u) d) → MetSoFar k v u c d → (n : ℕ) × SameButRefused d' (met_all n v c)
 met_last k v u c d d' same so_far = (k + 1, same ∙ so_far 1)
-
--- ---- how many acknowledgements frames bring
-pub answers_one : (r : Stored) (o : Option (ℕ × List ℕ)) (back : PathSeen) → length (with_answer r o back).ahead ≡ length back.ahead + answers_to o
-answers_one r None back = omega arith
-answers_one r (Some (pos, xs)) back = both (nat_lt (pos + length xs) (2 ^ 64))
-  where
-    both : (b : Bool) → length (cond b (record back { ahead = back.ahead ++ answer_of r ∷ [] }) back).ahead ≡ length back.ahead + cond b 1 0
-    both true = length-append back.ahead (answer_of r ∷ [])
-    both false = omega arith
-
--- a frame met its fate
-pub answers_step : (t0 t1 t2 t3 : PathSeen) (frame : List ℕ) (lot : Fate) (n m : ℕ) → t0 ≡ record t1 { ahead = frame ∷ t1.ahead } → lot ≡ next_fate t1.fates → t2 ≡ record t1 { fates = after_fate t1.fates } → MayReturn frame t2 t3 →
-    m ≡ n + cond (comes lot) (answers_to (decoded frame)) 0 → m + answers_met t3.fates t3.ahead ≡ n + answers_met t0.fates t0.ahead
-answers_step t0 t1 t2 t3 frame lot n m first is drawn again more =
-    let kept = returned frame t2 t3 again in
-    let fates : t3.fates ≡ after_fate t1.fates = kept.1 ∙ ap (λ p. p.fates) drawn in
-    let ahead : t3.ahead ≡ t1.ahead = kept.0 ∙ ap (λ p. p.ahead) drawn in
-    let rest : answers_met t3.fates t3.ahead ≡ answers_met (after_fate t1.fates) t1.ahead = (λ i. answers_met (fates i) (ahead i)) in
-    let here : answers_met t0.fates t0.ahead ≡ cond (comes (next_fate t1.fates)) (answers_to (decoded frame)) 0 + answers_met (after_fate t1.fates) t1.ahead = ap (λ p. answers_met p.fates p.ahead) first in
-    let one : cond (comes lot) (answers_to (decoded frame)) 0 ≡ cond (comes (next_fate t1.fates)) (answers_to (decoded frame)) 0 = ap (λ l. cond (comes l) (answers_to (decoded frame)) 0) is in
-    omega (arith, rest, here, one)
-
--- none is left
-pub answers_end : (t : PathSeen) → t.ahead ≡ [] → answers_met t.fates t.ahead ≡ 0
-answers_end t none = ap (answers_met t.fates) none
-
--- a late frame came
-pub answers_more : (t0 t1 : PathSeen) (frame : List ℕ) → t0 ≡ record t1 { late = frame ∷ t1.late } → answers_late t0.late ≡ answers_to (decoded frame) + answers_late t1.late
-answers_more t0 t1 frame first = ap (λ p. answers_late p.late) first

@@ -1,6 +1,9 @@
 -- The lemmas behind the contracts.
 pub mod Parts
+pub mod Room
+pub mod Spared
 pub mod Carried
+pub mod Sent
 pub mod Ranges
 pub mod Arrived
 pub mod Reached
@@ -8,3 +11,5 @@ pub mod Counted
 pub mod Drawn
 pub mod Results
 pub mod Moved
+pub mod Meeting
+pub mod Stuck

@@ -1,71 +1,25 @@
 -- What bytes on their way from a reader to a writer stay, step by step.
-use Rattle.std.proofs.Common.{◌≡◌, ℕ, zero, suc, ◌+◌, ◌-◌, ◌≤◌, min, Bool, true, false, List, [], ◌∷◌, ◌++◌, length, take, drop, All, Option, Some, None, Result, Err, IfErr, ⊎_elim, is_some, slice_get, refl, sym, ap, subst, ◌∙◌, arith, length-take, take-add}
+use Rattle.std.proofs.Common.{◌≡◌, ℕ, ◌+◌, ◌-◌, ◌≤◌, ◌<◌, ◌^◌, min, Bool, true, false, List, [], ◌++◌, length, take, drop, Option, Result, Err, IfErr, ⊎_elim, refl, sym, ap, subst, ◌∙◌, arith, length-take, length-append, take-add}
 use Rattle.std.specs.Io.{StartsWith}
 use Rattle.std.specs.Io.KnownBytes.{Appends, Consumes, IsAtEnd, Keeps}
 use Rattle.std.specs.Result.{is_ok}
 use Rattle.std.proofs.lemmas.Bool.{both_ways}
-use Rattle.std.proofs.lemmas.List.{take_all, take-take, take-append-le}
-use Rattle.std.proofs.lemmas.List.Elements.{All-nil}
+use Rattle.std.proofs.lemmas.List.{append-nil, take_all, take-take, take-append-le}
 use Rattle.net_receiver.specs.Stored.{Stored, stored_next}
-use Rattle.net_receiver.specs.Truthful.{ReceivesFrom, Says, LongerReceives, QueueIsOf, QueueIsOfStream}
-use Rattle.net_stream.specs.Outgoing.{Outgoing, Sends}
-use Rattle.net_stream.specs.Frames.{FrameSays}
-use Rattle.net_stream.specs.Carrying.{PathSeen, Carries, HasReported, FrameTells}
-use Rattle.net_stream.specs.Copying.{Moving, HandedOut, HandedFront, WroteFront, Copied, FlushedAfter, counts_all, gave_up}
+use Rattle.net_receiver.specs.OneStream.{ReceivesFrom, QueueIsOf, QueueIsOfStream}
+use Rattle.net_stream.specs.Outgoing.{end_of}
+use Rattle.net_stream.specs.Links.{Carries}
+use Rattle.net_stream.specs.Copying.{Moving, HandedOut, HandedPrefix, WrotePrefix, Copied, FlushedAfter, gave_up}
+use Rattle.net_stream.specs.declared.counts.Counts.{Counts}
+use Rattle.net_stream.specs.declared.link.Link.{Link}
 use Rattle.net_stream.specs.declared.error.LinkError.{LinkError}
 use Rattle.net_stream.specs.declared.error.LinkError.TheVariants.{WriteFailed}
-use Rattle.net_stream.proofs.Carried.{All-map}
 use Rattle.net_stream.proofs.Reached.{first_is}
-use Rattle.net_text.proofs.KnownBytes.{Appends-two, Appends-none, Appends-kept, Keeps-same, Consumes-two, Consumes-none, StartsWith-after}
+use Rattle.net_program.proofs.KnownBytes.{Appends-two, Appends-none, Appends-kept, Keeps-same, Consumes-two, Consumes-none, StartsWith-after}
 
--- ---- a list that grows
-none_is_not : {A : Type 0} (b : A) → None ≡ Some b → ⊥
-none_is_not b e = both_ways false refl (ap is_some e)
-
-longer_at : (x more : List ℕ) (i b : ℕ) → slice_get x i ≡ Some b → slice_get (x ++ more) i ≡ Some b
-longer_at [] more i b e = absurd (none_is_not b e)
-longer_at (y ∷ x) more zero b e = e
-longer_at (y ∷ x) more (suc i) b e = longer_at x more i b e
-
-longer_says : (f : ℕ) (w more : List ℕ) (pos : ℕ) (xs : List ℕ) → Says f w pos xs → Says f (w ++ more) pos xs
-unfolding Says
-longer_says f w more pos xs h = λ p b from at. longer_at w more (p - f) b (h p b from at)
-
-longer_frame : (f : ℕ) (w more frame : List ℕ) → FrameSays f w frame → FrameSays f (w ++ more) frame
-longer_frame f w more frame h = λ pos xs is. longer_says f w more pos xs (h pos xs is)
-
-longer_from : LongerReceives → (f : ℕ) (w more : List ℕ) (r : Stored) → ReceivesFrom f w r → ReceivesFrom f (w ++ more) r
-unfolding ReceivesFrom
-longer_from longer f w more r h = (h.0, longer w more r h.1)
-
-queue_from : QueueIsOfStream → (f : ℕ) (w : List ℕ) (r : Stored) → ReceivesFrom f w r → QueueIsOf w r
+pub queue_from : QueueIsOfStream → (f : ℕ) (w : List ℕ) (r : Stored) → ReceivesFrom f w r → QueueIsOf w r
 unfolding ReceivesFrom
 queue_from queue f w r h = queue w r h.1
-
--- ---- the reader gave some bytes
-pub fed : LongerReceives → QueueIsOfStream → (f : ℕ) (s t : Outgoing) (r : Stored) (there back : PathSeen) (old now next held holds : Option (List ℕ)) (more more' : Bool) (bs : List ℕ) →
-    Consumes now next bs → t.base ≡ s.base → t.reported ≡ s.reported → ((w : List ℕ) → Sends f w s → Sends f (w ++ bs) t) → (more' ≡ false → IsAtEnd next) →
-    Moving f s r there back old now held holds more → Moving f t r there back old next held holds more'
-fed longer queue f s t r there back old now next held holds more more' bs consumed base reported sends ended m =
-    let c = m.carries in
-    let q = queue_from queue f m.given r c.receives in
-    let short : r.read ≤ length m.given = (let h = q.within in omega arith) in
-    record {
-      given = m.given ++ bs;
-      consumed = Consumes-two old now next m.given bs m.consumed consumed;
-      carries = record {
-        sends = sends m.given c.sends;
-        receives = longer_from longer f m.given bs r c.receives;
-        coming = All-map (FrameSays f m.given) (FrameSays f (m.given ++ bs)) (longer_frame f m.given bs) there.ahead c.coming;
-        late = All-map (FrameSays f m.given) (FrameSays f (m.given ++ bs)) (longer_frame f m.given bs) there.late c.late;
-        going_back = c.going_back;
-        late_back = c.late_back;
-        behind = subst (λ n. n ≤ stored_next r) (sym base) c.behind;
-        reported = subst (HasReported r) (sym reported) c.reported;
-      };
-      appended = subst (Appends held holds) (sym (take-append-le r.read m.given bs short)) m.appended;
-      ended = ended;
-    }
 
 -- ---- the receiver handed out some bytes
 pub starts_through : (w a b : List ℕ) → StartsWith w a → StartsWith a b → StartsWith w b
@@ -90,130 +44,226 @@ handed_next w v into into' count q e is =
     ∙ take-take count (length v.queue) (drop v.read w) l)
     ∙ sym (take-add v.read count w)
 
-pub handed_out : (f : ℕ) (v u : Stored) (held holds : Option (List ℕ)) (into into' : List ℕ) (count : ℕ) → ((w : List ℕ) → ReceivesFrom f w v → QueueIsOf w v) → count ≡ min (length into) (length v.queue) → into' ≡ take (length into) v.queue ++ drop (length v.queue) into → u.read ≡ v.read + count →
-    Appends held holds (take count into') → HandedOut f v u held holds
-handed_out f v u held holds into into' count queue e is read appended =
-    record { bytes = take count into'; appended = appended; next = λ w r. handed_next w v into into' count (queue w r) e is ∙ ap (λ n. take n w) (sym read) }
-
-pub handed_front : (f : ℕ) (v : Stored) (held holds : Option (List ℕ)) (into into' : List ℕ) (count : ℕ) → ((w : List ℕ) → ReceivesFrom f w v → QueueIsOf w v) → count ≡ min (length into) (length v.queue) → into' ≡ take (length into) v.queue ++ drop (length v.queue) into →
-    WroteFront (take count into') held holds → HandedFront f v held holds
-handed_front f v held holds into into' count queue e is wrote =
+pub handed_out : (f : ℕ) (v u : Stored) (held holds : Option (List ℕ)) (into into' : List ℕ) (count before after : ℕ) → ((w : List ℕ) → ReceivesFrom f w v → QueueIsOf w v) → count ≡ min (length into) (length v.queue) → into' ≡ take (length into) v.queue ++ drop (length v.queue) into → u.read ≡ v.read + count →
+    length into' ≡ length into → after ≡ min (before + count) (2 ^ 64 - 1) → Appends held holds (take count into') → HandedOut f v u held holds before after
+handed_out f v u held holds into into' count before after queue e is read same counted appended =
+    let size : length (take count into') ≡ count = omega (arith, length-take count into') in
     record {
-      bytes = wrote.written;
+      bytes = take count into';
+      appended = appended;
+      next = λ w r. handed_next w v into into' count (queue w r) e is ∙ ap (λ n. take n w) (sym read);
+      counted = counted ∙ ap (λ n. min (before + n) (2 ^ 64 - 1)) (sym size);
+    }
+
+pub handed_front : (f : ℕ) (v : Stored) (held holds : Option (List ℕ)) (into into' : List ℕ) (count before after n : ℕ) → ((w : List ℕ) → ReceivesFrom f w v → QueueIsOf w v) → count ≡ min (length into) (length v.queue) → into' ≡ take (length into) v.queue ++ drop (length v.queue) into →
+    after ≡ min (before + n) (2 ^ 64 - 1) → WrotePrefix (take count into') held holds n → HandedPrefix f v held holds before after
+handed_front f v held holds into into' count before after n queue e is counted wrote =
+    let bytes = take n (take count into') in
+    let few = wrote.within in
+    let size : length bytes ≡ n = omega (arith, length-take n (take count into')) in
+    record {
+      bytes = bytes;
       appended = wrote.appended;
       front = λ w r.
           let q = queue w r in
           let within : v.read + count ≤ length w = (let h = q.within in omega arith) in
-          starts_through w (take v.read w ++ take count into') (take v.read w ++ wrote.written)
+          starts_through w (take v.read w ++ take count into') (take v.read w ++ bytes)
           (subst (StartsWith w) (sym (handed_next w v into into' count q e is)) (starts_take w (v.read + count) within))
-          (StartsWith-after (take v.read w) (take count into') wrote.written wrote.front);
+          (StartsWith-after (take v.read w) (take count into') bytes (starts_take (take count into') n few));
+      counted = counted ∙ ap (λ m. min (before + m) (2 ^ 64 - 1)) (sym size);
     }
 
 -- ---- steps of what is on its way
-module _ (f : ℕ) (old now held : Option (List ℕ)) where
-  pub passed : (s s' : Outgoing) (r r' : Stored) (there there' back back' : PathSeen) (holds : Option (List ℕ)) (more : Bool) → r'.read ≡ r.read → ((w : List ℕ) → Carries f w s r there back → Carries f w s' r' there' back') →
-      Moving f s r there back old now held holds more → Moving f s' r' there' back' old now held holds more
-  passed s s' r r' there there' back back' holds more read carried m =
-      record { given = m.given; consumed = m.consumed; carries = carried m.given m.carries; appended = subst (λ n. Appends held holds (take n m.given)) (sym read) m.appended; ended = m.ended }
-
-  pub handed : (s : Outgoing) (r u : Stored) (there back : PathSeen) (holds holds' : Option (List ℕ)) (more : Bool) → ((w : List ℕ) → Carries f w s r there back → Carries f w s u there back) → HandedOut f r u holds holds' →
-      Moving f s r there back old now held holds more → Moving f s u there back old now held holds' more
-  handed s r u there back holds holds' more carried h m =
-      record { given = m.given; consumed = m.consumed; carries = carried m.given m.carries; appended = Appends-two held holds holds' (take r.read m.given) h.bytes (take u.read m.given) m.appended h.appended (h.next m.given m.carries.receives); ended = m.ended }
-
-  pub handed_less : (s : Outgoing) (r : Stored) (there back : PathSeen) (holds holds' : Option (List ℕ)) (more : Bool) (bytes : ℕ) (counted : Bool) → counted ≡ false → HandedFront f r holds holds' → Moving f s r there back old now held holds more → Copied old now held holds' bytes false counted
-  handed_less s r there back holds holds' more bytes counted not h m =
+module _ {A : Type 0} (f : ℕ) (old held : Option (List ℕ)) where
+  -- the reader gave some bytes
+  pub fed : QueueIsOfStream → (l m : Link A) (c d : Counts) (now next holds : Option (List ℕ)) (more more' : Bool) (bs : List ℕ) → Consumes now next bs → ((w : List ℕ) → Carries f w l → Carries f (w ++ bs) m) → m.receiver ≡ l.receiver →
+      d.taken ≡ min (c.taken + length bs) (2 ^ 64 - 1) → d.bytes ≡ c.bytes → end_of l.sender + length bs < 2 ^ 64 → (more' ≡ false → IsAtEnd next) → Moving f l c old now held holds more → Moving f m d old next held holds more'
+  fed queue l m c d now next holds more more' bs consumed carries same taken bytes word ended moving =
+      let w = moving.given in
+      let q = queue_from queue f w l.receiver moving.carries.receives in
+      let short : l.receiver.read ≤ length w = (let h = q.within in omega arith) in
+      let end = moving.carries.sends.end in
+      let before = moving.taken in
+      let long : length (w ++ bs) ≡ length w + length bs = length-append w bs in
       record {
-        given = m.given;
-        written = take r.read m.given ++ h.bytes;
-        consumed = m.consumed;
-        appended = Appends-two held holds holds' (take r.read m.given) h.bytes (take r.read m.given ++ h.bytes) m.appended h.appended refl;
-        front = h.front m.given m.carries.receives;
-        count = λ e. absurd (both_ways counted not e);
+        given = w ++ bs;
+        consumed = Consumes-two old now next w bs moving.consumed consumed;
+        carries = carries w moving.carries;
+        appended = subst (λ r. Appends held holds (take r.read (w ++ bs))) (sym same) (subst (Appends held holds) (sym (take-append-le l.receiver.read w bs short)) moving.appended);
+        taken = omega (arith, end, before, long, taken, word);
+        bytes = ap (λ r. r.read) same ∙ moving.bytes ∙ sym bytes;
+        ended = ended;
+      }
+
+  -- the reader was asked, and gave nothing
+  pub asked : (l : Link A) (c : Counts) (now next holds : Option (List ℕ)) (more more' : Bool) → Consumes now next [] → (more' ≡ false → IsAtEnd next) → Moving f l c old now held holds more → Moving f l c old next held holds more'
+  asked l c now next holds more more' consumed ended moving =
+      record {
+        given = moving.given;
+        consumed = subst (Consumes old next) (append-nil moving.given) (Consumes-two old now next moving.given [] moving.consumed consumed);
+        carries = moving.carries;
+        appended = moving.appended;
+        taken = moving.taken;
+        bytes = moving.bytes;
+        ended = ended;
+      }
+
+  -- time or a round was passed
+  pub passed : (l m : Link A) (c d : Counts) (now holds : Option (List ℕ)) (more : Bool) → ((w : List ℕ) → Carries f w l → Carries f w m) → m.receiver.read ≡ l.receiver.read → d.taken ≡ c.taken → d.bytes ≡ c.bytes → Moving f l c old now held holds more → Moving f m d old now held holds more
+  passed l m c d now holds more carries read taken bytes moving =
+      record {
+        given = moving.given;
+        consumed = moving.consumed;
+        carries = carries moving.given moving.carries;
+        appended = subst (λ n. Appends held holds (take n moving.given)) (sym read) moving.appended;
+        taken = moving.taken ∙ sym taken;
+        bytes = read ∙ moving.bytes ∙ sym bytes;
+        ended = moving.ended;
+      }
+
+  -- the receiver handed out some bytes
+  pub handed : QueueIsOfStream → (l m : Link A) (c d : Counts) (now holds holds' : Option (List ℕ)) (more : Bool) → ((w : List ℕ) → Carries f w l → Carries f w m) → HandedOut f l.receiver m.receiver holds holds' c.bytes d.bytes → d.taken ≡ c.taken → end_of m.sender < 2 ^ 64 →
+      Moving f l c old now held holds more → Moving f m d old now held holds' more
+  handed queue l m c d now holds holds' more carries h taken word moving =
+      let w = moving.given in
+      let after = carries w moving.carries in
+      let few : l.receiver.read ≤ length w = (let q = (queue_from queue f w l.receiver moving.carries.receives).within in omega arith) in
+      let most : m.receiver.read ≤ length w = (let q = (queue_from queue f w m.receiver after.receives).within in omega arith) in
+      let next = h.next w moving.carries.receives in
+      let size : length (take l.receiver.read w) + length h.bytes ≡ length (take m.receiver.read w) = sym (length-append (take l.receiver.read w) h.bytes) ∙ ap length next in
+      let one : length (take l.receiver.read w) ≡ l.receiver.read = omega (arith, length-take l.receiver.read w) in
+      let two : length (take m.receiver.read w) ≡ m.receiver.read = omega (arith, length-take m.receiver.read w) in
+      let end = after.sends.end in
+      let before = moving.bytes in
+      let counted = h.counted in
+      record {
+        given = w;
+        consumed = moving.consumed;
+        carries = after;
+        appended = Appends-two held holds holds' (take l.receiver.read w) h.bytes (take m.receiver.read w) moving.appended h.appended next;
+        taken = moving.taken ∙ sym taken;
+        bytes = omega (arith, one, two, size, end, before, counted, most, word);
+        ended = moving.ended;
+      }
+
+  pub handed_less : (l : Link A) (c d : Counts) (now holds holds' : Option (List ℕ)) (more : Bool) → HandedPrefix f l.receiver holds holds' c.bytes d.bytes → d.taken ≡ c.taken → QueueIsOfStream → end_of l.sender < 2 ^ 64 →
+      Moving f l c old now held holds more → Copied old now held holds' d.taken d.bytes false
+  handed_less l c d now holds holds' more h taken queue word moving =
+      let w = moving.given in
+      let written = take l.receiver.read w ++ h.bytes in
+      let front = h.front w moving.carries.receives in
+      let few : l.receiver.read ≤ length w = (let q = (queue_from queue f w l.receiver moving.carries.receives).within in omega arith) in
+      let size : length written ≡ length (take l.receiver.read w) + length h.bytes = length-append (take l.receiver.read w) h.bytes in
+      let one : length (take l.receiver.read w) ≡ l.receiver.read = omega (arith, length-take l.receiver.read w) in
+      let most : length written ≤ length w = (let e = ap length front in omega (arith, e, length-take (length written) w)) in
+      let end = moving.carries.sends.end in
+      let before = moving.bytes in
+      let counted = h.counted in
+      record {
+        given = w;
+        written = written;
+        consumed = moving.consumed;
+        appended = Appends-two held holds holds' (take l.receiver.read w) h.bytes written moving.appended h.appended refl;
+        front = front;
+        taken = moving.taken ∙ sym taken;
+        bytes = omega (arith, size, one, most, end, before, counted, word);
         whole = λ n. absurd (both_ways false refl n);
       }
 
-  pub so_far : QueueIsOfStream → (s : Outgoing) (r : Stored) (there back : PathSeen) (holds : Option (List ℕ)) (more : Bool) (bytes : ℕ) (counted : Bool) → bytes ≡ r.read → Moving f s r there back old now held holds more → Copied old now held holds bytes false counted
-  so_far queue s r there back holds more bytes counted is m =
-      let q = queue_from queue f m.given r m.carries.receives in
-      let within : r.read ≤ length m.given = (let h = q.within in omega arith) in
-      let long : length (take r.read m.given) ≡ bytes = omega (arith, length-take r.read m.given) in
-      record { given = m.given; written = take r.read m.given; consumed = m.consumed; appended = m.appended; front = starts_take m.given r.read within; count = λ _. long; whole = λ n. absurd (both_ways false refl n) }
+  pub so_far : QueueIsOfStream → (l : Link A) (c : Counts) (now holds : Option (List ℕ)) (more : Bool) → Moving f l c old now held holds more → Copied old now held holds c.taken c.bytes false
+  so_far queue l c now holds more moving =
+      let w = moving.given in
+      let r = l.receiver in
+      let within : r.read ≤ length w = (let h = (queue_from queue f w r moving.carries.receives).within in omega arith) in
+      let size : length (take r.read w) ≡ r.read = omega (arith, length-take r.read w) in
+      record {
+        given = w;
+        written = take r.read w;
+        consumed = moving.consumed;
+        appended = moving.appended;
+        front = starts_take w r.read within;
+        taken = moving.taken;
+        bytes = size ∙ moving.bytes;
+        whole = λ n. absurd (both_ways false refl n);
+      }
 
-  pub all_done : QueueIsOfStream → (s : Outgoing) (r : Stored) (there back : PathSeen) (holds : Option (List ℕ)) (more : Bool) (bytes : ℕ) → bytes ≡ r.read → more ≡ false → length s.queue ≡ 0 → length r.queue ≡ 0 → Moving f s r there back old now held holds more → Copied old now held holds bytes true true
-  all_done queue s r there back holds more bytes is none sent handed m =
-      let q = queue_from queue f m.given r m.carries.receives in
-      let h = q.within in
-      let e = m.carries.sends.end in
-      let b = m.carries.behind in
-      let first = first_is f m.given r m.carries.receives in
-      let all : length m.given ≤ r.read = omega arith in
-      let long : length m.given ≡ bytes = omega arith in
-      record { given = m.given; written = m.given; consumed = m.consumed; appended = subst (Appends held holds) (take_all r.read m.given all) m.appended; front = take_all (length m.given) m.given (omega arith); count = λ _. long; whole = λ _. (refl, m.ended none) }
+  pub all_done : QueueIsOfStream → (l : Link A) (c : Counts) (now holds : Option (List ℕ)) (more : Bool) → more ≡ false → stored_next l.receiver ≡ end_of l.sender → length l.receiver.queue ≡ 0 → Moving f l c old now held holds more → Copied old now held holds c.taken c.bytes true
+  all_done queue l c now holds more none came handed_all moving =
+      let w = moving.given in
+      let r = l.receiver in
+      let within = (queue_from queue f w r moving.carries.receives).within in
+      let end = moving.carries.sends.end in
+      let first = first_is f w r moving.carries.receives in
+      let read : r.read ≡ length w = omega arith in
+      record {
+        given = w;
+        written = w;
+        consumed = moving.consumed;
+        appended = subst (Appends held holds) (take_all r.read w (omega arith)) moving.appended;
+        front = take_all (length w) w (omega arith);
+        taken = moving.taken;
+        bytes = sym read ∙ moving.bytes;
+        whole = λ _. (refl, moving.ended none);
+      }
 
--- nothing was read or written yet
-pub nothing_moved : (first : ℕ) (s : Outgoing) (r : Stored) (there back : PathSeen) (old held : Option (List ℕ)) → Sends first [] s → s.base ≡ first → s.reported ≡ [] → ReceivesFrom first [] r → r.read ≡ 0 → r.first ≡ first → there.ahead ≡ [] → there.late ≡ [] → back.ahead ≡ [] → back.late ≡ [] →
-    Moving first s r there back old old held held true
-nothing_moved first s r there back old held sends base none_reported receives read from none none_late none_back none_late_back =
-    record {
-      given = [];
-      consumed = Consumes-none old old (Keeps-same old);
-      carries = record {
-        sends = sends;
-        receives = receives;
-        coming = subst (All (FrameSays first [])) (sym none) (All-nil (FrameSays first []));
-        late = subst (All (FrameSays first [])) (sym none_late) (All-nil (FrameSays first []));
-        going_back = subst (All (FrameTells r)) (sym none_back) (All-nil (FrameTells r));
-        late_back = subst (All (FrameTells r)) (sym none_late_back) (All-nil (FrameTells r));
-        behind = omega arith;
-        reported = subst (HasReported r) (sym none_reported) (λ p h. absurd (both_ways false refl h));
-      };
-      appended = subst (λ n. Appends held held (take n [])) (sym read) (Appends-none held held (Keeps-same held));
-      ended = λ e. absurd (both_ways true e refl);
-    }
+  -- nothing was read or written yet
+  pub nothing_moved : (l : Link A) (c : Counts) → Carries f [] l → l.receiver.read ≡ 0 → c.taken ≡ 0 → c.bytes ≡ 0 → Moving f l c old old held held true
+  nothing_moved l c carries read taken bytes =
+      record {
+        given = [];
+        consumed = Consumes-none old old (Keeps-same old);
+        carries = carries;
+        appended = subst (λ n. Appends held held (take n [])) (sym read) (Appends-none held held (Keeps-same held));
+        taken = sym taken;
+        bytes = read ∙ sym bytes;
+        ended = λ e. absurd (both_ways true e refl);
+      }
 
 -- nothing was done
-pub unmoved : (old held : Option (List ℕ)) (bytes : ℕ) (counted : Bool) → bytes ≡ 0 → Copied old old held held bytes false counted
-unmoved old held bytes counted is = record {
+pub unmoved : (old held : Option (List ℕ)) (taken bytes : ℕ) → taken ≡ 0 → bytes ≡ 0 → Copied old old held held taken bytes false
+unmoved old held taken bytes none is = record {
   given = [];
   written = [];
   consumed = Consumes-none old old (Keeps-same old);
   appended = Appends-none held held (Keeps-same held);
   front = refl;
-  count = λ _. sym is;
+  taken = sym none;
+  bytes = sym is;
   whole = λ n. absurd (both_ways false refl n);
 }
 
 -- ---- the writer was flushed
-kept_copied : (old new held holds holds' : Option (List ℕ)) (bytes : ℕ) (complete counted : Bool) → Keeps holds holds' → Copied old new held holds bytes complete counted → Copied old new held holds' bytes complete counted
-kept_copied old new held holds holds' bytes complete counted kept c = record {
+kept_copied : (old new held holds holds' : Option (List ℕ)) (taken bytes : ℕ) (complete : Bool) → Keeps holds holds' → Copied old new held holds taken bytes complete → Copied old new held holds' taken bytes complete
+kept_copied old new held holds holds' taken bytes complete kept c = record {
   given = c.given;
   written = c.written;
   consumed = c.consumed;
   appended = Appends-kept held holds holds' c.written c.appended kept;
   front = c.front;
-  count = c.count;
+  taken = c.taken;
+  bytes = c.bytes;
   whole = c.whole;
 }
 
-less_copied : (old new held holds : Option (List ℕ)) (bytes : ℕ) (complete counted : Bool) → Copied old new held holds bytes complete counted → Copied old new held holds bytes false false
-less_copied old new held holds bytes complete counted c = record {
+less_copied : (old new held holds : Option (List ℕ)) (taken bytes : ℕ) (complete : Bool) → Copied old new held holds taken bytes complete → Copied old new held holds taken bytes false
+less_copied old new held holds taken bytes complete c = record {
   given = c.given;
   written = c.written;
   consumed = c.consumed;
   appended = c.appended;
   front = c.front;
-  count = λ n. absurd (both_ways false refl n);
+  taken = c.taken;
+  bytes = c.bytes;
   whole = λ n. absurd (both_ways false refl n);
 }
 
-pub flushed : {T : Type 0} (old new held holds holds' : Option (List ℕ)) (bytes : ℕ) (ended result : Result T LinkError) → Keeps holds holds' → FlushedAfter ended result →
-    Copied old new held holds bytes (is_ok ended) (counts_all ended) → Copied old new held holds' bytes (is_ok result) (counts_all result)
-flushed old new held holds holds' bytes ended result kept after c =
+pub flushed : {T : Type 0} (old new held holds holds' : Option (List ℕ)) (taken bytes : ℕ) (ended result : Result T LinkError) → Keeps holds holds' → FlushedAfter ended result →
+    Copied old new held holds taken bytes (is_ok ended) → Copied old new held holds' taken bytes (is_ok result)
+flushed old new held holds holds' taken bytes ended result kept after c =
     ⊎_elim
-    (λ (e : result ≡ ended). subst (λ r. Copied old new held holds' bytes (is_ok r) (counts_all r)) (sym e) (kept_copied old new held holds holds' bytes (is_ok ended) (counts_all ended) kept c))
-    (λ (e : result ≡ Err WriteFailed). subst (λ r. Copied old new held holds' bytes (is_ok r) (counts_all r)) (sym e)
-    (less_copied old new held holds' bytes (is_ok ended) (counts_all ended) (kept_copied old new held holds holds' bytes (is_ok ended) (counts_all ended) kept c)))
+    (λ (e : result ≡ ended). subst (λ r. Copied old new held holds' taken bytes (is_ok r)) (sym e) (kept_copied old new held holds holds' taken bytes (is_ok ended) kept c))
+    (λ (e : result ≡ Err WriteFailed). subst (λ r. Copied old new held holds' taken bytes (is_ok r)) (sym e)
+    (less_copied old new held holds' taken bytes (is_ok ended) (kept_copied old new held holds holds' taken bytes (is_ok ended) kept c)))
     after
 
 pub gave_up_after : {T : Type 0} (P : Type 0) (ended result : Result T LinkError) → FlushedAfter ended result → IfErr ended (λ e. gave_up e ≡ true → P) → IfErr result (λ e. gave_up e ≡ true → P)

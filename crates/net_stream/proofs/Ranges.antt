@@ -14,9 +14,10 @@ use Rattle.net_storage.specs.AssemblerLaws.{MembersOfList, MaximalRunsOfEverySet
 use Rattle.net_receiver.specs.Stored.{HeldBytes, Stored, stored_next, domain}
 use Rattle.net_stream.specs.Frames.{frame_of, RoundTrip}
 use Rattle.net_stream.specs.Reported.{reports, unreported, most_reported, listed, range_to, range_from, first_range, with_more, ranges_of}
-use Rattle.net_stream.specs.Carrying.{HasReported, FrameTells, IsMarked, answer_of}
+use Rattle.net_stream.specs.Carrying.{HasReported, FrameTells, answer_of}
+use Rattle.net_stream.specs.Sending.{IsMarked}
 use Rattle.net_stream.specs.Counting.{carrying}
-use Rattle.net_stream.specs.declared.counts.Counts.{Counts}
+use Rattle.net_stream.specs.declared.counts.FrameCounts.{FrameCounts}
 use Rattle.net_stream.proofs.Carried.{same_parts}
 
 -- ---- what bytes list
@@ -138,7 +139,7 @@ count_marked ranges a (suc n) false marked =
     count_cons (λ q. not (reports ranges q)) a (range_with_len (a + 1) n) ∙ ap (λ b. cond (not b) 1 0 + unreported ranges (a + 1) n) one ∙ (let e : 1 + unreported ranges (a + 1) n ≡ suc n = omega (arith, rest) in e)
 
 -- what was counted of a part is counted of the parts so far
-pub counted_more : (ranges : List (ℕ × ℕ)) (b pos n : ℕ) (c0 c1 c2 : Counts) → b ≤ pos → c1 ≡ carrying (unreported ranges b (pos - b)) c0 → c2 ≡ carrying (unreported ranges pos n) c1 → c2 ≡ carrying (unreported ranges b (pos + n - b)) c0
+pub counted_more : (ranges : List (ℕ × ℕ)) (b pos n : ℕ) (c0 c1 c2 : FrameCounts) → b ≤ pos → c1 ≡ carrying (unreported ranges b (pos - b)) c0 → c2 ≡ carrying (unreported ranges pos n) c1 → c2 ≡ carrying (unreported ranges b (pos + n - b)) c0
 counted_more ranges b pos n c0 c1 c2 from so_far more =
     let both = count_both (λ q. not (reports ranges q)) b (pos - b) n in
     let here : b + (pos - b) ≡ pos = omega arith in
@@ -151,5 +152,5 @@ counted_more ranges b pos n c0 c1 c2 from so_far more =
     capped m x y z e = omega arith
 
 -- nothing was counted
-pub counted_none : (n : ℕ) (c : Counts) → c.payload < 2 ^ 64 → n ≡ 0 → c ≡ carrying n c
+pub counted_none : (n : ℕ) (c : FrameCounts) → c.payload < 2 ^ 64 → n ≡ 0 → c ≡ carrying n c
 counted_none n c fits none = λ i. record c { payload = (let e : c.payload ≡ min (c.payload + n) (2 ^ 64 - 1) = omega arith in e) i }

@@ -1,27 +1,26 @@
 -- How far frames and acknowledgements bring a receiver and a sender.
-use Rattle.std.proofs.Common.{◌≡◌, ℕ, ◌+◌, ◌-◌, ◌<◌, ◌≤◌, ◌^◌, ◌%◌, ◌/◌, max, min, nat_lt, nat_le, ◌&&◌, Bool, true, false, cond, Result, Ok, Err, IsOk, IfOk, List, [], ◌∷◌, ◌++◌, length, take, drop, get_or, All, Option, Some, None, slice_get, refl, sym, ap, subst, ◌∙◌, arith, ⊎_elim, inl, inr, le_trans, length-append, length-take, length-drop, append_assoc, take-add}
-use Rattle.std.proofs.lemmas.Bool.{both_ways, cases_lt, cases_Bool, cond-true, cond-false, le-leb, lt-leb, le-ltb, leb-true, and_parts, and_from, false≢true}
+use Rattle.std.proofs.Common.{◌≡◌, ℕ, zero, suc, ◌+◌, ◌-◌, ◌<◌, ◌≤◌, ◌^◌, ◌%◌, ◌/◌, max, min, nat_lt, nat_le, ◌&&◌, Bool, true, false, cond, Result, Ok, Err, IsOk, IfOk, List, [], ◌∷◌, ◌++◌, length, take, drop, get_or, All, Option, Some, None, slice_get, refl, sym, ap, subst, ◌∙◌, arith, ⊎_elim, inl, inr, le_trans, length-append, length-take, length-drop}
+use Rattle.std.proofs.lemmas.Bool.{both_ways, cases_lt, cases_Bool, cond-true, cond-false, le-leb, lt-leb, le-ltb, leb-true, and_parts, false≢true}
 use Rattle.std.proofs.lemmas.Option.{slice_get_within, slice_get-get_or}
 use Rattle.std.specs.FinMap as fin
-use Rattle.std.proofs.lemmas.List.{append-nil}
-use Rattle.std.proofs.lemmas.List.Elements.{All-nil, All-head, All-tail}
+use Rattle.std.proofs.lemmas.List.Elements.{All-head, All-tail}
 use Rattle.net_base.specs.Generator.{successor, word}
 use Rattle.net_storage.specs.declared.assembler.error.TooManyHolesError.{TooManyHolesError}
 use Rattle.net_receiver.specs.declared.receiver.kept.Kept.{Kept}
 use Rattle.net_receiver.specs.KeptList.{piece, piece_at}
 use Rattle.net_receiver.specs.Stored.{Stored, stored_next, IsSound}
-use Rattle.net_receiver.specs.Truthful.{ReceivesFrom, Says, kept_of}
-use Rattle.net_receiver.specs.Resending.{Has}
-use Rattle.net_stream.specs.Outgoing.{Outgoing, outgoing, acknowledged, end_of}
+use Rattle.net_receiver.specs.OneStream.{ReceivesFrom, Says, kept_of}
+use Rattle.net_receiver.specs.Retransmission.{Has}
+use Rattle.net_stream.specs.Outgoing.{Outgoing, let_go, acknowledged, end_of}
 use Rattle.net_stream.specs.Frames.{Part, frame_of, frames_from, joined, decoded, RoundTrip}
 use Rattle.net_stream.specs.Reported.{reports, most_reported, ranges_of}
-use Rattle.net_stream.specs.Fates.{FatesSeen, next_of, after_of, next_fate, after_fate, comes, AllCome}
+use Rattle.net_stream.specs.Fates.{FatesSeen, next_of, after_of, next_fate, after_fate, comes, AllCome, NextCome}
 use Rattle.net_stream.specs.declared.fate.Fate.{Fate}
 use Rattle.net_stream.specs.declared.fate.Fate.TheVariants.{Delivered, Lost, Repeated, Late}
 use Rattle.net_stream.specs.declared.fate.Rates.{Rates}
-use Rattle.net_stream.specs.Carrying.{PathSeen, HasReported, IsMarked, AreMarked, HasSize, SentPart, SentFront, MayReturn}
+use Rattle.net_stream.specs.Carrying.{PathSeen, HasReported, MayReturn}
+use Rattle.net_stream.specs.Sending.{IsMarked, AreMarked}
 use Rattle.net_stream.specs.Progress.{reach_one, Reaches, acked_by, acked_all, limit_of, HasRoom}
-use Rattle.net_stream.proofs.Carried.{All-push}
 
 -- ---- where a truthful segment ends
 pub says_ends : (f : ℕ) (w : List ℕ) (pos : ℕ) (xs : List ℕ) → Says f w pos xs → pos + length xs ≤ max pos (f + length w)
@@ -96,7 +95,7 @@ reaches_behind ranges end p [] frames r = r
 reaches_behind ranges end p (x ∷ old) frames r = inl (reaches_behind ranges end p old frames r)
 
 -- a receiver's first missing position is not one that it has
-missing : (most : ℕ) (r : Stored) → IsSound most r → Has r (stored_next r) → ⊥
+pub missing : (most : ℕ) (r : Stored) → IsSound most r → Has r (stored_next r) → ⊥
 missing most r sound h =
     ⊎_elim {C = ⊥}
     (λ (l : stored_next r < stored_next r). omega arith)
@@ -171,25 +170,32 @@ returned frame old new again =
     again
 
 -- what a path is after the first of its frames met its fate
-step_of : (t0 t1 t2 t3 : PathSeen) (frame : List ℕ) (lot : Fate) → t0 ≡ record t1 { ahead = frame ∷ t1.ahead } → lot ≡ next_fate t1.fates → t2 ≡ record t1 { fates = after_fate t1.fates } → MayReturn frame t2 t3 → AllCome t0.fates →
-    (comes lot ≡ true) × AllCome t3.fates × (t0.ahead ≡ frame ∷ t3.ahead)
+step_of : (t0 t1 t2 t3 : PathSeen) (frame : List ℕ) (lot : Fate) → t0 ≡ record t1 { ahead = frame ∷ t1.ahead } → lot ≡ next_fate t1.fates → t2 ≡ record t1 { fates = after_fate t1.fates } → MayReturn frame t2 t3 → NextCome (length t0.ahead) t0.fates →
+    (comes lot ≡ true) × NextCome (length t3.ahead) t3.fates × (t0.ahead ≡ frame ∷ t3.ahead)
 step_of t0 t1 t2 t3 frame lot first is drawn again all =
-    let both = come_next t1.fates (subst AllCome (ap (λ p. p.fates) first) all) in
-    let same = returned frame t2 t3 again in (
+    let same = returned frame t2 t3 again in
+    let ahead : t0.ahead ≡ frame ∷ t3.ahead = ap (λ p. p.ahead) first ∙ ap (λ l. frame ∷ l) (sym (same.0 ∙ ap (λ p. p.ahead) drawn)) in
+    let size : length t0.ahead ≡ suc (length t3.ahead) = ap length ahead ∙ (let e : length (frame ∷ t3.ahead) ≡ suc (length t3.ahead) = omega arith in e) in
+    let both : NextCome (suc (length t3.ahead)) t1.fates = subst (λ n. NextCome n t1.fates) size (subst (NextCome (length t0.ahead)) (ap (λ p. p.fates) first) all) in (
       ap comes is ∙ both.0,
-      subst AllCome (sym (same.1 ∙ ap (λ p. p.fates) drawn)) both.1,
-      ap (λ p. p.ahead) first ∙ ap (λ l. frame ∷ l) (sym (same.0 ∙ ap (λ p. p.ahead) drawn)),
+      subst (NextCome (length t3.ahead)) (sym (same.1 ∙ ap (λ p. p.fates) drawn)) both.1,
+      ahead,
     )
+
+-- if all come, so do the next ones
+pub next_come : (n : ℕ) (v : FatesSeen) → AllCome v → NextCome n v
+next_come zero v all = tt
+next_come (suc n) v all = (let both = come_next v all in (both.0, next_come n (after_fate v) both.1))
 
 pub frame_reaches : (most : ℕ) (ranges : List (ℕ × ℕ)) (r : Stored) (m : ℕ) (t0 t1 t2 t3 : PathSeen) (frame : List ℕ) (lot : Fate) → IsSound most r → HasReported r ranges →
     t0 ≡ record t1 { ahead = frame ∷ t1.ahead } → lot ≡ next_fate t1.fates → t2 ≡ record t1 { fates = after_fate t1.fates } → MayReturn frame t2 t3 →
-    (comes lot ≡ true → reach_one (stored_next r) (decoded frame) ≤ m) → AllCome t0.fates → AllCome t3.fates × ((end : ℕ) → Reaches ranges end (stored_next r) t0.ahead → Reaches ranges end m t3.ahead)
+    (comes lot ≡ true → reach_one (stored_next r) (decoded frame) ≤ m) → NextCome (length t0.ahead) t0.fates → NextCome (length t3.ahead) t3.fates × ((end : ℕ) → Reaches ranges end (stored_next r) t0.ahead → Reaches ranges end m t3.ahead)
 frame_reaches most ranges r m t0 t1 t2 t3 frame lot sound had first is drawn again far all =
     let step = step_of t0 t1 t2 t3 frame lot first is drawn again all in
     (step.1, λ end reaches. brought most ranges end r m frame t3.ahead sound had (far step.0) (subst (Reaches ranges end (stored_next r)) step.2 reaches))
 
 pub ack_reaches : (s t : Outgoing) (t0 t1 t2 t3 : PathSeen) (frame : List ℕ) (lot : Fate) → t0 ≡ record t1 { ahead = frame ∷ t1.ahead } → lot ≡ next_fate t1.fates → t2 ≡ record t1 { fates = after_fate t1.fates } → MayReturn frame t2 t3 →
-    (comes lot ≡ true → t ≡ acked_by s (decoded frame)) → AllCome t0.fates → AllCome t3.fates × (acked_all s t0.ahead ≡ acked_all t t3.ahead)
+    (comes lot ≡ true → t ≡ acked_by s (decoded frame)) → NextCome (length t0.ahead) t0.fates → NextCome (length t3.ahead) t3.fates × (acked_all s t0.ahead ≡ acked_all t t3.ahead)
 ack_reaches s t t0 t1 t2 t3 frame lot first is drawn again took all =
     let step = step_of t0 t1 t2 t3 frame lot first is drawn again all in
     (step.1, ap (acked_all s) step.2 ∙ ap (λ v. acked_all v t3.ahead) (sym (took step.0)))
@@ -199,8 +205,8 @@ acked_keeps_end : (s : Outgoing) (n : ℕ) (ranges : List (ℕ × ℕ)) → end_
 acked_keeps_end s n ranges =
     ⊎_elim
     (λ (e : (nat_le s.base n && nat_le n (end_of s)) ≡ true).
-    ap end_of (cond-true _ (outgoing s.capacity n (drop (n - s.base) s.queue) ranges) s e) ∙ kept_end e)
-    (λ (e : (nat_le s.base n && nat_le n (end_of s)) ≡ false). ap end_of (cond-false _ (outgoing s.capacity n (drop (n - s.base) s.queue) ranges) s e))
+    ap end_of (cond-true _ (let_go s n ranges) s e) ∙ kept_end e)
+    (λ (e : (nat_le s.base n && nat_le n (end_of s)) ≡ false). ap end_of (cond-false _ (let_go s n ranges) s e))
     (cases_Bool (nat_le s.base n && nat_le n (end_of s)))
   where
     kept_end : (nat_le s.base n && nat_le n (end_of s)) ≡ true → n + length (drop (n - s.base) s.queue) ≡ end_of s
@@ -219,25 +225,9 @@ pub all_keep_end : (s : Outgoing) (frames : List (List ℕ)) → end_of (acked_a
 all_keep_end s [] = refl
 all_keep_end s (frame ∷ frames) = all_keep_end (acked_by s (decoded frame)) frames ∙ by_keeps_end s (decoded frame)
 
-acked_append : (s : Outgoing) (xs ys : List (List ℕ)) → acked_all s (xs ++ ys) ≡ acked_all (acked_all s xs) ys
+pub acked_append : (s : Outgoing) (xs ys : List (List ℕ)) → acked_all s (xs ++ ys) ≡ acked_all (acked_all s xs) ys
 acked_append s [] ys = refl
 acked_append s (x ∷ xs) ys = acked_append (acked_by s (decoded x)) xs ys
-
-empty_after : (s : Outgoing) (ranges : List (ℕ × ℕ)) → length (acknowledged s (end_of s) ranges).queue ≡ 0
-empty_after s ranges =
-    let e : (nat_le s.base (end_of s) && nat_le (end_of s) (end_of s)) ≡ true = and_from _ _ (le-leb s.base (end_of s) (omega arith)) (le-leb (end_of s) (end_of s) (omega arith)) in
-    let long : length (drop (end_of s - s.base) s.queue) ≡ length s.queue - (end_of s - s.base) = length-drop (end_of s - s.base) s.queue in
-    ap (λ v. length v.queue) (cond-true _ (outgoing s.capacity (end_of s) (drop (end_of s - s.base) s.queue) ranges) s e) ∙ (let z : length (drop (end_of s - s.base) s.queue) ≡ 0 = omega arith in z)
-
--- the last acknowledgement is of all that was sent
-pub acked_to_end : RoundTrip → (s : Outgoing) (n : ℕ) (xs : List ℕ) (front : List (List ℕ)) → n ≡ end_of s → n < 2 ^ 64 → length (acked_all s (front ++ frame_of n xs ∷ [])).queue ≡ 0
-acked_to_end trip s n xs front is word =
-    let t = acked_all s front in
-    let end : n ≡ end_of t = is ∙ sym (all_keep_end s front) in
-    ap (λ v. length v.queue) (acked_append s front (frame_of n xs ∷ []))
-    ∙ ap (λ o. length (acked_by t o).queue) (trip n xs word)
-    ∙ ap (λ m. length (acknowledged t m (ranges_of most_reported xs)).queue) end
-    ∙ empty_after t (ranges_of most_reported xs)
 
 pub room_same : (s : Outgoing) (v u : Stored) → limit_of u ≡ limit_of v → HasRoom s v → HasRoom s u
 room_same s v u e room = record { window = (let h = room.window in omega arith); word = room.word }
@@ -245,83 +235,3 @@ room_same s v u e room = record { window = (let h = room.window in omega arith);
 pub first_is : (f : ℕ) (w : List ℕ) (r : Stored) → ReceivesFrom f w r → r.first ≡ f
 unfolding ReceivesFrom
 first_is f w r h = h.0
-
--- ---- what was sent so far
-joined_push : (parts : List Part) (spared : Bool) (xs : List ℕ) → joined (parts ++ (spared, xs) ∷ []) ≡ joined parts ++ xs
-joined_push [] spared xs = append-nil xs
-joined_push ((t, y) ∷ parts) spared xs = ap (λ l. y ++ l) (joined_push parts spared xs) ∙ sym (append_assoc y (joined parts) xs)
-
-frames_push : (b p : ℕ) (parts : List Part) (spared : Bool) (xs : List ℕ) → p ≡ b + length (joined parts) → frames_from b (parts ++ (spared, xs) ∷ []) ≡ frames_from b parts ++ frames_from p ((spared, xs) ∷ [])
-frames_push b p [] spared xs e = ap (λ n. frames_from n ((spared, xs) ∷ [])) (let h : b ≡ p = omega arith in h)
-frames_push b p ((true, y) ∷ parts) spared xs e =
-    let long : length (y ++ joined parts) ≡ length y + length (joined parts) = length-append y (joined parts) in
-    frames_push (b + length y) p parts spared xs (omega arith)
-frames_push b p ((false, y) ∷ parts) spared xs e =
-    let long : length (y ++ joined parts) ≡ length y + length (joined parts) = length-append y (joined parts) in
-    ap (λ l. frame_of b y ∷ l) (frames_push (b + length y) p parts spared xs (omega arith))
-
-marked_push : (ranges : List (ℕ × ℕ)) (b p : ℕ) (parts : List Part) (spared : Bool) (xs : List ℕ) → p ≡ b + length (joined parts) → AreMarked ranges b parts → IsMarked ranges p (length xs) spared → AreMarked ranges b (parts ++ (spared, xs) ∷ [])
-marked_push ranges b p [] spared xs e all one = (subst (λ n. IsMarked ranges n (length xs) spared) (let h : p ≡ b = omega arith in h) one, tt)
-marked_push ranges b p ((t, y) ∷ parts) spared xs e all one =
-    let long : length (y ++ joined parts) ≡ length y + length (joined parts) = length-append y (joined parts) in
-    (all.0, marked_push ranges (b + length y) p parts spared xs (omega arith) all.1 one)
-
--- nothing was sent yet
-pub none_sent : (s : Outgoing) (most : ℕ) (pos : ℕ) (t : PathSeen) → pos ≡ s.base → SentFront s most (pos - s.base) t t
-none_sent s most pos t e =
-    let none : pos - s.base ≡ 0 = omega arith in
-    record {
-      parts = [];
-      within = omega arith;
-      all = ap (λ n. take n s.queue) (sym none);
-      sizes = All-nil (HasSize most);
-      marked = tt;
-      sent = λ i. record { ahead = sym (append-nil t.ahead) i; late = t.late; fates = t.fates };
-    }
-
--- bytes that were reported need no frame
-pub spared_part : (s : Outgoing) (most pos n : ℕ) (t : PathSeen) → 0 < n → pos + n ≤ end_of s → IsMarked s.reported pos n true → SentPart s most pos n t t
-spared_part s most pos n t some within marked = record {
-  some = some;
-  within = within;
-  spared = true;
-  short = λ e. absurd (both_ways true e refl);
-  marked = marked;
-  sent = λ i. record { ahead = sym (append-nil t.ahead) i; late = t.late; fates = t.fates };
-}
-
--- a frame of others was sent
-pub sent_part : (s : Outgoing) (most pos : ℕ) (t0 t1 : PathSeen) (xs : List ℕ) → 0 < length xs → pos + length xs ≤ end_of s → length xs ≤ most → IsMarked s.reported pos (length xs) false → xs ≡ take (length xs) (drop (pos - s.base) s.queue) →
-    t1 ≡ record t0 { ahead = t0.ahead ++ frame_of pos xs ∷ [] } → SentPart s most pos (length xs) t0 t1
-sent_part s most pos t0 t1 xs some within short marked is sent = record {
-  some = some;
-  within = within;
-  spared = false;
-  short = λ _. short;
-  marked = marked;
-  sent = sent ∙ ap (λ ys. record t0 { ahead = t0.ahead ++ frame_of pos ys ∷ [] }) is;
-}
-
--- what was sent of a part is sent of the first bytes too
-pub sent_more : (s : Outgoing) (most pos n : ℕ) (t0 t1 t2 : PathSeen) → SentFront s most (pos - s.base) t0 t1 → SentPart s most pos n t1 t2 → s.base ≤ pos → pos ≤ end_of s → SentFront s most (pos + n - s.base) t0 t2
-sent_more s most pos n t0 t1 t2 front part from within =
-    let b = s.base in
-    let q = s.queue in
-    let xs = take n (drop (pos - b) q) in
-    let few = part.within in
-    let some = part.some in
-    let size : length xs ≡ n = omega (arith, length-take n (drop (pos - b) q), length-drop (pos - b) q) in
-    let long : length (joined front.parts) ≡ pos - b = ap length front.all ∙ (let h : length (take (pos - b) q) ≡ pos - b = omega (arith, length-take (pos - b) q) in h) in
-    let place : (pos - b) + n ≡ pos + n - b = omega arith in
-    let at : pos ≡ b + length (joined front.parts) = omega arith in
-    let last = frames_from pos ((part.spared, xs) ∷ []) in
-    let ahead : t1.ahead ++ last ≡ t0.ahead ++ frames_from b (front.parts ++ (part.spared, xs) ∷ []) =
-    ap (λ p. p.ahead ++ last) front.sent ∙ append_assoc t0.ahead (frames_from b front.parts) last ∙ ap (λ l. t0.ahead ++ l) (sym (frames_push b pos front.parts part.spared xs at)) in
-    record {
-      parts = front.parts ++ (part.spared, xs) ∷ [];
-      within = omega arith;
-      all = joined_push front.parts part.spared xs ∙ ap (λ l. l ++ xs) front.all ∙ sym (take-add (pos - b) n q) ∙ ap (λ k. take k q) place;
-      sizes = All-push (HasSize most) front.parts (part.spared, xs) front.sizes (subst (λ k. 0 < k) (sym size) some, λ e. subst (λ k. k ≤ most) (sym size) (part.short e));
-      marked = marked_push s.reported b pos front.parts part.spared xs at front.marked (subst (λ k. IsMarked s.reported pos k part.spared) (sym size) part.marked);
-      sent = part.sent ∙ (λ i. record { ahead = ahead i; late = (ap (λ p. p.late) front.sent) i; fates = (ap (λ p. p.fates) front.sent) i });
-    }

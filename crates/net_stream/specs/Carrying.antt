@@ -1,23 +1,20 @@
 -- A stream on its way: what is true of a sender, a receiver and the frames between them, whatever
 -- becomes of these.
 --     PathSeen      the frames on their way in one direction, the late ones, and the fates to come
---     Carries f w s r there back      the stream w, whose first byte has position f, is on its way
+--     IsUnderWay f w s r there back      the stream w, whose first byte has position f, is on its way
 --     FrameTells r frame      an acknowledgement tells nothing but what the receiver has
 --     answer_of r      the acknowledgement of a receiver
 --     arrived N r frame, with_answer r frame back      what a frame that comes leaves
---     SentFront s most n old new      of the first n bytes that a sender keeps, frames of those that
---                                     weren't reported were put on their way
---     SentAll s most old new      the same of all that it keeps
-use Rattle.std.specs.Prelude.{◌≡◌, ℕ, ◌+◌, ◌-◌, ◌<◌, ◌≤◌, ◌^◌, ◌⊎◌, max, nat_lt, if◌then◌else◌}
-use Rattle.std.specs.Prelude.{Bool, false, IsTrue, Option, Some, None}
-use Rattle.std.specs.Prelude.{List, [], ◌∷◌, ◌++◌, length, take, drop, All}
+use Rattle.std.specs.Prelude.{◌≡◌, ℕ, ◌+◌, ◌≤◌, ◌^◌, ◌⊎◌, nat_lt, if◌then◌else◌}
+use Rattle.std.specs.Prelude.{IsTrue, Option, Some, None}
+use Rattle.std.specs.Prelude.{List, [], ◌∷◌, ◌++◌, length, take, All}
 use Rattle.net_storage.specs.Positions.{maximal_runs}
 use Rattle.net_receiver.specs.Rules.{Segment}
 use Rattle.net_receiver.specs.Stored.{Stored, stored_next, stored_after, domain}
-use Rattle.net_receiver.specs.Truthful.{ReceivesFrom}
-use Rattle.net_receiver.specs.Resending.{Has}
-use Rattle.net_stream.specs.Outgoing.{Outgoing, Sends, end_of}
-use Rattle.net_stream.specs.Frames.{Part, frame_of, frames_from, joined, decoded, FrameSays}
+use Rattle.net_receiver.specs.OneStream.{ReceivesFrom}
+use Rattle.net_receiver.specs.Retransmission.{Has}
+use Rattle.net_stream.specs.Outgoing.{Outgoing, Sends}
+use Rattle.net_stream.specs.Frames.{frame_of, decoded, FrameSays}
 use Rattle.net_stream.specs.Reported.{reports, most_reported, listed, ranges_of}
 use Rattle.net_stream.specs.Fates.{FatesSeen}
 
@@ -60,7 +57,7 @@ with_answer r (Some (pos, xs)) back =
 -- w was written to the sender; each frame brings nothing but parts of w, and so did each that the
 -- receiver took; each acknowledgement tells of bytes that the receiver has, and so did each that
 -- the sender took
-pub record Carries (f : ℕ) (w : List ℕ) (s : Outgoing) (r : Stored)
+pub record IsUnderWay (f : ℕ) (w : List ℕ) (s : Outgoing) (r : Stored)
     (there back : PathSeen) : Type 0 where
   pub sends : Sends f w s
   pub receives : ReceivesFrom f w r
@@ -70,54 +67,6 @@ pub record Carries (f : ℕ) (w : List ℕ) (s : Outgoing) (r : Stored)
   pub late_back : All (FrameTells r) back.late
   pub behind : s.base ≤ stored_next r
   pub reported : HasReported r s.reported
-
--- the frames of these parts were put behind those on their way
-abbrev pub Sent : ℕ → List Part → PathSeen → PathSeen → Type 0
-Sent p parts old new = new ≡ record old { ahead = old.ahead ++ frames_from p parts }
-
--- each of n positions from p on lies in the ranges if `spared` is true, and none does if it is
--- false
-abbrev pub IsMarked : List (ℕ × ℕ) → ℕ → ℕ → Bool → Type 0
-IsMarked ranges p n spared = (q : ℕ) → p ≤ q → q < p + n → reports ranges q ≡ spared
-
--- parts that follow one another from position p on are spared exactly where they lie in the ranges
-abbrev pub AreMarked : List (ℕ × ℕ) → ℕ → List Part → Type 0
-AreMarked ranges p [] = Unit {0}
-AreMarked ranges p ((spared, xs) ∷ parts) =
-    IsMarked ranges p (length xs) spared × AreMarked ranges (p + length xs) parts
-
--- a part has bytes, and a frame of it at most so many
-abbrev pub HasSize : ℕ → Part → Type 0
-HasSize most part = (0 < length part.1) × (part.0 ≡ false → length part.1 ≤ most)
-
--- the most bytes of a frame's payload: 0 counts as 1
-abbrev pub most_of : ℕ → ℕ
-most_of n = max n 1
-
--- n of the bytes that the sender keeps, from position p on, were spared or put on their way, in a
--- frame of at most so many bytes
-pub record SentPart (s : Outgoing) (most p n : ℕ) (old new : PathSeen) : Type 0 where
-  pub some : 0 < n
-  pub within : p + n ≤ end_of s
-  pub spared : Bool
-  pub short : spared ≡ false → n ≤ most
-  pub marked : IsMarked s.reported p n spared
-  pub sent : Sent p ((spared, take n (drop (p - s.base) s.queue)) ∷ []) old new
-
--- frames of the first n bytes that the sender keeps were put on their way, in order: each byte in
--- one of them if it wasn't reported, and in none if it was; each frame has at least one byte, and
--- at most so many
-pub record SentFront (s : Outgoing) (most n : ℕ) (old new : PathSeen) : Type 0 where
-  pub parts : List Part
-  pub within : n ≤ length s.queue
-  pub all : joined parts ≡ take n s.queue
-  pub sizes : All (HasSize most) parts
-  pub marked : AreMarked s.reported s.base parts
-  pub sent : Sent s.base parts old new
-
--- so were frames of all that it keeps
-abbrev pub SentAll : Outgoing → ℕ → PathSeen → PathSeen → Type 0
-SentAll s most = SentFront s most (length s.queue)
 
 -- the frame was put among the late ones, or nothing changed
 abbrev pub MayReturn : List ℕ → PathSeen → PathSeen → Type 0

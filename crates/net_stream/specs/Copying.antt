@@ -1,18 +1,36 @@
 -- What comes of a copy, from a reader over a link to a writer.
---     Moving f s r there back old new held holds more      the bytes are on their way to a writer
---     Copied old new held holds bytes complete counted      what came, and what was written
---     gave_up e, wrote_all e      which error ended a copy
-use Rattle.std.specs.Prelude.{◌≡◌, ℕ, List, ◌++◌, ◌⊎◌, length, take, Option}
-use Rattle.std.specs.Prelude.{Bool, true, false, Result, Ok, Err}
+--     Copied old new held holds read wrote complete      what came, and what was written
+--     gave_up e      whether a copy ended because nothing came on any more
+--     HasPositions first taken      positions are left
+--     Moving f link counts old new held holds more      the bytes are on their way to a writer
+--     Stepped old new      what a round of a copy keeps
+use Rattle.std.specs.Prelude.{◌≡◌, ℕ, List, ◌++◌, ◌+◌, ◌-◌, ◌<◌, ◌≤◌, ◌^◌, ◌⊎◌, [], length, take}
+use Rattle.std.specs.Prelude.{Bool, true, false, Option, Result, Err, min}
 use Rattle.std.specs.Io.{StartsWith}
 use Rattle.std.specs.Io.KnownBytes.{Appends, Consumes, IsAtEnd}
-use Rattle.net_receiver.specs.Stored.{Stored}
-use Rattle.net_receiver.specs.Truthful.{ReceivesFrom}
-use Rattle.net_stream.specs.Outgoing.{Outgoing}
-use Rattle.net_stream.specs.Carrying.{PathSeen, Carries}
+use Rattle.net_receiver.specs.Stored.{Stored, stored_next}
+use Rattle.net_receiver.specs.OneStream.{ReceivesFrom}
+use Rattle.net_stream.specs.Outgoing.{end_of}
+use Rattle.net_stream.specs.Links.{Carries}
+use Rattle.net_stream.specs.Stuck.{failed}
+use Rattle.net_stream.specs.declared.counts.Counts.{Counts}
+use Rattle.net_stream.specs.declared.link.Link.{Link}
 use Rattle.net_stream.specs.declared.error.LinkError.{LinkError}
 use Rattle.net_stream.specs.declared.error.LinkError.TheVariants.{GaveUp, OutOfMemory}
 use Rattle.net_stream.specs.declared.error.LinkError.TheVariants.{ReadFailed, WriteFailed}
+
+-- a reader gave so many bytes, and a prefix of them, of so many, was appended to what a writer holds:
+-- all that the reader had, if the copy is complete
+pub record Copied (old new held holds : Option (List ℕ)) (read wrote : ℕ) (complete : Bool)
+    : Type 0 where
+  pub given : List ℕ
+  pub written : List ℕ
+  pub consumed : Consumes old new given
+  pub appended : Appends held holds written
+  pub front : StartsWith given written
+  pub taken : length given ≡ read
+  pub bytes : length written ≡ wrote
+  pub whole : complete ≡ true → (written ≡ given) × IsAtEnd new
 
 -- whether a copy ended because nothing came on any more
 abbrev pub gave_up : LinkError → Bool
@@ -21,59 +39,60 @@ gave_up OutOfMemory = false
 gave_up ReadFailed = false
 gave_up WriteFailed = false
 
--- whether the writer took all that it was given
-abbrev pub wrote_all : LinkError → Bool
-wrote_all GaveUp = true
-wrote_all OutOfMemory = true
-wrote_all ReadFailed = true
-wrote_all WriteFailed = false
+-- a stream that begins at f, of which so many bytes were read, didn't use up all positions
+abbrev pub HasPositions : ℕ → ℕ → Type 0
+HasPositions f taken = f + taken < 2 ^ 64 - 1
 
 -- the bytes that a reader gave are on their way, and those that the receiver handed out were
--- appended to what a writer holds. If `more` is false the reader has no more
-pub record Moving (f : ℕ) (s : Outgoing) (r : Stored) (there back : PathSeen)
+-- appended to what a writer holds; both are counted. If `more` is false the reader has no more
+pub record Moving {A : Type 0} (f : ℕ) (link : Link A) (counts : Counts)
     (old new held holds : Option (List ℕ)) (more : Bool) : Type 0 where
   pub given : List ℕ
   pub consumed : Consumes old new given
-  pub carries : Carries f given s r there back
-  pub appended : Appends held holds (take r.read given)
+  pub carries : Carries f given link
+  pub appended : Appends held holds (take link.receiver.read given)
+  pub taken : length given ≡ counts.taken
+  pub bytes : link.receiver.read ≡ counts.bytes
   pub ended : more ≡ false → IsAtEnd new
 
--- bytes were handed out and appended to what a writer holds: what any stream has next that the
--- receiver took nothing else of
-pub record HandedOut (f : ℕ) (v u : Stored) (held holds : Option (List ℕ)) : Type 0 where
+-- bytes were handed out, appended to what a writer holds and counted: what any stream has next that
+-- the receiver took nothing else of
+pub record HandedOut (f : ℕ) (v u : Stored) (held holds : Option (List ℕ)) (before after : ℕ)
+    : Type 0 where
   pub bytes : List ℕ
   pub appended : Appends held holds bytes
   pub next : (w : List ℕ) → ReceivesFrom f w v → take v.read w ++ bytes ≡ take u.read w
+  pub counted : after ≡ min (before + length bytes) (2 ^ 64 - 1)
 
--- the same if the writer took only a front of them
-pub record HandedFront (f : ℕ) (v : Stored) (held holds : Option (List ℕ)) : Type 0 where
+-- the same if the writer took only a prefix of them
+pub record HandedPrefix (f : ℕ) (v : Stored) (held holds : Option (List ℕ)) (before after : ℕ)
+    : Type 0 where
   pub bytes : List ℕ
   pub appended : Appends held holds bytes
   pub front : (w : List ℕ) → ReceivesFrom f w v → StartsWith w (take v.read w ++ bytes)
+  pub counted : after ≡ min (before + length bytes) (2 ^ 64 - 1)
 
--- a front of a text was appended
-pub record WroteFront (text : List ℕ) (held holds : Option (List ℕ)) : Type 0 where
-  pub written : List ℕ
-  pub front : StartsWith text written
-  pub appended : Appends held holds written
+-- the first n bytes of a text were appended
+pub record WrotePrefix (text : List ℕ) (held holds : Option (List ℕ)) (n : ℕ) : Type 0 where
+  pub within : n ≤ length text
+  pub appended : Appends held holds (take n text)
 
--- a reader gave some bytes, and a front of them was appended to what a writer holds: as many as
--- are counted, if the writer took all that it was given, and all that the reader had, if the copy
--- is complete
-pub record Copied (old new held holds : Option (List ℕ)) (bytes : ℕ)
-    (complete counted : Bool) : Type 0 where
-  pub given : List ℕ
-  pub written : List ℕ
-  pub consumed : Consumes old new given
-  pub appended : Appends held holds written
-  pub front : StartsWith given written
-  pub count : counted ≡ true → length written ≡ bytes
-  pub whole : complete ≡ true → (written ≡ given) × IsAtEnd new
-
--- whether a count of bytes written is exact: always but after a failed write
-abbrev pub counts_all : {T : Type 0} → Result T LinkError → Bool
-counts_all (Ok t) = true
-counts_all (Err e) = wrote_all e
+-- what a round of a copy keeps, `room` and `room'` being the lengths of what is read into
+pub record Stepped {A : Type 0} (old new : Link A) (room room' : ℕ) : Type 0 where
+  pub ahead : new.there.ahead ≡ []
+  pub ahead_back : new.back.ahead ≡ []
+  pub window : new.sender.capacity ≡ old.sender.capacity
+  pub capacity : new.receiver.capacity ≡ old.receiver.capacity
+  pub chunk : room' ≡ room
+  pub end : end_of new.sender ≡ end_of old.sender
+  pub word : end_of new.sender < 2 ^ 64
+  pub base : old.sender.base ≤ new.sender.base
+  pub read : old.receiver.read ≤ new.receiver.read
+  pub first : new.receiver.first ≡ old.receiver.first
+  pub grows : stored_next old.receiver ≤ stored_next new.receiver
+  pub drained : 0 < room → new.receiver.read ≡ old.receiver.read
+      → length new.receiver.queue ≡ 0
+  pub failed : failed old.counts ≤ failed new.counts
 
 -- how a copy ended, once its writer was flushed
 abbrev pub FlushedAfter : {T : Type 0} → Result T LinkError → Result T LinkError → Type 0

@@ -12,6 +12,7 @@ use Rattle.net_receiver.specs.Stored.{Stored, stored_reply}
 use Rattle.net_stream.specs.Fates.{FatesSeen, next_fate, after_fate}
 use Rattle.net_stream.specs.declared.fate.Fate.{Fate}
 use Rattle.net_stream.specs.declared.fate.Fate.TheVariants.{Delivered, Lost, Repeated, Late}
+use Rattle.net_stream.specs.declared.counts.FrameCounts.{FrameCounts}
 use Rattle.net_stream.specs.declared.counts.Counts.{Counts}
 
 -- one more, as far as 64 bits go
@@ -19,23 +20,23 @@ abbrev pub more : ℕ → ℕ
 more n = min (n + 1) (2 ^ 64 - 1)
 
 -- a frame was sent and met its fate
-abbrev pub met : Fate → Counts → Counts
+abbrev pub met : Fate → FrameCounts → FrameCounts
 met Delivered c = record c { sent = more c.sent }
 met Lost c = record c { sent = more c.sent; lost = more c.lost }
 met Repeated c = record c { sent = more c.sent; repeated = more c.repeated }
 met Late c = record c { sent = more c.sent; late = more c.late }
 
 -- n frames were sent and met the fates that come next
-abbrev pub met_all : ℕ → FatesSeen → Counts → Counts
+abbrev pub met_all : ℕ → FatesSeen → FrameCounts → FrameCounts
 met_all zero v c = c
 met_all (suc n) v c = met_all n (after_fate v) (met (next_fate v) c)
 
 -- how many segments were refused may differ
-abbrev pub SameButRefused : Counts → Counts → Type 0
+abbrev pub SameButRefused : FrameCounts → FrameCounts → Type 0
 SameButRefused c d = record c { refused = 0 } ≡ record d { refused = 0 }
 
 -- n bytes were put on their way, as far as 64 bits go
-abbrev pub carrying : ℕ → Counts → Counts
+abbrev pub carrying : ℕ → FrameCounts → FrameCounts
 carrying n c = record c { payload = min (c.payload + n) (2 ^ 64 - 1) }
 
 -- whether a reply refuses a segment
@@ -46,7 +47,7 @@ is_refused (Gave xs) = false
 is_refused (Shown n q r h) = false
 
 -- a frame came to a receiver, which may have refused what it says
-abbrev pub refusing : ℕ → Stored → Option (ℕ × List ℕ) → Counts → Counts
+abbrev pub refusing : ℕ → Stored → Option (ℕ × List ℕ) → FrameCounts → FrameCounts
 refusing most_runs r None c = c
 refusing most_runs r (Some (pos, xs)) c =
     if nat_lt (pos + length xs) (2 ^ 64)
@@ -54,20 +55,13 @@ refusing most_runs r (Some (pos, xs)) c =
     then record c { refused = more c.refused }
     else c
 
+-- no frame was sent yet
+abbrev pub no_frames : FrameCounts
+no_frames = record { sent = 0; payload = 0; lost = 0; repeated = 0; late = 0; refused = 0 }
+
 -- nothing was done yet
 abbrev pub nothing_counted : Counts
-nothing_counted = record {
-  taken = 0;
-  bytes = 0;
-  sent = 0;
-  payload = 0;
-  lost = 0;
-  repeated = 0;
-  late = 0;
-  refused = 0;
-  rounds = 0;
-  micros = 0;
-}
+nothing_counted = record { taken = 0; bytes = 0; rounds = 0; micros = 0; frames = no_frames }
 
 -- a round trip takes 10 milliseconds
 abbrev pub round_trip_time : ℕ

@@ -2,7 +2,7 @@
 --     fate_of rates word      the fate that a word of 32 bits stands for
 --     next_fate v, after_fate v      the next fate: the first of a list, and behind it drawn ones
 --     after_all n v      what is left of v once n fates have come
---     comes fate, returns fate      whether a frame comes at once, and whether it comes late
+--     comes fate, comes_late fate      whether a frame comes at once, and whether it comes late
 --     AllCome v      every frame comes at once
 use Rattle.std.specs.Prelude.{ℕ, zero, suc, ◌/◌, ◌%◌, nat_lt, if◌then◌else◌, Bool, true, false}
 use Rattle.std.specs.Prelude.{◌≡◌, List, [], ◌∷◌, All}
@@ -28,11 +28,11 @@ comes Repeated = true
 comes Late = false
 
 -- whether a frame comes late, for the first time or once more
-abbrev pub returns : Fate → Bool
-returns Delivered = false
-returns Lost = false
-returns Repeated = true
-returns Late = true
+abbrev pub comes_late : Fate → Bool
+comes_late Delivered = false
+comes_late Lost = false
+comes_late Repeated = true
+comes_late Late = true
 
 -- the fates of a list, and behind it those of the words that follow a generator's state
 pub record FatesSeen : Type 0 where
@@ -61,8 +61,17 @@ abbrev pub after_all : ℕ → FatesSeen → FatesSeen
 after_all zero v = v
 after_all (suc n) v = after_all n (after_fate v)
 
+-- each of the next n frames comes at once
+abbrev pub NextCome : ℕ → FatesSeen → Type 0
+NextCome zero v = Unit {0}
+NextCome (suc n) v = (comes (next_fate v) ≡ true) × NextCome n (after_fate v)
+
 -- every frame comes at once: each fate of the list says so, and none is drawn that is lost or late
 pub record AllCome (v : FatesSeen) : Type 0 where
   pub listed : All (λ fate. comes fate ≡ true) v.listed
   pub lost : v.rates.lost ≡ 0
   pub late : v.rates.late ≡ 0
+
+-- if every frame comes at once, so do the next n
+abbrev pub EachNextComes : Type 0
+EachNextComes = (n : ℕ) (v : FatesSeen) → AllCome v → NextCome n v

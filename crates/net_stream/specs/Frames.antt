@@ -6,7 +6,7 @@
 use Rattle.std.specs.Prelude.{◌≡◌, ℕ, ◌+◌, ◌<◌, ◌^◌, if◌then◌else◌, nat_lt, Bool, true, false}
 use Rattle.std.specs.Prelude.{List, [], ◌∷◌, ◌++◌, length, take, drop, Option, Some, None}
 use Rattle.std.specs.Int.{w64, to_be_bytes, from_be_bytes}
-use Rattle.net_receiver.specs.Truthful.{Says}
+use Rattle.net_receiver.specs.OneStream.{Says}
 
 -- a position and its bytes as a frame
 abbrev pub frame_of : ℕ → List ℕ → List ℕ
@@ -21,6 +21,11 @@ decoded frame =
 -- decoding finds what was encoded
 abbrev pub RoundTrip : Type 0
 RoundTrip = (pos : ℕ) (xs : List ℕ) → pos < 2 ^ 64 → decoded (frame_of pos xs) ≡ Some (pos, xs)
+
+-- frames that are equal have equal positions and bytes
+abbrev pub DistinctFrames : Type 0
+DistinctFrames = (pos p : ℕ) (xs ys : List ℕ) → pos < 2 ^ 64 → p < 2 ^ 64 →
+    frame_of pos xs ≡ frame_of p ys → (pos ≡ p) × (xs ≡ ys)
 
 -- some bytes, and whether they are spared
 abbrev pub Part : Type 0

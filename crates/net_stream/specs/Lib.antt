@@ -5,6 +5,10 @@ pub mod Reported
 pub mod Fates
 pub mod Counting
 pub mod Carrying
-pub mod Rounds
+pub mod Sending
 pub mod Progress
+pub mod Rounds
+pub mod Passing
+pub mod Links
+pub mod Stuck
 pub mod Copying

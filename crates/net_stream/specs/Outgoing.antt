@@ -1,24 +1,33 @@
 -- What a sender keeps, and the stream that it sends.
---     Outgoing      the capacity, the position of the first byte that is kept, the bytes kept, and
---                   the ranges of positions that were reported last
+--     Outgoing      the capacity, the position of the first byte that is kept, the bytes kept, the
+--                   ranges of positions that were reported last, and the position at which the
+--                   storage begins again
+--     row_end v p      where the bytes end that stand in a row in the storage with the one at p
 --     acknowledged v n ranges      what is kept once all below position n was acknowledged, and
 --                                  these ranges were reported
+--     with_written v xs      what is kept once these bytes were written
+--     CalledOnRoom g f v answer u      f was run on free bytes, and what it counted was written
+--     all_acknowledged v acks      what is kept once several acknowledgements were taken
 --     Sends f w v      w was written to a sender, its first byte at position f; it keeps v
-use Rattle.std.specs.Prelude.{◌≡◌, ℕ, ◌+◌, ◌-◌, ◌≤◌, ◌^◌, ◌&&◌, nat_le, min, if◌then◌else◌}
-use Rattle.std.specs.Prelude.{List, length, drop}
+use Rattle.std.specs.Prelude.{◌≡◌, ℕ, ◌+◌, ◌-◌, ◌≤◌, ◌^◌, ◌&&◌, nat_lt, nat_le, nat_eq, min, max}
+use Rattle.std.specs.Prelude.{if◌then◌else◌, List, [], ◌∷◌, ◌++◌, length, take, drop}
+use Rattle.std.specs.Borrow.{MutBor}
+use Rattle.std.specs.Fn.{Once, FnOnceTakesAtMut, FnOnceReturnsAtMut}
 
--- what a sender is seen as
+-- what a sender is seen as: a byte of position `cut` stands at the storage's beginning, and one
+-- before it stands at an index less by `cut` minus its position than the storage's length
 pub record Outgoing : Type 0 where
   pub capacity : ℕ
   pub base : ℕ
   pub queue : List ℕ
   pub reported : List (ℕ × ℕ)
+  pub cut : ℕ
 
--- a sender of this capacity, which keeps these bytes from position `base` on, and to which these
--- ranges were reported
-abbrev pub outgoing : ℕ → ℕ → List ℕ → List (ℕ × ℕ) → Outgoing
-outgoing capacity base queue reported =
-    record { capacity = capacity; base = base; queue = queue; reported = reported }
+-- a sender of this capacity, which keeps these bytes from position `base` on, to which these
+-- ranges were reported, and whose storage begins again at `cut`
+abbrev pub outgoing : ℕ → ℕ → List ℕ → List (ℕ × ℕ) → ℕ → Outgoing
+outgoing capacity base queue reported cut =
+    record { capacity = capacity; base = base; queue = queue; reported = reported; cut = cut }
 
 -- the position behind the last byte
 abbrev pub end_of : Outgoing → ℕ
@@ -28,12 +37,74 @@ end_of v = v.base + length v.queue
 abbrev pub room_of : Outgoing → ℕ
 room_of v = min (v.capacity - length v.queue) (2 ^ 64 - 1 - end_of v)
 
+-- of the bytes kept from position p on, where those end that stand in a row in the storage
+abbrev pub row_end : Outgoing → ℕ → ℕ
+row_end v p = if nat_lt p v.cut then min v.cut (end_of v) else end_of v
+
+-- where the storage begins again for the bytes that are written next: if nothing is kept, the first
+-- of them stands at the storage's beginning
+abbrev pub next_cut : Outgoing → ℕ
+next_cut v = if nat_eq (length v.queue) 0 then v.base + v.capacity else v.cut
+
+-- of the bytes that can be written, how many stand in a row in the storage
+abbrev pub room_in_row : Outgoing → ℕ
+room_in_row v =
+    if nat_lt (end_of v) (next_cut v) then min (room_of v) (next_cut v - end_of v) else room_of v
+
+-- these bytes were written behind those that are kept
+abbrev pub with_written : Outgoing → List ℕ → Outgoing
+with_written v xs = record v { queue = v.queue ++ xs; cut = next_cut v }
+
+-- ---- a closure is lent free bytes, whatever they hold, and answers how many it wrote, and more
+module _ {F R : Type 0}
+    (g : Once F (MutBor (List ℕ) × Unit {0}) ((ℕ × R) × (MutBor (List ℕ) × Unit {0}))) where
+  -- f may be run on n bytes
+  abbrev pub TakesRoom : F → ℕ → Type 0
+  TakesRoom f n = (xs : List ℕ) → length xs ≡ n → FnOnceTakesAtMut g f xs
+
+  -- run on n bytes, f counts at most n
+  abbrev pub CountsRoom : F → ℕ → Type 0
+  CountsRoom f n = (xs ws : List ℕ) (r : ℕ × R) → length xs ≡ n →
+      FnOnceReturnsAtMut g f xs r ws → r.0 ≤ n
+
+  -- f was run on all the room that stands in a row, left ws there and gave the answer: the first
+  -- ones of ws, as many as it counts, were written
+  abbrev pub CalledOnRoom : F → Outgoing → ℕ × R → Outgoing → Type 0
+  CalledOnRoom f old answer new = (xs : List ℕ) × (ws : List ℕ)
+      × (length xs ≡ room_in_row old)
+      × (length ws ≡ room_in_row old)
+      × FnOnceReturnsAtMut g f xs answer ws
+      × (new ≡ with_written old (take answer.0 ws))
+
+-- all below position n was let go; the storage begins again later by its length once n is past that
+abbrev pub let_go : Outgoing → ℕ → List (ℕ × ℕ) → Outgoing
+let_go v n ranges = outgoing v.capacity n (drop (n - v.base) v.queue) ranges
+    (if nat_lt n v.cut then v.cut else v.cut + v.capacity)
+
 -- numbers outside what is kept change nothing
 abbrev pub acknowledged : Outgoing → ℕ → List (ℕ × ℕ) → Outgoing
 acknowledged v n ranges =
-    if nat_le v.base n && nat_le n (end_of v)
-    then outgoing v.capacity n (drop (n - v.base) v.queue) ranges
-    else v
+    if nat_le v.base n && nat_le n (end_of v) then let_go v n ranges else v
+
+-- ---- several acknowledgements, each of a position and of ranges
+-- what is kept once they were taken, one after another
+abbrev pub all_acknowledged : Outgoing → List (ℕ × List (ℕ × ℕ)) → Outgoing
+all_acknowledged v [] = v
+all_acknowledged v ((n, ranges) ∷ acks) = all_acknowledged (acknowledged v n ranges) acks
+
+-- the greatest of p and of their positions, but of those above the limit
+abbrev pub greatest_within : ℕ → ℕ → List (ℕ × List (ℕ × ℕ)) → ℕ
+greatest_within limit p [] = p
+greatest_within limit p ((n, ranges) ∷ acks) =
+    greatest_within limit (if nat_le n limit then max p n else p) acks
+
+-- a sender keeps all from the greatest position on that was acknowledged, of those up to its end
+abbrev pub KeepsFromGreatest : Type 0
+KeepsFromGreatest = (v : Outgoing) (acks : List (ℕ × List (ℕ × ℕ))) →
+    ((all_acknowledged v acks).base ≡ greatest_within (end_of v) v.base acks)
+    × (end_of (all_acknowledged v acks) ≡ end_of v)
+    × ((all_acknowledged v acks).queue
+    ≡ drop ((all_acknowledged v acks).base - v.base) v.queue)
 
 -- what is kept is the rest of w, from its position on
 pub record Sends (f : ℕ) (w : List ℕ) (v : Outgoing) : Type 0 where

@@ -9,7 +9,7 @@ use Rattle.net_receiver.specs.Stored.{Stored}
 use Rattle.net_stream.specs.Outgoing.{Outgoing, end_of, acknowledged}
 use Rattle.net_stream.specs.Frames.{decoded}
 use Rattle.net_stream.specs.Reported.{most_reported, ranges_of}
-use Rattle.net_stream.specs.Carrying.{IsMarked}
+use Rattle.net_stream.specs.Sending.{IsMarked}
 
 -- a frame that begins past p brings nothing that counts
 abbrev pub reach_one : ℕ → Option (ℕ × List ℕ) → ℕ

@@ -1,9 +1,13 @@
 -- Ranges of positions that a receiver reports to a sender: each a start and an end, not included.
 --     reports ranges p      whether the position p lies in one of the ranges
 --     unreported ranges p n      how many of the n positions from p on lie in none of the ranges
+--     count_from ranges p      how many positions from p on lie in the first range that has p
+--     next_start ranges p limit      the least start above p, or the limit if that is less
+--     last_end ranges p      the greatest end, or p if that is greater
 --     listed ranges      the ranges as bytes: each start, and each end, in 8 bytes
 --     ranges_of n xs      the first n ranges that bytes list
-use Rattle.std.specs.Prelude.{ℕ, zero, suc, Bool, not, List, [], ◌∷◌, Option, Some, None}
+use Rattle.std.specs.Prelude.{ℕ, zero, suc, ◌-◌, min, max, nat_lt, nat_eq, if◌then◌else◌}
+use Rattle.std.specs.Prelude.{Bool, not, List, [], ◌∷◌, length, Option, Some, None}
 use Rattle.std.specs.List.{list_any, count_by, range_with_len}
 use Rattle.net_storage.specs.Positions.{lies_in}
 use Rattle.net_stream.specs.Frames.{frame_of, decoded}
@@ -16,9 +20,29 @@ reports ranges p = list_any (lies_in p) ranges
 abbrev pub unreported : List (ℕ × ℕ) → ℕ → ℕ → ℕ
 unreported ranges p n = count_by (λ q. not (reports ranges q)) (range_with_len p n)
 
+-- how many positions from p on lie in the first of the ranges that has p; 0 if none has it
+abbrev pub count_from : List (ℕ × ℕ) → ℕ → ℕ
+count_from [] p = 0
+count_from (range ∷ ranges) p = if lies_in p range then range.1 - p else count_from ranges p
+
+-- the least of the limit and of the starts above p
+abbrev pub next_start : List (ℕ × ℕ) → ℕ → ℕ → ℕ
+next_start [] p limit = limit
+next_start (range ∷ ranges) p limit =
+    next_start ranges p (if nat_lt p range.0 then min range.0 limit else limit)
+
+-- the greatest of p and of the ends
+abbrev pub last_end : List (ℕ × ℕ) → ℕ → ℕ
+last_end [] p = p
+last_end (range ∷ ranges) p = last_end ranges (max p range.1)
+
 -- an acknowledgement reports no more ranges than this
 abbrev pub most_reported : ℕ
 most_reported = 32
+
+-- whether there are as many, so that there may be ranges that weren't reported
+abbrev pub is_full : List (ℕ × ℕ) → Bool
+is_full ranges = nat_eq (length ranges) most_reported
 
 -- the ranges as bytes
 abbrev pub listed : List (ℕ × ℕ) → List ℕ

@@ -1,16 +1,12 @@
-//! What is counted of a copy.
+//! What is counted of a copy, and of the frames of a link.
 ghost use Rattle.std.specs.Prelude.{◌≡◌, ◌-◌, if◌then◌else◌};
-ghost use Rattle.net_stream.specs.Counting.{more, met, nothing_counted};
+ghost use Rattle.net_stream.specs.Counting.{more, met, no_frames, nothing_counted};
 
 use crate::fate::Fate;
 
-/// What is counted of a copy. Each count stays at the greatest number of 64 bits.
+/// What is counted of the frames of a link. Each count stays at the greatest number of 64 bits.
 #[derive(Debug, Clone, Copy, PartialEq, Eq, Drop)]
-pub struct Counts {
-    /// How many bytes the reader gave.
-    pub taken: u64,
-    /// How many bytes were written, up to a failed write.
-    pub bytes: u64,
+pub struct FrameCounts {
     /// How many frames were sent, acknowledgements too.
     pub sent: u64,
     /// How many bytes of the stream the frames carried, those that were sent again included.
@@ -23,28 +19,20 @@ pub struct Counts {
     pub late: u64,
     /// How many segments the receiver refused.
     pub refused: u64,
-    /// How many rounds were made.
-    pub rounds: u64,
-    /// How many microseconds the rounds took, in simulated time.
-    pub micros: u64,
 }
 
-impl Counts {
-    /// Nothing is counted yet.
-    pub fn new() -> Counts
-        ensures { result ≡ nothing_counted }
+impl FrameCounts {
+    /// No frame is counted yet.
+    pub fn new() -> FrameCounts
+        ensures { result ≡ no_frames }
     {
-        Counts {
-            taken: 0,
-            bytes: 0,
+        FrameCounts {
             sent: 0,
             payload: 0,
             lost: 0,
             repeated: 0,
             late: 0,
             refused: 0,
-            rounds: 0,
-            micros: 0,
         }
     }
 
@@ -70,12 +58,42 @@ impl Counts {
             self.refused = self.refused.saturating_add(1);
         }
     }
+}
+
+/// What is counted of a copy. Each count stays at the greatest number of 64 bits.
+#[derive(Debug, Clone, Copy, PartialEq, Eq, Drop)]
+pub struct Counts {
+    /// How many bytes the reader gave.
+    pub taken: u64,
+    /// How many bytes the writer took.
+    pub bytes: u64,
+    /// How many rounds were begun.
+    pub rounds: u64,
+    /// How many microseconds the rounds took, in simulated time.
+    pub micros: u64,
+    /// What became of the frames.
+    pub frames: FrameCounts,
+}
+
+impl Counts {
+    /// Nothing is counted yet.
+    pub fn new() -> Counts
+        ensures { result ≡ nothing_counted }
+    {
+        Counts {
+            taken: 0,
+            bytes: 0,
+            rounds: 0,
+            micros: 0,
+            frames: FrameCounts::new(),
+        }
+    }
 
     /// Returns how many bytes were sent more than once: what frames carried beyond what the reader
     /// gave.
     pub fn sent_again(&self) -> u64
-        ensures { result ≡ self.now.payload - self.now.taken }
+        ensures { result ≡ self.now.frames.payload - self.now.taken }
     {
-        self.payload.saturating_sub(self.taken)
+        self.frames.payload.saturating_sub(self.taken)
     }
 }

@@ -1,6 +1,6 @@
 //! What becomes of frames.
 ghost use Rattle.std.specs.Prelude.{◌≡◌};
-ghost use Rattle.net_stream.specs.Fates.{fate_of, comes, returns, next_fate, after_fate};
+ghost use Rattle.net_stream.specs.Fates.{fate_of, comes, comes_late, next_fate, after_fate};
 
 use net_base::rand::Rand;
 use std::marker::Model;
@@ -59,8 +59,8 @@ impl Fate {
     }
 
     /// Whether a frame of this fate comes late, for the first time or once more.
-    pub fn returns(self) -> bool
-        ensures { result ≡ returns self }
+    pub fn comes_late(self) -> bool
+        ensures { result ≡ comes_late self }
     {
         match self {
             Fate::Repeated | Fate::Late => true,

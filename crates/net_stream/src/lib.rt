@@ -1,23 +1,29 @@
 //! A stream of bytes over a link that loses, repeats and reorders frames.
 #![tactic(auto)]
 
+mod arriving;
 mod copying;
 mod counts;
 mod error;
+mod exchange;
 mod fate;
 mod frame;
+pub mod laws;
 mod link;
+mod passing;
 mod path;
 mod reported;
+mod round;
 mod sender;
+mod sending;
 mod timer;
 
 pub use copying::{Settings, copy, copy_over};
-pub use counts::Counts;
+pub use counts::{Counts, FrameCounts};
 pub use error::LinkError;
 pub use fate::{Fate, Fates, Rates};
-pub use frame::{decode, round_trip, send_again, send_frame};
-pub use link::{acknowledge, arrive, pass_round, transmit};
+pub use frame::{decode, distinct_frames, round_trip, send_again, send_frame};
+pub use link::Link;
 pub use path::Path;
 pub use reported::Reported;
-pub use sender::Sender;
+pub use sender::{Sender, keeps_from_greatest};

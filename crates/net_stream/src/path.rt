@@ -45,6 +45,10 @@ impl<'f, A: Allocator + Copy> Path<'f, A> {
     }
 
     /// Puts a frame of this position and this payload behind those on their way.
+    ///
+    /// # Requires
+    ///
+    /// The payload and its position, 8 bytes, have a length below 2^64.
     pub fn send(&mut self, now: Instant, pos: u64, payload: &[u8]) -> Result<(), AllocError>
         requires { length payload.now + 8 < 2 ^ 64 }
         ensures ok { OnOk result (self.new

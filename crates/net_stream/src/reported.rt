@@ -1,17 +1,18 @@
 //! What a receiver reports of the bytes that it holds out of order.
-ghost use Rattle.std.specs.Prelude.{◌≡◌, ◌+◌, ◌-◌, ◌^◌, ◌<◌, ◌≤◌, ◌++◌, ◌∷◌, [], ℕ, length, take};
-ghost use Rattle.std.specs.Prelude.{All, IsTrue, IsFalse, MatchOption, None, Some};
+ghost use Rattle.std.specs.Prelude.{◌≡◌, ◌+◌, ◌^◌, ◌<◌, ◌≤◌, ◌++◌, ◌∷◌, [], length, take};
+ghost use Rattle.std.specs.Prelude.{All, MatchOption, None, Some, min, nat_lt, if◌then◌else◌};
 ghost use Rattle.std.specs.Int.{w64, to_be_bytes};
 ghost use Rattle.net_storage.specs.Positions.{maximal_runs};
 ghost use Rattle.net_receiver.specs.Stored.{domain};
-ghost use Rattle.net_stream.specs.Reported.{reports, most_reported, listed, first_range, ranges_of};
+ghost use Rattle.net_stream.specs.Reported.{count_from, next_start, last_end, is_full};
+ghost use Rattle.net_stream.specs.Reported.{most_reported, listed, first_range, ranges_of};
 
 use crate::frame::decode;
 use net_receiver::Receiver;
 use std::marker::Model;
 
 /// The most ranges that an acknowledgement reports.
-const MOST_REPORTED: usize = 32;
+pub(crate) const MOST_REPORTED: usize = 32;
 
 /// How many bytes they take.
 pub(crate) const REPORT_LEN: usize = 16 * MOST_REPORTED;
@@ -27,13 +28,13 @@ pub struct Reported {
 }
 
 impl Model for Reported {
-    ghost use Rattle.std.specs.Prelude.{ℕ, List, take, ◌≤◌};
+    ghost use Rattle.std.specs.Prelude.{ℕ, List, length, take, ◌≡◌, ◌≤◌};
 
     ghost Value = { List (ℕ × ℕ) };
 
     ghost view = { λ r. take r.count r.ranges };
 
-    ghost invariant = { λ r. r.count ≤ 32 };
+    ghost invariant = { λ r. (r.count ≤ 32) × (length r.ranges ≡ 32) };
 }
 
 impl Reported {
@@ -73,11 +74,17 @@ impl Reported {
         self.count += 1;
     }
 
+    /// Returns whether there are 32 ranges.
+    pub(crate) fn is_full(&self) -> bool
+        ensures { result ≡ is_full self.now }
+    {
+        self.count == MOST_REPORTED
+    }
+
     /// Returns how many positions from `pos` on lie in the first range that has `pos`, or 0 if none
     /// has it.
     pub(crate) fn count_from(&self, pos: u64) -> u64
-        ensures inside { (q : ℕ) → pos ≤ q → q < pos + result → IsTrue (reports self.now q) }
-        ensures none { result ≡ 0 → IsFalse (reports self.now pos) }
+        ensures { result ≡ count_from self.now pos }
     {
         for i in 0..self.count {
             let (start, end) = self.ranges[i];
@@ -88,26 +95,35 @@ impl Reported {
         0
     }
 
-    /// Returns the first start of a range above `pos`, or 2^64 - 1 if there is none.
-    pub(crate) fn next_start(&self, pos: u64) -> u64
-        ensures above { pos < 2 ^ 64 - 1 → pos < result }
-        ensures between { IsFalse (reports self.now pos) →
-            (q : ℕ) → pos ≤ q → q < result → IsFalse (reports self.now q) }
+    /// Returns the first start of a range above `pos` and below `limit`, or `limit` if there is
+    /// none.
+    pub(crate) fn next_start(&self, pos: u64, limit: u64) -> u64
+        ensures { result ≡ next_start self.now pos limit }
     {
-        let mut nearest = u64::MAX;
+        let mut nearest = limit;
         for i in 0..self.count {
             let (start, _end) = self.ranges[i];
             nearest = nearer(pos, start, nearest);
         }
         nearest
     }
+
+    /// Returns the greatest end of a range, or `pos` if no end is greater.
+    pub(crate) fn last_end(&self, pos: u64) -> u64
+        ensures { result ≡ last_end self.now pos }
+    {
+        let mut last = pos;
+        for i in 0..self.count {
+            let (_start, end) = self.ranges[i];
+            last = last.max(end);
+        }
+        last
+    }
 }
 
 /// Returns the lesser of two positions, if the first is above `pos`, and else the second.
 fn nearer(pos: u64, start: u64, nearest: u64) -> u64
-    ensures least { result ≤ nearest }
-    ensures start { pos < start → result ≤ start }
-    ensures above { pos < nearest → pos < result }
+    ensures { result ≡ (if nat_lt pos start then min start nearest else nearest) }
 {
     if start <= pos {
         return nearest;

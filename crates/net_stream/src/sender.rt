@@ -1,22 +1,28 @@
 //! The sender of a stream.
 ghost use Rattle.std.specs.Prelude.{◌≡◌, ◌+◌, ◌-◌, ◌<◌, ◌≤◌, ◌==◌, ◌^◌, ◌++◌, ℕ, List, []};
-ghost use Rattle.std.specs.Prelude.{length, take, drop, min, IsTrue, IsFalse};
+ghost use Rattle.std.specs.Prelude.{length, take, drop, min, slice_index_or, IsTrue, IsFalse};
 ghost use Rattle.net_storage.specs.Managed.{elements};
-ghost use Rattle.net_receiver.specs.Truthful.{Says};
-ghost use Rattle.net_stream.specs.Outgoing.{outgoing, end_of, room_of, acknowledged, Sends};
-ghost use Rattle.net_stream.specs.Reported.{reports};
+ghost use Rattle.net_receiver.specs.OneStream.{Says};
+ghost use Rattle.net_stream.specs.Outgoing.{outgoing, end_of, room_of, row_end, with_written};
+ghost use Rattle.net_stream.specs.Outgoing.{room_in_row, acknowledged, Sends};
+ghost use Rattle.net_stream.specs.Outgoing.{KeepsFromGreatest};
+ghost use Rattle.net_stream.specs.Outgoing.{TakesRoom, CountsRoom, CalledOnRoom};
+ghost use Rattle.net_stream.specs.Reported.{reports, is_full};
+ghost use Rattle.net_stream.specs.Sending.{spared_from, next_reported, stop_of};
 
 use crate::reported::Reported;
 use net_receiver::laws;
+use net_storage::ring_buffer::laws::overwritten;
 use net_storage::{ManagedSlice, RingBuffer};
 use std::marker::Model;
 
 /// The sender of a stream: it keeps the bytes that were written and not yet acknowledged.
 ///
 /// Positions are absolute and counted in bytes, as a `Receiver` counts them. Contracts see the
-/// capacity, the position of the first byte that is kept, the bytes that are kept, and the ranges
-/// that the last acknowledgement reported; `Sends f w` says of a sender that all bytes that were
-/// ever written to it are `w`, the first at position `f`. No call takes memory. smoltcp's TCP
+/// capacity, the position of the first byte that is kept, the bytes that are kept, the ranges that
+/// the last acknowledgement reported, and the position at which the storage begins again; `Sends f
+/// w` says of a sender that all bytes that were ever written to it are `w`, the first at position
+/// `f`. No call takes memory. smoltcp's TCP
 /// socket has the transmit buffer as a part of itself, and takes no notice of reported ranges.
 #[derive(Drop)]
 pub struct Sender<'a> {
@@ -25,14 +31,21 @@ pub struct Sender<'a> {
     reported: Reported,
 }
 
+/// What a sender keeps after several acknowledgements begins at the greatest position of those that
+/// its end isn't below, whatever their order.
+pub fn keeps_from_greatest()
+    ensures { KeepsFromGreatest }
+{}
+
 impl<'a> Model for Sender<'a> {
-    ghost use Rattle.std.specs.Prelude.{◌+◌, ◌<◌, ◌^◌, length};
+    ghost use Rattle.std.specs.Prelude.{◌+◌, ◌-◌, ◌<◌, ◌^◌, length};
     ghost use Rattle.net_storage.specs.Ring.{queue, capacity};
     ghost use Rattle.net_stream.specs.Outgoing.{Outgoing, outgoing};
 
     ghost Value = { Outgoing };
 
-    ghost view = { λ s. outgoing (capacity s.ring) s.base (queue s.ring) s.reported };
+    ghost view = { λ s. outgoing (capacity s.ring) s.base (queue s.ring) s.reported
+        (s.base + (capacity s.ring - s.ring.read_at)) };
 
     ghost invariant = { λ s. s.base + length (queue s.ring) < 2 ^ 64 };
 }
@@ -40,7 +53,7 @@ impl<'a> Model for Sender<'a> {
 impl<'a> Sender<'a> {
     /// A sender of a stream that begins at position 0: `new_at` with 0.
     pub fn new(storage: ManagedSlice<'a, u8>) -> Self
-        ensures state { result ≡ outgoing (length (elements storage.entry)) 0 [] [] }
+        ensures state { let n = length (elements storage.entry) in result ≡ outgoing n 0 [] [] n }
         ensures sends { Sends 0 [] result }
     {
         Self::new_at(storage, 0)
@@ -50,7 +63,8 @@ impl<'a> Sender<'a> {
     ///
     /// Its capacity is the length of `storage` in bytes, of which 0 is allowed.
     pub fn new_at(storage: ManagedSlice<'a, u8>, first: u64) -> Self
-        ensures state { result ≡ outgoing (length (elements storage.entry)) first [] [] }
+        ensures state { let n = length (elements storage.entry) in
+            result ≡ outgoing n first [] [] (first + n) }
         ensures sends { Sends first [] result }
     {
         Sender {
@@ -62,7 +76,8 @@ impl<'a> Sender<'a> {
 
     /// Returns the position of the first byte that is kept: all before it is acknowledged.
     pub fn base(&self) -> u64
-        ensures { result ≡ self.now.base }
+        ensures value { result ≡ self.now.base }
+        ensures fits { end_of self.now < 2 ^ 64 }
     {
         self.base
     }
@@ -70,6 +85,8 @@ impl<'a> Sender<'a> {
     /// Returns the position behind the last byte that was written.
     pub fn end(&self) -> u64
         ensures end { result ≡ end_of self.now }
+        ensures fits { end_of self.now < 2 ^ 64 }
+        ensures room { length self.now.queue ≤ self.now.capacity }
     {
         self.base + self.ring.len() as u64
     }
@@ -99,8 +116,7 @@ impl<'a> Sender<'a> {
     /// Keeps the first of these bytes, as many as `window` says, and returns how many.
     pub fn write(&mut self, bytes: &[u8]) -> usize
         ensures count { result ≡ min (length bytes.now) (room_of self.old) }
-        ensures state { self.new
-            ≡ record self.old { queue = self.old.queue ++ take result bytes.now } }
+        ensures state { self.new ≡ with_written self.old (take result bytes.now) }
         ensures sends { (f : ℕ) (w : List ℕ) → Sends f w self.old
             → Sends f (w ++ take result bytes.now) self.new }
     {
@@ -108,19 +124,59 @@ impl<'a> Sender<'a> {
         self.ring.enqueue_slice(&bytes[..count])
     }
 
-    /// Lends at most `max` of the bytes that are kept, from the one at `pos` on, without a copy: as
-    /// many as lie in a row in the storage, at least one if `max` is not 0. None if the byte at
-    /// `pos` isn't kept.
+    /// Runs `f` on the free bytes that come next, keeps as many of them as `f` counts, and returns
+    /// what `f` returned.
+    ///
+    /// `f` is lent as many as stand in a row in the storage, as far as positions go; what they hold
+    /// isn't said. It must count no more than it is lent. smoltcp's `send` does the same.
+    ///
+    /// # Requires
+    ///
+    /// `f` may be called on the free bytes that it is lent, and counts at most as many.
+    pub fn send_with<R, F: FnOnce(&mut [u8]) -> (usize, R)>(&mut self, f: F) -> (usize, R)
+        requires callable { TakesRoom F.FnOnce f (room_in_row self.old) }
+        requires count { CountsRoom F.FnOnce f (room_in_row self.old) }
+        ensures called { CalledOnRoom F.FnOnce f self.old result self.new }
+        ensures sends { (f : ℕ) (w : List ℕ) → Sends f w self.old
+            → Sends f (w ++ drop (length self.old.queue) self.new.queue) self.new }
+    {
+        overwritten::<u8>();
+        self.restart();
+        // Called for its clauses alone: by them what is counted fits the ring.
+        let _len = self.ring.len();
+        let most = self.window();
+        let answer = f(self.ring.get_unallocated(0, most));
+        self.ring.enqueue_unallocated(answer.0);
+        answer
+    }
+
+    /// Moves an empty sender's bytes to come to the beginning of the storage.
+    fn restart(&mut self)
+        ensures { self.new ≡ with_written self.old [] }
+    {
+        if self.is_empty() {
+            self.ring.clear();
+        }
+    }
+
+    /// Lends the bytes that are kept from the one at `pos` on, at most `max`, without a copy: as many
+    /// as lie in a row in the storage, which wraps. None if the byte at `pos` isn't kept.
     pub fn segment(&self, pos: u64, max: usize) -> &[u8]
         ensures value { result.now
             ≡ take (length result.now) (drop (pos - self.now.base) self.now.queue) }
+        ensures count { self.now.base ≤ pos
+            → length result.now ≡ min max (row_end self.now pos - pos) }
         ensures max { length result.now ≤ max }
         ensures before { pos < self.now.base → result.now ≡ [] }
         ensures some { self.now.base ≤ pos → pos < end_of self.now → 0 < max
             → 0 < length result.now }
+        ensures each { (q d : ℕ) → pos ≤ q → q < pos + length result.now
+            → slice_index_or self.now.queue (q - self.now.base) d
+            ≡ slice_index_or result.now (q - pos) d }
         ensures within { 0 < length result.now → pos + length result.now ≤ end_of self.now }
         ensures says { (f : ℕ) (w : List ℕ) → Sends f w self.now → self.now.base ≤ pos
             → Says f w pos result.now }
+        ensures fits { end_of self.now < 2 ^ 64 }
     {
         laws::says();
         if pos < self.base || pos >= self.end() {
@@ -132,6 +188,7 @@ impl<'a> Sender<'a> {
     /// Returns how many of the bytes that are kept, from the one at `pos` on, lie in the first
     /// reported range that has `pos`: 0 if none has, or `pos` is at or past the end.
     pub(crate) fn reported_from(&self, pos: u64) -> u64
+        ensures value { result ≡ spared_from self.now pos }
         ensures inside { (q : ℕ) → pos ≤ q → q < pos + result
             → IsTrue (reports self.now.reported q) }
         ensures none { pos < end_of self.now → result ≡ 0
@@ -142,13 +199,35 @@ impl<'a> Sender<'a> {
         self.reported.count_from(pos).min(left)
     }
 
-    /// Returns the first start of a reported range above `pos`, or 2^64 - 1 if there is none.
+    /// Returns the first start of a reported range above `pos` and below the end, or the end if
+    /// there is none.
     pub(crate) fn next_reported(&self, pos: u64) -> u64
+        ensures value { result ≡ next_reported self.now pos }
         ensures above { pos < end_of self.now → pos < result }
         ensures between { IsFalse (reports self.now.reported pos) →
             (q : ℕ) → pos ≤ q → q < result → IsFalse (reports self.now.reported q) }
     {
-        self.reported.next_start(pos)
+        self.reported.next_start(pos, self.end())
+    }
+
+    /// Returns whether as many ranges were reported as an acknowledgement has room for: then the
+    /// receiver may hold bytes that it couldn't report.
+    pub(crate) fn is_report_full(&self) -> bool
+        ensures { result ≡ is_full self.now.reported }
+    {
+        self.reported.is_full()
+    }
+
+    /// Returns the position at and above which no frame begins: the end, or, if the report is full,
+    /// the one behind the end of the last range.
+    pub(crate) fn stop(&self) -> u64
+        ensures { result ≡ stop_of self.now }
+    {
+        if !self.is_report_full() {
+            return self.end();
+        }
+        let last = self.reported.last_end(self.base);
+        last.saturating_add(1).min(self.end())
     }
 
     /// Lets go the bytes below `next`, and keeps the ranges that the receiver reported, in place of

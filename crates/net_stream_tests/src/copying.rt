@@ -1,6 +1,6 @@
 //! Copies over links of known fates: what arrives, what is counted, and how each error ends.
 
-use net_stream::{Counts, Fate, Fates, Rates, Settings, copy, copy_over};
+use net_stream::{Counts, Fates, Rates, Settings, copy, copy_over};
 use net_testing::{NEVER, Refusing, Sink, Source};
 use std::alloc::{Allocator, Global};
 use std::io::ErrorKind;
@@ -19,6 +19,7 @@ fn settings(first: u64, capacity: usize, payload: u32) -> Settings {
         first,
         capacity,
         payload,
+        flight: 4_096,
         rounds: 100,
     }
 }
@@ -103,96 +104,6 @@ fn all_comes_whatever_becomes_of_the_frames(rt: HostRuntime) -> Result<(), Fail>
     Ok(())
 }
 
-/// A copy: its first position, the fates of its frames, the rates behind them, its input, and then
-/// how it ends, how many bytes came, frames were sent, bytes were sent again and rounds were made.
-#[derive(Drop)]
-struct Case(
-    u64,
-    &'static [Fate],
-    Rates,
-    &'static [u8],
-    &'static str,
-    [u64; 4],
-);
-
-#[test]
-fn counts_are_those_of_the_fates(rt: HostRuntime) -> Result<(), Fail> {
-    let gone = Rates {
-        lost: 100,
-        repeated: 0,
-        late: 0,
-    };
-    let cases = [
-        // Three frames, an acknowledgement for each and one more; then the end is read, and one
-        // acknowledgement tells once more what has come.
-        Case(0, &[], PERFECT, b"abcdef", "Ok", [6, 8, 0, 2]),
-        // The second frame is lost, and it alone is sent again: the third was reported.
-        Case(
-            0,
-            &[Fate::Delivered, Fate::Lost, Fate::Delivered],
-            PERFECT,
-            b"abcdef",
-            "Ok",
-            [6, 9, 2, 2],
-        ),
-        // The first and the third are lost, and both are sent again.
-        Case(
-            0,
-            &[Fate::Lost, Fate::Delivered, Fate::Lost],
-            PERFECT,
-            b"abcdef",
-            "Ok",
-            [6, 10, 4, 2],
-        ),
-        Case(0, &[], gone, b"abcdef", "gave up", [0, 400, 594, 100]),
-        // 10 positions are left; the end isn't read once they are used up.
-        Case(
-            u64::MAX - 10,
-            &[],
-            PERFECT,
-            b"012345678",
-            "Ok",
-            [9, 12, 0, 2],
-        ),
-        Case(
-            u64::MAX - 10,
-            &[],
-            PERFECT,
-            b"0123456789a",
-            "gave up",
-            [10, 111, 0, 101],
-        ),
-    ];
-    for Case(first, listed, rates, text, end, numbers) in cases {
-        let mut source = Source::new(text);
-        let mut sink = Sink::new(rt.alloc())?;
-        let mut counts = Counts::new();
-        let told = ending(
-            rt.alloc(),
-            rt.alloc(),
-            settings(first, 16, 2),
-            Fates::new(listed, 1, rates),
-            Fates::new(&[], 1, PERFECT),
-            &mut source,
-            &mut sink,
-            &mut counts,
-        )?;
-        assert_eq!(rt; told.as_str(), end);
-        let counted = [
-            counts.bytes,
-            counts.sent,
-            counts.sent_again(),
-            counts.rounds,
-        ];
-        assert_eq!(rt; counted, numbers);
-        let front = &text[..sink.bytes.len().min(text.len())];
-        assert_eq!(rt; sink.bytes.as_slice(), front);
-        assert_eq!(rt; sink.bytes.len() as u64, counts.bytes);
-        assert_eq!(rt; sink.flushes, 1);
-    }
-    Ok(())
-}
-
 /// A round reads as much as the third storage takes, keeps as much as the first, and the receiver
 /// takes as much as the second. The capacity of the settings isn't read.
 #[test]
@@ -217,7 +128,8 @@ fn each_lent_storage_has_its_own_use(rt: HostRuntime) -> Result<(), Fail> {
         &mut counts,
     );
     assert!(rt; ended.is_ok() && sink.bytes.as_slice() == text);
-    assert_eq!(rt; [counts.sent, counts.payload, counts.rounds], [33, 22, 5]);
+    let counted = [counts.frames.sent, counts.frames.payload, counts.rounds];
+    assert_eq!(rt; counted, [33, 22, 5]);
     Ok(())
 }
 
@@ -261,6 +173,7 @@ fn each_refusal_ends_a_copy(rt: HostRuntime) -> Result<(), Fail> {
         )?;
         assert_eq!(rt; told.as_str(), end, "{refused} {read_fails} {write_fails}");
         assert_eq!(rt; sink.bytes.as_slice(), &b"abcdef"[..count]);
+        assert_eq!(rt; counts.bytes, count as u64);
     }
     Ok(())
 }
@@ -273,7 +186,7 @@ fn each_refused_request_leaves_a_front(rt: HostRuntime) -> Result<(), Fail> {
         repeated: 20,
         late: 20,
     };
-    for refused in 0..80usize {
+    for refused in 0..1_000usize {
         let heap = Refusing::new(rt.alloc(), refused);
         let mut source = Source::new(text);
         let mut sink = Sink::new(rt.alloc())?;
@@ -288,12 +201,20 @@ fn each_refused_request_leaves_a_front(rt: HostRuntime) -> Result<(), Fail> {
             &mut sink,
             &mut counts,
         )?;
-        assert!(rt; told.as_str() == "out of memory" || sink.bytes.as_slice() == text);
+        assert!(rt;
+            told.as_str() == "out of memory" || sink.bytes.as_slice() == text,
+            "{refused}"
+        );
         assert_eq!(rt;
             sink.bytes.as_slice(),
             &text[..sink.bytes.len().min(text.len())]
         );
         assert_eq!(rt; sink.bytes.len() as u64, counts.bytes, "{refused}");
+        if told.as_str() == "Ok" {
+            assert_eq!(rt; refused, heap.requests());
+            return Ok(());
+        }
     }
+    assert!(rt; false, "no run had the memory that it asked for");
     Ok(())
 }

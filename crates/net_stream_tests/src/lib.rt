@@ -6,3 +6,9 @@
 
 #[cfg(test)]
 mod copying;
+#[cfg(test)]
+mod counted;
+#[cfg(test)]
+mod linked;
+#[cfg(test)]
+mod sending;

@@ -2,11 +2,13 @@
 //! writers over memory that give and take little, and that fail at one known call.
 #![tactic(auto)]
 
+mod refusals;
 mod refusing;
 mod requests;
 mod sink;
 mod source;
 
+pub use refusals::refuse_each;
 pub use refusing::Refusing;
 pub use sink::Sink;
 pub use source::{NEVER, Source};

@@ -22,6 +22,8 @@ pub struct Sink {
     pub kind: Option<ErrorKind>,
     /// How many flushes there were.
     pub flushes: usize,
+    /// How many bytes had been taken at the last of them.
+    pub flushed: usize,
     /// The kind of the error of each flush, if they fail.
     pub flush_kind: Option<ErrorKind>,
 }
@@ -56,6 +58,7 @@ impl Sink {
             failing_call,
             kind,
             flushes: 0,
+            flushed: 0,
             flush_kind: None,
         })
     }
@@ -80,6 +83,7 @@ impl Write for Sink {
 
     fn flush(&mut self) -> io::Result<()> {
         self.flushes = self.flushes.saturating_add(1);
+        self.flushed = self.bytes.len();
         let Some(kind) = self.flush_kind else {
             return Ok(());
         };

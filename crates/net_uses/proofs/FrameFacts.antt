@@ -49,7 +49,7 @@ module _ {A B : Type 0} (taken : A → List ℕ → A → Type 0) (is_idle : A �
       in
       ap length all ∙ length-append fs (incoming x') ∙ ap (λ (k : ℕ). k + length (incoming x')) p.passed.count
 
-module _ {A B : Type 0} (taken : A → List ℕ → A → Type 0) (sent : B → List ℕ → B → Type 0) (incoming : A → List (List ℕ)) (outgoing : B → List (List ℕ)) where
-  pub lost_lists : TakesFirst taken incoming → PutsLast sent outgoing → (max : ℕ) (x x' : A) (y y' : B) → ForwardedAndLost taken sent max x x' y y' → (moved : List (List ℕ)) × (frame : List ℕ) × (incoming x ≡ moved ++ (frame ∷ incoming x')) × (outgoing y' ≡ outgoing y ++ moved)
+module _ {A B : Type 0} (taken : A → List ℕ → A → Type 0) (sent : B → List ℕ → B → Type 0) (lacks_memory : B → ℕ → Type 0) (incoming : A → List (List ℕ)) (outgoing : B → List (List ℕ)) where
+  pub lost_lists : TakesFirst taken incoming → PutsLast sent outgoing → (max : ℕ) (x x' : A) (y y' : B) → ForwardedAndLost taken sent lacks_memory max x x' y y' → (moved : List (List ℕ)) × (frame : List ℕ) × (incoming x ≡ moved ++ (frame ∷ incoming x')) × (outgoing y' ≡ outgoing y ++ moved)
   lost_lists takes puts max x x' y y' l =
       (l.frames, l.lost, taken_list taken incoming takes x x' (l.frames ++ (l.lost ∷ [])) l.taken_off ∙ append_assoc l.frames (l.lost ∷ []) (incoming x'), sent_list sent outgoing puts y y' l.frames l.sent_on)

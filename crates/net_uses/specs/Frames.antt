@@ -14,13 +14,16 @@ module _ {A B : Type 0} (taken : A → List ℕ → A → Type 0) (sent : B → 
     pub taken_off : Each taken x frames x'
     pub sent_on : Each sent y frames y'
 
-  -- the same of fewer than n frames, and then one more was taken off, and is lost
-  pub record ForwardedAndLost (n : ℕ) (x x' : A) (y y' : B) : Type 0 where
-    pub frames : List (List ℕ)
-    pub lost : List ℕ
-    pub count : length frames < n
-    pub taken_off : Each taken x (frames ++ (lost ∷ [])) x'
-    pub sent_on : Each sent y frames y'
+  module _ (lacks_memory : B → ℕ → Type 0) where
+    -- the same of fewer than n frames, and then one more was taken off, and is lost: the other
+    -- device has no memory for it
+    pub record ForwardedAndLost (n : ℕ) (x x' : A) (y y' : B) : Type 0 where
+      pub frames : List (List ℕ)
+      pub lost : List ℕ
+      pub count : length frames < n
+      pub taken_off : Each taken x (frames ++ (lost ∷ [])) x'
+      pub sent_on : Each sent y frames y'
+      pub refused : lacks_memory y' (length lost)
 
 module _ {A B : Type 0} (taken : A → List ℕ → A → Type 0) (is_idle : A → Type 0)
     (idled : A → A → Type 0) (is_busy : B → Type 0) (sent : B → List ℕ → B → Type 0) where

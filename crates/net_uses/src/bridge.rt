@@ -1,7 +1,6 @@
 //! A bridge of two devices.
 ghost use Rattle.std.specs.Prelude.{◌≡◌, ◌≤◌, ◌+◌, ◌∷◌, ◌++◌, [], ℕ, List, OnErr, IfOk, Ok, true};
-ghost use Rattle.std.specs.Prelude.{false};
-ghost use Rattle.std.specs.Prelude.{length};
+ghost use Rattle.std.specs.Prelude.{false, length};
 ghost use Rattle.net_uses.specs.Frames.{Passed, Stops, ForwardedAndLost};
 
 use net_base::phy::{Device, FrameLists, RxToken};
@@ -12,7 +11,8 @@ use std::alloc::AllocError;
 /// If it returns false, one device had no frame to hand over, and is what it then becomes, by
 /// default what it was, or the other had no room to send one; nothing was sent.
 ///
-/// If memory is refused, the frame was taken and nothing was sent.
+/// If memory is refused, which comes only if the other device lacks it for that frame, as it states
+/// in `lacks_memory`, the frame was taken and nothing was sent.
 pub fn forward_one<A: Device, B: Device>(
     from: &mut A,
     to: &mut B,
@@ -23,8 +23,8 @@ pub fn forward_one<A: Device, B: Device>(
     ensures unsent { result ≡ Ok false → to.new ≡ to.old }
     ensures forwarded { result ≡ Ok true
         → (frame : List ℕ) × A.taken from.old frame from.new × B.sent to.old frame to.new }
-    ensures err { OnErr result
-        ((frame : List ℕ) × A.taken from.old frame from.new × (to.new ≡ to.old)) }
+    ensures err { OnErr result ((frame : List ℕ) × A.taken from.old frame from.new
+        × (to.new ≡ to.old) × B.lacks_memory to.old (length frame)) }
 {
     // The room is asked for first: a frame that was taken without it would be lost.
     let Some(token) = to.transmit(timestamp) else {
@@ -43,6 +43,7 @@ pub fn forward_one<A: Device, B: Device>(
 /// no room to send one.
 ///
 /// If memory is refused, the frame that was taken last is lost, and each one before it was sent.
+/// That comes only if the other device lacks memory for that frame.
 pub fn forward<A: Device, B: Device>(
     from: &mut A,
     to: &mut B,
@@ -52,7 +53,7 @@ pub fn forward<A: Device, B: Device>(
     ensures forwarded { IfOk result (λ n. (n ≤ max)
         × Passed A.taken A.is_idle A.idled B.is_busy B.sent max n from.old from.new to.old to.new) }
     ensures err { OnErr result
-        (ForwardedAndLost A.taken B.sent max from.old from.new to.old to.new) }
+        (ForwardedAndLost A.taken B.sent B.lacks_memory max from.old from.new to.old to.new) }
 {
     for count in 0..max {
         if !forward_one(from, to, timestamp)? {
@@ -78,7 +79,7 @@ pub fn forward_lists<A: FrameLists, B: FrameLists>(
     ensures count { IfOk result
         (λ n. length (A.incoming from.old) ≡ n + length (A.incoming from.new)) }
     ensures err { OnErr result
-        (ForwardedAndLost A.taken B.sent max from.old from.new to.old to.new) }
+        (ForwardedAndLost A.taken B.sent B.lacks_memory max from.old from.new to.old to.new) }
     ensures lost { OnErr result ((moved : List (List ℕ)) × (frame : List ℕ)
         × (A.incoming from.old ≡ moved ++ frame ∷ A.incoming from.new)
         × (B.outgoing to.new ≡ B.outgoing to.old ++ moved)) }

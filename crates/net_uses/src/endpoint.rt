@@ -1,3 +1,5 @@
+ghost use Rattle.std.specs.Prelude.{◌≡◌, ◌↔◌, IsTrue};
+
 /// Where a datagram comes from, or where it goes.
 #[derive(Debug, Clone, Copy, PartialEq, Eq, Drop)]
 pub struct Endpoint {
@@ -6,3 +8,9 @@ pub struct Endpoint {
     /// A port.
     pub port: u16,
 }
+
+/// Two endpoints are equal exactly if their addresses and their ports are.
+pub fn endpoint_equality(x: &Endpoint, y: &Endpoint)
+    ensures { IsTrue (⟦<Endpoint as PartialEq>⟧.eq x.now y.now)
+        ↔ ((x.now.address ≡ y.now.address) × (x.now.port ≡ y.now.port)) }
+{}

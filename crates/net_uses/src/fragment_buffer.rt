@@ -59,6 +59,10 @@ impl<B: Elements<u8>, const N: usize> Model for Fragments<B, N> {
 impl<B: Elements<u8>, const N: usize> Fragments<B, N> {
     /// A packet of which nothing came, which is waited for up to `expires_at`. Condition: `N` is
     /// not zero.
+    ///
+    /// # Requires
+    ///
+    /// `N` is at least 1.
     pub fn new(bytes: B, expires_at: Instant) -> Self
         requires { 1 ≤ N }
         ensures bytes { result.bytes ≡ B.elements bytes }

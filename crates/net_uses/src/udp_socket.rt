@@ -136,6 +136,10 @@ impl<'a> UdpSocket<'a> {
     /// there is one, is given up.
     ///
     /// `Empty` changes nothing, and `emit` is not run.
+    ///
+    /// # Requires
+    ///
+    /// `emit` may be called on the first datagram to be sent, if there is one.
     pub fn dispatch<R, E, F: FnOnce(Endpoint, &[u8]) -> Result<R, E>>(
         &mut self,
         emit: F,

@@ -8,6 +8,8 @@ mod assertions;
 #[cfg(test)]
 mod bridge;
 #[cfg(test)]
+mod endpoint;
+#[cfg(test)]
 mod fragment_buffer;
 #[cfg(test)]
 mod inbox;

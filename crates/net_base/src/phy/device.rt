@@ -35,6 +35,11 @@ pub trait Device {
     /// A frame was sent: what the device was, the frame, what it is.
     ghost sent: { Self → List ℕ → Self → Type 0 };
 
+    /// Holds of a device, and of a number of bytes, if `send` may be refused memory for a frame of
+    /// so many. By default nothing is said. A device whose frames lie in memory of its own says here
+    /// that it never is.
+    ghost lacks_memory: { Self → ℕ → Type 0 } = { λ _ _. Unit {0} };
+
     /// What the device can do.
     ghost abilities: { Self → DeviceCapabilities };
 
@@ -66,8 +71,13 @@ pub trait Device {
     /// Sends one frame: runs `f` once on `len` zero bytes, sends what `f` made of them, and returns
     /// what `f` returned.
     ///
-    /// If memory is refused, `f` is let go without being run, hence its bound `Drop`, and the
-    /// device stays as it was. The token is spent in both cases.
+    /// If memory is refused, which comes only if `lacks_memory` holds of the device and `len`, as the
+    /// device states it, `f` is let go without being run, hence its bound `Drop`, and the device
+    /// stays as it was. The token is spent in both cases.
+    ///
+    /// # Requires
+    ///
+    /// `f` may be called on `len` zero bytes.
     fn send<R, F: FnOnce(&mut [u8]) -> R + Drop>(
         &mut self,
         token: Self::TxToken,
@@ -78,5 +88,6 @@ pub trait Device {
         ensures ok { IfOk result (λ r. (frame : List ℕ) × (length frame ≡ len)
             × FnOnceReturnsAtMut F.FnOnce f (replicate len 0) r frame
             × sent self.old frame self.new) }
-        ensures err { OnErr result (self.new ≡ self.old) };
+        ensures err { OnErr result (self.new ≡ self.old) }
+        ensures refused { OnErr result (lacks_memory self.old len) };
 }

@@ -41,6 +41,10 @@ impl DeviceCapabilities {
     }
 
     /// The bytes of the longest IP packet: those of the longest frame, less 14 on Ethernet.
+    ///
+    /// # Requires
+    ///
+    /// The MTU has room for the medium's header, as `has_ip_mtu` tests.
     pub fn ip_mtu(&self) -> usize
         requires has_ip_mtu { HasIpMtu self.now }
         ensures { result ≡ ip_mtu_of self.now }
@@ -61,6 +65,10 @@ impl DeviceCapabilities {
 
     /// The bytes of the longest payload of an IPv4 fragment behind an IP header of so many bytes:
     /// what is left of the longest IP packet, down to a multiple of 8.
+    ///
+    /// # Requires
+    ///
+    /// The MTU has room for the medium's header and this one, as `fits_ip_header` tests.
     pub fn max_ipv4_fragment_size(&self, ip_header_len: usize) -> usize
         requires fits_ip_header { FitsIpHeader self.now ip_header_len }
         ensures { result ≡ fragment_size_of self.now ip_header_len }

@@ -1,4 +1,4 @@
-ghost use Rattle.std.specs.Prelude.{◌≡◌, ℕ, List, OnErr, Ok, true, false};
+ghost use Rattle.std.specs.Prelude.{◌≡◌, ℕ, List, length, OnErr, Ok, true, false};
 ghost use Rattle.net_base.specs.Device.{Echoed};
 
 use crate::phy::{Device, RxToken};
@@ -8,11 +8,15 @@ use std::alloc::AllocError;
 /// Takes one frame off the device and sends that very frame back. Returns whether there was one; if
 /// there was none, the device becomes what it states in `idled`, by default what it was.
 ///
-/// If memory is refused, the frame was taken and nothing was sent.
+/// If memory is refused, which comes only if the device lacks it for that frame, as it states in
+/// `lacks_memory`, the frame was taken and nothing was sent.
 pub fn echo_once<D: Device>(device: &mut D, timestamp: Instant) -> Result<bool, AllocError>
     ensures idle { result ≡ Ok false → D.is_idle device.old × D.idled device.old device.new }
+    ensures same { result ≡ Ok false → ((old new : D) → D.idled old new → new ≡ old)
+        → device.new ≡ device.old }
     ensures echoed { result ≡ Ok true → Echoed D.taken D.sent device.old device.new }
-    ensures err { OnErr result ((frame : List ℕ) × D.taken device.old frame device.new) }
+    ensures err { OnErr result ((frame : List ℕ) × D.taken device.old frame device.new
+        × D.lacks_memory device.new (length frame)) }
 {
     let Some((rx, tx)) = device.receive(timestamp) else {
         return Ok(false);

@@ -16,7 +16,8 @@ use std::marker::Model;
 /// The longest frame that the capabilities name, in bytes.
 const LONGEST_FRAME: usize = 65_535;
 
-/// A device that receives what it sends, in the order in which it was sent.
+/// A device that receives what it sends, in the order in which it was sent. It serves tests, and two
+/// ends in one program.
 ///
 /// Contracts see its medium and the list of its frames, the next first. It keeps its allocator,
 /// from which `send` takes the room in its queue and the bytes of each frame. Frames of any length

@@ -13,6 +13,10 @@ pub trait RxToken: Drop {
     ghost is_plain: { Self → Type 0 } = { λ _. Unit {0} };
 
     /// Runs `f` once on the frame, and returns what `f` returned.
+    ///
+    /// # Requires
+    ///
+    /// `f` may be called on the frame's bytes.
     fn consume<R, F: FnOnce(&[u8]) -> R>(self, f: F) -> R
         requires { FnOnceTakesAt F.FnOnce f (bytes self) }
         ensures { FnOnceReturnsAt F.FnOnce f (bytes self) result };

@@ -1,6 +1,7 @@
 //! What holds of every generator. No function here does anything.
 
-ghost use Rattle.net_base.specs.Generator.{LeadsTo};
+ghost use Rattle.std.specs.Prelude.{◌≡◌, ◌^◌, ℕ};
+ghost use Rattle.net_base.specs.Generator.{LeadsTo, IsPeriod};
 
 use crate::rand::Rand;
 
@@ -9,4 +10,11 @@ pub fn full_period(from: &Rand, to: &Rand)
     ensures { LeadsTo from.now to.now }
 {
     let _state = to.state;
+}
+
+/// The period is 2^64: that many steps lead from each state to itself, and fewer never do.
+pub fn period(state: &Rand)
+    ensures { (n : ℕ) × (n ≡ 2 ^ 64) × IsPeriod state.now n }
+{
+    let _state = state.state;
 }

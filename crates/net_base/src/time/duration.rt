@@ -49,6 +49,10 @@ impl Duration {
     }
 
     /// A length of so many milliseconds.
+    ///
+    /// # Requires
+    ///
+    /// So many microseconds fit 64 bits, as `fits_millis` tests.
     pub fn from_millis(millis: u64) -> Duration
         requires fits_millis { IsLength (millis * 1_000) }
         ensures { result ≡ millis * 1_000 }
@@ -66,6 +70,10 @@ impl Duration {
     }
 
     /// A length of so many seconds.
+    ///
+    /// # Requires
+    ///
+    /// So many microseconds fit 64 bits, as `fits_secs` tests.
     pub fn from_secs(secs: u64) -> Duration
         requires fits_secs { IsLength (secs * 1_000_000) }
         ensures { result ≡ secs * 1_000_000 }
@@ -120,6 +128,10 @@ impl Duration {
 
     /// The whole microseconds of a duration of the standard library; its nanoseconds beyond them
     /// are left out.
+    ///
+    /// # Requires
+    ///
+    /// So many microseconds fit 64 bits, as `fits_core` tests.
     pub fn from_core(duration: std::time::Duration) -> Duration
         requires fits_core { IsLength (as_nanos duration / 1_000) }
         ensures { result ≡ as_nanos duration / 1_000 }

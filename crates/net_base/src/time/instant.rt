@@ -56,6 +56,10 @@ impl Instant {
     }
 
     /// The moment so many milliseconds after the origin.
+    ///
+    /// # Requires
+    ///
+    /// So many microseconds fit 64 bits with a sign, as `fits_millis` tests.
     pub fn from_millis(millis: i64) -> Instant
         requires fits_millis { IsMoment (millis *ℤ pos 1_000) }
         ensures { result ≡ millis *ℤ pos 1_000 }
@@ -66,6 +70,10 @@ impl Instant {
     }
 
     /// As `from_millis`. It is no `const fn` either.
+    ///
+    /// # Requires
+    ///
+    /// So many microseconds fit 64 bits with a sign, as `fits_millis` tests.
     pub fn from_millis_const(millis: i64) -> Instant
         requires fits_millis { IsMoment (millis *ℤ pos 1_000) }
         ensures { result ≡ millis *ℤ pos 1_000 }
@@ -81,6 +89,10 @@ impl Instant {
     }
 
     /// The moment so many seconds after the origin.
+    ///
+    /// # Requires
+    ///
+    /// So many microseconds fit 64 bits with a sign, as `fits_secs` tests.
     pub fn from_secs(secs: i64) -> Instant
         requires fits_secs { IsMoment (secs *ℤ pos 1_000_000) }
         ensures { result ≡ secs *ℤ pos 1_000_000 }

@@ -2,7 +2,8 @@
 
 ghost use Rattle.std.specs.Prelude.{◌≡◌, ◌↔◌, ◌-◌, ◌^◌, ◌<◌, ◌<ℤ◌, pos, IsTrue, Some};
 ghost use Rattle.std.specs.Ordering.{MatchOrdering};
-ghost use Rattle.net_base.specs.Time.{distance};
+ghost use Rattle.std.specs.Prelude.{◌+◌, ◌+ℤ◌, ◌-ℤ◌};
+ghost use Rattle.net_base.specs.Time.{distance, IsMoment, IsLength};
 
 use crate::time::{Duration, Instant};
 
@@ -51,6 +52,38 @@ pub fn duration_order(x: &Duration, y: &Duration)
 pub fn distance_both_ways(x: &Instant, y: &Instant)
     ensures { distance x.now y.now ≡ distance y.now x.now }
 {}
+
+/// A length that is added to a moment and taken off again leaves the moment.
+pub fn instant_there_and_back(instant: Instant, duration: Duration) -> Instant
+    requires { IsMoment (instant +ℤ pos duration) }
+    ensures { result ≡ instant }
+{
+    (instant + duration) - duration
+}
+
+/// A length that is taken off a moment and added again leaves the moment.
+pub fn instant_back_and_there(instant: Instant, duration: Duration) -> Instant
+    requires { IsMoment (instant -ℤ pos duration) }
+    ensures { result ≡ instant }
+{
+    (instant - duration) + duration
+}
+
+/// A moment and the one that is so much later are so far apart.
+pub fn instant_moved(instant: Instant, duration: Duration) -> Duration
+    requires { IsMoment (instant +ℤ pos duration) }
+    ensures { result ≡ duration }
+{
+    (instant + duration) - instant
+}
+
+/// A length that is added to another and taken off again leaves the other.
+pub fn duration_there_and_back(duration: Duration, other: Duration) -> Duration
+    requires { IsLength (duration + other) }
+    ensures { result ≡ duration }
+{
+    (duration + other) - other
+}
 
 /// A clone of a moment is the same moment, and is never refused.
 pub fn instant_clone(instant: &Instant, clone: &Instant)

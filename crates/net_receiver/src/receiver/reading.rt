@@ -1,17 +1,19 @@
-//! Reading: bytes off the front of the queue, copied or lent.
+//! Reading: bytes off the head of the queue, copied or lent.
 ghost use Rattle.std.specs.Prelude.{◌≡◌, ℕ, ◌+◌, ◌-◌, ◌<◌, ◌≤◌, min, List, ◌++◌, length, take};
-ghost use Rattle.std.specs.Prelude.{drop, slice_range};
+ghost use Rattle.std.specs.Prelude.{drop, slice_range, slice_index_or};
 ghost use Rattle.std.specs.Fn.{FnOnceTakesAt, FnOnceReturnsAt};
 ghost use Rattle.net_storage.specs.Positions.{runs};
 ghost use Rattle.net_receiver.specs.Rules.{Read, Gave};
-ghost use Rattle.net_receiver.specs.Schedule.{State, queue_bytes, reply};
+ghost use Rattle.net_receiver.specs.Schedule.{State, queue_bytes, kept_reply};
 ghost use Rattle.net_receiver.specs.Stored.{domain, stored_next, stored_read, stored_reply};
 ghost use Rattle.net_receiver.specs.Stored.{setting, Steps, StandsFor};
-ghost use Rattle.net_receiver.specs.Truthful.{ReceivesFrom};
+ghost use Rattle.net_receiver.specs.Contiguous.{contiguous, contiguous_from, first_part};
+ghost use Rattle.net_receiver.specs.Contiguous.{second_part};
+ghost use Rattle.net_receiver.specs.OneStream.{ReceivesFrom};
 
 use super::Receiver;
 
-/// Reading: bytes off the front of the queue, copied or lent.
+/// Reading: bytes off the head of the queue, copied or lent.
 impl<'a, const N: usize> Receiver<'a, N> {
     /// Takes bytes off the queue into the beginning of `into`, and returns how many: as many as are
     /// queued and as `into` has room for. The rest of `into` stays as it is.
@@ -34,41 +36,35 @@ impl<'a, const N: usize> Receiver<'a, N> {
         ensures bytes { (f : ℕ) (x : List ℕ) → ReceivesFrom f x self.old → take result into.new
             ≡ slice_range x self.old.read (self.old.read + result) }
     {
-        let count = self.take_front(into);
-        self.is_sound();
-        count
-    }
-
-    /// Takes bytes off the queue, and counts them as read.
-    fn take_front(&mut self, into: &mut [u8]) -> usize
-        ensures state { self.new ≡ stored_read self.old (length into.old) }
-        ensures count { result ≡ min (length into.old) (length self.old.queue) }
-        ensures into { into.new ≡
-            take (length into.old) self.old.queue ++ drop (length self.old.queue) into.old }
-    {
         let count = self.ring.dequeue_slice(into);
         self.count_read += count as u64;
         count
     }
 
-    /// Lends bytes of the queue that stand in a row, from its byte `offset` on: at most `size`, and
-    /// fewer if the queue ends before that or goes round the end of its storage. None are lent only
-    /// if `size` is 0 or the queue has no byte `offset`.
+    /// Lends bytes of the queue that stand in a row, from its byte `offset` on: `size`, or as many as
+    /// there are up to the end of the queue or of the storage. None are lent only if `size` is 0 or
+    /// the queue has no byte `offset`.
     ///
-    /// smoltcp's `peek` lends from the front on.
+    /// The stream's byte number i, counted from 0, has the place `i` modulo the capacity in the
+    /// storage, so it is known where a part ends. smoltcp's `peek` lends from the head on.
     pub fn peek(&self, offset: usize, size: usize) -> &[u8]
+        ensures count { length result.now ≡ contiguous_from self.now offset size }
         ensures few { length result.now ≤ min size (length self.now.queue - offset) }
         ensures some { offset < length self.now.queue → 0 < size → 0 < length result.now }
         ensures value { result.now ≡ take (length result.now) (drop offset self.now.queue) }
         ensures step { (s : State) → StandsFor self.now s → result.now
             ≡ take (length result.now) (drop offset (queue_bytes self.now.first s)) }
+        ensures each { (k : ℕ) (d : ℕ) → offset ≤ k → k < offset + length result.now →
+            slice_index_or self.now.queue k d ≡ slice_index_or result.now (k - offset) d }
+        ensures end { offset ≤ length self.now.queue →
+            offset + length result.now ≤ length self.now.queue }
         ensures bytes { (f : ℕ) (x : List ℕ) → ReceivesFrom f x self.now →
             result.now ≡ take (length result.now) (drop (self.now.read + offset) x) }
     {
         self.ring.get_allocated(offset, size)
     }
 
-    /// Copies bytes from the front of the queue to the beginning of `into`, and returns how many:
+    /// Copies bytes from the head of the queue to the beginning of `into`, and returns how many:
     /// as many as are queued and as `into` has room for. The rest of `into` stays as it is, and
     /// the queue too: the bytes are those that a `read` would take.
     pub fn peek_slice(&mut self, into: &mut [u8]) -> usize
@@ -79,37 +75,50 @@ impl<'a, const N: usize> Receiver<'a, N> {
         ensures answer { Gave (take result into.new)
             ≡ stored_reply N self.old (Read (length into.old)) }
         ensures step { (s : State) → StandsFor self.old s → Gave (take result into.new)
-            ≡ reply (setting N self.old) s (Read (length into.old)) }
+            ≡ kept_reply (setting N self.old) s (Read (length into.old)) }
         ensures bytes { (f : ℕ) (x : List ℕ) → ReceivesFrom f x self.old → take result into.new
             ≡ slice_range x self.old.read (self.old.read + result) }
-    {
-        self.copy_front(into)
-    }
-
-    /// Copies the front of the queue to the beginning of `into`, as `peek_slice` does.
-    fn copy_front(&mut self, into: &mut [u8]) -> usize
-        ensures same { self.new ≡ self.old }
-        ensures count { result ≡ min (length into.old) (length self.old.queue) }
-        ensures into { into.new ≡
-            take (length into.old) self.old.queue ++ drop (length self.old.queue) into.old }
     {
         self.ring.read_allocated(0, into)
     }
 
-    /// Runs `f` on bytes from the front of the queue that stand in a row, takes as many off the
-    /// queue as `f` counts, and returns what `f` returned. At least one byte is lent if any are
-    /// queued.
+    /// Shows the queue, in order, in two parts: the bytes up to the storage's end, and those from its
+    /// beginning on. The second part is empty unless the queue wraps.
     ///
-    /// `f` must take each front of the queue, and count no more bytes than it is lent. smoltcp's
-    /// `recv` lends the bytes for writing too.
+    /// An addition to smoltcp's calls, as std's `VecDeque` has it.
+    pub fn as_slices(&self) -> (&[u8], &[u8])
+        ensures queue { result.0.now ++ result.1.now ≡ self.now.queue }
+        ensures cut { length result.0.now ≡ contiguous self.now }
+        ensures value { (result.0.now ≡ first_part self.now)
+            × (result.1.now ≡ second_part self.now) }
+        ensures first { (k : ℕ) (d : ℕ) → k < length result.0.now →
+            slice_index_or self.now.queue k d ≡ slice_index_or result.0.now k d }
+        ensures second { (k : ℕ) (d : ℕ) → length result.0.now ≤ k →
+            slice_index_or self.now.queue k d
+            ≡ slice_index_or result.1.now (k - length result.0.now) d }
+        ensures bytes { (f : ℕ) (x : List ℕ) → ReceivesFrom f x self.now →
+            result.0.now ++ result.1.now
+            ≡ slice_range x self.now.read (self.now.read + length self.now.queue) }
+    {
+        self.ring.as_slices()
+    }
+
+    /// Runs `f` on the first part of the queue, as `as_slices` shows it, takes as many bytes off the
+    /// queue as `f` counts, and returns what `f` returned. The part is empty only if the queue is.
+    ///
+    /// `f` must take that part, and count no more bytes than it is lent. smoltcp's `recv` lends the
+    /// bytes for writing too.
+    ///
+    /// # Requires
+    ///
+    /// `f` may be called on the part that it is lent, and counts at most its length.
     pub fn read_with<R, F: FnOnce(&[u8]) -> (usize, R)>(&mut self, f: F) -> (usize, R)
-        requires callable { (n : ℕ) → FnOnceTakesAt F.FnOnce f (take n self.old.queue) }
-        requires count { (n : ℕ) (r : ℕ × R) →
-            FnOnceReturnsAt F.FnOnce f (take n self.old.queue) r →
-            r.0 ≤ length (take n self.old.queue) }
-        ensures called { (n : ℕ) × (n ≤ length self.old.queue) × (result.0 ≤ n)
-            × (0 < length self.old.queue → 0 < n)
-            × FnOnceReturnsAt F.FnOnce f (take n self.old.queue) result }
+        requires callable { FnOnceTakesAt F.FnOnce f (first_part self.old) }
+        requires count { (r : ℕ × R) → FnOnceReturnsAt F.FnOnce f (first_part self.old) r →
+            r.0 ≤ length (first_part self.old) }
+        ensures called { FnOnceReturnsAt F.FnOnce f (first_part self.old) result }
+        ensures count { result.0 ≤ contiguous self.old }
+        ensures not_empty { 0 < length self.old.queue → 0 < contiguous self.old }
         ensures state { self.new ≡ stored_read self.old result.0 }
         ensures step { Steps N self.old self.new
             (Read result.0) (Gave (take result.0 self.old.queue)) }
@@ -122,22 +131,6 @@ impl<'a, const N: usize> Receiver<'a, N> {
         ensures bytes { (f : ℕ) (x : List ℕ) → ReceivesFrom f x self.old →
             take result.0 self.old.queue
             ≡ slice_range x self.old.read (self.old.read + result.0) }
-    {
-        let answer = self.take_with(f);
-        self.is_sound();
-        answer
-    }
-
-    /// Runs `f` on the bytes in a row at the front of the queue, and takes off those it counts.
-    fn take_with<R, F: FnOnce(&[u8]) -> (usize, R)>(&mut self, f: F) -> (usize, R)
-        requires callable { (n : ℕ) → FnOnceTakesAt F.FnOnce f (take n self.old.queue) }
-        requires count { (n : ℕ) (r : ℕ × R) →
-            FnOnceReturnsAt F.FnOnce f (take n self.old.queue) r →
-            r.0 ≤ length (take n self.old.queue) }
-        ensures called { (n : ℕ) × (n ≤ length self.old.queue) × (result.0 ≤ n)
-            × (0 < length self.old.queue → 0 < n)
-            × FnOnceReturnsAt F.FnOnce f (take n self.old.queue) result }
-        ensures state { self.new ≡ stored_read self.old result.0 }
     {
         let bytes = self.ring.get_allocated(0, self.ring.len());
         let answer = f(bytes);

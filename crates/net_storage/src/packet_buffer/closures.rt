@@ -22,6 +22,10 @@ impl<H: Drop, M: Elements<PacketMetadata<H>>, B: Elements<u8>> Packets<H, M, B> 
     /// Returns `Full` if [`Packets::place`] would for `max_size` bytes, and then drops the header,
     /// does not run `f` and changes nothing. smoltcp places these packets by a rule of its
     /// own and can take more than `max_size` bytes; here the rule is that of `enqueue`.
+    ///
+    /// # Requires
+    ///
+    /// `f` may be called on the `max_size` bytes that it is lent, and returns at most `max_size`.
     pub fn enqueue_with_infallible<F: FnOnce(&mut [u8]) -> usize>(
         &mut self,
         max_size: usize,
@@ -57,6 +61,10 @@ impl<H: Drop, M: Elements<PacketMetadata<H>>, B: Elements<u8>> Packets<H, M, B> 
     /// wrote to its header and bytes.
     ///
     /// Returns `Empty`, does not run `f` and changes nothing, if the queue has no packets.
+    ///
+    /// # Requires
+    ///
+    /// `f` may be called on the first packet, if there is one.
     pub fn dequeue_with<R, E, F: FnOnce(&mut H, &mut [u8]) -> Result<R, E>>(
         &mut self,
         f: F,

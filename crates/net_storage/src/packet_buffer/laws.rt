@@ -1,8 +1,8 @@
 //! Laws of packet queues. No function here does anything: each is called for what its contract
 //! says.
-ghost use Rattle.std.specs.Prelude.{◌≡◌, ◌≢◌, ◌≤◌, ◌++◌, ◌∷◌, ◌↔◌, [], ℕ, List, Bool, length, take};
-ghost use Rattle.std.specs.Prelude.{drop, if◌then◌else◌};
-ghost use Rattle.std.specs.declared.option.Option.TheVariants.{None};
+ghost use Rattle.std.specs.Prelude.{◌≡◌, ◌≢◌, ◌≤◌, ◌<◌, ◌++◌, ◌∷◌, ◌↔◌, [], ℕ, List, Bool};
+ghost use Rattle.std.specs.Prelude.{length, take, drop, if◌then◌else◌};
+ghost use Rattle.std.specs.declared.option.Option.TheVariants.{Some, None};
 ghost use Rattle.net_storage.specs.Packets.{PacketQueue, WellPlaced, no_packets, IsFirst};
 ghost use Rattle.net_storage.specs.Packets.{IsFirstSized, placement, placed_if_room, only_last};
 ghost use Rattle.net_storage.specs.Packets.{last_bytes, last_written, last_cut, skipped};
@@ -27,6 +27,18 @@ pub fn well_placed<H, M: Elements<PacketMetadata<H>>, B: Elements<u8>>(queue: &P
 pub fn contents_are_packets<H>()
     ensures count { (q : PacketQueue H) → length (contents q) ≡ length q.packets }
     ensures none { (q : PacketQueue H) → (contents q ≡ []) ↔ (length q.packets ≡ 0) }
+{}
+
+/// A queue with no packets takes a packet exactly if it has a slot, and as many bytes as the packet:
+/// also where the last packet that left stood in the midst of the storage, the packet is placed
+/// with no gap.
+pub fn empty_queue_takes_what_fits<H>()
+    ensures taken { (q : PacketQueue H) (size : ℕ) → contents q ≡ []
+        → 0 < q.slot_count → size ≤ length q.storage → placement q size ≡ Some 0 }
+    ensures no_slot { (q : PacketQueue H) (size : ℕ) → contents q ≡ []
+        → q.slot_count ≡ 0 → placement q size ≡ None }
+    ensures too_long { (q : PacketQueue H) (size : ℕ) → contents q ≡ []
+        → length q.storage < size → placement q size ≡ None }
 {}
 
 /// Packets leave in the order in which they were accepted, each with the header and the bytes last

@@ -62,6 +62,11 @@ impl<H: Drop, M: Elements<PacketMetadata<H>>, B: Elements<u8>> Packets<H, M, B> 
     /// Lends the `size` bytes before the place where the storage is read: those of the packet that
     /// was taken off last. Condition: they lie in a row and none is a packet's, as after a call of
     /// [`Packets::take`] that returned `size`.
+    ///
+    /// # Requires
+    ///
+    /// The `size` bytes before the place where the queue is read lie in a row and hold no packet,
+    /// as after `take`, which returns their number.
     pub fn freed_mut(&mut self, size: usize) -> &mut [u8]
         requires { AreFreed self.old size }
         ensures* writes_back { sem 𝓛 (lends_bytes H.row M.row B.row M.Elements B.Elements

@@ -1,8 +1,9 @@
 //! Elements of the queue, shown, lent and read at an offset.
-ghost use Rattle.std.specs.Prelude.{◌≡◌, ◌≤◌, ◌<◌, ◌-◌, ◌+◌, length, take, drop, ◌++◌, min, List};
-ghost use Rattle.std.specs.Prelude.{slice_get};
+ghost use Rattle.std.specs.Prelude.{◌≡◌, ◌≢◌, ◌≤◌, ◌<◌, ◌-◌, ◌+◌, length, take, drop, ◌++◌, min};
+ghost use Rattle.std.specs.Prelude.{ℕ, List, slice_get, slice_index_or};
 ghost use Rattle.std.specs.Borrow.{sem};
 ghost use Rattle.net_storage.specs.Ring.{ring, queue, queue_index, contiguous_queued_from, written};
+ghost use Rattle.net_storage.specs.Ring.{contiguous_queued, contiguous_queue};
 ghost use Rattle.net_storage.specs.Ring.{with_dequeued, Dequeued, QueueWritten};
 
 use super::{Ring, Span};
@@ -34,11 +35,43 @@ impl<T, S: Elements<T>> Ring<T, S> {
         ensures not_empty { offset < self.now.count → 0 < size → 0 < length result.now }
         ensures value { result.now ≡ take (length result.now) (drop offset (queue self.now)) }
         ensures first { 0 < size → slice_get result.now 0 ≡ slice_get (queue self.now) offset }
+        ensures each { (k : ℕ) (d : T) → offset ≤ k → k < offset + length result.now →
+            slice_index_or (queue self.now) k d ≡ slice_index_or result.now (k - offset) d }
+        ensures end { offset ≤ length (queue self.now) →
+            offset + length result.now ≤ length (queue self.now) }
         ensures stored { result.now
             ≡ take (length result.now) (drop (queue_index self.now offset) self.now.storage) }
     {
         let span = self.span(0, self.length, offset, size);
         self.storage.part(span.from, span.from + span.contiguous)
+    }
+
+    /// Shows the queue, in order, in two parts: the elements up to the storage's end, and those from
+    /// its beginning on. The second part is empty unless the queue wraps.
+    ///
+    /// An addition to smoltcp's calls, as std's `VecDeque` has it.
+    pub fn as_slices(&self) -> (&[T], &[T])
+        ensures queue { result.0.now ++ result.1.now ≡ queue self.now }
+        ensures cut { length result.0.now ≡ contiguous_queued self.now }
+        ensures count { length result.0.now + length result.1.now ≡ self.now.count }
+        ensures not_empty { self.now.count ≢ 0 → 0 < length result.0.now }
+        ensures value { (result.0.now ≡ contiguous_queue self.now)
+            × (result.1.now ≡ drop (length result.0.now) (queue self.now)) }
+        ensures first { (k : ℕ) (d : T) → k < length result.0.now →
+            slice_index_or (queue self.now) k d ≡ slice_index_or result.0.now k d }
+        ensures second { (k : ℕ) (d : T) → length result.0.now ≤ k →
+            slice_index_or (queue self.now) k d
+            ≡ slice_index_or result.1.now (k - length result.0.now) d }
+        ensures stored { let n = length result.0.now in
+            (result.0.now ≡ take n (drop self.now.read_at self.now.storage))
+            × (result.1.now ≡ take (self.now.count - n) self.now.storage) }
+    {
+        let from = self.read_at;
+        let first = self.length.min(self.capacity() - from);
+        (
+            self.storage.part(from, from + first),
+            self.storage.part(0, self.length - first),
+        )
     }
 
     /// Lends at most `size` elements of the queue from the one at `offset` on: as many as are
@@ -53,6 +86,10 @@ impl<T, S: Elements<T>> Ring<T, S> {
         ensures not_empty { offset < self.old.count → 0 < size → 0 < length result.now }
         ensures value { result.now ≡ take (length result.now) (drop offset (queue self.old)) }
         ensures first { 0 < size → slice_get result.now 0 ≡ slice_get (queue self.old) offset }
+        ensures each { (k : ℕ) (d : T) → offset ≤ k → k < offset + length result.now →
+            slice_index_or (queue self.old) k d ≡ slice_index_or result.now (k - offset) d }
+        ensures end { offset ≤ length (queue self.old) →
+            offset + length result.now ≤ length (queue self.old) }
         ensures stored { result.now
             ≡ take (length result.now) (drop (queue_index self.old offset) self.old.storage) }
         ensures written { (ws : List T) → length ws ≡ contiguous_queued_from self.old offset size →
@@ -79,6 +116,10 @@ impl<T, S: Elements<T>> Ring<T, S> {
     /// Dequeues `count` elements.
     ///
     /// The ring must hold as many, which `len` tells; smoltcp panics if it does not.
+    ///
+    /// # Requires
+    ///
+    /// `count` is at most `len()`.
     pub fn dequeue_allocated(&mut self, count: usize)
         requires len { count ≤ self.old.count }
         ensures ring { self.new ≡ with_dequeued count self.old }

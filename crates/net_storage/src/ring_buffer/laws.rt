@@ -1,9 +1,10 @@
 //! Laws of rings and of their storage, over the definitions alone: the functions do nothing.
-ghost use Rattle.std.specs.Prelude.{◌≡◌, ◌+◌, List, length, take, drop, ℕ};
+ghost use Rattle.std.specs.Prelude.{◌≡◌, ◌+◌, ◌++◌, List, length, take, drop, ℕ};
 ghost use Rattle.net_storage.specs.Managed.{elements, with_part};
 ghost use Rattle.net_storage.specs.Overwrite.{overwrite, OverwrittenAt};
-ghost use Rattle.net_storage.specs.Ring.{RingState, capacity, window, queue, spare, restarted};
+ghost use Rattle.net_storage.specs.Ring.{RingState, ring, capacity, window, queue, spare, restarted};
 ghost use Rattle.net_storage.specs.Ring.{WellFormed};
+ghost use Rattle.net_storage.specs.RingHistory.{RingCall, MakesAll, history};
 
 use crate::managed::ManagedSlice;
 
@@ -25,6 +26,17 @@ pub fn count_and_window_are_capacity<T>()
 pub fn restarting_keeps_the_queue<T>()
     ensures { (g : RingState T) → (queue (restarted g) ≡ queue g)
         × ((restarted g).count ≡ g.count) × ((restarted g).storage ≡ g.storage) }
+{}
+
+/// The element that leaves k-th is the one that came k-th. Over any calls, in any order, from an
+/// empty ring on, the elements that left, in order, followed by those that are still queued, are
+/// exactly the elements that came, in order. Each left as it was shown then, and each stands as it
+/// was last written while it was queued, by who put it or by who was lent it there. What `clear`
+/// and `reset` drop counts as never accepted.
+pub fn elements_leave_in_turn<T>()
+    ensures { (storage : List T) (calls : List (RingCall T)) (g : RingState T)
+        → MakesAll calls (ring storage 0 0) g
+        → (history calls).left ++ queue g ≡ (history calls).accepted }
 {}
 
 /// What was written over the whole of a storage is what it then holds.

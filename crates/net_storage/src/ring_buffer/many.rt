@@ -21,6 +21,10 @@ impl<T, S: Elements<T>> Ring<T, S> {
     /// An empty ring first moves its read index to the storage's beginning. What `f` wrote stays in
     /// the storage, also behind the elements that it counted. It must count no more than the
     /// elements that it is lent.
+    ///
+    /// # Requires
+    ///
+    /// `f` may be called on the part that it is lent, and counts at most its length.
     pub fn enqueue_many_with<R, F: FnOnce(&mut [T]) -> (usize, R)>(&mut self, f: F) -> (usize, R)
         requires callable { FnOnceTakesAtMut F.FnOnce f (contiguous_spare (restarted self.old)) }
         requires count { CountsWithin F.FnOnce f (contiguous_spare (restarted self.old))
@@ -58,11 +62,15 @@ impl<T, S: Elements<T>> Ring<T, S> {
         self.storage.part_mut(from, from + count)
     }
 
-    /// Runs `f` on the contiguous elements at the front of the queue, dequeues as many of them as
+    /// Runs `f` on the contiguous elements at the head of the queue, dequeues as many of them as
     /// `f` counts, and returns what `f` returned.
     ///
     /// What `f` wrote stays in the storage. It must count no more than the elements that it is
     /// lent.
+    ///
+    /// # Requires
+    ///
+    /// `f` may be called on the part that it is lent, and counts at most its length.
     pub fn dequeue_many_with<R, F: FnOnce(&mut [T]) -> (usize, R)>(&mut self, f: F) -> (usize, R)
         requires callable { FnOnceTakesAtMut F.FnOnce f (contiguous_queue self.old) }
         requires count { CountsWithin F.FnOnce f (contiguous_queue self.old)

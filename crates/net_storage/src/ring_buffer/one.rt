@@ -18,6 +18,10 @@ impl<T, S: Elements<T>> Ring<T, S> {
     ///
     /// What `f` wrote stays in the storage in both cases. A full ring returns `Full`, stays as it
     /// is and does not run `f`.
+    ///
+    /// # Requires
+    ///
+    /// `f` may be called on the next free element, if there is one.
     pub fn enqueue_one_with<R, E, F: FnOnce(&mut T) -> Result<R, E>>(
         &mut self,
         f: F,
@@ -76,6 +80,10 @@ impl<T, S: Elements<T>> Ring<T, S> {
     ///
     /// What `f` wrote stays in the storage in both cases. An empty ring returns `Empty`, stays as
     /// it is and does not run `f`.
+    ///
+    /// # Requires
+    ///
+    /// `f` may be called on the first element, if there is one.
     pub fn dequeue_one_with<R, E, F: FnOnce(&mut T) -> Result<R, E>>(
         &mut self,
         f: F,

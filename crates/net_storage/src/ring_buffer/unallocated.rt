@@ -1,5 +1,6 @@
 //! Free elements, lent and written at an offset.
-ghost use Rattle.std.specs.Prelude.{◌≡◌, ◌≤◌, ◌<◌, ◌-◌, ◌+◌, length, take, drop, min, List};
+ghost use Rattle.std.specs.Prelude.{◌≡◌, ◌≤◌, ◌<◌, ◌-◌, ◌+◌, length, take, drop, min, ℕ, List};
+ghost use Rattle.std.specs.Prelude.{slice_index_or};
 ghost use Rattle.std.specs.Borrow.{sem};
 ghost use Rattle.net_storage.specs.Ring.{ring, capacity, window, spare, spare_index, freed_index};
 ghost use Rattle.net_storage.specs.Ring.{contiguous_window_from, written, written_wrapping};
@@ -35,6 +36,10 @@ impl<T, S: Elements<T>> Ring<T, S> {
         ensures count { length result.now ≡ contiguous_window_from self.old offset size }
         ensures not_empty { offset < window self.old → 0 < size → 0 < length result.now }
         ensures value { result.now ≡ take (length result.now) (drop offset (spare self.old)) }
+        ensures each { (k : ℕ) (d : T) → offset ≤ k → k < offset + length result.now →
+            slice_index_or (spare self.old) k d ≡ slice_index_or result.now (k - offset) d }
+        ensures end { offset ≤ length (spare self.old) →
+            offset + length result.now ≤ length (spare self.old) }
         ensures stored { result.now
             ≡ take (length result.now) (drop (spare_index self.old offset) self.old.storage) }
         ensures written { (ws : List T) → length ws ≡ contiguous_window_from self.old offset size →
@@ -68,6 +73,10 @@ impl<T, S: Elements<T>> Ring<T, S> {
     /// Enqueues `count` elements, as they stand.
     ///
     /// There must be as many free ones, which `window` tells; smoltcp panics if there are not.
+    ///
+    /// # Requires
+    ///
+    /// `count` is at most `window()`.
     pub fn enqueue_unallocated(&mut self, count: usize)
         requires window { count ≤ window self.old }
         ensures ring { self.new ≡ with_enqueued count self.old }

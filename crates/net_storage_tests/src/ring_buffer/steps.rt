@@ -63,6 +63,8 @@ pub enum Step<'t> {
     ReadAllocated(usize, usize, &'t [u8]),
     /// `get_allocated` and `contiguous_allocated`: offset, size, and the elements that are shown.
     GetAllocated(usize, usize, &'t [u8]),
+    /// `as_slices`: the two parts that are shown.
+    AsSlices(&'t [u8], &'t [u8]),
     /// `get_allocated_mut`: offset, size, how many are lent, and the text that is written there.
     FillAllocated(usize, usize, usize, &'t [u8]),
     /// `dequeue_allocated`, of a count that the ring holds.
@@ -117,6 +119,10 @@ fn is_as_expected(ring: &mut RingBuffer<'_, u8>, step: Step<'_>) -> bool {
         Step::GetAllocated(offset, size, shown) => {
             ring.contiguous_allocated(offset, size) == shown.len()
                 && *ring.get_allocated(offset, size) == *shown
+        }
+        Step::AsSlices(first, second) => {
+            let (shown, rest) = ring.as_slices();
+            *shown == *first && *rest == *second
         }
         Step::FillAllocated(offset, size, count, text) => {
             lends(ring.get_allocated_mut(offset, size), count, text)

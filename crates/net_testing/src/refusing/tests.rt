@@ -1,4 +1,5 @@
 use super::*;
+use crate::refusals::refuse_each;
 
 /// Makes so many requests of `size` bytes each, of which the one of number `refused` is refused.
 /// Returns whether that one was, and no other.
@@ -40,4 +41,29 @@ fn a_list_keeps_its_bytes_where_it_can_not_grow(rt: HostRuntime) -> Result<(), A
     assert!(rt; bytes.as_slice() == b"abcdefghj".as_slice());
     assert_eq!(rt; memory.requests(), 3);
     Ok(())
+}
+
+/// Whether a list of eight bytes is made and grows by one, and whether each was tried.
+fn makes_and_grows(memory: &Refusing) -> bool {
+    let made: Result<Vec<u8, &Refusing>, AllocError> = Vec::from_slice(memory, b"abcdefgh");
+    match made {
+        Ok(mut bytes) => bytes.push(b'i').is_ok(),
+        Err(AllocError) => false,
+    }
+}
+
+#[test]
+fn each_request_of_a_run_is_refused_in_turn(rt: HostRuntime) {
+    assert_eq!(rt;
+        refuse_each(rt.alloc(), |memory| makes_and_grows(memory)),
+        Some(2)
+    );
+    assert_eq!(rt; refuse_each(rt.alloc(), |_| true), Some(0));
+    assert_eq!(rt; refuse_each(rt.alloc(), |_| false), None);
+    let mut runs = 0usize;
+    let gives_up = refuse_each(rt.alloc(), |memory| {
+        runs = runs.saturating_add(1);
+        makes_and_grows(memory) || runs == 2
+    });
+    assert_eq!(rt; gives_up, None);
 }

@@ -1,4 +1,5 @@
 use Rattle.net_receiver.proofs.Resending.{completes, has_stays, accepted_brings, has_all_reaches}
+use Rattle.net_receiver.proofs.Called.{in_order_reaches}
 use Rattle.net_receiver.proofs.laws.completion.Goals as goal
 
 pub returns-clause-all : goal.returns-clause-all
@@ -12,3 +13,6 @@ returns-clause-brings c = accepted_brings
 
 pub returns-clause-reaches : goal.returns-clause-reaches
 returns-clause-reaches c = has_all_reaches
+
+pub returns-clause-in_order : goal.returns-clause-in_order
+returns-clause-in_order c = in_order_reaches

@@ -3,13 +3,19 @@ use Rattle.net_receiver.proofs.Called.{executed_first, executed_capacity, execut
 use Rattle.net_receiver.proofs.schedule.execute.Goals as goal
 
 pub returns-clause-first : goal.returns-clause-first
-returns-clause-first g c = executed_first g.row.N c.run-result.result c.args.receiver.now c.run-result.new.receiver (command_seen c.args.command.now) c.run-result.ensures.state c.run-result.ensures.err
+returns-clause-first g c =
+    executed_first g.row.N c.run-result.result c.args.receiver.now c.run-result.new.receiver
+    (command_seen c.args.command.now) c.run-result.ensures.state c.run-result.ensures.err
 
 pub returns-clause-capacity : goal.returns-clause-capacity
-returns-clause-capacity g c = executed_capacity g.row.N c.run-result.result c.args.receiver.now c.run-result.new.receiver (command_seen c.args.command.now) c.run-result.ensures.state c.run-result.ensures.err
+returns-clause-capacity g c =
+    executed_capacity g.row.N c.run-result.result c.args.receiver.now c.run-result.new.receiver
+    (command_seen c.args.command.now) c.run-result.ensures.state c.run-result.ensures.err
 
 pub returns-clause-receives : goal.returns-clause-receives
-returns-clause-receives g c = λ f x r h. executed_receives g.row.N f x c.run-result.result c.args.receiver.now c.run-result.new.receiver (command_seen c.args.command.now) c.run-result.ensures.state c.run-result.ensures.err r h
+returns-clause-receives g c =
+    λ f x r h. executed_receives g.row.N f x c.run-result.result c.args.receiver.now c.run-result.new.receiver (command_seen c.args.command.now) c.run-result.ensures.state c.run-result.ensures.err r h
 
 pub returns-clause-bytes : goal.returns-clause-bytes
-returns-clause-bytes g c = λ f x r h. executed_bytes g.row.N f x reply_seen c.run-result.result c.args.receiver.now c.run-result.new.receiver (command_seen c.args.command.now) c.run-result.ensures.state c.run-result.ensures.answer r h
+returns-clause-bytes g c =
+    λ f x r h. executed_bytes g.row.N f x reply_seen c.run-result.result c.args.receiver.now c.run-result.new.receiver (command_seen c.args.command.now) c.run-result.ensures.state c.run-result.ensures.answer r h

@@ -6,8 +6,10 @@ use Rattle.net_receiver.proofs.schedule.run.Goals as goal
 pub returns-in_ok-bytes-in-Read-clause-state : goal.returns-in_ok-bytes-in-Read-clause-state
 returns-in_ok-bytes-in-Read-clause-state g c =
     let room = length c.deref_mut.result.now in
-    let size : room ≡ min c.in-Read.count (length c.args.receiver.now.queue) = (let value = ap length c.deref_mut.ensures.value in let taken = c.in_ok-bytes-in-Read.ensures.len in omega arith) in
-    read_is g.row.N c.args.receiver.now (command_seen c.args.command.now) c.read.new.self c.in-Read.count room c.read.ensures.state size (ap command_seen c.in-Read.is)
+    let size : room ≡ min c.in-Read.count (length c.args.receiver.now.queue) =
+    (let value = ap length c.deref_mut.ensures.value in let taken = c.in_ok-bytes-in-Read.ensures.len in omega arith) in
+    read_is g.row.N c.args.receiver.now (command_seen c.args.command.now) c.read.new.self c.in-Read.count room
+    c.read.ensures.state size (ap command_seen c.in-Read.is)
 
 pub returns-in_ok-held-in-Show-clause-answer : goal.returns-in_ok-held-in-Show-clause-answer
 returns-in_ok-held-in-Show-clause-answer g c =

@@ -1,36 +1,68 @@
-use Rattle.std.proofs.Common.{[], ◌≤◌, ◌∙◌, ap, arith}
-use Rattle.net_stream.specs.Counting.{met_all, nothing_counted}
-use Rattle.net_stream.specs.Rounds.{fates_only}
+use Rattle.std.proofs.Common.{◌≡◌, ◌<◌, ◌≤◌, length, true, IfErr, subst, sym, ap}
+use Rattle.std.specs.Result.{is_ok}
+use Rattle.net_stream.specs.declared.counts.Counts.{Counts}
+use Rattle.std.proofs.lemmas.Result.{IfErr-weaker}
+use Rattle.net_stream.specs.Rounds.{FatesCounted, FatesSoFar}
+use Rattle.net_stream.specs.Stuck.{StuckTo, StuckAtLast}
+use Rattle.net_stream.specs.Fates.{after_all}
+use Rattle.net_stream.specs.Copying.{Copied, HasPositions, gave_up}
 use Rattle.net_stream.proofs.Moved.{nothing_moved, flushed, gave_up_after}
 use Rattle.net_stream.proofs.copying.copy_over.Goals as goal
 
 pub exchange-ended-requires : goal.exchange-ended-requires
-exchange-ended-requires g c = (
-  omega arith,
-  (
-    ap (λ v. v.read) c.new_at-receiver.ensures.state,
-    nothing_moved c.args.settings.first c.new_at-sender.result c.new_at-receiver.result c.new-there.result c.new-back.result (g.R.Read.remaining c.args.reader.now) (g.W.Write.contents c.args.writer.now)
-        c.new_at-sender.ensures.sends (ap (λ v. v.base) c.new_at-sender.ensures.state) (ap (λ v. v.reported) c.new_at-sender.ensures.state) (c.new_at-receiver.ensures.receives []) (ap (λ v. v.read) c.new_at-receiver.ensures.state) (ap (λ v. v.first) c.new_at-receiver.ensures.state)
-        (ap (λ p. p.ahead) c.new-there.ensures) (ap (λ p. p.late) c.new-there.ensures) (ap (λ p. p.ahead) c.new-back.ensures) (ap (λ p. p.late) c.new-back.ensures),
-  ),
-)
+exchange-ended-requires g c = record {
+  moving =
+      nothing_moved c.args.settings.first (g.R.Read.remaining c.args.reader.now) (g.W.Write.contents c.args.writer.now) c.new-link.result c.new.result c.new-link.ensures.carries (ap (λ r. r.read) c.new-link.ensures.receiver) (ap (λ n. n.taken) c.new.ensures)
+      (ap (λ n. n.bytes) c.new.ensures);
+  ahead = ap (λ p. p.ahead) c.new-link.ensures.there;
+  ahead_back = ap (λ p. p.ahead) c.new-link.ensures.back;
+  counts = c.new-link.ensures.counts;
+}
 
 pub returns-clause-copied : goal.returns-clause-copied
 returns-clause-copied g c =
-    flushed (g.R.Read.remaining c.args.reader.now) (g.R.Read.remaining c.exchange-ended.new.reader) (g.W.Write.contents c.args.writer.now) (g.W.Write.contents c.exchange-ended.new.writer) (g.W.Write.contents c.flush_after.new.writer)
-    c.exchange-ended.new.counts.bytes c.exchange-ended.result c.flush_after.result c.flush_after.ensures.kept c.flush_after.ensures.ended c.exchange-ended.ensures.copied
+    let same = c.add_link.ensures in
+    subst (λ (n : Counts). Copied (g.R.Read.remaining c.args.reader.now) (g.R.Read.remaining c.exchange-ended.new.reader) (g.W.Write.contents c.args.writer.now) (g.W.Write.contents c.flush_after.new.writer) n.taken n.bytes (is_ok c.flush_after.result)) (sym same)
+    (flushed (g.R.Read.remaining c.args.reader.now) (g.R.Read.remaining c.exchange-ended.new.reader) (g.W.Write.contents c.args.writer.now) (g.W.Write.contents c.exchange-ended.new.writer) (g.W.Write.contents c.flush_after.new.writer)
+    c.exchange-ended.new.counts.taken c.exchange-ended.new.counts.bytes c.exchange-ended.result c.flush_after.result c.flush_after.ensures.kept c.flush_after.ensures.ended c.exchange-ended.ensures.copied)
 
 pub returns-clause-gave_up : goal.returns-clause-gave_up
-returns-clause-gave_up g c = gave_up_after (c.args.settings.rounds ≤ c.exchange-ended.new.counts.rounds) c.exchange-ended.result c.flush_after.result c.flush_after.ensures.ended c.exchange-ended.ensures.gave_up
+returns-clause-gave_up g c =
+    subst (λ (n : Counts). IfErr c.flush_after.result (λ e. gave_up e ≡ true → c.args.settings.rounds ≤ n.rounds)) (sym c.add_link.ensures)
+    (gave_up_after (c.args.settings.rounds ≤ c.exchange-ended.new.counts.rounds) c.exchange-ended.result c.flush_after.result c.flush_after.ensures.ended c.exchange-ended.ensures.gave_up)
 
 pub returns-clause-fates : goal.returns-clause-fates
 returns-clause-fates g c =
-    let all = c.exchange-ended.ensures.fates in
+    let counts = c.exchange-ended.new.link.counts in
+    subst (λ (n : Counts). FatesCounted c.args.fates c.args.ack_fates n.frames) (sym c.add_link.ensures)
+    (subst (λ v. FatesCounted v c.args.ack_fates counts) (ap (λ p. p.fates) c.new-link.ensures.there) (subst (λ v. FatesCounted c.new-link.result.there.fates v counts) (ap (λ p. p.fates) c.new-link.ensures.back) c.exchange-ended.ensures.fates))
+
+pub returns-clause-unfinished : goal.returns-clause-unfinished
+returns-clause-unfinished g c =
+    let counts = c.exchange-ended.new.counts in
+    subst (λ (n : Counts). IfErr c.flush_after.result (λ e. gave_up e ≡ true → 0 < length c.args.chunk.now → HasPositions c.args.settings.first n.taken → n.taken < length c.args.outgoing.now → n.bytes < n.taken)) (sym c.add_link.ensures)
+    (gave_up_after (0 < length c.args.chunk.now → HasPositions c.args.settings.first counts.taken → counts.taken < length c.args.outgoing.now → counts.bytes < counts.taken) c.exchange-ended.result c.flush_after.result c.flush_after.ensures.ended
+    (IfErr-weaker c.exchange-ended.result _ _ (λ e h gave some left few. h gave some left (subst (λ k. counts.taken < k) (sym (ap (λ v. v.capacity) c.new-link.ensures.sender)) few)) c.exchange-ended.ensures.unfinished))
+
+pub returns-clause-stalls : goal.returns-clause-stalls
+returns-clause-stalls g c =
+    let n = c.args.settings.rounds in
+    let taken = c.exchange-ended.new.counts.taken in
+    let counts = c.exchange-ended.new.link.counts in
+    subst (λ (m : Counts). IfErr c.flush_after.result (λ e. gave_up e ≡ true → 0 < length c.args.outgoing.now → 0 < length c.args.incoming.now → 0 < length c.args.chunk.now → HasPositions c.args.settings.first m.taken → StuckAtLast n c.args.fates c.args.ack_fates m.frames)) (sym c.add_link.ensures)
+    (gave_up_after (0 < length c.args.outgoing.now → 0 < length c.args.incoming.now → 0 < length c.args.chunk.now → HasPositions c.args.settings.first taken → StuckAtLast n c.args.fates c.args.ack_fates counts) c.exchange-ended.result c.flush_after.result c.flush_after.ensures.ended
+    (IfErr-weaker c.exchange-ended.result _ _
+    (λ e h gave out inc some left.
+    let r = h gave (subst (λ k. 0 < k) (sym (ap (λ v. v.capacity) c.new-link.ensures.sender)) out) (subst (λ k. 0 < k) (sym (ap (λ v. v.capacity) c.new-link.ensures.receiver)) inc) some left in
+    let there = ap (λ p. p.fates) c.new-link.ensures.there in
+    let back = ap (λ p. p.fates) c.new-link.ensures.back in
     record {
-      frames = all.frames;
-      acks = all.acks;
-      counted =
-          all.counted
-          ∙ ap (λ v. fates_only (met_all all.acks c.new-back.result.fates (met_all all.frames v nothing_counted))) (ap (λ p. p.fates) c.new-there.ensures)
-          ∙ ap (λ v. fates_only (met_all all.acks v (met_all all.frames c.args.fates nothing_counted))) (ap (λ p. p.fates) c.new-back.ensures);
-    }
+      frames = r.frames;
+      acks = r.acks;
+      last = r.last;
+      last_back = r.last_back;
+      rounds = subst (λ v. StuckTo n (after_all r.frames v) (after_all r.acks c.args.ack_fates) r.last r.last_back) there (subst (λ v. StuckTo n (after_all r.frames c.new-link.result.there.fates) (after_all r.acks v) r.last r.last_back) back r.rounds);
+      all = subst (λ v. FatesSoFar v c.args.ack_fates r.last r.last_back counts) there (subst (λ v. FatesSoFar c.new-link.result.there.fates v r.last r.last_back counts) back r.all);
+      failures = r.failures;
+    })
+    c.exchange-ended.ensures.stalls))

@@ -41,7 +41,8 @@ loop-i-preserved g c =
           ∙ ap (λ l. l ++ e) (c.write_word.ensures.front ∙ ap (λ l. l ++ s) c.loop-i.invariant.listed)
           ∙ listed_push (take i all) c.in-Some.start c.in-Some.end
           ∙ ap listed (sym one);
-      words = subst (All IsWords) (sym one) (All-push IsWords (take i all) run c.loop-i.invariant.words (c.write_word.ensures.fits, c.write_word-in-loop-i.ensures.fits));
+      words = subst (All IsWords) (sym one) (All-push IsWords (take i all) run c.loop-i.invariant.words
+          (c.write_word.ensures.fits, c.write_word-in-loop-i.ensures.fits));
     }
 
 pub returns-clause-listed : goal.returns-clause-listed

@@ -1,4 +1,4 @@
-use Rattle.std.proofs.Common.{◌≡◌, ◌∷◌, ◌++◌, [], Ok, true, sym, ap, subst, arith, rules, length-append}
+use Rattle.std.proofs.Common.{◌≡◌, ◌∷◌, ◌++◌, [], Ok, true, sym, ap, subst, arith, length, rules, length-append}
 use Rattle.net_uses.specs.Frames.{Each, ForwardedAndLost}
 use Rattle.std.proofs.lemmas.Result.{MatchResult-from_err}
 use Rattle.net_uses.proofs.FrameFacts.{each_more}
@@ -8,13 +8,14 @@ pub returns-in_err-forward_one-clause-err : goal.returns-in_err-forward_one-clau
 returns-in_err-forward_one-clause-err g c =
     let i = c.loop-count.invariant in
     let e = c.in_err-forward_one.ensures.err in
-    let lost : ForwardedAndLost g.A.Device.taken g.B.Device.sent c.args.max c.args.from.now c.forward_one.new.from c.args.to.now c.forward_one.new.to =
+    let lost : ForwardedAndLost g.A.Device.taken g.B.Device.sent g.B.Device.lacks_memory c.args.max c.args.from.now c.forward_one.new.from c.args.to.now c.forward_one.new.to =
     record {
       frames = i.frames;
       lost = e.0;
       count = omega (arith, i.count, c.loop-count-test.true);
       taken_off = each_more g.A.Device.taken _ _ _ i.frames e.0 i.taken_off e.1;
       sent_on = subst (λ y. Each g.B.Device.sent c.args.to.now i.frames y) (sym e.2) i.sent_on;
+      refused = subst (λ y. g.B.Device.lacks_memory y (length e.0)) (sym e.2) e.3;
     } in
     MatchResult-from_err c.from_residual.result _ _ c.from_residual.ensures.0 (λ _. lost)
 

@@ -23,5 +23,5 @@ returns-clause-lost g c =
     let a = g.met.A.FrameLists in
     let b = g.met.B.FrameLists in
     on_err_weaker c.forward.result
-    (lost_lists _ _ _ _ a.takes_first b.sends_last _ _ _ _ _)
+    (lost_lists _ _ _ _ _ a.takes_first b.sends_last _ _ _ _ _)
     c.forward.ensures.err

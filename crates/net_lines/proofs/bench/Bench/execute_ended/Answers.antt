@@ -11,11 +11,14 @@ end_line-requires g c = (feed-found c.lines.rest.now c.in-Some.at c.in-Some.ensu
 pub returns-in_err-end_line-clause-err : goal.returns-in_err-end_line-clause-err
 returns-in_err-end_line-clause-err g c =
     let p = err_from_is_err_and c.from_residual.result c.from_residual.ensures.1 in
-    rw (p.1, p.2) (λ more. AfterLines-err g.S.Session.rules g.S.Session.closing c.args.bytes.now c.lines.rest.now c.in-Some.at _ _ _ _ _ _ more _ _ _ _ _ _ _ c.lines.invariant c.in-Some.ensures c.lines.self.unended c.in_err-end_line.ensures.err)
+    rw (p.1, p.2) (λ more. AfterLines-err g.S.Session.rules g.S.Session.closing c.args.bytes.now
+    c.lines.rest.now c.in-Some.at _ _ _ _ _ _ more _ _ _ _ _ _ _ c.lines.invariant c.in-Some.ensures
+    c.lines.self.unended c.in_err-end_line.ensures.err)
 
 pub lines-preserved : goal.lines-preserved
 lines-preserved g c =
-    AfterLines-more g.S.Session.rules c.args.bytes.now c.lines.rest.now c.in-Some.at _ _ _ _ _ _ _ _ _ _ _ _ _ _ _ c.lines.invariant c.in-Some.ensures c.lines.self.unended c.in_ok-end_line.ensures.ok
+    AfterLines-more g.S.Session.rules c.args.bytes.now c.lines.rest.now c.in-Some.at _ _ _ _ _ _ _ _ _ _
+    _ _ _ _ _ c.lines.invariant c.in-Some.ensures c.lines.self.unended c.in_ok-end_line.ensures.ok
 
 pub keep-requires : goal.keep-requires
 keep-requires g c = feed-nowhere c.lines.rest.now c.in_default.ensures
@@ -23,6 +26,8 @@ keep-requires g c = feed-nowhere c.lines.rest.now c.in_default.ensures
 pub returns-clause-err : goal.returns-clause-err
 returns-clause-err g c =
     IfErr-weaker c.keep.result _ _
-    (λ e h more. rw c.keep.ensures.replies (AfterLines-long g.S.Session.rules g.S.Session.closing c.args.bytes.now c.lines.rest.now _ _ _ _ _ _ more _ _ _ _ e c.lines.invariant
-    (All-append (λ b. (b == 10) ≡ false) c.lines.self.line.items c.lines.rest.now c.lines.self.unended (feed-nowhere c.lines.rest.now c.in_default.ensures)) h))
+    (λ e h more. rw c.keep.ensures.replies (AfterLines-long g.S.Session.rules g.S.Session.closing
+    c.args.bytes.now c.lines.rest.now _ _ _ _ _ _ more _ _ _ _ e c.lines.invariant
+    (All-append (λ b. (b == 10) ≡ false) c.lines.self.line.items c.lines.rest.now c.lines.self.unended
+    (feed-nowhere c.lines.rest.now c.in_default.ensures)) h))
     c.keep.ensures.err

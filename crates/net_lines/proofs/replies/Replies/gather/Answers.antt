@@ -1,11 +1,15 @@
 use Rattle.std.proofs.lemmas.Result.{on_ok_weaker, IfErr-weaker}
-use Rattle.net_lines.proofs.Pending.{Gathers-through, WritesFront-behind}
+use Rattle.net_lines.proofs.Pending.{Gathers-through, AppendsFront-behind}
 use Rattle.net_lines.proofs.replies.Replies.gather.Goals as goal
 
 pub returns-then-reply-gt-ROOM-clause-ok : goal.returns-then-reply-gt-ROOM-clause-ok
 returns-then-reply-gt-ROOM-clause-ok g c =
-    on_ok_weaker c.write_text.result (Gathers-through _ _ _ _ _ _ c.in_ok-write_out.ensures.ok c.write_out.ensures.emptied) c.write_text.ensures.ok
+    on_ok_weaker c.write_whole.result
+    (Gathers-through _ _ _ _ _ _ c.in_ok-write_out.ensures.ok c.write_out.ensures.emptied)
+    c.write_whole.ensures.ok
 
 pub returns-then-reply-gt-ROOM-clause-err : goal.returns-then-reply-gt-ROOM-clause-err
 returns-then-reply-gt-ROOM-clause-err g c =
-    IfErr-weaker c.write_text.result _ _ (λ e h. (h.0, c.write_out.ensures.emptied, WritesFront-behind _ _ _ _ _ c.in_ok-write_out.ensures.ok h.1)) c.write_text.ensures.err
+    IfErr-weaker c.write_whole.result _ _
+    (λ e h. (h.0, c.write_out.ensures.emptied, AppendsFront-behind _ _ _ _ _ c.in_ok-write_out.ensures.ok h.1))
+    c.write_whole.ensures.err

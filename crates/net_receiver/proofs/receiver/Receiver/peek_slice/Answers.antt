@@ -1,16 +1,18 @@
-use Rattle.std.proofs.Common.{◌∙◌, ap, length}
-use Rattle.net_receiver.specs.Rules.{Gave}
-use Rattle.net_receiver.proofs.Run.{read_front, read_reply}
+use Rattle.std.proofs.Common.{◌≡◌, ◌∙◌, ◌++◌, ap, min, length, take, drop, arith}
+use Rattle.std.proofs.lemmas.Grind.{common_steps}
+use Rattle.net_storage.specs.Ring.{queue}
+use Rattle.net_receiver.specs.Stored.{Stored}
 use Rattle.net_receiver.proofs.Called.{read_bytes}
+use Rattle.net_receiver.proofs.Segment.{given_is}
 use Rattle.net_receiver.proofs.receiver.Receiver.peek_slice.Goals as goal
 
-pub returns-clause-answer : goal.returns-clause-answer
-returns-clause-answer g c = ap (λ xs. Gave xs) (read_front c.args.self.now.queue c.copy_front.new.into c.args.into.now c.copy_front.result c.copy_front.ensures.count c.copy_front.ensures.into)
-
-pub returns-clause-step : goal.returns-clause-step
-returns-clause-step g c = λ s d.
-    ap (λ xs. Gave xs) (read_front c.args.self.now.queue c.copy_front.new.into c.args.into.now c.copy_front.result c.copy_front.ensures.count c.copy_front.ensures.into)
-    ∙ read_reply g.row.N c.args.self.now s d (length c.args.into.now)
-
 pub returns-clause-bytes : goal.returns-clause-bytes
-returns-clause-bytes g c = λ f x r. read_bytes f x c.args.self.now c.copy_front.new.into c.args.into.now c.copy_front.result c.copy_front.ensures.count c.copy_front.ensures.into r
+returns-clause-bytes g c = λ f x r.
+    let inner = queue c.self.inside.ring in
+    let into = c.args.into.now in
+    let count : c.read_allocated.result ≡ min (length into) (length inner) = grind (arith, common_steps) in
+    read_bytes f x c.args.self.now c.read_allocated.new.data into c.read_allocated.result
+    (count ∙ ap (λ (v : Stored). min (length into) (length v.queue)) c.self.view_is)
+    (given_is inner into c.read_allocated.new.data c.read_allocated.result count c.read_allocated.ensures.given
+    ∙ ap (λ (v : Stored). take (length into) v.queue ++ drop (length v.queue) into) c.self.view_is)
+    r

@@ -39,12 +39,14 @@ invariant_of-self-then-is_ok g c =
     let r = c.dequeue_many_with-answer.result in
     let met = k.1.met in
     let count : r.0 ≡ (if is_ok r.1.0 then size else 0) = search of_calls parts 8 in
-    let called : (ws : List ℕ) × GivesAtPacket g.F.FnOnce c.args.f c.in_ok-size.header (take size k.1.shown.now) r.1.0 r.1.1 ws × (length ws ≡ size) × (k.1.left.now ≡ ws ++ drop size k.1.shown.now) = search of_calls parts 8 in
+    let called : (ws : List ℕ) × GivesAtPacket g.F.FnOnce c.args.f c.in_ok-size.header (take size k.1.shown.now) r.1.0 r.1.1 ws
+    × (length ws ≡ size) × (k.1.left.now ≡ ws ++ drop size k.1.shown.now) = search of_calls parts 8 in
     let left = sym k.1.leaves ∙ called.3 ∙ ap (λ l. called.0 ++ drop size l) k.1.shows in
     let all = count ∙ ap (λ t. if t then size else 0) (sym c.if-is_ok.ensures.value) in
     let em = c.dequeue_allocated.ensures.dequeued.0 ∙ rest in
     let wfm = subst WellFormed (sym c.dequeue_allocated.ensures.ring) (off_wf c.lift_header.new.slots (slot size None) (drop 1 (queue m)) lifted.1 lifted.0) in
-    off_kept m bytes c.self.invariant z size c.in_ok-size.header at k.0 called.0 left called.2 r.0 c.dequeue_many_with-answer.new.self k.3 all c.dequeue_allocated.new.self em wfm
+    off_kept m bytes c.self.invariant z size c.in_ok-size.header at k.0 called.0 left called.2 r.0 c.dequeue_many_with-answer.new.self k.3 all
+    c.dequeue_allocated.new.self em wfm
 
 pub invariant_of-self-else-is_ok : goal.invariant_of-self-else-is_ok
 invariant_of-self-else-is_ok g c =
@@ -60,11 +62,13 @@ invariant_of-self-else-is_ok g c =
     let r = c.dequeue_many_with-answer.result in
     let met = k.1.met in
     let count : r.0 ≡ (if is_ok r.1.0 then size else 0) = search of_calls parts 8 in
-    let called : (ws : List ℕ) × GivesAtPacket g.F.FnOnce c.args.f c.in_ok-size.header (take size k.1.shown.now) r.1.0 r.1.1 ws × (length ws ≡ size) × (k.1.left.now ≡ ws ++ drop size k.1.shown.now) = search of_calls parts 8 in
+    let called : (ws : List ℕ) × GivesAtPacket g.F.FnOnce c.args.f c.in_ok-size.header (take size k.1.shown.now) r.1.0 r.1.1 ws
+    × (length ws ≡ size) × (k.1.left.now ≡ ws ++ drop size k.1.shown.now) = search of_calls parts 8 in
     let left = sym k.1.leaves ∙ called.3 ∙ ap (λ l. called.0 ++ drop size l) k.1.shows in
     let none = count ∙ ap (λ t. if t then size else 0) (sym c.if-is_ok.ensures.value) in
     let em = c.put_header.ensures.queue size None (lifted.0 ∙ ap (λ l. slot size None ∷ l) (sym rest)) ∙ ap (λ l. slot size (Some r.1.1) ∷ l) rest in
-    on_kept m bytes c.self.invariant z size c.in_ok-size.header at k.0 called.0 left called.2 r.0 c.dequeue_many_with-answer.new.self k.3 none r.1.1 c.put_header.new.slots em c.put_header.ensures.well_formed
+    on_kept m bytes c.self.invariant z size c.in_ok-size.header at k.0 called.0 left called.2 r.0 c.dequeue_many_with-answer.new.self k.3 none
+    r.1.1 c.put_header.new.slots em c.put_header.ensures.well_formed
 
 pub returns-clause-handed : goal.returns-clause-handed
 returns-clause-handed g c =
@@ -80,7 +84,8 @@ returns-clause-handed g c =
     let r = c.dequeue_many_with-answer.result in
     let met = k.1.met in
     let count : r.0 ≡ (if is_ok r.1.0 then size else 0) = search of_calls parts 8 in
-    let called : (ws : List ℕ) × GivesAtPacket g.F.FnOnce c.args.f c.in_ok-size.header (take size k.1.shown.now) r.1.0 r.1.1 ws × (length ws ≡ size) × (k.1.left.now ≡ ws ++ drop size k.1.shown.now) = search of_calls parts 8 in
+    let called : (ws : List ℕ) × GivesAtPacket g.F.FnOnce c.args.f c.in_ok-size.header (take size k.1.shown.now) r.1.0 r.1.1 ws
+    × (length ws ≡ size) × (k.1.left.now ≡ ws ++ drop size k.1.shown.now) = search of_calls parts 8 in
     let left = sym k.1.leaves ∙ called.3 ∙ ap (λ l. called.0 ++ drop size l) k.1.shows in
     let front = lift_front m bytes c.self.invariant z size c.in_ok-size.header at c.args.self.now is in
     let gives = subst (λ l. GivesAtPacket g.F.FnOnce c.args.f c.in_ok-size.header (take size l) r.1.0 r.1.1 called.0) k.1.shows called.1 in
@@ -92,13 +97,19 @@ returns-clause-handed g c =
       | then-is_ok w ↦
           let all = count ∙ ap (λ t. if t then size else 0) (sym w.if-is_ok.ensures.value) in
           let em = w.dequeue_allocated.ensures.dequeued.0 ∙ rest in
-          let wfm = subst WellFormed (sym w.dequeue_allocated.ensures.ring) (off_wf c.lift_header.new.slots (slot size None) (drop 1 (queue m)) lifted.1 lifted.0) in
+          let wfm = subst WellFormed (sym w.dequeue_allocated.ensures.ring)
+          (off_wf c.lift_header.new.slots (slot size None) (drop 1 (queue m)) lifted.1 lifted.0) in
           let cm = ap capacity w.dequeue_allocated.ensures.ring ∙ lifted.2 in
-          w.self-is ∙ off_left m bytes c.self.invariant z size c.in_ok-size.header at k.0 called.0 left called.2 r.0 c.dequeue_many_with-answer.new.self k.3 all w.dequeue_allocated.new.self em wfm cm r.1.1 ∙ ap (λ q. popped (first_written q r.1.1 called.0)) is ∙ ap (λ t. handed t c.args.self.now r.1.1 called.0) w.if-is_ok.ensures.value
+          w.self-is ∙ off_left m bytes c.self.invariant z size c.in_ok-size.header at k.0 called.0 left called.2 r.0
+          c.dequeue_many_with-answer.new.self k.3 all w.dequeue_allocated.new.self em wfm cm r.1.1
+          ∙ ap (λ q. popped (first_written q r.1.1 called.0)) is ∙ ap (λ t. handed t c.args.self.now r.1.1 called.0) w.if-is_ok.ensures.value
       | else-is_ok w ↦
           let none = count ∙ ap (λ t. if t then size else 0) (sym w.if-is_ok.ensures.value) in
           let em = w.put_header.ensures.queue size None (lifted.0 ∙ ap (λ l. slot size None ∷ l) (sym rest)) ∙ ap (λ l. slot size (Some r.1.1) ∷ l) rest in
-          w.self-is ∙ on_left m bytes c.self.invariant z size c.in_ok-size.header at k.0 called.0 left called.2 r.0 c.dequeue_many_with-answer.new.self k.3 none r.1.1 w.put_header.new.slots em w.put_header.ensures.well_formed (w.put_header.ensures.capacity ∙ lifted.2) ∙ ap (λ q. first_written q r.1.1 called.0) is ∙ ap (λ t. handed t c.args.self.now r.1.1 called.0) w.if-is_ok.ensures.value
+          w.self-is ∙ on_left m bytes c.self.invariant z size c.in_ok-size.header at k.0 called.0 left called.2 r.0
+          c.dequeue_many_with-answer.new.self k.3 none r.1.1 w.put_header.new.slots em w.put_header.ensures.well_formed
+          (w.put_header.ensures.capacity ∙ lifted.2)
+          ∙ ap (λ q. first_written q r.1.1 called.0) is ∙ ap (λ t. handed t c.args.self.now r.1.1 called.0) w.if-is_ok.ensures.value
     ] in
     record {
       header = c.in_ok-size.header;
@@ -109,7 +120,8 @@ returns-clause-handed g c =
       gives = gives;
       size = long;
       shown = order.shown q ok c.in_ok-size.header (take size (take (contiguous_queued bytes) (queue bytes))) front;
-      left = ap contents made ∙ handed_contents q ok c.in_ok-size.header (take size (take (contiguous_queued bytes) (queue bytes))) r.1.1 called.0 (is_ok r.1.0) front long;
+      left = ap contents made ∙ handed_contents q ok c.in_ok-size.header (take size (take (contiguous_queued bytes) (queue bytes))) r.1.1
+          called.0 (is_ok r.1.0) front long;
       made = made;
     }
 

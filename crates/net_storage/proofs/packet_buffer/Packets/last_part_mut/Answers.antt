@@ -13,7 +13,8 @@ overflow_sub-before g c =
 
 pub invariant_of-self-lent : goal.invariant_of-self-lent
 invariant_of-self-lent g c = λ w.
-    written_holds c.self.inside.slots c.self.inside.bytes (packets_in 0 (queue c.self.inside.slots)) c.self.invariant (queue_index c.self.inside.bytes (c.len.result - c.args.size)) w
+    written_holds c.self.inside.slots c.self.inside.bytes (packets_in 0 (queue c.self.inside.slots)) c.self.invariant
+    (queue_index c.self.inside.bytes (c.len.result - c.args.size)) w
 
 pub returns : goal.returns
 returns g c =

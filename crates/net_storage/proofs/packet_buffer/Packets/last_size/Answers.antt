@@ -7,7 +7,8 @@ pub returns-in-Some-clause-size : goal.returns-in-Some-clause-size
 returns-in-Some-clause-size g c =
     let s = c.saturating_sub.ensures in
     end_some c.self.inside.slots c.self.inside.bytes c.self.invariant c.saturating_sub.result (length c.get_allocated.result.now)
-    (omega (arith, c.len-used.ensures.count, s)) c.get_allocated.ensures.count c.get_allocated.result.now c.get_allocated.ensures.value c.in-Some.slot.now c.in-Some.ensures.value
+    (omega (arith, c.len-used.ensures.count, s)) c.get_allocated.ensures.count c.get_allocated.result.now c.get_allocated.ensures.value
+    c.in-Some.slot.now c.in-Some.ensures.value
     ∙ ap (λ q. first_size (only_last q.packets)) c.self.view_is
 
 pub returns-in-None-clause-size : goal.returns-in-None-clause-size

@@ -7,5 +7,6 @@ use Rattle.net_storage.proofs.packet_buffer.Packets.new.Goals as goal
 
 pub returns-clause-none : goal.returns-clause-none
 returns-clause-none g c =
-    let is : packet_queue c.new.result c.new-2.result ≡ no_packets (length (g.M.Elements.elements c.args.slots)) (g.B.Elements.elements c.args.bytes) = search rules in
+    let is : packet_queue c.new.result c.new-2.result ≡ no_packets (length (g.M.Elements.elements c.args.slots)) (g.B.Elements.elements c.args.bytes) =
+    search rules in
     ap contents is ∙ no_contents _ _

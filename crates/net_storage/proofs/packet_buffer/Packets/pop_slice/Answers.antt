@@ -21,7 +21,13 @@ returns-clause-popped g c =
     let shown : contents q ≡ (h, bytes) ∷ contents (dequeued q) =
     c.in_ok-header.ensures.taken ∙ ap (λ o. (h, freed_bytes r size) ∷ contents o) is
     ∙ ap (λ (l : List ℕ). (h, l) ∷ contents (dequeued q)) (sym c.freed_mut.ensures.value) in
-    record { bytes = bytes; first = shown ∙ ap (λ o. (h, bytes) ∷ contents o) (sym left); count = c.copy-count.ensures.count; copied = c.copy-count.ensures.copied }
+    record {
+      bytes = bytes;
+      first = shown ∙ ap (λ o. (h, bytes) ∷ contents o) (sym left);
+      count =
+          c.copy-count.ensures.count;
+      copied = c.copy-count.ensures.copied;
+    }
 
 pub returns-clause-count : goal.returns-clause-count
 returns-clause-count g c =

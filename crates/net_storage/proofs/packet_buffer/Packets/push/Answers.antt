@@ -21,7 +21,11 @@ overflow_add-gap g c =
 pub enqueue_unallocated-requires : goal.enqueue_unallocated-requires
 enqueue_unallocated-requires g c =
     let e = ap (λ q. placement q c.args.size) c.self.view_is ∙ c.requires in
-    omega (arith, subst (λ o. c.args.gap + c.args.size ≤ Rattle.net_storage.specs.Ring.window o) (sym c.restart.ensures.ring) (byte_room c.self.inside.slots c.self.inside.bytes c.self.invariant c.args.gap c.args.size e))
+    omega (
+      arith,
+      subst (λ o. c.args.gap + c.args.size ≤ Rattle.net_storage.specs.Ring.window o) (sym c.restart.ensures.ring)
+          (byte_room c.self.inside.slots c.self.inside.bytes c.self.invariant c.args.gap c.args.size e),
+    )
 
 pub invariant_of-self : goal.invariant_of-self
 invariant_of-self g c =
@@ -31,7 +35,8 @@ invariant_of-self g c =
     let e = ap (λ q. placement q c.args.size) c.self.view_is ∙ c.requires in
     let is = c.enqueue_unallocated.ensures.ring ∙ ap (with_enqueued (c.args.gap + c.args.size)) c.restart.ensures.ring in
     let le : c.args.size ≤ c.args.size = omega arith in
-    let after = push_holds m b c.self.invariant c.args.gap c.args.size e c.args.header c.args.size le m2 c.push_slots.ensures.queue c.push_slots.ensures.well_formed in
+    let after = push_holds m b c.self.invariant c.args.gap c.args.size e c.args.header c.args.size le m2 c.push_slots.ensures.queue
+    c.push_slots.ensures.well_formed in
     subst (λ o. Holds m2 o (packets_in 0 (queue m2))) (sym is) (closed m2 (with_enqueued (c.args.gap + c.args.size) (restarted b)) _ after)
 
 pub returns : goal.returns
@@ -43,5 +48,6 @@ returns g c =
     let is = c.enqueue_unallocated.ensures.ring ∙ ap (with_enqueued (c.args.gap + c.args.size)) c.restart.ensures.ring in
     let le : c.args.size ≤ c.args.size = omega arith in
     ap (packet_queue m2) is
-    ∙ push_left m b c.self.invariant c.args.gap c.args.size e c.args.header c.args.size le m2 c.push_slots.ensures.queue c.push_slots.ensures.well_formed c.push_slots.ensures.capacity
+    ∙ push_left m b c.self.invariant c.args.gap c.args.size e c.args.header c.args.size le m2 c.push_slots.ensures.queue
+    c.push_slots.ensures.well_formed c.push_slots.ensures.capacity
     ∙ ap (λ q. pushed q c.args.gap c.args.size c.args.header) c.self.view_is

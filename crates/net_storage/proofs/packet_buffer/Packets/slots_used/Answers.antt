@@ -5,5 +5,6 @@ use Rattle.net_storage.proofs.packet_buffer.Packets.slots_used.Goals as goal
 
 pub returns : goal.returns
 returns g c =
-    let used : c.self.inside.slots.count ≡ slots_used c.args.self.now.packets = held_is _ _ _ c.self.invariant ∙ ap (λ q. slots_used q.packets) c.self.view_is in
+    let used : c.self.inside.slots.count ≡ slots_used c.args.self.now.packets = held_is _ _ _ c.self.invariant
+    ∙ ap (λ q. slots_used q.packets) c.self.view_is in
     omega (arith, used)

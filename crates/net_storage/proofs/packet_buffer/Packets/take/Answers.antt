@@ -19,7 +19,8 @@ invariant_of-self-2 g c =
     let size = front_long m b c.self.invariant z (slot c.in_ok-size.size (Some c.in_ok-size.header)) at in
     let lifted = c.in_ok-size.ensures.left in
     let em = c.dequeue_allocated.ensures.dequeued.0 ∙ ap (drop 1) lifted.0 in
-    let wfm = subst WellFormed (sym c.dequeue_allocated.ensures.ring) (off_wf c.lift_header.new.slots (slot c.in_ok-size.size None) (drop 1 (queue m)) lifted.1 lifted.0) in
+    let wfm = subst WellFormed (sym c.dequeue_allocated.ensures.ring)
+    (off_wf c.lift_header.new.slots (slot c.in_ok-size.size None) (drop 1 (queue m)) lifted.1 lifted.0) in
     let is = c.dequeue_allocated-2.ensures.ring ∙ ap (λ n. with_dequeued n b) size in
     subst (λ o. Holds m2 o (packets_in 0 (queue m2))) (sym is) (closed m2 _ _ (pop_holds m b c.self.invariant z m2 (em ∙ f.3) wfm))
 

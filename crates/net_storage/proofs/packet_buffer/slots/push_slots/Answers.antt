@@ -16,5 +16,6 @@ returns-clause-queue g c =
           c.push_slot-2.ensures.queue ∙ ap (λ l. queue l ++ (s ∷ [])) w.slots-is ∙ ap (λ l. l ++ (s ∷ [])) w.push_slot.ensures.queue
           ∙ append_assoc (queue old) (slot gap None ∷ []) (s ∷ []) ∙ ap (λ l. queue old ++ (l ++ (s ∷ []))) (sym (gap_slot_one gap (omega arith)))
       | else-gap-gt0 w ↦
-          c.push_slot-2.ensures.queue ∙ ap (λ o. queue o ++ (s ∷ [])) w.slots-is ∙ ap (λ l. queue old ++ (l ++ (s ∷ []))) (sym (gap_slot_none gap (omega arith)))
+          c.push_slot-2.ensures.queue ∙ ap (λ o. queue o ++ (s ∷ [])) w.slots-is
+          ∙ ap (λ l. queue old ++ (l ++ (s ∷ []))) (sym (gap_slot_none gap (omega arith)))
     ]

@@ -18,10 +18,14 @@ returns-in-Some-clause-queue g c = λ size h e.
     put_keeps (queue old) l _ c.in-Some.slot.now size h c.args.header c.get_allocated_mut.ensures.value (omega (arith, n)) item.3.0 item.1 e (search wrote)
 
 pub returns-in-Some-clause-well_formed : goal.returns-in-Some-clause-well_formed
-returns-in-Some-clause-well_formed g c = written_wf c.args.slots.now c.requires (queue_index c.args.slots.now 0) (set c.get_allocated_mut.result.now 0 (slot c.in-Some.slot.now.size (Some c.args.header)))
+returns-in-Some-clause-well_formed g c =
+    written_wf c.args.slots.now c.requires (queue_index c.args.slots.now 0)
+    (set c.get_allocated_mut.result.now 0 (slot c.in-Some.slot.now.size (Some c.args.header)))
 
 pub returns-in-Some-clause-capacity : goal.returns-in-Some-clause-capacity
-returns-in-Some-clause-capacity g c = length-overwrite c.args.slots.now.storage (queue_index c.args.slots.now 0) (set c.get_allocated_mut.result.now 0 (slot c.in-Some.slot.now.size (Some c.args.header)))
+returns-in-Some-clause-capacity g c =
+    length-overwrite c.args.slots.now.storage (queue_index c.args.slots.now 0)
+    (set c.get_allocated_mut.result.now 0 (slot c.in-Some.slot.now.size (Some c.args.header)))
 
 pub returns-in_default-clause-well_formed : goal.returns-in_default-clause-well_formed
 returns-in_default-clause-well_formed g c = written_wf c.args.slots.now c.requires (queue_index c.args.slots.now 0) c.get_allocated_mut.result.now

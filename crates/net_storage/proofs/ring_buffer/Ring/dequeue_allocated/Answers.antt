@@ -11,4 +11,5 @@ returns-clause-ring g c =
 pub returns-clause-dequeued : goal.returns-clause-dequeued
 returns-clause-dequeued g c =
     let old = c.args.self.now in
-    subst (Dequeued old c.args.count (take c.args.count (queue old))) (sym (returns-clause-ring g c)) (with_dequeued_law old (well _ _ c.self.view_is c.self.invariant) c.args.count c.requires.len)
+    subst (Dequeued old c.args.count (take c.args.count (queue old))) (sym (returns-clause-ring g c))
+    (with_dequeued_law old (well _ _ c.self.view_is c.self.invariant) c.args.count c.requires.len)

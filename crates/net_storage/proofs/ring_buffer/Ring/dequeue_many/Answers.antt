@@ -8,7 +8,8 @@ returns g c =
     let old = c.args.self.now in
     let is = c.self.view_is in
     let k = c.min-count.result in
-    let held : min c.self.inside.length (c.capacity.result - c.self.inside.read_at) ≡ contiguous_queued old = ap (λ n. min c.self.inside.length (n - c.self.inside.read_at)) c.capacity.ensures.capacity ∙ ap contiguous_queued is in
+    let held : min c.self.inside.length (c.capacity.result - c.self.inside.read_at) ≡ contiguous_queued old =
+    ap (λ n. min c.self.inside.length (n - c.self.inside.read_at)) c.capacity.ensures.capacity ∙ ap contiguous_queued is in
     let count : k ≡ min c.args.size (contiguous_queued old) = omega (arith, held) in
     let next : c.storage_index-self-inside.result ≡ storage_index old k = omega (arith, ap (λ o. storage_index o k) is) in
     let lent = shown_front _ _ is c.self.invariant _ _ k (ap (λ o. o.read_at) is) (omega arith) (omega (arith, count)) _ c.part_mut.ensures.value in (

@@ -7,10 +7,13 @@ use Rattle.net_storage.proofs.ring_buffer.Ring.enqueue_slice.Goals as goal
 pub returns-clause-enqueued : goal.returns-clause-enqueued
 returns-clause-enqueued g c =
     let n = c.write_unallocated-count.result in
-    let bound : n ≡ min (length c.args.«data».now) (window (restarted c.args.self.now) - 0) = c.write_unallocated-count.ensures.count ∙ ap (λ o. min (length c.args.«data».now) (window o - 0)) c.restart.ensures.ring in
-    let counted : c.enqueue_unallocated.new.self ≡ with_enqueued n c.write_unallocated-count.new.self = c.enqueue_unallocated.ensures.ring ∙ ap (λ k. with_enqueued k c.write_unallocated-count.new.self) (omega arith) in
+    let bound : n ≡ min (length c.args.«data».now) (window (restarted c.args.self.now) - 0) =
+    c.write_unallocated-count.ensures.count ∙ ap (λ o. min (length c.args.«data».now) (window o - 0)) c.restart.ensures.ring in
+    let counted : c.enqueue_unallocated.new.self ≡ with_enqueued n c.write_unallocated-count.new.self =
+    c.enqueue_unallocated.ensures.ring ∙ ap (λ k. with_enqueued k c.write_unallocated-count.new.self) (omega arith) in
     enqueue_clause _ (restarted c.args.self.now) _ _ (take n c.args.«data».now) n c.restart.ensures.ring c.write_unallocated-count.ensures.written counted
     (length-take-le n c.args.«data».now (omega (arith, bound))) (omega (arith, bound))
 
 pub returns-clause-queue : goal.returns-clause-queue
-returns-clause-queue g c = (returns-clause-enqueued g c).0 ∙ ap (λ l. l ++ take c.write_unallocated-count.result c.args.«data».now) (restarted_is c.args.self.now).0
+returns-clause-queue g c = (returns-clause-enqueued g c).0
+    ∙ ap (λ l. l ++ take c.write_unallocated-count.result c.args.«data».now) (restarted_is c.args.self.now).0

@@ -10,7 +10,8 @@ returns-clause-ring g c = with_enqueued_is _ _ c.self.view_is c.self.invariant _
 pub returns-clause-enqueued : goal.returns-clause-enqueued
 returns-clause-enqueued g c =
     let old = c.args.self.now in
-    subst (Enqueued old (take c.args.count (spare old))) (sym (returns-clause-ring g c)) (with_enqueued_law old (well _ _ c.self.view_is c.self.invariant) c.args.count c.requires.window)
+    subst (Enqueued old (take c.args.count (spare old))) (sym (returns-clause-ring g c))
+    (with_enqueued_law old (well _ _ c.self.view_is c.self.invariant) c.args.count c.requires.window)
 
 pub returns-clause-of_spare : goal.returns-clause-of_spare
 returns-clause-of_spare g c =

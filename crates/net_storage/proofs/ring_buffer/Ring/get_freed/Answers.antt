@@ -12,7 +12,8 @@ returns g c =
     let from = c.if-size-self.from in
     let at : from ≡ freed_index old k = elim c.if-size-self.branch [
       | then-size-self w ↦ w.from-is ∙ freed_before _ _ is c.self.invariant k c.requires.size (omega arith)
-      | else-size-self w ↦ w.from-is ∙ ap (λ n. n - (k - c.self.inside.read_at)) w.capacity.ensures.capacity ∙ freed_round _ _ is c.self.invariant k c.requires.size (omega arith)
+      | else-size-self w ↦ w.from-is ∙ ap (λ n. n - (k - c.self.inside.read_at)) w.capacity.ensures.capacity
+          ∙ freed_round _ _ is c.self.invariant k c.requires.size (omega arith)
     ] in
     let lent = shown_freed _ _ is c.self.invariant k from _ c.requires.size c.requires.contiguous at (omega arith) _ c.part_mut.ensures.value in (
       (refl, λ w. left_at _ _ is c.self.invariant _ _ at _ w (g.met.S.Elements.part_written c.self.inside.storage from w)),

@@ -21,5 +21,6 @@ returns-else-contiguous-count-clause-given g c =
     let span = c.span-from.ensures in
     let held = ap (λ o. o.count) c.self.view_is in
     let at : c.span-from.result.from ≡ queue_index old c.args.offset = span.from ∙ ap (storage_index old) (omega (arith, held)) in
-    read_once_clause _ _ c.self.view_is c.self.invariant c.args.offset c.span-from.result.count c.span-from.result.from c.span-from.result.contiguous _ c.args.«data».now _
+    read_once_clause _ _ c.self.view_is c.self.invariant c.args.offset c.span-from.result.count c.span-from.result.from
+    c.span-from.result.contiguous _ c.args.«data».now _
     (omega arith) (omega (arith, span.count, held)) at span.contiguous c.if-contiguous-count.false (c.copy_from_slice.ensures.after ∙ c.part.ensures)

@@ -7,7 +7,11 @@ use Rattle.net_storage.proofs.ring_buffer.Ring.write_unallocated.Goals as goal
 
 -- what is written changes neither the count nor the capacity
 same_after : {T : Type 0} (g h : RingState T) (p : ℕ) (ws : List T) → h ≡ written_wrapping g p ws → (h.count ≡ g.count) × (capacity h ≡ capacity g)
-same_after g h p ws e = (ap (λ o. o.count) e, ap capacity e ∙ length-overwrite (overwrite g.storage p ws) 0 (drop (length g.storage - p) ws) ∙ length-overwrite g.storage p ws)
+same_after g h p ws e = (
+  ap (λ o. o.count) e,
+  ap capacity e ∙ length-overwrite (overwrite g.storage p ws) 0 (drop (length g.storage - p) ws) ∙
+      length-overwrite g.storage p ws,
+)
 
 pub invariant_of-self : goal.invariant_of-self
 invariant_of-self g c =
@@ -30,12 +34,14 @@ returns-then-contiguous-count-clause-ring g c =
     let held = ap (λ o. o.count) c.self.view_is in
     let at : c.span-from.result.from ≡ spare_index c.args.self.now c.args.offset = span.from ∙ ap (storage_index c.args.self.now) (omega (arith, held, room)) in
     let rest : b ≡ take (c.span-from.result.count - c.span-from.result.contiguous) (drop c.span-from.result.contiguous c.args.«data».now) = search rules in
-    wrapping_clause _ _ c.self.view_is c.self.invariant c.args.offset c.span-from.result.count c.span-from.result.from c.span-from.result.contiguous c.args.«data».now _ _ _
+    wrapping_clause _ _ c.self.view_is c.self.invariant c.args.offset c.span-from.result.count c.span-from.result.from
+    c.span-from.result.contiguous c.args.«data».now _ _ _
     (omega (arith, span.count, room)) at span.contiguous c.copy_from_slice.ensures.after rest two
 
 pub returns-then-contiguous-count-clause-written : goal.returns-then-contiguous-count-clause-written
 returns-then-contiguous-count-clause-written g c =
-    ahead_clause _ _ c.self.view_is c.self.invariant c.args.offset c.span-from.result.count c.args.«data».now _ (omega (arith, c.span-from.ensures.count, c.window.ensures.window)) (returns-then-contiguous-count-clause-ring g c)
+    ahead_clause _ _ c.self.view_is c.self.invariant c.args.offset c.span-from.result.count c.args.«data».now _
+    (omega (arith, c.span-from.ensures.count, c.window.ensures.window)) (returns-then-contiguous-count-clause-ring g c)
 
 pub returns-else-contiguous-count-clause-ring : goal.returns-else-contiguous-count-clause-ring
 returns-else-contiguous-count-clause-ring g c =
@@ -43,15 +49,20 @@ returns-else-contiguous-count-clause-ring g c =
     let room = c.window.ensures.window in
     let held = ap (λ o. o.count) c.self.view_is in
     let at : c.span-from.result.from ≡ spare_index c.args.self.now c.args.offset = span.from ∙ ap (storage_index c.args.self.now) (omega (arith, held, room)) in
-    once_clause _ _ c.self.view_is c.self.invariant c.args.offset c.span-from.result.count c.span-from.result.from c.span-from.result.contiguous c.args.«data».now _ _
-    (omega (arith, span.count, room)) at span.contiguous c.if-contiguous-count.false c.copy_from_slice.ensures.after (g.met.S.Elements.part_written c.self.inside.storage c.span-from.result.from c.copy_from_slice.new.self)
+    once_clause _ _ c.self.view_is c.self.invariant c.args.offset c.span-from.result.count c.span-from.result.from c.span-from.result.contiguous
+    c.args.«data».now _ _
+    (omega (arith, span.count, room)) at span.contiguous c.if-contiguous-count.false c.copy_from_slice.ensures.after
+    (g.met.S.Elements.part_written c.self.inside.storage c.span-from.result.from c.copy_from_slice.new.self)
 
 pub returns-else-contiguous-count-clause-written : goal.returns-else-contiguous-count-clause-written
 returns-else-contiguous-count-clause-written g c =
-    ahead_clause _ _ c.self.view_is c.self.invariant c.args.offset c.span-from.result.count c.args.«data».now _ (omega (arith, c.span-from.ensures.count, c.window.ensures.window)) (returns-else-contiguous-count-clause-ring g c)
+    ahead_clause _ _ c.self.view_is c.self.invariant c.args.offset c.span-from.result.count c.args.«data».now _
+    (omega (arith, c.span-from.ensures.count, c.window.ensures.window)) (returns-else-contiguous-count-clause-ring g c)
 
 pub invariant_of-self-else-contiguous-count : goal.invariant_of-self-else-contiguous-count
-invariant_of-self-else-contiguous-count g c = once_wf _ _ c.self.view_is c.self.invariant c.span-from.result.from c.copy_from_slice.new.self _ (g.met.S.Elements.part_written c.self.inside.storage c.span-from.result.from c.copy_from_slice.new.self)
+invariant_of-self-else-contiguous-count g c =
+    once_wf _ _ c.self.view_is c.self.invariant c.span-from.result.from c.copy_from_slice.new.self _
+    (g.met.S.Elements.part_written c.self.inside.storage c.span-from.result.from c.copy_from_slice.new.self)
 
 pub returns-then-contiguous-count-clause-count : goal.returns-then-contiguous-count-clause-count
 returns-then-contiguous-count-clause-count g c = omega (arith, c.span-from.ensures.count, c.window.ensures.window)
@@ -60,7 +71,11 @@ pub returns-else-contiguous-count-clause-count : goal.returns-else-contiguous-co
 returns-else-contiguous-count-clause-count g c = omega (arith, c.span-from.ensures.count, c.window.ensures.window)
 
 pub returns-then-contiguous-count-clause-same : goal.returns-then-contiguous-count-clause-same
-returns-then-contiguous-count-clause-same g c = same_after c.args.self.now _ (spare_index c.args.self.now c.args.offset) (take c.span-from.result.count c.args.«data».now) (returns-then-contiguous-count-clause-ring g c)
+returns-then-contiguous-count-clause-same g c =
+    same_after c.args.self.now _ (spare_index c.args.self.now c.args.offset) (take c.span-from.result.count c.args.«data».now)
+    (returns-then-contiguous-count-clause-ring g c)
 
 pub returns-else-contiguous-count-clause-same : goal.returns-else-contiguous-count-clause-same
-returns-else-contiguous-count-clause-same g c = same_after c.args.self.now _ (spare_index c.args.self.now c.args.offset) (take c.span-from.result.count c.args.«data».now) (returns-else-contiguous-count-clause-ring g c)
+returns-else-contiguous-count-clause-same g c =
+    same_after c.args.self.now _ (spare_index c.args.self.now c.args.offset) (take c.span-from.result.count c.args.«data».now)
+    (returns-else-contiguous-count-clause-ring g c)

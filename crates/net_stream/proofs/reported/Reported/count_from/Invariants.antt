@@ -1,7 +1,8 @@
-use Rattle.std.proofs.Common.{◌≡◌, false, take}
-use Rattle.net_stream.specs.Reported.{reports}
+use Rattle.std.proofs.Common.{◌≡◌, take, drop}
+use Rattle.net_stream.specs.Reported.{count_from}
 use Rattle.net_stream.proofs.reported.Reported.count_from.Given as goal
 
 -- none of the ranges so far has the position
 abbrev pub invariant-loop-i : goal.invariant-loop-i
-invariant-loop-i l = reports (take l.i l.self-inside.ranges) l.pos ≡ false
+invariant-loop-i l =
+    count_from (drop l.i (take l.self-inside.count l.self-inside.ranges)) l.pos ≡ count_from (take l.self-inside.count l.self-inside.ranges) l.pos

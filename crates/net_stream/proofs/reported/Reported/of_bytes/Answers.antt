@@ -7,7 +7,8 @@ use Rattle.net_stream.proofs.reported.Reported.of_bytes.Goals as goal
 pub returns-in_default : goal.returns-in_default
 returns-in_default c =
     let so_far = c.loop-turn.reported in
-    sym (append-nil so_far) ∙ ap (λ l. so_far ++ l) (sym (ranges_stop (most_reported - c.loop-turn._turn) c.loop-turn.rest.now c.in_default.ensures)) ∙ c.loop-turn.invariant.all
+    sym (append-nil so_far) ∙ ap (λ l. so_far ++ l)
+    (sym (ranges_stop (most_reported - c.loop-turn._turn) c.loop-turn.rest.now c.in_default.ensures)) ∙ c.loop-turn.invariant.all
 
 pub loop-turn-preserved : goal.loop-turn-preserved
 loop-turn-preserved c =
@@ -20,11 +21,14 @@ loop-turn-preserved c =
       count = omega arith;
       all =
           ap (λ l. l ++ more) c.push.ensures ∙ append_assoc so_far one more
-          ∙ ap (λ l. so_far ++ l) (sym (ranges_more (most_reported - c.loop-turn._turn) (most_reported - (c.loop-turn._turn + 1)) c.loop-turn.rest.now c.in-Some.start c.in-Some.end c.in-Some.behind.now (omega arith) c.in-Some.ensures))
+          ∙ ap (λ l. so_far ++ l) (sym (ranges_more (most_reported - c.loop-turn._turn)
+          (most_reported - (c.loop-turn._turn + 1)) c.loop-turn.rest.now c.in-Some.start c.in-Some.end c.in-Some.behind.now
+          (omega arith) c.in-Some.ensures))
           ∙ c.loop-turn.invariant.all;
     }
 
 pub returns : goal.returns
 returns c =
     let so_far = c.loop-turn.reported in
-    sym (append-nil so_far) ∙ ap (λ l. so_far ++ l) (sym (ranges_none (most_reported - c.loop-turn._turn) c.loop-turn.rest.now (omega arith))) ∙ c.loop-turn.invariant.all
+    sym (append-nil so_far) ∙ ap (λ l. so_far ++ l)
+    (sym (ranges_none (most_reported - c.loop-turn._turn) c.loop-turn.rest.now (omega arith))) ∙ c.loop-turn.invariant.all

@@ -1,0 +1,2 @@
+-- How a run ends once its writer was flushed.
+pub mod Flushed

@@ -1,0 +1,37 @@
+-- What comes of a run, and what standard error says.
+--     usage_line, error_line e      words that name no mode, and an error
+--     status_of outcome      the status after a run
+--     FlushedRun outcome result      how a run ended, once its writer was flushed
+--     FailedRun all before left old new said says told      what an error says of a run's input, of
+--         what the writer held, and of standard error, before and after
+use Rattle.std.specs.Prelude.{◌≡◌, ℕ, List, ◌++◌, ◌⊎◌, Option, IfSome, Bool, true}
+use Rattle.std.specs.Prelude.{Result, Ok, Err, IsOk, codes}
+use Rattle.std.specs.Io.KnownBytes.{Appends}
+use Rattle.net_program.specs.declared.ending.Status.{Status}
+use Rattle.net_program.specs.declared.ending.Status.TheVariants.{Done, Failed}
+use Rattle.net_lines.specs.Transcript.{Transcript, ErrorOfInput}
+use Rattle.net_lines.specs.ErrorText.{error_text}
+use Rattle.net_lines.specs.declared.error.BenchError.{BenchError}
+use Rattle.net_lines.specs.declared.error.BenchError.TheVariants.{WriteFailed}
+
+abbrev pub usage_line : List ℕ
+usage_line = codes "usage: net_bench ring CAP | asm N | stream CAP N [FIRST]\n"
+
+abbrev pub error_line : BenchError → List ℕ
+error_line e = error_text e ++ codes "\n"
+
+abbrev pub status_of : {T : Type 0} → Result T BenchError → Status
+status_of (Ok t) = Done
+status_of (Err e) = Failed
+
+-- a flush that fails after a run without an error is a failed write
+abbrev pub FlushedRun : {T : Type 0} → Result T BenchError → Result T BenchError → Type 0
+FlushedRun outcome result = (result ≡ outcome) ⊎ (IsOk outcome × (result ≡ Err WriteFailed))
+
+-- if the input is known, the run has an error that says all this; and if standard error took the
+-- line, it is that error's
+abbrev pub FailedRun : Transcript → Option (List ℕ) → Option (List ℕ) → Option (List ℕ) →
+    Option (List ℕ) → Option (List ℕ) → Option (List ℕ) → Bool → Type 0
+FailedRun all before left old new said says told = IfSome before (λ input.
+    (e : BenchError) × ErrorOfInput all input left old new e
+    × (told ≡ true → Appends said says (error_line e)))

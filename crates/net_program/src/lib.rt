@@ -1,0 +1,15 @@
+//! What the programs here share: the words of a command line, the numbers that words write, writing
+//! a text whole, and how a program ends.
+//!
+//! Beside them stand the lemmas on what readers give and writers take that several crates cite.
+#![tactic(auto)]
+
+mod arguments;
+mod ending;
+mod numeral;
+mod writing;
+
+pub use arguments::{command_words, gather};
+pub use ending::{Ended, Status};
+pub use numeral::number;
+pub use writing::write_text;

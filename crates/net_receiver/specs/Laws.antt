@@ -1,0 +1,122 @@
+-- The laws on kept lists, on the runs that are reported, and on calls that follow one another.
+--     Contains e p, NoneContains k p      the entry e, or no entry of k, contains the position p
+--     IsLast k p e      e is the last entry of k that contains p
+--     IsLeastMissing f k n      n is the least position from f on that no entry of k contains
+--     ReportsRuns held sack      sack reports the first three runs of held positions
+--     Replayed N v calls u      what calls of `replay`, one after another, store
+--     Composed N v calls u      these calls do what one call does
+use Rattle.std.specs.Prelude.{◌≡◌, ◌↔◌, ◌⊎◌, ℕ, ◌-◌, ◌≤◌, ◌<◌, Bool, List, [], ◌∷◌, ◌++◌, length}
+use Rattle.std.specs.Prelude.{take, flat_map, slice_index, Option, Some, None, Ok, IsTrue, All}
+use Rattle.std.specs.Prelude.{AllPairs, count_by, ⊤}
+use Rattle.net_storage.specs.Positions.{Positions, contains, lies_in, IsMaximalRun}
+use Rattle.net_receiver.specs.declared.receiver.kept.Kept.{Kept}
+use Rattle.net_receiver.specs.KeptList.{Piece, end, byte_at, next, held_positions}
+use Rattle.net_receiver.specs.Rules.{CommandSeen, ReplySeen, Verdict, state_after, answer}
+use Rattle.net_receiver.specs.Rules.{first_three}
+use Rattle.net_receiver.specs.Schedule.{Setting, State, by_kept}
+use Rattle.net_receiver.specs.Stored.{Stored, StandsFor}
+use Rattle.net_receiver.specs.Execution.{ExecutedPrefix, Executed, ExecutedFor}
+
+-- ---- kept lists
+-- p is one of the positions of an entry
+abbrev pub Contains : Piece → ℕ → Type 0
+Contains e p = (e.start ≤ p) × (p < end e)
+
+-- no entry of k contains p
+abbrev pub NoneContains : List Piece → ℕ → Type 0
+NoneContains k p = All (λ e. Contains e p → ⊥) k
+
+-- e is the last entry of k that contains p
+pub record IsLast (k : List Piece) (p : ℕ) (e : Piece) : Type 0 where
+  pub before : List Piece
+  pub behind : List Piece
+  pub whole : k ≡ before ++ e ∷ behind
+  pub contains : Contains e p
+  pub last : NoneContains behind p
+
+-- some entry contains p
+abbrev pub SomeContains : List Piece → ℕ → Type 0
+SomeContains k p = (e : Piece) × IsLast k p e
+
+-- the byte at a position is that of the last entry that contains it, and there is none if no entry
+-- does
+abbrev pub ByteOfLast : Type 0
+ByteOfLast = (k : List Piece) (p : ℕ) →
+    (NoneContains k p × (byte_at k p ≡ None))
+    ⊎ ((e : Piece) × IsLast k p e × (byte_at k p ≡ Some (slice_index e.bytes (p - e.start))))
+
+-- n is the least position from f on that no entry contains
+pub record IsLeastMissing (f : ℕ) (k : List Piece) (n : ℕ) : Type 0 where
+  pub from : f ≤ n
+  pub missing : NoneContains k n
+  pub present : (p : ℕ) → f ≤ p → p < n → SomeContains k p
+
+-- `next` is the least missing position from the first position on
+abbrev pub NextIsLeast : Type 0
+NextIsLeast = (f : ℕ) (k : List Piece) → IsLeastMissing f k (next f k)
+
+-- held positions are those above `next` that an entry contains
+abbrev pub HeldAreAbove : Type 0
+HeldAreAbove = (f : ℕ) (k : List Piece) (p : ℕ) →
+    IsTrue (contains (held_positions f k) p) ↔ ((next f k < p) × SomeContains k p)
+
+-- ---- reported runs
+-- the runs that are there
+abbrev pub runs_of_sack : List (Option (ℕ × ℕ)) → List (ℕ × ℕ)
+runs_of_sack [] = []
+runs_of_sack (Some run ∷ places) = run ∷ runs_of_sack places
+runs_of_sack (None ∷ places) = runs_of_sack places
+
+-- three places are filled from the first on with maximal runs of held positions, which rise with a gap
+-- between neighbours; each held position lies in one of them, or three are reported and it lies
+-- above
+pub record ReportsRuns (held : Positions) (sack : List (Option (ℕ × ℕ))) : Type 0 where
+  pub places : sack ≡ first_three (runs_of_sack sack)
+  pub maximal : All (IsMaximalRun held) (runs_of_sack sack)
+  pub rising : AllPairs (λ q r. q.1 < r.0) (runs_of_sack sack)
+  pub complete : (p : ℕ) → IsTrue (contains held p) →
+      (count_by (lies_in p) (runs_of_sack sack) ≡ 1)
+      ⊎ ((length (runs_of_sack sack) ≡ 3) × All (λ r. r.1 < p) (runs_of_sack sack))
+
+-- each answer to a segment reports the runs that are held after it, whether a part of it was kept
+-- or none
+abbrev pub ReportsHeldRuns : Type 0
+ReportsHeldRuns = (w : Setting) (s : State) (x : Verdict) (kept : Kept) →
+    answer (by_kept w) s x ≡ Ok kept →
+    ReportsRuns (held_positions w.first (state_after (by_kept w) s x).kept) kept.sack
+
+-- ---- calls of `replay`, one after another
+-- a call by its commands and the answers that it appended, and whether it answered Ok
+pub record ReplayCall : Type 0 where
+  pub commands : List CommandSeen
+  pub answers : List ReplySeen
+  pub complete : Bool
+
+-- what the contract of `replay` says of each call
+abbrev pub Replayed : ℕ → Stored → List ReplayCall → Stored → Type 0
+Replayed most_runs v [] u = u ≡ v
+Replayed most_runs v (call ∷ calls) u =
+    (between : Stored)
+    × Executed most_runs v between call.commands call.answers (IsTrue call.complete)
+    × Replayed most_runs between calls u
+
+-- cs is made of the first commands of each call in turn, and of all of them if the call is complete
+abbrev pub ArePrefixes : List ReplayCall → List CommandSeen → Type 0
+ArePrefixes [] cs = cs ≡ []
+ArePrefixes (call ∷ calls) cs =
+    (front : ExecutedPrefix call.commands (IsTrue call.complete)) × (rest : List CommandSeen)
+    × (cs ≡ take front.count call.commands ++ rest) × ArePrefixes calls rest
+
+-- the calls did what one complete call does with the commands that they ran
+pub record Composed (most_runs : ℕ) (v : Stored) (calls : List ReplayCall) (u : Stored)
+    : Type 0 where
+  pub commands : List CommandSeen
+  pub fronts : ArePrefixes calls commands
+  pub stored : Executed most_runs v u commands (flat_map (λ call. call.answers) calls) ⊤
+  pub ran : (s : State) → StandsFor v s →
+      ExecutedFor most_runs v u commands (flat_map (λ call. call.answers) calls) ⊤ s
+
+-- calls one after another do what one call does
+abbrev pub CallsCompose : Type 0
+CallsCompose = (most_runs : ℕ) (v u : Stored) (calls : List ReplayCall) →
+    Replayed most_runs v calls u → Composed most_runs v calls u

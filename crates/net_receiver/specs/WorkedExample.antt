@@ -1,0 +1,101 @@
+-- What the sets of a kept list come to, by computing with lists; and a schedule computed in full.
+--     covered_list k      the covered positions, rising and each once
+--     missing_in ks p      the least position from p on that is not in ks
+--     held_in f k      the held positions
+--     runs_in ks      the maximal runs of the positions ks
+--     byte_in k p      the byte at p of the last entry that contains p
+use Rattle.std.specs.Prelude.{◌≡◌, ℕ, zero, suc, ◌+◌, ◌-◌, Bool, false, if◌then◌else◌, not}
+use Rattle.std.specs.Prelude.{◌||◌, ◌==◌, List, [], ◌∷◌, ◌++◌, map, filter, flat_map, length}
+use Rattle.std.specs.Prelude.{nat_lt, Option, Some, None, Ok}
+use Rattle.std.specs.Option.{option_or}
+use Rattle.std.specs.List.{range_with_len}
+use Rattle.net_storage.specs.Positions.{bound_of, runs, with_range, maximal_runs}
+use Rattle.net_receiver.specs.KeptList.{Piece, piece_at, byte_at, next, held_positions}
+use Rattle.net_receiver.specs.Rules.{CommandSeen, Segment, Read, Show, ReplySeen, Segmented, Gave}
+use Rattle.net_receiver.specs.Rules.{Shown}
+use Rattle.net_receiver.specs.Schedule.{Setting, fresh, kept_replies}
+
+-- ---- lists of positions
+-- whether q is in ks
+abbrev pub is_in : List ℕ → ℕ → Bool
+is_in [] q = false
+is_in (k ∷ ks) q = (q == k) || is_in ks q
+
+-- p put into a rising list, once
+abbrev pub put : ℕ → List ℕ → List ℕ
+put p [] = p ∷ []
+put p (k ∷ ks) = if nat_lt p k then p ∷ k ∷ ks else if p == k then k ∷ ks else k ∷ put p ks
+
+-- the members of a list, rising and each once
+abbrev pub rising : List ℕ → List ℕ
+rising [] = []
+rising (p ∷ ps) = put p (rising ps)
+
+-- the least position from p on that is not in ks, of the n that follow
+abbrev pub missing_of : List ℕ → ℕ → ℕ → ℕ
+missing_of ks p zero = p
+missing_of ks p (suc n) = if is_in ks p then missing_of ks (p + 1) n else p
+
+-- the least position from p on that is not in ks
+abbrev pub missing_in : List ℕ → ℕ → ℕ
+missing_in ks p = missing_of ks p (bound_of ks)
+
+-- the maximal runs of the positions of a rising list, as (start, end), end not included
+abbrev pub runs_in : List ℕ → List (ℕ × ℕ)
+runs_in ks = map (λ p. (p, missing_in ks p)) (filter (λ p. (p == 0) || not (is_in ks (p - 1))) ks)
+
+-- ---- kept lists
+-- the covered positions
+abbrev pub covered_list : List Piece → List ℕ
+covered_list k = rising (flat_map (λ e. range_with_len e.start (length e.bytes)) k)
+
+-- the held positions
+abbrev pub held_in : ℕ → List Piece → List ℕ
+held_in f k = filter (nat_lt (missing_in (covered_list k) f)) (covered_list k)
+
+-- the byte at p of the last entry that contains p
+abbrev pub byte_in : List Piece → ℕ → Option ℕ
+byte_in [] p = None
+byte_in (e ∷ k) p = option_or (byte_in k p) (piece_at e p)
+
+-- these are what the definitions of kept lists mean
+abbrev pub NextComputed : Type 0
+NextComputed = (f : ℕ) (k : List Piece) → next f k ≡ missing_in (covered_list k) f
+
+-- the held runs
+abbrev pub HeldComputed : Type 0
+HeldComputed = (f : ℕ) (k : List Piece) → maximal_runs (held_positions f k) ≡ runs_in (held_in f k)
+
+-- how many runs are held with one more range
+abbrev pub RunsComputed : Type 0
+RunsComputed = (f : ℕ) (k : List Piece) (o n : ℕ) →
+    runs (with_range (held_positions f k) o n) ≡ length (runs_in (rising (held_in f k ++ range_with_len o n)))
+
+-- the byte at a position
+abbrev pub ByteComputed : Type 0
+ByteComputed = (k : List Piece) (p : ℕ) → byte_at k p ≡ byte_in k p
+
+-- ---- a schedule in full
+-- what a segment is answered that keeps so many bytes, of which so many join the queue
+abbrev pub segment_reply : ℕ → ℕ → List (Option (ℕ × ℕ)) → ReplySeen
+segment_reply kept queued sack = Segmented (Ok (record { kept = kept; queued = queued; sack = sack }))
+
+-- two segments that disagree come out of order, then the bytes before them: `AA` at 2, `BB` at 3,
+-- `CC` at 0, and then `CCABB` is read
+abbrev pub worked_commands : List CommandSeen
+worked_commands =
+    Segment 2 (65 ∷ 65 ∷ []) ∷ Segment 3 (66 ∷ 66 ∷ []) ∷ Show
+    ∷ Segment 0 (67 ∷ 67 ∷ []) ∷ Show ∷ Read 5 ∷ Show ∷ []
+
+-- what they are answered, by a receiver of 16 bytes and four runs
+abbrev pub WorkedSchedule : Type 0
+WorkedSchedule =
+    let w : Setting = record { first = 0; capacity = 16; most_runs = 4 } in
+    kept_replies w fresh worked_commands
+    ≡ segment_reply 2 0 (Some (2, 4) ∷ None ∷ None ∷ [])
+    ∷ segment_reply 2 0 (Some (2, 5) ∷ None ∷ None ∷ [])
+    ∷ Shown 0 0 16 ((2, 5) ∷ [])
+    ∷ segment_reply 2 5 (None ∷ None ∷ None ∷ [])
+    ∷ Shown 5 5 11 []
+    ∷ Gave (67 ∷ 67 ∷ 65 ∷ 66 ∷ 66 ∷ [])
+    ∷ Shown 5 0 16 [] ∷ []

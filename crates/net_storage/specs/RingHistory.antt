@@ -1,0 +1,127 @@
+-- What a ring makes of its elements over many calls.
+use Rattle.std.specs.Prelude.{◌≡◌, ◌≢◌, ◌≤◌, ℕ, ◌+◌, ◌-◌, List, [], ◌∷◌, length, take, drop}
+use Rattle.net_storage.specs.Overwrite.{overwrite}
+use Rattle.net_storage.specs.Log.{Log, empty_log, log_accepted, log_left, log_dropped}
+use Rattle.net_storage.specs.Ring.{RingState, ring, capacity, window, queue, spare, write_at}
+use Rattle.net_storage.specs.Ring.{contiguous_window, contiguous_queued, contiguous_queue}
+use Rattle.net_storage.specs.Ring.{contiguous_window_from, contiguous_queued_from, spare_index}
+use Rattle.net_storage.specs.Ring.{queue_index, written, written_wrapping, with_enqueued}
+use Rattle.net_storage.specs.Ring.{with_dequeued, restarted}
+
+-- ---- calls
+-- what one call did, with the elements that it was given, lent or left. A call that returns `Full`
+-- or `Empty`, or that only shows or reads elements, changes nothing and is no call here
+pub data RingCall (T : Type 0) : Type 0 where
+  -- `clear`
+  Clear : RingCall T
+  -- `reset`: the elements that the storage then has
+  Reset : List T → RingCall T
+  -- `enqueue_slice`: the elements that there was room for
+  EnqueueSlice : List T → RingCall T
+  -- `enqueue_unallocated`: the elements that stood there
+  EnqueueUnallocated : List T → RingCall T
+  -- `enqueue_many`: the elements that were written to the part that it lent
+  EnqueueMany : List T → RingCall T
+  -- `enqueue_many_with`: the elements that the closure left, and how many it counted
+  EnqueueManyWith : List T → ℕ → RingCall T
+  -- `enqueue_one`, or `enqueue_one_with` whose closure returned `Ok`: the element that was written
+  EnqueueOne : T → RingCall T
+  -- `enqueue_one_with`, whose closure returned `Err`: the element that it wrote
+  EnqueueErr : T → RingCall T
+  -- `get_unallocated`: the offset, and the elements that were written there
+  GetUnallocated : ℕ → List T → RingCall T
+  -- `write_unallocated`: the offset, and the elements that there was room for
+  WriteUnallocated : ℕ → List T → RingCall T
+  -- `dequeue_slice` or `dequeue_allocated`: the elements that left
+  Dequeue : List T → RingCall T
+  -- `dequeue_many`: the elements that it lent, and those that were written there
+  DequeueMany : List T → List T → RingCall T
+  -- `dequeue_many_with`: the elements that the closure was lent, those that it left there, and how
+  -- many it counted
+  DequeueManyWith : List T → List T → ℕ → RingCall T
+  -- `dequeue_one`, or `dequeue_one_with` whose closure returned `Ok`: the element that was lent, and
+  -- the one that was written there
+  DequeueOne : T → T → RingCall T
+  -- `dequeue_one_with`, whose closure returned `Err`: the element that it wrote
+  DequeueErr : T → RingCall T
+  -- `get_allocated_mut`: the offset, and the elements that were written there
+  GetAllocatedMut : ℕ → List T → RingCall T
+
+module _ {T : Type 0} where
+  -- the call makes h of g, as its contract says
+  abbrev pub Makes : RingCall T → RingState T → RingState T → Type 0
+  Makes Clear g h = h ≡ ring g.storage 0 0
+  Makes (Reset storage) g h = (length storage ≡ capacity g) × (h ≡ ring storage 0 0)
+  Makes (EnqueueSlice xs) g h =
+      (length xs ≤ window g)
+      × (h
+      ≡ with_enqueued (length xs) (written_wrapping (restarted g) (write_at (restarted g)) xs))
+  Makes (EnqueueUnallocated xs) g h =
+      (length xs ≤ window g) × (xs ≡ take (length xs) (spare g))
+      × (h ≡ with_enqueued (length xs) g)
+  Makes (EnqueueMany xs) g h =
+      (length xs ≤ contiguous_window (restarted g))
+      × (h ≡ written (with_enqueued (length xs) (restarted g)) (write_at (restarted g)) xs)
+  Makes (EnqueueManyWith ws n) g h =
+      (length ws ≡ contiguous_window (restarted g)) × (n ≤ length ws)
+      × (h ≡ written (with_enqueued n (restarted g)) (write_at (restarted g)) ws)
+  Makes (EnqueueOne x) g h =
+      (window g ≢ 0) × (h ≡ written (with_enqueued 1 g) (write_at g) (x ∷ []))
+  Makes (EnqueueErr x) g h = (window g ≢ 0) × (h ≡ written g (write_at g) (x ∷ []))
+  Makes (GetUnallocated i ws) g h =
+      (length ws ≡ contiguous_window_from g i (length ws)) × (h ≡ written g (spare_index g i) ws)
+  Makes (WriteUnallocated i ws) g h =
+      (length ws ≤ window g - i) × (h ≡ written_wrapping g (spare_index g i) ws)
+  Makes (Dequeue xs) g h =
+      (length xs ≤ g.count) × (xs ≡ take (length xs) (queue g)) × (h ≡ with_dequeued (length xs) g)
+  Makes (DequeueMany xs ws) g h =
+      (length xs ≤ contiguous_queued g) × (xs ≡ take (length xs) (queue g))
+      × (length ws ≡ length xs) × (h ≡ written (with_dequeued (length xs) g) g.read_at ws)
+  Makes (DequeueManyWith xs ws n) g h =
+      (xs ≡ contiguous_queue g) × (length ws ≡ contiguous_queued g) × (n ≤ length ws)
+      × (h ≡ written (with_dequeued n g) g.read_at ws)
+  Makes (DequeueOne x y) g h =
+      (g.count ≢ 0) × (queue g ≡ x ∷ drop 1 (queue g))
+      × (h ≡ written (with_dequeued 1 g) g.read_at (y ∷ []))
+  Makes (DequeueErr y) g h = (g.count ≢ 0) × (h ≡ written g g.read_at (y ∷ []))
+  Makes (GetAllocatedMut i ws) g h =
+      (length ws ≡ contiguous_queued_from g i (length ws)) × (h ≡ written g (queue_index g i) ws)
+
+  -- the calls, one after another, make h of g
+  abbrev pub MakesAll : List (RingCall T) → RingState T → RingState T → Type 0
+  MakesAll [] g h = h ≡ g
+  MakesAll (call ∷ calls) g h = (next : RingState T) × Makes call g next × MakesAll calls next h
+
+  -- ---- what came and what left
+  -- ws was written over the elements that have not left, from the one at the index i on
+  abbrev pub log_written : ℕ → List T → Log T → Log T
+  log_written i ws log =
+      record { accepted = overwrite log.accepted (length log.left + i) ws; left = log.left }
+
+  -- the log after a call
+  abbrev pub logged : RingCall T → Log T → Log T
+  logged Clear log = log_dropped log
+  logged (Reset storage) log = log_dropped log
+  logged (EnqueueSlice xs) log = log_accepted xs log
+  logged (EnqueueUnallocated xs) log = log_accepted xs log
+  logged (EnqueueMany xs) log = log_accepted xs log
+  logged (EnqueueManyWith ws n) log = log_accepted (take n ws) log
+  logged (EnqueueOne x) log = log_accepted (x ∷ []) log
+  logged (EnqueueErr x) log = log
+  logged (GetUnallocated i ws) log = log
+  logged (WriteUnallocated i ws) log = log
+  logged (Dequeue xs) log = log_left xs log
+  logged (DequeueMany xs ws) log = log_left xs log
+  logged (DequeueManyWith xs ws n) log = log_written 0 (drop n ws) (log_left (take n xs) log)
+  logged (DequeueOne x y) log = log_left (x ∷ []) log
+  logged (DequeueErr y) log = log_written 0 (y ∷ []) log
+  logged (GetAllocatedMut i ws) log = log_written i ws log
+
+  -- the log after calls, one after another
+  abbrev pub logged_all : List (RingCall T) → Log T → Log T
+  logged_all [] log = log
+  logged_all (call ∷ calls) log = logged_all calls (logged call log)
+
+  -- the log of calls from an empty ring on
+  abbrev pub history : List (RingCall T) → Log T
+  history calls = logged_all calls empty_log

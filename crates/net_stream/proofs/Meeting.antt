@@ -1,0 +1,74 @@
+-- What frames that come leave, one after another.
+use Rattle.std.proofs.Common.{◌≡◌, ℕ, ◌+◌, ◌^◌, nat_lt, Bool, true, false, cond, List, [], ◌∷◌, ◌++◌, length, Option, Some, None, refl, sym, ap, ◌∙◌, append_assoc}
+use Rattle.std.proofs.lemmas.List.{append-nil}
+use Rattle.net_receiver.specs.Stored.{Stored}
+use Rattle.net_stream.specs.Frames.{decoded}
+use Rattle.net_stream.specs.declared.fate.Fate.{Fate}
+use Rattle.net_stream.specs.Fates.{next_fate, after_fate, comes, comes_late}
+use Rattle.net_stream.specs.Carrying.{PathSeen, answer_of, arrived, with_answer}
+use Rattle.net_stream.specs.Passing.{coming_of, with_return, brought, answer_to, answers_of}
+
+-- ---- answers
+pub with_answer_ahead : (r : Stored) (o : Option (ℕ × List ℕ)) (back : PathSeen) → (with_answer r o back).ahead ≡ back.ahead ++ answer_to r o
+with_answer_ahead r None back = sym (append-nil back.ahead)
+with_answer_ahead r (Some (pos, xs)) back = both (nat_lt (pos + length xs) (2 ^ 64))
+  where
+    both : (b : Bool) → (cond b (record back { ahead = back.ahead ++ answer_of r ∷ [] }) back).ahead ≡ back.ahead ++ cond b (answer_of r ∷ []) []
+    both true = refl
+    both false = sym (append-nil back.ahead)
+
+pub with_answer_late : (r : Stored) (o : Option (ℕ × List ℕ)) (back : PathSeen) → (with_answer r o back).late ≡ back.late
+with_answer_late r None back = refl
+with_answer_late r (Some (pos, xs)) back = both (nat_lt (pos + length xs) (2 ^ 64))
+  where
+    both : (b : Bool) → (cond b (record back { ahead = back.ahead ++ answer_of r ∷ [] }) back).late ≡ back.late
+    both true = refl
+    both false = refl
+
+-- one frame came, and these come after it
+pub one_answered : (N : ℕ) (r r1 : Stored) (frame : List ℕ) (b b1 : PathSeen) (frames : List (List ℕ)) → r1 ≡ arrived N r (decoded frame) → b1 ≡ with_answer r1 (decoded frame) b →
+    b1.ahead ++ answers_of N r1 frames ≡ b.ahead ++ answers_of N r (frame ∷ frames)
+one_answered N r r1 frame b b1 frames e k =
+    ap (λ p. p.ahead ++ answers_of N r1 frames) k
+    ∙ ap (λ l. l ++ answers_of N r1 frames) (with_answer_ahead r1 (decoded frame) b)
+    ∙ append_assoc b.ahead (answer_to r1 (decoded frame)) (answers_of N r1 frames)
+    ∙ ap (λ v. b.ahead ++ (answer_to v (decoded frame) ++ answers_of N v frames)) e
+
+-- ---- a frame met its fate
+return_keeps : (lot : Fate) (frame : List ℕ) (t : PathSeen) → ((with_return lot frame t).ahead ≡ t.ahead) × ((with_return lot frame t).fates ≡ t.fates)
+return_keeps lot frame t = both (comes_late lot)
+  where
+    both : (b : Bool) → ((cond b (record t { late = t.late ++ frame ∷ [] }) t).ahead ≡ t.ahead) × ((cond b (record t { late = t.late ++ frame ∷ [] }) t).fates ≡ t.fates)
+    both true = (refl, refl)
+    both false = (refl, refl)
+
+coming_step : (t0 t1 t2 t3 : PathSeen) (frame : List ℕ) (lot : Fate) → t0 ≡ record t1 { ahead = frame ∷ t1.ahead } → lot ≡ next_fate t1.fates → t2 ≡ record t1 { fates = after_fate t1.fates } → t3 ≡ with_return lot frame t2 →
+    coming_of t0.fates t0.ahead ≡ cond (comes lot) (frame ∷ coming_of t3.fates t3.ahead) (coming_of t3.fates t3.ahead)
+coming_step t0 t1 t2 t3 frame lot first is drawn again =
+    let kept = return_keeps lot frame t2 in
+    let ahead : t3.ahead ≡ t1.ahead = ap (λ p. p.ahead) again ∙ kept.0 ∙ ap (λ p. p.ahead) drawn in
+    let fates : t3.fates ≡ after_fate t1.fates = ap (λ p. p.fates) again ∙ kept.1 ∙ ap (λ p. p.fates) drawn in
+    let same : coming_of (after_fate t1.fates) t1.ahead ≡ coming_of t3.fates t3.ahead = (λ i. coming_of (sym fates i) (sym ahead i)) in
+    ap (λ p. coming_of p.fates p.ahead) first ∙ (λ i. cond (comes (sym is i)) (frame ∷ same i) (same i))
+
+pub frame_answered : (N : ℕ) (r r1 : Stored) (b b1 t0 t1 t2 t3 : PathSeen) (frame : List ℕ) (lot : Fate) → t0 ≡ record t1 { ahead = frame ∷ t1.ahead } → lot ≡ next_fate t1.fates → t2 ≡ record t1 { fates = after_fate t1.fates } → t3 ≡ with_return lot frame t2 →
+    r1 ≡ cond (comes lot) (arrived N r (decoded frame)) r → b1 ≡ cond (comes lot) (with_answer r1 (decoded frame) b) b →
+    b1.ahead ++ answers_of N r1 (coming_of t3.fates t3.ahead) ≡ b.ahead ++ answers_of N r (coming_of t0.fates t0.ahead)
+frame_answered N r r1 b b1 t0 t1 t2 t3 frame lot first is drawn again state told =
+    both (comes lot) state told ∙ ap (λ l. b.ahead ++ answers_of N r l) (sym (coming_step t0 t1 t2 t3 frame lot first is drawn again))
+  where
+    both : (t : Bool) → r1 ≡ cond t (arrived N r (decoded frame)) r → b1 ≡ cond t (with_answer r1 (decoded frame) b) b →
+        b1.ahead ++ answers_of N r1 (coming_of t3.fates t3.ahead) ≡ b.ahead ++ answers_of N r (cond t (frame ∷ coming_of t3.fates t3.ahead) (coming_of t3.fates t3.ahead))
+    both true e k = one_answered N r r1 frame b b1 (coming_of t3.fates t3.ahead) e k
+    both false e k = λ i. (k i).ahead ++ answers_of N (e i) (coming_of t3.fates t3.ahead)
+
+-- ---- some frames, and then others
+pub brought_append : (N : ℕ) (r : Stored) (xs ys : List (List ℕ)) → brought N r (xs ++ ys) ≡ brought N (brought N r xs) ys
+brought_append N r [] ys = refl
+brought_append N r (x ∷ xs) ys = brought_append N (arrived N r (decoded x)) xs ys
+
+pub answers_append : (N : ℕ) (r : Stored) (xs ys : List (List ℕ)) → answers_of N r (xs ++ ys) ≡ answers_of N r xs ++ answers_of N (brought N r xs) ys
+answers_append N r [] ys = refl
+answers_append N r (x ∷ xs) ys =
+    let r1 = arrived N r (decoded x) in
+    ap (λ l. answer_to r1 (decoded x) ++ l) (answers_append N r1 xs ys) ∙ sym (append_assoc (answer_to r1 (decoded x)) (answers_of N r1 xs) (answers_of N (brought N r1 xs) ys))

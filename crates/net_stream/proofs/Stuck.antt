@@ -1,0 +1,477 @@
+-- What a round lacked that brought nothing on, and what rounds never take back.
+use Rattle.std.proofs.Common.{◌≡◌, ◌⊎◌, ℕ, zero, suc, ◌+◌, ◌-◌, ◌<◌, ◌≤◌, ◌^◌, ◌&&◌, min, nat_lt, nat_le, Bool, true, false, cond, List, [], ◌∷◌, ◌++◌, length, take, All, Option, Some, None, refl, sym, ap, subst, ◌∙◌, arith, ⊎_elim, inl, inr, le_trans, length-append, length-take}
+use Rattle.std.proofs.lemmas.Bool.{both_ways, cases_lt, cases_Bool, cond-true, cond-false, lt-ltb, le-leb, leb-true, and_parts, and_from}
+use Rattle.std.proofs.lemmas.List.Elements.{All-nil, All-cons, All-head, All-tail}
+use Rattle.net_storage.specs.Positions.{maximal_runs}
+use Rattle.net_receiver.specs.Rules.{Segment}
+use Rattle.net_receiver.specs.Stored.{Stored, IsSound, stored_next, stored_after, stored_read, domain}
+use Rattle.net_receiver.specs.OneStream.{FirstStays, NextGrows, SegmentReadsNothing, CapacityStays, QueueIsOfStream}
+use Rattle.net_receiver.specs.Retransmission.{Has, InOrderReaches}
+use Rattle.net_stream.specs.Outgoing.{Outgoing, let_go, end_of, room_of}
+use Rattle.net_stream.specs.Frames.{Part, frame_of, frames_from, decoded, RoundTrip}
+use Rattle.net_stream.specs.Reported.{unreported, reports, most_reported, listed, ranges_of}
+use Rattle.net_stream.specs.declared.counts.FrameCounts.{FrameCounts}
+use Rattle.net_stream.specs.declared.link.Link.{Link}
+use Rattle.net_stream.specs.declared.fate.Fate.{Fate}
+use Rattle.net_stream.specs.declared.fate.Fate.TheVariants.{Delivered, Lost, Repeated, Late}
+use Rattle.net_stream.specs.Counting.{met, met_all, carrying}
+use Rattle.net_stream.specs.Fates.{FatesSeen, next_fate, after_fate, after_all, comes, AllCome}
+use Rattle.net_stream.specs.Carrying.{answer_of, arrived}
+use Rattle.net_stream.specs.Sending.{most_of}
+use Rattle.net_stream.specs.Progress.{acked_by, acked_all, limit_of}
+use Rattle.net_stream.specs.Passing.{coming_of, brought, answer_to, answers_of}
+use Rattle.net_stream.specs.Links.{Carries, Passed}
+use Rattle.net_stream.specs.Stuck.{failed, RoundKeeps, RoundMoves, NoneComes, IsStuck, Stuck, StuckTo, NeverStuck}
+use Rattle.net_stream.proofs.Sent.{first_sent}
+use Rattle.net_stream.proofs.Reached.{come_next, missing, first_is, all_keep_end, acked_append}
+use Rattle.net_stream.proofs.Moved.{queue_from}
+use Rattle.net_stream.proofs.Meeting.{brought_append}
+
+-- ---- lists
+All-both : {X : Type 0} (P : X → Type 0) (xs ys : List X) → All P xs → All P ys → All P (xs ++ ys)
+All-both P [] ys a b = b
+All-both P (x ∷ xs) ys a b = All-cons P x (xs ++ ys) (All-head P x xs a) (All-both P xs ys (All-tail P x xs a) b)
+
+come_of : (P : List ℕ → Type 0) (v : FatesSeen) (frames : List (List ℕ)) → All P frames → All P (coming_of v frames)
+come_of P v [] all = all
+come_of P v (x ∷ xs) all = both (come_of P (after_fate v) xs (All-tail P x xs all)) (comes (next_fate v))
+  where
+    both : All P (coming_of (after_fate v) xs) → (b : Bool) → All P (cond b (x ∷ coming_of (after_fate v) xs) (coming_of (after_fate v) xs))
+    both rest true = All-cons P x (coming_of (after_fate v) xs) (All-head P x xs all) rest
+    both rest false = rest
+
+-- ---- an acknowledgement of a position from n up to m
+abbrev Acks : ℕ → ℕ → List ℕ → Type 0
+Acks n m frame = (k : ℕ) × (xs : List ℕ) × (decoded frame ≡ Some (k, xs)) × (n ≤ k) × (k ≤ m)
+
+one_answers : RoundTrip → (r : Stored) (n m : ℕ) → n ≤ stored_next r → stored_next r ≤ m → m < 2 ^ 64 → Acks n m (answer_of r)
+one_answers trip r n m low high word = (stored_next r, listed (take most_reported (maximal_runs (domain r.held))), trip (stored_next r) (listed (take most_reported (maximal_runs (domain r.held)))) (omega arith), low, high)
+
+to_answers : RoundTrip → (r : Stored) (o : Option (ℕ × List ℕ)) (n m : ℕ) → n ≤ stored_next r → stored_next r ≤ m → m < 2 ^ 64 → All (Acks n m) (answer_to r o)
+to_answers trip r None n m low high word = All-nil (Acks n m)
+to_answers trip r (Some (pos, xs)) n m low high word = both (nat_lt (pos + length xs) (2 ^ 64))
+  where
+    both : (b : Bool) → All (Acks n m) (cond b (answer_of r ∷ []) [])
+    both true = All-cons (Acks n m) (answer_of r) [] (one_answers trip r n m low high word) (All-nil (Acks n m))
+    both false = All-nil (Acks n m)
+
+-- ---- a receiver never goes back
+arrived_keeps : (F : Stored → ℕ) (N : ℕ) (r : Stored) (o : Option (ℕ × List ℕ)) → ((pos : ℕ) (xs : List ℕ) → F (stored_after N r (Segment pos xs)) ≡ F r) → F (arrived N r o) ≡ F r
+arrived_keeps F N r None same = refl
+arrived_keeps F N r (Some (pos, xs)) same = both (nat_lt (pos + length xs) (2 ^ 64))
+  where
+    both : (b : Bool) → F (cond b (stored_after N r (Segment pos xs)) r) ≡ F r
+    both true = same pos xs
+    both false = refl
+
+-- what one segment changes of a receiver's numbers
+pub record Numbers : Type 0 where
+  pub first : FirstStays
+  pub next : NextGrows
+  pub read : SegmentReadsNothing
+  pub capacity : CapacityStays
+
+module _ (numbers : Numbers) where
+  arrived_grows : (N : ℕ) (r : Stored) (o : Option (ℕ × List ℕ)) → stored_next r ≤ stored_next (arrived N r o)
+  arrived_grows N r None = omega arith
+  arrived_grows N r (Some (pos, xs)) = both (nat_lt (pos + length xs) (2 ^ 64))
+    where
+      both : (b : Bool) → stored_next r ≤ stored_next (cond b (stored_after N r (Segment pos xs)) r)
+      both true = numbers.next N r (Segment pos xs)
+      both false = omega arith
+
+  arrived_limit : (N : ℕ) (r : Stored) (o : Option (ℕ × List ℕ)) → limit_of (arrived N r o) ≡ limit_of r
+  arrived_limit N r None = refl
+  arrived_limit N r (Some (pos, xs)) = both (nat_lt (pos + length xs) (2 ^ 64))
+    where
+      both : (b : Bool) → limit_of (cond b (stored_after N r (Segment pos xs)) r) ≡ limit_of r
+      both true = λ i. numbers.first N r (Segment pos xs) i + numbers.read N r pos xs i + numbers.capacity N r (Segment pos xs) i
+      both false = refl
+
+  brought_grows : (N : ℕ) (r : Stored) (frames : List (List ℕ)) → stored_next r ≤ stored_next (brought N r frames)
+  brought_grows N r [] = omega arith
+  brought_grows N r (x ∷ xs) = le_trans (arrived_grows N r (decoded x)) (brought_grows N (arrived N r (decoded x)) xs)
+
+  brought_limit : (N : ℕ) (r : Stored) (frames : List (List ℕ)) → limit_of (brought N r frames) ≡ limit_of r
+  brought_limit N r [] = refl
+  brought_limit N r (x ∷ xs) = brought_limit N (arrived N r (decoded x)) xs ∙ arrived_limit N r (decoded x)
+
+  brought_first : (N : ℕ) (r : Stored) (frames : List (List ℕ)) → (brought N r frames).first ≡ r.first
+  brought_first N r [] = refl
+  brought_first N r (x ∷ xs) = brought_first N (arrived N r (decoded x)) xs ∙ arrived_keeps (λ v. v.first) N r (decoded x) (λ pos ys. numbers.first N r (Segment pos ys))
+
+  brought_read : (N : ℕ) (r : Stored) (frames : List (List ℕ)) → (brought N r frames).read ≡ r.read
+  brought_read N r [] = refl
+  brought_read N r (x ∷ xs) = brought_read N (arrived N r (decoded x)) xs ∙ arrived_keeps (λ v. v.read) N r (decoded x) (λ pos ys. numbers.read N r pos ys)
+
+  brought_capacity : (N : ℕ) (r : Stored) (frames : List (List ℕ)) → (brought N r frames).capacity ≡ r.capacity
+  brought_capacity N r [] = refl
+  brought_capacity N r (x ∷ xs) = brought_capacity N (arrived N r (decoded x)) xs ∙ arrived_keeps (λ v. v.capacity) N r (decoded x) (λ pos ys. numbers.capacity N r (Segment pos ys))
+
+  all_answers : RoundTrip → (N : ℕ) (r : Stored) (frames : List (List ℕ)) (n m : ℕ) → n ≤ stored_next r → stored_next (brought N r frames) ≤ m → m < 2 ^ 64 → All (Acks n m) (answers_of N r frames)
+  all_answers trip N r [] n m low high word = All-nil (Acks n m)
+  all_answers trip N r (x ∷ xs) n m low high word =
+      let r1 = arrived N r (decoded x) in
+      let a = arrived_grows N r (decoded x) in
+      let b = brought_grows N r1 xs in
+      All-both (Acks n m) (answer_to r1 (decoded x)) (answers_of N r1 xs)
+      (to_answers trip r1 (decoded x) n m (le_trans low a) (le_trans b high) word)
+      (all_answers trip N r1 xs n m (le_trans low a) high word)
+
+  -- a frame that comes and begins where nothing is missing before it brings the receiver on
+  front_brings : InOrderReaches → (N : ℕ) (r : Stored) (late rest : List (List ℕ)) (frame : List ℕ) (pos : ℕ) (xs : List ℕ) → decoded frame ≡ Some (pos, xs) → pos ≤ stored_next r → stored_next r < pos + length xs → pos + length xs < 2 ^ 64 → stored_next r < limit_of r →
+      stored_next r < stored_next (brought N r (late ++ frame ∷ rest))
+  front_brings order N r late rest frame pos xs at near far word room =
+      let r1 = brought N r late in
+      let r2 = arrived N r1 (decoded frame) in
+      let more : stored_next r ≤ stored_next r1 = brought_grows N r late in
+      let same : limit_of r1 ≡ limit_of r = brought_limit N r late in
+      let is : r2 ≡ stored_after N r1 (Segment pos xs) = ap (arrived N r1) at ∙ cond-true _ (stored_after N r1 (Segment pos xs)) r1 (lt-ltb (pos + length xs) (2 ^ 64) word) in
+      let on : stored_next r1 ≤ stored_next r2 = arrived_grows N r1 (decoded frame) in
+      let all : stored_next r2 ≤ stored_next (brought N r2 rest) = brought_grows N r2 rest in
+      let reach : min (pos + length xs) (limit_of r1) ≤ stored_next r2 = subst (λ v. min (pos + length xs) (limit_of r1) ≤ stored_next v) (sym is) (order N r1 pos xs (le_trans near more)) in
+      let here : stored_next r < stored_next (brought N r2 rest) = further (stored_next r) (pos + length xs) (limit_of r) (limit_of r1) (stored_next r2) (stored_next (brought N r2 rest)) far room same reach all in
+      subst (λ v. stored_next r < stored_next v) (sym (brought_append N r late (frame ∷ rest))) here
+    where
+      further : (n e l l1 m k : ℕ) → n < e → n < l → l1 ≡ l → min e l1 ≤ m → m ≤ k → n < k
+      further n e l l1 m k a b c d h = omega arith
+
+-- ---- a sender never goes back
+base_grows : (s : Outgoing) (o : Option (ℕ × List ℕ)) → s.base ≤ (acked_by s o).base
+base_grows s None = omega arith
+base_grows s (Some (n, xs)) =
+    ⊎_elim {C = s.base ≤ (acked_by s (Some (n, xs))).base}
+    (λ (e : (nat_le s.base n && nat_le n (end_of s)) ≡ true).
+    let both = and_parts (nat_le s.base n) (nat_le n (end_of s)) e in
+    subst (λ v. s.base ≤ v.base) (sym (cond-true _ (let_go s n (ranges_of most_reported xs)) s e)) (leb-true s.base n both.0))
+    (λ (e : (nat_le s.base n && nat_le n (end_of s)) ≡ false).
+    subst (λ v. s.base ≤ v.base) (sym (cond-false _ (let_go s n (ranges_of most_reported xs)) s e)) (omega arith))
+    (cases_Bool (nat_le s.base n && nat_le n (end_of s)))
+
+all_base_grows : (s : Outgoing) (frames : List (List ℕ)) → s.base ≤ (acked_all s frames).base
+all_base_grows s [] = omega arith
+all_base_grows s (x ∷ xs) = le_trans (base_grows s (decoded x)) (all_base_grows (acked_by s (decoded x)) xs)
+
+room_kept : (s : Outgoing) (o : Option (ℕ × List ℕ)) → (acked_by s o).capacity ≡ s.capacity
+room_kept s None = refl
+room_kept s (Some (n, xs)) = both (nat_le s.base n && nat_le n (end_of s))
+  where
+    both : (b : Bool) → (cond b (let_go s n (ranges_of most_reported xs)) s).capacity ≡ s.capacity
+    both true = refl
+    both false = refl
+
+all_keep_room : (s : Outgoing) (frames : List (List ℕ)) → (acked_all s frames).capacity ≡ s.capacity
+all_keep_room s [] = refl
+all_keep_room s (x ∷ xs) = all_keep_room (acked_by s (decoded x)) xs ∙ room_kept s (decoded x)
+
+-- an acknowledgement past b takes the base past b
+one_moves : (s : Outgoing) (b k : ℕ) (xs : List ℕ) (o : Option (ℕ × List ℕ)) → o ≡ Some (k, xs) → b < k → k ≤ end_of s → b < (acked_by s o).base
+one_moves s b k xs o at above within =
+    subst (λ p. b < (acked_by s p).base) (sym at)
+    (⊎_elim {C = b < (acked_by s (Some (k, xs))).base}
+    (λ (l : k < s.base). le_trans (past b k s.base above l) (base_grows s (Some (k, xs))))
+    (λ (l : s.base ≤ k).
+    let e : (nat_le s.base k && nat_le k (end_of s)) ≡ true = and_from _ _ (le-leb s.base k l) (le-leb k (end_of s) within) in
+    subst (λ v. b < v.base) (sym (cond-true _ (let_go s k (ranges_of most_reported xs)) s e)) above)
+    (cases_lt k s.base))
+  where
+    past : (x y z : ℕ) → x < y → y < z → x < z
+    past x y z h l = omega arith
+
+-- the last acknowledgement is of a position that the sender keeps, and that it isn't beyond
+pub acked_last : RoundTrip → (s : Outgoing) (n : ℕ) (xs : List ℕ) (front : List (List ℕ)) → n ≤ end_of s → n < 2 ^ 64 → (acked_all s (front ++ frame_of n xs ∷ [])).base ≤ n → (acked_all s (front ++ frame_of n xs ∷ [])).base ≡ n
+acked_last trip s n xs front within word below =
+    let t = acked_all s front in
+    let end : end_of t ≡ end_of s = all_keep_end s front in
+    let split : acked_all s (front ++ frame_of n xs ∷ []) ≡ acked_by t (Some (n, xs)) = acked_append s front (frame_of n xs ∷ []) ∙ ap (acked_by t) (trip n xs word) in
+    let same : (acked_all s (front ++ frame_of n xs ∷ [])).base ≡ (acked_by t (Some (n, xs))).base = ap (λ v. v.base) split in
+    let grows : t.base ≤ (acked_by t (Some (n, xs))).base = base_grows t (Some (n, xs)) in
+    let low : t.base ≤ n = omega (arith, same, grows, below) in
+    let high : n ≤ end_of t = omega (arith, end, within) in
+    same ∙ ap (λ v. v.base) (cond-true _ (let_go t n (ranges_of most_reported xs)) t (and_from _ _ (le-leb t.base n low) (le-leb n (end_of t) high)))
+
+-- if the base stays, none of these came
+none_come : (s s' : Outgoing) (late c : List (List ℕ)) (n m : ℕ) → s' ≡ acked_all s (late ++ c) → s'.base ≡ s.base → s.base < n → m ≤ end_of s → All (Acks n m) c → c ≡ []
+none_come s s' late [] n m is same above within all = refl
+none_come s s' late (a ∷ rest) n m is same above within all =
+    let t = acked_all s late in
+    let ack = All-head (Acks n m) a rest all in
+    let e : end_of t ≡ end_of s = all_keep_end s late in
+    let low = ack.3 in
+    let high = ack.4 in
+    let one : s.base < (acked_by t (decoded a)).base = one_moves t s.base ack.0 ack.1 (decoded a) ack.2 (first s.base n ack.0 above low) (second ack.0 m (end_of s) (end_of t) high within e) in
+    let more : (acked_by t (decoded a)).base ≤ (acked_all (acked_by t (decoded a)) rest).base = all_base_grows (acked_by t (decoded a)) rest in
+    let there : s'.base ≡ (acked_all t (a ∷ rest)).base = ap (λ v. v.base) is ∙ ap (λ v. v.base) (acked_append s late (a ∷ rest)) in
+    absurd (never s.base s'.base (acked_by t (decoded a)).base (acked_all (acked_by t (decoded a)) rest).base one more there same)
+  where
+    first : (x y z : ℕ) → x < y → y ≤ z → x < z
+    first x y z h l = omega arith
+
+    second : (k j e e' : ℕ) → k ≤ j → j ≤ e → e' ≡ e → k ≤ e'
+    second k j e e' a b c = omega arith
+
+    never : (b b' x y : ℕ) → b < x → x ≤ y → b' ≡ y → b' ≡ b → ⊥
+    never b b' x y h l i j = omega arith
+
+-- ---- the first frame
+abbrev FirstFrame : ℕ → ℕ → List Part → Type 0
+FirstFrame base end parts = (xs : List ℕ) × (rest : List (List ℕ)) × (frames_from base parts ≡ frame_of base xs ∷ rest) × (0 < length xs) × (base + length xs ≤ end)
+
+-- ---- a round
+-- the receiver lacked the first byte that the sender keeps, and the first frame didn't come at once; or it had that byte,
+-- and no acknowledgement came at once
+abbrev Lacked : {A : Type 0} (old new : Link A) → Passed old new → Type 0
+Lacked old new p =
+    ((old.sender.base ≡ stored_next old.receiver) × (0 < length p.sent.ahead) × (comes (next_fate old.there.fates) ≡ false))
+    ⊎ ((old.sender.base < stored_next old.receiver) × (coming_of old.back.fates p.acks ≡ []))
+
+rounds_move : {A : Type 0} → RoundTrip → Numbers → InOrderReaches → QueueIsOfStream → (f : ℕ) (w : List ℕ) (old new : Link A) (p : Passed old new) → IsSound most_reported old.receiver → Carries f w old → end_of old.sender < 2 ^ 64 → old.there.ahead ≡ [] → old.back.ahead ≡ [] → 0 < length old.sender.queue →
+    stored_next old.receiver < limit_of old.receiver → stored_next new.receiver ≡ stored_next old.receiver → new.sender.base ≡ old.sender.base → Lacked old new p
+rounds_move trip numbers order queue f w old new p sound carries word none none_back some room still still_back =
+    ⊎_elim
+    (λ (l : old.sender.base < stored_next old.receiver). inr (l, quiet l))
+    (λ (l : stored_next old.receiver ≤ old.sender.base). inl (lacking l, sent_some l, fails l))
+    (cases_lt old.sender.base (stored_next old.receiver))
+  where
+    within : stored_next old.receiver ≤ end_of old.sender
+    within =
+        let q = (queue_from queue f w old.receiver carries.receives).within in
+        let first = first_is f w old.receiver carries.receives in
+        let end = carries.sends.end in
+        omega arith
+
+    same : stored_next (brought most_reported old.receiver p.came) ≡ stored_next old.receiver
+    same = sym (ap stored_next p.received) ∙ still
+
+    -- no acknowledgement came
+    quiet : old.sender.base < stored_next old.receiver → coming_of old.back.fates p.acks ≡ []
+    quiet l =
+        let n = stored_next old.receiver in
+        let small : n < 2 ^ 64 = le_trans' n (end_of old.sender) (2 ^ 64) within word in
+        let ours : All (Acks n n) (answers_of most_reported old.receiver p.came) = all_answers numbers trip most_reported old.receiver p.came n n (omega arith) (subst (λ k. k ≤ n) (sym same) (omega arith)) small in
+        let last : Acks n n (answer_of new.receiver) = one_answers trip new.receiver n n (subst (λ k. n ≤ k) (sym still) (omega arith)) (subst (λ k. k ≤ n) (sym still) (omega arith)) small in
+        let both : All (Acks n n) (answers_of most_reported old.receiver p.came ++ answer_of new.receiver ∷ []) = All-both (Acks n n) (answers_of most_reported old.receiver p.came) (answer_of new.receiver ∷ []) ours (All-cons (Acks n n) (answer_of new.receiver) [] last (All-nil (Acks n n))) in
+        let acks : All (Acks n n) p.acks = subst (All (Acks n n)) (sym (p.answers ∙ ap (λ b. b ++ answers_of most_reported old.receiver p.came ++ answer_of new.receiver ∷ []) none_back)) both in
+        none_come old.sender new.sender old.back.late (coming_of old.back.fates p.acks) n n p.acked still_back l within (come_of (Acks n n) old.back.fates p.acks acks)
+      where
+        le_trans' : (a b c : ℕ) → a ≤ b → b < c → a < c
+        le_trans' a b c h k = omega arith
+
+    -- the first byte that is kept is missing
+    lacking : stored_next old.receiver ≤ old.sender.base → old.sender.base ≡ stored_next old.receiver
+    lacking l = (let h = carries.behind in omega arith)
+
+    front : stored_next old.receiver ≤ old.sender.base → FirstFrame old.sender.base (old.sender.base + length old.sender.queue) p.all.front.parts
+    front l =
+        let told : reports old.sender.reported old.sender.base ≡ false =
+        ⊎_elim {C = reports old.sender.reported old.sender.base ≡ false}
+        (λ (e : reports old.sender.reported old.sender.base ≡ true). absurd (missing most_reported old.receiver sound (subst (Has old.receiver) (lacking l) (carries.reported old.sender.base e))))
+        (λ (e : reports old.sender.reported old.sender.base ≡ false). e)
+        (cases_Bool (reports old.sender.reported old.sender.base)) in
+        let one = first_sent old.sender (most_of old.payload) (most_of old.flight) p.n old.there p.sent p.all (omega arith) some told in
+        let xs = one.0 in
+        let size : length xs ≡ min (length xs) (length old.sender.queue) = ap length one.5 ∙ length-take (length xs) old.sender.queue in (
+          xs,
+          frames_from (old.sender.base + length xs) one.1,
+          ap (frames_from old.sender.base) one.2,
+          one.3,
+          omega (arith, size),
+        )
+
+    ahead : (l : stored_next old.receiver ≤ old.sender.base) → p.sent.ahead ≡ frame_of old.sender.base (front l).0 ∷ (front l).1
+    ahead l = ap (λ t. t.ahead) p.all.front.sent ∙ ap (λ a. a ++ frames_from old.sender.base p.all.front.parts) none ∙ (front l).2
+
+    sent_some : stored_next old.receiver ≤ old.sender.base → 0 < length p.sent.ahead
+    sent_some l = subst (λ a. 0 < length a) (sym (ahead l)) (omega arith)
+
+    fails : stored_next old.receiver ≤ old.sender.base → comes (next_fate old.there.fates) ≡ false
+    fails l =
+        ⊎_elim {C = comes (next_fate old.there.fates) ≡ false}
+        (λ (e : comes (next_fate old.there.fates) ≡ true).
+        let xs = (front l).0 in
+        let rest = (front l).1 in
+        let long = (front l).3 in
+        let short = (front l).4 in
+        let is = lacking l in
+        let c = coming_of (after_fate old.there.fates) rest in
+        let frame = frame_of old.sender.base xs in
+        let coming : coming_of old.there.fates p.sent.ahead ≡ frame ∷ c = ap (coming_of old.there.fates) (ahead l) ∙ cond-true _ (frame ∷ c) c e in
+        let came : p.came ≡ old.there.late ++ frame ∷ c = p.coming ∙ ap (λ x. old.there.late ++ x) coming in
+        let more : stored_next old.receiver < stored_next (brought most_reported old.receiver (old.there.late ++ frame ∷ c)) = front_brings numbers order most_reported old.receiver old.there.late c frame old.sender.base xs (trip old.sender.base xs (omega arith)) l' (omega arith) (omega arith) room in
+        let on : stored_next old.receiver < stored_next (brought most_reported old.receiver p.came) = subst (λ x. stored_next old.receiver < stored_next (brought most_reported old.receiver x)) (sym came) more in
+        absurd (less (stored_next old.receiver) (stored_next (brought most_reported old.receiver p.came)) on same))
+        (λ (e : comes (next_fate old.there.fates) ≡ false). e)
+        (cases_Bool (comes (next_fate old.there.fates)))
+      where
+        l' : old.sender.base ≤ stored_next old.receiver
+        l' = carries.behind
+
+        less : (a b : ℕ) → a < b → b ≡ a → ⊥
+        less a b h k = omega arith
+
+-- ---- what is counted
+failed_met : (lot : Fate) (c : FrameCounts) → failed c ≤ failed (met lot c)
+failed_met Delivered c = omega arith
+failed_met Lost c = omega arith
+failed_met Repeated c = omega arith
+failed_met Late c = omega arith
+
+failed_fails : (lot : Fate) (c : FrameCounts) → comes lot ≡ false → min (failed c + 1) (2 ^ 64 - 1) ≤ failed (met lot c)
+failed_fails Delivered c e = absurd (both_ways true e refl)
+failed_fails Lost c e = omega arith
+failed_fails Repeated c e = absurd (both_ways true e refl)
+failed_fails Late c e = omega arith
+
+failed_all : (n : ℕ) (v : FatesSeen) (c : FrameCounts) → failed c ≤ failed (met_all n v c)
+failed_all zero v c = omega arith
+failed_all (suc n) v c = le_trans (failed_met (next_fate v) c) (failed_all n (after_fate v) (met (next_fate v) c))
+
+failed_first : (n : ℕ) (v : FatesSeen) (c : FrameCounts) → 0 < n → comes (next_fate v) ≡ false → min (failed c + 1) (2 ^ 64 - 1) ≤ failed (met_all n v c)
+failed_first zero v c some e = absurd (omega arith)
+failed_first (suc n) v c some e = le_trans (failed_fails (next_fate v) c e) (failed_all n (after_fate v) (met (next_fate v) c))
+
+more_failed : (a b : ℕ) → a ≤ b → min (a + 1) (2 ^ 64 - 1) ≤ min (b + 1) (2 ^ 64 - 1)
+more_failed a b h = omega arith
+
+first_fails : (v : FatesSeen) (frames : List (List ℕ)) → 0 < length frames → coming_of v frames ≡ [] → comes (next_fate v) ≡ false
+first_fails v [] some none = absurd (omega arith)
+first_fails v (x ∷ xs) some none =
+    ⊎_elim {C = comes (next_fate v) ≡ false}
+    (λ (e : comes (next_fate v) ≡ true).
+    let here : coming_of v (x ∷ xs) ≡ x ∷ coming_of (after_fate v) xs = cond-true _ (x ∷ coming_of (after_fate v) xs) (coming_of (after_fate v) xs) e in
+    let size : length (x ∷ coming_of (after_fate v) xs) ≡ 0 = ap length (sym here ∙ none) in
+    absurd (omega arith))
+    (λ (e : comes (next_fate v) ≡ false). e)
+    (cases_Bool (comes (next_fate v)))
+
+le_refl : (n : ℕ) → n ≤ n
+le_refl n = omega arith
+
+none_comes : (v : FatesSeen) (frames : List (List ℕ)) → coming_of v frames ≡ [] → NoneComes (length frames) v
+none_comes v [] none = tt
+none_comes v (x ∷ xs) none =
+    let e = first_fails v (x ∷ xs) (omega arith) none in
+    (e, none_comes (after_fate v) xs (sym (cond-false _ (x ∷ coming_of (after_fate v) xs) (coming_of (after_fate v) xs) e) ∙ none))
+
+-- one more round that was stuck
+pub stuck_more : (n : ℕ) (v v' u u' : FatesSeen) (frames acks : ℕ) → StuckTo n v v' u u' → IsStuck frames acks u u' → StuckTo (suc n) v v' (after_all frames u) (after_all acks u')
+stuck_more zero v v' u u' frames acks to one = (frames, acks, subst (λ x. IsStuck frames acks x v') to.0 (subst (IsStuck frames acks u) to.1 one), (ap (after_all frames) to.0, ap (after_all acks) to.1))
+stuck_more (suc n) v v' u u' frames acks to one = (to.0, to.1, to.2, stuck_more n (after_all to.0 v) (after_all to.1 v') u u' frames acks to.3 one)
+
+module _ {A : Type 0} (old new : Link A) (p : Passed old new) where
+  acks_some : 0 < length p.acks
+  acks_some = subst (λ l. 0 < length l) (sym p.answers) (let e = length-append (old.back.ahead ++ answers_of most_reported old.receiver p.came) (answer_of new.receiver ∷ []) in omega arith)
+
+  same_failed : failed new.counts ≡ failed (met_all (length p.acks) old.back.fates (met_all (length p.sent.ahead) old.there.fates (carrying (unreported old.sender.reported old.sender.base p.n) old.counts)))
+  same_failed = ap failed p.counted
+
+  pub round_failed : failed old.counts ≤ failed new.counts
+  round_failed =
+      let c = carrying (unreported old.sender.reported old.sender.base p.n) old.counts in
+      let m = met_all (length p.sent.ahead) old.there.fates c in
+      subst (λ n. failed old.counts ≤ n) (sym same_failed) (le_trans (failed_all (length p.sent.ahead) old.there.fates c) (failed_all (length p.acks) old.back.fates m))
+
+  pub round_keeps : Numbers → RoundKeeps old new
+  round_keeps numbers = record {
+    ahead = ap (λ t. t.ahead) p.left;
+    ahead_back = ap (λ t. t.ahead) p.left_back;
+    end = ap end_of p.acked ∙ all_keep_end old.sender (old.back.late ++ coming_of old.back.fates p.acks);
+    base = subst (λ v. old.sender.base ≤ v.base) (sym p.acked) (all_base_grows old.sender (old.back.late ++ coming_of old.back.fates p.acks));
+    room = ap (λ v. v.capacity) p.acked ∙ all_keep_room old.sender (old.back.late ++ coming_of old.back.fates p.acks);
+    first = ap (λ v. v.first) p.received ∙ brought_first numbers most_reported old.receiver p.came;
+    read = ap (λ v. v.read) p.received ∙ brought_read numbers most_reported old.receiver p.came;
+    capacity = ap (λ v. v.capacity) p.received ∙ brought_capacity numbers most_reported old.receiver p.came;
+    grows = subst (λ v. stored_next old.receiver ≤ stored_next v) (sym p.received) (brought_grows numbers most_reported old.receiver p.came);
+    failed = round_failed;
+  }
+
+  counted : (n : ℕ) → min (failed old.counts + 1) (2 ^ 64 - 1) ≤ n → n ≤ failed (met_all (length p.acks) old.back.fates (met_all (length p.sent.ahead) old.there.fates (carrying (unreported old.sender.reported old.sender.base p.n) old.counts))) → min (failed old.counts + 1) (2 ^ 64 - 1) ≤ failed new.counts
+  counted n h k = subst (λ m. min (failed old.counts + 1) (2 ^ 64 - 1) ≤ m) (sym same_failed) (le_trans h k)
+
+  pub round_moves : RoundTrip → Numbers → InOrderReaches → QueueIsOfStream → IsSound most_reported old.receiver → end_of old.sender < 2 ^ 64 → RoundMoves old new
+  round_moves trip numbers order queue sound word f w carries none none_back some room still still_back =
+      let c = carrying (unreported old.sender.reported old.sender.base p.n) old.counts in
+      let m = met_all (length p.sent.ahead) old.there.fates c in
+      let e = met_all (length p.acks) old.back.fates m in
+      let one = failed_all (length p.sent.ahead) old.there.fates c in
+      let two = failed_all (length p.acks) old.back.fates m in
+      ⊎_elim {C = Stuck old new}
+      (λ (a : (old.sender.base ≡ stored_next old.receiver) × (0 < length p.sent.ahead) × (comes (next_fate old.there.fates) ≡ false)). record {
+        frames = length p.sent.ahead;
+        acks = length p.acks;
+        why = inl (a.1, a.2);
+        left = ap (λ t. t.fates) p.left ∙ ap (λ t. after_all (length p.sent.ahead) t.fates) p.all.front.sent;
+        left_back = ap (λ t. t.fates) p.left_back;
+        counted = counted (failed m) (failed_first (length p.sent.ahead) old.there.fates c a.1 a.2) two;
+      })
+      (λ (b : (old.sender.base < stored_next old.receiver) × (coming_of old.back.fates p.acks ≡ [])). record {
+        frames = length p.sent.ahead;
+        acks = length p.acks;
+        why = inr (acks_some, none_comes old.back.fates p.acks b.1);
+        left = ap (λ t. t.fates) p.left ∙ ap (λ t. after_all (length p.sent.ahead) t.fates) p.all.front.sent;
+        left_back = ap (λ t. t.fates) p.left_back;
+        counted = counted (failed e) (le_trans (more_failed (failed c) (failed m) one) (failed_first (length p.acks) old.back.fates m acks_some (first_fails old.back.fates p.acks acks_some b.1))) (le_refl (failed e));
+      })
+      (rounds_move trip numbers order queue f w old new p sound carries word none none_back some room still still_back)
+
+-- ---- a round of a copy
+pub step_moves : {A : Type 0} (f : ℕ) (w : List ℕ) (old new : Link A) (r : Stored) (room : ℕ) → RoundKeeps old new → RoundMoves old new → r ≡ stored_read new.receiver room →
+    Carries f w old → old.there.ahead ≡ [] → old.back.ahead ≡ [] → 0 < length old.sender.queue → 0 < old.receiver.capacity → 0 < room → new.sender.base ≡ old.sender.base → r.read ≡ old.receiver.read → Stuck old new
+step_moves f w old new r room keeps moves handed carries none none_back kept cap some still_base still_read =
+    moves f w carries none none_back kept room_left next_same still_base
+  where
+    read : new.receiver.read ≡ old.receiver.read
+    read = keeps.read
+
+    after : r.read ≡ new.receiver.read + min room (length new.receiver.queue)
+    after = ap (λ v. v.read) handed
+
+    empty : length new.receiver.queue ≡ 0
+    empty = omega (arith, after, read, some, still_read)
+
+    first : new.receiver.first ≡ old.receiver.first
+    first = keeps.first
+
+    grow : stored_next old.receiver ≤ stored_next new.receiver
+    grow = keeps.grows
+
+    next_same : stored_next new.receiver ≡ stored_next old.receiver
+    next_same = omega (arith, grow, empty, first, read)
+
+    room_left : stored_next old.receiver < limit_of old.receiver
+    room_left = omega (arith, grow, empty, first, read, cap)
+
+-- where all is written, a reader that may have more is asked, and gives something
+pub asked_again : {A : Type 0} → QueueIsOfStream → (f : ℕ) (w w1 : List ℕ) (l l1 : Link A) (room : ℕ) → Carries f w l → Carries f w1 l1 → l1.receiver ≡ l.receiver → end_of l.sender ≤ end_of l1.sender →
+    stored_next l1.receiver ≡ end_of l1.sender → length l1.receiver.queue ≡ 0 →
+    (0 < room_of l.sender → 0 < room → stored_next l.receiver ≡ end_of l.sender → length l.receiver.queue ≡ 0 → end_of l.sender < end_of l1.sender) →
+    0 < room → length l.sender.queue < l.sender.capacity → end_of l1.sender < 2 ^ 64 - 1 → ⊥
+asked_again queue f w w1 l l1 room carries carries1 same grows next none fed some kept left =
+    let q = (queue_from queue f w l.receiver carries.receives).within in
+    let first = first_is f w l.receiver carries.receives in
+    let end = carries.sends.end in
+    let next' : stored_next l.receiver ≡ stored_next l1.receiver = sym (ap stored_next same) in
+    let none' : length l.receiver.queue ≡ 0 = ap (λ r. length r.queue) (sym same) ∙ none in
+    let is : stored_next l.receiver ≡ end_of l.sender = omega arith in
+    let one : end_of l.sender < end_of l1.sender = fed (omega arith) some is none' in
+    omega arith
+
+-- ---- known fates
+all_after : (n : ℕ) (v : FatesSeen) → AllCome v → AllCome (after_all n v)
+all_after zero v all = all
+all_after (suc n) v all = all_after n (after_fate v) (come_next v all).1
+
+some_come : (k : ℕ) (u : FatesSeen) → 0 < k → NoneComes k u → comes (next_fate u) ≡ true → ⊥
+some_come zero u some h e = absurd (omega arith)
+some_come (suc k) u some h e = both_ways (comes (next_fate u)) h.0 e
+
+pub never_stuck : NeverStuck
+never_stuck zero v v' counts all all' some stuck = absurd (omega arith)
+never_stuck (suc n) v v' counts all all' some stuck =
+    let r = stuck.rounds in
+    let u = after_all stuck.frames v in
+    let u' = after_all stuck.acks v' in
+    ⊎_elim {C = ⊥}
+    (λ (a : (0 < r.0) × (comes (next_fate u) ≡ false)). both_ways (comes (next_fate u)) a.1 (come_next u (all_after stuck.frames v all)).0)
+    (λ (b : (0 < r.1) × NoneComes r.1 u'). some_come r.1 u' b.0 b.1 (come_next u' (all_after stuck.acks v' all')).0)
+    r.2

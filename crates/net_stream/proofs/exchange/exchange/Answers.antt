@@ -1,0 +1,358 @@
+use Rattle.std.proofs.Common.{◌≡◌, ◌*◌, ℕ, suc, length, ◌+◌, ◌<◌, ◌≤◌, ◌-◌, ◌^◌, true, false, refl, sym, ap, subst, ◌∙◌, arith, ⊎_elim}
+use Rattle.std.proofs.lemmas.Bool.{both_ways, cases_Bool, cases_lt}
+use Rattle.net_receiver.specs.Stored.{stored_next}
+use Rattle.net_stream.specs.Outgoing.{end_of}
+use Rattle.net_stream.specs.Links.{Carries}
+use Rattle.net_stream.specs.Stuck.{failed, Stuck, StuckTo}
+use Rattle.net_stream.specs.Fates.{FatesSeen, after_all}
+use Rattle.net_stream.specs.Rounds.{FatesSoFar}
+use Rattle.net_stream.proofs.Reached.{first_is}
+use Rattle.net_stream.proofs.Stuck.{asked_again, stuck_more}
+use Rattle.net_stream.proofs.Moved.{queue_from, passed, so_far, all_done}
+use Rattle.net_stream.proofs.Drawn.{none_drawn}
+use Rattle.net_stream.proofs.exchange.exchange.Goals as goal
+
+abbrev Runs : ℕ → FatesSeen → FatesSeen → FatesSeen → FatesSeen → Type 0
+Runs n v v' u u' = (frames : ℕ) × (acks : ℕ) × StuckTo n (after_all frames v) (after_all acks v') u u'
+
+pub rounds-init : goal.rounds-init
+rounds-init g c = record {
+  moving = c.requires.moving;
+  fates = none_drawn c.args.link.now.there.fates c.args.link.now.back.fates c.args.link.now.counts c.requires.counts;
+  rounds = omega arith;
+  ahead = c.requires.ahead;
+  ahead_back = c.requires.ahead_back;
+  window = refl;
+  capacity = refl;
+  chunk = refl;
+  failing = λ cap cap' some left. omega arith;
+  most = omega arith;
+  stuck = λ cap cap' some left. (0, 0, (refl, refl));
+}
+
+pub returns-in-Err-clause-copied : goal.returns-in-Err-clause-copied
+returns-in-Err-clause-copied g c =
+    let f = c.args.settings.first in
+    let old = g.R.Read.remaining c.args.reader.now in
+    let now = g.R.Read.remaining c.feed.new.reader in
+    let held = g.W.Write.contents c.args.writer.now in
+    let holds = g.W.Write.contents c.rounds.writer in
+    let i = c.rounds.invariant in
+    let l = c.rounds.link in
+    let l1 = c.feed.new.link in
+    let m1 = c.feed.ensures.moving f old held holds i.moving in
+    so_far f old held c.truthful.ensures.queue l1 c.feed.new.counts now holds c.feed.new.input.more m1
+
+pub returns-then-is_done-clause-copied : goal.returns-then-is_done-clause-copied
+returns-then-is_done-clause-copied g c =
+    let f = c.args.settings.first in
+    let old = g.R.Read.remaining c.args.reader.now in
+    let now = g.R.Read.remaining c.feed.new.reader in
+    let held = g.W.Write.contents c.args.writer.now in
+    let holds = g.W.Write.contents c.rounds.writer in
+    let i = c.rounds.invariant in
+    let l = c.rounds.link in
+    let l1 = c.feed.new.link in
+    let m1 = c.feed.ensures.moving f old held holds i.moving in
+    let all = c.is_done.ensures.only c.if-is_done.true in
+    all_done f old held c.truthful.ensures.queue l1 c.feed.new.counts now holds c.feed.new.input.more all.0 all.1 all.2 m1
+
+pub returns-then-stalled-settings-clause-copied : goal.returns-then-stalled-settings-clause-copied
+returns-then-stalled-settings-clause-copied g c =
+    let f = c.args.settings.first in
+    let old = g.R.Read.remaining c.args.reader.now in
+    let now = g.R.Read.remaining c.feed.new.reader in
+    let held = g.W.Write.contents c.args.writer.now in
+    let holds = g.W.Write.contents c.rounds.writer in
+    let i = c.rounds.invariant in
+    let l = c.rounds.link in
+    let l1 = c.feed.new.link in
+    let m1 = c.feed.ensures.moving f old held holds i.moving in
+    so_far f old held c.truthful.ensures.queue l1 c.feed.new.counts now holds c.feed.new.input.more m1
+
+pub returns-then-stalled-settings-clause-unfinished : goal.returns-then-stalled-settings-clause-unfinished
+returns-then-stalled-settings-clause-unfinished g c = λ gave some left few.
+    let f = c.args.settings.first in
+    let old = g.R.Read.remaining c.args.reader.now in
+    let now = g.R.Read.remaining c.feed.new.reader in
+    let held = g.W.Write.contents c.args.writer.now in
+    let holds = g.W.Write.contents c.rounds.writer in
+    let i = c.rounds.invariant in
+    let l = c.rounds.link in
+    let l1 = c.feed.new.link in
+    let m1 = c.feed.ensures.moving f old held holds i.moving in
+    let counts = c.feed.new.counts in
+    ⊎_elim {C = counts.bytes < counts.taken}
+    (λ (h : counts.bytes < counts.taken). h)
+    (λ (h : counts.taken ≤ counts.bytes).
+    let same = ap (λ x. x.receiver) c.feed.ensures.state in
+    let q = (queue_from c.truthful.ensures.queue f m1.given l1.receiver m1.carries.receives).within in
+    let first = first_is f m1.given l1.receiver m1.carries.receives in
+    let end1 = m1.carries.sends.end in
+    let taken = m1.taken in
+    let bytes = m1.bytes in
+    let none : length l1.receiver.queue ≡ 0 = omega (arith, q, taken, bytes, h) in
+    let next : stored_next l1.receiver ≡ end_of l1.sender = omega (arith, q, first, end1, taken, bytes, h, none) in
+    let more : c.feed.new.input.more ≡ true =
+    ⊎_elim {C = c.feed.new.input.more ≡ true} (λ (e : c.feed.new.input.more ≡ true). e) (λ (e : c.feed.new.input.more ≡ false). absurd (both_ways c.is_done.result c.if-is_done.false (c.is_done.ensures.exact e next none))) (cases_Bool c.feed.new.input.more) in
+    let from = i.moving.carries.sends.from in
+    let end = i.moving.carries.sends.end in
+    let grows = c.feed.ensures.grows in
+    let window = i.window in
+    let chunk = i.chunk in
+    absurd (asked_again c.truthful.ensures.queue f i.moving.given m1.given l l1 (length c.rounds.chunk) i.moving.carries m1.carries same grows next none (c.in_default.ensures.fed more)
+    (omega (arith, chunk, some)) (omega (arith, from, end, end1, taken, grows, window, few)) (omega (arith, end1, taken, left))))
+    (cases_lt counts.bytes counts.taken)
+
+pub returns-then-stalled-settings-clause-stalls : goal.returns-then-stalled-settings-clause-stalls
+returns-then-stalled-settings-clause-stalls g c = λ gave cap cap' some left.
+    let f = c.args.settings.first in
+    let old = g.R.Read.remaining c.args.reader.now in
+    let now = g.R.Read.remaining c.feed.new.reader in
+    let held = g.W.Write.contents c.args.writer.now in
+    let holds = g.W.Write.contents c.rounds.writer in
+    let i = c.rounds.invariant in
+    let l = c.rounds.link in
+    let l1 = c.feed.new.link in
+    let m1 = c.feed.ensures.moving f old held holds i.moving in
+    let v = c.args.link.now.there.fates in
+    let v' = c.args.link.now.back.fates in
+    let end1 = m1.carries.sends.end in
+    let taken = m1.taken in
+    let grows = c.feed.ensures.grows in
+    let short : end_of l.sender < 2 ^ 64 - 1 = omega (arith, end1, taken, grows, left) in
+    let enough = c.if-stalled-settings.true in
+    let most = i.most in
+    let all : c.rounds.stalled ≡ c.args.settings.rounds = omega (arith, enough, most) in
+    let run = i.stuck cap cap' some short in
+    let failures = i.failing cap cap' some short in
+    let fates : FatesSoFar v v' l.there.fates l.back.fates l.counts = record { frames = i.fates.frames; acks = i.fates.acks; left = i.fates.left; left_back = i.fates.left_back; counted = i.fates.counted } in
+    let same : l1.counts ≡ l.counts = ap (λ x. x.counts) c.feed.ensures.state in
+    record {
+      frames = run.0;
+      acks = run.1;
+      last = l.there.fates;
+      last_back = l.back.fates;
+      rounds = subst (λ j. StuckTo j (after_all run.0 v) (after_all run.1 v') l.there.fates l.back.fates) all run.2;
+      all = subst (FatesSoFar v v' l.there.fates l.back.fates) (sym same) fates;
+      failures = subst (λ n. c.args.settings.rounds ≤ n.lost + n.late) (sym same) (omega (arith, failures, all));
+    }
+
+pub returns-in-Err-step-clause-copied : goal.returns-in-Err-step-clause-copied
+returns-in-Err-step-clause-copied g c =
+    let f = c.args.settings.first in
+    let old = g.R.Read.remaining c.args.reader.now in
+    let now = g.R.Read.remaining c.feed.new.reader in
+    let held = g.W.Write.contents c.args.writer.now in
+    let holds = g.W.Write.contents c.rounds.writer in
+    let i = c.rounds.invariant in
+    let l = c.rounds.link in
+    let l1 = c.feed.new.link in
+    let m1 = c.feed.ensures.moving f old held holds i.moving in
+    let l2 = c.wait.new.self in
+    let d = record c.feed.new.counts { rounds = c.saturating_add-counts.result } in
+    let m2 = passed f old held l1 l2 c.feed.new.counts d now holds c.feed.new.input.more (λ w h. subst (Carries f w) (sym c.wait.ensures) h) (ap (λ x. x.receiver.read) c.wait.ensures) refl refl m1 in
+    let v = c.args.link.now.there.fates in
+    let v' = c.args.link.now.back.fates in
+    let fates : FatesSoFar v v' l.there.fates l.back.fates l.counts = record { frames = i.fates.frames; acks = i.fates.acks; left = i.fates.left; left_back = i.fates.left_back; counted = i.fates.counted } in
+    let fates1 : FatesSoFar v v' l1.there.fates l1.back.fates l1.counts = subst (λ x. FatesSoFar v v' x.there.fates x.back.fates x.counts) (sym c.feed.ensures.state) fates in
+    let fates2 : FatesSoFar v v' l2.there.fates l2.back.fates l2.counts = subst (λ x. FatesSoFar v v' x.there.fates x.back.fates x.counts) (sym c.wait.ensures) fates1 in
+    c.in-Err-step.ensures.err f old now held c.feed.new.input.more m2
+
+pub returns-in-Err-step-clause-fates : goal.returns-in-Err-step-clause-fates
+returns-in-Err-step-clause-fates g c =
+    let f = c.args.settings.first in
+    let old = g.R.Read.remaining c.args.reader.now in
+    let now = g.R.Read.remaining c.feed.new.reader in
+    let held = g.W.Write.contents c.args.writer.now in
+    let holds = g.W.Write.contents c.rounds.writer in
+    let i = c.rounds.invariant in
+    let l = c.rounds.link in
+    let l1 = c.feed.new.link in
+    let m1 = c.feed.ensures.moving f old held holds i.moving in
+    let l2 = c.wait.new.self in
+    let d = record c.feed.new.counts { rounds = c.saturating_add-counts.result } in
+    let m2 = passed f old held l1 l2 c.feed.new.counts d now holds c.feed.new.input.more (λ w h. subst (Carries f w) (sym c.wait.ensures) h) (ap (λ x. x.receiver.read) c.wait.ensures) refl refl m1 in
+    let v = c.args.link.now.there.fates in
+    let v' = c.args.link.now.back.fates in
+    let fates : FatesSoFar v v' l.there.fates l.back.fates l.counts = record { frames = i.fates.frames; acks = i.fates.acks; left = i.fates.left; left_back = i.fates.left_back; counted = i.fates.counted } in
+    let fates1 : FatesSoFar v v' l1.there.fates l1.back.fates l1.counts = subst (λ x. FatesSoFar v v' x.there.fates x.back.fates x.counts) (sym c.feed.ensures.state) fates in
+    let fates2 : FatesSoFar v v' l2.there.fates l2.back.fates l2.counts = subst (λ x. FatesSoFar v v' x.there.fates x.back.fates x.counts) (sym c.wait.ensures) fates1 in
+    c.step.ensures.fates v v' fates2
+
+smaller_moved : (t u m j k : ℕ) → t < u → u < 2 ^ 65 → m < 2 ^ 64 → (2 ^ 66 - u) * 2 ^ 64 + (m - k) < (2 ^ 66 - t) * 2 ^ 64 + (m - j)
+smaller_moved t u m j k a b d = omega arith
+
+smaller_still : (t u m j k : ℕ) → t ≡ u → j < m → k ≡ j + 1 → (2 ^ 66 - u) * 2 ^ 64 + (m - k) < (2 ^ 66 - t) * 2 ^ 64 + (m - j)
+smaller_still t u m j k a b d = omega arith
+
+further : (a a' b b' : ℕ) → a ≤ a' → b ≤ b' → ((a' ≡ a) × (b' ≡ b) → ⊥) → a + b < a' + b'
+further a a' b b' h k not =
+    ⊎_elim {C = a + b < a' + b'}
+    (λ (l : a < a'). omega arith)
+    (λ (l : a' ≤ a).
+    ⊎_elim {C = a + b < a' + b'}
+    (λ (m : b < b'). omega arith)
+    (λ (m : b' ≤ b). absurd (not ((let e : a' ≡ a = omega arith in e), (let e : b' ≡ b = omega arith in e))))
+    (cases_lt b b'))
+    (cases_lt a a')
+
+pub rounds-smaller : goal.rounds-smaller
+rounds-smaller g c =
+    let f = c.args.settings.first in
+    let old = g.R.Read.remaining c.args.reader.now in
+    let now = g.R.Read.remaining c.feed.new.reader in
+    let held = g.W.Write.contents c.args.writer.now in
+    let holds = g.W.Write.contents c.rounds.writer in
+    let i = c.rounds.invariant in
+    let l = c.rounds.link in
+    let l1 = c.feed.new.link in
+    let m1 = c.feed.ensures.moving f old held holds i.moving in
+    let l2 = c.wait.new.self in
+    let d = record c.feed.new.counts { rounds = c.saturating_add-counts.result } in
+    let m2 = passed f old held l1 l2 c.feed.new.counts d now holds c.feed.new.input.more (λ w h. subst (Carries f w) (sym c.wait.ensures) h) (ap (λ x. x.receiver.read) c.wait.ensures) refl refl m1 in
+    let v = c.args.link.now.there.fates in
+    let v' = c.args.link.now.back.fates in
+    let fates : FatesSoFar v v' l.there.fates l.back.fates l.counts = record { frames = i.fates.frames; acks = i.fates.acks; left = i.fates.left; left_back = i.fates.left_back; counted = i.fates.counted } in
+    let fates1 : FatesSoFar v v' l1.there.fates l1.back.fates l1.counts = subst (λ x. FatesSoFar v v' x.there.fates x.back.fates x.counts) (sym c.feed.ensures.state) fates in
+    let fates2 : FatesSoFar v v' l2.there.fates l2.back.fates l2.counts = subst (λ x. FatesSoFar v v' x.there.fates x.back.fates x.counts) (sym c.wait.ensures) fates1 in
+    let l3 = c.step.new.link in
+    let m3 = c.in_default-step.ensures.ok f old now held c.feed.new.input.more m2 in
+    let k = c.in_default-step.ensures.keeps in
+    let base2 : l2.sender.base ≡ l.sender.base = ap (λ x. x.sender.base) c.wait.ensures ∙ ap (λ x. x.sender.base) c.feed.ensures.state in
+    let read2 : l2.receiver.read ≡ l.receiver.read = ap (λ x. x.receiver.read) c.wait.ensures ∙ ap (λ x. x.receiver.read) c.feed.ensures.state in
+    let base1 : l1.sender.base ≡ l.sender.base = ap (λ x. x.sender.base) c.feed.ensures.state in
+    let base = c.base-base.ensures.value in
+    let bytes1 : l1.receiver.read ≡ c.feed.new.counts.bytes = m1.bytes in
+    let bytes3 : l3.receiver.read ≡ c.step.new.counts.bytes = m3.bytes in
+    let read1 : l1.receiver.read ≡ l.receiver.read = ap (λ x. x.receiver.read) c.feed.ensures.state in
+    let base_on : l.sender.base ≤ l3.sender.base = subst (λ n. n ≤ l3.sender.base) base2 k.base in
+    let read_on : l.receiver.read ≤ l3.receiver.read = subst (λ n. n ≤ l3.receiver.read) read2 k.read in
+    let t = l.sender.base + l.receiver.read in
+    let u = l3.sender.base + l3.receiver.read in
+    let q = (queue_from c.truthful.ensures.queue f m3.given l3.receiver m3.carries.receives).within in
+    let end = m3.carries.sends.end in
+    let word = k.word in
+    let test = c.if-stalled-settings.false in
+    ⊎_elim
+    (λ (e : c.has_moved-moved.result ≡ true).
+    smaller_moved t u c.args.settings.rounds c.rounds.stalled c.stalled_after-stalled.result
+    (further l.sender.base l3.sender.base l.receiver.read l3.receiver.read base_on read_on (λ same. c.has_moved-moved.ensures.moved e (same.0 ∙ sym base1 ∙ sym base, sym bytes3 ∙ same.1 ∙ sym read1 ∙ bytes1)))
+    (omega (arith, q, end, word)) (omega arith))
+    (λ (e : c.has_moved-moved.result ≡ false).
+    let same = c.has_moved-moved.ensures.still e in
+    let one : l3.sender.base ≡ l.sender.base = same.0 ∙ base ∙ base1 in
+    let two : l3.receiver.read ≡ l.receiver.read = bytes3 ∙ same.1 ∙ sym bytes1 ∙ read1 in
+    smaller_still t u c.args.settings.rounds c.rounds.stalled c.stalled_after-stalled.result (omega (arith, one, two)) test (c.stalled_after-stalled.ensures.stays e (omega (arith, test))))
+    (cases_Bool c.has_moved-moved.result)
+
+pub rounds-preserved : goal.rounds-preserved
+rounds-preserved g c =
+    let f = c.args.settings.first in
+    let old = g.R.Read.remaining c.args.reader.now in
+    let now = g.R.Read.remaining c.feed.new.reader in
+    let held = g.W.Write.contents c.args.writer.now in
+    let holds = g.W.Write.contents c.rounds.writer in
+    let i = c.rounds.invariant in
+    let l = c.rounds.link in
+    let l1 = c.feed.new.link in
+    let m1 = c.feed.ensures.moving f old held holds i.moving in
+    let l2 = c.wait.new.self in
+    let d = record c.feed.new.counts { rounds = c.saturating_add-counts.result } in
+    let m2 = passed f old held l1 l2 c.feed.new.counts d now holds c.feed.new.input.more (λ w h. subst (Carries f w) (sym c.wait.ensures) h) (ap (λ x. x.receiver.read) c.wait.ensures) refl refl m1 in
+    let v = c.args.link.now.there.fates in
+    let v' = c.args.link.now.back.fates in
+    let fates : FatesSoFar v v' l.there.fates l.back.fates l.counts = record { frames = i.fates.frames; acks = i.fates.acks; left = i.fates.left; left_back = i.fates.left_back; counted = i.fates.counted } in
+    let fates1 : FatesSoFar v v' l1.there.fates l1.back.fates l1.counts = subst (λ x. FatesSoFar v v' x.there.fates x.back.fates x.counts) (sym c.feed.ensures.state) fates in
+    let fates2 : FatesSoFar v v' l2.there.fates l2.back.fates l2.counts = subst (λ x. FatesSoFar v v' x.there.fates x.back.fates x.counts) (sym c.wait.ensures) fates1 in
+    let l3 = c.step.new.link in
+    let m3 = c.in_default-step.ensures.ok f old now held c.feed.new.input.more m2 in
+    let k = c.in_default-step.ensures.keeps in
+    let fates3 : FatesSoFar v v' l3.there.fates l3.back.fates l3.counts = c.in_default-step.ensures.left v v' fates2 in
+    let stalled = c.stalled_after-stalled.result in
+    let bound = c.stalled_after-stalled.ensures.bound in
+    let test = c.if-stalled-settings.false in
+    let grows1 = c.feed.ensures.grows in
+    let end2 : end_of l2.sender ≡ end_of l1.sender = ap (λ x. end_of x.sender) c.wait.ensures in
+    let end3 = k.end in
+    let window2 : l2.sender.capacity ≡ l.sender.capacity = ap (λ x. x.sender.capacity) c.wait.ensures ∙ ap (λ x. x.sender.capacity) c.feed.ensures.state in
+    let capacity2 : l2.receiver.capacity ≡ l.receiver.capacity = ap (λ x. x.receiver.capacity) c.wait.ensures ∙ ap (λ x. x.receiver.capacity) c.feed.ensures.state in
+    let quiet : c.has_moved-moved.result ≡ false → 0 < c.args.link.now.sender.capacity → 0 < c.args.link.now.receiver.capacity → 0 < length c.args.chunk.now → end_of l3.sender < 2 ^ 64 - 1 → Stuck l2 l3 =
+    λ e cap cap' some left.
+    (let same = c.has_moved-moved.ensures.still e in
+    let base1 : l1.sender.base ≡ l.sender.base = ap (λ x. x.sender.base) c.feed.ensures.state in
+    let base2 : l2.sender.base ≡ l1.sender.base = ap (λ x. x.sender.base) c.wait.ensures in
+    let still : l3.sender.base ≡ l2.sender.base = same.0 ∙ c.base-base.ensures.value ∙ sym base2 in
+    let receiver2 : l2.receiver ≡ l1.receiver = ap (λ x. x.receiver) c.wait.ensures in
+    let read2 : l2.receiver.read ≡ l1.receiver.read = ap (λ r. r.read) receiver2 in
+    let bytes1 : l1.receiver.read ≡ c.feed.new.counts.bytes = m1.bytes in
+    let bytes3 : l3.receiver.read ≡ c.step.new.counts.bytes = m3.bytes in
+    let still_read : l3.receiver.read ≡ l2.receiver.read = bytes3 ∙ same.1 ∙ sym bytes1 ∙ sym read2 in
+    let room : length c.feed.new.chunk ≡ length c.args.chunk.now = c.feed.ensures.chunk ∙ i.chunk in
+    let some1 : 0 < length c.feed.new.chunk = subst (λ n. 0 < n) (sym room) some in
+    let drained = k.drained some1 still_read in
+    let first3 = k.first in
+    let grows = k.grows in
+    let empty2 : length l2.receiver.queue ≡ 0 = omega (arith, drained, first3, grows, still_read) in
+    let empty1 : length l1.receiver.queue ≡ 0 = ap (λ r. length r.queue) (sym receiver2) ∙ empty2 in
+    let kept1 : 0 < length l1.sender.queue =
+    ⊎_elim {C = 0 < length l1.sender.queue}
+    (λ (h : 0 < length l1.sender.queue). h)
+    (λ (h : length l1.sender.queue ≤ 0).
+    let q = (queue_from c.truthful.ensures.queue f m1.given l1.receiver m1.carries.receives).within in
+    let first = first_is f m1.given l1.receiver m1.carries.receives in
+    let end1 = m1.carries.sends.end in
+    let behind = m1.carries.behind in
+    let next : stored_next l1.receiver ≡ end_of l1.sender = omega (arith, q, first, end1, behind, h, empty1) in
+    let more : c.feed.new.input.more ≡ true =
+    ⊎_elim {C = c.feed.new.input.more ≡ true} (λ (t : c.feed.new.input.more ≡ true). t) (λ (t : c.feed.new.input.more ≡ false). absurd (both_ways c.is_done.result c.if-is_done.false (c.is_done.ensures.exact t next empty1))) (cases_Bool c.feed.new.input.more) in
+    let window = i.window in
+    let chunk = i.chunk in
+    absurd (asked_again c.truthful.ensures.queue f i.moving.given m1.given l l1 (length c.rounds.chunk) i.moving.carries m1.carries (ap (λ x. x.receiver) c.feed.ensures.state) grows1 next empty1 (c.in_default.ensures.fed more)
+    (omega (arith, chunk, some)) (omega (arith, base1, grows1, h, window, cap)) (omega (arith, end2, end3, left))))
+    (cases_lt 0 (length l1.sender.queue)) in
+    let x = c.in_default-step.ensures.moves f m2.given m2.carries (ap (λ y. y.there.ahead) c.wait.ensures ∙ ap (λ y. y.there.ahead) c.feed.ensures.state ∙ i.ahead) (ap (λ y. y.back.ahead) c.wait.ensures ∙ ap (λ y. y.back.ahead) c.feed.ensures.state ∙ i.ahead_back)
+    (subst (λ y. 0 < length y.sender.queue) (sym c.wait.ensures) kept1) (subst (λ n. 0 < n) (sym (capacity2 ∙ i.capacity)) cap') some1 still still_read in
+    record { frames = x.frames; acks = x.acks; why = x.why; left = x.left; left_back = x.left_back; counted = x.counted }) in
+    let fates_there : l2.there.fates ≡ l.there.fates = ap (λ x. x.there.fates) c.wait.ensures ∙ ap (λ x. x.there.fates) c.feed.ensures.state in
+    let fates_back : l2.back.fates ≡ l.back.fates = ap (λ x. x.back.fates) c.wait.ensures ∙ ap (λ x. x.back.fates) c.feed.ensures.state in
+    let counts2 : failed l2.counts ≡ failed l.counts = ap (λ x. failed x.counts) c.wait.ensures ∙ ap (λ x. failed x.counts) c.feed.ensures.state in
+    record {
+      moving = m3;
+      fates = record { frames = fates3.frames; acks = fates3.acks; left = fates3.left; left_back = fates3.left_back; counted = fates3.counted };
+      rounds = (let a = i.rounds in let w = c.stalled_after-stalled.ensures.word in let r1 = c.feed.ensures.rounds in let r3 = c.step.ensures.rounds in let r2 = c.saturating_add-counts.ensures in omega (arith, a, bound, w, r1, r2, r3));
+      ahead = k.ahead;
+      ahead_back = k.ahead_back;
+      window = k.window ∙ window2 ∙ i.window;
+      capacity = k.capacity ∙ capacity2 ∙ i.capacity;
+      chunk = k.chunk ∙ c.feed.ensures.chunk ∙ i.chunk;
+      failing = λ cap cap' some left. ⊎_elim {C = stalled ≤ failed l3.counts}
+          (λ (e : c.has_moved-moved.result ≡ true). (let none = c.stalled_after-stalled.ensures.moved e in omega (arith, none)))
+          (λ (e : c.has_moved-moved.result ≡ false).
+          let fewer : end_of l.sender < 2 ^ 64 - 1 = omega (arith, grows1, end2, end3, left) in
+          let so_far = i.failing cap cap' some fewer in
+          let word = c.stalled_after-stalled.ensures.word in
+          let one = (quiet e cap cap' some left).counted in
+          omega (arith, so_far, bound, word, one, counts2))
+          (cases_Bool c.has_moved-moved.result);
+      most = omega (arith, test, bound);
+      stuck = λ cap cap' some left. ⊎_elim {C = Runs stalled v v' l3.there.fates l3.back.fates}
+          (λ (e : c.has_moved-moved.result ≡ true).
+          (fates3.frames, fates3.acks, subst (λ j. StuckTo j (after_all fates3.frames v) (after_all fates3.acks v') l3.there.fates l3.back.fates) (sym (c.stalled_after-stalled.ensures.moved e)) (fates3.left, fates3.left_back)))
+          (λ (e : c.has_moved-moved.result ≡ false).
+          let fewer : end_of l.sender < 2 ^ 64 - 1 = omega (arith, grows1, end2, end3, left) in
+          let run = i.stuck cap cap' some fewer in
+          let one = quiet e cap cap' some left in
+          let stays = c.stalled_after-stalled.ensures.stays e (omega (arith, test)) in
+          let size : suc c.rounds.stalled ≡ stalled = omega (arith, stays) in
+          let run2 : StuckTo c.rounds.stalled (after_all run.0 v) (after_all run.1 v') l2.there.fates l2.back.fates =
+          subst (λ x. StuckTo c.rounds.stalled (after_all run.0 v) (after_all run.1 v') x l2.back.fates) (sym fates_there) (subst (StuckTo c.rounds.stalled (after_all run.0 v) (after_all run.1 v') l.there.fates) (sym fates_back) run.2) in
+          let more = stuck_more c.rounds.stalled (after_all run.0 v) (after_all run.1 v') l2.there.fates l2.back.fates one.frames one.acks run2 one.why in (
+            run.0,
+            run.1,
+            subst (λ j. StuckTo j (after_all run.0 v) (after_all run.1 v') l3.there.fates l3.back.fates) size
+                (subst (λ x. StuckTo (suc c.rounds.stalled) (after_all run.0 v) (after_all run.1 v') x l3.back.fates) (sym one.left)
+                (subst (λ x. StuckTo (suc c.rounds.stalled) (after_all run.0 v) (after_all run.1 v') (after_all one.frames l2.there.fates) x) (sym one.left_back) more)),
+          ))
+          (cases_Bool c.has_moved-moved.result);
+    }

@@ -1,0 +1,29 @@
+use Rattle.std.proofs.Common.{ℕ, ◌*◌, ◌≡◌, ◌≤◌, ◌<◌, ◌+◌, ◌-◌, ◌^◌, [], length}
+use Rattle.net_stream.specs.Outgoing.{end_of}
+use Rattle.net_stream.specs.Stuck.{failed, StuckTo}
+use Rattle.net_stream.specs.Fates.{after_all}
+use Rattle.net_stream.specs.Copying.{Moving}
+use Rattle.net_stream.specs.Rounds.{FatesSoFar}
+use Rattle.net_stream.proofs.exchange.exchange.Given as goal
+
+-- the bytes that were given are on their way, and the last rounds that brought nothing on were stuck
+abbrev pub invariant-rounds : goal.invariant-rounds
+invariant-rounds g l =
+    record {
+      moving : Moving l.fn.settings.first l.link l.counts (g.R.Read.remaining l.fn.reader) (g.R.Read.remaining l.reader) (g.W.Write.contents l.fn.writer) (g.W.Write.contents l.writer) l.input.more;
+      fates : FatesSoFar l.fn.link.there.fates l.fn.link.back.fates l.link.there.fates l.link.back.fates l.link.counts;
+      rounds : l.stalled ≤ l.counts.rounds;
+      ahead : l.link.there.ahead ≡ [];
+      ahead_back : l.link.back.ahead ≡ [];
+      window : l.link.sender.capacity ≡ l.fn.link.sender.capacity;
+      capacity : l.link.receiver.capacity ≡ l.fn.link.receiver.capacity;
+      chunk : length l.chunk ≡ length l.fn.chunk;
+      failing : 0 < l.fn.link.sender.capacity → 0 < l.fn.link.receiver.capacity → 0 < length l.fn.chunk → end_of l.link.sender < 2 ^ 64 - 1 → l.stalled ≤ failed l.link.counts;
+      most : l.stalled ≤ l.fn.settings.rounds;
+      stuck : 0 < l.fn.link.sender.capacity → 0 < l.fn.link.receiver.capacity → 0 < length l.fn.chunk → end_of l.link.sender < 2 ^ 64 - 1
+          → (frames : ℕ) × (acks : ℕ) × StuckTo l.stalled (after_all frames l.fn.link.there.fates) (after_all acks l.fn.link.back.fates) l.link.there.fates l.link.back.fates;
+    }
+
+-- each round lets bytes go or writes some, of which there are fewer than 2 ^ 66, or one more is stuck
+abbrev pub decreases-rounds : goal.decreases-rounds
+decreases-rounds g l = (2 ^ 66 - (l.link.sender.base + l.link.receiver.read)) * 2 ^ 64 + (l.fn.settings.rounds - l.stalled)

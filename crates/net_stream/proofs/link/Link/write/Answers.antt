@@ -1,0 +1,14 @@
+use Rattle.std.proofs.Common.{◌++◌, take, ap, sym, subst, ◌∙◌, take-add}
+use Rattle.net_stream.specs.Links.{Carries}
+use Rattle.net_stream.proofs.Carried.{written}
+use Rattle.net_stream.proofs.link.Link.write.Goals as goal
+
+pub returns-clause-carries : goal.returns-clause-carries
+returns-clause-carries g c = λ f w h.
+    let l = c.args.self.now in
+    written c.says.ensures.longer c.receives.ensures.longer f w (take c.write.result c.args.bytes.now) l.sender c.write.new.self l.receiver l.there l.back
+    (ap (λ v. v.base) c.write.ensures.state) (ap (λ v. v.reported) c.write.ensures.state) (c.write.ensures.sends f w) h
+
+pub returns-clause-front : goal.returns-clause-front
+returns-clause-front g c = λ f from text rest h.
+    subst (λ w. Carries f w (record c.args.self.now { sender = c.write.new.self })) (ap (λ xs. take from text ++ take c.write.result xs) rest ∙ sym (take-add from c.write.result text)) (returns-clause-carries g c f (take from text) h)

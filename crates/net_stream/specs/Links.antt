@@ -1,0 +1,77 @@
+-- A link as one thing: what is true of it, and what a round does to it.
+--     Carries f w link      the stream w, whose first byte has position f, is on its way
+--     HasRoomFor link      the receiver's free window ends behind all that the sender keeps
+--     next_flight limit flight full      how many frames the next round may send
+--     Passed old new      what a round leaves
+--     Round old new      the same, and what it brings if its frames and acknowledgements all come
+use Rattle.std.specs.Prelude.{◌≡◌, ℕ, ◌+◌, ◌*◌, ◌/◌, ◌<◌, ◌≤◌, min, max, List, [], ◌∷◌, ◌++◌, length}
+use Rattle.std.specs.Prelude.{Bool, false, if◌then◌else◌}
+use Rattle.net_receiver.specs.Stored.{stored_next}
+use Rattle.net_stream.specs.Reported.{unreported, most_reported, is_full}
+use Rattle.net_stream.specs.Counting.{met_all, SameButRefused, carrying}
+use Rattle.net_stream.specs.Outgoing.{end_of}
+use Rattle.net_stream.specs.Fates.{NextCome}
+use Rattle.net_stream.specs.Carrying.{PathSeen, IsUnderWay, answer_of}
+use Rattle.net_stream.specs.Sending.{SentRound, most_of}
+use Rattle.net_stream.specs.Frames.{frames_from}
+use Rattle.net_stream.specs.Progress.{acked_all, limit_of}
+use Rattle.net_stream.specs.Passing.{coming_of, brought, answers_of, met_path}
+use Rattle.net_stream.specs.declared.link.Link.{Link}
+
+-- w was written to the sender, each frame brings nothing but parts of w, and each acknowledgement
+-- tells of bytes that the receiver has
+abbrev pub Carries : {A : Type 0} → ℕ → List ℕ → Link A → Type 0
+Carries f w link = IsUnderWay f w link.sender link.receiver link.there link.back
+
+-- how many frames a round may send after one that might send `flight`: half as many, but not fewer
+-- than an acknowledgement can report ranges, if it reported as many as it can, and else so many more,
+-- up to a limit
+abbrev pub next_flight : ℕ → ℕ → Bool → ℕ
+next_flight limit flight full =
+    min limit (if full then max most_reported (flight / 2) else flight + most_reported)
+
+-- a round: n of the bytes kept are spared or sent, as many as its flight lets, the late frames come and those of the others
+-- whose fates say so, each is answered, and once more at the end, and the late answers come and
+-- those of the others whose fates say so
+pub record Passed {A : Type 0} (old new : Link A) : Type 0 where
+  pub sent : PathSeen
+  pub n : ℕ
+  pub all : SentRound old.sender (most_of old.payload) (most_of old.flight) n old.there sent
+  pub came : List (List ℕ)
+  pub coming : came ≡ old.there.late ++ coming_of old.there.fates sent.ahead
+  pub received : new.receiver ≡ brought most_reported old.receiver came
+  pub acks : List (List ℕ)
+  pub answers : acks
+      ≡ old.back.ahead ++ answers_of most_reported old.receiver came
+      ++ answer_of new.receiver ∷ []
+  pub acked : new.sender
+      ≡ acked_all old.sender (old.back.late ++ coming_of old.back.fates acks)
+  pub left : new.there ≡ met_path sent
+  pub left_back : new.back ≡ met_path (record old.back { ahead = acks })
+  pub counted : SameButRefused new.counts
+      (met_all (length acks) old.back.fates (met_all (length sent.ahead) old.there.fates
+      (carrying (unreported old.sender.reported old.sender.base n) old.counts)))
+  pub payload : new.payload ≡ old.payload
+  pub elapsed : new.elapsed ≡ old.elapsed
+  pub limit : new.limit ≡ old.limit
+  pub flight : new.flight
+      ≡ next_flight old.limit old.flight (is_full new.sender.reported)
+
+-- the window has room for all that the sender keeps
+abbrev pub HasRoomFor : {A : Type 0} → Link A → Type 0
+HasRoomFor link = end_of link.sender ≤ limit_of link.receiver
+
+-- a round; if all its frames and acknowledgements come, and the window has room, it brings the
+-- receiver to the end of what was sent, and leaves the sender the rest: nothing, if all was sent,
+-- as it is if the flight isn't used up and the report isn't full
+pub record Round {A : Type 0} (old new : Link A) : Type 0 where
+  pub passed : Passed old new
+  pub brings : (f : ℕ) (w : List ℕ) → Carries f w old → HasRoomFor old
+      → NextCome (length passed.sent.ahead) old.there.fates
+      → NextCome (length passed.acks) old.back.fates
+      → (old.sender.base + passed.n ≤ stored_next new.receiver)
+      × (new.sender.base ≡ stored_next new.receiver)
+      × (passed.n ≡ length old.sender.queue
+      → (stored_next new.receiver ≡ end_of old.sender) × (length new.sender.queue ≡ 0))
+  pub all : length (frames_from old.sender.base passed.all.front.parts) < most_of old.flight
+      → is_full old.sender.reported ≡ false → passed.n ≡ length old.sender.queue

@@ -1,0 +1,85 @@
+-- Rounds that bring nothing on.
+--     failed counts      how many frames and acknowledgements didn't come at once
+--     RoundKeeps old new      what a round never takes back
+--     Stuck old new      a round in which a frame or an acknowledgement failed that had to come
+--     RoundMoves old new      a round that brings nothing on was stuck
+--     StuckAtLast n v v' counts      the last n rounds were stuck
+--     NeverStuck      no round is stuck over a link that loses and delays nothing
+use Rattle.std.specs.Prelude.{◌≡◌, ◌⊎◌, ℕ, zero, suc, ◌+◌, ◌-◌, ◌<◌, ◌≤◌, ◌^◌, min}
+use Rattle.std.specs.Prelude.{false, List, [], length}
+use Rattle.net_receiver.specs.Stored.{stored_next}
+use Rattle.net_stream.specs.declared.counts.FrameCounts.{FrameCounts}
+use Rattle.net_stream.specs.declared.link.Link.{Link}
+use Rattle.net_stream.specs.Outgoing.{end_of}
+use Rattle.net_stream.specs.Fates.{FatesSeen, next_fate, after_fate, after_all, comes, AllCome}
+use Rattle.net_stream.specs.Rounds.{FatesSoFar}
+use Rattle.net_stream.specs.Progress.{limit_of}
+use Rattle.net_stream.specs.Links.{Carries}
+
+-- how many frames and acknowledgements didn't come at once, as far as 64 bits go
+abbrev pub failed : FrameCounts → ℕ
+failed c = min c.lost (2 ^ 64 - 1) + min c.late (2 ^ 64 - 1)
+
+-- what a round keeps: nothing is on its way but what is late, and no number goes back
+pub record RoundKeeps {A : Type 0} (old new : Link A) : Type 0 where
+  pub ahead : new.there.ahead ≡ []
+  pub ahead_back : new.back.ahead ≡ []
+  pub end : end_of new.sender ≡ end_of old.sender
+  pub base : old.sender.base ≤ new.sender.base
+  pub room : new.sender.capacity ≡ old.sender.capacity
+  pub first : new.receiver.first ≡ old.receiver.first
+  pub read : new.receiver.read ≡ old.receiver.read
+  pub capacity : new.receiver.capacity ≡ old.receiver.capacity
+  pub grows : stored_next old.receiver ≤ stored_next new.receiver
+  pub failed : failed old.counts ≤ failed new.counts
+
+-- none of the next n frames comes at once
+abbrev pub NoneComes : ℕ → FatesSeen → Type 0
+NoneComes zero v = Unit {0}
+NoneComes (suc n) v = (comes (next_fate v) ≡ false) × NoneComes n (after_fate v)
+
+-- of the frames of a round, which meet the next fates of v, the first doesn't come at once, or of its
+-- acknowledgements, which meet those of v', none does
+abbrev pub IsStuck : ℕ → ℕ → FatesSeen → FatesSeen → Type 0
+IsStuck frames acks v v' =
+    ((0 < frames) × (comes (next_fate v) ≡ false)) ⊎ ((0 < acks) × NoneComes acks v')
+
+-- a round that was stuck, and counted it
+pub record Stuck {A : Type 0} (old new : Link A) : Type 0 where
+  pub frames : ℕ
+  pub acks : ℕ
+  pub why : IsStuck frames acks old.there.fates old.back.fates
+  pub left : new.there.fates ≡ after_all frames old.there.fates
+  pub left_back : new.back.fates ≡ after_all acks old.back.fates
+  pub counted : min (failed old.counts + 1) (2 ^ 64 - 1) ≤ failed new.counts
+
+-- n rounds in a row that were stuck, from the fates v and v' to u and u'
+abbrev pub StuckTo : ℕ → FatesSeen → FatesSeen → FatesSeen → FatesSeen → Type 0
+StuckTo zero v v' u u' = (u ≡ v) × (u' ≡ v')
+StuckTo (suc n) v v' u u' = (frames : ℕ) × (acks : ℕ) × IsStuck frames acks v v'
+    × StuckTo n (after_all frames v) (after_all acks v') u u'
+
+-- the last n rounds were stuck, behind frames and acknowledgements that met the first fates of v and
+-- of v'; all of them together were counted, so that at least n were lost or late
+pub record StuckAtLast (n : ℕ) (v v' : FatesSeen) (counts : FrameCounts) : Type 0 where
+  pub frames : ℕ
+  pub acks : ℕ
+  pub last : FatesSeen
+  pub last_back : FatesSeen
+  pub rounds : StuckTo n (after_all frames v) (after_all acks v') last last_back
+  pub all : FatesSoFar v v' last last_back counts
+  pub failures : n ≤ counts.lost + counts.late
+
+-- a round that began with nothing on its way but what is late, and brought neither the receiver nor
+-- the sender on, was stuck
+abbrev pub RoundMoves : {A : Type 0} → Link A → Link A → Type 0
+RoundMoves old new = (f : ℕ) (w : List ℕ) → Carries f w old
+    → old.there.ahead ≡ [] → old.back.ahead ≡ [] → 0 < length old.sender.queue
+    → stored_next old.receiver < limit_of old.receiver
+    → stored_next new.receiver ≡ stored_next old.receiver → new.sender.base ≡ old.sender.base
+    → Stuck old new
+
+-- where every frame and every acknowledgement comes, no round is stuck
+abbrev pub NeverStuck : Type 0
+NeverStuck = (n : ℕ) (v v' : FatesSeen) (counts : FrameCounts) → AllCome v → AllCome v' → 0 < n
+    → StuckAtLast n v v' counts → ⊥

@@ -1,0 +1,299 @@
+//! The parts of a round: frames and acknowledgements meet their fates.
+ghost use Rattle.std.specs.Prelude.{◌≡◌, ◌+◌, ◌≤◌, ◌<◌, ◌++◌, [], ℕ, List, length, true};
+ghost use Rattle.std.specs.Prelude.{IfOk, OnOk, OnErr, IsTrue, IsFalse, if◌then◌else◌};
+ghost use Rattle.net_receiver.specs.Stored.{Stored, stored_next};
+ghost use Rattle.net_stream.specs.Outgoing.{Outgoing, end_of};
+ghost use Rattle.net_stream.specs.Frames.{decoded, FrameSays};
+ghost use Rattle.net_stream.specs.Fates.{comes, next_fate, after_fate, after_all, NextCome};
+ghost use Rattle.net_stream.specs.Counting.{met, met_all, SameButRefused};
+ghost use Rattle.net_stream.specs.Carrying.{PathSeen, IsUnderWay, FrameTells, MayReturn};
+ghost use Rattle.net_stream.specs.Carrying.{arrived, with_answer};
+ghost use Rattle.net_stream.specs.Progress.{reach_one, Reaches, acked_by, acked_all, limit_of};
+ghost use Rattle.net_stream.specs.Progress.{HasRoom};
+ghost use Rattle.net_stream.specs.Passing.{coming_of, late_of, with_return, brought, answers_of};
+
+use crate::arriving::{acknowledge, arrive};
+use crate::counts::FrameCounts;
+use crate::fate::Fate;
+use crate::path::Path;
+use crate::sender::Sender;
+use net_base::phy::RxToken;
+use net_base::time::Instant;
+use net_receiver::{Receiver, laws};
+use std::alloc::{AllocError, Allocator};
+
+/// A frame comes to the receiver, if its fate is to come at once.
+fn arrive_if<A: Allocator + Copy, const N: usize>(
+    receiver: &mut Receiver<'_, N>,
+    back: &mut Path<'_, A>,
+    now: Instant,
+    frame: &[u8],
+    fate: Fate,
+    counts: &mut FrameCounts,
+) -> Result<(), AllocError>
+    ensures counted { SameButRefused counts.new counts.old }
+    ensures carried { (f : ℕ) (w : List ℕ) (s : Outgoing) (there : PathSeen) →
+        FrameSays f w frame.now → IsUnderWay f w s receiver.old there back.old
+        → IsUnderWay f w s receiver.new there back.new }
+    ensures limit { limit_of receiver.new ≡ limit_of receiver.old }
+    ensures read { receiver.new.read ≡ receiver.old.read }
+    ensures reaches { comes fate ≡ true → (f : ℕ) (w : List ℕ) (s : Outgoing) (there : PathSeen) →
+        FrameSays f w frame.now → IsUnderWay f w s receiver.old there back.old
+        → HasRoom s receiver.old
+        → reach_one (stored_next receiver.old) (decoded frame.now) ≤ stored_next receiver.new }
+    ensures fates { back.new.fates ≡ back.old.fates }
+    ensures state { receiver.new
+        ≡ (if comes fate then arrived N receiver.old (decoded frame.now) else receiver.old) }
+    ensures back { OnOk result (back.new ≡ (if comes fate
+        then with_answer receiver.new (decoded frame.now) back.old else back.old)) }
+{
+    if !fate.comes() {
+        return Ok(());
+    }
+    arrive(receiver, back, now, frame, counts)
+}
+
+/// An acknowledgement comes to the sender, if its fate is to come at once.
+fn acknowledge_if(sender: &mut Sender<'_>, frame: &[u8], fate: Fate)
+    ensures carried { (f : ℕ) (w : List ℕ) (r : Stored) (there back : PathSeen) →
+        FrameTells r frame.now → IsUnderWay f w sender.old r there back
+        → IsUnderWay f w sender.new r there back }
+    ensures acked { comes fate ≡ true → sender.new ≡ acked_by sender.old (decoded frame.now) }
+    ensures state { sender.new
+        ≡ (if comes fate then acked_by sender.old (decoded frame.now) else sender.old) }
+{
+    if !fate.comes() {
+        return;
+    }
+    acknowledge(sender, frame)
+}
+
+/// A frame is put among the late ones, if that is its fate.
+fn return_if<A: Allocator + Copy>(
+    path: &mut Path<'_, A>,
+    now: Instant,
+    frame: &[u8],
+    fate: Fate,
+) -> Result<(), AllocError>
+    ensures may { MayReturn frame.now path.old path.new }
+    ensures returned { OnOk result (path.new ≡ with_return fate frame.now path.old) }
+{
+    if !fate.comes_late() {
+        return Ok(());
+    }
+    path.put_late(now, frame)
+}
+
+/// The next frame on its way meets its fate. Returns whether there was one.
+fn pass_frame<A: Allocator + Copy, const N: usize>(
+    receiver: &mut Receiver<'_, N>,
+    there: &mut Path<'_, A>,
+    back: &mut Path<'_, A>,
+    now: Instant,
+    counts: &mut FrameCounts,
+) -> Result<bool, AllocError>
+    ensures carried { (f : ℕ) (w : List ℕ) (s : Outgoing) →
+        IsUnderWay f w s receiver.old there.old back.old
+        → IsUnderWay f w s receiver.new there.new back.new }
+    ensures limit { limit_of receiver.new ≡ limit_of receiver.old }
+    ensures read { receiver.new.read ≡ receiver.old.read }
+    ensures reaches { (f : ℕ) (w : List ℕ) (s : Outgoing) →
+        IsUnderWay f w s receiver.old there.old back.old → HasRoom s receiver.old
+        → NextCome (length there.old.ahead) there.old.fates
+        → NextCome (length there.new.ahead) there.new.fates
+        × ((end : ℕ) → Reaches s.reported end (stored_next receiver.old) there.old.ahead
+        → Reaches s.reported end (stored_next receiver.new) there.new.ahead) }
+    ensures fates { back.new.fates ≡ back.old.fates }
+    ensures shorter { IfOk result (λ some. IsTrue some →
+        length there.new.ahead < length there.old.ahead) }
+    ensures met { IfOk result (λ some. IsTrue some →
+        (there.new.fates ≡ after_fate there.old.fates)
+        × SameButRefused counts.new (met (next_fate there.old.fates) counts.old)
+        × (length there.old.ahead ≡ length there.new.ahead + 1)) }
+    ensures err { OnErr result
+        (SameButRefused counts.new (met (next_fate there.old.fates) counts.old)) }
+    ensures unmet { IfOk result (λ some. IsFalse some →
+        (there.new ≡ there.old) × (back.new ≡ back.old) × (counts.new ≡ counts.old)) }
+    ensures none { IfOk result (λ some. IsFalse some → there.new.ahead ≡ []) }
+    ensures brought { OnOk result (brought N receiver.new (coming_of there.new.fates there.new.ahead)
+        ≡ brought N receiver.old (coming_of there.old.fates there.old.ahead)) }
+    ensures answered { OnOk result (back.new.ahead
+        ++ answers_of N receiver.new (coming_of there.new.fates there.new.ahead)
+        ≡ back.old.ahead ++ answers_of N receiver.old (coming_of there.old.fates there.old.ahead)) }
+    ensures returned { OnOk result (there.new.late ++ late_of there.new.fates there.new.ahead
+        ≡ there.old.late ++ late_of there.old.fates there.old.ahead) }
+    ensures back_late { OnOk result (back.new.late ≡ back.old.late) }
+{
+    laws::is_sound(receiver);
+    let Some(token) = there.take(now) else {
+        return Ok(false);
+    };
+    let frame = token.frame();
+    let fate = there.draw();
+    counts.meet(fate);
+    arrive_if(receiver, back, now, frame, fate, counts)?;
+    return_if(there, now, frame, fate)?;
+    Ok(true)
+}
+
+/// The next acknowledgement on its way meets its fate. Returns whether there was one.
+fn pass_ack<A: Allocator + Copy>(
+    sender: &mut Sender<'_>,
+    back: &mut Path<'_, A>,
+    now: Instant,
+    counts: &mut FrameCounts,
+) -> Result<bool, AllocError>
+    ensures carried { (f : ℕ) (w : List ℕ) (r : Stored) (there : PathSeen) →
+        IsUnderWay f w sender.old r there back.old → IsUnderWay f w sender.new r there back.new }
+    ensures acked { NextCome (length back.old.ahead) back.old.fates
+        → NextCome (length back.new.ahead) back.new.fates
+        × (acked_all sender.old back.old.ahead ≡ acked_all sender.new back.new.ahead) }
+    ensures shorter { IfOk result (λ some. IsTrue some →
+        length back.new.ahead < length back.old.ahead) }
+    ensures met { IfOk result (λ some. IsTrue some →
+        (back.new.fates ≡ after_fate back.old.fates)
+        × SameButRefused counts.new (met (next_fate back.old.fates) counts.old)
+        × (length back.old.ahead ≡ length back.new.ahead + 1)) }
+    ensures err { OnErr result
+        (SameButRefused counts.new (met (next_fate back.old.fates) counts.old)) }
+    ensures unmet { IfOk result (λ some. IsFalse some →
+        (back.new ≡ back.old) × (counts.new ≡ counts.old)) }
+    ensures none { IfOk result (λ some. IsFalse some → back.new.ahead ≡ []) }
+    ensures came { OnOk result (acked_all sender.new (coming_of back.new.fates back.new.ahead)
+        ≡ acked_all sender.old (coming_of back.old.fates back.old.ahead)) }
+    ensures returned { OnOk result (back.new.late ++ late_of back.new.fates back.new.ahead
+        ≡ back.old.late ++ late_of back.old.fates back.old.ahead) }
+{
+    let Some(token) = back.take(now) else {
+        return Ok(false);
+    };
+    let frame = token.frame();
+    let fate = back.draw();
+    counts.meet(fate);
+    acknowledge_if(sender, frame, fate);
+    return_if(back, now, frame, fate)?;
+    Ok(true)
+}
+
+/// The late frames of the round before come to the receiver.
+pub(crate) fn pass_late_frames<A: Allocator + Copy, const N: usize>(
+    receiver: &mut Receiver<'_, N>,
+    there: &mut Path<'_, A>,
+    back: &mut Path<'_, A>,
+    now: Instant,
+    counts: &mut FrameCounts,
+) -> Result<(), AllocError>
+    ensures carried { (f : ℕ) (w : List ℕ) (s : Outgoing) →
+        IsUnderWay f w s receiver.old there.old back.old
+        → IsUnderWay f w s receiver.new there.new back.new }
+    ensures counted { SameButRefused counts.new counts.old }
+    ensures limit { limit_of receiver.new ≡ limit_of receiver.old }
+    ensures read { receiver.new.read ≡ receiver.old.read }
+    ensures ahead { there.new.ahead ≡ there.old.ahead }
+    ensures fates { there.new.fates ≡ there.old.fates }
+    ensures back_fates { back.new.fates ≡ back.old.fates }
+    ensures grows { stored_next receiver.old ≤ stored_next receiver.new }
+    ensures brought { OnOk result (receiver.new ≡ brought N receiver.old there.old.late) }
+    ensures answered { OnOk result (back.new.ahead
+        ≡ back.old.ahead ++ answers_of N receiver.old there.old.late) }
+    ensures back_late { OnOk result (back.new.late ≡ back.old.late) }
+    ensures none { OnOk result (there.new.late ≡ []) }
+{
+    'late: while let Some(token) = there.take_late(now) {
+        let frame = token.frame();
+        arrive(receiver, back, now, frame, counts)?;
+    }
+    Ok(())
+}
+
+/// The frames on their way meet their fates, one after another.
+pub(crate) fn pass_frames<A: Allocator + Copy, const N: usize>(
+    receiver: &mut Receiver<'_, N>,
+    there: &mut Path<'_, A>,
+    back: &mut Path<'_, A>,
+    now: Instant,
+    counts: &mut FrameCounts,
+) -> Result<(), AllocError>
+    ensures carried { (f : ℕ) (w : List ℕ) (s : Outgoing) →
+        IsUnderWay f w s receiver.old there.old back.old
+        → IsUnderWay f w s receiver.new there.new back.new }
+    ensures counted { OnOk result (SameButRefused counts.new
+        (met_all (length there.old.ahead) there.old.fates counts.old)) }
+    ensures left { OnOk result
+        (there.new.fates ≡ after_all (length there.old.ahead) there.old.fates) }
+    ensures err { OnErr result ((n : ℕ)
+        × SameButRefused counts.new (met_all n there.old.fates counts.old)) }
+    ensures limit { limit_of receiver.new ≡ limit_of receiver.old }
+    ensures read { receiver.new.read ≡ receiver.old.read }
+    ensures reaches { OnOk result ((f : ℕ) (w : List ℕ) (s : Outgoing) →
+        IsUnderWay f w s receiver.old there.old back.old → HasRoom s receiver.old
+        → NextCome (length there.old.ahead) there.old.fates → (end : ℕ)
+        → Reaches s.reported end (stored_next receiver.old) there.old.ahead
+        → end ≤ stored_next receiver.new) }
+    ensures fates { back.new.fates ≡ back.old.fates }
+    ensures brought { OnOk result (receiver.new
+        ≡ brought N receiver.old (coming_of there.old.fates there.old.ahead)) }
+    ensures answered { OnOk result (back.new.ahead
+        ≡ back.old.ahead ++ answers_of N receiver.old (coming_of there.old.fates there.old.ahead)) }
+    ensures returned { OnOk result (there.new.late
+        ≡ there.old.late ++ late_of there.old.fates there.old.ahead) }
+    ensures back_late { OnOk result (back.new.late ≡ back.old.late) }
+    ensures none { OnOk result (there.new.ahead ≡ []) }
+{
+    'frames: loop {
+        if !pass_frame(receiver, there, back, now, counts)? {
+            laws::is_sound(receiver);
+            return Ok(());
+        }
+    }
+}
+
+/// The late acknowledgements of the round before come to the sender.
+pub(crate) fn pass_late_acks<A: Allocator + Copy>(
+    sender: &mut Sender<'_>,
+    back: &mut Path<'_, A>,
+    now: Instant,
+)
+    ensures carried { (f : ℕ) (w : List ℕ) (r : Stored) (there : PathSeen) →
+        IsUnderWay f w sender.old r there back.old → IsUnderWay f w sender.new r there back.new }
+    ensures end { end_of sender.new ≡ end_of sender.old }
+    ensures ahead { back.new.ahead ≡ back.old.ahead }
+    ensures fates { back.new.fates ≡ back.old.fates }
+    ensures came { sender.new ≡ acked_all sender.old back.old.late }
+    ensures none { back.new.late ≡ [] }
+{
+    'late: while let Some(token) = back.take_late(now) {
+        let frame = token.frame();
+        acknowledge(sender, frame);
+    }
+}
+
+/// The acknowledgements on their way meet their fates, one after another.
+pub(crate) fn pass_acks<A: Allocator + Copy>(
+    sender: &mut Sender<'_>,
+    back: &mut Path<'_, A>,
+    now: Instant,
+    counts: &mut FrameCounts,
+) -> Result<(), AllocError>
+    ensures carried { (f : ℕ) (w : List ℕ) (r : Stored) (there : PathSeen) →
+        IsUnderWay f w sender.old r there back.old → IsUnderWay f w sender.new r there back.new }
+    ensures counted { OnOk result (SameButRefused counts.new
+        (met_all (length back.old.ahead) back.old.fates counts.old)) }
+    ensures left { OnOk result
+        (back.new.fates ≡ after_all (length back.old.ahead) back.old.fates) }
+    ensures err { OnErr result ((n : ℕ)
+        × SameButRefused counts.new (met_all n back.old.fates counts.old)) }
+    ensures acked { OnOk result (NextCome (length back.old.ahead) back.old.fates
+        → sender.new ≡ acked_all sender.old back.old.ahead) }
+    ensures came { OnOk result (sender.new
+        ≡ acked_all sender.old (coming_of back.old.fates back.old.ahead)) }
+    ensures returned { OnOk result (back.new.late
+        ≡ back.old.late ++ late_of back.old.fates back.old.ahead) }
+    ensures none { OnOk result (back.new.ahead ≡ []) }
+{
+    'acks: loop {
+        if !pass_ack(sender, back, now, counts)? {
+            return Ok(());
+        }
+    }
+}

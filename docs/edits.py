@@ -1,0 +1,140 @@
+#!/usr/bin/env python3
+"""Compares the clause that each edit of must-fail/ is to be refused by with what refuses it.
+
+    python3 docs/edits.py [CRATE ..]             all edits, or those of some crates, by `rt must-fail`
+    python3 docs/edits.py --open CRATE EDIT      the goals that are open with this edit and not without
+
+An edit has a line `clause: FUNCTION CLAUSE` beside those that `rt` reads: the function as `rt check
+--only` takes it, and the name of one of its `ensures`, or `ensures` where the contract has a single
+one without a name. `rt must-fail` prints the first goal that is open with the edit, where it arises
+in the source or where an answer to it fails; that has to be a goal of this clause of this function.
+A condition of a callee, what a loop keeps, and a name that a proof no longer finds refuse an edit too,
+and say nothing of the contract.
+
+An answer may fail because the clause is false with the edit, or because what it names lost its shape.
+So `--open` takes the function's answers away, checks it with and without the edit, and prints the
+goals that are open with the edit alone, and those that are open in both, of which it says nothing.
+
+Ends with status 1 if an edit has no such line or another goal refuses it.
+"""
+import os
+import pathlib
+import re
+import shutil
+import subprocess
+import sys
+import tempfile
+
+ROOT = pathlib.Path(__file__).resolve().parent.parent
+CRATES = ROOT / "crates"
+OPEN_GOAL = re.compile(r"(src/\S+?):(\d+):\d+: .*?\(`([^`]*)(`?)")
+FAILED_ANSWER = re.compile(r"proofs/(\S+)/\w+\.antt:\d+:\d+: error: `([^`]*)`")
+
+
+def lines_of(edit, word):
+    """What stands behind this word in the lines of an edit."""
+    return [it[len(word) + 2 :] for it in edit.read_text().split("\n") if it.startswith(f"{word}: ")]
+
+
+def edited(folder, edit):
+    """The texts of the files that an edit changes, by their path in the crate."""
+    texts, path, old = {}, "", ""
+    for line in edit.read_text().split("\n"):
+        word, _, rest = line.partition(": ")
+        if word == "file":
+            path = rest.strip()
+            texts.setdefault(path, (folder / path).read_text())
+        elif word == "old":
+            old = rest
+        elif line.startswith("new:"):
+            texts[path] = texts[path].replace(old, line[4:].removeprefix(" "))
+    return texts
+
+
+def function_at(text, line):
+    """The name of the function in which a line of a text stands."""
+    names = re.findall(r"\bfn (\w+)", "\n".join(text.split("\n")[:line]))
+    return names[-1] if names else ""
+
+
+def clause_of(goal):
+    """The clause that a goal belongs to, if it is one of what a function ensures."""
+    if not goal.startswith("returns"):
+        return ""
+    return goal.rpartition("clause-")[2] if "clause-" in goal else "ensures"
+
+
+def is_refused_by(told, texts, function, clause):
+    """Whether what `rt must-fail` told names this clause of this function. It tells 160 characters, so
+    the name of a goal may be cut: then what is left of it has to fit.
+    """
+    if it := OPEN_GOAL.search(told):
+        name, goal, is_cut = function_at(texts.get(it[1], ""), int(it[2])), it[3], not it[4]
+    elif it := FAILED_ANSWER.search(told):
+        name, goal, is_cut = it[1].rpartition("/")[2], it[2], False
+    else:
+        return False
+    shown = goal.rpartition("-clause-")[2] if "-clause-" in goal else ""
+    fits = goal.startswith("returns") and clause.startswith(shown) if is_cut else clause_of(goal) == clause
+    return name == function.rpartition("::")[2] and fits
+
+
+def compare(crates):
+    """Prints each edit that has no clause, or that is refused by something else; returns how many."""
+    folders = [CRATES / it for it in crates] or sorted(it.parent for it in CRATES.glob("*/must-fail"))
+    ran = subprocess.run(["rt", "must-fail", *[it.name for it in folders]], cwd=ROOT, capture_output=True, text=True)
+    told = dict(re.findall(r"must-fail (\S+\.edit): (.*)", ran.stdout + ran.stderr))
+    wrong = 0
+    for edit in [it for folder in folders for it in sorted(folder.glob("must-fail/*.edit"))]:
+        name = f"{edit.parent.parent.name}/{edit.name}"
+        said = told.get(name, "nothing was said of it")
+        wanted = (lines_of(edit, "clause") or [""])[0].split()
+        is_refused = len(wanted) == 2 and "refused, as it must be:" in said
+        if is_refused and is_refused_by(said, edited(edit.parent.parent, edit), *wanted):
+            print(f"{name}: {' '.join(wanted)}")
+        else:
+            wrong += 1
+            print(f"{name}: WANTED {' '.join(wanted) or 'a line clause:'}\n    {said}")
+    print(f"{len(told) - wrong} edits are refused by their clauses, {wrong} are not")
+    return wrong
+
+
+def open_goals(crate, texts, function):
+    """The goals of a function that are open with these texts, when its answers are taken away."""
+    with tempfile.TemporaryDirectory(prefix="edits-", dir=ROOT.parent) as room:
+        room = pathlib.Path(room)
+        (room / "crates").mkdir()
+        shutil.copy(ROOT / "crates.txt", room)
+        for other in CRATES.iterdir():
+            how = shutil.copy2 if other.name == crate else os.link
+            shutil.copytree(other, room / "crates" / other.name, copy_function=how)
+        folder = room / "crates" / crate
+        for path, text in texts.items():
+            (folder / path).write_text(text)
+        for answers in folder.glob("proofs/**/Answers.antt"):
+            if "::".join(answers.parent.relative_to(folder / "proofs").parts) == function:
+                answers.unlink()
+        words = ["rt", "check", "--allow-holes", "--jobs", "1", "--only", function]
+        ran = subprocess.run(words, cwd=folder, capture_output=True, text=True)
+        said = ran.stdout + ran.stderr
+        return {it[2] for it in OPEN_GOAL.findall(said) if it[3]} | {it[1] for it in FAILED_ANSWER.findall(said)}
+
+
+def show_open(crate, name):
+    """Prints which goals of the edit's function are open with the edit, without its answers."""
+    edit = CRATES / crate / "must-fail" / f"{name.removesuffix('.edit')}.edit"
+    function = lines_of(edit, "clause")[0].split()[0]
+    before = open_goals(crate, {}, function)
+    after = open_goals(crate, edited(CRATES / crate, edit), function)
+    print(f"open with the edit alone: {', '.join(sorted(after - before)) or 'none'}")
+    print(f"open without answers, with the edit or not: {', '.join(sorted(after & before)) or 'none'}")
+
+
+def main():
+    if sys.argv[1:2] == ["--open"]:
+        return show_open(*sys.argv[2:4])
+    return 1 if compare(sys.argv[1:]) else 0
+
+
+if __name__ == "__main__":
+    sys.exit(main())

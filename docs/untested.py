@@ -1,0 +1,293 @@
+#!/usr/bin/env python3
+"""Lists the public functions and methods of the libraries that no test and no example names.
+
+    python3 docs/untested.py [CRATE ..]
+
+Public are a `pub fn` that a user of the crate reaches by `pub mod` and `pub use`, each `pub fn` of a
+type that is reached so, and each method of a trait of ours, of the trait and of each of its types.
+Left out are modules `laws`, other functions with an empty body (laws too), and traits of std, most of
+whose methods are called by an operator or written by a derive.
+
+Tests and examples are the crates *_tests, net_examples, and the files tests.rt. Named there is
+- a function where it is called in a file that brings it in by `use`, or by a path that ends in it;
+- an associated function where `Type::name` stands, with the type or an alias of it;
+- a method where `.name` stands behind something of its type: a parameter, a field, a `let` of a
+  call whose result is declared, or a chain of these. Where the type can't be told, `.name` counts
+  if just one of the types that the file names has it, or if the file is that type's own
+  (`assembler.rt` for `Assembler`). A method of a trait counts by each of the trait's types.
+
+Ends with status 1 if there is something to list.
+"""
+import collections
+import pathlib
+import re
+import sys
+
+CRATES = pathlib.Path(__file__).resolve().parent.parent / "crates"
+PAIRS = {"(": ")", "[": "]", "{": "}"}
+
+
+def source(file):
+    """The text of a file without comments, texts and ghost items."""
+    text = re.sub(r"//[^\n]*", "", file.read_text())
+    text = re.sub(r'b?"(?:[^"\\]|\\.)*"', '""', text)
+    text = re.sub(r"b?'(?:[^'\\]|\\.)'", "' '", text)
+    return re.sub(r"^\s*ghost [^{;]*(?:\{.*?\})?;$", "", text, flags=re.M | re.S)
+
+
+def is_test(file):
+    crate = file.relative_to(CRATES).parts[0]
+    return crate.endswith("_tests") or crate == "net_examples" or file.name == "tests.rt"
+
+
+def closing(text, at, step=1):
+    """The index of the bracket that belongs to the one at an index; `step` -1 goes backwards."""
+    opened = set(PAIRS) if step == 1 else set(PAIRS.values())
+    depth = 0
+    while 0 <= at < len(text):
+        depth += (text[at] in opened) - (text[at] in "()[]{}" and text[at] not in opened)
+        if depth == 0:
+            return at
+        at += step
+    return max(0, min(at, len(text) - 1))
+
+
+def behind_generics(text, at):
+    """The index behind the `<..>` that begins at an index, if one does."""
+    depth = 0
+    for index in range(at, len(text)):
+        depth += (text[index] == "<") - (text[index] == ">" and text[index - 1] not in "-=")
+        if depth == 0:
+            return index + (text[index] == ">")
+    return at
+
+
+Fn = collections.namedtuple("Fn", "at end is_public name bounds params result is_empty")
+
+
+def functions(text):
+    """Each function of a text, with its body."""
+    for it in re.finditer(r"\b(pub )?(?:unsafe )?fn (\w+)", text):
+        paren = text.index("(", behind_generics(text, it.end()))
+        close = closing(text, paren)
+        bounds = dict(re.findall(r"(\w+): (?:\w+::)*(\w+)", text[it.end() : paren]))
+        at, end = close + 1, text.find(";", close)
+        result = re.match(r"\s*->\s*((?:[^{;\n]|\n(?!\s*(?:requires|ensures)))*)", text[at:])
+        while (clause := re.match(r"[^{;]*\b(?:requires|ensures)\b[^{;]*\{", text[at:])) is not None:
+            at = closing(text, at + clause.end() - 1) + 1
+        body = re.match(r"[^{;]*\{", text[at:])
+        if body:
+            at += body.end() - 1
+            end = closing(text, at)
+        is_empty = bool(body and not text[at + 1 : end].strip())
+        gives = result[1] if result else ""
+        yield Fn(it.start(), end, bool(it[1]), it[2], bounds, text[paren + 1 : close], gives, is_empty)
+
+
+def blocks(text):
+    """Each `impl` and each `trait`: where it begins and ends, its type, and the trait, if there is one."""
+    for it in re.finditer(r"^(?:pub )?(?:unsafe )?(impl|trait)\b", text, re.M):
+        brace = text.index("{", it.end())
+        head = text[behind_generics(text, it.end()) if text[it.end()] == "<" else it.end() : brace]
+        while "<" in head:
+            head, before = re.sub(r"<[^<>]*>", "", head), head
+            if head == before:
+                break
+        trait, _, subject = head.rpartition(" for ")
+        if it[1] == "trait":
+            subject = trait = re.findall(r"\w+", head)[0]
+        named, of = re.findall(r"\w+", subject), re.findall(r"\w+", trait)
+        if named:
+            yield it.start(), closing(text, brace), named[-1], of[-1] if of else ""
+
+
+class Library:
+    """The public types and calls of all libraries."""
+
+    def __init__(self):
+        self.crate_of, self.alias, self.fields, self.calls = {}, {}, collections.defaultdict(dict), {}
+        self.implementors = collections.defaultdict(set)
+        for root in sorted(CRATES.glob("*/src/lib.rt")):
+            if not is_test(root):
+                self.files = [it for it in sorted(root.parent.rglob("*.rt")) if not is_test(it)]
+                self.read(root.parent.parent.name, {it: source(it) for it in self.files})
+
+    def reached(self, file, texts):
+        """The names that a user reaches by a module: its public items, and what it passes on."""
+        text = texts[file]
+        names = set(re.findall(r"^pub (?:struct|enum|trait|type|fn|unsafe fn) (\w+)", text, re.M))
+        for it in re.findall(r"^pub use ([^;]*);", text, re.M):
+            names |= set(re.findall(r"\w+", it))
+        folder = file.parent if file.name == "lib.rt" else file.with_suffix("")
+        for module in re.findall(r"^pub mod (\w+);", text, re.M):
+            if module != "laws":
+                names |= self.reached(folder / f"{module}.rt", texts)
+        return names
+
+    def read(self, crate, texts):
+        """Notes the types and calls of one crate."""
+        root = CRATES / crate / "src/lib.rt"
+        names = self.reached(root, texts)
+        own = {}
+        for file, text in texts.items():
+            types = re.findall(r"^pub (struct|enum|trait|type) (\w+)(.*(?:\n.*)?)", text, re.M)
+            for kind, name, rest in types:
+                if name in names:
+                    own[name] = kind
+                    self.crate_of[name] = crate, file
+                    target = re.search(r"= *(\w+)", rest) if kind == "type" else None
+                    if target:
+                        self.alias[name] = target[1]
+            for it in re.finditer(r"^pub struct (\w+)[^;{]*\{", text, re.M):
+                body = text[it.end() : closing(text, it.end() - 1)]
+                self.fields[it[1]] = dict(re.findall(r"(\w+): ([^\n]*),", body))
+        for file, text in texts.items():
+            if "laws" in file.parts or file.stem == "laws":
+                continue
+            inside = list(blocks(text))
+            for fn in functions(text):
+                home = next((it for it in inside if it[0] < fn.at < it[1]), None)
+                if home is None:
+                    if fn.is_public and fn.name in names and not fn.is_empty:
+                        self.calls[crate, "", fn.name] = fn
+                    continue
+                subject, trait = home[2], home[3]
+                is_ours = own.get(trait) == "trait"
+                if subject in own and (is_ours or fn.is_public and not trait):
+                    self.calls[crate, subject, fn.name] = fn
+                if is_ours:
+                    self.implementors[trait].add(subject)
+
+    def type_in(self, text, bounds, subject=""):
+        """The first type of a library that a type's text names."""
+        for word in re.findall(r"\w+", text):
+            word = subject if word == "Self" else bounds.get(word, word)
+            word = self.alias.get(word, word)
+            if word in self.crate_of:
+                return word
+        return ""
+
+    def having(self, name):
+        """The types that have a method of this name."""
+        return {subject for _, subject, it in self.calls if subject and it == name}
+
+    def result(self, subject, name):
+        """The type of what a call gives, if it is one of ours."""
+        for (_, of, it), fn in self.calls.items():
+            if (of, it) == (subject, name):
+                return self.type_in(fn.result, fn.bounds, subject)
+        return ""
+
+
+class TestFile:
+    """What one file of tests or examples names."""
+
+    def __init__(self, file, library):
+        self.library, self.file, self.text = library, file, source(file)
+        self.named = set()
+        self.helpers = {fn.name: fn for fn in functions(self.text)}
+        self.own_fields = dict(re.findall(r"^    (?:pub )?(\w+): ([^\n]*),$", self.text, re.M))
+        words = set(re.findall(r"\w+", self.text))
+        self.types = {library.alias.get(it, it) for it in words if it in library.crate_of}
+        self.brought = words_of_uses(self.text)
+        self.read_paths()
+        inside = list(blocks(self.text))
+        for fn in functions(self.text):
+            home = next((it[2] for it in inside if it[0] < fn.at < it[1]), "")
+            self.read_methods(fn, home)
+
+    def read_paths(self):
+        """Notes functions that are called by their name, and `Type::name`."""
+        for crate, subject, name in self.library.calls:
+            if not subject:
+                pattern = rf"(?<![.\w])(\w+::)*{name}\b\s*(?:::<|\()"
+                for it in re.finditer(pattern, self.text):
+                    if name not in self.helpers and (it[1] or name in self.brought):
+                        self.named.add((crate, "", name))
+        for it in re.finditer(r"(\w+)(?:::<[^()]*?>)?::(\w+)\b", self.text):
+            self.note(self.library.alias.get(it[1], it[1]), it[2])
+
+    def note(self, subject, name):
+        """Notes a call of a type's function, and of the trait that it belongs to."""
+        for crate, of, it in self.library.calls:
+            if it == name and (of == subject or subject in self.library.implementors[of]):
+                self.named.add((crate, of, name))
+
+    def read_methods(self, fn, home):
+        """Notes the methods that are called in a function."""
+        known = {}
+        for name, of in re.findall(r"(\w+): ([^:]*?)(?=,\s*\w+:|,?\s*$)", fn.params.strip()):
+            known[name] = self.library.type_in(of, fn.bounds, home)
+        body = self.text[fn.at : fn.end]
+        for it in re.finditer(r"\blet (?:mut )?(\w+)(?:: ([^=;]*))? = ([^;]*);", body):
+            known[it[1]] = self.library.type_in(it[2] or "", fn.bounds) or self.of_expression(it[3], known)
+        for it in re.finditer(r"\.(\w+)\s*(?=\(|::<)", body):
+            self.read_call(body, it.start(), it[1], known)
+
+    def read_call(self, body, dot, name, known):
+        """Notes a method that is called behind the dot at an index."""
+        having = self.library.having(name)
+        if not having:
+            return
+        subject = self.of_expression(body[:dot], known)
+        if subject:
+            self.note(subject, name)
+            return
+        stem = self.file.stem if self.file.stem != "tests" else self.file.parent.stem
+        own = {it for it in having if self.library.crate_of[it][1].stem == stem or snake(it) == stem}
+        near = own or having & self.types
+        if len(near) == 1:
+            self.note(near.pop(), name)
+
+    def of_expression(self, text, known):
+        """The type of the expression that a text ends with, if it is one of ours."""
+        text = re.sub(r"(?:\?|\.unwrap\(\)|\.clone\(\))+$", "", text.rstrip().rstrip("?")).rstrip()
+        if text.endswith("}") and (it := re.search(r"(\w+)\s*$", text[: closing(text, len(text) - 1, -1)])):
+            return self.library.type_in(it[1], {})
+        if text.endswith(")"):
+            before = text[: closing(text, len(text) - 1, -1)]
+            before = re.sub(r"::<[^()]*>$", "", before)
+            if it := re.search(r"(\w+)(?:::<[^()]*>)?::(\w+)$", before):
+                return self.library.result(self.library.alias.get(it[1], it[1]), it[2])
+            if it := re.search(r"\.(\w+)$", before):
+                return self.library.result(self.of_expression(before[: it.start()], known), it[1])
+            it = re.search(r"(\w+)$", before)
+            if it and it[1] in self.helpers:
+                return self.library.type_in(self.helpers[it[1]].result, self.helpers[it[1]].bounds)
+            if it:
+                return self.library.result("", it[1])
+            return self.of_expression(text[len(before) + 1 : -1], known)
+        it = re.search(r"(\.\s*)?(\w+)$", text)
+        if not it:
+            return ""
+        if not it[1]:
+            return known.get(it[2], "")
+        owner = self.of_expression(text[: it.start()], known)
+        return self.library.type_in(self.library.fields[owner].get(it[2], self.own_fields.get(it[2], "")), {})
+
+
+def snake(name):
+    return re.sub(r"(?<=[a-z0-9])([A-Z])", r"_\1", name).lower()
+
+
+def words_of_uses(text):
+    """The words of a file's `use` items."""
+    return {word for it in re.findall(r"^use ([^;]*);", text, re.M) for word in re.findall(r"\w+", it)}
+
+
+def main():
+    library = Library()
+    named = set()
+    for file in sorted(CRATES.glob("*/src/**/*.rt")):
+        if is_test(file):
+            named |= TestFile(file, library).named
+    wanted = [it for it in library.calls if not sys.argv[1:] or it[0] in sys.argv[1:]]
+    missing = [it for it in wanted if it not in named]
+    for crate, subject, name in missing:
+        print(f"{crate}: {subject + '::' if subject else ''}{name}")
+    print(f"{len(wanted)} public functions and methods, {len(missing)} that no test or example names")
+    return 1 if missing else 0
+
+
+if __name__ == "__main__":
+    sys.exit(main())
