@@ -98,8 +98,8 @@ fn rounds_pass(rt: HostRuntime) -> Result<(), Fail> {
         refused: 0,
     };
     assert_eq!(rt; link.counts, counts);
-    let mut into = [0u8; 10];
+    let mut into = [0u8; 8];
     assert_eq!(rt; link.read(&mut into), 8);
-    assert_eq!(rt; &into[..8], b"abcdefgh".as_slice());
+    assert_eq!(rt; into, *b"abcdefgh");
     Ok(())
 }
