@@ -1,7 +1,7 @@
 -- What a line is once a loan of its free bytes has ended.
 use Rattle.std.specs.Prelude.{List, ℕ}
 use Rattle.std.specs.Borrow.{MutBor, Fml, Lends, RattleType, Array, u8}
-use Rattle.net_storage.specs.Ring.{written, spare_index}
+use Rattle.net_storage.specs.Ring.{with_elements, spare_index}
 use Rattle.net_storage.specs.declared.managed.Elements.{Ghosts}
 use Rattle.net_examples.specs.declared.line.Line.{Line}
 use Rattle.net_examples.specs.contracts.line.Line.{the_row}
@@ -10,4 +10,4 @@ use Rattle.net_examples.specs.contracts.line.Line.{the_row}
 abbrev pub lends_free : (S : RattleType) (g : Ghosts S.Denot ℕ)
     → MutBor (Line S.Denot) → ℕ → MutBor (List ℕ) → Fml
 lends_free S g s i r = Lends (the_row S g) (Array u8 0) s r
-    (λ ws. record { ring = written s.now.ring (spare_index s.now.ring i) ws })
+    (λ ws. record { ring = with_elements s.now.ring (spare_index s.now.ring i) ws })

@@ -1,6 +1,6 @@
 ghost use Rattle.std.specs.Prelude.{◌≡◌, length, List, ℕ};
 ghost use Rattle.std.specs.Borrow.{sem};
-ghost use Rattle.net_storage.specs.Ring.{contiguous_window_from, spare_index, written, SpareWritten};
+ghost use Rattle.net_storage.specs.Ring.{contiguous_window_from, spare_index, with_elements, SpareWritten};
 
 use net_storage::{Elements, Ring};
 
@@ -20,7 +20,7 @@ impl<S: Elements<u8>> Line<S> {
         ensures written { (ws : List ℕ)
             → length ws ≡ contiguous_window_from self.old.ring offset size
             → SpareWritten self.old.ring offset ws
-            (written self.old.ring (spare_index self.old.ring offset) ws) }
+            (with_elements self.old.ring (spare_index self.old.ring offset) ws) }
     {
         self.ring.get_unallocated(offset, size)
     }

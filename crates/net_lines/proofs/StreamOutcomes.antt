@@ -5,7 +5,7 @@ use Rattle.std.specs.Cmp.Lexicographic.{pointwise}
 use Rattle.std.proofs.lemmas.Bool.Decides.{Decides-eqb, Decides-and, same_from_decides}
 use Rattle.std.proofs.lemmas.Slice.Eq.{bytes_eq-Decides, slice_eq-Decides}
 use Rattle.net_receiver.specs.Stored.{Stored, IsSameState, by_stored}
-use Rattle.net_lines.specs.StreamMode.{Outcome, outcome, same_run, same_outcome, Schedules, compared, stream_closing}
+use Rattle.net_lines.specs.StreamMode.{Outcome, outcome, same_run, same_outcome, Schedules, comparison_with, stream_closing}
 use Rattle.net_lines.specs.StreamStored.{of_stored}
 
 -- runs that are one
@@ -41,7 +41,7 @@ module _ (v u : Stored) where
 closing_is : (x : Schedules Stored) (ended : Stored) (same : Bool) → x.ended ≡ Some ended → IsTrue same ↔ IsSameState ended x.present →
     cond same (codes "same\n") (codes "differs\n") ≡ stream_closing of_stored x
 closing_is x ended same there exact =
-    ap (λ s. cond s (codes "same\n") (codes "differs\n")) (same_decides ended x.present same exact) ∙ ap (compared of_stored x) (sym there)
+    ap (λ s. cond s (codes "same\n") (codes "differs\n")) (same_decides ended x.present same exact) ∙ ap (comparison_with of_stored x) (sym there)
 
 -- the closing line, as `same_state` answers
 module _ (x y : Schedules Stored) (seen : x ≡ y) (ended : Stored) (same : Bool)

@@ -7,8 +7,8 @@ use Rattle.net_receiver.specs.Execution.{FreshStands, EverySchedule}
 use Rattle.net_lines.specs.Transcript.{transcript}
 use Rattle.net_lines.specs.StreamMode.{StreamCommand, ToReceiver, NextSchedule, end_fits}
 use Rattle.net_lines.specs.StreamMode.{stream_command, reply_text, outcome, comparison, of_states}
-use Rattle.net_lines.specs.StreamMode.{Schedules, first_schedule, commanded, stream_does}
-use Rattle.net_lines.specs.StreamMode.{stream_replies, stream_rules, compared, stream_closing}
+use Rattle.net_lines.specs.StreamMode.{Schedules, first_schedule, after_command, stream_does}
+use Rattle.net_lines.specs.StreamMode.{stream_replies, stream_rules, comparison_with, stream_closing}
 use Rattle.net_lines.specs.StreamStored.{of_stored}
 use Rattle.net_lines.specs.declared.fault.Fault.TheVariants as faults
 use Rattle.net_lines.proofs.SameText.{AlikeAfter, TreatsAlike, same_transcript}
@@ -88,8 +88,8 @@ module _ (fresh_stands : FreshStands) (every : EverySchedule) where
     does_alike o p ended NextSchedule = next_alike o p ended
     does_alike o p ended (ToReceiver c) =
         elim (end_fits c) as (λ fits. AlikeAfter Alike (cond fits
-        (Ok (commanded of_stored (record { setting = w; present = v; ended = o }) c))
-        (Err faults.RangeTooLong)) (cond fits (Ok (commanded of_states
+        (Ok (after_command of_stored (record { setting = w; present = v; ended = o }) c))
+        (Err faults.RangeTooLong)) (cond fits (Ok (after_command of_states
         (record { setting = w; present = s; ended = p }) c)) (Err faults.RangeTooLong))) [
           | true ↦ (record { setting = refl; present = after_stands w v s c present; ended = ended }, ap reply_text (same_reply w v s c present))
           | false ↦ refl
@@ -102,7 +102,7 @@ module _ (fresh_stands : FreshStands) (every : EverySchedule) where
     replies_alike o p ended None = refl
 
     compared_alike : (o : Option Stored) (p : Option State) → EndedAlike w o p →
-        compared of_stored (record { setting = w; present = v; ended = o }) o ≡ compared of_states (record { setting = w; present = s; ended = p }) p
+        comparison_with of_stored (record { setting = w; present = v; ended = o }) o ≡ comparison_with of_states (record { setting = w; present = s; ended = p }) p
     compared_alike None None ended = refl
     compared_alike (Some u) (Some t) ended = λ i. comparison (same_outcome_there w u t ended i) (same_outcome_there w v s present i)
     compared_alike None (Some t) ended = absurd ended

@@ -42,21 +42,21 @@ abbrev pub refused_text : List ℕ
 refused_text = codes "refused too many holes\n"
 
 -- the set without its front, counted from there, and the reply that says how long the front was
-abbrev pub front_removed : Positions → Positions × List ℕ
-front_removed set =
+abbrev pub front_removal : Positions → Positions × List ℕ
+front_removal set =
     (shift_down set (front set), codes "front " ++ decimal (front set) ++ codes "\n")
 
 -- the set with a range, or unchanged where that has too many runs
-abbrev pub added : ℕ → Positions → ℕ → ℕ → Positions × List ℕ
-added most_runs set offset size =
+abbrev pub addition : ℕ → Positions → ℕ → ℕ → Positions × List ℕ
+addition most_runs set offset size =
     if makes_too_many_runs most_runs set offset size then (set, refused_text)
     else (with_range set offset size, codes "ok\n")
 
 -- the same, and the front is removed then; a range at 0 is never refused
-abbrev pub added_then_front_removed : ℕ → Positions → ℕ → ℕ → Positions × List ℕ
-added_then_front_removed most_runs set offset size =
+abbrev pub addition_then_removal : ℕ → Positions → ℕ → ℕ → Positions × List ℕ
+addition_then_removal most_runs set offset size =
     if nat_lt 0 offset && makes_too_many_runs most_runs set offset size then (set, refused_text)
-    else front_removed (with_range set offset size)
+    else front_removal (with_range set offset size)
 
 -- what a range's command does where 64 bits hold the range's end
 abbrev pub within_range : ℕ → ℕ → Positions × List ℕ → Result (Positions × List ℕ) Fault
@@ -66,10 +66,10 @@ within_range offset size next =
 -- what a line does to the set, and its reply
 abbrev pub asm_does : ℕ → Positions → AsmLine → Result (Positions × List ℕ) Fault
 asm_does most_runs set (Add offset size) =
-    within_range offset size (added most_runs set offset size)
+    within_range offset size (addition most_runs set offset size)
 asm_does most_runs set (AddThenRemoveFront offset size) =
-    within_range offset size (added_then_front_removed most_runs set offset size)
-asm_does most_runs set RemoveFront = Ok (front_removed set)
+    within_range offset size (addition_then_removal most_runs set offset size)
+asm_does most_runs set RemoveFront = Ok (front_removal set)
 asm_does most_runs set Print = Ok (set, display_text set ++ codes "\n")
 
 -- a line of the mode, with at most so many runs

@@ -141,8 +141,8 @@ module _ {S : Type 0} (scheduling : Scheduling S) where
   first_schedule w = record { setting = w; present = scheduling.begun w; ended = None }
 
   -- a command to the receiver, and its reply
-  abbrev pub commanded : Schedules S → CommandSeen → Schedules S × List ℕ
-  commanded schedules command_seen =
+  abbrev pub after_command : Schedules S → CommandSeen → Schedules S × List ℕ
+  after_command schedules command_seen =
       let keeping = scheduling.keeping schedules.setting in
       let most_runs = schedules.setting.most_runs in (
         record schedules { present = after keeping most_runs schedules.present command_seen },
@@ -165,7 +165,7 @@ module _ {S : Type 0} (scheduling : Scheduling S) where
   -- what a line does, and its reply
   abbrev pub stream_does : Schedules S → StreamCommand → Result (Schedules S × List ℕ) Fault
   stream_does schedules (ToReceiver command_seen) =
-      if end_fits command_seen then Ok (commanded schedules command_seen)
+      if end_fits command_seen then Ok (after_command schedules command_seen)
       else Err faults.RangeTooLong
   stream_does schedules NextSchedule = next_schedule schedules schedules.ended
 
@@ -180,12 +180,12 @@ module _ {S : Type 0} (scheduling : Scheduling S) where
   stream_rules schedules words = stream_replies schedules (stream_command words)
 
   -- whether the outcome of the schedule that ended is that of the present one
-  abbrev pub compared : Schedules S → Option S → List ℕ
-  compared schedules None = []
-  compared schedules (Some ended) =
+  abbrev pub comparison_with : Schedules S → Option S → List ℕ
+  comparison_with schedules None = []
+  comparison_with schedules (Some ended) =
       let keeping = scheduling.keeping schedules.setting in
       comparison (outcome keeping ended) (outcome keeping schedules.present)
 
   -- what is written after the last line: with one schedule nothing
   abbrev pub stream_closing : Schedules S → List ℕ
-  stream_closing schedules = compared schedules schedules.ended
+  stream_closing schedules = comparison_with schedules schedules.ended

@@ -4,7 +4,7 @@ use Rattle.std.proofs.lemmas.Bool.{cases_lt, le-leb, lt-leb, lt-ltb, le-ltb, ne_
 use Rattle.std.proofs.lemmas.Option.{none-some, cond_some}
 use Rattle.std.specs.Prelude.{Option, true}
 use Rattle.std.specs.declared.option.Option.TheVariants.{Some, None}
-use Rattle.net_storage.specs.Ring.{RingState, index_after, capacity, window, queue, write_at, WellFormed, with_enqueued, with_dequeued, written, Enqueued}
+use Rattle.net_storage.specs.Ring.{RingState, index_after, capacity, window, queue, write_at, WellFormed, with_enqueued, with_dequeued, with_elements, Enqueued}
 use Rattle.net_storage.specs.Packets.{Packet, packet, bytes_used, slots_used, slots_for, IsPlaced, ArePlaced, gap_for, if_slots}
 use Rattle.net_storage.specs.PacketSlots.{slot, gap_slot, packet_slots, packets_in, Holds}
 use Rattle.net_storage.specs.declared.packet_metadata.PacketMetadata.{PacketMetadata}
@@ -222,7 +222,7 @@ module _ {H : Type 0} where
 
 -- ---- what the ring of slots is after a slot came last
 pub pushed_slot : {T : Type 0} (g h : RingState T) (w : T) → WellFormed g → window g ≢ 0
-    → h ≡ written (with_enqueued 1 g) (write_at g) (w ∷ []) → Enqueued g (w ∷ []) h
+    → h ≡ with_elements (with_enqueued 1 g) (write_at g) (w ∷ []) → Enqueued g (w ∷ []) h
     → (queue h ≡ queue g ++ (w ∷ [])) × WellFormed h × (window h ≡ window g - 1) × (capacity h ≡ capacity g)
 pushed_slot g h w wf some e q =
     let cap : capacity h ≡ capacity g = ap capacity e ∙ length-overwrite g.storage (write_at g) (w ∷ []) in

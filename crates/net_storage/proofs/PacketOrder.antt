@@ -4,8 +4,8 @@ use Rattle.std.proofs.lemmas.List.{take_at, drop_at, nil_from_length, take_all, 
 use Rattle.std.specs.Prelude.{Option, replicate}
 use Rattle.std.specs.declared.option.Option.TheVariants.{Some, None}
 use Rattle.net_storage.specs.Overwrite.{overwrite}
-use Rattle.net_storage.specs.Ring.{RingState, ring, index_after, capacity, window, queue, spare, storage_index, WellFormed, restarted, with_enqueued, written}
-use Rattle.net_storage.specs.Packets.{Packet, PacketQueue, packet, bytes_used, slots_used, byte_ring, ArePlaced, placement, placed_if_room, last_written, last_cut, first_gap, first_size, without_first_gap, skipped, IsFirstSized, IsFirst, with_first_header, first_written, popped, dequeued, WellPlaced}
+use Rattle.net_storage.specs.Ring.{RingState, ring, index_after, capacity, window, queue, spare, storage_index, WellFormed, from_start_if_empty, with_enqueued, with_elements}
+use Rattle.net_storage.specs.Packets.{Packet, PacketQueue, packet, bytes_used, slots_used, byte_ring, ArePlaced, placement, with_packet_if_room, with_last_bytes, with_last_size, first_gap, first_size, without_first_gap, without_gap, IsFirstSized, IsFirst, with_first_header, with_first_bytes, without_first, without_first_and_gap, WellPlaced}
 use Rattle.net_storage.specs.PacketSlots.{slot, packet_slots, packets_in, Holds, packet_queue}
 use Rattle.net_storage.specs.PacketHistory.{contents_of, contents}
 use Rattle.net_storage.specs.declared.packet_metadata.PacketMetadata.{PacketMetadata}
@@ -39,12 +39,12 @@ over_front xs ws s fits long =
 -- the queue of a ring to whose spare part ws was written past a gap, and of which k bytes came in with the gap
 filled_queue : (g : RingState ℕ) (wf : WellFormed g) (gap k : ℕ) (ws : List ℕ) → gap + length ws ≤ window g
     → storage_index g (g.count + gap) + length ws ≤ capacity g → k ≤ length ws
-    → queue (with_enqueued (gap + k) (written g (storage_index g (g.count + gap)) ws)) ≡ queue g ++ (take gap (spare g) ++ take k ws)
+    → queue (with_enqueued (gap + k) (with_elements g (storage_index g (g.count + gap)) ws)) ≡ queue g ++ (take gap (spare g) ++ take k ws)
 filled_queue g wf gap k ws room fits le =
     let p = storage_index g (g.count + gap) in
     let w = spare_law g wf gap p ws room fits (storage_index_is g (g.count + gap)) in
     let long = length-overwrite g.storage p ws in
-    let t = with_enqueued_parts (written g p ws) (written_wf g wf p ws) (gap + k) (omega (arith, room, le, long)) in
+    let t = with_enqueued_parts (with_elements g p ws) (written_wf g wf p ws) (gap + k) (omega (arith, room, le, long)) in
     let s = length-spare g wf in
     t.0 ∙ ap₂ ◌++◌ w.0 (ap (take (gap + k)) w.1 ∙ take_over (spare g) ws gap k (omega (arith, room, s)) le)
 
@@ -103,7 +103,7 @@ module _ {H : Type 0} where
     kept = packets_in 0 (queue m)
 
     abbrev g : RingState ℕ
-    g = restarted b
+    g = from_start_if_empty b
 
     abbrev at : ℕ
     at = storage_index g (g.count + gap)
@@ -133,24 +133,24 @@ module _ {H : Type 0} where
       gap_is : (n : ℕ) × (placement (packet_queue m b) s ≡ Some n)
       gap_is = some_of (placement (packet_queue m b) s) (subst (λ (o : PacketQueue H). placement o s ≢ None) (sym is) some)
 
-      put_go : contents (last_written (placed_if_room q s hd) ws) ≡ contents q ++ ((hd, ws) ∷ [])
+      put_go : contents (with_last_bytes (with_packet_if_room q s hd) ws) ≡ contents q ++ ((hd, ws) ∷ [])
       put_go =
           let gap = gap_is.0 in let e = gap_is.1 in
           let all : take s ws ≡ ws = take_all s ws (omega (arith, long)) in
-          subst (λ (o : PacketQueue H). contents (last_written (placed_if_room o s hd) ws) ≡ contents o ++ ((hd, ws) ∷ [])) is
+          subst (λ (o : PacketQueue H). contents (with_last_bytes (with_packet_if_room o s hd) ws) ≡ contents o ++ ((hd, ws) ∷ [])) is
           (sym (ap contents (put_is m b h gap s e hd ws)) ∙ accepted_go m b h gap s e hd s (omega arith) ws long
           ∙ ap (λ (l : List ℕ). contents (packet_queue m b) ++ ((hd, l) ∷ [])) all)
 
-      cut_go : (k : ℕ) → k ≤ s → contents (last_cut k (last_written (placed_if_room q s hd) ws)) ≡ contents q ++ ((hd, take k ws) ∷ [])
+      cut_go : (k : ℕ) → k ≤ s → contents (with_last_size k (with_last_bytes (with_packet_if_room q s hd) ws)) ≡ contents q ++ ((hd, take k ws) ∷ [])
       cut_go k le =
           let gap = gap_is.0 in let e = gap_is.1 in
-          subst (λ (o : PacketQueue H). contents (last_cut k (last_written (placed_if_room o s hd) ws)) ≡ contents o ++ ((hd, take k ws) ∷ [])) is
+          subst (λ (o : PacketQueue H). contents (with_last_size k (with_last_bytes (with_packet_if_room o s hd) ws)) ≡ contents o ++ ((hd, take k ws) ∷ [])) is
           (sym (ap contents (cut_is m b h gap s e hd k ws)) ∙ accepted_go m b h gap s e hd k le ws long)
 
-    pub accepted : contents (last_written (placed_if_room q s hd) ws) ≡ contents q ++ ((hd, ws) ∷ [])
+    pub accepted : contents (with_last_bytes (with_packet_if_room q s hd) ws) ≡ contents q ++ ((hd, ws) ∷ [])
     accepted = put_go (m q ok) (b q ok) (closed (m q ok) (b q ok) q.packets (holds q ok)) (is_queue q ok)
 
-    pub accepted_with : (k : ℕ) → k ≤ s → contents (last_cut k (last_written (placed_if_room q s hd) ws)) ≡ contents q ++ ((hd, take k ws) ∷ [])
+    pub accepted_with : (k : ℕ) → k ≤ s → contents (with_last_size k (with_last_bytes (with_packet_if_room q s hd) ws)) ≡ contents q ++ ((hd, take k ws) ∷ [])
     accepted_with = cut_go (m q ok) (b q ok) (closed (m q ok) (b q ok) q.packets (holds q ok)) (is_queue q ok)
 
   -- ---- the first packet
@@ -286,7 +286,7 @@ module _ {H : Type 0} where
       ∙ sym (contents_rest p.header p.size ps (drop p.gap (queue c))) ∙ ap (drop 1) (contents_skip p.header p.size p.gap ps (queue c))
 
   module _ (q : PacketQueue H) (ok : WellPlaced q) where
-    pub gap_dropped : contents (skipped q) ≡ contents q
+    pub gap_dropped : contents (without_gap q) ≡ contents q
     unfolding contents
     gap_dropped = skipped_go q.storage q.read_at q.packets ok.0
 
@@ -295,14 +295,14 @@ module _ {H : Type 0} where
     shown hd ws f = shown_go q.storage q.read_at q.packets ok.0 ok.1 hd ws f.0 f.1
 
     pub refused : (hd : H) (ws : List ℕ) → q.packets ≢ [] → length ws ≡ first_size q.packets
-        → contents (first_written (skipped q) hd ws) ≡ (hd, ws) ∷ drop 1 (contents q)
+        → contents (with_first_bytes (without_gap q) hd ws) ≡ (hd, ws) ∷ drop 1 (contents q)
     unfolding contents
     refused hd ws some long = refused_go q.storage q.read_at q.packets ok.0 ok.1 some hd ws long
 
-    pub left : contents (dequeued q) ≡ drop 1 (contents q)
+    pub left : contents (without_first_and_gap q) ≡ drop 1 (contents q)
     unfolding contents
     left = left_go q.storage q.read_at q.packets ok.0
 
-    pub left_with : (hd : H) (ws : List ℕ) → length ws ≡ first_size q.packets → contents (popped (first_written (skipped q) hd ws)) ≡ drop 1 (contents q)
+    pub left_with : (hd : H) (ws : List ℕ) → length ws ≡ first_size q.packets → contents (without_first (with_first_bytes (without_gap q) hd ws)) ≡ drop 1 (contents q)
     unfolding contents
     left_with hd ws long = left_with_go q.storage q.read_at q.packets ok.0 ok.1 hd ws long _ refl

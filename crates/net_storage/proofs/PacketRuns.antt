@@ -8,9 +8,9 @@ use Rattle.std.specs.Prelude.{set}
 use Rattle.std.specs.declared.option.Option.TheVariants.{Some, None}
 use Rattle.net_storage.specs.Overwrite.{overwrite}
 use Rattle.net_storage.specs.Ring.{index_after, queue, storage_index}
-use Rattle.net_storage.specs.Packets.{Packet, PacketQueue, no_packets, packet, bytes_used, slots_used, byte_ring, ArePlaced, placement, pushed, pushed_if, placed_if_room, only_last, last_place, last_bytes, last_written, last_cut, with_first_size, first_gap, first_size, without_first_gap, skipped, with_first_header, first_written, popped, dequeued, handed, freed_place, freed_bytes, AreFreed, with_bytes, first_bytes, IsFirst, IsFirstSized, WellPlaced}
+use Rattle.net_storage.specs.Packets.{Packet, PacketQueue, no_packets, packet, bytes_used, slots_used, byte_ring, ArePlaced, placement, with_packet, with_packet_if, with_packet_if_room, only_last, last_place, last_bytes, with_last_bytes, with_last_size, with_first_size, first_gap, first_size, without_first_gap, without_gap, with_first_header, with_first_bytes, without_first, without_first_and_gap, after_hand_out, freed_place, freed_bytes, AreFreed, with_bytes, first_bytes, IsFirst, IsFirstSized, WellPlaced}
 use Rattle.net_storage.specs.Log.{Log, empty_log}
-use Rattle.net_storage.specs.PacketHistory.{contents_of, contents, QueueCall, Reset, Place, WriteLast, Enqueue, EnqueueWith, Peek, DequeueErr, DequeueOk, Take, WriteFreed, Dequeue, Makes, MakesAll, with_last_bytes, logged, logged_all, history}
+use Rattle.net_storage.specs.PacketHistory.{contents_of, contents, QueueCall, Reset, Place, WriteLast, Enqueue, EnqueueWith, Peek, DequeueErr, DequeueOk, Take, WriteFreed, Dequeue, Makes, MakesAll, with_bytes_in_last_entry, log_after, log_after_all, history}
 use Rattle.net_storage.proofs.Overwrites.{overwrite-same}
 use Rattle.net_storage.proofs.Rotations.{IsStorageIndex, length-overwrite, length-queue, cut, overwrite_at, storage_index_is}
 use Rattle.net_storage.proofs.RingFacts.{held_law, spare_law}
@@ -47,14 +47,14 @@ module _ {H : Type 0} where
       subst (λ (n : ℕ). (((q.read_at ≡ 0) ⊎ (q.read_at < n)) × (bytes_used q.packets ≤ n)) × ArePlaced n q.read_at 0 q.packets
       × (slots_used q.packets ≤ q.slot_count)) (sym (length-overwrite q.storage p ws)) ok
 
-  skipped_go : (n : ℕ) (st : List ℕ) (r : ℕ) (ps : List (Packet H)) → WellPlaced (mk n st r ps) → WellPlaced (skipped (mk n st r ps))
+  skipped_go : (n : ℕ) (st : List ℕ) (r : ℕ) (ps : List (Packet H)) → WellPlaced (mk n st r ps) → WellPlaced (without_gap (mk n st r ps))
   skipped_go n st r [] ok = ((place_wf (length st) r 0 ok.0.0 (omega arith), ok.0.1), tt, ok.2)
   skipped_go n st r (p ∷ ps) ok =
       let some = slots_for_pos p.gap in
       let at = place_wf (length st) r p.gap ok.0.0 (omega (arith, ok.0.1)) in
       ((at, omega (arith, ok.0.1)), placed_skip (length st) r p ps ok.0.0 ok.0.1 ok.1, omega (arith, some, ok.2))
 
-  popped_go : (n : ℕ) (st : List ℕ) (r : ℕ) (ps : List (Packet H)) → first_gap ps ≡ 0 → WellPlaced (mk n st r ps) → WellPlaced (popped (mk n st r ps))
+  popped_go : (n : ℕ) (st : List ℕ) (r : ℕ) (ps : List (Packet H)) → first_gap ps ≡ 0 → WellPlaced (mk n st r ps) → WellPlaced (without_first (mk n st r ps))
   popped_go n st r [] z ok = ((place_wf (length st) r 0 ok.0.0 (omega arith), ok.0.1), tt, ok.2)
   popped_go n st r (p ∷ ps) z ok =
       let at = place_wf (length st) r p.size ok.0.0 (omega (arith, ok.0.1)) in
@@ -66,72 +66,72 @@ module _ {H : Type 0} where
   headed_go n st r (p ∷ ps) hd ok = (ok, refl)
 
   module _ (q : PacketQueue H) (ok : WellPlaced q) where
-    skipped_well : WellPlaced (skipped q)
+    skipped_well : WellPlaced (without_gap q)
     skipped_well = skipped_go q.slot_count q.storage q.read_at q.packets ok
 
-    taken_well : WellPlaced (dequeued q)
+    taken_well : WellPlaced (without_first_and_gap q)
     taken_well = popped_go q.slot_count q.storage _ (without_first_gap q.packets) (close_gap q.packets) skipped_well
 
     module _ (hd : H) (ws : List ℕ) where
-      written_headed : WellPlaced (first_written (skipped q) hd ws)
-          × (first_gap (first_written (skipped q) hd ws).packets ≡ first_gap (without_first_gap q.packets))
+      written_headed : WellPlaced (with_first_bytes (without_gap q) hd ws)
+          × (first_gap (with_first_bytes (without_gap q) hd ws).packets ≡ first_gap (without_first_gap q.packets))
       written_headed =
-          let at = (skipped q).read_at in
-          headed_go q.slot_count (overwrite q.storage at ws) at (without_first_gap q.packets) hd (with_bytes_well (skipped q) skipped_well at ws)
+          let at = (without_gap q).read_at in
+          headed_go q.slot_count (overwrite q.storage at ws) at (without_first_gap q.packets) hd (with_bytes_well (without_gap q) skipped_well at ws)
 
-      written_off : WellPlaced (popped (first_written (skipped q) hd ws))
+      written_off : WellPlaced (without_first (with_first_bytes (without_gap q) hd ws))
       written_off = popped_go q.slot_count _ _ (with_first_header hd (without_first_gap q.packets)) (written_headed.1 ∙ close_gap q.packets) written_headed.0
 
     -- a packet that comes last
     module _ (s : ℕ) (hd : H) (gap : ℕ) (e : placement q s ≡ Some gap) where
-      pushed_well : (k : ℕ) → k ≤ s → WellPlaced (pushed q gap k hd)
+      pushed_well : (k : ℕ) → k ≤ s → WellPlaced (with_packet q gap k hd)
       pushed_well k le =
           let m = order.m q ok in let b = order.b q ok in
           let is = order.is_queue q ok in
           let h = closed m b q.packets (order.holds q ok) in
-          subst (λ (o : PacketQueue H). WellPlaced (pushed o gap k hd)) is (push_well m b h gap s (ap (λ (o : PacketQueue H). placement o s) is ∙ e) hd k le)
+          subst (λ (o : PacketQueue H). WellPlaced (with_packet o gap k hd)) is (push_well m b h gap s (ap (λ (o : PacketQueue H). placement o s) is ∙ e) hd k le)
 
-      placed_is : placed_if_room q s hd ≡ pushed q gap s hd
-      placed_is = ap (λ o. pushed_if q o s hd) e
+      placed_is : with_packet_if_room q s hd ≡ with_packet q gap s hd
+      placed_is = ap (λ o. with_packet_if q o s hd) e
 
-      cut_is : (k : ℕ) (ws : List ℕ) → with_bytes (pushed q gap k hd) (last_place (pushed q gap s hd)) ws ≡ last_cut k (last_written (placed_if_room q s hd) ws)
+      cut_is : (k : ℕ) (ws : List ℕ) → with_bytes (with_packet q gap k hd) (last_place (with_packet q gap s hd)) ws ≡ with_last_size k (with_last_bytes (with_packet_if_room q s hd) ws)
       cut_is k ws =
-          let all = pushed q gap s hd in
+          let all = with_packet q gap s hd in
           ap₂ (λ (front back : List (Packet H)). mk q.slot_count (overwrite q.storage (last_place all) ws) all.read_at (front ++ back))
           (sym (before_append q.packets (packet hd s gap))) (sym (ap (with_first_size k) (last_append q.packets (packet hd s gap))))
-          ∙ ap (λ o. last_cut k (last_written o ws)) (sym placed_is)
+          ∙ ap (λ o. with_last_size k (with_last_bytes o ws)) (sym placed_is)
 
     module _ (s : ℕ) (hd : H) (some : placement q s ≢ None) where
-      placed_well : WellPlaced (placed_if_room q s hd)
+      placed_well : WellPlaced (with_packet_if_room q s hd)
       placed_well = let g = some_of (placement q s) some in subst WellPlaced (sym (placed_is s hd g.0 g.1)) (pushed_well s hd g.0 g.1 s (omega arith))
 
-      cut_well : (k : ℕ) → k ≤ s → (ws : List ℕ) → WellPlaced (last_cut k (last_written (placed_if_room q s hd) ws))
+      cut_well : (k : ℕ) → k ≤ s → (ws : List ℕ) → WellPlaced (with_last_size k (with_last_bytes (with_packet_if_room q s hd) ws))
       cut_well k le ws =
           let g = some_of (placement q s) some in
-          subst WellPlaced (cut_is s hd g.0 g.1 k ws) (with_bytes_well (pushed q g.0 k hd) (pushed_well s hd g.0 g.1 k le) (last_place (pushed q g.0 s hd)) ws)
+          subst WellPlaced (cut_is s hd g.0 g.1 k ws) (with_bytes_well (with_packet q g.0 k hd) (pushed_well s hd g.0 g.1 k le) (last_place (with_packet q g.0 s hd)) ws)
 
   keeps : (call : QueueCall H) (q r : PacketQueue H) → WellPlaced q → Makes call q r → WellPlaced r
   keeps Reset q r ok is = subst WellPlaced (sym is) ((inl refl, omega arith), tt, omega arith)
   keeps (Place hd ws) q r ok does = subst WellPlaced (sym does.1) (placed_well q ok (length ws) hd does.0)
   keeps (WriteLast ws) q r ok does = subst WellPlaced (sym does.2) (with_bytes_well q ok (last_place q) ws)
   keeps (Enqueue hd ws) q r ok does =
-      subst WellPlaced (sym does.1) (let o = placed_if_room q (length ws) hd in with_bytes_well o (placed_well q ok (length ws) hd does.0) (last_place o) ws)
+      subst WellPlaced (sym does.1) (let o = with_packet_if_room q (length ws) hd in with_bytes_well o (placed_well q ok (length ws) hd does.0) (last_place o) ws)
   keeps (EnqueueWith hd ws count) q r ok does = subst WellPlaced (sym does.2) (cut_well q ok (length ws) hd does.0 count does.1 ws)
   keeps Peek q r ok is = subst WellPlaced (sym is) (skipped_well q ok)
   keeps (DequeueErr hd ws) q r ok does = subst WellPlaced (sym does.2) (written_headed q ok hd ws).0
   keeps (DequeueOk hd ws after written) q r ok does = subst WellPlaced (sym does.2) (written_off q ok after written)
   keeps (Take hd ws) q r ok does = subst WellPlaced (sym does.1) (taken_well q ok)
   keeps (WriteFreed ws) q r ok does = subst WellPlaced (sym does.1) (with_bytes_well q ok (freed_place q (length ws)) ws)
-  keeps (Dequeue hd ws written) q r ok does = subst WellPlaced (sym does.2) (with_bytes_well (dequeued q) (taken_well q ok) (skipped q).read_at written)
+  keeps (Dequeue hd ws written) q r ok does = subst WellPlaced (sym does.2) (with_bytes_well (without_first_and_gap q) (taken_well q ok) (without_gap q).read_at written)
 
   -- ---- what a step makes of the contents
   placed_contents : (q : PacketQueue H) → WellPlaced q → (hd : H) (ws : List ℕ) → placement q (length ws) ≢ None
-      → ws ≡ last_bytes (placed_if_room q (length ws) hd)
-      → contents (placed_if_room q (length ws) hd) ≡ contents q ++ ((hd, ws) ∷ [])
+      → ws ≡ last_bytes (with_packet_if_room q (length ws) hd)
+      → contents (with_packet_if_room q (length ws) hd) ≡ contents q ++ ((hd, ws) ∷ [])
   placed_contents q ok hd ws some is =
-      let o = placed_if_room q (length ws) hd in
-      let same : last_written o ws ≡ o =
-      ap (last_written o) is ∙ ap (λ (st : List ℕ). mk o.slot_count st o.read_at o.packets)
+      let o = with_packet_if_room q (length ws) hd in
+      let same : with_last_bytes o ws ≡ o =
+      ap (with_last_bytes o) is ∙ ap (λ (st : List ℕ). mk o.slot_count st o.read_at o.packets)
       (overwrite-same o.storage (last_place o) (first_size (only_last o.packets))) in
       ap contents (sym same) ∙ order.accepted q ok (length ws) hd ws some refl
 
@@ -139,7 +139,7 @@ module _ {H : Type 0} where
   last_go : (n : ℕ) (st : List ℕ) (r : ℕ) (ps : List (Packet H)) (p : Packet H) (ws : List ℕ) → let q =
       mk n st r (ps ++ (p ∷ [])) in WellPlaced q → length ws ≡ first_size (only_last q.packets)
       → (front : List (H × List ℕ)) × (old : List ℕ) × (contents q ≡ front ++ ((p.header, old) ∷ []))
-      × (contents (last_written q ws) ≡ front ++ ((p.header, ws) ∷ []))
+      × (contents (with_last_bytes q ws) ≡ front ++ ((p.header, ws) ∷ []))
   unfolding contents
   last_go n st r ps p ws ok long =
       let q = mk n st r (ps ++ (p ∷ [])) in
@@ -171,12 +171,12 @@ module _ {H : Type 0} where
 
   last_contents : (q : PacketQueue H) → WellPlaced q → (ws : List ℕ) → q.packets ≢ [] → length ws ≡ first_size (only_last q.packets)
       → (front : List (H × List ℕ)) × (hd : H) × (old : List ℕ) × (contents q ≡ front ++ ((hd, old) ∷ []))
-      × (contents (last_written q ws) ≡ front ++ ((hd, ws) ∷ []))
+      × (contents (with_last_bytes q ws) ≡ front ++ ((hd, ws) ∷ []))
   last_contents q ok ws some long =
       let end = ends_in q.packets some in
       let is : q ≡ mk q.slot_count q.storage q.read_at (end.0 ++ (end.1 ∷ [])) = ap (mk q.slot_count q.storage q.read_at) end.2 in
       let l = last_go q.slot_count q.storage q.read_at end.0 end.1 ws (subst WellPlaced is ok) (long ∙ ap (λ ps. first_size (only_last ps)) end.2) in
-      (l.0, end.1.header, l.1, ap contents is ∙ l.2, ap (λ o. contents (last_written o ws)) is ∙ l.3)
+      (l.0, end.1.header, l.1, ap contents is ∙ l.2, ap (λ o. contents (with_last_bytes o ws)) is ∙ l.3)
 
   pub freed_contents : (q : PacketQueue H) → WellPlaced q → (ws : List ℕ) → AreFreed q (length ws)
       → contents (with_bytes q (freed_place q (length ws)) ws) ≡ contents q
@@ -201,14 +201,14 @@ module _ {H : Type 0} where
   rest_bytes (p ∷ ps) = omega arith
 
   off_go : (n : ℕ) (st : List ℕ) (r : ℕ) (ps : List (Packet H)) → WellPlaced (mk n st r ps) → first_gap ps ≡ 0 → let o =
-      popped (mk n st r ps) in (freed_place o (first_size ps) ≡ r) × AreFreed o (first_size ps)
+      without_first (mk n st r ps) in (freed_place o (first_size ps) ≡ r) × AreFreed o (first_size ps)
   off_go n st r ps ok z =
       let c = length st in
       let s = first_size ps in
       let rest = rest_bytes ps in
       let f = front_fits c r ps ok.0.0 ok.0.1 ok.1 z in
       let back : s + (c - s) ≡ c = omega (arith, f.1) in
-      let round : freed_place (popped (mk n st r ps)) s ≡ r =
+      let round : freed_place (without_first (mk n st r ps)) s ≡ r =
       place_place c r s (c - s) ok.0.0 (omega (arith, f.1)) ∙ ap (index_after c r) back ∙ (elim (place_cases c r c) [
         | inl h ↦ absurd (omega (arith, h.0))
         | inr h ↦ omega (arith, h.1, f.1)
@@ -216,15 +216,15 @@ module _ {H : Type 0} where
       (round, (omega (arith, rest, ok.0.1), omega (arith, round, f.1)))
 
   pub off_contents : (q : PacketQueue H) → WellPlaced q → (ws : List ℕ) → length ws ≡ first_size q.packets
-      → contents (with_bytes (dequeued q) (skipped q).read_at ws) ≡ contents (dequeued q)
+      → contents (with_bytes (without_first_and_gap q) (without_gap q).read_at ws) ≡ contents (without_first_and_gap q)
   off_contents q ok ws long =
-      let f = off_go q.slot_count q.storage (skipped q).read_at (without_first_gap q.packets) (skipped_well q ok) (close_gap q.packets) in
+      let f = off_go q.slot_count q.storage (without_gap q).read_at (without_first_gap q.packets) (skipped_well q ok) (close_gap q.packets) in
       let size : first_size (without_first_gap q.packets) ≡ length ws = close_size q.packets ∙ sym long in
-      ap (λ (p : ℕ). contents (with_bytes (dequeued q) p ws)) (sym f.0 ∙ ap (freed_place (dequeued q)) size)
-      ∙ freed_contents (dequeued q) (taken_well q ok) ws (subst (λ (s : ℕ). AreFreed (dequeued q) s) size f.1)
+      ap (λ (p : ℕ). contents (with_bytes (without_first_and_gap q) p ws)) (sym f.0 ∙ ap (freed_place (without_first_and_gap q)) size)
+      ∙ freed_contents (without_first_and_gap q) (taken_well q ok) ws (subst (λ (s : ℕ). AreFreed (without_first_and_gap q) s) size f.1)
 
   -- ---- laws that users call for
-  last_entry : (ps : List (H × List ℕ)) (hd : H) (old ws : List ℕ) → with_last_bytes ws (ps ++ ((hd, old) ∷ [])) ≡ ps ++ ((hd, ws) ∷ [])
+  last_entry : (ps : List (H × List ℕ)) (hd : H) (old ws : List ℕ) → with_bytes_in_last_entry ws (ps ++ ((hd, old) ∷ [])) ≡ ps ++ ((hd, ws) ∷ [])
   last_entry [] hd old ws = refl
   last_entry (p ∷ []) hd old ws = refl
   last_entry (p ∷ (o ∷ ps)) hd old ws = ap (λ l. p ∷ l) (last_entry (o ∷ ps) hd old ws)
@@ -244,10 +244,10 @@ module _ {H : Type 0} where
       (λ e. sym n ∙ ap length e, λ z. nil_from_length (contents q) (n ∙ z))
 
   pub placed_stands : (q : PacketQueue H) → WellPlaced q → (s : ℕ) (hd : H) → placement q s ≢ None
-      → contents (placed_if_room q s hd) ≡ contents q ++ ((hd, last_bytes (placed_if_room q s hd)) ∷ [])
+      → contents (with_packet_if_room q s hd) ≡ contents q ++ ((hd, last_bytes (with_packet_if_room q s hd)) ∷ [])
   placed_stands q ok s hd some =
       let g = some_of (placement q s) some in
-      let o = placed_if_room q s hd in
+      let o = with_packet_if_room q s hd in
       let w = placed_well q ok s hd some in
       let f = last_fits (length o.storage) o.read_at 0 o.packets w.0.0 (omega (arith, w.0.1)) w.1 in
       let z : 0 + bytes_used o.packets - first_size (only_last o.packets) ≡ bytes_used o.packets - first_size (only_last o.packets) = omega arith in
@@ -258,49 +258,49 @@ module _ {H : Type 0} where
       ∙ ap first_size (last_append q.packets (packet hd s g.0)) in
       let n : length (last_bytes o) ≡ s =
       length-take-le (first_size (only_last o.packets)) (drop (last_place o) o.storage) (omega (arith, at, f.1, long)) ∙ size in
-      ap (λ (m : ℕ). contents (placed_if_room q m hd)) (sym n)
+      ap (λ (m : ℕ). contents (with_packet_if_room q m hd)) (sym n)
       ∙ placed_contents q ok hd (last_bytes o) (subst (λ (m : ℕ). placement q m ≢ None) (sym n) some)
-      (ap (λ (m : ℕ). last_bytes (placed_if_room q m hd)) (sym n))
+      (ap (λ (m : ℕ). last_bytes (with_packet_if_room q m hd)) (sym n))
 
   pub last_is_written : (q : PacketQueue H) → WellPlaced q → (ws : List ℕ) → q.packets ≢ []
-      → length ws ≡ first_size (only_last q.packets) → contents (last_written q ws) ≡ with_last_bytes ws (contents q)
+      → length ws ≡ first_size (only_last q.packets) → contents (with_last_bytes q ws) ≡ with_bytes_in_last_entry ws (contents q)
   last_is_written q ok ws some long =
       let l = last_contents q ok ws some long in
-      l.4 ∙ sym (last_entry l.0 l.1 l.2 ws) ∙ ap (with_last_bytes ws) (sym l.3)
+      l.4 ∙ sym (last_entry l.0 l.1 l.2 ws) ∙ ap (with_bytes_in_last_entry ws) (sym l.3)
 
   -- what was taken off stands before the read index
   taken_bytes : (q : PacketQueue H) → WellPlaced q → (s : ℕ) → s ≡ first_size q.packets
-      → (freed_bytes (dequeued q) s ≡ first_bytes (skipped q)) × (length (freed_bytes (dequeued q) s) ≡ s)
+      → (freed_bytes (without_first_and_gap q) s ≡ first_bytes (without_gap q)) × (length (freed_bytes (without_first_and_gap q) s) ≡ s)
   taken_bytes q ok s is =
-      let f = off_go q.slot_count q.storage (skipped q).read_at (without_first_gap q.packets) (skipped_well q ok) (close_gap q.packets) in
+      let f = off_go q.slot_count q.storage (without_gap q).read_at (without_first_gap q.packets) (skipped_well q ok) (close_gap q.packets) in
       let size : first_size (without_first_gap q.packets) ≡ s = close_size q.packets ∙ sym is in
-      let fits = subst (λ (n : ℕ). AreFreed (dequeued q) n) size f.1 in
-      let at : freed_place (dequeued q) s ≡ (skipped q).read_at = sym (ap (freed_place (dequeued q)) size) ∙ f.0 in
-      let long = length-drop (freed_place (dequeued q) s) q.storage in (
+      let fits = subst (λ (n : ℕ). AreFreed (without_first_and_gap q) n) size f.1 in
+      let at : freed_place (without_first_and_gap q) s ≡ (without_gap q).read_at = sym (ap (freed_place (without_first_and_gap q)) size) ∙ f.0 in
+      let long = length-drop (freed_place (without_first_and_gap q) s) q.storage in (
         ap₂ (λ (p n : ℕ). take n (drop p q.storage)) at (sym size),
-        length-take-le s (drop (freed_place (dequeued q) s) q.storage) (omega (arith, long, fits.1)),
+        length-take-le s (drop (freed_place (without_first_and_gap q) s) q.storage) (omega (arith, long, fits.1)),
       )
 
   pub taken_contents : (q : PacketQueue H) → WellPlaced q → (hd : H) (s : ℕ) → IsFirstSized q.packets hd s
-      → contents q ≡ (hd, freed_bytes (dequeued q) s) ∷ contents (dequeued q)
+      → contents q ≡ (hd, freed_bytes (without_first_and_gap q) s) ∷ contents (without_first_and_gap q)
   taken_contents q ok hd s first =
       let t = taken_bytes q ok s (sym (ap first_size first)) in
       let sized = subst (λ (n : ℕ). IsFirstSized q.packets hd n) (sym t.1) first in
-      order.shown q ok hd (freed_bytes (dequeued q) s) (sized, t.0) ∙ ap (λ l. (hd, freed_bytes (dequeued q) s) ∷ l) (sym (order.left q ok))
+      order.shown q ok hd (freed_bytes (without_first_and_gap q) s) (sized, t.0) ∙ ap (λ l. (hd, freed_bytes (without_first_and_gap q) s) ∷ l) (sym (order.left q ok))
 
   -- what stands before the read index is written over itself
   pub freed_stay : (q : PacketQueue H) (s : ℕ) (ws : List ℕ) → ws ≡ freed_bytes q s → with_bytes q (freed_place q s) ws ≡ q
   freed_stay q s ws is = ap (with_bytes q (freed_place q s)) is
       ∙ ap (λ (st : List ℕ). mk q.slot_count st q.read_at q.packets) (overwrite-same q.storage (freed_place q s) s)
 
-  pub peeked_contents : (q : PacketQueue H) → WellPlaced q → contents (dequeued (skipped q)) ≡ drop 1 (contents q)
-  peeked_contents q ok = order.left (skipped q) (skipped_well q ok) ∙ ap (drop 1) (order.gap_dropped q ok)
+  pub peeked_contents : (q : PacketQueue H) → WellPlaced q → contents (without_first_and_gap (without_gap q)) ≡ drop 1 (contents q)
+  peeked_contents q ok = order.left (without_gap q) (skipped_well q ok) ∙ ap (drop 1) (order.gap_dropped q ok)
 
   still_go : (ps : List (Packet H)) → length (without_first_gap ps) ≡ length ps
   still_go [] = refl
   still_go (p ∷ ps) = refl
 
-  pub still_there : (q : PacketQueue H) → length (skipped q).packets ≡ length q.packets
+  pub still_there : (q : PacketQueue H) → length (without_gap q).packets ≡ length q.packets
   still_there q = still_go q.packets
 
   some_first : (ps : List (Packet H)) (hd : H) (n : ℕ) → IsFirstSized ps hd n → ps ≢ []
@@ -308,7 +308,7 @@ module _ {H : Type 0} where
   some_first (p ∷ ps) hd n e z = let k = ap length z in omega (arith, k)
 
   pub kept_contents : (q : PacketQueue H) → WellPlaced q → (hd : H) (ws : List ℕ) (gone : Bool) → IsFirst q hd ws
-      → contents (handed gone q hd ws) ≡ (if gone then drop 1 (contents q) else contents q)
+      → contents (after_hand_out gone q hd ws) ≡ (if gone then drop 1 (contents q) else contents q)
   kept_contents q ok hd ws true f = order.left_with q ok hd ws (sym (ap first_size f.0))
   kept_contents q ok hd ws false f = order.refused q ok hd ws (some_first q.packets hd (length ws) f.0) (sym (ap first_size f.0))
       ∙ sym (order.shown q ok hd ws f)
@@ -331,33 +331,33 @@ module _ {H : Type 0} where
       (λ h. n.1 (e.0 h), λ h. e.1 (n.0 h))
 
   last_any : (n : ℕ) (st : List ℕ) (r : ℕ) (ps : List (Packet H)) (ws : List ℕ) → WellPlaced (mk n st r ps) → length ws ≡ first_size (only_last ps)
-      → contents (last_written (mk n st r ps) ws) ≡ with_last_bytes ws (contents (mk n st r ps))
+      → contents (with_last_bytes (mk n st r ps) ws) ≡ with_bytes_in_last_entry ws (contents (mk n st r ps))
   unfolding contents
   last_any n st r [] ws ok long = refl
   last_any n st r (p ∷ ps) ws ok long = last_is_written (mk n st r (p ∷ ps)) ok ws (λ e. let k = ap length e in absurd (omega (arith, k))) long
 
   pub last_shown : (q : PacketQueue H) → WellPlaced q → (ws : List ℕ) → length ws ≡ first_size (only_last q.packets)
-      → contents (last_written q ws) ≡ with_last_bytes ws (contents q)
+      → contents (with_last_bytes q ws) ≡ with_bytes_in_last_entry ws (contents q)
   last_shown q ok ws long = last_any q.slot_count q.storage q.read_at q.packets ws ok long
 
   -- a packet that was placed
   module _ (q : PacketQueue H) (ok : WellPlaced q) (s : ℕ) (hd : H) (gap : ℕ) (e : placement q s
-      ≡ Some gap) (n : PacketQueue H) (is : n ≡ placed_if_room q s hd) where
+      ≡ Some gap) (n : PacketQueue H) (is : n ≡ with_packet_if_room q s hd) where
     room : placement q s ≢ None
     room z = absurd (none-some _ (sym z ∙ e))
 
-    pub accepted_as : (ws : List ℕ) → length ws ≡ s → contents (last_written n ws) ≡ contents q ++ ((hd, ws) ∷ [])
-    accepted_as ws long = ap (λ o. contents (last_written o ws)) is ∙ order.accepted q ok s hd ws room long
+    pub accepted_as : (ws : List ℕ) → length ws ≡ s → contents (with_last_bytes n ws) ≡ contents q ++ ((hd, ws) ∷ [])
+    accepted_as ws long = ap (λ o. contents (with_last_bytes o ws)) is ∙ order.accepted q ok s hd ws room long
 
     pub stands_as : contents n ≡ contents q ++ ((hd, last_bytes n) ∷ [])
     stands_as = ap contents is ∙ placed_stands q ok s hd room ∙ ap (λ o. contents q ++ ((hd, last_bytes o) ∷ [])) (sym is)
 
   -- the first packet, which was taken off
   pub taken_as : (q : PacketQueue H) → WellPlaced q → (hd : H) (s : ℕ) → IsFirstSized q.packets hd s → (n : PacketQueue H)
-      → n ≡ dequeued q → contents q ≡ (hd, freed_bytes n s) ∷ contents n
+      → n ≡ without_first_and_gap q → contents q ≡ (hd, freed_bytes n s) ∷ contents n
   taken_as q ok hd s first n is = taken_contents q ok hd s first ∙ ap (λ o. (hd, freed_bytes o s) ∷ contents o) (sym is)
 
-  pub left_as : (q : PacketQueue H) → WellPlaced q → (n : PacketQueue H) → n ≡ dequeued q → contents n ≡ drop 1 (contents q)
+  pub left_as : (q : PacketQueue H) → WellPlaced q → (n : PacketQueue H) → n ≡ without_first_and_gap q → contents n ≡ drop 1 (contents q)
   left_as q ok n is = ap contents is ∙ order.left q ok
 
   pub freed_unseen : (q : PacketQueue H) → WellPlaced q → (s : ℕ) → AreFreed q s → (ws : List ℕ) → length ws ≡ s
@@ -367,7 +367,7 @@ module _ {H : Type 0} where
 
   pub handed_contents : (q : PacketQueue H) → WellPlaced q → (hd : H) (ws : List ℕ) (new : H) (news : List ℕ) (gone : Bool)
       → IsFirst q hd ws → length news ≡ length ws
-      → contents (handed gone q new news) ≡ (if gone then drop 1 (contents q) else ((new, news) ∷ drop 1 (contents q)))
+      → contents (after_hand_out gone q new news) ≡ (if gone then drop 1 (contents q) else ((new, news) ∷ drop 1 (contents q)))
   handed_contents q ok hd ws new news true f long = order.left_with q ok new news (long ∙ sym (ap first_size f.0))
   handed_contents q ok hd ws new news false f long = order.refused q ok new news (some_first q.packets hd (length ws) f.0) (long ∙ sym (ap first_size f.0))
 
@@ -397,12 +397,12 @@ module _ {H : Type 0} where
       ∙ ap (λ l. set (log.left ++ l) (length log.left) p) (sym f.1) ∙ ap (λ l. set l (length log.left) p) turn
 
   again : (log : Log (H × List ℕ)) (q r : PacketQueue H) (ws : List ℕ) (front : List (H × List ℕ)) (hd : H) (old : List ℕ)
-      → InTurn log q → contents q ≡ front ++ ((hd, old) ∷ []) → contents r ≡ front ++ ((hd, ws) ∷ []) → log.left ++ contents r ≡ with_last_bytes ws log.accepted
+      → InTurn log q → contents q ≡ front ++ ((hd, old) ∷ []) → contents r ≡ front ++ ((hd, ws) ∷ []) → log.left ++ contents r ≡ with_bytes_in_last_entry ws log.accepted
   again log q r ws front hd old turn was is =
       ap (λ l. log.left ++ l) is ∙ sym (append_assoc log.left front ((hd, ws) ∷ [])) ∙ sym (last_entry (log.left ++ front) hd old ws)
-      ∙ ap (with_last_bytes ws) (append_assoc log.left front ((hd, old) ∷ []) ∙ ap (λ l. log.left ++ l) (sym was) ∙ turn)
+      ∙ ap (with_bytes_in_last_entry ws) (append_assoc log.left front ((hd, old) ∷ []) ∙ ap (λ l. log.left ++ l) (sym was) ∙ turn)
 
-  call_turn : (call : QueueCall H) (log : Log (H × List ℕ)) (q r : PacketQueue H) → WellPlaced q → Makes call q r → InTurn log q → InTurn (logged call log) r
+  call_turn : (call : QueueCall H) (log : Log (H × List ℕ)) (q r : PacketQueue H) → WellPlaced q → Makes call q r → InTurn log q → InTurn (log_after call log) r
   unfolding contents
   call_turn Reset log q r ok is turn = ap (λ o. log.left ++ contents o) is ∙ append-nil log.left
   call_turn (Place hd ws) log q r ok does turn =
@@ -425,10 +425,10 @@ module _ {H : Type 0} where
       off log q r (hd, ws) turn (order.shown q ok hd ws does.0) (ap contents does.2 ∙ off_contents q ok written (does.1 ∙ sym size) ∙ order.left q ok)
 
   calls_turn : (calls : List (QueueCall H)) (log : Log (H × List ℕ)) (q r : PacketQueue H) → WellPlaced q → MakesAll calls q r
-      → InTurn log q → InTurn (logged_all calls log) r
+      → InTurn log q → InTurn (log_after_all calls log) r
   calls_turn [] log q r ok run turn = ap (λ o. log.left ++ contents o) run ∙ turn
   calls_turn (call ∷ calls) log q r ok run turn =
-      calls_turn calls (logged call log) run.0 r (keeps call q run.0 ok run.1) run.2 (call_turn call log q run.0 ok run.1 turn)
+      calls_turn calls (log_after call log) run.0 r (keeps call q run.0 ok run.1) run.2 (call_turn call log q run.0 ok run.1 turn)
 
   pub in_turn : (slots : ℕ) (storage : List ℕ) (calls : List (QueueCall H)) (r : PacketQueue H)
       → MakesAll calls (no_packets slots storage) r → InTurn (history calls) r

@@ -7,8 +7,8 @@ use Rattle.std.specs.Prelude.{true, Option}
 use Rattle.std.specs.List.{slice_get}
 use Rattle.std.specs.declared.option.Option.TheVariants.{Some, None}
 use Rattle.net_storage.specs.Overwrite.{overwrite}
-use Rattle.net_storage.specs.Ring.{RingState, ring, index_after, freed_index, rotation, capacity, window, queue, storage_index, WellFormed, restarted, with_enqueued, with_dequeued, written, contiguous_window, contiguous_queued, queue_index, contiguous_queued_from, spare_index, contiguous_window_from}
-use Rattle.net_storage.specs.Packets.{Packet, PacketQueue, packet, bytes_used, slots_used, slots_for, byte_ring, IsPlaced, ArePlaced, gap_for, placement, pushed, placed_if_room, pushed_if, only_last, before_last, last_place, last_bytes, last_written, last_cut, with_first_size, IsRoom, first_gap, first_size, without_first_gap, skipped, IsFirstSized, first_bytes, IsFirst, with_first_header, first_written, popped, freed_place, AreFreed, WellPlaced, with_bytes}
+use Rattle.net_storage.specs.Ring.{RingState, ring, index_after, freed_index, rotation, capacity, window, queue, storage_index, WellFormed, from_start_if_empty, with_enqueued, with_dequeued, with_elements, contiguous_window, contiguous_queued, queue_index, contiguous_queued_from, spare_index, contiguous_window_from}
+use Rattle.net_storage.specs.Packets.{Packet, PacketQueue, packet, bytes_used, slots_used, slots_for, byte_ring, IsPlaced, ArePlaced, gap_for, placement, with_packet, with_packet_if_room, with_packet_if, only_last, before_last, last_place, last_bytes, with_last_bytes, with_last_size, with_first_size, IsRoom, first_gap, first_size, without_first_gap, without_gap, IsFirstSized, first_bytes, IsFirst, with_first_header, with_first_bytes, without_first, freed_place, AreFreed, WellPlaced, with_bytes}
 use Rattle.net_storage.specs.PacketSlots.{slot, gap_slot, packet_slots, packets_in, Holds, packet_queue}
 use Rattle.net_storage.specs.declared.packet_metadata.PacketMetadata.{PacketMetadata}
 use Rattle.net_storage.proofs.Rotations.{length-overwrite, length-queue, with_dequeued_parts, part-rotation, cut, overwrite_at, read_at_le}
@@ -16,10 +16,10 @@ use Rattle.net_storage.proofs.RingFacts.{read_index_is, restart_cases, restart_w
 use Rattle.net_storage.proofs.PacketFacts.{round, slots_append, slots_of_append, bytes_append, placed_append, placed_anew, placed_here, placed_skip, placed_pop, slots_some, held_is, place_zero, place_le_in, place_wf, gap_slot_one, gap_slot_none, place_cases}
 
 module _ (b : RingState ℕ) where
-  pub restart_held : (restarted b).count ≡ b.count
+  pub restart_held : (from_start_if_empty b).count ≡ b.count
   restart_held = elim (restart_cases b) [ inl h ↦ ap (λ o. o.count) h.1 ∙ sym h.0 | inr h ↦ ap (λ o. o.count) h.1 ]
 
-  pub restart_storage : (restarted b).storage ≡ b.storage
+  pub restart_storage : (from_start_if_empty b).storage ≡ b.storage
   restart_storage = elim (restart_cases b) [ inl h ↦ ap (λ o. o.storage) h.1 | inr h ↦ ap (λ o. o.storage) h.1 ]
 
 module _ {H : Type 0} where
@@ -38,7 +38,7 @@ module _ {H : Type 0} where
     viewed = ap (mk (capacity m) b.storage b.read_at) seen
 
     -- bytes that are written over the storage change no place
-    pub written_holds : (p : ℕ) (ws : List ℕ) → Holds m (written b p ws) ps
+    pub written_holds : (p : ℕ) (ws : List ℕ) → Holds m (with_elements b p ws) ps
     written_holds p ws =
         let long = length-overwrite b.storage p ws in (
           h.0,
@@ -65,7 +65,7 @@ module _ {H : Type 0} where
     before = packet_queue m b
 
     abbrev g : RingState ℕ
-    g = restarted b
+    g = from_start_if_empty b
 
     abbrev room : ℕ
     room = capacity g
@@ -73,13 +73,13 @@ module _ {H : Type 0} where
     pub same : byte_ring before ≡ b
     same = ap (λ (n : ℕ). ring b.storage b.read_at n) (sym h.3)
 
-    parts : (gap_for s (contiguous_window (restarted (byte_ring before))) (window (restarted (byte_ring before))) ≡ Some gap)
+    parts : (gap_for s (contiguous_window (from_start_if_empty (byte_ring before))) (window (from_start_if_empty (byte_ring before))) ≡ Some gap)
         × (slots_for gap ≤ capacity m - slots_used held_packets)
     parts = slots_some (capacity m - slots_used held_packets)
-        (gap_for s (contiguous_window (restarted (byte_ring before))) (window (restarted (byte_ring before)))) gap e
+        (gap_for s (contiguous_window (from_start_if_empty (byte_ring before))) (window (from_start_if_empty (byte_ring before)))) gap e
 
     for_g : gap_for s (contiguous_window g) (window g) ≡ Some gap
-    for_g = sym (ap (λ o. gap_for s (contiguous_window (restarted o)) (window (restarted o))) same) ∙ parts.0
+    for_g = sym (ap (λ o. gap_for s (contiguous_window (from_start_if_empty o)) (window (from_start_if_empty o))) same) ∙ parts.0
 
     pub wfg : WellFormed g
     wfg = restart_wf b h.1
@@ -107,10 +107,10 @@ module _ {H : Type 0} where
       abbrev one_more : List (Packet H)
       one_more = held_packets ++ (packet hd k gap ∷ [])
 
-      pub push_is : mk (capacity m) g.storage g.read_at one_more ≡ pushed before gap k hd
+      pub push_is : mk (capacity m) g.storage g.read_at one_more ≡ with_packet before gap k hd
       push_is =
           ap (λ (st : List ℕ). mk (capacity m) st g.read_at one_more) (restart_storage b)
-          ∙ ap (λ (o : RingState ℕ). mk (capacity m) b.storage (restarted o).read_at one_more) (sym same)
+          ∙ ap (λ (o : RingState ℕ). mk (capacity m) b.storage (from_start_if_empty o).read_at one_more) (sym same)
 
       module _ (le : k ≤ s) where
         push_placed : ArePlaced room g.read_at 0 one_more
@@ -120,7 +120,7 @@ module _ {H : Type 0} where
             omega (arith, held_g) in z) (omega (arith, here.0, le), here.1) in
             placed_append room g.read_at 0 held_packets (packet hd k gap) placed_g at
 
-        pub push_well : WellPlaced (pushed before gap k hd)
+        pub push_well : WellPlaced (with_packet before gap k hd)
         push_well =
             let n = held_is m b held_packets h in
             let all = bytes_append held_packets (packet hd k gap) in
@@ -136,7 +136,7 @@ module _ {H : Type 0} where
               let all = bytes_append held_packets (packet hd k gap) in
               (wfm, (wfg.0, omega (arith, here.2, le)), slots_all, omega (arith, held_g, all), push_placed)
 
-          pub push_left : (cm : capacity m2 ≡ capacity m) → packet_queue m2 (with_enqueued (gap + k) g) ≡ pushed before gap k hd
+          pub push_left : (cm : capacity m2 ≡ capacity m) → packet_queue m2 (with_enqueued (gap + k) g) ≡ with_packet before gap k hd
           push_left cm = viewed m2 (with_enqueued (gap + k) g) one_more push_holds ∙ ap (λ (n : ℕ). mk n g.storage g.read_at one_more) cm ∙ push_is
 
     -- ---- a packet comes last, and bytes are written to it
@@ -144,38 +144,38 @@ module _ {H : Type 0} where
       abbrev all : List (Packet H)
       all = held_packets ++ (packet hd s gap ∷ [])
 
-      pushed_is : placed_if_room before s hd ≡ pushed before gap s hd
-      pushed_is = ap (λ o. pushed_if before o s hd) e
+      pushed_is : with_packet_if_room before s hd ≡ with_packet before gap s hd
+      pushed_is = ap (λ o. with_packet_if before o s hd) e
 
       end_size : first_size (only_last all) ≡ s
       end_size = ap first_size (last_append held_packets (packet hd s gap))
 
-      push_place : last_place (pushed before gap s hd) ≡ index_after room g.read_at (g.count + gap)
+      push_place : last_place (with_packet before gap s hd) ≡ index_after room g.read_at (g.count + gap)
       push_place =
           let sum = bytes_append held_packets (packet hd s gap) in
           let n : bytes_used all - first_size (only_last all) ≡ g.count + gap = omega (arith, sum, end_size, held_g) in
-          ap (index_after (length b.storage) (restarted (byte_ring before)).read_at) n
-          ∙ ap (λ (o : RingState ℕ). index_after (length b.storage) (restarted o).read_at (g.count + gap)) same
+          ap (index_after (length b.storage) (from_start_if_empty (byte_ring before)).read_at) n
+          ∙ ap (λ (o : RingState ℕ). index_after (length b.storage) (from_start_if_empty o).read_at (g.count + gap)) same
           ∙ ap (λ (st : List ℕ). index_after (length st) g.read_at (g.count + gap)) (sym (restart_storage b))
 
       -- where the last packet's bytes begin
       abbrev at : ℕ
       at = index_after room g.read_at (g.count + gap)
 
-      pub put_is : (ws : List ℕ) → mk (capacity m) (overwrite g.storage at ws) g.read_at all ≡ last_written (placed_if_room before s hd) ws
+      pub put_is : (ws : List ℕ) → mk (capacity m) (overwrite g.storage at ws) g.read_at all ≡ with_last_bytes (with_packet_if_room before s hd) ws
       put_is ws =
           ap (λ (st : List ℕ). mk (capacity m) (overwrite st at ws) g.read_at all) (restart_storage b)
-          ∙ ap (λ (o : RingState ℕ). mk (capacity m) (overwrite b.storage at ws) (restarted o).read_at all) (sym same)
-          ∙ ap (λ (p : ℕ). mk (capacity m) (overwrite b.storage p ws) (restarted (byte_ring before)).read_at all) (sym push_place)
-          ∙ ap (λ (o : PacketQueue H). last_written o ws) (sym pushed_is)
+          ∙ ap (λ (o : RingState ℕ). mk (capacity m) (overwrite b.storage at ws) (from_start_if_empty o).read_at all) (sym same)
+          ∙ ap (λ (p : ℕ). mk (capacity m) (overwrite b.storage p ws) (from_start_if_empty (byte_ring before)).read_at all) (sym push_place)
+          ∙ ap (λ (o : PacketQueue H). with_last_bytes o ws) (sym pushed_is)
 
       pub cut_is : (k : ℕ) (ws : List ℕ)
           → mk (capacity m) (overwrite g.storage at ws) g.read_at (held_packets ++ (packet hd k gap ∷ []))
-          ≡ last_cut k (last_written (placed_if_room before s hd) ws)
+          ≡ with_last_size k (with_last_bytes (with_packet_if_room before s hd) ws)
       cut_is k ws =
           ap₂ (λ (front back : List (Packet H)). mk (capacity m) (overwrite g.storage at ws) g.read_at (front ++ back))
           (sym (before_append held_packets (packet hd s gap))) (sym (ap (with_first_size k) (last_append held_packets (packet hd s gap))))
-          ∙ ap (last_cut k) (put_is ws)
+          ∙ ap (with_last_size k) (put_is ws)
 
       module _ (b1 : RingState ℕ) (is : b1 ≡ g) where
         fill_at : spare_index b1 gap ≡ index_after room g.read_at (g.count + gap)
@@ -183,7 +183,7 @@ module _ {H : Type 0} where
             let z : g.count + min gap (window g) ≡ g.count + gap = omega (arith, byte_room) in
             ap (λ o. spare_index o gap) is ∙ ap (index_after room g.read_at) z
 
-        fill_place : spare_index b1 gap ≡ last_place (placed_if_room before s hd)
+        fill_place : spare_index b1 gap ≡ last_place (with_packet_if_room before s hd)
         fill_place = fill_at ∙ sym push_place ∙ ap last_place (sym pushed_is)
 
         pub fill_run : contiguous_window_from b1 gap s ≡ s
@@ -197,27 +197,27 @@ module _ {H : Type 0} where
             → length now ≡ contiguous_window_from b1 gap s → IsRoom before s hd now
         fill_room now stored count =
             let long : length now ≡ s = count ∙ fill_run in
-            let size : first_size (only_last (placed_if_room before s hd).packets) ≡ s = ap (λ o. first_size (only_last o.packets)) pushed_is ∙ end_size in
-            let st : (placed_if_room before s hd).storage ≡ b1.storage = ap (λ o. o.storage) pushed_is ∙ sym (restart_storage b)
+            let size : first_size (only_last (with_packet_if_room before s hd).packets) ≡ s = ap (λ o. first_size (only_last o.packets)) pushed_is ∙ end_size in
+            let st : (with_packet_if_room before s hd).storage ≡ b1.storage = ap (λ o. o.storage) pushed_is ∙ sym (restart_storage b)
             ∙ ap (λ o. o.storage) (sym is) in
-            let one : last_bytes (placed_if_room before s hd) ≡ take s (drop (spare_index b1 gap) b1.storage) =
-            ap (λ (n : ℕ). take n (drop (last_place (placed_if_room before s hd)) (placed_if_room before s hd).storage)) size
+            let one : last_bytes (with_packet_if_room before s hd) ≡ take s (drop (spare_index b1 gap) b1.storage) =
+            ap (λ (n : ℕ). take n (drop (last_place (with_packet_if_room before s hd)) (with_packet_if_room before s hd).storage)) size
             ∙ ap₂ (λ (p : ℕ) (l : List ℕ). take s (drop p l)) (sym fill_place) st in
             ((λ n. none-some gap (sym n ∙ e)), stored ∙ ap (λ (n : ℕ). take n (drop (spare_index b1 gap) b1.storage)) long ∙ sym one, long)
 
         module _ (k : ℕ) (le : k ≤ s) (ws : List ℕ) (m2 : RingState (PacketMetadata H)) (em : queue m2
             ≡ queue m ++ (gap_slot gap ++ (slot k (Some hd) ∷ []))) (wfm : WellFormed m2) (b3 : RingState ℕ) (after : b3
-            ≡ with_enqueued (gap + k) (written b1 (spare_index b1 gap) ws)) where
-          after_is : b3 ≡ written (with_enqueued (gap + k) g) at ws
-          after_is = after ∙ ap₂ (λ (o : RingState ℕ) (p : ℕ). with_enqueued (gap + k) (written o p ws)) is fill_at
+            ≡ with_enqueued (gap + k) (with_elements b1 (spare_index b1 gap) ws)) where
+          after_is : b3 ≡ with_elements (with_enqueued (gap + k) g) at ws
+          after_is = after ∙ ap₂ (λ (o : RingState ℕ) (p : ℕ). with_enqueued (gap + k) (with_elements o p ws)) is fill_at
 
-          holds : Holds m2 (written (with_enqueued (gap + k) g) at ws) (held_packets ++ (packet hd k gap ∷ []))
+          holds : Holds m2 (with_elements (with_enqueued (gap + k) g) at ws) (held_packets ++ (packet hd k gap ∷ []))
           holds = written_holds m2 (with_enqueued (gap + k) g) (held_packets ++ (packet hd k gap ∷ [])) (push_holds hd k le m2 em wfm) at ws
 
           pub fill_holds : Holds m2 b3 (packets_in 0 (queue m2))
           fill_holds = subst (λ (o : RingState ℕ). Holds m2 o (packets_in 0 (queue m2))) (sym after_is) (closed m2 _ _ holds)
 
-          pub fill_left : capacity m2 ≡ capacity m → packet_queue m2 b3 ≡ last_cut k (last_written (placed_if_room before s hd) ws)
+          pub fill_left : capacity m2 ≡ capacity m → packet_queue m2 b3 ≡ with_last_size k (with_last_bytes (with_packet_if_room before s hd) ws)
           fill_left cm =
               ap (packet_queue m2) after_is ∙ viewed m2 _ _ holds
               ∙ ap (λ (n : ℕ). mk n (overwrite g.storage at ws) g.read_at (held_packets ++ (packet hd k gap ∷ []))) cm ∙ cut_is k ws
@@ -536,7 +536,7 @@ module _ {H : Type 0} where
 
     -- they are lent
     module _ (q : PacketQueue H) (is : packet_queue m b ≡ q) where
-      pub freed_ends : (ws : List ℕ) → packet_queue m (written b (freed_index b s) ws) ≡ with_bytes q (freed_place q s) ws
+      pub freed_ends : (ws : List ℕ) → packet_queue m (with_elements b (freed_index b s) ws) ≡ with_bytes q (freed_place q s) ws
       freed_ends ws = ap (λ (o : PacketQueue H). with_bytes o (freed_place o s) ws) is
 
       pub freed_value : (now : List ℕ) → now ≡ take s (drop (freed_index b s) b.storage) → now ≡ take s (drop (freed_place q s) q.storage)
@@ -609,17 +609,17 @@ module _ {H : Type 0} where
     lift_bytes = ap (take s) (lent_is b h.1) ∙ take-take s (contiguous_queued b) (drop b.read_at b.storage) row
         ∙ ap (λ (n : ℕ). take n (drop b.read_at b.storage)) size_is
 
-    pub lift_front : (old : PacketQueue H) → packet_queue m b ≡ skipped old → IsFirst old hd (take s lent)
+    pub lift_front : (old : PacketQueue H) → packet_queue m b ≡ without_gap old → IsFirst old hd (take s lent)
     lift_front old is =
         let n : length (take s lent) ≡ s = length-take-le s lent lift_fits in (
           close_first old.packets hd (length (take s lent)) (front_first m b h z (slot s (Some hd)) e hd refl (length (take s lent)) (n
-              ∙ size_is) (skipped old) is),
+              ∙ size_is) (without_gap old) is),
           lift_bytes
               ∙ ap first_bytes is,
         )
 
     module _ (after ws : List ℕ) (left : after ≡ ws ++ drop s lent) (long : length ws ≡ s) (k : ℕ) (b2 : RingState ℕ) (is : b2
-        ≡ written (with_dequeued k b) b.read_at after) where
+        ≡ with_elements (with_dequeued k b) b.read_at after) where
       over : overwrite b.storage b.read_at after ≡ overwrite b.storage b.read_at ws
       over =
           let fits : b.read_at + contiguous_queued b ≤ length b.storage = let r = read_at_le b h.1 in omega (arith, r) in
@@ -627,7 +627,7 @@ module _ {H : Type 0} where
           ∙ ap (λ (l : List ℕ). ws ++ drop (length ws) l) (lent_is b h.1))
           ∙ over_part b.storage ws b.read_at (contiguous_queued b) fits (omega (arith, long, row))
 
-      bytes_are : b2 ≡ written (with_dequeued k b) b.read_at ws
+      bytes_are : b2 ≡ with_elements (with_dequeued k b) b.read_at ws
       bytes_are = is ∙ ap (λ (st : List ℕ). ring st (storage_index b k) (b.count - k)) over
 
       -- it is taken off
@@ -635,18 +635,18 @@ module _ {H : Type 0} where
         long_is : length b.storage ≡ length (overwrite b.storage b.read_at ws)
         long_is = sym (length-overwrite b.storage b.read_at ws)
 
-        off_is : b2 ≡ with_dequeued (first_size kept) (written b b.read_at ws)
+        off_is : b2 ≡ with_dequeued (first_size kept) (with_elements b b.read_at ws)
         off_is =
-            bytes_are ∙ ap (λ (n : ℕ). written (with_dequeued n b) b.read_at ws) (all ∙ size_is)
+            bytes_are ∙ ap (λ (n : ℕ). with_elements (with_dequeued n b) b.read_at ws) (all ∙ size_is)
             ∙ ap (λ (c : ℕ). ring (overwrite b.storage b.read_at ws) (index_after c b.read_at (first_size kept)) (b.count - first_size kept)) long_is
 
-        off_holds : Holds m2 (with_dequeued (first_size kept) (written b b.read_at ws)) (drop 1 kept)
-        off_holds = pop_holds m (written b b.read_at ws) (written_holds m b kept h b.read_at ws) z m2 (em ∙ first_is.3) wfm
+        off_holds : Holds m2 (with_dequeued (first_size kept) (with_elements b b.read_at ws)) (drop 1 kept)
+        off_holds = pop_holds m (with_elements b b.read_at ws) (written_holds m b kept h b.read_at ws) z m2 (em ∙ first_is.3) wfm
 
         pub off_kept : Holds m2 b2 (packets_in 0 (queue m2))
         off_kept = subst (λ (o : RingState ℕ). Holds m2 o (packets_in 0 (queue m2))) (sym off_is) (closed m2 _ _ off_holds)
 
-        pub off_left : capacity m2 ≡ capacity m → (new : H) → packet_queue m2 b2 ≡ popped (first_written (packet_queue m b) new ws)
+        pub off_left : capacity m2 ≡ capacity m → (new : H) → packet_queue m2 b2 ≡ without_first (with_first_bytes (packet_queue m b) new ws)
         off_left cm new =
             ap (packet_queue m2) off_is ∙ viewed m2 _ _ off_holds
             ∙ ap (λ (n : ℕ). mk n (overwrite b.storage b.read_at ws)
@@ -656,23 +656,23 @@ module _ {H : Type 0} where
 
       -- it stays
       module _ (none : k ≡ 0) (new : H) (m2 : RingState (PacketMetadata H)) (em : queue m2 ≡ slot s (Some new) ∷ drop 1 (queue m)) (wfm : WellFormed m2) where
-        on_is : b2 ≡ written b b.read_at ws
+        on_is : b2 ≡ with_elements b b.read_at ws
         on_is =
-            bytes_are ∙ ap (λ (n : ℕ). written (with_dequeued n b) b.read_at ws) none
+            bytes_are ∙ ap (λ (n : ℕ). with_elements (with_dequeued n b) b.read_at ws) none
             ∙ ap₂ (λ (r n : ℕ). ring (overwrite b.storage b.read_at ws) r n) (place_zero (capacity b) b.read_at h.1.0) (let n : b.count - 0 ≡ b.count =
             omega arith in n)
 
-        on_holds : Holds m2 (written b b.read_at ws) (with_first_header new kept)
+        on_holds : Holds m2 (with_elements b b.read_at ws) (with_first_header new kept)
         on_holds =
             let w = written_holds m b kept h b.read_at ws in
             let n = ap length first_is.1 in
-            headed_go m2 (written b b.read_at ws) kept new z (omega (arith, n)) (em
+            headed_go m2 (with_elements b b.read_at ws) kept new z (omega (arith, n)) (em
             ∙ ap₂ (λ (n : ℕ) (l : List (PacketMetadata H)). slot n (Some new) ∷ l) size_is first_is.3) wfm w.1 w.3 w.4
 
         pub on_kept : Holds m2 b2 (packets_in 0 (queue m2))
         on_kept = subst (λ (o : RingState ℕ). Holds m2 o (packets_in 0 (queue m2))) (sym on_is) (closed m2 _ _ on_holds)
 
-        pub on_left : capacity m2 ≡ capacity m → packet_queue m2 b2 ≡ first_written (packet_queue m b) new ws
+        pub on_left : capacity m2 ≡ capacity m → packet_queue m2 b2 ≡ with_first_bytes (packet_queue m b) new ws
         on_left cm =
             ap (packet_queue m2) on_is ∙ viewed m2 _ _ on_holds
             ∙ ap (λ (n : ℕ). mk n (overwrite b.storage b.read_at ws) b.read_at (with_first_header new kept)) cm

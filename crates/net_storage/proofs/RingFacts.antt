@@ -8,7 +8,7 @@ use Rattle.std.specs.Prelude.{Result, IsOk, IsErr, is_ok, slice_get}
 use Rattle.std.proofs.lemmas.Option.{slice_get_past}
 use Rattle.std.specs.declared.result.Result.TheVariants.{Ok, Err}
 use Rattle.net_storage.specs.Overwrite.{overwrite}
-use Rattle.net_storage.specs.Ring.{RingState, freed_index, rotation, ring, capacity, window, queue, spare, storage_index, write_at, WellFormed, written, written_wrapping, with_enqueued, with_dequeued, restarted, contiguous_window, contiguous_queued, spare_index, contiguous_window_from, queue_index, contiguous_queued_from, Enqueued, Dequeued, SpareWritten, QueueWritten, EnqueuedFrom, DequeuedFrom}
+use Rattle.net_storage.specs.Ring.{RingState, freed_index, rotation, ring, capacity, window, queue, spare, storage_index, write_at, WellFormed, with_elements, with_elements_wrapping, with_enqueued, with_dequeued, from_start_if_empty, contiguous_window, contiguous_queued, spare_index, contiguous_window_from, queue_index, contiguous_queued_from, Enqueued, Dequeued, SpareWritten, QueueWritten, EnqueuedFrom, DequeuedFrom}
 use Rattle.net_storage.proofs.Rotations.{IsStorageIndex, cut, length-rotation, overwrite_at, length-overwrite, storage_index_is, part-rotation, read_at_le, whole, length-queue, length-spare, spare-written, queue-written, with_enqueued_parts, with_dequeued_parts, take_sum}
 
 module _ {T : Type 0} where
@@ -100,7 +100,7 @@ module _ {T : Type 0} where
   ring_is a b es er eh = ap (λ l. ring l a.read_at a.count) es ∙ ap₂ (λ r n. ring b.storage r n) er eh
 
   module _ (g : RingState T) (wf : WellFormed g) where
-    pub written_wf : (p : ℕ) (ws : List T) → WellFormed (written g p ws)
+    pub written_wf : (p : ℕ) (ws : List T) → WellFormed (with_elements g p ws)
     written_wf p ws = subst (λ (n : ℕ). ((g.read_at ≡ 0) ⊎ (g.read_at < n)) × (g.count ≤ n)) (sym (length-overwrite g.storage p ws)) wf
 
     pub storage_index_le : (j : ℕ) → j ≤ capacity g → storage_index g j ≤ capacity g
@@ -139,25 +139,25 @@ module _ {T : Type 0} where
 
     -- ---- writes
     pub spare_law : (i p : ℕ) (ws : List T) → i + length ws ≤ window g → p + length ws ≤ capacity g
-        → IsStorageIndex (capacity g) g.read_at (g.count + i) p → SpareWritten g i ws (written g p ws)
+        → IsStorageIndex (capacity g) g.read_at (g.count + i) p → SpareWritten g i ws (with_elements g p ws)
     spare_law i p ws hi hp at = let w = spare-written g wf i p ws hi hp at in (w.0, w.1, refl)
 
     pub held_law : (i p : ℕ) (ws : List T) → i + length ws ≤ g.count → p + length ws ≤ capacity g
-        → IsStorageIndex (capacity g) g.read_at i p → QueueWritten g i ws (written g p ws)
+        → IsStorageIndex (capacity g) g.read_at i p → QueueWritten g i ws (with_elements g p ws)
     held_law i p ws hi hp at = let w = queue-written g wf i p ws hi hp at in (w.0, w.1, refl)
 
     -- ---- elements that are enqueued
     pub enqueued_from : (k : ℕ) (ws : List T) → k ≤ length ws → length ws ≤ contiguous_window g
-        → EnqueuedFrom g k ws (written (with_enqueued k g) (write_at g) ws)
+        → EnqueuedFrom g k ws (with_elements (with_enqueued k g) (write_at g) ws)
     enqueued_from k ws le room =
         let p = write_at g in
         let fits : p + length ws ≤ capacity g = omega (arith, room, storage_index_le g.count wf.1) in
         let w = spare_law 0 p ws (omega (arith, room)) fits write_index_is in
-        let t = with_enqueued_parts (written g p ws) (written_wf p ws) k (omega (arith, room, le, length-overwrite g.storage p ws)) in
+        let t = with_enqueued_parts (with_elements g p ws) (written_wf p ws) k (omega (arith, room, le, length-overwrite g.storage p ws)) in
         let f = overwrite_front (spare g) ws k le (omega (arith, room, length-spare g wf)) in
         (t.0 ∙ ap₂ ◌++◌ w.0 (ap (take k) w.1 ∙ f.0), t.1 ∙ ap (drop k) w.1, refl)
 
-    pub enqueued_law : (k : ℕ) → k ≤ contiguous_window g → (ws : List T) → length ws ≡ k → Enqueued g ws (written (with_enqueued k g) (write_at g) ws)
+    pub enqueued_law : (k : ℕ) → k ≤ contiguous_window g → (ws : List T) → length ws ≡ k → Enqueued g ws (with_elements (with_enqueued k g) (write_at g) ws)
     enqueued_law k le ws e =
         let all = enqueued_from k ws (omega (arith, e)) (omega (arith, e, le)) in
         let f = overwrite_front (spare g) ws k (omega (arith, e)) (omega (arith, e, le, length-spare g wf)) in (
@@ -174,11 +174,11 @@ module _ {T : Type 0} where
         (t.0, t.1 ∙ ap (λ (n : ℕ). drop n (spare g)) (sym long), refl)
 
     -- ---- elements that are dequeued
-    pub dequeued_from : (k : ℕ) (ws : List T) → k ≤ length ws → length ws ≤ contiguous_queued g → DequeuedFrom g k ws (written (with_dequeued k g) g.read_at ws)
+    pub dequeued_from : (k : ℕ) (ws : List T) → k ≤ length ws → length ws ≤ contiguous_queued g → DequeuedFrom g k ws (with_elements (with_dequeued k g) g.read_at ws)
     dequeued_from k ws le room =
-        let w = written g g.read_at ws in
+        let w = with_elements g g.read_at ws in
         let wwf = written_wf g.read_at ws in
-        let same : with_dequeued k w ≡ written (with_dequeued k g) g.read_at ws =
+        let same : with_dequeued k w ≡ with_elements (with_dequeued k g) g.read_at ws =
         ap (λ n. ring (overwrite g.storage g.read_at ws) (if nat_lt k (n - g.read_at) then g.read_at + k else k - (n - g.read_at))
         (g.count - k)) (length-overwrite g.storage g.read_at ws) in
         let q = held_law 0 g.read_at ws (omega (arith, room)) (omega (arith, room, read_at_le g wf)) read_index_is in
@@ -187,7 +187,7 @@ module _ {T : Type 0} where
         let whole : DequeuedFrom g k ws (with_dequeued k w) = (t.0 ∙ ap (drop k) q.0, t.1 ∙ ap₂ ◌++◌ q.1 (ap (take k) q.0 ∙ f.0), ap (λ o. o.read_at) same) in
         subst (DequeuedFrom g k ws) same whole
 
-    pub dequeued_law : (k : ℕ) → k ≤ contiguous_queued g → (ws : List T) → length ws ≡ k → Dequeued g k ws (written (with_dequeued k g) g.read_at ws)
+    pub dequeued_law : (k : ℕ) → k ≤ contiguous_queued g → (ws : List T) → length ws ≡ k → Dequeued g k ws (with_elements (with_dequeued k g) g.read_at ws)
     dequeued_law k le ws e =
         let all = dequeued_from k ws (omega (arith, e)) (omega (arith, e, le)) in
         let f = overwrite_front (queue g) ws k (omega (arith, e)) (omega (arith, e, le, length-queue g wf)) in (
@@ -202,18 +202,18 @@ module _ {T : Type 0} where
 
     -- ---- a write that wraps at the storage's end
     wrapping_once : (i p : ℕ) (ws : List T) → i + length ws ≤ window g → p + length ws ≤ capacity g
-        → IsStorageIndex (capacity g) g.read_at (g.count + i) p → SpareWritten g i ws (written_wrapping g p ws)
+        → IsStorageIndex (capacity g) g.read_at (g.count + i) p → SpareWritten g i ws (with_elements_wrapping g p ws)
     wrapping_once i p ws le room at =
         let none : drop (length g.storage - p) ws ≡ [] = drop_all (length g.storage - p) ws (omega (arith, room)) in
-        let still : written_wrapping g p ws ≡ written g p ws = ap (λ l. written (written g p ws) 0 l) none
+        let still : with_elements_wrapping g p ws ≡ with_elements g p ws = ap (λ l. with_elements (with_elements g p ws) 0 l) none
         ∙ ap (λ b. ring b g.read_at g.count) (overwrite_none (overwrite g.storage p ws) 0) in
         subst (SpareWritten g i ws) (sym still) (spare_law i p ws le room at)
 
     wrapping_twice : (i p : ℕ) (a b : List T) → i + length a + length b ≤ window g → p + length a ≡ capacity g → 0 < length b
-        → IsStorageIndex (capacity g) g.read_at (g.count + i) p → SpareWritten g i (a ++ b) (written (written g p a) 0 b)
+        → IsStorageIndex (capacity g) g.read_at (g.count + i) p → SpareWritten g i (a ++ b) (with_elements (with_elements g p a) 0 b)
     wrapping_twice i p a b le full some at =
         let s = spare_law i p a (omega (arith, le)) (omega (arith, full)) at in
-        let w = written g p a in
+        let w = with_elements g p a in
         let long = length-overwrite g.storage p a in
         let next : IsStorageIndex (capacity g) g.read_at (g.count + (i + length a)) 0 = elim at [
           | inl h ↦ inr (omega (arith, h.0, h.1, full, read_at_le g wf), omega (arith, h.0, h.1, full, read_at_le g wf))
@@ -224,7 +224,7 @@ module _ {T : Type 0} where
         (t.0 ∙ s.0, t.1 ∙ ap (λ (l : List T). overwrite l (i + length a) b) s.1 ∙ overwrite_twice (spare g) a b i (omega (arith, le, length-spare g wf)), refl)
 
     pub wrapping_law : (i p : ℕ) (ws : List T) → i + length ws ≤ window g → p ≤ capacity g
-        → IsStorageIndex (capacity g) g.read_at (g.count + i) p → SpareWritten g i ws (written_wrapping g p ws)
+        → IsStorageIndex (capacity g) g.read_at (g.count + i) p → SpareWritten g i ws (with_elements_wrapping g p ws)
     wrapping_law i p ws le within at = elim (cases_lt (length g.storage - p) (length ws)) [
       | inr once ↦ wrapping_once i p ws le (omega (arith, once, within)) at
       | inl past ↦
@@ -233,9 +233,9 @@ module _ {T : Type 0} where
           let la : length (take m ws) ≡ m = length-take-le m ws (omega (arith, past)) in
           let lb : length (drop m ws) ≡ length ws - m = length-drop m ws in
           let two = wrapping_twice i p (take m ws) (drop m ws) (omega (arith, le, la, lb, past)) (omega (arith, la, within)) (omega (arith, lb, past)) at in
-          let same : written (written g p (take m ws)) 0 (drop m ws) ≡ written_wrapping g p ws =
+          let same : with_elements (with_elements g p (take m ws)) 0 (drop m ws) ≡ with_elements_wrapping g p ws =
           ap (λ b. ring b g.read_at g.count) (wrapping_is g.storage ws p m within n) in
-          subst (SpareWritten g i ws) same (subst (λ (l : List T). SpareWritten g i l (written (written g p (take m ws)) 0 (drop m ws))) (take-append-drop m ws) two)
+          subst (SpareWritten g i ws) same (subst (λ (l : List T). SpareWritten g i l (with_elements (with_elements g p (take m ws)) 0 (drop m ws))) (take-append-drop m ws) two)
     ]
 
     -- ---- an index that is found within the window, or within the queue
@@ -271,41 +271,41 @@ module _ {T : Type 0} where
           none ∙ sym (ap (λ (k : ℕ). take k (drop i (queue g))) none)
     ]
 
-    nothing_spare : (i p : ℕ) → SpareWritten g i [] (written g p [])
+    nothing_spare : (i p : ℕ) → SpareWritten g i [] (with_elements g p [])
     nothing_spare i p =
-        let still : written g p [] ≡ g = ap (λ b. ring b g.read_at g.count) (overwrite_none g.storage p) in
+        let still : with_elements g p [] ≡ g = ap (λ b. ring b g.read_at g.count) (overwrite_none g.storage p) in
         subst (SpareWritten g i []) (sym still) (refl, sym (overwrite_none (spare g) i), refl)
 
-    nothing_held : (i p : ℕ) → QueueWritten g i [] (written g p [])
+    nothing_held : (i p : ℕ) → QueueWritten g i [] (with_elements g p [])
     nothing_held i p =
-        let still : written g p [] ≡ g = ap (λ b. ring b g.read_at g.count) (overwrite_none g.storage p) in
+        let still : with_elements g p [] ≡ g = ap (λ b. ring b g.read_at g.count) (overwrite_none g.storage p) in
         subst (QueueWritten g i []) (sym still) (sym (overwrite_none (queue g) i), refl, refl)
 
-    pub spare_part_law : (i n : ℕ) (ws : List T) → length ws ≡ contiguous_window_from g i n → SpareWritten g i ws (written g (spare_index g i) ws)
+    pub spare_part_law : (i n : ℕ) (ws : List T) → length ws ≡ contiguous_window_from g i n → SpareWritten g i ws (with_elements g (spare_index g i) ws)
     spare_part_law i n ws e = elim (cases_lt (window g) i) [
       | inr h ↦ spare_law i (spare_index g i) ws (omega (arith, h, e)) (omega (arith, e, spare_index_le i)) (spare_at i h)
       | inl h ↦ let none : ws ≡ [] = nil_from_length ws (omega (arith, e, h)) in subst
-          (λ (l : List T). SpareWritten g i l (written g (spare_index g i) l)) (sym none) (nothing_spare i (spare_index g i))
+          (λ (l : List T). SpareWritten g i l (with_elements g (spare_index g i) l)) (sym none) (nothing_spare i (spare_index g i))
     ]
 
-    pub held_part_law : (i n : ℕ) (ws : List T) → length ws ≡ contiguous_queued_from g i n → QueueWritten g i ws (written g (queue_index g i) ws)
+    pub held_part_law : (i n : ℕ) (ws : List T) → length ws ≡ contiguous_queued_from g i n → QueueWritten g i ws (with_elements g (queue_index g i) ws)
     held_part_law i n ws e = elim (cases_lt g.count i) [
       | inr h ↦ held_law i (queue_index g i) ws (omega (arith, h, e)) (omega (arith, e, held_index_le i)) (held_at i h)
       | inl h ↦ let none : ws ≡ [] = nil_from_length ws (omega (arith, e, h)) in subst
-          (λ (l : List T). QueueWritten g i l (written g (queue_index g i) l)) (sym none) (nothing_held i (queue_index g i))
+          (λ (l : List T). QueueWritten g i l (with_elements g (queue_index g i) l)) (sym none) (nothing_held i (queue_index g i))
     ]
 
     -- the clause of `write_unallocated`
-    pub wrapping_at : (i : ℕ) (ws : List T) → length ws ≤ window g - i → SpareWritten g i ws (written_wrapping g (spare_index g i) ws)
+    pub wrapping_at : (i : ℕ) (ws : List T) → length ws ≤ window g - i → SpareWritten g i ws (with_elements_wrapping g (spare_index g i) ws)
     wrapping_at i ws le = elim (cases_lt (window g) i) [
       | inr h ↦ wrapping_law i (spare_index g i) ws (omega (arith, h, le)) (spare_index_le i) (spare_at i h)
       | inl h ↦
           let none : ws ≡ [] = nil_from_length ws (omega (arith, le, h)) in
           let p = spare_index g i in
           let nothing : drop (length g.storage - p) [] ≡ [] = drop_all (length g.storage - p) [] (omega arith) in
-          let still : written_wrapping g p [] ≡ written g p [] = ap (λ l. written (written g p []) 0 l) nothing
+          let still : with_elements_wrapping g p [] ≡ with_elements g p [] = ap (λ l. with_elements (with_elements g p []) 0 l) nothing
           ∙ ap (λ b. ring b g.read_at g.count) (overwrite_none (overwrite g.storage p []) 0) in
-          subst (λ (l : List T). SpareWritten g i l (written_wrapping g p l)) (sym none) (subst (SpareWritten g i []) (sym still) (nothing_spare i p))
+          subst (λ (l : List T). SpareWritten g i l (with_elements_wrapping g p l)) (sym none) (subst (SpareWritten g i []) (sym still) (nothing_spare i p))
     ]
 
     -- ---- one element
@@ -326,28 +326,28 @@ module _ {T : Type 0} where
         first_of (spare g) x (sym (take_one g.storage (write_at g) x fits e)
         ∙ spare_value 0 1 (write_at g) (omega (arith, h)) (omega (arith, fits)) write_index_is)
 
-    pub enqueued_one : (w : T) → window g ≢ 0 → Enqueued g (w ∷ []) (written (with_enqueued 1 g) (write_at g) (w ∷ []))
+    pub enqueued_one : (w : T) → window g ≢ 0 → Enqueued g (w ∷ []) (with_elements (with_enqueued 1 g) (write_at g) (w ∷ []))
     enqueued_one w h = enqueued_law 1 (omega (arith, write_fits h, h)) (w ∷ []) refl
 
-    pub dequeued_one : (w : T) → g.count ≢ 0 → Dequeued g 1 (w ∷ []) (written (with_dequeued 1 g) g.read_at (w ∷ []))
+    pub dequeued_one : (w : T) → g.count ≢ 0 → Dequeued g 1 (w ∷ []) (with_elements (with_dequeued 1 g) g.read_at (w ∷ []))
     dequeued_one w h = dequeued_law 1 (omega (arith, read_fits h, h)) (w ∷ []) refl
 
-    pub next_written : (w : T) → window g ≢ 0 → SpareWritten g 0 (w ∷ []) (written g (write_at g) (w ∷ []))
+    pub next_written : (w : T) → window g ≢ 0 → SpareWritten g 0 (w ∷ []) (with_elements g (write_at g) (w ∷ []))
     next_written w h = spare_law 0 (write_at g) (w ∷ []) (omega (arith, h)) (omega (arith, write_fits h)) write_index_is
 
-    pub front_written : (w : T) → g.count ≢ 0 → QueueWritten g 0 (w ∷ []) (written g g.read_at (w ∷ []))
+    pub front_written : (w : T) → g.count ≢ 0 → QueueWritten g 0 (w ∷ []) (with_elements g g.read_at (w ∷ []))
     front_written w h = held_law 0 g.read_at (w ∷ []) (omega (arith, h)) (omega (arith, read_fits h)) read_index_is
 
     -- what a closure that was run on the next free element leaves, by its answer
     pub next_either : {A E : Type 0} (w : T) → window g ≢ 0 → (answer : Result A E) (h : RingState T)
-        → h ≡ written (if is_ok answer then with_enqueued 1 g else g) (write_at g) (w ∷ [])
+        → h ≡ with_elements (if is_ok answer then with_enqueued 1 g else g) (write_at g) (w ∷ [])
         → (IsOk answer → Enqueued g (w ∷ []) h) × (IsErr answer → SpareWritten g 0 (w ∷ []) h)
     next_either w some (Ok x) h e = (λ _. subst (Enqueued g (w ∷ [])) (sym e) (enqueued_one w some), λ no. absurd (false≢true no))
     next_either w some (Err x) h e = (λ no. absurd (false≢true no), λ _. subst (SpareWritten g 0 (w ∷ [])) (sym e) (next_written w some))
 
     -- and on the first element of the queue
     pub front_either : {A E : Type 0} (w : T) → g.count ≢ 0 → (answer : Result A E) (h : RingState T)
-        → h ≡ written (if is_ok answer then with_dequeued 1 g else g) g.read_at (w ∷ [])
+        → h ≡ with_elements (if is_ok answer then with_dequeued 1 g else g) g.read_at (w ∷ [])
         → (IsOk answer → Dequeued g 1 (w ∷ []) h) × (IsErr answer → QueueWritten g 0 (w ∷ []) h)
     front_either w some (Ok x) h e = (λ _. subst (Dequeued g 1 (w ∷ [])) (sym e) (dequeued_one w some), λ no. absurd (false≢true no))
     front_either w some (Err x) h e = (λ no. absurd (false≢true no), λ _. subst (QueueWritten g 0 (w ∷ [])) (sym e) (front_written w some))
@@ -396,7 +396,7 @@ module _ {T : Type 0} where
     -- `write_unallocated`: a is written from the index p on, and the rest of the data at the beginning
     pub wrapping_clause : (i n p k : ℕ) (src a b st : List T) → n ≡ min (length src) (window g - i) → p ≡ spare_index g i → k ≡ min n (capacity g - p)
         → a ≡ take k src → b ≡ take (n - k) (drop k src) → st ≡ overwrite (overwrite v.storage p a) 0 b
-        → ring st v.read_at v.count ≡ written_wrapping g (spare_index g i) (take n src)
+        → ring st v.read_at v.count ≡ with_elements_wrapping g (spare_index g i) (take n src)
     wrapping_clause i n p k src a b st en at ek ea eb es =
         let ws : List T = take n src in
         let long : length ws ≡ n = length-take-le n src (omega (arith, en)) in
@@ -409,25 +409,25 @@ module _ {T : Type 0} where
         ∙ wrapping_is g.storage ws p k within (omega (arith, ek, long)) in
         ap (λ l. ring l v.read_at v.count) all
         ∙ ap (λ o. ring (overwrite (overwrite g.storage p ws) 0 (drop (length g.storage - p) ws)) o.read_at o.count) is
-        ∙ ap (λ q. written_wrapping g q ws) at
+        ∙ ap (λ q. with_elements_wrapping g q ws) at
 
     -- the same where all of the data comes before the storage's end
     pub once_clause : (i n p k : ℕ) (src a st : List T) → n ≡ min (length src) (window g - i) → p ≡ spare_index g i → k ≡ min n (capacity g - p) → n ≤ k
         → a ≡ take k src → st ≡ overwrite v.storage p a
-        → ring st v.read_at v.count ≡ written_wrapping g (spare_index g i) (take n src)
+        → ring st v.read_at v.count ≡ with_elements_wrapping g (spare_index g i) (take n src)
     once_clause i n p k src a st en at ek le ea es =
         let none : n - k ≡ 0 = omega (arith, le) in
         wrapping_clause i n p k src a [] st en at ek ea (sym (ap (λ (m : ℕ). take m (drop k src)) none)) (es ∙ sym (overwrite_none (overwrite v.storage p a) 0))
 
     -- and what it leaves of the two parts
     pub ahead_clause : (i n : ℕ) (src : List T) (h : RingState T) → n ≡ min (length src) (window g - i)
-        → h ≡ written_wrapping g (spare_index g i) (take n src) → SpareWritten g i (take n src) h
+        → h ≡ with_elements_wrapping g (spare_index g i) (take n src) → SpareWritten g i (take n src) h
     ahead_clause i n src h en e =
         subst (SpareWritten g i (take n src)) (sym e) (wrapping_at g well i (take n src) (omega (arith, en, length-take-le n src (omega (arith, en)))))
 
     -- two writes leave the ring well-formed
     pub twice_wf : (p q : ℕ) (a b st : List T) → st ≡ overwrite (overwrite v.storage p a) q b → WellFormed (ring st v.read_at v.count)
-    twice_wf p q a b st e = subst (λ l. WellFormed (ring l v.read_at v.count)) (sym e) (written_wf (written v p a) (written_wf v wf' p a) q b)
+    twice_wf p q a b st e = subst (λ l. WellFormed (ring l v.read_at v.count)) (sym e) (written_wf (with_elements v p a) (written_wf v wf' p a) q b)
 
     pub read_on : (o n p k : ℕ) (b : List T) → n ≤ g.count - o → o ≤ g.count → p ≡ storage_index g o → k ≡ min n (capacity g - p)
         → b ≡ take (n - k) g.storage → b ≡ take (n - k) (drop k (drop o (queue g)))
@@ -501,20 +501,20 @@ module _ {T : Type 0} where
     with_dequeued_is k m p ek ep = ap (λ o. ring o.storage p (o.count - k)) is ∙ ap₂ (λ j n. ring g.storage j (g.count - n)) ep ek
 
     -- ---- what stays once a part that was lent comes back as w
-    pub left_at : (p q : ℕ) → p ≡ q → (st w : List T) → st ≡ overwrite v.storage p w → ring st v.read_at v.count ≡ written g q w
-    left_at p q ep st w e = ap (λ b. ring b v.read_at v.count) e ∙ ap (λ o. written o p w) is ∙ ap (λ j. written g j w) ep
+    pub left_at : (p q : ℕ) → p ≡ q → (st w : List T) → st ≡ overwrite v.storage p w → ring st v.read_at v.count ≡ with_elements g q w
+    left_at p q ep st w e = ap (λ b. ring b v.read_at v.count) e ∙ ap (λ o. with_elements o p w) is ∙ ap (λ j. with_elements g j w) ep
 
     pub left_in : (k m p : ℕ) → k ≡ m → p ≡ write_at g → (st w : List T) → st ≡ overwrite v.storage p w
-        → ring st v.read_at (v.count + k) ≡ written (with_enqueued m g) (write_at g) w
-    left_in k m p ek ep st w e = ap (λ b. ring b v.read_at (v.count + k)) e ∙ ap (λ o. written (with_enqueued k o) p w) is
-        ∙ ap₂ (λ i j. written (with_enqueued i g) j w) ek ep
+        → ring st v.read_at (v.count + k) ≡ with_elements (with_enqueued m g) (write_at g) w
+    left_in k m p ek ep st w e = ap (λ b. ring b v.read_at (v.count + k)) e ∙ ap (λ o. with_elements (with_enqueued k o) p w) is
+        ∙ ap₂ (λ i j. with_elements (with_enqueued i g) j w) ek ep
 
     pub left_off : (k m p : ℕ) → k ≡ m → p ≡ storage_index g k → (st w : List T) → st ≡ overwrite v.storage v.read_at w
-        → ring st p (v.count - k) ≡ written (with_dequeued m g) g.read_at w
+        → ring st p (v.count - k) ≡ with_elements (with_dequeued m g) g.read_at w
     left_off k m p ek ep st w e =
         ap (λ b. ring b p (v.count - k)) e ∙ ap (λ o. ring (overwrite o.storage o.read_at w) p (o.count - k)) is
         ∙ ap (λ j. ring (overwrite g.storage g.read_at w) j (g.count - k)) ep
-        ∙ ap (λ i. written (with_dequeued i g) g.read_at w) ek
+        ∙ ap (λ i. with_elements (with_dequeued i g) g.read_at w) ek
 
     -- ---- what a part that is lent or shown holds, at first: m elements from the index p on
     shown : (p m k : ℕ) → m ≡ k → p + k ≤ capacity g → (now : List T) → now ≡ take m (drop p v.storage) → (length now ≡ k) × (now ≡ take k (drop p g.storage))
@@ -605,14 +605,14 @@ module _ {T : Type 0} where
     -- and what stays of them, n of the elements w being enqueued, or dequeued
     pub left_in_from : (k n p : ℕ) → k ≡ n → p ≡ write_at g → (st w : List T) → st ≡ overwrite v.storage p w
         → length w ≡ contiguous_window g → n ≤ contiguous_window g
-        → (ring st v.read_at (v.count + k) ≡ written (with_enqueued n g) (write_at g) w) × EnqueuedFrom g n w (ring st v.read_at (v.count + k))
+        → (ring st v.read_at (v.count + k) ≡ with_elements (with_enqueued n g) (write_at g) w) × EnqueuedFrom g n w (ring st v.read_at (v.count + k))
     left_in_from k n p ek ep st w e long le =
         let exact = left_in k n p ek ep st w e in
         (exact, subst (EnqueuedFrom g n w) (sym exact) (enqueued_from g well n w (omega (arith, long, le)) (omega (arith, long))))
 
     pub left_off_from : (k n p : ℕ) → k ≡ n → p ≡ storage_index g n → (st w : List T) → st ≡ overwrite v.storage v.read_at w
         → length w ≡ contiguous_queued g → n ≤ contiguous_queued g
-        → (ring st p (v.count - k) ≡ written (with_dequeued n g) g.read_at w) × DequeuedFrom g n w (ring st p (v.count - k))
+        → (ring st p (v.count - k) ≡ with_elements (with_dequeued n g) g.read_at w) × DequeuedFrom g n w (ring st p (v.count - k))
     left_off_from k n p ek ep st w e long le =
         let exact = left_off k n p ek (ep ∙ ap (storage_index g) (sym ek)) st w e in
         (exact, subst (DequeuedFrom g n w) (sym exact) (dequeued_from g well n w (omega (arith, long, le)) (omega (arith, long))))
@@ -631,13 +631,13 @@ module _ {T : Type 0} where
       subst (Enqueued g ws) (sym e) (q, p, t.2)
 
   -- ---- laws
-  pub restarted_is : (g : RingState T) → (queue (restarted g) ≡ queue g) × ((restarted g).count ≡ g.count) × ((restarted g).storage ≡ g.storage)
+  pub restarted_is : (g : RingState T) → (queue (from_start_if_empty g) ≡ queue g) × ((from_start_if_empty g).count ≡ g.count) × ((from_start_if_empty g).storage ≡ g.storage)
   restarted_is g = elim (cases_lt 0 g.count) [
-    | inl h ↦ let e : restarted g ≡ g = ap (λ t. if t then ring g.storage 0 0 else g) (ne_eqb g.count 0 (omega (arith, h)))
+    | inl h ↦ let e : from_start_if_empty g ≡ g = ap (λ t. if t then ring g.storage 0 0 else g) (ne_eqb g.count 0 (omega (arith, h)))
         in (ap (λ o. queue o) e, ap (λ o. o.count) e, ap (λ o. o.storage) e)
     | inr h ↦
         let z : g.count ≡ 0 = omega (arith, h) in
-        let e : restarted g ≡ ring g.storage 0 0 = ap (λ t. if t then ring g.storage 0 0 else g) (eq-eqb g.count 0 z) in
+        let e : from_start_if_empty g ≡ ring g.storage 0 0 = ap (λ t. if t then ring g.storage 0 0 else g) (eq-eqb g.count 0 z) in
         (ap (λ o. queue o) e ∙ sym (ap (λ n. take n (rotation g.storage g.read_at)) z), ap (λ o. o.count) e ∙ sym z, ap (λ o. o.storage) e)
   ]
 
@@ -661,13 +661,13 @@ module _ {T : Type 0} where
       ring_is g h b er n
 
 -- a ring with an empty queue is read from the storage's beginning on, and any other is as it was
-pub restart_cases : {T : Type 0} (b : RingState T) → ((b.count ≡ 0) × (restarted b ≡ ring b.storage 0 0)) ⊎ ((b.count ≢ 0) × (restarted b ≡ b))
+pub restart_cases : {T : Type 0} (b : RingState T) → ((b.count ≡ 0) × (from_start_if_empty b ≡ ring b.storage 0 0)) ⊎ ((b.count ≢ 0) × (from_start_if_empty b ≡ b))
 restart_cases b = elim (cases_eq b.count 0) [
   | inl h ↦ inl (h, ap (λ (t : Bool). if t then ring b.storage 0 0 else b) (eq-eqb b.count 0 h))
   | inr h ↦ inr (h, ap (λ (t : Bool). if t then ring b.storage 0 0 else b) (ne_eqb b.count 0 h))
 ]
 
-pub restart_wf : {T : Type 0} (b : RingState T) → WellFormed b → WellFormed (restarted b)
+pub restart_wf : {T : Type 0} (b : RingState T) → WellFormed b → WellFormed (from_start_if_empty b)
 restart_wf b wf = elim (restart_cases b) [ inl h ↦ subst WellFormed (sym h.1) (inl refl, omega arith) | inr h ↦ subst WellFormed (sym h.1) wf ]
 
 -- the index of an element that a ring can hold lies below the storage's end
@@ -690,10 +690,10 @@ contiguous_free_some g i n l m = let below =
 pub contiguous_next_some : {T : Type 0} (g : RingState T) → window g ≢ 0 → 0 < contiguous_window g
 contiguous_next_some g l = let below = storage_index_below (length g.storage) g.read_at g.count (omega (arith, l)) in omega (arith, l, below)
 
-pub contiguous_restarted_some : {T : Type 0} (g : RingState T) → window g ≢ 0 → 0 < contiguous_window (restarted g)
+pub contiguous_restarted_some : {T : Type 0} (g : RingState T) → window g ≢ 0 → 0 < contiguous_window (from_start_if_empty g)
 contiguous_restarted_some g l =
     let same = restarted_is g in
-    contiguous_next_some (restarted g) (λ none. l (ap₂ (λ (s : List _) (n : ℕ). length s - n) (sym same.2) (sym same.1) ∙ none))
+    contiguous_next_some (from_start_if_empty g) (λ none. l (ap₂ (λ (s : List _) (n : ℕ). length s - n) (sym same.2) (sym same.1) ∙ none))
 
 pub contiguous_front_some : {T : Type 0} (g : RingState T) → WellFormed g → g.count ≢ 0 → 0 < contiguous_queued g
 contiguous_front_some g wf l = omega (arith, l, read_fits g wf l)

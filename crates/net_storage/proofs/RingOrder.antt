@@ -7,11 +7,11 @@ use Rattle.net_storage.specs.Overwrite.{overwrite}
 use Rattle.net_storage.specs.Log.{Log, empty_log, log_accepted, log_left, log_dropped}
 use Rattle.net_storage.specs.Ring.{RingState, WellFormed, ring, capacity, window, queue, write_at, storage_index}
 use Rattle.net_storage.specs.Ring.{contiguous_window, contiguous_queued, contiguous_queue}
-use Rattle.net_storage.specs.Ring.{spare_index, queue_index, written, written_wrapping, with_enqueued, restarted}
+use Rattle.net_storage.specs.Ring.{spare_index, queue_index, with_elements, with_elements_wrapping, with_enqueued, from_start_if_empty}
 use Rattle.net_storage.specs.RingHistory.{RingCall, Clear, Reset, EnqueueSlice, EnqueueUnallocated, EnqueueMany, EnqueueManyWith}
 use Rattle.net_storage.specs.RingHistory.{EnqueueOne, EnqueueErr, GetUnallocated, WriteUnallocated, Dequeue, DequeueMany}
 use Rattle.net_storage.specs.RingHistory.{DequeueManyWith, DequeueOne, DequeueErr, GetAllocatedMut}
-use Rattle.net_storage.specs.RingHistory.{Makes, MakesAll, log_written, logged, logged_all, history}
+use Rattle.net_storage.specs.RingHistory.{Makes, MakesAll, log_written, log_after, log_after_all, history}
 use Rattle.net_storage.proofs.Rotations.{cut, length-overwrite, overwrite_at, overwrite-append_right, length-queue}
 use Rattle.net_storage.proofs.RingFacts as facts
 
@@ -68,26 +68,26 @@ module _ {T : Type 0} where
   off_ok g k storage ws ok le is =
       facts.off_wf g g refl ok k (storage_index g k) (g.count - k) ws storage refl (omega (arith, ok.1, le)) (omega arith) is
 
-  wrapping_ok : (g : RingState T) (p : ℕ) (ws : List T) → WellFormed g → WellFormed (written_wrapping g p ws)
+  wrapping_ok : (g : RingState T) (p : ℕ) (ws : List T) → WellFormed g → WellFormed (with_elements_wrapping g p ws)
   wrapping_ok g p ws ok =
-      facts.written_wf (written g p ws) (facts.written_wf g ok p ws) 0 (drop (length g.storage - p) ws)
+      facts.written_wf (with_elements g p ws) (facts.written_wf g ok p ws) 0 (drop (length g.storage - p) ws)
 
-  wrapping_size : (g : RingState T) (p : ℕ) (ws : List T) → capacity (written_wrapping g p ws) ≡ capacity g
+  wrapping_size : (g : RingState T) (p : ℕ) (ws : List T) → capacity (with_elements_wrapping g p ws) ≡ capacity g
   wrapping_size g p ws =
       length-overwrite (overwrite g.storage p ws) 0 (drop (length g.storage - p) ws) ∙ length-overwrite g.storage p ws
 
   -- an empty ring that was moved to the storage's beginning
-  moved : (g : RingState T) → WellFormed g → WellFormed (restarted g) × (queue (restarted g) ≡ queue g) × (window (restarted g) ≡ window g)
+  moved : (g : RingState T) → WellFormed g → WellFormed (from_start_if_empty g) × (queue (from_start_if_empty g) ≡ queue g) × (window (from_start_if_empty g) ≡ window g)
   moved g ok =
       let same = facts.restarted_is g in
       (facts.restart_wf g ok, same.0, ap₂ (λ (s : List T) (n : ℕ). length s - n) same.2 same.1)
 
   -- xs was written over the spare part, round the storage's end, and then enqueued
   in_wrapping : (g : RingState T) (xs : List T) → WellFormed g → length xs ≤ window g →
-      WellFormed (with_enqueued (length xs) (written_wrapping g (write_at g) xs))
-      × (queue (with_enqueued (length xs) (written_wrapping g (write_at g) xs)) ≡ queue g ++ xs)
+      WellFormed (with_enqueued (length xs) (with_elements_wrapping g (write_at g) xs))
+      × (queue (with_enqueued (length xs) (with_elements_wrapping g (write_at g) xs)) ≡ queue g ++ xs)
   in_wrapping g xs ok le =
-      let o = written_wrapping g (write_at g) xs in
+      let o = with_elements_wrapping g (write_at g) xs in
       let within = facts.storage_index_le g ok g.count ok.1 in
       let wrote = facts.wrapping_law g ok 0 (write_at g) xs (omega (arith, le)) within (facts.write_index_is g ok) in (
         in_ok o (length xs) (wrapping_ok g (write_at g) xs ok) (omega (arith, le, wrapping_size g (write_at g) xs)),
@@ -96,8 +96,8 @@ module _ {T : Type 0} where
 
   -- ws was written over the spare part and its first k elements were enqueued
   in_written : (g : RingState T) (k : ℕ) (ws : List T) → WellFormed g → k ≤ length ws → length ws ≤ contiguous_window g →
-      WellFormed (written (with_enqueued k g) (write_at g) ws)
-      × (queue (written (with_enqueued k g) (write_at g) ws) ≡ queue g ++ take k ws)
+      WellFormed (with_elements (with_enqueued k g) (write_at g) ws)
+      × (queue (with_elements (with_enqueued k g) (write_at g) ws) ≡ queue g ++ take k ws)
   in_written g k ws ok le fits = (
     facts.written_wf (with_enqueued k g) (in_ok g k ok (omega (arith, le, fits))) (write_at g) ws,
     (facts.enqueued_from g ok k ws le fits).0,
@@ -149,23 +149,23 @@ module _ {T : Type 0} where
         let turn = over (log.left ++ take n xs) (drop n (queue g)) log.accepted (queue o) (drop n ws) 0 half room rest in
         subst (InTurn (log_written 0 (drop n ws) (log_left (take n xs) log))) (sym is) (record { ok = ok; turn = turn })
 
-  step : (call : RingCall T) (log : Log T) (g h : RingState T) → InTurn log g → Makes call g h → InTurn (logged call log) h
+  step : (call : RingCall T) (log : Log T) (g h : RingState T) → InTurn log g → Makes call g h → InTurn (log_after call log) h
   step Clear log g h before does = none_after log g _ h before does (inl refl, omega arith) refl
   step (Reset storage) log g h before does = none_after log g _ h before does.1 (inl refl, omega arith) refl
   step (EnqueueSlice xs) log g h before does =
       let m = moved g before.ok in
-      let w = in_wrapping (restarted g) xs m.0 (omega (arith, does.0, m.2)) in
+      let w = in_wrapping (from_start_if_empty g) xs m.0 (omega (arith, does.0, m.2)) in
       more_after log g _ h before does.1 w.0 xs (w.1 ∙ ap (λ (l : List T). l ++ xs) m.1)
   step (EnqueueUnallocated xs) log g h before does =
       let law = facts.with_enqueued_law g before.ok (length xs) does.0 in
       more_after log g _ h before does.2 (in_ok g (length xs) before.ok does.0) xs (law.0 ∙ ap (λ (l : List T). queue g ++ l) (sym does.1))
   step (EnqueueMany xs) log g h before does =
       let m = moved g before.ok in
-      let w = in_written (restarted g) (length xs) xs m.0 (omega arith) does.0 in
+      let w = in_written (from_start_if_empty g) (length xs) xs m.0 (omega arith) does.0 in
       more_after log g _ h before does.1 w.0 xs (w.1 ∙ ap₂ ◌++◌ m.1 (take_all (length xs) xs (omega arith)))
   step (EnqueueManyWith ws n) log g h before does =
       let m = moved g before.ok in
-      let w = in_written (restarted g) n ws m.0 does.1 (omega (arith, does.0)) in
+      let w = in_written (from_start_if_empty g) n ws m.0 does.1 (omega (arith, does.0)) in
       more_after log g _ h before does.2 w.0 (take n ws) (w.1 ∙ ap (λ (l : List T). l ++ take n ws) m.1)
   step (EnqueueOne x) log g h before does =
       let ok = facts.written_wf (with_enqueued 1 g) (in_ok g 1 before.ok (omega (arith, does.0))) (write_at g) (x ∷ []) in
@@ -201,9 +201,9 @@ module _ {T : Type 0} where
         | inr within ↦ over_after log g _ h before does.1 ok i ws (omega (arith, does.0, within, length-queue g before.ok)) law.0
       ]
 
-  steps : (calls : List (RingCall T)) (log : Log T) (g h : RingState T) → InTurn log g → MakesAll calls g h → InTurn (logged_all calls log) h
+  steps : (calls : List (RingCall T)) (log : Log T) (g h : RingState T) → InTurn log g → MakesAll calls g h → InTurn (log_after_all calls log) h
   steps [] log g h before run = subst (InTurn log) (sym run) before
-  steps (call ∷ calls) log g h before run = steps calls (logged call log) run.0 h (step call log g run.0 before run.1) run.2
+  steps (call ∷ calls) log g h before run = steps calls (log_after call log) run.0 h (step call log g run.0 before run.1) run.2
 
   pub in_turn : (storage : List T) (calls : List (RingCall T)) (h : RingState T) → MakesAll calls (ring storage 0 0) h →
       (history calls).left ++ queue h ≡ (history calls).accepted

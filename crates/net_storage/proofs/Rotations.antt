@@ -3,7 +3,7 @@ use Rattle.std.proofs.Common.{◌≡◌, ℕ, ◌+◌, ◌-◌, ◌<◌, ◌≤�
 use Rattle.std.proofs.lemmas.List.{take-append-drop, length-take-le, take_at, drop_at, take_all, take-append-le, drop-append-le, take-take, drop-take, drop-drop}
 use Rattle.std.proofs.lemmas.Bool.{cases_lt, lt-ltb, le-ltb}
 use Rattle.net_storage.specs.Overwrite.{overwrite}
-use Rattle.net_storage.specs.Ring.{RingState, rotation, capacity, window, queue, spare, storage_index, WellFormed, written, with_enqueued, with_dequeued}
+use Rattle.net_storage.specs.Ring.{RingState, rotation, capacity, window, queue, spare, storage_index, WellFormed, with_elements, with_enqueued, with_dequeued}
 
 -- p is the index, in a list of c elements, of the element j of the list rotated by r
 abbrev pub IsStorageIndex : ℕ → ℕ → ℕ → ℕ → Type 0
@@ -196,7 +196,7 @@ module _ {T : Type 0} where
 
     -- what is written to the spare part
     pub spare-written : (i p : ℕ) (ws : List T) → i + length ws ≤ window g → p + length ws ≤ capacity g → IsStorageIndex (capacity g) g.read_at (g.count + i) p
-        → (queue (written g p ws) ≡ queue g) × (spare (written g p ws) ≡ overwrite (spare g) i ws)
+        → (queue (with_elements g p ws) ≡ queue g) × (spare (with_elements g p ws) ≡ overwrite (spare g) i ws)
     spare-written i p ws hi hp at =
         let turned : rotation (overwrite g.storage p ws) g.read_at ≡ queue g ++ overwrite (spare g) i ws =
         rotation-overwrite g.storage g.read_at (g.count + i) p ws read_at_le (omega (arith, wf.1)) hp at
@@ -209,7 +209,7 @@ module _ {T : Type 0} where
 
     -- what is written to the queue
     pub queue-written : (i p : ℕ) (ws : List T) → i + length ws ≤ g.count → p + length ws ≤ capacity g → IsStorageIndex (capacity g) g.read_at i p
-        → (queue (written g p ws) ≡ overwrite (queue g) i ws) × (spare (written g p ws) ≡ spare g)
+        → (queue (with_elements g p ws) ≡ overwrite (queue g) i ws) × (spare (with_elements g p ws) ≡ spare g)
     queue-written i p ws hi hp at =
         let turned : rotation (overwrite g.storage p ws) g.read_at ≡ overwrite (queue g) i ws ++ spare g =
         rotation-overwrite g.storage g.read_at i p ws read_at_le (omega (arith, wf.1)) hp at

@@ -54,10 +54,10 @@ CallsNext left (answer ∷ answers) last =
     × CallsNext rest answers last
 
 -- the first n runs of a list, and `None` from its end on
-abbrev pub yielded : List (ℕ × ℕ) → ℕ → List (Option (ℕ × ℕ))
-yielded left zero = []
-yielded [] (suc n) = None ∷ yielded [] n
-yielded (run ∷ left) (suc n) = Some run ∷ yielded left n
+abbrev pub answers_of_next : List (ℕ × ℕ) → ℕ → List (Option (ℕ × ℕ))
+answers_of_next left zero = []
+answers_of_next [] (suc n) = None ∷ answers_of_next [] n
+answers_of_next (run ∷ left) (suc n) = Some run ∷ answers_of_next left n
 
 -- sets are equal exactly if they have the same members
 abbrev pub EqualSets : Type 0
@@ -177,4 +177,4 @@ IteratesMaximalRuns = (most_runs : ℕ) (s : Positions) (left last : List (ℕ �
     (answers : List (Option (ℕ × ℕ))) →
     Iterates most_runs s left → CallsNext left answers last →
     AreMaximalRuns s left × (length left ≤ most_runs)
-    × (answers ≡ yielded left (length answers)) × (last ≡ drop (length answers) left)
+    × (answers ≡ answers_of_next left (length answers)) × (last ≡ drop (length answers) left)

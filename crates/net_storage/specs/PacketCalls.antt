@@ -4,8 +4,8 @@ use Rattle.std.specs.Prelude.{◌≡◌, ◌≤◌, ℕ, List, [], ◌∷◌, �
 use Rattle.std.specs.Prelude.{length, min, take, drop}
 use Rattle.std.specs.Borrow.{MutBor}
 use Rattle.std.specs.Fn.{Once, FnOnceTakesAtMut, FnOnceReturnsAtMut}
-use Rattle.net_storage.specs.Packets.{PacketQueue, IsRoom, IsFirst, placed_if_room, last_written}
-use Rattle.net_storage.specs.Packets.{last_cut, handed}
+use Rattle.net_storage.specs.Packets.{PacketQueue, IsRoom, IsFirst, with_packet_if_room, with_last_bytes}
+use Rattle.net_storage.specs.Packets.{with_last_size, after_hand_out}
 use Rattle.net_storage.specs.PacketHistory.{contents}
 
 -- ---- the closure writes a new packet
@@ -31,7 +31,7 @@ module _ {F H : Type 0}
     pub size : length bytes ≡ s
     pub at_most : k ≤ s
     pub accepted : contents r ≡ contents q ++ ((h, take k bytes) ∷ [])
-    pub made : r ≡ last_cut k (last_written (placed_if_room q s h) bytes)
+    pub made : r ≡ with_last_size k (with_last_bytes (with_packet_if_room q s h) bytes)
 
 -- ---- the closure is handed the first packet
 module _ {F H R : Type 0}
@@ -74,7 +74,7 @@ module _ {F H R E : Type 0}
     pub left : contents r
         ≡ (if is_ok answer then drop 1 (contents q)
         else ((new_header, new_bytes) ∷ drop 1 (contents q)))
-    pub made : r ≡ handed (is_ok answer) q new_header new_bytes
+    pub made : r ≡ after_hand_out (is_ok answer) q new_header new_bytes
 
 -- ---- a packet is copied out
 -- the first of the packets ps, with the header h, is gone from rest, and as many of its bytes as xs

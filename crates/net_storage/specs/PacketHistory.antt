@@ -5,9 +5,9 @@ use Rattle.std.specs.declared.option.Option.TheVariants.{None}
 use Rattle.net_storage.specs.Ring.{queue}
 use Rattle.net_storage.specs.Log.{Log, empty_log, log_accepted, log_left, log_dropped}
 use Rattle.net_storage.specs.Packets.{Packet, PacketQueue, no_packets, byte_ring, placement}
-use Rattle.net_storage.specs.Packets.{placed_if_room, only_last, last_bytes, last_written, last_cut}
-use Rattle.net_storage.specs.Packets.{enqueued, first_size, skipped, first_written, IsFirst, popped}
-use Rattle.net_storage.specs.Packets.{dequeued, freed_place, AreFreed, with_bytes}
+use Rattle.net_storage.specs.Packets.{with_packet_if_room, only_last, last_bytes, with_last_bytes, with_last_size}
+use Rattle.net_storage.specs.Packets.{with_packet_of, first_size, without_gap, with_first_bytes, IsFirst, without_first}
+use Rattle.net_storage.specs.Packets.{without_first_and_gap, freed_place, AreFreed, with_bytes}
 
 module _ {H : Type 0} where
   -- the headers and bytes of packets whose bytes, gaps among them, are bs
@@ -60,29 +60,29 @@ module _ {H : Type 0} where
   abbrev pub Makes : QueueCall H → PacketQueue H → PacketQueue H → Type 0
   Makes Reset q r = r ≡ no_packets q.slot_count q.storage
   Makes (Place header bytes) q r =
-      (placement q (length bytes) ≢ None) × (r ≡ placed_if_room q (length bytes) header)
+      (placement q (length bytes) ≢ None) × (r ≡ with_packet_if_room q (length bytes) header)
       × (bytes ≡ last_bytes r)
   Makes (WriteLast bytes) q r =
       (q.packets ≢ []) × (length bytes ≡ first_size (only_last q.packets))
-      × (r ≡ last_written q bytes)
+      × (r ≡ with_last_bytes q bytes)
   Makes (Enqueue header bytes) q r =
-      (placement q (length bytes) ≢ None) × (r ≡ enqueued q header bytes)
+      (placement q (length bytes) ≢ None) × (r ≡ with_packet_of q header bytes)
   Makes (EnqueueWith header bytes count) q r =
       (placement q (length bytes) ≢ None) × (count ≤ length bytes)
-      × (r ≡ last_cut count (last_written (placed_if_room q (length bytes) header) bytes))
-  Makes Peek q r = r ≡ skipped q
+      × (r ≡ with_last_size count (with_last_bytes (with_packet_if_room q (length bytes) header) bytes))
+  Makes Peek q r = r ≡ without_gap q
   Makes (DequeueErr after written) q r =
       (q.packets ≢ []) × (length written ≡ first_size q.packets)
-      × (r ≡ first_written (skipped q) after written)
+      × (r ≡ with_first_bytes (without_gap q) after written)
   Makes (DequeueOk header bytes after written) q r =
       IsFirst q header bytes × (length written ≡ length bytes)
-      × (r ≡ popped (first_written (skipped q) after written))
-  Makes (Take header bytes) q r = IsFirst q header bytes × (r ≡ dequeued q)
+      × (r ≡ without_first (with_first_bytes (without_gap q) after written))
+  Makes (Take header bytes) q r = IsFirst q header bytes × (r ≡ without_first_and_gap q)
   Makes (WriteFreed bytes) q r =
       AreFreed q (length bytes) × (r ≡ with_bytes q (freed_place q (length bytes)) bytes)
   Makes (Dequeue header bytes written) q r =
       IsFirst q header bytes × (length written ≡ length bytes)
-      × (r ≡ with_bytes (dequeued q) (skipped q).read_at written)
+      × (r ≡ with_bytes (without_first_and_gap q) (without_gap q).read_at written)
 
   -- the calls, one after another, make r of q
   abbrev pub MakesAll : List (QueueCall H) → PacketQueue H → PacketQueue H → Type 0
@@ -92,33 +92,33 @@ module _ {H : Type 0} where
 -- ---- what came and what left: packets, each with its header and bytes
 module _ {H : Type 0} where
   -- the last packet has these bytes
-  abbrev pub with_last_bytes : List ℕ → List (H × List ℕ) → List (H × List ℕ)
-  with_last_bytes bytes [] = []
-  with_last_bytes bytes (p ∷ []) = (p.0, bytes) ∷ []
-  with_last_bytes bytes (p ∷ (o ∷ ps)) = p ∷ with_last_bytes bytes (o ∷ ps)
+  abbrev pub with_bytes_in_last_entry : List ℕ → List (H × List ℕ) → List (H × List ℕ)
+  with_bytes_in_last_entry bytes [] = []
+  with_bytes_in_last_entry bytes (p ∷ []) = (p.0, bytes) ∷ []
+  with_bytes_in_last_entry bytes (p ∷ (o ∷ ps)) = p ∷ with_bytes_in_last_entry bytes (o ∷ ps)
 
   -- the log after a call. What `reset` drops counts as never accepted. The packet that a closure
   -- refuses is the first one that has not left
-  abbrev pub logged : QueueCall H → Log (H × List ℕ) → Log (H × List ℕ)
-  logged Reset log = log_dropped log
-  logged (Place header bytes) log = log_accepted ((header, bytes) ∷ []) log
-  logged (WriteLast bytes) log =
-      record { accepted = with_last_bytes bytes log.accepted; left = log.left }
-  logged (Enqueue header bytes) log = log_accepted ((header, bytes) ∷ []) log
-  logged (EnqueueWith header bytes count) log = log_accepted ((header, take count bytes) ∷ []) log
-  logged Peek log = log
-  logged (DequeueErr after written) log =
+  abbrev pub log_after : QueueCall H → Log (H × List ℕ) → Log (H × List ℕ)
+  log_after Reset log = log_dropped log
+  log_after (Place header bytes) log = log_accepted ((header, bytes) ∷ []) log
+  log_after (WriteLast bytes) log =
+      record { accepted = with_bytes_in_last_entry bytes log.accepted; left = log.left }
+  log_after (Enqueue header bytes) log = log_accepted ((header, bytes) ∷ []) log
+  log_after (EnqueueWith header bytes count) log = log_accepted ((header, take count bytes) ∷ []) log
+  log_after Peek log = log
+  log_after (DequeueErr after written) log =
       record { accepted = set log.accepted (length log.left) (after, written); left = log.left }
-  logged (DequeueOk header bytes after written) log = log_left ((header, bytes) ∷ []) log
-  logged (Take header bytes) log = log_left ((header, bytes) ∷ []) log
-  logged (WriteFreed bytes) log = log
-  logged (Dequeue header bytes written) log = log_left ((header, bytes) ∷ []) log
+  log_after (DequeueOk header bytes after written) log = log_left ((header, bytes) ∷ []) log
+  log_after (Take header bytes) log = log_left ((header, bytes) ∷ []) log
+  log_after (WriteFreed bytes) log = log
+  log_after (Dequeue header bytes written) log = log_left ((header, bytes) ∷ []) log
 
   -- the log after calls, one after another
-  abbrev pub logged_all : List (QueueCall H) → Log (H × List ℕ) → Log (H × List ℕ)
-  logged_all [] log = log
-  logged_all (call ∷ calls) log = logged_all calls (logged call log)
+  abbrev pub log_after_all : List (QueueCall H) → Log (H × List ℕ) → Log (H × List ℕ)
+  log_after_all [] log = log
+  log_after_all (call ∷ calls) log = log_after_all calls (log_after call log)
 
   -- the log of calls from a queue with no packets on
   abbrev pub history : List (QueueCall H) → Log (H × List ℕ)
-  history calls = logged_all calls empty_log
+  history calls = log_after_all calls empty_log

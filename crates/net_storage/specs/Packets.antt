@@ -7,7 +7,7 @@ use Rattle.std.specs.Prelude.{Option}
 use Rattle.std.specs.declared.option.Option.TheVariants.{Some, None}
 use Rattle.net_storage.specs.Overwrite.{overwrite}
 use Rattle.net_storage.specs.Ring.{RingState, ring, window, index_after, storage_index, freed_index}
-use Rattle.net_storage.specs.Ring.{contiguous_window, restarted, WellFormed}
+use Rattle.net_storage.specs.Ring.{contiguous_window, from_start_if_empty, WellFormed}
 
 -- a packet: its header, how many bytes it has, and how many bytes of the storage are skipped before
 -- it
@@ -62,7 +62,7 @@ module _ {H : Type 0} where
   -- the gap before a packet of s bytes, if there are room and slots for it
   abbrev pub placement : PacketQueue H → ℕ → Option ℕ
   placement q s =
-      let g = restarted (byte_ring q) in
+      let g = from_start_if_empty (byte_ring q) in
       if_slots (q.slot_count - slots_used q.packets) (gap_for s (contiguous_window g) (window g))
 
   -- a packet that comes o bytes after the place r of c: it doesn't reach past the storage's end,
@@ -107,23 +107,23 @@ module _ {H : Type 0} where
 
   -- ---- a packet comes last
   -- a packet of s bytes came last, after a gap
-  abbrev pub pushed : PacketQueue H → ℕ → ℕ → H → PacketQueue H
-  pushed q gap s h =
+  abbrev pub with_packet : PacketQueue H → ℕ → ℕ → H → PacketQueue H
+  with_packet q gap s h =
       record {
         slot_count = q.slot_count;
         storage = q.storage;
-        read_at = (restarted (byte_ring q)).read_at;
+        read_at = (from_start_if_empty (byte_ring q)).read_at;
         packets = q.packets ++ (packet h s gap ∷ []);
       }
 
   -- the same, if there is a gap for it
-  abbrev pub pushed_if : PacketQueue H → Option ℕ → ℕ → H → PacketQueue H
-  pushed_if q None s h = q
-  pushed_if q (Some gap) s h = pushed q gap s h
+  abbrev pub with_packet_if : PacketQueue H → Option ℕ → ℕ → H → PacketQueue H
+  with_packet_if q None s h = q
+  with_packet_if q (Some gap) s h = with_packet q gap s h
 
   -- a packet of s bytes came last if it could be placed; its bytes are the storage's
-  abbrev pub placed_if_room : PacketQueue H → ℕ → H → PacketQueue H
-  placed_if_room q s h = pushed_if q (placement q s) s h
+  abbrev pub with_packet_if_room : PacketQueue H → ℕ → H → PacketQueue H
+  with_packet_if_room q s h = with_packet_if q (placement q s) s h
 
   -- the packets before the last one
   abbrev pub before_last : List (Packet H) → List (Packet H)
@@ -143,12 +143,12 @@ module _ {H : Type 0} where
   last_bytes q = take (first_size (only_last q.packets)) (drop (last_place q) q.storage)
 
   -- the last packet's bytes are ws
-  abbrev pub last_written : PacketQueue H → List ℕ → PacketQueue H
-  last_written q ws = with_bytes q (last_place q) ws
+  abbrev pub with_last_bytes : PacketQueue H → List ℕ → PacketQueue H
+  with_last_bytes q ws = with_bytes q (last_place q) ws
 
   -- a packet with the header h and the bytes ws came last, if it could be placed
-  abbrev pub enqueued : PacketQueue H → H → List ℕ → PacketQueue H
-  enqueued q h ws = last_written (placed_if_room q (length ws) h) ws
+  abbrev pub with_packet_of : PacketQueue H → H → List ℕ → PacketQueue H
+  with_packet_of q h ws = with_last_bytes (with_packet_if_room q (length ws) h) ws
 
   -- the first of the packets has k bytes
   abbrev pub with_first_size : ℕ → List (Packet H) → List (Packet H)
@@ -156,8 +156,8 @@ module _ {H : Type 0} where
   with_first_size k (p ∷ ps) = packet p.header k p.gap ∷ ps
 
   -- the last packet has the first k of its bytes
-  abbrev pub last_cut : ℕ → PacketQueue H → PacketQueue H
-  last_cut k q =
+  abbrev pub with_last_size : ℕ → PacketQueue H → PacketQueue H
+  with_last_size k q =
       record {
         slot_count = q.slot_count;
         storage = q.storage;
@@ -168,7 +168,7 @@ module _ {H : Type 0} where
   -- the list room is what a packet of s bytes is given, if it is placed
   abbrev pub IsRoom : PacketQueue H → ℕ → H → List ℕ → Type 0
   IsRoom q s h room =
-      (placement q s ≢ None) × (room ≡ last_bytes (placed_if_room q s h)) × (length room ≡ s)
+      (placement q s ≢ None) × (room ≡ last_bytes (with_packet_if_room q s h)) × (length room ≡ s)
 
   -- ---- the first packet
   -- the gap before the first packet
@@ -182,8 +182,8 @@ module _ {H : Type 0} where
   without_first_gap (p ∷ ps) = packet p.header p.size 0 ∷ ps
 
   -- the gap before the first packet is gone
-  abbrev pub skipped : PacketQueue H → PacketQueue H
-  skipped q =
+  abbrev pub without_gap : PacketQueue H → PacketQueue H
+  without_gap q =
       record {
         slot_count = q.slot_count;
         storage = q.storage;
@@ -202,7 +202,7 @@ module _ {H : Type 0} where
 
   -- the first packet has the header h and the bytes ws
   abbrev pub IsFirst : PacketQueue H → H → List ℕ → Type 0
-  IsFirst q h ws = IsFirstSized q.packets h (length ws) × (ws ≡ first_bytes (skipped q))
+  IsFirst q h ws = IsFirstSized q.packets h (length ws) × (ws ≡ first_bytes (without_gap q))
 
   -- the first of the packets has the header h
   abbrev pub with_first_header : H → List (Packet H) → List (Packet H)
@@ -210,8 +210,8 @@ module _ {H : Type 0} where
   with_first_header h (p ∷ ps) = packet h p.size p.gap ∷ ps
 
   -- the first packet, whose gap is gone, has the header h and the bytes ws
-  abbrev pub first_written : PacketQueue H → H → List ℕ → PacketQueue H
-  first_written q h ws =
+  abbrev pub with_first_bytes : PacketQueue H → H → List ℕ → PacketQueue H
+  with_first_bytes q h ws =
       record {
         slot_count = q.slot_count;
         storage = overwrite q.storage q.read_at ws;
@@ -220,8 +220,8 @@ module _ {H : Type 0} where
       }
 
   -- the first packet, whose gap is gone, was taken off
-  abbrev pub popped : PacketQueue H → PacketQueue H
-  popped q =
+  abbrev pub without_first : PacketQueue H → PacketQueue H
+  without_first q =
       record {
         slot_count = q.slot_count;
         storage = q.storage;
@@ -231,13 +231,13 @@ module _ {H : Type 0} where
 
   -- the first packet was handed out and has the header h and the bytes ws: it is gone if gone is
   -- true, and else stays first, without its gap
-  abbrev pub handed : Bool → PacketQueue H → H → List ℕ → PacketQueue H
-  handed gone q h ws =
-      if gone then popped (first_written (skipped q) h ws) else first_written (skipped q) h ws
+  abbrev pub after_hand_out : Bool → PacketQueue H → H → List ℕ → PacketQueue H
+  after_hand_out gone q h ws =
+      if gone then without_first (with_first_bytes (without_gap q) h ws) else with_first_bytes (without_gap q) h ws
 
   -- the first packet and its gap were taken off
-  abbrev pub dequeued : PacketQueue H → PacketQueue H
-  dequeued q = popped (skipped q)
+  abbrev pub without_first_and_gap : PacketQueue H → PacketQueue H
+  without_first_and_gap q = without_first (without_gap q)
 
   -- where the s bytes before the read index begin
   abbrev pub freed_place : PacketQueue H → ℕ → ℕ

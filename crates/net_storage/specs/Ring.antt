@@ -94,12 +94,12 @@ module _ {T : Type 0} where
 
   -- ---- what calls leave
   -- ws is written over the storage from the index p on; what reaches past its end is cut off
-  abbrev pub written : RingState T → ℕ → List T → RingState T
-  written g p ws = ring (overwrite g.storage p ws) g.read_at g.count
+  abbrev pub with_elements : RingState T → ℕ → List T → RingState T
+  with_elements g p ws = ring (overwrite g.storage p ws) g.read_at g.count
 
   -- the same, and what reaches past the storage's end wraps to its beginning
-  abbrev pub written_wrapping : RingState T → ℕ → List T → RingState T
-  written_wrapping g p ws = written (written g p ws) 0 (drop (length g.storage - p) ws)
+  abbrev pub with_elements_wrapping : RingState T → ℕ → List T → RingState T
+  with_elements_wrapping g p ws = with_elements (with_elements g p ws) 0 (drop (length g.storage - p) ws)
 
   -- k elements are enqueued as they stand: the first k spare ones are the last k of the queue
   abbrev pub with_enqueued : ℕ → RingState T → RingState T
@@ -111,8 +111,8 @@ module _ {T : Type 0} where
   with_dequeued k g = ring g.storage (storage_index g k) (g.count - k)
 
   -- a ring with an empty queue is read from the storage's beginning on
-  abbrev pub restarted : RingState T → RingState T
-  restarted g = if nat_eq g.count 0 then ring g.storage 0 0 else g
+  abbrev pub from_start_if_empty : RingState T → RingState T
+  from_start_if_empty g = if nat_eq g.count 0 then ring g.storage 0 0 else g
 
   -- ---- the same by queue and spare part
   -- ws came to the end of the queue, over the first spare elements

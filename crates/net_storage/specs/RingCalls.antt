@@ -4,7 +4,7 @@ use Rattle.std.specs.Prelude.{if◌then◌else◌}
 use Rattle.std.specs.Borrow.{MutBor}
 use Rattle.std.specs.Fn.{Once, FnOnceTakesAtMut, FnOnceReturnsAtMut}
 use Rattle.net_storage.specs.Ring.{RingState, queue, spare, write_at, contiguous_window}
-use Rattle.net_storage.specs.Ring.{contiguous_queued, contiguous_spare, contiguous_queue, written}
+use Rattle.net_storage.specs.Ring.{contiguous_queued, contiguous_spare, contiguous_queue, with_elements}
 use Rattle.net_storage.specs.Ring.{with_enqueued, with_dequeued, Enqueued, Dequeued, SpareWritten}
 use Rattle.net_storage.specs.Ring.{QueueWritten, EnqueuedFrom, DequeuedFrom}
 
@@ -21,7 +21,7 @@ module _ {F T R E : Type 0}
   CalledOnNext f old answer new = (x : T) × (y : T)
       × FnOnceReturnsAtMut g f x answer y
       × (spare old ≡ x ∷ drop 1 (spare old))
-      × (new ≡ written (if is_ok answer then with_enqueued 1 old else old) (write_at old) (y ∷ []))
+      × (new ≡ with_elements (if is_ok answer then with_enqueued 1 old else old) (write_at old) (y ∷ []))
       × (IsOk answer → Enqueued old (y ∷ []) new)
       × (IsErr answer → SpareWritten old 0 (y ∷ []) new)
 
@@ -31,7 +31,7 @@ module _ {F T R E : Type 0}
   CalledOnFirst f old answer new = (x : T) × (y : T)
       × FnOnceReturnsAtMut g f x answer y
       × (queue old ≡ x ∷ drop 1 (queue old))
-      × (new ≡ written (if is_ok answer then with_dequeued 1 old else old) old.read_at (y ∷ []))
+      × (new ≡ with_elements (if is_ok answer then with_dequeued 1 old else old) old.read_at (y ∷ []))
       × (IsOk answer → Dequeued old 1 (y ∷ []) new)
       × (IsErr answer → QueueWritten old 0 (y ∷ []) new)
 
@@ -48,7 +48,7 @@ module _ {F T R : Type 0}
   CalledOnSpare f old answer new = (ws : List T)
       × FnOnceReturnsAtMut g f (contiguous_spare old) answer ws
       × (length ws ≡ contiguous_window old)
-      × (new ≡ written (with_enqueued answer.0 old) (write_at old) ws)
+      × (new ≡ with_elements (with_enqueued answer.0 old) (write_at old) ws)
       × EnqueuedFrom old answer.0 ws new
 
   -- f was run on the contiguous elements at the head of the queue, left ws there and gave the
@@ -57,5 +57,5 @@ module _ {F T R : Type 0}
   CalledOnQueue f old answer new = (ws : List T)
       × FnOnceReturnsAtMut g f (contiguous_queue old) answer ws
       × (length ws ≡ contiguous_queued old)
-      × (new ≡ written (with_dequeued answer.0 old) old.read_at ws)
+      × (new ≡ with_elements (with_dequeued answer.0 old) old.read_at ws)
       × DequeuedFrom old answer.0 ws new

@@ -5,8 +5,8 @@ use Rattle.net_storage.specs.Log.{Log, empty_log, log_accepted, log_left, log_dr
 use Rattle.net_storage.specs.Ring.{RingState, ring, capacity, window, queue, spare, write_at}
 use Rattle.net_storage.specs.Ring.{contiguous_window, contiguous_queued, contiguous_queue}
 use Rattle.net_storage.specs.Ring.{contiguous_window_from, contiguous_queued_from, spare_index}
-use Rattle.net_storage.specs.Ring.{queue_index, written, written_wrapping, with_enqueued}
-use Rattle.net_storage.specs.Ring.{with_dequeued, restarted}
+use Rattle.net_storage.specs.Ring.{queue_index, with_elements, with_elements_wrapping, with_enqueued}
+use Rattle.net_storage.specs.Ring.{with_dequeued, from_start_if_empty}
 
 -- ---- calls
 -- what one call did, with the elements that it was given, lent or left. A call that returns `Full`
@@ -55,37 +55,37 @@ module _ {T : Type 0} where
   Makes (EnqueueSlice xs) g h =
       (length xs ≤ window g)
       × (h
-      ≡ with_enqueued (length xs) (written_wrapping (restarted g) (write_at (restarted g)) xs))
+      ≡ with_enqueued (length xs) (with_elements_wrapping (from_start_if_empty g) (write_at (from_start_if_empty g)) xs))
   Makes (EnqueueUnallocated xs) g h =
       (length xs ≤ window g) × (xs ≡ take (length xs) (spare g))
       × (h ≡ with_enqueued (length xs) g)
   Makes (EnqueueMany xs) g h =
-      (length xs ≤ contiguous_window (restarted g))
-      × (h ≡ written (with_enqueued (length xs) (restarted g)) (write_at (restarted g)) xs)
+      (length xs ≤ contiguous_window (from_start_if_empty g))
+      × (h ≡ with_elements (with_enqueued (length xs) (from_start_if_empty g)) (write_at (from_start_if_empty g)) xs)
   Makes (EnqueueManyWith ws n) g h =
-      (length ws ≡ contiguous_window (restarted g)) × (n ≤ length ws)
-      × (h ≡ written (with_enqueued n (restarted g)) (write_at (restarted g)) ws)
+      (length ws ≡ contiguous_window (from_start_if_empty g)) × (n ≤ length ws)
+      × (h ≡ with_elements (with_enqueued n (from_start_if_empty g)) (write_at (from_start_if_empty g)) ws)
   Makes (EnqueueOne x) g h =
-      (window g ≢ 0) × (h ≡ written (with_enqueued 1 g) (write_at g) (x ∷ []))
-  Makes (EnqueueErr x) g h = (window g ≢ 0) × (h ≡ written g (write_at g) (x ∷ []))
+      (window g ≢ 0) × (h ≡ with_elements (with_enqueued 1 g) (write_at g) (x ∷ []))
+  Makes (EnqueueErr x) g h = (window g ≢ 0) × (h ≡ with_elements g (write_at g) (x ∷ []))
   Makes (GetUnallocated i ws) g h =
-      (length ws ≡ contiguous_window_from g i (length ws)) × (h ≡ written g (spare_index g i) ws)
+      (length ws ≡ contiguous_window_from g i (length ws)) × (h ≡ with_elements g (spare_index g i) ws)
   Makes (WriteUnallocated i ws) g h =
-      (length ws ≤ window g - i) × (h ≡ written_wrapping g (spare_index g i) ws)
+      (length ws ≤ window g - i) × (h ≡ with_elements_wrapping g (spare_index g i) ws)
   Makes (Dequeue xs) g h =
       (length xs ≤ g.count) × (xs ≡ take (length xs) (queue g)) × (h ≡ with_dequeued (length xs) g)
   Makes (DequeueMany xs ws) g h =
       (length xs ≤ contiguous_queued g) × (xs ≡ take (length xs) (queue g))
-      × (length ws ≡ length xs) × (h ≡ written (with_dequeued (length xs) g) g.read_at ws)
+      × (length ws ≡ length xs) × (h ≡ with_elements (with_dequeued (length xs) g) g.read_at ws)
   Makes (DequeueManyWith xs ws n) g h =
       (xs ≡ contiguous_queue g) × (length ws ≡ contiguous_queued g) × (n ≤ length ws)
-      × (h ≡ written (with_dequeued n g) g.read_at ws)
+      × (h ≡ with_elements (with_dequeued n g) g.read_at ws)
   Makes (DequeueOne x y) g h =
       (g.count ≢ 0) × (queue g ≡ x ∷ drop 1 (queue g))
-      × (h ≡ written (with_dequeued 1 g) g.read_at (y ∷ []))
-  Makes (DequeueErr y) g h = (g.count ≢ 0) × (h ≡ written g g.read_at (y ∷ []))
+      × (h ≡ with_elements (with_dequeued 1 g) g.read_at (y ∷ []))
+  Makes (DequeueErr y) g h = (g.count ≢ 0) × (h ≡ with_elements g g.read_at (y ∷ []))
   Makes (GetAllocatedMut i ws) g h =
-      (length ws ≡ contiguous_queued_from g i (length ws)) × (h ≡ written g (queue_index g i) ws)
+      (length ws ≡ contiguous_queued_from g i (length ws)) × (h ≡ with_elements g (queue_index g i) ws)
 
   -- the calls, one after another, make h of g
   abbrev pub MakesAll : List (RingCall T) → RingState T → RingState T → Type 0
@@ -99,29 +99,29 @@ module _ {T : Type 0} where
       record { accepted = overwrite log.accepted (length log.left + i) ws; left = log.left }
 
   -- the log after a call
-  abbrev pub logged : RingCall T → Log T → Log T
-  logged Clear log = log_dropped log
-  logged (Reset storage) log = log_dropped log
-  logged (EnqueueSlice xs) log = log_accepted xs log
-  logged (EnqueueUnallocated xs) log = log_accepted xs log
-  logged (EnqueueMany xs) log = log_accepted xs log
-  logged (EnqueueManyWith ws n) log = log_accepted (take n ws) log
-  logged (EnqueueOne x) log = log_accepted (x ∷ []) log
-  logged (EnqueueErr x) log = log
-  logged (GetUnallocated i ws) log = log
-  logged (WriteUnallocated i ws) log = log
-  logged (Dequeue xs) log = log_left xs log
-  logged (DequeueMany xs ws) log = log_left xs log
-  logged (DequeueManyWith xs ws n) log = log_written 0 (drop n ws) (log_left (take n xs) log)
-  logged (DequeueOne x y) log = log_left (x ∷ []) log
-  logged (DequeueErr y) log = log_written 0 (y ∷ []) log
-  logged (GetAllocatedMut i ws) log = log_written i ws log
+  abbrev pub log_after : RingCall T → Log T → Log T
+  log_after Clear log = log_dropped log
+  log_after (Reset storage) log = log_dropped log
+  log_after (EnqueueSlice xs) log = log_accepted xs log
+  log_after (EnqueueUnallocated xs) log = log_accepted xs log
+  log_after (EnqueueMany xs) log = log_accepted xs log
+  log_after (EnqueueManyWith ws n) log = log_accepted (take n ws) log
+  log_after (EnqueueOne x) log = log_accepted (x ∷ []) log
+  log_after (EnqueueErr x) log = log
+  log_after (GetUnallocated i ws) log = log
+  log_after (WriteUnallocated i ws) log = log
+  log_after (Dequeue xs) log = log_left xs log
+  log_after (DequeueMany xs ws) log = log_left xs log
+  log_after (DequeueManyWith xs ws n) log = log_written 0 (drop n ws) (log_left (take n xs) log)
+  log_after (DequeueOne x y) log = log_left (x ∷ []) log
+  log_after (DequeueErr y) log = log_written 0 (y ∷ []) log
+  log_after (GetAllocatedMut i ws) log = log_written i ws log
 
   -- the log after calls, one after another
-  abbrev pub logged_all : List (RingCall T) → Log T → Log T
-  logged_all [] log = log
-  logged_all (call ∷ calls) log = logged_all calls (logged call log)
+  abbrev pub log_after_all : List (RingCall T) → Log T → Log T
+  log_after_all [] log = log
+  log_after_all (call ∷ calls) log = log_after_all calls (log_after call log)
 
   -- the log of calls from an empty ring on
   abbrev pub history : List (RingCall T) → Log T
-  history calls = logged_all calls empty_log
+  history calls = log_after_all calls empty_log

@@ -1,8 +1,8 @@
 //! A queue of packets, each with a header, over storage that is lent or owned.
 ghost use Rattle.std.specs.Prelude.{◌≡◌, ◌≤◌, ◌<◌, ◌^◌, ◌-◌, ◌==◌, ◌↔◌, [], IsTrue, length};
-ghost use Rattle.net_storage.specs.Ring.{capacity, window, contiguous_window, restarted};
+ghost use Rattle.net_storage.specs.Ring.{capacity, window, contiguous_window, from_start_if_empty};
 ghost use Rattle.net_storage.specs.Packets.{WellPlaced, bytes_used, slots_used, no_packets};
-ghost use Rattle.net_storage.specs.Packets.{byte_ring, placement, only_last, skipped, first_gap};
+ghost use Rattle.net_storage.specs.Packets.{byte_ring, placement, only_last, without_gap, first_gap};
 ghost use Rattle.net_storage.specs.Packets.{first_size, gap_for, slots_for, if_slots};
 ghost use Rattle.net_storage.specs.PacketHistory.{contents};
 
@@ -140,8 +140,8 @@ impl<H, M: Elements<PacketMetadata<H>>, B: Elements<u8>> Packets<H, M, B> {
     /// Returns how many bytes are free in a row, and in all, if an empty ring begins anew.
     #[inline]
     fn free_in_a_row(&self) -> (usize, usize)
-        ensures contiguous { result.0 ≡ contiguous_window (restarted (byte_ring self.now)) }
-        ensures window { result.1 ≡ window (restarted (byte_ring self.now)) }
+        ensures contiguous { result.0 ≡ contiguous_window (from_start_if_empty (byte_ring self.now)) }
+        ensures window { result.1 ≡ window (from_start_if_empty (byte_ring self.now)) }
     {
         let window = self.bytes.window();
         if self.bytes.is_empty() {
@@ -188,7 +188,7 @@ impl<H, M: Elements<PacketMetadata<H>>, B: Elements<u8>> Packets<H, M, B> {
     /// Drops the gap before the first packet.
     #[inline]
     fn skip(&mut self)
-        ensures skipped { self.new ≡ skipped self.old }
+        ensures skipped { self.new ≡ without_gap self.old }
         ensures unchanged { first_gap self.old.packets ≡ 0 → self.new ≡ self.old }
         ensures well_placed { WellPlaced self.old }
     {

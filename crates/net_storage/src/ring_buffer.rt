@@ -3,7 +3,7 @@ ghost use Rattle.std.specs.Prelude.{◌≡◌, ◌≤◌, ◌<◌, ◌-◌, ◌+
 ghost use Rattle.std.specs.Prelude.{IsTrue};
 ghost use Rattle.std.specs.List.{AllZip};
 ghost use Rattle.net_storage.specs.Ring.{ring, capacity, window, queue, spare, storage_index};
-ghost use Rattle.net_storage.specs.Ring.{write_at, contiguous_window, restarted, WellFormed};
+ghost use Rattle.net_storage.specs.Ring.{write_at, contiguous_window, from_start_if_empty, WellFormed};
 
 use crate::managed::{Elements, ManagedSlice};
 use crate::resettable::Resettable;
@@ -243,7 +243,7 @@ impl<T, S: Elements<T>> Ring<T, S> {
     /// are contiguous.
     #[inline]
     pub(crate) fn restart(&mut self)
-        ensures ring { self.new ≡ restarted self.old }
+        ensures ring { self.new ≡ from_start_if_empty self.old }
         ensures fits { capacity self.new < 2 ^ 64 }
     {
         // Called for its clause alone: `fits` is known by it.

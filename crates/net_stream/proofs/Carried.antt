@@ -5,8 +5,8 @@ use Rattle.std.proofs.lemmas.List.Elements.{All-nil, All-cons, All-head, All-tai
 use Rattle.net_receiver.specs.Stored.{Stored, stored_next}
 use Rattle.net_receiver.specs.OneStream.{ReceivesFrom, Says, SaysOfLonger, ReceivesFromLonger}
 use Rattle.net_receiver.specs.Retransmission.{Has}
-use Rattle.net_stream.specs.Outgoing.{Outgoing, let_go, Sends, acknowledged, end_of}
-use Rattle.net_stream.specs.Frames.{frame_of, decoded, RoundTrip, FrameSays}
+use Rattle.net_stream.specs.Outgoing.{Outgoing, sender_from, Sends, after_ack, end_of}
+use Rattle.net_stream.specs.Frames.{frame_of, segment_of, RoundTrip, FrameSays}
 use Rattle.net_stream.specs.Reported.{most_reported, ranges_of}
 use Rattle.net_stream.specs.Fates.{FatesSeen}
 use Rattle.net_stream.specs.Carrying.{PathSeen, IsUnderWay, HasReported, FrameTells, MayReturn}
@@ -124,23 +124,23 @@ either P (Ok t) a b f h = f a
 either P (Err e) a b f h = h b
 
 -- ---- the sender took an acknowledgement
-no_further : (v : Outgoing) (n : ℕ) (ranges : List (ℕ × ℕ)) (limit : ℕ) → v.base ≤ limit → n ≤ limit → (acknowledged v n ranges).base ≤ limit
+no_further : (v : Outgoing) (n : ℕ) (ranges : List (ℕ × ℕ)) (limit : ℕ) → v.base ≤ limit → n ≤ limit → (after_ack v n ranges).base ≤ limit
 no_further v n ranges limit h k = both (nat_le v.base n && nat_le n (end_of v))
   where
-    both : (t : Bool) → (cond t (let_go v n ranges) v).base ≤ limit
+    both : (t : Bool) → (cond t (sender_from v n ranges) v).base ≤ limit
     both true = k
     both false = h
 
 -- what was reported before or is reported now, the receiver has
-still_had : (r : Stored) (v : Outgoing) (n : ℕ) (ranges : List (ℕ × ℕ)) → HasReported r v.reported → HasReported r ranges → HasReported r (acknowledged v n ranges).reported
+still_had : (r : Stored) (v : Outgoing) (n : ℕ) (ranges : List (ℕ × ℕ)) → HasReported r v.reported → HasReported r ranges → HasReported r (after_ack v n ranges).reported
 still_had r v n ranges h k = both (nat_le v.base n && nat_le n (end_of v))
   where
-    both : (t : Bool) → HasReported r (cond t (let_go v n ranges) v).reported
+    both : (t : Bool) → HasReported r (cond t (sender_from v n ranges) v).reported
     both true = k
     both false = h
 
 pub acked : (f : ℕ) (w : List ℕ) (s t : Outgoing) (r : Stored) (there back : PathSeen) (frame : List ℕ) (n : ℕ) (xs : List ℕ) →
-    decoded frame ≡ Some (n, xs) → t ≡ acknowledged s n (ranges_of most_reported xs) → (Sends f w s → Sends f w t) → FrameTells r frame → IsUnderWay f w s r there back → IsUnderWay f w t r there back
+    segment_of frame ≡ Some (n, xs) → t ≡ after_ack s n (ranges_of most_reported xs) → (Sends f w s → Sends f w t) → FrameTells r frame → IsUnderWay f w s r there back → IsUnderWay f w t r there back
 acked f w s t r there back frame n xs at is sends tells c =
     let told = tells n xs at in
     record {

@@ -6,7 +6,7 @@ use Rattle.net_stream.specs.declared.counts.FrameCounts.{FrameCounts}
 use Rattle.net_stream.specs.declared.fate.Fate.{Fate}
 use Rattle.net_stream.specs.declared.fate.Fate.TheVariants.{Delivered, Lost, Repeated, Late}
 use Rattle.net_stream.specs.Fates.{FatesSeen, next_fate, after_fate, after_all}
-use Rattle.net_stream.specs.Counting.{more, met, met_all, SameButRefused, is_refused, refusing}
+use Rattle.net_stream.specs.Counting.{more, with_fate, with_fates, SameButRefused, is_refused, with_refusal}
 use Rattle.net_stream.specs.Carrying.{PathSeen, MayReturn}
 use Rattle.net_stream.proofs.Reached.{returned}
 
@@ -14,18 +14,18 @@ pub same_equal : (c d : FrameCounts) → c ≡ d → SameButRefused c d
 same_equal c d e = λ i. record (e i) { refused = 0 }
 
 -- a fate is counted of each alike
-same_one : (lot : Fate) (c d : FrameCounts) → SameButRefused c d → SameButRefused (met lot c) (met lot d)
-same_one Delivered c d same = ap (met Delivered) same
-same_one Lost c d same = ap (met Lost) same
-same_one Repeated c d same = ap (met Repeated) same
-same_one Late c d same = ap (met Late) same
+same_one : (lot : Fate) (c d : FrameCounts) → SameButRefused c d → SameButRefused (with_fate lot c) (with_fate lot d)
+same_one Delivered c d same = ap (with_fate Delivered) same
+same_one Lost c d same = ap (with_fate Lost) same
+same_one Repeated c d same = ap (with_fate Repeated) same
+same_one Late c d same = ap (with_fate Late) same
 
-pub same_met : (n : ℕ) (v : FatesSeen) (c d : FrameCounts) → SameButRefused c d → SameButRefused (met_all n v c) (met_all n v d)
+pub same_met : (n : ℕ) (v : FatesSeen) (c d : FrameCounts) → SameButRefused c d → SameButRefused (with_fates n v c) (with_fates n v d)
 same_met zero v c d same = same
-same_met (suc n) v c d same = same_met n (after_fate v) (met (next_fate v) c) (met (next_fate v) d) (same_one (next_fate v) c d same)
+same_met (suc n) v c d same = same_met n (after_fate v) (with_fate (next_fate v) c) (with_fate (next_fate v) d) (same_one (next_fate v) c d same)
 
 -- a frame that comes changes no other count
-refusing_is : (most : ℕ) (r : Stored) (o : Option (ℕ × List ℕ)) (c : FrameCounts) → SameButRefused (refusing most r o c) c
+refusing_is : (most : ℕ) (r : Stored) (o : Option (ℕ × List ℕ)) (c : FrameCounts) → SameButRefused (with_refusal most r o c) c
 refusing_is most r None c = refl
 refusing_is most r (Some (pos, xs)) c = both (nat_lt (pos + length xs) (2 ^ 64) && is_refused (stored_reply most r (Segment pos xs)))
   where
@@ -33,28 +33,28 @@ refusing_is most r (Some (pos, xs)) c = both (nat_lt (pos + length xs) (2 ^ 64) 
     both true = refl
     both false = refl
 
-pub same_refusing : (most : ℕ) (r : Stored) (o : Option (ℕ × List ℕ)) (c d : FrameCounts) → d ≡ refusing most r o c → SameButRefused d c
-same_refusing most r o c d is = same_equal d (refusing most r o c) is ∙ refusing_is most r o c
+pub same_refusing : (most : ℕ) (r : Stored) (o : Option (ℕ × List ℕ)) (c d : FrameCounts) → d ≡ with_refusal most r o c → SameButRefused d c
+same_refusing most r o c d is = same_equal d (with_refusal most r o c) is ∙ refusing_is most r o c
 
 -- one frame met its fate
-pub met_one : (t0 t1 t2 t3 : PathSeen) (frame : List ℕ) (lot : Fate) (c c1 c2 : FrameCounts) → t0 ≡ record t1 { ahead = frame ∷ t1.ahead } → lot ≡ next_fate t1.fates → t2 ≡ record t1 { fates = after_fate t1.fates } → MayReturn frame t2 t3 → c1 ≡ met lot c → SameButRefused c2 c1 →
-    (t3.fates ≡ after_fate t0.fates) × SameButRefused c2 (met (next_fate t0.fates) c) × (length t0.ahead ≡ length t3.ahead + 1)
+pub met_one : (t0 t1 t2 t3 : PathSeen) (frame : List ℕ) (lot : Fate) (c c1 c2 : FrameCounts) → t0 ≡ record t1 { ahead = frame ∷ t1.ahead } → lot ≡ next_fate t1.fates → t2 ≡ record t1 { fates = after_fate t1.fates } → MayReturn frame t2 t3 → c1 ≡ with_fate lot c → SameButRefused c2 c1 →
+    (t3.fates ≡ after_fate t0.fates) × SameButRefused c2 (with_fate (next_fate t0.fates) c) × (length t0.ahead ≡ length t3.ahead + 1)
 met_one t0 t1 t2 t3 frame lot c c1 c2 first is drawn again counted same =
     let kept = returned frame t2 t3 again in
     let fates : t1.fates ≡ t0.fates = sym (ap (λ p. p.fates) first) in
     let ahead : t0.ahead ≡ frame ∷ t3.ahead = ap (λ p. p.ahead) first ∙ ap (λ l. frame ∷ l) (sym (kept.0 ∙ ap (λ p. p.ahead) drawn)) in (
       kept.1 ∙ ap (λ p. p.fates) drawn ∙ ap after_fate fates,
-      same ∙ same_equal c1 (met (next_fate t0.fates) c) (counted ∙ ap (λ l. met l c) (is ∙ ap next_fate fates)),
+      same ∙ same_equal c1 (with_fate (next_fate t0.fates) c) (counted ∙ ap (λ l. with_fate l c) (is ∙ ap next_fate fates)),
       ap length ahead ∙ (let e : length (frame ∷ t3.ahead) ≡ length t3.ahead + 1 = omega arith in e),
     )
 
 -- so are the frames that are left
-pub met_left : (v v' : FatesSeen) (c c' : FrameCounts) (m n : ℕ) → m ≡ n + 1 → v' ≡ after_fate v → SameButRefused c' (met (next_fate v) c) → SameButRefused (met_all n v' c') (met_all m v c)
+pub met_left : (v v' : FatesSeen) (c c' : FrameCounts) (m n : ℕ) → m ≡ n + 1 → v' ≡ after_fate v → SameButRefused c' (with_fate (next_fate v) c) → SameButRefused (with_fates n v' c') (with_fates m v c)
 met_left v v' c c' m n is left same =
     let k : m ≡ suc n = omega arith in
-    ap (λ u. record (met_all n u c') { refused = 0 }) left
-    ∙ same_met n (after_fate v) c' (met (next_fate v) c) same
-    ∙ ap (λ j. record (met_all j v c) { refused = 0 }) (sym k)
+    ap (λ u. record (with_fates n u c') { refused = 0 }) left
+    ∙ same_met n (after_fate v) c' (with_fate (next_fate v) c) same
+    ∙ ap (λ j. record (with_fates j v c) { refused = 0 }) (sym k)
 
 -- the fates that are left in the end
 pub all_left : (v v' : FatesSeen) (m n : ℕ) → m ≡ n + 1 → v' ≡ after_fate v → after_all n v' ≡ after_all m v
@@ -65,22 +65,22 @@ none_left v v' u n is none left = is ∙ ap (λ j. after_all j v) (sym none) ∙
 
 -- some frames met their fates so far, and the next one does
 abbrev pub MetSoFar : ℕ → FatesSeen → FatesSeen → FrameCounts → FrameCounts → Type 0
-MetSoFar k v u c d = (n : ℕ) → SameButRefused (met_all n u d) (met_all (k + n) v c)
+MetSoFar k v u c d = (n : ℕ) → SameButRefused (with_fates n u d) (with_fates (k + n) v c)
 
 pub none_met : (v : FatesSeen) (c : FrameCounts) → MetSoFar 0 v v c c
-none_met v c = λ n. ap (λ j. record (met_all j v c) { refused = 0 }) (let e : n ≡ 0 + n = omega arith in e)
+none_met v c = λ n. ap (λ j. record (with_fates j v c) { refused = 0 }) (let e : n ≡ 0 + n = omega arith in e)
 
-pub one_more_met : (k : ℕ) (v u u' : FatesSeen) (c d d' : FrameCounts) → u' ≡ after_fate u → SameButRefused d' (met (next_fate u) d) → MetSoFar k v u c d → MetSoFar (k + 1) v u' c d'
+pub one_more_met : (k : ℕ) (v u u' : FatesSeen) (c d d' : FrameCounts) → u' ≡ after_fate u → SameButRefused d' (with_fate (next_fate u) d) → MetSoFar k v u c d → MetSoFar (k + 1) v u' c d'
 one_more_met k v u u' c d d' left same so_far = λ n.
     met_left u u' d d' (suc n) n (omega arith) left same
     ∙ so_far (suc n)
-    ∙ ap (λ j. record (met_all j v c) { refused = 0 }) (let e : k + suc n ≡ k + 1 + n = omega arith in e)
+    ∙ ap (λ j. record (with_fates j v c) { refused = 0 }) (let e : k + suc n ≡ k + 1 + n = omega arith in e)
 
 -- none is left of those that were on their way
-pub all_met : (k m : ℕ) (v u : FatesSeen) (c d d' : FrameCounts) → d' ≡ d → k ≡ m → MetSoFar k v u c d → SameButRefused d' (met_all m v c)
+pub all_met : (k m : ℕ) (v u : FatesSeen) (c d d' : FrameCounts) → d' ≡ d → k ≡ m → MetSoFar k v u c d → SameButRefused d' (with_fates m v c)
 all_met k m v u c d d' is all so_far =
-    same_equal d' d is ∙ so_far 0 ∙ ap (λ j. record (met_all j v c) { refused = 0 }) (let e : k + 0 ≡ m = omega arith in e)
+    same_equal d' d is ∙ so_far 0 ∙ ap (λ j. record (with_fates j v c) { refused = 0 }) (let e : k + 0 ≡ m = omega arith in e)
 
 -- one of them met its fate, and the call ended
-pub met_last : (k : ℕ) (v u : FatesSeen) (c d d' : FrameCounts) → SameButRefused d' (met (next_fate u) d) → MetSoFar k v u c d → (n : ℕ) × SameButRefused d' (met_all n v c)
+pub met_last : (k : ℕ) (v u : FatesSeen) (c d d' : FrameCounts) → SameButRefused d' (with_fate (next_fate u) d) → MetSoFar k v u c d → (n : ℕ) × SameButRefused d' (with_fates n v c)
 met_last k v u c d d' same so_far = (k + 1, same ∙ so_far 1)

@@ -6,14 +6,14 @@ use Rattle.net_stream.specs.declared.counts.FrameCounts.{FrameCounts}
 use Rattle.net_stream.specs.declared.fate.Fate.{Fate}
 use Rattle.net_stream.specs.declared.fate.Fate.TheVariants.{Delivered, Lost, Repeated, Late}
 use Rattle.net_stream.specs.Fates.{FatesSeen, next_fate, after_fate, after_all}
-use Rattle.net_stream.specs.Counting.{met, met_all, SameButRefused, carrying, no_frames}
+use Rattle.net_stream.specs.Counting.{with_fate, with_fates, SameButRefused, with_payload, no_frames}
 use Rattle.net_stream.specs.declared.link.Link.{Link}
 use Rattle.net_stream.specs.Links.{Passed}
-use Rattle.net_stream.specs.Reported.{unreported}
+use Rattle.net_stream.specs.Reported.{count_outside}
 use Rattle.net_stream.specs.Rounds.{PartCounted, fates_only, FatesCounted, FatesSoFar}
 
 -- ---- fates in another order are counted alike
-met_met : (a b : Fate) (c : FrameCounts) → met a (met b c) ≡ met b (met a c)
+met_met : (a b : Fate) (c : FrameCounts) → with_fate a (with_fate b c) ≡ with_fate b (with_fate a c)
 met_met Delivered Delivered c = refl
 met_met Delivered Lost c = refl
 met_met Delivered Repeated c = refl
@@ -31,47 +31,47 @@ met_met Late Lost c = refl
 met_met Late Repeated c = refl
 met_met Late Late c = refl
 
-met_past : (n : ℕ) (v : FatesSeen) (a : Fate) (c : FrameCounts) → met a (met_all n v c) ≡ met_all n v (met a c)
+met_past : (n : ℕ) (v : FatesSeen) (a : Fate) (c : FrameCounts) → with_fate a (with_fates n v c) ≡ with_fates n v (with_fate a c)
 met_past zero v a c = refl
-met_past (suc n) v a c = met_past n (after_fate v) a (met (next_fate v) c) ∙ ap (met_all n (after_fate v)) (met_met a (next_fate v) c)
+met_past (suc n) v a c = met_past n (after_fate v) a (with_fate (next_fate v) c) ∙ ap (with_fates n (after_fate v)) (met_met a (next_fate v) c)
 
-all_past : (m n : ℕ) (v u : FatesSeen) (c : FrameCounts) → met_all m v (met_all n u c) ≡ met_all n u (met_all m v c)
+all_past : (m n : ℕ) (v u : FatesSeen) (c : FrameCounts) → with_fates m v (with_fates n u c) ≡ with_fates n u (with_fates m v c)
 all_past zero n v u c = refl
-all_past (suc m) n v u c = ap (met_all m (after_fate v)) (met_past n u (next_fate v) c) ∙ all_past m n (after_fate v) u (met (next_fate v) c)
+all_past (suc m) n v u c = ap (with_fates m (after_fate v)) (met_past n u (next_fate v) c) ∙ all_past m n (after_fate v) u (with_fate (next_fate v) c)
 
 -- ---- and so are those of one direction, one behind the other
-met_more : (m n : ℕ) (v : FatesSeen) (c : FrameCounts) → met_all n (after_all m v) (met_all m v c) ≡ met_all (m + n) v c
-met_more zero n v c = ap (λ j. met_all j v c) (let e : n ≡ 0 + n = omega arith in e)
-met_more (suc m) n v c = met_more m n (after_fate v) (met (next_fate v) c) ∙ ap (λ j. met_all j v c) (let e : suc (m + n) ≡ suc m + n = omega arith in e)
+met_more : (m n : ℕ) (v : FatesSeen) (c : FrameCounts) → with_fates n (after_all m v) (with_fates m v c) ≡ with_fates (m + n) v c
+met_more zero n v c = ap (λ j. with_fates j v c) (let e : n ≡ 0 + n = omega arith in e)
+met_more (suc m) n v c = met_more m n (after_fate v) (with_fate (next_fate v) c) ∙ ap (λ j. with_fates j v c) (let e : suc (m + n) ≡ suc m + n = omega arith in e)
 
 after_more : (m n : ℕ) (v : FatesSeen) → after_all n (after_all m v) ≡ after_all (m + n) v
 after_more zero n v = ap (λ j. after_all j v) (let e : n ≡ 0 + n = omega arith in e)
 after_more (suc m) n v = after_more m n (after_fate v) ∙ ap (λ j. after_all j v) (let e : suc (m + n) ≡ suc m + n = omega arith in e)
 
 -- ---- counts that are the same but for bytes, refused segments, rounds and time
-same_fate : (lot : Fate) (c d : FrameCounts) → fates_only c ≡ fates_only d → fates_only (met lot c) ≡ fates_only (met lot d)
-same_fate Delivered c d same = ap (met Delivered) same
-same_fate Lost c d same = ap (met Lost) same
-same_fate Repeated c d same = ap (met Repeated) same
-same_fate Late c d same = ap (met Late) same
+same_fate : (lot : Fate) (c d : FrameCounts) → fates_only c ≡ fates_only d → fates_only (with_fate lot c) ≡ fates_only (with_fate lot d)
+same_fate Delivered c d same = ap (with_fate Delivered) same
+same_fate Lost c d same = ap (with_fate Lost) same
+same_fate Repeated c d same = ap (with_fate Repeated) same
+same_fate Late c d same = ap (with_fate Late) same
 
-same_fates : (n : ℕ) (v : FatesSeen) (c d : FrameCounts) → fates_only c ≡ fates_only d → fates_only (met_all n v c) ≡ fates_only (met_all n v d)
+same_fates : (n : ℕ) (v : FatesSeen) (c d : FrameCounts) → fates_only c ≡ fates_only d → fates_only (with_fates n v c) ≡ fates_only (with_fates n v d)
 same_fates zero v c d same = same
-same_fates (suc n) v c d same = same_fates n (after_fate v) (met (next_fate v) c) (met (next_fate v) d) (same_fate (next_fate v) c d same)
+same_fates (suc n) v c d same = same_fates n (after_fate v) (with_fate (next_fate v) c) (with_fate (next_fate v) d) (same_fate (next_fate v) c d same)
 
 -- ---- one round more
-more_met : (v v' u u' : FatesSeen) (c d : FrameCounts) (bytes frames acks : ℕ) → SameButRefused d (met_all acks u' (met_all frames u (carrying bytes c))) → (h : FatesSoFar v v' u u' c) →
-    fates_only d ≡ fates_only (met_all (h.acks + acks) v' (met_all (h.frames + frames) v no_frames))
+more_met : (v v' u u' : FatesSeen) (c d : FrameCounts) (bytes frames acks : ℕ) → SameButRefused d (with_fates acks u' (with_fates frames u (with_payload bytes c))) → (h : FatesSoFar v v' u u' c) →
+    fates_only d ≡ fates_only (with_fates (h.acks + acks) v' (with_fates (h.frames + frames) v no_frames))
 more_met v v' u u' c d bytes frames acks same h =
-    let before = met_all h.frames v no_frames in
-    let both = met_all h.acks v' before in
-    let there = met_all (h.frames + frames) v no_frames in
-    let framed : met_all frames u both ≡ met_all h.acks v' there =
-    all_past frames h.acks u v' before ∙ ap (met_all h.acks v') (ap (λ w. met_all frames w before) h.left ∙ met_more h.frames frames v no_frames) in
-    let acked : met_all acks u' (met_all h.acks v' there) ≡ met_all (h.acks + acks) v' there = ap (λ w. met_all acks w (met_all h.acks v' there)) h.left_back ∙ met_more h.acks acks v' there in
+    let before = with_fates h.frames v no_frames in
+    let both = with_fates h.acks v' before in
+    let there = with_fates (h.frames + frames) v no_frames in
+    let framed : with_fates frames u both ≡ with_fates h.acks v' there =
+    all_past frames h.acks u v' before ∙ ap (with_fates h.acks v') (ap (λ w. with_fates frames w before) h.left ∙ met_more h.frames frames v no_frames) in
+    let acked : with_fates acks u' (with_fates h.acks v' there) ≡ with_fates (h.acks + acks) v' there = ap (λ w. with_fates acks w (with_fates h.acks v' there)) h.left_back ∙ met_more h.acks acks v' there in
     ap fates_only same
-    ∙ same_fates acks u' (met_all frames u (carrying bytes c)) (met_all frames u both) (same_fates frames u (carrying bytes c) both h.counted)
-    ∙ ap (λ x. fates_only (met_all acks u' x)) framed
+    ∙ same_fates acks u' (with_fates frames u (with_payload bytes c)) (with_fates frames u both) (same_fates frames u (with_payload bytes c) both h.counted)
+    ∙ ap (λ x. fates_only (with_fates acks u' x)) framed
     ∙ ap fates_only acked
 
 pub part_met : (v v' u u' : FatesSeen) (c d : FrameCounts) → PartCounted u u' c d → FatesSoFar v v' u u' c → FatesCounted v v' d
@@ -87,7 +87,7 @@ round_met v v' old new round h =
       acks = h.acks + acks;
       left = ap (λ p. p.fates) round.left ∙ ap (λ p. after_all frames p.fates) round.all.front.sent ∙ ap (after_all frames) h.left ∙ after_more h.frames frames v;
       left_back = ap (λ p. p.fates) round.left_back ∙ ap (after_all acks) h.left_back ∙ after_more h.acks acks v';
-      counted = more_met v v' old.there.fates old.back.fates old.counts new.counts (unreported s.reported s.base round.n) frames acks round.counted h;
+      counted = more_met v v' old.there.fates old.back.fates old.counts new.counts (count_outside s.reported s.base round.n) frames acks round.counted h;
     }
 
 pub met_so_far : (v v' u u' : FatesSeen) (c : FrameCounts) → FatesSoFar v v' u u' c → FatesCounted v v' c

@@ -2,11 +2,11 @@
 use Rattle.std.proofs.Common.{◌≡◌, ℕ, ◌+◌, ◌^◌, nat_lt, Bool, true, false, cond, List, [], ◌∷◌, ◌++◌, length, Option, Some, None, refl, sym, ap, ◌∙◌, append_assoc}
 use Rattle.std.proofs.lemmas.List.{append-nil}
 use Rattle.net_receiver.specs.Stored.{Stored}
-use Rattle.net_stream.specs.Frames.{decoded}
+use Rattle.net_stream.specs.Frames.{segment_of}
 use Rattle.net_stream.specs.declared.fate.Fate.{Fate}
 use Rattle.net_stream.specs.Fates.{next_fate, after_fate, comes, comes_late}
-use Rattle.net_stream.specs.Carrying.{PathSeen, answer_of, arrived, with_answer}
-use Rattle.net_stream.specs.Passing.{coming_of, with_return, brought, answer_to, answers_of}
+use Rattle.net_stream.specs.Carrying.{PathSeen, answer_of, receiver_after, with_answer}
+use Rattle.net_stream.specs.Passing.{coming_of, with_return, receiver_after_all, answer_to, answers_of}
 
 -- ---- answers
 pub with_answer_ahead : (r : Stored) (o : Option (ℕ × List ℕ)) (back : PathSeen) → (with_answer r o back).ahead ≡ back.ahead ++ answer_to r o
@@ -26,13 +26,13 @@ with_answer_late r (Some (pos, xs)) back = both (nat_lt (pos + length xs) (2 ^ 6
     both false = refl
 
 -- one frame came, and these come after it
-pub one_answered : (N : ℕ) (r r1 : Stored) (frame : List ℕ) (b b1 : PathSeen) (frames : List (List ℕ)) → r1 ≡ arrived N r (decoded frame) → b1 ≡ with_answer r1 (decoded frame) b →
+pub one_answered : (N : ℕ) (r r1 : Stored) (frame : List ℕ) (b b1 : PathSeen) (frames : List (List ℕ)) → r1 ≡ receiver_after N r (segment_of frame) → b1 ≡ with_answer r1 (segment_of frame) b →
     b1.ahead ++ answers_of N r1 frames ≡ b.ahead ++ answers_of N r (frame ∷ frames)
 one_answered N r r1 frame b b1 frames e k =
     ap (λ p. p.ahead ++ answers_of N r1 frames) k
-    ∙ ap (λ l. l ++ answers_of N r1 frames) (with_answer_ahead r1 (decoded frame) b)
-    ∙ append_assoc b.ahead (answer_to r1 (decoded frame)) (answers_of N r1 frames)
-    ∙ ap (λ v. b.ahead ++ (answer_to v (decoded frame) ++ answers_of N v frames)) e
+    ∙ ap (λ l. l ++ answers_of N r1 frames) (with_answer_ahead r1 (segment_of frame) b)
+    ∙ append_assoc b.ahead (answer_to r1 (segment_of frame)) (answers_of N r1 frames)
+    ∙ ap (λ v. b.ahead ++ (answer_to v (segment_of frame) ++ answers_of N v frames)) e
 
 -- ---- a frame met its fate
 return_keeps : (lot : Fate) (frame : List ℕ) (t : PathSeen) → ((with_return lot frame t).ahead ≡ t.ahead) × ((with_return lot frame t).fates ≡ t.fates)
@@ -52,23 +52,23 @@ coming_step t0 t1 t2 t3 frame lot first is drawn again =
     ap (λ p. coming_of p.fates p.ahead) first ∙ (λ i. cond (comes (sym is i)) (frame ∷ same i) (same i))
 
 pub frame_answered : (N : ℕ) (r r1 : Stored) (b b1 t0 t1 t2 t3 : PathSeen) (frame : List ℕ) (lot : Fate) → t0 ≡ record t1 { ahead = frame ∷ t1.ahead } → lot ≡ next_fate t1.fates → t2 ≡ record t1 { fates = after_fate t1.fates } → t3 ≡ with_return lot frame t2 →
-    r1 ≡ cond (comes lot) (arrived N r (decoded frame)) r → b1 ≡ cond (comes lot) (with_answer r1 (decoded frame) b) b →
+    r1 ≡ cond (comes lot) (receiver_after N r (segment_of frame)) r → b1 ≡ cond (comes lot) (with_answer r1 (segment_of frame) b) b →
     b1.ahead ++ answers_of N r1 (coming_of t3.fates t3.ahead) ≡ b.ahead ++ answers_of N r (coming_of t0.fates t0.ahead)
 frame_answered N r r1 b b1 t0 t1 t2 t3 frame lot first is drawn again state told =
     both (comes lot) state told ∙ ap (λ l. b.ahead ++ answers_of N r l) (sym (coming_step t0 t1 t2 t3 frame lot first is drawn again))
   where
-    both : (t : Bool) → r1 ≡ cond t (arrived N r (decoded frame)) r → b1 ≡ cond t (with_answer r1 (decoded frame) b) b →
+    both : (t : Bool) → r1 ≡ cond t (receiver_after N r (segment_of frame)) r → b1 ≡ cond t (with_answer r1 (segment_of frame) b) b →
         b1.ahead ++ answers_of N r1 (coming_of t3.fates t3.ahead) ≡ b.ahead ++ answers_of N r (cond t (frame ∷ coming_of t3.fates t3.ahead) (coming_of t3.fates t3.ahead))
     both true e k = one_answered N r r1 frame b b1 (coming_of t3.fates t3.ahead) e k
     both false e k = λ i. (k i).ahead ++ answers_of N (e i) (coming_of t3.fates t3.ahead)
 
 -- ---- some frames, and then others
-pub brought_append : (N : ℕ) (r : Stored) (xs ys : List (List ℕ)) → brought N r (xs ++ ys) ≡ brought N (brought N r xs) ys
+pub brought_append : (N : ℕ) (r : Stored) (xs ys : List (List ℕ)) → receiver_after_all N r (xs ++ ys) ≡ receiver_after_all N (receiver_after_all N r xs) ys
 brought_append N r [] ys = refl
-brought_append N r (x ∷ xs) ys = brought_append N (arrived N r (decoded x)) xs ys
+brought_append N r (x ∷ xs) ys = brought_append N (receiver_after N r (segment_of x)) xs ys
 
-pub answers_append : (N : ℕ) (r : Stored) (xs ys : List (List ℕ)) → answers_of N r (xs ++ ys) ≡ answers_of N r xs ++ answers_of N (brought N r xs) ys
+pub answers_append : (N : ℕ) (r : Stored) (xs ys : List (List ℕ)) → answers_of N r (xs ++ ys) ≡ answers_of N r xs ++ answers_of N (receiver_after_all N r xs) ys
 answers_append N r [] ys = refl
 answers_append N r (x ∷ xs) ys =
-    let r1 = arrived N r (decoded x) in
-    ap (λ l. answer_to r1 (decoded x) ++ l) (answers_append N r1 xs ys) ∙ sym (append_assoc (answer_to r1 (decoded x)) (answers_of N r1 xs) (answers_of N (brought N r1 xs) ys))
+    let r1 = receiver_after N r (segment_of x) in
+    ap (λ l. answer_to r1 (segment_of x) ++ l) (answers_append N r1 xs ys) ∙ sym (append_assoc (answer_to r1 (segment_of x)) (answers_of N r1 xs) (answers_of N (receiver_after_all N r1 xs) ys))

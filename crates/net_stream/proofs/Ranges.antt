@@ -13,10 +13,10 @@ use Rattle.net_storage.specs.Positions.{Positions, contains, lies_in, IsMaximalR
 use Rattle.net_storage.specs.AssemblerLaws.{MembersOfList, MaximalRunsOfEverySet}
 use Rattle.net_receiver.specs.Stored.{HeldBytes, Stored, stored_next, domain}
 use Rattle.net_stream.specs.Frames.{frame_of, RoundTrip}
-use Rattle.net_stream.specs.Reported.{reports, unreported, most_reported, listed, range_to, range_from, first_range, with_more, ranges_of}
+use Rattle.net_stream.specs.Reported.{reports, count_outside, most_reported, range_bytes, range_to, range_from, first_range, with_more, ranges_of}
 use Rattle.net_stream.specs.Carrying.{HasReported, FrameTells, answer_of}
 use Rattle.net_stream.specs.Sending.{IsMarked}
-use Rattle.net_stream.specs.Counting.{carrying}
+use Rattle.net_stream.specs.Counting.{with_payload}
 use Rattle.net_stream.specs.declared.counts.FrameCounts.{FrameCounts}
 use Rattle.net_stream.proofs.Carried.{same_parts}
 
@@ -43,26 +43,26 @@ abbrev pub IsWords : ℕ × ℕ → Type 0
 IsWords range = (range.0 < 2 ^ 64) × (range.1 < 2 ^ 64)
 
 -- reading finds the ranges that were listed
-ranges_listed : RoundTrip → (n : ℕ) (rs : List (ℕ × ℕ)) → All IsWords rs → length rs ≤ n → ranges_of n (listed rs) ≡ rs
+ranges_listed : RoundTrip → (n : ℕ) (rs : List (ℕ × ℕ)) → All IsWords rs → length rs ≤ n → ranges_of n (range_bytes rs) ≡ rs
 ranges_listed trip n [] words h = ranges_stop n [] refl
 ranges_listed trip zero (x ∷ rs) words h = absurd (omega arith)
 ranges_listed trip (suc n) (x ∷ rs) words h =
     let w = All-head IsWords x rs words in
-    let first : first_range (listed (x ∷ rs)) ≡ Some (x.0, x.1, listed rs) =
-    ap range_from (trip x.0 (frame_of x.1 (listed rs)) w.0) ∙ ap (range_to x.0) (trip x.1 (listed rs) w.1) in
-    ranges_more (suc n) n (listed (x ∷ rs)) x.0 x.1 (listed rs) (omega arith) first ∙ ap (λ l. (x.0, x.1) ∷ l) (ranges_listed trip n rs (All-tail IsWords x rs words) (omega arith))
+    let first : first_range (range_bytes (x ∷ rs)) ≡ Some (x.0, x.1, range_bytes rs) =
+    ap range_from (trip x.0 (frame_of x.1 (range_bytes rs)) w.0) ∙ ap (range_to x.0) (trip x.1 (range_bytes rs) w.1) in
+    ranges_more (suc n) n (range_bytes (x ∷ rs)) x.0 x.1 (range_bytes rs) (omega arith) first ∙ ap (λ l. (x.0, x.1) ∷ l) (ranges_listed trip n rs (All-tail IsWords x rs words) (omega arith))
 
 -- one range more is its two words more
-pub listed_push : (rs : List (ℕ × ℕ)) (start end : ℕ) → (listed rs ++ to_be_bytes w64 start) ++ to_be_bytes w64 end ≡ listed (rs ++ (start, end) ∷ [])
+pub listed_push : (rs : List (ℕ × ℕ)) (start end : ℕ) → (range_bytes rs ++ to_be_bytes w64 start) ++ to_be_bytes w64 end ≡ range_bytes (rs ++ (start, end) ∷ [])
 listed_push [] start end = ap (λ l. to_be_bytes w64 start ++ l) (sym (append-nil (to_be_bytes w64 end)))
 listed_push (r ∷ rs) start end =
     let a = to_be_bytes w64 r.0 in
     let b = to_be_bytes w64 r.1 in
     let s = to_be_bytes w64 start in
     let e = to_be_bytes w64 end in
-    append_assoc (a ++ (b ++ listed rs)) s e
-    ∙ append_assoc a (b ++ listed rs) (s ++ e)
-    ∙ ap (λ l. a ++ l) (append_assoc b (listed rs) (s ++ e) ∙ ap (λ l. b ++ l) (sym (append_assoc (listed rs) s e) ∙ listed_push rs start end))
+    append_assoc (a ++ (b ++ range_bytes rs)) s e
+    ∙ append_assoc a (b ++ range_bytes rs) (s ++ e)
+    ∙ ap (λ l. a ++ l) (append_assoc b (range_bytes rs) (s ++ e) ∙ ap (λ l. b ++ l) (sym (append_assoc (range_bytes rs) s e) ∙ listed_push rs start end))
 
 -- ---- a list that is left
 pub take_same : {X : Type 0} (n m : ℕ) (xs : List X) → drop n xs ≡ [] → n ≤ m → take n xs ≡ take m xs
@@ -106,7 +106,7 @@ pub answer_tells : RoundTrip → MembersOfList → MaximalRunsOfEverySet → (r 
     All IsWords (take most_reported (maximal_runs (domain r.held))) → FrameTells r (answer_of r)
 answer_tells trip members maximal r word few words = λ n xs at.
     let rs = take most_reported (maximal_runs (domain r.held)) in
-    let e = same_parts (stored_next r) n (listed rs) xs (sym (trip (stored_next r) (listed rs) word) ∙ at) in (
+    let e = same_parts (stored_next r) n (range_bytes rs) xs (sym (trip (stored_next r) (range_bytes rs) word) ∙ at) in (
       subst (λ k. k ≤ stored_next r) e.0 (omega arith),
       subst (λ ys. HasReported r (ranges_of most_reported ys)) e.1 (subst (HasReported r) (sym (ranges_listed trip most_reported rs words few)) (has_runs members maximal r most_reported)),
     )
@@ -126,31 +126,31 @@ count_cons : (p : ℕ → Bool) (x : ℕ) (xs : List ℕ) → count_by p (x ∷ 
 count_cons p x xs = sum_by-append (λ y. cond (p y) 1 0) (x ∷ []) xs ∙ ap (λ n. n + count_by p xs) (let e : 0 + cond (p x) 1 0 ≡ cond (p x) 1 0 = omega arith in e)
 
 -- of positions that are marked all or none were reported
-pub count_marked : (ranges : List (ℕ × ℕ)) (a n : ℕ) (spared : Bool) → IsMarked ranges a n spared → unreported ranges a n ≡ cond spared 0 n
+pub count_marked : (ranges : List (ℕ × ℕ)) (a n : ℕ) (spared : Bool) → IsMarked ranges a n spared → count_outside ranges a n ≡ cond spared 0 n
 count_marked ranges a zero true marked = refl
 count_marked ranges a zero false marked = refl
 count_marked ranges a (suc n) true marked =
     let one : reports ranges a ≡ true = marked a (omega arith) (omega arith) in
     let rest = count_marked ranges (a + 1) n true (λ q from to. marked q (omega arith) (omega arith)) in
-    count_cons (λ q. not (reports ranges q)) a (range_with_len (a + 1) n) ∙ ap (λ b. cond (not b) 1 0 + unreported ranges (a + 1) n) one ∙ (let e : 0 + unreported ranges (a + 1) n ≡ 0 = omega (arith, rest) in e)
+    count_cons (λ q. not (reports ranges q)) a (range_with_len (a + 1) n) ∙ ap (λ b. cond (not b) 1 0 + count_outside ranges (a + 1) n) one ∙ (let e : 0 + count_outside ranges (a + 1) n ≡ 0 = omega (arith, rest) in e)
 count_marked ranges a (suc n) false marked =
     let one : reports ranges a ≡ false = marked a (omega arith) (omega arith) in
     let rest = count_marked ranges (a + 1) n false (λ q from to. marked q (omega arith) (omega arith)) in
-    count_cons (λ q. not (reports ranges q)) a (range_with_len (a + 1) n) ∙ ap (λ b. cond (not b) 1 0 + unreported ranges (a + 1) n) one ∙ (let e : 1 + unreported ranges (a + 1) n ≡ suc n = omega (arith, rest) in e)
+    count_cons (λ q. not (reports ranges q)) a (range_with_len (a + 1) n) ∙ ap (λ b. cond (not b) 1 0 + count_outside ranges (a + 1) n) one ∙ (let e : 1 + count_outside ranges (a + 1) n ≡ suc n = omega (arith, rest) in e)
 
 -- what was counted of a part is counted of the parts so far
-pub counted_more : (ranges : List (ℕ × ℕ)) (b pos n : ℕ) (c0 c1 c2 : FrameCounts) → b ≤ pos → c1 ≡ carrying (unreported ranges b (pos - b)) c0 → c2 ≡ carrying (unreported ranges pos n) c1 → c2 ≡ carrying (unreported ranges b (pos + n - b)) c0
+pub counted_more : (ranges : List (ℕ × ℕ)) (b pos n : ℕ) (c0 c1 c2 : FrameCounts) → b ≤ pos → c1 ≡ with_payload (count_outside ranges b (pos - b)) c0 → c2 ≡ with_payload (count_outside ranges pos n) c1 → c2 ≡ with_payload (count_outside ranges b (pos + n - b)) c0
 counted_more ranges b pos n c0 c1 c2 from so_far more =
     let both = count_both (λ q. not (reports ranges q)) b (pos - b) n in
     let here : b + (pos - b) ≡ pos = omega arith in
     let size : (pos - b) + n ≡ pos + n - b = omega arith in
-    let all : unreported ranges b (pos + n - b) ≡ unreported ranges b (pos - b) + unreported ranges pos n =
-    ap (unreported ranges b) (sym size) ∙ both ∙ ap (λ k. unreported ranges b (pos - b) + unreported ranges k n) here in
-    more ∙ ap (carrying (unreported ranges pos n)) so_far ∙ (λ i. record c0 { payload = capped c0.payload (unreported ranges b (pos - b)) (unreported ranges pos n) (unreported ranges b (pos + n - b)) all i })
+    let all : count_outside ranges b (pos + n - b) ≡ count_outside ranges b (pos - b) + count_outside ranges pos n =
+    ap (count_outside ranges b) (sym size) ∙ both ∙ ap (λ k. count_outside ranges b (pos - b) + count_outside ranges k n) here in
+    more ∙ ap (with_payload (count_outside ranges pos n)) so_far ∙ (λ i. record c0 { payload = capped c0.payload (count_outside ranges b (pos - b)) (count_outside ranges pos n) (count_outside ranges b (pos + n - b)) all i })
   where
     capped : (m x y z : ℕ) → z ≡ x + y → min (min (m + x) (2 ^ 64 - 1) + y) (2 ^ 64 - 1) ≡ min (m + z) (2 ^ 64 - 1)
     capped m x y z e = omega arith
 
 -- nothing was counted
-pub counted_none : (n : ℕ) (c : FrameCounts) → c.payload < 2 ^ 64 → n ≡ 0 → c ≡ carrying n c
+pub counted_none : (n : ℕ) (c : FrameCounts) → c.payload < 2 ^ 64 → n ≡ 0 → c ≡ with_payload n c
 counted_none n c fits none = λ i. record c { payload = (let e : c.payload ≡ min (c.payload + n) (2 ^ 64 - 1) = omega arith in e) i }

@@ -11,8 +11,8 @@ use Rattle.net_receiver.specs.KeptList.{piece, piece_at}
 use Rattle.net_receiver.specs.Stored.{Stored, stored_next, IsSound}
 use Rattle.net_receiver.specs.OneStream.{ReceivesFrom, Says, kept_of}
 use Rattle.net_receiver.specs.Retransmission.{Has}
-use Rattle.net_stream.specs.Outgoing.{Outgoing, let_go, acknowledged, end_of}
-use Rattle.net_stream.specs.Frames.{Part, frame_of, frames_from, joined, decoded, RoundTrip}
+use Rattle.net_stream.specs.Outgoing.{Outgoing, sender_from, after_ack, end_of}
+use Rattle.net_stream.specs.Frames.{Part, frame_of, frames_from, part_bytes, segment_of, RoundTrip}
 use Rattle.net_stream.specs.Reported.{reports, most_reported, ranges_of}
 use Rattle.net_stream.specs.Fates.{FatesSeen, next_of, after_of, next_fate, after_fate, comes, AllCome, NextCome}
 use Rattle.net_stream.specs.declared.fate.Fate.{Fate}
@@ -20,7 +20,7 @@ use Rattle.net_stream.specs.declared.fate.Fate.TheVariants.{Delivered, Lost, Rep
 use Rattle.net_stream.specs.declared.fate.Rates.{Rates}
 use Rattle.net_stream.specs.Carrying.{PathSeen, HasReported, MayReturn}
 use Rattle.net_stream.specs.Sending.{IsMarked, AreMarked}
-use Rattle.net_stream.specs.Progress.{reach_one, Reaches, acked_by, acked_all, limit_of, HasRoom}
+use Rattle.net_stream.specs.Progress.{reach_one, Reaches, after_ack_frame, after_ack_frames, limit_of, HasRoom}
 
 -- ---- where a truthful segment ends
 pub says_ends : (f : ℕ) (w : List ℕ) (pos : ℕ) (xs : List ℕ) → Says f w pos xs → pos + length xs ≤ max pos (f + length w)
@@ -78,7 +78,7 @@ one_from p (Some (pos, xs)) = reach_cases (λ m. p ≤ m) p pos (pos + length xs
 -- ---- lists of frames
 -- the first frame counts
 abbrev FirstCounts : List (ℕ × ℕ) → ℕ → ℕ → List ℕ → List (List ℕ) → Type 0
-FirstCounts ranges end p frame frames = (pos : ℕ) × (xs : List ℕ) × (decoded frame ≡ Some (pos, xs)) × IsMarked ranges p (pos - p) true × Reaches ranges end (max p (pos + length xs)) frames
+FirstCounts ranges end p frame frames = (pos : ℕ) × (xs : List ℕ) × (segment_of frame ≡ Some (pos, xs)) × IsMarked ranges p (pos - p) true × Reaches ranges end (max p (pos + length xs)) frames
 
 -- whoever has more comes as far
 reaches_mono : (ranges : List (ℕ × ℕ)) (end p q : ℕ) (frames : List (List ℕ)) → p ≤ q → Reaches ranges end p frames → Reaches ranges end q frames
@@ -111,11 +111,11 @@ no_gap most r ranges pos sound had marked =
     (cases_lt (stored_next r) pos)
 
 -- once the first frame has come, the others bring the receiver as far
-brought : (most : ℕ) (ranges : List (ℕ × ℕ)) (end : ℕ) (r : Stored) (m : ℕ) (frame : List ℕ) (frames : List (List ℕ)) → IsSound most r → HasReported r ranges → reach_one (stored_next r) (decoded frame) ≤ m →
+brought : (most : ℕ) (ranges : List (ℕ × ℕ)) (end : ℕ) (r : Stored) (m : ℕ) (frame : List ℕ) (frames : List (List ℕ)) → IsSound most r → HasReported r ranges → reach_one (stored_next r) (segment_of frame) ≤ m →
     Reaches ranges end (stored_next r) (frame ∷ frames) → Reaches ranges end m frames
 brought most ranges end r m frame frames sound had far reaches =
     ⊎_elim {C = Reaches ranges end m frames}
-    (λ (k : Reaches ranges end (stored_next r) frames). reaches_mono ranges end (stored_next r) m frames (le_trans (one_from (stored_next r) (decoded frame)) far) k)
+    (λ (k : Reaches ranges end (stored_next r) frames). reaches_mono ranges end (stored_next r) m frames (le_trans (one_from (stored_next r) (segment_of frame)) far) k)
     (λ (k : FirstCounts ranges end (stored_next r) frame frames).
     let near : k.0 ≤ stored_next r = no_gap most r ranges k.0 sound had k.3 in
     let at : reach_one (stored_next r) (Some (k.0, k.1)) ≤ m = subst (λ o. reach_one (stored_next r) o ≤ m) k.2 far in
@@ -124,20 +124,20 @@ brought most ranges end r m frame frames sound had far reaches =
     reaches
 
 -- the frames of parts that follow one another bring a receiver to their end
-reaches_parts : RoundTrip → (ranges : List (ℕ × ℕ)) (end b p : ℕ) (parts : List Part) → end ≡ b + length (joined parts) → end < 2 ^ 64 → AreMarked ranges b parts → ((q : ℕ) → p ≤ q → q < b → reports ranges q ≡ true) → Reaches ranges end p (frames_from b parts)
+reaches_parts : RoundTrip → (ranges : List (ℕ × ℕ)) (end b p : ℕ) (parts : List Part) → end ≡ b + length (part_bytes parts) → end < 2 ^ 64 → AreMarked ranges b parts → ((q : ℕ) → p ≤ q → q < b → reports ranges q ≡ true) → Reaches ranges end p (frames_from b parts)
 reaches_parts trip ranges end b p [] is word marked gap = λ q from to. gap q from (omega arith)
 reaches_parts trip ranges end b p ((true, xs) ∷ parts) is word marked gap =
-    let both : length (xs ++ joined parts) ≡ length xs + length (joined parts) = length-append xs (joined parts) in
+    let both : length (xs ++ part_bytes parts) ≡ length xs + length (part_bytes parts) = length-append xs (part_bytes parts) in
     reaches_parts trip ranges end (b + length xs) p parts (omega arith) word marked.1
     (λ q from to. ⊎_elim {C = reports ranges q ≡ true} (λ (l : q < b). gap q from l) (λ (l : b ≤ q). marked.0 q l to) (cases_lt q b))
 reaches_parts trip ranges end b p ((false, xs) ∷ parts) is word marked gap =
-    let both : length (xs ++ joined parts) ≡ length xs + length (joined parts) = length-append xs (joined parts) in
-    let at : decoded (frame_of b xs) ≡ Some (b, xs) = trip b xs (omega arith) in
+    let both : length (xs ++ part_bytes parts) ≡ length xs + length (part_bytes parts) = length-append xs (part_bytes parts) in
+    let at : segment_of (frame_of b xs) ≡ Some (b, xs) = trip b xs (omega arith) in
     inr (b, xs, at, (λ q from to. gap q from (omega arith)), reaches_parts trip ranges end (b + length xs) (max p (b + length xs)) parts (omega arith) word marked.1 (λ q from to. absurd (omega arith)))
 
-pub sent_reaches : RoundTrip → (ranges : List (ℕ × ℕ)) (p b : ℕ) (q : List ℕ) (parts : List Part) (old new : List (List ℕ)) → new ≡ old ++ frames_from b parts → joined parts ≡ q → AreMarked ranges b parts → b + length q < 2 ^ 64 → b ≤ p → Reaches ranges (b + length q) p new
+pub sent_reaches : RoundTrip → (ranges : List (ℕ × ℕ)) (p b : ℕ) (q : List ℕ) (parts : List Part) (old new : List (List ℕ)) → new ≡ old ++ frames_from b parts → part_bytes parts ≡ q → AreMarked ranges b parts → b + length q < 2 ^ 64 → b ≤ p → Reaches ranges (b + length q) p new
 sent_reaches trip ranges p b q parts old new is all marked word h =
-    let long : length (joined parts) ≡ length q = ap length all in
+    let long : length (part_bytes parts) ≡ length q = ap length all in
     subst (Reaches ranges (b + length q) p) (sym is)
     (reaches_behind ranges (b + length q) p old (frames_from b parts) (reaches_parts trip ranges (b + length q) b p parts (omega arith) word marked (λ k from to. absurd (omega arith))))
 
@@ -189,24 +189,24 @@ next_come (suc n) v all = (let both = come_next v all in (both.0, next_come n (a
 
 pub frame_reaches : (most : ℕ) (ranges : List (ℕ × ℕ)) (r : Stored) (m : ℕ) (t0 t1 t2 t3 : PathSeen) (frame : List ℕ) (lot : Fate) → IsSound most r → HasReported r ranges →
     t0 ≡ record t1 { ahead = frame ∷ t1.ahead } → lot ≡ next_fate t1.fates → t2 ≡ record t1 { fates = after_fate t1.fates } → MayReturn frame t2 t3 →
-    (comes lot ≡ true → reach_one (stored_next r) (decoded frame) ≤ m) → NextCome (length t0.ahead) t0.fates → NextCome (length t3.ahead) t3.fates × ((end : ℕ) → Reaches ranges end (stored_next r) t0.ahead → Reaches ranges end m t3.ahead)
+    (comes lot ≡ true → reach_one (stored_next r) (segment_of frame) ≤ m) → NextCome (length t0.ahead) t0.fates → NextCome (length t3.ahead) t3.fates × ((end : ℕ) → Reaches ranges end (stored_next r) t0.ahead → Reaches ranges end m t3.ahead)
 frame_reaches most ranges r m t0 t1 t2 t3 frame lot sound had first is drawn again far all =
     let step = step_of t0 t1 t2 t3 frame lot first is drawn again all in
     (step.1, λ end reaches. brought most ranges end r m frame t3.ahead sound had (far step.0) (subst (Reaches ranges end (stored_next r)) step.2 reaches))
 
 pub ack_reaches : (s t : Outgoing) (t0 t1 t2 t3 : PathSeen) (frame : List ℕ) (lot : Fate) → t0 ≡ record t1 { ahead = frame ∷ t1.ahead } → lot ≡ next_fate t1.fates → t2 ≡ record t1 { fates = after_fate t1.fates } → MayReturn frame t2 t3 →
-    (comes lot ≡ true → t ≡ acked_by s (decoded frame)) → NextCome (length t0.ahead) t0.fates → NextCome (length t3.ahead) t3.fates × (acked_all s t0.ahead ≡ acked_all t t3.ahead)
+    (comes lot ≡ true → t ≡ after_ack_frame s (segment_of frame)) → NextCome (length t0.ahead) t0.fates → NextCome (length t3.ahead) t3.fates × (after_ack_frames s t0.ahead ≡ after_ack_frames t t3.ahead)
 ack_reaches s t t0 t1 t2 t3 frame lot first is drawn again took all =
     let step = step_of t0 t1 t2 t3 frame lot first is drawn again all in
-    (step.1, ap (acked_all s) step.2 ∙ ap (λ v. acked_all v t3.ahead) (sym (took step.0)))
+    (step.1, ap (after_ack_frames s) step.2 ∙ ap (λ v. after_ack_frames v t3.ahead) (sym (took step.0)))
 
 -- ---- acknowledgements
-acked_keeps_end : (s : Outgoing) (n : ℕ) (ranges : List (ℕ × ℕ)) → end_of (acknowledged s n ranges) ≡ end_of s
+acked_keeps_end : (s : Outgoing) (n : ℕ) (ranges : List (ℕ × ℕ)) → end_of (after_ack s n ranges) ≡ end_of s
 acked_keeps_end s n ranges =
     ⊎_elim
     (λ (e : (nat_le s.base n && nat_le n (end_of s)) ≡ true).
-    ap end_of (cond-true _ (let_go s n ranges) s e) ∙ kept_end e)
-    (λ (e : (nat_le s.base n && nat_le n (end_of s)) ≡ false). ap end_of (cond-false _ (let_go s n ranges) s e))
+    ap end_of (cond-true _ (sender_from s n ranges) s e) ∙ kept_end e)
+    (λ (e : (nat_le s.base n && nat_le n (end_of s)) ≡ false). ap end_of (cond-false _ (sender_from s n ranges) s e))
     (cases_Bool (nat_le s.base n && nat_le n (end_of s)))
   where
     kept_end : (nat_le s.base n && nat_le n (end_of s)) ≡ true → n + length (drop (n - s.base) s.queue) ≡ end_of s
@@ -217,17 +217,17 @@ acked_keeps_end s n ranges =
         let long : length (drop (n - s.base) s.queue) ≡ length s.queue - (n - s.base) = length-drop (n - s.base) s.queue in
         omega arith
 
-pub by_keeps_end : (s : Outgoing) (o : Option (ℕ × List ℕ)) → end_of (acked_by s o) ≡ end_of s
+pub by_keeps_end : (s : Outgoing) (o : Option (ℕ × List ℕ)) → end_of (after_ack_frame s o) ≡ end_of s
 by_keeps_end s None = refl
 by_keeps_end s (Some (n, xs)) = acked_keeps_end s n (ranges_of most_reported xs)
 
-pub all_keep_end : (s : Outgoing) (frames : List (List ℕ)) → end_of (acked_all s frames) ≡ end_of s
+pub all_keep_end : (s : Outgoing) (frames : List (List ℕ)) → end_of (after_ack_frames s frames) ≡ end_of s
 all_keep_end s [] = refl
-all_keep_end s (frame ∷ frames) = all_keep_end (acked_by s (decoded frame)) frames ∙ by_keeps_end s (decoded frame)
+all_keep_end s (frame ∷ frames) = all_keep_end (after_ack_frame s (segment_of frame)) frames ∙ by_keeps_end s (segment_of frame)
 
-pub acked_append : (s : Outgoing) (xs ys : List (List ℕ)) → acked_all s (xs ++ ys) ≡ acked_all (acked_all s xs) ys
+pub acked_append : (s : Outgoing) (xs ys : List (List ℕ)) → after_ack_frames s (xs ++ ys) ≡ after_ack_frames (after_ack_frames s xs) ys
 acked_append s [] ys = refl
-acked_append s (x ∷ xs) ys = acked_append (acked_by s (decoded x)) xs ys
+acked_append s (x ∷ xs) ys = acked_append (after_ack_frame s (segment_of x)) xs ys
 
 pub room_same : (s : Outgoing) (v u : Stored) → limit_of u ≡ limit_of v → HasRoom s v → HasRoom s u
 room_same s v u e room = record { window = (let h = room.window in omega arith); word = room.word }

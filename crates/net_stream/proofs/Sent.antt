@@ -7,7 +7,7 @@ use Rattle.std.proofs.lemmas.List.{append-nil, take-take}
 use Rattle.std.proofs.Math.Seq.{take-append_seam}
 use Rattle.std.proofs.lemmas.List.Elements.{All-nil, All-head}
 use Rattle.net_stream.specs.Outgoing.{Outgoing, end_of, row_end}
-use Rattle.net_stream.specs.Frames.{Part, frame_of, frames_from, joined}
+use Rattle.net_stream.specs.Frames.{Part, frame_of, frames_from, part_bytes}
 use Rattle.net_stream.specs.Reported.{reports, last_end, is_full}
 use Rattle.net_stream.specs.Carrying.{PathSeen}
 use Rattle.net_stream.specs.Sending.{IsMarked, AreMarked, HasSize, spared_from, next_reported, part_end, stop_of, HaveEnds, SentPart, SentPrefix, SentRound}
@@ -30,34 +30,34 @@ stop_within s = both (is_full s.reported)
     both false = omega arith
 
 -- ---- one part more
-joined_push : (parts : List Part) (spared : Bool) (xs : List ℕ) → joined (parts ++ (spared, xs) ∷ []) ≡ joined parts ++ xs
+joined_push : (parts : List Part) (spared : Bool) (xs : List ℕ) → part_bytes (parts ++ (spared, xs) ∷ []) ≡ part_bytes parts ++ xs
 joined_push [] spared xs = append-nil xs
-joined_push ((t, y) ∷ parts) spared xs = ap (λ l. y ++ l) (joined_push parts spared xs) ∙ sym (append_assoc y (joined parts) xs)
+joined_push ((t, y) ∷ parts) spared xs = ap (λ l. y ++ l) (joined_push parts spared xs) ∙ sym (append_assoc y (part_bytes parts) xs)
 
-frames_push : (b p : ℕ) (parts : List Part) (spared : Bool) (xs : List ℕ) → p ≡ b + length (joined parts) →
+frames_push : (b p : ℕ) (parts : List Part) (spared : Bool) (xs : List ℕ) → p ≡ b + length (part_bytes parts) →
     frames_from b (parts ++ (spared, xs) ∷ []) ≡ frames_from b parts ++ frames_from p ((spared, xs) ∷ [])
 frames_push b p [] spared xs e = ap (λ n. frames_from n ((spared, xs) ∷ [])) (let h : b ≡ p = omega arith in h)
 frames_push b p ((true, y) ∷ parts) spared xs e =
-    let long : length (y ++ joined parts) ≡ length y + length (joined parts) = length-append y (joined parts) in
+    let long : length (y ++ part_bytes parts) ≡ length y + length (part_bytes parts) = length-append y (part_bytes parts) in
     frames_push (b + length y) p parts spared xs (omega arith)
 frames_push b p ((false, y) ∷ parts) spared xs e =
-    let long : length (y ++ joined parts) ≡ length y + length (joined parts) = length-append y (joined parts) in
+    let long : length (y ++ part_bytes parts) ≡ length y + length (part_bytes parts) = length-append y (part_bytes parts) in
     ap (λ l. frame_of b y ∷ l) (frames_push (b + length y) p parts spared xs (omega arith))
 
-marked_push : (ranges : List (ℕ × ℕ)) (b p : ℕ) (parts : List Part) (spared : Bool) (xs : List ℕ) → p ≡ b + length (joined parts) →
+marked_push : (ranges : List (ℕ × ℕ)) (b p : ℕ) (parts : List Part) (spared : Bool) (xs : List ℕ) → p ≡ b + length (part_bytes parts) →
     AreMarked ranges b parts → IsMarked ranges p (length xs) spared → AreMarked ranges b (parts ++ (spared, xs) ∷ [])
 marked_push ranges b p [] spared xs e all one = (subst (λ n. IsMarked ranges n (length xs) spared) (let h : p ≡ b = omega arith in h) one, tt)
 marked_push ranges b p ((t, y) ∷ parts) spared xs e all one =
-    let long : length (y ++ joined parts) ≡ length y + length (joined parts) = length-append y (joined parts) in
+    let long : length (y ++ part_bytes parts) ≡ length y + length (part_bytes parts) = length-append y (part_bytes parts) in
     (all.0, marked_push ranges (b + length y) p parts spared xs (omega arith) all.1 one)
 
-ends_push : (s : Outgoing) (most b p : ℕ) (parts : List Part) (spared : Bool) (xs : List ℕ) → p ≡ b + length (joined parts) →
+ends_push : (s : Outgoing) (most b p : ℕ) (parts : List Part) (spared : Bool) (xs : List ℕ) → p ≡ b + length (part_bytes parts) →
     HaveEnds s most b parts → p < stop_of s → p + length xs ≡ part_end s most p → HaveEnds s most b (parts ++ (spared, xs) ∷ [])
 ends_push s most b p [] spared xs e all below end =
     let h : p ≡ b = omega arith in
     (subst (λ n. n < stop_of s) h below, subst (λ n. n + length xs ≡ part_end s most n) h end, tt)
 ends_push s most b p ((t, y) ∷ parts) spared xs e all below end =
-    let long : length (y ++ joined parts) ≡ length y + length (joined parts) = length-append y (joined parts) in
+    let long : length (y ++ part_bytes parts) ≡ length y + length (part_bytes parts) = length-append y (part_bytes parts) in
     (all.0, all.1, ends_push s most (b + length y) p parts spared xs (omega arith) all.2 below end)
 
 count_one : (p : ℕ) (spared : Bool) (xs : List ℕ) → length (frames_from p ((spared, xs) ∷ [])) ≡ cond spared 0 1
@@ -138,10 +138,10 @@ sent_more s most flight left pos n k left' t0 t1 t2 so_far part from below some_
     let some = part.some in
     let size : length xs ≡ n = omega (arith, length-take n (drop (pos - b) q), length-drop (pos - b) q) in
     let kept : pos ≤ end_of s = omega (arith, stop_within s) in
-    let long : length (joined front.parts) ≡ pos - b = ap length front.all
+    let long : length (part_bytes front.parts) ≡ pos - b = ap length front.all
     ∙ (let h : length (take (pos - b) q) ≡ pos - b = omega (arith, length-take (pos - b) q) in h) in
     let place : (pos - b) + n ≡ pos + n - b = omega arith in
-    let at : pos ≡ b + length (joined front.parts) = omega arith in
+    let at : pos ≡ b + length (part_bytes front.parts) = omega arith in
     let last = frames_from pos ((part.spared, xs) ∷ []) in
     let ahead : t1.ahead ++ last ≡ t0.ahead ++ frames_from b (front.parts ++ (part.spared, xs) ∷ []) =
     ap (λ p. p.ahead ++ last) front.sent ∙ append_assoc t0.ahead (frames_from b front.parts) last
@@ -221,14 +221,14 @@ first_sent s most flight n old new round left some none =
     (λ (l : stop_of s ≤ s.base + n) (e : front.parts ≡ []).
     let within = front.within in
     let begins = stop_above s some in
-    let size : length (take n s.queue) ≡ 0 = sym (ap length front.all) ∙ ap (λ l. length (joined l)) e in
+    let size : length (take n s.queue) ≡ 0 = sym (ap length front.all) ∙ ap (λ l. length (part_bytes l)) e in
     omega (arith, length-take n s.queue))
     (λ (l : length (frames_from s.base front.parts) ≡ flight) (e : front.parts ≡ []).
     let zero_frames : length (frames_from s.base front.parts) ≡ 0 = ap (λ l. length (frames_from s.base l)) e in
     omega arith)
     round.stop)
   where
-    first_of : (parts : List Part) → joined parts ≡ take n s.queue → All (HasSize most) parts →
+    first_of : (parts : List Part) → part_bytes parts ≡ take n s.queue → All (HasSize most) parts →
         AreMarked s.reported s.base parts → (parts ≡ [] → ⊥) → FirstSent s most parts
     first_of [] all sizes marked some_part = absurd (some_part refl)
     first_of ((true, xs) ∷ parts) all sizes marked some_part =
@@ -237,7 +237,7 @@ first_sent s most flight n old new round left some none =
         absurd (both_ways (reports s.reported s.base) none (marked.0 s.base (omega arith) (omega arith)))
     first_of ((false, xs) ∷ parts) all sizes marked some_part =
         let size = All-head (HasSize most) (false, xs) parts sizes in
-        let long : length (xs ++ joined parts) ≡ length (take n s.queue) = ap length all in
-        let few : length xs ≤ n = omega (arith, length-append xs (joined parts), length-take n s.queue) in
-        let head : xs ≡ take (length xs) s.queue = sym (take-append_seam xs (joined parts)) ∙ ap (take (length xs)) all ∙ take-take (length xs) n s.queue few in
+        let long : length (xs ++ part_bytes parts) ≡ length (take n s.queue) = ap length all in
+        let few : length xs ≤ n = omega (arith, length-append xs (part_bytes parts), length-take n s.queue) in
+        let head : xs ≡ take (length xs) s.queue = sym (take-append_seam xs (part_bytes parts)) ∙ ap (take (length xs)) all ∙ take-take (length xs) n s.queue few in
         (xs, parts, refl, size.0, size.1 refl, head)

@@ -7,21 +7,21 @@ use Rattle.net_receiver.specs.Rules.{Segment}
 use Rattle.net_receiver.specs.Stored.{Stored, IsSound, stored_next, stored_after, stored_read, domain}
 use Rattle.net_receiver.specs.OneStream.{FirstStays, NextGrows, SegmentReadsNothing, CapacityStays, QueueIsOfStream}
 use Rattle.net_receiver.specs.Retransmission.{Has, InOrderReaches}
-use Rattle.net_stream.specs.Outgoing.{Outgoing, let_go, end_of, room_of}
-use Rattle.net_stream.specs.Frames.{Part, frame_of, frames_from, decoded, RoundTrip}
-use Rattle.net_stream.specs.Reported.{unreported, reports, most_reported, listed, ranges_of}
+use Rattle.net_stream.specs.Outgoing.{Outgoing, sender_from, end_of, room_of}
+use Rattle.net_stream.specs.Frames.{Part, frame_of, frames_from, segment_of, RoundTrip}
+use Rattle.net_stream.specs.Reported.{count_outside, reports, most_reported, range_bytes, ranges_of}
 use Rattle.net_stream.specs.declared.counts.FrameCounts.{FrameCounts}
 use Rattle.net_stream.specs.declared.link.Link.{Link}
 use Rattle.net_stream.specs.declared.fate.Fate.{Fate}
 use Rattle.net_stream.specs.declared.fate.Fate.TheVariants.{Delivered, Lost, Repeated, Late}
-use Rattle.net_stream.specs.Counting.{met, met_all, carrying}
+use Rattle.net_stream.specs.Counting.{with_fate, with_fates, with_payload}
 use Rattle.net_stream.specs.Fates.{FatesSeen, next_fate, after_fate, after_all, comes, AllCome}
-use Rattle.net_stream.specs.Carrying.{answer_of, arrived}
+use Rattle.net_stream.specs.Carrying.{answer_of, receiver_after}
 use Rattle.net_stream.specs.Sending.{most_of}
-use Rattle.net_stream.specs.Progress.{acked_by, acked_all, limit_of}
-use Rattle.net_stream.specs.Passing.{coming_of, brought, answer_to, answers_of}
+use Rattle.net_stream.specs.Progress.{after_ack_frame, after_ack_frames, limit_of}
+use Rattle.net_stream.specs.Passing.{coming_of, receiver_after_all, answer_to, answers_of}
 use Rattle.net_stream.specs.Links.{Carries, Passed}
-use Rattle.net_stream.specs.Stuck.{failed, RoundKeeps, RoundMoves, NoneComes, IsStuck, Stuck, StuckTo, NeverStuck}
+use Rattle.net_stream.specs.Stuck.{failures, RoundKeeps, RoundMoves, NoneComes, IsStuck, Stuck, StuckTo, NeverStuck}
 use Rattle.net_stream.proofs.Sent.{first_sent}
 use Rattle.net_stream.proofs.Reached.{come_next, missing, first_is, all_keep_end, acked_append}
 use Rattle.net_stream.proofs.Moved.{queue_from}
@@ -42,10 +42,10 @@ come_of P v (x ∷ xs) all = both (come_of P (after_fate v) xs (All-tail P x xs 
 
 -- ---- an acknowledgement of a position from n up to m
 abbrev Acks : ℕ → ℕ → List ℕ → Type 0
-Acks n m frame = (k : ℕ) × (xs : List ℕ) × (decoded frame ≡ Some (k, xs)) × (n ≤ k) × (k ≤ m)
+Acks n m frame = (k : ℕ) × (xs : List ℕ) × (segment_of frame ≡ Some (k, xs)) × (n ≤ k) × (k ≤ m)
 
 one_answers : RoundTrip → (r : Stored) (n m : ℕ) → n ≤ stored_next r → stored_next r ≤ m → m < 2 ^ 64 → Acks n m (answer_of r)
-one_answers trip r n m low high word = (stored_next r, listed (take most_reported (maximal_runs (domain r.held))), trip (stored_next r) (listed (take most_reported (maximal_runs (domain r.held)))) (omega arith), low, high)
+one_answers trip r n m low high word = (stored_next r, range_bytes (take most_reported (maximal_runs (domain r.held))), trip (stored_next r) (range_bytes (take most_reported (maximal_runs (domain r.held)))) (omega arith), low, high)
 
 to_answers : RoundTrip → (r : Stored) (o : Option (ℕ × List ℕ)) (n m : ℕ) → n ≤ stored_next r → stored_next r ≤ m → m < 2 ^ 64 → All (Acks n m) (answer_to r o)
 to_answers trip r None n m low high word = All-nil (Acks n m)
@@ -56,7 +56,7 @@ to_answers trip r (Some (pos, xs)) n m low high word = both (nat_lt (pos + lengt
     both false = All-nil (Acks n m)
 
 -- ---- a receiver never goes back
-arrived_keeps : (F : Stored → ℕ) (N : ℕ) (r : Stored) (o : Option (ℕ × List ℕ)) → ((pos : ℕ) (xs : List ℕ) → F (stored_after N r (Segment pos xs)) ≡ F r) → F (arrived N r o) ≡ F r
+arrived_keeps : (F : Stored → ℕ) (N : ℕ) (r : Stored) (o : Option (ℕ × List ℕ)) → ((pos : ℕ) (xs : List ℕ) → F (stored_after N r (Segment pos xs)) ≡ F r) → F (receiver_after N r o) ≡ F r
 arrived_keeps F N r None same = refl
 arrived_keeps F N r (Some (pos, xs)) same = both (nat_lt (pos + length xs) (2 ^ 64))
   where
@@ -72,7 +72,7 @@ pub record Numbers : Type 0 where
   pub capacity : CapacityStays
 
 module _ (numbers : Numbers) where
-  arrived_grows : (N : ℕ) (r : Stored) (o : Option (ℕ × List ℕ)) → stored_next r ≤ stored_next (arrived N r o)
+  arrived_grows : (N : ℕ) (r : Stored) (o : Option (ℕ × List ℕ)) → stored_next r ≤ stored_next (receiver_after N r o)
   arrived_grows N r None = omega arith
   arrived_grows N r (Some (pos, xs)) = both (nat_lt (pos + length xs) (2 ^ 64))
     where
@@ -80,7 +80,7 @@ module _ (numbers : Numbers) where
       both true = numbers.next N r (Segment pos xs)
       both false = omega arith
 
-  arrived_limit : (N : ℕ) (r : Stored) (o : Option (ℕ × List ℕ)) → limit_of (arrived N r o) ≡ limit_of r
+  arrived_limit : (N : ℕ) (r : Stored) (o : Option (ℕ × List ℕ)) → limit_of (receiver_after N r o) ≡ limit_of r
   arrived_limit N r None = refl
   arrived_limit N r (Some (pos, xs)) = both (nat_lt (pos + length xs) (2 ^ 64))
     where
@@ -88,121 +88,121 @@ module _ (numbers : Numbers) where
       both true = λ i. numbers.first N r (Segment pos xs) i + numbers.read N r pos xs i + numbers.capacity N r (Segment pos xs) i
       both false = refl
 
-  brought_grows : (N : ℕ) (r : Stored) (frames : List (List ℕ)) → stored_next r ≤ stored_next (brought N r frames)
+  brought_grows : (N : ℕ) (r : Stored) (frames : List (List ℕ)) → stored_next r ≤ stored_next (receiver_after_all N r frames)
   brought_grows N r [] = omega arith
-  brought_grows N r (x ∷ xs) = le_trans (arrived_grows N r (decoded x)) (brought_grows N (arrived N r (decoded x)) xs)
+  brought_grows N r (x ∷ xs) = le_trans (arrived_grows N r (segment_of x)) (brought_grows N (receiver_after N r (segment_of x)) xs)
 
-  brought_limit : (N : ℕ) (r : Stored) (frames : List (List ℕ)) → limit_of (brought N r frames) ≡ limit_of r
+  brought_limit : (N : ℕ) (r : Stored) (frames : List (List ℕ)) → limit_of (receiver_after_all N r frames) ≡ limit_of r
   brought_limit N r [] = refl
-  brought_limit N r (x ∷ xs) = brought_limit N (arrived N r (decoded x)) xs ∙ arrived_limit N r (decoded x)
+  brought_limit N r (x ∷ xs) = brought_limit N (receiver_after N r (segment_of x)) xs ∙ arrived_limit N r (segment_of x)
 
-  brought_first : (N : ℕ) (r : Stored) (frames : List (List ℕ)) → (brought N r frames).first ≡ r.first
+  brought_first : (N : ℕ) (r : Stored) (frames : List (List ℕ)) → (receiver_after_all N r frames).first ≡ r.first
   brought_first N r [] = refl
-  brought_first N r (x ∷ xs) = brought_first N (arrived N r (decoded x)) xs ∙ arrived_keeps (λ v. v.first) N r (decoded x) (λ pos ys. numbers.first N r (Segment pos ys))
+  brought_first N r (x ∷ xs) = brought_first N (receiver_after N r (segment_of x)) xs ∙ arrived_keeps (λ v. v.first) N r (segment_of x) (λ pos ys. numbers.first N r (Segment pos ys))
 
-  brought_read : (N : ℕ) (r : Stored) (frames : List (List ℕ)) → (brought N r frames).read ≡ r.read
+  brought_read : (N : ℕ) (r : Stored) (frames : List (List ℕ)) → (receiver_after_all N r frames).read ≡ r.read
   brought_read N r [] = refl
-  brought_read N r (x ∷ xs) = brought_read N (arrived N r (decoded x)) xs ∙ arrived_keeps (λ v. v.read) N r (decoded x) (λ pos ys. numbers.read N r pos ys)
+  brought_read N r (x ∷ xs) = brought_read N (receiver_after N r (segment_of x)) xs ∙ arrived_keeps (λ v. v.read) N r (segment_of x) (λ pos ys. numbers.read N r pos ys)
 
-  brought_capacity : (N : ℕ) (r : Stored) (frames : List (List ℕ)) → (brought N r frames).capacity ≡ r.capacity
+  brought_capacity : (N : ℕ) (r : Stored) (frames : List (List ℕ)) → (receiver_after_all N r frames).capacity ≡ r.capacity
   brought_capacity N r [] = refl
-  brought_capacity N r (x ∷ xs) = brought_capacity N (arrived N r (decoded x)) xs ∙ arrived_keeps (λ v. v.capacity) N r (decoded x) (λ pos ys. numbers.capacity N r (Segment pos ys))
+  brought_capacity N r (x ∷ xs) = brought_capacity N (receiver_after N r (segment_of x)) xs ∙ arrived_keeps (λ v. v.capacity) N r (segment_of x) (λ pos ys. numbers.capacity N r (Segment pos ys))
 
-  all_answers : RoundTrip → (N : ℕ) (r : Stored) (frames : List (List ℕ)) (n m : ℕ) → n ≤ stored_next r → stored_next (brought N r frames) ≤ m → m < 2 ^ 64 → All (Acks n m) (answers_of N r frames)
+  all_answers : RoundTrip → (N : ℕ) (r : Stored) (frames : List (List ℕ)) (n m : ℕ) → n ≤ stored_next r → stored_next (receiver_after_all N r frames) ≤ m → m < 2 ^ 64 → All (Acks n m) (answers_of N r frames)
   all_answers trip N r [] n m low high word = All-nil (Acks n m)
   all_answers trip N r (x ∷ xs) n m low high word =
-      let r1 = arrived N r (decoded x) in
-      let a = arrived_grows N r (decoded x) in
+      let r1 = receiver_after N r (segment_of x) in
+      let a = arrived_grows N r (segment_of x) in
       let b = brought_grows N r1 xs in
-      All-both (Acks n m) (answer_to r1 (decoded x)) (answers_of N r1 xs)
-      (to_answers trip r1 (decoded x) n m (le_trans low a) (le_trans b high) word)
+      All-both (Acks n m) (answer_to r1 (segment_of x)) (answers_of N r1 xs)
+      (to_answers trip r1 (segment_of x) n m (le_trans low a) (le_trans b high) word)
       (all_answers trip N r1 xs n m (le_trans low a) high word)
 
   -- a frame that comes and begins where nothing is missing before it brings the receiver on
-  front_brings : InOrderReaches → (N : ℕ) (r : Stored) (late rest : List (List ℕ)) (frame : List ℕ) (pos : ℕ) (xs : List ℕ) → decoded frame ≡ Some (pos, xs) → pos ≤ stored_next r → stored_next r < pos + length xs → pos + length xs < 2 ^ 64 → stored_next r < limit_of r →
-      stored_next r < stored_next (brought N r (late ++ frame ∷ rest))
+  front_brings : InOrderReaches → (N : ℕ) (r : Stored) (late rest : List (List ℕ)) (frame : List ℕ) (pos : ℕ) (xs : List ℕ) → segment_of frame ≡ Some (pos, xs) → pos ≤ stored_next r → stored_next r < pos + length xs → pos + length xs < 2 ^ 64 → stored_next r < limit_of r →
+      stored_next r < stored_next (receiver_after_all N r (late ++ frame ∷ rest))
   front_brings order N r late rest frame pos xs at near far word room =
-      let r1 = brought N r late in
-      let r2 = arrived N r1 (decoded frame) in
+      let r1 = receiver_after_all N r late in
+      let r2 = receiver_after N r1 (segment_of frame) in
       let more : stored_next r ≤ stored_next r1 = brought_grows N r late in
       let same : limit_of r1 ≡ limit_of r = brought_limit N r late in
-      let is : r2 ≡ stored_after N r1 (Segment pos xs) = ap (arrived N r1) at ∙ cond-true _ (stored_after N r1 (Segment pos xs)) r1 (lt-ltb (pos + length xs) (2 ^ 64) word) in
-      let on : stored_next r1 ≤ stored_next r2 = arrived_grows N r1 (decoded frame) in
-      let all : stored_next r2 ≤ stored_next (brought N r2 rest) = brought_grows N r2 rest in
+      let is : r2 ≡ stored_after N r1 (Segment pos xs) = ap (receiver_after N r1) at ∙ cond-true _ (stored_after N r1 (Segment pos xs)) r1 (lt-ltb (pos + length xs) (2 ^ 64) word) in
+      let on : stored_next r1 ≤ stored_next r2 = arrived_grows N r1 (segment_of frame) in
+      let all : stored_next r2 ≤ stored_next (receiver_after_all N r2 rest) = brought_grows N r2 rest in
       let reach : min (pos + length xs) (limit_of r1) ≤ stored_next r2 = subst (λ v. min (pos + length xs) (limit_of r1) ≤ stored_next v) (sym is) (order N r1 pos xs (le_trans near more)) in
-      let here : stored_next r < stored_next (brought N r2 rest) = further (stored_next r) (pos + length xs) (limit_of r) (limit_of r1) (stored_next r2) (stored_next (brought N r2 rest)) far room same reach all in
+      let here : stored_next r < stored_next (receiver_after_all N r2 rest) = further (stored_next r) (pos + length xs) (limit_of r) (limit_of r1) (stored_next r2) (stored_next (receiver_after_all N r2 rest)) far room same reach all in
       subst (λ v. stored_next r < stored_next v) (sym (brought_append N r late (frame ∷ rest))) here
     where
       further : (n e l l1 m k : ℕ) → n < e → n < l → l1 ≡ l → min e l1 ≤ m → m ≤ k → n < k
       further n e l l1 m k a b c d h = omega arith
 
 -- ---- a sender never goes back
-base_grows : (s : Outgoing) (o : Option (ℕ × List ℕ)) → s.base ≤ (acked_by s o).base
+base_grows : (s : Outgoing) (o : Option (ℕ × List ℕ)) → s.base ≤ (after_ack_frame s o).base
 base_grows s None = omega arith
 base_grows s (Some (n, xs)) =
-    ⊎_elim {C = s.base ≤ (acked_by s (Some (n, xs))).base}
+    ⊎_elim {C = s.base ≤ (after_ack_frame s (Some (n, xs))).base}
     (λ (e : (nat_le s.base n && nat_le n (end_of s)) ≡ true).
     let both = and_parts (nat_le s.base n) (nat_le n (end_of s)) e in
-    subst (λ v. s.base ≤ v.base) (sym (cond-true _ (let_go s n (ranges_of most_reported xs)) s e)) (leb-true s.base n both.0))
+    subst (λ v. s.base ≤ v.base) (sym (cond-true _ (sender_from s n (ranges_of most_reported xs)) s e)) (leb-true s.base n both.0))
     (λ (e : (nat_le s.base n && nat_le n (end_of s)) ≡ false).
-    subst (λ v. s.base ≤ v.base) (sym (cond-false _ (let_go s n (ranges_of most_reported xs)) s e)) (omega arith))
+    subst (λ v. s.base ≤ v.base) (sym (cond-false _ (sender_from s n (ranges_of most_reported xs)) s e)) (omega arith))
     (cases_Bool (nat_le s.base n && nat_le n (end_of s)))
 
-all_base_grows : (s : Outgoing) (frames : List (List ℕ)) → s.base ≤ (acked_all s frames).base
+all_base_grows : (s : Outgoing) (frames : List (List ℕ)) → s.base ≤ (after_ack_frames s frames).base
 all_base_grows s [] = omega arith
-all_base_grows s (x ∷ xs) = le_trans (base_grows s (decoded x)) (all_base_grows (acked_by s (decoded x)) xs)
+all_base_grows s (x ∷ xs) = le_trans (base_grows s (segment_of x)) (all_base_grows (after_ack_frame s (segment_of x)) xs)
 
-room_kept : (s : Outgoing) (o : Option (ℕ × List ℕ)) → (acked_by s o).capacity ≡ s.capacity
+room_kept : (s : Outgoing) (o : Option (ℕ × List ℕ)) → (after_ack_frame s o).capacity ≡ s.capacity
 room_kept s None = refl
 room_kept s (Some (n, xs)) = both (nat_le s.base n && nat_le n (end_of s))
   where
-    both : (b : Bool) → (cond b (let_go s n (ranges_of most_reported xs)) s).capacity ≡ s.capacity
+    both : (b : Bool) → (cond b (sender_from s n (ranges_of most_reported xs)) s).capacity ≡ s.capacity
     both true = refl
     both false = refl
 
-all_keep_room : (s : Outgoing) (frames : List (List ℕ)) → (acked_all s frames).capacity ≡ s.capacity
+all_keep_room : (s : Outgoing) (frames : List (List ℕ)) → (after_ack_frames s frames).capacity ≡ s.capacity
 all_keep_room s [] = refl
-all_keep_room s (x ∷ xs) = all_keep_room (acked_by s (decoded x)) xs ∙ room_kept s (decoded x)
+all_keep_room s (x ∷ xs) = all_keep_room (after_ack_frame s (segment_of x)) xs ∙ room_kept s (segment_of x)
 
 -- an acknowledgement past b takes the base past b
-one_moves : (s : Outgoing) (b k : ℕ) (xs : List ℕ) (o : Option (ℕ × List ℕ)) → o ≡ Some (k, xs) → b < k → k ≤ end_of s → b < (acked_by s o).base
+one_moves : (s : Outgoing) (b k : ℕ) (xs : List ℕ) (o : Option (ℕ × List ℕ)) → o ≡ Some (k, xs) → b < k → k ≤ end_of s → b < (after_ack_frame s o).base
 one_moves s b k xs o at above within =
-    subst (λ p. b < (acked_by s p).base) (sym at)
-    (⊎_elim {C = b < (acked_by s (Some (k, xs))).base}
+    subst (λ p. b < (after_ack_frame s p).base) (sym at)
+    (⊎_elim {C = b < (after_ack_frame s (Some (k, xs))).base}
     (λ (l : k < s.base). le_trans (past b k s.base above l) (base_grows s (Some (k, xs))))
     (λ (l : s.base ≤ k).
     let e : (nat_le s.base k && nat_le k (end_of s)) ≡ true = and_from _ _ (le-leb s.base k l) (le-leb k (end_of s) within) in
-    subst (λ v. b < v.base) (sym (cond-true _ (let_go s k (ranges_of most_reported xs)) s e)) above)
+    subst (λ v. b < v.base) (sym (cond-true _ (sender_from s k (ranges_of most_reported xs)) s e)) above)
     (cases_lt k s.base))
   where
     past : (x y z : ℕ) → x < y → y < z → x < z
     past x y z h l = omega arith
 
 -- the last acknowledgement is of a position that the sender keeps, and that it isn't beyond
-pub acked_last : RoundTrip → (s : Outgoing) (n : ℕ) (xs : List ℕ) (front : List (List ℕ)) → n ≤ end_of s → n < 2 ^ 64 → (acked_all s (front ++ frame_of n xs ∷ [])).base ≤ n → (acked_all s (front ++ frame_of n xs ∷ [])).base ≡ n
+pub acked_last : RoundTrip → (s : Outgoing) (n : ℕ) (xs : List ℕ) (front : List (List ℕ)) → n ≤ end_of s → n < 2 ^ 64 → (after_ack_frames s (front ++ frame_of n xs ∷ [])).base ≤ n → (after_ack_frames s (front ++ frame_of n xs ∷ [])).base ≡ n
 acked_last trip s n xs front within word below =
-    let t = acked_all s front in
+    let t = after_ack_frames s front in
     let end : end_of t ≡ end_of s = all_keep_end s front in
-    let split : acked_all s (front ++ frame_of n xs ∷ []) ≡ acked_by t (Some (n, xs)) = acked_append s front (frame_of n xs ∷ []) ∙ ap (acked_by t) (trip n xs word) in
-    let same : (acked_all s (front ++ frame_of n xs ∷ [])).base ≡ (acked_by t (Some (n, xs))).base = ap (λ v. v.base) split in
-    let grows : t.base ≤ (acked_by t (Some (n, xs))).base = base_grows t (Some (n, xs)) in
+    let split : after_ack_frames s (front ++ frame_of n xs ∷ []) ≡ after_ack_frame t (Some (n, xs)) = acked_append s front (frame_of n xs ∷ []) ∙ ap (after_ack_frame t) (trip n xs word) in
+    let same : (after_ack_frames s (front ++ frame_of n xs ∷ [])).base ≡ (after_ack_frame t (Some (n, xs))).base = ap (λ v. v.base) split in
+    let grows : t.base ≤ (after_ack_frame t (Some (n, xs))).base = base_grows t (Some (n, xs)) in
     let low : t.base ≤ n = omega (arith, same, grows, below) in
     let high : n ≤ end_of t = omega (arith, end, within) in
-    same ∙ ap (λ v. v.base) (cond-true _ (let_go t n (ranges_of most_reported xs)) t (and_from _ _ (le-leb t.base n low) (le-leb n (end_of t) high)))
+    same ∙ ap (λ v. v.base) (cond-true _ (sender_from t n (ranges_of most_reported xs)) t (and_from _ _ (le-leb t.base n low) (le-leb n (end_of t) high)))
 
 -- if the base stays, none of these came
-none_come : (s s' : Outgoing) (late c : List (List ℕ)) (n m : ℕ) → s' ≡ acked_all s (late ++ c) → s'.base ≡ s.base → s.base < n → m ≤ end_of s → All (Acks n m) c → c ≡ []
+none_come : (s s' : Outgoing) (late c : List (List ℕ)) (n m : ℕ) → s' ≡ after_ack_frames s (late ++ c) → s'.base ≡ s.base → s.base < n → m ≤ end_of s → All (Acks n m) c → c ≡ []
 none_come s s' late [] n m is same above within all = refl
 none_come s s' late (a ∷ rest) n m is same above within all =
-    let t = acked_all s late in
+    let t = after_ack_frames s late in
     let ack = All-head (Acks n m) a rest all in
     let e : end_of t ≡ end_of s = all_keep_end s late in
     let low = ack.3 in
     let high = ack.4 in
-    let one : s.base < (acked_by t (decoded a)).base = one_moves t s.base ack.0 ack.1 (decoded a) ack.2 (first s.base n ack.0 above low) (second ack.0 m (end_of s) (end_of t) high within e) in
-    let more : (acked_by t (decoded a)).base ≤ (acked_all (acked_by t (decoded a)) rest).base = all_base_grows (acked_by t (decoded a)) rest in
-    let there : s'.base ≡ (acked_all t (a ∷ rest)).base = ap (λ v. v.base) is ∙ ap (λ v. v.base) (acked_append s late (a ∷ rest)) in
-    absurd (never s.base s'.base (acked_by t (decoded a)).base (acked_all (acked_by t (decoded a)) rest).base one more there same)
+    let one : s.base < (after_ack_frame t (segment_of a)).base = one_moves t s.base ack.0 ack.1 (segment_of a) ack.2 (first s.base n ack.0 above low) (second ack.0 m (end_of s) (end_of t) high within e) in
+    let more : (after_ack_frame t (segment_of a)).base ≤ (after_ack_frames (after_ack_frame t (segment_of a)) rest).base = all_base_grows (after_ack_frame t (segment_of a)) rest in
+    let there : s'.base ≡ (after_ack_frames t (a ∷ rest)).base = ap (λ v. v.base) is ∙ ap (λ v. v.base) (acked_append s late (a ∷ rest)) in
+    absurd (never s.base s'.base (after_ack_frame t (segment_of a)).base (after_ack_frames (after_ack_frame t (segment_of a)) rest).base one more there same)
   where
     first : (x y z : ℕ) → x < y → y ≤ z → x < z
     first x y z h l = omega arith
@@ -240,7 +240,7 @@ rounds_move trip numbers order queue f w old new p sound carries word none none_
         let end = carries.sends.end in
         omega arith
 
-    same : stored_next (brought most_reported old.receiver p.came) ≡ stored_next old.receiver
+    same : stored_next (receiver_after_all most_reported old.receiver p.came) ≡ stored_next old.receiver
     same = sym (ap stored_next p.received) ∙ still
 
     -- no acknowledgement came
@@ -297,9 +297,9 @@ rounds_move trip numbers order queue f w old new p sound carries word none none_
         let frame = frame_of old.sender.base xs in
         let coming : coming_of old.there.fates p.sent.ahead ≡ frame ∷ c = ap (coming_of old.there.fates) (ahead l) ∙ cond-true _ (frame ∷ c) c e in
         let came : p.came ≡ old.there.late ++ frame ∷ c = p.coming ∙ ap (λ x. old.there.late ++ x) coming in
-        let more : stored_next old.receiver < stored_next (brought most_reported old.receiver (old.there.late ++ frame ∷ c)) = front_brings numbers order most_reported old.receiver old.there.late c frame old.sender.base xs (trip old.sender.base xs (omega arith)) l' (omega arith) (omega arith) room in
-        let on : stored_next old.receiver < stored_next (brought most_reported old.receiver p.came) = subst (λ x. stored_next old.receiver < stored_next (brought most_reported old.receiver x)) (sym came) more in
-        absurd (less (stored_next old.receiver) (stored_next (brought most_reported old.receiver p.came)) on same))
+        let more : stored_next old.receiver < stored_next (receiver_after_all most_reported old.receiver (old.there.late ++ frame ∷ c)) = front_brings numbers order most_reported old.receiver old.there.late c frame old.sender.base xs (trip old.sender.base xs (omega arith)) l' (omega arith) (omega arith) room in
+        let on : stored_next old.receiver < stored_next (receiver_after_all most_reported old.receiver p.came) = subst (λ x. stored_next old.receiver < stored_next (receiver_after_all most_reported old.receiver x)) (sym came) more in
+        absurd (less (stored_next old.receiver) (stored_next (receiver_after_all most_reported old.receiver p.came)) on same))
         (λ (e : comes (next_fate old.there.fates) ≡ false). e)
         (cases_Bool (comes (next_fate old.there.fates)))
       where
@@ -310,25 +310,25 @@ rounds_move trip numbers order queue f w old new p sound carries word none none_
         less a b h k = omega arith
 
 -- ---- what is counted
-failed_met : (lot : Fate) (c : FrameCounts) → failed c ≤ failed (met lot c)
+failed_met : (lot : Fate) (c : FrameCounts) → failures c ≤ failures (with_fate lot c)
 failed_met Delivered c = omega arith
 failed_met Lost c = omega arith
 failed_met Repeated c = omega arith
 failed_met Late c = omega arith
 
-failed_fails : (lot : Fate) (c : FrameCounts) → comes lot ≡ false → min (failed c + 1) (2 ^ 64 - 1) ≤ failed (met lot c)
+failed_fails : (lot : Fate) (c : FrameCounts) → comes lot ≡ false → min (failures c + 1) (2 ^ 64 - 1) ≤ failures (with_fate lot c)
 failed_fails Delivered c e = absurd (both_ways true e refl)
 failed_fails Lost c e = omega arith
 failed_fails Repeated c e = absurd (both_ways true e refl)
 failed_fails Late c e = omega arith
 
-failed_all : (n : ℕ) (v : FatesSeen) (c : FrameCounts) → failed c ≤ failed (met_all n v c)
+failed_all : (n : ℕ) (v : FatesSeen) (c : FrameCounts) → failures c ≤ failures (with_fates n v c)
 failed_all zero v c = omega arith
-failed_all (suc n) v c = le_trans (failed_met (next_fate v) c) (failed_all n (after_fate v) (met (next_fate v) c))
+failed_all (suc n) v c = le_trans (failed_met (next_fate v) c) (failed_all n (after_fate v) (with_fate (next_fate v) c))
 
-failed_first : (n : ℕ) (v : FatesSeen) (c : FrameCounts) → 0 < n → comes (next_fate v) ≡ false → min (failed c + 1) (2 ^ 64 - 1) ≤ failed (met_all n v c)
+failed_first : (n : ℕ) (v : FatesSeen) (c : FrameCounts) → 0 < n → comes (next_fate v) ≡ false → min (failures c + 1) (2 ^ 64 - 1) ≤ failures (with_fates n v c)
 failed_first zero v c some e = absurd (omega arith)
-failed_first (suc n) v c some e = le_trans (failed_fails (next_fate v) c e) (failed_all n (after_fate v) (met (next_fate v) c))
+failed_first (suc n) v c some e = le_trans (failed_fails (next_fate v) c e) (failed_all n (after_fate v) (with_fate (next_fate v) c))
 
 more_failed : (a b : ℕ) → a ≤ b → min (a + 1) (2 ^ 64 - 1) ≤ min (b + 1) (2 ^ 64 - 1)
 more_failed a b h = omega arith
@@ -362,14 +362,14 @@ module _ {A : Type 0} (old new : Link A) (p : Passed old new) where
   acks_some : 0 < length p.acks
   acks_some = subst (λ l. 0 < length l) (sym p.answers) (let e = length-append (old.back.ahead ++ answers_of most_reported old.receiver p.came) (answer_of new.receiver ∷ []) in omega arith)
 
-  same_failed : failed new.counts ≡ failed (met_all (length p.acks) old.back.fates (met_all (length p.sent.ahead) old.there.fates (carrying (unreported old.sender.reported old.sender.base p.n) old.counts)))
-  same_failed = ap failed p.counted
+  same_failed : failures new.counts ≡ failures (with_fates (length p.acks) old.back.fates (with_fates (length p.sent.ahead) old.there.fates (with_payload (count_outside old.sender.reported old.sender.base p.n) old.counts)))
+  same_failed = ap failures p.counted
 
-  pub round_failed : failed old.counts ≤ failed new.counts
+  pub round_failed : failures old.counts ≤ failures new.counts
   round_failed =
-      let c = carrying (unreported old.sender.reported old.sender.base p.n) old.counts in
-      let m = met_all (length p.sent.ahead) old.there.fates c in
-      subst (λ n. failed old.counts ≤ n) (sym same_failed) (le_trans (failed_all (length p.sent.ahead) old.there.fates c) (failed_all (length p.acks) old.back.fates m))
+      let c = with_payload (count_outside old.sender.reported old.sender.base p.n) old.counts in
+      let m = with_fates (length p.sent.ahead) old.there.fates c in
+      subst (λ n. failures old.counts ≤ n) (sym same_failed) (le_trans (failed_all (length p.sent.ahead) old.there.fates c) (failed_all (length p.acks) old.back.fates m))
 
   pub round_keeps : Numbers → RoundKeeps old new
   round_keeps numbers = record {
@@ -385,14 +385,14 @@ module _ {A : Type 0} (old new : Link A) (p : Passed old new) where
     failed = round_failed;
   }
 
-  counted : (n : ℕ) → min (failed old.counts + 1) (2 ^ 64 - 1) ≤ n → n ≤ failed (met_all (length p.acks) old.back.fates (met_all (length p.sent.ahead) old.there.fates (carrying (unreported old.sender.reported old.sender.base p.n) old.counts))) → min (failed old.counts + 1) (2 ^ 64 - 1) ≤ failed new.counts
-  counted n h k = subst (λ m. min (failed old.counts + 1) (2 ^ 64 - 1) ≤ m) (sym same_failed) (le_trans h k)
+  counted : (n : ℕ) → min (failures old.counts + 1) (2 ^ 64 - 1) ≤ n → n ≤ failures (with_fates (length p.acks) old.back.fates (with_fates (length p.sent.ahead) old.there.fates (with_payload (count_outside old.sender.reported old.sender.base p.n) old.counts))) → min (failures old.counts + 1) (2 ^ 64 - 1) ≤ failures new.counts
+  counted n h k = subst (λ m. min (failures old.counts + 1) (2 ^ 64 - 1) ≤ m) (sym same_failed) (le_trans h k)
 
   pub round_moves : RoundTrip → Numbers → InOrderReaches → QueueIsOfStream → IsSound most_reported old.receiver → end_of old.sender < 2 ^ 64 → RoundMoves old new
   round_moves trip numbers order queue sound word f w carries none none_back some room still still_back =
-      let c = carrying (unreported old.sender.reported old.sender.base p.n) old.counts in
-      let m = met_all (length p.sent.ahead) old.there.fates c in
-      let e = met_all (length p.acks) old.back.fates m in
+      let c = with_payload (count_outside old.sender.reported old.sender.base p.n) old.counts in
+      let m = with_fates (length p.sent.ahead) old.there.fates c in
+      let e = with_fates (length p.acks) old.back.fates m in
       let one = failed_all (length p.sent.ahead) old.there.fates c in
       let two = failed_all (length p.acks) old.back.fates m in
       ⊎_elim {C = Stuck old new}
@@ -402,7 +402,7 @@ module _ {A : Type 0} (old new : Link A) (p : Passed old new) where
         why = inl (a.1, a.2);
         left = ap (λ t. t.fates) p.left ∙ ap (λ t. after_all (length p.sent.ahead) t.fates) p.all.front.sent;
         left_back = ap (λ t. t.fates) p.left_back;
-        counted = counted (failed m) (failed_first (length p.sent.ahead) old.there.fates c a.1 a.2) two;
+        counted = counted (failures m) (failed_first (length p.sent.ahead) old.there.fates c a.1 a.2) two;
       })
       (λ (b : (old.sender.base < stored_next old.receiver) × (coming_of old.back.fates p.acks ≡ [])). record {
         frames = length p.sent.ahead;
@@ -410,7 +410,7 @@ module _ {A : Type 0} (old new : Link A) (p : Passed old new) where
         why = inr (acks_some, none_comes old.back.fates p.acks b.1);
         left = ap (λ t. t.fates) p.left ∙ ap (λ t. after_all (length p.sent.ahead) t.fates) p.all.front.sent;
         left_back = ap (λ t. t.fates) p.left_back;
-        counted = counted (failed e) (le_trans (more_failed (failed c) (failed m) one) (failed_first (length p.acks) old.back.fates m acks_some (first_fails old.back.fates p.acks acks_some b.1))) (le_refl (failed e));
+        counted = counted (failures e) (le_trans (more_failed (failures c) (failures m) one) (failed_first (length p.acks) old.back.fates m acks_some (first_fails old.back.fates p.acks acks_some b.1))) (le_refl (failures e));
       })
       (rounds_move trip numbers order queue f w old new p sound carries word none none_back some room still still_back)
 

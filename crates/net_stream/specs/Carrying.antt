@@ -4,7 +4,7 @@
 --     IsUnderWay f w s r there back      the stream w, whose first byte has position f, is on its way
 --     FrameTells r frame      an acknowledgement tells nothing but what the receiver has
 --     answer_of r      the acknowledgement of a receiver
---     arrived N r frame, with_answer r frame back      what a frame that comes leaves
+--     receiver_after N r frame, with_answer r frame back      what a frame that comes leaves
 use Rattle.std.specs.Prelude.{◌≡◌, ℕ, ◌+◌, ◌≤◌, ◌^◌, ◌⊎◌, nat_lt, if◌then◌else◌}
 use Rattle.std.specs.Prelude.{IsTrue, Option, Some, None}
 use Rattle.std.specs.Prelude.{List, [], ◌∷◌, ◌++◌, length, take, All}
@@ -14,8 +14,8 @@ use Rattle.net_receiver.specs.Stored.{Stored, stored_next, stored_after, domain}
 use Rattle.net_receiver.specs.OneStream.{ReceivesFrom}
 use Rattle.net_receiver.specs.Retransmission.{Has}
 use Rattle.net_stream.specs.Outgoing.{Outgoing, Sends}
-use Rattle.net_stream.specs.Frames.{frame_of, decoded, FrameSays}
-use Rattle.net_stream.specs.Reported.{reports, most_reported, listed, ranges_of}
+use Rattle.net_stream.specs.Frames.{frame_of, segment_of, FrameSays}
+use Rattle.net_stream.specs.Reported.{reports, most_reported, range_bytes, ranges_of}
 use Rattle.net_stream.specs.Fates.{FatesSeen}
 
 -- one direction of a link
@@ -31,19 +31,19 @@ HasReported r ranges = (p : ℕ) → IsTrue (reports ranges p) → Has r p
 -- an acknowledgement is of nothing past the first missing position, and reports nothing but
 -- positions that the receiver has
 abbrev pub FrameTells : Stored → List ℕ → Type 0
-FrameTells r frame = (n : ℕ) (xs : List ℕ) → decoded frame ≡ Some (n, xs) →
+FrameTells r frame = (n : ℕ) (xs : List ℕ) → segment_of frame ≡ Some (n, xs) →
     (n ≤ stored_next r) × HasReported r (ranges_of most_reported xs)
 
 -- an acknowledgement of what a receiver has: the first missing position, and the first held runs
 abbrev pub answer_of : Stored → List ℕ
 answer_of r =
-    frame_of (stored_next r) (listed (take most_reported (maximal_runs (domain r.held))))
+    frame_of (stored_next r) (range_bytes (take most_reported (maximal_runs (domain r.held))))
 
 -- what a receiver stores once a frame came: one that is too short for a position changes nothing,
 -- nor does one whose positions go past 64 bits
-abbrev pub arrived : ℕ → Stored → Option (ℕ × List ℕ) → Stored
-arrived most_runs r None = r
-arrived most_runs r (Some (pos, xs)) =
+abbrev pub receiver_after : ℕ → Stored → Option (ℕ × List ℕ) → Stored
+receiver_after most_runs r None = r
+receiver_after most_runs r (Some (pos, xs)) =
     if nat_lt (pos + length xs) (2 ^ 64) then stored_after most_runs r (Segment pos xs) else r
 
 -- what is on its way back then, where the receiver stores r: its answer behind what was there

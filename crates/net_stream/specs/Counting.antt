@@ -1,10 +1,10 @@
 -- What is counted.
 --     more n      one more, up to the greatest number of 64 bits
---     met fate counts      a frame met its fate
---     met_all n v counts      n frames met their fates, the next of v
+--     with_fate fate counts      a frame met its fate
+--     with_fates n v counts      n frames met their fates, the next of v
 --     SameButRefused counts counts'      all is the same but the refused segments
---     carrying n counts      frames carried n bytes
---     is_refused reply, refusing most_runs r frame counts      a receiver refused a segment
+--     with_payload n counts      frames carried n bytes
+--     is_refused reply, with_refusal most_runs r frame counts      a receiver refused a segment
 use Rattle.std.specs.Prelude.{◌≡◌, ℕ, zero, suc, ◌+◌, ◌-◌, ◌^◌, ◌&&◌, min, nat_lt}
 use Rattle.std.specs.Prelude.{if◌then◌else◌, Bool, true, false, List, length, Option, Some, None, Ok, Err}
 use Rattle.net_receiver.specs.Rules.{ReplySeen, Segmented, Gave, Shown, Segment}
@@ -20,24 +20,24 @@ abbrev pub more : ℕ → ℕ
 more n = min (n + 1) (2 ^ 64 - 1)
 
 -- a frame was sent and met its fate
-abbrev pub met : Fate → FrameCounts → FrameCounts
-met Delivered c = record c { sent = more c.sent }
-met Lost c = record c { sent = more c.sent; lost = more c.lost }
-met Repeated c = record c { sent = more c.sent; repeated = more c.repeated }
-met Late c = record c { sent = more c.sent; late = more c.late }
+abbrev pub with_fate : Fate → FrameCounts → FrameCounts
+with_fate Delivered c = record c { sent = more c.sent }
+with_fate Lost c = record c { sent = more c.sent; lost = more c.lost }
+with_fate Repeated c = record c { sent = more c.sent; repeated = more c.repeated }
+with_fate Late c = record c { sent = more c.sent; late = more c.late }
 
 -- n frames were sent and met the fates that come next
-abbrev pub met_all : ℕ → FatesSeen → FrameCounts → FrameCounts
-met_all zero v c = c
-met_all (suc n) v c = met_all n (after_fate v) (met (next_fate v) c)
+abbrev pub with_fates : ℕ → FatesSeen → FrameCounts → FrameCounts
+with_fates zero v c = c
+with_fates (suc n) v c = with_fates n (after_fate v) (with_fate (next_fate v) c)
 
 -- how many segments were refused may differ
 abbrev pub SameButRefused : FrameCounts → FrameCounts → Type 0
 SameButRefused c d = record c { refused = 0 } ≡ record d { refused = 0 }
 
 -- n bytes were put on their way, as far as 64 bits go
-abbrev pub carrying : ℕ → FrameCounts → FrameCounts
-carrying n c = record c { payload = min (c.payload + n) (2 ^ 64 - 1) }
+abbrev pub with_payload : ℕ → FrameCounts → FrameCounts
+with_payload n c = record c { payload = min (c.payload + n) (2 ^ 64 - 1) }
 
 -- whether a reply refuses a segment
 abbrev pub is_refused : ReplySeen → Bool
@@ -47,9 +47,9 @@ is_refused (Gave xs) = false
 is_refused (Shown n q r h) = false
 
 -- a frame came to a receiver, which may have refused what it says
-abbrev pub refusing : ℕ → Stored → Option (ℕ × List ℕ) → FrameCounts → FrameCounts
-refusing most_runs r None c = c
-refusing most_runs r (Some (pos, xs)) c =
+abbrev pub with_refusal : ℕ → Stored → Option (ℕ × List ℕ) → FrameCounts → FrameCounts
+with_refusal most_runs r None c = c
+with_refusal most_runs r (Some (pos, xs)) c =
     if nat_lt (pos + length xs) (2 ^ 64)
     && is_refused (stored_reply most_runs r (Segment pos xs))
     then record c { refused = more c.refused }

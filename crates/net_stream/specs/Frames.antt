@@ -1,6 +1,6 @@
 -- Frames as bytes.
 --     frame_of pos xs      the position in 8 bytes, the most significant first, and then the bytes
---     decoded frame      what a frame says: its position and its bytes, if it has a position
+--     segment_of frame      what a frame says: its position and its bytes, if it has a position
 --     Part      some bytes, and whether they are spared: then no frame has them
 --     frames_from p parts      the frames of parts that follow one another from position p on
 use Rattle.std.specs.Prelude.{◌≡◌, ℕ, ◌+◌, ◌<◌, ◌^◌, if◌then◌else◌, nat_lt, Bool, true, false}
@@ -13,14 +13,14 @@ abbrev pub frame_of : ℕ → List ℕ → List ℕ
 frame_of pos xs = to_be_bytes w64 pos ++ xs
 
 -- a frame of fewer than 8 bytes says nothing
-abbrev pub decoded : List ℕ → Option (ℕ × List ℕ)
-decoded frame =
+abbrev pub segment_of : List ℕ → Option (ℕ × List ℕ)
+segment_of frame =
     if nat_lt (length frame) 8 then None
     else Some (from_be_bytes w64 (take 8 frame), drop 8 frame)
 
 -- decoding finds what was encoded
 abbrev pub RoundTrip : Type 0
-RoundTrip = (pos : ℕ) (xs : List ℕ) → pos < 2 ^ 64 → decoded (frame_of pos xs) ≡ Some (pos, xs)
+RoundTrip = (pos : ℕ) (xs : List ℕ) → pos < 2 ^ 64 → segment_of (frame_of pos xs) ≡ Some (pos, xs)
 
 -- frames that are equal have equal positions and bytes
 abbrev pub DistinctFrames : Type 0
@@ -38,10 +38,10 @@ frames_from p ((true, xs) ∷ parts) = frames_from (p + length xs) parts
 frames_from p ((false, xs) ∷ parts) = frame_of p xs ∷ frames_from (p + length xs) parts
 
 -- the bytes of parts, one behind the other
-abbrev pub joined : List Part → List ℕ
-joined [] = []
-joined ((spared, xs) ∷ parts) = xs ++ joined parts
+abbrev pub part_bytes : List Part → List ℕ
+part_bytes [] = []
+part_bytes ((spared, xs) ∷ parts) = xs ++ part_bytes parts
 
 -- the frame brings nothing but what the stream w has, whose first byte has position f
 abbrev pub FrameSays : ℕ → List ℕ → List ℕ → Type 0
-FrameSays f w frame = (pos : ℕ) (xs : List ℕ) → decoded frame ≡ Some (pos, xs) → Says f w pos xs
+FrameSays f w frame = (pos : ℕ) (xs : List ℕ) → segment_of frame ≡ Some (pos, xs) → Says f w pos xs

@@ -7,15 +7,15 @@
 use Rattle.std.specs.Prelude.{◌≡◌, ℕ, ◌+◌, ◌*◌, ◌/◌, ◌<◌, ◌≤◌, min, max, List, [], ◌∷◌, ◌++◌, length}
 use Rattle.std.specs.Prelude.{Bool, false, if◌then◌else◌}
 use Rattle.net_receiver.specs.Stored.{stored_next}
-use Rattle.net_stream.specs.Reported.{unreported, most_reported, is_full}
-use Rattle.net_stream.specs.Counting.{met_all, SameButRefused, carrying}
+use Rattle.net_stream.specs.Reported.{count_outside, most_reported, is_full}
+use Rattle.net_stream.specs.Counting.{with_fates, SameButRefused, with_payload}
 use Rattle.net_stream.specs.Outgoing.{end_of}
 use Rattle.net_stream.specs.Fates.{NextCome}
 use Rattle.net_stream.specs.Carrying.{PathSeen, IsUnderWay, answer_of}
 use Rattle.net_stream.specs.Sending.{SentRound, most_of}
 use Rattle.net_stream.specs.Frames.{frames_from}
-use Rattle.net_stream.specs.Progress.{acked_all, limit_of}
-use Rattle.net_stream.specs.Passing.{coming_of, brought, answers_of, met_path}
+use Rattle.net_stream.specs.Progress.{after_ack_frames, limit_of}
+use Rattle.net_stream.specs.Passing.{coming_of, receiver_after_all, answers_of, path_after}
 use Rattle.net_stream.specs.declared.link.Link.{Link}
 
 -- w was written to the sender, each frame brings nothing but parts of w, and each acknowledgement
@@ -39,18 +39,18 @@ pub record Passed {A : Type 0} (old new : Link A) : Type 0 where
   pub all : SentRound old.sender (most_of old.payload) (most_of old.flight) n old.there sent
   pub came : List (List ℕ)
   pub coming : came ≡ old.there.late ++ coming_of old.there.fates sent.ahead
-  pub received : new.receiver ≡ brought most_reported old.receiver came
+  pub received : new.receiver ≡ receiver_after_all most_reported old.receiver came
   pub acks : List (List ℕ)
   pub answers : acks
       ≡ old.back.ahead ++ answers_of most_reported old.receiver came
       ++ answer_of new.receiver ∷ []
   pub acked : new.sender
-      ≡ acked_all old.sender (old.back.late ++ coming_of old.back.fates acks)
-  pub left : new.there ≡ met_path sent
-  pub left_back : new.back ≡ met_path (record old.back { ahead = acks })
+      ≡ after_ack_frames old.sender (old.back.late ++ coming_of old.back.fates acks)
+  pub left : new.there ≡ path_after sent
+  pub left_back : new.back ≡ path_after (record old.back { ahead = acks })
   pub counted : SameButRefused new.counts
-      (met_all (length acks) old.back.fates (met_all (length sent.ahead) old.there.fates
-      (carrying (unreported old.sender.reported old.sender.base n) old.counts)))
+      (with_fates (length acks) old.back.fates (with_fates (length sent.ahead) old.there.fates
+      (with_payload (count_outside old.sender.reported old.sender.base n) old.counts)))
   pub payload : new.payload ≡ old.payload
   pub elapsed : new.elapsed ≡ old.elapsed
   pub limit : new.limit ≡ old.limit

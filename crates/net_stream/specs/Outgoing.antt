@@ -3,11 +3,11 @@
 --                   ranges of positions that were reported last, and the position at which the
 --                   storage begins again
 --     row_end v p      where the bytes end that stand in a row in the storage with the one at p
---     acknowledged v n ranges      what is kept once all below position n was acknowledged, and
+--     after_ack v n ranges      what is kept once all below position n was acknowledged, and
 --                                  these ranges were reported
 --     with_written v xs      what is kept once these bytes were written
 --     CalledOnRoom g f v answer u      f was run on free bytes, and what it counted was written
---     all_acknowledged v acks      what is kept once several acknowledgements were taken
+--     after_acks v acks      what is kept once several acknowledgements were taken
 --     Sends f w v      w was written to a sender, its first byte at position f; it keeps v
 use Rattle.std.specs.Prelude.{◌≡◌, ℕ, ◌+◌, ◌-◌, ◌≤◌, ◌^◌, ◌&&◌, nat_lt, nat_le, nat_eq, min, max}
 use Rattle.std.specs.Prelude.{if◌then◌else◌, List, [], ◌∷◌, ◌++◌, length, take, drop}
@@ -77,20 +77,20 @@ module _ {F R : Type 0}
       × (new ≡ with_written old (take answer.0 ws))
 
 -- all below position n was let go; the storage begins again later by its length once n is past that
-abbrev pub let_go : Outgoing → ℕ → List (ℕ × ℕ) → Outgoing
-let_go v n ranges = outgoing v.capacity n (drop (n - v.base) v.queue) ranges
+abbrev pub sender_from : Outgoing → ℕ → List (ℕ × ℕ) → Outgoing
+sender_from v n ranges = outgoing v.capacity n (drop (n - v.base) v.queue) ranges
     (if nat_lt n v.cut then v.cut else v.cut + v.capacity)
 
 -- numbers outside what is kept change nothing
-abbrev pub acknowledged : Outgoing → ℕ → List (ℕ × ℕ) → Outgoing
-acknowledged v n ranges =
-    if nat_le v.base n && nat_le n (end_of v) then let_go v n ranges else v
+abbrev pub after_ack : Outgoing → ℕ → List (ℕ × ℕ) → Outgoing
+after_ack v n ranges =
+    if nat_le v.base n && nat_le n (end_of v) then sender_from v n ranges else v
 
 -- ---- several acknowledgements, each of a position and of ranges
 -- what is kept once they were taken, one after another
-abbrev pub all_acknowledged : Outgoing → List (ℕ × List (ℕ × ℕ)) → Outgoing
-all_acknowledged v [] = v
-all_acknowledged v ((n, ranges) ∷ acks) = all_acknowledged (acknowledged v n ranges) acks
+abbrev pub after_acks : Outgoing → List (ℕ × List (ℕ × ℕ)) → Outgoing
+after_acks v [] = v
+after_acks v ((n, ranges) ∷ acks) = after_acks (after_ack v n ranges) acks
 
 -- the greatest of p and of their positions, but of those above the limit
 abbrev pub greatest_within : ℕ → ℕ → List (ℕ × List (ℕ × ℕ)) → ℕ
@@ -101,10 +101,10 @@ greatest_within limit p ((n, ranges) ∷ acks) =
 -- a sender keeps all from the greatest position on that was acknowledged, of those up to its end
 abbrev pub KeepsFromGreatest : Type 0
 KeepsFromGreatest = (v : Outgoing) (acks : List (ℕ × List (ℕ × ℕ))) →
-    ((all_acknowledged v acks).base ≡ greatest_within (end_of v) v.base acks)
-    × (end_of (all_acknowledged v acks) ≡ end_of v)
-    × ((all_acknowledged v acks).queue
-    ≡ drop ((all_acknowledged v acks).base - v.base) v.queue)
+    ((after_acks v acks).base ≡ greatest_within (end_of v) v.base acks)
+    × (end_of (after_acks v acks) ≡ end_of v)
+    × ((after_acks v acks).queue
+    ≡ drop ((after_acks v acks).base - v.base) v.queue)
 
 -- what is kept is the rest of w, from its position on
 pub record Sends (f : ℕ) (w : List ℕ) (v : Outgoing) : Type 0 where

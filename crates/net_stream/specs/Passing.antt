@@ -1,16 +1,16 @@
 -- What becomes of frames and acknowledgements that meet their fates.
 --     coming_of v frames, late_of v frames      of frames that meet the next fates of v, those that
 --                                               come at once, and those that come late
---     brought N r frames      what a receiver stores once frames have come, one after another
+--     receiver_after_all N r frames      what a receiver stores once frames have come, one after another
 --     answers_of N r frames      its acknowledgements of them
---     met_path path      what is left of a direction whose frames have all met their fates
+--     path_after path      what is left of a direction whose frames have all met their fates
 use Rattle.std.specs.Prelude.{ℕ, ◌+◌, ◌^◌, nat_lt, if◌then◌else◌}
 use Rattle.std.specs.Prelude.{List, [], ◌∷◌, ◌++◌, length, Option, Some, None}
 use Rattle.net_receiver.specs.Stored.{Stored}
-use Rattle.net_stream.specs.Frames.{decoded}
+use Rattle.net_stream.specs.Frames.{segment_of}
 use Rattle.net_stream.specs.Fates.{FatesSeen, next_fate, after_fate, after_all, comes, comes_late}
 use Rattle.net_stream.specs.declared.fate.Fate.{Fate}
-use Rattle.net_stream.specs.Carrying.{PathSeen, answer_of, arrived}
+use Rattle.net_stream.specs.Carrying.{PathSeen, answer_of, receiver_after}
 
 -- the frames that come at once, of frames that meet the next fates of v
 abbrev pub coming_of : FatesSeen → List (List ℕ) → List (List ℕ)
@@ -32,9 +32,9 @@ with_return fate frame path =
     if comes_late fate then record path { late = path.late ++ frame ∷ [] } else path
 
 -- what a receiver stores once frames have come, one after another
-abbrev pub brought : ℕ → Stored → List (List ℕ) → Stored
-brought most_runs r [] = r
-brought most_runs r (frame ∷ frames) = brought most_runs (arrived most_runs r (decoded frame)) frames
+abbrev pub receiver_after_all : ℕ → Stored → List (List ℕ) → Stored
+receiver_after_all most_runs r [] = r
+receiver_after_all most_runs r (frame ∷ frames) = receiver_after_all most_runs (receiver_after most_runs r (segment_of frame)) frames
 
 -- the acknowledgement of a frame that came, if it has one, where the receiver stores r
 abbrev pub answer_to : Stored → Option (ℕ × List ℕ) → List (List ℕ)
@@ -46,12 +46,12 @@ answer_to r (Some (pos, xs)) =
 abbrev pub answers_of : ℕ → Stored → List (List ℕ) → List (List ℕ)
 answers_of most_runs r [] = []
 answers_of most_runs r (frame ∷ frames) =
-    answer_to (arrived most_runs r (decoded frame)) (decoded frame)
-    ++ answers_of most_runs (arrived most_runs r (decoded frame)) frames
+    answer_to (receiver_after most_runs r (segment_of frame)) (segment_of frame)
+    ++ answers_of most_runs (receiver_after most_runs r (segment_of frame)) frames
 
 -- what is left of a direction whose frames have all met their fates
-abbrev pub met_path : PathSeen → PathSeen
-met_path path = record {
+abbrev pub path_after : PathSeen → PathSeen
+path_after path = record {
   ahead = [];
   late = late_of path.fates path.ahead;
   fates = after_all (length path.ahead) path.fates;

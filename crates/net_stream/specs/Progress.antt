@@ -1,13 +1,13 @@
 -- How far frames and acknowledgements bring a receiver and a sender, once they have come.
 --     reach_one p frame      how far a receiver comes at least that has all before p
 --     Reaches ranges end p frames      frames bring it to `end`, if it has the ranges too
---     acked_all s frames      a sender once the acknowledgements have come
+--     after_ack_frames s frames      a sender once the acknowledgements have come
 --     HasRoom s r      the receiver's free window ends behind all that the sender keeps
 use Rattle.std.specs.Prelude.{◌≡◌, ℕ, ◌+◌, ◌-◌, ◌<◌, ◌≤◌, ◌^◌, ◌⊎◌, max, nat_le, if◌then◌else◌}
 use Rattle.std.specs.Prelude.{true, List, [], ◌∷◌, length, Option, Some, None}
 use Rattle.net_receiver.specs.Stored.{Stored}
-use Rattle.net_stream.specs.Outgoing.{Outgoing, end_of, acknowledged}
-use Rattle.net_stream.specs.Frames.{decoded}
+use Rattle.net_stream.specs.Outgoing.{Outgoing, end_of, after_ack}
+use Rattle.net_stream.specs.Frames.{segment_of}
 use Rattle.net_stream.specs.Reported.{most_reported, ranges_of}
 use Rattle.net_stream.specs.Sending.{IsMarked}
 
@@ -22,19 +22,19 @@ abbrev pub Reaches : List (ℕ × ℕ) → ℕ → ℕ → List (List ℕ) → T
 Reaches ranges end p [] = IsMarked ranges p (end - p) true
 Reaches ranges end p (frame ∷ frames) =
     Reaches ranges end p frames
-    ⊎ ((pos : ℕ) × (xs : List ℕ) × (decoded frame ≡ Some (pos, xs))
+    ⊎ ((pos : ℕ) × (xs : List ℕ) × (segment_of frame ≡ Some (pos, xs))
     × IsMarked ranges p (pos - p) true
     × Reaches ranges end (max p (pos + length xs)) frames)
 
 -- a sender that took what an acknowledgement says
-abbrev pub acked_by : Outgoing → Option (ℕ × List ℕ) → Outgoing
-acked_by s None = s
-acked_by s (Some (n, xs)) = acknowledged s n (ranges_of most_reported xs)
+abbrev pub after_ack_frame : Outgoing → Option (ℕ × List ℕ) → Outgoing
+after_ack_frame s None = s
+after_ack_frame s (Some (n, xs)) = after_ack s n (ranges_of most_reported xs)
 
 -- the same of several acknowledgements, one after another
-abbrev pub acked_all : Outgoing → List (List ℕ) → Outgoing
-acked_all s [] = s
-acked_all s (frame ∷ frames) = acked_all (acked_by s (decoded frame)) frames
+abbrev pub after_ack_frames : Outgoing → List (List ℕ) → Outgoing
+after_ack_frames s [] = s
+after_ack_frames s (frame ∷ frames) = after_ack_frames (after_ack_frame s (segment_of frame)) frames
 
 -- where a receiver's free window ends
 abbrev pub limit_of : Stored → ℕ

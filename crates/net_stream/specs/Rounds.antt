@@ -4,7 +4,7 @@
 --     FatesSoFar v v' u u' counts      the same, with the fates u and u' left
 use Rattle.std.specs.Prelude.{◌≡◌, ℕ}
 use Rattle.net_stream.specs.Fates.{FatesSeen, after_all}
-use Rattle.net_stream.specs.Counting.{met_all, SameButRefused, carrying, no_frames}
+use Rattle.net_stream.specs.Counting.{with_fates, SameButRefused, with_payload, no_frames}
 use Rattle.net_stream.specs.declared.counts.FrameCounts.{FrameCounts}
 
 -- some bytes are counted, and the fates, the next of v and of v', of some frames and of some
@@ -13,7 +13,7 @@ pub record PartCounted (v v' : FatesSeen) (old new : FrameCounts) : Type 0 where
   pub bytes : ℕ
   pub frames : ℕ
   pub acks : ℕ
-  pub counted : SameButRefused new (met_all acks v' (met_all frames v (carrying bytes old)))
+  pub counted : SameButRefused new (with_fates acks v' (with_fates frames v (with_payload bytes old)))
 
 -- how many frames were sent and met each fate, without the other counts
 abbrev pub fates_only : FrameCounts → FrameCounts
@@ -24,7 +24,7 @@ fates_only c = record c { payload = 0; refused = 0 }
 pub record FatesCounted (v v' : FatesSeen) (counts : FrameCounts) : Type 0 where
   pub frames : ℕ
   pub acks : ℕ
-  pub counted : fates_only counts ≡ fates_only (met_all acks v' (met_all frames v no_frames))
+  pub counted : fates_only counts ≡ fates_only (with_fates acks v' (with_fates frames v no_frames))
 
 -- so they are, and u and u' are the fates that are left
 pub record FatesSoFar (v v' u u' : FatesSeen) (counts : FrameCounts) : Type 0 where
@@ -32,4 +32,4 @@ pub record FatesSoFar (v v' u u' : FatesSeen) (counts : FrameCounts) : Type 0 wh
   pub acks : ℕ
   pub left : u ≡ after_all frames v
   pub left_back : u' ≡ after_all acks v'
-  pub counted : fates_only counts ≡ fates_only (met_all acks v' (met_all frames v no_frames))
+  pub counted : fates_only counts ≡ fates_only (with_fates acks v' (with_fates frames v no_frames))

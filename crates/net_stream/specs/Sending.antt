@@ -11,7 +11,7 @@ use Rattle.std.specs.Prelude.{◌≡◌, ℕ, ◌+◌, ◌-◌, ◌<◌, ◌≤�
 use Rattle.std.specs.Prelude.{Bool, false}
 use Rattle.std.specs.Prelude.{List, [], ◌∷◌, ◌++◌, length, take, drop, All}
 use Rattle.net_stream.specs.Outgoing.{Outgoing, end_of, row_end}
-use Rattle.net_stream.specs.Frames.{Part, frames_from, joined}
+use Rattle.net_stream.specs.Frames.{Part, frames_from, part_bytes}
 use Rattle.net_stream.specs.Reported.{reports, count_from, next_start, last_end, is_full}
 use Rattle.net_stream.specs.Carrying.{PathSeen}
 
@@ -85,7 +85,7 @@ pub record SentPart (s : Outgoing) (most p n k : ℕ) (old new : PathSeen) : Typ
 pub record SentPrefix (s : Outgoing) (most flight n : ℕ) (old new : PathSeen) : Type 0 where
   pub parts : List Part
   pub within : n ≤ length s.queue
-  pub all : joined parts ≡ take n s.queue
+  pub all : part_bytes parts ≡ take n s.queue
   pub sizes : All (HasSize most) parts
   pub marked : AreMarked s.reported s.base parts
   pub ends : HaveEnds s most s.base parts

@@ -1,5 +1,5 @@
 -- Rounds that bring nothing on.
---     failed counts      how many frames and acknowledgements didn't come at once
+--     failures counts      how many frames and acknowledgements didn't come at once
 --     RoundKeeps old new      what a round never takes back
 --     Stuck old new      a round in which a frame or an acknowledgement failed that had to come
 --     RoundMoves old new      a round that brings nothing on was stuck
@@ -17,8 +17,8 @@ use Rattle.net_stream.specs.Progress.{limit_of}
 use Rattle.net_stream.specs.Links.{Carries}
 
 -- how many frames and acknowledgements didn't come at once, as far as 64 bits go
-abbrev pub failed : FrameCounts → ℕ
-failed c = min c.lost (2 ^ 64 - 1) + min c.late (2 ^ 64 - 1)
+abbrev pub failures : FrameCounts → ℕ
+failures c = min c.lost (2 ^ 64 - 1) + min c.late (2 ^ 64 - 1)
 
 -- what a round keeps: nothing is on its way but what is late, and no number goes back
 pub record RoundKeeps {A : Type 0} (old new : Link A) : Type 0 where
@@ -31,7 +31,7 @@ pub record RoundKeeps {A : Type 0} (old new : Link A) : Type 0 where
   pub read : new.receiver.read ≡ old.receiver.read
   pub capacity : new.receiver.capacity ≡ old.receiver.capacity
   pub grows : stored_next old.receiver ≤ stored_next new.receiver
-  pub failed : failed old.counts ≤ failed new.counts
+  pub failed : failures old.counts ≤ failures new.counts
 
 -- none of the next n frames comes at once
 abbrev pub NoneComes : ℕ → FatesSeen → Type 0
@@ -51,7 +51,7 @@ pub record Stuck {A : Type 0} (old new : Link A) : Type 0 where
   pub why : IsStuck frames acks old.there.fates old.back.fates
   pub left : new.there.fates ≡ after_all frames old.there.fates
   pub left_back : new.back.fates ≡ after_all acks old.back.fates
-  pub counted : min (failed old.counts + 1) (2 ^ 64 - 1) ≤ failed new.counts
+  pub counted : min (failures old.counts + 1) (2 ^ 64 - 1) ≤ failures new.counts
 
 -- n rounds in a row that were stuck, from the fates v and v' to u and u'
 abbrev pub StuckTo : ℕ → FatesSeen → FatesSeen → FatesSeen → FatesSeen → Type 0

@@ -3,11 +3,11 @@ ghost use Rattle.std.specs.Prelude.{◌≡◌, ◌≤◌, ◌∷◌, ◌++◌, [
 ghost use Rattle.std.specs.Prelude.{OnOk, OnErr};
 ghost use Rattle.net_receiver.specs.Stored.{Stored, stored_next};
 ghost use Rattle.net_stream.specs.Outgoing.{Outgoing};
-ghost use Rattle.net_stream.specs.Frames.{decoded, FrameSays};
-ghost use Rattle.net_stream.specs.Counting.{refusing};
+ghost use Rattle.net_stream.specs.Frames.{segment_of, FrameSays};
+ghost use Rattle.net_stream.specs.Counting.{with_refusal};
 ghost use Rattle.net_stream.specs.Carrying.{PathSeen, IsUnderWay, FrameTells};
-ghost use Rattle.net_stream.specs.Carrying.{answer_of, arrived, with_answer};
-ghost use Rattle.net_stream.specs.Progress.{reach_one, acked_by, limit_of, HasRoom};
+ghost use Rattle.net_stream.specs.Carrying.{answer_of, receiver_after, with_answer};
+ghost use Rattle.net_stream.specs.Progress.{reach_one, after_ack_frame, limit_of, HasRoom};
 
 use crate::counts::FrameCounts;
 use crate::frame::{decode, round_trip};
@@ -49,11 +49,11 @@ pub(crate) fn arrive<A: Allocator + Copy, const N: usize>(
     frame: &[u8],
     counts: &mut FrameCounts,
 ) -> Result<(), AllocError>
-    ensures state { receiver.new ≡ arrived N receiver.old (decoded frame.now) }
+    ensures state { receiver.new ≡ receiver_after N receiver.old (segment_of frame.now) }
     ensures answers { OnOk result
-        (back.new ≡ with_answer receiver.new (decoded frame.now) back.old) }
+        (back.new ≡ with_answer receiver.new (segment_of frame.now) back.old) }
     ensures err { OnErr result (back.new ≡ back.old) }
-    ensures counted { counts.new ≡ refusing N receiver.old (decoded frame.now) counts.old }
+    ensures counted { counts.new ≡ with_refusal N receiver.old (segment_of frame.now) counts.old }
     ensures carried { (f : ℕ) (w : List ℕ) (s : Outgoing) (there : PathSeen) →
         FrameSays f w frame.now → IsUnderWay f w s receiver.old there back.old
         → IsUnderWay f w s receiver.new there back.new }
@@ -62,7 +62,7 @@ pub(crate) fn arrive<A: Allocator + Copy, const N: usize>(
     ensures reaches { (f : ℕ) (w : List ℕ) (s : Outgoing) (there : PathSeen) →
         FrameSays f w frame.now → IsUnderWay f w s receiver.old there back.old
         → HasRoom s receiver.old
-        → reach_one (stored_next receiver.old) (decoded frame.now) ≤ stored_next receiver.new }
+        → reach_one (stored_next receiver.old) (segment_of frame.now) ≤ stored_next receiver.new }
     ensures grows { stored_next receiver.old ≤ stored_next receiver.new }
     ensures fates { back.new.fates ≡ back.old.fates }
 {
@@ -84,7 +84,7 @@ pub(crate) fn acknowledge(sender: &mut Sender<'_>, frame: &[u8])
     ensures carried { (f : ℕ) (w : List ℕ) (r : Stored) (there back : PathSeen) →
         FrameTells r frame.now → IsUnderWay f w sender.old r there back
         → IsUnderWay f w sender.new r there back }
-    ensures acked { sender.new ≡ acked_by sender.old (decoded frame.now) }
+    ensures acked { sender.new ≡ after_ack_frame sender.old (segment_of frame.now) }
 {
     let Some((next, report)) = decode(frame) else {
         return;

@@ -1,6 +1,6 @@
 //! What is counted of a copy, and of the frames of a link.
 ghost use Rattle.std.specs.Prelude.{◌≡◌, ◌-◌, if◌then◌else◌};
-ghost use Rattle.net_stream.specs.Counting.{more, met, no_frames, nothing_counted};
+ghost use Rattle.net_stream.specs.Counting.{more, with_fate, no_frames, nothing_counted};
 
 use crate::fate::Fate;
 
@@ -38,7 +38,7 @@ impl FrameCounts {
 
     /// Counts a frame that was sent, and its fate.
     pub fn meet(&mut self, fate: Fate)
-        ensures { self.new ≡ met fate self.old }
+        ensures { self.new ≡ with_fate fate self.old }
     {
         self.sent = self.sent.saturating_add(1);
         match fate {

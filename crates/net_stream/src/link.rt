@@ -4,10 +4,10 @@ ghost use Rattle.std.specs.Prelude.{take, drop, slice_index, slice_range, OnOk, 
 ghost use Rattle.net_storage.specs.Managed.{elements};
 ghost use Rattle.net_receiver.specs.Stored.{fresh_stored, stored_read};
 ghost use Rattle.net_stream.specs.Outgoing.{outgoing, room_of, with_written};
-ghost use Rattle.net_stream.specs.Frames.{decoded, FrameSays};
-ghost use Rattle.net_stream.specs.Counting.{no_frames, refusing};
-ghost use Rattle.net_stream.specs.Carrying.{arrived, with_answer, FrameTells};
-ghost use Rattle.net_stream.specs.Progress.{acked_by};
+ghost use Rattle.net_stream.specs.Frames.{segment_of, FrameSays};
+ghost use Rattle.net_stream.specs.Counting.{no_frames, with_refusal};
+ghost use Rattle.net_stream.specs.Carrying.{receiver_after, with_answer, FrameTells};
+ghost use Rattle.net_stream.specs.Progress.{after_ack_frame};
 ghost use Rattle.net_stream.specs.Reported.{most_reported};
 ghost use Rattle.net_stream.specs.Links.{Carries};
 
@@ -156,13 +156,13 @@ impl<'a, 'f, A: Allocator + Copy> Link<'a, 'f, A> {
     /// A refusal of memory leaves no acknowledgement, and the receiver has what came.
     pub fn arrive(&mut self, frame: &[u8]) -> Result<(), AllocError>
         ensures ok { OnOk result (self.new ≡ record self.old {
-          receiver = arrived most_reported self.old.receiver (decoded frame.now);
-          back = with_answer self.new.receiver (decoded frame.now) self.old.back;
-          counts = refusing most_reported self.old.receiver (decoded frame.now) self.old.counts;
+          receiver = receiver_after most_reported self.old.receiver (segment_of frame.now);
+          back = with_answer self.new.receiver (segment_of frame.now) self.old.back;
+          counts = with_refusal most_reported self.old.receiver (segment_of frame.now) self.old.counts;
         }) }
         ensures err { OnErr result (self.new ≡ record self.old {
-          receiver = arrived most_reported self.old.receiver (decoded frame.now);
-          counts = refusing most_reported self.old.receiver (decoded frame.now) self.old.counts;
+          receiver = receiver_after most_reported self.old.receiver (segment_of frame.now);
+          counts = with_refusal most_reported self.old.receiver (segment_of frame.now) self.old.counts;
         }) }
         ensures carries { (f : ℕ) (w : List ℕ) → FrameSays f w frame.now →
             Carries f w self.old → Carries f w self.new }
@@ -181,7 +181,7 @@ impl<'a, 'f, A: Allocator + Copy> Link<'a, 'f, A> {
     /// position lies outside what is kept, changes nothing.
     pub fn acknowledge(&mut self, frame: &[u8])
         ensures state { self.new
-            ≡ record self.old { sender = acked_by self.old.sender (decoded frame.now) } }
+            ≡ record self.old { sender = after_ack_frame self.old.sender (segment_of frame.now) } }
         ensures carries { (f : ℕ) (w : List ℕ) → FrameTells self.old.receiver frame.now →
             Carries f w self.old → Carries f w self.new }
     {

@@ -3,14 +3,14 @@ ghost use Rattle.std.specs.Prelude.{◌≡◌, ◌+◌, ◌≤◌, ◌<◌, ◌+
 ghost use Rattle.std.specs.Prelude.{IfOk, OnOk, OnErr, IsTrue, IsFalse, if◌then◌else◌};
 ghost use Rattle.net_receiver.specs.Stored.{Stored, stored_next};
 ghost use Rattle.net_stream.specs.Outgoing.{Outgoing, end_of};
-ghost use Rattle.net_stream.specs.Frames.{decoded, FrameSays};
+ghost use Rattle.net_stream.specs.Frames.{segment_of, FrameSays};
 ghost use Rattle.net_stream.specs.Fates.{comes, next_fate, after_fate, after_all, NextCome};
-ghost use Rattle.net_stream.specs.Counting.{met, met_all, SameButRefused};
+ghost use Rattle.net_stream.specs.Counting.{with_fate, with_fates, SameButRefused};
 ghost use Rattle.net_stream.specs.Carrying.{PathSeen, IsUnderWay, FrameTells, MayReturn};
-ghost use Rattle.net_stream.specs.Carrying.{arrived, with_answer};
-ghost use Rattle.net_stream.specs.Progress.{reach_one, Reaches, acked_by, acked_all, limit_of};
+ghost use Rattle.net_stream.specs.Carrying.{receiver_after, with_answer};
+ghost use Rattle.net_stream.specs.Progress.{reach_one, Reaches, after_ack_frame, after_ack_frames, limit_of};
 ghost use Rattle.net_stream.specs.Progress.{HasRoom};
-ghost use Rattle.net_stream.specs.Passing.{coming_of, late_of, with_return, brought, answers_of};
+ghost use Rattle.net_stream.specs.Passing.{coming_of, late_of, with_return, receiver_after_all, answers_of};
 
 use crate::arriving::{acknowledge, arrive};
 use crate::counts::FrameCounts;
@@ -40,12 +40,12 @@ fn arrive_if<A: Allocator + Copy, const N: usize>(
     ensures reaches { comes fate ≡ true → (f : ℕ) (w : List ℕ) (s : Outgoing) (there : PathSeen) →
         FrameSays f w frame.now → IsUnderWay f w s receiver.old there back.old
         → HasRoom s receiver.old
-        → reach_one (stored_next receiver.old) (decoded frame.now) ≤ stored_next receiver.new }
+        → reach_one (stored_next receiver.old) (segment_of frame.now) ≤ stored_next receiver.new }
     ensures fates { back.new.fates ≡ back.old.fates }
     ensures state { receiver.new
-        ≡ (if comes fate then arrived N receiver.old (decoded frame.now) else receiver.old) }
+        ≡ (if comes fate then receiver_after N receiver.old (segment_of frame.now) else receiver.old) }
     ensures back { OnOk result (back.new ≡ (if comes fate
-        then with_answer receiver.new (decoded frame.now) back.old else back.old)) }
+        then with_answer receiver.new (segment_of frame.now) back.old else back.old)) }
 {
     if !fate.comes() {
         return Ok(());
@@ -58,9 +58,9 @@ fn acknowledge_if(sender: &mut Sender<'_>, frame: &[u8], fate: Fate)
     ensures carried { (f : ℕ) (w : List ℕ) (r : Stored) (there back : PathSeen) →
         FrameTells r frame.now → IsUnderWay f w sender.old r there back
         → IsUnderWay f w sender.new r there back }
-    ensures acked { comes fate ≡ true → sender.new ≡ acked_by sender.old (decoded frame.now) }
+    ensures acked { comes fate ≡ true → sender.new ≡ after_ack_frame sender.old (segment_of frame.now) }
     ensures state { sender.new
-        ≡ (if comes fate then acked_by sender.old (decoded frame.now) else sender.old) }
+        ≡ (if comes fate then after_ack_frame sender.old (segment_of frame.now) else sender.old) }
 {
     if !fate.comes() {
         return;
@@ -108,15 +108,15 @@ fn pass_frame<A: Allocator + Copy, const N: usize>(
         length there.new.ahead < length there.old.ahead) }
     ensures met { IfOk result (λ some. IsTrue some →
         (there.new.fates ≡ after_fate there.old.fates)
-        × SameButRefused counts.new (met (next_fate there.old.fates) counts.old)
+        × SameButRefused counts.new (with_fate (next_fate there.old.fates) counts.old)
         × (length there.old.ahead ≡ length there.new.ahead + 1)) }
     ensures err { OnErr result
-        (SameButRefused counts.new (met (next_fate there.old.fates) counts.old)) }
+        (SameButRefused counts.new (with_fate (next_fate there.old.fates) counts.old)) }
     ensures unmet { IfOk result (λ some. IsFalse some →
         (there.new ≡ there.old) × (back.new ≡ back.old) × (counts.new ≡ counts.old)) }
     ensures none { IfOk result (λ some. IsFalse some → there.new.ahead ≡ []) }
-    ensures brought { OnOk result (brought N receiver.new (coming_of there.new.fates there.new.ahead)
-        ≡ brought N receiver.old (coming_of there.old.fates there.old.ahead)) }
+    ensures brought { OnOk result (receiver_after_all N receiver.new (coming_of there.new.fates there.new.ahead)
+        ≡ receiver_after_all N receiver.old (coming_of there.old.fates there.old.ahead)) }
     ensures answered { OnOk result (back.new.ahead
         ++ answers_of N receiver.new (coming_of there.new.fates there.new.ahead)
         ≡ back.old.ahead ++ answers_of N receiver.old (coming_of there.old.fates there.old.ahead)) }
@@ -147,20 +147,20 @@ fn pass_ack<A: Allocator + Copy>(
         IsUnderWay f w sender.old r there back.old → IsUnderWay f w sender.new r there back.new }
     ensures acked { NextCome (length back.old.ahead) back.old.fates
         → NextCome (length back.new.ahead) back.new.fates
-        × (acked_all sender.old back.old.ahead ≡ acked_all sender.new back.new.ahead) }
+        × (after_ack_frames sender.old back.old.ahead ≡ after_ack_frames sender.new back.new.ahead) }
     ensures shorter { IfOk result (λ some. IsTrue some →
         length back.new.ahead < length back.old.ahead) }
     ensures met { IfOk result (λ some. IsTrue some →
         (back.new.fates ≡ after_fate back.old.fates)
-        × SameButRefused counts.new (met (next_fate back.old.fates) counts.old)
+        × SameButRefused counts.new (with_fate (next_fate back.old.fates) counts.old)
         × (length back.old.ahead ≡ length back.new.ahead + 1)) }
     ensures err { OnErr result
-        (SameButRefused counts.new (met (next_fate back.old.fates) counts.old)) }
+        (SameButRefused counts.new (with_fate (next_fate back.old.fates) counts.old)) }
     ensures unmet { IfOk result (λ some. IsFalse some →
         (back.new ≡ back.old) × (counts.new ≡ counts.old)) }
     ensures none { IfOk result (λ some. IsFalse some → back.new.ahead ≡ []) }
-    ensures came { OnOk result (acked_all sender.new (coming_of back.new.fates back.new.ahead)
-        ≡ acked_all sender.old (coming_of back.old.fates back.old.ahead)) }
+    ensures came { OnOk result (after_ack_frames sender.new (coming_of back.new.fates back.new.ahead)
+        ≡ after_ack_frames sender.old (coming_of back.old.fates back.old.ahead)) }
     ensures returned { OnOk result (back.new.late ++ late_of back.new.fates back.new.ahead
         ≡ back.old.late ++ late_of back.old.fates back.old.ahead) }
 {
@@ -193,7 +193,7 @@ pub(crate) fn pass_late_frames<A: Allocator + Copy, const N: usize>(
     ensures fates { there.new.fates ≡ there.old.fates }
     ensures back_fates { back.new.fates ≡ back.old.fates }
     ensures grows { stored_next receiver.old ≤ stored_next receiver.new }
-    ensures brought { OnOk result (receiver.new ≡ brought N receiver.old there.old.late) }
+    ensures brought { OnOk result (receiver.new ≡ receiver_after_all N receiver.old there.old.late) }
     ensures answered { OnOk result (back.new.ahead
         ≡ back.old.ahead ++ answers_of N receiver.old there.old.late) }
     ensures back_late { OnOk result (back.new.late ≡ back.old.late) }
@@ -218,11 +218,11 @@ pub(crate) fn pass_frames<A: Allocator + Copy, const N: usize>(
         IsUnderWay f w s receiver.old there.old back.old
         → IsUnderWay f w s receiver.new there.new back.new }
     ensures counted { OnOk result (SameButRefused counts.new
-        (met_all (length there.old.ahead) there.old.fates counts.old)) }
+        (with_fates (length there.old.ahead) there.old.fates counts.old)) }
     ensures left { OnOk result
         (there.new.fates ≡ after_all (length there.old.ahead) there.old.fates) }
     ensures err { OnErr result ((n : ℕ)
-        × SameButRefused counts.new (met_all n there.old.fates counts.old)) }
+        × SameButRefused counts.new (with_fates n there.old.fates counts.old)) }
     ensures limit { limit_of receiver.new ≡ limit_of receiver.old }
     ensures read { receiver.new.read ≡ receiver.old.read }
     ensures reaches { OnOk result ((f : ℕ) (w : List ℕ) (s : Outgoing) →
@@ -232,7 +232,7 @@ pub(crate) fn pass_frames<A: Allocator + Copy, const N: usize>(
         → end ≤ stored_next receiver.new) }
     ensures fates { back.new.fates ≡ back.old.fates }
     ensures brought { OnOk result (receiver.new
-        ≡ brought N receiver.old (coming_of there.old.fates there.old.ahead)) }
+        ≡ receiver_after_all N receiver.old (coming_of there.old.fates there.old.ahead)) }
     ensures answered { OnOk result (back.new.ahead
         ≡ back.old.ahead ++ answers_of N receiver.old (coming_of there.old.fates there.old.ahead)) }
     ensures returned { OnOk result (there.new.late
@@ -259,7 +259,7 @@ pub(crate) fn pass_late_acks<A: Allocator + Copy>(
     ensures end { end_of sender.new ≡ end_of sender.old }
     ensures ahead { back.new.ahead ≡ back.old.ahead }
     ensures fates { back.new.fates ≡ back.old.fates }
-    ensures came { sender.new ≡ acked_all sender.old back.old.late }
+    ensures came { sender.new ≡ after_ack_frames sender.old back.old.late }
     ensures none { back.new.late ≡ [] }
 {
     'late: while let Some(token) = back.take_late(now) {
@@ -278,15 +278,15 @@ pub(crate) fn pass_acks<A: Allocator + Copy>(
     ensures carried { (f : ℕ) (w : List ℕ) (r : Stored) (there : PathSeen) →
         IsUnderWay f w sender.old r there back.old → IsUnderWay f w sender.new r there back.new }
     ensures counted { OnOk result (SameButRefused counts.new
-        (met_all (length back.old.ahead) back.old.fates counts.old)) }
+        (with_fates (length back.old.ahead) back.old.fates counts.old)) }
     ensures left { OnOk result
         (back.new.fates ≡ after_all (length back.old.ahead) back.old.fates) }
     ensures err { OnErr result ((n : ℕ)
-        × SameButRefused counts.new (met_all n back.old.fates counts.old)) }
+        × SameButRefused counts.new (with_fates n back.old.fates counts.old)) }
     ensures acked { OnOk result (NextCome (length back.old.ahead) back.old.fates
-        → sender.new ≡ acked_all sender.old back.old.ahead) }
+        → sender.new ≡ after_ack_frames sender.old back.old.ahead) }
     ensures came { OnOk result (sender.new
-        ≡ acked_all sender.old (coming_of back.old.fates back.old.ahead)) }
+        ≡ after_ack_frames sender.old (coming_of back.old.fates back.old.ahead)) }
     ensures returned { OnOk result (back.new.late
         ≡ back.old.late ++ late_of back.old.fates back.old.ahead) }
     ensures none { OnOk result (back.new.ahead ≡ []) }

@@ -5,7 +5,7 @@ ghost use Rattle.std.specs.Int.{w64, to_be_bytes};
 ghost use Rattle.net_storage.specs.Positions.{maximal_runs};
 ghost use Rattle.net_receiver.specs.Stored.{domain};
 ghost use Rattle.net_stream.specs.Reported.{count_from, next_start, last_end, is_full};
-ghost use Rattle.net_stream.specs.Reported.{most_reported, listed, first_range, ranges_of};
+ghost use Rattle.net_stream.specs.Reported.{most_reported, range_bytes, first_range, ranges_of};
 
 use crate::frame::decode;
 use net_receiver::Receiver;
@@ -159,7 +159,7 @@ pub(crate) fn list_held<const N: usize>(receiver: &Receiver<'_, N>, buffer: &mut
     ensures len { length buffer.new ≡ 512 }
     ensures bound { result ≤ 512 }
     ensures listed { take result buffer.new
-        ≡ listed (take most_reported (maximal_runs (domain receiver.now.held))) }
+        ≡ range_bytes (take most_reported (maximal_runs (domain receiver.now.held))) }
     ensures words { All (λ run. (run.0 < 2 ^ 64) × (run.1 < 2 ^ 64))
         (take most_reported (maximal_runs (domain receiver.now.held))) }
 {

@@ -1,8 +1,8 @@
 //! Sending, and one round.
 ghost use Rattle.std.specs.Prelude.{◌≡◌, ℕ, List};
 ghost use Rattle.std.specs.Prelude.{OnOk, OnErr};
-ghost use Rattle.net_stream.specs.Reported.{unreported};
-ghost use Rattle.net_stream.specs.Counting.{carrying};
+ghost use Rattle.net_stream.specs.Reported.{count_outside};
+ghost use Rattle.net_stream.specs.Counting.{with_payload};
 ghost use Rattle.net_stream.specs.Sending.{SentPrefix, SentRound, most_of};
 ghost use Rattle.net_stream.specs.Rounds.{PartCounted};
 ghost use Rattle.net_stream.specs.Links.{Carries, Round, next_flight};
@@ -38,15 +38,15 @@ impl<'a, 'f, A: Allocator + Copy> Link<'a, 'f, A> {
             (most_of self.old.flight) n self.old.there self.new.there
             × (self.new ≡ record self.old {
               there = self.new.there;
-              counts = carrying
-                  (unreported self.old.sender.reported self.old.sender.base n) self.old.counts;
+              counts = with_payload
+                  (count_outside self.old.sender.reported self.old.sender.base n) self.old.counts;
             })) }
         ensures err { OnErr result ((n : ℕ) × SentPrefix self.old.sender (most_of self.old.payload)
             (most_of self.old.flight) n self.old.there self.new.there
             × (self.new ≡ record self.old {
               there = self.new.there;
-              counts = carrying
-                  (unreported self.old.sender.reported self.old.sender.base n) self.old.counts;
+              counts = with_payload
+                  (count_outside self.old.sender.reported self.old.sender.base n) self.old.counts;
             })) }
         ensures carries { (f : ℕ) (w : List ℕ) → Carries f w self.old → Carries f w self.new }
     {

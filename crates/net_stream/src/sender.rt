@@ -4,7 +4,7 @@ ghost use Rattle.std.specs.Prelude.{length, take, drop, min, slice_index_or, IsT
 ghost use Rattle.net_storage.specs.Managed.{elements};
 ghost use Rattle.net_receiver.specs.OneStream.{Says};
 ghost use Rattle.net_stream.specs.Outgoing.{outgoing, end_of, room_of, row_end, with_written};
-ghost use Rattle.net_stream.specs.Outgoing.{room_in_row, acknowledged, Sends};
+ghost use Rattle.net_stream.specs.Outgoing.{room_in_row, after_ack, Sends};
 ghost use Rattle.net_stream.specs.Outgoing.{KeepsFromGreatest};
 ghost use Rattle.net_stream.specs.Outgoing.{TakesRoom, CountsRoom, CalledOnRoom};
 ghost use Rattle.net_stream.specs.Reported.{reports, is_full};
@@ -233,7 +233,7 @@ impl<'a> Sender<'a> {
     /// Lets go the bytes below `next`, and keeps the ranges that the receiver reported, in place of
     /// those that it reported before. A position outside what is kept changes nothing.
     pub fn acknowledge(&mut self, next: u64, reported: Reported)
-        ensures state { self.new ≡ acknowledged self.old next reported }
+        ensures state { self.new ≡ after_ack self.old next reported }
         ensures sends { (f : ℕ) (w : List ℕ) → Sends f w self.old → Sends f w self.new }
     {
         if next < self.base || next > self.end() {

@@ -2,8 +2,8 @@
 ghost use Rattle.std.specs.Prelude.{◌≡◌, ◌≤◌, ◌<◌, ℕ, List, OnOk, OnErr, IfOk};
 ghost use Rattle.net_receiver.specs.Stored.{Stored};
 ghost use Rattle.net_stream.specs.Outgoing.{end_of};
-ghost use Rattle.net_stream.specs.Reported.{unreported};
-ghost use Rattle.net_stream.specs.Counting.{carrying};
+ghost use Rattle.net_stream.specs.Reported.{count_outside};
+ghost use Rattle.net_stream.specs.Counting.{with_payload};
 ghost use Rattle.net_stream.specs.Carrying.{PathSeen, IsUnderWay};
 ghost use Rattle.net_stream.specs.Sending.{most_of, SentPart, SentPrefix, SentRound};
 
@@ -33,7 +33,7 @@ fn transmit_part<A: Allocator + Copy>(
     ensures sent { IfOk result (λ done.
         SentPart sender.now most pos done.0 done.1 there.old there.new) }
     ensures counted { IfOk result (λ done.
-        counts.new ≡ carrying (unreported sender.now.reported pos done.0) counts.old) }
+        counts.new ≡ with_payload (count_outside sender.now.reported pos done.0) counts.old) }
     ensures err { OnErr result ((there.new ≡ there.old) × (counts.new ≡ counts.old)) }
 {
     round_trip();
@@ -68,10 +68,10 @@ pub(crate) fn transmit<A: Allocator + Copy>(
         IsUnderWay f w sender.now r there.old back → IsUnderWay f w sender.now r there.new back }
     ensures sent { OnOk result ((n : ℕ)
         × SentRound sender.now (most_of most) (most_of flight) n there.old there.new
-        × (counts.new ≡ carrying (unreported sender.now.reported sender.now.base n) counts.old)) }
+        × (counts.new ≡ with_payload (count_outside sender.now.reported sender.now.base n) counts.old)) }
     ensures err { OnErr result ((n : ℕ)
         × SentPrefix sender.now (most_of most) (most_of flight) n there.old there.new
-        × (counts.new ≡ carrying (unreported sender.now.reported sender.now.base n) counts.old)) }
+        × (counts.new ≡ with_payload (count_outside sender.now.reported sender.now.base n) counts.old)) }
 {
     let most = most.max(1) as usize;
     let stop = sender.stop();

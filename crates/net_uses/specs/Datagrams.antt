@@ -3,7 +3,7 @@ use Rattle.std.specs.Prelude.{◌≡◌, ℕ, List, ◌∷◌, ◌++◌, Result,
 use Rattle.std.specs.Prelude.{if◌then◌else◌, length, min, take, drop}
 use Rattle.std.specs.Borrow.{Bor}
 use Rattle.std.specs.Fn.{Once}
-use Rattle.net_storage.specs.Packets.{PacketQueue, handed}
+use Rattle.net_storage.specs.Packets.{PacketQueue, after_hand_out}
 use Rattle.net_storage.specs.PacketHistory.{contents}
 use Rattle.net_uses.specs.declared.endpoint.Endpoint.{Endpoint}
 
@@ -62,4 +62,4 @@ module _ {F R E : Type 0} (g : Once F (Endpoint × (Bor (List ℕ) × Unit {0}))
     pub first : contents q ≡ (endpoint, bytes) ∷ drop 1 (contents q)
     pub gives : GivesAtDatagram g f endpoint bytes answer
     pub left : contents r ≡ (if is_ok answer then drop 1 (contents q) else contents q)
-    pub made : r ≡ handed (is_ok answer) q endpoint bytes
+    pub made : r ≡ after_hand_out (is_ok answer) q endpoint bytes

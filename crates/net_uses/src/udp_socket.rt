@@ -3,7 +3,7 @@ ghost use Rattle.std.specs.Prelude.{◌≡◌, ◌∷◌, ◌++◌, [], ℕ, OnO
 ghost use Rattle.std.specs.Prelude.{IsFalse};
 ghost use Rattle.std.specs.Prelude.{◌↔◌, ◌==◌, ◌<◌, not, length, take, drop, min, is_ok};
 ghost use Rattle.std.specs.declared.option.Option.TheVariants.{None};
-ghost use Rattle.net_storage.specs.Packets.{placement, slots_used, enqueued, dequeued, skipped};
+ghost use Rattle.net_storage.specs.Packets.{placement, slots_used, with_packet_of, without_first_and_gap, without_gap};
 ghost use Rattle.net_storage.specs.PacketHistory.{contents};
 ghost use Rattle.net_storage.specs.PacketCalls.{CopiedOut};
 ghost use Rattle.net_uses.specs.Datagrams.{received, to_send, SameCapacity, KeepsCapacity};
@@ -55,7 +55,7 @@ impl<'a> UdpSocket<'a> {
         ensures inbound { self.new.inbound ≡ self.old.inbound }
         ensures full { IsErr result ↔ (placement self.old.outbound (length «data».now) ≡ None) }
         ensures unchanged { OnErr result (self.new ≡ self.old) }
-        ensures made { OnOk result (self.new.outbound ≡ enqueued self.old.outbound to «data».now) }
+        ensures made { OnOk result (self.new.outbound ≡ with_packet_of self.old.outbound to «data».now) }
         ensures sent { OnOk result (to_send self.new ≡ to_send self.old ++ (to, «data».now) ∷ []) }
         ensures capacity { KeepsCapacity self.old self.new }
     {
@@ -70,7 +70,7 @@ impl<'a> UdpSocket<'a> {
     pub fn recv_slice(&mut self, into: &mut [u8]) -> Result<(usize, Endpoint), Empty>
         ensures empty { IsErr result ↔ (received self.old ≡ []) }
         ensures unchanged { OnErr result ((self.new ≡ self.old) × (into.new ≡ into.old)) }
-        ensures made { OnOk result (self.new.inbound ≡ dequeued self.old.inbound) }
+        ensures made { OnOk result (self.new.inbound ≡ without_first_and_gap self.old.inbound) }
         ensures received { IfOk result
             (λ r. CopiedOut (received self.old) r.1 into.old r.0 (received self.new) into.new) }
         ensures outbound { self.new.outbound ≡ self.old.outbound }
@@ -89,7 +89,7 @@ impl<'a> UdpSocket<'a> {
     pub fn peek_slice(&mut self, into: &mut [u8]) -> Result<(usize, Endpoint), Empty>
         ensures empty { IsErr result ↔ (received self.old ≡ []) }
         ensures unchanged { received self.new ≡ received self.old }
-        ensures inbound { self.new.inbound ≡ skipped self.old.inbound }
+        ensures inbound { self.new.inbound ≡ without_gap self.old.inbound }
         ensures outbound { self.new.outbound ≡ self.old.outbound }
         ensures unwritten { OnErr result ((self.new ≡ self.old) × (into.new ≡ into.old)) }
         ensures shown { IfOk result (λ r. Shown (received self.old) r.1 r.0 into.old into.new) }
@@ -122,7 +122,7 @@ impl<'a> UdpSocket<'a> {
         ensures outbound { self.new.outbound ≡ self.old.outbound }
         ensures full { IsFalse result ↔ (placement self.old.inbound (length «data».now) ≡ None) }
         ensures made { IsTrue result
-            → self.new.inbound ≡ enqueued self.old.inbound from «data».now }
+            → self.new.inbound ≡ with_packet_of self.old.inbound from «data».now }
         ensures received { IsTrue result
             → received self.new ≡ received self.old ++ (from, «data».now) ∷ [] }
         ensures dropped { IsFalse result → self.new ≡ self.old }
@@ -160,7 +160,7 @@ impl<'a> UdpSocket<'a> {
 fn put(queue: &mut PacketBuffer<'_, Endpoint>, endpoint: Endpoint, data: &[u8]) -> Result<(), Full>
     ensures full { IsErr result ↔ (placement queue.old (length «data».now) ≡ None) }
     ensures unchanged { OnErr result (queue.new ≡ queue.old) }
-    ensures made { OnOk result (queue.new ≡ enqueued queue.old endpoint «data».now) }
+    ensures made { OnOk result (queue.new ≡ with_packet_of queue.old endpoint «data».now) }
     ensures put { OnOk result
         (contents queue.new ≡ contents queue.old ++ (endpoint, «data».now) ∷ []) }
     ensures capacity { SameCapacity queue.new queue.old }
@@ -172,7 +172,7 @@ fn put(queue: &mut PacketBuffer<'_, Endpoint>, endpoint: Endpoint, data: &[u8]) 
 /// The bytes of the first packet are copied as far as `into` has room.
 fn look(queue: &mut PacketBuffer<'_, Endpoint>, into: &mut [u8]) -> Result<(usize, Endpoint), Empty>
     ensures contents { contents queue.new ≡ contents queue.old }
-    ensures skipped { queue.new ≡ skipped queue.old }
+    ensures skipped { queue.new ≡ without_gap queue.old }
     ensures empty { IsErr result ↔ (contents queue.old ≡ []) }
     ensures unwritten { OnErr result ((queue.new ≡ queue.old) × (into.new ≡ into.old)) }
     ensures shown { IfOk result (λ r. Shown (contents queue.old) r.1 r.0 into.old into.new) }

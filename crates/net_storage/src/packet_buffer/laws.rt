@@ -4,11 +4,11 @@ ghost use Rattle.std.specs.Prelude.{◌≡◌, ◌≢◌, ◌≤◌, ◌<◌, �
 ghost use Rattle.std.specs.Prelude.{length, take, drop, if◌then◌else◌};
 ghost use Rattle.std.specs.declared.option.Option.TheVariants.{Some, None};
 ghost use Rattle.net_storage.specs.Packets.{PacketQueue, WellPlaced, no_packets, IsFirst};
-ghost use Rattle.net_storage.specs.Packets.{IsFirstSized, placement, placed_if_room, only_last};
-ghost use Rattle.net_storage.specs.Packets.{last_bytes, last_written, last_cut, skipped};
-ghost use Rattle.net_storage.specs.Packets.{first_size, first_written, popped, handed, dequeued};
+ghost use Rattle.net_storage.specs.Packets.{IsFirstSized, placement, with_packet_if_room, only_last};
+ghost use Rattle.net_storage.specs.Packets.{last_bytes, with_last_bytes, with_last_size, without_gap};
+ghost use Rattle.net_storage.specs.Packets.{first_size, with_first_bytes, without_first, after_hand_out, without_first_and_gap};
 ghost use Rattle.net_storage.specs.Packets.{with_bytes, freed_place, freed_bytes, AreFreed};
-ghost use Rattle.net_storage.specs.PacketHistory.{contents, with_last_bytes, QueueCall, MakesAll};
+ghost use Rattle.net_storage.specs.PacketHistory.{contents, with_bytes_in_last_entry, QueueCall, MakesAll};
 ghost use Rattle.net_storage.specs.PacketHistory.{history};
 
 use crate::managed::Elements;
@@ -48,25 +48,25 @@ pub fn empty_queue_takes_what_fits<H>()
 pub fn packets_leave_in_order<H>()
     ensures accepted { (q : PacketQueue H) (size : ℕ) (header : H) (ws : List ℕ)
         → WellPlaced q → placement q size ≢ None → length ws ≡ size
-        → contents (last_written (placed_if_room q size header) ws)
+        → contents (with_last_bytes (with_packet_if_room q size header) ws)
         ≡ contents q ++ (header, ws) ∷ [] }
     ensures accepted_with { (q : PacketQueue H) (size count : ℕ) (header : H) (ws : List ℕ)
         → WellPlaced q → placement q size ≢ None → length ws ≡ size → count ≤ size
-        → contents (last_cut count (last_written (placed_if_room q size header) ws))
+        → contents (with_last_size count (with_last_bytes (with_packet_if_room q size header) ws))
         ≡ contents q ++ (header, take count ws) ∷ [] }
-    ensures gap_dropped { (q : PacketQueue H) → WellPlaced q → contents (skipped q) ≡ contents q }
+    ensures gap_dropped { (q : PacketQueue H) → WellPlaced q → contents (without_gap q) ≡ contents q }
     ensures shown { (q : PacketQueue H) (header : H) (ws : List ℕ)
         → WellPlaced q → IsFirst q header ws
         → contents q ≡ (header, ws) ∷ drop 1 (contents q) }
     ensures refused { (q : PacketQueue H) (header : H) (ws : List ℕ)
         → WellPlaced q → q.packets ≢ [] → length ws ≡ first_size q.packets
-        → contents (first_written (skipped q) header ws)
+        → contents (with_first_bytes (without_gap q) header ws)
         ≡ (header, ws) ∷ drop 1 (contents q) }
     ensures left { (q : PacketQueue H) → WellPlaced q
-        → contents (dequeued q) ≡ drop 1 (contents q) }
+        → contents (without_first_and_gap q) ≡ drop 1 (contents q) }
     ensures left_with { (q : PacketQueue H) (header : H) (ws : List ℕ)
         → WellPlaced q → length ws ≡ first_size q.packets
-        → contents (popped (first_written (skipped q) header ws)) ≡ drop 1 (contents q) }
+        → contents (without_first (with_first_bytes (without_gap q) header ws)) ≡ drop 1 (contents q) }
 {}
 
 /// What `place` and `last_mut`, and `take` and `freed_mut`, make of a queue's contents if they are
@@ -78,20 +78,20 @@ pub fn packets_leave_in_order<H>()
 pub fn the_two_steps_apart<H>()
     ensures placed { (q : PacketQueue H) (size : ℕ) (header : H)
         → WellPlaced q → placement q size ≢ None
-        → contents (placed_if_room q size header)
-        ≡ contents q ++ (header, last_bytes (placed_if_room q size header)) ∷ [] }
+        → contents (with_packet_if_room q size header)
+        ≡ contents q ++ (header, last_bytes (with_packet_if_room q size header)) ∷ [] }
     ensures last_written { (q : PacketQueue H) (ws : List ℕ)
         → WellPlaced q → q.packets ≢ [] → length ws ≡ first_size (only_last q.packets)
-        → contents (last_written q ws) ≡ with_last_bytes ws (contents q) }
+        → contents (with_last_bytes q ws) ≡ with_bytes_in_last_entry ws (contents q) }
     ensures taken { (q : PacketQueue H) (header : H) (size : ℕ)
         → WellPlaced q → IsFirstSized q.packets header size
-        → contents q ≡ (header, freed_bytes (dequeued q) size) ∷ contents (dequeued q) }
+        → contents q ≡ (header, freed_bytes (without_first_and_gap q) size) ∷ contents (without_first_and_gap q) }
     ensures freed_written { (q : PacketQueue H) (ws : List ℕ)
         → WellPlaced q → AreFreed q (length ws)
         → contents (with_bytes q (freed_place q (length ws)) ws) ≡ contents q }
     ensures lent_written { (q : PacketQueue H) (ws : List ℕ)
         → WellPlaced q → length ws ≡ first_size q.packets
-        → contents (with_bytes (dequeued q) (skipped q).read_at ws) ≡ drop 1 (contents q) }
+        → contents (with_bytes (without_first_and_gap q) (without_gap q).read_at ws) ≡ drop 1 (contents q) }
 {}
 
 /// A packet that was only looked at: after `peek` the same packet is taken off, and a closure that
@@ -99,11 +99,11 @@ pub fn the_two_steps_apart<H>()
 /// packet if it returned `Ok`.
 pub fn looking_changes_nothing<H>()
     ensures peeked { (q : PacketQueue H) → WellPlaced q
-        → contents (dequeued (skipped q)) ≡ drop 1 (contents q) }
-    ensures still_there { (q : PacketQueue H) → length (skipped q).packets ≡ length q.packets }
+        → contents (without_first_and_gap (without_gap q)) ≡ drop 1 (contents q) }
+    ensures still_there { (q : PacketQueue H) → length (without_gap q).packets ≡ length q.packets }
     ensures kept { (q : PacketQueue H) (header : H) (ws : List ℕ) (gone : Bool)
         → WellPlaced q → IsFirst q header ws
-        → contents (handed gone q header ws)
+        → contents (after_hand_out gone q header ws)
         ≡ (if gone then drop 1 (contents q) else contents q) }
 {}
 

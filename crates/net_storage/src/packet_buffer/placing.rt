@@ -3,9 +3,9 @@ ghost use Rattle.std.specs.Prelude.{◌≡◌, ◌↔◌, ◌∷◌, ◌++◌, [
 ghost use Rattle.std.specs.Prelude.{length};
 ghost use Rattle.std.specs.Borrow.{sem};
 ghost use Rattle.std.specs.declared.option.Option.TheVariants.{Some, None};
-ghost use Rattle.net_storage.specs.Packets.{placement, pushed, placed_if_room, only_last};
-ghost use Rattle.net_storage.specs.Packets.{last_bytes, last_written, first_size};
-ghost use Rattle.net_storage.specs.PacketHistory.{contents, with_last_bytes};
+ghost use Rattle.net_storage.specs.Packets.{placement, with_packet, with_packet_if_room, only_last};
+ghost use Rattle.net_storage.specs.Packets.{last_bytes, with_last_bytes, first_size};
+ghost use Rattle.net_storage.specs.PacketHistory.{contents, with_bytes_in_last_entry};
 
 use super::Packets;
 use super::slots::push_slots;
@@ -26,12 +26,12 @@ impl<H: Drop, M: Elements<PacketMetadata<H>>, B: Elements<u8>> Packets<H, M, B> 
     /// callers know exactly what they leave.
     pub fn place(&mut self, size: usize, header: H) -> Result<(), Full>
         ensures accepted { OnOk result ((ws : List ℕ) → length ws ≡ size
-            → contents (last_written self.new ws) ≡ contents self.old ++ (header, ws) ∷ []) }
+            → contents (with_last_bytes self.new ws) ≡ contents self.old ++ (header, ws) ∷ []) }
         ensures stands { OnOk result
             (contents self.new ≡ contents self.old ++ (header, last_bytes self.new) ∷ []) }
         ensures unchanged { OnErr result (self.new ≡ self.old) }
         ensures full { IsErr result ↔ (placement self.old size ≡ None) }
-        ensures placed { self.new ≡ placed_if_room self.old size header }
+        ensures placed { self.new ≡ with_packet_if_room self.old size header }
         ensures size { OnOk result (first_size (only_last self.new.packets) ≡ size) }
     {
         let Some(gap) = self.placement(size) else {
@@ -44,9 +44,9 @@ impl<H: Drop, M: Elements<PacketMetadata<H>>, B: Elements<u8>> Packets<H, M, B> 
     /// Lends the bytes of the packet that came last, or none if the queue has no packets.
     pub fn last_mut(&mut self) -> &mut [u8]
         ensures* writes_back { sem 𝓛 (lends_bytes H.row M.row B.row M.Elements B.Elements
-            self.entry result (last_written self.old)) }
+            self.entry result (with_last_bytes self.old)) }
         ensures written { (ws : List ℕ) → length ws ≡ length result.now
-            → contents (last_written self.old ws) ≡ with_last_bytes ws (contents self.old) }
+            → contents (with_last_bytes self.old ws) ≡ with_bytes_in_last_entry ws (contents self.old) }
         ensures value { result.now ≡ last_bytes self.old }
         ensures size { length result.now ≡ first_size (only_last self.old.packets) }
     {
@@ -62,13 +62,13 @@ impl<H: Drop, M: Elements<PacketMetadata<H>>, B: Elements<u8>> Packets<H, M, B> 
     /// refuses.
     pub fn enqueue(&mut self, size: usize, header: H) -> Result<&mut [u8], Full>
         ensures* writes_back { sem 𝓛 (lends_bytes_if H.row M.row B.row M.Elements B.Elements
-            self.entry result (last_written (placed_if_room self.old size header))) }
+            self.entry result (with_last_bytes (with_packet_if_room self.old size header))) }
         ensures accepted { IfOk result (λ r. (ws : List ℕ) → length ws ≡ size
-            → contents (last_written (placed_if_room self.old size header) ws)
+            → contents (with_last_bytes (with_packet_if_room self.old size header) ws)
             ≡ contents self.old ++ (header, ws) ∷ []) }
         ensures full { IsErr result ↔ (placement self.old size ≡ None) }
         ensures value { IfOk result
-            (λ r. r.now ≡ last_bytes (placed_if_room self.old size header)) }
+            (λ r. r.now ≡ last_bytes (with_packet_if_room self.old size header)) }
         ensures size { IfOk result (λ r. length r.now ≡ size) }
     {
         let Ok(()) = self.place(size, header) else {
@@ -80,7 +80,7 @@ impl<H: Drop, M: Elements<PacketMetadata<H>>, B: Elements<u8>> Packets<H, M, B> 
     /// Puts a packet last, after `gap` bytes.
     fn push(&mut self, gap: usize, size: usize, header: H)
         requires { placement self.old size ≡ Some gap }
-        ensures { self.new ≡ pushed self.old gap size header }
+        ensures { self.new ≡ with_packet self.old gap size header }
     {
         push_slots(
             &mut self.slots,
@@ -99,7 +99,7 @@ impl<H: Drop, M: Elements<PacketMetadata<H>>, B: Elements<u8>> Packets<H, M, B> 
     pub(super) fn last_part_mut(&mut self, size: usize) -> &mut [u8]
         requires { size ≡ first_size (only_last self.old.packets) }
         ensures* writes_back { sem 𝓛 (lends_bytes H.row M.row B.row M.Elements B.Elements
-            self.entry result (last_written self.old)) }
+            self.entry result (with_last_bytes self.old)) }
         ensures value { result.now ≡ last_bytes self.old }
         ensures size { length result.now ≡ first_size (only_last self.old.packets) }
     {

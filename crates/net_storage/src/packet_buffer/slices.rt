@@ -2,7 +2,7 @@
 ghost use Rattle.std.specs.Prelude.{◌≡◌, ◌↔◌, ◌∷◌, ◌++◌, [], IsErr, IfOk, OnErr, OnOk, length, min};
 ghost use Rattle.std.specs.Prelude.{take, drop};
 ghost use Rattle.std.specs.declared.option.Option.TheVariants.{None};
-ghost use Rattle.net_storage.specs.Packets.{placement, pushed, enqueued, dequeued};
+ghost use Rattle.net_storage.specs.Packets.{placement, with_packet, with_packet_of, without_first_and_gap};
 ghost use Rattle.net_storage.specs.PacketCalls.{CopiedOut};
 ghost use Rattle.net_storage.specs.PacketHistory.{contents, front_bytes};
 
@@ -22,7 +22,7 @@ impl<H: Drop, M: Elements<PacketMetadata<H>>, B: Elements<u8>> Packets<H, M, B> 
             (contents self.new ≡ contents self.old ++ (header, «data».now) ∷ []) }
         ensures full { IsErr result ↔ (placement self.old (length «data».now) ≡ None) }
         ensures unchanged { OnErr result (self.new ≡ self.old) }
-        ensures made { OnOk result (self.new ≡ enqueued self.old header «data».now) }
+        ensures made { OnOk result (self.new ≡ with_packet_of self.old header «data».now) }
     {
         self.place(data.len(), header)?;
         self.last_part_mut(data.len()).copy_from_slice(data);
@@ -46,7 +46,7 @@ impl<H: Drop, M: Elements<PacketMetadata<H>>, B: Elements<u8>> Packets<H, M, B> 
         ensures left { OnOk result (contents self.new ≡ drop 1 (contents self.old)) }
         ensures empty { IsErr result ↔ (length self.old.packets ≡ 0) }
         ensures unchanged { OnErr result ((self.new ≡ self.old) × (into.new ≡ into.old)) }
-        ensures made { OnOk result (self.new ≡ dequeued self.old) }
+        ensures made { OnOk result (self.new ≡ without_first_and_gap self.old) }
     {
         let (header, size) = self.take()?;
         let count = copy(into, self.freed_mut(size));

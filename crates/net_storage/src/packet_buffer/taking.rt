@@ -2,8 +2,8 @@
 ghost use Rattle.std.specs.Prelude.{◌≡◌, ◌↔◌, ◌∷◌, [], ℕ, List, IsErr, IfOk, OnErr, OnOk, length};
 ghost use Rattle.std.specs.Prelude.{drop};
 ghost use Rattle.std.specs.Borrow.{sem};
-ghost use Rattle.net_storage.specs.Packets.{skipped, first_gap, first_bytes, IsFirstSized, IsFirst};
-ghost use Rattle.net_storage.specs.Packets.{dequeued, freed_place, freed_bytes, AreFreed};
+ghost use Rattle.net_storage.specs.Packets.{without_gap, first_gap, first_bytes, IsFirstSized, IsFirst};
+ghost use Rattle.net_storage.specs.Packets.{without_first_and_gap, freed_place, freed_bytes, AreFreed};
 ghost use Rattle.net_storage.specs.Packets.{IsFreedAt, with_bytes};
 ghost use Rattle.net_storage.specs.PacketHistory.{contents};
 
@@ -22,15 +22,15 @@ impl<H: Drop, M: Elements<PacketMetadata<H>>, B: Elements<u8>> Packets<H, M, B> 
     /// Returns `Empty`, and changes nothing, if the queue has no packets.
     pub fn peek(&mut self) -> Result<(&H, &[u8]), Empty>
         ensures* skips { sem 𝓛 (ends_as H.row M.row B.row M.Elements B.Elements
-            self.entry (skipped self.old)) }
+            self.entry (without_gap self.old)) }
         ensures none { IsErr result ↔ (contents self.old ≡ []) }
         ensures shown { IfOk result
             (λ r. contents self.old ≡ (r.0.now, r.1.now) ∷ drop 1 (contents self.old)) }
-        ensures same { contents (skipped self.old) ≡ contents self.old }
+        ensures same { contents (without_gap self.old) ≡ contents self.old }
         ensures empty { IsErr result ↔ (length self.old.packets ≡ 0) }
-        ensures unchanged { OnErr result (skipped self.old ≡ self.old) }
+        ensures unchanged { OnErr result (without_gap self.old ≡ self.old) }
         ensures first { IfOk result (λ r. IsFirstSized self.old.packets r.0.now (length r.1.now)) }
-        ensures bytes { IfOk result (λ r. r.1.now ≡ first_bytes (skipped self.old)) }
+        ensures bytes { IfOk result (λ r. r.1.now ≡ first_bytes (without_gap self.old)) }
     {
         self.skip();
         self.first()
@@ -49,8 +49,8 @@ impl<H: Drop, M: Elements<PacketMetadata<H>>, B: Elements<u8>> Packets<H, M, B> 
         ensures empty { IsErr result ↔ (length self.old.packets ≡ 0) }
         ensures unchanged { OnErr result (self.new ≡ self.old) }
         ensures first { IfOk result (λ r. IsFirstSized self.old.packets r.0 r.1) }
-        ensures dequeued { OnOk result (self.new ≡ dequeued self.old) }
-        ensures freed { IfOk result (λ r. IsFreedAt self.new r.1 (skipped self.old).read_at) }
+        ensures dequeued { OnOk result (self.new ≡ without_first_and_gap self.old) }
+        ensures freed { IfOk result (λ r. IsFreedAt self.new r.1 (without_gap self.old).read_at) }
     {
         self.skip();
         let (size, header) = lift_header(&mut self.slots)?;
@@ -84,12 +84,12 @@ impl<H: Drop, M: Elements<PacketMetadata<H>>, B: Elements<u8>> Packets<H, M, B> 
     /// Returns `Empty`, and changes nothing, if the queue has no packets.
     pub fn dequeue(&mut self) -> Result<(H, &mut [u8]), Empty>
         ensures* writes_back { sem 𝓛 (lends_packet_if H.row M.row B.row M.Elements B.Elements
-            self.entry result (with_bytes (dequeued self.old) (skipped self.old).read_at)) }
+            self.entry result (with_bytes (without_first_and_gap self.old) (without_gap self.old).read_at)) }
         ensures none { IsErr result ↔ (contents self.old ≡ []) }
         ensures shown { IfOk result
             (λ r. contents self.old ≡ (r.0, r.1.now) ∷ drop 1 (contents self.old)) }
         ensures left { IfOk result (λ r. (ws : List ℕ) → length ws ≡ length r.1.now
-            → contents (with_bytes (dequeued self.old) (skipped self.old).read_at ws)
+            → contents (with_bytes (without_first_and_gap self.old) (without_gap self.old).read_at ws)
             ≡ drop 1 (contents self.old)) }
         ensures empty { IsErr result ↔ (length self.old.packets ≡ 0) }
         ensures first { IfOk result (λ r. IsFirst self.old r.0 r.1.now) }

@@ -2,7 +2,7 @@
 ghost use Rattle.std.specs.Prelude.{◌≡◌, ◌≢◌, ◌≤◌, ◌<◌, ◌-◌, ◌+◌, length, take, drop, ◌++◌, min};
 ghost use Rattle.std.specs.Prelude.{ℕ, List, slice_get, slice_index_or};
 ghost use Rattle.std.specs.Borrow.{sem};
-ghost use Rattle.net_storage.specs.Ring.{ring, queue, queue_index, contiguous_queued_from, written};
+ghost use Rattle.net_storage.specs.Ring.{ring, queue, queue_index, contiguous_queued_from, with_elements};
 ghost use Rattle.net_storage.specs.Ring.{contiguous_queued, contiguous_queue};
 ghost use Rattle.net_storage.specs.Ring.{with_dequeued, Dequeued, QueueWritten};
 
@@ -93,7 +93,7 @@ impl<T, S: Elements<T>> Ring<T, S> {
         ensures stored { result.now
             ≡ take (length result.now) (drop (queue_index self.old offset) self.old.storage) }
         ensures written { (ws : List T) → length ws ≡ contiguous_queued_from self.old offset size →
-            QueueWritten self.old offset ws (written self.old (queue_index self.old offset) ws) }
+            QueueWritten self.old offset ws (with_elements self.old (queue_index self.old offset) ws) }
     {
         let span = self.span(0, self.length, offset, size);
         self.storage

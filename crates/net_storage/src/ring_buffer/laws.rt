@@ -2,7 +2,7 @@
 ghost use Rattle.std.specs.Prelude.{◌≡◌, ◌+◌, ◌++◌, List, length, take, drop, ℕ};
 ghost use Rattle.net_storage.specs.Managed.{elements, with_part};
 ghost use Rattle.net_storage.specs.Overwrite.{overwrite, OverwrittenAt};
-ghost use Rattle.net_storage.specs.Ring.{RingState, ring, capacity, window, queue, spare, restarted};
+ghost use Rattle.net_storage.specs.Ring.{RingState, ring, capacity, window, queue, spare, from_start_if_empty};
 ghost use Rattle.net_storage.specs.Ring.{WellFormed};
 ghost use Rattle.net_storage.specs.RingHistory.{RingCall, MakesAll, history};
 
@@ -24,8 +24,8 @@ pub fn count_and_window_are_capacity<T>()
 /// Moving the read index of an empty ring to the storage's beginning changes neither the queue nor
 /// the counts.
 pub fn restarting_keeps_the_queue<T>()
-    ensures { (g : RingState T) → (queue (restarted g) ≡ queue g)
-        × ((restarted g).count ≡ g.count) × ((restarted g).storage ≡ g.storage) }
+    ensures { (g : RingState T) → (queue (from_start_if_empty g) ≡ queue g)
+        × ((from_start_if_empty g).count ≡ g.count) × ((from_start_if_empty g).storage ≡ g.storage) }
 {}
 
 /// The element that leaves k-th is the one that came k-th. Over any calls, in any order, from an

@@ -4,7 +4,7 @@ ghost use Rattle.std.specs.Borrow.{sem};
 ghost use Rattle.std.specs.Fn.{FnOnceTakesAtMut};
 ghost use Rattle.net_storage.specs.Ring.{window, queue, spare, write_at, contiguous_window};
 ghost use Rattle.net_storage.specs.Ring.{contiguous_queued, contiguous_spare, contiguous_queue};
-ghost use Rattle.net_storage.specs.Ring.{written, with_enqueued, with_dequeued, restarted};
+ghost use Rattle.net_storage.specs.Ring.{with_elements, with_enqueued, with_dequeued, from_start_if_empty};
 ghost use Rattle.net_storage.specs.Ring.{Enqueued, Dequeued};
 ghost use Rattle.net_storage.specs.RingCalls.{CountsWithin, CalledOnSpare, CalledOnQueue};
 
@@ -26,10 +26,10 @@ impl<T, S: Elements<T>> Ring<T, S> {
     ///
     /// `f` may be called on the part that it is lent, and counts at most its length.
     pub fn enqueue_many_with<R, F: FnOnce(&mut [T]) -> (usize, R)>(&mut self, f: F) -> (usize, R)
-        requires callable { FnOnceTakesAtMut F.FnOnce f (contiguous_spare (restarted self.old)) }
-        requires count { CountsWithin F.FnOnce f (contiguous_spare (restarted self.old))
-            (contiguous_window (restarted self.old)) }
-        ensures called { CalledOnSpare F.FnOnce f (restarted self.old) result self.new }
+        requires callable { FnOnceTakesAtMut F.FnOnce f (contiguous_spare (from_start_if_empty self.old)) }
+        requires count { CountsWithin F.FnOnce f (contiguous_spare (from_start_if_empty self.old))
+            (contiguous_window (from_start_if_empty self.old)) }
+        ensures called { CalledOnSpare F.FnOnce f (from_start_if_empty self.old) result self.new }
     {
         self.restart();
         let from = self.storage_index(self.length);
@@ -44,16 +44,16 @@ impl<T, S: Elements<T>> Ring<T, S> {
     /// An empty ring first moves its read index to the storage's beginning.
     pub fn enqueue_many(&mut self, size: usize) -> &mut [T]
         ensures* writes_back { sem 𝓛 (lends_many T.row S.row S.Elements self.entry
-            (with_enqueued (min size (contiguous_window (restarted self.old))) (restarted self.old))
-            (write_at (restarted self.old)) result) }
-        ensures count { length result.now ≡ min size (contiguous_window (restarted self.old)) }
+            (with_enqueued (min size (contiguous_window (from_start_if_empty self.old))) (from_start_if_empty self.old))
+            (write_at (from_start_if_empty self.old)) result) }
+        ensures count { length result.now ≡ min size (contiguous_window (from_start_if_empty self.old)) }
         ensures not_empty { window self.old ≢ 0 → 0 < size → 0 < length result.now }
-        ensures value { result.now ≡ take (length result.now) (spare (restarted self.old)) }
-        ensures stored { let g = restarted self.old in
+        ensures value { result.now ≡ take (length result.now) (spare (from_start_if_empty self.old)) }
+        ensures stored { let g = from_start_if_empty self.old in
             result.now ≡ take (length result.now) (drop (write_at g) g.storage) }
-        ensures enqueued { let g = restarted self.old in let k = min size (contiguous_window g) in
+        ensures enqueued { let g = from_start_if_empty self.old in let k = min size (contiguous_window g) in
             (ws : List T) → length ws ≡ k → Enqueued g ws
-            (written (with_enqueued k g) (write_at g) ws) }
+            (with_elements (with_enqueued k g) (write_at g) ws) }
     {
         self.restart();
         let count = size.min(self.contiguous_window());
@@ -97,7 +97,7 @@ impl<T, S: Elements<T>> Ring<T, S> {
             ≡ take (length result.now) (drop self.old.read_at self.old.storage) }
         ensures dequeued { let k = min size (contiguous_queued self.old) in
             (ws : List T) → length ws ≡ k → Dequeued self.old k ws
-            (written (with_dequeued k self.old) self.old.read_at ws) }
+            (with_elements (with_dequeued k self.old) self.old.read_at ws) }
     {
         let from = self.read_at;
         let count = size.min(self.length.min(self.capacity() - from));

@@ -1,7 +1,7 @@
 //! One element at a time.
 ghost use Rattle.std.specs.Prelude.{◌≡◌, ◌≢◌, ◌↔◌, drop, [], ◌∷◌, IsErr, OnErr, IfOk};
 ghost use Rattle.std.specs.Borrow.{sem};
-ghost use Rattle.net_storage.specs.Ring.{window, queue, spare, write_at, written, with_enqueued};
+ghost use Rattle.net_storage.specs.Ring.{window, queue, spare, write_at, with_elements, with_enqueued};
 ghost use Rattle.net_storage.specs.Ring.{with_dequeued, Enqueued, Dequeued};
 ghost use Rattle.net_storage.specs.RingCalls.{TakesFirstOf, CalledOnNext, CalledOnFirst};
 
@@ -51,7 +51,7 @@ impl<T, S: Elements<T>> Ring<T, S> {
         ensures full { IsErr result ↔ (window self.old ≡ 0) }
         ensures value { IfOk result (λ r. spare self.old ≡ r.now ∷ drop 1 (spare self.old)) }
         ensures enqueued { window self.old ≢ 0 → (w : T) → Enqueued self.old (w ∷ [])
-            (written (with_enqueued 1 self.old) (write_at self.old) (w ∷ [])) }
+            (with_elements (with_enqueued 1 self.old) (write_at self.old) (w ∷ [])) }
     {
         if self.is_full() {
             return Err(Full);
@@ -68,7 +68,7 @@ impl<T, S: Elements<T>> Ring<T, S> {
             (with_enqueued 1 self.old) (write_at self.old) result) }
         ensures value { spare self.old ≡ result.now ∷ drop 1 (spare self.old) }
         ensures enqueued { (w : T) → Enqueued self.old (w ∷ [])
-            (written (with_enqueued 1 self.old) (write_at self.old) (w ∷ [])) }
+            (with_elements (with_enqueued 1 self.old) (write_at self.old) (w ∷ [])) }
     {
         let at = self.storage_index(self.length);
         self.length += 1;
@@ -115,7 +115,7 @@ impl<T, S: Elements<T>> Ring<T, S> {
         ensures empty { IsErr result ↔ (self.old.count ≡ 0) }
         ensures value { IfOk result (λ r. queue self.old ≡ r.now ∷ drop 1 (queue self.old)) }
         ensures dequeued { self.old.count ≢ 0 → (w : T) → Dequeued self.old 1 (w ∷ [])
-            (written (with_dequeued 1 self.old) self.old.read_at (w ∷ [])) }
+            (with_elements (with_dequeued 1 self.old) self.old.read_at (w ∷ [])) }
     {
         if self.is_empty() {
             return Err(Empty);
@@ -132,7 +132,7 @@ impl<T, S: Elements<T>> Ring<T, S> {
             (with_dequeued 1 self.old) self.old.read_at result) }
         ensures value { queue self.old ≡ result.now ∷ drop 1 (queue self.old) }
         ensures dequeued { (w : T) → Dequeued self.old 1 (w ∷ [])
-            (written (with_dequeued 1 self.old) self.old.read_at (w ∷ [])) }
+            (with_elements (with_dequeued 1 self.old) self.old.read_at (w ∷ [])) }
     {
         let at = self.read_at;
         self.read_at = self.storage_index(1);

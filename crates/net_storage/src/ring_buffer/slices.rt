@@ -1,7 +1,7 @@
 //! Elements that are copied in and out.
 ghost use Rattle.std.specs.Prelude.{◌≡◌, ◌-◌, ◌+◌, length, take, drop, ◌++◌, min};
-ghost use Rattle.net_storage.specs.Ring.{ring, capacity, window, queue, write_at, written_wrapping};
-ghost use Rattle.net_storage.specs.Ring.{with_enqueued, with_dequeued, restarted, Enqueued};
+ghost use Rattle.net_storage.specs.Ring.{ring, capacity, window, queue, write_at, with_elements_wrapping};
+ghost use Rattle.net_storage.specs.Ring.{with_enqueued, with_dequeued, from_start_if_empty, Enqueued};
 ghost use Rattle.net_storage.specs.Ring.{Dequeued};
 
 use super::Ring;
@@ -15,9 +15,9 @@ impl<T: Copy, S: Elements<T>> Ring<T, S> {
     /// enqueued.
     pub fn enqueue_slice(&mut self, data: &[T]) -> usize
         ensures count { result ≡ min (length «data».now) (window self.old) }
-        ensures ring { let g = restarted self.old in self.new
-            ≡ with_enqueued result (written_wrapping g (write_at g) (take result «data».now)) }
-        ensures enqueued { Enqueued (restarted self.old) (take result «data».now) self.new }
+        ensures ring { let g = from_start_if_empty self.old in self.new
+            ≡ with_enqueued result (with_elements_wrapping g (write_at g) (take result «data».now)) }
+        ensures enqueued { Enqueued (from_start_if_empty self.old) (take result «data».now) self.new }
         ensures queue { queue self.new ≡ queue self.old ++ take result «data».now }
         ensures same { (self.new.count ≡ self.old.count + result)
             × (capacity self.new ≡ capacity self.old) }

@@ -3,7 +3,7 @@ ghost use Rattle.std.specs.Prelude.{◌≡◌, ◌≤◌, ◌<◌, ◌-◌, ◌+
 ghost use Rattle.std.specs.Prelude.{slice_index_or};
 ghost use Rattle.std.specs.Borrow.{sem};
 ghost use Rattle.net_storage.specs.Ring.{ring, capacity, window, spare, spare_index, freed_index};
-ghost use Rattle.net_storage.specs.Ring.{contiguous_window_from, written, written_wrapping};
+ghost use Rattle.net_storage.specs.Ring.{contiguous_window_from, with_elements, with_elements_wrapping};
 ghost use Rattle.net_storage.specs.Ring.{with_enqueued, Enqueued, SpareWritten};
 
 use super::{Ring, Span};
@@ -43,7 +43,7 @@ impl<T, S: Elements<T>> Ring<T, S> {
         ensures stored { result.now
             ≡ take (length result.now) (drop (spare_index self.old offset) self.old.storage) }
         ensures written { (ws : List T) → length ws ≡ contiguous_window_from self.old offset size →
-            SpareWritten self.old offset ws (written self.old (spare_index self.old offset) ws) }
+            SpareWritten self.old offset ws (with_elements self.old (spare_index self.old offset) ws) }
     {
         let span = self.span(self.length, self.window(), offset, size);
         self.storage
@@ -96,7 +96,7 @@ impl<T: Copy, S: Elements<T>> Ring<T, S> {
     pub fn write_unallocated(&mut self, offset: usize, data: &[T]) -> usize
         ensures count { result ≡ min (length «data».now) (window self.old - offset) }
         ensures ring { self.new
-            ≡ written_wrapping self.old (spare_index self.old offset) (take result «data».now) }
+            ≡ with_elements_wrapping self.old (spare_index self.old offset) (take result «data».now) }
         ensures written { SpareWritten self.old offset (take result «data».now) self.new }
         ensures same { (self.new.count ≡ self.old.count) × (capacity self.new ≡ capacity self.old) }
     {

@@ -3,7 +3,7 @@ ghost use Rattle.std.specs.Prelude.{◌≡◌, ◌≢◌, ◌<◌, ◌↔◌, �
 ghost use Rattle.std.specs.Prelude.{List, IsErr, OnOk, OnErr, IfOk, vec_len};
 ghost use Rattle.net_storage.specs.Ring.{window, queue, spare, contiguous_window};
 ghost use Rattle.net_storage.specs.Ring.{contiguous_queued, contiguous_window_from};
-ghost use Rattle.net_storage.specs.Ring.{contiguous_queued_from, restarted, Enqueued, Dequeued};
+ghost use Rattle.net_storage.specs.Ring.{contiguous_queued_from, from_start_if_empty, Enqueued, Dequeued};
 ghost use Rattle.net_storage.specs.Ring.{SpareWritten, QueueWritten};
 
 use net_storage::{Empty, Full, ManagedSlice, RingBuffer};
@@ -11,9 +11,9 @@ use std::marker::Model;
 
 /// A byte is written to the part that `enqueue_many` lends.
 pub fn enqueue_byte(ring: &mut RingBuffer<'_, u8>, byte: u8)
-    requires { 0 < contiguous_window (restarted ring.old) }
-    ensures parts { Enqueued (restarted ring.old) (byte ∷ []) ring.new }
-    ensures queue { queue ring.new ≡ queue (restarted ring.old) ++ (byte ∷ []) }
+    requires { 0 < contiguous_window (from_start_if_empty ring.old) }
+    ensures parts { Enqueued (from_start_if_empty ring.old) (byte ∷ []) ring.new }
+    ensures queue { queue ring.new ≡ queue (from_start_if_empty ring.old) ++ (byte ∷ []) }
 {
     ring.enqueue_many(1)[0] = byte;
 }
@@ -93,8 +93,8 @@ pub fn write_and_refuse(ring: &mut RingBuffer<'_, u8>, byte: u8)
 
 /// A closure that may run only on a slice that has an element.
 pub fn enqueue_first(ring: &mut RingBuffer<'_, u8>, byte: u8)
-    requires { 0 < contiguous_window (restarted ring.old) }
-    ensures { queue ring.new ≡ queue (restarted ring.old) ++ (byte ∷ []) }
+    requires { 0 < contiguous_window (from_start_if_empty ring.old) }
+    ensures { queue ring.new ≡ queue (from_start_if_empty ring.old) ++ (byte ∷ []) }
 {
     ring.enqueue_many_with(|part| {
         part[0] = byte;

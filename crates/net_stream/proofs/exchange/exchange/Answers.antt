@@ -3,7 +3,7 @@ use Rattle.std.proofs.lemmas.Bool.{both_ways, cases_Bool, cases_lt}
 use Rattle.net_receiver.specs.Stored.{stored_next}
 use Rattle.net_stream.specs.Outgoing.{end_of}
 use Rattle.net_stream.specs.Links.{Carries}
-use Rattle.net_stream.specs.Stuck.{failed, Stuck, StuckTo}
+use Rattle.net_stream.specs.Stuck.{failures, Stuck, StuckTo}
 use Rattle.net_stream.specs.Fates.{FatesSeen, after_all}
 use Rattle.net_stream.specs.Rounds.{FatesSoFar}
 use Rattle.net_stream.proofs.Reached.{first_is}
@@ -316,7 +316,7 @@ rounds-preserved g c =
     record { frames = x.frames; acks = x.acks; why = x.why; left = x.left; left_back = x.left_back; counted = x.counted }) in
     let fates_there : l2.there.fates ≡ l.there.fates = ap (λ x. x.there.fates) c.wait.ensures ∙ ap (λ x. x.there.fates) c.feed.ensures.state in
     let fates_back : l2.back.fates ≡ l.back.fates = ap (λ x. x.back.fates) c.wait.ensures ∙ ap (λ x. x.back.fates) c.feed.ensures.state in
-    let counts2 : failed l2.counts ≡ failed l.counts = ap (λ x. failed x.counts) c.wait.ensures ∙ ap (λ x. failed x.counts) c.feed.ensures.state in
+    let counts2 : failures l2.counts ≡ failures l.counts = ap (λ x. failures x.counts) c.wait.ensures ∙ ap (λ x. failures x.counts) c.feed.ensures.state in
     record {
       moving = m3;
       fates = record { frames = fates3.frames; acks = fates3.acks; left = fates3.left; left_back = fates3.left_back; counted = fates3.counted };
@@ -326,7 +326,7 @@ rounds-preserved g c =
       window = k.window ∙ window2 ∙ i.window;
       capacity = k.capacity ∙ capacity2 ∙ i.capacity;
       chunk = k.chunk ∙ c.feed.ensures.chunk ∙ i.chunk;
-      failing = λ cap cap' some left. ⊎_elim {C = stalled ≤ failed l3.counts}
+      failing = λ cap cap' some left. ⊎_elim {C = stalled ≤ failures l3.counts}
           (λ (e : c.has_moved-moved.result ≡ true). (let none = c.stalled_after-stalled.ensures.moved e in omega (arith, none)))
           (λ (e : c.has_moved-moved.result ≡ false).
           let fewer : end_of l.sender < 2 ^ 64 - 1 = omega (arith, grows1, end2, end3, left) in

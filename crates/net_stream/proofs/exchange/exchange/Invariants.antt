@@ -1,6 +1,6 @@
 use Rattle.std.proofs.Common.{ℕ, ◌*◌, ◌≡◌, ◌≤◌, ◌<◌, ◌+◌, ◌-◌, ◌^◌, [], length}
 use Rattle.net_stream.specs.Outgoing.{end_of}
-use Rattle.net_stream.specs.Stuck.{failed, StuckTo}
+use Rattle.net_stream.specs.Stuck.{failures, StuckTo}
 use Rattle.net_stream.specs.Fates.{after_all}
 use Rattle.net_stream.specs.Copying.{Moving}
 use Rattle.net_stream.specs.Rounds.{FatesSoFar}
@@ -18,7 +18,7 @@ invariant-rounds g l =
       window : l.link.sender.capacity ≡ l.fn.link.sender.capacity;
       capacity : l.link.receiver.capacity ≡ l.fn.link.receiver.capacity;
       chunk : length l.chunk ≡ length l.fn.chunk;
-      failing : 0 < l.fn.link.sender.capacity → 0 < l.fn.link.receiver.capacity → 0 < length l.fn.chunk → end_of l.link.sender < 2 ^ 64 - 1 → l.stalled ≤ failed l.link.counts;
+      failing : 0 < l.fn.link.sender.capacity → 0 < l.fn.link.receiver.capacity → 0 < length l.fn.chunk → end_of l.link.sender < 2 ^ 64 - 1 → l.stalled ≤ failures l.link.counts;
       most : l.stalled ≤ l.fn.settings.rounds;
       stuck : 0 < l.fn.link.sender.capacity → 0 < l.fn.link.receiver.capacity → 0 < length l.fn.chunk → end_of l.link.sender < 2 ^ 64 - 1
           → (frames : ℕ) × (acks : ℕ) × StuckTo l.stalled (after_all frames l.fn.link.there.fates) (after_all acks l.fn.link.back.fates) l.link.there.fates l.link.back.fates;

@@ -2,7 +2,7 @@ use Rattle.std.proofs.Common.{◌≡◌, ◌+◌, ◌++◌, length, refl, sym, a
 use Rattle.net_stream.specs.Fates.{after_all}
 use Rattle.net_stream.proofs.Counted.{all_left, none_left, none_met, one_more_met, all_met, met_last}
 use Rattle.std.proofs.lemmas.List.{append-nil}
-use Rattle.net_stream.specs.Progress.{acked_all}
+use Rattle.net_stream.specs.Progress.{after_ack_frames}
 use Rattle.net_stream.specs.Passing.{coming_of, late_of}
 use Rattle.net_stream.proofs.Results.{OnErr-always}
 use Rattle.net_stream.proofs.passing.pass_acks.Goals as goal
@@ -60,7 +60,7 @@ pub returns-then-not-branch-clause-came : goal.returns-then-not-branch-clause-ca
 returns-then-not-branch-clause-came g c =
     let none = c.in_ok-pass_ack.ensures.none c.if-not-branch.true in
     let b = c.pass_ack.new.back in
-    sym (ap (λ l. acked_all c.pass_ack.new.sender (coming_of b.fates l)) none) ∙ c.in_ok-pass_ack.ensures.came ∙ c.acks.invariant.came
+    sym (ap (λ l. after_ack_frames c.pass_ack.new.sender (coming_of b.fates l)) none) ∙ c.in_ok-pass_ack.ensures.came ∙ c.acks.invariant.came
 
 pub returns-then-not-branch-clause-returned : goal.returns-then-not-branch-clause-returned
 returns-then-not-branch-clause-returned g c =

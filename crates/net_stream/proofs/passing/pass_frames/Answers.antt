@@ -5,7 +5,7 @@ use Rattle.net_stream.specs.Fates.{after_all}
 use Rattle.net_stream.proofs.Counted.{all_left, none_left, none_met, one_more_met, all_met, met_last}
 use Rattle.net_stream.proofs.Reached.{no_gap, room_same}
 use Rattle.std.proofs.lemmas.List.{append-nil}
-use Rattle.net_stream.specs.Passing.{coming_of, late_of, brought, answers_of}
+use Rattle.net_stream.specs.Passing.{coming_of, late_of, receiver_after_all, answers_of}
 use Rattle.net_stream.proofs.Results.{OnErr-always}
 use Rattle.net_stream.proofs.passing.pass_frames.Goals as goal
 
@@ -81,7 +81,7 @@ pub returns-then-not-branch-clause-brought : goal.returns-then-not-branch-clause
 returns-then-not-branch-clause-brought g c =
     let none = c.in_ok-pass_frame.ensures.none c.if-not-branch.true in
     let t = c.pass_frame.new.there in
-    sym (ap (λ l. brought g.row.N c.pass_frame.new.receiver (coming_of t.fates l)) none) ∙ c.in_ok-pass_frame.ensures.brought ∙ c.frames.invariant.brought
+    sym (ap (λ l. receiver_after_all g.row.N c.pass_frame.new.receiver (coming_of t.fates l)) none) ∙ c.in_ok-pass_frame.ensures.brought ∙ c.frames.invariant.brought
 
 pub returns-then-not-branch-clause-answered : goal.returns-then-not-branch-clause-answered
 returns-then-not-branch-clause-answered g c =

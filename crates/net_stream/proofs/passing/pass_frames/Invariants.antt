@@ -4,7 +4,7 @@ use Rattle.net_stream.specs.Outgoing.{Outgoing}
 use Rattle.net_stream.specs.Fates.{after_all, NextCome}
 use Rattle.net_stream.specs.Carrying.{IsUnderWay}
 use Rattle.net_stream.specs.Progress.{Reaches, limit_of, HasRoom}
-use Rattle.net_stream.specs.Passing.{coming_of, late_of, brought, answers_of}
+use Rattle.net_stream.specs.Passing.{coming_of, late_of, receiver_after_all, answers_of}
 use Rattle.net_stream.proofs.Counted.{MetSoFar}
 use Rattle.net_stream.proofs.passing.pass_frames.Given as goal
 
@@ -19,7 +19,7 @@ invariant-frames g l =
       reaches : (f : ℕ) (w : List ℕ) (s : Outgoing) → IsUnderWay f w s l.fn.receiver l.fn.there l.fn.back → HasRoom s l.fn.receiver → NextCome (length l.fn.there.ahead) l.fn.there.fates →
           NextCome (length l.there.ahead) l.there.fates × ((end : ℕ) → Reaches s.reported end (stored_next l.fn.receiver) l.fn.there.ahead → Reaches s.reported end (stored_next l.receiver) l.there.ahead);
       fates : l.back.fates ≡ l.fn.back.fates;
-      brought : brought g.row.N l.receiver (coming_of l.there.fates l.there.ahead) ≡ brought g.row.N l.fn.receiver (coming_of l.fn.there.fates l.fn.there.ahead);
+      brought : receiver_after_all g.row.N l.receiver (coming_of l.there.fates l.there.ahead) ≡ receiver_after_all g.row.N l.fn.receiver (coming_of l.fn.there.fates l.fn.there.ahead);
       answered : l.back.ahead ++ answers_of g.row.N l.receiver (coming_of l.there.fates l.there.ahead) ≡ l.fn.back.ahead ++ answers_of g.row.N l.fn.receiver (coming_of l.fn.there.fates l.fn.there.ahead);
       returned : l.there.late ++ late_of l.there.fates l.there.ahead ≡ l.fn.there.late ++ late_of l.fn.there.fates l.fn.there.ahead;
       back_late : l.back.late ≡ l.fn.back.late;

@@ -1,7 +1,7 @@
 use Rattle.std.proofs.Common.{◌≡◌, ◌∷◌, ◌∙◌, sym, ap, subst}
 use Rattle.net_stream.specs.Outgoing.{end_of}
 use Rattle.net_stream.specs.Carrying.{IsUnderWay}
-use Rattle.net_stream.specs.Progress.{acked_all}
+use Rattle.net_stream.specs.Progress.{after_ack_frames}
 use Rattle.net_stream.proofs.Carried.{late_ack_met}
 use Rattle.net_stream.proofs.Reached.{by_keeps_end}
 use Rattle.net_stream.proofs.passing.pass_late_acks.Goals as goal
@@ -16,11 +16,11 @@ late-preserved g c =
       end = ap end_of c.acknowledge.ensures.acked ∙ by_keeps_end _ _ ∙ i.end;
       ahead = sym (ap (λ p. p.ahead) first) ∙ i.ahead;
       fates = sym (ap (λ p. p.fates) first) ∙ i.fates;
-      came = ap (λ v. acked_all v b1.late) c.acknowledge.ensures.acked ∙ sym (ap (λ p. acked_all c.late.sender p.late) first) ∙ i.came;
+      came = ap (λ v. after_ack_frames v b1.late) c.acknowledge.ensures.acked ∙ sym (ap (λ p. after_ack_frames c.late.sender p.late) first) ∙ i.came;
     }
 
 pub returns-clause-carried : goal.returns-clause-carried
 returns-clause-carried g c = λ f w r there h. subst (IsUnderWay f w c.late.sender r there) (sym c.in_default.ensures.1) (c.late.invariant.carried f w r there h)
 
 pub returns-clause-came : goal.returns-clause-came
-returns-clause-came g c = sym (ap (acked_all c.late.sender) c.in_default.ensures.0) ∙ c.late.invariant.came
+returns-clause-came g c = sym (ap (after_ack_frames c.late.sender) c.in_default.ensures.0) ∙ c.late.invariant.came

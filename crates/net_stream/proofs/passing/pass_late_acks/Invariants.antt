@@ -2,7 +2,7 @@ use Rattle.std.proofs.Common.{◌≡◌, ℕ, List, length}
 use Rattle.net_receiver.specs.Stored.{Stored}
 use Rattle.net_stream.specs.Outgoing.{end_of}
 use Rattle.net_stream.specs.Carrying.{PathSeen, IsUnderWay}
-use Rattle.net_stream.specs.Progress.{acked_all}
+use Rattle.net_stream.specs.Progress.{after_ack_frames}
 use Rattle.net_stream.proofs.passing.pass_late_acks.Given as goal
 
 abbrev pub invariant-late : goal.invariant-late
@@ -12,7 +12,7 @@ invariant-late g l =
       end : end_of l.sender ≡ end_of l.fn.sender;
       ahead : l.back.ahead ≡ l.fn.back.ahead;
       fates : l.back.fates ≡ l.fn.back.fates;
-      came : acked_all l.sender l.back.late ≡ acked_all l.fn.sender l.fn.back.late;
+      came : after_ack_frames l.sender l.back.late ≡ after_ack_frames l.fn.sender l.fn.back.late;
     }
 
 abbrev pub decreases-late : goal.decreases-late

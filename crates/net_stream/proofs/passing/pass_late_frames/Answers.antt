@@ -1,8 +1,8 @@
 use Rattle.std.proofs.Common.{◌++◌, ◌∙◌, sym, ap, le_trans}
-use Rattle.net_stream.specs.Frames.{decoded}
+use Rattle.net_stream.specs.Frames.{segment_of}
 use Rattle.net_stream.proofs.Counted.{same_refusing}
 use Rattle.std.proofs.lemmas.List.{append-nil}
-use Rattle.net_stream.specs.Passing.{brought, answers_of}
+use Rattle.net_stream.specs.Passing.{receiver_after_all, answers_of}
 use Rattle.net_stream.proofs.Meeting.{one_answered, with_answer_late}
 use Rattle.net_stream.proofs.Carried.{first_late, late_met}
 use Rattle.net_stream.proofs.passing.pass_late_frames.Goals as goal
@@ -18,7 +18,7 @@ returns-in_err-arrive-clause-grows g c = le_trans c.late.invariant.grows c.arriv
 
 pub returns-in_err-arrive-clause-counted : goal.returns-in_err-arrive-clause-counted
 returns-in_err-arrive-clause-counted g c =
-    same_refusing g.row.N c.late.receiver (decoded c.frame-frame.result.now) c.late.counts c.arrive.new.counts c.arrive.ensures.counted ∙ c.late.invariant.counted
+    same_refusing g.row.N c.late.receiver (segment_of c.frame-frame.result.now) c.late.counts c.arrive.new.counts c.arrive.ensures.counted ∙ c.late.invariant.counted
 
 pub late-preserved : goal.late-preserved
 late-preserved g c =
@@ -27,20 +27,20 @@ late-preserved g c =
     let first = first_late c.late.there t1 _ c.frame-frame.result.now c.in-Some.ensures c.frame-frame.ensures in
     record {
       carried = λ f w s h. late_met f w s c.late.receiver c.arrive.new.receiver c.late.there t1 c.late.back c.arrive.new.back c.frame-frame.result.now first (c.arrive.ensures.carried f w s t1) (i.carried f w s h);
-      counted = same_refusing g.row.N c.late.receiver (decoded c.frame-frame.result.now) c.late.counts c.arrive.new.counts c.arrive.ensures.counted ∙ i.counted;
+      counted = same_refusing g.row.N c.late.receiver (segment_of c.frame-frame.result.now) c.late.counts c.arrive.new.counts c.arrive.ensures.counted ∙ i.counted;
       limit = c.arrive.ensures.limit ∙ i.limit;
       read = c.arrive.ensures.read ∙ i.read;
       ahead = sym (ap (λ p. p.ahead) first) ∙ i.ahead;
       fates = sym (ap (λ p. p.fates) first) ∙ i.fates;
       back_fates = c.arrive.ensures.fates ∙ i.back_fates;
       grows = le_trans i.grows c.arrive.ensures.grows;
-      brought = ap (λ r. brought g.row.N r t1.late) c.arrive.ensures.state ∙ sym (ap (λ p. brought g.row.N c.late.receiver p.late) first) ∙ i.brought;
+      brought = ap (λ r. receiver_after_all g.row.N r t1.late) c.arrive.ensures.state ∙ sym (ap (λ p. receiver_after_all g.row.N c.late.receiver p.late) first) ∙ i.brought;
       answered = one_answered g.row.N c.late.receiver c.arrive.new.receiver c.frame-frame.result.now c.late.back c.arrive.new.back t1.late c.arrive.ensures.state c.in_ok-arrive.ensures.answers ∙ sym (ap (λ p. c.late.back.ahead ++ answers_of g.row.N c.late.receiver p.late) first) ∙ i.answered;
-      back_late = ap (λ p. p.late) c.in_ok-arrive.ensures.answers ∙ with_answer_late c.arrive.new.receiver (decoded c.frame-frame.result.now) c.late.back ∙ i.back_late;
+      back_late = ap (λ p. p.late) c.in_ok-arrive.ensures.answers ∙ with_answer_late c.arrive.new.receiver (segment_of c.frame-frame.result.now) c.late.back ∙ i.back_late;
     }
 
 pub returns-clause-brought : goal.returns-clause-brought
-returns-clause-brought g c = sym (ap (λ l. brought g.row.N c.late.receiver l) c.in_default.ensures.0) ∙ c.late.invariant.brought
+returns-clause-brought g c = sym (ap (λ l. receiver_after_all g.row.N c.late.receiver l) c.in_default.ensures.0) ∙ c.late.invariant.brought
 
 pub returns-clause-answered : goal.returns-clause-answered
 returns-clause-answered g c = sym (append-nil c.late.back.ahead) ∙ sym (ap (λ l. c.late.back.ahead ++ answers_of g.row.N c.late.receiver l) c.in_default.ensures.0) ∙ c.late.invariant.answered

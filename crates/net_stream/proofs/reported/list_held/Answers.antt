@@ -2,7 +2,7 @@ use Rattle.std.proofs.Common.{◌≡◌, ℕ, ◌+◌, ◌*◌, ◌++◌, ◌∙
 use Rattle.std.specs.Int.{w64, to_be_bytes}
 use Rattle.net_storage.specs.Positions.{maximal_runs}
 use Rattle.net_receiver.specs.Stored.{domain}
-use Rattle.net_stream.specs.Reported.{most_reported, listed}
+use Rattle.net_stream.specs.Reported.{most_reported, range_bytes}
 use Rattle.net_stream.proofs.Carried.{All-push}
 use Rattle.net_stream.proofs.Ranges.{IsWords, listed_push, take_same, rest_is, take_next}
 use Rattle.net_stream.proofs.reported.list_held.Goals as goal
@@ -11,7 +11,7 @@ pub returns-in_default-clause-listed : goal.returns-in_default-clause-listed
 returns-in_default-clause-listed g c =
     let all = maximal_runs (domain c.args.receiver.now.held) in
     let none = sym c.loop-i.invariant.left ∙ c.in_default.ensures.steps.0 in
-    c.loop-i.invariant.listed ∙ ap listed (take_same c.loop-i.i most_reported all none (omega arith))
+    c.loop-i.invariant.listed ∙ ap range_bytes (take_same c.loop-i.i most_reported all none (omega arith))
 
 pub returns-in_default-clause-words : goal.returns-in_default-clause-words
 returns-in_default-clause-words g c =
@@ -40,7 +40,7 @@ loop-i-preserved g c =
           ∙ c.write_word-in-loop-i.ensures.front
           ∙ ap (λ l. l ++ e) (c.write_word.ensures.front ∙ ap (λ l. l ++ s) c.loop-i.invariant.listed)
           ∙ listed_push (take i all) c.in-Some.start c.in-Some.end
-          ∙ ap listed (sym one);
+          ∙ ap range_bytes (sym one);
       words = subst (All IsWords) (sym one) (All-push IsWords (take i all) run c.loop-i.invariant.words
           (c.write_word.ensures.fits, c.write_word-in-loop-i.ensures.fits));
     }
@@ -49,4 +49,4 @@ pub returns-clause-listed : goal.returns-clause-listed
 returns-clause-listed g c =
     let all = maximal_runs (domain c.args.receiver.now.held) in
     let done : c.loop-i.i ≡ most_reported = omega arith in
-    subst (λ k. take (16 * k) c.loop-i.buffer ≡ listed (take k all)) done c.loop-i.invariant.listed
+    subst (λ k. take (16 * k) c.loop-i.buffer ≡ range_bytes (take k all)) done c.loop-i.invariant.listed

@@ -1,7 +1,7 @@
 use Rattle.std.proofs.Common.{◌≡◌, ◌*◌, ◌<◌, ◌^◌, length, take, drop, All}
 use Rattle.net_storage.specs.Positions.{maximal_runs}
 use Rattle.net_receiver.specs.Stored.{domain}
-use Rattle.net_stream.specs.Reported.{listed}
+use Rattle.net_stream.specs.Reported.{range_bytes}
 use Rattle.net_stream.proofs.reported.list_held.Given as goal
 
 -- the runs so far are listed, and the others are left
@@ -12,6 +12,6 @@ invariant-loop-i g l =
       finite : (goal.iterator-loop-i g).is_finite l.runs;
       left : l.runs ≡ drop l.i (maximal_runs (domain l.receiver.held));
       len : length l.buffer ≡ 512;
-      listed : take (16 * l.i) l.buffer ≡ listed (take l.i (maximal_runs (domain l.receiver.held)));
+      listed : take (16 * l.i) l.buffer ≡ range_bytes (take l.i (maximal_runs (domain l.receiver.held)));
       words : All (λ run. (run.0 < 2 ^ 64) × (run.1 < 2 ^ 64)) (take l.i (maximal_runs (domain l.receiver.held)));
     }

@@ -2,7 +2,7 @@ use Rattle.std.proofs.Common.{◌≡◌, ◌&&◌, ℕ, ◌+◌, ◌-◌, ◌≤
 use Rattle.std.proofs.Common.{◌∙◌, arith, ⊎_elim, length-drop}
 use Rattle.std.proofs.lemmas.Bool.{cases_lt, cond-true, cond-false, and_from, and_left, and_right, le-leb, lt-leb}
 use Rattle.std.proofs.lemmas.List.{drop-drop}
-use Rattle.net_stream.specs.Outgoing.{Outgoing, end_of, let_go, acknowledged, all_acknowledged, greatest_within}
+use Rattle.net_stream.specs.Outgoing.{Outgoing, end_of, sender_from, after_ack, after_acks, greatest_within}
 use Rattle.net_stream.proofs.sender.keeps_from_greatest.Goals as goal
 
 -- what one acknowledgement leaves
@@ -10,18 +10,18 @@ abbrev Follows : Outgoing → ℕ → Outgoing → Type 0
 Follows v n u = (u.base ≡ cond (nat_le n (end_of v)) (max v.base n) v.base) × (v.base ≤ u.base) × (end_of u ≡ end_of v)
     × (u.queue ≡ drop (u.base - v.base) v.queue)
 
-one : (v : Outgoing) (n : ℕ) (ranges : List (ℕ × ℕ)) → Follows v n (acknowledged v n ranges)
+one : (v : Outgoing) (n : ℕ) (ranges : List (ℕ × ℕ)) → Follows v n (after_ack v n ranges)
 one v n ranges =
-    ⊎_elim {C = Follows v n (acknowledged v n ranges)}
+    ⊎_elim {C = Follows v n (after_ack v n ranges)}
     (λ (above : end_of v < n). stays (and_right (nat_le v.base n) (nat_le n (end_of v)) (lt-leb n (end_of v) above))
     (sym (cond-false (nat_le n (end_of v)) (max v.base n) v.base (lt-leb n (end_of v) above))))
     (λ (within : n ≤ end_of v).
-    ⊎_elim {C = Follows v n (acknowledged v n ranges)}
+    ⊎_elim {C = Follows v n (after_ack v n ranges)}
     (λ (below : n < v.base). stays (and_left (nat_le v.base n) (nat_le n (end_of v)) (lt-leb v.base n below))
     (omega (arith, cond-true (nat_le n (end_of v)) (max v.base n) v.base (le-leb n (end_of v) within))))
     (λ (from : v.base ≤ n).
-    let is : acknowledged v n ranges ≡ let_go v n ranges =
-    cond-true (nat_le v.base n && nat_le n (end_of v)) (let_go v n ranges) v
+    let is : after_ack v n ranges ≡ sender_from v n ranges =
+    cond-true (nat_le v.base n && nat_le n (end_of v)) (sender_from v n ranges) v
     (and_from (nat_le v.base n) (nat_le n (end_of v)) (le-leb v.base n from) (le-leb n (end_of v) within)) in
     let greatest : n ≡ cond (nat_le n (end_of v)) (max v.base n) v.base =
     omega (arith, cond-true (nat_le n (end_of v)) (max v.base n) v.base (le-leb n (end_of v) within)) in
@@ -31,23 +31,23 @@ one v n ranges =
     (cases_lt n v.base))
     (cases_lt (end_of v) n)
   where
-    stays : (nat_le v.base n && nat_le n (end_of v)) ≡ false → v.base ≡ cond (nat_le n (end_of v)) (max v.base n) v.base → Follows v n (acknowledged v n ranges)
+    stays : (nat_le v.base n && nat_le n (end_of v)) ≡ false → v.base ≡ cond (nat_le n (end_of v)) (max v.base n) v.base → Follows v n (after_ack v n ranges)
     stays e greatest =
         let none : 0 ≡ v.base - v.base = omega arith in
-        subst (Follows v n) (sym (cond-false (nat_le v.base n && nat_le n (end_of v)) (let_go v n ranges) v e))
+        subst (Follows v n) (sym (cond-false (nat_le v.base n && nat_le n (end_of v)) (sender_from v n ranges) v e))
         (greatest, omega arith, refl, ap (λ k. drop k v.queue) none)
 
 -- and what all leave
 abbrev AllFollow : Outgoing → List (ℕ × List (ℕ × ℕ)) → Outgoing → Type 0
 AllFollow v acks u = (u.base ≡ greatest_within (end_of v) v.base acks) × (v.base ≤ u.base) × (end_of u ≡ end_of v) × (u.queue ≡ drop (u.base - v.base) v.queue)
 
-all : (v : Outgoing) (acks : List (ℕ × List (ℕ × ℕ))) → AllFollow v acks (all_acknowledged v acks)
+all : (v : Outgoing) (acks : List (ℕ × List (ℕ × ℕ))) → AllFollow v acks (after_acks v acks)
 all v [] = (let none : 0 ≡ v.base - v.base = omega arith in (refl, omega arith, refl, ap (λ k. drop k v.queue) none))
 all v ((n, ranges) ∷ acks) =
-    let u = acknowledged v n ranges in
+    let u = after_ack v n ranges in
     let here = one v n ranges in
     let rest = all u acks in
-    let w = all_acknowledged u acks in
+    let w = after_acks u acks in
     let from = here.1 in
     let more = rest.1 in
     let place : (u.base - v.base) + (w.base - u.base) ≡ w.base - v.base = omega arith in (

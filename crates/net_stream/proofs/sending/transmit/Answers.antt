@@ -1,5 +1,5 @@
 use Rattle.std.proofs.Common.{◌≡◌, ◌-◌, ◌<◌, ◌≤◌, ◌∙◌, sym, ap, subst, arith, inl, inr}
-use Rattle.net_stream.specs.Reported.{unreported}
+use Rattle.net_stream.specs.Reported.{count_outside}
 use Rattle.net_stream.specs.Sending.{most_of, stop_of, SentPrefix, SentRound}
 use Rattle.net_stream.proofs.Ranges.{counted_more, counted_none}
 use Rattle.net_stream.proofs.Sent.{SentSoFar, none_sent, sent_more, round_sent}
@@ -18,7 +18,7 @@ loop-pos-init g c =
       carried = λ f w r back h. h;
       sent = subst (λ k. SentSoFar s c.max-most.result (most_of c.args.flight) k (c.base-pos.result - s.base) c.args.there.now c.args.there.now) (sym flight)
           (none_sent s c.max-most.result (most_of c.args.flight) c.base-pos.result c.args.there.now base);
-      counted = counted_none _ c.args.counts.now (omega arith) (ap (unreported s.reported s.base) none);
+      counted = counted_none _ c.args.counts.now (omega arith) (ap (count_outside s.reported s.base) none);
     }
 
 pub loop-pos-preserved : goal.loop-pos-preserved

@@ -1,8 +1,8 @@
 use Rattle.std.proofs.Common.{◌≡◌, ℕ, List, ◌≤◌, ◌-◌}
 use Rattle.net_receiver.specs.Stored.{Stored}
 use Rattle.net_stream.specs.Outgoing.{end_of}
-use Rattle.net_stream.specs.Reported.{unreported}
-use Rattle.net_stream.specs.Counting.{carrying}
+use Rattle.net_stream.specs.Reported.{count_outside}
+use Rattle.net_stream.specs.Counting.{with_payload}
 use Rattle.net_stream.specs.Carrying.{PathSeen, IsUnderWay}
 use Rattle.net_stream.specs.Sending.{most_of}
 use Rattle.net_stream.proofs.Sent.{SentSoFar}
@@ -16,7 +16,7 @@ invariant-loop-pos g l =
       within : l.pos ≤ end_of l.sender;
       carried : (f : ℕ) (w : List ℕ) (r : Stored) (back : PathSeen) → IsUnderWay f w l.sender r l.fn.there back → IsUnderWay f w l.sender r l.there back;
       sent : SentSoFar l.sender l.most (most_of l.fn.flight) l.left (l.pos - l.sender.base) l.fn.there l.there;
-      counted : l.counts ≡ carrying (unreported l.sender.reported l.sender.base (l.pos - l.sender.base)) l.fn.counts;
+      counted : l.counts ≡ with_payload (count_outside l.sender.reported l.sender.base (l.pos - l.sender.base)) l.fn.counts;
     }
 
 abbrev pub decreases-loop-pos : goal.decreases-loop-pos

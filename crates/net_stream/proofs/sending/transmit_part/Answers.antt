@@ -1,5 +1,5 @@
 use Rattle.std.proofs.Common.{◌-◌, ◌^◌, min, true, false, length, ◌≡◌, ◌+◌, ◌<◌, arith}
-use Rattle.net_stream.specs.Reported.{unreported}
+use Rattle.net_stream.specs.Reported.{count_outside}
 use Rattle.net_stream.proofs.Carried.{sent_says}
 use Rattle.net_stream.proofs.Ranges.{count_marked, counted_none}
 use Rattle.net_stream.proofs.Sent.{spared_part, sent_part}
@@ -51,5 +51,5 @@ returns-clause-counted g c =
     let count = c.segment-bytes.ensures.count c.requires.from in
     let none = c.reported_from-spared.ensures.none c.requires.kept (omega arith) in
     let e = count_marked s.reported c.args.pos n false (λ q from to. c.next_reported.ensures.between none q from (omega arith)) in
-    let sum : c.saturating_add-counts.result ≡ min (counts.payload + unreported s.reported c.args.pos n) (2 ^ 64 - 1) = omega (arith, e) in
+    let sum : c.saturating_add-counts.result ≡ min (counts.payload + count_outside s.reported c.args.pos n) (2 ^ 64 - 1) = omega (arith, e) in
     λ i. record counts { payload = sum i }

@@ -1,5 +1,5 @@
 use Rattle.std.proofs.Common.{◌≡◌, ◌∙◌, sym, ap, ap₂, subst, drop, if◌then◌else◌, is_ok, of_calls}
-use Rattle.net_storage.specs.Packets.{handed}
+use Rattle.net_storage.specs.Packets.{after_hand_out}
 use Rattle.net_storage.specs.PacketHistory.{contents}
 use Rattle.net_uses.specs.declared.endpoint.Endpoint.{Endpoint}
 use Rattle.net_uses.specs.Datagrams.{GivesAtDatagram}
@@ -18,7 +18,7 @@ returns-clause-dispatched g c =
     let header : k.new_header ≡ k.header = sym gives.leaves.0 ∙ called.1 ∙ gives.shows.0 in
     let bytes : k.new_bytes ≡ k.bytes = sym gives.leaves.1 ∙ called.2 ∙ gives.shows.1 in
     let left : contents c.dequeue_with.new.self ≡ (if is_ok answer then drop 1 (contents q) else contents q) =
-    ap contents k.made ∙ ap₂ (λ h ws. contents (handed (is_ok answer) q h ws)) header bytes
+    ap contents k.made ∙ ap₂ (λ h ws. contents (after_hand_out (is_ok answer) q h ws)) header bytes
     ∙ c.looking_changes_nothing.ensures.kept q k.header k.bytes (is_ok answer) c.well_placed.ensures k.first in
     record {
       endpoint = k.header;
@@ -26,7 +26,7 @@ returns-clause-dispatched g c =
       first = c.packets_leave_in_order.ensures.shown q k.header k.bytes c.well_placed.ensures k.first;
       gives = (called.0.0, called.0.1 ∙ gives.shows.1, subst (λ (to : Endpoint). g.F.FnOnce.post c.args.emit (to, (called.0.0, tt)) answer) gives.shows.0 called.0.2);
       left = left;
-      made = k.made ∙ ap₂ (λ h ws. handed (is_ok answer) q h ws) header bytes;
+      made = k.made ∙ ap₂ (λ h ws. after_hand_out (is_ok answer) q h ws) header bytes;
     })
     c.dequeue_with.ensures.handed
 

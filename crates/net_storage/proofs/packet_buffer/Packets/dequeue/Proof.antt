@@ -52,7 +52,7 @@ use Rattle.std.proofs.raw_atomic.Walks.{proved_at}
 use Rattle.std.proofs.ResultValues.{ok_of, err_of, and_tt}
 use Rattle.std.specs.Prelude.{Ok, Err, IsErr, IfOk, OnOk, OnErr, ◌↔◌}
 use Rattle.std.specs.contracts.result.Result as RS
-use Rattle.net_storage.specs.Packets.{skipped, dequeued, freed_place, freed_bytes, AreFreed, IsFirstSized, IsFirst, first_size, without_first_gap, with_bytes}
+use Rattle.net_storage.specs.Packets.{without_gap, without_first_and_gap, freed_place, freed_bytes, AreFreed, IsFirstSized, IsFirst, first_size, without_first_gap, with_bytes}
 use Rattle.net_storage.specs.contracts.error.Empty as EM
 use Rattle.net_storage.specs.PacketHistory.{contents}
 use Rattle.net_storage.proofs.SaidFacts.{says_five}
@@ -109,10 +109,10 @@ module _ (G : Given) {M : Type 1} {𝓤 : Ura M} (𝓛 : Logic 𝓤) (𝓜 : Mod
 
     -- the queue without its first packet, and where that one's bytes are
     abbrev y : Q G
-    y = dequeued x
+    y = without_first_and_gap x
 
     abbrev from : ℕ
-    from = (skipped x).read_at
+    from = (without_gap x).read_at
 
     abbrev bound : (walk_of 𝓛 (ended G) (stayed G) held).Ghost
     bound = ((κs, qs, bounds, (self, tt), (mut_vals self, tt)), tt)

@@ -1,7 +1,7 @@
 use Rattle.std.proofs.Common.{◌≡◌, ◌++◌, ◌∷◌, sym, ap, ◌∙◌, subst, arith, of_calls, List, ℕ, if◌then◌else◌, is_ok, length, drop, take, rules}
 use Rattle.std.specs.declared.option.Option.TheVariants.{Some, None}
 use Rattle.net_storage.specs.Ring.{queue, capacity, WellFormed, contiguous_queued}
-use Rattle.net_storage.specs.Packets.{first_gap, popped, first_written, handed}
+use Rattle.net_storage.specs.Packets.{first_gap, without_first, with_first_bytes, after_hand_out}
 use Rattle.net_storage.specs.PacketHistory.{contents}
 use Rattle.net_storage.specs.PacketSlots.{slot}
 use Rattle.net_storage.specs.PacketCalls.{GivesAtPacket}
@@ -93,7 +93,7 @@ returns-clause-handed g c =
     let q = c.args.self.now in
     let ok = c.skip.ensures.well_placed in
     let long : length called.0 ≡ length (take size (take (contiguous_queued bytes) (queue bytes))) = called.2 ∙ sym whole in
-    let made : c.if-is_ok.self ≡ handed (is_ok r.1.0) q r.1.1 called.0 = elim c.if-is_ok.branch [
+    let made : c.if-is_ok.self ≡ after_hand_out (is_ok r.1.0) q r.1.1 called.0 = elim c.if-is_ok.branch [
       | then-is_ok w ↦
           let all = count ∙ ap (λ t. if t then size else 0) (sym w.if-is_ok.ensures.value) in
           let em = w.dequeue_allocated.ensures.dequeued.0 ∙ rest in
@@ -102,14 +102,14 @@ returns-clause-handed g c =
           let cm = ap capacity w.dequeue_allocated.ensures.ring ∙ lifted.2 in
           w.self-is ∙ off_left m bytes c.self.invariant z size c.in_ok-size.header at k.0 called.0 left called.2 r.0
           c.dequeue_many_with-answer.new.self k.3 all w.dequeue_allocated.new.self em wfm cm r.1.1
-          ∙ ap (λ q. popped (first_written q r.1.1 called.0)) is ∙ ap (λ t. handed t c.args.self.now r.1.1 called.0) w.if-is_ok.ensures.value
+          ∙ ap (λ q. without_first (with_first_bytes q r.1.1 called.0)) is ∙ ap (λ t. after_hand_out t c.args.self.now r.1.1 called.0) w.if-is_ok.ensures.value
       | else-is_ok w ↦
           let none = count ∙ ap (λ t. if t then size else 0) (sym w.if-is_ok.ensures.value) in
           let em = w.put_header.ensures.queue size None (lifted.0 ∙ ap (λ l. slot size None ∷ l) (sym rest)) ∙ ap (λ l. slot size (Some r.1.1) ∷ l) rest in
           w.self-is ∙ on_left m bytes c.self.invariant z size c.in_ok-size.header at k.0 called.0 left called.2 r.0
           c.dequeue_many_with-answer.new.self k.3 none r.1.1 w.put_header.new.slots em w.put_header.ensures.well_formed
           (w.put_header.ensures.capacity ∙ lifted.2)
-          ∙ ap (λ q. first_written q r.1.1 called.0) is ∙ ap (λ t. handed t c.args.self.now r.1.1 called.0) w.if-is_ok.ensures.value
+          ∙ ap (λ q. with_first_bytes q r.1.1 called.0) is ∙ ap (λ t. after_hand_out t c.args.self.now r.1.1 called.0) w.if-is_ok.ensures.value
     ] in
     record {
       header = c.in_ok-size.header;

@@ -52,7 +52,7 @@ use Rattle.std.proofs.ResultValues.{ok_of, err_of}
 use Rattle.std.specs.Prelude.{Ok, Err, IsErr, OnOk, OnErr, ◌↔◌}
 use Rattle.std.specs.declared.option.Option.TheVariants.{None}
 use Rattle.std.specs.contracts.result.Result as RS
-use Rattle.net_storage.specs.Packets.{placement, pushed_if, placed_if_room, only_last as last-of, first_size, last_bytes, last_written}
+use Rattle.net_storage.specs.Packets.{placement, with_packet_if, with_packet_if_room, only_last as last-of, first_size, last_bytes, with_last_bytes}
 use Rattle.net_storage.specs.contracts.error.Full as FU
 use Rattle.net_storage.specs.PacketHistory.{contents}
 use Rattle.net_storage.proofs.SaidFacts.{says_four}
@@ -120,7 +120,7 @@ module _ (G : Given) {M : Type 1} {𝓤 : Ura M} (𝓛 : Logic 𝓤) (𝓜 : Mod
 
     -- the queue with the packet in it, if it could be placed
     abbrev y : Q G
-    y = placed_if_room x k h
+    y = with_packet_if_room x k h
 
     abbrev bound : (walk_of 𝓛 (ended G) (stayed G) held).Ghost
     bound = ((κs, qs, bounds, (self, (n, (h, tt))), (mut_vals self, (vint w64 n ∷ [], (hv ∷ [], tt)))), tt)
@@ -141,7 +141,7 @@ module _ (G : Given) {M : Type 1} {𝓤 : Ura M} (𝓛 : Logic 𝓤) (𝓜 : Mod
     ends_as m = fres self.ghost_name ((Self G).coded.code m)
 
     abbrev follow : Q G → MutBor (List ℕ) → Fml
-    follow m r = follows (Self G) (Array u8 0) self.ghost_name r.ghost_name (last_written m)
+    follow m r = follows (Self G) (Array u8 0) self.ghost_name r.ghost_name (with_last_bytes m)
 
     module _ (p : ℕ × Share × GName) where
       abbrev κ' : List ℕ
@@ -181,14 +181,14 @@ module _ (G : Given) {M : Type 1} {𝓤 : Ura M} (𝓛 : Logic 𝓤) (𝓜 : Mod
 
     -- what the contents are, once the packet of q that came last is written
     abbrev Accepts : ℕ → Q G → Type 0
-    Accepts s q = (ws : List ℕ) → length ws ≡ s → contents (last_written q ws) ≡ contents x ++ ((h, ws) ∷ [])
+    Accepts s q = (ws : List ℕ) → length ws ≡ s → contents (with_last_bytes q ws) ≡ contents x ++ ((h, ws) ∷ [])
 
     -- the end at `Ok`, where self follows the part
-    lends : (r : MutBor (List ℕ)) (w : Val) → placement x n ≢ None → Accepts n (placed_if_room x n h) → r.now ≡ last_bytes (placed_if_room x n h) → length r.now ≡ n
-        → ent 𝓤 (sep 𝓤 (sem 𝓛 (Part.own_val r (w ∷ []))) (sep 𝓤 (sem 𝓛 (follow (placed_if_room x n h) r)) (sep 𝓤 (𝓛.A.lft κs.0 qs.0) (mean 𝓛 (others G 𝓤 κs qs))))) (Post (live 0 (of_list (w ∷ []))))
+    lends : (r : MutBor (List ℕ)) (w : Val) → placement x n ≢ None → Accepts n (with_packet_if_room x n h) → r.now ≡ last_bytes (with_packet_if_room x n h) → length r.now ≡ n
+        → ent 𝓤 (sep 𝓤 (sem 𝓛 (Part.own_val r (w ∷ []))) (sep 𝓤 (sem 𝓛 (follow (with_packet_if_room x n h) r)) (sep 𝓤 (𝓛.A.lft κs.0 qs.0) (mean 𝓛 (others G 𝓤 κs qs))))) (Post (live 0 (of_list (w ∷ []))))
     unfolding follows_by
     lends r w is_placed accepted value size =
-        qed 𝓛 (‵ (Part.own_val r (w ∷ [])) ∷ ‵ (follow (placed_if_room x n h) r) ∷ ‵ (flft κs.0 qs.0) ∷ others G 𝓤 κs qs ∷ []) ∵
+        qed 𝓛 (‵ (Part.own_val r (w ∷ [])) ∷ ‵ (follow (with_packet_if_room x n h) r) ∷ ‵ (flft κs.0 qs.0) ∷ others G 𝓤 κs qs ∷ []) ∵
         use1 𝓛 (‵ ((RS.the_row Part FU.the_row).own_val (Ok r) (live 0 (of_list (w ∷ [])) ∷ []))) (ok_of 𝓛 Part FU.the_row r w) $
         suffices ! _ (ends_at 𝓛 (ended G) (stayed G) held bound (live 0 (of_list (w ∷ []))) (Ok r) (tt, (tt, (tt, tt))) (tt, (tt, (tt, tt)))) $
         nothing ! $ nothing ! $ fjoin ! $ nothing ! $ fjoin ! $ nothing ! $ fjoin ! $ join ! $ move ! (2 ∷ 3 ∷ []) $ join ! $ join ! $ frame ! $
@@ -251,7 +251,7 @@ module _ (G : Given) {M : Type 1} {𝓤 : Ura M} (𝓛 : Logic 𝓤) (𝓜 : Mod
               by ! (lends m w is_placed accepted value sized)))))))))
           | inr c ↦
               let none : placement x k ≡ None = full.0 (subst (λ t. IsErr t) (sym c.1) refl) in
-              rewrite ! 0 (λ (m : Q G). ‵ (mine m)) (ap (λ m. pushed_if x m k h) none) refl $
+              rewrite ! 0 (λ (m : Q G). ‵ (mine m)) (ap (λ m. with_packet_if x m k h) none) refl $
               rewrite ! 3 (λ (t : Answer.Denot). ‵ (Answer.own_val t (v ∷ []))) c.1 refl $ move ! (3 ∷ []) $ err_had ! unit FU.the_row c.0 v (λ us is_v. peeks ! FU.the_row (Is FU.the_row) (shows 𝓛 FU.the_row) c.0 us (λ is_error. drop ! $
               lands_as ! (is_v ∙ ap (λ (l : List Val). live 1 (of_list (l ++ []))) is_error.1.0) refl (tt, (record { fits = lit< tt }, (tt, tt))) $
               first ! $ switches_on ! (get_tag ! (vrt ! refl (fld ! refl (stop !))) (whole !)) $ exec ! 𝓣.C 𝓣.Λ En (arm_body 1 (front (after 3 (function G).body))) Then $

@@ -2,8 +2,8 @@ use Rattle.std.proofs.Common.{◌≡◌, ◌+◌, ◌++◌, ◌∷◌, [], refl,
 use Rattle.std.specs.declared.option.Option.TheVariants.{Some}
 use Rattle.std.specs.Fn.{FnOnceReturnsAtMut}
 use denote.MutBor.{at_last}
-use Rattle.net_storage.specs.Ring.{window, queue, spare_index, with_enqueued, written}
-use Rattle.net_storage.specs.Packets.{placement, placed_if_room, last_written, last_cut, IsRoom}
+use Rattle.net_storage.specs.Ring.{window, queue, spare_index, with_enqueued, with_elements}
+use Rattle.net_storage.specs.Packets.{placement, with_packet_if_room, with_last_bytes, with_last_size, IsRoom}
 use Rattle.net_storage.specs.PacketHistory.{contents}
 use Rattle.net_storage.specs.PacketSlots.{slot, gap_slot}
 use Rattle.net_storage.proofs.PacketOrder as order
@@ -97,10 +97,10 @@ returns-clause-wrote g c =
     let count = c.f-count.result in
     let b1 = c.restart.new.self in
     let put : queue c.push_slots.new.slots ≡ queue m ++ (gap_slot c.in-Some.gap ++ (slot count (Some c.args.header) ∷ [])) = search rules in
-    let filled : c.enqueue_unallocated.new.self ≡ with_enqueued (c.in-Some.gap + count) (written b1 (spare_index b1 c.in-Some.gap) after) = search rules in
+    let filled : c.enqueue_unallocated.new.self ≡ with_enqueued (c.in-Some.gap + count) (with_elements b1 (spare_index b1 c.in-Some.gap) after) = search rules in
     let left = fill_left m b c.self.invariant c.in-Some.gap c.args.max_size e c.args.header b1 c.restart.ensures.ring count le after
     c.push_slots.new.slots put c.push_slots.ensures.well_formed c.enqueue_unallocated.new.self filled c.push_slots.ensures.capacity
-    ∙ ap (λ q. last_cut count (last_written (placed_if_room q c.args.max_size c.args.header) after)) c.self.view_is in
+    ∙ ap (λ q. with_last_size count (with_last_bytes (with_packet_if_room q c.args.max_size c.args.header) after)) c.self.view_is in
     let long : length after ≡ c.args.max_size = c.f-count.auto.arg2 ∙ room.2 in
     let accepted = ap contents left
     ∙ order.accepted_with c.args.self.now c.placement.ensures.well_placed c.args.max_size c.args.header after room.0 long count le in

@@ -1,6 +1,6 @@
 use Rattle.std.proofs.Common.{refl, sym, ap, ap₂, ◌∙◌, arith, ◌-◌, take, drop}
-use Rattle.net_storage.specs.Ring.{queue, queue_index, contiguous_queued_from, written}
-use Rattle.net_storage.specs.Packets.{only_last, first_size, last_written, last_bytes}
+use Rattle.net_storage.specs.Ring.{queue, queue_index, contiguous_queued_from, with_elements}
+use Rattle.net_storage.specs.Packets.{only_last, first_size, with_last_bytes, last_bytes}
 use Rattle.net_storage.specs.PacketSlots.{packet_queue, packets_in}
 use Rattle.net_storage.proofs.PacketSteps.{end_held, end_run, end_place, written_holds}
 use Rattle.net_storage.proofs.packet_buffer.Packets.last_part_mut.Goals as goal
@@ -24,7 +24,7 @@ returns g c =
     let from = ap₂ ◌-◌ c.len.ensures.count k in
     let count = c.get_allocated_mut.ensures.count ∙ ap₂ (contiguous_queued_from b) from k ∙ end_run m b c.self.invariant in
     let at = ap (queue_index b) from ∙ end_place m b c.self.invariant in (
-      (refl, λ w. ap (λ p. packet_queue m (written b p w)) at ∙ ap (λ q. last_written q w) c.self.view_is),
+      (refl, λ w. ap (λ p. packet_queue m (with_elements b p w)) at ∙ ap (λ q. with_last_bytes q w) c.self.view_is),
       record {
         writes_back = tt;
         value = c.get_allocated_mut.ensures.stored ∙ ap₂ (λ n p. take n (drop p b.storage)) count at ∙ ap last_bytes c.self.view_is;

@@ -1,5 +1,5 @@
 use Rattle.std.proofs.Common.{◌≡◌, ◌∷◌, ◌++◌, ◌∙◌, ℕ, List, length, min, take, drop, sym, ap}
-use Rattle.net_storage.specs.Packets.{dequeued, freed_place, freed_bytes, with_bytes}
+use Rattle.net_storage.specs.Packets.{without_first_and_gap, freed_place, freed_bytes, with_bytes}
 use Rattle.net_storage.specs.PacketHistory.{contents, front_bytes}
 use Rattle.net_storage.proofs.PacketRuns.{freed_stay, copied_whole}
 use Rattle.net_storage.proofs.packet_buffer.Packets.pop_slice.Goals as goal
@@ -16,11 +16,11 @@ returns-clause-popped g c =
     let h = c.in_ok-header.header in
     let size = c.in_ok-header.size in
     let bytes = c.freed_mut.result.now in
-    let is : r ≡ dequeued q = c.in_ok-header.ensures.dequeued in
-    let left : with_bytes r (freed_place r size) bytes ≡ dequeued q = freed_stay r size bytes c.freed_mut.ensures.value ∙ is in
-    let shown : contents q ≡ (h, bytes) ∷ contents (dequeued q) =
+    let is : r ≡ without_first_and_gap q = c.in_ok-header.ensures.dequeued in
+    let left : with_bytes r (freed_place r size) bytes ≡ without_first_and_gap q = freed_stay r size bytes c.freed_mut.ensures.value ∙ is in
+    let shown : contents q ≡ (h, bytes) ∷ contents (without_first_and_gap q) =
     c.in_ok-header.ensures.taken ∙ ap (λ o. (h, freed_bytes r size) ∷ contents o) is
-    ∙ ap (λ (l : List ℕ). (h, l) ∷ contents (dequeued q)) (sym c.freed_mut.ensures.value) in
+    ∙ ap (λ (l : List ℕ). (h, l) ∷ contents (without_first_and_gap q)) (sym c.freed_mut.ensures.value) in
     record {
       bytes = bytes;
       first = shown ∙ ap (λ o. (h, bytes) ∷ contents o) (sym left);
@@ -36,11 +36,11 @@ returns-clause-count g c =
     let h = c.in_ok-header.header in
     let size = c.in_ok-header.size in
     let bytes = c.freed_mut.result.now in
-    let is : r ≡ dequeued q = c.in_ok-header.ensures.dequeued in
-    let shown : contents q ≡ (h, bytes) ∷ contents (dequeued q) =
+    let is : r ≡ without_first_and_gap q = c.in_ok-header.ensures.dequeued in
+    let shown : contents q ≡ (h, bytes) ∷ contents (without_first_and_gap q) =
     c.in_ok-header.ensures.taken ∙ ap (λ o. (h, freed_bytes r size) ∷ contents o) is
-    ∙ ap (λ (l : List ℕ). (h, l) ∷ contents (dequeued q)) (sym c.freed_mut.ensures.value) in
-    let first : contents q ≡ (h, bytes) ∷ contents (dequeued q) = shown in
+    ∙ ap (λ (l : List ℕ). (h, l) ∷ contents (without_first_and_gap q)) (sym c.freed_mut.ensures.value) in
+    let first : contents q ≡ (h, bytes) ∷ contents (without_first_and_gap q) = shown in
     let front : bytes ≡ front_bytes (contents q) = sym (ap front_bytes first) in
     c.copy-count.ensures.count ∙ ap (λ (l : List ℕ). min (length l) (length c.args.into.now)) front
 
@@ -51,11 +51,11 @@ returns-clause-bytes g c =
     let h = c.in_ok-header.header in
     let size = c.in_ok-header.size in
     let bytes = c.freed_mut.result.now in
-    let is : r ≡ dequeued q = c.in_ok-header.ensures.dequeued in
-    let shown : contents q ≡ (h, bytes) ∷ contents (dequeued q) =
+    let is : r ≡ without_first_and_gap q = c.in_ok-header.ensures.dequeued in
+    let shown : contents q ≡ (h, bytes) ∷ contents (without_first_and_gap q) =
     c.in_ok-header.ensures.taken ∙ ap (λ o. (h, freed_bytes r size) ∷ contents o) is
-    ∙ ap (λ (l : List ℕ). (h, l) ∷ contents (dequeued q)) (sym c.freed_mut.ensures.value) in
-    let first : contents q ≡ (h, bytes) ∷ contents (dequeued q) = shown in
+    ∙ ap (λ (l : List ℕ). (h, l) ∷ contents (without_first_and_gap q)) (sym c.freed_mut.ensures.value) in
+    let first : contents q ≡ (h, bytes) ∷ contents (without_first_and_gap q) = shown in
     let front : bytes ≡ front_bytes (contents q) = sym (ap front_bytes first) in
     c.copy-count.ensures.copied ∙ ap (λ (l : List ℕ). take c.copy-count.result l ++ drop c.copy-count.result c.args.into.now) front
 
@@ -66,11 +66,11 @@ returns-clause-whole g c =
     let h = c.in_ok-header.header in
     let size = c.in_ok-header.size in
     let bytes = c.freed_mut.result.now in
-    let is : r ≡ dequeued q = c.in_ok-header.ensures.dequeued in
-    let shown : contents q ≡ (h, bytes) ∷ contents (dequeued q) =
+    let is : r ≡ without_first_and_gap q = c.in_ok-header.ensures.dequeued in
+    let shown : contents q ≡ (h, bytes) ∷ contents (without_first_and_gap q) =
     c.in_ok-header.ensures.taken ∙ ap (λ o. (h, freed_bytes r size) ∷ contents o) is
-    ∙ ap (λ (l : List ℕ). (h, l) ∷ contents (dequeued q)) (sym c.freed_mut.ensures.value) in
-    let first : contents q ≡ (h, bytes) ∷ contents (dequeued q) = shown in
+    ∙ ap (λ (l : List ℕ). (h, l) ∷ contents (without_first_and_gap q)) (sym c.freed_mut.ensures.value) in
+    let first : contents q ≡ (h, bytes) ∷ contents (without_first_and_gap q) = shown in
     let front : bytes ≡ front_bytes (contents q) = sym (ap front_bytes first) in
     λ long.
     let same : length bytes ≡ length c.args.into.now = ap length front ∙ long in
@@ -83,11 +83,11 @@ returns-clause-left g c =
     let h = c.in_ok-header.header in
     let size = c.in_ok-header.size in
     let bytes = c.freed_mut.result.now in
-    let is : r ≡ dequeued q = c.in_ok-header.ensures.dequeued in
-    let left : with_bytes r (freed_place r size) bytes ≡ dequeued q = freed_stay r size bytes c.freed_mut.ensures.value ∙ is in
-    let shown : contents q ≡ (h, bytes) ∷ contents (dequeued q) =
+    let is : r ≡ without_first_and_gap q = c.in_ok-header.ensures.dequeued in
+    let left : with_bytes r (freed_place r size) bytes ≡ without_first_and_gap q = freed_stay r size bytes c.freed_mut.ensures.value ∙ is in
+    let shown : contents q ≡ (h, bytes) ∷ contents (without_first_and_gap q) =
     c.in_ok-header.ensures.taken ∙ ap (λ o. (h, freed_bytes r size) ∷ contents o) is
-    ∙ ap (λ (l : List ℕ). (h, l) ∷ contents (dequeued q)) (sym c.freed_mut.ensures.value) in
-    let first : contents q ≡ (h, bytes) ∷ contents (dequeued q) = shown in
+    ∙ ap (λ (l : List ℕ). (h, l) ∷ contents (without_first_and_gap q)) (sym c.freed_mut.ensures.value) in
+    let first : contents q ≡ (h, bytes) ∷ contents (without_first_and_gap q) = shown in
     let front : bytes ≡ front_bytes (contents q) = sym (ap front_bytes first) in
     ap contents left ∙ ap (drop 1) (sym first)

@@ -1,7 +1,7 @@
 use Rattle.std.proofs.Common.{◌≡◌, sym, ap, ◌∙◌, subst, drop, rules}
 use Rattle.std.specs.declared.option.Option.TheVariants.{Some, None}
 use Rattle.net_storage.specs.Ring.{queue, with_dequeued, WellFormed}
-use Rattle.net_storage.specs.Packets.{first_gap, dequeued, IsFirstSized}
+use Rattle.net_storage.specs.Packets.{first_gap, without_first_and_gap, IsFirstSized}
 use Rattle.net_storage.specs.PacketSlots.{packet_queue, packets_in, slot, Holds}
 use Rattle.net_storage.proofs.PacketFacts.{off_wf}
 use Rattle.net_storage.proofs.PacketSteps.{close_gap, front_slot, front_long, pop_holds, closed}
@@ -34,7 +34,7 @@ pub returns-clause-taken : goal.returns-clause-taken
 returns-clause-taken g c =
     let q = c.args.self.now in
     let n = packet_queue c.dequeue_allocated.new.self c.dequeue_allocated-2.new.self in
-    let is : n ≡ dequeued q = search rules in
+    let is : n ≡ without_first_and_gap q = search rules in
     let first : IsFirstSized q.packets c.in_ok-size.header c.in_ok-size.size = search rules in
     taken_as q c.skip.ensures.well_placed c.in_ok-size.header c.in_ok-size.size first n (search is)
 
@@ -42,5 +42,5 @@ pub returns-clause-left : goal.returns-clause-left
 returns-clause-left g c =
     let q = c.args.self.now in
     let n = packet_queue c.dequeue_allocated.new.self c.dequeue_allocated-2.new.self in
-    let is : n ≡ dequeued q = search rules in
+    let is : n ≡ without_first_and_gap q = search rules in
     left_as q c.skip.ensures.well_placed n (search is)

@@ -1,11 +1,11 @@
 use Rattle.std.proofs.Common.{◌≡◌, ◌∙◌, refl, ap, min, arith}
-use Rattle.net_storage.specs.Ring.{restarted, contiguous_window, storage_index}
+use Rattle.net_storage.specs.Ring.{from_start_if_empty, contiguous_window, storage_index}
 use Rattle.net_storage.proofs.RingFacts.{well, left_in, shown_next, enqueued_law, contiguous_restarted_some}
 use Rattle.net_storage.proofs.ring_buffer.Ring.enqueue_many.Goals as goal
 
 pub returns : goal.returns
 returns g c =
-    let old = restarted c.args.self.now in
+    let old = from_start_if_empty c.args.self.now in
     let is = c.self.view_is ∙ c.restart.ensures.ring in
     let k = c.min-count.result in
     let room : c.contiguous_window.result ≡ contiguous_window old = c.contiguous_window.ensures.count ∙ ap contiguous_window is in

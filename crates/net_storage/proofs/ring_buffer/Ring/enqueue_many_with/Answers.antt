@@ -1,13 +1,13 @@
 use Rattle.std.proofs.Common.{◌≡◌, take, refl, ap, ◌∙◌, arith}
 use Rattle.std.specs.Fn.{FnOnceReturnsAtMut}
 use denote.MutBor.{at_last}
-use Rattle.net_storage.specs.Ring.{restarted, storage_index, capacity, spare, contiguous_window}
+use Rattle.net_storage.specs.Ring.{from_start_if_empty, storage_index, capacity, spare, contiguous_window}
 use Rattle.net_storage.proofs.RingFacts.{well, in_wf, lent_next, left_in_from}
 use Rattle.net_storage.proofs.ring_buffer.Ring.enqueue_many_with.Goals as goal
 
 pub f-answer-requires : goal.f-answer-requires
 f-answer-requires g c =
-    let old = restarted c.args.self.now in
+    let old = from_start_if_empty c.args.self.now in
     let is = c.self.view_is ∙ c.restart.ensures.ring in
     let at = c.storage_index-from.ensures.index ∙ ap (λ o. storage_index o c.self.inside.length) c.restart.ensures.ring
     ∙ ap (λ o. storage_index old o.count) is in
@@ -16,7 +16,7 @@ f-answer-requires g c =
 
 pub overflow_add-self : goal.overflow_add-self
 overflow_add-self g c =
-    let old = restarted c.args.self.now in
+    let old = from_start_if_empty c.args.self.now in
     let is = c.self.view_is ∙ c.restart.ensures.ring in
     let at = c.storage_index-from.ensures.index ∙ ap (λ o. storage_index o c.self.inside.length) c.restart.ensures.ring
     ∙ ap (λ o. storage_index old o.count) is in
@@ -43,7 +43,7 @@ overflow_add-self g c =
 
 pub invariant_of-self : goal.invariant_of-self
 invariant_of-self g c =
-    let old = restarted c.args.self.now in
+    let old = from_start_if_empty c.args.self.now in
     let is = c.self.view_is ∙ c.restart.ensures.ring in
     let at = c.storage_index-from.ensures.index ∙ ap (λ o. storage_index o c.self.inside.length) c.restart.ensures.ring
     ∙ ap (λ o. storage_index old o.count) is in
@@ -62,7 +62,7 @@ invariant_of-self g c =
 
 pub returns : goal.returns
 returns g c =
-    let old = restarted c.args.self.now in
+    let old = from_start_if_empty c.args.self.now in
     let is = c.self.view_is ∙ c.restart.ensures.ring in
     let at = c.storage_index-from.ensures.index ∙ ap (λ o. storage_index o c.self.inside.length) c.restart.ensures.ring
     ∙ ap (λ o. storage_index old o.count) is in

@@ -1,6 +1,6 @@
 use Rattle.std.proofs.Common.{rules, Bool, true, false, ◌≡◌, ◌≢◌, ◌∷◌, [], refl, ap, sym, ◌∙◌, is_ok, if◌then◌else◌, slice_index_or, arith}
 use denote.MutBor.{at_last}
-use Rattle.net_storage.specs.Ring.{RingState, write_at, storage_index, window, with_enqueued, written}
+use Rattle.net_storage.specs.Ring.{RingState, write_at, storage_index, window, with_enqueued, with_elements}
 use Rattle.net_storage.specs.Overwrite.{overwrite}
 use Rattle.net_storage.proofs.RingFacts.{well, spare_front, next_either, ring_is}
 use Rattle.net_storage.proofs.ring_buffer.Ring.enqueue_one_with.Goals as goal
@@ -32,8 +32,8 @@ returns-clause-called g c =
     let read = ap (λ o. o.read_at) is in
     let held = ap (λ o. o.count) is in
     let stored = law ∙ ap (λ o. overwrite o.storage c.storage_index-at.result (y ∷ [])) is ∙ ap (λ p. overwrite old.storage p (y ∷ [])) at in
-    let after : Bool → RingState _ = λ t. written (if t then with_enqueued 1 old else old) (write_at old) (y ∷ []) in
-    let left : c.if-is_ok.self ≡ written (if is_ok c.f-answer.result then with_enqueued 1 old else old) (write_at old) (y ∷ []) = elim c.if-is_ok.branch [
+    let after : Bool → RingState _ = λ t. with_elements (if t then with_enqueued 1 old else old) (write_at old) (y ∷ []) in
+    let left : c.if-is_ok.self ≡ with_elements (if is_ok c.f-answer.result then with_enqueued 1 old else old) (write_at old) (y ∷ []) = elim c.if-is_ok.branch [
       | then-is_ok w ↦ ring_is _ (after true) (ap (λ o. o.storage) w.self-is ∙ stored) (omega (arith, ap (λ o. o.read_at) w.self-is, read)) (omega (arith, ap (λ o. o.count) w.self-is, held)) ∙ ap after (sym (sym c.is_ok.ensures.value ∙ w.if-is_ok.true))
       | else-is_ok w ↦ ring_is _ (after false) (ap (λ o. o.storage) w.self-is ∙ stored) (omega (arith, ap (λ o. o.read_at) w.self-is, read)) (omega (arith, ap (λ o. o.count) w.self-is, held)) ∙ ap after (sym (sym c.is_ok.ensures.value ∙ w.if-is_ok.false))
     ] in

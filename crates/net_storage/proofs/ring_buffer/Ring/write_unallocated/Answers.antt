@@ -1,12 +1,12 @@
 use Rattle.std.proofs.Common.{rules, ◌≡◌, ◌∙◌, ap, ◌-◌, take, drop, arith, ℕ, List, length}
-use Rattle.net_storage.specs.Ring.{RingState, capacity, storage_index, spare_index, written_wrapping}
+use Rattle.net_storage.specs.Ring.{RingState, capacity, storage_index, spare_index, with_elements_wrapping}
 use Rattle.net_storage.specs.Overwrite.{overwrite}
 use Rattle.net_storage.proofs.Rotations.{length-overwrite}
 use Rattle.net_storage.proofs.RingFacts.{wrapping_clause, once_clause, ahead_clause, once_wf, twice_wf}
 use Rattle.net_storage.proofs.ring_buffer.Ring.write_unallocated.Goals as goal
 
 -- what is written changes neither the count nor the capacity
-same_after : {T : Type 0} (g h : RingState T) (p : ℕ) (ws : List T) → h ≡ written_wrapping g p ws → (h.count ≡ g.count) × (capacity h ≡ capacity g)
+same_after : {T : Type 0} (g h : RingState T) (p : ℕ) (ws : List T) → h ≡ with_elements_wrapping g p ws → (h.count ≡ g.count) × (capacity h ≡ capacity g)
 same_after g h p ws e = (
   ap (λ o. o.count) e,
   ap capacity e ∙ length-overwrite (overwrite g.storage p ws) 0 (drop (length g.storage - p) ws) ∙

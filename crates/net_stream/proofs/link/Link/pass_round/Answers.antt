@@ -3,15 +3,15 @@ use Rattle.net_storage.specs.Positions.{maximal_runs}
 use Rattle.net_receiver.specs.Stored.{stored_next, domain}
 use Rattle.net_stream.specs.Outgoing.{end_of}
 use Rattle.net_stream.specs.Frames.{frames_from}
-use Rattle.net_stream.specs.Reported.{unreported, most_reported, listed}
-use Rattle.net_stream.specs.Counting.{met_all, SameButRefused, carrying}
+use Rattle.net_stream.specs.Reported.{count_outside, most_reported, range_bytes}
+use Rattle.net_stream.specs.Counting.{with_fates, SameButRefused, with_payload}
 use Rattle.net_stream.specs.declared.counts.FrameCounts.{FrameCounts}
 use Rattle.net_stream.specs.Fates.{FatesSeen, after_all, NextCome}
 use Rattle.net_stream.specs.Carrying.{PathSeen, IsUnderWay, answer_of}
 use Rattle.net_stream.specs.Sending.{most_of}
 use Rattle.net_stream.specs.Links.{next_flight}
-use Rattle.net_stream.specs.Progress.{Reaches, HasRoom, acked_all}
-use Rattle.net_stream.specs.Passing.{coming_of, late_of, brought, answers_of}
+use Rattle.net_stream.specs.Progress.{Reaches, HasRoom, after_ack_frames}
+use Rattle.net_stream.specs.Passing.{coming_of, late_of, receiver_after_all, answers_of}
 use Rattle.net_stream.proofs.Meeting.{brought_append, answers_append}
 use Rattle.net_stream.proofs.Carried.{answered}
 use Rattle.net_stream.proofs.Reached.{acked_append, room_same, sent_reaches, first_is, all_keep_end}
@@ -53,25 +53,25 @@ returns-clause-carries g c = λ f w h.
     c.pass_acks.ensures.carried f w r there (c.pass_late_acks.ensures.carried f w r there told)
 
 -- what a round counts, once n frames have met their fates
-framed : (bytes n : ℕ) (t0 t1 : PathSeen) (v : FatesSeen) (c c1 c2 c3 : FrameCounts) → t1.fates ≡ t0.fates → c1 ≡ carrying bytes c → SameButRefused c2 c1 → v ≡ t1.fates → SameButRefused c3 (met_all n v c2) →
-    SameButRefused c3 (met_all n t0.fates (carrying bytes c))
+framed : (bytes n : ℕ) (t0 t1 : PathSeen) (v : FatesSeen) (c c1 c2 c3 : FrameCounts) → t1.fates ≡ t0.fates → c1 ≡ with_payload bytes c → SameButRefused c2 c1 → v ≡ t1.fates → SameButRefused c3 (with_fates n v c2) →
+    SameButRefused c3 (with_fates n t0.fates (with_payload bytes c))
 framed bytes n t0 t1 v c c1 c2 c3 same carried late fates met =
-    let d = carrying bytes c in
-    met ∙ same_met n v c2 d (late ∙ same_equal c1 d carried) ∙ ap (λ u. record (met_all n u d) { refused = 0 }) (fates ∙ same)
+    let d = with_payload bytes c in
+    met ∙ same_met n v c2 d (late ∙ same_equal c1 d carried) ∙ ap (λ u. record (with_fates n u d) { refused = 0 }) (fates ∙ same)
 
 pub returns-in_err-transmit-clause-err : goal.returns-in_err-transmit-clause-err
 returns-in_err-transmit-clause-err g c =
     let s = c.args.self.now.sender in
     let front = c.in_err-transmit.ensures.err in
-    let bytes = unreported s.reported s.base front.0 in
-    OnErr-always c.from_residual.result (record { bytes = bytes; frames = 0; acks = 0; counted = same_equal c.transmit.new.counts (carrying bytes c.args.self.now.counts) front.2 })
+    let bytes = count_outside s.reported s.base front.0 in
+    OnErr-always c.from_residual.result (record { bytes = bytes; frames = 0; acks = 0; counted = same_equal c.transmit.new.counts (with_payload bytes c.args.self.now.counts) front.2 })
 
 pub returns-in_err-pass_late_frames-clause-err : goal.returns-in_err-pass_late_frames-clause-err
 returns-in_err-pass_late_frames-clause-err g c =
     let s = c.args.self.now.sender in
-    let bytes = unreported s.reported s.base c.in_ok-transmit.ensures.sent.0 in
+    let bytes = count_outside s.reported s.base c.in_ok-transmit.ensures.sent.0 in
     OnErr-always c.from_residual-in_err-pass_late_frames.result
-    (record { bytes = bytes; frames = 0; acks = 0; counted = c.pass_late_frames.ensures.counted ∙ same_equal c.transmit.new.counts (carrying bytes c.args.self.now.counts) c.in_ok-transmit.ensures.sent.2 })
+    (record { bytes = bytes; frames = 0; acks = 0; counted = c.pass_late_frames.ensures.counted ∙ same_equal c.transmit.new.counts (with_payload bytes c.args.self.now.counts) c.in_ok-transmit.ensures.sent.2 })
 
 pub returns-in_err-pass_frames-clause-err : goal.returns-in_err-pass_frames-clause-err
 returns-in_err-pass_frames-clause-err g c =
@@ -80,10 +80,10 @@ returns-in_err-pass_frames-clause-err g c =
     let met = c.in_err-pass_frames.ensures.err in
     OnErr-always c.from_residual-in_err-pass_frames.result
     (record {
-      bytes = unreported s.reported s.base c.in_ok-transmit.ensures.sent.0;
+      bytes = count_outside s.reported s.base c.in_ok-transmit.ensures.sent.0;
       frames = met.0;
       acks = 0;
-      counted = framed (unreported s.reported s.base c.in_ok-transmit.ensures.sent.0) met.0 c.args.self.now.there c.transmit.new.there c.pass_late_frames.new.there.fates c.args.self.now.counts c.transmit.new.counts c.pass_late_frames.new.counts c.pass_frames.new.counts (ap (λ p. p.fates) c.in_ok-transmit.ensures.sent.1.front.sent) c.in_ok-transmit.ensures.sent.2 late.counted late.fates met.1;
+      counted = framed (count_outside s.reported s.base c.in_ok-transmit.ensures.sent.0) met.0 c.args.self.now.there c.transmit.new.there c.pass_late_frames.new.there.fates c.args.self.now.counts c.transmit.new.counts c.pass_late_frames.new.counts c.pass_frames.new.counts (ap (λ p. p.fates) c.in_ok-transmit.ensures.sent.1.front.sent) c.in_ok-transmit.ensures.sent.2 late.counted late.fates met.1;
     })
 
 pub returns-in_err-answer-clause-err : goal.returns-in_err-answer-clause-err
@@ -93,10 +93,10 @@ returns-in_err-answer-clause-err g c =
     let t2 = c.pass_late_frames.new.there in
     OnErr-always c.from_residual-in_err-answer.result
     (record {
-      bytes = unreported s.reported s.base c.in_ok-transmit.ensures.sent.0;
+      bytes = count_outside s.reported s.base c.in_ok-transmit.ensures.sent.0;
       frames = length t2.ahead;
       acks = 0;
-      counted = framed (unreported s.reported s.base c.in_ok-transmit.ensures.sent.0) (length t2.ahead) c.args.self.now.there c.transmit.new.there t2.fates c.args.self.now.counts c.transmit.new.counts c.pass_late_frames.new.counts c.pass_frames.new.counts (ap (λ p. p.fates) c.in_ok-transmit.ensures.sent.1.front.sent) c.in_ok-transmit.ensures.sent.2 late.counted late.fates c.in_ok-pass_frames.ensures.counted;
+      counted = framed (count_outside s.reported s.base c.in_ok-transmit.ensures.sent.0) (length t2.ahead) c.args.self.now.there c.transmit.new.there t2.fates c.args.self.now.counts c.transmit.new.counts c.pass_late_frames.new.counts c.pass_frames.new.counts (ap (λ p. p.fates) c.in_ok-transmit.ensures.sent.1.front.sent) c.in_ok-transmit.ensures.sent.2 late.counted late.fates c.in_ok-pass_frames.ensures.counted;
     })
 
 pub returns-in_err-pass_acks-clause-err : goal.returns-in_err-pass_acks-clause-err
@@ -106,16 +106,16 @@ returns-in_err-pass_acks-clause-err g c =
     let t2 = c.pass_late_frames.new.there in
     let b4 = c.pass_late_acks.new.back in
     let late = c.pass_late_frames.ensures in
-    let bytes = unreported s.reported s.base c.in_ok-transmit.ensures.sent.0 in
-    let frames = met_all (length t2.ahead) c.args.self.now.there.fates (carrying bytes c.args.self.now.counts) in
-    let there = framed (unreported s.reported s.base c.in_ok-transmit.ensures.sent.0) (length t2.ahead) c.args.self.now.there c.transmit.new.there t2.fates c.args.self.now.counts c.transmit.new.counts c.pass_late_frames.new.counts c.pass_frames.new.counts (ap (λ p. p.fates) c.in_ok-transmit.ensures.sent.1.front.sent) c.in_ok-transmit.ensures.sent.2 late.counted late.fates c.in_ok-pass_frames.ensures.counted in
+    let bytes = count_outside s.reported s.base c.in_ok-transmit.ensures.sent.0 in
+    let frames = with_fates (length t2.ahead) c.args.self.now.there.fates (with_payload bytes c.args.self.now.counts) in
+    let there = framed (count_outside s.reported s.base c.in_ok-transmit.ensures.sent.0) (length t2.ahead) c.args.self.now.there c.transmit.new.there t2.fates c.args.self.now.counts c.transmit.new.counts c.pass_late_frames.new.counts c.pass_frames.new.counts (ap (λ p. p.fates) c.in_ok-transmit.ensures.sent.1.front.sent) c.in_ok-transmit.ensures.sent.2 late.counted late.fates c.in_ok-pass_frames.ensures.counted in
     let back : b4.fates ≡ c.args.self.now.back.fates = c.pass_late_acks.ensures.fates ∙ ap (λ p. p.fates) c.in_ok-answer.ensures.ok ∙ c.pass_frames.ensures.fates ∙ late.back_fates in
     OnErr-always c.from_residual-in_err-pass_acks.result
     (record {
       bytes = bytes;
       frames = length t2.ahead;
       acks = acked.0;
-      counted = acked.1 ∙ same_met acked.0 b4.fates c.pass_frames.new.counts frames there ∙ ap (λ v. record (met_all acked.0 v frames) { refused = 0 }) back;
+      counted = acked.1 ∙ same_met acked.0 b4.fates c.pass_frames.new.counts frames there ∙ ap (λ v. record (with_fates acked.0 v frames) { refused = 0 }) back;
     })
 
 pub returns-clause-round : goal.returns-clause-round
@@ -147,7 +147,7 @@ returns-clause-round g c =
     let old : t1.late ≡ t0.late = ap (λ p. p.late) sent.sent in
     let come = coming_of t0.fates t1.ahead in
     let coming : coming_of t2.fates t2.ahead ≡ come = (λ i. coming_of (fates i) (late.ahead i)) in
-    let here : r1 ≡ brought N r0 t0.late = ok_late.brought ∙ ap (brought N r0) old in
+    let here : r1 ≡ receiver_after_all N r0 t0.late = ok_late.brought ∙ ap (receiver_after_all N r0) old in
     let back : b4.fates ≡ b0.fates = c.pass_late_acks.ensures.fates ∙ ap (λ p. p.fates) told ∙ c.pass_frames.ensures.fates ∙ late.back_fates in
     let back_late : b3.late ≡ b0.late = ap (λ p. p.late) told ∙ ok_frames.back_late ∙ ok_late.back_late in
     let more : b2.ahead ≡ b0.ahead ++ answers_of N r0 (t0.late ++ come) =
@@ -156,12 +156,12 @@ returns-clause-round g c =
     ∙ append_assoc b0.ahead (answers_of N r0 t1.late) (answers_of N r1 come)
     ∙ (λ i. b0.ahead ++ (answers_of N r0 (old i) ++ answers_of N (here i) come))
     ∙ ap (λ l. b0.ahead ++ l) (sym (answers_append N r0 t0.late come)) in
-    let bytes = carrying (unreported s.reported s.base c.in_ok-transmit.ensures.sent.0) c.args.self.now.counts in
-    let framed' = framed (unreported s.reported s.base n) (length t2.ahead) t0 t1 t2.fates c.args.self.now.counts c.transmit.new.counts c.pass_late_frames.new.counts c.pass_frames.new.counts (ap (λ p. p.fates) sent.sent) c.in_ok-transmit.ensures.sent.2 late.counted late.fates ok_frames.counted in
-    let counted : SameButRefused c.pass_acks.new.counts (met_all (length b4.ahead) b0.fates (met_all (length t1.ahead) t0.fates bytes)) =
+    let bytes = with_payload (count_outside s.reported s.base c.in_ok-transmit.ensures.sent.0) c.args.self.now.counts in
+    let framed' = framed (count_outside s.reported s.base n) (length t2.ahead) t0 t1 t2.fates c.args.self.now.counts c.transmit.new.counts c.pass_late_frames.new.counts c.pass_frames.new.counts (ap (λ p. p.fates) sent.sent) c.in_ok-transmit.ensures.sent.2 late.counted late.fates ok_frames.counted in
+    let counted : SameButRefused c.pass_acks.new.counts (with_fates (length b4.ahead) b0.fates (with_fates (length t1.ahead) t0.fates bytes)) =
     acks.counted
-    ∙ same_met (length b4.ahead) b4.fates c.pass_frames.new.counts (met_all (length t2.ahead) t0.fates bytes) framed'
-    ∙ (λ i. record (met_all (length b4.ahead) (back i) (met_all (length (late.ahead i)) t0.fates bytes)) { refused = 0 }) in
+    ∙ same_met (length b4.ahead) b4.fates c.pass_frames.new.counts (with_fates (length t2.ahead) t0.fates bytes) framed'
+    ∙ (λ i. record (with_fates (length b4.ahead) (back i) (with_fates (length (late.ahead i)) t0.fates bytes)) { refused = 0 }) in
     record {
       passed = record {
         sent = t1;
@@ -169,10 +169,10 @@ returns-clause-round g c =
         all = round;
         came = t0.late ++ come;
         coming = refl;
-        received = ok_frames.brought ∙ (λ i. brought N (here i) (coming i)) ∙ sym (brought_append N r0 t0.late come);
+        received = ok_frames.brought ∙ (λ i. receiver_after_all N (here i) (coming i)) ∙ sym (brought_append N r0 t0.late come);
         acks = b4.ahead;
         answers = c.pass_late_acks.ensures.ahead ∙ ap (λ p. p.ahead) told ∙ ap (λ l. l ++ answer_of r2 ∷ []) more;
-        acked = acks.came ∙ (λ i. acked_all (c.pass_late_acks.ensures.came i) (coming_of (back i) b4.ahead)) ∙ ap (λ l. acked_all (acked_all s l) (coming_of b0.fates b4.ahead)) back_late ∙ sym (acked_append s b0.late (coming_of b0.fates b4.ahead));
+        acked = acks.came ∙ (λ i. after_ack_frames (c.pass_late_acks.ensures.came i) (coming_of (back i) b4.ahead)) ∙ ap (λ l. after_ack_frames (after_ack_frames s l) (coming_of b0.fates b4.ahead)) back_late ∙ sym (acked_append s b0.late (coming_of b0.fates b4.ahead));
         left = λ i. record { ahead = ok_frames.none i; late = (ok_frames.returned ∙ (λ j. ok_late.none j ++ late_of (late.fates j) (late.ahead j))) i; fates = (ok_frames.left ∙ (λ j. after_all (length (late.ahead j)) (late.fates j))) i };
         counted = counted;
         payload = refl;
@@ -203,10 +203,10 @@ returns-clause-round g c =
           let come2 : NextCome (length b4.ahead) b4.fates = subst (NextCome (length b4.ahead)) (sym back) come_back in
           let last : b4.ahead ≡ c.pass_frames.new.back.ahead ++ answer_of r2 ∷ [] = c.pass_late_acks.ensures.ahead ∙ ap (λ p. p.ahead) told in
           let small : stored_next r2 < 2 ^ 64 = omega (arith, below, word) in
-          let is : c.pass_acks.new.sender ≡ acked_all s4 (c.pass_frames.new.back.ahead ++ answer_of r2 ∷ []) = acks.acked come2 ∙ ap (acked_all s4) last in
+          let is : c.pass_acks.new.sender ≡ after_ack_frames s4 (c.pass_frames.new.back.ahead ++ answer_of r2 ∷ []) = acks.acked come2 ∙ ap (after_ack_frames s4) last in
           let end4 : end_of s4 ≡ end_of s = c.pass_late_acks.ensures.end in
           let base : c.pass_acks.new.sender.base ≡ stored_next r2 =
-          ap (λ v. v.base) is ∙ acked_last c.round_trip.ensures s4 (stored_next r2) (listed (take most_reported (maximal_runs (domain r2.held)))) c.pass_frames.new.back.ahead (omega (arith, below, end4)) small (subst (λ v. v.base ≤ stored_next r2) is behind) in
+          ap (λ v. v.base) is ∙ acked_last c.round_trip.ensures s4 (stored_next r2) (range_bytes (take most_reported (maximal_runs (domain r2.held)))) c.pass_frames.new.back.ahead (omega (arith, below, end4)) small (subst (λ v. v.base ≤ stored_next r2) is behind) in
           let end5 : end_of c.pass_acks.new.sender ≡ end_of s = ap end_of is ∙ all_keep_end s4 (c.pass_frames.new.back.ahead ++ answer_of r2 ∷ []) ∙ end4 in
           (omega (arith, far, size), base, λ all. (let next : stored_next r2 ≡ end_of s = omega (arith, far, size, all, below) in next, omega (arith, base, end5, far, size, all)));
       all = all_sent s (most_of c.args.self.now.payload) (most_of c.args.self.now.flight) n t0 t1 round;

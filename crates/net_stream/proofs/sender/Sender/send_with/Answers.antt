@@ -3,7 +3,7 @@ use Rattle.std.proofs.lemmas.List.{append-nil}
 use Rattle.std.proofs.Math.Seq.{drop-append_seam}
 use Rattle.std.specs.Fn.{FnOnceReturnsAtMut}
 use denote.MutBor.{at_last}
-use Rattle.net_storage.specs.Ring.{capacity, queue, spare, written, spare_index}
+use Rattle.net_storage.specs.Ring.{capacity, queue, spare, with_elements, spare_index}
 use Rattle.net_stream.specs.Outgoing.{room_of, with_written, Sends}
 use Rattle.net_stream.proofs.Room.{lent_room, room_written, more_sent}
 use Rattle.net_stream.proofs.sender.Sender.send_with.Goals as goal
@@ -58,7 +58,7 @@ returns-clause-called g c =
       long ∙ lent.0,
       met,
       room_written ring c.self.inside.base c.self.inside.reported c.args.self.now restarted c.f-answer.result.0 ws
-          (written ring (spare_index ring 0) ws) c.enqueue_unallocated.new.self
+          (with_elements ring (spare_index ring 0) ws) c.enqueue_unallocated.new.self
           wrote c.enqueue_unallocated.ensures.enqueued whole (omega (arith, few, long, size)) within,
     )
 
