@@ -23,7 +23,8 @@ use Rattle.net_receiver.specs.Schedule.{State, Agrees, kept_after_all, Follows, 
 use Rattle.net_receiver.specs.Stored.{stored_reply, stored_after_all, setting, StandsFor, Stored}
 use Rattle.net_receiver.specs.Stored.{HeldBytes, domain, held_with_part, first_lacking, values_at}
 use Rattle.net_receiver.specs.Stored.{stored_next, by_stored, stored_read, stored_after}
-use Rattle.net_receiver.specs.Stored.{fresh_stored}
+use Rattle.net_receiver.specs.Stored.{fresh_stored, IsSound, StaysInSetting}
+use Rattle.net_receiver.specs.Segments.{KeepsOrRefuses, JoinsQueue}
 use Rattle.net_receiver.proofs.Whole.{ran}
 use Rattle.net_receiver.specs.OneStream.{SaysOfLonger, NoneSay, SegmentSays, ReadSays, ShowSays}
 use Rattle.net_receiver.specs.OneStream.{BothSay, EachSays, FreshReceivesFrom, AgreeingReceives}
@@ -139,42 +140,28 @@ splits_none : (q part : List ℕ) → length part ≡ 0 → q ≡ q ++ part ++ d
 splits_none q part e = grind (arith, common_steps)
 
 -- what a segment that begins at or below `next` comes to
-pub record InOrder (v : Stored) (xs : List ℕ) (u : Stored) (r : Result Kept TooManyHolesError) : Type 0 where
-  pub accepted : IsOk r
-  pub joins : IfOk r (λ k. k.kept ≤ k.queued)
-  pub queue : u.queue ≡ v.queue ++ xs ++ drop (length v.queue + length xs) u.queue
-
 pub in_order : (N : ℕ) (v u : Stored) (pos : ℕ) (xs : List ℕ) (r : Result Kept TooManyHolesError) →
     u ≡ state_after by_stored v (verdict by_stored N v (piece pos xs)) →
     r ≡ answer by_stored v (verdict by_stored N v (piece pos xs)) →
-    pos ≤ stored_next v → InOrder v (kept_of v pos xs) u r
+    pos ≤ stored_next v → JoinsQueue v (kept_of v pos xs) u r
 in_order N v u pos xs r state told h =
     let n = stored_next v in
     let part = clip n (v.first + v.read + v.capacity) (piece pos xs) in
     let at : part.start ≡ n = omega arith in
     let far = reaches v part at in
     let more = next_joined v part in
-    let all = follows_verdict (λ y. InOrder v part.bytes (state_after by_stored v y) (answer by_stored v y)) n N (domain v.held) part at
-    (λ none. record { accepted = refl; joins = omega arith; queue = splits_none v.queue part.bytes none })
+    let all = follows_verdict (λ y. JoinsQueue v part.bytes (state_after by_stored v y) (answer by_stored v y)) n N (domain v.held) part at
+    (λ none. record { accepted = refl; joins = omega arith; appends = splits_none v.queue part.bytes none })
     (λ some. record {
       accepted = refl;
       joins = omega arith;
-      queue = splits v.queue (values_at (held_with_part v part) n (first_lacking (held_with_part v part) n - n)) part.bytes
+      appends = splits v.queue (values_at (held_with_part v part) n (first_lacking (held_with_part v part) n - n)) part.bytes
           (values_of (held_with_part v part) part.bytes n (first_lacking (held_with_part v part) n - n) (omega arith) (λ q i b e is. laid_at v part q i b (omega arith) is));
     }) in
-    subst (λ z. InOrder v part.bytes z r) (sym state)
-    (subst (InOrder v part.bytes (state_after by_stored v (verdict by_stored N v (piece pos xs)))) (sym told) all)
+    subst (λ z. JoinsQueue v part.bytes z r) (sym state)
+    (subst (JoinsQueue v part.bytes (state_after by_stored v (verdict by_stored N v (piece pos xs)))) (sym told) all)
 
 -- what any segment comes to
-pub record AnyOrder (v : Stored) (xs : List ℕ) (u : Stored) (r : Result Kept TooManyHolesError) : Type 0 where
-  pub first : u.first ≡ v.first
-  pub capacity : u.capacity ≡ v.capacity
-  pub read : u.read ≡ v.read
-  pub refused : OnErr r (u ≡ v)
-  pub kept : IfOk r (λ k. k.kept ≡ length xs)
-  pub queued : IfOk r (λ k. stored_next u ≡ stored_next v + k.queued)
-  pub grows : stored_next v ≤ stored_next u
-
 pub any_verdict : (P : Verdict → Type 0) (n most : ℕ) (h : Positions) (part : Piece) →
     (length part.bytes ≡ 0 → P KeptNone) → P Refused → P (Keeps part) → P (verdict_of_part n most h part)
 any_verdict P n most h part empty refused keeps =
@@ -189,18 +176,18 @@ any_verdict P n most h part empty refused keeps =
 pub any_order : (N : ℕ) (v u : Stored) (pos : ℕ) (xs : List ℕ) (r : Result Kept TooManyHolesError) →
     u ≡ state_after by_stored v (verdict by_stored N v (piece pos xs)) →
     r ≡ answer by_stored v (verdict by_stored N v (piece pos xs)) →
-    AnyOrder v (kept_of v pos xs) u r
+    KeepsOrRefuses v (kept_of v pos xs) u r
 any_order N v u pos xs r state told =
     let n = stored_next v in
     let part = clip n (v.first + v.read + v.capacity) (piece pos xs) in
     let more = next_joined v part in
     let from = (first_lacking_is (held_with_part v part) n).from in
-    let all = any_verdict (λ y. AnyOrder v part.bytes (state_after by_stored v y) (answer by_stored v y)) n N (domain v.held) part
-    (λ none. record { first = refl; capacity = refl; read = refl; refused = tt; kept = sym none; queued = omega arith; grows = omega arith })
-    (record { first = refl; capacity = refl; read = refl; refused = refl; kept = tt; queued = tt; grows = omega arith })
-    (record { first = refl; capacity = refl; read = refl; refused = tt; kept = refl; queued = omega arith; grows = omega arith }) in
-    subst (λ z. AnyOrder v part.bytes z r) (sym state)
-    (subst (AnyOrder v part.bytes (state_after by_stored v (verdict by_stored N v (piece pos xs)))) (sym told) all)
+    let all = any_verdict (λ y. KeepsOrRefuses v part.bytes (state_after by_stored v y) (answer by_stored v y)) n N (domain v.held) part
+    (λ none. record { read = refl; refused = tt; kept = sym none; queued = omega arith; grows = omega arith })
+    (record { read = refl; refused = refl; kept = tt; queued = tt; grows = omega arith })
+    (record { read = refl; refused = tt; kept = refl; queued = omega arith; grows = omega arith }) in
+    subst (λ z. KeepsOrRefuses v part.bytes z r) (sym state)
+    (subst (KeepsOrRefuses v part.bytes (state_after by_stored v (verdict by_stored N v (piece pos xs)))) (sym told) all)
 
 -- ---- what makes the relations
 pub says_of_longer : SaysOfLonger
@@ -268,16 +255,18 @@ pub executed_keeps : {T E : Type 0} (P : Stored → Type 0) (r : Result T E) (v 
 executed_keeps P (Ok t) v u w ok err old new = subst P (sym ok) new
 executed_keeps P (Err e) v u w ok err old new = subst P (sym err) old
 
-pub executed_first : (N : ℕ) {T E : Type 0} (r : Result T E) (v u : Stored) (c : CommandSeen) →
-    IfOk r (λ _. u ≡ stored_after N v c) → OnErr r (u ≡ v) → u.first ≡ v.first
-executed_first N r v u c ok err = executed_keeps (λ (y : Stored). y.first ≡ v.first) r v u (stored_after N v c) ok err refl (first_stays N v c)
-
 pub capacity_stays : CapacityStays
 capacity_stays N v c = ap (λ w. w.capacity) (setting_kept N v c)
 
-pub executed_capacity : (N : ℕ) {T E : Type 0} (r : Result T E) (v u : Stored) (c : CommandSeen) →
-    IfOk r (λ _. u ≡ stored_after N v c) → OnErr r (u ≡ v) → u.capacity ≡ v.capacity
-executed_capacity N r v u c ok err = executed_keeps (λ (y : Stored). y.capacity ≡ v.capacity) r v u (stored_after N v c) ok err refl (capacity_stays N v c)
+-- what a command leaves of what was there, and a refusal of memory too
+pub stays : (N : ℕ) (v u : Stored) (c : CommandSeen) → u ≡ stored_after N v c → IsSound N u → StaysInSetting N v u
+stays N v u c e sound =
+    record { first = first_of N v u c e; capacity = ap (λ (y : Stored). y.capacity) e ∙ capacity_stays N v c; bound = sound.few }
+
+pub executed_stays : (N : ℕ) {T E : Type 0} (r : Result T E) (v u : Stored) (c : CommandSeen) →
+    IfOk r (λ _. u ≡ stored_after N v c) → OnErr r (u ≡ v) → IsSound N u → StaysInSetting N v u
+executed_stays N (Ok t) v u c ok err sound = stays N v u c ok sound
+executed_stays N (Err e) v u c ok err sound = stays N v u Show err sound
 
 one_run : (N : ℕ) (v : Stored) (c : CommandSeen) → Executed N v (stored_after N v c) (c ∷ []) (stored_reply N v c ∷ []) (IsTrue true)
 one_run N v c = record { front = record { count = 1; within = omega arith; whole = λ _. refl }; state = refl; answers = refl }
@@ -301,9 +290,18 @@ executed_bytes N f x seen (Ok t) v u c ok is from h =
     ∙ ap (λ (y : Stored). slice_range x v.read (stored_next y - y.first)) (sym ok)
 executed_bytes N f x seen (Err e) v u c ok is from h = tt
 
-pub capacity_kept : (most : ℕ) (v : Stored) (cs : List CommandSeen) → (stored_after_all most v cs).capacity ≡ v.capacity
+capacity_kept : (most : ℕ) (v : Stored) (cs : List CommandSeen) → (stored_after_all most v cs).capacity ≡ v.capacity
 capacity_kept most v [] = refl
 capacity_kept most v (c ∷ cs) = capacity_kept most (stored_after most v c) cs ∙ capacity_stays most v c
+
+pub run_stays : (N : ℕ) (v u : Stored) (cs : List CommandSeen) (rs : List ReplySeen) (complete : Type 0) →
+    Executed N v u cs rs complete → IsSound N u → StaysInSetting N v u
+run_stays N v u cs rs complete run sound =
+    record {
+      first = ap (λ (y : Stored). y.first) run.state ∙ first_kept N v (take run.front.count cs);
+      capacity = ap (λ (y : Stored). y.capacity) run.state ∙ capacity_kept N v (take run.front.count cs);
+      bound = sound.few;
+    }
 
 -- ---- segments that follow on one another
 pub reached :

@@ -6,7 +6,7 @@ ghost use Rattle.net_storage.specs.Positions.{runs};
 ghost use Rattle.net_receiver.specs.Rules.{Read, Gave};
 ghost use Rattle.net_receiver.specs.Schedule.{State, queue_bytes, kept_reply};
 ghost use Rattle.net_receiver.specs.Stored.{domain, stored_next, stored_read, stored_reply};
-ghost use Rattle.net_receiver.specs.Stored.{setting, Steps, StandsFor};
+ghost use Rattle.net_receiver.specs.Stored.{setting, StaysInSetting, Steps, StandsFor};
 ghost use Rattle.net_receiver.specs.Contiguous.{contiguous, contiguous_from, first_part};
 ghost use Rattle.net_receiver.specs.Contiguous.{second_part};
 ghost use Rattle.net_receiver.specs.OneStream.{ReceivesFrom};
@@ -27,9 +27,7 @@ impl<'a, const N: usize> Receiver<'a, N> {
             take (length into.old) self.old.queue ++ drop (length self.old.queue) into.old }
         ensures step { Steps N self.old self.new
             (Read (length into.old)) (Gave (take result into.new)) }
-        ensures bound { runs (domain self.new.held) ≤ N }
-        ensures first { self.new.first ≡ self.old.first }
-        ensures capacity { self.new.capacity ≡ self.old.capacity }
+        ensures setting { StaysInSetting N self.old self.new }
         ensures next { stored_next self.new ≡ stored_next self.old }
         ensures receives { (f : ℕ) (x : List ℕ) → ReceivesFrom f x self.old →
             ReceivesFrom f x self.new }
@@ -122,9 +120,7 @@ impl<'a, const N: usize> Receiver<'a, N> {
         ensures state { self.new ≡ stored_read self.old result.0 }
         ensures step { Steps N self.old self.new
             (Read result.0) (Gave (take result.0 self.old.queue)) }
-        ensures bound { runs (domain self.new.held) ≤ N }
-        ensures first { self.new.first ≡ self.old.first }
-        ensures capacity { self.new.capacity ≡ self.old.capacity }
+        ensures setting { StaysInSetting N self.old self.new }
         ensures next { stored_next self.new ≡ stored_next self.old }
         ensures receives { (f : ℕ) (x : List ℕ) → ReceivesFrom f x self.old →
             ReceivesFrom f x self.new }

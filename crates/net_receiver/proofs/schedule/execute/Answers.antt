@@ -1,16 +1,11 @@
 use Rattle.net_receiver.specs.Commands.{command_seen, reply_seen}
-use Rattle.net_receiver.proofs.Called.{executed_first, executed_capacity, executed_receives, executed_bytes}
+use Rattle.net_receiver.proofs.Called.{executed_stays, executed_receives, executed_bytes}
 use Rattle.net_receiver.proofs.schedule.execute.Goals as goal
 
-pub returns-clause-first : goal.returns-clause-first
-returns-clause-first g c =
-    executed_first g.row.N c.run-result.result c.args.receiver.now c.run-result.new.receiver
-    (command_seen c.args.command.now) c.run-result.ensures.state c.run-result.ensures.err
-
-pub returns-clause-capacity : goal.returns-clause-capacity
-returns-clause-capacity g c =
-    executed_capacity g.row.N c.run-result.result c.args.receiver.now c.run-result.new.receiver
-    (command_seen c.args.command.now) c.run-result.ensures.state c.run-result.ensures.err
+pub returns-clause-setting : goal.returns-clause-setting
+returns-clause-setting g c =
+    executed_stays g.row.N c.run-result.result c.args.receiver.now c.run-result.new.receiver
+    (command_seen c.args.command.now) c.run-result.ensures.state c.run-result.ensures.err c.is_sound.ensures
 
 pub returns-clause-receives : goal.returns-clause-receives
 returns-clause-receives g c =

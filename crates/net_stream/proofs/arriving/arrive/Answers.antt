@@ -70,7 +70,7 @@ returns-clause-carried g c = λ f w s there says carries.
     let back = c.args.back.now in
     let keeps : (p : ℕ) → Has v p → Has u p =
     λ p h. subst (λ t. Has t p) (sym c.segment.ensures.state) (c.completion.ensures.stays g.row.N v (Segment c.in-Some.pos c.in-Some.payload.now) p h) in
-    let more = took f w s v u there back (λ r. c.segment.ensures.receives f w r (says c.in-Some.pos c.in-Some.payload.now c.in-Some.ensures)) c.segment.ensures.grows keeps carries in
+    let more = took f w s v u there back (λ r. c.segment.ensures.receives f w r (says c.in-Some.pos c.in-Some.payload.now c.in-Some.ensures)) c.segment.ensures.keeps.grows keeps carries in
     either (IsUnderWay f w s u there c.answer.new.back) c.answer.result c.answer.ensures.ok c.answer.ensures.err
     (λ e. answered f w s u there back c.answer.new.back (answer_of u) e c.answer.ensures.tells more)
     (λ e. subst (IsUnderWay f w s u there) (sym e) more)
@@ -84,4 +84,6 @@ returns-clause-reaches g c = λ f w s there says carries room.
     let end = carries.sends.end in
     let ends = says_ends f w pos xs (says pos xs c.in-Some.ensures) in
     subst (λ o. reach_one (stored_next v) o ≤ stored_next u) (sym c.in-Some.ensures)
-    (segment_reaches v u (end_of s) pos xs c.segment.result c.segment.ensures.accepted c.segment.ensures.kept c.segment.ensures.queued c.segment.ensures.in_order c.segment.ensures.grows (omega arith) room.window)
+    (segment_reaches v u (end_of s) pos xs c.segment.result (λ h. (c.segment.ensures.in_order h).accepted)
+    c.segment.ensures.keeps.kept c.segment.ensures.keeps.queued (λ h. (c.segment.ensures.in_order h).joins)
+    c.segment.ensures.keeps.grows (omega arith) room.window)

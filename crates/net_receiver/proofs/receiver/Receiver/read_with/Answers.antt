@@ -5,7 +5,7 @@ use Rattle.net_receiver.specs.Contiguous.{contiguous, first_part}
 use Rattle.net_receiver.specs.Parts.{parts, FitsWord}
 use Rattle.net_receiver.specs.Rules.{Read, Gave}
 use Rattle.net_receiver.specs.Stored.{Stored, stored_next, stored_read, IsSound}
-use Rattle.net_receiver.proofs.Called.{read_receives, front_bytes}
+use Rattle.net_receiver.proofs.Called.{read_receives, stays, front_bytes}
 use Rattle.net_receiver.proofs.Contiguous.{first_part_lent, first_part_length, contiguous_some, read_on}
 use Rattle.net_receiver.proofs.Reading.{read_leaves_next}
 use Rattle.net_receiver.proofs.Run.{steps}
@@ -92,8 +92,8 @@ pub returns-clause-step : goal.returns-clause-step
 returns-clause-step g c = λ s d.
     steps g.row.N c.args.self.now (left g c) (Read c.f-answer.result.0) (Gave (take c.f-answer.result.0 c.args.self.now.queue)) (left_is g c).0 refl s d
 
-pub returns-clause-bound : goal.returns-clause-bound
-returns-clause-bound g c = (left_is g c).1.few
+pub returns-clause-setting : goal.returns-clause-setting
+returns-clause-setting g c = stays g.row.N c.args.self.now (left g c) (Read c.f-answer.result.0) (left_is g c).0 (left_is g c).1
 
 pub returns-clause-next : goal.returns-clause-next
 returns-clause-next g c = ap stored_next (left_is g c).0 ∙ read_leaves_next c.args.self.now c.f-answer.result.0

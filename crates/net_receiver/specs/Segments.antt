@@ -1,0 +1,25 @@
+-- What becomes of one segment, of which xs is what the free window takes.
+--     KeepsOrRefuses v xs u r      xs is kept, or nothing changes
+--     JoinsQueue v xs u r      xs is kept and joins the queue
+use Rattle.std.specs.Prelude.{◌≡◌, ℕ, ◌+◌, ◌≤◌, List, ◌++◌, length, drop, Result, IsOk, IfOk, OnErr}
+use Rattle.net_storage.specs.declared.assembler.error.TooManyHolesError.{TooManyHolesError}
+use Rattle.net_receiver.specs.declared.receiver.kept.Kept.{Kept}
+use Rattle.net_receiver.specs.Stored.{Stored, stored_next}
+
+-- any segment: a refused one changes nothing, of any other xs is kept; the first missing position
+-- moves up by as many positions as bytes join the queue, and nothing is read
+pub record KeepsOrRefuses (v : Stored) (xs : List ℕ) (u : Stored)
+    (r : Result Kept TooManyHolesError) : Type 0 where
+  pub refused : OnErr r (u ≡ v)
+  pub kept : IfOk r (λ k. k.kept ≡ length xs)
+  pub queued : IfOk r (λ k. stored_next u ≡ stored_next v + k.queued)
+  pub grows : stored_next v ≤ stored_next u
+  pub read : u.read ≡ v.read
+
+-- one that begins at or below the first missing position: it is accepted, and the queue then goes
+-- on with xs, and with what was held behind it
+pub record JoinsQueue (v : Stored) (xs : List ℕ) (u : Stored)
+    (r : Result Kept TooManyHolesError) : Type 0 where
+  pub accepted : IsOk r
+  pub joins : IfOk r (λ k. k.kept ≤ k.queued)
+  pub appends : u.queue ≡ v.queue ++ xs ++ drop (length v.queue + length xs) u.queue
