@@ -1,8 +1,8 @@
 -- What a run writes over bytes that come in pieces.
 use Rattle.std.proofs.Common.{◌≡◌, ℕ, zero, suc, ◌+◌, ◌-◌, ◌<◌, ◌≤◌, List, [], ◌∷◌, ◌++◌, length, take}
 use Rattle.std.proofs.Common.{drop, true, false, ◌==◌, Option, Some, None, Result, Ok, Err, OnOk, IfErr}
-use Rattle.std.proofs.Common.{IsOk, refl, sym, ◌∙◌, ap, append_assoc, arith, length-append, nat_lt}
-use Rattle.std.proofs.Common.{IfSome, true≢false}
+use Rattle.std.proofs.Common.{refl, sym, ◌∙◌, ap, append_assoc, arith, length-append, nat_lt}
+use Rattle.std.proofs.Common.{IfSome}
 use Rattle.std.specs.List.{position}
 use Rattle.std.specs.Io.KnownBytes.{Appends, Keeps, Consumes, IsAtEnd}
 use Rattle.std.proofs.lemmas.List.{append-nil, take_rest}
@@ -17,7 +17,7 @@ use Rattle.net_lines.specs.declared.error.BenchError.TheVariants.{BadCommand, Ra
 use Rattle.net_lines.specs.declared.error.BenchError.TheVariants.{TooManySchedules, OutOfMemory}
 use Rattle.net_lines.specs.declared.error.BenchError.TheVariants.{ReadFailed, WriteFailed}
 use Rattle.net_program.specs.Writing.{AppendsFront}
-use Rattle.net_program.proofs.KnownBytes.{Appends-kept, Keeps-same, Consumes-two, Consumes-none, all-came, StartsWith-all}
+use Rattle.net_program.proofs.KnownBytes.{Keeps-same, Consumes-two, Consumes-none, all-came}
 use Rattle.net_lines.proofs.Pending.{Gathers-two, Gathers-same, Gathers-out, Gathers-written}
 use Rattle.net_lines.proofs.Pending.{AppendsFront-after, AppendsFront-more, AppendsFront-out}
 use Rattle.net_lines.proofs.Pending.{AppendsFront-kept, StartsWith-none}

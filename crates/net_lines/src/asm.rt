@@ -1,5 +1,5 @@
 //! Mode `asm`: ranges are added to a set of positions, and its front is removed.
-ghost use Rattle.std.specs.Prelude.{◌≡◌, [], ◌∷◌, ◌++◌, ◌≤◌, codes, decimal, IfOk};
+ghost use Rattle.std.specs.Prelude.{◌≡◌, [], ◌++◌, ◌≤◌, codes, decimal, IfOk};
 ghost use Rattle.std.specs.Prelude.{MatchResult, Ok, Err, string_bytes};
 ghost use Rattle.net_storage.specs.Positions.{nothing};
 ghost use Rattle.net_program.specs.Numeral.{number_of};

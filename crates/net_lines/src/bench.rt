@@ -148,6 +148,7 @@ impl<A: Allocator + Copy, S: Session<A>> Bench<A, S> {
     }
 
     /// Runs the lines that these bytes end, keeps what stands behind them, and gathers the replies.
+    // Apart from `take`, which writes the replies out also where this fails.
     fn execute_ended<W: Write>(&mut self, bytes: &[u8], writer: &mut W) -> Result<(), BenchError>
         ensures ok { OnOk result ((text : List ℕ)
             × Advances S.rules bytes.now self.old.number self.old.session self.old.line.items
@@ -200,6 +201,7 @@ impl<A: Allocator + Copy, S: Session<A>> Bench<A, S> {
 
     /// Runs what has come of the last line, if anything has, and gathers its reply and the closing
     /// text.
+    // Apart from `finish`, which writes the replies out also where this fails.
     fn execute_last<W: Write>(&mut self, writer: &mut W) -> Result<(), BenchError>
         ensures ok { OnOk result (
             let all = transcript S.rules S.closing self.old.number self.old.session in

@@ -1,6 +1,6 @@
 //! Mode `ring`: bytes go in and come out in order.
-ghost use Rattle.std.specs.Prelude.{◌≡◌, ◌-◌, [], ◌∷◌, ◌++◌, IfOk, string_bytes, option_map, codes};
-ghost use Rattle.std.specs.Prelude.{length, min, ◌≤◌, take, drop};
+ghost use Rattle.std.specs.Prelude.{◌≡◌, ◌-◌, [], ◌++◌, IfOk, string_bytes, option_map, codes};
+ghost use Rattle.std.specs.Prelude.{length, min, ◌≤◌, take};
 ghost use Rattle.net_lines.specs.Text.{words_of, hex_text};
 ghost use Rattle.net_lines.specs.RingMode.{ring_rules, ring_command, ring_does, empty_queue};
 ghost use Rattle.net_lines.specs.RingMode.{Write, Read};
@@ -81,16 +81,6 @@ impl<'a> RingSession<'a> {
         }
     }
 
-    /// Takes in as many bytes as there is room for, and returns how many.
-    fn put(&mut self, bytes: &[u8]) -> usize
-        ensures count { result
-            ≡ min (length bytes.now) (self.old.capacity - length self.old.bytes) }
-        ensures queue { self.new
-            ≡ record self.old { bytes = self.old.bytes ++ take result bytes.now } }
-    {
-        self.ring.enqueue_slice(bytes)
-    }
-
     /// Takes in what there is room for, and says how much that was.
     fn write<A: Allocator + Copy>(
         &mut self,
@@ -100,7 +90,7 @@ impl<'a> RingSession<'a> {
         ensures { IfOk result (λ reply.
             ring_does self.old (Write bytes.now) ≡ (self.new, string_bytes reply)) }
     {
-        let count = self.put(bytes);
+        let count = self.ring.enqueue_slice(bytes);
         text::displayed(buffers, TOOK_ROOM, format_args!("took {count}\n"))
     }
 
@@ -120,14 +110,6 @@ impl<'a> RingSession<'a> {
         text::read_reply(buffers, first, second)
     }
 
-    /// Takes so many bytes off the head of the queue.
-    fn take_off(&mut self, count: usize)
-        requires { count ≤ length self.old.bytes }
-        ensures { self.new ≡ record self.old { bytes = drop count self.old.bytes } }
-    {
-        self.ring.dequeue_allocated(count);
-    }
-
     /// Shows as many bytes as are asked for and there, and takes them off.
     fn read<A: Allocator + Copy>(
         &mut self,
@@ -139,7 +121,7 @@ impl<'a> RingSession<'a> {
     {
         let count = (self.ring.len() as u64).min(number) as usize;
         let reply = self.shown(buffers, count)?;
-        self.take_off(count);
+        self.ring.dequeue_allocated(count);
         Ok(reply)
     }
 

@@ -1,9 +1,9 @@
 //! Mode `stream`: segments of a stream come in any order, and its bytes go out in order.
-ghost use Rattle.std.specs.Prelude.{◌≡◌, [], ◌∷◌, IfOk, MatchResult, Ok, Err, string_bytes};
+ghost use Rattle.std.specs.Prelude.{◌≡◌, IfOk, MatchResult, Ok, Err, string_bytes};
 ghost use Rattle.std.specs.Prelude.{option_map, ◌≤◌, length};
 ghost use Rattle.net_receiver.specs.Commands.{command_seen, reply_seen, CommandFits};
 ghost use Rattle.net_receiver.specs.Rules.{Read, Gave};
-ghost use Rattle.net_receiver.specs.Stored.{fresh_stored, stored_after, stored_reply};
+ghost use Rattle.net_receiver.specs.Stored.{stored_after, stored_reply};
 ghost use Rattle.net_program.specs.Numeral.{number_of};
 ghost use Rattle.net_lines.specs.Text.{words_of, hex_bytes};
 ghost use Rattle.net_lines.specs.StreamMode.{ToReceiver, NextSchedule, segment_command};
@@ -130,6 +130,7 @@ fn fits<A: Allocator + Copy, const N: usize>(command: &Command<A>) -> bool
 }
 
 /// Reads at most so many bytes into memory of the buffers, and returns them.
+// `execute` asks the allocator for the bytes of a read, and this takes those of an earlier line.
 fn read_within<A: Allocator + Copy, const N: usize>(
     buffers: &mut Buffers<A>,
     receiver: &mut Receiver<'_, N>,
@@ -164,20 +165,6 @@ fn execute_within<A: Allocator + Copy, const N: usize>(
             execute(buffers.alloc(), receiver, command)
         }
     }
-}
-
-/// Returns a fresh receiver of a stream that begins at `first`, over a storage that takes the place
-/// of what `second` holds.
-fn fresh_over<'a, A: Allocator + Copy, const N: usize>(
-    first: u64,
-    storage: Vec<u8, A>,
-    second: &'a mut Vec<u8, A>,
-) -> Receiver<'a, N>
-    requires { 1 ≤ N }
-    ensures { result ≡ fresh_stored first (length storage.items) }
-{
-    *second = storage;
-    Receiver::new_at(ManagedSlice::from(second.as_mut_slice()), first)
 }
 
 /// Keeps the memory of bytes that were read.
@@ -252,7 +239,9 @@ impl<'a, A: Allocator + Copy, const N: usize> StreamSession<'a, A, N> {
             return Ok(Err(Fault::TooManySchedules));
         }
         let storage = vec![in buffers.alloc(); 0u8; self.capacity]?;
-        let fresh = fresh_over(self.first, storage, self.second.take().unwrap());
+        let second = self.second.take().unwrap();
+        *second = storage;
+        let fresh = Receiver::new_at(ManagedSlice::from(second.as_mut_slice()), self.first);
         self.ended = Some(mem::replace(&mut self.present, fresh));
         Ok(Ok(buffers.take_text(0)?))
     }

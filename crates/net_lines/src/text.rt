@@ -58,14 +58,6 @@ pub fn displayed<A: Allocator + Copy, D: Display + Drop>(
     }
 }
 
-/// Writes bytes as hexadecimal digits. There must be room for two digits a byte.
-fn put_digits(bytes: &[u8], digits: &mut [u8])
-    requires { length digits.old ≡ 2 * length bytes.now }
-    ensures { digits.new ≡ encode_lower bytes.now }
-{
-    let _ = hex::encode_to_slice(bytes, digits);
-}
-
 /// Writes the reply that shows two parts, of which one has a byte. There must be room for it.
 fn put_read_reply(first: &[u8], second: &[u8], reply: &mut [u8])
     requires { length reply.old ≡ 6 + (2 * length first.now + 2 * length second.now) }
@@ -75,9 +67,9 @@ fn put_read_reply(first: &[u8], second: &[u8], reply: &mut [u8])
     let (verb, rest) = reply.split_at_mut(5);
     verb.copy_from_slice(b"read ");
     let (front, rest) = rest.split_at_mut(2 * first.len());
-    put_digits(first, front);
+    let _ = hex::encode_to_slice(first, front);
     let (back, end) = rest.split_at_mut(2 * second.len());
-    put_digits(second, back);
+    let _ = hex::encode_to_slice(second, back);
     end.copy_from_slice(b"\n");
 }
 

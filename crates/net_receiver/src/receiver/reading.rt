@@ -2,10 +2,9 @@
 ghost use Rattle.std.specs.Prelude.{◌≡◌, ℕ, ◌+◌, ◌-◌, ◌<◌, ◌≤◌, min, List, ◌++◌, length, take};
 ghost use Rattle.std.specs.Prelude.{drop, slice_range, slice_index_or};
 ghost use Rattle.std.specs.Fn.{FnOnceTakesAt, FnOnceReturnsAt};
-ghost use Rattle.net_storage.specs.Positions.{runs};
 ghost use Rattle.net_receiver.specs.Rules.{Read, Gave};
 ghost use Rattle.net_receiver.specs.Schedule.{State, queue_bytes, kept_reply};
-ghost use Rattle.net_receiver.specs.Stored.{domain, stored_next, stored_read, stored_reply};
+ghost use Rattle.net_receiver.specs.Stored.{stored_next, stored_read, stored_reply};
 ghost use Rattle.net_receiver.specs.Stored.{setting, StaysInSetting, Steps, StandsFor};
 ghost use Rattle.net_receiver.specs.Contiguous.{contiguous, contiguous_from, first_part};
 ghost use Rattle.net_receiver.specs.Contiguous.{second_part};
