@@ -1,5 +1,7 @@
 -- What a buffer holds after many fragments.
-use Rattle.std.proofs.Common.{◌≡◌, ℕ, zero, suc, ◌+◌, ◌-◌, ◌<◌, ◌≤◌, ◌&&◌, Bool, true, false, List, [], ◌∷◌, length, get_or, refl, ap, ◌∙◌, arith, if◌then◌else◌, nat_le, nat_lt, IsTrue, IsFalse, ap₂, ◌||◌}
+use Rattle.std.proofs.Common.{◌≡◌, ℕ, zero, suc, ◌+◌, ◌-◌, ◌<◌, ◌≤◌, ◌&&◌, Bool, true, false, List}
+use Rattle.std.proofs.Common.{[], ◌∷◌, length, get_or, refl, ap, ◌∙◌, arith, if◌then◌else◌, nat_le}
+use Rattle.std.proofs.Common.{nat_lt, IsTrue, IsFalse, ap₂, ◌||◌}
 use Rattle.std.proofs.lemmas.Bool.Decides.{nat_tests}
 use Rattle.net_storage.specs.Overwrite.{overwrite, OverwrittenAt}
 use Rattle.net_storage.specs.Positions.{contains, with_range}
@@ -12,7 +14,8 @@ same_default [] k d e h = absurd (omega arith)
 same_default (x ∷ l) zero d e h = refl
 same_default (x ∷ l) (suc k) d e h = same_default l k d e (omega arith)
 
-pick_inside : (i p n a b c : ℕ) → (i ≤ p → p < i + n → a ≡ b) → (if nat_le i p && nat_lt p (i + n) then a else c) ≡ (if nat_le i p && nat_lt p (i + n) then b else c)
+pick_inside : (i p n a b c : ℕ) → (i ≤ p → p < i + n → a ≡ b) → (if nat_le i p && nat_lt p (i + n) then a else c) ≡
+    (if nat_le i p && nat_lt p (i + n) then b else c)
 pick_inside i p n a b c f = grind (arith, nat_tests)
 
 -- of a list that was written over, its length and its elements
@@ -39,11 +42,14 @@ covered : (p : ℕ) (f : ℕ × List ℕ) → covers p f ≡ true → (f.0 ≤ p
 covered p f e = (grind (arith, nat_tests), grind (arith, nat_tests))
 
 -- a position that came with one of the fragments has that fragment's byte, whatever was there
-independent : MembersWithRange → (b : FragmentState) (fs : List (ℕ × List ℕ)) (p d e : ℕ) → IsFalse (contains b.present p) → IsTrue (contains (after_fragments b fs).present p) → last_byte p d fs ≡ last_byte p e fs
+independent : MembersWithRange → (b : FragmentState) (fs : List (ℕ × List ℕ)) (p d e : ℕ) → IsFalse (contains b.present p) →
+    IsTrue (contains (after_fragments b fs).present p) → last_byte p d fs ≡ last_byte p e fs
 independent members b [] p d e none some = absurd (not_both (contains b.present p) none some)
 independent members b (f ∷ fs) p d e none some = by_cover (covers p f) refl (independent members (fragment_added b f.0 f.1) fs p d e)
   where
-    by_cover : (t : Bool) → covers p f ≡ t → (IsFalse (contains (with_range b.present f.0 (length f.1)) p) → IsTrue (contains (after_fragments (fragment_added b f.0 f.1) fs).present p) → last_byte p d fs ≡ last_byte p e fs) →
+    by_cover : (t : Bool) → covers p f ≡ t →
+        (IsFalse (contains (with_range b.present f.0 (length f.1)) p) → IsTrue (contains (after_fragments (fragment_added b f.0 f.1) fs).present p) →
+        last_byte p d fs ≡ last_byte p e fs) →
         last_byte p d (f ∷ fs) ≡ last_byte p e (f ∷ fs)
     by_cover true is rest =
         let k = covered p f is in

@@ -3,7 +3,8 @@ use Rattle.std.proofs.Common.{◌≡◌, ◌∙◌, ◌+◌, ◌∷◌, ◌++◌
 use Rattle.net_uses.specs.Frames.{Each, Stops, Passed, ForwardedAndLost}
 
 -- one frame more
-pub each_more : {D : Type 0} (step : D → List ℕ → D → Type 0) (x y z : D) (frames : List (List ℕ)) (frame : List ℕ) → Each step x frames y → step y frame z → Each step x (frames ++ (frame ∷ [])) z
+pub each_more : {D : Type 0} (step : D → List ℕ → D → Type 0) (x y z : D) (frames : List (List ℕ)) (frame : List ℕ) → Each step x frames y →
+    step y frame z → Each step x (frames ++ (frame ∷ [])) z
 each_more step x y z [] frame is one = (z, subst (λ o. step o frame z) is one, refl)
 each_more step x y z (f ∷ frames) frame each one = (each.0, each.1, each_more step each.0 y z frames frame each.2 one)
 
@@ -24,7 +25,8 @@ module _ {D : Type 0} (step : D → List ℕ → D → Type 0) (view : D → Lis
   sent_list law x y [] e = ap view e ∙ simp append-nil refl
   sent_list law x y (f ∷ fs) e = sent_list law e.0 y fs e.2 ∙ ap (λ (r : List (List ℕ)). r ++ fs) (law x f e.0 e.1) ∙ append_assoc (view x) (f ∷ []) fs
 
-module _ {A B : Type 0} (taken : A → List ℕ → A → Type 0) (is_idle : A → Type 0) (idled : A → A → Type 0) (is_busy : B → Type 0) (sent : B → List ℕ → B → Type 0) (incoming : A → List (List ℕ)) (outgoing : B → List (List ℕ)) where
+module _ {A B : Type 0} (taken : A → List ℕ → A → Type 0) (is_idle : A → Type 0) (idled : A → A → Type 0) (is_busy : B → Type 0)
+    (sent : B → List ℕ → B → Type 0) (incoming : A → List (List ℕ)) (outgoing : B → List (List ℕ)) where
   -- a device that hands over no frame keeps the list that is seen
   abbrev pub KeepsAll : Type 0
   KeepsAll = (x y : A) → idled x y → incoming y ≡ incoming x
@@ -34,13 +36,19 @@ module _ {A B : Type 0} (taken : A → List ℕ → A → Type 0) (is_idle : A �
   ended_same keeps max n x x' y (inr (inl e)) = ap incoming (sym e.1)
   ended_same keeps max n x x' y (inr (inr e)) = sym (keeps x x' e.1)
 
-  pub passed_lists : TakesFirst taken incoming → KeepsAll → PutsLast sent outgoing → (max n : ℕ) (x x' : A) (y y' : B) → Passed taken is_idle idled is_busy sent max n x x' y y' → (moved : List (List ℕ)) × (incoming x ≡ moved ++ incoming x') × (outgoing y' ≡ outgoing y ++ moved)
+  pub passed_lists : TakesFirst taken incoming → KeepsAll → PutsLast sent outgoing → (max n : ℕ) (x x' : A) (y y' : B) →
+      Passed taken is_idle idled is_busy sent max n x x' y y' → (moved : List (List ℕ)) × (incoming x ≡ moved ++ incoming x')
+      × (outgoing y' ≡ outgoing y ++ moved)
   passed_lists takes keeps puts max n x x' y y' p =
       let fs : List (List ℕ) = p.passed.frames in
-      let same : incoming p.between ≡ incoming x' = ended_same keeps max n p.between x' y' p.ended in
-      (fs, taken_list taken incoming takes x p.between fs p.passed.taken_off ∙ ap (λ (r : List (List ℕ)). fs ++ r) same, sent_list sent outgoing puts y y' fs p.passed.sent_on)
+      let same : incoming p.between ≡ incoming x' = ended_same keeps max n p.between x' y' p.ended in (
+        fs,
+        taken_list taken incoming takes x p.between fs p.passed.taken_off ∙ ap (λ (r : List (List ℕ)). fs ++ r) same,
+        sent_list sent outgoing puts y y' fs p.passed.sent_on,
+      )
 
-  pub passed_count : TakesFirst taken incoming → KeepsAll → (max n : ℕ) (x x' : A) (y y' : B) → Passed taken is_idle idled is_busy sent max n x x' y y' → length (incoming x) ≡ n + length (incoming x')
+  pub passed_count : TakesFirst taken incoming → KeepsAll → (max n : ℕ) (x x' : A) (y y' : B) → Passed taken is_idle idled is_busy sent max n x x' y y' →
+      length (incoming x) ≡ n + length (incoming x')
   passed_count takes keeps max n x x' y y' p =
       let fs : List (List ℕ) = p.passed.frames in
       let same : incoming p.between ≡ incoming x' = ended_same keeps max n p.between x' y' p.ended in
@@ -49,7 +57,14 @@ module _ {A B : Type 0} (taken : A → List ℕ → A → Type 0) (is_idle : A �
       in
       ap length all ∙ length-append fs (incoming x') ∙ ap (λ (k : ℕ). k + length (incoming x')) p.passed.count
 
-module _ {A B : Type 0} (taken : A → List ℕ → A → Type 0) (sent : B → List ℕ → B → Type 0) (lacks_memory : B → ℕ → Type 0) (incoming : A → List (List ℕ)) (outgoing : B → List (List ℕ)) where
-  pub lost_lists : TakesFirst taken incoming → PutsLast sent outgoing → (max : ℕ) (x x' : A) (y y' : B) → ForwardedAndLost taken sent lacks_memory max x x' y y' → (moved : List (List ℕ)) × (frame : List ℕ) × (incoming x ≡ moved ++ (frame ∷ incoming x')) × (outgoing y' ≡ outgoing y ++ moved)
-  lost_lists takes puts max x x' y y' l =
-      (l.frames, l.lost, taken_list taken incoming takes x x' (l.frames ++ (l.lost ∷ [])) l.taken_off ∙ append_assoc l.frames (l.lost ∷ []) (incoming x'), sent_list sent outgoing puts y y' l.frames l.sent_on)
+module _ {A B : Type 0} (taken : A → List ℕ → A → Type 0) (sent : B → List ℕ → B → Type 0) (lacks_memory : B → ℕ → Type 0) (incoming : A → List (List ℕ))
+    (outgoing : B → List (List ℕ)) where
+  pub lost_lists : TakesFirst taken incoming → PutsLast sent outgoing → (max : ℕ) (x x' : A) (y y' : B) →
+      ForwardedAndLost taken sent lacks_memory max x x' y y' → (moved : List (List ℕ)) × (frame : List ℕ) × (incoming x ≡ moved ++ (frame ∷ incoming x'))
+      × (outgoing y' ≡ outgoing y ++ moved)
+  lost_lists takes puts max x x' y y' l = (
+    l.frames,
+    l.lost,
+    taken_list taken incoming takes x x' (l.frames ++ (l.lost ∷ [])) l.taken_off ∙ append_assoc l.frames (l.lost ∷ []) (incoming x'),
+    sent_list sent outgoing puts y y' l.frames l.sent_on,
+  )

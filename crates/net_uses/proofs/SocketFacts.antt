@@ -25,11 +25,13 @@ handed_same long true q h ws = (refl, long q.storage ws _)
 handed_same long false q h ws = (refl, long q.storage ws _)
 
 -- a packet came last, or nothing changed
-pub put_same : {T E : Type 0} → LengthStays → (q r : PacketQueue Endpoint) (h : Endpoint) (ws : List ℕ) (result : Result T E) → OnErr result (r ≡ q) → OnOk result (r ≡ with_packet_of q h ws) → SameCapacity r q
+pub put_same : {T E : Type 0} → LengthStays → (q r : PacketQueue Endpoint) (h : Endpoint) (ws : List ℕ) (result : Result T E) → OnErr result (r ≡ q) →
+    OnOk result (r ≡ with_packet_of q h ws) → SameCapacity r q
 put_same long q r h ws (Ok t) kept made = subst (λ (z : PacketQueue Endpoint). SameCapacity z q) (sym made) (enqueued_same long q h ws)
 put_same long q r h ws (Err e) kept made = subst (λ (z : PacketQueue Endpoint). SameCapacity z q) (sym kept) (refl, refl)
 
 -- the first packet was handed out, or nothing changed
-pub handed_out_same : {T E : Type 0} → LengthStays → (q r : PacketQueue Endpoint) (result : Result T E) → OnErr result (r ≡ q) → IfOk result (λ _. (gone : Bool) × (h : Endpoint) × (ws : List ℕ) × (r ≡ after_hand_out gone q h ws)) → SameCapacity r q
+pub handed_out_same : {T E : Type 0} → LengthStays → (q r : PacketQueue Endpoint) (result : Result T E) → OnErr result (r ≡ q) →
+    IfOk result (λ _. (gone : Bool) × (h : Endpoint) × (ws : List ℕ) × (r ≡ after_hand_out gone q h ws)) → SameCapacity r q
 handed_out_same long q r (Ok t) kept made = subst (λ (z : PacketQueue Endpoint). SameCapacity z q) (sym made.3) (handed_same long made.0 q made.1 made.2)
 handed_out_same long q r (Err e) kept made = subst (λ (z : PacketQueue Endpoint). SameCapacity z q) (sym kept) (refl, refl)

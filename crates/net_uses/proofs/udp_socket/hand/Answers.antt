@@ -14,7 +14,8 @@ returns-clause-dispatched g c =
     (λ answer k.
     let gives = k.gives in
     let met = gives.met in
-    let called : GivesAtDatagram g.F.FnOnce c.args.emit gives.header.now gives.bytes.now answer × (gives.left.0.now ≡ gives.header.now) × (gives.left.1.0.now ≡ gives.bytes.now) = search of_calls parts 8 in
+    let called : GivesAtDatagram g.F.FnOnce c.args.emit gives.header.now gives.bytes.now answer × (gives.left.0.now ≡ gives.header.now)
+    × (gives.left.1.0.now ≡ gives.bytes.now) = search of_calls parts 8 in
     let header : k.new_header ≡ k.header = sym gives.leaves.0 ∙ called.1 ∙ gives.shows.0 in
     let bytes : k.new_bytes ≡ k.bytes = sym gives.leaves.1 ∙ called.2 ∙ gives.shows.1 in
     let left : contents c.dequeue_with.new.self ≡ (if is_ok answer then drop 1 (contents q) else contents q) =
@@ -24,7 +25,11 @@ returns-clause-dispatched g c =
       endpoint = k.header;
       bytes = k.bytes;
       first = c.packets_leave_in_order.ensures.shown q k.header k.bytes c.well_placed.ensures k.first;
-      gives = (called.0.0, called.0.1 ∙ gives.shows.1, subst (λ (to : Endpoint). g.F.FnOnce.post c.args.emit (to, (called.0.0, tt)) answer) gives.shows.0 called.0.2);
+      gives = (
+        called.0.0,
+        called.0.1 ∙ gives.shows.1,
+        subst (λ (to : Endpoint). g.F.FnOnce.post c.args.emit (to, (called.0.0, tt)) answer) gives.shows.0 called.0.2,
+      );
       left = left;
       made = k.made ∙ ap₂ (λ h ws. after_hand_out (is_ok answer) q h ws) header bytes;
     })
