@@ -61,21 +61,28 @@ module _ {M : Type 1} {𝓤 : Ura M} (𝓛 : Logic 𝓤) (κ : Lft) where
         qed 𝓛 (‵ (Kept p.0 δ x) ∷ raw (Ends (left q) p) ∷ []) ∵ each ! (BackAt (p.0, p.1, δ)) (λ y.
         assume ! (‵ (flft (p.0 ∷ κ) p.1) ⊛ ‵ (fres δ (R.coded.code y))) $ updating ! $ split ! $
         -- [the token; the last value; what was kept; the way to end]
-        move ! (0 ∷ 3 ∷ []) $ use2 𝓛 (later (‵ (fdead (p.0 ∷ κ)) ⊛ ‵ (flft κ (left q)))) (apply∗ 𝓤 (A.lft (p.0 ∷ κ) p.1) _) $ await ! tt $ split ! $ move ! (0 ∷ 3 ∷ 2 ∷ []) $
-        use3 𝓛 (later (‵ (lent κ s.ghost_name y) ⊛ ‵ (flft κ (right q)))) (comes_back 𝓛 R (named 0) κ (p.0 ∷ κ) (right q) s.ghost_name s.ref_ptr.0 s.ref_ptr.1 δ x y) $ await ! tt $ split ! $
+        move ! (0 ∷ 3 ∷ []) $ use2 𝓛 (later (‵ (fdead (p.0 ∷ κ)) ⊛ ‵ (flft κ (left q)))) (apply∗ 𝓤 (A.lft (p.0 ∷ κ) p.1) _) $ await ! tt $ split ! $
+        move ! (0 ∷ 3 ∷ 2 ∷ []) $
+        use3 𝓛 (later (‵ (lent κ s.ghost_name y) ⊛ ‵ (flft κ (right q))))
+        (comes_back 𝓛 R (named 0) κ (p.0 ∷ κ) (right q) s.ghost_name s.ref_ptr.0 s.ref_ptr.1 δ x y) $ await ! tt $ split ! $
         move ! (2 ∷ 1 ∷ []) $ use2 𝓛 (‵ (flft κ q)) (𝓛.lfts.lft_glue κ q (left q) (right q) (halves q)) $ at_once ! $ move ! (1 ∷ 0 ∷ []) $ done !)
 
     pub lends_inside : (x : R.Denot) → ent 𝓤 (sep 𝓤 (sem 𝓛 (lent κ s.ghost_name x)) (A.lft κ q)) (H.⇛ (ex 𝓤 (LentInside x)))
     lends_inside x =
         qed 𝓛 (‵ (lent κ s.ghost_name x) ∷ ‵ (flft κ q) ∷ []) ∵ updating ! $ move ! (1 ∷ []) $
         use1 𝓛 (‵ (flft κ (left q)) ⊛ ‵ (flft κ (right q))) (𝓛.lfts.lft_cut κ q (left q) (right q) (halves q)) $ split ! $
-        use1 𝓛 (later (some (λ (p : ℕ × Share). ‵ (flft (p.0 ∷ κ) p.1) ⊛ raw (Ends (left q) p)))) (begins (left q)) $ await ! tt $ pick ! (λ p. split ! $ move ! (3 ∷ 2 ∷ []) $
-        use2 𝓛 (later (some (λ (δ : GName). ‵ (lent (p.0 ∷ κ) δ x) ⊛ ‵ (Kept p.0 δ x)))) (lends_again 𝓛 R (named 0) κ (p.0 ∷ κ) (right q) s.ghost_name s.ref_ptr.0 s.ref_ptr.1 (named 0) x) $ await ! tt $ pick ! (λ δ. split ! $
+        use1 𝓛 (later (some (λ (p : ℕ × Share). ‵ (flft (p.0 ∷ κ) p.1) ⊛ raw (Ends (left q) p)))) (begins (left q)) $ await ! tt $
+        pick ! (λ p. split ! $ move ! (3 ∷ 2 ∷ []) $
+        use2 𝓛 (later (some (λ (δ : GName). ‵ (lent (p.0 ∷ κ) δ x) ⊛ ‵ (Kept p.0 δ x))))
+        (lends_again 𝓛 R (named 0) κ (p.0 ∷ κ) (right q) s.ghost_name s.ref_ptr.0 s.ref_ptr.1 (named 0) x) $ await ! tt $ pick ! (λ δ. split ! $
         -- [the loan; what is kept; the token; the way to end]
-        move ! (1 ∷ 3 ∷ []) $ use2 𝓛 (raw (Back (p.0, p.1, δ))) (back x p δ) $ at_once ! $ show ! (LentInside x) (p.0, p.1, δ) $ move ! (1 ∷ 2 ∷ 0 ∷ []) $ done !))
+        move ! (1 ∷ 3 ∷ []) $ use2 𝓛 (raw (Back (p.0, p.1, δ))) (back x p δ) $ at_once ! $ show ! (LentInside x) (p.0, p.1, δ) $ move ! (1 ∷ 2 ∷ 0 ∷ []) $
+        done !))
 
     pub comes_inside : (p : ℕ × Share × GName) (y : R.Denot)
         → ent 𝓤 (sep 𝓤 (A.lft (p.0 ∷ κ) p.1) (sep 𝓤 (A.res p.2 (R.coded.code y)) (Back p))) (H.⇛ (sep 𝓤 (sem 𝓛 (lent κ s.ghost_name y)) (A.lft κ q)))
     comes_inside p y =
-        qed 𝓛 (‵ (flft (p.0 ∷ κ) p.1) ∷ ‵ (fres p.2 (R.coded.code y)) ∷ raw (Back p) ∷ []) ∵ updating ! $ move ! (2 ∷ []) $ use1 𝓛 (raw (BackAt p y)) (all_e 𝓤 (BackAt p) y) $ move ! (1 ∷ 2 ∷ []) $ join ! $
-        use2 𝓛 (later (‵ (lent κ s.ghost_name y) ⊛ ‵ (flft κ q))) (apply∗ 𝓤 (sep 𝓤 (A.lft (p.0 ∷ κ) p.1) (A.res p.2 (R.coded.code y))) _) $ await ! tt $ split ! $ at_once ! $ done !
+        qed 𝓛 (‵ (flft (p.0 ∷ κ) p.1) ∷ ‵ (fres p.2 (R.coded.code y)) ∷ raw (Back p) ∷ []) ∵ updating ! $ move ! (2 ∷ []) $
+        use1 𝓛 (raw (BackAt p y)) (all_e 𝓤 (BackAt p) y) $ move ! (1 ∷ 2 ∷ []) $ join ! $
+        use2 𝓛 (later (‵ (lent κ s.ghost_name y) ⊛ ‵ (flft κ q))) (apply∗ 𝓤 (sep 𝓤 (A.lft (p.0 ∷ κ) p.1) (A.res p.2 (R.coded.code y))) _) $ await ! tt $
+        split ! $ at_once ! $ done !

@@ -15,7 +15,8 @@ use base.Logic.{SProp, ent, sep, wand, ex, all, all_e, apply∗}
 use base.Stored.{Gv}
 use base.Fml.{Lft, GName, Share, Fml, fsep, fex, feq, fat, fobor, fobs, fauth}
 use types.Logic.{Logic, sem}
-use types.Kit.{‵, raw, some, given, ◌⊛◌, ◌$◌, ◌∵◌, !, qed, by, move, keep, use1, use2, split, group, pick, learn, show, rewrite, fsplit, fjoin, fpick, fpack, feq_l, feq_i, done}
+use types.Kit.{‵, raw, some, given, ◌⊛◌, ◌$◌, ◌∵◌, !, qed, by, move, keep, use1, use2, split, group}
+use types.Kit.{pick, learn, show, rewrite, fsplit, fjoin, fpick, fpack, feq_l, feq_i, done}
 use types.Match.{live}
 use types.SemTy.{Body}
 use denote.RattleType.{RattleType, Valss, owns}
@@ -47,7 +48,8 @@ second_one ν σ τ [] t = absurd t
 second_one ν σ τ (v ∷ []) t = (v, refl)
 second_one ν σ τ (v ∷ u ∷ us) t = absurd (and_yes (has_ty τ v) _ t).1
 
-module _ (R F : RattleType) (make : F.Denot → R.Denot) (ν : Sym) (τss : Tyss) (k : ℕ) (τ : Ty) (there : variant_at τss k ≡ just (tcons τ tnil)) (one : OneValue k (ty_enum ν τss))
+module _ (R F : RattleType) (make : F.Denot → R.Denot) (ν : Sym) (τss : Tyss) (k : ℕ) (τ : Ty) (there : variant_at τss k ≡ just (tcons τ tnil))
+    (one : OneValue k (ty_enum ν τss))
     (one_R : R.mir ≡ lone R.mir ∷ []) (one_F : F.mir ≡ lone F.mir ∷ []) (is_R : bare (ty_enum ν τss) ≡ bare (lone R.mir)) (is_F : bare τ ≡ bare (lone F.mir))
     (owns_is : (y : F.Denot) (vs : List Val) → R.own_val (make y) vs ≡ fex (List Val) (tagged k F y vs))
     {M : Type 1} {𝓤 : Ura M} (𝓛 : Logic 𝓤) (b o : ℕ) where
@@ -76,8 +78,10 @@ module _ (R F : RattleType) (make : F.Denot → R.Denot) (ν : Sym) (τss : Tyss
   pub opened : (y : F.Denot) → ent 𝓤 (sem 𝓛 (part_at R full_share (make y) b o)) (ex 𝓤 (Opened y))
   opened y =
       qed 𝓛 (‵ (part_at R full_share (make y) b o) ∷ []) ∵
-      use1 𝓛 (some (λ (w : Val). ‵ (fat full_share ω b o w) ⊛ ‵ (R.own_val (make y) (w ∷ [])))) (part_out_at 𝓛 R one_R full_share (make y) b o ω is_R) $ pick ! (λ w. split ! $
-      rewrite ! 1 (λ (G : Fml). ‵ G) (owns_is y (w ∷ [])) refl $ move ! (1 ∷ []) $ fpick ! (λ us. fsplit ! $ feq_l ! (λ e. fpick ! (λ vss. fsplit ! $ feq_l ! (λ f. fsplit ! $
+      use1 𝓛 (some (λ (w : Val). ‵ (fat full_share ω b o w) ⊛ ‵ (R.own_val (make y) (w ∷ [])))) (part_out_at 𝓛 R one_R full_share (make y) b o ω is_R) $
+      pick ! (λ w. split ! $
+      rewrite ! 1 (λ (G : Fml). ‵ G) (owns_is y (w ∷ [])) refl $ move ! (1 ∷ []) $
+      fpick ! (λ us. fsplit ! $ feq_l ! (λ e. fpick ! (λ vss. fsplit ! $ feq_l ! (λ f. fsplit ! $
       let u : Val = live k (of_list (vss.0 ++ [])) in
       rewrite ! 2 (λ (v : Val). ‵ (fat full_share ω b o v)) (ap only e ∙ ap (λ (vs : List Val). live k (of_list vs)) f) refl $ keep ! (2 ∷ 0 ∷ []) $
       use1 𝓛 (given (T (has_ty ω u) × WT u) (‵ (fat full_share ω b o u))) (𝓛.laws.at_wt full_share ω b o u) $ learn ! (λ g. by ! (one_value y vss.0 g.0)))))))
@@ -88,10 +92,13 @@ module _ (R F : RattleType) (make : F.Denot → R.Denot) (ν : Sym) (τss : Tyss
   pub back : (w : F.Denot) → ent 𝓤 (sep 𝓤 (sem 𝓛 ((mem F).own_at w b at)) (all 𝓤 Back)) (sem 𝓛 ((mem R).own_at (make w) b o))
   back w =
       qed 𝓛 (‵ (part_at F full_share w b at) ∷ raw (all 𝓤 Back) ∷ []) ∵
-      use1 𝓛 (some (λ (v : Val). ‵ (fat full_share τ b at v) ⊛ ‵ (F.own_val w (v ∷ [])))) (part_out_at 𝓛 F one_F full_share w b at τ is_F) $ pick ! (λ v. split ! $
+      use1 𝓛 (some (λ (v : Val). ‵ (fat full_share τ b at v) ⊛ ‵ (F.own_val w (v ∷ [])))) (part_out_at 𝓛 F one_F full_share w b at τ is_F) $
+      pick ! (λ v. split ! $
       let u : Val = live k (vcons v vnil) in
-      move ! (2 ∷ []) $ use1 𝓛 (raw (Back v)) (all_e 𝓤 Back v) $ move ! (1 ∷ 0 ∷ []) $ use2 𝓛 (‵ (cell v)) (apply∗ 𝓤 (H.at full_share τ b at v) (sem 𝓛 (cell v))) $
-      nothing ! $ move ! (2 ∷ 0 ∷ []) $ fjoin ! $ feq_i ! (List Val) (v ∷ []) (v ∷ []) refl $ fjoin ! $ fpack ! (Valss (F ∷ [])) (in_a_row (F ∷ []) (owns (F ∷ []) (w, tt)) (v ∷ [])) (v ∷ [], tt) $
+      move ! (2 ∷ []) $ use1 𝓛 (raw (Back v)) (all_e 𝓤 Back v) $ move ! (1 ∷ 0 ∷ []) $
+      use2 𝓛 (‵ (cell v)) (apply∗ 𝓤 (H.at full_share τ b at v) (sem 𝓛 (cell v))) $
+      nothing ! $ move ! (2 ∷ 0 ∷ []) $ fjoin ! $ feq_i ! (List Val) (v ∷ []) (v ∷ []) refl $ fjoin ! $
+      fpack ! (Valss (F ∷ [])) (in_a_row (F ∷ []) (owns (F ∷ []) (w, tt)) (v ∷ [])) (v ∷ [], tt) $
       feq_i ! (List Val) (u ∷ []) (u ∷ []) refl $ fjoin ! $ fpack ! (List Val) (tagged k F w (u ∷ [])) (v ∷ []) $
       rewrite ! 0 (λ (G : Fml). ‵ G) (sym (owns_is w (u ∷ []))) refl $ move ! (1 ∷ 0 ∷ []) $ by ! (part_in_at 𝓛 R one_R full_share (make w) b o ω is_R u))
 
@@ -100,9 +107,12 @@ module _ (R F : RattleType) (make : F.Denot → R.Denot) (ν : Sym) (τss : Tyss
     Lent = Part 𝓛 R F make (named 0) κ q b o b at γ (all 𝓤 Back) back
 
     pub lends : (y : F.Denot) (v : Val) (g : Gv)
-        → ent 𝓤 (sep 𝓤 (sem 𝓛 (cell v)) (sep 𝓤 (sem 𝓛 (F.own_val y (v ∷ []))) (sep 𝓤 (A.obor κ q (Body (mem R) b o γ)) (sep 𝓤 (A.obs γ g) (A.auth γ g))))) (H.⇛ (ex 𝓤 (Lent y)))
+        → ent 𝓤 (sep 𝓤 (sem 𝓛 (cell v)) (sep 𝓤 (sem 𝓛 (F.own_val y (v ∷ []))) (sep 𝓤 (A.obor κ q (Body (mem R) b o γ)) (sep 𝓤 (A.obs γ g) (A.auth γ g)))))
+        (H.⇛ (ex 𝓤 (Lent y)))
     lends y v g =
         qed 𝓛 (‵ (cell v) ∷ ‵ (F.own_val y (v ∷ [])) ∷ ‵ (fobor κ q (Body (mem R) b o γ)) ∷ ‵ (fobs γ g) ∷ ‵ (fauth γ g) ∷ []) ∵
-        use1 𝓛 (‵ (fat full_share τ b at v) ⊛ raw (all 𝓤 Back)) (𝓛.laws.at_variant full_share ν τss k (tcons τ tnil) there 0 τ (up (align τ) 1) refl b o (vcons v vnil)) $ split ! $
-        move ! (0 ∷ 2 ∷ []) $ use2 𝓛 (‵ (part_at F full_share y b at)) (part_in_at 𝓛 F one_F full_share y b at τ is_F v) $ move ! (2 ∷ 3 ∷ 4 ∷ 0 ∷ 1 ∷ []) $ group ! 5 $
+        use1 𝓛 (‵ (fat full_share τ b at v) ⊛ raw (all 𝓤 Back))
+        (𝓛.laws.at_variant full_share ν τss k (tcons τ tnil) there 0 τ (up (align τ) 1) refl b o (vcons v vnil)) $ split ! $
+        move ! (0 ∷ 2 ∷ []) $ use2 𝓛 (‵ (part_at F full_share y b at)) (part_in_at 𝓛 F one_F full_share y b at τ is_F v) $
+        move ! (2 ∷ 3 ∷ 4 ∷ 0 ∷ 1 ∷ []) $ group ! 5 $
         by ! (lends_Part 𝓛 R F make (named 0) κ q b o b at γ (all 𝓤 Back) back g g y)

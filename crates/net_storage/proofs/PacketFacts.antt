@@ -1,5 +1,7 @@
 -- What the two rings of a queue of packets say of its packets.
-use Rattle.std.proofs.Common.{◌≢◌, zero, suc, ◌≡◌, ℕ, ◌+◌, ◌-◌, ◌<◌, ◌≤◌, List, [], ◌∷◌, ◌++◌, length, min, refl, sym, ap, ◌∙◌, subst, inl, inr, arith, ◌⊎◌, append_assoc, nat_le, if◌then◌else◌, Bool, ◌==◌}
+use Rattle.std.proofs.Common.{◌≢◌, zero, suc, ◌≡◌, ℕ, ◌+◌, ◌-◌, ◌<◌, ◌≤◌, List, [], ◌∷◌, ◌++◌}
+use Rattle.std.proofs.Common.{length, min, refl, sym, ap, ◌∙◌, subst, inl, inr, arith, ◌⊎◌}
+use Rattle.std.proofs.Common.{append_assoc, nat_le, if◌then◌else◌, Bool, ◌==◌}
 use Rattle.std.proofs.lemmas.Bool.{cases_lt, le-leb, lt-leb, lt-ltb, le-ltb, ne_eqb}
 use Rattle.std.proofs.lemmas.Option.{none-some, cond_some}
 use Rattle.std.specs.Prelude.{Option, true}

@@ -1,15 +1,28 @@
 -- A queue's packets leave in the order in which they came.
-use Rattle.std.proofs.Common.{◌≢◌, ◌≡◌, ℕ, ◌+◌, ◌-◌, ◌≤◌, List, [], ◌∷◌, ◌++◌, length, take, drop, refl, sym, ap, ap₂, ◌∙◌, subst, inl, arith, length-append, length-drop}
-use Rattle.std.proofs.lemmas.List.{take_at, drop_at, nil_from_length, take_all, take-take, drop-drop, length-take-le, take-append-le, drop-append-le, append-nil, length-replicate}
+use Rattle.std.proofs.Common.{◌≢◌, ◌≡◌, ℕ, ◌+◌, ◌-◌, ◌≤◌, List, [], ◌∷◌, ◌++◌, length, take, drop}
+use Rattle.std.proofs.Common.{refl, sym, ap, ap₂, ◌∙◌, subst, inl, arith, length-append}
+use Rattle.std.proofs.Common.{length-drop}
+use Rattle.std.proofs.lemmas.List.{take_at, drop_at, nil_from_length, take_all, take-take}
+use Rattle.std.proofs.lemmas.List.{drop-drop, length-take-le, take-append-le, drop-append-le}
+use Rattle.std.proofs.lemmas.List.{append-nil, length-replicate}
 use Rattle.std.specs.Prelude.{Option, replicate}
 use Rattle.std.specs.declared.option.Option.TheVariants.{Some, None}
 use Rattle.net_storage.specs.Overwrite.{overwrite}
-use Rattle.net_storage.specs.Ring.{RingState, ring, index_after, capacity, window, queue, spare, storage_index, WellFormed, from_start_if_empty, with_enqueued, with_elements}
-use Rattle.net_storage.specs.Packets.{Packet, PacketQueue, packet, bytes_used, slots_used, byte_ring, ArePlaced, placement, with_packet_if_room, with_last_bytes, with_last_size, first_gap, first_size, without_first_gap, without_gap, IsFirstSized, IsFirst, with_first_header, with_first_bytes, without_first, without_first_and_gap, WellPlaced}
+use Rattle.net_storage.specs.Ring.{RingState, ring, index_after, capacity, window, queue, spare}
+use Rattle.net_storage.specs.Ring.{storage_index, WellFormed, from_start_if_empty, with_enqueued}
+use Rattle.net_storage.specs.Ring.{with_elements}
+use Rattle.net_storage.specs.Packets.{Packet, PacketQueue, packet, bytes_used, slots_used}
+use Rattle.net_storage.specs.Packets.{byte_ring, ArePlaced, placement, with_packet_if_room}
+use Rattle.net_storage.specs.Packets.{with_last_bytes, with_last_size, first_gap, first_size}
+use Rattle.net_storage.specs.Packets.{without_first_gap, without_gap, IsFirstSized, IsFirst}
+use Rattle.net_storage.specs.Packets.{with_first_header, with_first_bytes, without_first}
+use Rattle.net_storage.specs.Packets.{without_first_and_gap, WellPlaced}
 use Rattle.net_storage.specs.PacketSlots.{slot, packet_slots, packets_in, Holds, packet_queue}
 use Rattle.net_storage.specs.PacketHistory.{contents_of, contents}
 use Rattle.net_storage.specs.declared.packet_metadata.PacketMetadata.{PacketMetadata}
-use Rattle.net_storage.proofs.Rotations.{length-overwrite, length-queue, length-spare, with_enqueued_parts, with_dequeued_parts, take_sum, cut, overwrite_at, storage_index_is}
+use Rattle.net_storage.proofs.Rotations.{length-overwrite, length-queue, length-spare}
+use Rattle.net_storage.proofs.Rotations.{with_enqueued_parts, with_dequeued_parts, take_sum, cut}
+use Rattle.net_storage.proofs.Rotations.{overwrite_at, storage_index_is}
 use Rattle.net_storage.proofs.RingFacts.{written_wf, spare_law, held_law, held_value, restarted_is, read_index_is}
 use Rattle.net_storage.proofs.PacketFacts.{bytes_append, length-slots, place_wf}
 use Rattle.net_storage.proofs.PacketSteps.{viewed, here, wfg, held_g, byte_room, put_is, cut_is, same, closed}
@@ -303,6 +316,7 @@ module _ {H : Type 0} where
     unfolding contents
     left = left_go q.storage q.read_at q.packets ok.0
 
-    pub left_with : (hd : H) (ws : List ℕ) → length ws ≡ first_size q.packets → contents (without_first (with_first_bytes (without_gap q) hd ws)) ≡ drop 1 (contents q)
+    pub left_with : (hd : H) (ws : List ℕ) → length ws ≡ first_size q.packets →
+        contents (without_first (with_first_bytes (without_gap q) hd ws)) ≡ drop 1 (contents q)
     unfolding contents
     left_with hd ws long = left_with_go q.storage q.read_at q.packets ok.0 ok.1 hd ws long _ refl

@@ -1,5 +1,8 @@
 -- Over whole runs, a queue's packets leave in the order in which they came.
-use Rattle.std.proofs.Common.{◌≢◌, ◌≡◌, ℕ, ◌+◌, ◌-◌, ◌≤◌, List, [], ◌∷◌, ◌++◌, length, take, drop, refl, sym, ap, ap₂, ◌∙◌, subst, inl, inr, arith, ◌⊎◌, ◌<◌, append_assoc, length-append, length-drop, suc, ◌↔◌, Bool, true, false, if◌then◌else◌, ◌==◌, Result, Ok, Err, IfOk, min}
+use Rattle.std.proofs.Common.{◌≢◌, ◌≡◌, ℕ, ◌+◌, ◌-◌, ◌≤◌, List, [], ◌∷◌, ◌++◌, length, take, drop}
+use Rattle.std.proofs.Common.{refl, sym, ap, ap₂, ◌∙◌, subst, inl, inr, arith, ◌⊎◌, ◌<◌}
+use Rattle.std.proofs.Common.{append_assoc, length-append, length-drop, suc, ◌↔◌, Bool, true, false}
+use Rattle.std.proofs.Common.{if◌then◌else◌, ◌==◌, Result, Ok, Err, IfOk, min}
 use Rattle.std.proofs.lemmas.List.{append-nil, take_all, drop_all, nil_from_length, length-take-le}
 use Rattle.std.proofs.lemmas.Bool.{eqb-true, eq-eqb}
 use Rattle.std.proofs.lemmas.Option.{none-some}
@@ -8,9 +11,21 @@ use Rattle.std.specs.Prelude.{set}
 use Rattle.std.specs.declared.option.Option.TheVariants.{Some, None}
 use Rattle.net_storage.specs.Overwrite.{overwrite}
 use Rattle.net_storage.specs.Ring.{index_after, queue, storage_index}
-use Rattle.net_storage.specs.Packets.{Packet, PacketQueue, no_packets, packet, bytes_used, slots_used, byte_ring, ArePlaced, placement, with_packet, with_packet_if, with_packet_if_room, only_last, last_place, last_bytes, with_last_bytes, with_last_size, with_first_size, first_gap, first_size, without_first_gap, without_gap, with_first_header, with_first_bytes, without_first, without_first_and_gap, after_hand_out, freed_place, freed_bytes, AreFreed, with_bytes, first_bytes, IsFirst, IsFirstSized, WellPlaced}
+use Rattle.net_storage.specs.Packets.{Packet, PacketQueue, no_packets, packet, bytes_used}
+use Rattle.net_storage.specs.Packets.{slots_used, byte_ring, ArePlaced, placement, with_packet}
+use Rattle.net_storage.specs.Packets.{with_packet_if, with_packet_if_room, only_last, last_place}
+use Rattle.net_storage.specs.Packets.{last_bytes, with_last_bytes, with_last_size, with_first_size}
+use Rattle.net_storage.specs.Packets.{first_gap, first_size, without_first_gap, without_gap}
+use Rattle.net_storage.specs.Packets.{with_first_header, with_first_bytes, without_first}
+use Rattle.net_storage.specs.Packets.{without_first_and_gap, after_hand_out, freed_place}
+use Rattle.net_storage.specs.Packets.{freed_bytes, AreFreed, with_bytes, first_bytes, IsFirst}
+use Rattle.net_storage.specs.Packets.{IsFirstSized, WellPlaced}
 use Rattle.net_storage.specs.Log.{Log, empty_log}
-use Rattle.net_storage.specs.PacketHistory.{contents_of, contents, QueueCall, Reset, Place, WriteLast, Enqueue, EnqueueWith, Peek, DequeueErr, DequeueOk, Take, WriteFreed, Dequeue, Makes, MakesAll, with_bytes_in_last_entry, log_after, log_after_all, history}
+use Rattle.net_storage.specs.PacketHistory.{contents_of, contents, QueueCall, Reset, Place}
+use Rattle.net_storage.specs.PacketHistory.{WriteLast, Enqueue, EnqueueWith, Peek, DequeueErr}
+use Rattle.net_storage.specs.PacketHistory.{DequeueOk, Take, WriteFreed, Dequeue, Makes, MakesAll}
+use Rattle.net_storage.specs.PacketHistory.{with_bytes_in_last_entry, log_after, log_after_all}
+use Rattle.net_storage.specs.PacketHistory.{history}
 use Rattle.net_storage.proofs.Overwrites.{overwrite-same}
 use Rattle.net_storage.proofs.Rotations.{IsStorageIndex, length-overwrite, length-queue, cut, overwrite_at, storage_index_is}
 use Rattle.net_storage.proofs.RingFacts.{held_law, spare_law}
@@ -89,12 +104,14 @@ module _ {H : Type 0} where
           let m = order.m q ok in let b = order.b q ok in
           let is = order.is_queue q ok in
           let h = closed m b q.packets (order.holds q ok) in
-          subst (λ (o : PacketQueue H). WellPlaced (with_packet o gap k hd)) is (push_well m b h gap s (ap (λ (o : PacketQueue H). placement o s) is ∙ e) hd k le)
+          subst (λ (o : PacketQueue H). WellPlaced (with_packet o gap k hd)) is
+          (push_well m b h gap s (ap (λ (o : PacketQueue H). placement o s) is ∙ e) hd k le)
 
       placed_is : with_packet_if_room q s hd ≡ with_packet q gap s hd
       placed_is = ap (λ o. with_packet_if q o s hd) e
 
-      cut_is : (k : ℕ) (ws : List ℕ) → with_bytes (with_packet q gap k hd) (last_place (with_packet q gap s hd)) ws ≡ with_last_size k (with_last_bytes (with_packet_if_room q s hd) ws)
+      cut_is : (k : ℕ) (ws : List ℕ) → with_bytes (with_packet q gap k hd) (last_place (with_packet q gap s hd)) ws ≡ with_last_size k
+          (with_last_bytes (with_packet_if_room q s hd) ws)
       cut_is k ws =
           let all = with_packet q gap s hd in
           ap₂ (λ (front back : List (Packet H)). mk q.slot_count (overwrite q.storage (last_place all) ws) all.read_at (front ++ back))
@@ -108,21 +125,24 @@ module _ {H : Type 0} where
       cut_well : (k : ℕ) → k ≤ s → (ws : List ℕ) → WellPlaced (with_last_size k (with_last_bytes (with_packet_if_room q s hd) ws))
       cut_well k le ws =
           let g = some_of (placement q s) some in
-          subst WellPlaced (cut_is s hd g.0 g.1 k ws) (with_bytes_well (with_packet q g.0 k hd) (pushed_well s hd g.0 g.1 k le) (last_place (with_packet q g.0 s hd)) ws)
+          subst WellPlaced (cut_is s hd g.0 g.1 k ws)
+          (with_bytes_well (with_packet q g.0 k hd) (pushed_well s hd g.0 g.1 k le) (last_place (with_packet q g.0 s hd)) ws)
 
   keeps : (call : QueueCall H) (q r : PacketQueue H) → WellPlaced q → Makes call q r → WellPlaced r
   keeps Reset q r ok is = subst WellPlaced (sym is) ((inl refl, omega arith), tt, omega arith)
   keeps (Place hd ws) q r ok does = subst WellPlaced (sym does.1) (placed_well q ok (length ws) hd does.0)
   keeps (WriteLast ws) q r ok does = subst WellPlaced (sym does.2) (with_bytes_well q ok (last_place q) ws)
   keeps (Enqueue hd ws) q r ok does =
-      subst WellPlaced (sym does.1) (let o = with_packet_if_room q (length ws) hd in with_bytes_well o (placed_well q ok (length ws) hd does.0) (last_place o) ws)
+      subst WellPlaced (sym does.1) (let o = with_packet_if_room q (length ws) hd in
+      with_bytes_well o (placed_well q ok (length ws) hd does.0) (last_place o) ws)
   keeps (EnqueueWith hd ws count) q r ok does = subst WellPlaced (sym does.2) (cut_well q ok (length ws) hd does.0 count does.1 ws)
   keeps Peek q r ok is = subst WellPlaced (sym is) (skipped_well q ok)
   keeps (DequeueErr hd ws) q r ok does = subst WellPlaced (sym does.2) (written_headed q ok hd ws).0
   keeps (DequeueOk hd ws after written) q r ok does = subst WellPlaced (sym does.2) (written_off q ok after written)
   keeps (Take hd ws) q r ok does = subst WellPlaced (sym does.1) (taken_well q ok)
   keeps (WriteFreed ws) q r ok does = subst WellPlaced (sym does.1) (with_bytes_well q ok (freed_place q (length ws)) ws)
-  keeps (Dequeue hd ws written) q r ok does = subst WellPlaced (sym does.2) (with_bytes_well (without_first_and_gap q) (taken_well q ok) (without_gap q).read_at written)
+  keeps (Dequeue hd ws written) q r ok does = subst WellPlaced (sym does.2)
+      (with_bytes_well (without_first_and_gap q) (taken_well q ok) (without_gap q).read_at written)
 
   -- ---- what a step makes of the contents
   placed_contents : (q : PacketQueue H) → WellPlaced q → (hd : H) (ws : List ℕ) → placement q (length ws) ≢ None
@@ -286,7 +306,8 @@ module _ {H : Type 0} where
   taken_contents q ok hd s first =
       let t = taken_bytes q ok s (sym (ap first_size first)) in
       let sized = subst (λ (n : ℕ). IsFirstSized q.packets hd n) (sym t.1) first in
-      order.shown q ok hd (freed_bytes (without_first_and_gap q) s) (sized, t.0) ∙ ap (λ l. (hd, freed_bytes (without_first_and_gap q) s) ∷ l) (sym (order.left q ok))
+      order.shown q ok hd (freed_bytes (without_first_and_gap q) s) (sized, t.0)
+      ∙ ap (λ l. (hd, freed_bytes (without_first_and_gap q) s) ∷ l) (sym (order.left q ok))
 
   -- what stands before the read index is written over itself
   pub freed_stay : (q : PacketQueue H) (s : ℕ) (ws : List ℕ) → ws ≡ freed_bytes q s → with_bytes q (freed_place q s) ws ≡ q
@@ -397,7 +418,8 @@ module _ {H : Type 0} where
       ∙ ap (λ l. set (log.left ++ l) (length log.left) p) (sym f.1) ∙ ap (λ l. set l (length log.left) p) turn
 
   again : (log : Log (H × List ℕ)) (q r : PacketQueue H) (ws : List ℕ) (front : List (H × List ℕ)) (hd : H) (old : List ℕ)
-      → InTurn log q → contents q ≡ front ++ ((hd, old) ∷ []) → contents r ≡ front ++ ((hd, ws) ∷ []) → log.left ++ contents r ≡ with_bytes_in_last_entry ws log.accepted
+      → InTurn log q → contents q ≡ front ++ ((hd, old) ∷ []) → contents r ≡ front ++ ((hd, ws) ∷ []) →
+      log.left ++ contents r ≡ with_bytes_in_last_entry ws log.accepted
   again log q r ws front hd old turn was is =
       ap (λ l. log.left ++ l) is ∙ sym (append_assoc log.left front ((hd, ws) ∷ [])) ∙ sym (last_entry (log.left ++ front) hd old ws)
       ∙ ap (with_bytes_in_last_entry ws) (append_assoc log.left front ((hd, old) ∷ []) ∙ ap (λ l. log.left ++ l) (sym was) ∙ turn)

@@ -1,5 +1,7 @@
 -- What a queue of packets is after a step on its two rings.
-use Rattle.std.proofs.Common.{◌≢◌, ◌≡◌, ℕ, suc, zero, ◌+◌, ◌-◌, ◌<◌, ◌≤◌, List, [], ◌∷◌, ◌++◌, length, take, drop, min, refl, sym, ap, ap₂, ◌∙◌, subst, inl, inr, arith, ◌⊎◌, length-append, append_assoc, get_or, set}
+use Rattle.std.proofs.Common.{◌≢◌, ◌≡◌, ℕ, suc, zero, ◌+◌, ◌-◌, ◌<◌, ◌≤◌, List, [], ◌∷◌, ◌++◌}
+use Rattle.std.proofs.Common.{length, take, drop, min, refl, sym, ap, ap₂, ◌∙◌, subst, inl, inr}
+use Rattle.std.proofs.Common.{arith, ◌⊎◌, length-append, append_assoc, get_or, set}
 use Rattle.std.proofs.Common.{length-drop, length-take}
 use Rattle.std.proofs.lemmas.List.{take_at, drop_at, nil_from_length, take_all, take-take, length-take-le}
 use Rattle.std.proofs.lemmas.Option.{none-some, cond_some}
@@ -7,13 +9,27 @@ use Rattle.std.specs.Prelude.{true, Option}
 use Rattle.std.specs.List.{slice_get}
 use Rattle.std.specs.declared.option.Option.TheVariants.{Some, None}
 use Rattle.net_storage.specs.Overwrite.{overwrite}
-use Rattle.net_storage.specs.Ring.{RingState, ring, index_after, freed_index, rotation, capacity, window, queue, storage_index, WellFormed, from_start_if_empty, with_enqueued, with_dequeued, with_elements, contiguous_window, contiguous_queued, queue_index, contiguous_queued_from, spare_index, contiguous_window_from}
-use Rattle.net_storage.specs.Packets.{Packet, PacketQueue, packet, bytes_used, slots_used, slots_for, byte_ring, IsPlaced, ArePlaced, gap_for, placement, with_packet, with_packet_if_room, with_packet_if, only_last, before_last, last_place, last_bytes, with_last_bytes, with_last_size, with_first_size, IsRoom, first_gap, first_size, without_first_gap, without_gap, IsFirstSized, first_bytes, IsFirst, with_first_header, with_first_bytes, without_first, freed_place, AreFreed, WellPlaced, with_bytes}
+use Rattle.net_storage.specs.Ring.{RingState, ring, index_after, freed_index, rotation, capacity}
+use Rattle.net_storage.specs.Ring.{window, queue, storage_index, WellFormed, from_start_if_empty}
+use Rattle.net_storage.specs.Ring.{with_enqueued, with_dequeued, with_elements, contiguous_window}
+use Rattle.net_storage.specs.Ring.{contiguous_queued, queue_index, contiguous_queued_from}
+use Rattle.net_storage.specs.Ring.{spare_index, contiguous_window_from}
+use Rattle.net_storage.specs.Packets.{Packet, PacketQueue, packet, bytes_used, slots_used}
+use Rattle.net_storage.specs.Packets.{slots_for, byte_ring, IsPlaced, ArePlaced, gap_for, placement}
+use Rattle.net_storage.specs.Packets.{with_packet, with_packet_if_room, with_packet_if, only_last}
+use Rattle.net_storage.specs.Packets.{before_last, last_place, last_bytes, with_last_bytes}
+use Rattle.net_storage.specs.Packets.{with_last_size, with_first_size, IsRoom, first_gap}
+use Rattle.net_storage.specs.Packets.{first_size, without_first_gap, without_gap, IsFirstSized}
+use Rattle.net_storage.specs.Packets.{first_bytes, IsFirst, with_first_header, with_first_bytes}
+use Rattle.net_storage.specs.Packets.{without_first, freed_place, AreFreed, WellPlaced, with_bytes}
 use Rattle.net_storage.specs.PacketSlots.{slot, gap_slot, packet_slots, packets_in, Holds, packet_queue}
 use Rattle.net_storage.specs.declared.packet_metadata.PacketMetadata.{PacketMetadata}
 use Rattle.net_storage.proofs.Rotations.{length-overwrite, length-queue, with_dequeued_parts, part-rotation, cut, overwrite_at, read_at_le}
 use Rattle.net_storage.proofs.RingFacts.{read_index_is, restart_cases, restart_wf}
-use Rattle.net_storage.proofs.PacketFacts.{round, slots_append, slots_of_append, bytes_append, placed_append, placed_anew, placed_here, placed_skip, placed_pop, slots_some, held_is, place_zero, place_le_in, place_wf, gap_slot_one, gap_slot_none, place_cases}
+use Rattle.net_storage.proofs.PacketFacts.{round, slots_append, slots_of_append, bytes_append}
+use Rattle.net_storage.proofs.PacketFacts.{placed_append, placed_anew, placed_here, placed_skip}
+use Rattle.net_storage.proofs.PacketFacts.{placed_pop, slots_some, held_is, place_zero, place_le_in}
+use Rattle.net_storage.proofs.PacketFacts.{place_wf, gap_slot_one, gap_slot_none, place_cases}
 
 module _ (b : RingState ℕ) where
   pub restart_held : (from_start_if_empty b).count ≡ b.count

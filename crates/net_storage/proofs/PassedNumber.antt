@@ -5,7 +5,9 @@ use mathlib.Core.List.{List, [], ◌∷◌}
 use Prim.Native.Nat.{ℕ, ◌<◌, ◌^◌}
 use lib.Dec.{T, eqb, ltb, eqb→eq, lit<}
 use seplogic.Ra.Ura.{Ura}
-use mir.Syntax.{Body, Place, Opd as Operand, w8, w16, w32, w64, w128, place, copy, int, int_neg, int_big, float, opd_true, opd_false, opd_unit, ptr_const, size_of, align_of, num_of, fn_addr, vtable}
+use mir.Syntax.{Body, Place, Opd as Operand, w8, w16, w32, w64, w128, place, copy, int, int_neg}
+use mir.Syntax.{int_big, float, opd_true, opd_false, opd_unit, ptr_const, size_of, align_of, num_of}
+use mir.Syntax.{fn_addr, vtable}
 use mir.Syntax.{skip, seq, assign, block, loop, cond, switch, exit, return, call, call_v, unreachable, lend_static}
 use mir.Val.{vint}
 use prog.Wp.{Env}
@@ -99,7 +101,8 @@ number_fits i n (vtable a b) z fits = absurd z
 module _ {M : Type 1} {𝓤 : Ura M} {K : Type 0} {𝓛 : Logic 𝓤} {Γ : List (Item 𝓤)} where
   open 𝓛 use {H}
 
-  pub number : K → {E : Env 𝓤 H} (i n : ℕ) (o : Operand) → T (is_number i o) → Opd K 𝓛 Γ E (copy (place i [])) (vint w64 n) → Opd K 𝓛 Γ E o (vint w64 (number_of n o))
+  pub number : K → {E : Env 𝓤 H} (i n : ℕ) (o : Operand) → T (is_number i o) → Opd K 𝓛 Γ E (copy (place i [])) (vint w64 n) →
+      Opd K 𝓛 Γ E o (vint w64 (number_of n o))
   number t {E} i n (copy (place j [])) z r = subst (λ (m : ℕ). Opd K 𝓛 Γ E (copy (place m [])) (vint w64 n)) (eqb→eq i j z) r
   number t i n (copy (place j (x ∷ xs))) z r = absurd z
   number t i n (int w8 m) z r = absurd z

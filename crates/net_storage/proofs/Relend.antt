@@ -16,7 +16,9 @@ use base.Logic.{SProp, ent, sep, ex}
 use base.Stored.{coded_list}
 use base.Fml.{Lft, GName, Share, flft, fobs, fbor}
 use types.Logic.{Logic, sem}
-use types.Kit.{Item, ‵, ◌⊛◌, ◌$◌, ◌∵◌, !, qed, move, drop, fsplit, fsplit3, fjoin, fjoin3, updating, await, later, some, use1, group, pick, now, show, done, split3, rewrite, feq_l, feq_i, split, join, use2}
+use types.Kit.{Item, ‵, ◌⊛◌, ◌$◌, ◌∵◌, !, qed, move, drop, fsplit, fsplit3, fjoin, fjoin3, updating}
+use types.Kit.{await, later, some, use1, group, pick, now, show, done, split3, rewrite, feq_l}
+use types.Kit.{feq_i, split, join, use2}
 use types.SemTy.{cells, Arr, Body}
 use types.Follow.{takes_part}
 use types.Mut.{open_ref}
@@ -38,18 +40,23 @@ uncapped (suc i) k h = let step = suc-mul i k in ap (λ (j : ℕ). suc i * j) (c
 module _ {M : Type 1} {𝓤 : Ura M} (𝓛 : Logic 𝓤) (ℓ : Lifetime) (κ : Lft) (q : Share) (b o : ℕ) (γ : GName) where
   open 𝓛 use {H, A}
 
-  module _ (R : RattleType) (m : ℕ) (xs front mid back : List R.Denot) (cut : xs ≡ front ++ (mid ++ back)) (lf : length front ≡ m) (p : ℕ) (on : at o (mem R).size (length front) ≡ p) (rm : Room R (length mid)) where
+  module _ (R : RattleType) (m : ℕ) (xs front mid back : List R.Denot) (cut : xs ≡ front ++ (mid ++ back)) (lf : length front ≡ m) (p : ℕ)
+      (on : at o (mem R).size (length front) ≡ p) (rm : Room R (length mid)) where
     abbrev pub part_lent : GName → Item 𝓤
-    part_lent δ = ‵ ((MutSlice ℓ κ R).own_val (record { ref_ptr = (b, p); ghost_name = δ; now = mid }) (slice_val (b, p) (length mid) ∷ [])) ⊛ ‵ (flft κ q) ⊛ ‵ (follows (Array R 0) (Array R 0) γ δ (overwrite xs m))
+    part_lent δ = ‵ ((MutSlice ℓ κ R).own_val (record { ref_ptr = (b, p); ghost_name = δ; now = mid }) (slice_val (b, p) (length mid) ∷ [])) ⊛
+        ‵ (flft κ q) ⊛ ‵ (follows (Array R 0) (Array R 0) γ δ (overwrite xs m))
 
     abbrev pub PartLent : GName → SProp 𝓤
-    PartLent δ = sep 𝓤 (sem 𝓛 ((MutSlice ℓ κ R).own_val (record { ref_ptr = (b, p); ghost_name = δ; now = mid }) (slice_val (b, p) (length mid) ∷ []))) (sep 𝓤 (A.lft κ q) (sem 𝓛 (follows (Array R 0) (Array R 0) γ δ (overwrite xs m))))
+    PartLent δ = sep 𝓤 (sem 𝓛 ((MutSlice ℓ κ R).own_val (record { ref_ptr = (b, p); ghost_name = δ; now = mid }) (slice_val (b, p) (length mid) ∷ [])))
+        (sep 𝓤 (A.lft κ q) (sem 𝓛 (follows (Array R 0) (Array R 0) γ δ (overwrite xs m))))
 
     abbrev Others : SProp 𝓤
     Others = sep 𝓤 (sem 𝓛 (cells (mem R) front b o)) (sem 𝓛 (cells (mem R) back b (at p (mem R).size (length mid))))
 
-    put : (ws : List R.Denot) → ent 𝓤 (sep 𝓤 (sem 𝓛 ((Arr (mem R) (length mid)).own_at ws b p)) Others) (sem 𝓛 ((Arr (mem R) (length xs)).own_at (overwrite xs m ws) b o))
-    put ws = qed 𝓛 (‵ ((Arr (mem R) (length mid)).own_at ws b p) ∷ ‵ (cells (mem R) front b o) ∷ ‵ (cells (mem R) back b (at p (mem R).size (length mid))) ∷ []) ∵
+    put : (ws : List R.Denot) → ent 𝓤 (sep 𝓤 (sem 𝓛 ((Arr (mem R) (length mid)).own_at ws b p)) Others)
+        (sem 𝓛 ((Arr (mem R) (length xs)).own_at (overwrite xs m ws) b o))
+    put ws = qed 𝓛 (‵ ((Arr (mem R) (length mid)).own_at ws b p) ∷ ‵ (cells (mem R) front b o) ∷
+        ‵ (cells (mem R) back b (at p (mem R).size (length mid))) ∷ []) ∵
         fsplit ! $ feq_l ! (λ e.
         let is : overwrite xs m ws ≡ front ++ (ws ++ back) = ap (λ (l : List R.Denot). overwrite l m ws) cut ∙ overwrite_at front mid back ws m lf (sym e) in
         let whole : length xs ≡ length front + length (mid ++ back) = ap length cut ∙ length-append front (mid ++ back) in
@@ -66,23 +73,32 @@ module _ {M : Type 1} {𝓤 : Ura M} (𝓛 : Logic 𝓤) (ℓ : Lifetime) (κ : 
 
     pub lends_part : (vs : List Val)
         → ent 𝓤 (sep 𝓤 (sem 𝓛 ((MutSlice ℓ κ R).own_val (record { ref_ptr = (b, o); ghost_name = γ; now = xs }) vs)) (A.lft κ q)) (H.⇛ (ex 𝓤 PartLent))
-    lends_part vs = qed 𝓛 (‵ ((MutSlice ℓ κ R).own_val (record { ref_ptr = (b, o); ghost_name = γ; now = xs }) vs) ∷ ‵ (flft κ q) ∷ []) ∵ updating ! $ fsplit3 ! $ drop ! $
-        rewrite ! 0 (λ (l : List R.Denot). ‵ (fobs γ ((coded_list R.coded).code l))) (heres_id R xs) refl $ open_ref ! tt (Arr (mem R) (length xs)) {b = b} {o = o} $ fsplit ! $ drop ! $
+    lends_part vs = qed 𝓛 (‵ ((MutSlice ℓ κ R).own_val (record { ref_ptr = (b, o); ghost_name = γ; now = xs }) vs) ∷ ‵ (flft κ q) ∷ []) ∵ updating ! $
+        fsplit3 ! $ drop ! $
+        rewrite ! 0 (λ (l : List R.Denot). ‵ (fobs γ ((coded_list R.coded).code l))) (heres_id R xs) refl $
+        open_ref ! tt (Arr (mem R) (length xs)) {b = b} {o = o} $ fsplit ! $ drop ! $
         rewrite ! 0 (λ (l : List R.Denot). ‵ (cells (mem R) l b o)) cut refl $
-        use1 𝓛 (‵ (cells (mem R) front b o) ⊛ ‵ (cells (mem R) (mid ++ back) b (at o (mem R).size (length front)))) (cut_app 𝓛 (mem R) front (mid ++ back) b o) $ split ! $ move ! (1 ∷ []) $
+        use1 𝓛 (‵ (cells (mem R) front b o) ⊛ ‵ (cells (mem R) (mid ++ back) b (at o (mem R).size (length front))))
+        (cut_app 𝓛 (mem R) front (mid ++ back) b o) $ split ! $ move ! (1 ∷ []) $
         rewrite ! 0 (λ (k : ℕ). ‵ (cells (mem R) (mid ++ back) b k)) on refl $
         use1 𝓛 (‵ (cells (mem R) mid b p) ⊛ ‵ (cells (mem R) back b (at p (mem R).size (length mid)))) (cut_app 𝓛 (mem R) mid back b p) $ split ! $
         feq_i ! ℕ (length mid) (length mid) refl $ fjoin ! $ move ! (2 ∷ 1 ∷ []) $ join ! $ move ! (2 ∷ 3 ∷ 4 ∷ 1 ∷ 0 ∷ []) $ group ! 5 $
-        use1 𝓛 (later (some (λ (δ : GName). ‵ (fobs δ ((coded_list R.coded).code mid)) ⊛ ‵ (fbor κ (Body (Arr (mem R) (length mid)) b p δ)) ⊛ ‵ (flft κ q) ⊛ ‵ (follows (Array R 0) (Array R 0) γ δ (overwrite xs m)))))
-        (takes_part 𝓛 (Arr (mem R) (length xs)) (Arr (mem R) (length mid)) (overwrite xs m) κ q b o b p γ Others put ((coded_list R.coded).code xs) ((coded_list R.coded).code xs) mid) $ await ! tt $ pick ! (λ δ. split3 ! $
-        use2 𝓛 (‵ ((MutSlice ℓ κ R).own_val (record { ref_ptr = (b, p); ghost_name = δ; now = mid }) (slice_val (b, p) (length mid) ∷ []))) (slice_of 𝓛 R ℓ κ b p δ mid rm) $ now ! $ show ! PartLent δ $ done !)
+        use1 𝓛 (later (some (λ (δ : GName). ‵ (fobs δ ((coded_list R.coded).code mid)) ⊛ ‵ (fbor κ (Body (Arr (mem R) (length mid)) b p δ)) ⊛
+        ‵ (flft κ q) ⊛ ‵ (follows (Array R 0) (Array R 0) γ δ (overwrite xs m)))))
+        (takes_part 𝓛 (Arr (mem R) (length xs)) (Arr (mem R) (length mid)) (overwrite xs m) κ q b o b p γ Others put ((coded_list R.coded).code xs)
+        ((coded_list R.coded).code xs) mid) $ await ! tt $ pick ! (λ δ. split3 ! $
+        use2 𝓛 (‵ ((MutSlice ℓ κ R).own_val (record { ref_ptr = (b, p); ghost_name = δ; now = mid }) (slice_val (b, p) (length mid) ∷ [])))
+        (slice_of 𝓛 R ℓ κ b p δ mid rm) $ now ! $ show ! PartLent δ $ done !)
 
-  module _ (R : RattleType) (m : ℕ) (xs front : List R.Denot) (x : R.Denot) (back : List R.Denot) (cut : xs ≡ front ++ (x ∷ back)) (lf : length front ≡ m) (p : ℕ) (on : at o (mem R).size (length front) ≡ p) where
+  module _ (R : RattleType) (m : ℕ) (xs front : List R.Denot) (x : R.Denot) (back : List R.Denot) (cut : xs ≡ front ++ (x ∷ back)) (lf : length front ≡ m)
+      (p : ℕ) (on : at o (mem R).size (length front) ≡ p) where
     abbrev pub item_lent : GName → Item 𝓤
-    item_lent δ = ‵ ((MutRef ℓ κ R).own_val (record { ref_ptr = (b, p); ghost_name = δ; now = x }) (vptr b p ∷ [])) ⊛ ‵ (flft κ q) ⊛ ‵ (follows (Array R 0) R γ δ (set xs m))
+    item_lent δ = ‵ ((MutRef ℓ κ R).own_val (record { ref_ptr = (b, p); ghost_name = δ; now = x }) (vptr b p ∷ [])) ⊛ ‵ (flft κ q) ⊛
+        ‵ (follows (Array R 0) R γ δ (set xs m))
 
     abbrev pub ItemLent : GName → SProp 𝓤
-    ItemLent δ = sep 𝓤 (sem 𝓛 ((MutRef ℓ κ R).own_val (record { ref_ptr = (b, p); ghost_name = δ; now = x }) (vptr b p ∷ []))) (sep 𝓤 (A.lft κ q) (sem 𝓛 (follows (Array R 0) R γ δ (set xs m))))
+    ItemLent δ = sep 𝓤 (sem 𝓛 ((MutRef ℓ κ R).own_val (record { ref_ptr = (b, p); ghost_name = δ; now = x }) (vptr b p ∷ [])))
+        (sep 𝓤 (A.lft κ q) (sem 𝓛 (follows (Array R 0) R γ δ (set xs m))))
 
     abbrev Rest : SProp 𝓤
     Rest = sep 𝓤 (sem 𝓛 (cells (mem R) front b o)) (sem 𝓛 (cells (mem R) back b (at p (mem R).size 1)))
@@ -101,14 +117,19 @@ module _ {M : Type 1} {𝓤 : Ura M} (𝓛 : Logic 𝓤) (ℓ : Lifetime) (κ : 
 
     pub lends_item : (vs : List Val)
         → ent 𝓤 (sep 𝓤 (sem 𝓛 ((MutSlice ℓ κ R).own_val (record { ref_ptr = (b, o); ghost_name = γ; now = xs }) vs)) (A.lft κ q)) (H.⇛ (ex 𝓤 ItemLent))
-    lends_item vs = qed 𝓛 (‵ ((MutSlice ℓ κ R).own_val (record { ref_ptr = (b, o); ghost_name = γ; now = xs }) vs) ∷ ‵ (flft κ q) ∷ []) ∵ updating ! $ fsplit3 ! $ drop ! $
-        rewrite ! 0 (λ (l : List R.Denot). ‵ (fobs γ ((coded_list R.coded).code l))) (heres_id R xs) refl $ open_ref ! tt (Arr (mem R) (length xs)) {b = b} {o = o} $ fsplit ! $ drop ! $
+    lends_item vs = qed 𝓛 (‵ ((MutSlice ℓ κ R).own_val (record { ref_ptr = (b, o); ghost_name = γ; now = xs }) vs) ∷ ‵ (flft κ q) ∷ []) ∵ updating ! $
+        fsplit3 ! $ drop ! $
+        rewrite ! 0 (λ (l : List R.Denot). ‵ (fobs γ ((coded_list R.coded).code l))) (heres_id R xs) refl $
+        open_ref ! tt (Arr (mem R) (length xs)) {b = b} {o = o} $ fsplit ! $ drop ! $
         rewrite ! 0 (λ (l : List R.Denot). ‵ (cells (mem R) l b o)) cut refl $
-        use1 𝓛 (‵ (cells (mem R) front b o) ⊛ ‵ (cells (mem R) (x ∷ back) b (at o (mem R).size (length front)))) (cut_app 𝓛 (mem R) front (x ∷ back) b o) $ split ! $ move ! (1 ∷ []) $
+        use1 𝓛 (‵ (cells (mem R) front b o) ⊛ ‵ (cells (mem R) (x ∷ back) b (at o (mem R).size (length front)))) (cut_app 𝓛 (mem R) front (x ∷ back) b o) $
+        split ! $ move ! (1 ∷ []) $
         rewrite ! 0 (λ (k : ℕ). ‵ (cells (mem R) (x ∷ back) b k)) on refl $ fsplit ! $
         move ! (2 ∷ 1 ∷ []) $ join ! $ move ! (2 ∷ 3 ∷ 4 ∷ 1 ∷ 0 ∷ []) $ group ! 5 $
-        use1 𝓛 (later (some (λ (δ : GName). ‵ (fobs δ (R.coded.code x)) ⊛ ‵ (fbor κ (Body (mem R) b p δ)) ⊛ ‵ (flft κ q) ⊛ ‵ (follows (Array R 0) R γ δ (set xs m)))))
-        (takes_part 𝓛 (Arr (mem R) (length xs)) (mem R) (set xs m) κ q b o b p γ Rest put_item ((coded_list R.coded).code xs) ((coded_list R.coded).code xs) x) $ await ! tt $ pick ! (λ δ. split3 ! $
+        use1 𝓛 (later (some (λ (δ : GName). ‵ (fobs δ (R.coded.code x)) ⊛ ‵ (fbor κ (Body (mem R) b p δ)) ⊛ ‵ (flft κ q) ⊛
+        ‵ (follows (Array R 0) R γ δ (set xs m)))))
+        (takes_part 𝓛 (Arr (mem R) (length xs)) (mem R) (set xs m) κ q b o b p γ Rest put_item ((coded_list R.coded).code xs)
+        ((coded_list R.coded).code xs) x) $ await ! tt $ pick ! (λ δ. split3 ! $
         feq_i ! (List Val) (vptr b p ∷ []) (vptr b p ∷ []) refl $ fjoin3 ! $ now ! $ show ! ItemLent δ $ done !)
 
 -- the element behind a front part is what the list has there

@@ -36,7 +36,8 @@ ok_or_err (Err e) = inr (e, refl)
 abbrev pub pair_val : Val → Val → Val
 pair_val u v = vstruct (vcons u (vcons v vnil))
 
-pub pair_typed : (σ τ : Ty) (u v : Val) → T (has_ty σ u) × WT u → T (has_ty τ v) × WT v → T (has_tys (tcons σ (tcons τ tnil)) (vcons u (vcons v vnil))) × WT (pair_val u v)
+pub pair_typed : (σ τ : Ty) (u v : Val) → T (has_ty σ u) × WT u → T (has_ty τ v) × WT v →
+    T (has_tys (tcons σ (tcons τ tnil)) (vcons u (vcons v vnil))) × WT (pair_val u v)
 pair_typed σ τ u v s t = as_fields (σ ∷ τ ∷ []) (u ∷ v ∷ []) (s, (t, tt))
 
 pub pair_of : {M : Type 1} {𝓤 : Ura M} (𝓛 : Logic 𝓤) (R S : RattleType) (x : R.Denot) (y : S.Denot) (u v : Val)
@@ -51,14 +52,19 @@ module _ {M : Type 1} {𝓤 : Ura M} {𝓛 : Logic 𝓤} {K : Type 0} {Γ : List
   pub ok_had : K → (R E : RattleType) (x : R.Denot) (v : Val)
       → ((us : List Val) → v ≡ live 0 (of_list (us ++ [])) → Seq K 𝓛 (‵ (R.own_val x us) ∷ Γ) G) → Seq K 𝓛 (‵ ((RS.the_row R E).own_val (Ok x) (v ∷ [])) ∷ Γ) G
   ok_had t R E x v k =
-      fpick t (λ ps. fsplit t $ feq_l t (λ e. fpick t (λ vss. fsplit t $ feq_l t (λ f. fsplit t $ move t (1 ∷ []) $ drop t $ k vss.0 (ap only e ∙ ap (λ (l : List Val). live 0 (of_list l)) f)))))
+      fpick t (λ ps. fsplit t $ feq_l t
+      (λ e. fpick t (λ vss. fsplit t $
+      feq_l t (λ f. fsplit t $ move t (1 ∷ []) $ drop t $ k vss.0 (ap only e ∙ ap (λ (l : List Val). live 0 (of_list l)) f)))))
 
   pub err_had : K → (R E : RattleType) (x : E.Denot) (v : Val)
       → ((us : List Val) → v ≡ live 1 (of_list (us ++ [])) → Seq K 𝓛 (‵ (E.own_val x us) ∷ Γ) G) → Seq K 𝓛 (‵ ((RS.the_row R E).own_val (Err x) (v ∷ [])) ∷ Γ) G
   err_had t R E x v k =
-      fpick t (λ ps. fsplit t $ feq_l t (λ e. fpick t (λ vss. fsplit t $ feq_l t (λ f. fsplit t $ move t (1 ∷ []) $ drop t $ k vss.0 (ap only e ∙ ap (λ (l : List Val). live 1 (of_list l)) f)))))
+      fpick t (λ ps. fsplit t $ feq_l t
+      (λ e. fpick t (λ vss. fsplit t $
+      feq_l t (λ f. fsplit t $ move t (1 ∷ []) $ drop t $ k vss.0 (ap only e ∙ ap (λ (l : List Val). live 1 (of_list l)) f)))))
 
   -- the two parts of a pair
   pub pair_had : K → (R S : RattleType) (x : R.Denot) (y : S.Denot) (ws : List Val)
-      → ((us vs : List Val) → ws ≡ vstruct (of_list (us ++ (vs ++ []))) ∷ [] → Seq K 𝓛 (‵ (R.own_val x us) ∷ ‵ (S.own_val y vs) ∷ Γ) G) → Seq K 𝓛 (‵ ((Tuple (R ∷ S ∷ [])).own_val (x, y) ws) ∷ Γ) G
+      → ((us vs : List Val) → ws ≡ vstruct (of_list (us ++ (vs ++ []))) ∷ [] → Seq K 𝓛 (‵ (R.own_val x us) ∷ ‵ (S.own_val y vs) ∷ Γ) G) →
+      Seq K 𝓛 (‵ ((Tuple (R ∷ S ∷ [])).own_val (x, y) ws) ∷ Γ) G
   pair_had t R S x y ws k = fpick t (λ vss. fsplit t $ feq_l t (λ e. fsplit3 t $ move t (2 ∷ []) $ drop t $ k vss.0 vss.1.0 e))

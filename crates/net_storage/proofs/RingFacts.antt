@@ -1,15 +1,30 @@
 -- What the clauses of a ring's calls say, from its storage.
-use Rattle.std.proofs.Common.{◌≢◌, zero, suc, get_or, ◌≡◌, ℕ, ◌+◌, ◌-◌, ◌<◌, ◌≤◌, ◌⊎◌, List, [], ◌∷◌, ◌++◌, length, take, drop, min, refl, sym, ap, ap₂, ◌∙◌, subst, inl, inr, arith, length-append, length-drop, add-zero, nat_lt, if◌then◌else◌, Bool}
+use Rattle.std.proofs.Common.{◌≢◌, zero, suc, get_or, ◌≡◌, ℕ, ◌+◌, ◌-◌, ◌<◌, ◌≤◌, ◌⊎◌, List, []}
+use Rattle.std.proofs.Common.{◌∷◌, ◌++◌, length, take, drop, min, refl, sym, ap, ap₂, ◌∙◌, subst}
+use Rattle.std.proofs.Common.{inl, inr, arith, length-append, length-drop, add-zero, nat_lt}
+use Rattle.std.proofs.Common.{if◌then◌else◌, Bool}
 use Rattle.std.proofs.Common.{append_assoc, ⊎_elim, lt-ltb, le-ltb}
 use Rattle.std.proofs.lemmas.Bool.{cond-true, cond-false}
-use Rattle.std.proofs.lemmas.List.{drop-take, take_at, drop_at, take-take, drop-drop, length-take-le, take-append-drop, take_all, drop_all, append-nil, nil_from_length}
+use Rattle.std.proofs.lemmas.List.{drop-take, take_at, drop_at, take-take, drop-drop}
+use Rattle.std.proofs.lemmas.List.{length-take-le, take-append-drop, take_all, drop_all, append-nil}
+use Rattle.std.proofs.lemmas.List.{nil_from_length}
 use Rattle.std.proofs.lemmas.Bool.{false≢true, cases_lt, cases_eq, ne_eqb, eq-eqb}
 use Rattle.std.specs.Prelude.{Result, IsOk, IsErr, is_ok, slice_get}
 use Rattle.std.proofs.lemmas.Option.{slice_get_past}
 use Rattle.std.specs.declared.result.Result.TheVariants.{Ok, Err}
 use Rattle.net_storage.specs.Overwrite.{overwrite}
-use Rattle.net_storage.specs.Ring.{RingState, freed_index, rotation, ring, capacity, window, queue, spare, storage_index, write_at, WellFormed, with_elements, with_elements_wrapping, with_enqueued, with_dequeued, from_start_if_empty, contiguous_window, contiguous_queued, spare_index, contiguous_window_from, queue_index, contiguous_queued_from, Enqueued, Dequeued, SpareWritten, QueueWritten, EnqueuedFrom, DequeuedFrom}
-use Rattle.net_storage.proofs.Rotations.{IsStorageIndex, cut, length-rotation, overwrite_at, length-overwrite, storage_index_is, part-rotation, read_at_le, whole, length-queue, length-spare, spare-written, queue-written, with_enqueued_parts, with_dequeued_parts, take_sum}
+use Rattle.net_storage.specs.Ring.{RingState, freed_index, rotation, ring, capacity, window, queue}
+use Rattle.net_storage.specs.Ring.{spare, storage_index, write_at, WellFormed, with_elements}
+use Rattle.net_storage.specs.Ring.{with_elements_wrapping, with_enqueued, with_dequeued}
+use Rattle.net_storage.specs.Ring.{from_start_if_empty, contiguous_window, contiguous_queued}
+use Rattle.net_storage.specs.Ring.{spare_index, contiguous_window_from, queue_index}
+use Rattle.net_storage.specs.Ring.{contiguous_queued_from, Enqueued, Dequeued, SpareWritten}
+use Rattle.net_storage.specs.Ring.{QueueWritten, EnqueuedFrom, DequeuedFrom}
+use Rattle.net_storage.proofs.Rotations.{IsStorageIndex, cut, length-rotation, overwrite_at}
+use Rattle.net_storage.proofs.Rotations.{length-overwrite, storage_index_is, part-rotation}
+use Rattle.net_storage.proofs.Rotations.{read_at_le, whole, length-queue, length-spare}
+use Rattle.net_storage.proofs.Rotations.{spare-written, queue-written, with_enqueued_parts}
+use Rattle.net_storage.proofs.Rotations.{with_dequeued_parts, take_sum}
 
 module _ {T : Type 0} where
   -- ---- lists
@@ -174,7 +189,8 @@ module _ {T : Type 0} where
         (t.0, t.1 ∙ ap (λ (n : ℕ). drop n (spare g)) (sym long), refl)
 
     -- ---- elements that are dequeued
-    pub dequeued_from : (k : ℕ) (ws : List T) → k ≤ length ws → length ws ≤ contiguous_queued g → DequeuedFrom g k ws (with_elements (with_dequeued k g) g.read_at ws)
+    pub dequeued_from : (k : ℕ) (ws : List T) → k ≤ length ws → length ws ≤ contiguous_queued g →
+        DequeuedFrom g k ws (with_elements (with_dequeued k g) g.read_at ws)
     dequeued_from k ws le room =
         let w = with_elements g g.read_at ws in
         let wwf = written_wf g.read_at ws in
@@ -235,7 +251,8 @@ module _ {T : Type 0} where
           let two = wrapping_twice i p (take m ws) (drop m ws) (omega (arith, le, la, lb, past)) (omega (arith, la, within)) (omega (arith, lb, past)) at in
           let same : with_elements (with_elements g p (take m ws)) 0 (drop m ws) ≡ with_elements_wrapping g p ws =
           ap (λ b. ring b g.read_at g.count) (wrapping_is g.storage ws p m within n) in
-          subst (SpareWritten g i ws) same (subst (λ (l : List T). SpareWritten g i l (with_elements (with_elements g p (take m ws)) 0 (drop m ws))) (take-append-drop m ws) two)
+          subst (SpareWritten g i ws) same
+          (subst (λ (l : List T). SpareWritten g i l (with_elements (with_elements g p (take m ws)) 0 (drop m ws))) (take-append-drop m ws) two)
     ]
 
     -- ---- an index that is found within the window, or within the queue
@@ -631,7 +648,8 @@ module _ {T : Type 0} where
       subst (Enqueued g ws) (sym e) (q, p, t.2)
 
   -- ---- laws
-  pub restarted_is : (g : RingState T) → (queue (from_start_if_empty g) ≡ queue g) × ((from_start_if_empty g).count ≡ g.count) × ((from_start_if_empty g).storage ≡ g.storage)
+  pub restarted_is : (g : RingState T) → (queue (from_start_if_empty g) ≡ queue g) × ((from_start_if_empty g).count ≡ g.count)
+      × ((from_start_if_empty g).storage ≡ g.storage)
   restarted_is g = elim (cases_lt 0 g.count) [
     | inl h ↦ let e : from_start_if_empty g ≡ g = ap (λ t. if t then ring g.storage 0 0 else g) (ne_eqb g.count 0 (omega (arith, h)))
         in (ap (λ o. queue o) e, ap (λ o. o.count) e, ap (λ o. o.storage) e)
@@ -661,7 +679,8 @@ module _ {T : Type 0} where
       ring_is g h b er n
 
 -- a ring with an empty queue is read from the storage's beginning on, and any other is as it was
-pub restart_cases : {T : Type 0} (b : RingState T) → ((b.count ≡ 0) × (from_start_if_empty b ≡ ring b.storage 0 0)) ⊎ ((b.count ≢ 0) × (from_start_if_empty b ≡ b))
+pub restart_cases : {T : Type 0} (b : RingState T) → ((b.count ≡ 0) × (from_start_if_empty b ≡ ring b.storage 0 0)) ⊎
+    ((b.count ≢ 0) × (from_start_if_empty b ≡ b))
 restart_cases b = elim (cases_eq b.count 0) [
   | inl h ↦ inl (h, ap (λ (t : Bool). if t then ring b.storage 0 0 else b) (eq-eqb b.count 0 h))
   | inr h ↦ inr (h, ap (λ (t : Bool). if t then ring b.storage 0 0 else b) (ne_eqb b.count 0 h))

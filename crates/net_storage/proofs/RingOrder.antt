@@ -77,7 +77,8 @@ module _ {T : Type 0} where
       length-overwrite (overwrite g.storage p ws) 0 (drop (length g.storage - p) ws) ∙ length-overwrite g.storage p ws
 
   -- an empty ring that was moved to the storage's beginning
-  moved : (g : RingState T) → WellFormed g → WellFormed (from_start_if_empty g) × (queue (from_start_if_empty g) ≡ queue g) × (window (from_start_if_empty g) ≡ window g)
+  moved : (g : RingState T) → WellFormed g → WellFormed (from_start_if_empty g) × (queue (from_start_if_empty g) ≡ queue g)
+      × (window (from_start_if_empty g) ≡ window g)
   moved g ok =
       let same = facts.restarted_is g in
       (facts.restart_wf g ok, same.0, ap₂ (λ (s : List T) (n : ℕ). length s - n) same.2 same.1)

@@ -58,5 +58,6 @@ module _ (G : Given) where
 
   pub asked : {M : Type 1} {𝓤 : Ura M} (𝓛 : Logic 𝓤) (κs : Lfts 4) → Live κs → (P : SProp 𝓤) → ent 𝓤 P (Asked 𝓤 κs P)
   asked {𝓤 = 𝓤} 𝓛 κs live P =
-      qed 𝓛 (raw P ∷ []) ∵ use0 𝓛 (raw (fact 𝓤 (κs.1.1.1.0 ⊑ G.B.lives))) (fact_i 𝓤 _ (emp 𝓤) live.2) $ join ! $ use0 𝓛 (raw (fact 𝓤 (κs.1.1.0 ⊑ G.N.lives))) (fact_i 𝓤 _ (emp 𝓤) live.1) $ join ! $
+      qed 𝓛 (raw P ∷ []) ∵ use0 𝓛 (raw (fact 𝓤 (κs.1.1.1.0 ⊑ G.B.lives))) (fact_i 𝓤 _ (emp 𝓤) live.2) $ join ! $
+      use0 𝓛 (raw (fact 𝓤 (κs.1.1.0 ⊑ G.N.lives))) (fact_i 𝓤 _ (emp 𝓤) live.1) $ join ! $
       use0 𝓛 (raw (fact 𝓤 (κs.1.0 ⊑ G.H.lives))) (fact_i 𝓤 _ (emp 𝓤) live.0) $ join ! $ done !

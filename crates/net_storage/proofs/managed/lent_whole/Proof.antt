@@ -20,7 +20,9 @@ use contract.Lifetimes.{AllOutlive}
 use contract.Monad.{Fun}
 use contract.Running.{tables, tables_of}
 use sound.WpLaws.{WpFn-mono}
-use types.Kit.{‵, ◌⊛◌, raw, given, some, later, ◌$◌, ◌∵◌, !, qed, by, move, keep, drop, split, split3, join, fsplit, fsplit3, fjoin, rewrite, use1, use2, use3, await, pick, suffices, frame, done}
+use types.Kit.{‵, ◌⊛◌, raw, given, some, later, ◌$◌, ◌∵◌, !, qed, by, move, keep, drop, split}
+use types.Kit.{split3, join, fsplit, fsplit3, fjoin, rewrite, use1, use2, use3, await, pick}
+use types.Kit.{suffices, frame, done}
 use types.Part.{whole, sub, look_in, agg}
 use types.Run.{stop, fld, hop, addr, of_opd, load, no_more, and_then, returns, enter}
 use types.ByLocal.{alloc_all, pass_all, free_all, look_at, get, through, sets}
@@ -73,7 +75,8 @@ module _ (X : RattleType) {M : Type 1} {𝓤 : Ura M} (𝓛 : Logic 𝓤) (at_me
   abbrev clauses : Clauses 𝓤 (ended X)
   clauses = F.clauses X 𝓛 at_mem run
 
-  module _ (C : Calls 𝓤 H) (Λ : Loops 𝓤 H) (κ κA κT : Lft) (q qA qT : Share) (bd : AllOutlive 3 (ended X).signature.outlives (κ, (κA, (κT, tt)))) (self : MutBor (MutBor (List (R X).Denot))) where
+  module _ (C : Calls 𝓤 H) (Λ : Loops 𝓤 H) (κ κA κT : Lft) (q qA qT : Share) (bd : AllOutlive 3 (ended X).signature.outlives (κ, (κA, (κT, tt))))
+      (self : MutBor (MutBor (List (R X).Denot))) where
     abbrev inner : MutBor (List (R X).Denot)
     inner = self.now
 
@@ -113,12 +116,15 @@ module _ (X : RattleType) {M : Type 1} {𝓤 : Ura M} (𝓛 : Logic 𝓤) (at_me
         rewrite ! 0 Cell (sym ok.0.0) refl $ closes ! tt Sl inner us b o $
         sets ! (agg ! (and_then ! (get ! refl) (and_then ! (get ! refl) (no_more !)))) refl (tt, (tt, (record { fits = rm.0 }, tt))) $
         let γ : GName = self.ghost_name in
-        use3 𝓛 (later (some (λ (δ : GName). ‵ ((MutSlice (named 0) κ (R X)).own_val (renamed inner δ) (mut_slice_vals inner)) ⊛ ‵ (flft κ q) ⊛ ‵ (follows Sl (Array (R X) 0) γ δ (at_last inner)))))
+        use3 𝓛 (later (some (λ (δ : GName). ‵ ((MutSlice (named 0) κ (R X)).own_val (renamed inner δ) (mut_slice_vals inner)) ⊛ ‵ (flft κ q) ⊛
+        ‵ (follows Sl (Array (R X) 0) γ δ (at_last inner)))))
         (lends_inner_slice 𝓛 (R X) (named 0) (named 1) κ κA self bd.0 rm q) $ await ! tt $ pick ! (λ δ. split3 ! $ move ! (0 ∷ 1 ∷ []) $
-        use2 𝓛 (later (some (part_lent 𝓛 (named 0) κ q c d δ (R X) 0 xs [] xs [] cut refl d refl rm))) (lends_part 𝓛 (named 0) κ q c d δ (R X) 0 xs [] xs [] cut refl d refl rm (mut_slice_vals inner)) $ await ! tt $ pick ! (λ δ'. split3 ! $
+        use2 𝓛 (later (some (part_lent 𝓛 (named 0) κ q c d δ (R X) 0 xs [] xs [] cut refl d refl rm)))
+        (lends_part 𝓛 (named 0) κ q c d δ (R X) 0 xs [] xs [] cut refl d refl rm (mut_slice_vals inner)) $ await ! tt $ pick ! (λ δ'. split3 ! $
         let r : MutBor (List (R X).Denot) = record { ref_ptr = (c, d); ghost_name = δ'; now = xs } in
         move ! (3 ∷ 2 ∷ []) $
-        use2 𝓛 (‵ (follows Sl (Array (R X) 0) γ δ' (λ w. at_last inner (overwrite xs 0 w)))) (follows_then 𝓛 Sl (Array (R X) 0) (Array (R X) 0) (at_last inner) (overwrite xs 0) γ δ δ') $
+        use2 𝓛 (‵ (follows Sl (Array (R X) 0) γ δ' (λ w. at_last inner (overwrite xs 0 w))))
+        (follows_then 𝓛 Sl (Array (R X) 0) (Array (R X) 0) (at_last inner) (overwrite xs 0) γ δ δ') $
         returns ! (look_at ! 0 refl) $ free_all ! refl $ keep ! (1 ∷ 2 ∷ 0 ∷ 5 ∷ []) $
         suffices ! _ (ends_at 𝓛 (ended X) (stayed X) clauses bound (slice_val (c, d) (length xs)) r (tt, tt) (tt, tt)) $
         nothing ! $ nothing ! $ fjoin ! $ join ! $ move ! (1 ∷ 3 ∷ []) $ join ! $ join ! $ frame ! $ says ! refl $ done !)))))
@@ -126,8 +132,10 @@ module _ (X : RattleType) {M : Type 1} {𝓤 : Ura M} (𝓛 : Logic 𝓤) (at_me
   meets : (𝓣 : Tables 𝓤 H) → Meets 𝓛 (ended X).signature (WpFn 𝓤 H 𝓣.C 𝓣.Λ (function X)) (closing 𝓛 (ended X) clauses)
   meets 𝓣 =
       walk_Meets 𝓛 (ended X) (stayed X)
-      (Goes-spent_ref 𝓛 3 (0 ∷ []) tt (mut_slice_of (1 ∷ []) tt (plain (λ _. R X))), tt) clauses (WpFn 𝓤 H 𝓣.C 𝓣.Λ (function X)) (WpFn-mono 𝓤 H 𝓛.laws 𝓣 (function X))
-      (walked 𝓛 (ended X) (stayed X) clauses (WpFn 𝓤 H 𝓣.C 𝓣.Λ (function X)) (λ κs. (mut_vals, tt)) (λ κs. (mut_Tells (named 0) κs.0 (MutSlice (named 1) κs.1.0 (R X)), tt))
+      (Goes-spent_ref 𝓛 3 (0 ∷ []) tt (mut_slice_of (1 ∷ []) tt (plain (λ _. R X))), tt) clauses (WpFn 𝓤 H 𝓣.C 𝓣.Λ (function X))
+      (WpFn-mono 𝓤 H 𝓛.laws 𝓣 (function X))
+      (walked 𝓛 (ended X) (stayed X) clauses (WpFn 𝓤 H 𝓣.C 𝓣.Λ (function X)) (λ κs. (mut_vals, tt))
+      (λ κs. (mut_Tells (named 0) κs.0 (MutSlice (named 1) κs.1.0 (R X)), tt))
       (λ κs qs bounds a g are.
       let On : SProp 𝓤 = on_entry 𝓛 (ended X).signature κs qs a (mut_vals a.0, tt) in
       qed 𝓛 (raw On ∷ (given (κs.1.1.0 ⊑ X.lives) (‵ ftrue) ⊛ ‵ ftrue) ∷ []) ∵ move ! (1 ∷ []) $ drop ! $

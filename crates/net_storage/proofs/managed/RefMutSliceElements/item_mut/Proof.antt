@@ -22,7 +22,9 @@ use contract.Lifetimes.{AllOutlive}
 use contract.Monad.{Fun}
 use contract.Running.{tables, tables_of}
 use sound.WpLaws.{WpFn-mono}
-use types.Kit.{‵, ◌⊛◌, raw, given, some, later, ◌$◌, ◌∵◌, !, qed, by, move, keep, drop, split, split3, join, learn, fsplit, fsplit3, fjoin, rewrite, use1, use2, use3, await, pick, suffices, frame, done}
+use types.Kit.{‵, ◌⊛◌, raw, given, some, later, ◌$◌, ◌∵◌, !, qed, by, move, keep, drop, split}
+use types.Kit.{split3, join, learn, fsplit, fsplit3, fjoin, rewrite, use1, use2, use3, await, pick}
+use types.Kit.{suffices, frame, done}
 use types.Part.{whole, sub, look_in}
 use types.Run.{stop, fld, addr, bin, load, returns, enter, size_word}
 use types.ByLocal.{alloc_all, pass_all, free_all, look_at, get, through, sets, is}
@@ -79,7 +81,8 @@ module _ (X : RattleType) {M : Type 1} {𝓤 : Ura M} (𝓛 : Logic 𝓤) (at_me
   abbrev clauses : Clauses 𝓤 (ended X)
   clauses = F.clauses X 𝓛 at_mem run
 
-  module _ (C : Calls 𝓤 H) (Λ : Loops 𝓤 H) (κ κA κT : Lft) (q qA qT : Share) (bd : AllOutlive 3 (ended X).signature.outlives (κ, (κA, (κT, tt)))) (self : MutBor (MutBor (List (R X).Denot))) (m : ℕ) where
+  module _ (C : Calls 𝓤 H) (Λ : Loops 𝓤 H) (κ κA κT : Lft) (q qA qT : Share) (bd : AllOutlive 3 (ended X).signature.outlives (κ, (κA, (κT, tt))))
+      (self : MutBor (MutBor (List (R X).Denot))) (m : ℕ) where
     abbrev inner : MutBor (List (R X).Denot)
     inner = self.now
 
@@ -112,7 +115,8 @@ module _ (X : RattleType) {M : Type 1} {𝓤 : Ura M} (𝓛 : Logic 𝓤) (at_me
         let back : List X.Denot = first.1 in
         let cut : xs ≡ front ++ (x ∷ back) = sym (take-append-drop m xs) ∙ ap (λ (l : List X.Denot). front ++ l) first.2 in
         let on : at d s (length front) ≡ m * s + d = at_mul d s (length front) ∙ ap (λ (k : ℕ). k * s + d) lf in
-        qed 𝓛 ((‵ (flft κ q) ⊛ ‵ (flft κA qA) ⊛ ‵ (flft κT qT) ⊛ ‵ ftrue) ∷ ‵ (owns (MutRef (named 0) κ Sl ∷ usize ∷ []) (self, (m, tt)) (mut_vals self, (vint w64 m ∷ [], tt))) ∷ []) ∵
+        qed 𝓛 ((‵ (flft κ q) ⊛ ‵ (flft κA qA) ⊛ ‵ (flft κT qT) ⊛ ‵ ftrue) ∷
+        ‵ (owns (MutRef (named 0) κ Sl ∷ usize ∷ []) (self, (m, tt)) (mut_vals self, (vint w64 m ∷ [], tt))) ∷ []) ∵
         split ! $ move ! (2 ∷ []) $ fsplit ! $ fsplit3 ! $ move ! (1 ∷ 2 ∷ 4 ∷ []) $
         enter ! C Λ (function X) (vptr b o ∷ vint w64 m ∷ []) _ $
         alloc_all ! (λ l. pass_all ! refl ((tt, tt), ((tt, record { fits = fm }), tt)) $
@@ -125,28 +129,34 @@ module _ (X : RattleType) {M : Type 1} {𝓤 : Ura M} (𝓛 : Logic 𝓤) (at_me
         let v : Val = slice_val (c, d) (length xs) in
         rewrite ! 1 Cell ok.0.0 refl $ move ! (1 ∷ []) $
         use1 𝓛 (‵ (fat full_share written b o v)) (𝓛.laws.raw_at full_share written b o v) $
-        sets ! (is ! (bin ! (get ! refl) (size_word !) (record { fits = subst (λ (k : ℕ). k < 2 ^ 64) (sym (uncapped m s fs)) fs })) (ap (vint w64) (uncapped m s fs))) refl (tt, record { fits = fs }) $
+        sets ! (is ! (bin ! (get ! refl) (size_word !) (record { fits = subst (λ (k : ℕ). k < 2 ^ 64) (sym (uncapped m s fs)) fs }))
+        (ap (vint w64) (uncapped m s fs))) refl (tt, record { fits = fs }) $
         sets ! (bin ! (load ! (through ! refl (fld ! refl (stop !))) (look_in ! 0 (sub ! 0 refl (whole !)))) (get ! refl) tt) refl (tt, tt) $
         use1 𝓛 (‵ (fat full_share (bare written) b o v)) (𝓛.laws.at_raw full_share written b o v) $
         rewrite ! 0 Cell (sym ok.0.0) refl $ closes ! tt Sl inner us b o $
         sets ! (addr ! (through ! refl (stop !))) refl (tt, tt) $
         let γ : GName = self.ghost_name in
         let p : ℕ = m * s + d in
-        use3 𝓛 (later (some (λ (δ : GName). ‵ ((MutSlice (named 0) κ (R X)).own_val (renamed inner δ) (mut_slice_vals inner)) ⊛ ‵ (flft κ q) ⊛ ‵ (follows Sl (Array (R X) 0) γ δ (at_last inner)))))
+        use3 𝓛 (later (some (λ (δ : GName). ‵ ((MutSlice (named 0) κ (R X)).own_val (renamed inner δ) (mut_slice_vals inner)) ⊛ ‵ (flft κ q) ⊛
+        ‵ (follows Sl (Array (R X) 0) γ δ (at_last inner)))))
         (lends_inner_slice 𝓛 (R X) (named 0) (named 1) κ κA self bd.0 rm q) $ await ! tt $ pick ! (λ δ. split3 ! $ move ! (0 ∷ 1 ∷ []) $
-        use2 𝓛 (later (some (item_lent 𝓛 (named 0) κ q c d δ (R X) m xs front x back cut lf p on))) (lends_item 𝓛 (named 0) κ q c d δ (R X) m xs front x back cut lf p on (mut_slice_vals inner)) $ await ! tt $ pick ! (λ δ'. split3 ! $
+        use2 𝓛 (later (some (item_lent 𝓛 (named 0) κ q c d δ (R X) m xs front x back cut lf p on)))
+        (lends_item 𝓛 (named 0) κ q c d δ (R X) m xs front x back cut lf p on (mut_slice_vals inner)) $ await ! tt $ pick ! (λ δ'. split3 ! $
         let r : MutBor (R X).Denot = record { ref_ptr = (c, p); ghost_name = δ'; now = x } in
         move ! (3 ∷ 2 ∷ []) $
         use2 𝓛 (‵ (follows Sl (R X) γ δ' (λ w. at_last inner (set xs m w)))) (follows_then 𝓛 Sl (Array (R X) 0) (R X) (at_last inner) (set xs m) γ δ δ') $
         returns ! (look_at ! 0 refl) $ free_all ! refl $ keep ! (1 ∷ 2 ∷ 0 ∷ 5 ∷ []) $
         suffices ! _ (ends_at 𝓛 (ended X) (stayed X) clauses bound (vptr c p) r (tt, (tt, tt)) (tt, (tt, tt))) $
-        nothing ! $ nothing ! $ fjoin ! $ nothing ! $ fjoin ! $ join ! $ move ! (1 ∷ 3 ∷ []) $ join ! $ join ! $ frame ! $ says ! (here_or front back x xs m lf cut) $ done !)))))
+        nothing ! $ nothing ! $ fjoin ! $ nothing ! $ fjoin ! $ join ! $ move ! (1 ∷ 3 ∷ []) $ join ! $ join ! $ frame ! $
+        says ! (here_or front back x xs m lf cut) $ done !)))))
 
   meets : (𝓣 : Tables 𝓤 H) → Meets 𝓛 (ended X).signature (WpFn 𝓤 H 𝓣.C 𝓣.Λ (function X)) (closing 𝓛 (ended X) clauses)
   meets 𝓣 =
       walk_Meets 𝓛 (ended X) (stayed X)
-      (Goes-spent_ref 𝓛 3 (0 ∷ []) tt (mut_slice_of (1 ∷ []) tt (plain (λ _. R X))), (Goes-dropped 𝓛 3 (plain (λ _. usize)) yes (λ κs x f. refl), tt)) clauses (WpFn 𝓤 H 𝓣.C 𝓣.Λ (function X)) (WpFn-mono 𝓤 H 𝓛.laws 𝓣 (function X))
-      (walked 𝓛 (ended X) (stayed X) clauses (WpFn 𝓤 H 𝓣.C 𝓣.Λ (function X)) (λ κs. (mut_vals, (uint_vals w64, tt))) (λ κs. (mut_Tells (named 0) κs.0 (MutSlice (named 1) κs.1.0 (R X)), (uint_Tells w64, tt)))
+      (Goes-spent_ref 𝓛 3 (0 ∷ []) tt (mut_slice_of (1 ∷ []) tt (plain (λ _. R X))), (Goes-dropped 𝓛 3 (plain (λ _. usize)) yes (λ κs x f. refl), tt))
+      clauses (WpFn 𝓤 H 𝓣.C 𝓣.Λ (function X)) (WpFn-mono 𝓤 H 𝓛.laws 𝓣 (function X))
+      (walked 𝓛 (ended X) (stayed X) clauses (WpFn 𝓤 H 𝓣.C 𝓣.Λ (function X)) (λ κs. (mut_vals, (uint_vals w64, tt)))
+      (λ κs. (mut_Tells (named 0) κs.0 (MutSlice (named 1) κs.1.0 (R X)), (uint_Tells w64, tt)))
       (λ κs qs bounds a g are.
       let On : SProp 𝓤 = on_entry 𝓛 (ended X).signature κs qs a (mut_vals a.0, (vint w64 a.1.0 ∷ [], tt)) in
       qed 𝓛 (raw On ∷ (given (κs.1.1.0 ⊑ X.lives) (‵ ftrue) ⊛ given (a.1.0 < length a.0.now.now) (‵ ftrue)) ∷ []) ∵

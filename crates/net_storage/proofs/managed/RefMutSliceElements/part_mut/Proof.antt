@@ -22,7 +22,9 @@ use contract.Lifetimes.{AllOutlive}
 use contract.Monad.{Fun}
 use contract.Running.{tables, tables_of}
 use sound.WpLaws.{WpFn-mono}
-use types.Kit.{‵, ◌⊛◌, raw, given, some, later, ◌$◌, ◌∵◌, !, qed, by, move, keep, drop, split, split3, join, learn, fsplit, fsplit3, fjoin, rewrite, use1, use2, use3, await, pick, suffices, frame, done}
+use types.Kit.{‵, ◌⊛◌, raw, given, some, later, ◌$◌, ◌∵◌, !, qed, by, move, keep, drop, split}
+use types.Kit.{split3, join, learn, fsplit, fsplit3, fjoin, rewrite, use1, use2, use3, await, pick}
+use types.Kit.{suffices, frame, done}
 use types.Part.{whole, sub, look_in, agg}
 use types.Run.{stop, fld, hop, addr, bin, of_opd, load, no_more, and_then, returns, enter, size_word}
 use types.ByLocal.{alloc_all, pass_all, free_all, look_at, get, get_in, through, sets, is}
@@ -70,7 +72,10 @@ module _ (X : RattleType) where
   ended = F.ended X
 
   abbrev stayed : Stays ended.signature.params ended.kept
-  stayed = (stay_dropped (mut_ref_to (0 ∷ []) tt (mut_slice_of (1 ∷ []) tt (plain (λ _. R)))) no, (stay_dropped (plain (λ _. usize)) yes, (stay_dropped (plain (λ _. usize)) yes, tt)))
+  stayed = (
+    stay_dropped (mut_ref_to (0 ∷ []) tt (mut_slice_of (1 ∷ []) tt (plain (λ _. R)))) no,
+    (stay_dropped (plain (λ _. usize)) yes, (stay_dropped (plain (λ _. usize)) yes, tt)),
+  )
 
 module _ (X : RattleType) {M : Type 1} {𝓤 : Ura M} (𝓛 : Logic 𝓤) (at_mem : Memory → SProp 𝓤) (run : Routine → Fun 𝓤) where
   open 𝓛 use {H}
@@ -78,7 +83,8 @@ module _ (X : RattleType) {M : Type 1} {𝓤 : Ura M} (𝓛 : Logic 𝓤) (at_me
   abbrev clauses : Clauses 𝓤 (ended X)
   clauses = F.clauses X 𝓛 at_mem run
 
-  module _ (C : Calls 𝓤 H) (Λ : Loops 𝓤 H) (κ κA κT : Lft) (q qA qT : Share) (bd : AllOutlive 3 (ended X).signature.outlives (κ, (κA, (κT, tt)))) (self : MutBor (MutBor (List (R X).Denot))) (m e : ℕ) where
+  module _ (C : Calls 𝓤 H) (Λ : Loops 𝓤 H) (κ κA κT : Lft) (q qA qT : Share) (bd : AllOutlive 3 (ended X).signature.outlives (κ, (κA, (κT, tt))))
+      (self : MutBor (MutBor (List (R X).Denot))) (m e : ℕ) where
     abbrev inner : MutBor (List (R X).Denot)
     inner = self.now
 
@@ -95,7 +101,8 @@ module _ (X : RattleType) {M : Type 1} {𝓤 : Ura M} (𝓛 : Logic 𝓤) (at_me
     Post = (walk_of 𝓛 (ended X) (stayed X) clauses).post bound
 
     walk : m < 2 ^ 64 → e < 2 ^ 64 → m ≤ e → e ≤ length xs
-        → ent 𝓤 (on_entry 𝓛 (ended X).signature (κ, (κA, (κT, tt))) (q, (qA, (qT, tt))) (self, (m, (e, tt))) (mut_vals self, (vint w64 m ∷ [], (vint w64 e ∷ [], tt))))
+        → ent 𝓤 (on_entry 𝓛 (ended X).signature (κ, (κA, (κT, tt))) (q, (qA, (qT, tt))) (self, (m, (e, tt)))
+        (mut_vals self, (vint w64 m ∷ [], (vint w64 e ∷ [], tt))))
         (WpFn 𝓤 H C Λ (function X) (vptr self.ref_ptr.0 self.ref_ptr.1 ∷ vint w64 m ∷ vint w64 e ∷ []) Post)
     walk fm fe me el =
         let b : ℕ = self.ref_ptr.0 in
@@ -110,9 +117,11 @@ module _ (X : RattleType) {M : Type 1} {𝓤 : Ura M} (𝓛 : Logic 𝓤) (at_me
         let lf : length front ≡ m = length-take-le m xs (omega arith) in
         let lb : length (drop_list m xs) ≡ length xs - m = length-drop m xs in
         let long : length mid ≡ e - m = length-take-le (e - m) (drop_list m xs) (omega arith) in
-        let cut : xs ≡ front ++ (mid ++ back) = sym (take-append-drop m xs) ∙ ap (λ (l : List X.Denot). front ++ l) (sym (take-append-drop (e - m) (drop_list m xs))) in
+        let cut : xs ≡ front ++ (mid ++ back) = sym (take-append-drop m xs)
+        ∙ ap (λ (l : List X.Denot). front ++ l) (sym (take-append-drop (e - m) (drop_list m xs))) in
         let on : at d s (length front) ≡ m * s + d = at_mul d s (length front) ∙ ap (λ (k : ℕ). k * s + d) lf in
-        qed 𝓛 ((‵ (flft κ q) ⊛ ‵ (flft κA qA) ⊛ ‵ (flft κT qT) ⊛ ‵ ftrue) ∷ ‵ (owns (MutRef (named 0) κ Sl ∷ usize ∷ usize ∷ []) (self, (m, (e, tt))) (mut_vals self, (vint w64 m ∷ [], (vint w64 e ∷ [], tt)))) ∷ []) ∵
+        qed 𝓛 ((‵ (flft κ q) ⊛ ‵ (flft κA qA) ⊛ ‵ (flft κT qT) ⊛ ‵ ftrue) ∷
+        ‵ (owns (MutRef (named 0) κ Sl ∷ usize ∷ usize ∷ []) (self, (m, (e, tt))) (mut_vals self, (vint w64 m ∷ [], (vint w64 e ∷ [], tt)))) ∷ []) ∵
         split ! $ move ! (2 ∷ []) $ fsplit ! $ fsplit3 ! $ move ! (1 ∷ 2 ∷ 4 ∷ []) $
         enter ! C Λ (function X) (vptr b o ∷ vint w64 m ∷ vint w64 e ∷ []) _ $
         alloc_all ! (λ l. pass_all ! refl ((tt, tt), ((tt, record { fits = fm }), ((tt, record { fits = fe }), tt))) $
@@ -132,7 +141,8 @@ module _ (X : RattleType) {M : Type 1} {𝓤 : Ura M} (𝓛 : Logic 𝓤) (at_me
         use1 𝓛 (‵ (fat full_share (bare written) b o v)) (𝓛.laws.at_raw full_share written b o v) $
         rewrite ! 0 Cell (sym ok.0.0) refl $ closes ! tt Sl inner us b o $
         sets ! (agg ! (and_then ! (get ! refl) (and_then ! (get ! refl) (no_more !)))) refl (tt, (tt, (record { fits = fn }, tt))) $
-        sets ! (is ! (bin ! (get ! refl) (size_word !) (record { fits = subst (λ (k : ℕ). k < 2 ^ 64) (sym (uncapped m s fs)) fs })) (ap (vint w64) (uncapped m s fs))) refl (tt, record { fits = fs }) $
+        sets ! (is ! (bin ! (get ! refl) (size_word !) (record { fits = subst (λ (k : ℕ). k < 2 ^ 64) (sym (uncapped m s fs)) fs }))
+        (ap (vint w64) (uncapped m s fs))) refl (tt, record { fits = fs }) $
         sets ! (bin ! (get_in ! (fld ! refl (stop !)) (sub ! 0 refl (whole !))) (get ! refl) tt) refl (tt, tt) $
         sets ! (bin ! (get ! refl) (get ! refl) me) refl (tt, record { fits = fr }) $
         sets ! (addr ! (through ! refl (stop !))) refl (tt, tt) $
@@ -140,22 +150,30 @@ module _ (X : RattleType) {M : Type 1} {𝓤 : Ura M} (𝓛 : Logic 𝓤) (at_me
         let γ : GName = self.ghost_name in
         let p : ℕ = m * s + d in
         let rm' : Room (R X) (length mid) = (omega arith, omega arith) in
-        use3 𝓛 (later (some (λ (δ : GName). ‵ ((MutSlice (named 0) κ (R X)).own_val (renamed inner δ) (mut_slice_vals inner)) ⊛ ‵ (flft κ q) ⊛ ‵ (follows Sl (Array (R X) 0) γ δ (at_last inner)))))
+        use3 𝓛 (later (some (λ (δ : GName). ‵ ((MutSlice (named 0) κ (R X)).own_val (renamed inner δ) (mut_slice_vals inner)) ⊛ ‵ (flft κ q) ⊛
+        ‵ (follows Sl (Array (R X) 0) γ δ (at_last inner)))))
         (lends_inner_slice 𝓛 (R X) (named 0) (named 1) κ κA self bd.0 rm q) $ await ! tt $ pick ! (λ δ. split3 ! $ move ! (0 ∷ 1 ∷ []) $
-        use2 𝓛 (later (some (part_lent 𝓛 (named 0) κ q c d δ (R X) m xs front mid back cut lf p on rm'))) (lends_part 𝓛 (named 0) κ q c d δ (R X) m xs front mid back cut lf p on rm' (mut_slice_vals inner)) $ await ! tt $ pick ! (λ δ'. split3 ! $
+        use2 𝓛 (later (some (part_lent 𝓛 (named 0) κ q c d δ (R X) m xs front mid back cut lf p on rm')))
+        (lends_part 𝓛 (named 0) κ q c d δ (R X) m xs front mid back cut lf p on rm' (mut_slice_vals inner)) $ await ! tt $ pick ! (λ δ'. split3 ! $
         let r : MutBor (List (R X).Denot) = record { ref_ptr = (c, p); ghost_name = δ'; now = mid } in
         move ! (3 ∷ 2 ∷ []) $
-        use2 𝓛 (‵ (follows Sl (Array (R X) 0) γ δ' (λ w. at_last inner (overwrite xs m w)))) (follows_then 𝓛 Sl (Array (R X) 0) (Array (R X) 0) (at_last inner) (overwrite xs m) γ δ δ') $
+        use2 𝓛 (‵ (follows Sl (Array (R X) 0) γ δ' (λ w. at_last inner (overwrite xs m w))))
+        (follows_then 𝓛 Sl (Array (R X) 0) (Array (R X) 0) (at_last inner) (overwrite xs m) γ δ δ') $
         rewrite ! 1 (λ (k : ℕ). ‵ ((MutSlice (named 0) κ (R X)).own_val r (slice_val (c, p) k ∷ []))) long refl $
         returns ! (look_at ! 0 refl) $ free_all ! refl $ keep ! (1 ∷ 2 ∷ 0 ∷ 5 ∷ []) $
         suffices ! _ (ends_at 𝓛 (ended X) (stayed X) clauses bound (slice_val (c, p) (e - m)) r (tt, (tt, (tt, tt))) (tt, (tt, (tt, tt)))) $
-        nothing ! $ nothing ! $ fjoin ! $ nothing ! $ fjoin ! $ nothing ! $ fjoin ! $ join ! $ move ! (1 ∷ 3 ∷ []) $ join ! $ join ! $ frame ! $ says ! refl $ done !)))))
+        nothing ! $ nothing ! $ fjoin ! $ nothing ! $ fjoin ! $ nothing ! $ fjoin ! $ join ! $ move ! (1 ∷ 3 ∷ []) $ join ! $ join ! $ frame ! $
+        says ! refl $ done !)))))
 
   meets : (𝓣 : Tables 𝓤 H) → Meets 𝓛 (ended X).signature (WpFn 𝓤 H 𝓣.C 𝓣.Λ (function X)) (closing 𝓛 (ended X) clauses)
   meets 𝓣 =
-      walk_Meets 𝓛 (ended X) (stayed X)
-      (Goes-spent_ref 𝓛 3 (0 ∷ []) tt (mut_slice_of (1 ∷ []) tt (plain (λ _. R X))), (Goes-dropped 𝓛 3 (plain (λ _. usize)) yes (λ κs x f. refl), (Goes-dropped 𝓛 3 (plain (λ _. usize)) yes (λ κs x f. refl), tt))) clauses (WpFn 𝓤 H 𝓣.C 𝓣.Λ (function X)) (WpFn-mono 𝓤 H 𝓛.laws 𝓣 (function X))
-      (walked 𝓛 (ended X) (stayed X) clauses (WpFn 𝓤 H 𝓣.C 𝓣.Λ (function X)) (λ κs. (mut_vals, (uint_vals w64, (uint_vals w64, tt)))) (λ κs. (mut_Tells (named 0) κs.0 (MutSlice (named 1) κs.1.0 (R X)), (uint_Tells w64, (uint_Tells w64, tt))))
+      walk_Meets 𝓛 (ended X) (stayed X) (
+        Goes-spent_ref 𝓛 3 (0 ∷ []) tt (mut_slice_of (1 ∷ []) tt (plain (λ _. R X))),
+        (Goes-dropped 𝓛 3 (plain (λ _. usize)) yes (λ κs x f. refl), (Goes-dropped 𝓛 3 (plain (λ _. usize)) yes (λ κs x f. refl), tt)),
+      ) clauses
+      (WpFn 𝓤 H 𝓣.C 𝓣.Λ (function X)) (WpFn-mono 𝓤 H 𝓛.laws 𝓣 (function X))
+      (walked 𝓛 (ended X) (stayed X) clauses (WpFn 𝓤 H 𝓣.C 𝓣.Λ (function X)) (λ κs. (mut_vals, (uint_vals w64, (uint_vals w64, tt))))
+      (λ κs. (mut_Tells (named 0) κs.0 (MutSlice (named 1) κs.1.0 (R X)), (uint_Tells w64, (uint_Tells w64, tt))))
       (λ κs qs bounds a g are.
       let On : SProp 𝓤 = on_entry 𝓛 (ended X).signature κs qs a (mut_vals a.0, (vint w64 a.1.0 ∷ [], (vint w64 a.1.1.0 ∷ [], tt))) in
       qed 𝓛 (raw On ∷ (given (κs.1.1.0 ⊑ X.lives) (‵ ftrue) ⊛ given ((a.1.0 ≤ a.1.1.0) × (a.1.1.0 ≤ length a.0.now.now)) (‵ ftrue)) ∷ []) ∵

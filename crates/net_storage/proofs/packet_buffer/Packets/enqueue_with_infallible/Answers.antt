@@ -97,7 +97,8 @@ returns-clause-wrote g c =
     let count = c.f-count.result in
     let b1 = c.restart.new.self in
     let put : queue c.push_slots.new.slots ≡ queue m ++ (gap_slot c.in-Some.gap ++ (slot count (Some c.args.header) ∷ [])) = search rules in
-    let filled : c.enqueue_unallocated.new.self ≡ with_enqueued (c.in-Some.gap + count) (with_elements b1 (spare_index b1 c.in-Some.gap) after) = search rules in
+    let filled : c.enqueue_unallocated.new.self ≡ with_enqueued (c.in-Some.gap + count) (with_elements b1 (spare_index b1 c.in-Some.gap) after) =
+    search rules in
     let left = fill_left m b c.self.invariant c.in-Some.gap c.args.max_size e c.args.header b1 c.restart.ensures.ring count le after
     c.push_slots.new.slots put c.push_slots.ensures.well_formed c.enqueue_unallocated.new.self filled c.push_slots.ensures.capacity
     ∙ ap (λ q. with_last_size count (with_last_bytes (with_packet_if_room q c.args.max_size c.args.header) after)) c.self.view_is in

@@ -22,7 +22,8 @@ some g c = search rules
 pub invariant_of-self : goal.invariant_of-self
 invariant_of-self g c =
     let s = c.self.inside.storage in
-    let long = ap length (g.met.S.Elements.item_written s c.self.inside.read_at c.f-answer.new.arg2) ∙ length-overwrite (g.S.Elements.elements s) c.self.inside.read_at (c.f-answer.new.arg2 ∷ []) in
+    let long = ap length (g.met.S.Elements.item_written s c.self.inside.read_at c.f-answer.new.arg2)
+    ∙ length-overwrite (g.S.Elements.elements s) c.self.inside.read_at (c.f-answer.new.arg2 ∷ []) in
     let size = ap (λ o. length o.storage) c.self.view_is in
     let read = ap (λ o. o.read_at) c.self.view_is in
     let held = ap (λ o. o.count) c.self.view_is in
@@ -31,7 +32,8 @@ invariant_of-self g c =
 pub invariant_of-self-else-is_ok : goal.invariant_of-self-else-is_ok
 invariant_of-self-else-is_ok g c =
     let s = c.self.inside.storage in
-    let long = ap length (g.met.S.Elements.item_written s c.self.inside.read_at c.f-answer.new.arg2) ∙ length-overwrite (g.S.Elements.elements s) c.self.inside.read_at (c.f-answer.new.arg2 ∷ []) in
+    let long = ap length (g.met.S.Elements.item_written s c.self.inside.read_at c.f-answer.new.arg2)
+    ∙ length-overwrite (g.S.Elements.elements s) c.self.inside.read_at (c.f-answer.new.arg2 ∷ []) in
     grind (arith, long)
 
 pub returns-clause-called : goal.returns-clause-called
@@ -48,8 +50,10 @@ returns-clause-called g c =
     let stored = law ∙ ap (λ o. overwrite o.storage o.read_at (y ∷ [])) is in
     let after : Bool → RingState _ = λ t. with_elements (if t then with_dequeued 1 old else old) old.read_at (y ∷ []) in
     let left : c.if-is_ok.self ≡ with_elements (if is_ok c.f-answer.result then with_dequeued 1 old else old) old.read_at (y ∷ []) = elim c.if-is_ok.branch [
-      | then-is_ok w ↦ ring_is _ (after true) (ap (λ o. o.storage) w.self-is ∙ stored) (omega (arith, ap (λ o. o.read_at) w.self-is)) (omega (arith, ap (λ o. o.count) w.self-is, held)) ∙ ap after (sym (sym c.is_ok.ensures.value ∙ w.if-is_ok.true))
-      | else-is_ok w ↦ ring_is _ (after false) (ap (λ o. o.storage) w.self-is ∙ stored) (omega (arith, ap (λ o. o.read_at) w.self-is, read)) (omega (arith, ap (λ o. o.count) w.self-is, held)) ∙ ap after (sym (sym c.is_ok.ensures.value ∙ w.if-is_ok.false))
+      | then-is_ok w ↦ ring_is _ (after true) (ap (λ o. o.storage) w.self-is ∙ stored) (omega (arith, ap (λ o. o.read_at) w.self-is))
+          (omega (arith, ap (λ o. o.count) w.self-is, held)) ∙ ap after (sym (sym c.is_ok.ensures.value ∙ w.if-is_ok.true))
+      | else-is_ok w ↦ ring_is _ (after false) (ap (λ o. o.storage) w.self-is ∙ stored) (omega (arith, ap (λ o. o.read_at) w.self-is, read))
+          (omega (arith, ap (λ o. o.count) w.self-is, held)) ∙ ap after (sym (sym c.is_ok.ensures.value ∙ w.if-is_ok.false))
     ] in
     let by_answer = front_either old wf y (some g c) c.f-answer.result _ left in (
       x,

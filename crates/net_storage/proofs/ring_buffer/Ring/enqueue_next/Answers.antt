@@ -10,7 +10,11 @@ returns g c =
     let at = c.storage_index-at.ensures.index ∙ ap write_at is in
     let x = c.item_mut.result.now in
     let here = c.item_mut.ensures.value ∙ ap (λ o. slice_index_or o.storage c.storage_index-at.result x) is ∙ ap (λ i. slice_index_or old.storage i x) at in (
-      (refl, λ w. left_in _ _ is c.self.invariant _ 1 _ (omega arith) at _ (w ∷ []) (g.met.S.Elements.item_written c.self.inside.storage c.storage_index-at.result w)),
+      (
+        refl,
+        λ w. left_in _ _ is c.self.invariant _ 1 _ (omega arith) at _ (w ∷ [])
+            (g.met.S.Elements.item_written c.self.inside.storage c.storage_index-at.result w),
+      ),
       record {
         writes_back = tt;
         value = spare_front _ (well _ _ is c.self.invariant) x here c.requires;

@@ -34,8 +34,10 @@ returns-clause-called g c =
     let stored = law ∙ ap (λ o. overwrite o.storage c.storage_index-at.result (y ∷ [])) is ∙ ap (λ p. overwrite old.storage p (y ∷ [])) at in
     let after : Bool → RingState _ = λ t. with_elements (if t then with_enqueued 1 old else old) (write_at old) (y ∷ []) in
     let left : c.if-is_ok.self ≡ with_elements (if is_ok c.f-answer.result then with_enqueued 1 old else old) (write_at old) (y ∷ []) = elim c.if-is_ok.branch [
-      | then-is_ok w ↦ ring_is _ (after true) (ap (λ o. o.storage) w.self-is ∙ stored) (omega (arith, ap (λ o. o.read_at) w.self-is, read)) (omega (arith, ap (λ o. o.count) w.self-is, held)) ∙ ap after (sym (sym c.is_ok.ensures.value ∙ w.if-is_ok.true))
-      | else-is_ok w ↦ ring_is _ (after false) (ap (λ o. o.storage) w.self-is ∙ stored) (omega (arith, ap (λ o. o.read_at) w.self-is, read)) (omega (arith, ap (λ o. o.count) w.self-is, held)) ∙ ap after (sym (sym c.is_ok.ensures.value ∙ w.if-is_ok.false))
+      | then-is_ok w ↦ ring_is _ (after true) (ap (λ o. o.storage) w.self-is ∙ stored) (omega (arith, ap (λ o. o.read_at) w.self-is, read))
+          (omega (arith, ap (λ o. o.count) w.self-is, held)) ∙ ap after (sym (sym c.is_ok.ensures.value ∙ w.if-is_ok.true))
+      | else-is_ok w ↦ ring_is _ (after false) (ap (λ o. o.storage) w.self-is ∙ stored) (omega (arith, ap (λ o. o.read_at) w.self-is, read))
+          (omega (arith, ap (λ o. o.count) w.self-is, held)) ∙ ap after (sym (sym c.is_ok.ensures.value ∙ w.if-is_ok.false))
     ] in
     let by_answer = next_either old wf y (some g c) c.f-answer.result _ left in (
       x,

@@ -11,7 +11,8 @@ returns-clause-enqueued g c =
     c.write_unallocated-count.ensures.count ∙ ap (λ o. min (length c.args.«data».now) (window o - 0)) c.restart.ensures.ring in
     let counted : c.enqueue_unallocated.new.self ≡ with_enqueued n c.write_unallocated-count.new.self =
     c.enqueue_unallocated.ensures.ring ∙ ap (λ k. with_enqueued k c.write_unallocated-count.new.self) (omega arith) in
-    enqueue_clause _ (from_start_if_empty c.args.self.now) _ _ (take n c.args.«data».now) n c.restart.ensures.ring c.write_unallocated-count.ensures.written counted
+    enqueue_clause _ (from_start_if_empty c.args.self.now) _ _ (take n c.args.«data».now) n c.restart.ensures.ring
+    c.write_unallocated-count.ensures.written counted
     (length-take-le n c.args.«data».now (omega (arith, bound))) (omega (arith, bound))
 
 pub returns-clause-queue : goal.returns-clause-queue
