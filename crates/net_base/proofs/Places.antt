@@ -1,5 +1,6 @@
 -- What a fill by the digit 0 to three places writes.
-use Rattle.std.proofs.Common.{◌≡◌, ℕ, zero, suc, ◌-◌, ◌^◌, true, false, List, [], ◌∷◌, length, replicate, ℤ, pos, negsuc, refl, ap, arith, append-nil, append_assoc}
+use Rattle.std.proofs.Common.{◌≡◌, ℕ, zero, suc, ◌-◌, ◌^◌, true, false, List, [], ◌∷◌, length}
+use Rattle.std.proofs.Common.{replicate, ℤ, pos, negsuc, refl, ap, arith, append-nil, append_assoc}
 use Rattle.std.proofs.lemmas.Bool.{le-ltb}
 use Rattle.std.specs.List.{repeat}
 use Rattle.std.specs.Fmt.{padded_integral, char_count, format_spec, decimal, signed_decimal, styled_decimal, styled_signed_decimal}

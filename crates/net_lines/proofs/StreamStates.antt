@@ -102,7 +102,8 @@ module _ (fresh_stands : FreshStands) (every : EverySchedule) where
     replies_alike o p ended None = refl
 
     compared_alike : (o : Option Stored) (p : Option State) → EndedAlike w o p →
-        comparison_with of_stored (record { setting = w; present = v; ended = o }) o ≡ comparison_with of_states (record { setting = w; present = s; ended = p }) p
+        comparison_with of_stored (record { setting = w; present = v; ended = o }) o ≡ comparison_with of_states
+        (record { setting = w; present = s; ended = p }) p
     compared_alike None None ended = refl
     compared_alike (Some u) (Some t) ended = λ i. comparison (same_outcome_there w u t ended i) (same_outcome_there w v s present i)
     compared_alike None (Some t) ended = absurd ended

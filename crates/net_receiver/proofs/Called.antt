@@ -156,7 +156,8 @@ in_order N v u pos xs r state told h =
       accepted = refl;
       joins = omega arith;
       appends = splits v.queue (values_at (held_with_part v part) n (first_lacking (held_with_part v part) n - n)) part.bytes
-          (values_of (held_with_part v part) part.bytes n (first_lacking (held_with_part v part) n - n) (omega arith) (λ q i b e is. laid_at v part q i b (omega arith) is));
+          (values_of (held_with_part v part) part.bytes n (first_lacking (held_with_part v part) n - n) (omega arith)
+          (λ q i b e is. laid_at v part q i b (omega arith) is));
     }) in
     subst (λ z. JoinsQueue v part.bytes z r) (sym state)
     (subst (JoinsQueue v part.bytes (state_after by_stored v (verdict by_stored N v (piece pos xs)))) (sym told) all)
@@ -166,7 +167,8 @@ pub any_verdict : (P : Verdict → Type 0) (n most : ℕ) (h : Positions) (part 
     (length part.bytes ≡ 0 → P KeptNone) → P Refused → P (Keeps part) → P (verdict_of_part n most h part)
 any_verdict P n most h part empty refused keeps =
     ⊎_elim (λ (e : nat_eq (length part.bytes) 0 ≡ true). subst P (sym (cond-true _ _ _ e)) (empty (eqb-true (length part.bytes) 0 e)))
-    (λ (e : nat_eq (length part.bytes) 0 ≡ false). subst P (sym (cond-false _ _ _ e)) (both (not (is_some (piece_at part n)) && nat_lt most (runs (with_range h part.start (length part.bytes))))))
+    (λ (e : nat_eq (length part.bytes) 0 ≡ false). subst P (sym (cond-false _ _ _ e))
+    (both (not (is_some (piece_at part n)) && nat_lt most (runs (with_range h part.start (length part.bytes))))))
     (cases_Bool (nat_eq (length part.bytes) 0))
   where
     both : (b : Bool) → P (cond b Refused (Keeps part))

@@ -30,7 +30,8 @@ put_rises low p (k ∷ ks) l h =
     ⊎_elim (λ (e : p ≡ k). subst (Rises low) (sym (cond-false _ _ _ (le-ltb p k (omega arith)) ∙ cond-true _ _ _ (eq-eqb p k e))) h)
     (⊎_elim
     (λ (less : p < k). subst (Rises low) (sym (cond-true _ _ _ (lt-ltb p k less))) (l, (omega arith, h.1)))
-    (λ (more : k < p). subst (Rises low) (sym (cond-false _ _ _ (le-ltb p k (omega arith)) ∙ cond-false _ _ _ (ne_eqb p k (omega arith)))) (h.0, put_rises (k + 1) p ks (omega arith) h.1)))
+    (λ (more : k < p). subst (Rises low) (sym (cond-false _ _ _ (le-ltb p k (omega arith)) ∙ cond-false _ _ _ (ne_eqb p k (omega arith))))
+    (h.0, put_rises (k + 1) p ks (omega arith) h.1)))
     (cases_order p k)
 
 or_twice : (b x : Bool) → (b || x) ≡ (b || (b || x))
@@ -47,10 +48,12 @@ put_has : (p : ℕ) (ks : List ℕ) (q : ℕ) → has (put p ks) q ≡ ((q == p)
 put_has p [] q = refl
 put_has p (k ∷ ks) q =
     ⊎_elim
-    (λ (e : p ≡ k). ap (λ l. has l q) (cond-false _ _ _ (le-ltb p k (omega arith)) ∙ cond-true _ _ _ (eq-eqb p k e)) ∙ or_twice (q == k) (has ks q) ∙ ap (λ j. (q == j) || ((q == k) || has ks q)) (sym e))
+    (λ (e : p ≡ k). ap (λ l. has l q) (cond-false _ _ _ (le-ltb p k (omega arith)) ∙ cond-true _ _ _ (eq-eqb p k e)) ∙ or_twice (q == k) (has ks q)
+    ∙ ap (λ j. (q == j) || ((q == k) || has ks q)) (sym e))
     (⊎_elim
     (λ (less : p < k). ap (λ l. has l q) (cond-true _ _ _ (lt-ltb p k less)))
-    (λ (more : k < p). ap (λ l. has l q) (cond-false _ _ _ (le-ltb p k (omega arith)) ∙ cond-false _ _ _ (ne_eqb p k (omega arith))) ∙ ap (λ b. (q == k) || b) (put_has p ks q) ∙ or_swap (q == k) (q == p) (has ks q)))
+    (λ (more : k < p). ap (λ l. has l q) (cond-false _ _ _ (le-ltb p k (omega arith)) ∙ cond-false _ _ _ (ne_eqb p k (omega arith)))
+    ∙ ap (λ b. (q == k) || b) (put_has p ks q) ∙ or_swap (q == k) (q == p) (has ks q)))
     (cases_order p k)
 
 rising_rises : (ps : List ℕ) → Rises 0 (rising ps)
@@ -128,7 +131,8 @@ range_is f k o n =
 
 pub runs_computed : RunsComputed
 runs_computed f k o n =
-    runs_number (with_range (held_positions f k) o n) (rising (held_in f k ++ range_with_len o n)) (range_is f k o n) (rising_rises (held_in f k ++ range_with_len o n))
+    runs_number (with_range (held_positions f k) o n) (rising (held_in f k ++ range_with_len o n)) (range_is f k o n)
+    (rising_rises (held_in f k ++ range_with_len o n))
 
 pub byte_computed : ByteComputed
 unfolding byte_at

@@ -204,7 +204,8 @@ accepted_brings most v pos xs p accepted from to below =
     (λ none _. inl (omega arith))
     (λ no. absurd no)
     (λ _. ⊎_elim (λ (l : p < stored_next v). has_joined v part p (inl l))
-    (λ (l : stored_next v ≤ p). has_laid v part p (laid_part v part p (piece_has part p ∙ and_from _ _ (le-leb part.start p (omega arith)) (lt-ltb p (part.start + length part.bytes) (omega arith)))))
+    (λ (l : stored_next v ≤ p). has_laid v part p
+    (laid_part v part p (piece_has part p ∙ and_from _ _ (le-leb part.start p (omega arith)) (lt-ltb p (part.start + length part.bytes) (omega arith)))))
     (cases_lt p (stored_next v)))
     accepted
 
@@ -260,7 +261,8 @@ completes_from most (Segment pos xs ∷ cs) v end missing within accepted all =
     completes_from most cs u end (missing_stays most v (Segment pos xs) missing) (le_trans within higher)
     (All-tail IsAccepted (stored_reply most v (Segment pos xs)) (stored_replies most u cs) accepted)
     (λ p a b. ⊎_elim (λ (h : Has v p). inl (has_stays most v (Segment pos xs) p h))
-    (λ (h : ((pos ≤ p) × (p < pos + length xs)) ⊎ Brings cs p). ⊎_elim (λ (k : (pos ≤ p) × (p < pos + length xs)). inl (accepted_brings most v pos xs p now k.0 k.1 (le_trans b within))) (λ (k : Brings cs p). inr k) h)
+    (λ (h : ((pos ≤ p) × (p < pos + length xs)) ⊎ Brings cs p). ⊎_elim
+    (λ (k : (pos ≤ p) × (p < pos + length xs)). inl (accepted_brings most v pos xs p now k.0 k.1 (le_trans b within))) (λ (k : Brings cs p). inr k) h)
     (all p (le_trans grown a) b))
 completes_from most (Read count ∷ cs) v end missing within accepted all =
     let u = stored_after most v (Read count) in

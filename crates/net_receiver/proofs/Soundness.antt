@@ -118,7 +118,8 @@ module _ (most : ℕ) (v : Stored) (sound : IsSound most v) (part : Piece) (star
       omega arith)
       (λ (few : runs ranged ≤ most).
       let missing = ranged_has first ∙ (λ i. outside.0 i || outside.1 i) in
-      let fewer = few_from ranged (domain (stored_with_part v part).held) first missing (λ q. left_has q ∙ ap (λ b. b && nat_le first q) (sym (ranged_has q))) in
+      let fewer = few_from ranged (domain (stored_with_part v part).held) first missing
+      (λ q. left_has q ∙ ap (λ b. b && nat_le first q) (sym (ranged_has q))) in
       omega arith)
       which
 

@@ -50,7 +50,8 @@ All-push : {X : Type 0} (P : X → Type 0) (xs : List X) (y : X) → All P xs �
 All-push P [] y all one = All-cons P y [] one (All-nil P)
 All-push P (x ∷ xs) y all one = All-cons P x (xs ++ y ∷ []) (All-head P x xs all) (All-push P xs y (All-tail P x xs all) one)
 
-one_kept : (w : Setting) (s : State) (x : List ℕ) (c : CommandSeen) → Agrees w.first s.kept x → IsTruthful w.first x c → Agrees w.first (kept_after w s c).kept x
+one_kept : (w : Setting) (s : State) (x : List ℕ) (c : CommandSeen) → Agrees w.first s.kept x → IsTruthful w.first x c →
+    Agrees w.first (kept_after w s c).kept x
 one_kept w s x (Segment pos xs) all h =
     let part = clip (next w.first s.kept) (w.first + s.read + w.capacity) (piece pos xs) in
     verdict_cases (λ y. Agrees w.first (state_after (by_kept w) s y).kept x) (next w.first s.kept) w.most_runs (held_positions w.first s.kept) part all all
@@ -169,9 +170,11 @@ run_receives most x v u cs rs complete r h run =
     let t = kept_after_all w r.state front in
     let d = schedule most v r.state r.stands front in
     let f : z.first ≡ v.first = first_kept most v front in
-    let end : stored_next z - z.first ≡ next v.first t.kept - v.first = (let e = same_next z t d.0 in let e' : next z.first t.kept ≡ next v.first t.kept = ap (λ b. next b t.kept) f in omega arith) in (
+    let end : stored_next z - z.first ≡ next v.first t.kept - v.first =
+    (let e = same_next z t d.0 in let e' : next z.first t.kept ≡ next v.first t.kept = ap (λ b. next b t.kept) f in omega arith) in (
       subst (Receives x) (sym run.state) (all_receive most x v front r kept),
-      (λ i. bytes_read ((run.answers ∙ d.1) i) ++ (ap (λ y. y.queue) run.state ∙ d.0.queue ∙ (λ j. bytes t.kept (f j + t.read) (next (f j) t.kept - (f j + t.read)))) i)
+      (λ i. bytes_read ((run.answers ∙ d.1) i) ++
+          (ap (λ y. y.queue) run.state ∙ d.0.queue ∙ (λ j. bytes t.kept (f j + t.read) (next (f j) t.kept - (f j + t.read)))) i)
           ∙ stream w x r.state r.stands.within front (truthful_is_kept w r.state x front r.agrees kept)
           ∙ (λ i. slice_range x (sym r.stands.read i) ((sym end ∙ ap (λ y. stored_next y - y.first) (sym run.state)) i)),
     )

@@ -9,8 +9,10 @@ returns-clause-setting g c =
 
 pub returns-clause-receives : goal.returns-clause-receives
 returns-clause-receives g c =
-    λ f x r h. executed_receives g.row.N f x c.run-result.result c.args.receiver.now c.run-result.new.receiver (command_seen c.args.command.now) c.run-result.ensures.state c.run-result.ensures.err r h
+    λ f x r h. executed_receives g.row.N f x c.run-result.result c.args.receiver.now c.run-result.new.receiver
+    (command_seen c.args.command.now) c.run-result.ensures.state c.run-result.ensures.err r h
 
 pub returns-clause-bytes : goal.returns-clause-bytes
 returns-clause-bytes g c =
-    λ f x r h. executed_bytes g.row.N f x reply_seen c.run-result.result c.args.receiver.now c.run-result.new.receiver (command_seen c.args.command.now) c.run-result.ensures.state c.run-result.ensures.answer r h
+    λ f x r h. executed_bytes g.row.N f x reply_seen c.run-result.result c.args.receiver.now c.run-result.new.receiver
+    (command_seen c.args.command.now) c.run-result.ensures.state c.run-result.ensures.answer r h

@@ -73,8 +73,12 @@ pub invariant_of-self : goal.invariant_of-self
 invariant_of-self g c =
     let few = (lent_is g c).1 in
     let queued = ap (λ (v : Stored). length v.queue) c.self.view_is in
-    let all = left_is g c in
-    (all.1, all.2, read_on c.self.inside.ring c.self.inside.count_read c.self.invariant.2 c.dequeue_allocated.new.self c.f-answer.result.0 (omega arith) c.dequeue_allocated.ensures.ring)
+    let all = left_is g c in (
+      all.1,
+      all.2,
+      read_on c.self.inside.ring c.self.inside.count_read c.self.invariant.2 c.dequeue_allocated.new.self c.f-answer.result.0
+          (omega arith) c.dequeue_allocated.ensures.ring,
+    )
 
 pub returns-clause-called : goal.returns-clause-called
 returns-clause-called g c = (c.get_allocated-bytes.result, c.f-answer.ensures, (lent_is g c).0)
