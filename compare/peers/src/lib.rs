@@ -11,7 +11,7 @@ use ring::Ring;
 use segments::Segments;
 use sorted::Sorted;
 use tree::Tree;
-use workloads::{Memory, START, Workload, add, front, lead, mix, mix_ends, receive};
+use workloads::{Memory, START, Workload, add, front, lead, mix, mix_ends, receive, slices};
 
 /// A type of std, with the workloads that it has, by their names.
 pub struct Peer {
@@ -35,19 +35,7 @@ pub static PEERS: [Peer; 5] = [
 ];
 
 extern "C" fn ring_slice(m: &Memory) -> u64 {
-    let (source, sink) = (m.source.slice(), m.sink.slice());
-    let (mut sum, chunk) = (START, source.len());
-    let mut ring = Ring::new(m.storage.len);
-    for _ in 0..lead(m.storage.len, chunk) {
-        sum = mix(sum, ring.enqueue_slice(source) as u64);
-    }
-    for _ in 0..m.rounds {
-        sum = mix(sum, ring.enqueue_slice(source) as u64);
-        sum = mix(sum, ring.dequeue_slice(sink) as u64);
-        sum = mix(sum, sink[0].into());
-        sum = mix(sum, sink[chunk - 1].into());
-    }
-    sum
+    slices(m, Ring::new(m.storage.len))
 }
 
 extern "C" fn ring_one(m: &Memory) -> u64 {

@@ -2,6 +2,7 @@
 //! came too early.
 use crate::ring::Ring;
 use std::collections::BTreeMap;
+use workloads::SliceRing;
 use workloads::receiver::{Segment, Stream};
 
 pub struct Segments {

@@ -65,12 +65,33 @@ pub fn lead(bytes: usize, chunk: usize) -> usize {
     (bytes / 2 / chunk).min(64)
 }
 
+/// A ring of bytes, filled and emptied by slices.
+pub trait SliceRing {
+    fn enqueue_slice(&mut self, bytes: &[u8]) -> usize;
+    fn dequeue_slice(&mut self, into: &mut [u8]) -> usize;
+}
+
+impl SliceRing for RingBuffer<'_, u8> {
+    #[inline]
+    fn enqueue_slice(&mut self, bytes: &[u8]) -> usize {
+        self.enqueue_slice(bytes)
+    }
+
+    #[inline]
+    fn dequeue_slice(&mut self, into: &mut [u8]) -> usize {
+        self.dequeue_slice(into)
+    }
+}
+
 extern "C" fn ring_slice(m: &Memory) -> u64 {
-    let (storage, source, sink) = (m.storage.slice(), m.source.slice(), m.sink.slice());
+    slices(m, RingBuffer::new(m.storage.slice()))
+}
+
+/// Puts in a chunk and takes one out, in each round.
+pub fn slices<R: SliceRing>(m: &Memory, mut ring: R) -> u64 {
+    let (source, sink) = (m.source.slice(), m.sink.slice());
     let (mut sum, chunk) = (START, source.len());
-    let lead = lead(storage.len(), chunk);
-    let mut ring = RingBuffer::new(storage);
-    for _ in 0..lead {
+    for _ in 0..lead(m.storage.len, chunk) {
         sum = mix(sum, ring.enqueue_slice(source) as u64);
     }
     for _ in 0..m.rounds {
