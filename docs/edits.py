@@ -6,7 +6,7 @@
 
 An edit has a line `clause: FUNCTION CLAUSE` beside those that `rt` reads: the function as `rt check
 --only` takes it, and the name of one of its `ensures`, or `ensures` where the contract has a single
-one without a name. `rt must-fail` prints the first goal that is open with the edit, where it arises
+one without a name, or is proved as one goal, as that of a call that lends. `rt must-fail` prints the first goal that is open with the edit, where it arises
 in the source or where an answer to it fails; that has to be a goal of this clause of this function.
 A condition of a callee, what a loop keeps, and a name that a proof no longer finds refuse an edit too,
 and say nothing of the contract.

@@ -5,8 +5,9 @@
 
 Public are a `pub fn` that a user of the crate reaches by `pub mod` and `pub use`, each `pub fn` of a
 type that is reached so, and each method of a trait of ours, of the trait and of each of its types.
-Left out are modules `laws`, other functions with an empty body (laws too), and traits of std, most of
-whose methods are called by an operator or written by a derive.
+Left out are modules `laws`, other functions with an empty body (laws too), traits of std, most of whose
+methods are called by an operator or written by a derive, and traits of ours that no library implements:
+their users write the methods, and the library calls them.
 
 Tests and examples are the crates *_tests, net_examples, and the files tests.rt. Named there is
 - a function where it is called in a file that brings it in by `use`, or by a path that ends in it;
@@ -106,7 +107,7 @@ class Library:
 
     def __init__(self):
         self.crate_of, self.alias, self.fields, self.calls = {}, {}, collections.defaultdict(dict), {}
-        self.implementors = collections.defaultdict(set)
+        self.implementors, self.implemented = collections.defaultdict(set), set()
         for root in sorted(CRATES.glob("*/src/lib.rt")):
             if not is_test(root):
                 self.files = [it for it in sorted(root.parent.rglob("*.rt")) if not is_test(it)]
@@ -145,6 +146,7 @@ class Library:
             if "laws" in file.parts or file.stem == "laws":
                 continue
             inside = list(blocks(text))
+            self.implemented |= {it[3] for it in inside if "trait" not in text[it[0] :].split()[:3]}
             for fn in functions(text):
                 home = next((it for it in inside if it[0] < fn.at < it[1]), None)
                 if home is None:
@@ -166,6 +168,10 @@ class Library:
             if word in self.crate_of:
                 return word
         return ""
+
+    def is_left_to_users(self, subject):
+        """Whether this is a trait that no library implements."""
+        return subject in self.implementors.get(subject, ()) and subject not in self.implemented
 
     def having(self, name):
         """The types that have a method of this name."""
@@ -281,7 +287,8 @@ def main():
     for file in sorted(CRATES.glob("*/src/**/*.rt")):
         if is_test(file):
             named |= TestFile(file, library).named
-    wanted = [it for it in library.calls if not sys.argv[1:] or it[0] in sys.argv[1:]]
+    calls = [it for it in library.calls if not library.is_left_to_users(it[1])]
+    wanted = [it for it in calls if not sys.argv[1:] or it[0] in sys.argv[1:]]
     missing = [it for it in wanted if it not in named]
     for crate, subject, name in missing:
         print(f"{crate}: {subject + '::' if subject else ''}{name}")

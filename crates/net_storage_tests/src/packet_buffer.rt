@@ -313,9 +313,3 @@ fn slices_go_in_and_come_out(rt: HostRuntime) -> Result<(), Fail> {
     assert_eq!(rt; difference_from_empty(&steps), None);
     Ok(())
 }
-
-#[test]
-fn a_slot_that_holds_nothing_clones(rt: HostRuntime) -> Result<(), Fail> {
-    assert!(rt; PacketMetadata::<u8>::EMPTY.clone().is_ok());
-    Ok(())
-}
