@@ -48,7 +48,7 @@ pub(crate) fn runs_ending_before(
 
 /// Returns how many runs start at or before `end`, but at least `from`.
 ///
-/// The runs from `from` on are halved.
+/// The run at `from` is looked at by itself, and those behind it are halved.
 #[inline(always)]
 pub(crate) fn runs_starting_by(
     pairs: &[(usize, usize)],
@@ -66,8 +66,12 @@ pub(crate) fn runs_starting_by(
     ensures no_look_lost { turns.old.0 ≤ turns.new.0 }
     ensures moves { turns.new.1 ≡ turns.old.1 }
 {
+    // No run from `from` on starts by then: most data meets no run but the one that it lies next to.
+    if from == pairs.len() || end < pairs[from].0 {
+        return from;
+    }
     // The first that starts behind it, if there is one, lies from `low` to `high - 1`.
-    let mut low = from;
+    let mut low = from + 1;
     let mut high = pairs.len();
     while low < high {
         let middle = low + (high - low) / 2;
