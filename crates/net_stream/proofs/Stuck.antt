@@ -1,5 +1,5 @@
 -- What a round lacked that brought nothing on, and what rounds never take back.
-use Rattle.std.proofs.Common.{◌≡◌, ◌⊎◌, ℕ, zero, suc, ◌+◌, ◌-◌, ◌<◌, ◌≤◌, ◌^◌, ◌&&◌, min, nat_lt, nat_le, Bool, true, false, cond, List, [], ◌∷◌, ◌++◌, length, take, All, Option, Some, None, refl, sym, ap, subst, ◌∙◌, arith, ⊎_elim, inl, inr, le_trans, length-append, length-take}
+use Rattle.std.proofs.Common.{◌≡◌, ◌⊎◌, ℕ, zero, suc, ◌+◌, ◌-◌, ◌<◌, ◌≤◌, ◌^◌, ◌&&◌, min, nat_lt, nat_le, Bool, true, false, cond, List, [], ◌∷◌, ◌++◌, length, take, All, Option, Some, None, refl, sym, ap, subst, ◌∙◌, arith, ⊎_elim, inl, inr, le_trans, length-append, length-take, length-drop}
 use Rattle.std.proofs.lemmas.Bool.{both_ways, cases_lt, cases_Bool, cond-true, cond-false, lt-ltb, le-leb, leb-true, and_parts, and_from}
 use Rattle.std.proofs.lemmas.List.Elements.{All-nil, All-cons, All-head, All-tail}
 use Rattle.net_storage.specs.Positions.{maximal_runs}
@@ -15,13 +15,14 @@ use Rattle.net_stream.specs.declared.link.Link.{Link}
 use Rattle.net_stream.specs.declared.fate.Fate.{Fate}
 use Rattle.net_stream.specs.declared.fate.Fate.TheVariants.{Delivered, Lost, Repeated, Late}
 use Rattle.net_stream.specs.Counting.{with_fate, with_fates, with_payload}
-use Rattle.net_stream.specs.Fates.{FatesSeen, next_fate, after_fate, after_all, comes, AllCome}
+use Rattle.net_stream.specs.Fates.{FatesSeen, next_fate, after_fate, after_all, comes, comes_late, AllCome}
+use Rattle.net_stream.specs.Rounds.{FatesSoFar}
 use Rattle.net_stream.specs.Carrying.{answer_of, receiver_after}
 use Rattle.net_stream.specs.Sending.{most_of}
 use Rattle.net_stream.specs.Progress.{after_ack_frame, after_ack_frames, limit_of}
-use Rattle.net_stream.specs.Passing.{coming_of, receiver_after_all, answer_to, answers_of}
+use Rattle.net_stream.specs.Passing.{coming_of, late_of, receiver_after_all, answer_to, answers_of}
 use Rattle.net_stream.specs.Links.{Carries, Passed}
-use Rattle.net_stream.specs.Stuck.{failures, RoundKeeps, RoundMoves, NoneComes, IsStuck, Stuck, StuckTo, NeverStuck}
+use Rattle.net_stream.specs.Stuck.{failures, losses, RoundKeeps, RoundMoves, HasFailed, AllFail, IsStuck, FirstSays, IsDue, Stuck, StuckTo, StuckAtLast, NeverStuck}
 use Rattle.net_stream.proofs.Sent.{first_sent}
 use Rattle.net_stream.proofs.Reached.{come_next, missing, first_is, all_keep_end, acked_append}
 use Rattle.net_stream.proofs.Moved.{queue_from}
@@ -218,19 +219,23 @@ abbrev FirstFrame : ℕ → ℕ → List Part → Type 0
 FirstFrame base end parts = (xs : List ℕ) × (rest : List (List ℕ)) × (frames_from base parts ≡ frame_of base xs ∷ rest) × (0 < length xs) × (base + length xs ≤ end)
 
 -- ---- a round
--- the receiver lacked the first byte that the sender keeps, and the first frame didn't come at once; or it had that byte,
--- and no acknowledgement came at once
+-- the first of the frames has the byte that a receiver lacks, if n is its position
+abbrev HasMissing : ℕ → List (List ℕ) → Type 0
+HasMissing n frames = FirstSays frames (λ p e. (p ≤ n) × (n < e) × (e < 2 ^ 64))
+
+-- the receiver lacked the first byte that the sender keeps, and the first frame, which has it, didn't come at once; or it had
+-- that byte, and no acknowledgement came at once
 abbrev Lacked : {A : Type 0} (old new : Link A) → Passed old new → Type 0
 Lacked old new p =
-    ((old.sender.base ≡ stored_next old.receiver) × (0 < length p.sent.ahead) × (comes (next_fate old.there.fates) ≡ false))
-    ⊎ ((old.sender.base < stored_next old.receiver) × (coming_of old.back.fates p.acks ≡ []))
+    (HasMissing (stored_next old.receiver) p.sent.ahead × (0 < length p.sent.ahead) × (comes (next_fate old.there.fates) ≡ false))
+    ⊎ ((old.sender.base < stored_next old.receiver) × (coming_of old.back.fates p.acks ≡ []) × All (Acks (stored_next old.receiver) (stored_next old.receiver)) p.acks)
 
 rounds_move : {A : Type 0} → RoundTrip → Numbers → InOrderReaches → QueueIsOfStream → (f : ℕ) (w : List ℕ) (old new : Link A) (p : Passed old new) → IsSound most_reported old.receiver → Carries f w old → end_of old.sender < 2 ^ 64 → old.there.ahead ≡ [] → old.back.ahead ≡ [] → 0 < length old.sender.queue →
     stored_next old.receiver < limit_of old.receiver → stored_next new.receiver ≡ stored_next old.receiver → new.sender.base ≡ old.sender.base → Lacked old new p
 rounds_move trip numbers order queue f w old new p sound carries word none none_back some room still still_back =
     ⊎_elim
-    (λ (l : old.sender.base < stored_next old.receiver). inr (l, quiet l))
-    (λ (l : stored_next old.receiver ≤ old.sender.base). inl (lacking l, sent_some l, fails l))
+    (λ (l : old.sender.base < stored_next old.receiver). inr (l, quiet l, acks))
+    (λ (l : stored_next old.receiver ≤ old.sender.base). inl (has l, sent_some l, fails l))
     (cases_lt old.sender.base (stored_next old.receiver))
   where
     within : stored_next old.receiver ≤ end_of old.sender
@@ -243,19 +248,23 @@ rounds_move trip numbers order queue f w old new p sound carries word none none_
     same : stored_next (receiver_after_all most_reported old.receiver p.came) ≡ stored_next old.receiver
     same = sym (ap stored_next p.received) ∙ still
 
-    -- no acknowledgement came
-    quiet : old.sender.base < stored_next old.receiver → coming_of old.back.fates p.acks ≡ []
-    quiet l =
+    small : stored_next old.receiver < 2 ^ 64
+    small = omega (arith, within, word)
+
+    -- each acknowledgement is of all that the receiver has
+    acks : All (Acks (stored_next old.receiver) (stored_next old.receiver)) p.acks
+    acks =
         let n = stored_next old.receiver in
-        let small : n < 2 ^ 64 = le_trans' n (end_of old.sender) (2 ^ 64) within word in
         let ours : All (Acks n n) (answers_of most_reported old.receiver p.came) = all_answers numbers trip most_reported old.receiver p.came n n (omega arith) (subst (λ k. k ≤ n) (sym same) (omega arith)) small in
         let last : Acks n n (answer_of new.receiver) = one_answers trip new.receiver n n (subst (λ k. n ≤ k) (sym still) (omega arith)) (subst (λ k. k ≤ n) (sym still) (omega arith)) small in
         let both : All (Acks n n) (answers_of most_reported old.receiver p.came ++ answer_of new.receiver ∷ []) = All-both (Acks n n) (answers_of most_reported old.receiver p.came) (answer_of new.receiver ∷ []) ours (All-cons (Acks n n) (answer_of new.receiver) [] last (All-nil (Acks n n))) in
-        let acks : All (Acks n n) p.acks = subst (All (Acks n n)) (sym (p.answers ∙ ap (λ b. b ++ answers_of most_reported old.receiver p.came ++ answer_of new.receiver ∷ []) none_back)) both in
+        subst (All (Acks n n)) (sym (p.answers ∙ ap (λ b. b ++ answers_of most_reported old.receiver p.came ++ answer_of new.receiver ∷ []) none_back)) both
+
+    -- none of them came
+    quiet : old.sender.base < stored_next old.receiver → coming_of old.back.fates p.acks ≡ []
+    quiet l =
+        let n = stored_next old.receiver in
         none_come old.sender new.sender old.back.late (coming_of old.back.fates p.acks) n n p.acked still_back l within (come_of (Acks n n) old.back.fates p.acks acks)
-      where
-        le_trans' : (a b c : ℕ) → a ≤ b → b < c → a < c
-        le_trans' a b c h k = omega arith
 
     -- the first byte that is kept is missing
     lacking : stored_next old.receiver ≤ old.sender.base → old.sender.base ≡ stored_next old.receiver
@@ -280,6 +289,15 @@ rounds_move trip numbers order queue f w old new p sound carries word none none_
 
     ahead : (l : stored_next old.receiver ≤ old.sender.base) → p.sent.ahead ≡ frame_of old.sender.base (front l).0 ∷ (front l).1
     ahead l = ap (λ t. t.ahead) p.all.front.sent ∙ ap (λ a. a ++ frames_from old.sender.base p.all.front.parts) none ∙ (front l).2
+
+    has : stored_next old.receiver ≤ old.sender.base → HasMissing (stored_next old.receiver) p.sent.ahead
+    has l =
+        let b = old.sender.base in
+        let xs = (front l).0 in
+        let long = (front l).3 in
+        let short = (front l).4 in
+        let is = lacking l in
+        (frame_of b xs, (front l).1, b, xs, ahead l, trip b xs (omega arith), (omega (arith, is), omega (arith, is, long), omega (arith, short, word)))
 
     sent_some : stored_next old.receiver ≤ old.sender.base → 0 < length p.sent.ahead
     sent_some l = subst (λ a. 0 < length a) (sym (ahead l)) (omega arith)
@@ -330,6 +348,27 @@ failed_first : (n : ℕ) (v : FatesSeen) (c : FrameCounts) → 0 < n → comes (
 failed_first zero v c some e = absurd (omega arith)
 failed_first (suc n) v c some e = le_trans (failed_fails (next_fate v) c e) (failed_all n (after_fate v) (with_fate (next_fate v) c))
 
+-- ---- what is lost
+lost_met : (lot : Fate) (c : FrameCounts) → losses c ≤ losses (with_fate lot c)
+lost_met Delivered c = omega arith
+lost_met Lost c = omega arith
+lost_met Repeated c = omega arith
+lost_met Late c = omega arith
+
+lost_fails : (lot : Fate) (c : FrameCounts) → HasFailed 1 lot → min (losses c + 1) (2 ^ 64 - 1) ≤ losses (with_fate lot c)
+lost_fails Delivered c e = absurd (both_ways true e.0 refl)
+lost_fails Lost c e = omega arith
+lost_fails Repeated c e = absurd (both_ways true e.0 refl)
+lost_fails Late c e = absurd (both_ways true (e.1 (omega arith)) refl)
+
+lost_all : (n : ℕ) (v : FatesSeen) (c : FrameCounts) → losses c ≤ losses (with_fates n v c)
+lost_all zero v c = omega arith
+lost_all (suc n) v c = le_trans (lost_met (next_fate v) c) (lost_all n (after_fate v) (with_fate (next_fate v) c))
+
+lost_first : (n : ℕ) (v : FatesSeen) (c : FrameCounts) → 0 < n → HasFailed 1 (next_fate v) → min (losses c + 1) (2 ^ 64 - 1) ≤ losses (with_fates n v c)
+lost_first zero v c some e = absurd (omega arith)
+lost_first (suc n) v c some e = le_trans (lost_fails (next_fate v) c e) (lost_all n (after_fate v) (with_fate (next_fate v) c))
+
 more_failed : (a b : ℕ) → a ≤ b → min (a + 1) (2 ^ 64 - 1) ≤ min (b + 1) (2 ^ 64 - 1)
 more_failed a b h = omega arith
 
@@ -347,16 +386,84 @@ first_fails v (x ∷ xs) some none =
 le_refl : (n : ℕ) → n ≤ n
 le_refl n = omega arith
 
-none_comes : (v : FatesSeen) (frames : List (List ℕ)) → coming_of v frames ≡ [] → NoneComes (length frames) v
-none_comes v [] none = tt
-none_comes v (x ∷ xs) none =
+-- what doesn't come at once is lost or comes late
+all_fail : (follow : ℕ) (v : FatesSeen) (frames : List (List ℕ)) → coming_of v frames ≡ [] → (0 < follow → late_of v frames ≡ []) → AllFail follow (length frames) v
+all_fail follow v [] none never = tt
+all_fail follow v (x ∷ xs) none never =
     let e = first_fails v (x ∷ xs) (omega arith) none in
-    (e, none_comes (after_fate v) xs (sym (cond-false _ (x ∷ coming_of (after_fate v) xs) (coming_of (after_fate v) xs) e) ∙ none))
+    let c = coming_of (after_fate v) xs in
+    let l = late_of (after_fate v) xs in (
+      (e, λ some. first_never (never some)),
+      all_fail follow (after_fate v) xs (sym (cond-false _ (x ∷ c) c e) ∙ none) (λ some. sym (cond-false _ (x ∷ l) l (first_never (never some))) ∙ never some),
+    )
+  where
+    first_never : late_of v (x ∷ xs) ≡ [] → comes_late (next_fate v) ≡ false
+    first_never none =
+        ⊎_elim {C = comes_late (next_fate v) ≡ false}
+        (λ (e : comes_late (next_fate v) ≡ true).
+        let here : late_of v (x ∷ xs) ≡ x ∷ late_of (after_fate v) xs = cond-true _ (x ∷ late_of (after_fate v) xs) (late_of (after_fate v) xs) e in
+        let size : length (x ∷ late_of (after_fate v) xs) ≡ 0 = ap length (sym here ∙ none) in
+        absurd (omega arith))
+        (λ (e : comes_late (next_fate v) ≡ false). e)
+        (cases_Bool (comes_late (next_fate v)))
+
+-- ---- what comes late
+late_all : (P : List ℕ → Type 0) (v : FatesSeen) (frames : List (List ℕ)) → All P frames → All P (late_of v frames)
+late_all P v [] all = all
+late_all P v (x ∷ xs) all = both (late_all P (after_fate v) xs (All-tail P x xs all)) (comes_late (next_fate v))
+  where
+    both : All P (late_of (after_fate v) xs) → (b : Bool) → All P (cond b (x ∷ late_of (after_fate v) xs) (late_of (after_fate v) xs))
+    both rest true = All-cons P x (late_of (after_fate v) xs) (All-head P x xs all) rest
+    both rest false = rest
+
+first_late : (P : ℕ → ℕ → Type 0) (v : FatesSeen) (frames : List (List ℕ)) → FirstSays frames P → comes_late (next_fate v) ≡ true → FirstSays (late_of v frames) P
+first_late P v frames says e =
+    let l = late_of (after_fate v) says.1 in
+    (says.0, l, says.2, says.3, ap (late_of v) says.4 ∙ cond-true _ (says.0 ∷ l) l e, says.5, says.6)
+
+first_acks : (n m : ℕ) (frames : List (List ℕ)) → All (Acks n m) frames → (frames ≡ []) ⊎ FirstSays frames (λ p e. (n ≤ p) × (p ≤ m))
+first_acks n m [] all = inl refl
+first_acks n m (x ∷ xs) all =
+    let ack = All-head (Acks n m) x xs all in
+    inr (x, xs, ack.0, ack.1, refl, ack.2, (ack.3, ack.4))
+
+says_weaker : (P Q : ℕ → ℕ → Type 0) (frames : List (List ℕ)) → ((p e : ℕ) → P p e → Q p e) → FirstSays frames P → FirstSays frames Q
+says_weaker P Q frames h says = (says.0, says.1, says.2, says.3, says.4, says.5, h says.2 (says.2 + length says.3) says.6)
+
+-- ---- rounds in a row
+failed_weaker : (k j : ℕ) (lot : Fate) → (0 < j → 0 < k) → HasFailed k lot → HasFailed j lot
+failed_weaker k j lot h e = (e.0, λ some. e.1 (h some))
+
+all_fail_weaker : (k j n : ℕ) (v : FatesSeen) → (0 < j → 0 < k) → AllFail k n v → AllFail j n v
+all_fail_weaker k j zero v h all = tt
+all_fail_weaker k j (suc n) v h all = (failed_weaker k j (next_fate v) h all.0, all_fail_weaker k j n (after_fate v) h all.1)
+
+stuck_weaker : (k j frames acks : ℕ) (v v' : FatesSeen) → (0 < j → 0 < k) → IsStuck k frames acks v v' → IsStuck j frames acks v v'
+stuck_weaker k j frames acks v v' h stuck =
+    ⊎_elim {C = IsStuck j frames acks v v'}
+    (λ (a : (0 < frames) × HasFailed k (next_fate v)). inl (a.0, failed_weaker k j (next_fate v) h a.1))
+    (λ (b : (0 < acks) × AllFail k acks v'). inr (b.0, all_fail_weaker k j acks v' h b.1))
+    stuck
+
+-- none need follow
+stuck_last : (n : ℕ) (v v' u u' : FatesSeen) → StuckTo 1 n v v' u u' → StuckTo 0 n v v' u u'
+stuck_last zero v v' u u' to = to
+stuck_last (suc n) v v' u u' to = (to.0, to.1, stuck_weaker (1 + n) (0 + n) to.0 to.1 v v' (λ some. omega arith) to.2, stuck_last n (after_all to.0 v) (after_all to.1 v') u u' to.3)
 
 -- one more round that was stuck
-pub stuck_more : (n : ℕ) (v v' u u' : FatesSeen) (frames acks : ℕ) → StuckTo n v v' u u' → IsStuck frames acks u u' → StuckTo (suc n) v v' (after_all frames u) (after_all acks u')
-stuck_more zero v v' u u' frames acks to one = (frames, acks, subst (λ x. IsStuck frames acks x v') to.0 (subst (IsStuck frames acks u) to.1 one), (ap (after_all frames) to.0, ap (after_all acks) to.1))
-stuck_more (suc n) v v' u u' frames acks to one = (to.0, to.1, to.2, stuck_more n (after_all to.0 v) (after_all to.1 v') u u' frames acks to.3 one)
+stuck_more : (follow n : ℕ) (v v' u u' : FatesSeen) (frames acks : ℕ) → StuckTo 1 n v v' u u' → IsStuck follow frames acks u u' → StuckTo follow (suc n) v v' (after_all frames u) (after_all acks u')
+stuck_more follow zero v v' u u' frames acks to one = (
+  frames,
+  acks,
+  subst (λ k. IsStuck k frames acks v v') (let e : follow ≡ follow + 0 = omega arith in e) (subst (λ x. IsStuck follow frames acks x v') to.0 (subst (IsStuck follow frames acks u) to.1 one)),
+  (ap (after_all frames) to.0, ap (after_all acks) to.1),
+)
+stuck_more follow (suc n) v v' u u' frames acks to one = (
+  to.0,
+  to.1,
+  stuck_weaker (1 + n) (follow + suc n) to.0 to.1 v v' (λ some. omega arith) to.2,
+  stuck_more follow n (after_all to.0 v) (after_all to.1 v') u u' frames acks to.3 one,
+)
 
 module _ {A : Type 0} (old new : Link A) (p : Passed old new) where
   acks_some : 0 < length p.acks
@@ -388,6 +495,93 @@ module _ {A : Type 0} (old new : Link A) (p : Passed old new) where
   counted : (n : ℕ) → min (failures old.counts + 1) (2 ^ 64 - 1) ≤ n → n ≤ failures (with_fates (length p.acks) old.back.fates (with_fates (length p.sent.ahead) old.there.fates (with_payload (count_outside old.sender.reported old.sender.base p.n) old.counts))) → min (failures old.counts + 1) (2 ^ 64 - 1) ≤ failures new.counts
   counted n h k = subst (λ m. min (failures old.counts + 1) (2 ^ 64 - 1) ≤ m) (sym same_failed) (le_trans h k)
 
+  same_lost : losses new.counts ≡ losses (with_fates (length p.acks) old.back.fates (with_fates (length p.sent.ahead) old.there.fates (with_payload (count_outside old.sender.reported old.sender.base p.n) old.counts)))
+  same_lost = ap losses p.counted
+
+  round_lost : losses old.counts ≤ losses new.counts
+  round_lost =
+      let c = with_payload (count_outside old.sender.reported old.sender.base p.n) old.counts in
+      let m = with_fates (length p.sent.ahead) old.there.fates c in
+      subst (λ n. losses old.counts ≤ n) (sym same_lost) (le_trans (lost_all (length p.sent.ahead) old.there.fates c) (lost_all (length p.acks) old.back.fates m))
+
+  fates_left : new.there.fates ≡ after_all (length p.sent.ahead) old.there.fates
+  fates_left = ap (λ t. t.fates) p.left ∙ ap (λ t. after_all (length p.sent.ahead) t.fates) p.all.front.sent
+
+  late_left : new.there.late ≡ late_of old.there.fates p.sent.ahead
+  late_left = ap (λ t. t.late) p.left ∙ ap (λ t. late_of t.fates p.sent.ahead) p.all.front.sent
+
+  end_left : end_of new.sender ≡ end_of old.sender
+  end_left = ap end_of p.acked ∙ all_keep_end old.sender (old.back.late ++ coming_of old.back.fates p.acks)
+
+  -- what comes late would have brought it on
+  not_due : Numbers → InOrderReaches → stored_next old.receiver < limit_of old.receiver → stored_next new.receiver ≡ stored_next old.receiver → new.sender.base ≡ old.sender.base → IsDue old → ⊥
+  not_due numbers order room still still_back due =
+      let r = old.receiver in
+      let s = old.sender in
+      let c = coming_of old.there.fates p.sent.ahead in
+      let d = coming_of old.back.fates p.acks in
+      ⊎_elim {C = ⊥}
+      (λ (h : HasMissing (stored_next r) old.there.late).
+      let came : p.came ≡ h.0 ∷ (h.1 ++ c) = p.coming ∙ ap (λ x. x ++ c) h.4 in
+      let on : stored_next r < stored_next (receiver_after_all most_reported r (h.0 ∷ (h.1 ++ c))) = front_brings numbers order most_reported r [] (h.1 ++ c) h.0 h.2 h.3 h.5 h.6.0 h.6.1 h.6.2 room in
+      let is : stored_next new.receiver ≡ stored_next (receiver_after_all most_reported r (h.0 ∷ (h.1 ++ c))) = ap stored_next p.received ∙ ap (λ x. stored_next (receiver_after_all most_reported r x)) came in
+      less (stored_next r) (stored_next new.receiver) (stored_next (receiver_after_all most_reported r (h.0 ∷ (h.1 ++ c)))) on is still)
+      (λ (h : FirstSays old.back.late (λ k e. (s.base < k) × (k ≤ end_of s))).
+      let t = after_ack_frame s (segment_of h.0) in
+      let one : s.base < t.base = one_moves s s.base h.2 h.3 (segment_of h.0) h.5 h.6.0 h.6.1 in
+      let more : t.base ≤ (after_ack_frames t (h.1 ++ d)).base = all_base_grows t (h.1 ++ d) in
+      let is : new.sender.base ≡ (after_ack_frames t (h.1 ++ d)).base = ap (λ v. v.base) (p.acked ∙ ap (λ x. after_ack_frames s (x ++ d)) h.4) in
+      less s.base new.sender.base (after_ack_frames t (h.1 ++ d)).base (first s.base t.base (after_ack_frames t (h.1 ++ d)).base one more) is still_back)
+      due
+    where
+      less : (a b c : ℕ) → a < c → b ≡ c → b ≡ a → ⊥
+      less a b c h k j = omega arith
+
+      first : (x y z : ℕ) → x < y → y ≤ z → x < z
+      first x y z h l = omega arith
+
+  -- a frame or each acknowledgement was lost, or what came late brings the next round on
+  abbrev HasLost : Type 0
+  HasLost =
+      (IsStuck 1 (length p.sent.ahead) (length p.acks) old.there.fates old.back.fates × (min (losses old.counts + 1) (2 ^ 64 - 1) ≤ losses new.counts))
+      ⊎ (IsDue new × (losses old.counts ≤ losses new.counts))
+
+  -- a frame that has what the receiver lacks came late, or was lost
+  frame_lost : HasMissing (stored_next old.receiver) p.sent.ahead → 0 < length p.sent.ahead → comes (next_fate old.there.fates) ≡ false → stored_next new.receiver ≡ stored_next old.receiver → HasLost
+  frame_lost has some fails still =
+      let n = stored_next old.receiver in
+      let v = old.there.fates in
+      let c = with_payload (count_outside old.sender.reported old.sender.base p.n) old.counts in
+      let m = with_fates (length p.sent.ahead) v c in
+      ⊎_elim {C = HasLost}
+      (λ (e : comes_late (next_fate v) ≡ true).
+      inr (inl (subst (HasMissing (stored_next new.receiver)) (sym late_left) (subst (λ k. HasMissing k (late_of v p.sent.ahead)) (sym still) (first_late (λ k e. (k ≤ n) × (n < e) × (e < 2 ^ 64)) v p.sent.ahead has e))), round_lost))
+      (λ (e : comes_late (next_fate v) ≡ false).
+      let lot : HasFailed 1 (next_fate v) = (fails, λ follow. e) in
+      inl (inl (some, lot), subst (λ k. min (losses old.counts + 1) (2 ^ 64 - 1) ≤ k) (sym same_lost) (le_trans (lost_first (length p.sent.ahead) v c some lot) (lost_all (length p.acks) old.back.fates m))))
+      (cases_Bool (comes_late (next_fate v)))
+
+  -- so were the acknowledgements, each or one
+  acks_lost : old.sender.base < stored_next old.receiver → coming_of old.back.fates p.acks ≡ [] → All (Acks (stored_next old.receiver) (stored_next old.receiver)) p.acks → stored_next old.receiver ≤ end_of old.sender → new.sender.base ≡ old.sender.base → HasLost
+  acks_lost above none acks within still_back =
+      let n = stored_next old.receiver in
+      let v = old.back.fates in
+      let c = with_payload (count_outside old.sender.reported old.sender.base p.n) old.counts in
+      let m = with_fates (length p.sent.ahead) old.there.fates c in
+      ⊎_elim {C = HasLost}
+      (λ (never : late_of v p.acks ≡ []).
+      let fail : AllFail 1 (length p.acks) v = all_fail 1 v p.acks none (λ follow. never) in
+      inl (inr (acks_some, fail), subst (λ k. min (losses old.counts + 1) (2 ^ 64 - 1) ≤ k) (sym same_lost) (le_trans (more_failed (losses c) (losses m) (lost_all (length p.sent.ahead) old.there.fates c)) (lost_first (length p.acks) v m acks_some (first_lost (length p.acks) v acks_some fail)))))
+      (λ (says : FirstSays (late_of v p.acks) (λ k e. (n ≤ k) × (k ≤ n))).
+      let late : new.back.late ≡ late_of v p.acks = ap (λ t. t.late) p.left_back in
+      let both : FirstSays (late_of v p.acks) (λ k e. (new.sender.base < k) × (k ≤ end_of new.sender)) = says_weaker (λ k e. (n ≤ k) × (k ≤ n)) (λ k e. (new.sender.base < k) × (k ≤ end_of new.sender)) (late_of v p.acks) (λ k e h. (let low = h.0 in let high = h.1 in (omega (arith, low, above, still_back), omega (arith, high, within, end_left)))) says in
+      inr (inr (subst (λ x. FirstSays x (λ k e. (new.sender.base < k) × (k ≤ end_of new.sender))) (sym late) both), round_lost))
+      (first_acks n n (late_of v p.acks) (late_all (Acks n n) v p.acks acks))
+    where
+      first_lost : (k : ℕ) (u : FatesSeen) → 0 < k → AllFail 1 k u → HasFailed 1 (next_fate u)
+      first_lost zero u some all = absurd (omega arith)
+      first_lost (suc k) u some all = all.0
+
   pub round_moves : RoundTrip → Numbers → InOrderReaches → QueueIsOfStream → IsSound most_reported old.receiver → end_of old.sender < 2 ^ 64 → RoundMoves old new
   round_moves trip numbers order queue sound word f w carries none none_back some room still still_back =
       let c = with_payload (count_outside old.sender.reported old.sender.base p.n) old.counts in
@@ -395,39 +589,78 @@ module _ {A : Type 0} (old new : Link A) (p : Passed old new) where
       let e = with_fates (length p.acks) old.back.fates m in
       let one = failed_all (length p.sent.ahead) old.there.fates c in
       let two = failed_all (length p.acks) old.back.fates m in
+      let n = stored_next old.receiver in
+      let within : n ≤ end_of old.sender =
+      (let q = (queue_from queue f w old.receiver carries.receives).within in
+      let first = first_is f w old.receiver carries.receives in
+      let end = carries.sends.end in
+      omega arith) in
       ⊎_elim {C = Stuck old new}
-      (λ (a : (old.sender.base ≡ stored_next old.receiver) × (0 < length p.sent.ahead) × (comes (next_fate old.there.fates) ≡ false)). record {
+      (λ (a : HasMissing n p.sent.ahead × (0 < length p.sent.ahead) × (comes (next_fate old.there.fates) ≡ false)). record {
         frames = length p.sent.ahead;
         acks = length p.acks;
-        why = inl (a.1, a.2);
-        left = ap (λ t. t.fates) p.left ∙ ap (λ t. after_all (length p.sent.ahead) t.fates) p.all.front.sent;
+        why = inl (a.1, (a.2, λ follow. absurd (omega arith)));
+        left = fates_left;
         left_back = ap (λ t. t.fates) p.left_back;
         counted = counted (failures m) (failed_first (length p.sent.ahead) old.there.fates c a.1 a.2) two;
+        due = not_due numbers order room still still_back;
+        lost = frame_lost a.0 a.1 a.2 still;
       })
-      (λ (b : (old.sender.base < stored_next old.receiver) × (coming_of old.back.fates p.acks ≡ [])). record {
+      (λ (b : (old.sender.base < n) × (coming_of old.back.fates p.acks ≡ []) × All (Acks n n) p.acks). record {
         frames = length p.sent.ahead;
         acks = length p.acks;
-        why = inr (acks_some, none_comes old.back.fates p.acks b.1);
-        left = ap (λ t. t.fates) p.left ∙ ap (λ t. after_all (length p.sent.ahead) t.fates) p.all.front.sent;
+        why = inr (acks_some, all_fail 0 old.back.fates p.acks b.1 (λ follow. absurd (omega arith)));
+        left = fates_left;
         left_back = ap (λ t. t.fates) p.left_back;
         counted = counted (failures e) (le_trans (more_failed (failures c) (failures m) one) (failed_first (length p.acks) old.back.fates m acks_some (first_fails old.back.fates p.acks acks_some b.1))) (le_refl (failures e));
+        due = not_due numbers order room still still_back;
+        lost = acks_lost b.0 b.1 b.2 within still_back;
       })
       (rounds_move trip numbers order queue f w old new p sound carries word none none_back some room still still_back)
 
 -- ---- a round of a copy
-pub step_moves : {A : Type 0} (f : ℕ) (w : List ℕ) (old new : Link A) (r : Stored) (room : ℕ) → RoundKeeps old new → RoundMoves old new → r ≡ stored_read new.receiver room →
-    Carries f w old → old.there.ahead ≡ [] → old.back.ahead ≡ [] → 0 < length old.sender.queue → 0 < old.receiver.capacity → 0 < room → new.sender.base ≡ old.sender.base → r.read ≡ old.receiver.read → Stuck old new
-step_moves f w old new r room keeps moves handed carries none none_back kept cap some still_base still_read =
-    moves f w carries none none_back kept room_left next_same still_base
+-- what comes late stays due while bytes are handed out and more are written
+pub due_kept : {A : Type 0} (l l1 : Link A) → l1.there.late ≡ l.there.late → l1.back.late ≡ l.back.late → stored_next l1.receiver ≡ stored_next l.receiver → l1.sender.base ≡ l.sender.base → end_of l.sender ≤ end_of l1.sender → IsDue l → IsDue l1
+due_kept l l1 late late_back next base end due =
+    let n = stored_next l.receiver in
+    ⊎_elim {C = IsDue l1}
+    (λ (h : HasMissing n l.there.late). inl (subst (HasMissing (stored_next l1.receiver)) (sym late) (subst (λ k. HasMissing k l.there.late) (sym next) h)))
+    (λ (h : FirstSays l.back.late (λ k e. (l.sender.base < k) × (k ≤ end_of l.sender))).
+    inr (subst (λ x. FirstSays x (λ k e. (l1.sender.base < k) × (k ≤ end_of l1.sender))) (sym late_back)
+    (says_weaker (λ k e. (l.sender.base < k) × (k ≤ end_of l.sender)) (λ k e. (l1.sender.base < k) × (k ≤ end_of l1.sender)) l.back.late (λ k e j. (let low = j.0 in let high = j.1 in (omega (arith, low, base), le_trans high end))) h)))
+    due
+
+pub step_moves : {A : Type 0} (f : ℕ) (w : List ℕ) (old new last : Link A) (room : ℕ) → RoundKeeps old new → RoundMoves old new → last ≡ record new { receiver = stored_read new.receiver room } →
+    Carries f w old → old.there.ahead ≡ [] → old.back.ahead ≡ [] → 0 < length old.sender.queue → 0 < old.receiver.capacity → 0 < room → last.sender.base ≡ old.sender.base → last.receiver.read ≡ old.receiver.read → Stuck old last
+step_moves {A = A} f w old new last room keeps moves handed carries none none_back kept cap some still_base still_read =
+    subst (Stuck old) (sym handed) (record {
+      frames = one.frames;
+      acks = one.acks;
+      why = one.why;
+      left = one.left;
+      left_back = one.left_back;
+      counted = one.counted;
+      due = one.due;
+      lost = lost;
+    })
   where
+    r : Stored
+    r = stored_read new.receiver room
+
+    still_base' : new.sender.base ≡ old.sender.base
+    still_base' = sym (ap (λ l. l.sender.base) handed) ∙ still_base
+
+    still_read' : r.read ≡ old.receiver.read
+    still_read' = sym (ap (λ l. l.receiver.read) handed) ∙ still_read
+
     read : new.receiver.read ≡ old.receiver.read
     read = keeps.read
 
     after : r.read ≡ new.receiver.read + min room (length new.receiver.queue)
-    after = ap (λ v. v.read) handed
+    after = refl
 
     empty : length new.receiver.queue ≡ 0
-    empty = omega (arith, after, read, some, still_read)
+    empty = omega (arith, after, read, some, still_read')
 
     first : new.receiver.first ≡ old.receiver.first
     first = keeps.first
@@ -440,6 +673,91 @@ step_moves f w old new r room keeps moves handed carries none none_back kept cap
 
     room_left : stored_next old.receiver < limit_of old.receiver
     room_left = omega (arith, grow, empty, first, read, cap)
+
+    one : Stuck old new
+    one = moves f w carries none none_back kept room_left next_same still_base'
+
+    next_read : stored_next r ≡ stored_next new.receiver
+    next_read = (let left : length r.queue ≡ length new.receiver.queue - room = length-drop room new.receiver.queue in omega (arith, left, empty))
+
+    read_out : Link A
+    read_out = record new { receiver = r }
+
+    lost : (IsStuck 1 one.frames one.acks old.there.fates old.back.fates × (min (losses old.counts + 1) (2 ^ 64 - 1) ≤ losses new.counts)) ⊎ (IsDue read_out × (losses old.counts ≤ losses new.counts))
+    lost =
+        ⊎_elim {C = (IsStuck 1 one.frames one.acks old.there.fates old.back.fates × (min (losses old.counts + 1) (2 ^ 64 - 1) ≤ losses new.counts)) ⊎ (IsDue read_out × (losses old.counts ≤ losses new.counts))}
+        inl
+        (λ (d : IsDue new × (losses old.counts ≤ losses new.counts)). inr (due_kept new read_out refl refl next_read refl (le_refl (end_of new.sender)) d.0, d.1))
+        one.lost
+
+-- ---- rounds of a copy
+-- n rounds in a row were stuck, behind some frames and acknowledgements: each by a loss, or all but the last, and then what
+-- comes late is due
+abbrev pub StuckSoFar : {A : Type 0} → ℕ → FatesSeen → FatesSeen → Link A → Type 0
+StuckSoFar n v v' link =
+    ((frames : ℕ) × (acks : ℕ) × StuckTo 1 n (after_all frames v) (after_all acks v') link.there.fates link.back.fates × (n ≤ losses link.counts))
+    ⊎ ((frames : ℕ) × (acks : ℕ) × StuckTo 0 n (after_all frames v) (after_all acks v') link.there.fates link.back.fates × (n ≤ losses link.counts + 1) × IsDue link)
+
+pub stuck_none : {A : Type 0} (frames acks : ℕ) (v v' : FatesSeen) (l : Link A) → l.there.fates ≡ after_all frames v → l.back.fates ≡ after_all acks v' → StuckSoFar 0 v v' l
+stuck_none frames acks v v' l left left_back = inl (frames, acks, (left, left_back), omega arith)
+
+-- reading and waiting change nothing of it
+pub stuck_kept : {A : Type 0} (n : ℕ) (v v' : FatesSeen) (l l1 : Link A) → l1.there ≡ l.there → l1.back ≡ l.back → l1.receiver ≡ l.receiver → l1.sender.base ≡ l.sender.base → end_of l.sender ≤ end_of l1.sender → l1.counts ≡ l.counts → StuckSoFar n v v' l → StuckSoFar n v v' l1
+stuck_kept n v v' l l1 there back receiver base end counts so_far =
+    ⊎_elim {C = StuckSoFar n v v' l1}
+    (λ (h : (frames : ℕ) × (acks : ℕ) × StuckTo 1 n (after_all frames v) (after_all acks v') l.there.fates l.back.fates × (n ≤ losses l.counts)).
+    inl (h.0, h.1, to 1 h.0 h.1 h.2, subst (λ c. n ≤ losses c) (sym counts) h.3))
+    (λ (h : (frames : ℕ) × (acks : ℕ) × StuckTo 0 n (after_all frames v) (after_all acks v') l.there.fates l.back.fates × (n ≤ losses l.counts + 1) × IsDue l).
+    inr (h.0, h.1, to 0 h.0 h.1 h.2, subst (λ c. n ≤ losses c + 1) (sym counts) h.3, due_kept l l1 (ap (λ t. t.late) there) (ap (λ t. t.late) back) (ap stored_next receiver) base end h.4))
+    so_far
+  where
+    to : (k frames acks : ℕ) → StuckTo k n (after_all frames v) (after_all acks v') l.there.fates l.back.fates → StuckTo k n (after_all frames v) (after_all acks v') l1.there.fates l1.back.fates
+    to k frames acks h = subst (λ t. StuckTo k n (after_all frames v) (after_all acks v') t.fates l1.back.fates) (sym there) (subst (λ t. StuckTo k n (after_all frames v) (after_all acks v') l.there.fates t.fates) (sym back) h)
+
+-- what is due comes in the next round, so that one more that is stuck follows a loss
+pub stuck_next : {A : Type 0} (n : ℕ) (v v' : FatesSeen) (old new : Link A) → n < 2 ^ 64 - 1 → StuckSoFar n v v' old → Stuck old new → StuckSoFar (suc n) v v' new
+stuck_next n v v' old new word so_far one =
+    ⊎_elim {C = StuckSoFar (suc n) v v' new}
+    (λ (h : (frames : ℕ) × (acks : ℕ) × StuckTo 1 n (after_all frames v) (after_all acks v') old.there.fates old.back.fates × (n ≤ losses old.counts)).
+    ⊎_elim {C = StuckSoFar (suc n) v v' new}
+    (λ (e : IsStuck 1 one.frames one.acks old.there.fates old.back.fates × (min (losses old.counts + 1) (2 ^ 64 - 1) ≤ losses new.counts)).
+    let few = h.3 in
+    let more = e.1 in
+    inl (h.0, h.1, to 1 h.0 h.1 (stuck_more 1 n (after_all h.0 v) (after_all h.1 v') old.there.fates old.back.fates one.frames one.acks h.2 e.0), omega (arith, few, more, word)))
+    (λ (d : IsDue new × (losses old.counts ≤ losses new.counts)).
+    let few = h.3 in
+    let more = d.1 in
+    inr (h.0, h.1, to 0 h.0 h.1 (stuck_more 0 n (after_all h.0 v) (after_all h.1 v') old.there.fates old.back.fates one.frames one.acks h.2 one.why), omega (arith, few, more), d.0))
+    one.lost)
+    (λ (h : (frames : ℕ) × (acks : ℕ) × StuckTo 0 n (after_all frames v) (after_all acks v') old.there.fates old.back.fates × (n ≤ losses old.counts + 1) × IsDue old). absurd (one.due h.4))
+    so_far
+  where
+    to : (k frames acks : ℕ) → StuckTo k (suc n) (after_all frames v) (after_all acks v') (after_all one.frames old.there.fates) (after_all one.acks old.back.fates) → StuckTo k (suc n) (after_all frames v) (after_all acks v') new.there.fates new.back.fates
+    to k frames acks h = subst (λ x. StuckTo k (suc n) (after_all frames v) (after_all acks v') x new.back.fates) (sym one.left) (subst (λ x. StuckTo k (suc n) (after_all frames v) (after_all acks v') (after_all one.frames old.there.fates) x) (sym one.left_back) h)
+
+-- how it stands at the end
+pub stuck_at_last : {A : Type 0} (n : ℕ) (v v' : FatesSeen) (l : Link A) (counts : FrameCounts) → counts ≡ l.counts → n ≤ failures l.counts → FatesSoFar v v' l.there.fates l.back.fates l.counts → StuckSoFar n v v' l → StuckAtLast n v v' counts
+stuck_at_last n v v' l counts same failed fates so_far =
+    ⊎_elim {C = StuckAtLast n v v' counts}
+    (λ (h : (frames : ℕ) × (acks : ℕ) × StuckTo 1 n (after_all frames v) (after_all acks v') l.there.fates l.back.fates × (n ≤ losses l.counts)).
+    let few = h.3 in
+    stands h.0 h.1 (stuck_last n (after_all h.0 v) (after_all h.1 v') l.there.fates l.back.fates h.2) (omega (arith, few)))
+    (λ (h : (frames : ℕ) × (acks : ℕ) × StuckTo 0 n (after_all frames v) (after_all acks v') l.there.fates l.back.fates × (n ≤ losses l.counts + 1) × IsDue l).
+    let few = h.3 in
+    stands h.0 h.1 h.2 (omega (arith, few)))
+    so_far
+  where
+    stands : (frames acks : ℕ) → StuckTo 0 n (after_all frames v) (after_all acks v') l.there.fates l.back.fates → n ≤ l.counts.lost + 1 → StuckAtLast n v v' counts
+    stands frames acks to few = record {
+      frames = frames;
+      acks = acks;
+      last = l.there.fates;
+      last_back = l.back.fates;
+      rounds = to;
+      all = subst (FatesSoFar v v' l.there.fates l.back.fates) (sym same) fates;
+      failures = subst (λ c. n ≤ c.lost + c.late) (sym same) (omega (arith, failed));
+      lost = subst (λ c. n ≤ c.lost + 1) (sym same) few;
+    }
 
 -- where all is written, a reader that may have more is asked, and gives something
 pub asked_again : {A : Type 0} → QueueIsOfStream → (f : ℕ) (w w1 : List ℕ) (l l1 : Link A) (room : ℕ) → Carries f w l → Carries f w1 l1 → l1.receiver ≡ l.receiver → end_of l.sender ≤ end_of l1.sender →
@@ -461,9 +779,9 @@ all_after : (n : ℕ) (v : FatesSeen) → AllCome v → AllCome (after_all n v)
 all_after zero v all = all
 all_after (suc n) v all = all_after n (after_fate v) (come_next v all).1
 
-some_come : (k : ℕ) (u : FatesSeen) → 0 < k → NoneComes k u → comes (next_fate u) ≡ true → ⊥
-some_come zero u some h e = absurd (omega arith)
-some_come (suc k) u some h e = both_ways (comes (next_fate u)) h.0 e
+some_come : (j k : ℕ) (u : FatesSeen) → 0 < k → AllFail j k u → comes (next_fate u) ≡ true → ⊥
+some_come j zero u some h e = absurd (omega arith)
+some_come j (suc k) u some h e = both_ways (comes (next_fate u)) h.0.0 e
 
 pub never_stuck : NeverStuck
 never_stuck zero v v' counts all all' some stuck = absurd (omega arith)
@@ -472,6 +790,6 @@ never_stuck (suc n) v v' counts all all' some stuck =
     let u = after_all stuck.frames v in
     let u' = after_all stuck.acks v' in
     ⊎_elim {C = ⊥}
-    (λ (a : (0 < r.0) × (comes (next_fate u) ≡ false)). both_ways (comes (next_fate u)) a.1 (come_next u (all_after stuck.frames v all)).0)
-    (λ (b : (0 < r.1) × NoneComes r.1 u'). some_come r.1 u' b.0 b.1 (come_next u' (all_after stuck.acks v' all')).0)
+    (λ (a : (0 < r.0) × HasFailed (0 + n) (next_fate u)). both_ways (comes (next_fate u)) a.1.0 (come_next u (all_after stuck.frames v all)).0)
+    (λ (b : (0 < r.1) × AllFail (0 + n) r.1 u'). some_come (0 + n) r.1 u' b.0 b.1 (come_next u' (all_after stuck.acks v' all')).0)
     r.2

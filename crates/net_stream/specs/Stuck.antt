@@ -1,17 +1,22 @@
 -- Rounds that bring nothing on.
---     failures counts      how many frames and acknowledgements didn't come at once
+--     failures counts, losses counts      how many frames and acknowledgements didn't come at once,
+--                                         and how many were lost
 --     RoundKeeps old new      what a round never takes back
+--     IsDue link      what comes late brings the next round on
 --     Stuck old new      a round in which a frame or an acknowledgement failed that had to come
 --     RoundMoves old new      a round that brings nothing on was stuck
 --     StuckAtLast n v v' counts      the last n rounds were stuck
 --     NeverStuck      no round is stuck over a link that loses and delays nothing
 use Rattle.std.specs.Prelude.{◌≡◌, ◌⊎◌, ℕ, zero, suc, ◌+◌, ◌-◌, ◌<◌, ◌≤◌, ◌^◌, min}
-use Rattle.std.specs.Prelude.{false, List, [], length}
+use Rattle.std.specs.Prelude.{false, List, [], ◌∷◌, length, Some}
 use Rattle.net_receiver.specs.Stored.{stored_next}
 use Rattle.net_stream.specs.declared.counts.FrameCounts.{FrameCounts}
 use Rattle.net_stream.specs.declared.link.Link.{Link}
+use Rattle.net_stream.specs.declared.fate.Fate.{Fate}
 use Rattle.net_stream.specs.Outgoing.{end_of}
-use Rattle.net_stream.specs.Fates.{FatesSeen, next_fate, after_fate, after_all, comes, AllCome}
+use Rattle.net_stream.specs.Frames.{segment_of}
+use Rattle.net_stream.specs.Fates.{FatesSeen, next_fate, after_fate, after_all, comes, comes_late}
+use Rattle.net_stream.specs.Fates.{AllCome}
 use Rattle.net_stream.specs.Rounds.{FatesSoFar}
 use Rattle.net_stream.specs.Progress.{limit_of}
 use Rattle.net_stream.specs.Links.{Carries}
@@ -19,6 +24,10 @@ use Rattle.net_stream.specs.Links.{Carries}
 -- how many frames and acknowledgements didn't come at once, as far as 64 bits go
 abbrev pub failures : FrameCounts → ℕ
 failures c = min c.lost (2 ^ 64 - 1) + min c.late (2 ^ 64 - 1)
+
+-- how many of them were lost
+abbrev pub losses : FrameCounts → ℕ
+losses c = min c.lost (2 ^ 64 - 1)
 
 -- what a round keeps: nothing is on its way but what is late, and no number goes back
 pub record RoundKeeps {A : Type 0} (old new : Link A) : Type 0 where
@@ -33,42 +42,68 @@ pub record RoundKeeps {A : Type 0} (old new : Link A) : Type 0 where
   pub grows : stored_next old.receiver ≤ stored_next new.receiver
   pub failed : failures old.counts ≤ failures new.counts
 
--- none of the next n frames comes at once
-abbrev pub NoneComes : ℕ → FatesSeen → Type 0
-NoneComes zero v = Unit {0}
-NoneComes (suc n) v = (comes (next_fate v) ≡ false) × NoneComes n (after_fate v)
+-- the fate of a frame in a stuck round that so many stuck rounds follow: it doesn't come at once, and
+-- doesn't come late either if any follows, so that it is lost
+abbrev pub HasFailed : ℕ → Fate → Type 0
+HasFailed follow fate = (comes fate ≡ false) × (0 < follow → comes_late fate ≡ false)
 
--- of the frames of a round, which meet the next fates of v, the first doesn't come at once, or of its
--- acknowledgements, which meet those of v', none does
-abbrev pub IsStuck : ℕ → ℕ → FatesSeen → FatesSeen → Type 0
-IsStuck frames acks v v' =
-    ((0 < frames) × (comes (next_fate v) ≡ false)) ⊎ ((0 < acks) × NoneComes acks v')
+-- so fails each of the next n frames
+abbrev pub AllFail : ℕ → ℕ → FatesSeen → Type 0
+AllFail follow zero v = Unit {0}
+AllFail follow (suc n) v = HasFailed follow (next_fate v) × AllFail follow n (after_fate v)
 
--- a round that was stuck, and counted it
+-- of the frames of a round, which meet the next fates of v, the first fails, or of its
+-- acknowledgements, which meet those of v', each does
+abbrev pub IsStuck : ℕ → ℕ → ℕ → FatesSeen → FatesSeen → Type 0
+IsStuck follow frames acks v v' =
+    ((0 < frames) × HasFailed follow (next_fate v)) ⊎ ((0 < acks) × AllFail follow acks v')
+
+-- the first of some frames says a position and bytes of which P is true: where they begin and end
+abbrev pub FirstSays : List (List ℕ) → (ℕ → ℕ → Type 0) → Type 0
+FirstSays frames P = (frame : List ℕ) × (rest : List (List ℕ)) × (pos : ℕ) × (xs : List ℕ)
+    × (frames ≡ frame ∷ rest) × (segment_of frame ≡ Some (pos, xs)) × P pos (pos + length xs)
+
+-- what comes late brings the next round on: the first late frame has the byte that the receiver
+-- lacks, or the first late acknowledgement is of more than the sender knows of
+abbrev pub IsDue : {A : Type 0} → Link A → Type 0
+IsDue link =
+    FirstSays link.there.late (λ p e. (p ≤ stored_next link.receiver)
+    × (stored_next link.receiver < e) × (e < 2 ^ 64))
+    ⊎ FirstSays link.back.late (λ p e. (link.sender.base < p) × (p ≤ end_of link.sender))
+
+-- a round that was stuck, and counted it: by a loss, or what came late brings the next one on
 pub record Stuck {A : Type 0} (old new : Link A) : Type 0 where
   pub frames : ℕ
   pub acks : ℕ
-  pub why : IsStuck frames acks old.there.fates old.back.fates
+  pub why : IsStuck 0 frames acks old.there.fates old.back.fates
   pub left : new.there.fates ≡ after_all frames old.there.fates
   pub left_back : new.back.fates ≡ after_all acks old.back.fates
   pub counted : min (failures old.counts + 1) (2 ^ 64 - 1) ≤ failures new.counts
+  pub due : IsDue old → ⊥
+  pub lost : (IsStuck 1 frames acks old.there.fates old.back.fates
+      × (min (losses old.counts + 1) (2 ^ 64 - 1) ≤ losses new.counts))
+      ⊎ (IsDue new × (losses old.counts ≤ losses new.counts))
 
--- n rounds in a row that were stuck, from the fates v and v' to u and u'
-abbrev pub StuckTo : ℕ → FatesSeen → FatesSeen → FatesSeen → FatesSeen → Type 0
-StuckTo zero v v' u u' = (u ≡ v) × (u' ≡ v')
-StuckTo (suc n) v v' u u' = (frames : ℕ) × (acks : ℕ) × IsStuck frames acks v v'
-    × StuckTo n (after_all frames v) (after_all acks v') u u'
+-- n rounds in a row that were stuck, from the fates v and v' to u and u', and that so many more
+-- stuck rounds follow
+abbrev pub StuckTo : ℕ → ℕ → FatesSeen → FatesSeen → FatesSeen → FatesSeen → Type 0
+StuckTo follow zero v v' u u' = (u ≡ v) × (u' ≡ v')
+StuckTo follow (suc n) v v' u u' = (frames : ℕ) × (acks : ℕ)
+    × IsStuck (follow + n) frames acks v v'
+    × StuckTo follow n (after_all frames v) (after_all acks v') u u'
 
 -- the last n rounds were stuck, behind frames and acknowledgements that met the first fates of v and
--- of v'; all of them together were counted, so that at least n were lost or late
+-- of v'; all of them together were counted, so that at least n were lost or late, and at least n - 1
+-- were lost
 pub record StuckAtLast (n : ℕ) (v v' : FatesSeen) (counts : FrameCounts) : Type 0 where
   pub frames : ℕ
   pub acks : ℕ
   pub last : FatesSeen
   pub last_back : FatesSeen
-  pub rounds : StuckTo n (after_all frames v) (after_all acks v') last last_back
+  pub rounds : StuckTo 0 n (after_all frames v) (after_all acks v') last last_back
   pub all : FatesSoFar v v' last last_back counts
   pub failures : n ≤ counts.lost + counts.late
+  pub lost : n ≤ counts.lost + 1
 
 -- a round that began with nothing on its way but what is late, and brought neither the receiver nor
 -- the sender on, was stuck

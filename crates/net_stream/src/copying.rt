@@ -1,5 +1,5 @@
 //! From a reader over a link to a writer.
-ghost use Rattle.std.specs.Prelude.{◌≡◌, ◌≤◌, ◌<◌, length};
+ghost use Rattle.std.specs.Prelude.{◌≡◌, ◌≤◌, ◌<◌, ◌+◌, length};
 ghost use Rattle.std.specs.Prelude.{true, false, IfOk, IfErr};
 ghost use Rattle.std.specs.Result.{is_ok};
 ghost use Rattle.std.specs.Io.KnownBytes.{Keeps};
@@ -113,10 +113,11 @@ fn storage_of<A: Allocator + Copy>(alloc: A, len: usize) -> Result<Vec<u8, A>, A
 /// Whatever becomes of them, what is written is a prefix of what was read, and all of it, to the
 /// reader's end, if the result is `Ok`. `counts` says how long both are, and what became of the
 /// frames. A copy gives up after so many rounds in a row that brought nothing on, and only if in
-/// each of these at least one frame or acknowledgement didn't come at once (`stalls`): never over a
-/// link that loses and delays nothing (`ends`). At the end the writer is flushed once; if all was
-/// written, a flush that fails is a failed write. A stream that uses all positions up to 2^64 - 2
-/// gives up: the reader's end isn't looked for once none is left.
+/// each of these at least one frame or acknowledgement didn't come at once (`stalls`), and in each
+/// but the last one was lost (`losses`): never over a link that loses and delays nothing (`ends`).
+/// At the end the writer is flushed once; if all was written, a flush that fails is a failed write.
+/// A stream that uses all positions up to 2^64 - 2 gives up: the reader's end isn't looked for once
+/// none is left.
 pub fn copy<'f, A: Allocator + Copy, R: Read, W: Write>(
     alloc: A,
     settings: Settings,
@@ -137,6 +138,9 @@ pub fn copy<'f, A: Allocator + Copy, R: Read, W: Write>(
     ensures stalls { IfErr result (λ e. gave_up e ≡ true
         → HasPositions settings.first counts.new.taken → 0 < settings.capacity
         → StuckAtLast settings.rounds fates.entry ack_fates.entry counts.new.frames) }
+    ensures losses { IfErr result (λ e. gave_up e ≡ true
+        → HasPositions settings.first counts.new.taken → 0 < settings.capacity
+        → settings.rounds ≤ counts.new.frames.lost + 1) }
     ensures ends { IfErr result (λ e. AllCome fates.entry → AllCome ack_fates.entry
         → HasPositions settings.first counts.new.taken → 0 < settings.capacity
         → 0 < settings.rounds → gave_up e ≡ false) }

@@ -49,3 +49,6 @@ returns-clause-ends g c = IfErr-weaker c.copy_over.result _ _
     (λ (not : gave_up e ≡ false). not)
     (cases_Bool (gave_up e)))
     (returns-clause-stalls g c)
+
+pub returns-clause-losses : goal.returns-clause-losses
+returns-clause-losses g c = IfErr-weaker c.copy_over.result _ _ (λ e h gave left cap. (h gave left cap).lost) (returns-clause-stalls g c)

@@ -61,8 +61,9 @@ returns-clause-stalls g c =
       acks = r.acks;
       last = r.last;
       last_back = r.last_back;
-      rounds = subst (λ v. StuckTo n (after_all r.frames v) (after_all r.acks c.args.ack_fates) r.last r.last_back) there (subst (λ v. StuckTo n (after_all r.frames c.new-link.result.there.fates) (after_all r.acks v) r.last r.last_back) back r.rounds);
+      rounds = subst (λ v. StuckTo 0 n (after_all r.frames v) (after_all r.acks c.args.ack_fates) r.last r.last_back) there (subst (λ v. StuckTo 0 n (after_all r.frames c.new-link.result.there.fates) (after_all r.acks v) r.last r.last_back) back r.rounds);
       all = subst (λ v. FatesSoFar v c.args.ack_fates r.last r.last_back counts) there (subst (λ v. FatesSoFar c.new-link.result.there.fates v r.last r.last_back counts) back r.all);
       failures = r.failures;
+      lost = r.lost;
     })
     c.exchange-ended.ensures.stalls))

@@ -3,17 +3,13 @@ use Rattle.std.proofs.lemmas.Bool.{both_ways, cases_Bool, cases_lt}
 use Rattle.net_receiver.specs.Stored.{stored_next}
 use Rattle.net_stream.specs.Outgoing.{end_of}
 use Rattle.net_stream.specs.Links.{Carries}
-use Rattle.net_stream.specs.Stuck.{failures, Stuck, StuckTo}
-use Rattle.net_stream.specs.Fates.{FatesSeen, after_all}
+use Rattle.net_stream.specs.Stuck.{failures, Stuck, StuckAtLast}
 use Rattle.net_stream.specs.Rounds.{FatesSoFar}
 use Rattle.net_stream.proofs.Reached.{first_is}
-use Rattle.net_stream.proofs.Stuck.{asked_again, stuck_more}
+use Rattle.net_stream.proofs.Stuck.{asked_again, StuckSoFar, stuck_none, stuck_kept, stuck_next, stuck_at_last}
 use Rattle.net_stream.proofs.Moved.{queue_from, passed, so_far, all_done}
 use Rattle.net_stream.proofs.Drawn.{none_drawn}
 use Rattle.net_stream.proofs.exchange.exchange.Goals as goal
-
-abbrev Runs : ℕ → FatesSeen → FatesSeen → FatesSeen → FatesSeen → Type 0
-Runs n v v' u u' = (frames : ℕ) × (acks : ℕ) × StuckTo n (after_all frames v) (after_all acks v') u u'
 
 pub rounds-init : goal.rounds-init
 rounds-init g c = record {
@@ -27,7 +23,7 @@ rounds-init g c = record {
   chunk = refl;
   failing = λ cap cap' some left. omega arith;
   most = omega arith;
-  stuck = λ cap cap' some left. (0, 0, (refl, refl));
+  stuck = λ cap cap' some left. stuck_none 0 0 c.args.link.now.there.fates c.args.link.now.back.fates c.args.link.now refl refl;
 }
 
 pub returns-in-Err-clause-copied : goal.returns-in-Err-clause-copied
@@ -124,19 +120,9 @@ returns-then-stalled-settings-clause-stalls g c = λ gave cap cap' some left.
     let enough = c.if-stalled-settings.true in
     let most = i.most in
     let all : c.rounds.stalled ≡ c.args.settings.rounds = omega (arith, enough, most) in
-    let run = i.stuck cap cap' some short in
     let failures = i.failing cap cap' some short in
     let fates : FatesSoFar v v' l.there.fates l.back.fates l.counts = record { frames = i.fates.frames; acks = i.fates.acks; left = i.fates.left; left_back = i.fates.left_back; counted = i.fates.counted } in
-    let same : l1.counts ≡ l.counts = ap (λ x. x.counts) c.feed.ensures.state in
-    record {
-      frames = run.0;
-      acks = run.1;
-      last = l.there.fates;
-      last_back = l.back.fates;
-      rounds = subst (λ j. StuckTo j (after_all run.0 v) (after_all run.1 v') l.there.fates l.back.fates) all run.2;
-      all = subst (FatesSoFar v v' l.there.fates l.back.fates) (sym same) fates;
-      failures = subst (λ n. c.args.settings.rounds ≤ n.lost + n.late) (sym same) (omega (arith, failures, all));
-    }
+    subst (λ n. StuckAtLast n v v' l1.counts) all (stuck_at_last c.rounds.stalled v v' l l1.counts (ap (λ x. x.counts) c.feed.ensures.state) failures fates (i.stuck cap cap' some short))
 
 pub returns-in-Err-step-clause-copied : goal.returns-in-Err-step-clause-copied
 returns-in-Err-step-clause-copied g c =
@@ -313,9 +299,7 @@ rounds-preserved g c =
     (cases_lt 0 (length l1.sender.queue)) in
     let x = c.in_default-step.ensures.moves f m2.given m2.carries (ap (λ y. y.there.ahead) c.wait.ensures ∙ ap (λ y. y.there.ahead) c.feed.ensures.state ∙ i.ahead) (ap (λ y. y.back.ahead) c.wait.ensures ∙ ap (λ y. y.back.ahead) c.feed.ensures.state ∙ i.ahead_back)
     (subst (λ y. 0 < length y.sender.queue) (sym c.wait.ensures) kept1) (subst (λ n. 0 < n) (sym (capacity2 ∙ i.capacity)) cap') some1 still still_read in
-    record { frames = x.frames; acks = x.acks; why = x.why; left = x.left; left_back = x.left_back; counted = x.counted }) in
-    let fates_there : l2.there.fates ≡ l.there.fates = ap (λ x. x.there.fates) c.wait.ensures ∙ ap (λ x. x.there.fates) c.feed.ensures.state in
-    let fates_back : l2.back.fates ≡ l.back.fates = ap (λ x. x.back.fates) c.wait.ensures ∙ ap (λ x. x.back.fates) c.feed.ensures.state in
+    record { frames = x.frames; acks = x.acks; why = x.why; left = x.left; left_back = x.left_back; counted = x.counted; due = x.due; lost = x.lost }) in
     let counts2 : failures l2.counts ≡ failures l.counts = ap (λ x. failures x.counts) c.wait.ensures ∙ ap (λ x. failures x.counts) c.feed.ensures.state in
     record {
       moving = m3;
@@ -336,23 +320,16 @@ rounds-preserved g c =
           omega (arith, so_far, bound, word, one, counts2))
           (cases_Bool c.has_moved-moved.result);
       most = omega (arith, test, bound);
-      stuck = λ cap cap' some left. ⊎_elim {C = Runs stalled v v' l3.there.fates l3.back.fates}
+      stuck = λ cap cap' some left. ⊎_elim {C = StuckSoFar stalled v v' l3}
           (λ (e : c.has_moved-moved.result ≡ true).
-          (fates3.frames, fates3.acks, subst (λ j. StuckTo j (after_all fates3.frames v) (after_all fates3.acks v') l3.there.fates l3.back.fates) (sym (c.stalled_after-stalled.ensures.moved e)) (fates3.left, fates3.left_back)))
+          subst (λ n. StuckSoFar n v v' l3) (sym (c.stalled_after-stalled.ensures.moved e)) (stuck_none fates3.frames fates3.acks v v' l3 fates3.left fates3.left_back))
           (λ (e : c.has_moved-moved.result ≡ false).
           let fewer : end_of l.sender < 2 ^ 64 - 1 = omega (arith, grows1, end2, end3, left) in
-          let run = i.stuck cap cap' some fewer in
-          let one = quiet e cap cap' some left in
+          let same_end : end_of l.sender ≤ end_of l2.sender = omega (arith, grows1, end2) in
           let stays = c.stalled_after-stalled.ensures.stays e (omega (arith, test)) in
           let size : suc c.rounds.stalled ≡ stalled = omega (arith, stays) in
-          let run2 : StuckTo c.rounds.stalled (after_all run.0 v) (after_all run.1 v') l2.there.fates l2.back.fates =
-          subst (λ x. StuckTo c.rounds.stalled (after_all run.0 v) (after_all run.1 v') x l2.back.fates) (sym fates_there) (subst (StuckTo c.rounds.stalled (after_all run.0 v) (after_all run.1 v') l.there.fates) (sym fates_back) run.2) in
-          let more = stuck_more c.rounds.stalled (after_all run.0 v) (after_all run.1 v') l2.there.fates l2.back.fates one.frames one.acks run2 one.why in (
-            run.0,
-            run.1,
-            subst (λ j. StuckTo j (after_all run.0 v) (after_all run.1 v') l3.there.fates l3.back.fates) size
-                (subst (λ x. StuckTo (suc c.rounds.stalled) (after_all run.0 v) (after_all run.1 v') x l3.back.fates) (sym one.left)
-                (subst (λ x. StuckTo (suc c.rounds.stalled) (after_all run.0 v) (after_all run.1 v') (after_all one.frames l2.there.fates) x) (sym one.left_back) more)),
-          ))
+          let before : StuckSoFar c.rounds.stalled v v' l2 = stuck_kept c.rounds.stalled v v' l l2 (ap (λ x. x.there) c.wait.ensures ∙ ap (λ x. x.there) c.feed.ensures.state) (ap (λ x. x.back) c.wait.ensures ∙ ap (λ x. x.back) c.feed.ensures.state) (ap (λ x. x.receiver) c.wait.ensures ∙ ap (λ x. x.receiver) c.feed.ensures.state)
+          (ap (λ x. x.sender.base) c.wait.ensures ∙ ap (λ x. x.sender.base) c.feed.ensures.state) same_end (ap (λ x. x.counts) c.wait.ensures ∙ ap (λ x. x.counts) c.feed.ensures.state) (i.stuck cap cap' some fewer) in
+          subst (λ n. StuckSoFar n v v' l3) size (stuck_next c.rounds.stalled v v' l2 l3 (omega (arith, test)) before (quiet e cap cap' some left)))
           (cases_Bool c.has_moved-moved.result);
     }

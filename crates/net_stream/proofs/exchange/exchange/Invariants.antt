@@ -1,7 +1,7 @@
-use Rattle.std.proofs.Common.{ℕ, ◌*◌, ◌≡◌, ◌≤◌, ◌<◌, ◌+◌, ◌-◌, ◌^◌, [], length}
+use Rattle.std.proofs.Common.{◌*◌, ◌≡◌, ◌≤◌, ◌<◌, ◌+◌, ◌-◌, ◌^◌, [], length}
 use Rattle.net_stream.specs.Outgoing.{end_of}
-use Rattle.net_stream.specs.Stuck.{failures, StuckTo}
-use Rattle.net_stream.specs.Fates.{after_all}
+use Rattle.net_stream.specs.Stuck.{failures}
+use Rattle.net_stream.proofs.Stuck.{StuckSoFar}
 use Rattle.net_stream.specs.Copying.{Moving}
 use Rattle.net_stream.specs.Rounds.{FatesSoFar}
 use Rattle.net_stream.proofs.exchange.exchange.Given as goal
@@ -21,7 +21,7 @@ invariant-rounds g l =
       failing : 0 < l.fn.link.sender.capacity → 0 < l.fn.link.receiver.capacity → 0 < length l.fn.chunk → end_of l.link.sender < 2 ^ 64 - 1 → l.stalled ≤ failures l.link.counts;
       most : l.stalled ≤ l.fn.settings.rounds;
       stuck : 0 < l.fn.link.sender.capacity → 0 < l.fn.link.receiver.capacity → 0 < length l.fn.chunk → end_of l.link.sender < 2 ^ 64 - 1
-          → (frames : ℕ) × (acks : ℕ) × StuckTo l.stalled (after_all frames l.fn.link.there.fates) (after_all acks l.fn.link.back.fates) l.link.there.fates l.link.back.fates;
+          → StuckSoFar l.stalled l.fn.link.there.fates l.fn.link.back.fates l.link;
     }
 
 -- each round lets bytes go or writes some, of which there are fewer than 2 ^ 66, or one more is stuck

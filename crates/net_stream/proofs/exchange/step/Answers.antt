@@ -1,9 +1,8 @@
-use Rattle.std.proofs.Common.{◌≡◌, ◌∙◌, ◌-◌, ◌<◌, ◌^◌, ap, drop, length, length-drop, refl, sym, subst, arith}
+use Rattle.std.proofs.Common.{◌≡◌, ◌∙◌, ◌-◌, ◌<◌, ◌^◌, drop, length, length-drop, refl, sym, subst, arith}
 use Rattle.std.proofs.lemmas.Result.{on_ok_weaker, on_err_weaker}
 use Rattle.net_stream.specs.Outgoing.{end_of}
 use Rattle.net_stream.specs.Rounds.{PartCounted, FatesCounted, FatesSoFar}
 use Rattle.net_stream.specs.Links.{Round}
-use Rattle.net_stream.specs.Stuck.{Stuck}
 use Rattle.net_stream.specs.Copying.{Stepped}
 use Rattle.net_stream.proofs.Drawn.{part_met, round_met, met_so_far, was_ok, was_err}
 use Rattle.net_stream.proofs.Stuck.{Numbers, round_keeps, round_moves, step_moves}
@@ -117,6 +116,5 @@ returns-clause-moves g c = on_ok_weaker c.hand_out.result
     let k = round_keeps old new round.passed numbers in
     let word : end_of old.sender < 2 ^ 64 = (let e = c.end-end.ensures.end in omega arith) in
     let moves = round_moves old new round.passed c.round_trip.ensures numbers c.completion.ensures.in_order c.truthful.ensures.queue c.is_sound.ensures word in
-    let x = step_moves f w old new c.hand_out.new.link.receiver (length c.args.chunk.now) k moves (ap (λ l. l.receiver) c.hand_out.ensures.state) carries none none_back kept cap some (sym (ap (λ l. l.sender.base) c.hand_out.ensures.state) ∙ still) still_read in
-    subst (Stuck old) (sym c.hand_out.ensures.state) (record { frames = x.frames; acks = x.acks; why = x.why; left = x.left; left_back = x.left_back; counted = x.counted }))
+    step_moves f w old new c.hand_out.new.link (length c.args.chunk.now) k moves c.hand_out.ensures.state carries none none_back kept cap some still still_read)
     c.hand_out.ensures.ok
