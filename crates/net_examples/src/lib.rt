@@ -1,6 +1,7 @@
 //! The smallest users of the libraries, one for each kind. The pages of this repository quote them.
 #![tactic(auto)]
 
+mod conversation;
 mod counted;
 mod datagram;
 mod device;
@@ -20,6 +21,7 @@ mod refused;
 mod send_frame;
 mod timer;
 
+pub use conversation::ask;
 pub use counted::Counted;
 pub use datagram::pass_through;
 pub use device::Undamaged;

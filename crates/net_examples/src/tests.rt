@@ -1,16 +1,16 @@
 //! Examples as their users call them.
 
 use crate::{
-    Counted, Outbox, Timer, Undamaged, line_end, over_a_bad_link, pass_through, receive,
+    Counted, Outbox, Timer, Undamaged, ask, line_end, over_a_bad_link, pass_through, receive,
     requests_for_a_list, send_bytes, take_line,
 };
 use net_base::phy::{Device, Loopback, Medium};
 use net_base::time::{Duration, Instant};
 use net_receiver::Receiver;
 use net_storage::{ManagedSlice, RingBuffer};
-use net_stream::Counts;
+use net_stream::{Counts, Fates, Link, Rates};
 use net_uses::Endpoint;
-use std::alloc::AllocError;
+use std::alloc::{AllocError, Global};
 
 #[test]
 fn bytes_wait_in_an_outbox(rt: HostRuntime) {
@@ -73,6 +73,66 @@ fn a_stream_crosses_a_bad_link(rt: HostRuntime) {
     let ended = over_a_bad_link(rt.alloc(), &mut reader, &mut writer, &mut counts);
     assert!(rt; ended.is_ok() && counts.bytes == 6);
     assert_eq!(rt; writer.as_slice(), b"abcdef".as_slice());
+}
+
+/// How many bytes of a reply come to the buffer over links that lose a third of their frames, in so
+/// many rounds each.
+fn reply_to(
+    alloc: Global,
+    request: &[u8],
+    reply: &[u8],
+    into: &mut [u8],
+    rounds: u32,
+) -> Result<Option<usize>, AllocError> {
+    let rates = Rates {
+        lost: 33,
+        repeated: 0,
+        late: 0,
+    };
+    let mut kept = [0u8; 4];
+    let mut came = [0u8; 4];
+    let mut to_server = Link::new(
+        alloc,
+        0,
+        2,
+        4,
+        ManagedSlice::Borrowed(&mut kept),
+        ManagedSlice::Borrowed(&mut came),
+        Fates::new(&[], 1, rates),
+        Fates::new(&[], 2, rates),
+    );
+    let mut kept = [0u8; 4];
+    let mut came = [0u8; 4];
+    let mut to_client = Link::new(
+        alloc,
+        0,
+        2,
+        4,
+        ManagedSlice::Borrowed(&mut kept),
+        ManagedSlice::Borrowed(&mut came),
+        Fates::new(&[], 3, rates),
+        Fates::new(&[], 4, rates),
+    );
+    let mut heard = [0u8; 16];
+    ask(
+        &mut to_server,
+        &mut to_client,
+        request,
+        reply,
+        &mut heard,
+        into,
+        rounds,
+    )
+}
+
+#[test]
+fn a_reply_comes_over_bad_links(rt: HostRuntime) -> Result<(), AllocError> {
+    let mut into = [0u8; 16];
+    let came = reply_to(rt.alloc(), b"how are you?", b"very well", &mut into, 40)?;
+    assert!(rt; came == Some(9) && into.starts_with(b"very well"));
+    let came = reply_to(rt.alloc(), b"how are you?", b"very well", &mut into, 1)?;
+    assert!(rt; came.is_none());
+    Ok(())
 }
 
 #[test]

@@ -103,8 +103,10 @@ impl<'a, 'f, A: Allocator + Copy> Link<'a, 'f, A> {
 
     /// Lets time pass: the clock goes on by so much, up to 2^64 - 1 microseconds.
     pub fn wait(&mut self, time: Duration)
-        ensures { self.new
+        ensures state { self.new
             ≡ record self.old { elapsed = min (self.old.elapsed + time) (2 ^ 64 - 1) } }
+        ensures carries { (f : ℕ) (w : List ℕ) → Carries f w self.old → Carries f w self.new }
+        ensures read { self.new.receiver.read ≡ self.old.receiver.read }
     {
         self.elapsed = self.elapsed.saturating_add(time);
     }

@@ -137,12 +137,12 @@ returns-in-Err-step-clause-copied g c =
     let m1 = c.feed.ensures.moving f old held holds i.moving in
     let l2 = c.wait.new.self in
     let d = record c.feed.new.counts { rounds = c.saturating_add-counts.result } in
-    let m2 = passed f old held l1 l2 c.feed.new.counts d now holds c.feed.new.input.more (λ w h. subst (Carries f w) (sym c.wait.ensures) h) (ap (λ x. x.receiver.read) c.wait.ensures) refl refl m1 in
+    let m2 = passed f old held l1 l2 c.feed.new.counts d now holds c.feed.new.input.more (λ w h. subst (Carries f w) (sym c.wait.ensures.state) h) (ap (λ x. x.receiver.read) c.wait.ensures.state) refl refl m1 in
     let v = c.args.link.now.there.fates in
     let v' = c.args.link.now.back.fates in
     let fates : FatesSoFar v v' l.there.fates l.back.fates l.counts = record { frames = i.fates.frames; acks = i.fates.acks; left = i.fates.left; left_back = i.fates.left_back; counted = i.fates.counted } in
     let fates1 : FatesSoFar v v' l1.there.fates l1.back.fates l1.counts = subst (λ x. FatesSoFar v v' x.there.fates x.back.fates x.counts) (sym c.feed.ensures.state) fates in
-    let fates2 : FatesSoFar v v' l2.there.fates l2.back.fates l2.counts = subst (λ x. FatesSoFar v v' x.there.fates x.back.fates x.counts) (sym c.wait.ensures) fates1 in
+    let fates2 : FatesSoFar v v' l2.there.fates l2.back.fates l2.counts = subst (λ x. FatesSoFar v v' x.there.fates x.back.fates x.counts) (sym c.wait.ensures.state) fates1 in
     c.in-Err-step.ensures.err f old now held c.feed.new.input.more m2
 
 pub returns-in-Err-step-clause-fates : goal.returns-in-Err-step-clause-fates
@@ -158,12 +158,12 @@ returns-in-Err-step-clause-fates g c =
     let m1 = c.feed.ensures.moving f old held holds i.moving in
     let l2 = c.wait.new.self in
     let d = record c.feed.new.counts { rounds = c.saturating_add-counts.result } in
-    let m2 = passed f old held l1 l2 c.feed.new.counts d now holds c.feed.new.input.more (λ w h. subst (Carries f w) (sym c.wait.ensures) h) (ap (λ x. x.receiver.read) c.wait.ensures) refl refl m1 in
+    let m2 = passed f old held l1 l2 c.feed.new.counts d now holds c.feed.new.input.more (λ w h. subst (Carries f w) (sym c.wait.ensures.state) h) (ap (λ x. x.receiver.read) c.wait.ensures.state) refl refl m1 in
     let v = c.args.link.now.there.fates in
     let v' = c.args.link.now.back.fates in
     let fates : FatesSoFar v v' l.there.fates l.back.fates l.counts = record { frames = i.fates.frames; acks = i.fates.acks; left = i.fates.left; left_back = i.fates.left_back; counted = i.fates.counted } in
     let fates1 : FatesSoFar v v' l1.there.fates l1.back.fates l1.counts = subst (λ x. FatesSoFar v v' x.there.fates x.back.fates x.counts) (sym c.feed.ensures.state) fates in
-    let fates2 : FatesSoFar v v' l2.there.fates l2.back.fates l2.counts = subst (λ x. FatesSoFar v v' x.there.fates x.back.fates x.counts) (sym c.wait.ensures) fates1 in
+    let fates2 : FatesSoFar v v' l2.there.fates l2.back.fates l2.counts = subst (λ x. FatesSoFar v v' x.there.fates x.back.fates x.counts) (sym c.wait.ensures.state) fates1 in
     c.step.ensures.fates v v' fates2
 
 smaller_moved : (t u m j k : ℕ) → t < u → u < 2 ^ 65 → m < 2 ^ 64 → (2 ^ 66 - u) * 2 ^ 64 + (m - k) < (2 ^ 66 - t) * 2 ^ 64 + (m - j)
@@ -196,17 +196,17 @@ rounds-smaller g c =
     let m1 = c.feed.ensures.moving f old held holds i.moving in
     let l2 = c.wait.new.self in
     let d = record c.feed.new.counts { rounds = c.saturating_add-counts.result } in
-    let m2 = passed f old held l1 l2 c.feed.new.counts d now holds c.feed.new.input.more (λ w h. subst (Carries f w) (sym c.wait.ensures) h) (ap (λ x. x.receiver.read) c.wait.ensures) refl refl m1 in
+    let m2 = passed f old held l1 l2 c.feed.new.counts d now holds c.feed.new.input.more (λ w h. subst (Carries f w) (sym c.wait.ensures.state) h) (ap (λ x. x.receiver.read) c.wait.ensures.state) refl refl m1 in
     let v = c.args.link.now.there.fates in
     let v' = c.args.link.now.back.fates in
     let fates : FatesSoFar v v' l.there.fates l.back.fates l.counts = record { frames = i.fates.frames; acks = i.fates.acks; left = i.fates.left; left_back = i.fates.left_back; counted = i.fates.counted } in
     let fates1 : FatesSoFar v v' l1.there.fates l1.back.fates l1.counts = subst (λ x. FatesSoFar v v' x.there.fates x.back.fates x.counts) (sym c.feed.ensures.state) fates in
-    let fates2 : FatesSoFar v v' l2.there.fates l2.back.fates l2.counts = subst (λ x. FatesSoFar v v' x.there.fates x.back.fates x.counts) (sym c.wait.ensures) fates1 in
+    let fates2 : FatesSoFar v v' l2.there.fates l2.back.fates l2.counts = subst (λ x. FatesSoFar v v' x.there.fates x.back.fates x.counts) (sym c.wait.ensures.state) fates1 in
     let l3 = c.step.new.link in
     let m3 = c.in_default-step.ensures.ok f old now held c.feed.new.input.more m2 in
     let k = c.in_default-step.ensures.keeps in
-    let base2 : l2.sender.base ≡ l.sender.base = ap (λ x. x.sender.base) c.wait.ensures ∙ ap (λ x. x.sender.base) c.feed.ensures.state in
-    let read2 : l2.receiver.read ≡ l.receiver.read = ap (λ x. x.receiver.read) c.wait.ensures ∙ ap (λ x. x.receiver.read) c.feed.ensures.state in
+    let base2 : l2.sender.base ≡ l.sender.base = ap (λ x. x.sender.base) c.wait.ensures.state ∙ ap (λ x. x.sender.base) c.feed.ensures.state in
+    let read2 : l2.receiver.read ≡ l.receiver.read = ap (λ x. x.receiver.read) c.wait.ensures.state ∙ ap (λ x. x.receiver.read) c.feed.ensures.state in
     let base1 : l1.sender.base ≡ l.sender.base = ap (λ x. x.sender.base) c.feed.ensures.state in
     let base = c.base-base.ensures.value in
     let bytes1 : l1.receiver.read ≡ c.feed.new.counts.bytes = m1.bytes in
@@ -245,12 +245,12 @@ rounds-preserved g c =
     let m1 = c.feed.ensures.moving f old held holds i.moving in
     let l2 = c.wait.new.self in
     let d = record c.feed.new.counts { rounds = c.saturating_add-counts.result } in
-    let m2 = passed f old held l1 l2 c.feed.new.counts d now holds c.feed.new.input.more (λ w h. subst (Carries f w) (sym c.wait.ensures) h) (ap (λ x. x.receiver.read) c.wait.ensures) refl refl m1 in
+    let m2 = passed f old held l1 l2 c.feed.new.counts d now holds c.feed.new.input.more (λ w h. subst (Carries f w) (sym c.wait.ensures.state) h) (ap (λ x. x.receiver.read) c.wait.ensures.state) refl refl m1 in
     let v = c.args.link.now.there.fates in
     let v' = c.args.link.now.back.fates in
     let fates : FatesSoFar v v' l.there.fates l.back.fates l.counts = record { frames = i.fates.frames; acks = i.fates.acks; left = i.fates.left; left_back = i.fates.left_back; counted = i.fates.counted } in
     let fates1 : FatesSoFar v v' l1.there.fates l1.back.fates l1.counts = subst (λ x. FatesSoFar v v' x.there.fates x.back.fates x.counts) (sym c.feed.ensures.state) fates in
-    let fates2 : FatesSoFar v v' l2.there.fates l2.back.fates l2.counts = subst (λ x. FatesSoFar v v' x.there.fates x.back.fates x.counts) (sym c.wait.ensures) fates1 in
+    let fates2 : FatesSoFar v v' l2.there.fates l2.back.fates l2.counts = subst (λ x. FatesSoFar v v' x.there.fates x.back.fates x.counts) (sym c.wait.ensures.state) fates1 in
     let l3 = c.step.new.link in
     let m3 = c.in_default-step.ensures.ok f old now held c.feed.new.input.more m2 in
     let k = c.in_default-step.ensures.keeps in
@@ -259,17 +259,17 @@ rounds-preserved g c =
     let bound = c.stalled_after-stalled.ensures.bound in
     let test = c.if-stalled-settings.false in
     let grows1 = c.feed.ensures.grows in
-    let end2 : end_of l2.sender ≡ end_of l1.sender = ap (λ x. end_of x.sender) c.wait.ensures in
+    let end2 : end_of l2.sender ≡ end_of l1.sender = ap (λ x. end_of x.sender) c.wait.ensures.state in
     let end3 = k.end in
-    let window2 : l2.sender.capacity ≡ l.sender.capacity = ap (λ x. x.sender.capacity) c.wait.ensures ∙ ap (λ x. x.sender.capacity) c.feed.ensures.state in
-    let capacity2 : l2.receiver.capacity ≡ l.receiver.capacity = ap (λ x. x.receiver.capacity) c.wait.ensures ∙ ap (λ x. x.receiver.capacity) c.feed.ensures.state in
+    let window2 : l2.sender.capacity ≡ l.sender.capacity = ap (λ x. x.sender.capacity) c.wait.ensures.state ∙ ap (λ x. x.sender.capacity) c.feed.ensures.state in
+    let capacity2 : l2.receiver.capacity ≡ l.receiver.capacity = ap (λ x. x.receiver.capacity) c.wait.ensures.state ∙ ap (λ x. x.receiver.capacity) c.feed.ensures.state in
     let quiet : c.has_moved-moved.result ≡ false → 0 < c.args.link.now.sender.capacity → 0 < c.args.link.now.receiver.capacity → 0 < length c.args.chunk.now → end_of l3.sender < 2 ^ 64 - 1 → Stuck l2 l3 =
     λ e cap cap' some left.
     (let same = c.has_moved-moved.ensures.still e in
     let base1 : l1.sender.base ≡ l.sender.base = ap (λ x. x.sender.base) c.feed.ensures.state in
-    let base2 : l2.sender.base ≡ l1.sender.base = ap (λ x. x.sender.base) c.wait.ensures in
+    let base2 : l2.sender.base ≡ l1.sender.base = ap (λ x. x.sender.base) c.wait.ensures.state in
     let still : l3.sender.base ≡ l2.sender.base = same.0 ∙ c.base-base.ensures.value ∙ sym base2 in
-    let receiver2 : l2.receiver ≡ l1.receiver = ap (λ x. x.receiver) c.wait.ensures in
+    let receiver2 : l2.receiver ≡ l1.receiver = ap (λ x. x.receiver) c.wait.ensures.state in
     let read2 : l2.receiver.read ≡ l1.receiver.read = ap (λ r. r.read) receiver2 in
     let bytes1 : l1.receiver.read ≡ c.feed.new.counts.bytes = m1.bytes in
     let bytes3 : l3.receiver.read ≡ c.step.new.counts.bytes = m3.bytes in
@@ -297,10 +297,10 @@ rounds-preserved g c =
     absurd (asked_again c.truthful.ensures.queue f i.moving.given m1.given l l1 (length c.rounds.chunk) i.moving.carries m1.carries (ap (λ x. x.receiver) c.feed.ensures.state) grows1 next empty1 (c.in_default.ensures.fed more)
     (omega (arith, chunk, some)) (omega (arith, base1, grows1, h, window, cap)) (omega (arith, end2, end3, left))))
     (cases_lt 0 (length l1.sender.queue)) in
-    let x = c.in_default-step.ensures.moves f m2.given m2.carries (ap (λ y. y.there.ahead) c.wait.ensures ∙ ap (λ y. y.there.ahead) c.feed.ensures.state ∙ i.ahead) (ap (λ y. y.back.ahead) c.wait.ensures ∙ ap (λ y. y.back.ahead) c.feed.ensures.state ∙ i.ahead_back)
-    (subst (λ y. 0 < length y.sender.queue) (sym c.wait.ensures) kept1) (subst (λ n. 0 < n) (sym (capacity2 ∙ i.capacity)) cap') some1 still still_read in
+    let x = c.in_default-step.ensures.moves f m2.given m2.carries (ap (λ y. y.there.ahead) c.wait.ensures.state ∙ ap (λ y. y.there.ahead) c.feed.ensures.state ∙ i.ahead) (ap (λ y. y.back.ahead) c.wait.ensures.state ∙ ap (λ y. y.back.ahead) c.feed.ensures.state ∙ i.ahead_back)
+    (subst (λ y. 0 < length y.sender.queue) (sym c.wait.ensures.state) kept1) (subst (λ n. 0 < n) (sym (capacity2 ∙ i.capacity)) cap') some1 still still_read in
     record { frames = x.frames; acks = x.acks; why = x.why; left = x.left; left_back = x.left_back; counted = x.counted; due = x.due; lost = x.lost }) in
-    let counts2 : failures l2.counts ≡ failures l.counts = ap (λ x. failures x.counts) c.wait.ensures ∙ ap (λ x. failures x.counts) c.feed.ensures.state in
+    let counts2 : failures l2.counts ≡ failures l.counts = ap (λ x. failures x.counts) c.wait.ensures.state ∙ ap (λ x. failures x.counts) c.feed.ensures.state in
     record {
       moving = m3;
       fates = record { frames = fates3.frames; acks = fates3.acks; left = fates3.left; left_back = fates3.left_back; counted = fates3.counted };
@@ -328,8 +328,8 @@ rounds-preserved g c =
           let same_end : end_of l.sender ≤ end_of l2.sender = omega (arith, grows1, end2) in
           let stays = c.stalled_after-stalled.ensures.stays e (omega (arith, test)) in
           let size : suc c.rounds.stalled ≡ stalled = omega (arith, stays) in
-          let before : StuckSoFar c.rounds.stalled v v' l2 = stuck_kept c.rounds.stalled v v' l l2 (ap (λ x. x.there) c.wait.ensures ∙ ap (λ x. x.there) c.feed.ensures.state) (ap (λ x. x.back) c.wait.ensures ∙ ap (λ x. x.back) c.feed.ensures.state) (ap (λ x. x.receiver) c.wait.ensures ∙ ap (λ x. x.receiver) c.feed.ensures.state)
-          (ap (λ x. x.sender.base) c.wait.ensures ∙ ap (λ x. x.sender.base) c.feed.ensures.state) same_end (ap (λ x. x.counts) c.wait.ensures ∙ ap (λ x. x.counts) c.feed.ensures.state) (i.stuck cap cap' some fewer) in
+          let before : StuckSoFar c.rounds.stalled v v' l2 = stuck_kept c.rounds.stalled v v' l l2 (ap (λ x. x.there) c.wait.ensures.state ∙ ap (λ x. x.there) c.feed.ensures.state) (ap (λ x. x.back) c.wait.ensures.state ∙ ap (λ x. x.back) c.feed.ensures.state) (ap (λ x. x.receiver) c.wait.ensures.state ∙ ap (λ x. x.receiver) c.feed.ensures.state)
+          (ap (λ x. x.sender.base) c.wait.ensures.state ∙ ap (λ x. x.sender.base) c.feed.ensures.state) same_end (ap (λ x. x.counts) c.wait.ensures.state ∙ ap (λ x. x.counts) c.feed.ensures.state) (i.stuck cap cap' some fewer) in
           subst (λ n. StuckSoFar n v v' l3) size (stuck_next c.rounds.stalled v v' l2 l3 (omega (arith, test)) before (quiet e cap cap' some left)))
           (cases_Bool c.has_moved-moved.result);
     }
