@@ -1,6 +1,7 @@
 //! Copies over links of known fates: what arrives, what is counted, and how each error ends.
 
-use net_stream::{Counts, Fates, Rates, Settings, copy, copy_over};
+use crate::counted::{EACH_SECOND, EIGHTY};
+use net_stream::{Counts, Fates, FrameCounts, Rates, Settings, copy, copy_over};
 use net_testing::{NEVER, Refusing, Sink, Source};
 use std::alloc::{Allocator, Global};
 use std::io::ErrorKind;
@@ -178,38 +179,56 @@ fn each_refusal_ends_a_copy(rt: HostRuntime) -> Result<(), Fail> {
     Ok(())
 }
 
+/// Whether all is counted that came before memory was refused, of a copy of which eight segments are
+/// refused in the first round, in which nothing is written: 80 bytes are sent in it, and 33 in the
+/// next. Each round waits for a round trip at least.
+fn are_kept(counts: &Counts, has_storage: bool) -> bool {
+    let FrameCounts {
+        payload,
+        refused,
+        ..
+    } = counts.frames;
+    let is_counted = match counts.rounds {
+        0 => !has_storage,
+        1 => payload <= 80 && refused <= 8,
+        2 => payload >= 80 && refused >= 8,
+        _ => payload >= 113 && refused >= 8,
+    };
+    is_counted && counts.micros / 10_000 >= counts.rounds
+}
+
 #[test]
 fn each_refused_request_leaves_a_front(rt: HostRuntime) -> Result<(), Fail> {
-    let text = b"abcdefghijklmnopqrstuvwxyz".as_slice();
     let rates = Rates {
         lost: 30,
         repeated: 20,
         late: 20,
     };
-    for refused in 0..1_000usize {
+    for refused in 0..10_000usize {
         let heap = Refusing::new(rt.alloc(), refused);
-        let mut source = Source::new(text);
+        let mut source = Source::new(EIGHTY);
         let mut sink = Sink::new(rt.alloc())?;
         let mut counts = Counts::new();
         let told = ending(
             rt.alloc(),
             &heap,
-            settings(0, 16, 2),
-            Fates::new(&[], 7, rates),
+            settings(0, 4096, 1),
+            Fates::new(&EACH_SECOND, 7, rates),
             Fates::new(&[], 8, rates),
             &mut source,
             &mut sink,
             &mut counts,
         )?;
         assert!(rt;
-            told.as_str() == "out of memory" || sink.bytes.as_slice() == text,
+            told.as_str() == "out of memory" || sink.bytes.as_slice() == EIGHTY,
             "{refused}"
         );
         assert_eq!(rt;
             sink.bytes.as_slice(),
-            &text[..sink.bytes.len().min(text.len())]
+            &EIGHTY[..sink.bytes.len().min(EIGHTY.len())]
         );
         assert_eq!(rt; sink.bytes.len() as u64, counts.bytes, "{refused}");
+        assert!(rt; are_kept(&counts, refused > 2), "{refused}");
         if told.as_str() == "Ok" {
             assert_eq!(rt; refused, heap.requests());
             return Ok(());

@@ -41,11 +41,11 @@ const LATE: Fate = Fate::Late;
 const TEXT: &[u8] = b"A text of some words, which comes over a link byte for byte.";
 
 /// Eighty bytes.
-const EIGHTY: &[u8] =
+pub(crate) const EIGHTY: &[u8] =
     b"0123456789012345678901234567890123456789012345678901234567890123456789abcdefghij";
 
 /// Forty frames that are lost, each before one that comes.
-const EACH_SECOND: [Fate; 80] = [
+pub(crate) const EACH_SECOND: [Fate; 80] = [
     LOST, DELIVERED, LOST, DELIVERED, LOST, DELIVERED, LOST, DELIVERED, LOST, DELIVERED, LOST,
     DELIVERED, LOST, DELIVERED, LOST, DELIVERED, LOST, DELIVERED, LOST, DELIVERED, LOST, DELIVERED,
     LOST, DELIVERED, LOST, DELIVERED, LOST, DELIVERED, LOST, DELIVERED, LOST, DELIVERED, LOST,
@@ -228,6 +228,17 @@ fn frames_that_fail(rt: HostRuntime) -> Result<(), Fail> {
             end: "gave up",
             reads: 1,
             counts: [6, 0, 17, 22, 10, 0, 0, 0, 5, 310_000],
+        },
+        // Of eighty frames each second is lost, and eight segments are refused; then nothing comes.
+        Counted {
+            fates: (&EACH_SECOND, GONE),
+            acks: (&[], PERFECT),
+            text: EIGHTY,
+            read: usize::MAX,
+            settings: (0, 4096, 1, 4096, 3),
+            end: "gave up",
+            reads: 1,
+            counts: [80, 0, 189, 146, 106, 0, 0, 8, 3, 70_000],
         },
         // Waits double, and begin anew.
         Counted {
@@ -581,29 +592,39 @@ fn sizes_that_links_are_used_at(rt: HostRuntime) -> Result<(), Fail> {
     Ok(())
 }
 
-/// How a copy of six bytes ends of which each read gives three and each write takes two, where the
-/// read or the write of this number fails: the counts of bytes taken and written, rounds and
-/// microseconds, and how often was read and flushed.
-fn failing(
+/// A copy, of frames of one byte, of which a read or a write fails: the fates of its frames, its text,
+/// the most bytes of a read and the number of the one that fails, the same of writes, and then how it
+/// ends, its counts, and how often it reads.
+#[derive(Drop)]
+struct Failing {
+    fates: &'static [Fate],
+    text: &'static [u8],
+    read: (usize, usize),
+    write: (usize, usize),
+    end: &'static str,
+    counts: [u64; 10],
+    reads: usize,
+}
+
+/// Whether a copy ends so, with these counts and one flush, where a failed read is of this kind, and
+/// so is a failed write, or takes no byte.
+fn fails_so(
     alloc: Global,
-    read: usize,
-    write: usize,
-    kind: ErrorKind,
-) -> Result<(String, [u64; 4], [usize; 2]), Fail> {
-    let mut source = Source::failing(b"abcdef", 3, read, kind);
-    let mut sink = Sink::new(alloc)?;
-    sink.failing_call = write;
-    sink.kind = Some(kind);
-    sink.bytes_per_call = 2;
+    case: &Failing,
+    read: ErrorKind,
+    write: Option<ErrorKind>,
+) -> Result<bool, Fail> {
+    let mut source = Source::failing(case.text, case.read.0, case.read.1, read);
+    let mut sink = Sink::failing(alloc, case.write.0, case.write.1, write)?;
     let settings = Settings {
         first: 0,
-        capacity: 16,
-        payload: 2,
-        flight: 4_096,
+        capacity: 4096,
+        payload: 1,
+        flight: 4096,
         rounds: 100,
     };
     let mut counts = Counts::new();
-    let fates = Fates::new(&[], 1, PERFECT);
+    let fates = Fates::new(case.fates, 1, PERFECT);
     let ack_fates = Fates::new(&[], 1, PERFECT);
     let ended = copy(
         alloc,
@@ -618,28 +639,91 @@ fn failing(
         Ok(()) => String::from_str(alloc, "Ok")?,
         Err(error) => format!(in alloc; "{error}")?,
     };
-    let found = [counts.taken, counts.bytes, counts.rounds, counts.micros];
-    Ok((told, found, [source.calls, sink.flushes]))
+    Ok(
+        told.as_str() == case.end
+            && all_of(&counts) == case.counts
+            && source.calls == case.reads
+            && sink.flushes == 1,
+    )
 }
 
-/// A read or a write that fails ends the copy, of whatever kind the error is: none is tried again.
+/// A copy of six bytes in two reads, of which this read and this write fail.
+fn six(read: usize, write: usize, end: &'static str, counts: [u64; 10], reads: usize) -> Failing {
+    Failing {
+        fates: &[],
+        text: b"abcdef",
+        read: (3, read),
+        write: (2, write),
+        end,
+        counts,
+        reads,
+    }
+}
+
+/// The copy of eighty bytes of which each second is lost and eight are refused, of which this read
+/// and this write fail.
+fn eighty(
+    read: usize,
+    write: usize,
+    end: &'static str,
+    counts: [u64; 10],
+    reads: usize,
+) -> Failing {
+    Failing {
+        fates: &EACH_SECOND,
+        text: EIGHTY,
+        read: (usize::MAX, read),
+        write: (40, write),
+        end,
+        counts,
+        reads,
+    }
+}
+
+/// A read or a write that fails ends the copy, of whatever kind the error is: none is tried again,
+/// and all is counted that came before it. A write that takes no byte has failed.
 #[test]
 fn failed_reads_and_writes_are_counted(rt: HostRuntime) -> Result<(), Fail> {
+    const READ: &str = "read failed";
+    const WRITE: &str = "write failed";
     let cases = [
-        (0, NEVER, "read failed", [0, 0, 0, 0], [1, 1usize]),
-        (1, NEVER, "read failed", [3, 3, 1, 10_000], [2, 1usize]),
-        (2, NEVER, "read failed", [6, 6, 2, 20_000], [3, 1usize]),
-        (NEVER, 0, "write failed", [3, 0, 1, 10_000], [1, 1usize]),
-        (NEVER, 1, "write failed", [3, 2, 1, 10_000], [1, 1usize]),
-        (NEVER, 3, "write failed", [6, 5, 2, 20_000], [2, 1usize]),
-        (NEVER, NEVER, "Ok", [6, 6, 2, 20_000], [3, 1usize]),
+        six(0, NEVER, READ, [0, 0, 0, 0, 0, 0, 0, 0, 0, 0], 1),
+        six(1, NEVER, READ, [3, 3, 7, 3, 0, 0, 0, 0, 1, 10_000], 2),
+        six(2, NEVER, READ, [6, 6, 14, 6, 0, 0, 0, 0, 2, 20_000], 3),
+        six(NEVER, 0, WRITE, [3, 0, 7, 3, 0, 0, 0, 0, 1, 10_000], 1),
+        six(NEVER, 1, WRITE, [3, 2, 7, 3, 0, 0, 0, 0, 1, 10_000], 1),
+        six(NEVER, 3, WRITE, [6, 5, 14, 6, 0, 0, 0, 0, 2, 20_000], 2),
+        six(NEVER, NEVER, "Ok", [6, 6, 14, 6, 0, 0, 0, 0, 2, 20_000], 3),
+        eighty(
+            1,
+            NEVER,
+            READ,
+            [80, 80, 219, 128, 40, 0, 0, 8, 3, 40_000],
+            2,
+        ),
+        eighty(
+            NEVER,
+            1,
+            WRITE,
+            [80, 40, 188, 113, 40, 0, 0, 8, 2, 30_000],
+            1,
+        ),
+        eighty(
+            NEVER,
+            2,
+            WRITE,
+            [80, 65, 219, 128, 40, 0, 0, 8, 3, 40_000],
+            1,
+        ),
     ];
-    for kind in [ErrorKind::Other, ErrorKind::Interrupted] {
-        for (read, write, end, counts, calls) in cases {
-            let found = failing(rt.alloc(), read, write, kind)?;
-            assert_eq!(rt; found.0.as_str(), end, "{read} {write}");
-            assert_eq!(rt; found.1, counts);
-            assert_eq!(rt; found.2, calls);
+    let kinds = [
+        (ErrorKind::Other, Some(ErrorKind::Other)),
+        (ErrorKind::Interrupted, Some(ErrorKind::Interrupted)),
+        (ErrorKind::Other, None),
+    ];
+    for (read, write) in kinds {
+        for i in 0..cases.len() {
+            assert!(rt; fails_so(rt.alloc(), &cases[i], read, write)?, "case {i}");
         }
     }
     Ok(())

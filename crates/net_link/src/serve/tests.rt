@@ -84,16 +84,17 @@ const CASES: [Case; 16] = [
         told: "300000 bytes, 40 frames, 0 lost, 0 repeated, 0 late, \
             0 refused, 0 bytes sent again, 2 rounds, 15000000 bytes a second\n",
     },
+    // A round sends 4,096 frames.
     Case {
-        words: "0 3 0 0 100",
-        input: 8187,
+        words: "0 3 0 0 1",
+        input: 5000,
         reads: (usize::MAX, NEVER),
         writes: (usize::MAX, NEVER),
         is_flushed: true,
         status: Status::Done,
-        written: 8187,
-        told: "8187 bytes, 165 frames, 0 lost, 0 repeated, 0 late, \
-            0 refused, 0 bytes sent again, 1 rounds, 818700 bytes a second\n",
+        written: 5000,
+        told: "5000 bytes, 10002 frames, 0 lost, 0 repeated, 0 late, \
+            0 refused, 0 bytes sent again, 2 rounds, 250000 bytes a second\n",
     },
     // Each fate, in both directions.
     Case {
