@@ -1,9 +1,10 @@
 """What net_link sends over links that lose more and more frames, as a table and a plot.
 
-    python3 compare/lossy.py PROGRAM [--bytes 64000000] [--seed 7] [--svg docs/link.svg]
+    python3 compare/lossy.py PROGRAM [--bytes 64000000] [--seed 7] [--svg docs/link.svg] [--payloads]
 
 PROGRAM is net_link, proved (`rt run` leaves it in crates/net_link/out). Each run copies the same random
-bytes from one file to another, and its output is compared with its input.
+bytes from one file to another, and its output is compared with its input. With `--payloads` the table goes over
+the most bytes of a frame's payload.
 """
 import argparse
 import os
@@ -13,6 +14,7 @@ import tempfile
 import time
 
 LOSSES = [0, 5, 10, 15, 20, 25, 30, 35, 40, 45, 50]
+PAYLOADS = [1, 16, 128, 1_460, 16_384]
 COUNTS = re.compile(
     r"(\d+) bytes, (\d+) frames, (\d+) lost, (\d+) repeated, (\d+) late, (\d+) refused, "
     r"(\d+) bytes sent again, (\d+) rounds, (\d+) bytes a second"
@@ -20,15 +22,16 @@ COUNTS = re.compile(
 WIDTH, HEIGHT, LEFT, BOTTOM, TOP, RIGHT = 640, 360, 60, 50, 50, 20
 
 
-def run(program, loss, seed, source, target):
+def run(program, words, source, target):
     """Returns the seconds of one run and its counts, if its output is its input."""
+    words = [str(word) for word in words]
     with open(source, "rb") as given, open(target, "wb") as taken:
         begun = time.perf_counter()
-        ended = subprocess.run([program, str(loss), str(seed)], stdin=given, stdout=taken, stderr=subprocess.PIPE)
+        ended = subprocess.run([program, *words], stdin=given, stdout=taken, stderr=subprocess.PIPE)
         seconds = time.perf_counter() - begun
     said = ended.stderr.decode()
     if ended.returncode or subprocess.run(["cmp", source, target]).returncode:
-        raise SystemExit(f"LOSS {loss}: status {ended.returncode}, or another output: {said}")
+        raise SystemExit(f"{' '.join(words)}: status {ended.returncode}, or another output: {said}")
     return seconds, [int(it) for it in COUNTS.search(said).groups()]
 
 
@@ -60,30 +63,50 @@ def svg(points):
     return "\n".join([*parts, "</svg>\n"])
 
 
+def by_payload(words, source, target):
+    """Runs the program once for each size of a payload, with few losses and with many."""
+    print("| BYTES | Lost of 100 | Seconds | Frames | Refused | Bytes sent again | Again for each byte | Rounds |")
+    print("|---:|---:|---:|---:|---:|---:|---:|---:|")
+    for payload in PAYLOADS:
+        for loss in (5, 30):
+            asked = loss, words.seed, loss // 2, loss // 2, payload
+            seconds, counts = run(words.program, asked, source, target)
+            sent, frames, _, _, _, refused, again, rounds, _ = counts
+            print(f"| {payload:,} | {loss} | {seconds:.2f} | {frames:,} | {refused:,} | {again:,} "
+                  f"| {again / max(sent, 1):.2f} | {rounds:,} |")
+
+
+def by_loss(words, source, target):
+    """Runs the program once for each loss, and returns how much was sent again for each byte."""
+    print("| Lost of 100 | Seconds | MB a second | Frames | Lost | Repeated | Late | Refused | Bytes sent again "
+          "| Rounds | Bytes a second of simulated time |")
+    print("|---:|---:|---:|---:|---:|---:|---:|---:|---:|---:|---:|")
+    points = []
+    for loss in LOSSES:
+        seconds, counts = run(words.program, (loss, words.seed), source, target)
+        sent, frames, lost, repeated, late, refused, again, rounds, rate = counts
+        points.append((loss, again / max(sent, 1)))
+        print(f"| {loss} | {seconds:.2f} | {sent / seconds / 1e6:,.0f} | {frames:,} | {lost:,} | {repeated:,} "
+              f"| {late:,} | {refused:,} | {again:,} | {rounds:,} | {rate:,} |")
+    return points
+
+
 def main():
-    """Runs the program once for each loss."""
+    """Makes the input, and runs the program."""
     asked = argparse.ArgumentParser()
     asked.add_argument("program")
     asked.add_argument("--bytes", type=int, default=64_000_000)
     asked.add_argument("--seed", type=int, default=7)
     asked.add_argument("--svg")
+    asked.add_argument("--payloads", action="store_true")
     words = asked.parse_args()
-    print("| Lost of 100 | Seconds | MB a second | Frames | Lost | Repeated | Late | Refused | Bytes sent again "
-          "| Rounds | Bytes a second of simulated time |")
-    print("|---:|---:|---:|---:|---:|---:|---:|---:|---:|---:|---:|")
-    points = []
     with tempfile.TemporaryDirectory() as room:
         source, target = os.path.join(room, "given"), os.path.join(room, "taken")
         with open(source, "wb") as given:
             given.write(os.urandom(words.bytes))
-        for loss in LOSSES:
-            seconds, counts = run(words.program, loss, words.seed, source, target)
-            sent, frames, lost, repeated, late, refused, again, rounds, rate = counts
-            points.append((loss, again / max(sent, 1)))
-            print(f"| {loss} | {seconds:.2f} | {sent / seconds / 1e6:,.0f} | {frames:,} | {lost:,} | {repeated:,} "
-                  f"| {late:,} | {refused:,} | {again:,} | {rounds:,} | {rate:,} |")
+        points = by_payload(words, source, target) if words.payloads else by_loss(words, source, target)
     print("\nThe output was equal to the input in each run.")
-    if words.svg:
+    if words.svg and points:
         with open(words.svg, "w", encoding="utf-8") as it:
             it.write(svg(points))
 
