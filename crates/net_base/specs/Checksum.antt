@@ -5,18 +5,18 @@ use Rattle.net_base.specs.declared.phy.checksum.Checksum.TheVariants.{Both, Rx, 
 use Rattle.net_base.specs.declared.phy.checksum_capabilities.ChecksumCapabilities.{ChecksumCapabilities}
 
 -- whether checksums are verified when receiving
-abbrev pub verifies : Checksum → Bool
-verifies Both = true
-verifies Rx = true
-verifies Tx = false
-verifies None = false
+abbrev pub is_verified : Checksum → Bool
+is_verified Both = true
+is_verified Rx = true
+is_verified Tx = false
+is_verified None = false
 
 -- whether checksums are computed when sending
-abbrev pub computes : Checksum → Bool
-computes Both = true
-computes Rx = false
-computes Tx = true
-computes None = false
+abbrev pub is_computed : Checksum → Bool
+is_computed Both = true
+is_computed Rx = false
+is_computed Tx = true
+is_computed None = false
 
 -- no checksum of any protocol is verified or computed
 abbrev pub no_checksums : ChecksumCapabilities

@@ -5,7 +5,7 @@
 //! its top three bits choose, after the family of generators PCG of M. E. O'Neill.
 
 ghost use Rattle.std.specs.Prelude.{◌≡◌, ℕ};
-ghost use Rattle.net_base.specs.Generator.{successor, word, draw, IsPort};
+ghost use Rattle.net_base.specs.Generator.{successor, random_word, draw, IsPort};
 
 use std::marker::Model;
 
@@ -46,7 +46,7 @@ impl Rand {
     /// Moves to the next state, and returns its word of 32 bits.
     pub fn rand_u32(&mut self) -> u32
         ensures state { self.new ≡ successor self.old }
-        ensures value { result ≡ word self.new }
+        ensures value { result ≡ random_word self.new }
     {
         let state = self
             .state

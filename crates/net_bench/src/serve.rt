@@ -2,7 +2,7 @@
 ghost use Rattle.std.specs.Prelude.{◌≡◌, ◌↔◌, map, IfSome, OnOk, IfErr, None, true, string_bytes};
 ghost use Rattle.std.specs.Io.KnownBytes.{Appends, Keeps};
 ghost use Rattle.net_program.specs.declared.ending.Status.TheVariants.{Done, Failed, Misused};
-ghost use Rattle.net_lines.specs.Modes.{out, fault, mode_of, transcript_of};
+ghost use Rattle.net_lines.specs.Modes.{output, fault, mode_of, transcript_of};
 ghost use Rattle.net_bench.specs.Serving.{usage_line, error_line, status_of, FailedRun, FlushedRun};
 
 use net_lines::{BenchError, Mode, run};
@@ -33,7 +33,7 @@ pub fn serve<A: Allocator + Copy, R: Read, W: Write, E: Write>(
         Appends (E.contents errors.old) (E.contents errors.new) usage_line }
     ensures ok { result.status ≡ Done → IfSome (mode_of (map string_bytes words.now)) (λ mode.
         IfSome (R.remaining reader.old) (λ input. (fault mode input ≡ None)
-        × Appends (W.contents writer.old) (W.contents writer.new) (out mode input))) }
+        × Appends (W.contents writer.old) (W.contents writer.new) (output mode input))) }
     ensures quiet { result.status ≡ Done →
         (result.is_told ≡ true) × Keeps (E.contents errors.old) (E.contents errors.new) }
     ensures err { result.status ≡ Failed → IfSome (mode_of (map string_bytes words.now)) (λ mode.

@@ -62,8 +62,8 @@ transcript_of (Stream setting) =
     (first_schedule of_states setting)
 
 -- what is written for an input
-abbrev pub out : Mode → List ℕ → List ℕ
-out mode input = (transcript_of mode).text (lines_of input)
+abbrev pub output : Mode → List ℕ → List ℕ
+output mode input = (transcript_of mode).text (lines_of input)
 
 -- the first fault of an input
 abbrev pub fault : Mode → List ℕ → Option BenchError

@@ -6,7 +6,7 @@ use Rattle.std.specs.Cmp.Lexicographic.{pointwise}
 use Rattle.net_storage.specs.Positions.{maximal_runs}
 use Rattle.net_receiver.specs.Rules.{CommandSeen, Segment, Read, Show, ReplySeen, Segmented, Gave}
 use Rattle.net_receiver.specs.Rules.{Shown, Keeping, after, reply}
-use Rattle.net_receiver.specs.Schedule.{Setting, State, fresh, by_kept}
+use Rattle.net_receiver.specs.Schedule.{Setting, State, fresh_state, by_kept}
 use Rattle.net_program.specs.Numeral.{number_of}
 use Rattle.net_lines.specs.Text.{hex_bytes, hex_text}
 use Rattle.net_lines.specs.Transcript.{Rules}
@@ -124,7 +124,7 @@ outcome keeping s = record {
 
 -- a schedule as what it kept and how much of it was read
 abbrev pub of_states : Scheduling State
-of_states = record { begun = λ w. fresh; keeping = by_kept }
+of_states = record { begun = λ w. fresh_state; keeping = by_kept }
 
 -- the schedules of a run
 pub record Schedules (S : Type 0) : Type 0 where

@@ -8,12 +8,12 @@ ghost use Rattle.net_receiver.specs.Rules.{Segment, Segmented, Shown};
 ghost use Rattle.net_lines.specs.Text.{words_of};
 ghost use Rattle.net_lines.specs.AsmMode.{makes_too_many_runs};
 ghost use Rattle.net_lines.specs.StreamMode.{ToReceiver, stream_command, reply_text, comparison};
-ghost use Rattle.net_lines.specs.Modes.{Ring, Asm, Stream, mode_of, out, fault};
+ghost use Rattle.net_lines.specs.Modes.{Ring, Asm, Stream, mode_of, output, fault};
 ghost use Rattle.net_lines.specs.declared.error.BenchError.{BenchError};
 
 /// What a ring's lines write, and which fault they have.
 pub fn ring_lines()
-    ensures took { out (Ring 4) (codes "w 616263\nr 2\nr 9")
+    ensures took { output (Ring 4) (codes "w 616263\nr 2\nr 9")
         ≡ codes "took 3\nread 6162\nread 63\n" }
     ensures fault { fault (Ring 4) (codes "w 61\nx 1\nw 62\n") ≡ Some (BenchError.BadCommand 2) }
 {}

@@ -2,7 +2,7 @@
 ghost use Rattle.std.specs.Prelude.{◌≡◌, IfSome, IfErr, OnOk, None};
 ghost use Rattle.std.specs.Io.KnownBytes.{Appends};
 ghost use Rattle.net_lines.specs.Transcript.{ErrorOfInput};
-ghost use Rattle.net_lines.specs.Modes.{Ring, out, fault, transcript_of};
+ghost use Rattle.net_lines.specs.Modes.{Ring, output, fault, transcript_of};
 ghost use Rattle.net_lines.specs.Kinds.{mode_seen};
 ghost use Rattle.net_lines.specs.declared.mode.ModeKind.TheVariants as kinds;
 
@@ -28,7 +28,7 @@ pub fn run<A: Allocator + Copy, R: Read, W: Write>(
     // no line has a fault, and the output text was written;
     ensures ok { OnOk result (IfSome (R.remaining reader.old) (λ input.
         (fault mode input ≡ None)
-        × Appends (W.contents writer.old) (W.contents writer.new) (out mode input))) }
+        × Appends (W.contents writer.old) (W.contents writer.new) (output mode input))) }
     // or what the table of errors says.
     ensures err { IfErr result (λ e. IfSome (R.remaining reader.old) (λ input.
         ErrorOfInput (transcript_of mode) input (R.remaining reader.new)
@@ -60,7 +60,7 @@ fn execute_ring<A: Allocator + Copy, R: Read, W: Write>(
 ) -> Result<(), BenchError>
     ensures ok { OnOk result (IfSome (R.remaining reader.old) (λ input.
         (fault (Ring capacity) input ≡ None)
-        × Appends (W.contents writer.old) (W.contents writer.new) (out (Ring capacity) input))) }
+        × Appends (W.contents writer.old) (W.contents writer.new) (output (Ring capacity) input))) }
     ensures err { IfErr result (λ e. IfSome (R.remaining reader.old) (λ input.
         ErrorOfInput (transcript_of (Ring capacity)) input (R.remaining reader.new)
         (W.contents writer.old) (W.contents writer.new) e)) }
@@ -82,7 +82,7 @@ fn execute_stream<A: Allocator + Copy, R: Read, W: Write>(
 ) -> Result<(), BenchError>
     ensures ok { let mode = mode_seen (kinds.Stream first capacity most_runs) in
         OnOk result (IfSome (R.remaining reader.old) (λ input. (fault mode input ≡ None)
-        × Appends (W.contents writer.old) (W.contents writer.new) (out mode input))) }
+        × Appends (W.contents writer.old) (W.contents writer.new) (output mode input))) }
     ensures err { let mode = mode_seen (kinds.Stream first capacity most_runs) in
         IfErr result (λ e. IfSome (R.remaining reader.old) (λ input.
         ErrorOfInput (transcript_of mode) input (R.remaining reader.new)

@@ -14,8 +14,8 @@ abbrev pub rate : Counts → ℕ
 rate c = min (c.bytes * 1000000) (2 ^ 64 - 1) / max c.micros 1
 
 -- what frames carried beyond what was read
-abbrev pub sent_again : Counts → ℕ
-sent_again c = c.frames.payload - c.taken
+abbrev pub bytes_sent_again : Counts → ℕ
+bytes_sent_again c = c.frames.payload - c.taken
 
 -- what became of frames
 abbrev pub frames_text : FrameCounts → List ℕ
@@ -27,7 +27,7 @@ frames_text c =
 abbrev pub counts_text : Counts → List ℕ
 counts_text c =
     decimal c.bytes ++ codes " bytes, " ++ frames_text c.frames ++ codes ", "
-    ++ decimal (sent_again c) ++ codes " bytes sent again, "
+    ++ decimal (bytes_sent_again c) ++ codes " bytes sent again, "
     ++ decimal c.rounds ++ codes " rounds, " ++ decimal (rate c) ++ codes " bytes a second"
 
 -- the line of an error, if there is one

@@ -13,12 +13,12 @@ use Rattle.std.proofs.lemmas.List.{take-append-drop, drop-take, drop-drop, take-
 use Rattle.net_storage.specs.Positions.{Positions, runs, with_range}
 use Rattle.net_storage.specs.declared.assembler.error.TooManyHolesError.{TooManyHolesError}
 use Rattle.net_receiver.specs.declared.receiver.kept.Kept.{Kept}
-use Rattle.net_receiver.specs.KeptList.{Piece, piece, piece_at, clip}
+use Rattle.net_receiver.specs.KeptList.{Piece, piece, piece_at, piece_within}
 use Rattle.std.proofs.lemmas.List.Elements.{All-nil, All-cons, All-append}
 use Rattle.net_receiver.specs.KeptList.{byte_at, held_at, next}
 use Rattle.net_receiver.proofs.Stream.{agrees_at}
 use Rattle.net_receiver.specs.Rules.{Show, CommandSeen, ReplySeen, Segment, Read, Verdict, KeptNone}
-use Rattle.net_receiver.specs.Rules.{Refused, Keeps, verdict_of_part, verdict, state_after, answer}
+use Rattle.net_receiver.specs.Rules.{Refused, Keeps, verdict_of_part, verdict, state_after, segment_result}
 use Rattle.net_receiver.specs.Schedule.{State, Agrees, kept_after_all, Follows, EndsBy, bytes_read, PieceAgrees}
 use Rattle.net_receiver.specs.Stored.{stored_reply, stored_after_all, setting, StandsFor, Stored}
 use Rattle.net_receiver.specs.Stored.{HeldBytes, domain, held_with_part, first_lacking, values_at}
@@ -36,7 +36,7 @@ use Rattle.net_receiver.proofs.Truthful.{longer_at, longer_receives}
 use Rattle.net_receiver.specs.Execution.{Executed}
 use Rattle.net_receiver.specs.Retransmission.{InOrderReaches}
 use Rattle.net_receiver.specs.OneStream.{CapacityStays, Receives, ReceivesFrom, Says, AllSay, IsTruthful, SaysWhatIsThere, QueueIsOf, kept_of}
-use Rattle.net_receiver.proofs.Maps.{get-lay, first_lacking_is, next_joined}
+use Rattle.net_receiver.proofs.Maps.{get-with_bytes_at, first_lacking_is, next_joined}
 use Rattle.net_receiver.proofs.Covering.{next_is, piece_before, piece_from, slice_get-drop, slice_get-take}
 use Rattle.net_receiver.proofs.Recover.{follows_verdict}
 use Rattle.net_receiver.proofs.Run.{read_front}
@@ -73,7 +73,7 @@ pub run_receives_from :
 unfolding ReceivesFrom AllSay
 run_receives_from N f x v u cs rs complete run r h =
     let both = run_receives N x v u cs rs complete r.1 (subst (λ b. All (IsTruthful b x) cs) (sym r.0) h) run in
-    ((ap (λ (y : Stored). y.first) run.state ∙ first_kept N v (take run.front.count cs) ∙ r.0, both.0), both.1)
+    ((ap (λ (y : Stored). y.first) run.state ∙ first_kept N v (take run.prefix.count cs) ∙ r.0, both.0), both.1)
 
 pub says_what_is_there : SaysWhatIsThere
 unfolding Says
@@ -112,7 +112,8 @@ values_of m (x ∷ xs) p (suc n) h at =
 laid_at : (v : Stored) (part : Piece) (q i b : ℕ) → q ≡ part.start + i → slice_get part.bytes i ≡ Some b → fin.get (held_with_part v part) q ≡ Some b
 laid_at v part q i b e is =
     let at : q - part.start ≡ i = omega arith in
-    get-lay v.held part.start part.bytes q ∙ ap (λ o. option_or o (fin.get v.held q)) (piece_from part q (omega arith) ∙ ap (slice_get part.bytes) at ∙ is)
+    get-with_bytes_at v.held part.start part.bytes q ∙ ap (λ o. option_or o (fin.get v.held q))
+    (piece_from part q (omega arith) ∙ ap (slice_get part.bytes) at ∙ is)
 
 reaches : (v : Stored) (part : Piece) → part.start ≡ stored_next v → stored_next v + length part.bytes ≤ first_lacking (held_with_part v part) (stored_next v)
 reaches v part at =
@@ -142,15 +143,15 @@ splits_none q part e = grind (arith, common_steps)
 -- what a segment that begins at or below `next` comes to
 pub in_order : (N : ℕ) (v u : Stored) (pos : ℕ) (xs : List ℕ) (r : Result Kept TooManyHolesError) →
     u ≡ state_after by_stored v (verdict by_stored N v (piece pos xs)) →
-    r ≡ answer by_stored v (verdict by_stored N v (piece pos xs)) →
+    r ≡ segment_result by_stored v (verdict by_stored N v (piece pos xs)) →
     pos ≤ stored_next v → JoinsQueue v (kept_of v pos xs) u r
 in_order N v u pos xs r state told h =
     let n = stored_next v in
-    let part = clip n (v.first + v.read + v.capacity) (piece pos xs) in
+    let part = piece_within n (v.first + v.read + v.capacity) (piece pos xs) in
     let at : part.start ≡ n = omega arith in
     let far = reaches v part at in
     let more = next_joined v part in
-    let all = follows_verdict (λ y. JoinsQueue v part.bytes (state_after by_stored v y) (answer by_stored v y)) n N (domain v.held) part at
+    let all = follows_verdict (λ y. JoinsQueue v part.bytes (state_after by_stored v y) (segment_result by_stored v y)) n N (domain v.held) part at
     (λ none. record { accepted = refl; joins = omega arith; appends = splits_none v.queue part.bytes none })
     (λ some. record {
       accepted = refl;
@@ -177,14 +178,14 @@ any_verdict P n most h part empty refused keeps =
 
 pub any_order : (N : ℕ) (v u : Stored) (pos : ℕ) (xs : List ℕ) (r : Result Kept TooManyHolesError) →
     u ≡ state_after by_stored v (verdict by_stored N v (piece pos xs)) →
-    r ≡ answer by_stored v (verdict by_stored N v (piece pos xs)) →
+    r ≡ segment_result by_stored v (verdict by_stored N v (piece pos xs)) →
     KeepsOrRefuses v (kept_of v pos xs) u r
 any_order N v u pos xs r state told =
     let n = stored_next v in
-    let part = clip n (v.first + v.read + v.capacity) (piece pos xs) in
+    let part = piece_within n (v.first + v.read + v.capacity) (piece pos xs) in
     let more = next_joined v part in
     let from = (first_lacking_is (held_with_part v part) n).from in
-    let all = any_verdict (λ y. KeepsOrRefuses v part.bytes (state_after by_stored v y) (answer by_stored v y)) n N (domain v.held) part
+    let all = any_verdict (λ y. KeepsOrRefuses v part.bytes (state_after by_stored v y) (segment_result by_stored v y)) n N (domain v.held) part
     (λ none. record { read = refl; refused = tt; kept = sym none; queued = omega arith; grows = omega arith })
     (record { read = refl; refused = refl; kept = tt; queued = tt; grows = omega arith })
     (record { read = refl; refused = tt; kept = refl; queued = omega arith; grows = omega arith }) in
@@ -271,7 +272,7 @@ executed_stays N (Ok t) v u c ok err sound = stays N v u c ok sound
 executed_stays N (Err e) v u c ok err sound = stays N v u Show err sound
 
 one_run : (N : ℕ) (v : Stored) (c : CommandSeen) → Executed N v (stored_after N v c) (c ∷ []) (stored_reply N v c ∷ []) (IsTrue true)
-one_run N v c = record { front = record { count = 1; within = omega arith; whole = λ _. refl }; state = refl; answers = refl }
+one_run N v c = record { prefix = record { count = 1; within = omega arith; whole = λ _. refl }; state = refl; replies = refl }
 
 pub one_receives_from : (N f : ℕ) (x : List ℕ) (v : Stored) (c : CommandSeen) → ReceivesFrom f x v → AllSay f x (c ∷ []) → ReceivesFrom f x (stored_after N v c)
 one_receives_from N f x v c r h = (run_receives_from N f x v (stored_after N v c) (c ∷ []) (stored_reply N v c ∷ []) true (one_run N v c) r h).0
@@ -300,8 +301,8 @@ pub run_stays : (N : ℕ) (v u : Stored) (cs : List CommandSeen) (rs : List Repl
     Executed N v u cs rs complete → IsSound N u → StaysInSetting N v u
 run_stays N v u cs rs complete run sound =
     record {
-      first = ap (λ (y : Stored). y.first) run.state ∙ first_kept N v (take run.front.count cs);
-      capacity = ap (λ (y : Stored). y.capacity) run.state ∙ capacity_kept N v (take run.front.count cs);
+      first = ap (λ (y : Stored). y.first) run.state ∙ first_kept N v (take run.prefix.count cs);
+      capacity = ap (λ (y : Stored). y.capacity) run.state ∙ capacity_kept N v (take run.prefix.count cs);
       bound = sound.few;
     }
 
@@ -312,9 +313,9 @@ pub reached :
     Follows (setting N v) s (stored_next v) cs → IfOk r (λ _. EndsBy (stored_next u) cs)
 reached N v u cs rs (Err e) s run d follows = tt
 reached N v u cs rs (Ok t) s run d follows =
-    let first : u.first ≡ v.first = ap (λ (y : Stored). y.first) run.state ∙ first_kept N v (take run.front.count cs) in
-    let seen = ran N v u cs rs _ run.front.count run.front.within run.front.whole run.state run.answers s d in
-    let all : take seen.front.count cs ≡ cs = take_all seen.front.count cs (omega (arith, seen.front.whole refl)) in
+    let first : u.first ≡ v.first = ap (λ (y : Stored). y.first) run.state ∙ first_kept N v (take run.prefix.count cs) in
+    let seen = ran N v u cs rs _ run.prefix.count run.prefix.within run.prefix.whole run.state run.replies s d in
+    let all : take seen.prefix.count cs ≡ cs = take_all seen.prefix.count cs (omega (arith, seen.prefix.whole refl)) in
     let there : StandsFor u (kept_after_all (setting N v) s cs) = subst (λ l. StandsFor u (kept_after_all (setting N v) s l)) all seen.stands in
     let end : stored_next u ≡ next v.first (kept_after_all (setting N v) s cs).kept =
     same_next u (kept_after_all (setting N v) s cs) there ∙ ap (λ b. next b (kept_after_all (setting N v) s cs).kept) first in
@@ -349,7 +350,7 @@ pub in_order_reaches : InOrderReaches
 in_order_reaches N v pos xs h =
     let u = stored_after N v (Segment pos xs) in
     let limit = v.first + v.read + v.capacity in
-    let r = answer by_stored v (verdict by_stored N v (piece pos xs)) in
+    let r = segment_result by_stored v (verdict by_stored N v (piece pos xs)) in
     let near = in_order N v u pos xs r refl refl h in
     let any = any_order N v u pos xs r refl refl in
     let cut = length-take (limit - pos) xs in

@@ -10,12 +10,12 @@ use Rattle.net_storage.specs.Positions.{Positions, contains, positions, set_of_l
 use Rattle.net_storage.specs.Positions.{missing_within, first_missing, begins_run, run_starts, runs}
 use Rattle.net_storage.specs.Positions.{maximal_runs, with_range}
 use Rattle.net_storage.proofs.Positions.{has, Rises, contains-set_of_list, positions-set_of_list, same_positions, runs-maximal_runs}
-use Rattle.net_receiver.specs.KeptList.{Piece, piece, piece_at, clip, byte_at, bytes, covered_set, next, held_positions}
+use Rattle.net_receiver.specs.KeptList.{Piece, piece, piece_at, piece_within, byte_at, bytes, covered_set, next, held_positions}
 use Rattle.net_receiver.specs.Rules.{CommandSeen, Segment, Read, Show, ReplySeen, Segmented, Gave}
-use Rattle.net_receiver.specs.Rules.{Shown, Refused, Keeps, verdict_of_part, state_after, answer}
+use Rattle.net_receiver.specs.Rules.{Shown, Refused, Keeps, verdict_of_part, state_after, segment_result}
 use Rattle.net_receiver.specs.Rules.{first_three, verdict}
-use Rattle.net_receiver.specs.Schedule.{Setting, State, fresh, kept_after, kept_reply, kept_replies, by_kept}
-use Rattle.net_receiver.specs.WorkedExample.{is_in, put, rising, missing_of, missing_in, runs_in, covered_list}
+use Rattle.net_receiver.specs.Schedule.{Setting, State, fresh_state, kept_after, kept_reply, kept_replies, by_kept}
+use Rattle.net_receiver.specs.WorkedExample.{is_in, with_position, rising_list, missing_of, missing_in, runs_in, covered_list}
 use Rattle.net_receiver.specs.WorkedExample.{held_in, NextComputed, HeldComputed, RunsComputed}
 use Rattle.net_receiver.specs.WorkedExample.{ByteComputed, segment_reply, WorkedSchedule}
 
@@ -24,7 +24,7 @@ in_has [] q = refl
 in_has (k ∷ ks) q = ap (λ b. (q == k) || b) (in_has ks q)
 
 -- ---- rising lists
-put_rises : (low p : ℕ) (ks : List ℕ) → low ≤ p → Rises low ks → Rises low (put p ks)
+put_rises : (low p : ℕ) (ks : List ℕ) → low ≤ p → Rises low ks → Rises low (with_position p ks)
 put_rises low p [] l h = (l, tt)
 put_rises low p (k ∷ ks) l h =
     ⊎_elim (λ (e : p ≡ k). subst (Rises low) (sym (cond-false _ _ _ (le-ltb p k (omega arith)) ∙ cond-true _ _ _ (eq-eqb p k e))) h)
@@ -44,7 +44,7 @@ or_swap true false x = refl
 or_swap false true x = refl
 or_swap false false x = refl
 
-put_has : (p : ℕ) (ks : List ℕ) (q : ℕ) → has (put p ks) q ≡ ((q == p) || has ks q)
+put_has : (p : ℕ) (ks : List ℕ) (q : ℕ) → has (with_position p ks) q ≡ ((q == p) || has ks q)
 put_has p [] q = refl
 put_has p (k ∷ ks) q =
     ⊎_elim
@@ -56,13 +56,13 @@ put_has p (k ∷ ks) q =
     ∙ ap (λ b. (q == k) || b) (put_has p ks q) ∙ or_swap (q == k) (q == p) (has ks q)))
     (cases_order p k)
 
-rising_rises : (ps : List ℕ) → Rises 0 (rising ps)
+rising_rises : (ps : List ℕ) → Rises 0 (rising_list ps)
 rising_rises [] = tt
-rising_rises (p ∷ ps) = put_rises 0 p (rising ps) (omega arith) (rising_rises ps)
+rising_rises (p ∷ ps) = put_rises 0 p (rising_list ps) (omega arith) (rising_rises ps)
 
-rising_has : (ps : List ℕ) (q : ℕ) → has (rising ps) q ≡ has ps q
+rising_has : (ps : List ℕ) (q : ℕ) → has (rising_list ps) q ≡ has ps q
 rising_has [] q = refl
-rising_has (p ∷ ps) q = put_has p (rising ps) q ∙ ap (λ b. (q == p) || b) (rising_has ps q)
+rising_has (p ∷ ps) q = put_has p (rising_list ps) q ∙ ap (λ b. (q == p) || b) (rising_has ps q)
 
 rises_from : (low high : ℕ) (ks : List ℕ) → low ≤ high → Rises high ks → Rises low ks
 rises_from low high [] l h = tt
@@ -76,8 +76,8 @@ filter_rises g low (k ∷ ks) h = by (g k) (filter_rises g (k + 1) ks h.1)
     by true rest = (h.0, rest)
     by false rest = (let l = h.0 in rises_from low (k + 1) (filter g ks) (omega arith) rest)
 
-rising_set : (ps : List ℕ) → set_of_list ps ≡ set_of_list (rising ps)
-rising_set ps = same_positions _ _ (λ q. contains-set_of_list ps q ∙ sym (contains-set_of_list (rising ps) q ∙ rising_has ps q))
+rising_set : (ps : List ℕ) → set_of_list ps ≡ set_of_list (rising_list ps)
+rising_set ps = same_positions _ _ (λ q. contains-set_of_list ps q ∙ sym (contains-set_of_list (rising_list ps) q ∙ rising_has ps q))
 
 -- ---- a set whose positions are listed
 module _ (s : Positions) (ks : List ℕ) (is : s ≡ set_of_list ks) (up : Rises 0 ks) where
@@ -123,7 +123,7 @@ held_rises f k = filter_rises (nat_lt (missing_in (covered_list k) f)) 0 (covere
 pub held_computed : HeldComputed
 held_computed f k = runs_are (held_positions f k) (held_in f k) (held_is f k) (held_rises f k)
 
-range_is : (f : ℕ) (k : List Piece) (o n : ℕ) → with_range (held_positions f k) o n ≡ set_of_list (rising (held_in f k ++ range_with_len o n))
+range_is : (f : ℕ) (k : List Piece) (o n : ℕ) → with_range (held_positions f k) o n ≡ set_of_list (rising_list (held_in f k ++ range_with_len o n))
 unfolding with_range
 range_is f k o n =
     ap (λ l. set_of_list (l ++ range_with_len o n)) (positions_are (held_positions f k) (held_in f k) (held_is f k) (held_rises f k))
@@ -131,7 +131,7 @@ range_is f k o n =
 
 pub runs_computed : RunsComputed
 runs_computed f k o n =
-    runs_number (with_range (held_positions f k) o n) (rising (held_in f k ++ range_with_len o n)) (range_is f k o n)
+    runs_number (with_range (held_positions f k) o n) (rising_list (held_in f k ++ range_with_len o n)) (range_is f k o n)
     (rising_rises (held_in f k ++ range_with_len o n))
 
 pub byte_computed : ByteComputed
@@ -185,18 +185,18 @@ two_held = held_computed 0 two
 three_held : maximal_runs (held_positions 0 three) ≡ []
 three_held = held_computed 0 three
 
-first_verdict : verdict (by_kept w) 4 fresh first ≡ Keeps first
+first_verdict : verdict (by_kept w) 4 fresh_state first ≡ Keeps first
 first_verdict =
-    (λ i. verdict_of_part (none_next i) 4 (held_positions 0 []) (clip (none_next i) 16 first))
+    (λ i. verdict_of_part (none_next i) 4 (held_positions 0 []) (piece_within (none_next i) 16 first))
     ∙ ap (λ r. cond (nat_lt 4 r) Refused (Keeps first)) (let few : runs (with_range (held_positions 0 []) 2 2) ≡ 1 = runs_computed 0 [] 2 2 in few)
 
 second_verdict : verdict (by_kept w) 4 (kept one) second ≡ Keeps second
 second_verdict =
-    (λ i. verdict_of_part (one_next i) 4 (held_positions 0 one) (clip (one_next i) 16 second))
+    (λ i. verdict_of_part (one_next i) 4 (held_positions 0 one) (piece_within (one_next i) 16 second))
     ∙ ap (λ r. cond (nat_lt 4 r) Refused (Keeps second)) (let few : runs (with_range (held_positions 0 one) 3 2) ≡ 1 = runs_computed 0 one 3 2 in few)
 
 third_verdict : verdict (by_kept w) 4 (kept two) third ≡ Keeps third
-third_verdict = λ i. verdict_of_part (two_next i) 4 (held_positions 0 two) (clip (two_next i) 16 third)
+third_verdict = λ i. verdict_of_part (two_next i) 4 (held_positions 0 two) (piece_within (two_next i) 16 third)
 
 step : (s t : State) (c : CommandSeen) (r : ReplySeen) (cs : List CommandSeen) (rs : List ReplySeen) → kept_after w s c ≡ t →
     kept_reply w s c ≡ r → kept_replies w t cs ≡ rs → kept_replies w s (c ∷ cs) ≡ r ∷ rs
@@ -208,17 +208,19 @@ bytes_three = refl
 
 pub worked_schedule : WorkedSchedule
 worked_schedule =
-    step fresh (kept one) (Segment 2 (65 ∷ 65 ∷ [])) _ (Segment 3 (66 ∷ 66 ∷ []) ∷ Show ∷ Segment 0 (67 ∷ 67 ∷ []) ∷ Show ∷ Read 5 ∷ Show ∷ []) _
-    (ap (state_after (by_kept w) fresh) first_verdict)
-    (ap (λ x. Segmented (answer (by_kept w) fresh x)) first_verdict ∙ (λ i. segment_reply 2 (one_next i - none_next i) (first_three (one_held i))))
+    step fresh_state (kept one) (Segment 2 (65 ∷ 65 ∷ [])) _ (Segment 3 (66 ∷ 66 ∷ []) ∷ Show ∷ Segment 0 (67 ∷ 67 ∷ []) ∷ Show ∷ Read 5 ∷ Show ∷ []) _
+    (ap (state_after (by_kept w) fresh_state) first_verdict)
+    (ap (λ x. Segmented (segment_result (by_kept w) fresh_state x)) first_verdict
+    ∙ (λ i. segment_reply 2 (one_next i - none_next i) (first_three (one_held i))))
     (step (kept one) (kept two) (Segment 3 (66 ∷ 66 ∷ [])) _ (Show ∷ Segment 0 (67 ∷ 67 ∷ []) ∷ Show ∷ Read 5 ∷ Show ∷ []) _
     (ap (state_after (by_kept w) (kept one)) second_verdict)
-    (ap (λ x. Segmented (answer (by_kept w) (kept one) x)) second_verdict ∙ (λ i. segment_reply 2 (two_next i - one_next i) (first_three (two_held i))))
+    (ap (λ x. Segmented (segment_result (by_kept w) (kept one) x)) second_verdict ∙ (λ i. segment_reply 2 (two_next i - one_next i) (first_three (two_held i))))
     (step (kept two) (kept two) Show _ (Segment 0 (67 ∷ 67 ∷ []) ∷ Show ∷ Read 5 ∷ Show ∷ []) _ refl
     (λ i. Shown (two_next i) (length (bytes two 0 (two_next i - 0))) (16 - length (bytes two 0 (two_next i - 0))) (two_held i))
     (step (kept two) (kept three) (Segment 0 (67 ∷ 67 ∷ [])) _ (Show ∷ Read 5 ∷ Show ∷ []) _
     (ap (state_after (by_kept w) (kept two)) third_verdict)
-    (ap (λ x. Segmented (answer (by_kept w) (kept two) x)) third_verdict ∙ (λ i. segment_reply 2 (three_next i - two_next i) (first_three (three_held i))))
+    (ap (λ x. Segmented (segment_result (by_kept w) (kept two) x)) third_verdict
+    ∙ (λ i. segment_reply 2 (three_next i - two_next i) (first_three (three_held i))))
     (step (kept three) (kept three) Show _ (Read 5 ∷ Show ∷ []) _ refl
     (λ i. Shown (three_next i) (length (bytes three 0 (three_next i - 0))) (16 - length (bytes three 0 (three_next i - 0))) (three_held i))
     (step (kept three) (record { kept = three; read = 5 }) (Read 5) _ (Show ∷ []) _

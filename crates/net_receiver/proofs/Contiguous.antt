@@ -8,7 +8,7 @@ use Rattle.std.proofs.lemmas.Nat.{mod_below}
 use Rattle.net_storage.specs.Ring.{RingState, ring, index_after, storage_index, rotation, queue}
 use Rattle.net_storage.specs.Ring.{spare, contiguous_queued_from, contiguous_queued, with_dequeued}
 use Rattle.net_storage.specs.Positions.{Positions}
-use Rattle.net_receiver.specs.Contiguous.{contiguous, first_part, IsReadAt}
+use Rattle.net_receiver.specs.Contiguous.{contiguous_count, first_part, IsReadAt}
 use Rattle.net_receiver.specs.Parts.{parts}
 use Rattle.net_receiver.specs.Stored.{Stored}
 
@@ -108,12 +108,12 @@ first_part_lent f r n g s v bytes at view all lent value =
     let start : r + 0 ≡ r = omega arith in
     let from = lent_from g r at 0 n (length bytes) lent (omega arith)
     ∙ ap (λ k. min n (min (length (queue g) - 0) (length (queue g) + length (spare g) - k % (length (queue g) + length (spare g))))) start in
-    let size : length bytes ≡ contiguous (parts f r (queue g) (spare g) s) = omega (arith, from, all) in
+    let size : length bytes ≡ contiguous_count (parts f r (queue g) (spare g) s) = omega (arith, from, all) in
     value ∙ ap (λ k. take k (queue g)) size ∙ ap first_part view
 
 -- the first part has as many bytes, and some unless the queue has none
-pub first_part_length : (v : Stored) → length (first_part v) ≡ contiguous v
-first_part_length v = length-take (contiguous v) v.queue ∙ (omega arith)
+pub first_part_length : (v : Stored) → length (first_part v) ≡ contiguous_count v
+first_part_length v = length-take (contiguous_count v) v.queue ∙ (omega arith)
 
-pub contiguous_some : (v : Stored) → length v.queue ≤ v.capacity → 0 < length v.queue → 0 < contiguous v
+pub contiguous_some : (v : Stored) → length v.queue ≤ v.capacity → 0 < length v.queue → 0 < contiguous_count v
 contiguous_some v fits some = (let below = mod_below v.read v.capacity (omega arith) in omega arith)

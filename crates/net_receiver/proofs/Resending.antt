@@ -9,8 +9,8 @@ use Rattle.std.specs.FinMap as fin
 use Rattle.std.proofs.lemmas.Bool.{both_ways, cases_lt, cases_order, cond-true, lt-leb, and_from}
 use Rattle.std.proofs.lemmas.List.{append-nil}
 use Rattle.std.proofs.lemmas.List.Elements.{All-head, All-tail}
-use Rattle.net_receiver.specs.KeptList.{Piece, piece, piece_at, end, clip}
-use Rattle.net_receiver.specs.Rules.{CommandSeen, Segment, Read, Show, Segmented, verdict, state_after, answer}
+use Rattle.net_receiver.specs.KeptList.{Piece, piece, piece_at, end, piece_within}
+use Rattle.net_receiver.specs.Rules.{CommandSeen, Segment, Read, Show, Segmented, verdict, state_after, segment_result}
 use Rattle.net_receiver.specs.Schedule.{IsAccepted}
 use Rattle.net_receiver.specs.Stored.{HeldBytes, Stored, domain, held_with_part, first_lacking}
 use Rattle.net_receiver.specs.Stored.{values_at, stored_with_part, queue_up_to, stored_next, by_stored}
@@ -19,7 +19,7 @@ use Rattle.net_receiver.specs.Stored.{stored_replies}
 use Rattle.net_receiver.specs.Retransmission.{IsHeld, HeldChangesNothing, SecondCopy, Has, HasStays, AcceptedBrings, HasAllReaches, Brings, Completes}
 use Rattle.net_receiver.proofs.Search.{IsFirst, first_unique}
 use Rattle.net_receiver.proofs.Covering.{piece_before, piece_past, piece_from, piece_has, slice_get-drop, slice_get-take}
-use Rattle.net_receiver.proofs.Maps.{get-lay, first_lacking_is, same_both, next_joined}
+use Rattle.net_receiver.proofs.Maps.{get-with_bytes_at, first_lacking_is, same_both, next_joined}
 use Rattle.net_receiver.proofs.Step.{verdict_cases, none_of}
 use Rattle.net_receiver.proofs.Truthful.{none_is_not, clip_at, segment_cases, next_grows_stored}
 use Rattle.net_receiver.proofs.Called.{any_verdict}
@@ -50,14 +50,14 @@ module _ (v : Stored) (part : Piece) where
       (cases_lt p m)
 
   laid_part : (p : ℕ) → is_some (piece_at part p) ≡ true → fin.contains_key laid p ≡ true
-  laid_part p h = ap is_some (get-lay v.held part.start part.bytes p) ∙ either (piece_at part p) (fin.get v.held p) h
+  laid_part p h = ap is_some (get-with_bytes_at v.held part.start part.bytes p) ∙ either (piece_at part p) (fin.get v.held p) h
     where
       either : (a b : Option ℕ) → is_some a ≡ true → is_some (option_or a b) ≡ true
       either None b e = absurd (both_ways false refl e)
       either (Some x) b e = refl
 
   laid_held : (p : ℕ) → fin.contains_key v.held p ≡ true → fin.contains_key laid p ≡ true
-  laid_held p h = ap is_some (get-lay v.held part.start part.bytes p) ∙ either (piece_at part p) (fin.get v.held p) h
+  laid_held p h = ap is_some (get-with_bytes_at v.held part.start part.bytes p) ∙ either (piece_at part p) (fin.get v.held p) h
     where
       either : (a b : Option ℕ) → is_some b ≡ true → is_some (option_or a b) ≡ true
       either None b e = e
@@ -83,13 +83,13 @@ module _ (v : Stored) (part : Piece) where
       (cases_order m p)
 
 -- a clip has what the whole has between its limits
-at_clip : (low high : ℕ) (e : Piece) (p b : ℕ) → low ≤ p → p < high → piece_at e p ≡ Some b → piece_at (clip low high e) p ≡ Some b
+at_clip : (low high : ℕ) (e : Piece) (p b : ℕ) → low ≤ p → p < high → piece_at e p ≡ Some b → piece_at (piece_within low high e) p ≡ Some b
 at_clip low high e p b from to is =
     ⊎_elim
     (λ (l : p < e.start). absurd (none_is_not b (sym (piece_before e p l) ∙ is)))
     (λ (l : e.start ≤ p).
     let place : (low - e.start) + (p - max e.start low) ≡ p - e.start = omega arith in
-    piece_from (clip low high e) p (omega arith)
+    piece_from (piece_within low high e) p (omega arith)
     ∙ slice_get-drop (low - e.start) (take (high - e.start) e.bytes) (p - max e.start low)
     ∙ ap (slice_get (take (high - e.start) e.bytes)) place
     ∙ slice_get-take (high - e.start) e.bytes (p - e.start)
@@ -99,9 +99,9 @@ at_clip low high e p b from to is =
     (cases_lt p e.start)
 
 -- where a clip has a byte
-clip_within : (low high : ℕ) (e : Piece) (p b : ℕ) → piece_at (clip low high e) p ≡ Some b → (low ≤ p) × (p < high)
+clip_within : (low high : ℕ) (e : Piece) (p b : ℕ) → piece_at (piece_within low high e) p ≡ Some b → (low ≤ p) × (p < high)
 clip_within low high e p b is =
-    let part = clip low high e in
+    let part = piece_within low high e in
     let cut = length-drop (low - e.start) (take (high - e.start) e.bytes) in
     let size = length-take (high - e.start) e.bytes in
     ⊎_elim
@@ -126,7 +126,7 @@ kept_held v part above same =
     laid_same : held_with_part v part ≡ v.held
     laid_same =
         fin.same_map nat_cmp_total fin.nat_cmp-IsAntisymmetric _ _
-        (λ q. get-lay v.held part.start part.bytes q ∙ or_same (piece_at part q) (fin.get v.held q) (same q))
+        (λ q. get-with_bytes_at v.held part.start part.bytes q ∙ or_same (piece_at part q) (fin.get v.held q) (same q))
 
     missing : (b : Bool) → fin.contains_key v.held (stored_next v) ≡ b → b ≡ false
     missing true h = (let l = above (stored_next v) h in absurd (omega arith))
@@ -160,7 +160,7 @@ held_changes_nothing_above : (most : ℕ) (v : Stored) (pos : ℕ) (xs : List �
     ((p : ℕ) → fin.contains_key v.held p ≡ true → stored_next v < p) → IsHeld v pos xs →
     stored_after most v (Segment pos xs) ≡ v
 held_changes_nothing_above most v pos xs above held =
-    let part = clip (stored_next v) (v.first + v.read + v.capacity) (piece pos xs) in
+    let part = piece_within (stored_next v) (v.first + v.read + v.capacity) (piece pos xs) in
     verdict_cases (λ y. state_after by_stored v y ≡ v) (stored_next v) most (domain v.held) part refl refl
     (kept_held v part above (λ q b is.
     let within = clip_within (stored_next v) (v.first + v.read + v.capacity) (piece pos xs) q b is in
@@ -172,7 +172,7 @@ held_changes_nothing most v pos xs sound held = held_changes_nothing_above most 
 pub second_copy : SecondCopy
 second_copy most v pos xs sound =
     let e : Piece = piece pos xs in
-    let part = clip (stored_next v) (v.first + v.read + v.capacity) e in
+    let part = piece_within (stored_next v) (v.first + v.read + v.capacity) e in
     verdict_cases
     (λ y. verdict by_stored most v e ≡ y → stored_after most (state_after by_stored v y) (Segment pos xs) ≡ state_after by_stored v y)
     (stored_next v) most (domain v.held) part
@@ -183,7 +183,7 @@ second_copy most v pos xs sound =
     let grown = (first v part).from in
     get_left v part p
     ∙ cond-true _ _ _ (le-leb (m v part) p (omega arith))
-    ∙ get-lay v.held part.start part.bytes p
+    ∙ get-with_bytes_at v.held part.start part.bytes p
     ∙ ap (λ o. option_or o (fin.get v.held p)) (at_clip (stored_next v) (v.first + v.read + v.capacity) e p b (omega arith) to at)))
     refl
 
@@ -197,10 +197,10 @@ has_stays most v Show p h = h
 
 pub accepted_brings : AcceptedBrings
 accepted_brings most v pos xs p accepted from to below =
-    let part = clip (stored_next v) (v.first + v.read + v.capacity) (piece pos xs) in
+    let part = piece_within (stored_next v) (v.first + v.read + v.capacity) (piece pos xs) in
     let cut = length-drop (stored_next v - pos) (take (v.first + v.read + v.capacity - pos) xs) in
     let size = length-take (v.first + v.read + v.capacity - pos) xs in
-    any_verdict (λ y. IsAccepted (Segmented (answer by_stored v y)) → Has (state_after by_stored v y) p) (stored_next v) most (domain v.held) part
+    any_verdict (λ y. IsAccepted (Segmented (segment_result by_stored v y)) → Has (state_after by_stored v y) p) (stored_next v) most (domain v.held) part
     (λ none _. inl (omega arith))
     (λ no. absurd no)
     (λ _. ⊎_elim (λ (l : p < stored_next v). has_joined v part p (inl l))

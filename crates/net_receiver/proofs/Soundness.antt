@@ -11,7 +11,7 @@ use Rattle.net_storage.proofs.MaximalRuns.{rising-maximal_runs, set_of_maximal_r
 use Rattle.net_storage.proofs.Positions.{contains-with_range, same_positions, runs-maximal_runs}
 use Rattle.net_storage.proofs.RunLists.{runs-nothing}
 use Rattle.net_storage.proofs.Runs.{in_runs, contains-set_of_runs, rising-in_runs, rising_from, runs-set_of_runs}
-use Rattle.net_receiver.specs.KeptList.{Piece, piece, piece_at, end, clip}
+use Rattle.net_receiver.specs.KeptList.{Piece, piece, piece_at, end, piece_within}
 use Rattle.net_receiver.specs.Rules.{Segment, Read, Show, KeptNone, Refused, Keeps, state_after}
 use Rattle.net_receiver.specs.Soundness.{FreshIsSound, SoundStays}
 use Rattle.net_receiver.specs.Stored.{Stored, domain, stored_with_part, stored_next, stored_after, by_stored, IsSound}
@@ -129,7 +129,7 @@ module _ (most : ℕ) (v : Stored) (pos : ℕ) (xs : List ℕ) (sound : IsSound 
   limit = v.first + v.read + v.capacity
 
   abbrev part : Piece
-  part = clip (stored_next v) limit (piece pos xs)
+  part = piece_within (stored_next v) limit (piece pos xs)
 
   abbrev more : Positions
   more = with_range (domain v.held) part.start (length part.bytes)

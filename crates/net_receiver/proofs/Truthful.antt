@@ -6,9 +6,9 @@ use Rattle.std.proofs.Common.{arith, length-append, length-drop, ⊎_elim, take-
 use Rattle.std.proofs.lemmas.Bool.{both_ways, cases_lt}
 use Rattle.std.proofs.lemmas.Option.{slice_get_within}
 use Rattle.std.proofs.lemmas.List.Elements.{All-nil, All-cons, All-head, All-tail}
-use Rattle.net_receiver.specs.KeptList.{Piece, piece, piece_at, clip, byte_at, next, bytes, held_positions}
+use Rattle.net_receiver.specs.KeptList.{Piece, piece, piece_at, piece_within, byte_at, next, bytes, held_positions}
 use Rattle.net_receiver.specs.Rules.{CommandSeen, Segment, Read, Show, Keeps, state_after}
-use Rattle.net_receiver.specs.Schedule.{Setting, State, fresh, kept_after, kept_after_all, bytes_read, PieceAgrees, Agrees, by_kept}
+use Rattle.net_receiver.specs.Schedule.{Setting, State, fresh_state, kept_after, kept_after_all, bytes_read, PieceAgrees, Agrees, by_kept}
 use Rattle.net_receiver.specs.Stored.{Stored, domain, by_stored, fresh_stored, stored_next, stored_after, stored_after_all, setting}
 use Rattle.net_receiver.specs.OneStream.{IsTruthful, TruthfulIsKept, Receives, FreshReceives}
 use Rattle.net_receiver.specs.OneStream.{OneReceives, AllReceive, LongerReceives, QueueIsOfStream}
@@ -28,10 +28,10 @@ pub cond_some : {A : Type 0} (t : Bool) (o : Option A) (b : A) → cond t o None
 cond_some true o b e = e
 cond_some false o b e = absurd (none_is_not b e)
 
-pub clip_at : (low high : ℕ) (e : Piece) (p b : ℕ) → piece_at (clip low high e) p ≡ Some b → piece_at e p ≡ Some b
+pub clip_at : (low high : ℕ) (e : Piece) (p b : ℕ) → piece_at (piece_within low high e) p ≡ Some b → piece_at e p ≡ Some b
 clip_at low high e p b is =
     ⊎_elim
-    (λ (l : p < max e.start low). absurd (none_is_not b (sym (piece_before (clip low high e) p l) ∙ is)))
+    (λ (l : p < max e.start low). absurd (none_is_not b (sym (piece_before (piece_within low high e) p l) ∙ is)))
     (λ (l : max e.start low ≤ p).
     let place : (low - e.start) + (p - max e.start low) ≡ p - e.start = omega arith in
     piece_from e p (omega arith)
@@ -39,11 +39,11 @@ clip_at low high e p b is =
     (sym (slice_get-take (high - e.start) e.bytes (p - e.start))
     ∙ ap (slice_get (take (high - e.start) e.bytes)) (sym place)
     ∙ sym (slice_get-drop (low - e.start) (take (high - e.start) e.bytes) (p - max e.start low))
-    ∙ sym (piece_from (clip low high e) p l)
+    ∙ sym (piece_from (piece_within low high e) p l)
     ∙ is))
     (cases_lt p (max e.start low))
 
-clip_agrees : (f low high : ℕ) (x : List ℕ) (e : Piece) → PieceAgrees f x e → PieceAgrees f x (clip low high e)
+clip_agrees : (f low high : ℕ) (x : List ℕ) (e : Piece) → PieceAgrees f x e → PieceAgrees f x (piece_within low high e)
 clip_agrees f low high x e h = λ p b from is. h p b from (clip_at low high e p b is)
 
 All-push : {X : Type 0} (P : X → Type 0) (xs : List X) (y : X) → All P xs → P y → All P (xs ++ y ∷ [])
@@ -53,7 +53,7 @@ All-push P (x ∷ xs) y all one = All-cons P x (xs ++ y ∷ []) (All-head P x xs
 one_kept : (w : Setting) (s : State) (x : List ℕ) (c : CommandSeen) → Agrees w.first s.kept x → IsTruthful w.first x c →
     Agrees w.first (kept_after w s c).kept x
 one_kept w s x (Segment pos xs) all h =
-    let part = clip (next w.first s.kept) (w.first + s.read + w.capacity) (piece pos xs) in
+    let part = piece_within (next w.first s.kept) (w.first + s.read + w.capacity) (piece pos xs) in
     verdict_cases (λ y. Agrees w.first (state_after (by_kept w) s y).kept x) (next w.first s.kept) w.most_runs (held_positions w.first s.kept) part all all
     (All-push (PieceAgrees w.first x) s.kept part all (clip_agrees w.first (next w.first s.kept) (w.first + s.read + w.capacity) x (piece pos xs) h))
 one_kept w s x (Read count) all h = all
@@ -65,7 +65,7 @@ truthful_is_kept w s x (c ∷ cs) all h =
     truthful_is_kept w (kept_after w s c) x cs (one_kept w s x c all (All-head (IsTruthful w.first x) c cs h)) (All-tail (IsTruthful w.first x) c cs h)
 
 pub fresh_receives : FreshReceives
-fresh_receives x first capacity = record { state = fresh; stands = fresh_stands first capacity; agrees = All-nil (PieceAgrees first x) }
+fresh_receives x first capacity = record { state = fresh_state; stands = fresh_stands first capacity; agrees = All-nil (PieceAgrees first x) }
 
 pub first_kept : (most : ℕ) (v : Stored) (cs : List CommandSeen) → (stored_after_all most v cs).first ≡ v.first
 first_kept most v [] = refl
@@ -136,7 +136,7 @@ queue_is_of x v r =
     record {
       within = omega arith;
       queue = is;
-      front = ap (λ l. take v.read x ++ l) is ∙ sym (take-add v.read (length v.queue) x) ∙ ap (λ m. take m x) total;
+      prefix = ap (λ l. take v.read x ++ l) is ∙ sym (take-add v.read (length v.queue) x) ∙ ap (λ m. take m x) total;
       next = omega arith;
     }
 
@@ -145,15 +145,15 @@ fresh_stream most first capacity x cs h =
     let v = fresh_stored first capacity in
     let w = setting most v in
     let d = fresh_stands first capacity in
-    let all = schedule most v fresh d cs in
+    let all = schedule most v fresh_state d cs in
     let u = stored_after_all most v cs in
-    let t = kept_after_all w fresh cs in
-    let agrees = truthful_is_kept w fresh x cs (All-nil (PieceAgrees first x)) h in
+    let t = kept_after_all w fresh_state cs in
+    let agrees = truthful_is_kept w fresh_state x cs (All-nil (PieceAgrees first x)) h in
     let f : u.first ≡ first = first_kept most v cs in
     let end : stored_next u - first ≡ next first t.kept - first - 0 =
     (let e = same_next u t all.0 in let e' : next u.first t.kept ≡ next first t.kept = ap (λ b. next b t.kept) f in omega arith) in
     (λ i. bytes_read (all.1 i) ++ (all.0.queue ∙ (λ j. bytes t.kept (f j + t.read) (next (f j) t.kept - (f j + t.read)))) i)
-    ∙ stream w x fresh d.within cs agrees
+    ∙ stream w x fresh_state d.within cs agrees
     ∙ ap (λ m. take m x) (sym end)
 
 All-take : {X : Type 0} (P : X → Type 0) (n : ℕ) (xs : List X) → All P xs → All P (take n xs)
@@ -164,18 +164,18 @@ All-take P (suc n) (x ∷ xs) all = All-cons P x (take n xs) (All-head P x xs al
 pub run_receives : RunReceives
 run_receives most x v u cs rs complete r h run =
     let w = setting most v in
-    let front = take run.front.count cs in
-    let kept = All-take (IsTruthful v.first x) run.front.count cs h in
-    let z = stored_after_all most v front in
-    let t = kept_after_all w r.state front in
-    let d = schedule most v r.state r.stands front in
-    let f : z.first ≡ v.first = first_kept most v front in
+    let prefix = take run.prefix.count cs in
+    let kept = All-take (IsTruthful v.first x) run.prefix.count cs h in
+    let z = stored_after_all most v prefix in
+    let t = kept_after_all w r.state prefix in
+    let d = schedule most v r.state r.stands prefix in
+    let f : z.first ≡ v.first = first_kept most v prefix in
     let end : stored_next z - z.first ≡ next v.first t.kept - v.first =
     (let e = same_next z t d.0 in let e' : next z.first t.kept ≡ next v.first t.kept = ap (λ b. next b t.kept) f in omega arith) in (
-      subst (Receives x) (sym run.state) (all_receive most x v front r kept),
-      (λ i. bytes_read ((run.answers ∙ d.1) i) ++
+      subst (Receives x) (sym run.state) (all_receive most x v prefix r kept),
+      (λ i. bytes_read ((run.replies ∙ d.1) i) ++
           (ap (λ y. y.queue) run.state ∙ d.0.queue ∙ (λ j. bytes t.kept (f j + t.read) (next (f j) t.kept - (f j + t.read)))) i)
-          ∙ stream w x r.state r.stands.within front (truthful_is_kept w r.state x front r.agrees kept)
+          ∙ stream w x r.state r.stands.within prefix (truthful_is_kept w r.state x prefix r.agrees kept)
           ∙ (λ i. slice_range x (sym r.stands.read i) ((sym end ∙ ap (λ y. stored_next y - y.first) (sym run.state)) i)),
     )
 
@@ -187,7 +187,7 @@ first_stays most v c = ap (λ w. w.first) (setting_kept most v c)
 pub segment_cases : (P : Stored → Type 0) (most : ℕ) (v : Stored) (pos : ℕ) (xs : List ℕ) → P v →
     ((part : Piece) → P (state_after by_stored v (Keeps part))) → P (stored_after most v (Segment pos xs))
 segment_cases P most v pos xs same kept =
-    let part = clip (stored_next v) (v.first + v.read + v.capacity) (piece pos xs) in
+    let part = piece_within (stored_next v) (v.first + v.read + v.capacity) (piece pos xs) in
     verdict_cases (λ y. P (state_after by_stored v y)) (stored_next v) most (domain v.held) part same same (kept part)
 
 pub next_grows_stored : NextGrows

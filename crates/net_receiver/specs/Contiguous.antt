@@ -1,7 +1,7 @@
 -- Where the queued bytes stand in the storage, and how many of them are contiguous.
 --     place v i      the place of the stream's byte number i
---     contiguous v      how many bytes of the queue are contiguous, from the first one on
---     contiguous_from v o n      of at most n bytes of the queue from byte o on, how many are
+--     contiguous_count v      how many bytes of the queue are contiguous, from the first one on
+--     contiguous_count_from v o n      of at most n bytes of the queue from byte o on, how many are
 --     first_part v, second_part v      the queue's two parts, each of them contiguous
 use Rattle.std.specs.Prelude.{◌≡◌, ℕ, ◌+◌, ◌-◌, ◌<◌, ◌%◌, min, List, length, take, drop}
 use Rattle.net_storage.specs.Ring.{RingState}
@@ -13,21 +13,21 @@ abbrev pub place : Stored → ℕ → ℕ
 place v i = i % v.capacity
 
 -- how many bytes of the queue stand in a row, from the first one on
-abbrev pub contiguous : Stored → ℕ
-contiguous v = min (length v.queue) (v.capacity - place v v.read)
+abbrev pub contiguous_count : Stored → ℕ
+contiguous_count v = min (length v.queue) (v.capacity - place v v.read)
 
 -- of at most n bytes of the queue from byte o on, how many stand in a row; none if o is past the
 -- queue
-abbrev pub contiguous_from : Stored → ℕ → ℕ → ℕ
-contiguous_from v o n = min n (min (length v.queue - o) (v.capacity - place v (v.read + o)))
+abbrev pub contiguous_count_from : Stored → ℕ → ℕ → ℕ
+contiguous_count_from v o n = min n (min (length v.queue - o) (v.capacity - place v (v.read + o)))
 
 -- the bytes up to the storage's end, and those from its beginning on
 abbrev pub first_part : Stored → List ℕ
-first_part v = take (contiguous v) v.queue
+first_part v = take (contiguous_count v) v.queue
 
 -- what the first part leaves
 abbrev pub second_part : Stored → List ℕ
-second_part v = drop (contiguous v) v.queue
+second_part v = drop (contiguous_count v) v.queue
 
 -- a ring is read at the place of the stream's byte number i
 abbrev pub IsReadAt : RingState ℕ → ℕ → Type 0

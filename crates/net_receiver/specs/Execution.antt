@@ -6,9 +6,9 @@
 use Rattle.std.specs.Prelude.{◌≡◌, ◌↔◌, ℕ, ◌-◌, ◌≤◌, Bool, true, List, ◌++◌, length, take}
 use Rattle.std.specs.Prelude.{drop, All, slice_range}
 use Rattle.net_storage.specs.Positions.{maximal_runs}
-use Rattle.net_receiver.specs.KeptList.{covered, next, held_positions}
+use Rattle.net_receiver.specs.KeptList.{is_covered, next, held_positions}
 use Rattle.net_receiver.specs.Rules.{CommandSeen, ReplySeen}
-use Rattle.net_receiver.specs.Schedule.{State, fresh, kept_after_all, kept_replies, bytes_read, queue_bytes}
+use Rattle.net_receiver.specs.Schedule.{State, fresh_state, kept_after_all, kept_replies, bytes_read, queue_bytes}
 use Rattle.net_receiver.specs.Schedule.{Agrees, Follows, EndsBy, IsAccepted}
 use Rattle.net_receiver.specs.Stored.{Stored, domain, stored_next, fresh_stored, setting}
 use Rattle.net_receiver.specs.Stored.{stored_after_all, stored_replies, StandsFor}
@@ -27,22 +27,22 @@ pub record ExecutedPrefix (cs : List CommandSeen) (complete : Type 0) : Type 0 w
 -- what a prefix of the commands stored and answered
 pub record Executed (most_runs : ℕ) (v u : Stored) (cs : List CommandSeen) (rs : List ReplySeen)
     (complete : Type 0) : Type 0 where
-  pub front : ExecutedPrefix cs complete
-  pub state : u ≡ stored_after_all most_runs v (take front.count cs)
-  pub answers : rs ≡ stored_replies most_runs v (take front.count cs)
+  pub prefix : ExecutedPrefix cs complete
+  pub state : u ≡ stored_after_all most_runs v (take prefix.count cs)
+  pub replies : rs ≡ stored_replies most_runs v (take prefix.count cs)
 
 -- the same of a schedule's state, with what follows of the bytes that were read and of what is
 -- accepted
 pub record ExecutedFor (most_runs : ℕ) (v u : Stored) (cs : List CommandSeen) (rs : List ReplySeen)
     (complete : Type 0) (s : State) : Type 0 where
-  pub front : ExecutedPrefix cs complete
-  pub stands : StandsFor u (kept_after_all (setting most_runs v) s (take front.count cs))
-  pub answers : rs ≡ kept_replies (setting most_runs v) s (take front.count cs)
+  pub prefix : ExecutedPrefix cs complete
+  pub stands : StandsFor u (kept_after_all (setting most_runs v) s (take prefix.count cs))
+  pub replies : rs ≡ kept_replies (setting most_runs v) s (take prefix.count cs)
   pub stream : (x : List ℕ) →
-      Agrees v.first (kept_after_all (setting most_runs v) s (take front.count cs)).kept x →
+      Agrees v.first (kept_after_all (setting most_runs v) s (take prefix.count cs)).kept x →
       bytes_read rs ++ u.queue
       ≡ slice_range x s.read
-      (next v.first (kept_after_all (setting most_runs v) s (take front.count cs)).kept - v.first)
+      (next v.first (kept_after_all (setting most_runs v) s (take prefix.count cs)).kept - v.first)
   pub accepts : Follows (setting most_runs v) s (next v.first s.kept) cs → All IsAccepted rs
   pub recovers : complete → Follows (setting most_runs v) s (next v.first s.kept) cs →
       EndsBy (next v.first (kept_after_all (setting most_runs v) s cs).kept) cs
@@ -52,7 +52,7 @@ pub record ExecutedFor (most_runs : ℕ) (v u : Stored) (cs : List CommandSeen) 
 abbrev pub Converges : Stored → Stored → Bool → Type 0
 Converges v u same = (x : List ℕ) (s t : State) → StandsFor v s → StandsFor u t →
     v.first ≡ u.first → Agrees v.first s.kept x → Agrees v.first t.kept x →
-    ((p : ℕ) → covered s.kept p ≡ covered t.kept p) → s.read ≡ t.read → same ≡ true
+    ((p : ℕ) → is_covered s.kept p ≡ is_covered t.kept p) → s.read ≡ t.read → same ≡ true
 
 -- what two states have alike that `same_state` compares, f and g being their first positions
 -- (`IsSameState` has no `next`: it follows from a receiver's parts, and not from any state's)
@@ -69,9 +69,9 @@ TellsStates v u same = (s t : State) → StandsFor v s → StandsFor u t →
 
 -- a fresh receiver stands for the state in which nothing was kept or read
 abbrev pub FreshStands : Type 0
-FreshStands = (first capacity : ℕ) → StandsFor (fresh_stored first capacity) fresh
+FreshStands = (first capacity : ℕ) → StandsFor (fresh_stored first capacity) fresh_state
 
--- what is stored goes on standing for a schedule's state, and the answers are the same, over every
+-- what is stored goes on standing for a schedule's state, and the replies are the same, over every
 -- list of commands
 abbrev pub EverySchedule : Type 0
 EverySchedule = (most_runs : ℕ) (v : Stored) (s : State) → StandsFor v s → (cs : List CommandSeen) →
@@ -88,4 +88,4 @@ TellsHeld = (v : Stored) (s : State) → StandsFor v s → domain v.held ≡ hel
 
 -- what a fresh receiver stores stands for the fresh state
 abbrev pub TellsFresh : Type 0
-TellsFresh = (first : ℕ) (v : Stored) → v ≡ fresh_stored first v.capacity → StandsFor v fresh
+TellsFresh = (first : ℕ) (v : Stored) → v ≡ fresh_stored first v.capacity → StandsFor v fresh_state

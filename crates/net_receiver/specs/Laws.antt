@@ -11,7 +11,7 @@ use Rattle.std.specs.Prelude.{AllPairs, count_by, ⊤}
 use Rattle.net_storage.specs.Positions.{Positions, contains, lies_in, IsMaximalRun}
 use Rattle.net_receiver.specs.declared.receiver.kept.Kept.{Kept}
 use Rattle.net_receiver.specs.KeptList.{Piece, end, byte_at, next, held_positions}
-use Rattle.net_receiver.specs.Rules.{CommandSeen, ReplySeen, Verdict, state_after, answer}
+use Rattle.net_receiver.specs.Rules.{CommandSeen, ReplySeen, Verdict, state_after, segment_result}
 use Rattle.net_receiver.specs.Rules.{first_three}
 use Rattle.net_receiver.specs.Schedule.{Setting, State, by_kept}
 use Rattle.net_receiver.specs.Stored.{Stored, StandsFor}
@@ -82,14 +82,14 @@ pub record ReportsRuns (held : Positions) (sack : List (Option (ℕ × ℕ))) : 
 -- or none
 abbrev pub ReportsHeldRuns : Type 0
 ReportsHeldRuns = (w : Setting) (s : State) (x : Verdict) (kept : Kept) →
-    answer (by_kept w) s x ≡ Ok kept →
+    segment_result (by_kept w) s x ≡ Ok kept →
     ReportsRuns (held_positions w.first (state_after (by_kept w) s x).kept) kept.sack
 
 -- ---- calls of `replay`, one after another
--- a call by its commands and the answers that it appended, and whether it answered Ok
+-- a call by its commands and the replies that it appended, and whether it returned Ok
 pub record ReplayCall : Type 0 where
   pub commands : List CommandSeen
-  pub answers : List ReplySeen
+  pub replies : List ReplySeen
   pub complete : Bool
 
 -- what the contract of `replay` says of each call
@@ -97,24 +97,24 @@ abbrev pub Replayed : ℕ → Stored → List ReplayCall → Stored → Type 0
 Replayed most_runs v [] u = u ≡ v
 Replayed most_runs v (call ∷ calls) u =
     (between : Stored)
-    × Executed most_runs v between call.commands call.answers (IsTrue call.complete)
+    × Executed most_runs v between call.commands call.replies (IsTrue call.complete)
     × Replayed most_runs between calls u
 
 -- cs is made of the first commands of each call in turn, and of all of them if the call is complete
 abbrev pub ArePrefixes : List ReplayCall → List CommandSeen → Type 0
 ArePrefixes [] cs = cs ≡ []
 ArePrefixes (call ∷ calls) cs =
-    (front : ExecutedPrefix call.commands (IsTrue call.complete)) × (rest : List CommandSeen)
-    × (cs ≡ take front.count call.commands ++ rest) × ArePrefixes calls rest
+    (prefix : ExecutedPrefix call.commands (IsTrue call.complete)) × (rest : List CommandSeen)
+    × (cs ≡ take prefix.count call.commands ++ rest) × ArePrefixes calls rest
 
 -- the calls did what one complete call does with the commands that they ran
 pub record Composed (most_runs : ℕ) (v : Stored) (calls : List ReplayCall) (u : Stored)
     : Type 0 where
   pub commands : List CommandSeen
-  pub fronts : ArePrefixes calls commands
-  pub stored : Executed most_runs v u commands (flat_map (λ call. call.answers) calls) ⊤
+  pub prefixes : ArePrefixes calls commands
+  pub stored : Executed most_runs v u commands (flat_map (λ call. call.replies) calls) ⊤
   pub ran : (s : State) → StandsFor v s →
-      ExecutedFor most_runs v u commands (flat_map (λ call. call.answers) calls) ⊤ s
+      ExecutedFor most_runs v u commands (flat_map (λ call. call.replies) calls) ⊤ s
 
 -- calls one after another do what one call does
 abbrev pub CallsCompose : Type 0

@@ -46,7 +46,7 @@ ReceivesFrom f x v = (v.first ≡ f) × Receives x v
 pub record QueueIsOf (x : List ℕ) (v : Stored) : Type 0 where
   pub within : v.read + length v.queue ≤ length x
   pub queue : v.queue ≡ take (length v.queue) (drop v.read x)
-  pub front : take v.read x ++ v.queue ≡ take (stored_next v - v.first) x
+  pub prefix : take v.read x ++ v.queue ≡ take (stored_next v - v.first) x
   pub next : v.first ≤ stored_next v
 
 -- the bytes of a segment from the first missing position on, as far as the free window goes

@@ -3,7 +3,7 @@
 --     Verdict      what becomes of a segment: nothing is kept, it is refused, or a part is kept
 --     Keeping S      what a state of type S tells, and what a kept part and a read make of it
 --     verdict keeping N s e      what becomes of the segment e in state s, N being the most runs
---     after keeping N s c, reply keeping N s c      the state after one command, and its answer
+--     after keeping N s c, reply keeping N s c      the state after one command, and its reply
 --     after_all keeping N s cs, replies keeping N s cs      the same of a list of commands
 -- `Schedule.antt` fills them with kept lists, `Stored.antt` with what a receiver stores.
 use Rattle.std.specs.Prelude.{ℕ, ◌+◌, ◌-◌, if◌then◌else◌, not, ◌&&◌, List, [], ◌∷◌, length, take}
@@ -11,7 +11,7 @@ use Rattle.std.specs.Prelude.{nat_lt, nat_eq, slice_get, Option, is_some, Result
 use Rattle.net_storage.specs.declared.assembler.error.TooManyHolesError.{TooManyHolesError}
 use Rattle.net_storage.specs.Positions.{Positions, with_range, runs, maximal_runs}
 use Rattle.net_receiver.specs.declared.receiver.kept.Kept.{Kept}
-use Rattle.net_receiver.specs.KeptList.{Piece, piece, piece_at, clip}
+use Rattle.net_receiver.specs.KeptList.{Piece, piece, piece_at, piece_within}
 
 -- commands
 pub data CommandSeen : Type 0 where
@@ -87,8 +87,8 @@ module _ {S : Type 0} (keeping : Keeping S) where
       Ok (length part.bytes, keeping.next (keeping.with_part s part) - keeping.next s)
 
   -- the answer to a segment
-  abbrev pub answer : S → Verdict → Result Kept TooManyHolesError
-  answer s x = with_sack (numbers s x) (keeping.held (state_after s x))
+  abbrev pub segment_result : S → Verdict → Result Kept TooManyHolesError
+  segment_result s x = with_sack (numbers s x) (keeping.held (state_after s x))
 
   module _ (most_runs : ℕ) where
     -- what becomes of a segment in a state, whose kept part is that from the first missing position
@@ -96,7 +96,7 @@ module _ {S : Type 0} (keeping : Keeping S) where
     abbrev pub verdict : S → Piece → Verdict
     verdict s e =
         verdict_of_part (keeping.next s) most_runs (keeping.held s)
-        (clip (keeping.next s) (limit s) e)
+        (piece_within (keeping.next s) (limit s) e)
 
     -- the state after a command
     abbrev pub after : S → CommandSeen → S
@@ -106,7 +106,7 @@ module _ {S : Type 0} (keeping : Keeping S) where
 
     -- the reply to a command
     abbrev pub reply : S → CommandSeen → ReplySeen
-    reply s (Segment pos xs) = Segmented (answer s (verdict s (piece pos xs)))
+    reply s (Segment pos xs) = Segmented (segment_result s (verdict s (piece pos xs)))
     reply s (Read count) = Gave (take count (keeping.queue s))
     reply s Show =
         Shown (keeping.next s) (length (keeping.queue s))

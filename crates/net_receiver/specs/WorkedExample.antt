@@ -13,7 +13,7 @@ use Rattle.net_storage.specs.Positions.{bound_of, runs, with_range, maximal_runs
 use Rattle.net_receiver.specs.KeptList.{Piece, piece_at, byte_at, next, held_positions}
 use Rattle.net_receiver.specs.Rules.{CommandSeen, Segment, Read, Show, ReplySeen, Segmented, Gave}
 use Rattle.net_receiver.specs.Rules.{Shown}
-use Rattle.net_receiver.specs.Schedule.{Setting, fresh, kept_replies}
+use Rattle.net_receiver.specs.Schedule.{Setting, fresh_state, kept_replies}
 
 -- ---- lists of positions
 -- whether q is in ks
@@ -22,14 +22,14 @@ is_in [] q = false
 is_in (k ∷ ks) q = (q == k) || is_in ks q
 
 -- p put into a rising list, once
-abbrev pub put : ℕ → List ℕ → List ℕ
-put p [] = p ∷ []
-put p (k ∷ ks) = if nat_lt p k then p ∷ k ∷ ks else if p == k then k ∷ ks else k ∷ put p ks
+abbrev pub with_position : ℕ → List ℕ → List ℕ
+with_position p [] = p ∷ []
+with_position p (k ∷ ks) = if nat_lt p k then p ∷ k ∷ ks else if p == k then k ∷ ks else k ∷ with_position p ks
 
 -- the members of a list, rising and each once
-abbrev pub rising : List ℕ → List ℕ
-rising [] = []
-rising (p ∷ ps) = put p (rising ps)
+abbrev pub rising_list : List ℕ → List ℕ
+rising_list [] = []
+rising_list (p ∷ ps) = with_position p (rising_list ps)
 
 -- the least position from p on that is not in ks, of the n that follow
 abbrev pub missing_of : List ℕ → ℕ → ℕ → ℕ
@@ -47,7 +47,7 @@ runs_in ks = map (λ p. (p, missing_in ks p)) (filter (λ p. (p == 0) || not (is
 -- ---- kept lists
 -- the covered positions
 abbrev pub covered_list : List Piece → List ℕ
-covered_list k = rising (flat_map (λ e. range_with_len e.start (length e.bytes)) k)
+covered_list k = rising_list (flat_map (λ e. range_with_len e.start (length e.bytes)) k)
 
 -- the held positions
 abbrev pub held_in : ℕ → List Piece → List ℕ
@@ -69,7 +69,7 @@ HeldComputed = (f : ℕ) (k : List Piece) → maximal_runs (held_positions f k) 
 -- how many runs are held with one more range
 abbrev pub RunsComputed : Type 0
 RunsComputed = (f : ℕ) (k : List Piece) (o n : ℕ) →
-    runs (with_range (held_positions f k) o n) ≡ length (runs_in (rising (held_in f k ++ range_with_len o n)))
+    runs (with_range (held_positions f k) o n) ≡ length (runs_in (rising_list (held_in f k ++ range_with_len o n)))
 
 -- the byte at a position
 abbrev pub ByteComputed : Type 0
@@ -91,7 +91,7 @@ worked_commands =
 abbrev pub WorkedSchedule : Type 0
 WorkedSchedule =
     let w : Setting = record { first = 0; capacity = 16; most_runs = 4 } in
-    kept_replies w fresh worked_commands
+    kept_replies w fresh_state worked_commands
     ≡ segment_reply 2 0 (Some (2, 4) ∷ None ∷ None ∷ [])
     ∷ segment_reply 2 0 (Some (2, 5) ∷ None ∷ None ∷ [])
     ∷ Shown 0 0 16 ((2, 5) ∷ [])

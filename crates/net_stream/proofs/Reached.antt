@@ -4,7 +4,7 @@ use Rattle.std.proofs.lemmas.Bool.{both_ways, cases_lt, cases_Bool, cond-true, c
 use Rattle.std.proofs.lemmas.Option.{slice_get_within, slice_get-get_or}
 use Rattle.std.specs.FinMap as fin
 use Rattle.std.proofs.lemmas.List.Elements.{All-head, All-tail}
-use Rattle.net_base.specs.Generator.{successor, word}
+use Rattle.net_base.specs.Generator.{successor, random_word}
 use Rattle.net_storage.specs.declared.assembler.error.TooManyHolesError.{TooManyHolesError}
 use Rattle.net_receiver.specs.declared.receiver.kept.Kept.{Kept}
 use Rattle.net_receiver.specs.KeptList.{piece, piece_at}
@@ -125,21 +125,21 @@ brought most ranges end r m frame frames sound had far reaches =
 
 -- the frames of parts that follow one another bring a receiver to their end
 reaches_parts : RoundTrip → (ranges : List (ℕ × ℕ)) (end b p : ℕ) (parts : List Part) → end ≡ b + length (part_bytes parts) → end < 2 ^ 64 → AreMarked ranges b parts → ((q : ℕ) → p ≤ q → q < b → reports ranges q ≡ true) → Reaches ranges end p (frames_from b parts)
-reaches_parts trip ranges end b p [] is word marked gap = λ q from to. gap q from (omega arith)
-reaches_parts trip ranges end b p ((true, xs) ∷ parts) is word marked gap =
+reaches_parts trip ranges end b p [] is random_word marked gap = λ q from to. gap q from (omega arith)
+reaches_parts trip ranges end b p ((true, xs) ∷ parts) is random_word marked gap =
     let both : length (xs ++ part_bytes parts) ≡ length xs + length (part_bytes parts) = length-append xs (part_bytes parts) in
-    reaches_parts trip ranges end (b + length xs) p parts (omega arith) word marked.1
+    reaches_parts trip ranges end (b + length xs) p parts (omega arith) random_word marked.1
     (λ q from to. ⊎_elim {C = reports ranges q ≡ true} (λ (l : q < b). gap q from l) (λ (l : b ≤ q). marked.0 q l to) (cases_lt q b))
-reaches_parts trip ranges end b p ((false, xs) ∷ parts) is word marked gap =
+reaches_parts trip ranges end b p ((false, xs) ∷ parts) is random_word marked gap =
     let both : length (xs ++ part_bytes parts) ≡ length xs + length (part_bytes parts) = length-append xs (part_bytes parts) in
     let at : segment_of (frame_of b xs) ≡ Some (b, xs) = trip b xs (omega arith) in
-    inr (b, xs, at, (λ q from to. gap q from (omega arith)), reaches_parts trip ranges end (b + length xs) (max p (b + length xs)) parts (omega arith) word marked.1 (λ q from to. absurd (omega arith)))
+    inr (b, xs, at, (λ q from to. gap q from (omega arith)), reaches_parts trip ranges end (b + length xs) (max p (b + length xs)) parts (omega arith) random_word marked.1 (λ q from to. absurd (omega arith)))
 
 pub sent_reaches : RoundTrip → (ranges : List (ℕ × ℕ)) (p b : ℕ) (q : List ℕ) (parts : List Part) (old new : List (List ℕ)) → new ≡ old ++ frames_from b parts → part_bytes parts ≡ q → AreMarked ranges b parts → b + length q < 2 ^ 64 → b ≤ p → Reaches ranges (b + length q) p new
-sent_reaches trip ranges p b q parts old new is all marked word h =
+sent_reaches trip ranges p b q parts old new is all marked random_word h =
     let long : length (part_bytes parts) ≡ length q = ap length all in
     subst (Reaches ranges (b + length q) p) (sym is)
-    (reaches_behind ranges (b + length q) p old (frames_from b parts) (reaches_parts trip ranges (b + length q) b p parts (omega arith) word marked (λ k from to. absurd (omega arith))))
+    (reaches_behind ranges (b + length q) p old (frames_from b parts) (reaches_parts trip ranges (b + length q) b p parts (omega arith) random_word marked (λ k from to. absurd (omega arith))))
 
 -- ---- fates
 drawn_comes : (t u v : Bool) → t ≡ false → v ≡ false → comes (cond t Lost (cond u Repeated (cond v Late Delivered))) ≡ true
@@ -153,7 +153,7 @@ not_below n m e = le-ltb n m (omega arith)
 
 come_one : (rates : Rates) (state : ℕ) (listed : List Fate) → rates.lost ≡ 0 → rates.late ≡ 0 → All (λ y. comes y ≡ true) listed → (comes (next_of rates state listed) ≡ true) × AllCome (after_of rates state listed)
 come_one rates state [] lost late all = (
-  drawn_comes (nat_lt (word (successor state) % 100) rates.lost) (nat_lt (word (successor state) / 100 % 100) rates.repeated) (nat_lt (word (successor state) / 10000 % 100) rates.late) (not_below _ _ lost) (not_below _ _ late),
+  drawn_comes (nat_lt (random_word (successor state) % 100) rates.lost) (nat_lt (random_word (successor state) / 100 % 100) rates.repeated) (nat_lt (random_word (successor state) / 10000 % 100) rates.late) (not_below _ _ lost) (not_below _ _ late),
   record { listed = all; lost = lost; late = late },
 )
 come_one rates state (x ∷ xs) lost late all = (All-head (λ y. comes y ≡ true) x xs all, record { listed = All-tail (λ y. comes y ≡ true) x xs all; lost = lost; late = late })

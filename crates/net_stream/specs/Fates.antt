@@ -6,7 +6,7 @@
 --     AllCome v      every frame comes at once
 use Rattle.std.specs.Prelude.{ℕ, zero, suc, ◌/◌, ◌%◌, nat_lt, if◌then◌else◌, Bool, true, false}
 use Rattle.std.specs.Prelude.{◌≡◌, List, [], ◌∷◌, All}
-use Rattle.net_base.specs.Generator.{successor, word}
+use Rattle.net_base.specs.Generator.{successor, random_word}
 use Rattle.net_stream.specs.declared.fate.Fate.{Fate}
 use Rattle.net_stream.specs.declared.fate.Fate.TheVariants.{Delivered, Lost, Repeated, Late}
 use Rattle.net_stream.specs.declared.fate.Rates.{Rates}
@@ -14,10 +14,10 @@ use Rattle.net_stream.specs.declared.fate.Rates.{Rates}
 -- the last two digits of a word decide whether the frame is lost, the two before them whether it is
 -- repeated, and the two before those whether it is late
 abbrev pub fate_of : Rates → ℕ → Fate
-fate_of rates word =
-    if nat_lt (word % 100) rates.lost then Lost
-    else if nat_lt (word / 100 % 100) rates.repeated then Repeated
-    else if nat_lt (word / 10000 % 100) rates.late then Late
+fate_of rates random_word =
+    if nat_lt (random_word % 100) rates.lost then Lost
+    else if nat_lt (random_word / 100 % 100) rates.repeated then Repeated
+    else if nat_lt (random_word / 10000 % 100) rates.late then Late
     else Delivered
 
 -- whether a frame comes at once
@@ -42,7 +42,7 @@ pub record FatesSeen : Type 0 where
 
 -- the next fate, from the list that is left
 abbrev pub next_of : Rates → ℕ → List Fate → Fate
-next_of rates state [] = fate_of rates (word (successor state))
+next_of rates state [] = fate_of rates (random_word (successor state))
 next_of rates state (x ∷ xs) = x
 
 -- what is left then

@@ -1,5 +1,5 @@
 ghost use Rattle.std.specs.Prelude.{◌≡◌};
-ghost use Rattle.net_base.specs.Checksum.{verifies, computes};
+ghost use Rattle.net_base.specs.Checksum.{is_verified, is_computed};
 
 /// What the stack does about the checksums of one protocol; the device does the rest.
 #[derive(Debug, Clone, Copy, Default)]
@@ -18,14 +18,14 @@ pub enum Checksum {
 impl Checksum {
     /// Whether checksums are verified when receiving.
     pub fn rx(&self) -> bool
-        ensures { result ≡ verifies self.now }
+        ensures { result ≡ is_verified self.now }
     {
         matches!(self, Checksum::Both | Checksum::Rx)
     }
 
     /// Whether checksums are computed when sending.
     pub fn tx(&self) -> bool
-        ensures { result ≡ computes self.now }
+        ensures { result ≡ is_computed self.now }
     {
         matches!(self, Checksum::Both | Checksum::Tx)
     }

@@ -6,7 +6,7 @@ ghost use Rattle.net_receiver.specs.Rules.{Read, Gave};
 ghost use Rattle.net_receiver.specs.Schedule.{State, queue_bytes, kept_reply};
 ghost use Rattle.net_receiver.specs.Stored.{stored_next, stored_read, stored_reply};
 ghost use Rattle.net_receiver.specs.Stored.{setting, StaysInSetting, Steps, StandsFor};
-ghost use Rattle.net_receiver.specs.Contiguous.{contiguous, contiguous_from, first_part};
+ghost use Rattle.net_receiver.specs.Contiguous.{contiguous_count, contiguous_count_from, first_part};
 ghost use Rattle.net_receiver.specs.Contiguous.{second_part};
 ghost use Rattle.net_receiver.specs.OneStream.{ReceivesFrom};
 
@@ -45,7 +45,7 @@ impl<'a, const N: usize> Receiver<'a, N> {
     /// The stream's byte number i, counted from 0, has the place `i` modulo the capacity in the
     /// storage, so it is known where a part ends. smoltcp's `peek` lends from the head on.
     pub fn peek(&self, offset: usize, size: usize) -> &[u8]
-        ensures count { length result.now ≡ contiguous_from self.now offset size }
+        ensures count { length result.now ≡ contiguous_count_from self.now offset size }
         ensures few { length result.now ≤ min size (length self.now.queue - offset) }
         ensures some { offset < length self.now.queue → 0 < size → 0 < length result.now }
         ensures value { result.now ≡ take (length result.now) (drop offset self.now.queue) }
@@ -85,7 +85,7 @@ impl<'a, const N: usize> Receiver<'a, N> {
     /// An addition to smoltcp's calls, as std's `VecDeque` has it.
     pub fn as_slices(&self) -> (&[u8], &[u8])
         ensures queue { result.0.now ++ result.1.now ≡ self.now.queue }
-        ensures cut { length result.0.now ≡ contiguous self.now }
+        ensures cut { length result.0.now ≡ contiguous_count self.now }
         ensures value { (result.0.now ≡ first_part self.now)
             × (result.1.now ≡ second_part self.now) }
         ensures first { (k : ℕ) (d : ℕ) → k < length result.0.now →
@@ -114,8 +114,8 @@ impl<'a, const N: usize> Receiver<'a, N> {
         requires count { (r : ℕ × R) → FnOnceReturnsAt F.FnOnce f (first_part self.old) r →
             r.0 ≤ length (first_part self.old) }
         ensures called { FnOnceReturnsAt F.FnOnce f (first_part self.old) result }
-        ensures count { result.0 ≤ contiguous self.old }
-        ensures not_empty { 0 < length self.old.queue → 0 < contiguous self.old }
+        ensures count { result.0 ≤ contiguous_count self.old }
+        ensures not_empty { 0 < length self.old.queue → 0 < contiguous_count self.old }
         ensures state { self.new ≡ stored_read self.old result.0 }
         ensures step { Steps N self.old self.new
             (Read result.0) (Gave (take result.0 self.old.queue)) }

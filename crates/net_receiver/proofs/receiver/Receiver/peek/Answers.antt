@@ -1,7 +1,7 @@
 use Rattle.std.proofs.Common.{◌≡◌, ◌∙◌, ap, drop, take, length, length-take, length-drop, arith}
 use Rattle.net_storage.specs.Ring.{queue}
 use Rattle.net_receiver.specs.Stored.{Stored}
-use Rattle.net_receiver.specs.Contiguous.{contiguous_from}
+use Rattle.net_receiver.specs.Contiguous.{contiguous_count_from}
 use Rattle.net_receiver.proofs.Called.{part_bytes}
 use Rattle.net_receiver.proofs.Contiguous.{lent_from}
 use Rattle.net_receiver.proofs.receiver.Receiver.peek.Goals as goal
@@ -13,7 +13,7 @@ returns-clause-count g c =
     let within : length bytes ≡ length (take (length bytes) (drop c.args.offset inner)) = ap length c.get_allocated.ensures.value in
     lent_from c.self.inside.ring c.self.inside.count_read c.self.invariant.2 c.args.offset c.args.size (length bytes) c.get_allocated.ensures.count
     (omega (arith, within, length-take (length bytes) (drop c.args.offset inner), length-drop c.args.offset inner))
-    ∙ ap (λ v. contiguous_from v c.args.offset c.args.size) c.self.view_is
+    ∙ ap (λ v. contiguous_count_from v c.args.offset c.args.size) c.self.view_is
 
 pub returns-clause-few : goal.returns-clause-few
 returns-clause-few g c =

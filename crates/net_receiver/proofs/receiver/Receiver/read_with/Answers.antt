@@ -1,7 +1,7 @@
 -- `f` was run on the queue's first part; what it counts is taken off, as by a read of that many bytes.
 use Rattle.std.proofs.Common.{◌≡◌, ◌+◌, ◌≤◌, refl, subst, ap, ◌∙◌, length, take, arith}
 use Rattle.net_storage.specs.Ring.{queue, spare}
-use Rattle.net_receiver.specs.Contiguous.{contiguous, first_part}
+use Rattle.net_receiver.specs.Contiguous.{contiguous_count, first_part}
 use Rattle.net_receiver.specs.Parts.{parts, FitsWord}
 use Rattle.net_receiver.specs.Rules.{Read, Gave}
 use Rattle.net_receiver.specs.Stored.{Stored, stored_next, stored_read, IsSound}
@@ -43,7 +43,7 @@ overflow_add-self g c =
 
 -- the lent bytes, and no more of them are counted
 lent_is : (g : given.Over) (c : goal.After-self-1 g) →
-    (c.get_allocated-bytes.result.now ≡ first_part c.args.self.now) × (c.f-answer.result.0 ≤ contiguous c.args.self.now)
+    (c.get_allocated-bytes.result.now ≡ first_part c.args.self.now) × (c.f-answer.result.0 ≤ contiguous_count c.args.self.now)
 lent_is g c =
     let i = c.self.inside in
     let lent = first_part_lent i.first i.count_read c.len.result i.ring i.held c.args.self.now c.get_allocated-bytes.result.now
