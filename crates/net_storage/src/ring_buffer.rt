@@ -216,6 +216,18 @@ impl<T, S: Elements<T>> Ring<T, S> {
         }
     }
 
+    /// Returns the index in the storage of what is one element after the read index, wrapping at the
+    /// storage's end. It is `storage_index` of 1, with one comparison.
+    #[inline]
+    fn next_index(&self) -> usize
+        requires { 1 ≤ capacity self.now }
+        ensures { result ≡ storage_index self.now 1 }
+    {
+        let capacity = self.capacity();
+        let next = self.read_at + 1;
+        if next < capacity { next } else { 0 }
+    }
+
     /// Returns, of the `available` elements that begin `start` elements after the read index, at
     /// most `size` from the one at `offset` on; none if `offset` is past them.
     #[inline]

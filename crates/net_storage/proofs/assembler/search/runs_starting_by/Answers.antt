@@ -7,10 +7,10 @@ use Rattle.net_storage.proofs.assembler.search.runs_starting_by.Goals.{then-from
 
 pub returns-then-from-pairs-clause-behind : goal.returns-then-from-pairs-clause-behind
 returns-then-from-pairs-clause-behind c = λ k l n. elim c.then-from-pairs.branch [
-    | then-from-pairs-via-then-from-pairs w ↦ omega arith
-    | then-from-pairs-via-else-from-pairs+then-end-pairs w ↦
-        (let r = starts_rise 0 c.args.pairs.now c.args.from k c.requires.runs l n in omega arith)
-  ]
+  | then-from-pairs-via-then-from-pairs w ↦ omega arith
+  | then-from-pairs-via-else-from-pairs+then-end-pairs w ↦
+      (let r = starts_rise 0 c.args.pairs.now c.args.from k c.requires.runs l n in omega arith)
+]
 
 pub loop-low-preserved : goal.loop-low-preserved
 loop-low-preserved c =

@@ -6,7 +6,7 @@ use Rattle.net_storage.proofs.ring_buffer.Ring.dequeue_first.Goals as goal
 pub returns : goal.returns
 returns g c =
     let is = c.self.view_is in
-    let next : c.storage_index-self-inside.result ≡ storage_index c.args.self.now 1 = omega (arith, ap (λ o. storage_index o 1) is) in
+    let next : c.next_index-self-inside.result ≡ storage_index c.args.self.now 1 = omega (arith, ap (λ o. storage_index o 1) is) in
     let x = c.item_mut.result.now in
     let here = c.item_mut.ensures.value ∙ ap (λ o. slice_index_or o.storage o.read_at x) is in (
       (
