@@ -13,3 +13,4 @@ pub mod Results
 pub mod Moved
 pub mod Meeting
 pub mod Stuck
+pub mod RoundCount

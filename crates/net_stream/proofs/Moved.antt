@@ -1,5 +1,5 @@
 -- What bytes on their way from a reader to a writer stay, step by step.
-use Rattle.std.proofs.Common.{◌≡◌, ℕ, ◌+◌, ◌-◌, ◌≤◌, ◌<◌, ◌^◌, min, Bool, true, false, List, [], ◌++◌, length, take, drop, Option, Result, Err, IfErr, ⊎_elim, refl, sym, ap, subst, ◌∙◌, arith, length-take, length-append, take-add}
+use Rattle.std.proofs.Common.{◌≡◌, ℕ, ◌+◌, ◌-◌, ◌≤◌, ◌<◌, ◌^◌, min, Bool, true, false, List, [], ◌++◌, length, take, drop, Option, Result, Err, OnOk, IfErr, ⊎_elim, refl, sym, ap, subst, ◌∙◌, arith, length-take, length-append, take-add}
 use Rattle.std.specs.Io.{StartsWith}
 use Rattle.std.specs.Io.KnownBytes.{Appends, Consumes, IsAtEnd, Keeps}
 use Rattle.std.specs.Result.{is_ok}
@@ -264,6 +264,13 @@ flushed old new held holds holds' taken bytes ended result kept after c =
     (λ (e : result ≡ ended). subst (λ r. Copied old new held holds' taken bytes (is_ok r)) (sym e) (kept_copied old new held holds holds' taken bytes (is_ok ended) kept c))
     (λ (e : result ≡ Err WriteFailed). subst (λ r. Copied old new held holds' taken bytes (is_ok r)) (sym e)
     (less_copied old new held holds' taken bytes (is_ok ended) (kept_copied old new held holds holds' taken bytes (is_ok ended) kept c)))
+    after
+
+pub ok_after : {T : Type 0} (P : Type 0) (ended result : Result T LinkError) → FlushedAfter ended result → OnOk ended P → OnOk result P
+ok_after P ended result after h =
+    ⊎_elim
+    (λ (e : result ≡ ended). subst (λ r. OnOk r P) (sym e) h)
+    (λ (e : result ≡ Err WriteFailed). subst (λ r. OnOk r P) (sym e) tt)
     after
 
 pub gave_up_after : {T : Type 0} (P : Type 0) (ended result : Result T LinkError) → FlushedAfter ended result → IfErr ended (λ e. gave_up e ≡ true → P) → IfErr result (λ e. gave_up e ≡ true → P)

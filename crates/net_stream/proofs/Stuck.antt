@@ -16,7 +16,7 @@ use Rattle.net_stream.specs.declared.fate.Fate.{Fate}
 use Rattle.net_stream.specs.declared.fate.Fate.TheVariants.{Delivered, Lost, Repeated, Late}
 use Rattle.net_stream.specs.Counting.{with_fate, with_fates, with_payload}
 use Rattle.net_stream.specs.Fates.{FatesSeen, next_fate, after_fate, after_all, comes, comes_late, AllCome}
-use Rattle.net_stream.specs.Rounds.{FatesSoFar}
+use Rattle.net_stream.specs.Rounds.{PartCounted, FatesSoFar}
 use Rattle.net_stream.specs.Carrying.{answer_of, receiver_after}
 use Rattle.net_stream.specs.Sending.{most_of}
 use Rattle.net_stream.specs.Progress.{after_ack_frame, after_ack_frames, limit_of}
@@ -344,6 +344,12 @@ failed_all : (n : ℕ) (v : FatesSeen) (c : FrameCounts) → failures c ≤ fail
 failed_all zero v c = omega arith
 failed_all (suc n) v c = le_trans (failed_met (next_fate v) c) (failed_all n (after_fate v) (with_fate (next_fate v) c))
 
+-- also in a round that ends early
+pub part_failed : (v v' : FatesSeen) (old new : FrameCounts) → PartCounted v v' old new → failures old ≤ failures new
+part_failed v v' old new part =
+    let c = with_payload part.bytes old in
+    subst (λ n. failures old ≤ n) (sym (ap failures part.counted)) (le_trans (failed_all part.frames v c) (failed_all part.acks v' (with_fates part.frames v c)))
+
 failed_first : (n : ℕ) (v : FatesSeen) (c : FrameCounts) → 0 < n → comes (next_fate v) ≡ false → min (failures c + 1) (2 ^ 64 - 1) ≤ failures (with_fates n v c)
 failed_first zero v c some e = absurd (omega arith)
 failed_first (suc n) v c some e = le_trans (failed_fails (next_fate v) c e) (failed_all n (after_fate v) (with_fate (next_fate v) c))
@@ -489,7 +495,6 @@ module _ {A : Type 0} (old new : Link A) (p : Passed old new) where
     read = ap (λ v. v.read) p.received ∙ brought_read numbers most_reported old.receiver p.came;
     capacity = ap (λ v. v.capacity) p.received ∙ brought_capacity numbers most_reported old.receiver p.came;
     grows = subst (λ v. stored_next old.receiver ≤ stored_next v) (sym p.received) (brought_grows numbers most_reported old.receiver p.came);
-    failed = round_failed;
   }
 
   counted : (n : ℕ) → min (failures old.counts + 1) (2 ^ 64 - 1) ≤ n → n ≤ failures (with_fates (length p.acks) old.back.fates (with_fates (length p.sent.ahead) old.there.fates (with_payload (count_outside old.sender.reported old.sender.base p.n) old.counts))) → min (failures old.counts + 1) (2 ^ 64 - 1) ≤ failures new.counts
@@ -775,11 +780,11 @@ asked_again queue f w w1 l l1 room carries carries1 same grows next none fed som
     omega arith
 
 -- ---- known fates
-all_after : (n : ℕ) (v : FatesSeen) → AllCome v → AllCome (after_all n v)
+pub all_after : (n : ℕ) (v : FatesSeen) → AllCome v → AllCome (after_all n v)
 all_after zero v all = all
 all_after (suc n) v all = all_after n (after_fate v) (come_next v all).1
 
-some_come : (j k : ℕ) (u : FatesSeen) → 0 < k → AllFail j k u → comes (next_fate u) ≡ true → ⊥
+pub some_come : (j k : ℕ) (u : FatesSeen) → 0 < k → AllFail j k u → comes (next_fate u) ≡ true → ⊥
 some_come j zero u some h e = absurd (omega arith)
 some_come j (suc k) u some h e = both_ways (comes (next_fate u)) h.0.0 e
 

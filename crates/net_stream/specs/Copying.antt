@@ -12,7 +12,6 @@ use Rattle.net_receiver.specs.Stored.{Stored, stored_next}
 use Rattle.net_receiver.specs.OneStream.{ReceivesFrom}
 use Rattle.net_stream.specs.Outgoing.{end_of}
 use Rattle.net_stream.specs.Links.{Carries}
-use Rattle.net_stream.specs.Stuck.{failures}
 use Rattle.net_stream.specs.declared.counts.Counts.{Counts}
 use Rattle.net_stream.specs.declared.link.Link.{Link}
 use Rattle.net_stream.specs.declared.error.LinkError.{LinkError}
@@ -92,7 +91,6 @@ pub record Stepped {A : Type 0} (old new : Link A) (room room' : ℕ) : Type 0 w
   pub grows : stored_next old.receiver ≤ stored_next new.receiver
   pub drained : 0 < room → new.receiver.read ≡ old.receiver.read
       → length new.receiver.queue ≡ 0
-  pub failed : failures old.counts ≤ failures new.counts
 
 -- how a copy ended, once its writer was flushed
 abbrev pub FlushedAfter : {T : Type 0} → Result T LinkError → Result T LinkError → Type 0

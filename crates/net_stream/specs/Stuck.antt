@@ -40,7 +40,6 @@ pub record RoundKeeps {A : Type 0} (old new : Link A) : Type 0 where
   pub read : new.receiver.read ≡ old.receiver.read
   pub capacity : new.receiver.capacity ≡ old.receiver.capacity
   pub grows : stored_next old.receiver ≤ stored_next new.receiver
-  pub failed : failures old.counts ≤ failures new.counts
 
 -- the fate of a frame in a stuck round that so many stuck rounds follow: it doesn't come at once, and
 -- doesn't come late either if any follows, so that it is lost

@@ -1,6 +1,6 @@
 //! From a reader over a link to a writer.
-ghost use Rattle.std.specs.Prelude.{◌≡◌, ◌≤◌, ◌<◌, ◌+◌, length};
-ghost use Rattle.std.specs.Prelude.{true, false, IfOk, IfErr};
+ghost use Rattle.std.specs.Prelude.{◌≡◌, ◌≤◌, ◌<◌, ◌+◌, ◌*◌, length};
+ghost use Rattle.std.specs.Prelude.{true, false, OnOk, IfOk, IfErr};
 ghost use Rattle.std.specs.Result.{is_ok};
 ghost use Rattle.std.specs.Io.KnownBytes.{Keeps};
 ghost use Rattle.net_stream.specs.Fates.{AllCome};
@@ -83,6 +83,15 @@ pub fn copy_over<'a, 'f, A: Allocator + Copy, R: Read, W: Write>(
         → 0 < length incoming.old → 0 < length chunk.old
         → HasPositions settings.first counts.new.taken
         → StuckAtLast settings.rounds fates.entry ack_fates.entry counts.new.frames) }
+    ensures most { 0 < length outgoing.old → 0 < length incoming.old → 0 < length chunk.old
+        → HasPositions settings.first counts.new.taken
+        → counts.new.rounds
+        ≤ 2 * counts.new.taken + counts.new.frames.lost + counts.new.frames.late + 1 }
+    ensures least { OnOk result (counts.new.taken ≤ counts.new.rounds * length chunk.old) }
+    ensures at_once { OnOk result (AllCome fates.entry → AllCome ack_fates.entry
+        → 0 < length outgoing.old → 0 < length incoming.old → 0 < length chunk.old
+        → HasPositions settings.first counts.new.taken
+        → counts.new.rounds ≤ counts.new.taken) }
 {
     *counts = Counts::new();
     let mut link = Link::new(
@@ -115,9 +124,9 @@ fn storage_of<A: Allocator + Copy>(alloc: A, len: usize) -> Result<Vec<u8, A>, A
 /// frames. A copy gives up after so many rounds in a row that brought nothing on, and only if in
 /// each of these at least one frame or acknowledgement didn't come at once (`stalls`), and in each
 /// but the last one was lost (`losses`): never over a link that loses and delays nothing (`ends`).
-/// At the end the writer is flushed once; if all was written, a flush that fails is a failed write.
-/// A stream that uses all positions up to 2^64 - 2 gives up: the reader's end isn't looked for once
-/// none is left.
+/// It takes at most `2 * taken + lost + late + 1` rounds (`most`). At the end the writer is flushed
+/// once; if all was written, a flush that fails is a failed write. A stream that uses all positions
+/// up to 2^64 - 2 gives up: the reader's end isn't looked for once none is left.
 pub fn copy<'f, A: Allocator + Copy, R: Read, W: Write>(
     alloc: A,
     settings: Settings,
@@ -144,6 +153,13 @@ pub fn copy<'f, A: Allocator + Copy, R: Read, W: Write>(
     ensures ends { IfErr result (λ e. AllCome fates.entry → AllCome ack_fates.entry
         → HasPositions settings.first counts.new.taken → 0 < settings.capacity
         → 0 < settings.rounds → gave_up e ≡ false) }
+    ensures most { HasPositions settings.first counts.new.taken → 0 < settings.capacity
+        → counts.new.rounds
+        ≤ 2 * counts.new.taken + counts.new.frames.lost + counts.new.frames.late + 1 }
+    ensures least { OnOk result (counts.new.taken ≤ counts.new.rounds * settings.capacity) }
+    ensures at_once { OnOk result (AllCome fates.entry → AllCome ack_fates.entry
+        → HasPositions settings.first counts.new.taken → 0 < settings.capacity
+        → counts.new.rounds ≤ counts.new.taken) }
 {
     laws::known_fates();
     *counts = Counts::new();

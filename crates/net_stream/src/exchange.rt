@@ -1,16 +1,16 @@
 //! The rounds of a copy: reading, passing a round, and writing.
-ghost use Rattle.std.specs.Prelude.{◌≡◌, ◌≤◌, ◌<◌, ◌+◌, ◌-◌, ◌^◌, min, [], ℕ, length, List};
+ghost use Rattle.std.specs.Prelude.{◌≡◌, ◌≤◌, ◌<◌, ◌+◌, ◌-◌, ◌*◌, ◌^◌, min, [], ℕ, length, List};
 ghost use Rattle.std.specs.Prelude.{Bool, Option, true, false};
 ghost use Rattle.std.specs.Prelude.{OnOk, OnErr, IfOk, IfErr};
 ghost use Rattle.std.specs.Result.{is_ok};
 ghost use Rattle.std.specs.Io.KnownBytes.{Appends};
 ghost use Rattle.net_receiver.specs.Stored.{Stored, stored_next, stored_read};
 ghost use Rattle.net_stream.specs.Outgoing.{end_of, room_of};
-ghost use Rattle.net_stream.specs.Fates.{FatesSeen};
+ghost use Rattle.net_stream.specs.Fates.{FatesSeen, AllCome};
 ghost use Rattle.net_stream.specs.Counting.{no_frames};
 ghost use Rattle.net_stream.specs.Rounds.{FatesCounted, FatesSoFar};
 ghost use Rattle.net_stream.specs.Links.{Carries};
-ghost use Rattle.net_stream.specs.Stuck.{Stuck, StuckAtLast};
+ghost use Rattle.net_stream.specs.Stuck.{failures, Stuck, StuckAtLast};
 ghost use Rattle.net_stream.specs.Copying.{Moving, HandedOut, HandedPrefix, WrotePrefix, Copied};
 ghost use Rattle.net_stream.specs.Copying.{Stepped, HasPositions, gave_up};
 
@@ -147,6 +147,8 @@ fn feed<A: Allocator + Copy, R: Read>(
       };
     } }
     ensures chunk { length chunk.new ≡ length chunk.old }
+    ensures most { counts.new.taken ≤ counts.old.taken + length chunk.old }
+    ensures ended { input.new.more ≡ false → counts.new.taken ≡ counts.old.taken }
     ensures grows { end_of link.old.sender ≤ end_of link.new.sender }
     ensures fed { OnOk result (input.new.more ≡ true → 0 < room_of link.old.sender
         → 0 < length chunk.old → stored_next link.old.receiver ≡ end_of link.old.sender
@@ -190,6 +192,8 @@ fn step<A: Allocator + Copy, W: Write>(
         → Copied old new held (W.contents writer.new) counts.new.taken counts.new.bytes false) }
     ensures kind { IfErr result (λ e. gave_up e ≡ false) }
     ensures rounds { counts.new.rounds ≡ counts.old.rounds }
+    ensures taken { counts.new.taken ≡ counts.old.taken }
+    ensures failed { failures link.old.counts ≤ failures link.new.counts }
     ensures fates { (v v' : FatesSeen) →
         FatesSoFar v v' link.old.there.fates link.old.back.fates link.old.counts
         → FatesCounted v v' link.new.counts }
@@ -203,6 +207,14 @@ fn step<A: Allocator + Copy, W: Write>(
         → 0 < length link.old.sender.queue → 0 < link.old.receiver.capacity
         → 0 < length chunk.old → link.new.sender.base ≡ link.old.sender.base
         → link.new.receiver.read ≡ link.old.receiver.read → Stuck link.old link.new) }
+    ensures at_once { OnOk result ((f : ℕ) (w : List ℕ) → Carries f w link.old
+        → link.old.there.ahead ≡ [] → link.old.back.ahead ≡ []
+        → AllCome link.old.there.fates → AllCome link.old.back.fates
+        → link.old.sender.base ≡ stored_next link.old.receiver
+        → 0 < link.old.receiver.capacity → 0 < length chunk.old
+        → (length link.old.receiver.queue ≡ 0 → 0 < length link.old.sender.queue)
+        → (link.new.sender.base ≡ stored_next link.new.receiver)
+        × (link.old.receiver.read < link.new.receiver.read)) }
 {
     round_trip();
     laws::numbers();
@@ -271,6 +283,17 @@ pub(crate) fn exchange<A: Allocator + Copy, R: Read, W: Write>(
         → 0 < link.old.receiver.capacity → 0 < length chunk.old
         → HasPositions settings.first counts.new.taken
         → StuckAtLast settings.rounds link.old.there.fates link.old.back.fates link.new.counts) }
+    ensures most { counts.old.rounds ≡ 0 → 0 < link.old.sender.capacity
+        → 0 < link.old.receiver.capacity → 0 < length chunk.old
+        → HasPositions settings.first counts.new.taken
+        → counts.new.rounds ≤ 2 * counts.new.taken + failures link.new.counts + 1 }
+    ensures least { OnOk result (counts.old.taken ≡ 0
+        → counts.new.taken ≤ counts.new.rounds * length chunk.old) }
+    ensures at_once { OnOk result (AllCome link.old.there.fates → AllCome link.old.back.fates
+        → link.old.sender.base ≡ stored_next link.old.receiver → counts.old.rounds ≡ 0
+        → 0 < link.old.sender.capacity → 0 < link.old.receiver.capacity → 0 < length chunk.old
+        → HasPositions settings.first counts.new.taken
+        → counts.new.rounds ≤ counts.new.taken) }
 {
     laws::truthful();
     let mut input = Input {

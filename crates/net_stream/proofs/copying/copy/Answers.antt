@@ -1,6 +1,6 @@
-use Rattle.std.proofs.Common.{arith, ◌≡◌, ◌<◌, ◌∙◌, length, sym, subst, true, false, ap, ⊎_elim}
+use Rattle.std.proofs.Common.{arith, ◌≡◌, ◌<◌, ◌≤◌, ◌*◌, ◌∙◌, length, sym, subst, true, false, ap, ⊎_elim}
 use Rattle.std.proofs.lemmas.Bool.{cases_Bool}
-use Rattle.std.proofs.lemmas.Result.{IfErr-weaker}
+use Rattle.std.proofs.lemmas.Result.{IfErr-weaker, on_ok_weaker}
 use Rattle.net_stream.specs.Copying.{gave_up}
 use Rattle.net_stream.proofs.Drawn.{none_drawn, met_so_far}
 use Rattle.net_stream.proofs.Moved.{unmoved}
@@ -52,3 +52,25 @@ returns-clause-ends g c = IfErr-weaker c.copy_over.result _ _
 
 pub returns-clause-losses : goal.returns-clause-losses
 returns-clause-losses g c = IfErr-weaker c.copy_over.result _ _ (λ e h gave left cap. (h gave left cap).lost) (returns-clause-stalls g c)
+
+pub returns-clause-most : goal.returns-clause-most
+returns-clause-most g c = λ left cap.
+    c.copy_over.ensures.most
+    (subst (λ k. 0 < k) (sym (ap length c.deref_mut.ensures.value ∙ c.in-Ok.ensures)) cap)
+    (subst (λ k. 0 < k) (sym (ap length c.deref_mut-2.ensures.value ∙ c.in-Ok-storage_of.ensures)) cap)
+    (subst (λ k. 0 < k) (sym (ap length c.deref_mut-3.ensures.value ∙ c.in-Ok-storage_of-2.ensures)) cap)
+    left
+
+pub returns-clause-least : goal.returns-clause-least
+returns-clause-least g c = on_ok_weaker c.copy_over.result
+    (λ h. subst (λ k. c.copy_over.new.counts.taken ≤ c.copy_over.new.counts.rounds * k) (ap length c.deref_mut-3.ensures.value ∙ c.in-Ok-storage_of-2.ensures) h)
+    c.copy_over.ensures.least
+
+pub returns-clause-at_once : goal.returns-clause-at_once
+returns-clause-at_once g c = on_ok_weaker c.copy_over.result
+    (λ h come come_back left cap. h come come_back
+    (subst (λ k. 0 < k) (sym (ap length c.deref_mut.ensures.value ∙ c.in-Ok.ensures)) cap)
+    (subst (λ k. 0 < k) (sym (ap length c.deref_mut-2.ensures.value ∙ c.in-Ok-storage_of.ensures)) cap)
+    (subst (λ k. 0 < k) (sym (ap length c.deref_mut-3.ensures.value ∙ c.in-Ok-storage_of-2.ensures)) cap)
+    left)
+    c.copy_over.ensures.at_once

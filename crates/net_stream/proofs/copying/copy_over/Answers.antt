@@ -1,12 +1,13 @@
-use Rattle.std.proofs.Common.{◌≡◌, ◌<◌, ◌≤◌, length, true, IfErr, subst, sym, ap}
+use Rattle.std.proofs.Common.{◌≡◌, ◌+◌, ◌*◌, ◌<◌, ◌≤◌, length, true, OnOk, IfErr, subst, sym, ap, arith}
 use Rattle.std.specs.Result.{is_ok}
 use Rattle.net_stream.specs.declared.counts.Counts.{Counts}
-use Rattle.std.proofs.lemmas.Result.{IfErr-weaker}
+use Rattle.std.proofs.lemmas.Result.{IfErr-weaker, on_ok_weaker}
+use Rattle.net_receiver.specs.Stored.{stored_next}
 use Rattle.net_stream.specs.Rounds.{FatesCounted, FatesSoFar}
-use Rattle.net_stream.specs.Stuck.{StuckTo, StuckAtLast}
-use Rattle.net_stream.specs.Fates.{after_all}
+use Rattle.net_stream.specs.Stuck.{failures, StuckTo, StuckAtLast}
+use Rattle.net_stream.specs.Fates.{after_all, AllCome}
 use Rattle.net_stream.specs.Copying.{Copied, HasPositions, gave_up}
-use Rattle.net_stream.proofs.Moved.{nothing_moved, flushed, gave_up_after}
+use Rattle.net_stream.proofs.Moved.{nothing_moved, flushed, gave_up_after, ok_after}
 use Rattle.net_stream.proofs.copying.copy_over.Goals as goal
 
 pub exchange-ended-requires : goal.exchange-ended-requires
@@ -67,3 +68,33 @@ returns-clause-stalls g c =
       lost = r.lost;
     })
     c.exchange-ended.ensures.stalls))
+
+pub returns-clause-most : goal.returns-clause-most
+returns-clause-most g c = λ out inc some left.
+    let same = c.add_link.ensures in
+    let l = c.exchange-ended.new.link in
+    let n = c.exchange-ended.new.counts in
+    let bound : n.rounds ≤ 2 * n.taken + failures l.counts + 1 = c.exchange-ended.ensures.most (ap (λ v. v.rounds) c.new.ensures) (subst (λ k. 0 < k) (sym (ap (λ v. v.capacity) c.new-link.ensures.sender)) out) (subst (λ k. 0 < k) (sym (ap (λ v. v.capacity) c.new-link.ensures.receiver)) inc) some
+    (subst (λ (m : Counts). HasPositions c.args.settings.first m.taken) same left) in
+    subst (λ (m : Counts). m.rounds ≤ 2 * m.taken + m.frames.lost + m.frames.late + 1) (sym same) (omega (arith, bound))
+
+pub returns-clause-least : goal.returns-clause-least
+returns-clause-least g c =
+    let n = c.exchange-ended.new.counts in
+    subst (λ (m : Counts). OnOk c.flush_after.result (m.taken ≤ m.rounds * length c.args.chunk.now)) (sym c.add_link.ensures)
+    (ok_after (n.taken ≤ n.rounds * length c.args.chunk.now) c.exchange-ended.result c.flush_after.result c.flush_after.ensures.ended
+    (on_ok_weaker c.exchange-ended.result (λ h. h (ap (λ v. v.taken) c.new.ensures)) c.exchange-ended.ensures.least))
+
+pub returns-clause-at_once : goal.returns-clause-at_once
+returns-clause-at_once g c =
+    let n = c.exchange-ended.new.counts in
+    let there = ap (λ p. p.fates) c.new-link.ensures.there in
+    let back = ap (λ p. p.fates) c.new-link.ensures.back in
+    let sender = c.new-link.ensures.sender in
+    let receiver = c.new-link.ensures.receiver in
+    subst (λ (m : Counts). OnOk c.flush_after.result (AllCome c.args.fates → AllCome c.args.ack_fates → 0 < length c.args.outgoing.now → 0 < length c.args.incoming.now → 0 < length c.args.chunk.now → HasPositions c.args.settings.first m.taken → m.rounds ≤ m.taken)) (sym c.add_link.ensures)
+    (ok_after (AllCome c.args.fates → AllCome c.args.ack_fates → 0 < length c.args.outgoing.now → 0 < length c.args.incoming.now → 0 < length c.args.chunk.now → HasPositions c.args.settings.first n.taken → n.rounds ≤ n.taken) c.exchange-ended.result c.flush_after.result c.flush_after.ensures.ended
+    (on_ok_weaker c.exchange-ended.result
+    (λ h come come_back out inc some left.
+    h (subst AllCome (sym there) come) (subst AllCome (sym back) come_back) (let base = ap (λ v. v.base) sender in let next = ap stored_next receiver in omega (arith, base, next)) (ap (λ v. v.rounds) c.new.ensures) (subst (λ k. 0 < k) (sym (ap (λ v. v.capacity) sender)) out) (subst (λ k. 0 < k) (sym (ap (λ v. v.capacity) receiver)) inc) some left)
+    c.exchange-ended.ensures.at_once))

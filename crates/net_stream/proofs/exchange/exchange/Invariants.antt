@@ -2,6 +2,8 @@ use Rattle.std.proofs.Common.{◌*◌, ◌≡◌, ◌≤◌, ◌<◌, ◌+◌, �
 use Rattle.net_stream.specs.Outgoing.{end_of}
 use Rattle.net_stream.specs.Stuck.{failures}
 use Rattle.net_stream.proofs.Stuck.{StuckSoFar}
+use Rattle.net_receiver.specs.Stored.{stored_next}
+use Rattle.net_stream.specs.Fates.{AllCome}
 use Rattle.net_stream.specs.Copying.{Moving}
 use Rattle.net_stream.specs.Rounds.{FatesSoFar}
 use Rattle.net_stream.proofs.exchange.exchange.Given as goal
@@ -22,6 +24,11 @@ invariant-rounds g l =
       most : l.stalled ≤ l.fn.settings.rounds;
       stuck : 0 < l.fn.link.sender.capacity → 0 < l.fn.link.receiver.capacity → 0 < length l.fn.chunk → end_of l.link.sender < 2 ^ 64 - 1
           → StuckSoFar l.stalled l.fn.link.there.fates l.fn.link.back.fates l.link;
+      most_rounds : l.fn.counts.rounds ≡ 0 → 0 < l.fn.link.sender.capacity → 0 < l.fn.link.receiver.capacity → 0 < length l.fn.chunk → end_of l.link.sender < 2 ^ 64 - 1
+          → l.counts.rounds ≤ (l.link.sender.base - l.fn.settings.first) + l.link.receiver.read + failures l.link.counts;
+      at_once : AllCome l.fn.link.there.fates → AllCome l.fn.link.back.fates → l.fn.link.sender.base ≡ stored_next l.fn.link.receiver → l.fn.counts.rounds ≡ 0 → 0 < l.fn.link.sender.capacity → 0 < l.fn.link.receiver.capacity → 0 < length l.fn.chunk → end_of l.link.sender < 2 ^ 64 - 1
+          → (l.link.sender.base ≡ stored_next l.link.receiver) × (l.counts.rounds ≤ l.link.receiver.read);
+      least_rounds : l.fn.counts.taken ≡ 0 → l.counts.taken ≤ l.counts.rounds * length l.fn.chunk;
     }
 
 -- each round lets bytes go or writes some, of which there are fewer than 2 ^ 66, or one more is stuck

@@ -1,11 +1,13 @@
-use Rattle.std.proofs.Common.{◌≡◌, ◌∙◌, ◌-◌, ◌<◌, ◌^◌, drop, length, length-drop, refl, sym, subst, arith}
+use Rattle.std.proofs.Common.{◌≡◌, ◌∙◌, ◌-◌, ◌<◌, ◌≤◌, ◌^◌, drop, length, length-drop, refl, sym, subst, arith}
 use Rattle.std.proofs.lemmas.Result.{on_ok_weaker, on_err_weaker}
 use Rattle.net_stream.specs.Outgoing.{end_of}
 use Rattle.net_stream.specs.Rounds.{PartCounted, FatesCounted, FatesSoFar}
 use Rattle.net_stream.specs.Links.{Round}
+use Rattle.net_stream.specs.Stuck.{failures}
 use Rattle.net_stream.specs.Copying.{Stepped}
 use Rattle.net_stream.proofs.Drawn.{part_met, round_met, met_so_far, was_ok, was_err}
-use Rattle.net_stream.proofs.Stuck.{Numbers, round_keeps, round_moves, step_moves}
+use Rattle.net_stream.proofs.Stuck.{Numbers, part_failed, round_failed, round_keeps, round_moves, step_moves}
+use Rattle.net_stream.proofs.RoundCount.{round_at_once}
 use Rattle.net_stream.proofs.Moved.{passed, handed, handed_less, so_far}
 use Rattle.net_stream.proofs.exchange.step.Goals as goal
 
@@ -49,6 +51,20 @@ returns-clause-err g c = on_err_weaker c.hand_out.result
     handed_less f before held new counts c.hand_out.new.counts now holds (g.W.Write.contents c.hand_out.new.writer) more (out f) c.hand_out.ensures.taken c.truthful.ensures.queue word
     (passed f before held old new counts counts now holds more (c.pass_round-passed.ensures.carries f) c.pass_round-passed.ensures.read refl refl m))
     c.hand_out.ensures.err
+
+pub returns-then-is_err-clause-failed : goal.returns-then-is_err-clause-failed
+returns-then-is_err-clause-failed g c =
+    let old = c.args.link.now in
+    let new = c.pass_round-passed.new.self in
+    let part = was_err (PartCounted old.there.fates old.back.fates old.counts new.counts) c.pass_round-passed.result (sym c.is_err.ensures.value ∙ c.if-is_err.true) c.pass_round-passed.ensures.err in
+    part_failed old.there.fates old.back.fates old.counts new.counts part
+
+pub returns-clause-failed : goal.returns-clause-failed
+returns-clause-failed g c =
+    let old = c.args.link.now in
+    let new = c.pass_round-passed.new.self in
+    let round = was_ok (Round old new) c.pass_round-passed.result (sym c.is_err.ensures.value ∙ c.if-is_err.false) c.pass_round-passed.ensures.round in
+    subst (λ l. failures old.counts ≤ failures l.counts) (sym c.hand_out.ensures.state) (round_failed old new round.passed)
 
 pub returns-then-is_err-clause-fates : goal.returns-then-is_err-clause-fates
 returns-then-is_err-clause-fates g c = λ v v' h.
@@ -102,7 +118,6 @@ returns-clause-keeps g c = on_ok_weaker c.hand_out.result
       first = k.first;
       grows = omega arith;
       drained = λ some same. omega arith;
-      failed = k.failed;
     }))
     c.hand_out.ensures.ok
 
@@ -117,4 +132,17 @@ returns-clause-moves g c = on_ok_weaker c.hand_out.result
     let word : end_of old.sender < 2 ^ 64 = (let e = c.end-end.ensures.end in omega arith) in
     let moves = round_moves old new round.passed c.round_trip.ensures numbers c.completion.ensures.in_order c.truthful.ensures.queue c.is_sound.ensures word in
     step_moves f w old new c.hand_out.new.link (length c.args.chunk.now) k moves c.hand_out.ensures.state carries none none_back kept cap some still still_read)
+    c.hand_out.ensures.ok
+
+pub returns-clause-at_once : goal.returns-clause-at_once
+returns-clause-at_once g c = on_ok_weaker c.hand_out.result
+    (λ out f w carries none none_back come come_back meet cap some kept.
+    let old = c.args.link.now in
+    let new = c.pass_round-passed.new.self in
+    let round = was_ok (Round old new) c.pass_round-passed.result (sym c.is_err.ensures.value ∙ c.if-is_err.false) c.pass_round-passed.ensures.round in
+    let numbers : Numbers = record { first = c.numbers.ensures.first; next = c.numbers.ensures.next; read = c.numbers.ensures.read; capacity = c.numbers.ensures.capacity } in
+    let word : end_of old.sender < 2 ^ 64 = (let e = c.end-end.ensures.end in omega arith) in
+    let moves = round_moves old new round.passed c.round_trip.ensures numbers c.completion.ensures.in_order c.truthful.ensures.queue c.is_sound.ensures word in
+    round_at_once c.round_trip.ensures c.truthful.ensures.queue f w old new c.hand_out.new.link (length c.args.chunk.now) round.passed (round_keeps old new round.passed numbers) moves word c.hand_out.ensures.state carries (c.pass_round-passed.ensures.carries f w carries)
+    none none_back come come_back meet cap some kept)
     c.hand_out.ensures.ok
