@@ -89,7 +89,8 @@ fn all_of(counts: &Counts) -> [u64; 10] {
     ]
 }
 
-/// Whether a copy of `text` ends so, reads so often, flushes once, after all writes, and counts so.
+/// Whether a copy of `text` ends so, reads so often, writes at most once a round, flushes once, after
+/// all writes, and counts so.
 fn is_counted(alloc: Global, case: &Counted, text: &[u8]) -> Result<bool, Fail> {
     let mut source = Source::failing(text, case.read, NEVER, ErrorKind::Other);
     let mut sink = Sink::new(alloc)?;
@@ -121,6 +122,7 @@ fn is_counted(alloc: Global, case: &Counted, text: &[u8]) -> Result<bool, Fail> 
         told.as_str() == case.end
             && all_of(&counts) == case.counts
             && source.calls == case.reads
+            && sink.calls as u64 <= counts.rounds
             && sink.bytes.as_slice() == front
             && sink.bytes.len() as u64 == counts.bytes
             && sink.flushes == 1

@@ -268,6 +268,7 @@ fn check(rt: &impl Abort, alloc: Global, case: &Case) -> Result<(), Fail> {
     assert_ended(rt, ended, case.status, case.words);
     assert_front(rt, &sink.bytes, &input, case.written, case.words);
     assert_bytes(rt, &errors.bytes, case.told.as_bytes(), case.words);
+    assert!(rt; sink.flushes == 1, "{}", case.words);
     Ok(())
 }
 
