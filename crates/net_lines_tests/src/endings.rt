@@ -1,5 +1,5 @@
 //! How a run over a reader and a writer ends.
-use crate::assertions::{Place, assert_bytes, assert_text};
+use crate::assertions::{Place, assert_bytes, assert_count, assert_text};
 use net_lines::{Mode, run};
 use net_testing::{Sink, Source};
 use std::alloc::{AllocError, Allocator, Global};
@@ -35,8 +35,8 @@ pub fn ending<A: Allocator + Copy, R: Read, W: Write>(
     }
 }
 
-/// Runs the mode that a place names, in memory of `heap`: the run ends with this text, and this is
-/// all that is written.
+/// Runs the mode that a place names, in memory of `heap`: the run ends with this text, this is all
+/// that is written, and nothing is flushed.
 pub fn check_run<A: Allocator + Copy>(
     rt: &impl Abort,
     (alloc, heap): (Global, A),
@@ -47,5 +47,6 @@ pub fn check_run<A: Allocator + Copy>(
     let text = ending(alloc, heap, place.0, source, sink)?;
     assert_text(rt, text.as_str(), end, place);
     assert_bytes(rt, &sink.bytes, output, place);
+    assert_count(rt, sink.flushes, 0, place);
     Ok(())
 }

@@ -253,7 +253,7 @@ fn runs_lines_of_every_length(rt: HostRuntime) -> Result<(), Fail> {
 }
 
 /// Lines that fill a ring of 65,536 bytes and read all of it, and what is written for them.
-fn long_reply(alloc: Global) -> Result<(Vec<u8>, Vec<u8>), AllocError> {
+pub fn long_reply(alloc: Global) -> Result<(Vec<u8>, Vec<u8>), AllocError> {
     let mut input = Vec::new(alloc);
     let mut output = Vec::new(alloc);
     for _ in 0..64 {

@@ -1,7 +1,9 @@
 //! Runs whose requests for memory are refused, each in turn.
-use crate::assertions::assert_count;
-use crate::endings::check_run;
-use net_testing::{Refusing, Sink, Source};
+use crate::assertions::{assert_count, assert_holds};
+use crate::endings::{check_run, command_words};
+use crate::long_inputs::long_reply;
+use net_lines::{Mode, run};
+use net_testing::{NEVER, Refusing, Sink, Source, refuse_each};
 use std::alloc::{AllocError, Global};
 use std::process::Abort;
 use std::test::Fail;
@@ -129,4 +131,91 @@ fn each_request_for_memory_is_refused_in_turn(rt: HostRuntime) -> Result<(), Fai
     check_refusals(&rt, rt.alloc(), "stream 8 4", &STREAM)?;
     check_refusals(&rt, rt.alloc(), "stream 8 32", &STREAM)?;
     check_refusals(&rt, rt.alloc(), "stream 4 4 1000", &DIFFERING)
+}
+
+/// Whether a run over this memory ends without an error, and writes so many bytes.
+fn writes_all(
+    alloc: Global,
+    memory: &Refusing,
+    words: &str,
+    (input, length): (&[u8], usize),
+) -> bool {
+    let Ok(words) = command_words(alloc, words) else {
+        return false;
+    };
+    let Some(mode) = Mode::from_words(&words) else {
+        return false;
+    };
+    let Ok(mut sink) = Sink::new(alloc) else {
+        return false;
+    };
+    let mut source = Source::new(input);
+    run(memory, mode, &mut source, &mut sink).is_ok() && sink.bytes.len() == length
+}
+
+/// Refuses each request for memory of a run in turn: it makes so many, for at most so many bytes in
+/// all, and at last it writes so many bytes.
+fn check_memory(
+    rt: &impl Abort,
+    alloc: Global,
+    words: &str,
+    (input, length): (&[u8], usize),
+    (requests, bytes): (usize, usize),
+) {
+    let made = refuse_each(alloc, |memory| {
+        writes_all(alloc, memory, words, (input, length))
+    });
+    assert_holds(rt, made == Some(requests), (words, requests));
+    let memory = Refusing::new(alloc, NEVER);
+    let whole = writes_all(alloc, &memory, words, (input, length));
+    assert_holds(
+        rt,
+        whole && memory.bytes() <= bytes,
+        (words, memory.bytes()),
+    );
+}
+
+/// Fills a ring three times and reads all of it. The storage, a line, replies, the bytes of a line
+/// and its reply are asked for at first, then the long reply. Nothing is asked for again, and for
+/// replies like `took 1024` there are 64 bytes more than they need.
+#[test]
+fn a_ring_asks_for_its_memory_once(rt: HostRuntime) -> Result<(), Fail> {
+    let (lines, output) = long_reply(rt.alloc())?;
+    let mut input = Vec::new(rt.alloc());
+    for _ in 0..3 {
+        input.extend_from_slice(&lines)?;
+    }
+    let length = output.len().saturating_mul(3);
+    let bytes = 65_536 + 4_096 + 65_536 + 1_024 + 131_078 + 64;
+    check_memory(&rt, rt.alloc(), "ring 65536", (&input, length), (6, bytes));
+    Ok(())
+}
+
+/// Segments of 1,000 bytes each that fill a window of 64,000, and a read of it, so many times: the
+/// lines of mode `stream`, and how many bytes are written.
+fn long_windows(alloc: Global, times: usize) -> Result<(Vec<u8>, usize), AllocError> {
+    let mut input = Vec::new(alloc);
+    let digits = vec![in alloc; b'6'; 2_000]?;
+    for number in 0..times.saturating_mul(64) {
+        let start = format!(in alloc; "s {} ", number.saturating_mul(1_000))?;
+        input.extend_from_slice(start.as_bytes())?;
+        input.extend_from_slice(&digits)?;
+        input.push(b'\n')?;
+        if number % 64 == 63 {
+            input.extend_from_slice(b"r 64000\n")?;
+        }
+    }
+    let replies = 64 * b"kept 1000 queued 1000 sack -\n".len() + b"read \n".len() + 128_000;
+    Ok((input, times.saturating_mul(replies)))
+}
+
+/// Fills a window three times and reads all of it. Besides what a ring asks for, the bytes that are
+/// read are asked for, once.
+#[test]
+fn a_stream_asks_for_its_memory_once(rt: HostRuntime) -> Result<(), Fail> {
+    let (input, length) = long_windows(rt.alloc(), 3)?;
+    let bytes = 64_000 + 4_096 + 65_536 + 1_000 + 64_000 + 128_006 + 256;
+    let words = "stream 64000 4";
+    check_memory(&rt, rt.alloc(), words, (&input, length), (7, bytes));
+    Ok(())
 }
