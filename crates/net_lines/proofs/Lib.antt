@@ -2,7 +2,6 @@ pub mod LineParts
 pub mod WordParts
 pub mod Pending
 pub mod HexText
-pub mod RingParts
 pub mod Progress
 pub mod SameText
 pub mod StreamStates

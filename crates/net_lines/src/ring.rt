@@ -105,9 +105,9 @@ impl<'a> RingSession<'a> {
         ensures { IfOk result (λ reply. string_bytes reply
             ≡ codes "read " ++ hex_text (take count self.now.bytes) ++ codes "\n") }
     {
-        let first = self.ring.get_allocated(0, count);
-        let second = self.ring.get_allocated(first.len(), count - first.len());
-        text::read_reply(buffers, first, second)
+        let (first, second) = self.ring.as_slices();
+        let cut = count.min(first.len());
+        text::read_reply(buffers, &first[..cut], &second[..count - cut])
     }
 
     /// Shows as many bytes as are asked for and there, and takes them off.
