@@ -4,7 +4,7 @@ use Rattle.std.proofs.Common.{OnOk, IfErr, IfSome, subst, sym, ap, true≢false,
 use Rattle.std.specs.Prelude.{IsOk, ◌⊎◌}
 use Rattle.std.proofs.Common.{⊎_elim}
 use Rattle.std.specs.Io.KnownBytes.{Appends, Keeps}
-use Rattle.net_program.specs.Writing.{AppendsFront}
+use Rattle.net_program.specs.Writing.{AppendsPrefix}
 use Rattle.net_program.specs.declared.ending.Status.{Status}
 use Rattle.net_program.specs.declared.ending.Status.TheVariants.{Done, Failed, Misused}
 use Rattle.net_program.proofs.KnownBytes.{Appends-kept, StartsWith-all}
@@ -48,7 +48,7 @@ kept all input left old mid new (LineTooLong n) h k = (h.0, Appends-kept old mid
 kept all input left old mid new (TooManySchedules n) h k = (h.0, Appends-kept old mid new _ h.1 k)
 kept all input left old mid new OutOfMemory h k = (h.0, Appends-kept old mid new _ h.1 k)
 kept all input left old mid new WriteFailed h k =
-    record { written = h.written; front = h.front; appended = Appends-kept old mid new _ h.appended k }
+    record { written = h.written; prefix = h.prefix; appended = Appends-kept old mid new _ h.appended k }
 kept all input left old mid new ReadFailed h k =
     (h.0, h.1, h.2, Appends-kept old mid new _ h.3 k, h.4)
 
@@ -68,7 +68,7 @@ unflushed all before left old new (Err e) is_ok h = absurd (true≢false (sym is
 unflushed all None left old new (Ok done) is_ok h = tt
 unflushed all (Some input) left old new (Ok done) is_ok h = record {
   written = all.text (lines_of input);
-  front = StartsWith-all (all.text (lines_of input));
+  prefix = StartsWith-all (all.text (lines_of input));
   appended = h.1;
 }
 

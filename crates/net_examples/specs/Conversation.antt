@@ -13,4 +13,4 @@ pub record IsDelivered {A : Type 0} (text : List ℕ) (sent : ℕ) (into : List 
   pub carries : Carries 0 (take sent text) link
   pub read : link.receiver.read ≡ came
   pub within : (sent ≤ length text) × (came ≤ sent) × (came ≤ length into)
-  pub front : AgreeBelow came into text
+  pub prefix : AgreeBelow came into text

@@ -81,7 +81,7 @@ fn pass<A: Allocator + Copy>(link: &mut Link<'_, '_, A>) -> Result<(), AllocErro
 fn read_more<A: Allocator + Copy>(link: &mut Link<'_, '_, A>, into: &mut [u8], from: usize) -> usize
     requires { (from ≤ length into.old) × (link.old.receiver.read ≡ from) }
     ensures carries { (w : List ℕ) → Carries 0 w link.old → Carries 0 w link.new }
-    ensures front { (n : ℕ) (text : List ℕ) → Carries 0 (take n text) link.old →
+    ensures prefix { (n : ℕ) (text : List ℕ) → Carries 0 (take n text) link.old →
         AgreeBelow from into.old text → AgreeBelow result into.new text }
     ensures written { (w : List ℕ) → Carries 0 w link.old → result ≤ length w }
     ensures within { (result ≤ length into.new) × (length into.new ≡ length into.old) }

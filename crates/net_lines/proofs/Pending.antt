@@ -5,7 +5,7 @@ use Rattle.std.specs.Io.KnownBytes.{Appends}
 use Rattle.std.proofs.KnownBytes.{starts_with_rest}
 use Rattle.std.proofs.Transfers.{starts_with_of_append}
 use Rattle.std.proofs.lemmas.List.{append-nil}
-use Rattle.net_program.specs.Writing.{AppendsFront}
+use Rattle.net_program.specs.Writing.{AppendsPrefix}
 use Rattle.net_lines.specs.Progress.{Gathers}
 use Rattle.net_program.proofs.KnownBytes.{Appends-two, Appends-none, Keeps-same, StartsWith-after}
 
@@ -45,11 +45,11 @@ pub Gathers-written : (a b : Option (List ℕ)) (xs : List ℕ) → Gathers a []
 Gathers-written a b xs f = rw (f.whole ∙ append-nil f.written) f.appended
 
 -- a front of what comes after a text
-pub AppendsFront-after : (a b c : Option (List ℕ)) (p q xs more : List ℕ) →
-    Gathers a p b q xs → AppendsFront b c (q ++ more) → AppendsFront a c (p ++ (xs ++ more))
-AppendsFront-after a b c p q xs more f w = record {
+pub AppendsPrefix-after : (a b c : Option (List ℕ)) (p q xs more : List ℕ) →
+    Gathers a p b q xs → AppendsPrefix b c (q ++ more) → AppendsPrefix a c (p ++ (xs ++ more))
+AppendsPrefix-after a b c p q xs more f w = record {
   written = f.written ++ w.written;
-  front = rw whole (StartsWith-after f.written (q ++ more) w.written w.front);
+  prefix = rw whole (StartsWith-after f.written (q ++ more) w.written w.prefix);
   appended = Appends-two a b c f.written w.written _ f.appended w.appended refl;
 }
   where
@@ -59,42 +59,42 @@ AppendsFront-after a b c p q xs more f w = record {
         ∙ append_assoc f.written q more
 
 -- what was pending was written, and then a front of the text
-pub AppendsFront-behind : (a b c : Option (List ℕ)) (p xs : List ℕ) →
-    Appends a b p → AppendsFront b c xs → AppendsFront a c (p ++ xs)
-AppendsFront-behind a b c p xs w f = record {
+pub AppendsPrefix-behind : (a b c : Option (List ℕ)) (p xs : List ℕ) →
+    Appends a b p → AppendsPrefix b c xs → AppendsPrefix a c (p ++ xs)
+AppendsPrefix-behind a b c p xs w f = record {
   written = p ++ f.written;
-  front = StartsWith-after p xs f.written f.front;
+  prefix = StartsWith-after p xs f.written f.prefix;
   appended = Appends-two a b c p f.written _ w f.appended refl;
 }
 
 -- a front of a text is one of a longer text
-pub AppendsFront-more : (xs more : List ℕ) (a b : Option (List ℕ)) →
-    AppendsFront a b xs → AppendsFront a b (xs ++ more)
-AppendsFront-more xs more a b w =
-    let e = starts_with_rest xs w.written w.front in
+pub AppendsPrefix-more : (xs more : List ℕ) (a b : Option (List ℕ)) →
+    AppendsPrefix a b xs → AppendsPrefix a b (xs ++ more)
+AppendsPrefix-more xs more a b w =
+    let e = starts_with_rest xs w.written w.prefix in
     record {
       written = w.written;
-      front =
+      prefix =
           starts_with_of_append (xs ++ more) w.written _
           (ap (λ t. t ++ more) e ∙ append_assoc w.written _ more);
       appended = w.appended;
     }
 
 -- a front of what is pending after a text
-pub AppendsFront-out : (a b c : Option (List ℕ)) (p q xs : List ℕ) →
-    Gathers a p b q xs → AppendsFront b c q → AppendsFront a c (p ++ xs)
-AppendsFront-out a b c p q xs f w = record {
+pub AppendsPrefix-out : (a b c : Option (List ℕ)) (p q xs : List ℕ) →
+    Gathers a p b q xs → AppendsPrefix b c q → AppendsPrefix a c (p ++ xs)
+AppendsPrefix-out a b c p q xs f w = record {
   written = f.written ++ w.written;
-  front = rw f.whole (StartsWith-after f.written q w.written w.front);
+  prefix = rw f.whole (StartsWith-after f.written q w.written w.prefix);
   appended = Appends-two a b c f.written w.written _ f.appended w.appended refl;
 }
 
 -- no byte more
-pub AppendsFront-kept : (a b c : Option (List ℕ)) (xs : List ℕ) →
-    AppendsFront a b xs → Appends b c [] → AppendsFront a c xs
-AppendsFront-kept a b c xs w h = record {
+pub AppendsPrefix-kept : (a b c : Option (List ℕ)) (xs : List ℕ) →
+    AppendsPrefix a b xs → Appends b c [] → AppendsPrefix a c xs
+AppendsPrefix-kept a b c xs w h = record {
   written = w.written;
-  front = w.front;
+  prefix = w.prefix;
   appended = Appends-two a b c w.written [] _ w.appended h (append-nil w.written);
 }
 

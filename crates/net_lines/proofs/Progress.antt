@@ -16,11 +16,11 @@ use Rattle.net_lines.specs.declared.error.BenchError.{BenchError}
 use Rattle.net_lines.specs.declared.error.BenchError.TheVariants.{BadCommand, RangeTooLong, LineTooLong}
 use Rattle.net_lines.specs.declared.error.BenchError.TheVariants.{TooManySchedules, OutOfMemory}
 use Rattle.net_lines.specs.declared.error.BenchError.TheVariants.{ReadFailed, WriteFailed}
-use Rattle.net_program.specs.Writing.{AppendsFront}
+use Rattle.net_program.specs.Writing.{AppendsPrefix}
 use Rattle.net_program.proofs.KnownBytes.{Keeps-same, Consumes-two, Consumes-none, all-came}
 use Rattle.net_lines.proofs.Pending.{Gathers-two, Gathers-same, Gathers-out, Gathers-written}
-use Rattle.net_lines.proofs.Pending.{AppendsFront-after, AppendsFront-more, AppendsFront-out}
-use Rattle.net_lines.proofs.Pending.{AppendsFront-kept, StartsWith-none}
+use Rattle.net_lines.proofs.Pending.{AppendsPrefix-after, AppendsPrefix-more, AppendsPrefix-out}
+use Rattle.net_lines.proofs.Pending.{AppendsPrefix-kept, StartsWith-none}
 use Rattle.net_lines.proofs.LineParts.{feed-found, parts-cons, parts-feed, parts-front}
 use Rattle.net_lines.proofs.LineParts.{lines-from_parts, lines-nonempty, lines-one, ended-from_parts}
 use Rattle.net_lines.proofs.LineParts.{ended-none, unended-from_parts}
@@ -81,7 +81,7 @@ PendingError-after rules closing bytes n state line n' state' line' text rest ol
       Gathers-two old mid new p q r text (replies_of rules state' (take h.0 more)) _ w h.1
           (sym (ap (replies_of rules state) (take-append-add g.lines more h.0) ∙ g.texts (λ _. []) (take h.0 more))),
     )
-    cases WriteFailed h = (h.0, rw (g.texts closing more) (AppendsFront-after old mid new p q text (text_of rules closing state' more) w h.1))
+    cases WriteFailed h = (h.0, rw (g.texts closing more) (AppendsPrefix-after old mid new p q text (text_of rules closing state' more) w h.1))
     cases ReadFailed h = h
 
 -- ---- a line
@@ -97,11 +97,11 @@ step-too_long rules state line more =
 pub reply-failed : {S : Type 0} (rules : Rules S) (closing : S → List ℕ) (n : ℕ) (state : S)
     (line : List ℕ) (state' : S) (reply : List ℕ) (more : List (List ℕ)) (old new : Option (List ℕ))
     (p q : List ℕ) (e : BenchError) → length line ≤ 4096 → rules state (words_of line) ≡ Ok
-    (state', reply) → (e ≡ WriteFailed) × (q ≡ []) × AppendsFront old new (p ++ reply) →
+    (state', reply) → (e ≡ WriteFailed) × (q ≡ []) × AppendsPrefix old new (p ++ reply) →
     PendingError (transcript rules closing n state) (line ∷ more) old p new q e
 reply-failed rules closing n state line state' reply more old new p q e short step h =
     let within : nat_lt 4096 (length line) ≡ false = grind (arith, nat_tests, short) in
-    rw h.0 (h.1, rw (within, step) (rw append_assoc at (AppendsFront-more (p ++ reply) (text_of rules closing state' more) old new h.2)))
+    rw h.0 (h.1, rw (within, step) (rw append_assoc at (AppendsPrefix-more (p ++ reply) (text_of rules closing state' more) old new h.2)))
 
 -- a first line that is too long, whatever comes after it
 pub PendingError-long_line : {S : Type 0} (rules : Rules S) (closing : S → List ℕ) (n : ℕ) (state : S)
@@ -212,7 +212,7 @@ none-ok rules closing n state line old new p q none w = rw none (refl, w)
 
 pub none-err : {S : Type 0} (rules : Rules S) (closing : S → List ℕ) (n : ℕ) (state : S) (line : List ℕ)
     (old new : Option (List ℕ)) (p q : List ℕ) (e : BenchError) → line ≡ [] →
-    (e ≡ WriteFailed) × (q ≡ []) × AppendsFront old new (p ++ closing state) →
+    (e ≡ WriteFailed) × (q ≡ []) × AppendsPrefix old new (p ++ closing state) →
     PendingError (transcript rules closing n state) (lines_of line) old p new q e
 none-err rules closing n state line old new p q e none w = rw (none, w.0) (w.1, w.2)
 
@@ -231,11 +231,11 @@ pub last-err : {S : Type 0} (rules : Rules S) (closing : S → List ℕ) (n : �
     (n' : ℕ) (state' : S) (line' : List ℕ) (old mid new : Option (List ℕ)) (p q r : List ℕ)
     (e : BenchError) → 0 < length line → HasNoFeed line → (reply : List ℕ) ×
     (line_step rules state (line ++ []) ≡ Ok (state', reply)) × (n' ≡ next_number n) × (line' ≡ []) ×
-    Gathers old p mid q reply → (e ≡ WriteFailed) × (r ≡ []) × AppendsFront mid new
+    Gathers old p mid q reply → (e ≡ WriteFailed) × (r ≡ []) × AppendsPrefix mid new
     (q ++ closing state') → PendingError (transcript rules closing n state) (lines_of line) old p new r e
 last-err rules closing n state line n' state' line' old mid new p q r e some none h w =
     let step = rw (append-nil line) at h.1 in
-    rw (lines-one line some none, w.0) (w.1, rw step (AppendsFront-after old mid new p q h.0 (closing state') h.4 w.2))
+    rw (lines-one line some none, w.0) (w.1, rw step (AppendsPrefix-after old mid new p q h.0 (closing state') h.4 w.2))
 
 -- ---- what is pending is written
 
@@ -264,24 +264,24 @@ PendingError-written all lines old mid new p q (RangeTooLong m) h w = (h.0, Gath
 PendingError-written all lines old mid new p q (LineTooLong m) h w = (h.0, Gathers-out old mid new p q _ h.1 w)
 PendingError-written all lines old mid new p q (TooManySchedules m) h w = (h.0, Gathers-out old mid new p q _ h.1 w)
 PendingError-written all lines old mid new p q OutOfMemory h w = (h.0, Gathers-out old mid new p q _ h.1 w)
-PendingError-written all lines old mid new p q WriteFailed h w = (refl, AppendsFront-kept old mid new _ h.1 (rw h.0 at w))
+PendingError-written all lines old mid new p q WriteFailed h w = (refl, AppendsPrefix-kept old mid new _ h.1 (rw h.0 at w))
 PendingError-written all lines old mid new p q ReadFailed h w = h
 
 -- it becomes a failed write where what is pending can't be written
 pub PendingError-failed : {S : Type 0} (rules : Rules S) (closing : S → List ℕ) (n : ℕ) (state : S)
     (lines : List (List ℕ)) (old mid new : Option (List ℕ)) (p q : List ℕ) (e : BenchError) →
-    PendingError (transcript rules closing n state) lines old p mid q e → AppendsFront mid new q →
+    PendingError (transcript rules closing n state) lines old p mid q e → AppendsPrefix mid new q →
     PendingError (transcript rules closing n state) lines old p new [] WriteFailed
-PendingError-failed rules closing n state lines old mid new p q (BadCommand m) h w = (refl, AppendsFront-out old mid new p q _ h.1 w)
-PendingError-failed rules closing n state lines old mid new p q (RangeTooLong m) h w = (refl, AppendsFront-out old mid new p q _ h.1 w)
-PendingError-failed rules closing n state lines old mid new p q (LineTooLong m) h w = (refl, AppendsFront-out old mid new p q _ h.1 w)
-PendingError-failed rules closing n state lines old mid new p q (TooManySchedules m) h w = (refl, AppendsFront-out old mid new p q _ h.1 w)
+PendingError-failed rules closing n state lines old mid new p q (BadCommand m) h w = (refl, AppendsPrefix-out old mid new p q _ h.1 w)
+PendingError-failed rules closing n state lines old mid new p q (RangeTooLong m) h w = (refl, AppendsPrefix-out old mid new p q _ h.1 w)
+PendingError-failed rules closing n state lines old mid new p q (LineTooLong m) h w = (refl, AppendsPrefix-out old mid new p q _ h.1 w)
+PendingError-failed rules closing n state lines old mid new p q (TooManySchedules m) h w = (refl, AppendsPrefix-out old mid new p q _ h.1 w)
 PendingError-failed rules closing n state lines old mid new p q OutOfMemory h w =
     let f = replies-front rules closing state h.0 lines in
-    (refl, rw f.1 (AppendsFront-after old mid new p q (replies_of rules state (take h.0 lines)) f.0 h.1 (AppendsFront-more q f.0 mid new w)))
+    (refl, rw f.1 (AppendsPrefix-after old mid new p q (replies_of rules state (take h.0 lines)) f.0 h.1 (AppendsPrefix-more q f.0 mid new w)))
 PendingError-failed rules closing n state lines old mid new p q WriteFailed h w =
     let w' = rw h.0 at w in
-    (refl, AppendsFront-kept old mid new _ h.1 (rw (StartsWith-none w'.written w'.front) at w'.appended))
+    (refl, AppendsPrefix-kept old mid new _ h.1 (rw (StartsWith-none w'.written w'.prefix) at w'.appended))
 PendingError-failed rules closing n state lines old mid new p q ReadFailed h w = absurd h
 
 -- what is pending after the lines of some bytes was written
@@ -295,7 +295,7 @@ Advances-written rules bytes n state line n' state' line' old mid new p q r w e 
 -- it can't be written, whatever the lines came to
 pub Advances-failed : {S T : Type 0} (rules : Rules S) (closing : S → List ℕ) (bytes : List ℕ) (n : ℕ)
     (state : S) (line : List ℕ) (n' : ℕ) (state' : S) (line' : List ℕ) (old mid new : Option (List ℕ))
-    (p q : List ℕ) (outcome : Result T BenchError) (more : List ℕ) → AppendsFront mid new q →
+    (p q : List ℕ) (outcome : Result T BenchError) (more : List ℕ) → AppendsPrefix mid new q →
     OnOk outcome ((text : List ℕ) × Advances rules bytes n state line n' state' line' text × Gathers old
     p mid q text) → IfErr outcome (λ e. (more : List ℕ) → PendingError
     (transcript rules closing n state) (lines_of (line ++ (bytes ++ more))) old p mid q e) →
@@ -303,7 +303,7 @@ pub Advances-failed : {S T : Type 0} (rules : Rules S) (closing : S → List ℕ
     WriteFailed
 Advances-failed rules closing bytes n state line n' state' line' old mid new p q (Ok x) more w ok err =
     PendingError-after rules closing bytes n state line n' state' line' ok.0 more old mid new p q []
-    WriteFailed ok.1 ok.2 (refl, AppendsFront-more q _ mid new w)
+    WriteFailed ok.1 ok.2 (refl, AppendsPrefix-more q _ mid new w)
 Advances-failed rules closing bytes n state line n' state' line' old mid new p q (Err e) more w ok err =
     PendingError-failed rules closing n state (lines_of (line ++ (bytes ++ more))) old mid new p q e (err more) w
 
@@ -317,12 +317,12 @@ last-written rules closing n state lines old mid new p q r w e g = (g.0, rw e (G
 
 pub last-failed : {S T : Type 0} (rules : Rules S) (closing : S → List ℕ) (n : ℕ) (state : S)
     (lines : List (List ℕ)) (old mid new : Option (List ℕ)) (p q : List ℕ)
-    (outcome : Result T BenchError) → AppendsFront mid new q →
+    (outcome : Result T BenchError) → AppendsPrefix mid new q →
     OnOk outcome ((first_fault rules n state lines ≡ None) × Gathers old p mid q
     (text_of rules closing state lines)) → IfErr outcome (λ e. PendingError
     (transcript rules closing n state) lines old p mid q e) →
     PendingError (transcript rules closing n state) lines old p new [] WriteFailed
-last-failed rules closing n state lines old mid new p q (Ok x) w ok err = (refl, AppendsFront-out old mid new p q _ ok.1 w)
+last-failed rules closing n state lines old mid new p q (Ok x) w ok err = (refl, AppendsPrefix-out old mid new p q _ ok.1 w)
 last-failed rules closing n state lines old mid new p q (Err e) w ok err = PendingError-failed rules closing n state lines old mid new p q e err w
 
 -- ---- the reads

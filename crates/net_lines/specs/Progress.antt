@@ -2,7 +2,7 @@
 use Rattle.std.specs.Prelude.{◌≡◌, ℕ, List, [], ◌++◌, false, ◌==◌, Option, Some, take}
 use Rattle.std.specs.List.{All}
 use Rattle.std.specs.Io.KnownBytes.{Appends}
-use Rattle.net_program.specs.Writing.{AppendsFront}
+use Rattle.net_program.specs.Writing.{AppendsPrefix}
 use Rattle.net_lines.specs.Text.{parts_of}
 use Rattle.net_lines.specs.Transcript.{Rules, text_of, first_fault, Transcript}
 use Rattle.net_lines.specs.declared.error.BenchError.{BenchError}
@@ -58,5 +58,5 @@ PendingError all lines old pending new pending' OutOfMemory =
     (k : ℕ) × Gathers old pending new pending' (all.replies (take k lines))
 -- nothing is pending after a failed write
 PendingError all lines old pending new pending' WriteFailed =
-    (pending' ≡ []) × AppendsFront old new (pending ++ all.text lines)
+    (pending' ≡ []) × AppendsPrefix old new (pending ++ all.text lines)
 PendingError all lines old pending new pending' ReadFailed = ⊥

@@ -3,7 +3,7 @@
 use Rattle.std.specs.Prelude.{◌≡◌, ℕ, List, [], ◌++◌, ◌∷◌, ◌≤◌, length, take, nat_lt, if◌then◌else◌}
 use Rattle.std.specs.Prelude.{Option, Some, None, Result, Ok, Err}
 use Rattle.std.specs.Io.KnownBytes.{Appends, Consumes}
-use Rattle.net_program.specs.Writing.{AppendsFront}
+use Rattle.net_program.specs.Writing.{AppendsPrefix}
 use Rattle.net_lines.specs.Text.{lines_of, ended_lines, unended_line, words_of, next_number}
 use Rattle.net_lines.specs.declared.fault.Fault.{Fault}
 use Rattle.net_lines.specs.declared.fault.Fault.TheVariants as faults
@@ -86,7 +86,7 @@ ErrorOfLines all lines old new (TooManySchedules n) =
     IsFirstFault all lines old new (TooManySchedules n)
 -- whole replies of a beginning of the lines were written
 ErrorOfLines all lines old new OutOfMemory = (k : ℕ) × Appends old new (all.replies (take k lines))
-ErrorOfLines all lines old new WriteFailed = AppendsFront old new (all.text lines)
+ErrorOfLines all lines old new WriteFailed = AppendsPrefix old new (all.text lines)
 -- a failed read says nothing of these lines, but of those that came
 ErrorOfLines all lines old new ReadFailed = ⊥
 

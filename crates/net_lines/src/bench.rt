@@ -2,7 +2,7 @@
 ghost use Rattle.std.specs.Prelude.{◌≡◌, ℕ, List, [], ◌∷◌, ◌++◌, length, take, ◌<◌, ◌≤◌, ◌==◌};
 ghost use Rattle.std.specs.Prelude.{IfSome, IfOk, IfErr, OnOk, None, position, vec_capacity};
 ghost use Rattle.std.specs.Io.KnownBytes.{Appends};
-ghost use Rattle.net_program.specs.Writing.{AppendsFront};
+ghost use Rattle.net_program.specs.Writing.{AppendsPrefix};
 ghost use Rattle.net_lines.specs.Text.{lines_of, next_number};
 ghost use Rattle.net_lines.specs.Transcript.{line_step, transcript, ErrorOfInput};
 ghost use Rattle.net_lines.specs.Progress.{HasNoFeed, Advances, Gathers, PendingError};
@@ -192,7 +192,7 @@ impl<A: Allocator + Copy, S: Session<A>> Bench<A, S> {
         ensures ok { OnOk result (Gathers (W.contents writer.old) self.old.replies
             (W.contents writer.new) self.new.replies (S.closing self.old.session)) }
         ensures err { IfErr result (λ e. (e ≡ BenchError.WriteFailed) × (self.new.replies ≡ [])
-            × AppendsFront (W.contents writer.old) (W.contents writer.new)
+            × AppendsPrefix (W.contents writer.old) (W.contents writer.new)
             (self.old.replies ++ S.closing self.old.session)) }
     {
         let closing = self.session.closing_text();

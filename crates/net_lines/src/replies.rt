@@ -1,7 +1,7 @@
 //! Replies on their way to a writer, which takes many at once.
 ghost use Rattle.std.specs.Prelude.{◌≡◌, [], ◌++◌, length, ◌≤◌, IfOk, OnOk, IfErr, vec_capacity};
 ghost use Rattle.std.specs.Io.KnownBytes.{Appends};
-ghost use Rattle.net_program.specs.Writing.{AppendsFront};
+ghost use Rattle.net_program.specs.Writing.{AppendsPrefix};
 ghost use Rattle.net_lines.specs.Progress.{Gathers};
 ghost use Rattle.net_lines.specs.declared.error.BenchError.{BenchError};
 
@@ -18,7 +18,7 @@ const ROOM: usize = 65536;
 fn write_whole<W: Write>(writer: &mut W, text: &[u8]) -> Result<(), BenchError>
     ensures ok { OnOk result (Appends (W.contents writer.old) (W.contents writer.new) text.now) }
     ensures err { IfErr result (λ e. (e ≡ BenchError.WriteFailed)
-        × AppendsFront (W.contents writer.old) (W.contents writer.new) text.now) }
+        × AppendsPrefix (W.contents writer.old) (W.contents writer.new) text.now) }
 {
     match write_text(writer, text) {
         Ok(()) => Ok(()),
@@ -58,7 +58,7 @@ impl<A: Allocator + Copy> Replies<A> {
         ensures ok { OnOk result
             (Gathers (W.contents writer.old) self.old (W.contents writer.new) self.new reply.now) }
         ensures err { IfErr result (λ e. (e ≡ BenchError.WriteFailed) × (self.new ≡ [])
-            × AppendsFront (W.contents writer.old) (W.contents writer.new)
+            × AppendsPrefix (W.contents writer.old) (W.contents writer.new)
             (self.old ++ reply.now)) }
     {
         if reply.len() > ROOM - self.pending.len() {
@@ -78,7 +78,7 @@ impl<A: Allocator + Copy> Replies<A> {
         ensures ok { OnOk result
             (Appends (W.contents writer.old) (W.contents writer.new) self.old) }
         ensures err { IfErr result (λ e. (e ≡ BenchError.WriteFailed)
-            × AppendsFront (W.contents writer.old) (W.contents writer.new) self.old) }
+            × AppendsPrefix (W.contents writer.old) (W.contents writer.new) self.old) }
     {
         let outcome = write_whole(writer, &self.pending);
         self.pending.clear();

@@ -6,7 +6,7 @@ use Rattle.std.specs.Io.KnownBytes.{Appends, Keeps, Consumes, IsAtEnd}
 use Rattle.std.proofs.lemmas.Grind.{common_steps}
 use Rattle.std.proofs.lemmas.List.{append-nil, take_all}
 use Rattle.std.proofs.Math.Seq.{take-append-add}
-use Rattle.net_program.specs.Writing.{AppendsFront}
+use Rattle.net_program.specs.Writing.{AppendsPrefix}
 
 -- two writes are one
 pub Appends-two : (a b c : Option (List ℕ)) (xs ys zs : List ℕ) → Appends a b xs → Appends b c ys → xs ++ ys ≡ zs → Appends a c zs
@@ -52,16 +52,16 @@ all-came input None given h e = absurd h
 all-came input (Some rest) given h e = h ∙ ap (λ t. given ++ t) e ∙ append-nil given
 
 -- a beginning of what is written after a text is one of both
-pub StartsWith-after : (text rest front : List ℕ) → StartsWith rest front → StartsWith (text ++ rest) (text ++ front)
-StartsWith-after text rest front h = ap (λ n. take n (text ++ rest)) (length-append text front) ∙
-    take-append-add text rest (length front) ∙ ap (λ t. text ++ t) h
+pub StartsWith-after : (text rest prefix : List ℕ) → StartsWith rest prefix → StartsWith (text ++ rest) (text ++ prefix)
+StartsWith-after text rest prefix h = ap (λ n. take n (text ++ rest)) (length-append text prefix) ∙
+    take-append-add text rest (length prefix) ∙ ap (λ t. text ++ t) h
 
 -- the first bytes of a text were appended
-pub AppendsFront-take : (a b : Option (List ℕ)) (text : List ℕ) (n : ℕ) → n < length text →
-    Appends a b (take n text) → AppendsFront a b text
-AppendsFront-take a b text n h w =
+pub AppendsPrefix-take : (a b : Option (List ℕ)) (text : List ℕ) (n : ℕ) → n < length text →
+    Appends a b (take n text) → AppendsPrefix a b text
+AppendsPrefix-take a b text n h w =
     let e : length (take n text) ≡ n = omega (arith, length-take n text) in
-    record { written = take n text; front = ap (λ m. take m text) e; appended = w }
+    record { written = take n text; prefix = ap (λ m. take m text) e; appended = w }
 
 -- a text is a beginning of itself
 pub StartsWith-all : (text : List ℕ) → StartsWith text text

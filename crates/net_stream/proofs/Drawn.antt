@@ -85,7 +85,7 @@ round_met v v' old new round h =
     record {
       frames = h.frames + frames;
       acks = h.acks + acks;
-      left = ap (λ p. p.fates) round.left ∙ ap (λ p. after_all frames p.fates) round.all.front.sent ∙ ap (after_all frames) h.left ∙ after_more h.frames frames v;
+      left = ap (λ p. p.fates) round.left ∙ ap (λ p. after_all frames p.fates) round.all.prefix.sent ∙ ap (after_all frames) h.left ∙ after_more h.frames frames v;
       left_back = ap (λ p. p.fates) round.left_back ∙ ap (after_all acks) h.left_back ∙ after_more h.acks acks v';
       counted = more_met v v' old.there.fates old.back.fates old.counts new.counts (count_outside s.reported s.base round.n) frames acks round.counted h;
     }

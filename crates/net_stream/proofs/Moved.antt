@@ -64,7 +64,7 @@ handed_front f v held holds into into' count before after n queue e is counted w
     record {
       bytes = bytes;
       appended = wrote.appended;
-      front = λ w r.
+      prefix = λ w r.
           let q = queue w r in
           let within : v.read + count ≤ length w = (let h = q.within in omega arith) in
           starts_through w (take v.read w ++ take count into') (take v.read w ++ bytes)
@@ -151,11 +151,11 @@ module _ {A : Type 0} (f : ℕ) (old held : Option (List ℕ)) where
   handed_less l c d now holds holds' more h taken queue word moving =
       let w = moving.given in
       let written = take l.receiver.read w ++ h.bytes in
-      let front = h.front w moving.carries.receives in
+      let prefix = h.prefix w moving.carries.receives in
       let few : l.receiver.read ≤ length w = (let q = (queue_from queue f w l.receiver moving.carries.receives).within in omega arith) in
       let size : length written ≡ length (take l.receiver.read w) + length h.bytes = length-append (take l.receiver.read w) h.bytes in
       let one : length (take l.receiver.read w) ≡ l.receiver.read = omega (arith, length-take l.receiver.read w) in
-      let most : length written ≤ length w = (let e = ap length front in omega (arith, e, length-take (length written) w)) in
+      let most : length written ≤ length w = (let e = ap length prefix in omega (arith, e, length-take (length written) w)) in
       let end = moving.carries.sends.end in
       let before = moving.bytes in
       let counted = h.counted in
@@ -164,7 +164,7 @@ module _ {A : Type 0} (f : ℕ) (old held : Option (List ℕ)) where
         written = written;
         consumed = moving.consumed;
         appended = Appends-two held holds holds' (take l.receiver.read w) h.bytes written moving.appended h.appended refl;
-        front = front;
+        prefix = prefix;
         taken = moving.taken ∙ sym taken;
         bytes = omega (arith, size, one, most, end, before, counted, word);
         whole = λ n. absurd (both_ways false refl n);
@@ -181,7 +181,7 @@ module _ {A : Type 0} (f : ℕ) (old held : Option (List ℕ)) where
         written = take r.read w;
         consumed = moving.consumed;
         appended = moving.appended;
-        front = starts_take w r.read within;
+        prefix = starts_take w r.read within;
         taken = moving.taken;
         bytes = size ∙ moving.bytes;
         whole = λ n. absurd (both_ways false refl n);
@@ -200,7 +200,7 @@ module _ {A : Type 0} (f : ℕ) (old held : Option (List ℕ)) where
         written = w;
         consumed = moving.consumed;
         appended = subst (Appends held holds) (take_all r.read w (omega arith)) moving.appended;
-        front = take_all (length w) w (omega arith);
+        prefix = take_all (length w) w (omega arith);
         taken = moving.taken;
         bytes = sym read ∙ moving.bytes;
         whole = λ _. (refl, moving.ended none);
@@ -226,7 +226,7 @@ unmoved old held taken bytes none is = record {
   written = [];
   consumed = Consumes-none old old (Keeps-same old);
   appended = Appends-none held held (Keeps-same held);
-  front = refl;
+  prefix = refl;
   taken = sym none;
   bytes = sym is;
   whole = λ n. absurd (both_ways false refl n);
@@ -239,7 +239,7 @@ kept_copied old new held holds holds' taken bytes complete kept c = record {
   written = c.written;
   consumed = c.consumed;
   appended = Appends-kept held holds holds' c.written c.appended kept;
-  front = c.front;
+  prefix = c.prefix;
   taken = c.taken;
   bytes = c.bytes;
   whole = c.whole;
@@ -251,7 +251,7 @@ less_copied old new held holds taken bytes complete c = record {
   written = c.written;
   consumed = c.consumed;
   appended = c.appended;
-  front = c.front;
+  prefix = c.prefix;
   taken = c.taken;
   bytes = c.bytes;
   whole = λ n. absurd (both_ways false refl n);

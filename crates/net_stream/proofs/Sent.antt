@@ -104,15 +104,15 @@ sent_part s most pos t0 t1 xs kept more next here size within marked is sent =
 -- ---- several calls
 -- parts so far, of which so many frames are left
 pub record SentSoFar (s : Outgoing) (most flight left n : ℕ) (old new : PathSeen) : Type 0 where
-  pub front : SentPrefix s most flight n old new
-  pub left_are : length (frames_from s.base front.parts) + left ≡ flight
+  pub prefix : SentPrefix s most flight n old new
+  pub left_are : length (frames_from s.base prefix.parts) + left ≡ flight
 
 -- nothing was sent yet
 pub none_sent : (s : Outgoing) (most flight pos : ℕ) (t : PathSeen) → pos ≡ s.base → SentSoFar s most flight flight (pos - s.base) t t
 none_sent s most flight pos t e =
     let none : pos - s.base ≡ 0 = omega arith in
     record {
-      front = record {
+      prefix = record {
         parts = [];
         within = omega arith;
         all = ap (λ n. take n s.queue) (sym none);
@@ -130,7 +130,7 @@ pub sent_more : (s : Outgoing) (most flight left pos n k left' : ℕ) (t0 t1 t2 
     SentSoFar s most flight left (pos - s.base) t0 t1 → SentPart s most pos n k t1 t2 →
     s.base ≤ pos → pos < stop_of s → 0 < left → left' ≡ left - k → SentSoFar s most flight left' (pos + n - s.base) t0 t2
 sent_more s most flight left pos n k left' t0 t1 t2 so_far part from below some_left left_is =
-    let front = so_far.front in
+    let prefix = so_far.prefix in
     let b = s.base in
     let q = s.queue in
     let xs = take n (drop (pos - b) q) in
@@ -138,34 +138,34 @@ sent_more s most flight left pos n k left' t0 t1 t2 so_far part from below some_
     let some = part.some in
     let size : length xs ≡ n = omega (arith, length-take n (drop (pos - b) q), length-drop (pos - b) q) in
     let kept : pos ≤ end_of s = omega (arith, stop_within s) in
-    let long : length (part_bytes front.parts) ≡ pos - b = ap length front.all
+    let long : length (part_bytes prefix.parts) ≡ pos - b = ap length prefix.all
     ∙ (let h : length (take (pos - b) q) ≡ pos - b = omega (arith, length-take (pos - b) q) in h) in
     let place : (pos - b) + n ≡ pos + n - b = omega arith in
-    let at : pos ≡ b + length (part_bytes front.parts) = omega arith in
+    let at : pos ≡ b + length (part_bytes prefix.parts) = omega arith in
     let last = frames_from pos ((part.spared, xs) ∷ []) in
-    let ahead : t1.ahead ++ last ≡ t0.ahead ++ frames_from b (front.parts ++ (part.spared, xs) ∷ []) =
-    ap (λ p. p.ahead ++ last) front.sent ∙ append_assoc t0.ahead (frames_from b front.parts) last
-    ∙ ap (λ l. t0.ahead ++ l) (sym (frames_push b pos front.parts part.spared xs at)) in
+    let ahead : t1.ahead ++ last ≡ t0.ahead ++ frames_from b (prefix.parts ++ (part.spared, xs) ∷ []) =
+    ap (λ p. p.ahead ++ last) prefix.sent ∙ append_assoc t0.ahead (frames_from b prefix.parts) last
+    ∙ ap (λ l. t0.ahead ++ l) (sym (frames_push b pos prefix.parts part.spared xs at)) in
     let one : k ≤ 1 = at_most_one part.spared k part.frames in
-    let more = length-append (frames_from b front.parts) last in
+    let more = length-append (frames_from b prefix.parts) last in
     let here = count_one pos part.spared xs in
     let these = part.frames in
-    let all = ap length (frames_push b pos front.parts part.spared xs at) in
-    let count : length (frames_from b (front.parts ++ (part.spared, xs) ∷ [])) ≡ length (frames_from b front.parts) + k =
+    let all = ap length (frames_push b pos prefix.parts part.spared xs at) in
+    let count : length (frames_from b (prefix.parts ++ (part.spared, xs) ∷ [])) ≡ length (frames_from b prefix.parts) + k =
     omega (arith, all, more, here, these) in
     let total = so_far.left_are in
     record {
-      front = record {
-        parts = front.parts ++ (part.spared, xs) ∷ [];
+      prefix = record {
+        parts = prefix.parts ++ (part.spared, xs) ∷ [];
         within = omega arith;
-        all = joined_push front.parts part.spared xs ∙ ap (λ l. l ++ xs) front.all ∙ sym (take-add (pos - b) n q) ∙ ap (λ j. take j q) place;
-        sizes = All-push (HasSize most) front.parts (part.spared, xs) front.sizes
+        all = joined_push prefix.parts part.spared xs ∙ ap (λ l. l ++ xs) prefix.all ∙ sym (take-add (pos - b) n q) ∙ ap (λ j. take j q) place;
+        sizes = All-push (HasSize most) prefix.parts (part.spared, xs) prefix.sizes
             (subst (λ j. 0 < j) (sym size) some, λ e. subst (λ j. j ≤ most) (sym size) (part.short e));
-        marked = marked_push s.reported b pos front.parts part.spared xs at front.marked
+        marked = marked_push s.reported b pos prefix.parts part.spared xs at prefix.marked
             (subst (λ j. IsMarked s.reported pos j part.spared) (sym size) part.marked);
-        ends = ends_push s most b pos front.parts part.spared xs at front.ends below (ap (λ j. pos + j) size ∙ part.ends);
+        ends = ends_push s most b pos prefix.parts part.spared xs at prefix.ends below (ap (λ j. pos + j) size ∙ part.ends);
         few = omega arith;
-        sent = part.sent ∙ (λ i. record { ahead = ahead i; late = (ap (λ p. p.late) front.sent) i; fates = (ap (λ p. p.fates) front.sent) i });
+        sent = part.sent ∙ (λ i. record { ahead = ahead i; late = (ap (λ p. p.late) prefix.sent) i; fates = (ap (λ p. p.fates) prefix.sent) i });
       };
       left_are = omega arith;
     }
@@ -179,9 +179,9 @@ pub round_sent : (s : Outgoing) (most flight left pos : ℕ) (t0 t1 : PathSeen) 
     SentSoFar s most flight left (pos - s.base) t0 t1 → s.base ≤ pos → (stop_of s ≤ pos) ⊎ (left ≡ 0) → SentRound s most flight (pos - s.base) t0 t1
 round_sent s most flight left pos t0 t1 so_far from stopped =
     let total = so_far.left_are in
-    let parts = so_far.front.parts in
+    let parts = so_far.prefix.parts in
     record {
-      front = so_far.front;
+      prefix = so_far.prefix;
       stop = ⊎_elim {C = (stop_of s ≤ s.base + (pos - s.base)) ⊎ (length (frames_from s.base parts) ≡ flight)}
           (λ (l : stop_of s ≤ pos). inl (omega arith))
           (λ (l : left ≡ 0). inr (omega arith))
@@ -191,13 +191,13 @@ round_sent s most flight left pos t0 t1 so_far from stopped =
 -- ---- what a round sent
 -- all that is kept, if more frames could be sent and the ranges are fewer than can be reported
 pub all_sent : (s : Outgoing) (most flight n : ℕ) (old new : PathSeen) → (round : SentRound s most flight n old new) →
-    length (frames_from s.base round.front.parts) < flight → is_full s.reported ≡ false → n ≡ length s.queue
+    length (frames_from s.base round.prefix.parts) < flight → is_full s.reported ≡ false → n ≡ length s.queue
 all_sent s most flight n old new round few room =
-    let within = round.front.within in
+    let within = round.prefix.within in
     let end : stop_of s ≡ end_of s = cond-false (is_full s.reported) (min (end_of s) (last_end s.reported s.base + 1)) (end_of s) room in
     ⊎_elim {C = n ≡ length s.queue}
     (λ (l : stop_of s ≤ s.base + n). omega arith)
-    (λ (l : length (frames_from s.base round.front.parts) ≡ flight). absurd (omega arith))
+    (λ (l : length (frames_from s.base round.prefix.parts) ≡ flight). absurd (omega arith))
     round.stop
 
 stop_above : (s : Outgoing) → 0 < length s.queue → s.base < stop_of s
@@ -213,18 +213,18 @@ FirstSent s most parts = (xs : List ℕ) × (rest : List Part) × (parts ≡ (fa
     × (xs ≡ take (length xs) s.queue)
 
 pub first_sent : (s : Outgoing) (most flight n : ℕ) (old new : PathSeen) → (round : SentRound s most flight n old new) →
-    0 < flight → 0 < length s.queue → reports s.reported s.base ≡ false → FirstSent s most round.front.parts
+    0 < flight → 0 < length s.queue → reports s.reported s.base ≡ false → FirstSent s most round.prefix.parts
 first_sent s most flight n old new round left some none =
-    let front = round.front in
-    first_of front.parts front.all front.sizes front.marked
-    (⊎_elim {C = front.parts ≡ [] → ⊥}
-    (λ (l : stop_of s ≤ s.base + n) (e : front.parts ≡ []).
-    let within = front.within in
+    let prefix = round.prefix in
+    first_of prefix.parts prefix.all prefix.sizes prefix.marked
+    (⊎_elim {C = prefix.parts ≡ [] → ⊥}
+    (λ (l : stop_of s ≤ s.base + n) (e : prefix.parts ≡ []).
+    let within = prefix.within in
     let begins = stop_above s some in
-    let size : length (take n s.queue) ≡ 0 = sym (ap length front.all) ∙ ap (λ l. length (part_bytes l)) e in
+    let size : length (take n s.queue) ≡ 0 = sym (ap length prefix.all) ∙ ap (λ l. length (part_bytes l)) e in
     omega (arith, length-take n s.queue))
-    (λ (l : length (frames_from s.base front.parts) ≡ flight) (e : front.parts ≡ []).
-    let zero_frames : length (frames_from s.base front.parts) ≡ 0 = ap (λ l. length (frames_from s.base l)) e in
+    (λ (l : length (frames_from s.base prefix.parts) ≡ flight) (e : prefix.parts ≡ []).
+    let zero_frames : length (frames_from s.base prefix.parts) ≡ 0 = ap (λ l. length (frames_from s.base l)) e in
     omega arith)
     round.stop)
   where

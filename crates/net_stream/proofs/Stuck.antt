@@ -180,12 +180,12 @@ one_moves s b k xs o at above within =
     past x y z h l = omega arith
 
 -- the last acknowledgement is of a position that the sender keeps, and that it isn't beyond
-pub acked_last : RoundTrip → (s : Outgoing) (n : ℕ) (xs : List ℕ) (front : List (List ℕ)) → n ≤ end_of s → n < 2 ^ 64 → (after_ack_frames s (front ++ frame_of n xs ∷ [])).base ≤ n → (after_ack_frames s (front ++ frame_of n xs ∷ [])).base ≡ n
-acked_last trip s n xs front within word below =
-    let t = after_ack_frames s front in
-    let end : end_of t ≡ end_of s = all_keep_end s front in
-    let split : after_ack_frames s (front ++ frame_of n xs ∷ []) ≡ after_ack_frame t (Some (n, xs)) = acked_append s front (frame_of n xs ∷ []) ∙ ap (after_ack_frame t) (trip n xs word) in
-    let same : (after_ack_frames s (front ++ frame_of n xs ∷ [])).base ≡ (after_ack_frame t (Some (n, xs))).base = ap (λ v. v.base) split in
+pub acked_last : RoundTrip → (s : Outgoing) (n : ℕ) (xs : List ℕ) (prefix : List (List ℕ)) → n ≤ end_of s → n < 2 ^ 64 → (after_ack_frames s (prefix ++ frame_of n xs ∷ [])).base ≤ n → (after_ack_frames s (prefix ++ frame_of n xs ∷ [])).base ≡ n
+acked_last trip s n xs prefix within word below =
+    let t = after_ack_frames s prefix in
+    let end : end_of t ≡ end_of s = all_keep_end s prefix in
+    let split : after_ack_frames s (prefix ++ frame_of n xs ∷ []) ≡ after_ack_frame t (Some (n, xs)) = acked_append s prefix (frame_of n xs ∷ []) ∙ ap (after_ack_frame t) (trip n xs word) in
+    let same : (after_ack_frames s (prefix ++ frame_of n xs ∷ [])).base ≡ (after_ack_frame t (Some (n, xs))).base = ap (λ v. v.base) split in
     let grows : t.base ≤ (after_ack_frame t (Some (n, xs))).base = base_grows t (Some (n, xs)) in
     let low : t.base ≤ n = omega (arith, same, grows, below) in
     let high : n ≤ end_of t = omega (arith, end, within) in
@@ -270,8 +270,8 @@ rounds_move trip numbers order queue f w old new p sound carries word none none_
     lacking : stored_next old.receiver ≤ old.sender.base → old.sender.base ≡ stored_next old.receiver
     lacking l = (let h = carries.behind in omega arith)
 
-    front : stored_next old.receiver ≤ old.sender.base → FirstFrame old.sender.base (old.sender.base + length old.sender.queue) p.all.front.parts
-    front l =
+    prefix : stored_next old.receiver ≤ old.sender.base → FirstFrame old.sender.base (old.sender.base + length old.sender.queue) p.all.prefix.parts
+    prefix l =
         let told : reports old.sender.reported old.sender.base ≡ false =
         ⊎_elim {C = reports old.sender.reported old.sender.base ≡ false}
         (λ (e : reports old.sender.reported old.sender.base ≡ true). absurd (missing most_reported old.receiver sound (subst (Has old.receiver) (lacking l) (carries.reported old.sender.base e))))
@@ -287,17 +287,17 @@ rounds_move trip numbers order queue f w old new p sound carries word none none_
           omega (arith, size),
         )
 
-    ahead : (l : stored_next old.receiver ≤ old.sender.base) → p.sent.ahead ≡ frame_of old.sender.base (front l).0 ∷ (front l).1
-    ahead l = ap (λ t. t.ahead) p.all.front.sent ∙ ap (λ a. a ++ frames_from old.sender.base p.all.front.parts) none ∙ (front l).2
+    ahead : (l : stored_next old.receiver ≤ old.sender.base) → p.sent.ahead ≡ frame_of old.sender.base (prefix l).0 ∷ (prefix l).1
+    ahead l = ap (λ t. t.ahead) p.all.prefix.sent ∙ ap (λ a. a ++ frames_from old.sender.base p.all.prefix.parts) none ∙ (prefix l).2
 
     has : stored_next old.receiver ≤ old.sender.base → HasMissing (stored_next old.receiver) p.sent.ahead
     has l =
         let b = old.sender.base in
-        let xs = (front l).0 in
-        let long = (front l).3 in
-        let short = (front l).4 in
+        let xs = (prefix l).0 in
+        let long = (prefix l).3 in
+        let short = (prefix l).4 in
         let is = lacking l in
-        (frame_of b xs, (front l).1, b, xs, ahead l, trip b xs (omega arith), (omega (arith, is), omega (arith, is, long), omega (arith, short, word)))
+        (frame_of b xs, (prefix l).1, b, xs, ahead l, trip b xs (omega arith), (omega (arith, is), omega (arith, is, long), omega (arith, short, word)))
 
     sent_some : stored_next old.receiver ≤ old.sender.base → 0 < length p.sent.ahead
     sent_some l = subst (λ a. 0 < length a) (sym (ahead l)) (omega arith)
@@ -306,10 +306,10 @@ rounds_move trip numbers order queue f w old new p sound carries word none none_
     fails l =
         ⊎_elim {C = comes (next_fate old.there.fates) ≡ false}
         (λ (e : comes (next_fate old.there.fates) ≡ true).
-        let xs = (front l).0 in
-        let rest = (front l).1 in
-        let long = (front l).3 in
-        let short = (front l).4 in
+        let xs = (prefix l).0 in
+        let rest = (prefix l).1 in
+        let long = (prefix l).3 in
+        let short = (prefix l).4 in
         let is = lacking l in
         let c = coming_of (after_fate old.there.fates) rest in
         let frame = frame_of old.sender.base xs in
@@ -510,10 +510,10 @@ module _ {A : Type 0} (old new : Link A) (p : Passed old new) where
       subst (λ n. losses old.counts ≤ n) (sym same_lost) (le_trans (lost_all (length p.sent.ahead) old.there.fates c) (lost_all (length p.acks) old.back.fates m))
 
   fates_left : new.there.fates ≡ after_all (length p.sent.ahead) old.there.fates
-  fates_left = ap (λ t. t.fates) p.left ∙ ap (λ t. after_all (length p.sent.ahead) t.fates) p.all.front.sent
+  fates_left = ap (λ t. t.fates) p.left ∙ ap (λ t. after_all (length p.sent.ahead) t.fates) p.all.prefix.sent
 
   late_left : new.there.late ≡ late_of old.there.fates p.sent.ahead
-  late_left = ap (λ t. t.late) p.left ∙ ap (λ t. late_of t.fates p.sent.ahead) p.all.front.sent
+  late_left = ap (λ t. t.late) p.left ∙ ap (λ t. late_of t.fates p.sent.ahead) p.all.prefix.sent
 
   end_left : end_of new.sender ≡ end_of old.sender
   end_left = ap end_of p.acked ∙ all_keep_end old.sender (old.back.late ++ coming_of old.back.fates p.acks)

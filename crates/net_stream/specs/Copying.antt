@@ -26,7 +26,7 @@ pub record Copied (old new held holds : Option (List ℕ)) (read wrote : ℕ) (c
   pub written : List ℕ
   pub consumed : Consumes old new given
   pub appended : Appends held holds written
-  pub front : StartsWith given written
+  pub prefix : StartsWith given written
   pub taken : length given ≡ read
   pub bytes : length written ≡ wrote
   pub whole : complete ≡ true → (written ≡ given) × IsAtEnd new
@@ -68,7 +68,7 @@ pub record HandedPrefix (f : ℕ) (v : Stored) (held holds : Option (List ℕ)) 
     : Type 0 where
   pub bytes : List ℕ
   pub appended : Appends held holds bytes
-  pub front : (w : List ℕ) → ReceivesFrom f w v → StartsWith w (take v.read w ++ bytes)
+  pub prefix : (w : List ℕ) → ReceivesFrom f w v → StartsWith w (take v.read w ++ bytes)
   pub counted : after ≡ min (before + length bytes) (2 ^ 64 - 1)
 
 -- the first n bytes of a text were appended

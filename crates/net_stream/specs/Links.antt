@@ -73,5 +73,5 @@ pub record Round {A : Type 0} (old new : Link A) : Type 0 where
       × (new.sender.base ≡ stored_next new.receiver)
       × (passed.n ≡ length old.sender.queue
       → (stored_next new.receiver ≡ end_of old.sender) × (length new.sender.queue ≡ 0))
-  pub all : length (frames_from old.sender.base passed.all.front.parts) < most_of old.flight
+  pub all : length (frames_from old.sender.base passed.all.prefix.parts) < most_of old.flight
       → is_full old.sender.reported ≡ false → passed.n ≡ length old.sender.queue

@@ -94,5 +94,5 @@ pub record SentPrefix (s : Outgoing) (most flight n : ℕ) (old new : PathSeen) 
 
 -- so they were; and there are `flight` frames, or no part begins behind them
 pub record SentRound (s : Outgoing) (most flight n : ℕ) (old new : PathSeen) : Type 0 where
-  pub front : SentPrefix s most flight n old new
-  pub stop : (stop_of s ≤ s.base + n) ⊎ (length (frames_from s.base front.parts) ≡ flight)
+  pub prefix : SentPrefix s most flight n old new
+  pub stop : (stop_of s ≤ s.base + n) ⊎ (length (frames_from s.base prefix.parts) ≡ flight)

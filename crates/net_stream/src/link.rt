@@ -120,7 +120,7 @@ impl<'a, 'f, A: Allocator + Copy> Link<'a, 'f, A> {
         } }
         ensures carries { (f : ℕ) (w : List ℕ) →
             Carries f w self.old → Carries f (w ++ take result bytes.now) self.new }
-        ensures front { (f from : ℕ) (text : List ℕ) → bytes.now ≡ drop from text →
+        ensures prefix { (f from : ℕ) (text : List ℕ) → bytes.now ≡ drop from text →
             Carries f (take from text) self.old → Carries f (take (from + result) text) self.new }
     {
         laws::says();

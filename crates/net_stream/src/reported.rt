@@ -146,7 +146,7 @@ fn decode_range(bytes: &[u8]) -> Option<(u64, u64, &[u8])>
 fn write_word(buffer: &mut [u8], at: usize, word: u64)
     requires { at + 8 ≤ length buffer.old }
     ensures len { length buffer.new ≡ length buffer.old }
-    ensures front { take (at + 8) buffer.new ≡ take at buffer.old ++ to_be_bytes w64 word }
+    ensures prefix { take (at + 8) buffer.new ≡ take at buffer.old ++ to_be_bytes w64 word }
     ensures fits { word < 2 ^ 64 }
 {
     buffer[at..at + 8].copy_from_slice(&word.to_be_bytes());

@@ -31,7 +31,7 @@ fn flight_after(flight: u32, limit: u32, full: bool) -> u32
 impl<'a, 'f, A: Allocator + Copy> Link<'a, 'f, A> {
     /// Puts frames of what the sender keeps on their way, but of what the receiver reported: at most
     /// `flight` frames. While as many ranges are reported as an acknowledgement has room for, no
-    /// frame begins behind the last of them. A refusal of memory leaves frames of a front on their
+    /// frame begins behind the last of them. A refusal of memory leaves frames of a prefix on their
     /// way, and they are counted.
     pub fn transmit(&mut self) -> Result<(), AllocError>
         ensures sent { OnOk result ((n : ℕ) × SentRound self.old.sender (most_of self.old.payload)

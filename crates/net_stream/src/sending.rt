@@ -54,7 +54,7 @@ fn transmit_part<A: Allocator + Copy>(
 ///
 /// A frame ends at `most` bytes, at the next reported range, where the sender's storage wraps, or
 /// at the end. While as many ranges are reported as an acknowledgement has room for, no frame
-/// begins behind the last of them. A refusal of memory leaves frames of a front on their way, and
+/// begins behind the last of them. A refusal of memory leaves frames of a prefix on their way, and
 /// they are counted.
 pub(crate) fn transmit<A: Allocator + Copy>(
     sender: &Sender<'_>,

@@ -37,8 +37,8 @@ loop-i-preserved g c =
       len = c.write_word-in-loop-i.ensures.len ∙ c.write_word.ensures.len ∙ c.loop-i.invariant.len;
       listed =
           ap (λ n. take n b2) place
-          ∙ c.write_word-in-loop-i.ensures.front
-          ∙ ap (λ l. l ++ e) (c.write_word.ensures.front ∙ ap (λ l. l ++ s) c.loop-i.invariant.listed)
+          ∙ c.write_word-in-loop-i.ensures.prefix
+          ∙ ap (λ l. l ++ e) (c.write_word.ensures.prefix ∙ ap (λ l. l ++ s) c.loop-i.invariant.listed)
           ∙ listed_push (take i all) c.in-Some.start c.in-Some.end
           ∙ ap range_bytes (sym one);
       words = subst (All IsWords) (sym one) (All-push IsWords (take i all) run c.loop-i.invariant.words

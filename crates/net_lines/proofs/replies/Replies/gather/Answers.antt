@@ -1,5 +1,5 @@
 use Rattle.std.proofs.lemmas.Result.{on_ok_weaker, IfErr-weaker}
-use Rattle.net_lines.proofs.Pending.{Gathers-through, AppendsFront-behind}
+use Rattle.net_lines.proofs.Pending.{Gathers-through, AppendsPrefix-behind}
 use Rattle.net_lines.proofs.replies.Replies.gather.Goals as goal
 
 pub returns-then-reply-gt-ROOM-clause-ok : goal.returns-then-reply-gt-ROOM-clause-ok
@@ -11,5 +11,5 @@ returns-then-reply-gt-ROOM-clause-ok g c =
 pub returns-then-reply-gt-ROOM-clause-err : goal.returns-then-reply-gt-ROOM-clause-err
 returns-then-reply-gt-ROOM-clause-err g c =
     IfErr-weaker c.write_whole.result _ _
-    (λ e h. (h.0, c.write_out.ensures.emptied, AppendsFront-behind _ _ _ _ _ c.in_ok-write_out.ensures.ok h.1))
+    (λ e h. (h.0, c.write_out.ensures.emptied, AppendsPrefix-behind _ _ _ _ _ c.in_ok-write_out.ensures.ok h.1))
     c.write_whole.ensures.err

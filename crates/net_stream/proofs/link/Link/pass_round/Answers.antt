@@ -62,9 +62,9 @@ framed bytes n t0 t1 v c c1 c2 c3 same carried late fates met =
 pub returns-in_err-transmit-clause-err : goal.returns-in_err-transmit-clause-err
 returns-in_err-transmit-clause-err g c =
     let s = c.args.self.now.sender in
-    let front = c.in_err-transmit.ensures.err in
-    let bytes = count_outside s.reported s.base front.0 in
-    OnErr-always c.from_residual.result (record { bytes = bytes; frames = 0; acks = 0; counted = same_equal c.transmit.new.counts (with_payload bytes c.args.self.now.counts) front.2 })
+    let prefix = c.in_err-transmit.ensures.err in
+    let bytes = count_outside s.reported s.base prefix.0 in
+    OnErr-always c.from_residual.result (record { bytes = bytes; frames = 0; acks = 0; counted = same_equal c.transmit.new.counts (with_payload bytes c.args.self.now.counts) prefix.2 })
 
 pub returns-in_err-pass_late_frames-clause-err : goal.returns-in_err-pass_late_frames-clause-err
 returns-in_err-pass_late_frames-clause-err g c =
@@ -83,7 +83,7 @@ returns-in_err-pass_frames-clause-err g c =
       bytes = count_outside s.reported s.base c.in_ok-transmit.ensures.sent.0;
       frames = met.0;
       acks = 0;
-      counted = framed (count_outside s.reported s.base c.in_ok-transmit.ensures.sent.0) met.0 c.args.self.now.there c.transmit.new.there c.pass_late_frames.new.there.fates c.args.self.now.counts c.transmit.new.counts c.pass_late_frames.new.counts c.pass_frames.new.counts (ap (λ p. p.fates) c.in_ok-transmit.ensures.sent.1.front.sent) c.in_ok-transmit.ensures.sent.2 late.counted late.fates met.1;
+      counted = framed (count_outside s.reported s.base c.in_ok-transmit.ensures.sent.0) met.0 c.args.self.now.there c.transmit.new.there c.pass_late_frames.new.there.fates c.args.self.now.counts c.transmit.new.counts c.pass_late_frames.new.counts c.pass_frames.new.counts (ap (λ p. p.fates) c.in_ok-transmit.ensures.sent.1.prefix.sent) c.in_ok-transmit.ensures.sent.2 late.counted late.fates met.1;
     })
 
 pub returns-in_err-answer-clause-err : goal.returns-in_err-answer-clause-err
@@ -96,7 +96,7 @@ returns-in_err-answer-clause-err g c =
       bytes = count_outside s.reported s.base c.in_ok-transmit.ensures.sent.0;
       frames = length t2.ahead;
       acks = 0;
-      counted = framed (count_outside s.reported s.base c.in_ok-transmit.ensures.sent.0) (length t2.ahead) c.args.self.now.there c.transmit.new.there t2.fates c.args.self.now.counts c.transmit.new.counts c.pass_late_frames.new.counts c.pass_frames.new.counts (ap (λ p. p.fates) c.in_ok-transmit.ensures.sent.1.front.sent) c.in_ok-transmit.ensures.sent.2 late.counted late.fates c.in_ok-pass_frames.ensures.counted;
+      counted = framed (count_outside s.reported s.base c.in_ok-transmit.ensures.sent.0) (length t2.ahead) c.args.self.now.there c.transmit.new.there t2.fates c.args.self.now.counts c.transmit.new.counts c.pass_late_frames.new.counts c.pass_frames.new.counts (ap (λ p. p.fates) c.in_ok-transmit.ensures.sent.1.prefix.sent) c.in_ok-transmit.ensures.sent.2 late.counted late.fates c.in_ok-pass_frames.ensures.counted;
     })
 
 pub returns-in_err-pass_acks-clause-err : goal.returns-in_err-pass_acks-clause-err
@@ -108,7 +108,7 @@ returns-in_err-pass_acks-clause-err g c =
     let late = c.pass_late_frames.ensures in
     let bytes = count_outside s.reported s.base c.in_ok-transmit.ensures.sent.0 in
     let frames = with_fates (length t2.ahead) c.args.self.now.there.fates (with_payload bytes c.args.self.now.counts) in
-    let there = framed (count_outside s.reported s.base c.in_ok-transmit.ensures.sent.0) (length t2.ahead) c.args.self.now.there c.transmit.new.there t2.fates c.args.self.now.counts c.transmit.new.counts c.pass_late_frames.new.counts c.pass_frames.new.counts (ap (λ p. p.fates) c.in_ok-transmit.ensures.sent.1.front.sent) c.in_ok-transmit.ensures.sent.2 late.counted late.fates c.in_ok-pass_frames.ensures.counted in
+    let there = framed (count_outside s.reported s.base c.in_ok-transmit.ensures.sent.0) (length t2.ahead) c.args.self.now.there c.transmit.new.there t2.fates c.args.self.now.counts c.transmit.new.counts c.pass_late_frames.new.counts c.pass_frames.new.counts (ap (λ p. p.fates) c.in_ok-transmit.ensures.sent.1.prefix.sent) c.in_ok-transmit.ensures.sent.2 late.counted late.fates c.in_ok-pass_frames.ensures.counted in
     let back : b4.fates ≡ c.args.self.now.back.fates = c.pass_late_acks.ensures.fates ∙ ap (λ p. p.fates) c.in_ok-answer.ensures.ok ∙ c.pass_frames.ensures.fates ∙ late.back_fates in
     OnErr-always c.from_residual-in_err-pass_acks.result
     (record {
@@ -141,7 +141,7 @@ returns-clause-round g c =
     let late = c.pass_late_frames.ensures in
     let ok_late = c.in_ok-pass_late_frames.ensures in
     let ok_frames = c.in_ok-pass_frames.ensures in
-    let sent = round.front in
+    let sent = round.prefix in
     let told = c.in_ok-answer.ensures.ok in
     let fates : t2.fates ≡ t0.fates = late.fates ∙ ap (λ p. p.fates) sent.sent in
     let old : t1.late ≡ t0.late = ap (λ p. p.late) sent.sent in

@@ -9,6 +9,6 @@ returns-clause-carries g c = λ f w h.
     written c.says.ensures.longer c.receives.ensures.longer f w (take c.write.result c.args.bytes.now) l.sender c.write.new.self l.receiver l.there l.back
     (ap (λ v. v.base) c.write.ensures.state) (ap (λ v. v.reported) c.write.ensures.state) (c.write.ensures.sends f w) h
 
-pub returns-clause-front : goal.returns-clause-front
-returns-clause-front g c = λ f from text rest h.
+pub returns-clause-prefix : goal.returns-clause-prefix
+returns-clause-prefix g c = λ f from text rest h.
     subst (λ w. Carries f w (record c.args.self.now { sender = c.write.new.self })) (ap (λ xs. take from text ++ take c.write.result xs) rest ∙ sym (take-add from c.write.result text)) (returns-clause-carries g c f (take from text) h)
