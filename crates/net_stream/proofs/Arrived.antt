@@ -16,26 +16,31 @@ module _ (most : ℕ) (r : Stored) (o : Option (ℕ × List ℕ)) (pos : ℕ) (x
   past_arrived past = sym (ap (receiver_after most r) at ∙ cond-false _ (stored_after most r (Segment pos xs)) r (le-ltb (pos + length xs) (2 ^ 64) past))
 
   pub past_answer : (back : PathSeen) → 2 ^ 64 ≤ pos + length xs → back ≡ with_answer r o back
-  past_answer back past = sym (ap (λ p. with_answer r p back) at ∙ cond-false _ (record back { ahead = back.ahead ++ answer_of r ∷ [] }) back (le-ltb (pos + length xs) (2 ^ 64) past))
+  past_answer back past = sym (ap (λ p. with_answer r p back) at ∙ cond-false _ (record back { ahead = back.ahead ++ answer_of r ∷ [] }) back
+      (le-ltb (pos + length xs) (2 ^ 64) past))
 
   pub past_counted : (c : FrameCounts) → 2 ^ 64 ≤ pos + length xs → c ≡ with_refusal most r o c
   past_counted c past =
       sym
       (ap (λ p. with_refusal most r p c) at
-      ∙ ap (λ b. cond (b && is_refused (stored_reply most r (Segment pos xs))) (record c { refused = more c.refused }) c) (le-ltb (pos + length xs) (2 ^ 64) past))
+      ∙ ap (λ b. cond (b && is_refused (stored_reply most r (Segment pos xs))) (record c { refused = more c.refused }) c)
+      (le-ltb (pos + length xs) (2 ^ 64) past))
 
   -- they do not
   pub taken_arrived : pos + length xs < 2 ^ 64 → stored_after most r (Segment pos xs) ≡ receiver_after most r o
   taken_arrived fits = sym (ap (receiver_after most r) at ∙ cond-true _ (stored_after most r (Segment pos xs)) r (lt-ltb (pos + length xs) (2 ^ 64) fits))
 
   pub taken_answer : (back : PathSeen) → pos + length xs < 2 ^ 64 → record back { ahead = back.ahead ++ answer_of r ∷ [] } ≡ with_answer r o back
-  taken_answer back fits = sym (ap (λ p. with_answer r p back) at ∙ cond-true _ (record back { ahead = back.ahead ++ answer_of r ∷ [] }) back (lt-ltb (pos + length xs) (2 ^ 64) fits))
+  taken_answer back fits = sym (ap (λ p. with_answer r p back) at ∙ cond-true _ (record back { ahead = back.ahead ++ answer_of r ∷ [] }) back
+      (lt-ltb (pos + length xs) (2 ^ 64) fits))
 
-  pub taken_counted : (c : FrameCounts) (result : Result Kept TooManyHolesError) (refused : Bool) → pos + length xs < 2 ^ 64 → Segmented result ≡ stored_reply most r (Segment pos xs) → refused ≡ is_err result →
+  pub taken_counted : (c : FrameCounts) (result : Result Kept TooManyHolesError) (refused : Bool) → pos + length xs < 2 ^ 64 →
+      Segmented result ≡ stored_reply most r (Segment pos xs) → refused ≡ is_err result →
       cond refused (record c { refused = more c.refused }) c ≡ with_refusal most r o c
   taken_counted c result refused fits reply is =
       ap (λ b. cond b (record c { refused = more c.refused }) c) (is ∙ told result ∙ ap is_refused reply)
-      ∙ ap (λ b. cond (b && is_refused (stored_reply most r (Segment pos xs))) (record c { refused = more c.refused }) c) (sym (lt-ltb (pos + length xs) (2 ^ 64) fits))
+      ∙ ap (λ b. cond (b && is_refused (stored_reply most r (Segment pos xs))) (record c { refused = more c.refused }) c)
+      (sym (lt-ltb (pos + length xs) (2 ^ 64) fits))
       ∙ ap (λ p. with_refusal most r p c) (sym at)
     where
       told : (t : Result Kept TooManyHolesError) → is_err t ≡ is_refused (Segmented t)

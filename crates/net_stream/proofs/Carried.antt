@@ -1,5 +1,7 @@
 -- What a stream on its way stays, step by step.
-use Rattle.std.proofs.Common.{◌≡◌, ℕ, ◌≤◌, ◌<◌, ◌^◌, ◌&&◌, nat_le, Bool, true, false, cond, Result, Ok, Err, OnOk, OnErr, List, [], ◌∷◌, ◌++◌, All, Option, Some, refl, sym, ap, subst, ◌∙◌, ⊎_elim, le_trans, arith}
+use Rattle.std.proofs.Common.{◌≡◌, ℕ, ◌≤◌, ◌<◌, ◌^◌, ◌&&◌, nat_le, Bool, true, false, cond, Result}
+use Rattle.std.proofs.Common.{Ok, Err, OnOk, OnErr, List, [], ◌∷◌, ◌++◌, All, Option, Some, refl}
+use Rattle.std.proofs.Common.{sym, ap, subst, ◌∙◌, ⊎_elim, le_trans, arith}
 use Rattle.std.proofs.lemmas.Bool.{both_ways}
 use Rattle.std.proofs.lemmas.List.Elements.{All-nil, All-cons, All-head, All-tail}
 use Rattle.net_receiver.specs.Stored.{Stored, stored_next}
@@ -33,9 +35,11 @@ encoded trip f w pos xs h says = λ p ys is.
 -- ---- steps
 module _ (f : ℕ) (w : List ℕ) where
   -- the receiver took something, and keeps what it had
-  pub took : (s : Outgoing) (r u : Stored) (there back : PathSeen) → (ReceivesFrom f w r → ReceivesFrom f w u) → stored_next r ≤ stored_next u → ((p : ℕ) → Has r p → Has u p) → IsUnderWay f w s r there back → IsUnderWay f w s u there back
+  pub took : (s : Outgoing) (r u : Stored) (there back : PathSeen) → (ReceivesFrom f w r → ReceivesFrom f w u) → stored_next r ≤ stored_next u →
+      ((p : ℕ) → Has r p → Has u p) → IsUnderWay f w s r there back → IsUnderWay f w s u there back
   took s r u there back receives more keeps c =
-      let wider : (frame : List ℕ) → FrameTells r frame → FrameTells u frame = λ frame tells n xs at. (let t = tells n xs at in (le_trans t.0 more, λ p h. keeps p (t.1 p h))) in
+      let wider : (frame : List ℕ) → FrameTells r frame → FrameTells u frame =
+      λ frame tells n xs at. (let t = tells n xs at in (le_trans t.0 more, λ p h. keeps p (t.1 p h))) in
       record {
         sends = c.sends;
         receives = receives c.receives;
@@ -48,7 +52,8 @@ module _ (f : ℕ) (w : List ℕ) where
       }
 
   -- the frames on their way are others
-  pub coming_are : (s : Outgoing) (r : Stored) (there there' back : PathSeen) → (Sends f w s → All (FrameSays f w) there.ahead → All (FrameSays f w) there'.ahead) → (All (FrameSays f w) there.late → All (FrameSays f w) there'.late) →
+  pub coming_are : (s : Outgoing) (r : Stored) (there there' back : PathSeen) →
+      (Sends f w s → All (FrameSays f w) there.ahead → All (FrameSays f w) there'.ahead) → (All (FrameSays f w) there.late → All (FrameSays f w) there'.late) →
       IsUnderWay f w s r there back → IsUnderWay f w s r there' back
   coming_are s r there there' back ahead late c = record {
     sends = c.sends;
@@ -62,7 +67,8 @@ module _ (f : ℕ) (w : List ℕ) where
   }
 
   -- the acknowledgements on their way are others
-  pub going_are : (s : Outgoing) (r : Stored) (there back back' : PathSeen) → (All (FrameTells r) back.ahead → All (FrameTells r) back'.ahead) → (All (FrameTells r) back.late → All (FrameTells r) back'.late) →
+  pub going_are : (s : Outgoing) (r : Stored) (there back back' : PathSeen) → (All (FrameTells r) back.ahead → All (FrameTells r) back'.ahead) →
+      (All (FrameTells r) back.late → All (FrameTells r) back'.late) →
       IsUnderWay f w s r there back → IsUnderWay f w s r there back'
   going_are s r there back back' ahead late c = record {
     sends = c.sends;
@@ -76,14 +82,16 @@ module _ (f : ℕ) (w : List ℕ) where
   }
 
   -- an acknowledgement was sent
-  pub answered : (s : Outgoing) (r : Stored) (there back back' : PathSeen) (ack : List ℕ) → back' ≡ record back { ahead = back.ahead ++ ack ∷ [] } → FrameTells r ack → IsUnderWay f w s r there back → IsUnderWay f w s r there back'
+  pub answered : (s : Outgoing) (r : Stored) (there back back' : PathSeen) (ack : List ℕ) → back' ≡ record back { ahead = back.ahead ++ ack ∷ [] } →
+      FrameTells r ack → IsUnderWay f w s r there back → IsUnderWay f w s r there back'
   answered s r there back back' ack is within c =
       going_are s r there back back'
       (λ all. subst (All (FrameTells r)) (sym (ap (λ p. p.ahead) is)) (All-push (FrameTells r) back.ahead ack all within))
       (subst (All (FrameTells r)) (sym (ap (λ p. p.late) is))) c
 
 -- nothing was written yet
-pub begun : (f : ℕ) (s : Outgoing) (r : Stored) (there back : PathSeen) → Sends f [] s → s.base ≡ f → s.reported ≡ [] → ReceivesFrom f [] r → r.first ≡ f → there.ahead ≡ [] → there.late ≡ [] → back.ahead ≡ [] → back.late ≡ [] → IsUnderWay f [] s r there back
+pub begun : (f : ℕ) (s : Outgoing) (r : Stored) (there back : PathSeen) → Sends f [] s → s.base ≡ f → s.reported ≡ [] → ReceivesFrom f [] r → r.first ≡ f →
+    there.ahead ≡ [] → there.late ≡ [] → back.ahead ≡ [] → back.late ≡ [] → IsUnderWay f [] s r there back
 begun f s r there back sends base none_reported receives from none none_late none_back none_late_back = record {
   sends = sends;
   receives = receives;
@@ -96,7 +104,8 @@ begun f s r there back sends base none_reported receives from none none_late non
 }
 
 -- more was written
-pub written : SaysOfLonger → ReceivesFromLonger → (f : ℕ) (w more : List ℕ) (s t : Outgoing) (r : Stored) (there back : PathSeen) → t.base ≡ s.base → t.reported ≡ s.reported → (Sends f w s → Sends f (w ++ more) t) →
+pub written : SaysOfLonger → ReceivesFromLonger → (f : ℕ) (w more : List ℕ) (s t : Outgoing) (r : Stored) (there back : PathSeen) → t.base ≡ s.base →
+    t.reported ≡ s.reported → (Sends f w s → Sends f (w ++ more) t) →
     IsUnderWay f w s r there back → IsUnderWay f (w ++ more) t r there back
 written longer longer_from f w more s t r there back base reported sends c =
     let longer_frame : (frame : List ℕ) → FrameSays f w frame → FrameSays f (w ++ more) frame = λ frame h pos xs is. longer f pos w more xs (h pos xs is) in
@@ -112,10 +121,12 @@ written longer longer_from f w more s t r there back base reported sends c =
     }
 
 -- a frame was sent that says what the stream has
-pub sent_says : (f : ℕ) (w : List ℕ) (s : Outgoing) (r : Stored) (there there' back : PathSeen) (pos : ℕ) (xs : List ℕ) → RoundTrip → pos < 2 ^ 64 → there' ≡ record there { ahead = there.ahead ++ frame_of pos xs ∷ [] } → Says f w pos xs → IsUnderWay f w s r there back → IsUnderWay f w s r there' back
+pub sent_says : (f : ℕ) (w : List ℕ) (s : Outgoing) (r : Stored) (there there' back : PathSeen) (pos : ℕ) (xs : List ℕ) → RoundTrip → pos < 2 ^ 64 →
+    there' ≡ record there { ahead = there.ahead ++ frame_of pos xs ∷ [] } → Says f w pos xs → IsUnderWay f w s r there back → IsUnderWay f w s r there' back
 sent_says f w s r there there' back pos xs trip word is says c =
     coming_are f w s r there there' back
-    (λ _ all. subst (All (FrameSays f w)) (sym (ap (λ p. p.ahead) is)) (All-push (FrameSays f w) there.ahead (frame_of pos xs) all (encoded trip f w pos xs word says)))
+    (λ _ all. subst (All (FrameSays f w)) (sym (ap (λ p. p.ahead) is))
+    (All-push (FrameSays f w) there.ahead (frame_of pos xs) all (encoded trip f w pos xs word says)))
     (subst (All (FrameSays f w)) (sym (ap (λ p. p.late) is))) c
 
 -- whether a call answered Ok or not
@@ -132,7 +143,8 @@ no_further v n ranges limit h k = both (nat_le v.base n && nat_le n (end_of v))
     both false = h
 
 -- what was reported before or is reported now, the receiver has
-still_had : (r : Stored) (v : Outgoing) (n : ℕ) (ranges : List (ℕ × ℕ)) → HasReported r v.reported → HasReported r ranges → HasReported r (after_ack v n ranges).reported
+still_had : (r : Stored) (v : Outgoing) (n : ℕ) (ranges : List (ℕ × ℕ)) → HasReported r v.reported → HasReported r ranges →
+    HasReported r (after_ack v n ranges).reported
 still_had r v n ranges h k = both (nat_le v.base n && nat_le n (end_of v))
   where
     both : (t : Bool) → HasReported r (cond t (sender_from v n ranges) v).reported
@@ -140,7 +152,8 @@ still_had r v n ranges h k = both (nat_le v.base n && nat_le n (end_of v))
     both false = h
 
 pub acked : (f : ℕ) (w : List ℕ) (s t : Outgoing) (r : Stored) (there back : PathSeen) (frame : List ℕ) (n : ℕ) (xs : List ℕ) →
-    segment_of frame ≡ Some (n, xs) → t ≡ after_ack s n (ranges_of most_reported xs) → (Sends f w s → Sends f w t) → FrameTells r frame → IsUnderWay f w s r there back → IsUnderWay f w t r there back
+    segment_of frame ≡ Some (n, xs) → t ≡ after_ack s n (ranges_of most_reported xs) → (Sends f w s → Sends f w t) → FrameTells r frame →
+    IsUnderWay f w s r there back → IsUnderWay f w t r there back
 acked f w s t r there back frame n xs at is sends tells c =
     let told = tells n xs at in
     record {
@@ -161,7 +174,8 @@ rest_of P x old left new is same all =
     (All-head P x left both, subst (All P) (sym same) (All-tail P x left both))
 
 -- it met its fate, and may be among the late ones
-may_return : (P : List ℕ → Type 0) (frame : List ℕ) (old new : PathSeen) → P frame → MayReturn frame old new → (All P old.ahead → All P new.ahead) × (All P old.late → All P new.late)
+may_return : (P : List ℕ → Type 0) (frame : List ℕ) (old new : PathSeen) → P frame → MayReturn frame old new →
+    (All P old.ahead → All P new.ahead) × (All P old.late → All P new.late)
 may_return P frame old new one again =
     ⊎_elim {C = (All P old.ahead → All P new.ahead) × (All P old.late → All P new.late)}
     (λ (e : new ≡ old). (subst (All P) (sym (ap (λ p. p.ahead) e)), subst (All P) (sym (ap (λ p. p.late) e))))
@@ -179,7 +193,8 @@ pub first_late : (t0 t1 : PathSeen) (x frame : List ℕ) → t0 ≡ record t1 { 
 first_late t0 t1 x frame first is = first ∙ ap (λ y. record t1 { late = y ∷ t1.late }) (sym is)
 
 -- before it meets its fate: what it says, and what is on its way without it
-pub before : (f : ℕ) (w : List ℕ) (s : Outgoing) (r : Stored) (t0 t1 t2 back : PathSeen) (frame : List ℕ) (left : FatesSeen) → t0 ≡ record t1 { ahead = frame ∷ t1.ahead } → t2 ≡ record t1 { fates = left } →
+pub before : (f : ℕ) (w : List ℕ) (s : Outgoing) (r : Stored) (t0 t1 t2 back : PathSeen) (frame : List ℕ) (left : FatesSeen) →
+    t0 ≡ record t1 { ahead = frame ∷ t1.ahead } → t2 ≡ record t1 { fates = left } →
     IsUnderWay f w s r t0 back → FrameSays f w frame × IsUnderWay f w s r t2 back
 before f w s r t0 t1 t2 back frame left first drawn c =
     let rest = rest_of (FrameSays f w) frame t0.ahead t1.ahead t2.ahead (ap (λ p. p.ahead) first) (ap (λ p. p.ahead) drawn) c.coming in

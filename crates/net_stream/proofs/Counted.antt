@@ -1,5 +1,6 @@
 -- What is counted of frames that met their fates.
-use Rattle.std.proofs.Common.{◌≡◌, ◌&&◌, ℕ, zero, suc, ◌+◌, ◌^◌, nat_lt, Bool, true, false, cond, List, ◌∷◌, length, Option, Some, None, refl, sym, ap, ◌∙◌, arith}
+use Rattle.std.proofs.Common.{◌≡◌, ◌&&◌, ℕ, zero, suc, ◌+◌, ◌^◌, nat_lt, Bool, true, false, cond}
+use Rattle.std.proofs.Common.{List, ◌∷◌, length, Option, Some, None, refl, sym, ap, ◌∙◌, arith}
 use Rattle.net_receiver.specs.Rules.{Segment}
 use Rattle.net_receiver.specs.Stored.{Stored, stored_reply}
 use Rattle.net_stream.specs.declared.counts.FrameCounts.{FrameCounts}
@@ -37,7 +38,8 @@ pub same_refusing : (most : ℕ) (r : Stored) (o : Option (ℕ × List ℕ)) (c 
 same_refusing most r o c d is = same_equal d (with_refusal most r o c) is ∙ refusing_is most r o c
 
 -- one frame met its fate
-pub met_one : (t0 t1 t2 t3 : PathSeen) (frame : List ℕ) (lot : Fate) (c c1 c2 : FrameCounts) → t0 ≡ record t1 { ahead = frame ∷ t1.ahead } → lot ≡ next_fate t1.fates → t2 ≡ record t1 { fates = after_fate t1.fates } → MayReturn frame t2 t3 → c1 ≡ with_fate lot c → SameButRefused c2 c1 →
+pub met_one : (t0 t1 t2 t3 : PathSeen) (frame : List ℕ) (lot : Fate) (c c1 c2 : FrameCounts) → t0 ≡ record t1 { ahead = frame ∷ t1.ahead } →
+    lot ≡ next_fate t1.fates → t2 ≡ record t1 { fates = after_fate t1.fates } → MayReturn frame t2 t3 → c1 ≡ with_fate lot c → SameButRefused c2 c1 →
     (t3.fates ≡ after_fate t0.fates) × SameButRefused c2 (with_fate (next_fate t0.fates) c) × (length t0.ahead ≡ length t3.ahead + 1)
 met_one t0 t1 t2 t3 frame lot c c1 c2 first is drawn again counted same =
     let kept = returned frame t2 t3 again in
@@ -49,7 +51,8 @@ met_one t0 t1 t2 t3 frame lot c c1 c2 first is drawn again counted same =
     )
 
 -- so are the frames that are left
-pub met_left : (v v' : FatesSeen) (c c' : FrameCounts) (m n : ℕ) → m ≡ n + 1 → v' ≡ after_fate v → SameButRefused c' (with_fate (next_fate v) c) → SameButRefused (with_fates n v' c') (with_fates m v c)
+pub met_left : (v v' : FatesSeen) (c c' : FrameCounts) (m n : ℕ) → m ≡ n + 1 → v' ≡ after_fate v → SameButRefused c' (with_fate (next_fate v) c) →
+    SameButRefused (with_fates n v' c') (with_fates m v c)
 met_left v v' c c' m n is left same =
     let k : m ≡ suc n = omega arith in
     ap (λ u. record (with_fates n u c') { refused = 0 }) left
@@ -70,7 +73,8 @@ MetSoFar k v u c d = (n : ℕ) → SameButRefused (with_fates n u d) (with_fates
 pub none_met : (v : FatesSeen) (c : FrameCounts) → MetSoFar 0 v v c c
 none_met v c = λ n. ap (λ j. record (with_fates j v c) { refused = 0 }) (let e : n ≡ 0 + n = omega arith in e)
 
-pub one_more_met : (k : ℕ) (v u u' : FatesSeen) (c d d' : FrameCounts) → u' ≡ after_fate u → SameButRefused d' (with_fate (next_fate u) d) → MetSoFar k v u c d → MetSoFar (k + 1) v u' c d'
+pub one_more_met : (k : ℕ) (v u u' : FatesSeen) (c d d' : FrameCounts) → u' ≡ after_fate u → SameButRefused d' (with_fate (next_fate u) d) →
+    MetSoFar k v u c d → MetSoFar (k + 1) v u' c d'
 one_more_met k v u u' c d d' left same so_far = λ n.
     met_left u u' d d' (suc n) n (omega arith) left same
     ∙ so_far (suc n)
@@ -82,5 +86,6 @@ all_met k m v u c d d' is all so_far =
     same_equal d' d is ∙ so_far 0 ∙ ap (λ j. record (with_fates j v c) { refused = 0 }) (let e : k + 0 ≡ m = omega arith in e)
 
 -- one of them met its fate, and the call ended
-pub met_last : (k : ℕ) (v u : FatesSeen) (c d d' : FrameCounts) → SameButRefused d' (with_fate (next_fate u) d) → MetSoFar k v u c d → (n : ℕ) × SameButRefused d' (with_fates n v c)
+pub met_last : (k : ℕ) (v u : FatesSeen) (c d d' : FrameCounts) → SameButRefused d' (with_fate (next_fate u) d) → MetSoFar k v u c d →
+    (n : ℕ) × SameButRefused d' (with_fates n v c)
 met_last k v u c d d' same so_far = (k + 1, same ∙ so_far 1)

@@ -42,7 +42,8 @@ all_past (suc m) n v u c = ap (with_fates m (after_fate v)) (met_past n u (next_
 -- ---- and so are those of one direction, one behind the other
 met_more : (m n : ℕ) (v : FatesSeen) (c : FrameCounts) → with_fates n (after_all m v) (with_fates m v c) ≡ with_fates (m + n) v c
 met_more zero n v c = ap (λ j. with_fates j v c) (let e : n ≡ 0 + n = omega arith in e)
-met_more (suc m) n v c = met_more m n (after_fate v) (with_fate (next_fate v) c) ∙ ap (λ j. with_fates j v c) (let e : suc (m + n) ≡ suc m + n = omega arith in e)
+met_more (suc m) n v c = met_more m n (after_fate v) (with_fate (next_fate v) c)
+    ∙ ap (λ j. with_fates j v c) (let e : suc (m + n) ≡ suc m + n = omega arith in e)
 
 after_more : (m n : ℕ) (v : FatesSeen) → after_all n (after_all m v) ≡ after_all (m + n) v
 after_more zero n v = ap (λ j. after_all j v) (let e : n ≡ 0 + n = omega arith in e)
@@ -60,7 +61,8 @@ same_fates zero v c d same = same
 same_fates (suc n) v c d same = same_fates n (after_fate v) (with_fate (next_fate v) c) (with_fate (next_fate v) d) (same_fate (next_fate v) c d same)
 
 -- ---- one round more
-more_met : (v v' u u' : FatesSeen) (c d : FrameCounts) (bytes frames acks : ℕ) → SameButRefused d (with_fates acks u' (with_fates frames u (with_payload bytes c))) → (h : FatesSoFar v v' u u' c) →
+more_met : (v v' u u' : FatesSeen) (c d : FrameCounts) (bytes frames acks : ℕ) →
+    SameButRefused d (with_fates acks u' (with_fates frames u (with_payload bytes c))) → (h : FatesSoFar v v' u u' c) →
     fates_only d ≡ fates_only (with_fates (h.acks + acks) v' (with_fates (h.frames + frames) v no_frames))
 more_met v v' u u' c d bytes frames acks same h =
     let before = with_fates h.frames v no_frames in
@@ -68,16 +70,19 @@ more_met v v' u u' c d bytes frames acks same h =
     let there = with_fates (h.frames + frames) v no_frames in
     let framed : with_fates frames u both ≡ with_fates h.acks v' there =
     all_past frames h.acks u v' before ∙ ap (with_fates h.acks v') (ap (λ w. with_fates frames w before) h.left ∙ met_more h.frames frames v no_frames) in
-    let acked : with_fates acks u' (with_fates h.acks v' there) ≡ with_fates (h.acks + acks) v' there = ap (λ w. with_fates acks w (with_fates h.acks v' there)) h.left_back ∙ met_more h.acks acks v' there in
+    let acked : with_fates acks u' (with_fates h.acks v' there) ≡ with_fates (h.acks + acks) v' there =
+    ap (λ w. with_fates acks w (with_fates h.acks v' there)) h.left_back ∙ met_more h.acks acks v' there in
     ap fates_only same
     ∙ same_fates acks u' (with_fates frames u (with_payload bytes c)) (with_fates frames u both) (same_fates frames u (with_payload bytes c) both h.counted)
     ∙ ap (λ x. fates_only (with_fates acks u' x)) framed
     ∙ ap fates_only acked
 
 pub part_met : (v v' u u' : FatesSeen) (c d : FrameCounts) → PartCounted u u' c d → FatesSoFar v v' u u' c → FatesCounted v v' d
-part_met v v' u u' c d part h = record { frames = h.frames + part.frames; acks = h.acks + part.acks; counted = more_met v v' u u' c d part.bytes part.frames part.acks part.counted h }
+part_met v v' u u' c d part h =
+    record { frames = h.frames + part.frames; acks = h.acks + part.acks; counted = more_met v v' u u' c d part.bytes part.frames part.acks part.counted h }
 
-pub round_met : {A : Type 0} (v v' : FatesSeen) (old new : Link A) → Passed old new → FatesSoFar v v' old.there.fates old.back.fates old.counts → FatesSoFar v v' new.there.fates new.back.fates new.counts
+pub round_met : {A : Type 0} (v v' : FatesSeen) (old new : Link A) → Passed old new → FatesSoFar v v' old.there.fates old.back.fates old.counts →
+    FatesSoFar v v' new.there.fates new.back.fates new.counts
 round_met v v' old new round h =
     let s = old.sender in
     let frames = length round.sent.ahead in
@@ -85,7 +90,8 @@ round_met v v' old new round h =
     record {
       frames = h.frames + frames;
       acks = h.acks + acks;
-      left = ap (λ p. p.fates) round.left ∙ ap (λ p. after_all frames p.fates) round.all.prefix.sent ∙ ap (after_all frames) h.left ∙ after_more h.frames frames v;
+      left = ap (λ p. p.fates) round.left ∙ ap (λ p. after_all frames p.fates) round.all.prefix.sent ∙ ap (after_all frames) h.left
+          ∙ after_more h.frames frames v;
       left_back = ap (λ p. p.fates) round.left_back ∙ ap (after_all acks) h.left_back ∙ after_more h.acks acks v';
       counted = more_met v v' old.there.fates old.back.fates old.counts new.counts (count_outside s.reported s.base round.n) frames acks round.counted h;
     }

@@ -1,5 +1,6 @@
 -- What frames that come leave, one after another.
-use Rattle.std.proofs.Common.{◌≡◌, ℕ, ◌+◌, ◌^◌, nat_lt, Bool, true, false, cond, List, [], ◌∷◌, ◌++◌, length, Option, Some, None, refl, sym, ap, ◌∙◌, append_assoc}
+use Rattle.std.proofs.Common.{◌≡◌, ℕ, ◌+◌, ◌^◌, nat_lt, Bool, true, false, cond, List, [], ◌∷◌}
+use Rattle.std.proofs.Common.{◌++◌, length, Option, Some, None, refl, sym, ap, ◌∙◌, append_assoc}
 use Rattle.std.proofs.lemmas.List.{append-nil}
 use Rattle.net_receiver.specs.Stored.{Stored}
 use Rattle.net_stream.specs.Frames.{segment_of}
@@ -26,7 +27,8 @@ with_answer_late r (Some (pos, xs)) back = both (nat_lt (pos + length xs) (2 ^ 6
     both false = refl
 
 -- one frame came, and these come after it
-pub one_answered : (N : ℕ) (r r1 : Stored) (frame : List ℕ) (b b1 : PathSeen) (frames : List (List ℕ)) → r1 ≡ receiver_after N r (segment_of frame) → b1 ≡ with_answer r1 (segment_of frame) b →
+pub one_answered : (N : ℕ) (r r1 : Stored) (frame : List ℕ) (b b1 : PathSeen) (frames : List (List ℕ)) → r1 ≡ receiver_after N r (segment_of frame) →
+    b1 ≡ with_answer r1 (segment_of frame) b →
     b1.ahead ++ answers_of N r1 frames ≡ b.ahead ++ answers_of N r (frame ∷ frames)
 one_answered N r r1 frame b b1 frames e k =
     ap (λ p. p.ahead ++ answers_of N r1 frames) k
@@ -38,11 +40,13 @@ one_answered N r r1 frame b b1 frames e k =
 return_keeps : (lot : Fate) (frame : List ℕ) (t : PathSeen) → ((with_return lot frame t).ahead ≡ t.ahead) × ((with_return lot frame t).fates ≡ t.fates)
 return_keeps lot frame t = both (comes_late lot)
   where
-    both : (b : Bool) → ((cond b (record t { late = t.late ++ frame ∷ [] }) t).ahead ≡ t.ahead) × ((cond b (record t { late = t.late ++ frame ∷ [] }) t).fates ≡ t.fates)
+    both : (b : Bool) → ((cond b (record t { late = t.late ++ frame ∷ [] }) t).ahead ≡ t.ahead)
+        × ((cond b (record t { late = t.late ++ frame ∷ [] }) t).fates ≡ t.fates)
     both true = (refl, refl)
     both false = (refl, refl)
 
-coming_step : (t0 t1 t2 t3 : PathSeen) (frame : List ℕ) (lot : Fate) → t0 ≡ record t1 { ahead = frame ∷ t1.ahead } → lot ≡ next_fate t1.fates → t2 ≡ record t1 { fates = after_fate t1.fates } → t3 ≡ with_return lot frame t2 →
+coming_step : (t0 t1 t2 t3 : PathSeen) (frame : List ℕ) (lot : Fate) → t0 ≡ record t1 { ahead = frame ∷ t1.ahead } → lot ≡ next_fate t1.fates →
+    t2 ≡ record t1 { fates = after_fate t1.fates } → t3 ≡ with_return lot frame t2 →
     coming_of t0.fates t0.ahead ≡ cond (comes lot) (frame ∷ coming_of t3.fates t3.ahead) (coming_of t3.fates t3.ahead)
 coming_step t0 t1 t2 t3 frame lot first is drawn again =
     let kept = return_keeps lot frame t2 in
@@ -51,14 +55,16 @@ coming_step t0 t1 t2 t3 frame lot first is drawn again =
     let same : coming_of (after_fate t1.fates) t1.ahead ≡ coming_of t3.fates t3.ahead = (λ i. coming_of (sym fates i) (sym ahead i)) in
     ap (λ p. coming_of p.fates p.ahead) first ∙ (λ i. cond (comes (sym is i)) (frame ∷ same i) (same i))
 
-pub frame_answered : (N : ℕ) (r r1 : Stored) (b b1 t0 t1 t2 t3 : PathSeen) (frame : List ℕ) (lot : Fate) → t0 ≡ record t1 { ahead = frame ∷ t1.ahead } → lot ≡ next_fate t1.fates → t2 ≡ record t1 { fates = after_fate t1.fates } → t3 ≡ with_return lot frame t2 →
+pub frame_answered : (N : ℕ) (r r1 : Stored) (b b1 t0 t1 t2 t3 : PathSeen) (frame : List ℕ) (lot : Fate) → t0 ≡ record t1 { ahead = frame ∷ t1.ahead } →
+    lot ≡ next_fate t1.fates → t2 ≡ record t1 { fates = after_fate t1.fates } → t3 ≡ with_return lot frame t2 →
     r1 ≡ cond (comes lot) (receiver_after N r (segment_of frame)) r → b1 ≡ cond (comes lot) (with_answer r1 (segment_of frame) b) b →
     b1.ahead ++ answers_of N r1 (coming_of t3.fates t3.ahead) ≡ b.ahead ++ answers_of N r (coming_of t0.fates t0.ahead)
 frame_answered N r r1 b b1 t0 t1 t2 t3 frame lot first is drawn again state told =
     both (comes lot) state told ∙ ap (λ l. b.ahead ++ answers_of N r l) (sym (coming_step t0 t1 t2 t3 frame lot first is drawn again))
   where
     both : (t : Bool) → r1 ≡ cond t (receiver_after N r (segment_of frame)) r → b1 ≡ cond t (with_answer r1 (segment_of frame) b) b →
-        b1.ahead ++ answers_of N r1 (coming_of t3.fates t3.ahead) ≡ b.ahead ++ answers_of N r (cond t (frame ∷ coming_of t3.fates t3.ahead) (coming_of t3.fates t3.ahead))
+        b1.ahead ++ answers_of N r1 (coming_of t3.fates t3.ahead) ≡ b.ahead ++ answers_of N r
+        (cond t (frame ∷ coming_of t3.fates t3.ahead) (coming_of t3.fates t3.ahead))
     both true e k = one_answered N r r1 frame b b1 (coming_of t3.fates t3.ahead) e k
     both false e k = λ i. (k i).ahead ++ answers_of N (e i) (coming_of t3.fates t3.ahead)
 
@@ -71,4 +77,5 @@ pub answers_append : (N : ℕ) (r : Stored) (xs ys : List (List ℕ)) → answer
 answers_append N r [] ys = refl
 answers_append N r (x ∷ xs) ys =
     let r1 = receiver_after N r (segment_of x) in
-    ap (λ l. answer_to r1 (segment_of x) ++ l) (answers_append N r1 xs ys) ∙ sym (append_assoc (answer_to r1 (segment_of x)) (answers_of N r1 xs) (answers_of N (receiver_after_all N r1 xs) ys))
+    ap (λ l. answer_to r1 (segment_of x) ++ l) (answers_append N r1 xs ys)
+    ∙ sym (append_assoc (answer_to r1 (segment_of x)) (answers_of N r1 xs) (answers_of N (receiver_after_all N r1 xs) ys))

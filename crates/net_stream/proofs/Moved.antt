@@ -1,5 +1,8 @@
 -- What bytes on their way from a reader to a writer stay, step by step.
-use Rattle.std.proofs.Common.{◌≡◌, ℕ, ◌+◌, ◌-◌, ◌≤◌, ◌<◌, ◌^◌, min, Bool, true, false, List, [], ◌++◌, length, take, drop, Option, Result, Err, OnOk, IfErr, ⊎_elim, refl, sym, ap, subst, ◌∙◌, arith, length-take, length-append, take-add}
+use Rattle.std.proofs.Common.{◌≡◌, ℕ, ◌+◌, ◌-◌, ◌≤◌, ◌<◌, ◌^◌, min, Bool, true, false, List, []}
+use Rattle.std.proofs.Common.{◌++◌, length, take, drop, Option, Result, Err, OnOk, IfErr, ⊎_elim}
+use Rattle.std.proofs.Common.{refl, sym, ap, subst, ◌∙◌, arith, length-take, length-append}
+use Rattle.std.proofs.Common.{take-add}
 use Rattle.std.specs.Io.{StartsWith}
 use Rattle.std.specs.Io.KnownBytes.{Appends, Consumes, IsAtEnd, Keeps}
 use Rattle.std.specs.Result.{is_ok}
@@ -30,7 +33,8 @@ starts_through w a b h k =
 pub starts_take : (w : List ℕ) (m : ℕ) → m ≤ length w → StartsWith w (take m w)
 starts_take w m h = (let e : length (take m w) ≡ m = omega (arith, length-take m w) in ap (λ n. take n w) e)
 
-pub handed_next : (w : List ℕ) (v : Stored) (into into' : List ℕ) (count : ℕ) → QueueIsOf w v → count ≡ min (length into) (length v.queue) → into' ≡ take (length into) v.queue ++ drop (length v.queue) into →
+pub handed_next : (w : List ℕ) (v : Stored) (into into' : List ℕ) (count : ℕ) → QueueIsOf w v → count ≡ min (length into) (length v.queue) →
+    into' ≡ take (length into) v.queue ++ drop (length v.queue) into →
     take v.read w ++ take count into' ≡ take (v.read + count) w
 handed_next w v into into' count q e is =
     let few : count ≤ length (take (length into) v.queue) = omega (arith, length-take (length into) v.queue) in
@@ -44,7 +48,9 @@ handed_next w v into into' count q e is =
     ∙ take-take count (length v.queue) (drop v.read w) l)
     ∙ sym (take-add v.read count w)
 
-pub handed_out : (f : ℕ) (v u : Stored) (held holds : Option (List ℕ)) (into into' : List ℕ) (count before after : ℕ) → ((w : List ℕ) → ReceivesFrom f w v → QueueIsOf w v) → count ≡ min (length into) (length v.queue) → into' ≡ take (length into) v.queue ++ drop (length v.queue) into → u.read ≡ v.read + count →
+pub handed_out : (f : ℕ) (v u : Stored) (held holds : Option (List ℕ)) (into into' : List ℕ) (count before after : ℕ) →
+    ((w : List ℕ) → ReceivesFrom f w v → QueueIsOf w v) → count ≡ min (length into) (length v.queue) →
+    into' ≡ take (length into) v.queue ++ drop (length v.queue) into → u.read ≡ v.read + count →
     length into' ≡ length into → after ≡ min (before + count) (2 ^ 64 - 1) → Appends held holds (take count into') → HandedOut f v u held holds before after
 handed_out f v u held holds into into' count before after queue e is read same counted appended =
     let size : length (take count into') ≡ count = omega (arith, length-take count into') in
@@ -55,7 +61,9 @@ handed_out f v u held holds into into' count before after queue e is read same c
       counted = counted ∙ ap (λ n. min (before + n) (2 ^ 64 - 1)) (sym size);
     }
 
-pub handed_front : (f : ℕ) (v : Stored) (held holds : Option (List ℕ)) (into into' : List ℕ) (count before after n : ℕ) → ((w : List ℕ) → ReceivesFrom f w v → QueueIsOf w v) → count ≡ min (length into) (length v.queue) → into' ≡ take (length into) v.queue ++ drop (length v.queue) into →
+pub handed_front : (f : ℕ) (v : Stored) (held holds : Option (List ℕ)) (into into' : List ℕ) (count before after n : ℕ) →
+    ((w : List ℕ) → ReceivesFrom f w v → QueueIsOf w v) → count ≡ min (length into) (length v.queue) →
+    into' ≡ take (length into) v.queue ++ drop (length v.queue) into →
     after ≡ min (before + n) (2 ^ 64 - 1) → WrotePrefix (take count into') held holds n → HandedPrefix f v held holds before after
 handed_front f v held holds into into' count before after n queue e is counted wrote =
     let bytes = take n (take count into') in
@@ -76,8 +84,10 @@ handed_front f v held holds into into' count before after n queue e is counted w
 -- ---- steps of what is on its way
 module _ {A : Type 0} (f : ℕ) (old held : Option (List ℕ)) where
   -- the reader gave some bytes
-  pub fed : QueueIsOfStream → (l m : Link A) (c d : Counts) (now next holds : Option (List ℕ)) (more more' : Bool) (bs : List ℕ) → Consumes now next bs → ((w : List ℕ) → Carries f w l → Carries f (w ++ bs) m) → m.receiver ≡ l.receiver →
-      d.taken ≡ min (c.taken + length bs) (2 ^ 64 - 1) → d.bytes ≡ c.bytes → end_of l.sender + length bs < 2 ^ 64 → (more' ≡ false → IsAtEnd next) → Moving f l c old now held holds more → Moving f m d old next held holds more'
+  pub fed : QueueIsOfStream → (l m : Link A) (c d : Counts) (now next holds : Option (List ℕ)) (more more' : Bool) (bs : List ℕ) → Consumes now next bs →
+      ((w : List ℕ) → Carries f w l → Carries f (w ++ bs) m) → m.receiver ≡ l.receiver →
+      d.taken ≡ min (c.taken + length bs) (2 ^ 64 - 1) → d.bytes ≡ c.bytes → end_of l.sender + length bs < 2 ^ 64 → (more' ≡ false → IsAtEnd next) →
+      Moving f l c old now held holds more → Moving f m d old next held holds more'
   fed queue l m c d now next holds more more' bs consumed carries same taken bytes word ended moving =
       let w = moving.given in
       let q = queue_from queue f w l.receiver moving.carries.receives in
@@ -89,14 +99,16 @@ module _ {A : Type 0} (f : ℕ) (old held : Option (List ℕ)) where
         given = w ++ bs;
         consumed = Consumes-two old now next w bs moving.consumed consumed;
         carries = carries w moving.carries;
-        appended = subst (λ r. Appends held holds (take r.read (w ++ bs))) (sym same) (subst (Appends held holds) (sym (take-append-le l.receiver.read w bs short)) moving.appended);
+        appended = subst (λ r. Appends held holds (take r.read (w ++ bs))) (sym same)
+            (subst (Appends held holds) (sym (take-append-le l.receiver.read w bs short)) moving.appended);
         taken = omega (arith, end, before, long, taken, word);
         bytes = ap (λ r. r.read) same ∙ moving.bytes ∙ sym bytes;
         ended = ended;
       }
 
   -- the reader was asked, and gave nothing
-  pub asked : (l : Link A) (c : Counts) (now next holds : Option (List ℕ)) (more more' : Bool) → Consumes now next [] → (more' ≡ false → IsAtEnd next) → Moving f l c old now held holds more → Moving f l c old next held holds more'
+  pub asked : (l : Link A) (c : Counts) (now next holds : Option (List ℕ)) (more more' : Bool) → Consumes now next [] → (more' ≡ false → IsAtEnd next) →
+      Moving f l c old now held holds more → Moving f l c old next held holds more'
   asked l c now next holds more more' consumed ended moving =
       record {
         given = moving.given;
@@ -109,7 +121,8 @@ module _ {A : Type 0} (f : ℕ) (old held : Option (List ℕ)) where
       }
 
   -- time or a round was passed
-  pub passed : (l m : Link A) (c d : Counts) (now holds : Option (List ℕ)) (more : Bool) → ((w : List ℕ) → Carries f w l → Carries f w m) → m.receiver.read ≡ l.receiver.read → d.taken ≡ c.taken → d.bytes ≡ c.bytes → Moving f l c old now held holds more → Moving f m d old now held holds more
+  pub passed : (l m : Link A) (c d : Counts) (now holds : Option (List ℕ)) (more : Bool) → ((w : List ℕ) → Carries f w l → Carries f w m) →
+      m.receiver.read ≡ l.receiver.read → d.taken ≡ c.taken → d.bytes ≡ c.bytes → Moving f l c old now held holds more → Moving f m d old now held holds more
   passed l m c d now holds more carries read taken bytes moving =
       record {
         given = moving.given;
@@ -122,7 +135,9 @@ module _ {A : Type 0} (f : ℕ) (old held : Option (List ℕ)) where
       }
 
   -- the receiver handed out some bytes
-  pub handed : QueueIsOfStream → (l m : Link A) (c d : Counts) (now holds holds' : Option (List ℕ)) (more : Bool) → ((w : List ℕ) → Carries f w l → Carries f w m) → HandedOut f l.receiver m.receiver holds holds' c.bytes d.bytes → d.taken ≡ c.taken → end_of m.sender < 2 ^ 64 →
+  pub handed : QueueIsOfStream → (l m : Link A) (c d : Counts) (now holds holds' : Option (List ℕ)) (more : Bool) →
+      ((w : List ℕ) → Carries f w l → Carries f w m) → HandedOut f l.receiver m.receiver holds holds' c.bytes d.bytes → d.taken ≡ c.taken →
+      end_of m.sender < 2 ^ 64 →
       Moving f l c old now held holds more → Moving f m d old now held holds' more
   handed queue l m c d now holds holds' more carries h taken word moving =
       let w = moving.given in
@@ -130,7 +145,8 @@ module _ {A : Type 0} (f : ℕ) (old held : Option (List ℕ)) where
       let few : l.receiver.read ≤ length w = (let q = (queue_from queue f w l.receiver moving.carries.receives).within in omega arith) in
       let most : m.receiver.read ≤ length w = (let q = (queue_from queue f w m.receiver after.receives).within in omega arith) in
       let next = h.next w moving.carries.receives in
-      let size : length (take l.receiver.read w) + length h.bytes ≡ length (take m.receiver.read w) = sym (length-append (take l.receiver.read w) h.bytes) ∙ ap length next in
+      let size : length (take l.receiver.read w) + length h.bytes ≡ length (take m.receiver.read w) =
+      sym (length-append (take l.receiver.read w) h.bytes) ∙ ap length next in
       let one : length (take l.receiver.read w) ≡ l.receiver.read = omega (arith, length-take l.receiver.read w) in
       let two : length (take m.receiver.read w) ≡ m.receiver.read = omega (arith, length-take m.receiver.read w) in
       let end = after.sends.end in
@@ -146,7 +162,8 @@ module _ {A : Type 0} (f : ℕ) (old held : Option (List ℕ)) where
         ended = moving.ended;
       }
 
-  pub handed_less : (l : Link A) (c d : Counts) (now holds holds' : Option (List ℕ)) (more : Bool) → HandedPrefix f l.receiver holds holds' c.bytes d.bytes → d.taken ≡ c.taken → QueueIsOfStream → end_of l.sender < 2 ^ 64 →
+  pub handed_less : (l : Link A) (c d : Counts) (now holds holds' : Option (List ℕ)) (more : Bool) →
+      HandedPrefix f l.receiver holds holds' c.bytes d.bytes → d.taken ≡ c.taken → QueueIsOfStream → end_of l.sender < 2 ^ 64 →
       Moving f l c old now held holds more → Copied old now held holds' d.taken d.bytes false
   handed_less l c d now holds holds' more h taken queue word moving =
       let w = moving.given in
@@ -170,7 +187,8 @@ module _ {A : Type 0} (f : ℕ) (old held : Option (List ℕ)) where
         whole = λ n. absurd (both_ways false refl n);
       }
 
-  pub so_far : QueueIsOfStream → (l : Link A) (c : Counts) (now holds : Option (List ℕ)) (more : Bool) → Moving f l c old now held holds more → Copied old now held holds c.taken c.bytes false
+  pub so_far : QueueIsOfStream → (l : Link A) (c : Counts) (now holds : Option (List ℕ)) (more : Bool) → Moving f l c old now held holds more →
+      Copied old now held holds c.taken c.bytes false
   so_far queue l c now holds more moving =
       let w = moving.given in
       let r = l.receiver in
@@ -187,7 +205,9 @@ module _ {A : Type 0} (f : ℕ) (old held : Option (List ℕ)) where
         whole = λ n. absurd (both_ways false refl n);
       }
 
-  pub all_done : QueueIsOfStream → (l : Link A) (c : Counts) (now holds : Option (List ℕ)) (more : Bool) → more ≡ false → stored_next l.receiver ≡ end_of l.sender → length l.receiver.queue ≡ 0 → Moving f l c old now held holds more → Copied old now held holds c.taken c.bytes true
+  pub all_done : QueueIsOfStream → (l : Link A) (c : Counts) (now holds : Option (List ℕ)) (more : Bool) → more ≡ false →
+      stored_next l.receiver ≡ end_of l.sender → length l.receiver.queue ≡ 0 → Moving f l c old now held holds more →
+      Copied old now held holds c.taken c.bytes true
   all_done queue l c now holds more none came handed_all moving =
       let w = moving.given in
       let r = l.receiver in
@@ -233,7 +253,8 @@ unmoved old held taken bytes none is = record {
 }
 
 -- ---- the writer was flushed
-kept_copied : (old new held holds holds' : Option (List ℕ)) (taken bytes : ℕ) (complete : Bool) → Keeps holds holds' → Copied old new held holds taken bytes complete → Copied old new held holds' taken bytes complete
+kept_copied : (old new held holds holds' : Option (List ℕ)) (taken bytes : ℕ) (complete : Bool) → Keeps holds holds' →
+    Copied old new held holds taken bytes complete → Copied old new held holds' taken bytes complete
 kept_copied old new held holds holds' taken bytes complete kept c = record {
   given = c.given;
   written = c.written;
@@ -245,7 +266,8 @@ kept_copied old new held holds holds' taken bytes complete kept c = record {
   whole = c.whole;
 }
 
-less_copied : (old new held holds : Option (List ℕ)) (taken bytes : ℕ) (complete : Bool) → Copied old new held holds taken bytes complete → Copied old new held holds taken bytes false
+less_copied : (old new held holds : Option (List ℕ)) (taken bytes : ℕ) (complete : Bool) → Copied old new held holds taken bytes complete →
+    Copied old new held holds taken bytes false
 less_copied old new held holds taken bytes complete c = record {
   given = c.given;
   written = c.written;
@@ -257,11 +279,13 @@ less_copied old new held holds taken bytes complete c = record {
   whole = λ n. absurd (both_ways false refl n);
 }
 
-pub flushed : {T : Type 0} (old new held holds holds' : Option (List ℕ)) (taken bytes : ℕ) (ended result : Result T LinkError) → Keeps holds holds' → FlushedAfter ended result →
+pub flushed : {T : Type 0} (old new held holds holds' : Option (List ℕ)) (taken bytes : ℕ) (ended result : Result T LinkError) → Keeps holds holds' →
+    FlushedAfter ended result →
     Copied old new held holds taken bytes (is_ok ended) → Copied old new held holds' taken bytes (is_ok result)
 flushed old new held holds holds' taken bytes ended result kept after c =
     ⊎_elim
-    (λ (e : result ≡ ended). subst (λ r. Copied old new held holds' taken bytes (is_ok r)) (sym e) (kept_copied old new held holds holds' taken bytes (is_ok ended) kept c))
+    (λ (e : result ≡ ended). subst (λ r. Copied old new held holds' taken bytes (is_ok r)) (sym e)
+    (kept_copied old new held holds holds' taken bytes (is_ok ended) kept c))
     (λ (e : result ≡ Err WriteFailed). subst (λ r. Copied old new held holds' taken bytes (is_ok r)) (sym e)
     (less_copied old new held holds' taken bytes (is_ok ended) (kept_copied old new held holds holds' taken bytes (is_ok ended) kept c)))
     after
@@ -273,7 +297,8 @@ ok_after P ended result after h =
     (λ (e : result ≡ Err WriteFailed). subst (λ r. OnOk r P) (sym e) tt)
     after
 
-pub gave_up_after : {T : Type 0} (P : Type 0) (ended result : Result T LinkError) → FlushedAfter ended result → IfErr ended (λ e. gave_up e ≡ true → P) → IfErr result (λ e. gave_up e ≡ true → P)
+pub gave_up_after : {T : Type 0} (P : Type 0) (ended result : Result T LinkError) → FlushedAfter ended result → IfErr ended (λ e. gave_up e ≡ true → P) →
+    IfErr result (λ e. gave_up e ≡ true → P)
 gave_up_after P ended result after h =
     ⊎_elim
     (λ (e : result ≡ ended). subst (λ r. IfErr r (λ e. gave_up e ≡ true → P)) (sym e) h)

@@ -1,5 +1,8 @@
 -- Ranges that are reported: how bytes list them, and what a receiver tells of what it holds.
-use Rattle.std.proofs.Common.{Bool, not, cond, min, ◌≡◌, ◌||◌, ℕ, zero, suc, ◌+◌, ◌-◌, ◌<◌, ◌≤◌, ◌^◌, nat_lt, nat_le, nat_eq, true, false, List, [], ◌∷◌, ◌++◌, length, take, drop, All, Some, None, ⊎_elim, inr, refl, sym, ap, subst, ◌∙◌, arith, append_assoc, take-add, length-drop}
+use Rattle.std.proofs.Common.{Bool, not, cond, min, ◌≡◌, ◌||◌, ℕ, zero, suc, ◌+◌, ◌-◌, ◌<◌, ◌≤◌}
+use Rattle.std.proofs.Common.{◌^◌, nat_lt, nat_le, nat_eq, true, false, List, [], ◌∷◌, ◌++◌, length}
+use Rattle.std.proofs.Common.{take, drop, All, Some, None, ⊎_elim, inr, refl, sym, ap, subst, ◌∙◌}
+use Rattle.std.proofs.Common.{arith, append_assoc, take-add, length-drop}
 use Rattle.std.specs.Cmp.{unsigned_tied}
 use Rattle.std.specs.FinMap as fin
 use Rattle.std.specs.Int.{w64, to_be_bytes}
@@ -34,7 +37,8 @@ ranges_none zero xs e = refl
 ranges_none (suc n) xs e = absurd (omega arith)
 
 -- the first range, and then those of the bytes behind it
-pub ranges_more : (n m : ℕ) (xs : List ℕ) (start end : ℕ) (rest : List ℕ) → n ≡ m + 1 → first_range xs ≡ Some (start, end, rest) → ranges_of n xs ≡ (start, end) ∷ ranges_of m rest
+pub ranges_more : (n m : ℕ) (xs : List ℕ) (start end : ℕ) (rest : List ℕ) → n ≡ m + 1 → first_range xs ≡ Some (start, end, rest) →
+    ranges_of n xs ≡ (start, end) ∷ ranges_of m rest
 unfolding ranges_of
 ranges_more n m xs start end rest e is = (let k : n ≡ suc m = omega arith in ap (λ j. ranges_of j xs) k ∙ ap (with_more (ranges_of m)) is)
 
@@ -50,7 +54,8 @@ ranges_listed trip (suc n) (x ∷ rs) words h =
     let w = All-head IsWords x rs words in
     let first : first_range (range_bytes (x ∷ rs)) ≡ Some (x.0, x.1, range_bytes rs) =
     ap range_from (trip x.0 (frame_of x.1 (range_bytes rs)) w.0) ∙ ap (range_to x.0) (trip x.1 (range_bytes rs) w.1) in
-    ranges_more (suc n) n (range_bytes (x ∷ rs)) x.0 x.1 (range_bytes rs) (omega arith) first ∙ ap (λ l. (x.0, x.1) ∷ l) (ranges_listed trip n rs (All-tail IsWords x rs words) (omega arith))
+    ranges_more (suc n) n (range_bytes (x ∷ rs)) x.0 x.1 (range_bytes rs) (omega arith) first
+    ∙ ap (λ l. (x.0, x.1) ∷ l) (ranges_listed trip n rs (All-tail IsWords x rs words) (omega arith))
 
 -- one range more is its two words more
 pub listed_push : (rs : List (ℕ × ℕ)) (start end : ℕ) → (range_bytes rs ++ to_be_bytes w64 start) ++ to_be_bytes w64 end ≡ range_bytes (rs ++ (start, end) ∷ [])
@@ -102,13 +107,15 @@ has_runs members maximal r n = λ p h.
     inr (sym (contains_held members r.held p) ∙ in_run (domain r.held) p n (maximal_runs (domain r.held)) (maximal (domain r.held)).maximal h)
 
 -- so its acknowledgement tells nothing else
-pub answer_tells : RoundTrip → MembersOfList → MaximalRunsOfEverySet → (r : Stored) → stored_next r < 2 ^ 64 → length (take most_reported (maximal_runs (domain r.held))) ≤ most_reported →
+pub answer_tells : RoundTrip → MembersOfList → MaximalRunsOfEverySet → (r : Stored) → stored_next r < 2 ^ 64 →
+    length (take most_reported (maximal_runs (domain r.held))) ≤ most_reported →
     All IsWords (take most_reported (maximal_runs (domain r.held))) → FrameTells r (answer_of r)
 answer_tells trip members maximal r word few words = λ n xs at.
     let rs = take most_reported (maximal_runs (domain r.held)) in
     let e = same_parts (stored_next r) n (range_bytes rs) xs (sym (trip (stored_next r) (range_bytes rs) word) ∙ at) in (
       subst (λ k. k ≤ stored_next r) e.0 (omega arith),
-      subst (λ ys. HasReported r (ranges_of most_reported ys)) e.1 (subst (HasReported r) (sym (ranges_listed trip most_reported rs words few)) (has_runs members maximal r most_reported)),
+      subst (λ ys. HasReported r (ranges_of most_reported ys)) e.1
+          (subst (HasReported r) (sym (ranges_listed trip most_reported rs words few)) (has_runs members maximal r most_reported)),
     )
 
 -- ---- how many positions were not reported
@@ -123,7 +130,8 @@ count_both : (p : ℕ → Bool) (a k n : ℕ) → count_by p (range_with_len a (
 count_both p a k n = ap (count_by p) (range_both a k n) ∙ sum_by-append (λ x. cond (p x) 1 0) (range_with_len a k) (range_with_len (a + k) n)
 
 count_cons : (p : ℕ → Bool) (x : ℕ) (xs : List ℕ) → count_by p (x ∷ xs) ≡ cond (p x) 1 0 + count_by p xs
-count_cons p x xs = sum_by-append (λ y. cond (p y) 1 0) (x ∷ []) xs ∙ ap (λ n. n + count_by p xs) (let e : 0 + cond (p x) 1 0 ≡ cond (p x) 1 0 = omega arith in e)
+count_cons p x xs = sum_by-append (λ y. cond (p y) 1 0) (x ∷ []) xs ∙ ap
+    (λ n. n + count_by p xs) (let e : 0 + cond (p x) 1 0 ≡ cond (p x) 1 0 = omega arith in e)
 
 -- of positions that are marked all or none were reported
 pub count_marked : (ranges : List (ℕ × ℕ)) (a n : ℕ) (spared : Bool) → IsMarked ranges a n spared → count_outside ranges a n ≡ cond spared 0 n
@@ -132,21 +140,28 @@ count_marked ranges a zero false marked = refl
 count_marked ranges a (suc n) true marked =
     let one : reports ranges a ≡ true = marked a (omega arith) (omega arith) in
     let rest = count_marked ranges (a + 1) n true (λ q from to. marked q (omega arith) (omega arith)) in
-    count_cons (λ q. not (reports ranges q)) a (range_with_len (a + 1) n) ∙ ap (λ b. cond (not b) 1 0 + count_outside ranges (a + 1) n) one ∙ (let e : 0 + count_outside ranges (a + 1) n ≡ 0 = omega (arith, rest) in e)
+    count_cons (λ q. not (reports ranges q)) a (range_with_len (a + 1) n) ∙ ap (λ b. cond (not b) 1 0 + count_outside ranges (a + 1) n) one
+    ∙ (let e : 0 + count_outside ranges (a + 1) n ≡ 0 = omega (arith, rest) in e)
 count_marked ranges a (suc n) false marked =
     let one : reports ranges a ≡ false = marked a (omega arith) (omega arith) in
     let rest = count_marked ranges (a + 1) n false (λ q from to. marked q (omega arith) (omega arith)) in
-    count_cons (λ q. not (reports ranges q)) a (range_with_len (a + 1) n) ∙ ap (λ b. cond (not b) 1 0 + count_outside ranges (a + 1) n) one ∙ (let e : 1 + count_outside ranges (a + 1) n ≡ suc n = omega (arith, rest) in e)
+    count_cons (λ q. not (reports ranges q)) a (range_with_len (a + 1) n) ∙ ap (λ b. cond (not b) 1 0 + count_outside ranges (a + 1) n) one
+    ∙ (let e : 1 + count_outside ranges (a + 1) n ≡ suc n = omega (arith, rest) in e)
 
 -- what was counted of a part is counted of the parts so far
-pub counted_more : (ranges : List (ℕ × ℕ)) (b pos n : ℕ) (c0 c1 c2 : FrameCounts) → b ≤ pos → c1 ≡ with_payload (count_outside ranges b (pos - b)) c0 → c2 ≡ with_payload (count_outside ranges pos n) c1 → c2 ≡ with_payload (count_outside ranges b (pos + n - b)) c0
+pub counted_more : (ranges : List (ℕ × ℕ)) (b pos n : ℕ) (c0 c1 c2 : FrameCounts) → b ≤ pos → c1 ≡ with_payload (count_outside ranges b (pos - b)) c0 →
+    c2 ≡ with_payload (count_outside ranges pos n) c1 → c2 ≡ with_payload (count_outside ranges b (pos + n - b)) c0
 counted_more ranges b pos n c0 c1 c2 from so_far more =
     let both = count_both (λ q. not (reports ranges q)) b (pos - b) n in
     let here : b + (pos - b) ≡ pos = omega arith in
     let size : (pos - b) + n ≡ pos + n - b = omega arith in
     let all : count_outside ranges b (pos + n - b) ≡ count_outside ranges b (pos - b) + count_outside ranges pos n =
     ap (count_outside ranges b) (sym size) ∙ both ∙ ap (λ k. count_outside ranges b (pos - b) + count_outside ranges k n) here in
-    more ∙ ap (with_payload (count_outside ranges pos n)) so_far ∙ (λ i. record c0 { payload = capped c0.payload (count_outside ranges b (pos - b)) (count_outside ranges pos n) (count_outside ranges b (pos + n - b)) all i })
+    more ∙ ap (with_payload (count_outside ranges pos n)) so_far
+    ∙ (λ i. record c0 {
+      payload = capped c0.payload (count_outside ranges b (pos - b)) (count_outside ranges pos n)
+          (count_outside ranges b (pos + n - b)) all i;
+    })
   where
     capped : (m x y z : ℕ) → z ≡ x + y → min (min (m + x) (2 ^ 64 - 1) + y) (2 ^ 64 - 1) ≡ min (m + z) (2 ^ 64 - 1)
     capped m x y z e = omega arith

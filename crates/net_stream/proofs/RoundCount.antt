@@ -1,5 +1,7 @@
 -- How many rounds a copy takes.
-use Rattle.std.proofs.Common.{◌≡◌, ℕ, zero, suc, ◌+◌, ◌-◌, ◌*◌, ◌<◌, ◌≤◌, ◌^◌, min, List, [], ◌∷◌, ◌++◌, length, take, refl, sym, ap, subst, ◌∙◌, arith, ⊎_elim, append_assoc, length-drop}
+use Rattle.std.proofs.Common.{◌≡◌, ℕ, zero, suc, ◌+◌, ◌-◌, ◌*◌, ◌<◌, ◌≤◌, ◌^◌, min, List, [], ◌∷◌}
+use Rattle.std.proofs.Common.{◌++◌, length, take, refl, sym, ap, subst, ◌∙◌, arith, ⊎_elim}
+use Rattle.std.proofs.Common.{append_assoc, length-drop}
 use Rattle.std.proofs.lemmas.Bool.{both_ways, cases_lt, cond-true}
 use Rattle.net_storage.specs.Positions.{maximal_runs}
 use Rattle.net_receiver.specs.Stored.{stored_next, stored_read, domain}
@@ -23,11 +25,13 @@ pub more_moved : (n n' b b' r r' f x x' : ℕ) → f ≤ b → b ≤ b' → b + 
 more_moved n n' b b' r r' f x x' from on far more one few = omega arith
 
 -- or it fails
-pub more_still : (n n' b b' r r' f x x' : ℕ) → b' ≡ b → r' ≡ r → min (x + 1) (2 ^ 64 - 1) ≤ x' → n' ≡ min (n + 1) (2 ^ 64 - 1) → n ≤ (b - f) + r + x → n' ≤ (b' - f) + r' + x'
+pub more_still : (n n' b b' r r' f x x' : ℕ) → b' ≡ b → r' ≡ r → min (x + 1) (2 ^ 64 - 1) ≤ x' → n' ≡ min (n + 1) (2 ^ 64 - 1) → n ≤ (b - f) + r + x →
+    n' ≤ (b' - f) + r' + x'
 more_still n n' b b' r r' f x x' same same_read more one few = omega arith
 
 -- no more bytes are let go or written than were taken
-pub few_so_far : {A : Type 0} → QueueIsOfStream → (f : ℕ) (w : List ℕ) (l l1 : Link A) (n fails taken : ℕ) → Carries f w l1 → l1.receiver.read ≡ l.receiver.read → end_of l.sender ≤ end_of l1.sender → length w ≡ taken →
+pub few_so_far : {A : Type 0} → QueueIsOfStream → (f : ℕ) (w : List ℕ) (l l1 : Link A) (n fails taken : ℕ) → Carries f w l1 →
+    l1.receiver.read ≡ l.receiver.read → end_of l.sender ≤ end_of l1.sender → length w ≡ taken →
     n ≤ (l.sender.base - f) + l.receiver.read + fails → n ≤ 2 * taken + fails
 few_so_far queue f w l l1 n fails taken carries same grows long few =
     let q = (queue_from queue f w l1.receiver carries.receives).within in
@@ -42,7 +46,8 @@ coming_all v (x ∷ xs) come =
     cond-true _ (x ∷ c) c come.0 ∙ ap (λ l. x ∷ l) (coming_all (after_fate v) xs come.1)
 
 -- the last acknowledgement comes, and the sender keeps what the receiver lacks
-base_meets : {A : Type 0} → RoundTrip → (old new : Link A) (p : Passed old new) → AllCome old.back.fates → new.sender.base ≤ stored_next new.receiver → stored_next new.receiver ≤ end_of old.sender → end_of old.sender < 2 ^ 64 → new.sender.base ≡ stored_next new.receiver
+base_meets : {A : Type 0} → RoundTrip → (old new : Link A) (p : Passed old new) → AllCome old.back.fates → new.sender.base ≤ stored_next new.receiver →
+    stored_next new.receiver ≤ end_of old.sender → end_of old.sender < 2 ^ 64 → new.sender.base ≡ stored_next new.receiver
 base_meets trip old new p come behind within word =
     ap (λ v. v.base) is ∙ acked_last trip old.sender n xs front within (omega (arith, within, word)) (subst (λ v. v.base ≤ n) is behind)
   where
@@ -62,7 +67,8 @@ base_meets trip old new p come behind within word =
     acks = coming_all old.back.fates p.acks (next_come (length p.acks) old.back.fates come) ∙ p.answers
 
     is : new.sender ≡ after_ack_frames old.sender (front ++ frame_of n xs ∷ [])
-    is = p.acked ∙ ap (λ a. after_ack_frames old.sender (old.back.late ++ a)) acks ∙ ap (after_ack_frames old.sender) (sym (append_assoc old.back.late (old.back.ahead ++ answers) (frame_of n xs ∷ [])))
+    is = p.acked ∙ ap (λ a. after_ack_frames old.sender (old.back.late ++ a)) acks
+        ∙ ap (after_ack_frames old.sender) (sym (append_assoc old.back.late (old.back.ahead ++ answers) (frame_of n xs ∷ [])))
 
 never_fails : (frames acks : ℕ) (v v' : FatesSeen) → AllCome v → AllCome v' → IsStuck 0 frames acks v v' → ⊥
 never_fails frames acks v v' come come' stuck =
@@ -72,11 +78,15 @@ never_fails frames acks v v' come come' stuck =
     stuck
 
 -- a round of a copy writes some
-pub round_at_once : {A : Type 0} → RoundTrip → QueueIsOfStream → (f : ℕ) (w : List ℕ) (old new last : Link A) (room : ℕ) (p : Passed old new) → RoundKeeps old new → RoundMoves old new → end_of old.sender < 2 ^ 64 → last ≡ record new { receiver = stored_read new.receiver room } → Carries f w old → Carries f w new →
-    old.there.ahead ≡ [] → old.back.ahead ≡ [] → AllCome old.there.fates → AllCome old.back.fates → old.sender.base ≡ stored_next old.receiver → 0 < old.receiver.capacity → 0 < room → (length old.receiver.queue ≡ 0 → 0 < length old.sender.queue) →
+pub round_at_once : {A : Type 0} → RoundTrip → QueueIsOfStream → (f : ℕ) (w : List ℕ) (old new last : Link A) (room : ℕ) (p : Passed old new) →
+    RoundKeeps old new → RoundMoves old new → end_of old.sender < 2 ^ 64 → last ≡ record new { receiver = stored_read new.receiver room } →
+    Carries f w old → Carries f w new →
+    old.there.ahead ≡ [] → old.back.ahead ≡ [] → AllCome old.there.fates → AllCome old.back.fates → old.sender.base ≡ stored_next old.receiver →
+    0 < old.receiver.capacity → 0 < room → (length old.receiver.queue ≡ 0 → 0 < length old.sender.queue) →
     (last.sender.base ≡ stored_next last.receiver) × (old.receiver.read < last.receiver.read)
 round_at_once trip queue f w old new last room p keeps moves word handed carries carries1 none none_back come come_back meet cap some kept =
-    subst (λ l. (l.sender.base ≡ stored_next l.receiver) × (old.receiver.read < l.receiver.read)) (sym handed) (met ∙ sym next_read, omega (arith, more, read, some))
+    subst (λ l. (l.sender.base ≡ stored_next l.receiver) × (old.receiver.read < l.receiver.read)) (sym handed)
+    (met ∙ sym next_read, omega (arith, more, read, some))
   where
     read : new.receiver.read ≡ old.receiver.read
     read = keeps.read
@@ -119,7 +129,8 @@ round_at_once trip queue f w old new last room p keeps moves word handed carries
         (cases_lt 0 (length old.receiver.queue))
 
 -- no more bytes are written than were taken
-pub at_once_so_far : {A : Type 0} → QueueIsOfStream → (f : ℕ) (w : List ℕ) (l : Link A) (n read taken : ℕ) → Carries f w l → l.receiver.read ≡ read → length w ≡ taken → n ≤ read → n ≤ taken
+pub at_once_so_far : {A : Type 0} → QueueIsOfStream → (f : ℕ) (w : List ℕ) (l : Link A) (n read taken : ℕ) → Carries f w l → l.receiver.read ≡ read →
+    length w ≡ taken → n ≤ read → n ≤ taken
 at_once_so_far queue f w l n read taken carries same long few =
     let q = (queue_from queue f w l.receiver carries.receives).within in
     omega (arith, q, same, long, few)

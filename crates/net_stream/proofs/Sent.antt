@@ -239,5 +239,6 @@ first_sent s most flight n old new round left some none =
         let size = All-head (HasSize most) (false, xs) parts sizes in
         let long : length (xs ++ part_bytes parts) ≡ length (take n s.queue) = ap length all in
         let few : length xs ≤ n = omega (arith, length-append xs (part_bytes parts), length-take n s.queue) in
-        let head : xs ≡ take (length xs) s.queue = sym (take-append_seam xs (part_bytes parts)) ∙ ap (take (length xs)) all ∙ take-take (length xs) n s.queue few in
+        let head : xs ≡ take (length xs) s.queue = sym (take-append_seam xs (part_bytes parts)) ∙ ap (take (length xs)) all
+        ∙ take-take (length xs) n s.queue few in
         (xs, parts, refl, size.0, size.1 refl, head)

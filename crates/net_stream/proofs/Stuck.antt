@@ -1,5 +1,8 @@
 -- What a round lacked that brought nothing on, and what rounds never take back.
-use Rattle.std.proofs.Common.{◌≡◌, ◌⊎◌, ℕ, zero, suc, ◌+◌, ◌-◌, ◌<◌, ◌≤◌, ◌^◌, ◌&&◌, min, nat_lt, nat_le, Bool, true, false, cond, List, [], ◌∷◌, ◌++◌, length, take, All, Option, Some, None, refl, sym, ap, subst, ◌∙◌, arith, ⊎_elim, inl, inr, le_trans, length-append, length-take, length-drop}
+use Rattle.std.proofs.Common.{◌≡◌, ◌⊎◌, ℕ, zero, suc, ◌+◌, ◌-◌, ◌<◌, ◌≤◌, ◌^◌, ◌&&◌, min, nat_lt}
+use Rattle.std.proofs.Common.{nat_le, Bool, true, false, cond, List, [], ◌∷◌, ◌++◌, length, take}
+use Rattle.std.proofs.Common.{All, Option, Some, None, refl, sym, ap, subst, ◌∙◌, arith, ⊎_elim}
+use Rattle.std.proofs.Common.{inl, inr, le_trans, length-append, length-take, length-drop}
 use Rattle.std.proofs.lemmas.Bool.{both_ways, cases_lt, cases_Bool, cond-true, cond-false, lt-ltb, le-leb, leb-true, and_parts, and_from}
 use Rattle.std.proofs.lemmas.List.Elements.{All-nil, All-cons, All-head, All-tail}
 use Rattle.net_storage.specs.Positions.{maximal_runs}
@@ -22,7 +25,9 @@ use Rattle.net_stream.specs.Sending.{most_of}
 use Rattle.net_stream.specs.Progress.{after_ack_frame, after_ack_frames, limit_of}
 use Rattle.net_stream.specs.Passing.{coming_of, late_of, receiver_after_all, answer_to, answers_of}
 use Rattle.net_stream.specs.Links.{Carries, Passed}
-use Rattle.net_stream.specs.Stuck.{failures, losses, RoundKeeps, RoundMoves, HasFailed, AllFail, IsStuck, FirstSays, IsDue, Stuck, StuckTo, StuckAtLast, NeverStuck}
+use Rattle.net_stream.specs.Stuck.{failures, losses, RoundKeeps, RoundMoves, HasFailed, AllFail}
+use Rattle.net_stream.specs.Stuck.{IsStuck, FirstSays, IsDue, Stuck, StuckTo, StuckAtLast}
+use Rattle.net_stream.specs.Stuck.{NeverStuck}
 use Rattle.net_stream.proofs.Sent.{first_sent}
 use Rattle.net_stream.proofs.Reached.{come_next, missing, first_is, all_keep_end, acked_append}
 use Rattle.net_stream.proofs.Moved.{queue_from}
@@ -46,7 +51,13 @@ abbrev Acks : ℕ → ℕ → List ℕ → Type 0
 Acks n m frame = (k : ℕ) × (xs : List ℕ) × (segment_of frame ≡ Some (k, xs)) × (n ≤ k) × (k ≤ m)
 
 one_answers : RoundTrip → (r : Stored) (n m : ℕ) → n ≤ stored_next r → stored_next r ≤ m → m < 2 ^ 64 → Acks n m (answer_of r)
-one_answers trip r n m low high word = (stored_next r, range_bytes (take most_reported (maximal_runs (domain r.held))), trip (stored_next r) (range_bytes (take most_reported (maximal_runs (domain r.held)))) (omega arith), low, high)
+one_answers trip r n m low high word = (
+  stored_next r,
+  range_bytes (take most_reported (maximal_runs (domain r.held))),
+  trip (stored_next r) (range_bytes (take most_reported (maximal_runs (domain r.held)))) (omega arith),
+  low,
+  high,
+)
 
 to_answers : RoundTrip → (r : Stored) (o : Option (ℕ × List ℕ)) (n m : ℕ) → n ≤ stored_next r → stored_next r ≤ m → m < 2 ^ 64 → All (Acks n m) (answer_to r o)
 to_answers trip r None n m low high word = All-nil (Acks n m)
@@ -57,7 +68,8 @@ to_answers trip r (Some (pos, xs)) n m low high word = both (nat_lt (pos + lengt
     both false = All-nil (Acks n m)
 
 -- ---- a receiver never goes back
-arrived_keeps : (F : Stored → ℕ) (N : ℕ) (r : Stored) (o : Option (ℕ × List ℕ)) → ((pos : ℕ) (xs : List ℕ) → F (stored_after N r (Segment pos xs)) ≡ F r) → F (receiver_after N r o) ≡ F r
+arrived_keeps : (F : Stored → ℕ) (N : ℕ) (r : Stored) (o : Option (ℕ × List ℕ)) → ((pos : ℕ) (xs : List ℕ) → F (stored_after N r (Segment pos xs)) ≡ F r) →
+    F (receiver_after N r o) ≡ F r
 arrived_keeps F N r None same = refl
 arrived_keeps F N r (Some (pos, xs)) same = both (nat_lt (pos + length xs) (2 ^ 64))
   where
@@ -99,17 +111,21 @@ module _ (numbers : Numbers) where
 
   brought_first : (N : ℕ) (r : Stored) (frames : List (List ℕ)) → (receiver_after_all N r frames).first ≡ r.first
   brought_first N r [] = refl
-  brought_first N r (x ∷ xs) = brought_first N (receiver_after N r (segment_of x)) xs ∙ arrived_keeps (λ v. v.first) N r (segment_of x) (λ pos ys. numbers.first N r (Segment pos ys))
+  brought_first N r (x ∷ xs) = brought_first N (receiver_after N r (segment_of x)) xs
+      ∙ arrived_keeps (λ v. v.first) N r (segment_of x) (λ pos ys. numbers.first N r (Segment pos ys))
 
   brought_read : (N : ℕ) (r : Stored) (frames : List (List ℕ)) → (receiver_after_all N r frames).read ≡ r.read
   brought_read N r [] = refl
-  brought_read N r (x ∷ xs) = brought_read N (receiver_after N r (segment_of x)) xs ∙ arrived_keeps (λ v. v.read) N r (segment_of x) (λ pos ys. numbers.read N r pos ys)
+  brought_read N r (x ∷ xs) = brought_read N (receiver_after N r (segment_of x)) xs
+      ∙ arrived_keeps (λ v. v.read) N r (segment_of x) (λ pos ys. numbers.read N r pos ys)
 
   brought_capacity : (N : ℕ) (r : Stored) (frames : List (List ℕ)) → (receiver_after_all N r frames).capacity ≡ r.capacity
   brought_capacity N r [] = refl
-  brought_capacity N r (x ∷ xs) = brought_capacity N (receiver_after N r (segment_of x)) xs ∙ arrived_keeps (λ v. v.capacity) N r (segment_of x) (λ pos ys. numbers.capacity N r (Segment pos ys))
+  brought_capacity N r (x ∷ xs) = brought_capacity N (receiver_after N r (segment_of x)) xs
+      ∙ arrived_keeps (λ v. v.capacity) N r (segment_of x) (λ pos ys. numbers.capacity N r (Segment pos ys))
 
-  all_answers : RoundTrip → (N : ℕ) (r : Stored) (frames : List (List ℕ)) (n m : ℕ) → n ≤ stored_next r → stored_next (receiver_after_all N r frames) ≤ m → m < 2 ^ 64 → All (Acks n m) (answers_of N r frames)
+  all_answers : RoundTrip → (N : ℕ) (r : Stored) (frames : List (List ℕ)) (n m : ℕ) → n ≤ stored_next r → stored_next (receiver_after_all N r frames) ≤ m →
+      m < 2 ^ 64 → All (Acks n m) (answers_of N r frames)
   all_answers trip N r [] n m low high word = All-nil (Acks n m)
   all_answers trip N r (x ∷ xs) n m low high word =
       let r1 = receiver_after N r (segment_of x) in
@@ -120,18 +136,23 @@ module _ (numbers : Numbers) where
       (all_answers trip N r1 xs n m (le_trans low a) high word)
 
   -- a frame that comes and begins where nothing is missing before it brings the receiver on
-  front_brings : InOrderReaches → (N : ℕ) (r : Stored) (late rest : List (List ℕ)) (frame : List ℕ) (pos : ℕ) (xs : List ℕ) → segment_of frame ≡ Some (pos, xs) → pos ≤ stored_next r → stored_next r < pos + length xs → pos + length xs < 2 ^ 64 → stored_next r < limit_of r →
+  front_brings : InOrderReaches → (N : ℕ) (r : Stored) (late rest : List (List ℕ)) (frame : List ℕ) (pos : ℕ) (xs : List ℕ) →
+      segment_of frame ≡ Some (pos, xs) → pos ≤ stored_next r → stored_next r < pos + length xs → pos + length xs < 2 ^ 64 → stored_next r < limit_of r →
       stored_next r < stored_next (receiver_after_all N r (late ++ frame ∷ rest))
   front_brings order N r late rest frame pos xs at near far word room =
       let r1 = receiver_after_all N r late in
       let r2 = receiver_after N r1 (segment_of frame) in
       let more : stored_next r ≤ stored_next r1 = brought_grows N r late in
       let same : limit_of r1 ≡ limit_of r = brought_limit N r late in
-      let is : r2 ≡ stored_after N r1 (Segment pos xs) = ap (receiver_after N r1) at ∙ cond-true _ (stored_after N r1 (Segment pos xs)) r1 (lt-ltb (pos + length xs) (2 ^ 64) word) in
+      let is : r2 ≡ stored_after N r1 (Segment pos xs) = ap (receiver_after N r1) at
+      ∙ cond-true _ (stored_after N r1 (Segment pos xs)) r1 (lt-ltb (pos + length xs) (2 ^ 64) word) in
       let on : stored_next r1 ≤ stored_next r2 = arrived_grows N r1 (segment_of frame) in
       let all : stored_next r2 ≤ stored_next (receiver_after_all N r2 rest) = brought_grows N r2 rest in
-      let reach : min (pos + length xs) (limit_of r1) ≤ stored_next r2 = subst (λ v. min (pos + length xs) (limit_of r1) ≤ stored_next v) (sym is) (order N r1 pos xs (le_trans near more)) in
-      let here : stored_next r < stored_next (receiver_after_all N r2 rest) = further (stored_next r) (pos + length xs) (limit_of r) (limit_of r1) (stored_next r2) (stored_next (receiver_after_all N r2 rest)) far room same reach all in
+      let reach : min (pos + length xs) (limit_of r1) ≤ stored_next r2 =
+      subst (λ v. min (pos + length xs) (limit_of r1) ≤ stored_next v) (sym is) (order N r1 pos xs (le_trans near more)) in
+      let here : stored_next r < stored_next (receiver_after_all N r2 rest) =
+      further (stored_next r) (pos + length xs) (limit_of r) (limit_of r1) (stored_next r2)
+      (stored_next (receiver_after_all N r2 rest)) far room same reach all in
       subst (λ v. stored_next r < stored_next v) (sym (brought_append N r late (frame ∷ rest))) here
     where
       further : (n e l l1 m k : ℕ) → n < e → n < l → l1 ≡ l → min e l1 ≤ m → m ≤ k → n < k
@@ -180,11 +201,13 @@ one_moves s b k xs o at above within =
     past x y z h l = omega arith
 
 -- the last acknowledgement is of a position that the sender keeps, and that it isn't beyond
-pub acked_last : RoundTrip → (s : Outgoing) (n : ℕ) (xs : List ℕ) (prefix : List (List ℕ)) → n ≤ end_of s → n < 2 ^ 64 → (after_ack_frames s (prefix ++ frame_of n xs ∷ [])).base ≤ n → (after_ack_frames s (prefix ++ frame_of n xs ∷ [])).base ≡ n
+pub acked_last : RoundTrip → (s : Outgoing) (n : ℕ) (xs : List ℕ) (prefix : List (List ℕ)) → n ≤ end_of s → n < 2 ^ 64 →
+    (after_ack_frames s (prefix ++ frame_of n xs ∷ [])).base ≤ n → (after_ack_frames s (prefix ++ frame_of n xs ∷ [])).base ≡ n
 acked_last trip s n xs prefix within word below =
     let t = after_ack_frames s prefix in
     let end : end_of t ≡ end_of s = all_keep_end s prefix in
-    let split : after_ack_frames s (prefix ++ frame_of n xs ∷ []) ≡ after_ack_frame t (Some (n, xs)) = acked_append s prefix (frame_of n xs ∷ []) ∙ ap (after_ack_frame t) (trip n xs word) in
+    let split : after_ack_frames s (prefix ++ frame_of n xs ∷ []) ≡ after_ack_frame t (Some (n, xs)) =
+    acked_append s prefix (frame_of n xs ∷ []) ∙ ap (after_ack_frame t) (trip n xs word) in
     let same : (after_ack_frames s (prefix ++ frame_of n xs ∷ [])).base ≡ (after_ack_frame t (Some (n, xs))).base = ap (λ v. v.base) split in
     let grows : t.base ≤ (after_ack_frame t (Some (n, xs))).base = base_grows t (Some (n, xs)) in
     let low : t.base ≤ n = omega (arith, same, grows, below) in
@@ -192,7 +215,8 @@ acked_last trip s n xs prefix within word below =
     same ∙ ap (λ v. v.base) (cond-true _ (sender_from t n (ranges_of most_reported xs)) t (and_from _ _ (le-leb t.base n low) (le-leb n (end_of t) high)))
 
 -- if the base stays, none of these came
-none_come : (s s' : Outgoing) (late c : List (List ℕ)) (n m : ℕ) → s' ≡ after_ack_frames s (late ++ c) → s'.base ≡ s.base → s.base < n → m ≤ end_of s → All (Acks n m) c → c ≡ []
+none_come : (s s' : Outgoing) (late c : List (List ℕ)) (n m : ℕ) → s' ≡ after_ack_frames s (late ++ c) → s'.base ≡ s.base → s.base < n → m ≤ end_of s →
+    All (Acks n m) c → c ≡ []
 none_come s s' late [] n m is same above within all = refl
 none_come s s' late (a ∷ rest) n m is same above within all =
     let t = after_ack_frames s late in
@@ -200,8 +224,10 @@ none_come s s' late (a ∷ rest) n m is same above within all =
     let e : end_of t ≡ end_of s = all_keep_end s late in
     let low = ack.3 in
     let high = ack.4 in
-    let one : s.base < (after_ack_frame t (segment_of a)).base = one_moves t s.base ack.0 ack.1 (segment_of a) ack.2 (first s.base n ack.0 above low) (second ack.0 m (end_of s) (end_of t) high within e) in
-    let more : (after_ack_frame t (segment_of a)).base ≤ (after_ack_frames (after_ack_frame t (segment_of a)) rest).base = all_base_grows (after_ack_frame t (segment_of a)) rest in
+    let one : s.base < (after_ack_frame t (segment_of a)).base = one_moves t s.base ack.0 ack.1 (segment_of a) ack.2 (first s.base n ack.0 above low)
+    (second ack.0 m (end_of s) (end_of t) high within e) in
+    let more : (after_ack_frame t (segment_of a)).base ≤ (after_ack_frames (after_ack_frame t (segment_of a)) rest).base =
+    all_base_grows (after_ack_frame t (segment_of a)) rest in
     let there : s'.base ≡ (after_ack_frames t (a ∷ rest)).base = ap (λ v. v.base) is ∙ ap (λ v. v.base) (acked_append s late (a ∷ rest)) in
     absurd (never s.base s'.base (after_ack_frame t (segment_of a)).base (after_ack_frames (after_ack_frame t (segment_of a)) rest).base one more there same)
   where
@@ -216,7 +242,8 @@ none_come s s' late (a ∷ rest) n m is same above within all =
 
 -- ---- the first frame
 abbrev FirstFrame : ℕ → ℕ → List Part → Type 0
-FirstFrame base end parts = (xs : List ℕ) × (rest : List (List ℕ)) × (frames_from base parts ≡ frame_of base xs ∷ rest) × (0 < length xs) × (base + length xs ≤ end)
+FirstFrame base end parts = (xs : List ℕ) × (rest : List (List ℕ)) × (frames_from base parts ≡ frame_of base xs ∷ rest) × (0 < length xs)
+    × (base + length xs ≤ end)
 
 -- ---- a round
 -- the first of the frames has the byte that a receiver lacks, if n is its position
@@ -228,10 +255,14 @@ HasMissing n frames = FirstSays frames (λ p e. (p ≤ n) × (n < e) × (e < 2 ^
 abbrev Lacked : {A : Type 0} (old new : Link A) → Passed old new → Type 0
 Lacked old new p =
     (HasMissing (stored_next old.receiver) p.sent.ahead × (0 < length p.sent.ahead) × (comes (next_fate old.there.fates) ≡ false))
-    ⊎ ((old.sender.base < stored_next old.receiver) × (coming_of old.back.fates p.acks ≡ []) × All (Acks (stored_next old.receiver) (stored_next old.receiver)) p.acks)
+    ⊎ ((old.sender.base < stored_next old.receiver) × (coming_of old.back.fates p.acks ≡ [])
+    × All (Acks (stored_next old.receiver) (stored_next old.receiver)) p.acks)
 
-rounds_move : {A : Type 0} → RoundTrip → Numbers → InOrderReaches → QueueIsOfStream → (f : ℕ) (w : List ℕ) (old new : Link A) (p : Passed old new) → IsSound most_reported old.receiver → Carries f w old → end_of old.sender < 2 ^ 64 → old.there.ahead ≡ [] → old.back.ahead ≡ [] → 0 < length old.sender.queue →
-    stored_next old.receiver < limit_of old.receiver → stored_next new.receiver ≡ stored_next old.receiver → new.sender.base ≡ old.sender.base → Lacked old new p
+rounds_move : {A : Type 0} → RoundTrip → Numbers → InOrderReaches → QueueIsOfStream → (f : ℕ) (w : List ℕ) (old new : Link A) (p : Passed old new) →
+    IsSound most_reported old.receiver → Carries f w old → end_of old.sender < 2 ^ 64 → old.there.ahead ≡ [] → old.back.ahead ≡ [] →
+    0 < length old.sender.queue →
+    stored_next old.receiver < limit_of old.receiver → stored_next new.receiver ≡ stored_next old.receiver → new.sender.base ≡ old.sender.base →
+    Lacked old new p
 rounds_move trip numbers order queue f w old new p sound carries word none none_back some room still still_back =
     ⊎_elim
     (λ (l : old.sender.base < stored_next old.receiver). inr (l, quiet l, acks))
@@ -255,16 +286,21 @@ rounds_move trip numbers order queue f w old new p sound carries word none none_
     acks : All (Acks (stored_next old.receiver) (stored_next old.receiver)) p.acks
     acks =
         let n = stored_next old.receiver in
-        let ours : All (Acks n n) (answers_of most_reported old.receiver p.came) = all_answers numbers trip most_reported old.receiver p.came n n (omega arith) (subst (λ k. k ≤ n) (sym same) (omega arith)) small in
-        let last : Acks n n (answer_of new.receiver) = one_answers trip new.receiver n n (subst (λ k. n ≤ k) (sym still) (omega arith)) (subst (λ k. k ≤ n) (sym still) (omega arith)) small in
-        let both : All (Acks n n) (answers_of most_reported old.receiver p.came ++ answer_of new.receiver ∷ []) = All-both (Acks n n) (answers_of most_reported old.receiver p.came) (answer_of new.receiver ∷ []) ours (All-cons (Acks n n) (answer_of new.receiver) [] last (All-nil (Acks n n))) in
+        let ours : All (Acks n n) (answers_of most_reported old.receiver p.came) =
+        all_answers numbers trip most_reported old.receiver p.came n n (omega arith) (subst (λ k. k ≤ n) (sym same) (omega arith)) small in
+        let last : Acks n n (answer_of new.receiver) = one_answers trip new.receiver n n (subst (λ k. n ≤ k) (sym still) (omega arith))
+        (subst (λ k. k ≤ n) (sym still) (omega arith)) small in
+        let both : All (Acks n n) (answers_of most_reported old.receiver p.came ++ answer_of new.receiver ∷ []) =
+        All-both (Acks n n) (answers_of most_reported old.receiver p.came) (answer_of new.receiver ∷ []) ours
+        (All-cons (Acks n n) (answer_of new.receiver) [] last (All-nil (Acks n n))) in
         subst (All (Acks n n)) (sym (p.answers ∙ ap (λ b. b ++ answers_of most_reported old.receiver p.came ++ answer_of new.receiver ∷ []) none_back)) both
 
     -- none of them came
     quiet : old.sender.base < stored_next old.receiver → coming_of old.back.fates p.acks ≡ []
     quiet l =
         let n = stored_next old.receiver in
-        none_come old.sender new.sender old.back.late (coming_of old.back.fates p.acks) n n p.acked still_back l within (come_of (Acks n n) old.back.fates p.acks acks)
+        none_come old.sender new.sender old.back.late (coming_of old.back.fates p.acks) n n p.acked still_back l within
+        (come_of (Acks n n) old.back.fates p.acks acks)
 
     -- the first byte that is kept is missing
     lacking : stored_next old.receiver ≤ old.sender.base → old.sender.base ≡ stored_next old.receiver
@@ -274,7 +310,8 @@ rounds_move trip numbers order queue f w old new p sound carries word none none_
     prefix l =
         let told : reports old.sender.reported old.sender.base ≡ false =
         ⊎_elim {C = reports old.sender.reported old.sender.base ≡ false}
-        (λ (e : reports old.sender.reported old.sender.base ≡ true). absurd (missing most_reported old.receiver sound (subst (Has old.receiver) (lacking l) (carries.reported old.sender.base e))))
+        (λ (e : reports old.sender.reported old.sender.base ≡ true). absurd
+        (missing most_reported old.receiver sound (subst (Has old.receiver) (lacking l) (carries.reported old.sender.base e))))
         (λ (e : reports old.sender.reported old.sender.base ≡ false). e)
         (cases_Bool (reports old.sender.reported old.sender.base)) in
         let one = first_sent old.sender (most_of old.payload) (most_of old.flight) p.n old.there p.sent p.all (omega arith) some told in
@@ -315,8 +352,11 @@ rounds_move trip numbers order queue f w old new p sound carries word none none_
         let frame = frame_of old.sender.base xs in
         let coming : coming_of old.there.fates p.sent.ahead ≡ frame ∷ c = ap (coming_of old.there.fates) (ahead l) ∙ cond-true _ (frame ∷ c) c e in
         let came : p.came ≡ old.there.late ++ frame ∷ c = p.coming ∙ ap (λ x. old.there.late ++ x) coming in
-        let more : stored_next old.receiver < stored_next (receiver_after_all most_reported old.receiver (old.there.late ++ frame ∷ c)) = front_brings numbers order most_reported old.receiver old.there.late c frame old.sender.base xs (trip old.sender.base xs (omega arith)) l' (omega arith) (omega arith) room in
-        let on : stored_next old.receiver < stored_next (receiver_after_all most_reported old.receiver p.came) = subst (λ x. stored_next old.receiver < stored_next (receiver_after_all most_reported old.receiver x)) (sym came) more in
+        let more : stored_next old.receiver < stored_next (receiver_after_all most_reported old.receiver (old.there.late ++ frame ∷ c)) =
+        front_brings numbers order most_reported old.receiver old.there.late c frame old.sender.base xs (trip old.sender.base xs (omega arith)) l'
+        (omega arith) (omega arith) room in
+        let on : stored_next old.receiver < stored_next (receiver_after_all most_reported old.receiver p.came) =
+        subst (λ x. stored_next old.receiver < stored_next (receiver_after_all most_reported old.receiver x)) (sym came) more in
         absurd (less (stored_next old.receiver) (stored_next (receiver_after_all most_reported old.receiver p.came)) on same))
         (λ (e : comes (next_fate old.there.fates) ≡ false). e)
         (cases_Bool (comes (next_fate old.there.fates)))
@@ -348,7 +388,8 @@ failed_all (suc n) v c = le_trans (failed_met (next_fate v) c) (failed_all n (af
 pub part_failed : (v v' : FatesSeen) (old new : FrameCounts) → PartCounted v v' old new → failures old ≤ failures new
 part_failed v v' old new part =
     let c = with_payload part.bytes old in
-    subst (λ n. failures old ≤ n) (sym (ap failures part.counted)) (le_trans (failed_all part.frames v c) (failed_all part.acks v' (with_fates part.frames v c)))
+    subst (λ n. failures old ≤ n) (sym (ap failures part.counted))
+    (le_trans (failed_all part.frames v c) (failed_all part.acks v' (with_fates part.frames v c)))
 
 failed_first : (n : ℕ) (v : FatesSeen) (c : FrameCounts) → 0 < n → comes (next_fate v) ≡ false → min (failures c + 1) (2 ^ 64 - 1) ≤ failures (with_fates n v c)
 failed_first zero v c some e = absurd (omega arith)
@@ -393,7 +434,8 @@ le_refl : (n : ℕ) → n ≤ n
 le_refl n = omega arith
 
 -- what doesn't come at once is lost or comes late
-all_fail : (follow : ℕ) (v : FatesSeen) (frames : List (List ℕ)) → coming_of v frames ≡ [] → (0 < follow → late_of v frames ≡ []) → AllFail follow (length frames) v
+all_fail : (follow : ℕ) (v : FatesSeen) (frames : List (List ℕ)) → coming_of v frames ≡ [] → (0 < follow → late_of v frames ≡ []) →
+    AllFail follow (length frames) v
 all_fail follow v [] none never = tt
 all_fail follow v (x ∷ xs) none never =
     let e = first_fails v (x ∷ xs) (omega arith) none in
@@ -422,7 +464,8 @@ late_all P v (x ∷ xs) all = both (late_all P (after_fate v) xs (All-tail P x x
     both rest true = All-cons P x (late_of (after_fate v) xs) (All-head P x xs all) rest
     both rest false = rest
 
-first_late : (P : ℕ → ℕ → Type 0) (v : FatesSeen) (frames : List (List ℕ)) → FirstSays frames P → comes_late (next_fate v) ≡ true → FirstSays (late_of v frames) P
+first_late : (P : ℕ → ℕ → Type 0) (v : FatesSeen) (frames : List (List ℕ)) → FirstSays frames P → comes_late (next_fate v) ≡ true →
+    FirstSays (late_of v frames) P
 first_late P v frames says e =
     let l = late_of (after_fate v) says.1 in
     (says.0, l, says.2, says.3, ap (late_of v) says.4 ∙ cond-true _ (says.0 ∷ l) l e, says.5, says.6)
@@ -454,14 +497,17 @@ stuck_weaker k j frames acks v v' h stuck =
 -- none need follow
 stuck_last : (n : ℕ) (v v' u u' : FatesSeen) → StuckTo 1 n v v' u u' → StuckTo 0 n v v' u u'
 stuck_last zero v v' u u' to = to
-stuck_last (suc n) v v' u u' to = (to.0, to.1, stuck_weaker (1 + n) (0 + n) to.0 to.1 v v' (λ some. omega arith) to.2, stuck_last n (after_all to.0 v) (after_all to.1 v') u u' to.3)
+stuck_last (suc n) v v' u u' to =
+    (to.0, to.1, stuck_weaker (1 + n) (0 + n) to.0 to.1 v v' (λ some. omega arith) to.2, stuck_last n (after_all to.0 v) (after_all to.1 v') u u' to.3)
 
 -- one more round that was stuck
-stuck_more : (follow n : ℕ) (v v' u u' : FatesSeen) (frames acks : ℕ) → StuckTo 1 n v v' u u' → IsStuck follow frames acks u u' → StuckTo follow (suc n) v v' (after_all frames u) (after_all acks u')
+stuck_more : (follow n : ℕ) (v v' u u' : FatesSeen) (frames acks : ℕ) → StuckTo 1 n v v' u u' → IsStuck follow frames acks u u' →
+    StuckTo follow (suc n) v v' (after_all frames u) (after_all acks u')
 stuck_more follow zero v v' u u' frames acks to one = (
   frames,
   acks,
-  subst (λ k. IsStuck k frames acks v v') (let e : follow ≡ follow + 0 = omega arith in e) (subst (λ x. IsStuck follow frames acks x v') to.0 (subst (IsStuck follow frames acks u) to.1 one)),
+  subst (λ k. IsStuck k frames acks v v') (let e : follow ≡ follow + 0 = omega arith in e)
+      (subst (λ x. IsStuck follow frames acks x v') to.0 (subst (IsStuck follow frames acks u) to.1 one)),
   (ap (after_all frames) to.0, ap (after_all acks) to.1),
 )
 stuck_more follow (suc n) v v' u u' frames acks to one = (
@@ -473,16 +519,20 @@ stuck_more follow (suc n) v v' u u' frames acks to one = (
 
 module _ {A : Type 0} (old new : Link A) (p : Passed old new) where
   acks_some : 0 < length p.acks
-  acks_some = subst (λ l. 0 < length l) (sym p.answers) (let e = length-append (old.back.ahead ++ answers_of most_reported old.receiver p.came) (answer_of new.receiver ∷ []) in omega arith)
+  acks_some = subst (λ l. 0 < length l) (sym p.answers)
+      (let e = length-append (old.back.ahead ++ answers_of most_reported old.receiver p.came) (answer_of new.receiver ∷ []) in omega arith)
 
-  same_failed : failures new.counts ≡ failures (with_fates (length p.acks) old.back.fates (with_fates (length p.sent.ahead) old.there.fates (with_payload (count_outside old.sender.reported old.sender.base p.n) old.counts)))
+  same_failed : failures new.counts ≡ failures
+      (with_fates (length p.acks) old.back.fates
+      (with_fates (length p.sent.ahead) old.there.fates (with_payload (count_outside old.sender.reported old.sender.base p.n) old.counts)))
   same_failed = ap failures p.counted
 
   pub round_failed : failures old.counts ≤ failures new.counts
   round_failed =
       let c = with_payload (count_outside old.sender.reported old.sender.base p.n) old.counts in
       let m = with_fates (length p.sent.ahead) old.there.fates c in
-      subst (λ n. failures old.counts ≤ n) (sym same_failed) (le_trans (failed_all (length p.sent.ahead) old.there.fates c) (failed_all (length p.acks) old.back.fates m))
+      subst (λ n. failures old.counts ≤ n) (sym same_failed)
+      (le_trans (failed_all (length p.sent.ahead) old.there.fates c) (failed_all (length p.acks) old.back.fates m))
 
   pub round_keeps : Numbers → RoundKeeps old new
   round_keeps numbers = record {
@@ -497,17 +547,23 @@ module _ {A : Type 0} (old new : Link A) (p : Passed old new) where
     grows = subst (λ v. stored_next old.receiver ≤ stored_next v) (sym p.received) (brought_grows numbers most_reported old.receiver p.came);
   }
 
-  counted : (n : ℕ) → min (failures old.counts + 1) (2 ^ 64 - 1) ≤ n → n ≤ failures (with_fates (length p.acks) old.back.fates (with_fates (length p.sent.ahead) old.there.fates (with_payload (count_outside old.sender.reported old.sender.base p.n) old.counts))) → min (failures old.counts + 1) (2 ^ 64 - 1) ≤ failures new.counts
+  counted : (n : ℕ) → min (failures old.counts + 1) (2 ^ 64 - 1) ≤ n →
+      n ≤ failures (with_fates (length p.acks) old.back.fates
+      (with_fates (length p.sent.ahead) old.there.fates (with_payload (count_outside old.sender.reported old.sender.base p.n) old.counts))) →
+      min (failures old.counts + 1) (2 ^ 64 - 1) ≤ failures new.counts
   counted n h k = subst (λ m. min (failures old.counts + 1) (2 ^ 64 - 1) ≤ m) (sym same_failed) (le_trans h k)
 
-  same_lost : losses new.counts ≡ losses (with_fates (length p.acks) old.back.fates (with_fates (length p.sent.ahead) old.there.fates (with_payload (count_outside old.sender.reported old.sender.base p.n) old.counts)))
+  same_lost : losses new.counts ≡ losses
+      (with_fates (length p.acks) old.back.fates
+      (with_fates (length p.sent.ahead) old.there.fates (with_payload (count_outside old.sender.reported old.sender.base p.n) old.counts)))
   same_lost = ap losses p.counted
 
   round_lost : losses old.counts ≤ losses new.counts
   round_lost =
       let c = with_payload (count_outside old.sender.reported old.sender.base p.n) old.counts in
       let m = with_fates (length p.sent.ahead) old.there.fates c in
-      subst (λ n. losses old.counts ≤ n) (sym same_lost) (le_trans (lost_all (length p.sent.ahead) old.there.fates c) (lost_all (length p.acks) old.back.fates m))
+      subst (λ n. losses old.counts ≤ n) (sym same_lost)
+      (le_trans (lost_all (length p.sent.ahead) old.there.fates c) (lost_all (length p.acks) old.back.fates m))
 
   fates_left : new.there.fates ≡ after_all (length p.sent.ahead) old.there.fates
   fates_left = ap (λ t. t.fates) p.left ∙ ap (λ t. after_all (length p.sent.ahead) t.fates) p.all.prefix.sent
@@ -519,7 +575,8 @@ module _ {A : Type 0} (old new : Link A) (p : Passed old new) where
   end_left = ap end_of p.acked ∙ all_keep_end old.sender (old.back.late ++ coming_of old.back.fates p.acks)
 
   -- what comes late would have brought it on
-  not_due : Numbers → InOrderReaches → stored_next old.receiver < limit_of old.receiver → stored_next new.receiver ≡ stored_next old.receiver → new.sender.base ≡ old.sender.base → IsDue old → ⊥
+  not_due : Numbers → InOrderReaches → stored_next old.receiver < limit_of old.receiver → stored_next new.receiver ≡ stored_next old.receiver →
+      new.sender.base ≡ old.sender.base → IsDue old → ⊥
   not_due numbers order room still still_back due =
       let r = old.receiver in
       let s = old.sender in
@@ -528,8 +585,10 @@ module _ {A : Type 0} (old new : Link A) (p : Passed old new) where
       ⊎_elim {C = ⊥}
       (λ (h : HasMissing (stored_next r) old.there.late).
       let came : p.came ≡ h.0 ∷ (h.1 ++ c) = p.coming ∙ ap (λ x. x ++ c) h.4 in
-      let on : stored_next r < stored_next (receiver_after_all most_reported r (h.0 ∷ (h.1 ++ c))) = front_brings numbers order most_reported r [] (h.1 ++ c) h.0 h.2 h.3 h.5 h.6.0 h.6.1 h.6.2 room in
-      let is : stored_next new.receiver ≡ stored_next (receiver_after_all most_reported r (h.0 ∷ (h.1 ++ c))) = ap stored_next p.received ∙ ap (λ x. stored_next (receiver_after_all most_reported r x)) came in
+      let on : stored_next r < stored_next (receiver_after_all most_reported r (h.0 ∷ (h.1 ++ c))) =
+      front_brings numbers order most_reported r [] (h.1 ++ c) h.0 h.2 h.3 h.5 h.6.0 h.6.1 h.6.2 room in
+      let is : stored_next new.receiver ≡ stored_next (receiver_after_all most_reported r (h.0 ∷ (h.1 ++ c))) =
+      ap stored_next p.received ∙ ap (λ x. stored_next (receiver_after_all most_reported r x)) came in
       less (stored_next r) (stored_next new.receiver) (stored_next (receiver_after_all most_reported r (h.0 ∷ (h.1 ++ c)))) on is still)
       (λ (h : FirstSays old.back.late (λ k e. (s.base < k) × (k ≤ end_of s))).
       let t = after_ack_frame s (segment_of h.0) in
@@ -552,7 +611,8 @@ module _ {A : Type 0} (old new : Link A) (p : Passed old new) where
       ⊎ (IsDue new × (losses old.counts ≤ losses new.counts))
 
   -- a frame that has what the receiver lacks came late, or was lost
-  frame_lost : HasMissing (stored_next old.receiver) p.sent.ahead → 0 < length p.sent.ahead → comes (next_fate old.there.fates) ≡ false → stored_next new.receiver ≡ stored_next old.receiver → HasLost
+  frame_lost : HasMissing (stored_next old.receiver) p.sent.ahead → 0 < length p.sent.ahead → comes (next_fate old.there.fates) ≡ false →
+      stored_next new.receiver ≡ stored_next old.receiver → HasLost
   frame_lost has some fails still =
       let n = stored_next old.receiver in
       let v = old.there.fates in
@@ -560,14 +620,24 @@ module _ {A : Type 0} (old new : Link A) (p : Passed old new) where
       let m = with_fates (length p.sent.ahead) v c in
       ⊎_elim {C = HasLost}
       (λ (e : comes_late (next_fate v) ≡ true).
-      inr (inl (subst (HasMissing (stored_next new.receiver)) (sym late_left) (subst (λ k. HasMissing k (late_of v p.sent.ahead)) (sym still) (first_late (λ k e. (k ≤ n) × (n < e) × (e < 2 ^ 64)) v p.sent.ahead has e))), round_lost))
+      inr (
+        inl (subst (HasMissing (stored_next new.receiver)) (sym late_left)
+            (subst (λ k. HasMissing k (late_of v p.sent.ahead)) (sym still) (first_late (λ k e. (k ≤ n) × (n < e) × (e < 2 ^ 64)) v p.sent.ahead has e))),
+        round_lost,
+      ))
       (λ (e : comes_late (next_fate v) ≡ false).
       let lot : HasFailed 1 (next_fate v) = (fails, λ follow. e) in
-      inl (inl (some, lot), subst (λ k. min (losses old.counts + 1) (2 ^ 64 - 1) ≤ k) (sym same_lost) (le_trans (lost_first (length p.sent.ahead) v c some lot) (lost_all (length p.acks) old.back.fates m))))
+      inl (
+        inl (some, lot),
+        subst (λ k. min (losses old.counts + 1) (2 ^ 64 - 1) ≤ k) (sym same_lost)
+            (le_trans (lost_first (length p.sent.ahead) v c some lot) (lost_all (length p.acks) old.back.fates m)),
+      ))
       (cases_Bool (comes_late (next_fate v)))
 
   -- so were the acknowledgements, each or one
-  acks_lost : old.sender.base < stored_next old.receiver → coming_of old.back.fates p.acks ≡ [] → All (Acks (stored_next old.receiver) (stored_next old.receiver)) p.acks → stored_next old.receiver ≤ end_of old.sender → new.sender.base ≡ old.sender.base → HasLost
+  acks_lost : old.sender.base < stored_next old.receiver → coming_of old.back.fates p.acks ≡ [] →
+      All (Acks (stored_next old.receiver) (stored_next old.receiver)) p.acks → stored_next old.receiver ≤ end_of old.sender →
+      new.sender.base ≡ old.sender.base → HasLost
   acks_lost above none acks within still_back =
       let n = stored_next old.receiver in
       let v = old.back.fates in
@@ -576,10 +646,17 @@ module _ {A : Type 0} (old new : Link A) (p : Passed old new) where
       ⊎_elim {C = HasLost}
       (λ (never : late_of v p.acks ≡ []).
       let fail : AllFail 1 (length p.acks) v = all_fail 1 v p.acks none (λ follow. never) in
-      inl (inr (acks_some, fail), subst (λ k. min (losses old.counts + 1) (2 ^ 64 - 1) ≤ k) (sym same_lost) (le_trans (more_failed (losses c) (losses m) (lost_all (length p.sent.ahead) old.there.fates c)) (lost_first (length p.acks) v m acks_some (first_lost (length p.acks) v acks_some fail)))))
+      inl (
+        inr (acks_some, fail),
+        subst (λ k. min (losses old.counts + 1) (2 ^ 64 - 1) ≤ k) (sym same_lost)
+            (le_trans (more_failed (losses c) (losses m) (lost_all (length p.sent.ahead) old.there.fates c))
+            (lost_first (length p.acks) v m acks_some (first_lost (length p.acks) v acks_some fail))),
+      ))
       (λ (says : FirstSays (late_of v p.acks) (λ k e. (n ≤ k) × (k ≤ n))).
       let late : new.back.late ≡ late_of v p.acks = ap (λ t. t.late) p.left_back in
-      let both : FirstSays (late_of v p.acks) (λ k e. (new.sender.base < k) × (k ≤ end_of new.sender)) = says_weaker (λ k e. (n ≤ k) × (k ≤ n)) (λ k e. (new.sender.base < k) × (k ≤ end_of new.sender)) (late_of v p.acks) (λ k e h. (let low = h.0 in let high = h.1 in (omega (arith, low, above, still_back), omega (arith, high, within, end_left)))) says in
+      let both : FirstSays (late_of v p.acks) (λ k e. (new.sender.base < k) × (k ≤ end_of new.sender)) =
+      says_weaker (λ k e. (n ≤ k) × (k ≤ n)) (λ k e. (new.sender.base < k) × (k ≤ end_of new.sender)) (late_of v p.acks)
+      (λ k e h. (let low = h.0 in let high = h.1 in (omega (arith, low, above, still_back), omega (arith, high, within, end_left)))) says in
       inr (inr (subst (λ x. FirstSays x (λ k e. (new.sender.base < k) × (k ≤ end_of new.sender))) (sym late) both), round_lost))
       (first_acks n n (late_of v p.acks) (late_all (Acks n n) v p.acks acks))
     where
@@ -587,7 +664,8 @@ module _ {A : Type 0} (old new : Link A) (p : Passed old new) where
       first_lost zero u some all = absurd (omega arith)
       first_lost (suc k) u some all = all.0
 
-  pub round_moves : RoundTrip → Numbers → InOrderReaches → QueueIsOfStream → IsSound most_reported old.receiver → end_of old.sender < 2 ^ 64 → RoundMoves old new
+  pub round_moves : RoundTrip → Numbers → InOrderReaches → QueueIsOfStream → IsSound most_reported old.receiver → end_of old.sender < 2 ^ 64 →
+      RoundMoves old new
   round_moves trip numbers order queue sound word f w carries none none_back some room still still_back =
       let c = with_payload (count_outside old.sender.reported old.sender.base p.n) old.counts in
       let m = with_fates (length p.sent.ahead) old.there.fates c in
@@ -617,7 +695,9 @@ module _ {A : Type 0} (old new : Link A) (p : Passed old new) where
         why = inr (acks_some, all_fail 0 old.back.fates p.acks b.1 (λ follow. absurd (omega arith)));
         left = fates_left;
         left_back = ap (λ t. t.fates) p.left_back;
-        counted = counted (failures e) (le_trans (more_failed (failures c) (failures m) one) (failed_first (length p.acks) old.back.fates m acks_some (first_fails old.back.fates p.acks acks_some b.1))) (le_refl (failures e));
+        counted = counted (failures e)
+            (le_trans (more_failed (failures c) (failures m) one)
+            (failed_first (length p.acks) old.back.fates m acks_some (first_fails old.back.fates p.acks acks_some b.1))) (le_refl (failures e));
         due = not_due numbers order room still still_back;
         lost = acks_lost b.0 b.1 b.2 within still_back;
       })
@@ -625,18 +705,22 @@ module _ {A : Type 0} (old new : Link A) (p : Passed old new) where
 
 -- ---- a round of a copy
 -- what comes late stays due while bytes are handed out and more are written
-pub due_kept : {A : Type 0} (l l1 : Link A) → l1.there.late ≡ l.there.late → l1.back.late ≡ l.back.late → stored_next l1.receiver ≡ stored_next l.receiver → l1.sender.base ≡ l.sender.base → end_of l.sender ≤ end_of l1.sender → IsDue l → IsDue l1
+pub due_kept : {A : Type 0} (l l1 : Link A) → l1.there.late ≡ l.there.late → l1.back.late ≡ l.back.late →
+    stored_next l1.receiver ≡ stored_next l.receiver → l1.sender.base ≡ l.sender.base → end_of l.sender ≤ end_of l1.sender → IsDue l → IsDue l1
 due_kept l l1 late late_back next base end due =
     let n = stored_next l.receiver in
     ⊎_elim {C = IsDue l1}
     (λ (h : HasMissing n l.there.late). inl (subst (HasMissing (stored_next l1.receiver)) (sym late) (subst (λ k. HasMissing k l.there.late) (sym next) h)))
     (λ (h : FirstSays l.back.late (λ k e. (l.sender.base < k) × (k ≤ end_of l.sender))).
     inr (subst (λ x. FirstSays x (λ k e. (l1.sender.base < k) × (k ≤ end_of l1.sender))) (sym late_back)
-    (says_weaker (λ k e. (l.sender.base < k) × (k ≤ end_of l.sender)) (λ k e. (l1.sender.base < k) × (k ≤ end_of l1.sender)) l.back.late (λ k e j. (let low = j.0 in let high = j.1 in (omega (arith, low, base), le_trans high end))) h)))
+    (says_weaker (λ k e. (l.sender.base < k) × (k ≤ end_of l.sender)) (λ k e. (l1.sender.base < k) × (k ≤ end_of l1.sender)) l.back.late
+    (λ k e j. (let low = j.0 in let high = j.1 in (omega (arith, low, base), le_trans high end))) h)))
     due
 
-pub step_moves : {A : Type 0} (f : ℕ) (w : List ℕ) (old new last : Link A) (room : ℕ) → RoundKeeps old new → RoundMoves old new → last ≡ record new { receiver = stored_read new.receiver room } →
-    Carries f w old → old.there.ahead ≡ [] → old.back.ahead ≡ [] → 0 < length old.sender.queue → 0 < old.receiver.capacity → 0 < room → last.sender.base ≡ old.sender.base → last.receiver.read ≡ old.receiver.read → Stuck old last
+pub step_moves : {A : Type 0} (f : ℕ) (w : List ℕ) (old new last : Link A) (room : ℕ) → RoundKeeps old new → RoundMoves old new →
+    last ≡ record new { receiver = stored_read new.receiver room } →
+    Carries f w old → old.there.ahead ≡ [] → old.back.ahead ≡ [] → 0 < length old.sender.queue → 0 < old.receiver.capacity → 0 < room →
+    last.sender.base ≡ old.sender.base → last.receiver.read ≡ old.receiver.read → Stuck old last
 step_moves {A = A} f w old new last room keeps moves handed carries none none_back kept cap some still_base still_read =
     subst (Stuck old) (sym handed) (record {
       frames = one.frames;
@@ -688,11 +772,14 @@ step_moves {A = A} f w old new last room keeps moves handed carries none none_ba
     read_out : Link A
     read_out = record new { receiver = r }
 
-    lost : (IsStuck 1 one.frames one.acks old.there.fates old.back.fates × (min (losses old.counts + 1) (2 ^ 64 - 1) ≤ losses new.counts)) ⊎ (IsDue read_out × (losses old.counts ≤ losses new.counts))
+    lost : (IsStuck 1 one.frames one.acks old.there.fates old.back.fates × (min (losses old.counts + 1) (2 ^ 64 - 1) ≤ losses new.counts)) ⊎
+        (IsDue read_out × (losses old.counts ≤ losses new.counts))
     lost =
-        ⊎_elim {C = (IsStuck 1 one.frames one.acks old.there.fates old.back.fates × (min (losses old.counts + 1) (2 ^ 64 - 1) ≤ losses new.counts)) ⊎ (IsDue read_out × (losses old.counts ≤ losses new.counts))}
+        ⊎_elim {C = (IsStuck 1 one.frames one.acks old.there.fates old.back.fates × (min (losses old.counts + 1) (2 ^ 64 - 1) ≤ losses new.counts)) ⊎
+        (IsDue read_out × (losses old.counts ≤ losses new.counts))}
         inl
-        (λ (d : IsDue new × (losses old.counts ≤ losses new.counts)). inr (due_kept new read_out refl refl next_read refl (le_refl (end_of new.sender)) d.0, d.1))
+        (λ (d : IsDue new × (losses old.counts ≤ losses new.counts)). inr
+        (due_kept new read_out refl refl next_read refl (le_refl (end_of new.sender)) d.0, d.1))
         one.lost
 
 -- ---- rounds of a copy
@@ -701,26 +788,38 @@ step_moves {A = A} f w old new last room keeps moves handed carries none none_ba
 abbrev pub StuckSoFar : {A : Type 0} → ℕ → FatesSeen → FatesSeen → Link A → Type 0
 StuckSoFar n v v' link =
     ((frames : ℕ) × (acks : ℕ) × StuckTo 1 n (after_all frames v) (after_all acks v') link.there.fates link.back.fates × (n ≤ losses link.counts))
-    ⊎ ((frames : ℕ) × (acks : ℕ) × StuckTo 0 n (after_all frames v) (after_all acks v') link.there.fates link.back.fates × (n ≤ losses link.counts + 1) × IsDue link)
+    ⊎ ((frames : ℕ) × (acks : ℕ) × StuckTo 0 n (after_all frames v) (after_all acks v') link.there.fates link.back.fates × (n ≤ losses link.counts + 1)
+    × IsDue link)
 
-pub stuck_none : {A : Type 0} (frames acks : ℕ) (v v' : FatesSeen) (l : Link A) → l.there.fates ≡ after_all frames v → l.back.fates ≡ after_all acks v' → StuckSoFar 0 v v' l
+pub stuck_none : {A : Type 0} (frames acks : ℕ) (v v' : FatesSeen) (l : Link A) → l.there.fates ≡ after_all frames v → l.back.fates ≡ after_all acks v' →
+    StuckSoFar 0 v v' l
 stuck_none frames acks v v' l left left_back = inl (frames, acks, (left, left_back), omega arith)
 
 -- reading and waiting change nothing of it
-pub stuck_kept : {A : Type 0} (n : ℕ) (v v' : FatesSeen) (l l1 : Link A) → l1.there ≡ l.there → l1.back ≡ l.back → l1.receiver ≡ l.receiver → l1.sender.base ≡ l.sender.base → end_of l.sender ≤ end_of l1.sender → l1.counts ≡ l.counts → StuckSoFar n v v' l → StuckSoFar n v v' l1
+pub stuck_kept : {A : Type 0} (n : ℕ) (v v' : FatesSeen) (l l1 : Link A) → l1.there ≡ l.there → l1.back ≡ l.back → l1.receiver ≡ l.receiver →
+    l1.sender.base ≡ l.sender.base → end_of l.sender ≤ end_of l1.sender → l1.counts ≡ l.counts → StuckSoFar n v v' l → StuckSoFar n v v' l1
 stuck_kept n v v' l l1 there back receiver base end counts so_far =
     ⊎_elim {C = StuckSoFar n v v' l1}
     (λ (h : (frames : ℕ) × (acks : ℕ) × StuckTo 1 n (after_all frames v) (after_all acks v') l.there.fates l.back.fates × (n ≤ losses l.counts)).
     inl (h.0, h.1, to 1 h.0 h.1 h.2, subst (λ c. n ≤ losses c) (sym counts) h.3))
     (λ (h : (frames : ℕ) × (acks : ℕ) × StuckTo 0 n (after_all frames v) (after_all acks v') l.there.fates l.back.fates × (n ≤ losses l.counts + 1) × IsDue l).
-    inr (h.0, h.1, to 0 h.0 h.1 h.2, subst (λ c. n ≤ losses c + 1) (sym counts) h.3, due_kept l l1 (ap (λ t. t.late) there) (ap (λ t. t.late) back) (ap stored_next receiver) base end h.4))
+    inr (
+      h.0,
+      h.1,
+      to 0 h.0 h.1 h.2,
+      subst (λ c. n ≤ losses c + 1) (sym counts) h.3,
+      due_kept l l1 (ap (λ t. t.late) there) (ap (λ t. t.late) back) (ap stored_next receiver) base end h.4,
+    ))
     so_far
   where
-    to : (k frames acks : ℕ) → StuckTo k n (after_all frames v) (after_all acks v') l.there.fates l.back.fates → StuckTo k n (after_all frames v) (after_all acks v') l1.there.fates l1.back.fates
-    to k frames acks h = subst (λ t. StuckTo k n (after_all frames v) (after_all acks v') t.fates l1.back.fates) (sym there) (subst (λ t. StuckTo k n (after_all frames v) (after_all acks v') l.there.fates t.fates) (sym back) h)
+    to : (k frames acks : ℕ) → StuckTo k n (after_all frames v) (after_all acks v') l.there.fates l.back.fates →
+        StuckTo k n (after_all frames v) (after_all acks v') l1.there.fates l1.back.fates
+    to k frames acks h = subst (λ t. StuckTo k n (after_all frames v) (after_all acks v') t.fates l1.back.fates) (sym there)
+        (subst (λ t. StuckTo k n (after_all frames v) (after_all acks v') l.there.fates t.fates) (sym back) h)
 
 -- what is due comes in the next round, so that one more that is stuck follows a loss
-pub stuck_next : {A : Type 0} (n : ℕ) (v v' : FatesSeen) (old new : Link A) → n < 2 ^ 64 - 1 → StuckSoFar n v v' old → Stuck old new → StuckSoFar (suc n) v v' new
+pub stuck_next : {A : Type 0} (n : ℕ) (v v' : FatesSeen) (old new : Link A) → n < 2 ^ 64 - 1 → StuckSoFar n v v' old → Stuck old new →
+    StuckSoFar (suc n) v v' new
 stuck_next n v v' old new word so_far one =
     ⊎_elim {C = StuckSoFar (suc n) v v' new}
     (λ (h : (frames : ℕ) × (acks : ℕ) × StuckTo 1 n (after_all frames v) (after_all acks v') old.there.fates old.back.fates × (n ≤ losses old.counts)).
@@ -728,20 +827,35 @@ stuck_next n v v' old new word so_far one =
     (λ (e : IsStuck 1 one.frames one.acks old.there.fates old.back.fates × (min (losses old.counts + 1) (2 ^ 64 - 1) ≤ losses new.counts)).
     let few = h.3 in
     let more = e.1 in
-    inl (h.0, h.1, to 1 h.0 h.1 (stuck_more 1 n (after_all h.0 v) (after_all h.1 v') old.there.fates old.back.fates one.frames one.acks h.2 e.0), omega (arith, few, more, word)))
+    inl (
+      h.0,
+      h.1,
+      to 1 h.0 h.1 (stuck_more 1 n (after_all h.0 v) (after_all h.1 v') old.there.fates old.back.fates one.frames one.acks h.2 e.0),
+      omega (arith, few, more, word),
+    ))
     (λ (d : IsDue new × (losses old.counts ≤ losses new.counts)).
     let few = h.3 in
     let more = d.1 in
-    inr (h.0, h.1, to 0 h.0 h.1 (stuck_more 0 n (after_all h.0 v) (after_all h.1 v') old.there.fates old.back.fates one.frames one.acks h.2 one.why), omega (arith, few, more), d.0))
+    inr (
+      h.0,
+      h.1,
+      to 0 h.0 h.1 (stuck_more 0 n (after_all h.0 v) (after_all h.1 v') old.there.fates old.back.fates one.frames one.acks h.2 one.why),
+      omega (arith, few, more),
+      d.0,
+    ))
     one.lost)
-    (λ (h : (frames : ℕ) × (acks : ℕ) × StuckTo 0 n (after_all frames v) (after_all acks v') old.there.fates old.back.fates × (n ≤ losses old.counts + 1) × IsDue old). absurd (one.due h.4))
+    (λ (h : (frames : ℕ) × (acks : ℕ) × StuckTo 0 n (after_all frames v) (after_all acks v') old.there.fates old.back.fates × (n ≤ losses old.counts + 1)
+    × IsDue old). absurd (one.due h.4))
     so_far
   where
-    to : (k frames acks : ℕ) → StuckTo k (suc n) (after_all frames v) (after_all acks v') (after_all one.frames old.there.fates) (after_all one.acks old.back.fates) → StuckTo k (suc n) (after_all frames v) (after_all acks v') new.there.fates new.back.fates
-    to k frames acks h = subst (λ x. StuckTo k (suc n) (after_all frames v) (after_all acks v') x new.back.fates) (sym one.left) (subst (λ x. StuckTo k (suc n) (after_all frames v) (after_all acks v') (after_all one.frames old.there.fates) x) (sym one.left_back) h)
+    to : (k frames acks : ℕ) → StuckTo k (suc n) (after_all frames v) (after_all acks v') (after_all one.frames old.there.fates)
+        (after_all one.acks old.back.fates) → StuckTo k (suc n) (after_all frames v) (after_all acks v') new.there.fates new.back.fates
+    to k frames acks h = subst (λ x. StuckTo k (suc n) (after_all frames v) (after_all acks v') x new.back.fates) (sym one.left)
+        (subst (λ x. StuckTo k (suc n) (after_all frames v) (after_all acks v') (after_all one.frames old.there.fates) x) (sym one.left_back) h)
 
 -- how it stands at the end
-pub stuck_at_last : {A : Type 0} (n : ℕ) (v v' : FatesSeen) (l : Link A) (counts : FrameCounts) → counts ≡ l.counts → n ≤ failures l.counts → FatesSoFar v v' l.there.fates l.back.fates l.counts → StuckSoFar n v v' l → StuckAtLast n v v' counts
+pub stuck_at_last : {A : Type 0} (n : ℕ) (v v' : FatesSeen) (l : Link A) (counts : FrameCounts) → counts ≡ l.counts → n ≤ failures l.counts →
+    FatesSoFar v v' l.there.fates l.back.fates l.counts → StuckSoFar n v v' l → StuckAtLast n v v' counts
 stuck_at_last n v v' l counts same failed fates so_far =
     ⊎_elim {C = StuckAtLast n v v' counts}
     (λ (h : (frames : ℕ) × (acks : ℕ) × StuckTo 1 n (after_all frames v) (after_all acks v') l.there.fates l.back.fates × (n ≤ losses l.counts)).
@@ -752,7 +866,8 @@ stuck_at_last n v v' l counts same failed fates so_far =
     stands h.0 h.1 h.2 (omega (arith, few)))
     so_far
   where
-    stands : (frames acks : ℕ) → StuckTo 0 n (after_all frames v) (after_all acks v') l.there.fates l.back.fates → n ≤ l.counts.lost + 1 → StuckAtLast n v v' counts
+    stands : (frames acks : ℕ) → StuckTo 0 n (after_all frames v) (after_all acks v') l.there.fates l.back.fates → n ≤ l.counts.lost + 1 →
+        StuckAtLast n v v' counts
     stands frames acks to few = record {
       frames = frames;
       acks = acks;
@@ -765,7 +880,8 @@ stuck_at_last n v v' l counts same failed fates so_far =
     }
 
 -- where all is written, a reader that may have more is asked, and gives something
-pub asked_again : {A : Type 0} → QueueIsOfStream → (f : ℕ) (w w1 : List ℕ) (l l1 : Link A) (room : ℕ) → Carries f w l → Carries f w1 l1 → l1.receiver ≡ l.receiver → end_of l.sender ≤ end_of l1.sender →
+pub asked_again : {A : Type 0} → QueueIsOfStream → (f : ℕ) (w w1 : List ℕ) (l l1 : Link A) (room : ℕ) → Carries f w l → Carries f w1 l1 →
+    l1.receiver ≡ l.receiver → end_of l.sender ≤ end_of l1.sender →
     stored_next l1.receiver ≡ end_of l1.sender → length l1.receiver.queue ≡ 0 →
     (0 < room_of l.sender → 0 < room → stored_next l.receiver ≡ end_of l.sender → length l.receiver.queue ≡ 0 → end_of l.sender < end_of l1.sender) →
     0 < room → length l.sender.queue < l.sender.capacity → end_of l1.sender < 2 ^ 64 - 1 → ⊥

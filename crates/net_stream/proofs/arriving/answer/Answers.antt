@@ -11,7 +11,8 @@ pub returns-clause-tells : goal.returns-clause-tells
 returns-clause-tells g c =
     let r = c.args.receiver.now in
     let word : stored_next r < 2 ^ 64 = omega arith in
-    let few : length (take most_reported (maximal_runs (domain r.held))) ≤ most_reported = omega (arith, length-take most_reported (maximal_runs (domain r.held))) in
+    let few : length (take most_reported (maximal_runs (domain r.held))) ≤ most_reported =
+    omega (arith, length-take most_reported (maximal_runs (domain r.held))) in
     answer_tells c.round_trip.ensures c.members.ensures.of_list c.maximal_runs.ensures r word few c.list_held-len.ensures.words
 
 pub returns-clause-ok : goal.returns-clause-ok

@@ -7,22 +7,28 @@ use Rattle.net_stream.proofs.Moved.{unmoved}
 use Rattle.net_stream.proofs.copying.copy.Goals as goal
 
 pub returns-in_default-clause-copied : goal.returns-in_default-clause-copied
-returns-in_default-clause-copied g c = unmoved (g.R.Read.remaining c.args.reader.now) (g.W.Write.contents c.args.writer.now) c.new.result.taken c.new.result.bytes (ap (λ v. v.taken) c.new.ensures) (ap (λ v. v.bytes) c.new.ensures)
+returns-in_default-clause-copied g c = unmoved (g.R.Read.remaining c.args.reader.now)
+    (g.W.Write.contents c.args.writer.now) c.new.result.taken c.new.result.bytes (ap (λ v. v.taken) c.new.ensures) (ap (λ v. v.bytes) c.new.ensures)
 
 pub returns-in_default-storage_of-clause-copied : goal.returns-in_default-storage_of-clause-copied
-returns-in_default-storage_of-clause-copied g c = unmoved (g.R.Read.remaining c.args.reader.now) (g.W.Write.contents c.args.writer.now) c.new.result.taken c.new.result.bytes (ap (λ v. v.taken) c.new.ensures) (ap (λ v. v.bytes) c.new.ensures)
+returns-in_default-storage_of-clause-copied g c = unmoved (g.R.Read.remaining c.args.reader.now)
+    (g.W.Write.contents c.args.writer.now) c.new.result.taken c.new.result.bytes (ap (λ v. v.taken) c.new.ensures) (ap (λ v. v.bytes) c.new.ensures)
 
 pub returns-in_default-storage_of-2-clause-copied : goal.returns-in_default-storage_of-2-clause-copied
-returns-in_default-storage_of-2-clause-copied g c = unmoved (g.R.Read.remaining c.args.reader.now) (g.W.Write.contents c.args.writer.now) c.new.result.taken c.new.result.bytes (ap (λ v. v.taken) c.new.ensures) (ap (λ v. v.bytes) c.new.ensures)
+returns-in_default-storage_of-2-clause-copied g c = unmoved (g.R.Read.remaining c.args.reader.now)
+    (g.W.Write.contents c.args.writer.now) c.new.result.taken c.new.result.bytes (ap (λ v. v.taken) c.new.ensures) (ap (λ v. v.bytes) c.new.ensures)
 
 pub returns-in_default-clause-fates : goal.returns-in_default-clause-fates
-returns-in_default-clause-fates g c = met_so_far c.args.fates c.args.ack_fates c.args.fates c.args.ack_fates c.new.result.frames (none_drawn c.args.fates c.args.ack_fates c.new.result.frames (ap (λ v. v.frames) c.new.ensures))
+returns-in_default-clause-fates g c = met_so_far c.args.fates c.args.ack_fates c.args.fates c.args.ack_fates c.new.result.frames
+    (none_drawn c.args.fates c.args.ack_fates c.new.result.frames (ap (λ v. v.frames) c.new.ensures))
 
 pub returns-in_default-storage_of-clause-fates : goal.returns-in_default-storage_of-clause-fates
-returns-in_default-storage_of-clause-fates g c = met_so_far c.args.fates c.args.ack_fates c.args.fates c.args.ack_fates c.new.result.frames (none_drawn c.args.fates c.args.ack_fates c.new.result.frames (ap (λ v. v.frames) c.new.ensures))
+returns-in_default-storage_of-clause-fates g c = met_so_far c.args.fates c.args.ack_fates c.args.fates c.args.ack_fates c.new.result.frames
+    (none_drawn c.args.fates c.args.ack_fates c.new.result.frames (ap (λ v. v.frames) c.new.ensures))
 
 pub returns-in_default-storage_of-2-clause-fates : goal.returns-in_default-storage_of-2-clause-fates
-returns-in_default-storage_of-2-clause-fates g c = met_so_far c.args.fates c.args.ack_fates c.args.fates c.args.ack_fates c.new.result.frames (none_drawn c.args.fates c.args.ack_fates c.new.result.frames (ap (λ v. v.frames) c.new.ensures))
+returns-in_default-storage_of-2-clause-fates g c = met_so_far c.args.fates c.args.ack_fates c.args.fates c.args.ack_fates c.new.result.frames
+    (none_drawn c.args.fates c.args.ack_fates c.new.result.frames (ap (λ v. v.frames) c.new.ensures))
 
 pub returns-clause-unfinished : goal.returns-clause-unfinished
 returns-clause-unfinished g c = IfErr-weaker c.copy_over.result _ _
@@ -45,7 +51,8 @@ pub returns-clause-ends : goal.returns-clause-ends
 returns-clause-ends g c = IfErr-weaker c.copy_over.result _ _
     (λ e h come come_back left cap some.
     ⊎_elim {C = gave_up e ≡ false}
-    (λ (gave : gave_up e ≡ true). absurd (c.known_fates.ensures.stuck c.args.settings.rounds c.args.fates c.args.ack_fates c.copy_over.new.counts.frames come come_back some (h gave left cap)))
+    (λ (gave : gave_up e ≡ true). absurd
+    (c.known_fates.ensures.stuck c.args.settings.rounds c.args.fates c.args.ack_fates c.copy_over.new.counts.frames come come_back some (h gave left cap)))
     (λ (not : gave_up e ≡ false). not)
     (cases_Bool (gave_up e)))
     (returns-clause-stalls g c)
@@ -63,7 +70,8 @@ returns-clause-most g c = λ left cap.
 
 pub returns-clause-least : goal.returns-clause-least
 returns-clause-least g c = on_ok_weaker c.copy_over.result
-    (λ h. subst (λ k. c.copy_over.new.counts.taken ≤ c.copy_over.new.counts.rounds * k) (ap length c.deref_mut-3.ensures.value ∙ c.in-Ok-storage_of-2.ensures) h)
+    (λ h. subst (λ k. c.copy_over.new.counts.taken ≤ c.copy_over.new.counts.rounds * k)
+    (ap length c.deref_mut-3.ensures.value ∙ c.in-Ok-storage_of-2.ensures) h)
     c.copy_over.ensures.least
 
 pub returns-clause-at_once : goal.returns-clause-at_once

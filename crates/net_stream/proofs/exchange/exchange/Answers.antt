@@ -95,13 +95,16 @@ returns-then-stalled-settings-clause-unfinished g c = λ gave some left few.
     let none : length l1.receiver.queue ≡ 0 = omega (arith, q, taken, bytes, h) in
     let next : stored_next l1.receiver ≡ end_of l1.sender = omega (arith, q, first, end1, taken, bytes, h, none) in
     let more : c.feed.new.input.more ≡ true =
-    ⊎_elim {C = c.feed.new.input.more ≡ true} (λ (e : c.feed.new.input.more ≡ true). e) (λ (e : c.feed.new.input.more ≡ false). absurd (both_ways c.is_done.result c.if-is_done.false (c.is_done.ensures.exact e next none))) (cases_Bool c.feed.new.input.more) in
+    ⊎_elim {C = c.feed.new.input.more ≡ true} (λ (e : c.feed.new.input.more ≡ true). e)
+    (λ (e : c.feed.new.input.more ≡ false). absurd (both_ways c.is_done.result c.if-is_done.false (c.is_done.ensures.exact e next none)))
+    (cases_Bool c.feed.new.input.more) in
     let from = i.moving.carries.sends.from in
     let end = i.moving.carries.sends.end in
     let grows = c.feed.ensures.grows in
     let window = i.window in
     let chunk = i.chunk in
-    absurd (asked_again c.truthful.ensures.queue f i.moving.given m1.given l l1 (length c.rounds.chunk) i.moving.carries m1.carries same grows next none (c.in_default.ensures.fed more)
+    absurd (asked_again c.truthful.ensures.queue f i.moving.given m1.given l l1 (length c.rounds.chunk) i.moving.carries m1.carries same grows next none
+    (c.in_default.ensures.fed more)
     (omega (arith, chunk, some)) (omega (arith, from, end, end1, taken, grows, window, few)) (omega (arith, end1, taken, left))))
     (cases_lt counts.bytes counts.taken)
 
@@ -126,8 +129,10 @@ returns-then-stalled-settings-clause-stalls g c = λ gave cap cap' some left.
     let most = i.most in
     let all : c.rounds.stalled ≡ c.args.settings.rounds = omega (arith, enough, most) in
     let failures = i.failing cap cap' some short in
-    let fates : FatesSoFar v v' l.there.fates l.back.fates l.counts = record { frames = i.fates.frames; acks = i.fates.acks; left = i.fates.left; left_back = i.fates.left_back; counted = i.fates.counted } in
-    subst (λ n. StuckAtLast n v v' l1.counts) all (stuck_at_last c.rounds.stalled v v' l l1.counts (ap (λ x. x.counts) c.feed.ensures.state) failures fates (i.stuck cap cap' some short))
+    let fates : FatesSoFar v v' l.there.fates l.back.fates l.counts =
+    record { frames = i.fates.frames; acks = i.fates.acks; left = i.fates.left; left_back = i.fates.left_back; counted = i.fates.counted } in
+    subst (λ n. StuckAtLast n v v' l1.counts) all
+    (stuck_at_last c.rounds.stalled v v' l l1.counts (ap (λ x. x.counts) c.feed.ensures.state) failures fates (i.stuck cap cap' some short))
 
 pub returns-in-Err-step-clause-copied : goal.returns-in-Err-step-clause-copied
 returns-in-Err-step-clause-copied g c =
@@ -142,12 +147,16 @@ returns-in-Err-step-clause-copied g c =
     let m1 = c.feed.ensures.moving f old held holds i.moving in
     let l2 = c.wait.new.self in
     let d = record c.feed.new.counts { rounds = c.saturating_add-counts.result } in
-    let m2 = passed f old held l1 l2 c.feed.new.counts d now holds c.feed.new.input.more (λ w h. subst (Carries f w) (sym c.wait.ensures.state) h) (ap (λ x. x.receiver.read) c.wait.ensures.state) refl refl m1 in
+    let m2 = passed f old held l1 l2 c.feed.new.counts d now holds c.feed.new.input.more
+    (λ w h. subst (Carries f w) (sym c.wait.ensures.state) h) (ap (λ x. x.receiver.read) c.wait.ensures.state) refl refl m1 in
     let v = c.args.link.now.there.fates in
     let v' = c.args.link.now.back.fates in
-    let fates : FatesSoFar v v' l.there.fates l.back.fates l.counts = record { frames = i.fates.frames; acks = i.fates.acks; left = i.fates.left; left_back = i.fates.left_back; counted = i.fates.counted } in
-    let fates1 : FatesSoFar v v' l1.there.fates l1.back.fates l1.counts = subst (λ x. FatesSoFar v v' x.there.fates x.back.fates x.counts) (sym c.feed.ensures.state) fates in
-    let fates2 : FatesSoFar v v' l2.there.fates l2.back.fates l2.counts = subst (λ x. FatesSoFar v v' x.there.fates x.back.fates x.counts) (sym c.wait.ensures.state) fates1 in
+    let fates : FatesSoFar v v' l.there.fates l.back.fates l.counts =
+    record { frames = i.fates.frames; acks = i.fates.acks; left = i.fates.left; left_back = i.fates.left_back; counted = i.fates.counted } in
+    let fates1 : FatesSoFar v v' l1.there.fates l1.back.fates l1.counts =
+    subst (λ x. FatesSoFar v v' x.there.fates x.back.fates x.counts) (sym c.feed.ensures.state) fates in
+    let fates2 : FatesSoFar v v' l2.there.fates l2.back.fates l2.counts =
+    subst (λ x. FatesSoFar v v' x.there.fates x.back.fates x.counts) (sym c.wait.ensures.state) fates1 in
     c.in-Err-step.ensures.err f old now held c.feed.new.input.more m2
 
 pub returns-in-Err-step-clause-fates : goal.returns-in-Err-step-clause-fates
@@ -163,12 +172,16 @@ returns-in-Err-step-clause-fates g c =
     let m1 = c.feed.ensures.moving f old held holds i.moving in
     let l2 = c.wait.new.self in
     let d = record c.feed.new.counts { rounds = c.saturating_add-counts.result } in
-    let m2 = passed f old held l1 l2 c.feed.new.counts d now holds c.feed.new.input.more (λ w h. subst (Carries f w) (sym c.wait.ensures.state) h) (ap (λ x. x.receiver.read) c.wait.ensures.state) refl refl m1 in
+    let m2 = passed f old held l1 l2 c.feed.new.counts d now holds c.feed.new.input.more
+    (λ w h. subst (Carries f w) (sym c.wait.ensures.state) h) (ap (λ x. x.receiver.read) c.wait.ensures.state) refl refl m1 in
     let v = c.args.link.now.there.fates in
     let v' = c.args.link.now.back.fates in
-    let fates : FatesSoFar v v' l.there.fates l.back.fates l.counts = record { frames = i.fates.frames; acks = i.fates.acks; left = i.fates.left; left_back = i.fates.left_back; counted = i.fates.counted } in
-    let fates1 : FatesSoFar v v' l1.there.fates l1.back.fates l1.counts = subst (λ x. FatesSoFar v v' x.there.fates x.back.fates x.counts) (sym c.feed.ensures.state) fates in
-    let fates2 : FatesSoFar v v' l2.there.fates l2.back.fates l2.counts = subst (λ x. FatesSoFar v v' x.there.fates x.back.fates x.counts) (sym c.wait.ensures.state) fates1 in
+    let fates : FatesSoFar v v' l.there.fates l.back.fates l.counts =
+    record { frames = i.fates.frames; acks = i.fates.acks; left = i.fates.left; left_back = i.fates.left_back; counted = i.fates.counted } in
+    let fates1 : FatesSoFar v v' l1.there.fates l1.back.fates l1.counts =
+    subst (λ x. FatesSoFar v v' x.there.fates x.back.fates x.counts) (sym c.feed.ensures.state) fates in
+    let fates2 : FatesSoFar v v' l2.there.fates l2.back.fates l2.counts =
+    subst (λ x. FatesSoFar v v' x.there.fates x.back.fates x.counts) (sym c.wait.ensures.state) fates1 in
     c.step.ensures.fates v v' fates2
 
 pub returns-in-Err-clause-most : goal.returns-in-Err-clause-most
@@ -187,7 +200,8 @@ returns-in-Err-clause-most g c = λ none cap cap' some left.
     let grows = c.feed.ensures.grows in
     let counts = c.feed.new.counts in
     let short : end_of l.sender < 2 ^ 64 - 1 = omega (arith, end1, taken, grows, left) in
-    let few = few_so_far c.truthful.ensures.queue f m1.given l l1 c.rounds.counts.rounds (failures l.counts) counts.taken m1.carries (ap (λ x. x.receiver.read) c.feed.ensures.state) grows taken (i.most_rounds none cap cap' some short) in
+    let few = few_so_far c.truthful.ensures.queue f m1.given l l1 c.rounds.counts.rounds (failures l.counts) counts.taken m1.carries
+    (ap (λ x. x.receiver.read) c.feed.ensures.state) grows taken (i.most_rounds none cap cap' some short) in
     let rounds = c.feed.ensures.rounds in
     let fails : failures l1.counts ≡ failures l.counts = ap (λ x. failures x.counts) c.feed.ensures.state in
     omega (arith, few, rounds, fails)
@@ -208,7 +222,8 @@ returns-then-is_done-clause-most g c = λ none cap cap' some left.
     let grows = c.feed.ensures.grows in
     let counts = c.feed.new.counts in
     let short : end_of l.sender < 2 ^ 64 - 1 = omega (arith, end1, taken, grows, left) in
-    let few = few_so_far c.truthful.ensures.queue f m1.given l l1 c.rounds.counts.rounds (failures l.counts) counts.taken m1.carries (ap (λ x. x.receiver.read) c.feed.ensures.state) grows taken (i.most_rounds none cap cap' some short) in
+    let few = few_so_far c.truthful.ensures.queue f m1.given l l1 c.rounds.counts.rounds (failures l.counts) counts.taken m1.carries
+    (ap (λ x. x.receiver.read) c.feed.ensures.state) grows taken (i.most_rounds none cap cap' some short) in
     let rounds = c.feed.ensures.rounds in
     let fails : failures l1.counts ≡ failures l.counts = ap (λ x. failures x.counts) c.feed.ensures.state in
     omega (arith, few, rounds, fails)
@@ -229,7 +244,8 @@ returns-then-stalled-settings-clause-most g c = λ none cap cap' some left.
     let grows = c.feed.ensures.grows in
     let counts = c.feed.new.counts in
     let short : end_of l.sender < 2 ^ 64 - 1 = omega (arith, end1, taken, grows, left) in
-    let few = few_so_far c.truthful.ensures.queue f m1.given l l1 c.rounds.counts.rounds (failures l.counts) counts.taken m1.carries (ap (λ x. x.receiver.read) c.feed.ensures.state) grows taken (i.most_rounds none cap cap' some short) in
+    let few = few_so_far c.truthful.ensures.queue f m1.given l l1 c.rounds.counts.rounds (failures l.counts) counts.taken m1.carries
+    (ap (λ x. x.receiver.read) c.feed.ensures.state) grows taken (i.most_rounds none cap cap' some short) in
     let rounds = c.feed.ensures.rounds in
     let fails : failures l1.counts ≡ failures l.counts = ap (λ x. failures x.counts) c.feed.ensures.state in
     omega (arith, few, rounds, fails)
@@ -251,11 +267,13 @@ returns-in-Err-step-clause-most g c = λ none cap cap' some left.
     let counts = c.feed.new.counts in
     let same = c.step.ensures.taken in
     let short : end_of l.sender < 2 ^ 64 - 1 = omega (arith, end1, taken, grows, left, same) in
-    let few = few_so_far c.truthful.ensures.queue f m1.given l l1 c.rounds.counts.rounds (failures l.counts) counts.taken m1.carries (ap (λ x. x.receiver.read) c.feed.ensures.state) grows taken (i.most_rounds none cap cap' some short) in
+    let few = few_so_far c.truthful.ensures.queue f m1.given l l1 c.rounds.counts.rounds (failures l.counts) counts.taken m1.carries
+    (ap (λ x. x.receiver.read) c.feed.ensures.state) grows taken (i.most_rounds none cap cap' some short) in
     let rounds = c.feed.ensures.rounds in
     let one = c.saturating_add-counts.ensures in
     let rounds3 = c.step.ensures.rounds in
-    let fails : failures c.wait.new.self.counts ≡ failures l.counts = ap (λ x. failures x.counts) c.wait.ensures.state ∙ ap (λ x. failures x.counts) c.feed.ensures.state in
+    let fails : failures c.wait.new.self.counts ≡ failures l.counts = ap (λ x. failures x.counts) c.wait.ensures.state
+    ∙ ap (λ x. failures x.counts) c.feed.ensures.state in
     let more = c.step.ensures.failed in
     omega (arith, few, rounds, one, rounds3, fails, more, same)
 
@@ -263,7 +281,8 @@ pub returns-then-is_done-clause-least : goal.returns-then-is_done-clause-least
 returns-then-is_done-clause-least g c = λ none.
     let all = c.rounds.invariant.least_rounds none in
     let ended = c.feed.ensures.ended (c.is_done.ensures.only c.if-is_done.true).0 in
-    subst (λ t. t ≤ c.feed.new.counts.rounds * length c.args.chunk.now) (sym ended) (subst (λ n. c.rounds.counts.taken ≤ n * length c.args.chunk.now) (sym c.feed.ensures.rounds) all)
+    subst (λ t. t ≤ c.feed.new.counts.rounds * length c.args.chunk.now) (sym ended)
+    (subst (λ n. c.rounds.counts.taken ≤ n * length c.args.chunk.now) (sym c.feed.ensures.rounds) all)
 
 pub returns-then-is_done-clause-at_once : goal.returns-then-is_done-clause-at_once
 returns-then-is_done-clause-at_once g c = λ come come_back meet none cap cap' some left.
@@ -279,7 +298,8 @@ returns-then-is_done-clause-at_once g c = λ come come_back meet none cap cap' s
     let taken = m1.taken in
     let grows = c.feed.ensures.grows in
     let short : end_of l.sender < 2 ^ 64 - 1 = omega (arith, end1, taken, grows, left) in
-    at_once_so_far c.truthful.ensures.queue f m1.given l1 c.feed.new.counts.rounds l.receiver.read c.feed.new.counts.taken m1.carries (ap (λ x. x.receiver.read) c.feed.ensures.state) taken
+    at_once_so_far c.truthful.ensures.queue f m1.given l1 c.feed.new.counts.rounds l.receiver.read c.feed.new.counts.taken m1.carries
+    (ap (λ x. x.receiver.read) c.feed.ensures.state) taken
     (subst (λ n. n ≤ l.receiver.read) (sym c.feed.ensures.rounds) (i.at_once come come_back meet none cap cap' some short).1)
 
 smaller_moved : (t u m j k : ℕ) → t < u → u < 2 ^ 65 → m < 2 ^ 64 → (2 ^ 66 - u) * 2 ^ 64 + (m - k) < (2 ^ 66 - t) * 2 ^ 64 + (m - j)
@@ -312,12 +332,16 @@ rounds-smaller g c =
     let m1 = c.feed.ensures.moving f old held holds i.moving in
     let l2 = c.wait.new.self in
     let d = record c.feed.new.counts { rounds = c.saturating_add-counts.result } in
-    let m2 = passed f old held l1 l2 c.feed.new.counts d now holds c.feed.new.input.more (λ w h. subst (Carries f w) (sym c.wait.ensures.state) h) (ap (λ x. x.receiver.read) c.wait.ensures.state) refl refl m1 in
+    let m2 = passed f old held l1 l2 c.feed.new.counts d now holds c.feed.new.input.more
+    (λ w h. subst (Carries f w) (sym c.wait.ensures.state) h) (ap (λ x. x.receiver.read) c.wait.ensures.state) refl refl m1 in
     let v = c.args.link.now.there.fates in
     let v' = c.args.link.now.back.fates in
-    let fates : FatesSoFar v v' l.there.fates l.back.fates l.counts = record { frames = i.fates.frames; acks = i.fates.acks; left = i.fates.left; left_back = i.fates.left_back; counted = i.fates.counted } in
-    let fates1 : FatesSoFar v v' l1.there.fates l1.back.fates l1.counts = subst (λ x. FatesSoFar v v' x.there.fates x.back.fates x.counts) (sym c.feed.ensures.state) fates in
-    let fates2 : FatesSoFar v v' l2.there.fates l2.back.fates l2.counts = subst (λ x. FatesSoFar v v' x.there.fates x.back.fates x.counts) (sym c.wait.ensures.state) fates1 in
+    let fates : FatesSoFar v v' l.there.fates l.back.fates l.counts =
+    record { frames = i.fates.frames; acks = i.fates.acks; left = i.fates.left; left_back = i.fates.left_back; counted = i.fates.counted } in
+    let fates1 : FatesSoFar v v' l1.there.fates l1.back.fates l1.counts =
+    subst (λ x. FatesSoFar v v' x.there.fates x.back.fates x.counts) (sym c.feed.ensures.state) fates in
+    let fates2 : FatesSoFar v v' l2.there.fates l2.back.fates l2.counts =
+    subst (λ x. FatesSoFar v v' x.there.fates x.back.fates x.counts) (sym c.wait.ensures.state) fates1 in
     let l3 = c.step.new.link in
     let m3 = c.in_default-step.ensures.ok f old now held c.feed.new.input.more m2 in
     let k = c.in_default-step.ensures.keeps in
@@ -339,13 +363,15 @@ rounds-smaller g c =
     ⊎_elim
     (λ (e : c.has_moved-moved.result ≡ true).
     smaller_moved t u c.args.settings.rounds c.rounds.stalled c.stalled_after-stalled.result
-    (further l.sender.base l3.sender.base l.receiver.read l3.receiver.read base_on read_on (λ same. c.has_moved-moved.ensures.moved e (same.0 ∙ sym base1 ∙ sym base, sym bytes3 ∙ same.1 ∙ sym read1 ∙ bytes1)))
+    (further l.sender.base l3.sender.base l.receiver.read l3.receiver.read base_on read_on
+    (λ same. c.has_moved-moved.ensures.moved e (same.0 ∙ sym base1 ∙ sym base, sym bytes3 ∙ same.1 ∙ sym read1 ∙ bytes1)))
     (omega (arith, q, end, word)) (omega arith))
     (λ (e : c.has_moved-moved.result ≡ false).
     let same = c.has_moved-moved.ensures.still e in
     let one : l3.sender.base ≡ l.sender.base = same.0 ∙ base ∙ base1 in
     let two : l3.receiver.read ≡ l.receiver.read = bytes3 ∙ same.1 ∙ sym bytes1 ∙ read1 in
-    smaller_still t u c.args.settings.rounds c.rounds.stalled c.stalled_after-stalled.result (omega (arith, one, two)) test (c.stalled_after-stalled.ensures.stays e (omega (arith, test))))
+    smaller_still t u c.args.settings.rounds c.rounds.stalled c.stalled_after-stalled.result (omega (arith, one, two)) test
+    (c.stalled_after-stalled.ensures.stays e (omega (arith, test))))
     (cases_Bool c.has_moved-moved.result)
 
 pub rounds-preserved : goal.rounds-preserved
@@ -361,12 +387,16 @@ rounds-preserved g c =
     let m1 = c.feed.ensures.moving f old held holds i.moving in
     let l2 = c.wait.new.self in
     let d = record c.feed.new.counts { rounds = c.saturating_add-counts.result } in
-    let m2 = passed f old held l1 l2 c.feed.new.counts d now holds c.feed.new.input.more (λ w h. subst (Carries f w) (sym c.wait.ensures.state) h) (ap (λ x. x.receiver.read) c.wait.ensures.state) refl refl m1 in
+    let m2 = passed f old held l1 l2 c.feed.new.counts d now holds c.feed.new.input.more
+    (λ w h. subst (Carries f w) (sym c.wait.ensures.state) h) (ap (λ x. x.receiver.read) c.wait.ensures.state) refl refl m1 in
     let v = c.args.link.now.there.fates in
     let v' = c.args.link.now.back.fates in
-    let fates : FatesSoFar v v' l.there.fates l.back.fates l.counts = record { frames = i.fates.frames; acks = i.fates.acks; left = i.fates.left; left_back = i.fates.left_back; counted = i.fates.counted } in
-    let fates1 : FatesSoFar v v' l1.there.fates l1.back.fates l1.counts = subst (λ x. FatesSoFar v v' x.there.fates x.back.fates x.counts) (sym c.feed.ensures.state) fates in
-    let fates2 : FatesSoFar v v' l2.there.fates l2.back.fates l2.counts = subst (λ x. FatesSoFar v v' x.there.fates x.back.fates x.counts) (sym c.wait.ensures.state) fates1 in
+    let fates : FatesSoFar v v' l.there.fates l.back.fates l.counts =
+    record { frames = i.fates.frames; acks = i.fates.acks; left = i.fates.left; left_back = i.fates.left_back; counted = i.fates.counted } in
+    let fates1 : FatesSoFar v v' l1.there.fates l1.back.fates l1.counts =
+    subst (λ x. FatesSoFar v v' x.there.fates x.back.fates x.counts) (sym c.feed.ensures.state) fates in
+    let fates2 : FatesSoFar v v' l2.there.fates l2.back.fates l2.counts =
+    subst (λ x. FatesSoFar v v' x.there.fates x.back.fates x.counts) (sym c.wait.ensures.state) fates1 in
     let l3 = c.step.new.link in
     let m3 = c.in_default-step.ensures.ok f old now held c.feed.new.input.more m2 in
     let k = c.in_default-step.ensures.keeps in
@@ -377,9 +407,12 @@ rounds-preserved g c =
     let grows1 = c.feed.ensures.grows in
     let end2 : end_of l2.sender ≡ end_of l1.sender = ap (λ x. end_of x.sender) c.wait.ensures.state in
     let end3 = k.end in
-    let window2 : l2.sender.capacity ≡ l.sender.capacity = ap (λ x. x.sender.capacity) c.wait.ensures.state ∙ ap (λ x. x.sender.capacity) c.feed.ensures.state in
-    let capacity2 : l2.receiver.capacity ≡ l.receiver.capacity = ap (λ x. x.receiver.capacity) c.wait.ensures.state ∙ ap (λ x. x.receiver.capacity) c.feed.ensures.state in
-    let kept : length l1.receiver.queue ≡ 0 → 0 < c.args.link.now.sender.capacity → 0 < length c.args.chunk.now → end_of l3.sender < 2 ^ 64 - 1 → 0 < length l1.sender.queue =
+    let window2 : l2.sender.capacity ≡ l.sender.capacity = ap (λ x. x.sender.capacity) c.wait.ensures.state
+    ∙ ap (λ x. x.sender.capacity) c.feed.ensures.state in
+    let capacity2 : l2.receiver.capacity ≡ l.receiver.capacity = ap (λ x. x.receiver.capacity) c.wait.ensures.state
+    ∙ ap (λ x. x.receiver.capacity) c.feed.ensures.state in
+    let kept : length l1.receiver.queue ≡ 0 → 0 < c.args.link.now.sender.capacity → 0 < length c.args.chunk.now → end_of l3.sender < 2 ^ 64 - 1 →
+    0 < length l1.sender.queue =
     λ empty1 cap some left.
     ⊎_elim {C = 0 < length l1.sender.queue}
     (λ (h : 0 < length l1.sender.queue). h)
@@ -391,13 +424,17 @@ rounds-preserved g c =
     let behind = m1.carries.behind in
     let next : stored_next l1.receiver ≡ end_of l1.sender = omega (arith, q, first, end1, behind, h, empty1) in
     let more : c.feed.new.input.more ≡ true =
-    ⊎_elim {C = c.feed.new.input.more ≡ true} (λ (t : c.feed.new.input.more ≡ true). t) (λ (t : c.feed.new.input.more ≡ false). absurd (both_ways c.is_done.result c.if-is_done.false (c.is_done.ensures.exact t next empty1))) (cases_Bool c.feed.new.input.more) in
+    ⊎_elim {C = c.feed.new.input.more ≡ true} (λ (t : c.feed.new.input.more ≡ true). t)
+    (λ (t : c.feed.new.input.more ≡ false). absurd (both_ways c.is_done.result c.if-is_done.false (c.is_done.ensures.exact t next empty1)))
+    (cases_Bool c.feed.new.input.more) in
     let window = i.window in
     let chunk = i.chunk in
-    absurd (asked_again c.truthful.ensures.queue f i.moving.given m1.given l l1 (length c.rounds.chunk) i.moving.carries m1.carries (ap (λ x. x.receiver) c.feed.ensures.state) grows1 next empty1 (c.in_default.ensures.fed more)
+    absurd (asked_again c.truthful.ensures.queue f i.moving.given m1.given l l1 (length c.rounds.chunk) i.moving.carries m1.carries
+    (ap (λ x. x.receiver) c.feed.ensures.state) grows1 next empty1 (c.in_default.ensures.fed more)
     (omega (arith, chunk, some)) (omega (arith, base1, grows1, h, window, cap)) (omega (arith, end2, end3, left))))
     (cases_lt 0 (length l1.sender.queue)) in
-    let quiet : c.has_moved-moved.result ≡ false → 0 < c.args.link.now.sender.capacity → 0 < c.args.link.now.receiver.capacity → 0 < length c.args.chunk.now → end_of l3.sender < 2 ^ 64 - 1 → Stuck l2 l3 =
+    let quiet : c.has_moved-moved.result ≡ false → 0 < c.args.link.now.sender.capacity → 0 < c.args.link.now.receiver.capacity →
+    0 < length c.args.chunk.now → end_of l3.sender < 2 ^ 64 - 1 → Stuck l2 l3 =
     λ e cap cap' some left.
     (let same = c.has_moved-moved.ensures.still e in
     let base1 : l1.sender.base ≡ l.sender.base = ap (λ x. x.sender.base) c.feed.ensures.state in
@@ -416,10 +453,13 @@ rounds-preserved g c =
     let empty2 : length l2.receiver.queue ≡ 0 = omega (arith, drained, first3, grows, still_read) in
     let empty1 : length l1.receiver.queue ≡ 0 = ap (λ r. length r.queue) (sym receiver2) ∙ empty2 in
     let kept1 : 0 < length l1.sender.queue = kept empty1 cap some left in
-    let x = c.in_default-step.ensures.moves f m2.given m2.carries (ap (λ y. y.there.ahead) c.wait.ensures.state ∙ ap (λ y. y.there.ahead) c.feed.ensures.state ∙ i.ahead) (ap (λ y. y.back.ahead) c.wait.ensures.state ∙ ap (λ y. y.back.ahead) c.feed.ensures.state ∙ i.ahead_back)
+    let x = c.in_default-step.ensures.moves f m2.given m2.carries
+    (ap (λ y. y.there.ahead) c.wait.ensures.state ∙ ap (λ y. y.there.ahead) c.feed.ensures.state ∙ i.ahead)
+    (ap (λ y. y.back.ahead) c.wait.ensures.state ∙ ap (λ y. y.back.ahead) c.feed.ensures.state ∙ i.ahead_back)
     (subst (λ y. 0 < length y.sender.queue) (sym c.wait.ensures.state) kept1) (subst (λ n. 0 < n) (sym (capacity2 ∙ i.capacity)) cap') some1 still still_read in
     record { frames = x.frames; acks = x.acks; why = x.why; left = x.left; left_back = x.left_back; counted = x.counted; due = x.due; lost = x.lost }) in
-    let counts2 : failures l2.counts ≡ failures l.counts = ap (λ x. failures x.counts) c.wait.ensures.state ∙ ap (λ x. failures x.counts) c.feed.ensures.state in
+    let counts2 : failures l2.counts ≡ failures l.counts = ap (λ x. failures x.counts) c.wait.ensures.state
+    ∙ ap (λ x. failures x.counts) c.feed.ensures.state in
     let fewer : end_of l3.sender < 2 ^ 64 - 1 → end_of l.sender < 2 ^ 64 - 1 = λ left. (omega (arith, grows1, end2, end3, left)) in
     let from = i.moving.carries.sends.from in
     let base1 : l1.sender.base ≡ l.sender.base = ap (λ x. x.sender.base) c.feed.ensures.state in
@@ -429,11 +469,13 @@ rounds-preserved g c =
     let bytes3 : l3.receiver.read ≡ c.step.new.counts.bytes = m3.bytes in
     let base_on : l.sender.base ≤ l3.sender.base = subst (λ n. n ≤ l3.sender.base) base2 k.base in
     let read_on : l.receiver.read ≤ l3.receiver.read = subst (λ n. n ≤ l3.receiver.read) read2 k.read in
-    let rounds3 : c.step.new.counts.rounds ≡ min (c.rounds.counts.rounds + 1) (2 ^ 64 - 1) = c.step.ensures.rounds ∙ c.saturating_add-counts.ensures ∙ ap (λ n. min (n + 1) (2 ^ 64 - 1)) c.feed.ensures.rounds in
+    let rounds3 : c.step.new.counts.rounds ≡ min (c.rounds.counts.rounds + 1) (2 ^ 64 - 1) =
+    c.step.ensures.rounds ∙ c.saturating_add-counts.ensures ∙ ap (λ n. min (n + 1) (2 ^ 64 - 1)) c.feed.ensures.rounds in
     record {
       moving = m3;
       fates = record { frames = fates3.frames; acks = fates3.acks; left = fates3.left; left_back = fates3.left_back; counted = fates3.counted };
-      rounds = (let a = i.rounds in let w = c.stalled_after-stalled.ensures.word in let r1 = c.feed.ensures.rounds in let r3 = c.step.ensures.rounds in let r2 = c.saturating_add-counts.ensures in omega (arith, a, bound, w, r1, r2, r3));
+      rounds = (let a = i.rounds in let w = c.stalled_after-stalled.ensures.word in let r1 = c.feed.ensures.rounds in let r3 = c.step.ensures.rounds in
+          let r2 = c.saturating_add-counts.ensures in omega (arith, a, bound, w, r1, r2, r3));
       ahead = k.ahead;
       ahead_back = k.ahead_back;
       window = k.window ∙ window2 ∙ i.window;
@@ -451,38 +493,55 @@ rounds-preserved g c =
       most = omega (arith, test, bound);
       stuck = λ cap cap' some left. ⊎_elim {C = StuckSoFar stalled v v' l3}
           (λ (e : c.has_moved-moved.result ≡ true).
-          subst (λ n. StuckSoFar n v v' l3) (sym (c.stalled_after-stalled.ensures.moved e)) (stuck_none fates3.frames fates3.acks v v' l3 fates3.left fates3.left_back))
+          subst (λ n. StuckSoFar n v v' l3) (sym (c.stalled_after-stalled.ensures.moved e))
+          (stuck_none fates3.frames fates3.acks v v' l3 fates3.left fates3.left_back))
           (λ (e : c.has_moved-moved.result ≡ false).
           let fewer : end_of l.sender < 2 ^ 64 - 1 = omega (arith, grows1, end2, end3, left) in
           let same_end : end_of l.sender ≤ end_of l2.sender = omega (arith, grows1, end2) in
           let stays = c.stalled_after-stalled.ensures.stays e (omega (arith, test)) in
           let size : suc c.rounds.stalled ≡ stalled = omega (arith, stays) in
-          let before : StuckSoFar c.rounds.stalled v v' l2 = stuck_kept c.rounds.stalled v v' l l2 (ap (λ x. x.there) c.wait.ensures.state ∙ ap (λ x. x.there) c.feed.ensures.state) (ap (λ x. x.back) c.wait.ensures.state ∙ ap (λ x. x.back) c.feed.ensures.state) (ap (λ x. x.receiver) c.wait.ensures.state ∙ ap (λ x. x.receiver) c.feed.ensures.state)
-          (ap (λ x. x.sender.base) c.wait.ensures.state ∙ ap (λ x. x.sender.base) c.feed.ensures.state) same_end (ap (λ x. x.counts) c.wait.ensures.state ∙ ap (λ x. x.counts) c.feed.ensures.state) (i.stuck cap cap' some fewer) in
+          let before : StuckSoFar c.rounds.stalled v v' l2 = stuck_kept c.rounds.stalled v v' l l2
+          (ap (λ x. x.there) c.wait.ensures.state ∙ ap (λ x. x.there) c.feed.ensures.state)
+          (ap (λ x. x.back) c.wait.ensures.state ∙ ap (λ x. x.back) c.feed.ensures.state)
+          (ap (λ x. x.receiver) c.wait.ensures.state ∙ ap (λ x. x.receiver) c.feed.ensures.state)
+          (ap (λ x. x.sender.base) c.wait.ensures.state ∙ ap (λ x. x.sender.base) c.feed.ensures.state) same_end
+          (ap (λ x. x.counts) c.wait.ensures.state ∙ ap (λ x. x.counts) c.feed.ensures.state) (i.stuck cap cap' some fewer) in
           subst (λ n. StuckSoFar n v v' l3) size (stuck_next c.rounds.stalled v v' l2 l3 (omega (arith, test)) before (quiet e cap cap' some left)))
           (cases_Bool c.has_moved-moved.result);
       most_rounds = λ none cap cap' some left. ⊎_elim {C = c.step.new.counts.rounds ≤ (l3.sender.base - f) + l3.receiver.read + failures l3.counts}
           (λ (e : c.has_moved-moved.result ≡ true).
-          more_moved c.rounds.counts.rounds c.step.new.counts.rounds l.sender.base l3.sender.base l.receiver.read l3.receiver.read f (failures l.counts) (failures l3.counts) from base_on
-          (further l.sender.base l3.sender.base l.receiver.read l3.receiver.read base_on read_on (λ same. c.has_moved-moved.ensures.moved e (same.0 ∙ sym base1 ∙ sym c.base-base.ensures.value, sym bytes3 ∙ same.1 ∙ sym read1 ∙ m1.bytes)))
+          more_moved c.rounds.counts.rounds c.step.new.counts.rounds l.sender.base l3.sender.base l.receiver.read l3.receiver.read f (failures l.counts)
+          (failures l3.counts) from base_on
+          (further l.sender.base l3.sender.base l.receiver.read l3.receiver.read base_on read_on
+          (λ same. c.has_moved-moved.ensures.moved e (same.0 ∙ sym base1 ∙ sym c.base-base.ensures.value, sym bytes3 ∙ same.1 ∙ sym read1 ∙ m1.bytes)))
           (subst (λ n. n ≤ failures l3.counts) counts2 c.step.ensures.failed) (omega (arith, rounds3)) (i.most_rounds none cap cap' some (fewer left)))
           (λ (e : c.has_moved-moved.result ≡ false).
           let same = c.has_moved-moved.ensures.still e in
-          more_still c.rounds.counts.rounds c.step.new.counts.rounds l.sender.base l3.sender.base l.receiver.read l3.receiver.read f (failures l.counts) (failures l3.counts) (same.0 ∙ c.base-base.ensures.value ∙ base1) (bytes3 ∙ same.1 ∙ sym m1.bytes ∙ read1)
-          (subst (λ n. min (n + 1) (2 ^ 64 - 1) ≤ failures l3.counts) counts2 (quiet e cap cap' some left).counted) rounds3 (i.most_rounds none cap cap' some (fewer left)))
+          more_still c.rounds.counts.rounds c.step.new.counts.rounds l.sender.base l3.sender.base l.receiver.read l3.receiver.read f (failures l.counts)
+          (failures l3.counts) (same.0 ∙ c.base-base.ensures.value ∙ base1) (bytes3 ∙ same.1 ∙ sym m1.bytes ∙ read1)
+          (subst (λ n. min (n + 1) (2 ^ 64 - 1) ≤ failures l3.counts) counts2 (quiet e cap cap' some left).counted) rounds3
+          (i.most_rounds none cap cap' some (fewer left)))
           (cases_Bool c.has_moved-moved.result);
       at_once = λ come come_back meet none cap cap' some left.
           let before = i.at_once come come_back meet none cap cap' some (fewer left) in
-          let there : l2.there.fates ≡ after_all i.fates.frames v = ap (λ x. x.there.fates) c.wait.ensures.state ∙ ap (λ x. x.there.fates) c.feed.ensures.state ∙ i.fates.left in
-          let back : l2.back.fates ≡ after_all i.fates.acks v' = ap (λ x. x.back.fates) c.wait.ensures.state ∙ ap (λ x. x.back.fates) c.feed.ensures.state ∙ i.fates.left_back in
+          let there : l2.there.fates ≡ after_all i.fates.frames v = ap (λ x. x.there.fates) c.wait.ensures.state
+          ∙ ap (λ x. x.there.fates) c.feed.ensures.state ∙ i.fates.left in
+          let back : l2.back.fates ≡ after_all i.fates.acks v' = ap (λ x. x.back.fates) c.wait.ensures.state ∙ ap (λ x. x.back.fates) c.feed.ensures.state
+          ∙ i.fates.left_back in
           let receiver2 : l2.receiver ≡ l1.receiver = ap (λ x. x.receiver) c.wait.ensures.state in
           let next2 : stored_next l2.receiver ≡ stored_next l.receiver = ap stored_next (receiver2 ∙ ap (λ x. x.receiver) c.feed.ensures.state) in
           let room : length c.feed.new.chunk ≡ length c.args.chunk.now = c.feed.ensures.chunk ∙ i.chunk in
-          let both = c.in_default-step.ensures.at_once f m2.given m2.carries (ap (λ y. y.there.ahead) c.wait.ensures.state ∙ ap (λ y. y.there.ahead) c.feed.ensures.state ∙ i.ahead) (ap (λ y. y.back.ahead) c.wait.ensures.state ∙ ap (λ y. y.back.ahead) c.feed.ensures.state ∙ i.ahead_back)
-          (subst AllCome (sym there) (all_after i.fates.frames v come)) (subst AllCome (sym back) (all_after i.fates.acks v' come_back)) (base2 ∙ before.0 ∙ sym next2)
+          let both = c.in_default-step.ensures.at_once f m2.given m2.carries
+          (ap (λ y. y.there.ahead) c.wait.ensures.state ∙ ap (λ y. y.there.ahead) c.feed.ensures.state ∙ i.ahead)
+          (ap (λ y. y.back.ahead) c.wait.ensures.state ∙ ap (λ y. y.back.ahead) c.feed.ensures.state ∙ i.ahead_back)
+          (subst AllCome (sym there) (all_after i.fates.frames v come)) (subst AllCome (sym back) (all_after i.fates.acks v' come_back))
+          (base2 ∙ before.0 ∙ sym next2)
           (subst (λ n. 0 < n) (sym (capacity2 ∙ i.capacity)) cap') (subst (λ n. 0 < n) (sym room) some)
-          (λ empty. subst (λ y. 0 < length y.sender.queue) (sym c.wait.ensures.state) (kept (ap (λ r. length r.queue) (sym receiver2) ∙ empty) cap some left)) in
+          (λ empty. subst (λ y. 0 < length y.sender.queue) (sym c.wait.ensures.state)
+          (kept (ap (λ r. length r.queue) (sym receiver2) ∙ empty) cap some left)) in
           (both.0, (let so_far = before.1 in let more = both.1 in omega (arith, so_far, more, read2, rounds3)));
       least_rounds = λ none. (let most = c.feed.ensures.most in let chunk = i.chunk in let taken3 = c.step.ensures.taken in
-          more_taken c.rounds.counts.taken c.step.new.counts.taken c.rounds.counts.rounds c.step.new.counts.rounds (length c.args.chunk.now) (i.least_rounds none) (omega (arith, most, chunk, taken3)) (let end = m3.carries.sends.end in let word = k.word in let taken = m3.taken in omega (arith, end, word, taken)) rounds3);
+          more_taken c.rounds.counts.taken c.step.new.counts.taken c.rounds.counts.rounds c.step.new.counts.rounds (length c.args.chunk.now)
+          (i.least_rounds none) (omega (arith, most, chunk, taken3))
+          (let end = m3.carries.sends.end in let word = k.word in let taken = m3.taken in omega (arith, end, word, taken)) rounds3);
     }

@@ -12,7 +12,8 @@ use Rattle.net_stream.proofs.exchange.exchange.Given as goal
 abbrev pub invariant-rounds : goal.invariant-rounds
 invariant-rounds g l =
     record {
-      moving : Moving l.fn.settings.first l.link l.counts (g.R.Read.remaining l.fn.reader) (g.R.Read.remaining l.reader) (g.W.Write.contents l.fn.writer) (g.W.Write.contents l.writer) l.input.more;
+      moving : Moving l.fn.settings.first l.link l.counts (g.R.Read.remaining l.fn.reader) (g.R.Read.remaining l.reader) (g.W.Write.contents l.fn.writer)
+          (g.W.Write.contents l.writer) l.input.more;
       fates : FatesSoFar l.fn.link.there.fates l.fn.link.back.fates l.link.there.fates l.link.back.fates l.link.counts;
       rounds : l.stalled ≤ l.counts.rounds;
       ahead : l.link.there.ahead ≡ [];
@@ -20,13 +21,16 @@ invariant-rounds g l =
       window : l.link.sender.capacity ≡ l.fn.link.sender.capacity;
       capacity : l.link.receiver.capacity ≡ l.fn.link.receiver.capacity;
       chunk : length l.chunk ≡ length l.fn.chunk;
-      failing : 0 < l.fn.link.sender.capacity → 0 < l.fn.link.receiver.capacity → 0 < length l.fn.chunk → end_of l.link.sender < 2 ^ 64 - 1 → l.stalled ≤ failures l.link.counts;
+      failing : 0 < l.fn.link.sender.capacity → 0 < l.fn.link.receiver.capacity → 0 < length l.fn.chunk → end_of l.link.sender < 2 ^ 64 - 1 →
+          l.stalled ≤ failures l.link.counts;
       most : l.stalled ≤ l.fn.settings.rounds;
       stuck : 0 < l.fn.link.sender.capacity → 0 < l.fn.link.receiver.capacity → 0 < length l.fn.chunk → end_of l.link.sender < 2 ^ 64 - 1
           → StuckSoFar l.stalled l.fn.link.there.fates l.fn.link.back.fates l.link;
-      most_rounds : l.fn.counts.rounds ≡ 0 → 0 < l.fn.link.sender.capacity → 0 < l.fn.link.receiver.capacity → 0 < length l.fn.chunk → end_of l.link.sender < 2 ^ 64 - 1
+      most_rounds : l.fn.counts.rounds ≡ 0 → 0 < l.fn.link.sender.capacity → 0 < l.fn.link.receiver.capacity → 0 < length l.fn.chunk →
+          end_of l.link.sender < 2 ^ 64 - 1
           → l.counts.rounds ≤ (l.link.sender.base - l.fn.settings.first) + l.link.receiver.read + failures l.link.counts;
-      at_once : AllCome l.fn.link.there.fates → AllCome l.fn.link.back.fates → l.fn.link.sender.base ≡ stored_next l.fn.link.receiver → l.fn.counts.rounds ≡ 0 → 0 < l.fn.link.sender.capacity → 0 < l.fn.link.receiver.capacity → 0 < length l.fn.chunk → end_of l.link.sender < 2 ^ 64 - 1
+      at_once : AllCome l.fn.link.there.fates → AllCome l.fn.link.back.fates → l.fn.link.sender.base ≡ stored_next l.fn.link.receiver →
+          l.fn.counts.rounds ≡ 0 → 0 < l.fn.link.sender.capacity → 0 < l.fn.link.receiver.capacity → 0 < length l.fn.chunk → end_of l.link.sender < 2 ^ 64 - 1
           → (l.link.sender.base ≡ stored_next l.link.receiver) × (l.counts.rounds ≤ l.link.receiver.read);
       least_rounds : l.fn.counts.taken ≡ 0 → l.counts.taken ≤ l.counts.rounds * length l.fn.chunk;
     }

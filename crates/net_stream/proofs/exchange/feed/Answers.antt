@@ -18,10 +18,13 @@ returns-in-Ok-clause-moving g c = λ f old held holds.
     let all : length given ≤ c.write.result = omega (arith, length-take c.in-Ok.count c.read.new.buf) in
     let is = (c.may_read.ensures.only c.if-not-may_read.false).0 in
     let some = (c.may_read.ensures.only c.if-not-may_read.false).1 in
-    let word : end_of l.sender + length given < 2 ^ 64 = omega (arith, some, front, bound, c.window.ensures, c.min-room.ensures, length-take c.in-Ok.count c.read.new.buf) in
+    let word : end_of l.sender + length given < 2 ^ 64 =
+    omega (arith, some, front, bound, c.window.ensures, c.min-room.ensures, length-take c.in-Ok.count c.read.new.buf) in
     let long : length given ≡ c.in-Ok.count = omega (arith, bound, length-take c.in-Ok.count c.read.new.buf) in
-    fed f old held c.truthful.ensures.queue l c.write.new.self c.args.counts.now _ (g.R.Read.remaining c.args.reader.now) (g.R.Read.remaining c.read.new.self) holds c.args.input.now.more c.args.input.now.more
-    given c.in-Ok.ensures.bytes.0 (λ w h. subst (λ xs. Carries f (w ++ xs) c.write.new.self) (take_all c.write.result given all) (c.write.ensures.carries f w h)) (ap (λ v. v.receiver) c.write.ensures.state)
+    fed f old held c.truthful.ensures.queue l c.write.new.self c.args.counts.now _ (g.R.Read.remaining c.args.reader.now)
+    (g.R.Read.remaining c.read.new.self) holds c.args.input.now.more c.args.input.now.more
+    given c.in-Ok.ensures.bytes.0 (λ w h. subst (λ xs. Carries f (w ++ xs) c.write.new.self) (take_all c.write.result given all)
+    (c.write.ensures.carries f w h)) (ap (λ v. v.receiver) c.write.ensures.state)
     (c.saturating_add-counts.ensures ∙ ap (λ n. min (c.args.counts.now.taken + n) (2 ^ 64 - 1)) (sym long)) (λ i. c.args.counts.now.bytes) word
     (λ e. absurd (both_ways c.args.input.now.more e is))
 
@@ -33,11 +36,13 @@ returns-in-Ok-eq0-clause-moving g c = λ f old held holds.
     let some = (c.may_read.ensures.only c.if-not-may_read.false).1 in
     let front = c.split_at_mut-front.ensures.front_len in
     let bytes = c.in-Ok-eq0.ensures.bytes in
-    asked f old held c.args.link.now c.args.counts.now now next holds c.args.input.now.more false (subst (λ n. Consumes now next (take n c.read.new.buf)) none bytes.0) (λ _. bytes.1 none (omega (arith, some, front)))
+    asked f old held c.args.link.now c.args.counts.now now next holds c.args.input.now.more false
+    (subst (λ n. Consumes now next (take n c.read.new.buf)) none bytes.0) (λ _. bytes.1 none (omega (arith, some, front)))
 
 pub returns-in-Err-clause-moving : goal.returns-in-Err-clause-moving
 returns-in-Err-clause-moving g c = λ f old held holds.
     let now = g.R.Read.remaining c.args.reader.now in
     let next = g.R.Read.remaining c.read.new.self in
     let is = (c.may_read.ensures.only c.if-not-may_read.false).0 in
-    asked f old held c.args.link.now c.args.counts.now now next holds c.args.input.now.more c.args.input.now.more (Consumes-none now next c.in-Err.ensures.bytes) (λ e. absurd (both_ways c.args.input.now.more e is))
+    asked f old held c.args.link.now c.args.counts.now now next holds c.args.input.now.more c.args.input.now.more
+    (Consumes-none now next c.in-Err.ensures.bytes) (λ e. absurd (both_ways c.args.input.now.more e is))

@@ -25,13 +25,19 @@ returns-clause-ok g c = on_ok_weaker c.hand_out.result
     let old = c.args.link.now in
     let new = c.pass_round-passed.new.self in
     let round = was_ok (Round old new) c.pass_round-passed.result (sym c.is_err.ensures.value ∙ c.if-is_err.false) c.pass_round-passed.ensures.round in
-    let numbers : Numbers = record { first = c.numbers.ensures.first; next = c.numbers.ensures.next; read = c.numbers.ensures.read; capacity = c.numbers.ensures.capacity } in
+    let numbers : Numbers = record {
+      first = c.numbers.ensures.first;
+      next = c.numbers.ensures.next;
+      read = c.numbers.ensures.read;
+      capacity = c.numbers.ensures.capacity;
+    } in
     let k = round_keeps old new round.passed numbers in
     let counts = c.args.counts.now in
     let holds = g.W.Write.contents c.args.writer.now in
     let end = k.end in
     let word : end_of new.sender < 2 ^ 64 = (let e = c.end-end.ensures.end in omega arith) in
-    handed f before held c.truthful.ensures.queue new c.hand_out.new.link counts c.hand_out.new.counts now holds (g.W.Write.contents c.hand_out.new.writer) more (c.hand_out.ensures.carries f) (out f) c.hand_out.ensures.taken
+    handed f before held c.truthful.ensures.queue new c.hand_out.new.link counts c.hand_out.new.counts now holds
+    (g.W.Write.contents c.hand_out.new.writer) more (c.hand_out.ensures.carries f) (out f) c.hand_out.ensures.taken
     (subst (λ l. end_of l.sender < 2 ^ 64) (sym c.hand_out.ensures.state) word)
     (passed f before held old new counts counts now holds more (c.pass_round-passed.ensures.carries f) c.pass_round-passed.ensures.read refl refl m))
     c.hand_out.ensures.ok
@@ -42,13 +48,19 @@ returns-clause-err g c = on_err_weaker c.hand_out.result
     let old = c.args.link.now in
     let new = c.pass_round-passed.new.self in
     let round = was_ok (Round old new) c.pass_round-passed.result (sym c.is_err.ensures.value ∙ c.if-is_err.false) c.pass_round-passed.ensures.round in
-    let numbers : Numbers = record { first = c.numbers.ensures.first; next = c.numbers.ensures.next; read = c.numbers.ensures.read; capacity = c.numbers.ensures.capacity } in
+    let numbers : Numbers = record {
+      first = c.numbers.ensures.first;
+      next = c.numbers.ensures.next;
+      read = c.numbers.ensures.read;
+      capacity = c.numbers.ensures.capacity;
+    } in
     let k = round_keeps old new round.passed numbers in
     let counts = c.args.counts.now in
     let holds = g.W.Write.contents c.args.writer.now in
     let end = k.end in
     let word : end_of new.sender < 2 ^ 64 = (let e = c.end-end.ensures.end in omega arith) in
-    handed_less f before held new counts c.hand_out.new.counts now holds (g.W.Write.contents c.hand_out.new.writer) more (out f) c.hand_out.ensures.taken c.truthful.ensures.queue word
+    handed_less f before held new counts c.hand_out.new.counts now holds (g.W.Write.contents c.hand_out.new.writer) more
+    (out f) c.hand_out.ensures.taken c.truthful.ensures.queue word
     (passed f before held old new counts counts now holds more (c.pass_round-passed.ensures.carries f) c.pass_round-passed.ensures.read refl refl m))
     c.hand_out.ensures.err
 
@@ -56,7 +68,8 @@ pub returns-then-is_err-clause-failed : goal.returns-then-is_err-clause-failed
 returns-then-is_err-clause-failed g c =
     let old = c.args.link.now in
     let new = c.pass_round-passed.new.self in
-    let part = was_err (PartCounted old.there.fates old.back.fates old.counts new.counts) c.pass_round-passed.result (sym c.is_err.ensures.value ∙ c.if-is_err.true) c.pass_round-passed.ensures.err in
+    let part = was_err (PartCounted old.there.fates old.back.fates old.counts new.counts) c.pass_round-passed.result
+    (sym c.is_err.ensures.value ∙ c.if-is_err.true) c.pass_round-passed.ensures.err in
     part_failed old.there.fates old.back.fates old.counts new.counts part
 
 pub returns-clause-failed : goal.returns-clause-failed
@@ -70,7 +83,8 @@ pub returns-then-is_err-clause-fates : goal.returns-then-is_err-clause-fates
 returns-then-is_err-clause-fates g c = λ v v' h.
     let old = c.args.link.now in
     let new = c.pass_round-passed.new.self in
-    let part = was_err (PartCounted old.there.fates old.back.fates old.counts new.counts) c.pass_round-passed.result (sym c.is_err.ensures.value ∙ c.if-is_err.true) c.pass_round-passed.ensures.err in
+    let part = was_err (PartCounted old.there.fates old.back.fates old.counts new.counts) c.pass_round-passed.result
+    (sym c.is_err.ensures.value ∙ c.if-is_err.true) c.pass_round-passed.ensures.err in
     part_met v v' old.there.fates old.back.fates old.counts new.counts part h
 
 pub returns-clause-fates : goal.returns-clause-fates
@@ -78,7 +92,8 @@ returns-clause-fates g c = λ v v' h.
     let old = c.args.link.now in
     let new = c.pass_round-passed.new.self in
     let round = was_ok (Round old new) c.pass_round-passed.result (sym c.is_err.ensures.value ∙ c.if-is_err.false) c.pass_round-passed.ensures.round in
-    subst (λ l. FatesCounted v v' l.counts) (sym c.hand_out.ensures.state) (met_so_far v v' new.there.fates new.back.fates new.counts (round_met v v' old new round.passed h))
+    subst (λ l. FatesCounted v v' l.counts) (sym c.hand_out.ensures.state)
+    (met_so_far v v' new.there.fates new.back.fates new.counts (round_met v v' old new round.passed h))
 
 pub returns-clause-left : goal.returns-clause-left
 returns-clause-left g c = on_ok_weaker c.hand_out.result
@@ -95,7 +110,12 @@ returns-clause-keeps g c = on_ok_weaker c.hand_out.result
     let old = c.args.link.now in
     let new = c.pass_round-passed.new.self in
     let round = was_ok (Round old new) c.pass_round-passed.result (sym c.is_err.ensures.value ∙ c.if-is_err.false) c.pass_round-passed.ensures.round in
-    let numbers : Numbers = record { first = c.numbers.ensures.first; next = c.numbers.ensures.next; read = c.numbers.ensures.read; capacity = c.numbers.ensures.capacity } in
+    let numbers : Numbers = record {
+      first = c.numbers.ensures.first;
+      next = c.numbers.ensures.next;
+      read = c.numbers.ensures.read;
+      capacity = c.numbers.ensures.capacity;
+    } in
     let k = round_keeps old new round.passed numbers in
     let read = k.read in
     let first = k.first in
@@ -127,7 +147,12 @@ returns-clause-moves g c = on_ok_weaker c.hand_out.result
     let old = c.args.link.now in
     let new = c.pass_round-passed.new.self in
     let round = was_ok (Round old new) c.pass_round-passed.result (sym c.is_err.ensures.value ∙ c.if-is_err.false) c.pass_round-passed.ensures.round in
-    let numbers : Numbers = record { first = c.numbers.ensures.first; next = c.numbers.ensures.next; read = c.numbers.ensures.read; capacity = c.numbers.ensures.capacity } in
+    let numbers : Numbers = record {
+      first = c.numbers.ensures.first;
+      next = c.numbers.ensures.next;
+      read = c.numbers.ensures.read;
+      capacity = c.numbers.ensures.capacity;
+    } in
     let k = round_keeps old new round.passed numbers in
     let word : end_of old.sender < 2 ^ 64 = (let e = c.end-end.ensures.end in omega arith) in
     let moves = round_moves old new round.passed c.round_trip.ensures numbers c.completion.ensures.in_order c.truthful.ensures.queue c.is_sound.ensures word in
@@ -140,9 +165,15 @@ returns-clause-at_once g c = on_ok_weaker c.hand_out.result
     let old = c.args.link.now in
     let new = c.pass_round-passed.new.self in
     let round = was_ok (Round old new) c.pass_round-passed.result (sym c.is_err.ensures.value ∙ c.if-is_err.false) c.pass_round-passed.ensures.round in
-    let numbers : Numbers = record { first = c.numbers.ensures.first; next = c.numbers.ensures.next; read = c.numbers.ensures.read; capacity = c.numbers.ensures.capacity } in
+    let numbers : Numbers = record {
+      first = c.numbers.ensures.first;
+      next = c.numbers.ensures.next;
+      read = c.numbers.ensures.read;
+      capacity = c.numbers.ensures.capacity;
+    } in
     let word : end_of old.sender < 2 ^ 64 = (let e = c.end-end.ensures.end in omega arith) in
     let moves = round_moves old new round.passed c.round_trip.ensures numbers c.completion.ensures.in_order c.truthful.ensures.queue c.is_sound.ensures word in
-    round_at_once c.round_trip.ensures c.truthful.ensures.queue f w old new c.hand_out.new.link (length c.args.chunk.now) round.passed (round_keeps old new round.passed numbers) moves word c.hand_out.ensures.state carries (c.pass_round-passed.ensures.carries f w carries)
+    round_at_once c.round_trip.ensures c.truthful.ensures.queue f w old new c.hand_out.new.link (length c.args.chunk.now) round.passed
+    (round_keeps old new round.passed numbers) moves word c.hand_out.ensures.state carries (c.pass_round-passed.ensures.carries f w carries)
     none none_back come come_back meet cap some kept)
     c.hand_out.ensures.ok

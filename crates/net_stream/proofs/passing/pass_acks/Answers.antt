@@ -16,10 +16,15 @@ returns-then-not-branch-clause-carried g c = λ f w r there h. c.pass_ack.ensure
 pub acks-preserved : goal.acks-preserved
 acks-preserved g c = record {
   carried = λ f w r there h. c.pass_ack.ensures.carried f w r there (c.acks.invariant.carried f w r there h);
-  left = (let one = c.in_ok-pass_ack.ensures.met c.if-not-branch.false in all_left c.acks.back.fates c.pass_ack.new.back.fates (length c.acks.back.ahead) (length c.pass_ack.new.back.ahead) one.2 one.0 ∙ c.acks.invariant.left);
+  left = (let one = c.in_ok-pass_ack.ensures.met c.if-not-branch.false in
+      all_left c.acks.back.fates c.pass_ack.new.back.fates (length c.acks.back.ahead) (length c.pass_ack.new.back.ahead) one.2 one.0 ∙ c.acks.invariant.left);
   counted =
-      (let one = c.in_ok-pass_ack.ensures.met c.if-not-branch.false in let so_far = c.acks.invariant.counted in let size = so_far.1 in let less = one.2 in
-      (so_far.0 + 1, omega arith, one_more_met so_far.0 c.args.back.now.fates c.acks.back.fates c.pass_ack.new.back.fates c.args.counts.now c.acks.counts c.pass_ack.new.counts one.0 one.1 so_far.2));
+      (let one = c.in_ok-pass_ack.ensures.met c.if-not-branch.false in let so_far = c.acks.invariant.counted in let size = so_far.1 in let less = one.2 in (
+        so_far.0 + 1,
+        omega arith,
+        one_more_met so_far.0 c.args.back.now.fates c.acks.back.fates c.pass_ack.new.back.fates c.args.counts.now c.acks.counts
+            c.pass_ack.new.counts one.0 one.1 so_far.2,
+      ));
   acked = λ all. let before = c.acks.invariant.acked all in let step = c.pass_ack.ensures.acked before.0 in (step.0, before.1 ∙ step.1);
   came = c.in_ok-pass_ack.ensures.came ∙ c.acks.invariant.came;
   returned = c.in_ok-pass_ack.ensures.returned ∙ c.acks.invariant.returned;
@@ -32,12 +37,14 @@ returns-then-not-branch-clause-counted g c =
     let so_far = c.acks.invariant.counted in
     let left : length c.acks.back.ahead ≡ 0 = ap length (sym (ap (λ p. p.ahead) same.0) ∙ none) in
     let all = so_far.1 in
-    all_met so_far.0 (length c.args.back.now.ahead) c.args.back.now.fates c.acks.back.fates c.args.counts.now c.acks.counts c.pass_ack.new.counts same.1 (omega arith) so_far.2
+    all_met so_far.0 (length c.args.back.now.ahead) c.args.back.now.fates c.acks.back.fates c.args.counts.now c.acks.counts c.pass_ack.new.counts same.1
+    (omega arith) so_far.2
 
 pub returns-in_err-pass_ack-clause-err : goal.returns-in_err-pass_ack-clause-err
 returns-in_err-pass_ack-clause-err g c =
     let so_far = c.acks.invariant.counted in
-    OnErr-always c.from_residual.result (met_last so_far.0 c.args.back.now.fates c.acks.back.fates c.args.counts.now c.acks.counts c.pass_ack.new.counts c.in_err-pass_ack.ensures.err so_far.2)
+    OnErr-always c.from_residual.result
+    (met_last so_far.0 c.args.back.now.fates c.acks.back.fates c.args.counts.now c.acks.counts c.pass_ack.new.counts c.in_err-pass_ack.ensures.err so_far.2)
 
 pub acks-init : goal.acks-init
 acks-init g c =
@@ -54,7 +61,8 @@ pub returns-then-not-branch-clause-left : goal.returns-then-not-branch-clause-le
 returns-then-not-branch-clause-left g c =
     let none = c.in_ok-pass_ack.ensures.none c.if-not-branch.true in
     let same = c.in_ok-pass_ack.ensures.unmet c.if-not-branch.true in
-    none_left c.acks.back.fates c.pass_ack.new.back.fates (after_all (length c.args.back.now.ahead) c.args.back.now.fates) (length c.acks.back.ahead) (ap (λ p. p.fates) same.0) (ap length (sym (ap (λ p. p.ahead) same.0) ∙ none)) c.acks.invariant.left
+    none_left c.acks.back.fates c.pass_ack.new.back.fates (after_all (length c.args.back.now.ahead) c.args.back.now.fates) (length c.acks.back.ahead)
+    (ap (λ p. p.fates) same.0) (ap length (sym (ap (λ p. p.ahead) same.0) ∙ none)) c.acks.invariant.left
 
 pub returns-then-not-branch-clause-came : goal.returns-then-not-branch-clause-came
 returns-then-not-branch-clause-came g c =

@@ -13,7 +13,8 @@ invariant-acks g l =
       carried : (f : ℕ) (w : List ℕ) (r : Stored) (there : PathSeen) → IsUnderWay f w l.fn.sender r there l.fn.back → IsUnderWay f w l.sender r there l.back;
       left : after_all (length l.back.ahead) l.back.fates ≡ after_all (length l.fn.back.ahead) l.fn.back.fates;
       counted : (k : ℕ) × (k + length l.back.ahead ≡ length l.fn.back.ahead) × MetSoFar k l.fn.back.fates l.back.fates l.fn.counts l.counts;
-      acked : NextCome (length l.fn.back.ahead) l.fn.back.fates → NextCome (length l.back.ahead) l.back.fates × (after_ack_frames l.fn.sender l.fn.back.ahead ≡ after_ack_frames l.sender l.back.ahead);
+      acked : NextCome (length l.fn.back.ahead) l.fn.back.fates → NextCome (length l.back.ahead) l.back.fates
+          × (after_ack_frames l.fn.sender l.fn.back.ahead ≡ after_ack_frames l.sender l.back.ahead);
       came : after_ack_frames l.sender (coming_of l.back.fates l.back.ahead) ≡ after_ack_frames l.fn.sender (coming_of l.fn.back.fates l.fn.back.ahead);
       returned : l.back.late ++ late_of l.back.fates l.back.ahead ≡ l.fn.back.late ++ late_of l.fn.back.fates l.fn.back.ahead;
     }

@@ -25,12 +25,15 @@ returns-then-not-branch-clause-counted g c =
     let so_far = c.frames.invariant.counted in
     let left : length c.frames.there.ahead ≡ 0 = ap length (sym (ap (λ p. p.ahead) same.0) ∙ none) in
     let all = so_far.1 in
-    all_met so_far.0 (length c.args.there.now.ahead) c.args.there.now.fates c.frames.there.fates c.args.counts.now c.frames.counts c.pass_frame.new.counts same.2 (omega arith) so_far.2
+    all_met so_far.0 (length c.args.there.now.ahead) c.args.there.now.fates c.frames.there.fates c.args.counts.now c.frames.counts c.pass_frame.new.counts
+    same.2 (omega arith) so_far.2
 
 pub returns-in_err-pass_frame-clause-err : goal.returns-in_err-pass_frame-clause-err
 returns-in_err-pass_frame-clause-err g c =
     let so_far = c.frames.invariant.counted in
-    OnErr-always c.from_residual.result (met_last so_far.0 c.args.there.now.fates c.frames.there.fates c.args.counts.now c.frames.counts c.pass_frame.new.counts c.in_err-pass_frame.ensures.err so_far.2)
+    OnErr-always c.from_residual.result
+    (met_last so_far.0 c.args.there.now.fates c.frames.there.fates c.args.counts.now c.frames.counts c.pass_frame.new.counts
+    c.in_err-pass_frame.ensures.err so_far.2)
 
 pub frames-init : goal.frames-init
 frames-init g c =
@@ -54,10 +57,15 @@ frames-preserved g c =
     let one = c.in_ok-pass_frame.ensures.met c.if-not-branch.false in
     record {
       carried = λ f w s h. c.pass_frame.ensures.carried f w s (i.carried f w s h);
-      left = all_left c.frames.there.fates c.pass_frame.new.there.fates (length c.frames.there.ahead) (length c.pass_frame.new.there.ahead) one.2 one.0 ∙ i.left;
+      left = all_left c.frames.there.fates c.pass_frame.new.there.fates (length c.frames.there.ahead) (length c.pass_frame.new.there.ahead) one.2 one.0
+          ∙ i.left;
       counted =
-          (let so_far = i.counted in let size = so_far.1 in let less = one.2 in
-          (so_far.0 + 1, omega arith, one_more_met so_far.0 c.args.there.now.fates c.frames.there.fates c.pass_frame.new.there.fates c.args.counts.now c.frames.counts c.pass_frame.new.counts one.0 one.1 so_far.2));
+          (let so_far = i.counted in let size = so_far.1 in let less = one.2 in (
+            so_far.0 + 1,
+            omega arith,
+            one_more_met so_far.0 c.args.there.now.fates c.frames.there.fates c.pass_frame.new.there.fates c.args.counts.now
+                c.frames.counts c.pass_frame.new.counts one.0 one.1 so_far.2,
+          ));
       limit = c.pass_frame.ensures.limit ∙ i.limit;
       read = c.pass_frame.ensures.read ∙ i.read;
       reaches = λ f w s carries room come.
@@ -75,20 +83,23 @@ pub returns-then-not-branch-clause-left : goal.returns-then-not-branch-clause-le
 returns-then-not-branch-clause-left g c =
     let none = c.in_ok-pass_frame.ensures.none c.if-not-branch.true in
     let same = c.in_ok-pass_frame.ensures.unmet c.if-not-branch.true in
-    none_left c.frames.there.fates c.pass_frame.new.there.fates (after_all (length c.args.there.now.ahead) c.args.there.now.fates) (length c.frames.there.ahead) (ap (λ p. p.fates) same.0) (ap length (sym (ap (λ p. p.ahead) same.0) ∙ none)) c.frames.invariant.left
+    none_left c.frames.there.fates c.pass_frame.new.there.fates (after_all (length c.args.there.now.ahead) c.args.there.now.fates)
+    (length c.frames.there.ahead) (ap (λ p. p.fates) same.0) (ap length (sym (ap (λ p. p.ahead) same.0) ∙ none)) c.frames.invariant.left
 
 pub returns-then-not-branch-clause-brought : goal.returns-then-not-branch-clause-brought
 returns-then-not-branch-clause-brought g c =
     let none = c.in_ok-pass_frame.ensures.none c.if-not-branch.true in
     let t = c.pass_frame.new.there in
-    sym (ap (λ l. receiver_after_all g.row.N c.pass_frame.new.receiver (coming_of t.fates l)) none) ∙ c.in_ok-pass_frame.ensures.brought ∙ c.frames.invariant.brought
+    sym (ap (λ l. receiver_after_all g.row.N c.pass_frame.new.receiver (coming_of t.fates l)) none) ∙ c.in_ok-pass_frame.ensures.brought
+    ∙ c.frames.invariant.brought
 
 pub returns-then-not-branch-clause-answered : goal.returns-then-not-branch-clause-answered
 returns-then-not-branch-clause-answered g c =
     let none = c.in_ok-pass_frame.ensures.none c.if-not-branch.true in
     let t = c.pass_frame.new.there in
     let b = c.pass_frame.new.back.ahead in
-    sym (append-nil b) ∙ sym (ap (λ l. b ++ answers_of g.row.N c.pass_frame.new.receiver (coming_of t.fates l)) none) ∙ c.in_ok-pass_frame.ensures.answered ∙ c.frames.invariant.answered
+    sym (append-nil b) ∙ sym (ap (λ l. b ++ answers_of g.row.N c.pass_frame.new.receiver (coming_of t.fates l)) none) ∙ c.in_ok-pass_frame.ensures.answered
+    ∙ c.frames.invariant.answered
 
 pub returns-then-not-branch-clause-returned : goal.returns-then-not-branch-clause-returned
 returns-then-not-branch-clause-returned g c =

@@ -16,11 +16,16 @@ invariant-frames g l =
       counted : (k : ℕ) × (k + length l.there.ahead ≡ length l.fn.there.ahead) × MetSoFar k l.fn.there.fates l.there.fates l.fn.counts l.counts;
       limit : limit_of l.receiver ≡ limit_of l.fn.receiver;
       read : l.receiver.read ≡ l.fn.receiver.read;
-      reaches : (f : ℕ) (w : List ℕ) (s : Outgoing) → IsUnderWay f w s l.fn.receiver l.fn.there l.fn.back → HasRoom s l.fn.receiver → NextCome (length l.fn.there.ahead) l.fn.there.fates →
-          NextCome (length l.there.ahead) l.there.fates × ((end : ℕ) → Reaches s.reported end (stored_next l.fn.receiver) l.fn.there.ahead → Reaches s.reported end (stored_next l.receiver) l.there.ahead);
+      reaches : (f : ℕ) (w : List ℕ) (s : Outgoing) → IsUnderWay f w s l.fn.receiver l.fn.there l.fn.back → HasRoom s l.fn.receiver →
+          NextCome (length l.fn.there.ahead) l.fn.there.fates →
+          NextCome (length l.there.ahead) l.there.fates
+          × ((end : ℕ) → Reaches s.reported end (stored_next l.fn.receiver) l.fn.there.ahead →
+          Reaches s.reported end (stored_next l.receiver) l.there.ahead);
       fates : l.back.fates ≡ l.fn.back.fates;
-      brought : receiver_after_all g.row.N l.receiver (coming_of l.there.fates l.there.ahead) ≡ receiver_after_all g.row.N l.fn.receiver (coming_of l.fn.there.fates l.fn.there.ahead);
-      answered : l.back.ahead ++ answers_of g.row.N l.receiver (coming_of l.there.fates l.there.ahead) ≡ l.fn.back.ahead ++ answers_of g.row.N l.fn.receiver (coming_of l.fn.there.fates l.fn.there.ahead);
+      brought : receiver_after_all g.row.N l.receiver (coming_of l.there.fates l.there.ahead) ≡ receiver_after_all g.row.N l.fn.receiver
+          (coming_of l.fn.there.fates l.fn.there.ahead);
+      answered : l.back.ahead ++ answers_of g.row.N l.receiver (coming_of l.there.fates l.there.ahead) ≡ l.fn.back.ahead ++ answers_of g.row.N
+          l.fn.receiver (coming_of l.fn.there.fates l.fn.there.ahead);
       returned : l.there.late ++ late_of l.there.fates l.there.ahead ≡ l.fn.there.late ++ late_of l.fn.there.fates l.fn.there.ahead;
       back_late : l.back.late ≡ l.fn.back.late;
     }

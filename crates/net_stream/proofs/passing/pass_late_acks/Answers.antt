@@ -10,9 +10,11 @@ pub late-preserved : goal.late-preserved
 late-preserved g c =
     let i = c.late.invariant in
     let b1 = c.take_late.new.self in
-    let first : c.late.back ≡ record b1 { late = c.frame-frame.result.now ∷ b1.late } = c.in-Some.ensures ∙ ap (λ x. record b1 { late = x ∷ b1.late }) (sym c.frame-frame.ensures) in
+    let first : c.late.back ≡ record b1 { late = c.frame-frame.result.now ∷ b1.late } =
+    c.in-Some.ensures ∙ ap (λ x. record b1 { late = x ∷ b1.late }) (sym c.frame-frame.ensures) in
     record {
-      carried = λ f w r there h. late_ack_met f w c.late.sender c.acknowledge.new.sender r there c.late.back b1 c.frame-frame.result.now first (c.acknowledge.ensures.carried f w r there b1) (i.carried f w r there h);
+      carried = λ f w r there h. late_ack_met f w c.late.sender c.acknowledge.new.sender r there c.late.back b1 c.frame-frame.result.now first
+          (c.acknowledge.ensures.carried f w r there b1) (i.carried f w r there h);
       end = ap end_of c.acknowledge.ensures.acked ∙ by_keeps_end _ _ ∙ i.end;
       ahead = sym (ap (λ p. p.ahead) first) ∙ i.ahead;
       fates = sym (ap (λ p. p.fates) first) ∙ i.fates;

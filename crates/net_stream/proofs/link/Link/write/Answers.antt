@@ -11,4 +11,5 @@ returns-clause-carries g c = λ f w h.
 
 pub returns-clause-prefix : goal.returns-clause-prefix
 returns-clause-prefix g c = λ f from text rest h.
-    subst (λ w. Carries f w (record c.args.self.now { sender = c.write.new.self })) (ap (λ xs. take from text ++ take c.write.result xs) rest ∙ sym (take-add from c.write.result text)) (returns-clause-carries g c f (take from text) h)
+    subst (λ w. Carries f w (record c.args.self.now { sender = c.write.new.self }))
+    (ap (λ xs. take from text ++ take c.write.result xs) rest ∙ sym (take-add from c.write.result text)) (returns-clause-carries g c f (take from text) h)
