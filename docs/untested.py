@@ -5,9 +5,9 @@
 
 Public are a `pub fn` that a user of the crate reaches by `pub mod` and `pub use`, each `pub fn` of a
 type that is reached so, and each method of a trait of ours, of the trait and of each of its types.
-Left out are modules `laws`, other functions with an empty body (laws too), traits of std, most of whose
-methods are called by an operator or written by a derive, and traits of ours that no library implements:
-their users write the methods, and the library calls them.
+Left out are modules `laws`, other functions whose body is empty or calls nothing but such laws, traits of
+std, most of whose methods are called by an operator or written by a derive, and traits of ours that no
+library implements: their users write the methods, and the library calls them.
 
 Tests and examples are the crates *_tests, net_examples, and the files tests.rt. Named there is
 - a function where it is called in a file that brings it in by `use`, or by a path that ends in it;
@@ -80,7 +80,7 @@ def functions(text):
         if body:
             at += body.end() - 1
             end = closing(text, at)
-        is_empty = bool(body and not text[at + 1 : end].strip())
+        is_empty = bool(body and re.fullmatch(r"\s*(?:[\w:]+\(\);\s*)*", text[at + 1 : end]))
         gives = result[1] if result else ""
         yield Fn(it.start(), end, bool(it[1]), it[2], bounds, text[paren + 1 : close], gives, is_empty)
 

@@ -3,7 +3,7 @@
 use net_base::phy::RxToken;
 use net_base::time::{Duration, Instant};
 use net_storage::ManagedSlice;
-use net_stream::{Fate, Fates, FrameCounts, Link, Rates};
+use net_stream::{Counts, Fate, Fates, FrameCounts, Link, Rates};
 use std::alloc::Global;
 use std::test::Fail;
 
@@ -101,5 +101,21 @@ fn rounds_pass(rt: HostRuntime) -> Result<(), Fail> {
     let mut into = [0u8; 8];
     assert_eq!(rt; link.read(&mut into), 8);
     assert_eq!(rt; into, *b"abcdefgh");
+    Ok(())
+}
+
+#[test]
+fn fates_and_refusals_are_counted(rt: HostRuntime) -> Result<(), Fail> {
+    let mut frames = FrameCounts::new();
+    frames.meet(Fate::Late);
+    frames.meet(Fate::Delivered);
+    frames.refuse_if(true);
+    frames.refuse_if(false);
+    assert_eq!(rt; (frames.sent, frames.late, frames.refused), (2, 1, 1));
+    let mut counts = Counts::new();
+    counts.taken = 8;
+    assert_eq!(rt; counts.sent_again(), 0);
+    counts.frames.payload = 13;
+    assert_eq!(rt; counts.sent_again(), 5);
     Ok(())
 }
