@@ -4,7 +4,7 @@
 --     next_flight limit flight full      how many frames the next round may send
 --     Passed old new      what a round leaves
 --     Round old new      the same, and what it brings if its frames and acknowledgements all come
-use Rattle.std.specs.Prelude.{◌≡◌, ℕ, ◌+◌, ◌*◌, ◌/◌, ◌<◌, ◌≤◌, min, max, List, [], ◌∷◌, ◌++◌, length}
+use Rattle.std.specs.Prelude.{◌≡◌, ℕ, ◌+◌, ◌/◌, ◌<◌, ◌≤◌, min, max, List, [], ◌∷◌, ◌++◌, length}
 use Rattle.std.specs.Prelude.{Bool, false, if◌then◌else◌}
 use Rattle.net_receiver.specs.Stored.{stored_next}
 use Rattle.net_stream.specs.Reported.{count_outside, most_reported, is_full}

@@ -77,6 +77,6 @@ returns-in_err-count-clause-err g c =
     OnErr-always c.from_residual.result (
       n,
       subst (SentPrefix s (most_of c.args.most) (most_of c.args.flight) n c.args.there.now) (sym same.0)
-          (subst (λ m. SentPrefix s m (most_of c.args.flight) n c.args.there.now c.loop-pos.there) c.max-most.ensures i.sent.front),
+          (subst (λ m. SentPrefix s m (most_of c.args.flight) n c.args.there.now c.loop-pos.there) c.max-most.ensures i.sent.prefix),
       same.1 ∙ i.counted,
     )
