@@ -32,7 +32,7 @@ use Rattle.net_receiver.specs.OneStream.{ReceivesByParts, ReceivesFromLonger, Se
 use Rattle.net_receiver.specs.OneStream.{HeldIsOfStream}
 use Rattle.net_receiver.proofs.Step.{same_next}
 use Rattle.net_receiver.proofs.Run.{setting_kept}
-use Rattle.net_receiver.proofs.Truthful.{longer_at, longer_receives}
+use Rattle.net_receiver.proofs.OneStream.{longer_at, longer_receives}
 use Rattle.net_receiver.specs.Execution.{Executed}
 use Rattle.net_receiver.specs.Retransmission.{InOrderReaches}
 use Rattle.net_receiver.specs.OneStream.{CapacityStays, Receives, ReceivesFrom, Says, AllSay, IsTruthful, SaysWhatIsThere, QueueIsOf, kept_of}
@@ -40,7 +40,7 @@ use Rattle.net_receiver.proofs.Maps.{get-with_bytes_at, first_lacking_is, next_j
 use Rattle.net_receiver.proofs.Covering.{next_is, piece_before, piece_from, slice_get-drop, slice_get-take}
 use Rattle.net_receiver.proofs.Recover.{follows_verdict}
 use Rattle.net_receiver.proofs.Run.{read_front}
-use Rattle.net_receiver.proofs.Truthful.{none_is_not, cond_some, one_receives, queue_is_of, fresh_receives, first_stays, first_kept, run_receives}
+use Rattle.net_receiver.proofs.OneStream.{none_is_not, cond_some, one_receives, queue_is_of, fresh_receives, first_stays, first_kept, run_receives}
 
 -- ---- streams
 first_of : (N : ℕ) (v u : Stored) (c : CommandSeen) → u ≡ stored_after N v c → u.first ≡ v.first
@@ -342,8 +342,8 @@ pub part_bytes : (f : ℕ) (x : List ℕ) (v : Stored) (bytes : List ℕ) (o : �
     bytes ≡ take (length bytes) (drop (v.read + o) x)
 part_bytes f x v bytes o is r = part_of x v.queue bytes v.read o (queue_of f x v r).queue is
 
-pub front_bytes : (f : ℕ) (x : List ℕ) (v : Stored) (n : ℕ) → n ≤ length v.queue → ReceivesFrom f x v → take n v.queue ≡ slice_range x v.read (v.read + n)
-front_bytes f x v n few r = front_of x v.queue v.read n (queue_of f x v r).queue few
+pub head_bytes : (f : ℕ) (x : List ℕ) (v : Stored) (n : ℕ) → n ≤ length v.queue → ReceivesFrom f x v → take n v.queue ≡ slice_range x v.read (v.read + n)
+head_bytes f x v n few r = front_of x v.queue v.read n (queue_of f x v r).queue few
 
 -- ---- a segment in order
 pub in_order_reaches : InOrderReaches

@@ -15,10 +15,10 @@ pub mod Segment
 pub mod Whole
 pub mod Soundness
 pub mod SameBytes
-pub mod ReceiverLaws
-pub mod Truthful
+pub mod Laws
+pub mod OneStream
 pub mod Called
-pub mod Resending
+pub mod Retransmission
 pub mod Reading
 pub mod Contiguous
-pub mod Computed
+pub mod WorkedExample

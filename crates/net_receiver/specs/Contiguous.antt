@@ -1,5 +1,5 @@
 -- Where the queued bytes stand in the storage, and how many of them are contiguous.
---     place v i      the place of the stream's byte number i
+--     index_of v i      the index of the stream's byte number i
 --     contiguous_count v      how many bytes of the queue are contiguous, from the first one on
 --     contiguous_count_from v o n      of at most n bytes of the queue from byte o on, how many are
 --     first_part v, second_part v      the queue's two parts, each of them contiguous
@@ -7,19 +7,19 @@ use Rattle.std.specs.Prelude.{◌≡◌, ℕ, ◌+◌, ◌-◌, ◌<◌, ◌%◌
 use Rattle.net_storage.specs.Ring.{RingState}
 use Rattle.net_receiver.specs.Stored.{Stored}
 
--- the place of the stream's byte number i, counted from 0: the storage is filled in order, and from
+-- the index of the stream's byte number i, counted from 0: the storage is filled in order, and from
 -- its beginning on again once its end is reached
-abbrev pub place : Stored → ℕ → ℕ
-place v i = i % v.capacity
+abbrev pub index_of : Stored → ℕ → ℕ
+index_of v i = i % v.capacity
 
 -- how many bytes of the queue stand in a row, from the first one on
 abbrev pub contiguous_count : Stored → ℕ
-contiguous_count v = min (length v.queue) (v.capacity - place v v.read)
+contiguous_count v = min (length v.queue) (v.capacity - index_of v v.read)
 
 -- of at most n bytes of the queue from byte o on, how many stand in a row; none if o is past the
 -- queue
 abbrev pub contiguous_count_from : Stored → ℕ → ℕ → ℕ
-contiguous_count_from v o n = min n (min (length v.queue - o) (v.capacity - place v (v.read + o)))
+contiguous_count_from v o n = min n (min (length v.queue - o) (v.capacity - index_of v (v.read + o)))
 
 -- the bytes up to the storage's end, and those from its beginning on
 abbrev pub first_part : Stored → List ℕ
@@ -29,6 +29,6 @@ first_part v = take (contiguous_count v) v.queue
 abbrev pub second_part : Stored → List ℕ
 second_part v = drop (contiguous_count v) v.queue
 
--- a ring is read at the place of the stream's byte number i
+-- a ring is read at the index of the stream's byte number i
 abbrev pub IsReadAt : RingState ℕ → ℕ → Type 0
 IsReadAt g i = 0 < length g.storage → g.read_at ≡ i % length g.storage

@@ -21,9 +21,9 @@ module _ {H : Type 0} where
   contents q = contents_of q.packets (queue (byte_ring q))
 
   -- the bytes of the first of these, or none if there is no first
-  abbrev pub front_bytes : List (H × List ℕ) → List ℕ
-  front_bytes [] = []
-  front_bytes (p ∷ ps) = p.1
+  abbrev pub head_bytes : List (H × List ℕ) → List ℕ
+  head_bytes [] = []
+  head_bytes (p ∷ ps) = p.1
 
 -- ---- calls
 -- what one call did, with the headers and bytes that it was given, wrote or handed out. A call that

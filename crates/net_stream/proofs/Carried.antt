@@ -11,7 +11,7 @@ use Rattle.net_stream.specs.Outgoing.{Outgoing, sender_from, Sends, after_ack, e
 use Rattle.net_stream.specs.Frames.{frame_of, segment_of, RoundTrip, FrameSays}
 use Rattle.net_stream.specs.Reported.{most_reported, ranges_of}
 use Rattle.net_stream.specs.Fates.{FatesSeen}
-use Rattle.net_stream.specs.Carrying.{PathSeen, IsUnderWay, HasReported, FrameTells, MayReturn}
+use Rattle.net_stream.specs.Carrying.{PathSeen, IsUnderWay, HasReported, FrameTells, MayComeLate}
 
 -- ---- lists
 pub All-push : {X : Type 0} (P : X → Type 0) (xs : List X) (y : X) → All P xs → P y → All P (xs ++ y ∷ [])
@@ -174,7 +174,7 @@ rest_of P x old left new is same all =
     (All-head P x left both, subst (All P) (sym same) (All-tail P x left both))
 
 -- it met its fate, and may be among the late ones
-may_return : (P : List ℕ → Type 0) (frame : List ℕ) (old new : PathSeen) → P frame → MayReturn frame old new →
+may_return : (P : List ℕ → Type 0) (frame : List ℕ) (old new : PathSeen) → P frame → MayComeLate frame old new →
     (All P old.ahead → All P new.ahead) × (All P old.late → All P new.late)
 may_return P frame old new one again =
     ⊎_elim {C = (All P old.ahead → All P new.ahead) × (All P old.late → All P new.late)}
@@ -203,7 +203,7 @@ before f w s r t0 t1 t2 back frame left first drawn c =
 
 -- of the frames: t0 had it first, t1 has it no more, t2 has drawn its fate, and t3 may have it among the late ones
 pub frame_met : (f : ℕ) (w : List ℕ) (s : Outgoing) (r u : Stored) (t0 t1 t2 t3 back back' : PathSeen) (frame : List ℕ) (left : FatesSeen) →
-    t0 ≡ record t1 { ahead = frame ∷ t1.ahead } → t2 ≡ record t1 { fates = left } → MayReturn frame t2 t3 →
+    t0 ≡ record t1 { ahead = frame ∷ t1.ahead } → t2 ≡ record t1 { fates = left } → MayComeLate frame t2 t3 →
     (FrameSays f w frame → IsUnderWay f w s r t2 back → IsUnderWay f w s u t2 back') → IsUnderWay f w s r t0 back → IsUnderWay f w s u t3 back'
 frame_met f w s r u t0 t1 t2 t3 back back' frame left first drawn again met c =
     let here = before f w s r t0 t1 t2 back frame left first drawn c in
@@ -212,7 +212,7 @@ frame_met f w s r u t0 t1 t2 t3 back back' frame left first drawn again met c =
 
 -- the same of the acknowledgements
 pub ack_met : (f : ℕ) (w : List ℕ) (s t : Outgoing) (r : Stored) (there b0 b1 b2 b3 : PathSeen) (frame : List ℕ) (left : FatesSeen) →
-    b0 ≡ record b1 { ahead = frame ∷ b1.ahead } → b2 ≡ record b1 { fates = left } → MayReturn frame b2 b3 →
+    b0 ≡ record b1 { ahead = frame ∷ b1.ahead } → b2 ≡ record b1 { fates = left } → MayComeLate frame b2 b3 →
     (FrameTells r frame → IsUnderWay f w s r there b2 → IsUnderWay f w t r there b2) → IsUnderWay f w s r there b0 → IsUnderWay f w t r there b3
 ack_met f w s t r there b0 b1 b2 b3 frame left first drawn again met c =
     let rest = rest_of (FrameTells r) frame b0.ahead b1.ahead b2.ahead (ap (λ p. p.ahead) first) (ap (λ p. p.ahead) drawn) c.going_back in

@@ -8,7 +8,7 @@ use Rattle.net_stream.specs.declared.fate.Fate.{Fate}
 use Rattle.net_stream.specs.declared.fate.Fate.TheVariants.{Delivered, Lost, Repeated, Late}
 use Rattle.net_stream.specs.Fates.{FatesSeen, next_fate, after_fate, after_all}
 use Rattle.net_stream.specs.Counting.{more, with_fate, with_fates, SameButRefused, is_refused, with_refusal}
-use Rattle.net_stream.specs.Carrying.{PathSeen, MayReturn}
+use Rattle.net_stream.specs.Carrying.{PathSeen, MayComeLate}
 use Rattle.net_stream.proofs.Reached.{returned}
 
 pub same_equal : (c d : FrameCounts) → c ≡ d → SameButRefused c d
@@ -39,7 +39,7 @@ same_refusing most r o c d is = same_equal d (with_refusal most r o c) is ∙ re
 
 -- one frame met its fate
 pub met_one : (t0 t1 t2 t3 : PathSeen) (frame : List ℕ) (lot : Fate) (c c1 c2 : FrameCounts) → t0 ≡ record t1 { ahead = frame ∷ t1.ahead } →
-    lot ≡ next_fate t1.fates → t2 ≡ record t1 { fates = after_fate t1.fates } → MayReturn frame t2 t3 → c1 ≡ with_fate lot c → SameButRefused c2 c1 →
+    lot ≡ next_fate t1.fates → t2 ≡ record t1 { fates = after_fate t1.fates } → MayComeLate frame t2 t3 → c1 ≡ with_fate lot c → SameButRefused c2 c1 →
     (t3.fates ≡ after_fate t0.fates) × SameButRefused c2 (with_fate (next_fate t0.fates) c) × (length t0.ahead ≡ length t3.ahead + 1)
 met_one t0 t1 t2 t3 frame lot c c1 c2 first is drawn again counted same =
     let kept = returned frame t2 t3 again in

@@ -6,38 +6,38 @@ use Rattle.net_receiver.specs.Stored.{Stored}
 use Rattle.net_stream.specs.Frames.{segment_of}
 use Rattle.net_stream.specs.declared.fate.Fate.{Fate}
 use Rattle.net_stream.specs.Fates.{next_fate, after_fate, comes, comes_late}
-use Rattle.net_stream.specs.Carrying.{PathSeen, answer_of, receiver_after, with_answer}
-use Rattle.net_stream.specs.Passing.{coming_of, with_return, receiver_after_all, answer_to, answers_of}
+use Rattle.net_stream.specs.Carrying.{PathSeen, ack_of, receiver_after, with_ack}
+use Rattle.net_stream.specs.Passing.{coming_of, with_late, receiver_after_all, ack_to, acks_of}
 
 -- ---- answers
-pub with_answer_ahead : (r : Stored) (o : Option (ℕ × List ℕ)) (back : PathSeen) → (with_answer r o back).ahead ≡ back.ahead ++ answer_to r o
-with_answer_ahead r None back = sym (append-nil back.ahead)
-with_answer_ahead r (Some (pos, xs)) back = both (nat_lt (pos + length xs) (2 ^ 64))
+pub with_ack_ahead : (r : Stored) (o : Option (ℕ × List ℕ)) (back : PathSeen) → (with_ack r o back).ahead ≡ back.ahead ++ ack_to r o
+with_ack_ahead r None back = sym (append-nil back.ahead)
+with_ack_ahead r (Some (pos, xs)) back = both (nat_lt (pos + length xs) (2 ^ 64))
   where
-    both : (b : Bool) → (cond b (record back { ahead = back.ahead ++ answer_of r ∷ [] }) back).ahead ≡ back.ahead ++ cond b (answer_of r ∷ []) []
+    both : (b : Bool) → (cond b (record back { ahead = back.ahead ++ ack_of r ∷ [] }) back).ahead ≡ back.ahead ++ cond b (ack_of r ∷ []) []
     both true = refl
     both false = sym (append-nil back.ahead)
 
-pub with_answer_late : (r : Stored) (o : Option (ℕ × List ℕ)) (back : PathSeen) → (with_answer r o back).late ≡ back.late
-with_answer_late r None back = refl
-with_answer_late r (Some (pos, xs)) back = both (nat_lt (pos + length xs) (2 ^ 64))
+pub with_ack_late : (r : Stored) (o : Option (ℕ × List ℕ)) (back : PathSeen) → (with_ack r o back).late ≡ back.late
+with_ack_late r None back = refl
+with_ack_late r (Some (pos, xs)) back = both (nat_lt (pos + length xs) (2 ^ 64))
   where
-    both : (b : Bool) → (cond b (record back { ahead = back.ahead ++ answer_of r ∷ [] }) back).late ≡ back.late
+    both : (b : Bool) → (cond b (record back { ahead = back.ahead ++ ack_of r ∷ [] }) back).late ≡ back.late
     both true = refl
     both false = refl
 
 -- one frame came, and these come after it
 pub one_answered : (N : ℕ) (r r1 : Stored) (frame : List ℕ) (b b1 : PathSeen) (frames : List (List ℕ)) → r1 ≡ receiver_after N r (segment_of frame) →
-    b1 ≡ with_answer r1 (segment_of frame) b →
-    b1.ahead ++ answers_of N r1 frames ≡ b.ahead ++ answers_of N r (frame ∷ frames)
+    b1 ≡ with_ack r1 (segment_of frame) b →
+    b1.ahead ++ acks_of N r1 frames ≡ b.ahead ++ acks_of N r (frame ∷ frames)
 one_answered N r r1 frame b b1 frames e k =
-    ap (λ p. p.ahead ++ answers_of N r1 frames) k
-    ∙ ap (λ l. l ++ answers_of N r1 frames) (with_answer_ahead r1 (segment_of frame) b)
-    ∙ append_assoc b.ahead (answer_to r1 (segment_of frame)) (answers_of N r1 frames)
-    ∙ ap (λ v. b.ahead ++ (answer_to v (segment_of frame) ++ answers_of N v frames)) e
+    ap (λ p. p.ahead ++ acks_of N r1 frames) k
+    ∙ ap (λ l. l ++ acks_of N r1 frames) (with_ack_ahead r1 (segment_of frame) b)
+    ∙ append_assoc b.ahead (ack_to r1 (segment_of frame)) (acks_of N r1 frames)
+    ∙ ap (λ v. b.ahead ++ (ack_to v (segment_of frame) ++ acks_of N v frames)) e
 
 -- ---- a frame met its fate
-return_keeps : (lot : Fate) (frame : List ℕ) (t : PathSeen) → ((with_return lot frame t).ahead ≡ t.ahead) × ((with_return lot frame t).fates ≡ t.fates)
+return_keeps : (lot : Fate) (frame : List ℕ) (t : PathSeen) → ((with_late lot frame t).ahead ≡ t.ahead) × ((with_late lot frame t).fates ≡ t.fates)
 return_keeps lot frame t = both (comes_late lot)
   where
     both : (b : Bool) → ((cond b (record t { late = t.late ++ frame ∷ [] }) t).ahead ≡ t.ahead)
@@ -46,7 +46,7 @@ return_keeps lot frame t = both (comes_late lot)
     both false = (refl, refl)
 
 coming_step : (t0 t1 t2 t3 : PathSeen) (frame : List ℕ) (lot : Fate) → t0 ≡ record t1 { ahead = frame ∷ t1.ahead } → lot ≡ next_fate t1.fates →
-    t2 ≡ record t1 { fates = after_fate t1.fates } → t3 ≡ with_return lot frame t2 →
+    t2 ≡ record t1 { fates = after_fate t1.fates } → t3 ≡ with_late lot frame t2 →
     coming_of t0.fates t0.ahead ≡ cond (comes lot) (frame ∷ coming_of t3.fates t3.ahead) (coming_of t3.fates t3.ahead)
 coming_step t0 t1 t2 t3 frame lot first is drawn again =
     let kept = return_keeps lot frame t2 in
@@ -56,26 +56,26 @@ coming_step t0 t1 t2 t3 frame lot first is drawn again =
     ap (λ p. coming_of p.fates p.ahead) first ∙ (λ i. cond (comes (sym is i)) (frame ∷ same i) (same i))
 
 pub frame_answered : (N : ℕ) (r r1 : Stored) (b b1 t0 t1 t2 t3 : PathSeen) (frame : List ℕ) (lot : Fate) → t0 ≡ record t1 { ahead = frame ∷ t1.ahead } →
-    lot ≡ next_fate t1.fates → t2 ≡ record t1 { fates = after_fate t1.fates } → t3 ≡ with_return lot frame t2 →
-    r1 ≡ cond (comes lot) (receiver_after N r (segment_of frame)) r → b1 ≡ cond (comes lot) (with_answer r1 (segment_of frame) b) b →
-    b1.ahead ++ answers_of N r1 (coming_of t3.fates t3.ahead) ≡ b.ahead ++ answers_of N r (coming_of t0.fates t0.ahead)
+    lot ≡ next_fate t1.fates → t2 ≡ record t1 { fates = after_fate t1.fates } → t3 ≡ with_late lot frame t2 →
+    r1 ≡ cond (comes lot) (receiver_after N r (segment_of frame)) r → b1 ≡ cond (comes lot) (with_ack r1 (segment_of frame) b) b →
+    b1.ahead ++ acks_of N r1 (coming_of t3.fates t3.ahead) ≡ b.ahead ++ acks_of N r (coming_of t0.fates t0.ahead)
 frame_answered N r r1 b b1 t0 t1 t2 t3 frame lot first is drawn again state told =
-    both (comes lot) state told ∙ ap (λ l. b.ahead ++ answers_of N r l) (sym (coming_step t0 t1 t2 t3 frame lot first is drawn again))
+    both (comes lot) state told ∙ ap (λ l. b.ahead ++ acks_of N r l) (sym (coming_step t0 t1 t2 t3 frame lot first is drawn again))
   where
-    both : (t : Bool) → r1 ≡ cond t (receiver_after N r (segment_of frame)) r → b1 ≡ cond t (with_answer r1 (segment_of frame) b) b →
-        b1.ahead ++ answers_of N r1 (coming_of t3.fates t3.ahead) ≡ b.ahead ++ answers_of N r
+    both : (t : Bool) → r1 ≡ cond t (receiver_after N r (segment_of frame)) r → b1 ≡ cond t (with_ack r1 (segment_of frame) b) b →
+        b1.ahead ++ acks_of N r1 (coming_of t3.fates t3.ahead) ≡ b.ahead ++ acks_of N r
         (cond t (frame ∷ coming_of t3.fates t3.ahead) (coming_of t3.fates t3.ahead))
     both true e k = one_answered N r r1 frame b b1 (coming_of t3.fates t3.ahead) e k
-    both false e k = λ i. (k i).ahead ++ answers_of N (e i) (coming_of t3.fates t3.ahead)
+    both false e k = λ i. (k i).ahead ++ acks_of N (e i) (coming_of t3.fates t3.ahead)
 
 -- ---- some frames, and then others
 pub brought_append : (N : ℕ) (r : Stored) (xs ys : List (List ℕ)) → receiver_after_all N r (xs ++ ys) ≡ receiver_after_all N (receiver_after_all N r xs) ys
 brought_append N r [] ys = refl
 brought_append N r (x ∷ xs) ys = brought_append N (receiver_after N r (segment_of x)) xs ys
 
-pub answers_append : (N : ℕ) (r : Stored) (xs ys : List (List ℕ)) → answers_of N r (xs ++ ys) ≡ answers_of N r xs ++ answers_of N (receiver_after_all N r xs) ys
+pub answers_append : (N : ℕ) (r : Stored) (xs ys : List (List ℕ)) → acks_of N r (xs ++ ys) ≡ acks_of N r xs ++ acks_of N (receiver_after_all N r xs) ys
 answers_append N r [] ys = refl
 answers_append N r (x ∷ xs) ys =
     let r1 = receiver_after N r (segment_of x) in
-    ap (λ l. answer_to r1 (segment_of x) ++ l) (answers_append N r1 xs ys)
-    ∙ sym (append_assoc (answer_to r1 (segment_of x)) (answers_of N r1 xs) (answers_of N (receiver_after_all N r1 xs) ys))
+    ap (λ l. ack_to r1 (segment_of x) ++ l) (answers_append N r1 xs ys)
+    ∙ sym (append_assoc (ack_to r1 (segment_of x)) (acks_of N r1 xs) (acks_of N (receiver_after_all N r1 xs) ys))

@@ -17,7 +17,7 @@ use Rattle.net_storage.specs.AssemblerLaws.{MembersOfList, MaximalRunsOfEverySet
 use Rattle.net_receiver.specs.Stored.{HeldBytes, Stored, stored_next, domain}
 use Rattle.net_stream.specs.Frames.{frame_of, RoundTrip}
 use Rattle.net_stream.specs.Reported.{reports, count_outside, most_reported, range_bytes, range_to, range_from, first_range, with_more, ranges_of}
-use Rattle.net_stream.specs.Carrying.{HasReported, FrameTells, answer_of}
+use Rattle.net_stream.specs.Carrying.{HasReported, FrameTells, ack_of}
 use Rattle.net_stream.specs.Sending.{IsMarked}
 use Rattle.net_stream.specs.Counting.{with_payload}
 use Rattle.net_stream.specs.declared.counts.FrameCounts.{FrameCounts}
@@ -109,7 +109,7 @@ has_runs members maximal r n = λ p h.
 -- so its acknowledgement tells nothing else
 pub answer_tells : RoundTrip → MembersOfList → MaximalRunsOfEverySet → (r : Stored) → stored_next r < 2 ^ 64 →
     length (take most_reported (maximal_runs (domain r.held))) ≤ most_reported →
-    All IsWords (take most_reported (maximal_runs (domain r.held))) → FrameTells r (answer_of r)
+    All IsWords (take most_reported (maximal_runs (domain r.held))) → FrameTells r (ack_of r)
 answer_tells trip members maximal r word few words = λ n xs at.
     let rs = take most_reported (maximal_runs (domain r.held)) in
     let e = same_parts (stored_next r) n (range_bytes rs) xs (sym (trip (stored_next r) (range_bytes rs) word) ∙ at) in (

@@ -22,7 +22,7 @@ use Rattle.net_stream.specs.Fates.{FatesSeen, next_of, after_of, next_fate, afte
 use Rattle.net_stream.specs.declared.fate.Fate.{Fate}
 use Rattle.net_stream.specs.declared.fate.Fate.TheVariants.{Delivered, Lost, Repeated, Late}
 use Rattle.net_stream.specs.declared.fate.Rates.{Rates}
-use Rattle.net_stream.specs.Carrying.{PathSeen, HasReported, MayReturn}
+use Rattle.net_stream.specs.Carrying.{PathSeen, HasReported, MayComeLate}
 use Rattle.net_stream.specs.Sending.{IsMarked, AreMarked}
 use Rattle.net_stream.specs.Progress.{reach_one, Reaches, after_ack_frame, after_ack_frames, limit_of, HasRoom}
 
@@ -191,7 +191,7 @@ pub come_next : (v : FatesSeen) → AllCome v → (comes (next_fate v) ≡ true)
 come_next v h = come_one v.rates v.state v.listed h.lost h.late h.listed
 
 -- ---- one step
-pub returned : (frame : List ℕ) (old new : PathSeen) → MayReturn frame old new → (new.ahead ≡ old.ahead) × (new.fates ≡ old.fates)
+pub returned : (frame : List ℕ) (old new : PathSeen) → MayComeLate frame old new → (new.ahead ≡ old.ahead) × (new.fates ≡ old.fates)
 returned frame old new again =
     ⊎_elim {C = (new.ahead ≡ old.ahead) × (new.fates ≡ old.fates)}
     (λ (e : new ≡ old). (ap (λ p. p.ahead) e, ap (λ p. p.fates) e))
@@ -200,7 +200,7 @@ returned frame old new again =
 
 -- what a path is after the first of its frames met its fate
 step_of : (t0 t1 t2 t3 : PathSeen) (frame : List ℕ) (lot : Fate) → t0 ≡ record t1 { ahead = frame ∷ t1.ahead } → lot ≡ next_fate t1.fates →
-    t2 ≡ record t1 { fates = after_fate t1.fates } → MayReturn frame t2 t3 → NextCome (length t0.ahead) t0.fates →
+    t2 ≡ record t1 { fates = after_fate t1.fates } → MayComeLate frame t2 t3 → NextCome (length t0.ahead) t0.fates →
     (comes lot ≡ true) × NextCome (length t3.ahead) t3.fates × (t0.ahead ≡ frame ∷ t3.ahead)
 step_of t0 t1 t2 t3 frame lot first is drawn again all =
     let same = returned frame t2 t3 again in
@@ -220,7 +220,7 @@ next_come (suc n) v all = (let both = come_next v all in (both.0, next_come n (a
 
 pub frame_reaches : (most : ℕ) (ranges : List (ℕ × ℕ)) (r : Stored) (m : ℕ) (t0 t1 t2 t3 : PathSeen) (frame : List ℕ) (lot : Fate) → IsSound most r →
     HasReported r ranges →
-    t0 ≡ record t1 { ahead = frame ∷ t1.ahead } → lot ≡ next_fate t1.fates → t2 ≡ record t1 { fates = after_fate t1.fates } → MayReturn frame t2 t3 →
+    t0 ≡ record t1 { ahead = frame ∷ t1.ahead } → lot ≡ next_fate t1.fates → t2 ≡ record t1 { fates = after_fate t1.fates } → MayComeLate frame t2 t3 →
     (comes lot ≡ true → reach_one (stored_next r) (segment_of frame) ≤ m) → NextCome (length t0.ahead) t0.fates →
     NextCome (length t3.ahead) t3.fates × ((end : ℕ) → Reaches ranges end (stored_next r) t0.ahead → Reaches ranges end m t3.ahead)
 frame_reaches most ranges r m t0 t1 t2 t3 frame lot sound had first is drawn again far all =
@@ -228,7 +228,7 @@ frame_reaches most ranges r m t0 t1 t2 t3 frame lot sound had first is drawn aga
     (step.1, λ end reaches. brought most ranges end r m frame t3.ahead sound had (far step.0) (subst (Reaches ranges end (stored_next r)) step.2 reaches))
 
 pub ack_reaches : (s t : Outgoing) (t0 t1 t2 t3 : PathSeen) (frame : List ℕ) (lot : Fate) → t0 ≡ record t1 { ahead = frame ∷ t1.ahead } →
-    lot ≡ next_fate t1.fates → t2 ≡ record t1 { fates = after_fate t1.fates } → MayReturn frame t2 t3 →
+    lot ≡ next_fate t1.fates → t2 ≡ record t1 { fates = after_fate t1.fates } → MayComeLate frame t2 t3 →
     (comes lot ≡ true → t ≡ after_ack_frame s (segment_of frame)) → NextCome (length t0.ahead) t0.fates →
     NextCome (length t3.ahead) t3.fates × (after_ack_frames s t0.ahead ≡ after_ack_frames t t3.ahead)
 ack_reaches s t t0 t1 t2 t3 frame lot first is drawn again took all =

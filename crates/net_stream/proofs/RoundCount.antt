@@ -12,7 +12,7 @@ use Rattle.net_stream.specs.Reported.{most_reported, range_bytes}
 use Rattle.net_stream.specs.declared.link.Link.{Link}
 use Rattle.net_stream.specs.Fates.{FatesSeen, next_fate, after_fate, comes, AllCome, NextCome}
 use Rattle.net_stream.specs.Progress.{after_ack_frames}
-use Rattle.net_stream.specs.Passing.{coming_of, answers_of}
+use Rattle.net_stream.specs.Passing.{coming_of, acks_of}
 use Rattle.net_stream.specs.Links.{Carries, Passed}
 use Rattle.net_stream.specs.Stuck.{RoundKeeps, RoundMoves, HasFailed, AllFail, IsStuck}
 use Rattle.net_stream.proofs.Reached.{come_next, next_come, first_is}
@@ -58,7 +58,7 @@ base_meets trip old new p come behind within word =
     xs = range_bytes (take most_reported (maximal_runs (domain new.receiver.held)))
 
     answers : List (List ℕ)
-    answers = answers_of most_reported old.receiver p.came
+    answers = acks_of most_reported old.receiver p.came
 
     front : List (List ℕ)
     front = old.back.late ++ (old.back.ahead ++ answers)

@@ -20,10 +20,10 @@ use Rattle.net_stream.specs.declared.fate.Fate.TheVariants.{Delivered, Lost, Rep
 use Rattle.net_stream.specs.Counting.{with_fate, with_fates, with_payload}
 use Rattle.net_stream.specs.Fates.{FatesSeen, next_fate, after_fate, after_all, comes, comes_late, AllCome}
 use Rattle.net_stream.specs.Rounds.{PartCounted, FatesSoFar}
-use Rattle.net_stream.specs.Carrying.{answer_of, receiver_after}
+use Rattle.net_stream.specs.Carrying.{ack_of, receiver_after}
 use Rattle.net_stream.specs.Sending.{most_of}
 use Rattle.net_stream.specs.Progress.{after_ack_frame, after_ack_frames, limit_of}
-use Rattle.net_stream.specs.Passing.{coming_of, late_of, receiver_after_all, answer_to, answers_of}
+use Rattle.net_stream.specs.Passing.{coming_of, late_of, receiver_after_all, ack_to, acks_of}
 use Rattle.net_stream.specs.Links.{Carries, Passed}
 use Rattle.net_stream.specs.Stuck.{failures, losses, RoundKeeps, RoundMoves, HasFailed, AllFail}
 use Rattle.net_stream.specs.Stuck.{IsStuck, FirstSays, IsDue, Stuck, StuckTo, StuckAtLast}
@@ -50,7 +50,7 @@ come_of P v (x ∷ xs) all = both (come_of P (after_fate v) xs (All-tail P x xs 
 abbrev Acks : ℕ → ℕ → List ℕ → Type 0
 Acks n m frame = (k : ℕ) × (xs : List ℕ) × (segment_of frame ≡ Some (k, xs)) × (n ≤ k) × (k ≤ m)
 
-one_answers : RoundTrip → (r : Stored) (n m : ℕ) → n ≤ stored_next r → stored_next r ≤ m → m < 2 ^ 64 → Acks n m (answer_of r)
+one_answers : RoundTrip → (r : Stored) (n m : ℕ) → n ≤ stored_next r → stored_next r ≤ m → m < 2 ^ 64 → Acks n m (ack_of r)
 one_answers trip r n m low high word = (
   stored_next r,
   range_bytes (take most_reported (maximal_runs (domain r.held))),
@@ -59,12 +59,12 @@ one_answers trip r n m low high word = (
   high,
 )
 
-to_answers : RoundTrip → (r : Stored) (o : Option (ℕ × List ℕ)) (n m : ℕ) → n ≤ stored_next r → stored_next r ≤ m → m < 2 ^ 64 → All (Acks n m) (answer_to r o)
+to_answers : RoundTrip → (r : Stored) (o : Option (ℕ × List ℕ)) (n m : ℕ) → n ≤ stored_next r → stored_next r ≤ m → m < 2 ^ 64 → All (Acks n m) (ack_to r o)
 to_answers trip r None n m low high word = All-nil (Acks n m)
 to_answers trip r (Some (pos, xs)) n m low high word = both (nat_lt (pos + length xs) (2 ^ 64))
   where
-    both : (b : Bool) → All (Acks n m) (cond b (answer_of r ∷ []) [])
-    both true = All-cons (Acks n m) (answer_of r) [] (one_answers trip r n m low high word) (All-nil (Acks n m))
+    both : (b : Bool) → All (Acks n m) (cond b (ack_of r ∷ []) [])
+    both true = All-cons (Acks n m) (ack_of r) [] (one_answers trip r n m low high word) (All-nil (Acks n m))
     both false = All-nil (Acks n m)
 
 -- ---- a receiver never goes back
@@ -125,13 +125,13 @@ module _ (numbers : Numbers) where
       ∙ arrived_keeps (λ v. v.capacity) N r (segment_of x) (λ pos ys. numbers.capacity N r (Segment pos ys))
 
   all_answers : RoundTrip → (N : ℕ) (r : Stored) (frames : List (List ℕ)) (n m : ℕ) → n ≤ stored_next r → stored_next (receiver_after_all N r frames) ≤ m →
-      m < 2 ^ 64 → All (Acks n m) (answers_of N r frames)
+      m < 2 ^ 64 → All (Acks n m) (acks_of N r frames)
   all_answers trip N r [] n m low high word = All-nil (Acks n m)
   all_answers trip N r (x ∷ xs) n m low high word =
       let r1 = receiver_after N r (segment_of x) in
       let a = arrived_grows N r (segment_of x) in
       let b = brought_grows N r1 xs in
-      All-both (Acks n m) (answer_to r1 (segment_of x)) (answers_of N r1 xs)
+      All-both (Acks n m) (ack_to r1 (segment_of x)) (acks_of N r1 xs)
       (to_answers trip r1 (segment_of x) n m (le_trans low a) (le_trans b high) word)
       (all_answers trip N r1 xs n m (le_trans low a) high word)
 
@@ -286,14 +286,14 @@ rounds_move trip numbers order queue f w old new p sound carries word none none_
     acks : All (Acks (stored_next old.receiver) (stored_next old.receiver)) p.acks
     acks =
         let n = stored_next old.receiver in
-        let ours : All (Acks n n) (answers_of most_reported old.receiver p.came) =
+        let ours : All (Acks n n) (acks_of most_reported old.receiver p.came) =
         all_answers numbers trip most_reported old.receiver p.came n n (omega arith) (subst (λ k. k ≤ n) (sym same) (omega arith)) small in
-        let last : Acks n n (answer_of new.receiver) = one_answers trip new.receiver n n (subst (λ k. n ≤ k) (sym still) (omega arith))
+        let last : Acks n n (ack_of new.receiver) = one_answers trip new.receiver n n (subst (λ k. n ≤ k) (sym still) (omega arith))
         (subst (λ k. k ≤ n) (sym still) (omega arith)) small in
-        let both : All (Acks n n) (answers_of most_reported old.receiver p.came ++ answer_of new.receiver ∷ []) =
-        All-both (Acks n n) (answers_of most_reported old.receiver p.came) (answer_of new.receiver ∷ []) ours
-        (All-cons (Acks n n) (answer_of new.receiver) [] last (All-nil (Acks n n))) in
-        subst (All (Acks n n)) (sym (p.answers ∙ ap (λ b. b ++ answers_of most_reported old.receiver p.came ++ answer_of new.receiver ∷ []) none_back)) both
+        let both : All (Acks n n) (acks_of most_reported old.receiver p.came ++ ack_of new.receiver ∷ []) =
+        All-both (Acks n n) (acks_of most_reported old.receiver p.came) (ack_of new.receiver ∷ []) ours
+        (All-cons (Acks n n) (ack_of new.receiver) [] last (All-nil (Acks n n))) in
+        subst (All (Acks n n)) (sym (p.answers ∙ ap (λ b. b ++ acks_of most_reported old.receiver p.came ++ ack_of new.receiver ∷ []) none_back)) both
 
     -- none of them came
     quiet : old.sender.base < stored_next old.receiver → coming_of old.back.fates p.acks ≡ []
@@ -520,7 +520,7 @@ stuck_more follow (suc n) v v' u u' frames acks to one = (
 module _ {A : Type 0} (old new : Link A) (p : Passed old new) where
   acks_some : 0 < length p.acks
   acks_some = subst (λ l. 0 < length l) (sym p.answers)
-      (let e = length-append (old.back.ahead ++ answers_of most_reported old.receiver p.came) (answer_of new.receiver ∷ []) in omega arith)
+      (let e = length-append (old.back.ahead ++ acks_of most_reported old.receiver p.came) (ack_of new.receiver ∷ []) in omega arith)
 
   same_failed : failures new.counts ≡ failures
       (with_fates (length p.acks) old.back.fates

@@ -3,8 +3,8 @@
 --     PathSeen      the frames on their way in one direction, the late ones, and the fates to come
 --     IsUnderWay f w s r there back      the stream w, whose first byte has position f, is on its way
 --     FrameTells r frame      an acknowledgement tells nothing but what the receiver has
---     answer_of r      the acknowledgement of a receiver
---     receiver_after N r frame, with_answer r frame back      what a frame that comes leaves
+--     ack_of r      the acknowledgement of a receiver
+--     receiver_after N r frame, with_ack r frame back      what a frame that comes leaves
 use Rattle.std.specs.Prelude.{◌≡◌, ℕ, ◌+◌, ◌≤◌, ◌^◌, ◌⊎◌, nat_lt, if◌then◌else◌}
 use Rattle.std.specs.Prelude.{IsTrue, Option, Some, None}
 use Rattle.std.specs.Prelude.{List, [], ◌∷◌, ◌++◌, length, take, All}
@@ -35,8 +35,8 @@ FrameTells r frame = (n : ℕ) (xs : List ℕ) → segment_of frame ≡ Some (n,
     (n ≤ stored_next r) × HasReported r (ranges_of most_reported xs)
 
 -- an acknowledgement of what a receiver has: the first missing position, and the first held runs
-abbrev pub answer_of : Stored → List ℕ
-answer_of r =
+abbrev pub ack_of : Stored → List ℕ
+ack_of r =
     frame_of (stored_next r) (range_bytes (take most_reported (maximal_runs (domain r.held))))
 
 -- what a receiver stores once a frame came: one that is too short for a position changes nothing,
@@ -47,11 +47,11 @@ receiver_after most_runs r (Some (pos, xs)) =
     if nat_lt (pos + length xs) (2 ^ 64) then stored_after most_runs r (Segment pos xs) else r
 
 -- what is on its way back then, where the receiver stores r: its answer behind what was there
-abbrev pub with_answer : Stored → Option (ℕ × List ℕ) → PathSeen → PathSeen
-with_answer r None back = back
-with_answer r (Some (pos, xs)) back =
+abbrev pub with_ack : Stored → Option (ℕ × List ℕ) → PathSeen → PathSeen
+with_ack r None back = back
+with_ack r (Some (pos, xs)) back =
     if nat_lt (pos + length xs) (2 ^ 64)
-    then record back { ahead = back.ahead ++ answer_of r ∷ [] }
+    then record back { ahead = back.ahead ++ ack_of r ∷ [] }
     else back
 
 -- w was written to the sender; each frame brings nothing but parts of w, and so did each that the
@@ -69,5 +69,5 @@ pub record IsUnderWay (f : ℕ) (w : List ℕ) (s : Outgoing) (r : Stored)
   pub reported : HasReported r s.reported
 
 -- the frame was put among the late ones, or nothing changed
-abbrev pub MayReturn : List ℕ → PathSeen → PathSeen → Type 0
-MayReturn frame old new = (new ≡ old) ⊎ (new ≡ record old { late = old.late ++ frame ∷ [] })
+abbrev pub MayComeLate : List ℕ → PathSeen → PathSeen → Type 0
+MayComeLate frame old new = (new ≡ old) ⊎ (new ≡ record old { late = old.late ++ frame ∷ [] })

@@ -11,11 +11,11 @@ use Rattle.net_stream.specs.Reported.{count_outside, most_reported, is_full}
 use Rattle.net_stream.specs.Counting.{with_fates, SameButRefused, with_payload}
 use Rattle.net_stream.specs.Outgoing.{end_of}
 use Rattle.net_stream.specs.Fates.{NextCome}
-use Rattle.net_stream.specs.Carrying.{PathSeen, IsUnderWay, answer_of}
+use Rattle.net_stream.specs.Carrying.{PathSeen, IsUnderWay, ack_of}
 use Rattle.net_stream.specs.Sending.{SentRound, most_of}
 use Rattle.net_stream.specs.Frames.{frames_from}
 use Rattle.net_stream.specs.Progress.{after_ack_frames, limit_of}
-use Rattle.net_stream.specs.Passing.{coming_of, receiver_after_all, answers_of, path_after}
+use Rattle.net_stream.specs.Passing.{coming_of, receiver_after_all, acks_of, path_after}
 use Rattle.net_stream.specs.declared.link.Link.{Link}
 
 -- w was written to the sender, each frame brings nothing but parts of w, and each acknowledgement
@@ -42,8 +42,8 @@ pub record Passed {A : Type 0} (old new : Link A) : Type 0 where
   pub received : new.receiver ≡ receiver_after_all most_reported old.receiver came
   pub acks : List (List ℕ)
   pub answers : acks
-      ≡ old.back.ahead ++ answers_of most_reported old.receiver came
-      ++ answer_of new.receiver ∷ []
+      ≡ old.back.ahead ++ acks_of most_reported old.receiver came
+      ++ ack_of new.receiver ∷ []
   pub acked : new.sender
       ≡ after_ack_frames old.sender (old.back.late ++ coming_of old.back.fates acks)
   pub left : new.there ≡ path_after sent

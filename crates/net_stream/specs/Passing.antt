@@ -2,7 +2,7 @@
 --     coming_of v frames, late_of v frames      of frames that meet the next fates of v, those that
 --                                               come at once, and those that come late
 --     receiver_after_all N r frames      what a receiver stores once frames have come, one after another
---     answers_of N r frames      its acknowledgements of them
+--     acks_of N r frames      its acknowledgements of them
 --     path_after path      what is left of a direction whose frames have all met their fates
 use Rattle.std.specs.Prelude.{ℕ, ◌+◌, ◌^◌, nat_lt, if◌then◌else◌}
 use Rattle.std.specs.Prelude.{List, [], ◌∷◌, ◌++◌, length, Option, Some, None}
@@ -10,7 +10,7 @@ use Rattle.net_receiver.specs.Stored.{Stored}
 use Rattle.net_stream.specs.Frames.{segment_of}
 use Rattle.net_stream.specs.Fates.{FatesSeen, next_fate, after_fate, after_all, comes, comes_late}
 use Rattle.net_stream.specs.declared.fate.Fate.{Fate}
-use Rattle.net_stream.specs.Carrying.{PathSeen, answer_of, receiver_after}
+use Rattle.net_stream.specs.Carrying.{PathSeen, ack_of, receiver_after}
 
 -- the frames that come at once, of frames that meet the next fates of v
 abbrev pub coming_of : FatesSeen → List (List ℕ) → List (List ℕ)
@@ -27,8 +27,8 @@ late_of v (frame ∷ frames) =
     else late_of (after_fate v) frames
 
 -- a direction of which a frame met its fate
-abbrev pub with_return : Fate → List ℕ → PathSeen → PathSeen
-with_return fate frame path =
+abbrev pub with_late : Fate → List ℕ → PathSeen → PathSeen
+with_late fate frame path =
     if comes_late fate then record path { late = path.late ++ frame ∷ [] } else path
 
 -- what a receiver stores once frames have come, one after another
@@ -37,17 +37,17 @@ receiver_after_all most_runs r [] = r
 receiver_after_all most_runs r (frame ∷ frames) = receiver_after_all most_runs (receiver_after most_runs r (segment_of frame)) frames
 
 -- the acknowledgement of a frame that came, if it has one, where the receiver stores r
-abbrev pub answer_to : Stored → Option (ℕ × List ℕ) → List (List ℕ)
-answer_to r None = []
-answer_to r (Some (pos, xs)) =
-    if nat_lt (pos + length xs) (2 ^ 64) then answer_of r ∷ [] else []
+abbrev pub ack_to : Stored → Option (ℕ × List ℕ) → List (List ℕ)
+ack_to r None = []
+ack_to r (Some (pos, xs)) =
+    if nat_lt (pos + length xs) (2 ^ 64) then ack_of r ∷ [] else []
 
 -- the acknowledgements of frames that came, one after another
-abbrev pub answers_of : ℕ → Stored → List (List ℕ) → List (List ℕ)
-answers_of most_runs r [] = []
-answers_of most_runs r (frame ∷ frames) =
-    answer_to (receiver_after most_runs r (segment_of frame)) (segment_of frame)
-    ++ answers_of most_runs (receiver_after most_runs r (segment_of frame)) frames
+abbrev pub acks_of : ℕ → Stored → List (List ℕ) → List (List ℕ)
+acks_of most_runs r [] = []
+acks_of most_runs r (frame ∷ frames) =
+    ack_to (receiver_after most_runs r (segment_of frame)) (segment_of frame)
+    ++ acks_of most_runs (receiver_after most_runs r (segment_of frame)) frames
 
 -- what is left of a direction whose frames have all met their fates
 abbrev pub path_after : PathSeen → PathSeen

@@ -6,7 +6,7 @@ ghost use Rattle.net_stream.specs.Outgoing.{Outgoing};
 ghost use Rattle.net_stream.specs.Frames.{segment_of, FrameSays};
 ghost use Rattle.net_stream.specs.Counting.{with_refusal};
 ghost use Rattle.net_stream.specs.Carrying.{PathSeen, IsUnderWay, FrameTells};
-ghost use Rattle.net_stream.specs.Carrying.{answer_of, receiver_after, with_answer};
+ghost use Rattle.net_stream.specs.Carrying.{ack_of, receiver_after, with_ack};
 ghost use Rattle.net_stream.specs.Progress.{reach_one, after_ack_frame, limit_of, HasRoom};
 
 use crate::counts::FrameCounts;
@@ -26,9 +26,9 @@ pub(crate) fn answer<A: Allocator + Copy, const N: usize>(
     back: &mut Path<'_, A>,
     now: Instant,
 ) -> Result<(), AllocError>
-    ensures tells { FrameTells receiver.now (answer_of receiver.now) }
+    ensures tells { FrameTells receiver.now (ack_of receiver.now) }
     ensures ok { OnOk result (back.new
-        ≡ record back.old { ahead = back.old.ahead ++ answer_of receiver.now ∷ [] }) }
+        ≡ record back.old { ahead = back.old.ahead ++ ack_of receiver.now ∷ [] }) }
     ensures err { OnErr result (back.new ≡ back.old) }
 {
     round_trip();
@@ -51,7 +51,7 @@ pub(crate) fn arrive<A: Allocator + Copy, const N: usize>(
 ) -> Result<(), AllocError>
     ensures state { receiver.new ≡ receiver_after N receiver.old (segment_of frame.now) }
     ensures answers { OnOk result
-        (back.new ≡ with_answer receiver.new (segment_of frame.now) back.old) }
+        (back.new ≡ with_ack receiver.new (segment_of frame.now) back.old) }
     ensures err { OnErr result (back.new ≡ back.old) }
     ensures counted { counts.new ≡ with_refusal N receiver.old (segment_of frame.now) counts.old }
     ensures carried { (f : ℕ) (w : List ℕ) (s : Outgoing) (there : PathSeen) →

@@ -6,7 +6,7 @@ ghost use Rattle.net_receiver.specs.Stored.{fresh_stored, stored_read};
 ghost use Rattle.net_stream.specs.Outgoing.{outgoing, room_of, with_written};
 ghost use Rattle.net_stream.specs.Frames.{segment_of, FrameSays};
 ghost use Rattle.net_stream.specs.Counting.{no_frames, with_refusal};
-ghost use Rattle.net_stream.specs.Carrying.{receiver_after, with_answer, FrameTells};
+ghost use Rattle.net_stream.specs.Carrying.{receiver_after, with_ack, FrameTells};
 ghost use Rattle.net_stream.specs.Progress.{after_ack_frame};
 ghost use Rattle.net_stream.specs.Reported.{most_reported};
 ghost use Rattle.net_stream.specs.Links.{Carries};
@@ -159,7 +159,7 @@ impl<'a, 'f, A: Allocator + Copy> Link<'a, 'f, A> {
     pub fn arrive(&mut self, frame: &[u8]) -> Result<(), AllocError>
         ensures ok { OnOk result (self.new ≡ record self.old {
           receiver = receiver_after most_reported self.old.receiver (segment_of frame.now);
-          back = with_answer self.new.receiver (segment_of frame.now) self.old.back;
+          back = with_ack self.new.receiver (segment_of frame.now) self.old.back;
           counts = with_refusal most_reported self.old.receiver (segment_of frame.now) self.old.counts;
         }) }
         ensures err { OnErr result (self.new ≡ record self.old {

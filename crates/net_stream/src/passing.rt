@@ -6,11 +6,11 @@ ghost use Rattle.net_stream.specs.Outgoing.{Outgoing, end_of};
 ghost use Rattle.net_stream.specs.Frames.{segment_of, FrameSays};
 ghost use Rattle.net_stream.specs.Fates.{comes, next_fate, after_fate, after_all, NextCome};
 ghost use Rattle.net_stream.specs.Counting.{with_fate, with_fates, SameButRefused};
-ghost use Rattle.net_stream.specs.Carrying.{PathSeen, IsUnderWay, FrameTells, MayReturn};
-ghost use Rattle.net_stream.specs.Carrying.{receiver_after, with_answer};
+ghost use Rattle.net_stream.specs.Carrying.{PathSeen, IsUnderWay, FrameTells, MayComeLate};
+ghost use Rattle.net_stream.specs.Carrying.{receiver_after, with_ack};
 ghost use Rattle.net_stream.specs.Progress.{reach_one, Reaches, after_ack_frame, after_ack_frames, limit_of};
 ghost use Rattle.net_stream.specs.Progress.{HasRoom};
-ghost use Rattle.net_stream.specs.Passing.{coming_of, late_of, with_return, receiver_after_all, answers_of};
+ghost use Rattle.net_stream.specs.Passing.{coming_of, late_of, with_late, receiver_after_all, acks_of};
 
 use crate::arriving::{acknowledge, arrive};
 use crate::counts::FrameCounts;
@@ -45,7 +45,7 @@ fn arrive_if<A: Allocator + Copy, const N: usize>(
     ensures state { receiver.new
         ≡ (if comes fate then receiver_after N receiver.old (segment_of frame.now) else receiver.old) }
     ensures back { OnOk result (back.new ≡ (if comes fate
-        then with_answer receiver.new (segment_of frame.now) back.old else back.old)) }
+        then with_ack receiver.new (segment_of frame.now) back.old else back.old)) }
 {
     if !fate.comes() {
         return Ok(());
@@ -75,8 +75,8 @@ fn return_if<A: Allocator + Copy>(
     frame: &[u8],
     fate: Fate,
 ) -> Result<(), AllocError>
-    ensures may { MayReturn frame.now path.old path.new }
-    ensures returned { OnOk result (path.new ≡ with_return fate frame.now path.old) }
+    ensures may { MayComeLate frame.now path.old path.new }
+    ensures returned { OnOk result (path.new ≡ with_late fate frame.now path.old) }
 {
     if !fate.comes_late() {
         return Ok(());
@@ -118,8 +118,8 @@ fn pass_frame<A: Allocator + Copy, const N: usize>(
     ensures brought { OnOk result (receiver_after_all N receiver.new (coming_of there.new.fates there.new.ahead)
         ≡ receiver_after_all N receiver.old (coming_of there.old.fates there.old.ahead)) }
     ensures answered { OnOk result (back.new.ahead
-        ++ answers_of N receiver.new (coming_of there.new.fates there.new.ahead)
-        ≡ back.old.ahead ++ answers_of N receiver.old (coming_of there.old.fates there.old.ahead)) }
+        ++ acks_of N receiver.new (coming_of there.new.fates there.new.ahead)
+        ≡ back.old.ahead ++ acks_of N receiver.old (coming_of there.old.fates there.old.ahead)) }
     ensures returned { OnOk result (there.new.late ++ late_of there.new.fates there.new.ahead
         ≡ there.old.late ++ late_of there.old.fates there.old.ahead) }
     ensures back_late { OnOk result (back.new.late ≡ back.old.late) }
@@ -195,7 +195,7 @@ pub(crate) fn pass_late_frames<A: Allocator + Copy, const N: usize>(
     ensures grows { stored_next receiver.old ≤ stored_next receiver.new }
     ensures brought { OnOk result (receiver.new ≡ receiver_after_all N receiver.old there.old.late) }
     ensures answered { OnOk result (back.new.ahead
-        ≡ back.old.ahead ++ answers_of N receiver.old there.old.late) }
+        ≡ back.old.ahead ++ acks_of N receiver.old there.old.late) }
     ensures back_late { OnOk result (back.new.late ≡ back.old.late) }
     ensures none { OnOk result (there.new.late ≡ []) }
 {
@@ -234,7 +234,7 @@ pub(crate) fn pass_frames<A: Allocator + Copy, const N: usize>(
     ensures brought { OnOk result (receiver.new
         ≡ receiver_after_all N receiver.old (coming_of there.old.fates there.old.ahead)) }
     ensures answered { OnOk result (back.new.ahead
-        ≡ back.old.ahead ++ answers_of N receiver.old (coming_of there.old.fates there.old.ahead)) }
+        ≡ back.old.ahead ++ acks_of N receiver.old (coming_of there.old.fates there.old.ahead)) }
     ensures returned { OnOk result (there.new.late
         ≡ there.old.late ++ late_of there.old.fates there.old.ahead) }
     ensures back_late { OnOk result (back.new.late ≡ back.old.late) }

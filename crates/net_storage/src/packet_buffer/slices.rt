@@ -4,7 +4,7 @@ ghost use Rattle.std.specs.Prelude.{take, drop};
 ghost use Rattle.std.specs.declared.option.Option.TheVariants.{None};
 ghost use Rattle.net_storage.specs.Packets.{placement, with_packet, with_packet_of, without_first_and_gap};
 ghost use Rattle.net_storage.specs.PacketCalls.{CopiedOut};
-ghost use Rattle.net_storage.specs.PacketHistory.{contents, front_bytes};
+ghost use Rattle.net_storage.specs.PacketHistory.{contents, head_bytes};
 
 use super::Packets;
 use crate::error::{Empty, Full};
@@ -38,11 +38,11 @@ impl<H: Drop, M: Elements<PacketMetadata<H>>, B: Elements<u8>> Packets<H, M, B> 
         ensures popped { IfOk result
             (λ r. CopiedOut (contents self.old) r.0 into.old r.1 (contents self.new) into.new) }
         ensures count { IfOk result
-            (λ r. r.1 ≡ min (length (front_bytes (contents self.old))) (length into.old)) }
+            (λ r. r.1 ≡ min (length (head_bytes (contents self.old))) (length into.old)) }
         ensures bytes { IfOk result
-            (λ r. into.new ≡ take r.1 (front_bytes (contents self.old)) ++ drop r.1 into.old) }
-        ensures whole { length (front_bytes (contents self.old)) ≡ length into.old
-            → OnOk result (into.new ≡ front_bytes (contents self.old)) }
+            (λ r. into.new ≡ take r.1 (head_bytes (contents self.old)) ++ drop r.1 into.old) }
+        ensures whole { length (head_bytes (contents self.old)) ≡ length into.old
+            → OnOk result (into.new ≡ head_bytes (contents self.old)) }
         ensures left { OnOk result (contents self.new ≡ drop 1 (contents self.old)) }
         ensures empty { IsErr result ↔ (length self.old.packets ≡ 0) }
         ensures unchanged { OnErr result ((self.new ≡ self.old) × (into.new ≡ into.old)) }

@@ -1,4 +1,4 @@
-use Rattle.net_receiver.proofs.Resending.{completes, has_stays, accepted_brings, has_all_reaches}
+use Rattle.net_receiver.proofs.Retransmission.{completes, has_stays, accepted_brings, has_all_reaches}
 use Rattle.net_receiver.proofs.Called.{in_order_reaches}
 use Rattle.net_receiver.proofs.laws.completion.Goals as goal
 

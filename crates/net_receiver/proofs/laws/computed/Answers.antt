@@ -1,4 +1,4 @@
-use Rattle.net_receiver.proofs.Computed.{next_computed, held_computed, runs_computed, byte_computed}
+use Rattle.net_receiver.proofs.WorkedExample.{next_computed, held_computed, runs_computed, byte_computed}
 use Rattle.net_receiver.proofs.laws.computed.Goals as goal
 
 pub returns-clause-next : goal.returns-clause-next

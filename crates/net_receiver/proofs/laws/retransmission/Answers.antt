@@ -1,4 +1,4 @@
-use Rattle.net_receiver.proofs.Resending.{second_copy, held_changes_nothing}
+use Rattle.net_receiver.proofs.Retransmission.{second_copy, held_changes_nothing}
 use Rattle.net_receiver.proofs.laws.retransmission.Goals as goal
 
 pub returns-clause-second : goal.returns-clause-second

@@ -1,4 +1,4 @@
-use Rattle.net_receiver.proofs.Computed.{worked_schedule}
+use Rattle.net_receiver.proofs.WorkedExample.{worked_schedule}
 use Rattle.net_receiver.proofs.laws.worked_schedule.Goals as goal
 
 pub returns : goal.returns

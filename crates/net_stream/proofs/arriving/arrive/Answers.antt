@@ -4,7 +4,7 @@ use Rattle.net_receiver.specs.Rules.{Segment}
 use Rattle.net_receiver.specs.Stored.{stored_next}
 use Rattle.net_receiver.specs.Retransmission.{Has}
 use Rattle.net_stream.specs.Outgoing.{end_of}
-use Rattle.net_stream.specs.Carrying.{IsUnderWay, answer_of}
+use Rattle.net_stream.specs.Carrying.{IsUnderWay, ack_of}
 use Rattle.net_stream.specs.Progress.{reach_one}
 use Rattle.net_stream.proofs.Arrived.{past_arrived, past_answer, past_counted, taken_arrived, taken_answer, taken_counted}
 use Rattle.std.proofs.lemmas.Result.{on_ok_weaker}
@@ -77,7 +77,7 @@ returns-clause-carried g c = λ f w s there says carries.
     let more = took f w s v u there back (λ r. c.segment.ensures.receives f w r (says c.in-Some.pos c.in-Some.payload.now c.in-Some.ensures))
     c.segment.ensures.keeps.grows keeps carries in
     either (IsUnderWay f w s u there c.answer.new.back) c.answer.result c.answer.ensures.ok c.answer.ensures.err
-    (λ e. answered f w s u there back c.answer.new.back (answer_of u) e c.answer.ensures.tells more)
+    (λ e. answered f w s u there back c.answer.new.back (ack_of u) e c.answer.ensures.tells more)
     (λ e. subst (IsUnderWay f w s u there) (sym e) more)
 
 pub returns-clause-reaches : goal.returns-clause-reaches

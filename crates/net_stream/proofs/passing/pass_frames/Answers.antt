@@ -5,7 +5,7 @@ use Rattle.net_stream.specs.Fates.{after_all}
 use Rattle.net_stream.proofs.Counted.{all_left, none_left, none_met, one_more_met, all_met, met_last}
 use Rattle.net_stream.proofs.Reached.{no_gap, room_same}
 use Rattle.std.proofs.lemmas.List.{append-nil}
-use Rattle.net_stream.specs.Passing.{coming_of, late_of, receiver_after_all, answers_of}
+use Rattle.net_stream.specs.Passing.{coming_of, late_of, receiver_after_all, acks_of}
 use Rattle.net_stream.proofs.Results.{OnErr-always}
 use Rattle.net_stream.proofs.passing.pass_frames.Goals as goal
 
@@ -98,7 +98,7 @@ returns-then-not-branch-clause-answered g c =
     let none = c.in_ok-pass_frame.ensures.none c.if-not-branch.true in
     let t = c.pass_frame.new.there in
     let b = c.pass_frame.new.back.ahead in
-    sym (append-nil b) ∙ sym (ap (λ l. b ++ answers_of g.row.N c.pass_frame.new.receiver (coming_of t.fates l)) none) ∙ c.in_ok-pass_frame.ensures.answered
+    sym (append-nil b) ∙ sym (ap (λ l. b ++ acks_of g.row.N c.pass_frame.new.receiver (coming_of t.fates l)) none) ∙ c.in_ok-pass_frame.ensures.answered
     ∙ c.frames.invariant.answered
 
 pub returns-then-not-branch-clause-returned : goal.returns-then-not-branch-clause-returned

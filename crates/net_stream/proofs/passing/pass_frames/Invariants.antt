@@ -4,7 +4,7 @@ use Rattle.net_stream.specs.Outgoing.{Outgoing}
 use Rattle.net_stream.specs.Fates.{after_all, NextCome}
 use Rattle.net_stream.specs.Carrying.{IsUnderWay}
 use Rattle.net_stream.specs.Progress.{Reaches, limit_of, HasRoom}
-use Rattle.net_stream.specs.Passing.{coming_of, late_of, receiver_after_all, answers_of}
+use Rattle.net_stream.specs.Passing.{coming_of, late_of, receiver_after_all, acks_of}
 use Rattle.net_stream.proofs.Counted.{MetSoFar}
 use Rattle.net_stream.proofs.passing.pass_frames.Given as goal
 
@@ -24,7 +24,7 @@ invariant-frames g l =
       fates : l.back.fates ≡ l.fn.back.fates;
       brought : receiver_after_all g.row.N l.receiver (coming_of l.there.fates l.there.ahead) ≡ receiver_after_all g.row.N l.fn.receiver
           (coming_of l.fn.there.fates l.fn.there.ahead);
-      answered : l.back.ahead ++ answers_of g.row.N l.receiver (coming_of l.there.fates l.there.ahead) ≡ l.fn.back.ahead ++ answers_of g.row.N
+      answered : l.back.ahead ++ acks_of g.row.N l.receiver (coming_of l.there.fates l.there.ahead) ≡ l.fn.back.ahead ++ acks_of g.row.N
           l.fn.receiver (coming_of l.fn.there.fates l.fn.there.ahead);
       returned : l.there.late ++ late_of l.there.fates l.there.ahead ≡ l.fn.there.late ++ late_of l.fn.there.fates l.fn.there.ahead;
       back_late : l.back.late ≡ l.fn.back.late;

@@ -2,8 +2,8 @@ use Rattle.std.proofs.Common.{◌++◌, ◌∙◌, sym, ap, le_trans}
 use Rattle.net_stream.specs.Frames.{segment_of}
 use Rattle.net_stream.proofs.Counted.{same_refusing}
 use Rattle.std.proofs.lemmas.List.{append-nil}
-use Rattle.net_stream.specs.Passing.{receiver_after_all, answers_of}
-use Rattle.net_stream.proofs.Meeting.{one_answered, with_answer_late}
+use Rattle.net_stream.specs.Passing.{receiver_after_all, acks_of}
+use Rattle.net_stream.proofs.Meeting.{one_answered, with_ack_late}
 use Rattle.net_stream.proofs.Carried.{first_late, late_met}
 use Rattle.net_stream.proofs.passing.pass_late_frames.Goals as goal
 
@@ -41,9 +41,9 @@ late-preserved g c =
       brought = ap (λ r. receiver_after_all g.row.N r t1.late) c.arrive.ensures.state
           ∙ sym (ap (λ p. receiver_after_all g.row.N c.late.receiver p.late) first) ∙ i.brought;
       answered = one_answered g.row.N c.late.receiver c.arrive.new.receiver c.frame-frame.result.now c.late.back c.arrive.new.back t1.late
-          c.arrive.ensures.state c.in_ok-arrive.ensures.answers ∙ sym (ap (λ p. c.late.back.ahead ++ answers_of g.row.N c.late.receiver p.late) first)
+          c.arrive.ensures.state c.in_ok-arrive.ensures.answers ∙ sym (ap (λ p. c.late.back.ahead ++ acks_of g.row.N c.late.receiver p.late) first)
           ∙ i.answered;
-      back_late = ap (λ p. p.late) c.in_ok-arrive.ensures.answers ∙ with_answer_late c.arrive.new.receiver
+      back_late = ap (λ p. p.late) c.in_ok-arrive.ensures.answers ∙ with_ack_late c.arrive.new.receiver
           (segment_of c.frame-frame.result.now) c.late.back ∙ i.back_late;
     }
 
@@ -52,7 +52,7 @@ returns-clause-brought g c = sym (ap (λ l. receiver_after_all g.row.N c.late.re
 
 pub returns-clause-answered : goal.returns-clause-answered
 returns-clause-answered g c = sym (append-nil c.late.back.ahead) ∙ sym
-    (ap (λ l. c.late.back.ahead ++ answers_of g.row.N c.late.receiver l) c.in_default.ensures.0) ∙ c.late.invariant.answered
+    (ap (λ l. c.late.back.ahead ++ acks_of g.row.N c.late.receiver l) c.in_default.ensures.0) ∙ c.late.invariant.answered
 
 pub returns-clause-back_late : goal.returns-clause-back_late
 returns-clause-back_late g c = c.late.invariant.back_late

@@ -3,7 +3,7 @@ use Rattle.net_receiver.specs.Stored.{stored_next}
 use Rattle.net_stream.specs.Outgoing.{Outgoing}
 use Rattle.net_stream.specs.Counting.{SameButRefused}
 use Rattle.net_stream.specs.Carrying.{IsUnderWay}
-use Rattle.net_stream.specs.Passing.{receiver_after_all, answers_of}
+use Rattle.net_stream.specs.Passing.{receiver_after_all, acks_of}
 use Rattle.net_stream.specs.Progress.{limit_of}
 use Rattle.net_stream.proofs.passing.pass_late_frames.Given as goal
 
@@ -19,7 +19,7 @@ invariant-late g l =
       back_fates : l.back.fates ≡ l.fn.back.fates;
       grows : stored_next l.fn.receiver ≤ stored_next l.receiver;
       brought : receiver_after_all g.row.N l.receiver l.there.late ≡ receiver_after_all g.row.N l.fn.receiver l.fn.there.late;
-      answered : l.back.ahead ++ answers_of g.row.N l.receiver l.there.late ≡ l.fn.back.ahead ++ answers_of g.row.N l.fn.receiver l.fn.there.late;
+      answered : l.back.ahead ++ acks_of g.row.N l.receiver l.there.late ≡ l.fn.back.ahead ++ acks_of g.row.N l.fn.receiver l.fn.there.late;
       back_late : l.back.late ≡ l.fn.back.late;
     }
 

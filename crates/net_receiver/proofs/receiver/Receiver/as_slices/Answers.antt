@@ -1,7 +1,7 @@
 use Rattle.std.proofs.Common.{◌≡◌, ◌∙◌, ◌++◌, sym, ap, length, length-append, take_all, le_refl, arith}
 use Rattle.net_receiver.specs.Contiguous.{contiguous_count}
 use Rattle.net_receiver.specs.Stored.{Stored}
-use Rattle.net_receiver.proofs.Called.{front_bytes}
+use Rattle.net_receiver.proofs.Called.{head_bytes}
 use Rattle.net_receiver.proofs.Contiguous.{lent_front, parts_are}
 use Rattle.net_receiver.proofs.receiver.Receiver.as_slices.Given as given
 use Rattle.net_receiver.proofs.receiver.Receiver.as_slices.Goals as goal
@@ -26,4 +26,4 @@ returns-clause-value g c =
 pub returns-clause-bytes : goal.returns-clause-bytes
 returns-clause-bytes g c = λ f x r.
     let v = c.args.self.now in
-    whole_is g c ∙ sym (take_all (length v.queue) v.queue (le_refl _)) ∙ front_bytes f x v (length v.queue) (le_refl _) r
+    whole_is g c ∙ sym (take_all (length v.queue) v.queue (le_refl _)) ∙ head_bytes f x v (length v.queue) (le_refl _) r

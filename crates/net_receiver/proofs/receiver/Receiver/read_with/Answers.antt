@@ -2,10 +2,10 @@
 use Rattle.std.proofs.Common.{◌≡◌, ◌+◌, ◌≤◌, refl, subst, ap, ◌∙◌, length, take, arith}
 use Rattle.net_storage.specs.Ring.{queue, spare}
 use Rattle.net_receiver.specs.Contiguous.{contiguous_count, first_part}
-use Rattle.net_receiver.specs.Parts.{parts, FitsWord}
+use Rattle.net_receiver.specs.Parts.{parts, Fits64Bits}
 use Rattle.net_receiver.specs.Rules.{Read, Gave}
 use Rattle.net_receiver.specs.Stored.{Stored, stored_next, stored_read, IsSound}
-use Rattle.net_receiver.proofs.Called.{read_receives, stays, front_bytes}
+use Rattle.net_receiver.proofs.Called.{read_receives, stays, head_bytes}
 use Rattle.net_receiver.proofs.Contiguous.{first_part_lent, first_part_length, contiguous_some, read_on}
 use Rattle.net_receiver.proofs.Reading.{read_leaves_next}
 use Rattle.net_receiver.proofs.Run.{steps}
@@ -59,7 +59,7 @@ left g c =
     (queue c.dequeue_allocated.new.self) (spare c.dequeue_allocated.new.self) c.self.inside.held
 
 left_is : (g : given.Over) (c : goal.After-self-1 g) →
-    (left g c ≡ stored_read c.args.self.now c.f-answer.result.0) × IsSound g.row.N (left g c) × FitsWord (left g c)
+    (left g c ≡ stored_read c.args.self.now c.f-answer.result.0) × IsSound g.row.N (left g c) × Fits64Bits (left g c)
 left_is g c =
     let i = c.self.inside in
     let few = (lent_is g c).1 in
@@ -108,4 +108,4 @@ returns-clause-receives g c = λ f x r. read_receives f x c.args.self.now (left 
 pub returns-clause-bytes : goal.returns-clause-bytes
 returns-clause-bytes g c = λ f x r.
     let few = (lent_is g c).1 in
-    front_bytes f x c.args.self.now c.f-answer.result.0 (omega arith) r
+    head_bytes f x c.args.self.now c.f-answer.result.0 (omega arith) r

@@ -1,6 +1,6 @@
 use Rattle.std.proofs.Common.{◌≡◌, ◌∷◌, ◌++◌, ◌∙◌, ℕ, List, length, min, take, drop, sym, ap}
 use Rattle.net_storage.specs.Packets.{without_first_and_gap, freed_place, freed_bytes, with_bytes}
-use Rattle.net_storage.specs.PacketHistory.{contents, front_bytes}
+use Rattle.net_storage.specs.PacketHistory.{contents, head_bytes}
 use Rattle.net_storage.proofs.PacketRuns.{freed_stay, copied_whole}
 use Rattle.net_storage.proofs.packet_buffer.Packets.pop_slice.Goals as goal
 
@@ -41,7 +41,7 @@ returns-clause-count g c =
     c.in_ok-header.ensures.taken ∙ ap (λ o. (h, freed_bytes r size) ∷ contents o) is
     ∙ ap (λ (l : List ℕ). (h, l) ∷ contents (without_first_and_gap q)) (sym c.freed_mut.ensures.value) in
     let first : contents q ≡ (h, bytes) ∷ contents (without_first_and_gap q) = shown in
-    let front : bytes ≡ front_bytes (contents q) = sym (ap front_bytes first) in
+    let front : bytes ≡ head_bytes (contents q) = sym (ap head_bytes first) in
     c.copy-count.ensures.count ∙ ap (λ (l : List ℕ). min (length l) (length c.args.into.now)) front
 
 pub returns-clause-bytes : goal.returns-clause-bytes
@@ -56,7 +56,7 @@ returns-clause-bytes g c =
     c.in_ok-header.ensures.taken ∙ ap (λ o. (h, freed_bytes r size) ∷ contents o) is
     ∙ ap (λ (l : List ℕ). (h, l) ∷ contents (without_first_and_gap q)) (sym c.freed_mut.ensures.value) in
     let first : contents q ≡ (h, bytes) ∷ contents (without_first_and_gap q) = shown in
-    let front : bytes ≡ front_bytes (contents q) = sym (ap front_bytes first) in
+    let front : bytes ≡ head_bytes (contents q) = sym (ap head_bytes first) in
     c.copy-count.ensures.copied ∙ ap (λ (l : List ℕ). take c.copy-count.result l ++ drop c.copy-count.result c.args.into.now) front
 
 pub returns-clause-whole : goal.returns-clause-whole
@@ -71,7 +71,7 @@ returns-clause-whole g c =
     c.in_ok-header.ensures.taken ∙ ap (λ o. (h, freed_bytes r size) ∷ contents o) is
     ∙ ap (λ (l : List ℕ). (h, l) ∷ contents (without_first_and_gap q)) (sym c.freed_mut.ensures.value) in
     let first : contents q ≡ (h, bytes) ∷ contents (without_first_and_gap q) = shown in
-    let front : bytes ≡ front_bytes (contents q) = sym (ap front_bytes first) in
+    let front : bytes ≡ head_bytes (contents q) = sym (ap head_bytes first) in
     λ long.
     let same : length bytes ≡ length c.args.into.now = ap length front ∙ long in
     copied_whole bytes c.args.into.now c.copy-count.new.into c.copy-count.result c.copy-count.ensures.count c.copy-count.ensures.copied same ∙ front
@@ -89,5 +89,5 @@ returns-clause-left g c =
     c.in_ok-header.ensures.taken ∙ ap (λ o. (h, freed_bytes r size) ∷ contents o) is
     ∙ ap (λ (l : List ℕ). (h, l) ∷ contents (without_first_and_gap q)) (sym c.freed_mut.ensures.value) in
     let first : contents q ≡ (h, bytes) ∷ contents (without_first_and_gap q) = shown in
-    let front : bytes ≡ front_bytes (contents q) = sym (ap front_bytes first) in
+    let front : bytes ≡ head_bytes (contents q) = sym (ap head_bytes first) in
     ap contents left ∙ ap (drop 1) (sym first)

@@ -7,11 +7,11 @@ use Rattle.net_stream.specs.Reported.{count_outside, most_reported, range_bytes}
 use Rattle.net_stream.specs.Counting.{with_fates, SameButRefused, with_payload}
 use Rattle.net_stream.specs.declared.counts.FrameCounts.{FrameCounts}
 use Rattle.net_stream.specs.Fates.{FatesSeen, after_all, NextCome}
-use Rattle.net_stream.specs.Carrying.{PathSeen, IsUnderWay, answer_of}
+use Rattle.net_stream.specs.Carrying.{PathSeen, IsUnderWay, ack_of}
 use Rattle.net_stream.specs.Sending.{most_of}
 use Rattle.net_stream.specs.Links.{next_flight}
 use Rattle.net_stream.specs.Progress.{Reaches, HasRoom, after_ack_frames}
-use Rattle.net_stream.specs.Passing.{coming_of, late_of, receiver_after_all, answers_of}
+use Rattle.net_stream.specs.Passing.{coming_of, late_of, receiver_after_all, acks_of}
 use Rattle.net_stream.proofs.Meeting.{brought_append, answers_append}
 use Rattle.net_stream.proofs.Carried.{answered}
 use Rattle.net_stream.proofs.Reached.{acked_append, room_same, sent_reaches, first_is, all_keep_end}
@@ -46,7 +46,7 @@ returns-in_err-pass_acks-clause-carries g c = λ f w h.
     let came = c.pass_frames.ensures.carried f w c.args.self.now.sender
     (c.pass_late_frames.ensures.carried f w c.args.self.now.sender (c.transmit.ensures.carried f w c.args.self.now.receiver c.args.self.now.back h)) in
     let told = answered f w c.args.self.now.sender r there c.pass_frames.new.back c.answer.new.back
-    (answer_of r) c.in_ok-answer.ensures.ok c.answer.ensures.tells came in
+    (ack_of r) c.in_ok-answer.ensures.ok c.answer.ensures.tells came in
     c.pass_acks.ensures.carried f w r there (c.pass_late_acks.ensures.carried f w r there told)
 
 pub returns-clause-carries : goal.returns-clause-carries
@@ -56,7 +56,7 @@ returns-clause-carries g c = λ f w h.
     let came = c.pass_frames.ensures.carried f w c.args.self.now.sender
     (c.pass_late_frames.ensures.carried f w c.args.self.now.sender (c.transmit.ensures.carried f w c.args.self.now.receiver c.args.self.now.back h)) in
     let told = answered f w c.args.self.now.sender r there c.pass_frames.new.back c.answer.new.back
-    (answer_of r) c.in_ok-answer.ensures.ok c.answer.ensures.tells came in
+    (ack_of r) c.in_ok-answer.ensures.ok c.answer.ensures.tells came in
     c.pass_acks.ensures.carried f w r there (c.pass_late_acks.ensures.carried f w r there told)
 
 -- what a round counts, once n frames have met their fates
@@ -174,11 +174,11 @@ returns-clause-round g c =
     let here : r1 ≡ receiver_after_all N r0 t0.late = ok_late.brought ∙ ap (receiver_after_all N r0) old in
     let back : b4.fates ≡ b0.fates = c.pass_late_acks.ensures.fates ∙ ap (λ p. p.fates) told ∙ c.pass_frames.ensures.fates ∙ late.back_fates in
     let back_late : b3.late ≡ b0.late = ap (λ p. p.late) told ∙ ok_frames.back_late ∙ ok_late.back_late in
-    let more : b2.ahead ≡ b0.ahead ++ answers_of N r0 (t0.late ++ come) =
+    let more : b2.ahead ≡ b0.ahead ++ acks_of N r0 (t0.late ++ come) =
     ok_frames.answered
-    ∙ (λ i. ok_late.answered i ++ answers_of N r1 (coming i))
-    ∙ append_assoc b0.ahead (answers_of N r0 t1.late) (answers_of N r1 come)
-    ∙ (λ i. b0.ahead ++ (answers_of N r0 (old i) ++ answers_of N (here i) come))
+    ∙ (λ i. ok_late.answered i ++ acks_of N r1 (coming i))
+    ∙ append_assoc b0.ahead (acks_of N r0 t1.late) (acks_of N r1 come)
+    ∙ (λ i. b0.ahead ++ (acks_of N r0 (old i) ++ acks_of N (here i) come))
     ∙ ap (λ l. b0.ahead ++ l) (sym (answers_append N r0 t0.late come)) in
     let bytes = with_payload (count_outside s.reported s.base c.in_ok-transmit.ensures.sent.0) c.args.self.now.counts in
     let framed' = framed (count_outside s.reported s.base n) (length t2.ahead) t0 t1 t2.fates c.args.self.now.counts c.transmit.new.counts
@@ -197,7 +197,7 @@ returns-clause-round g c =
         coming = refl;
         received = ok_frames.brought ∙ (λ i. receiver_after_all N (here i) (coming i)) ∙ sym (brought_append N r0 t0.late come);
         acks = b4.ahead;
-        answers = c.pass_late_acks.ensures.ahead ∙ ap (λ p. p.ahead) told ∙ ap (λ l. l ++ answer_of r2 ∷ []) more;
+        answers = c.pass_late_acks.ensures.ahead ∙ ap (λ p. p.ahead) told ∙ ap (λ l. l ++ ack_of r2 ∷ []) more;
         acked = acks.came ∙ (λ i. after_ack_frames (c.pass_late_acks.ensures.came i) (coming_of (back i) b4.ahead))
             ∙ ap (λ l. after_ack_frames (after_ack_frames s l) (coming_of b0.fates b4.ahead)) back_late
             ∙ sym (acked_append s b0.late (coming_of b0.fates b4.ahead));
@@ -240,16 +240,16 @@ returns-clause-round g c =
           let end = carries.sends.end in
           let below : stored_next r2 ≤ end_of s = omega (arith, within, first, end) in
           let come2 : NextCome (length b4.ahead) b4.fates = subst (NextCome (length b4.ahead)) (sym back) come_back in
-          let last : b4.ahead ≡ c.pass_frames.new.back.ahead ++ answer_of r2 ∷ [] = c.pass_late_acks.ensures.ahead ∙ ap (λ p. p.ahead) told in
+          let last : b4.ahead ≡ c.pass_frames.new.back.ahead ++ ack_of r2 ∷ [] = c.pass_late_acks.ensures.ahead ∙ ap (λ p. p.ahead) told in
           let small : stored_next r2 < 2 ^ 64 = omega (arith, below, word) in
-          let is : c.pass_acks.new.sender ≡ after_ack_frames s4 (c.pass_frames.new.back.ahead ++ answer_of r2 ∷ []) =
+          let is : c.pass_acks.new.sender ≡ after_ack_frames s4 (c.pass_frames.new.back.ahead ++ ack_of r2 ∷ []) =
           acks.acked come2 ∙ ap (after_ack_frames s4) last in
           let end4 : end_of s4 ≡ end_of s = c.pass_late_acks.ensures.end in
           let base : c.pass_acks.new.sender.base ≡ stored_next r2 =
           ap (λ v. v.base) is ∙ acked_last c.round_trip.ensures s4 (stored_next r2)
           (range_bytes (take most_reported (maximal_runs (domain r2.held)))) c.pass_frames.new.back.ahead (omega (arith, below, end4)) small
           (subst (λ v. v.base ≤ stored_next r2) is behind) in
-          let end5 : end_of c.pass_acks.new.sender ≡ end_of s = ap end_of is ∙ all_keep_end s4 (c.pass_frames.new.back.ahead ++ answer_of r2 ∷ []) ∙ end4 in (
+          let end5 : end_of c.pass_acks.new.sender ≡ end_of s = ap end_of is ∙ all_keep_end s4 (c.pass_frames.new.back.ahead ++ ack_of r2 ∷ []) ∙ end4 in (
             omega (arith, far, size),
             base,
             λ all. (let next : stored_next r2 ≡ end_of s = omega (arith, far, size, all, below) in next, omega (arith, base, end5, far, size, all)),

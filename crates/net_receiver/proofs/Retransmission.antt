@@ -21,7 +21,7 @@ use Rattle.net_receiver.proofs.Search.{IsFirst, first_unique}
 use Rattle.net_receiver.proofs.Covering.{piece_before, piece_past, piece_from, piece_has, slice_get-drop, slice_get-take}
 use Rattle.net_receiver.proofs.Maps.{get-with_bytes_at, first_lacking_is, same_both, next_joined}
 use Rattle.net_receiver.proofs.Step.{verdict_cases, none_of}
-use Rattle.net_receiver.proofs.Truthful.{none_is_not, clip_at, segment_cases, next_grows_stored}
+use Rattle.net_receiver.proofs.OneStream.{none_is_not, clip_at, segment_cases, next_grows_stored}
 use Rattle.net_receiver.proofs.Called.{any_verdict}
 
 -- ---- what a kept part leaves
