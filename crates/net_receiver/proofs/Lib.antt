@@ -15,7 +15,7 @@ pub mod Segment
 pub mod Whole
 pub mod Soundness
 pub mod SameBytes
-pub mod Laws
+pub mod KeptLists
 pub mod OneStream
 pub mod Called
 pub mod Retransmission
