@@ -2,12 +2,14 @@
 """Compares the clause that each edit of must-fail/ is to be refused by with what refuses it.
 
     python3 docs/edits.py [CRATE ..]             all edits, or those of some crates, by `rt must-fail`
+    python3 docs/edits.py --log FILE             all edits, by what `rt ci` printed into a file
     python3 docs/edits.py --open CRATE EDIT      the goals that are open with this edit and not without
 
 An edit has a line `clause: FUNCTION CLAUSE` beside those that `rt` reads: the function as `rt check
 --only` takes it, and the name of one of its `ensures`, or `ensures` where the contract has a single
-one without a name, or is proved as one goal, as that of a call that lends. `rt must-fail` prints the first goal that is open with the edit, where it arises
-in the source or where an answer to it fails; that has to be a goal of this clause of this function.
+one without a name, or is proved as one goal, as that of a call that lends. `rt must-fail`, and so `rt ci`, prints the first goal that is open with the edit,
+where it arises in the source or where an answer to it fails; that has to be a goal of this clause of this
+function.
 A condition of a callee, what a loop keeps, and a name that a proof no longer finds refuse an edit too,
 and say nothing of the contract.
 
@@ -79,11 +81,20 @@ def is_refused_by(told, texts, function, clause):
     return name == function.rpartition("::")[2] and fits
 
 
-def compare(crates):
-    """Prints each edit that has no clause, or that is refused by something else; returns how many."""
-    folders = [CRATES / it for it in crates] or sorted(it.parent for it in CRATES.glob("*/must-fail"))
+def folders_of(crates):
+    """The folders of these crates, or of all that have edits."""
+    return [CRATES / it for it in crates] or sorted(it.parent for it in CRATES.glob("*/must-fail"))
+
+
+def must_fail(folders):
+    """What `rt must-fail` prints for these crates."""
     ran = subprocess.run(["rt", "must-fail", *[it.name for it in folders]], cwd=ROOT, capture_output=True, text=True)
-    told = dict(re.findall(r"must-fail (\S+\.edit): (.*)", ran.stdout + ran.stderr))
+    return ran.stdout + ran.stderr
+
+
+def compare(folders, printed):
+    """Prints each edit that has no clause, or that is refused by something else; returns how many."""
+    told = dict(re.findall(r"must-fail (\S+\.edit): (.*)", printed))
     wrong = 0
     for edit in [it for folder in folders for it in sorted(folder.glob("must-fail/*.edit"))]:
         name = f"{edit.parent.parent.name}/{edit.name}"
@@ -133,7 +144,10 @@ def show_open(crate, name):
 def main():
     if sys.argv[1:2] == ["--open"]:
         return show_open(*sys.argv[2:4])
-    return 1 if compare(sys.argv[1:]) else 0
+    if sys.argv[1:2] == ["--log"]:
+        return 1 if compare(folders_of([]), pathlib.Path(sys.argv[2]).read_text()) else 0
+    folders = folders_of(sys.argv[1:])
+    return 1 if compare(folders, must_fail(folders)) else 0
 
 
 if __name__ == "__main__":
