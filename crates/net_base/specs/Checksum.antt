@@ -1,4 +1,6 @@
 -- Which side handles a checksum.
+--     is_verified c, is_computed c      whether the stack verifies it, and whether it computes it
+--     no_checksums, all_checksums      the stack does neither for any protocol, or both for each
 use Rattle.std.specs.Prelude.{Bool, true, false}
 use Rattle.net_base.specs.declared.phy.checksum.Checksum.{Checksum}
 use Rattle.net_base.specs.declared.phy.checksum.Checksum.TheVariants.{Both, Rx, Tx, None}

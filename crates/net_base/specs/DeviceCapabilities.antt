@@ -1,4 +1,8 @@
 -- The capabilities of a device, and the sizes that they give, in bytes.
+--     header_len medium      the header before an IP packet
+--     HasIpMtu c, ip_mtu_of c      there is a longest IP packet, and its size
+--     FitsIpHeader c n, fragment_size_of c n      there is a longest payload of a fragment, and its size
+--     no_segmentation, default_capabilities      values that contracts name
 use Rattle.std.specs.Prelude.{ℕ, ◌-◌, ◌%◌, ◌≤◌, None}
 use Rattle.net_base.specs.Checksum.{all_checksums}
 use Rattle.net_base.specs.declared.phy.medium.Medium.{Medium}

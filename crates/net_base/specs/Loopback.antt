@@ -1,4 +1,6 @@
 -- A loopback device, as its users see it.
+--     Frames, frames_of buffers      a medium and the frames to come, and the bytes of each buffer
+--     loopback_capabilities medium      what the device can do
 use Rattle.std.specs.Prelude.{ℕ, List, map, Vec, None}
 use Rattle.net_base.specs.Checksum.{no_checksums}
 use Rattle.net_base.specs.DeviceCapabilities.{no_segmentation}

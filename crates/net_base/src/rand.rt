@@ -1,8 +1,8 @@
 //! A generator of random words, and the source ports that are drawn from it.
 //!
 //! The generator is the one of smoltcp's `rand.rs`, which names it sPCG32, with the same constants:
-//! a linear congruential state of 64 bits, whose word is the state shifted right by an amount that
-//! its top three bits choose, after the family of generators PCG of M. E. O'Neill.
+//! a linear congruential state of 64 bits, whose random word is the state shifted right by an amount
+//! that its top three bits choose, after the family of generators PCG of M. E. O'Neill.
 
 ghost use Rattle.std.specs.Prelude.{◌≡◌, ℕ};
 ghost use Rattle.net_base.specs.Generator.{successor, random_word, draw, IsPort};
@@ -16,8 +16,8 @@ const LAST_RESERVED_PORT: u16 = 1024;
 
 /// A generator of random words. Contracts see its state, a number below 2^64.
 ///
-/// It serves for source ports and for tests. The words are no secret: who knows one state knows all
-/// that follow.
+/// It serves for source ports and for tests. Random words are no secret: who knows one state knows
+/// all that follow.
 #[derive(Debug, Drop)]
 pub struct Rand {
     state: u64,
@@ -43,7 +43,7 @@ impl Rand {
         Rand { state: seed }
     }
 
-    /// Moves to the next state, and returns its word of 32 bits.
+    /// Goes on to the next state, and returns its random word.
     pub fn rand_u32(&mut self) -> u32
         ensures state { self.new ≡ successor self.old }
         ensures value { result ≡ random_word self.new }
@@ -57,7 +57,7 @@ impl Rand {
         ((state >> shift) & 0xffff_ffff) as u32
     }
 
-    /// Moves to the next state, and returns its draw of 16 bits: the two halves of its word,
+    /// Goes on to the next state, and returns its draw of 16 bits: the two halves of its random word,
     /// combined by exclusive or.
     pub fn rand_u16(&mut self) -> u16
         ensures state { self.new ≡ successor self.old }

@@ -1,9 +1,9 @@
--- What comes of a run, and what standard error says.
---     usage_line, error_line e      words that name no mode, and an error
---     status_of outcome      the status after a run
---     FlushedRun outcome result      how a run ended, once its writer was flushed
---     FailedRun all before left old new said says told      what an error says of a run's input, of
---         what the writer held, and of standard error, before and after
+-- What comes of a call of `run`, and what standard error says.
+--     usage_line, error_line e      the line for words that name no mode, and for an error
+--     status_of outcome      the status after this result of `run`
+--     FlushedRun outcome result      the result of `run`, and that once its writer was flushed
+--     FailedRun all before left old new said says told      what an error says of the input, of what
+--         the writer has, and of standard error, before and after
 use Rattle.std.specs.Prelude.{◌≡◌, ℕ, List, ◌++◌, ◌⊎◌, Option, IfSome, Bool, true}
 use Rattle.std.specs.Prelude.{Result, Ok, Err, IsOk, codes}
 use Rattle.std.specs.Io.KnownBytes.{Appends}
@@ -24,11 +24,11 @@ abbrev pub status_of : {T : Type 0} → Result T BenchError → Status
 status_of (Ok t) = Done
 status_of (Err e) = Failed
 
--- a flush that fails after a run without an error is a failed write
+-- a flush that fails where `run` returned no error is a failed write
 abbrev pub FlushedRun : {T : Type 0} → Result T BenchError → Result T BenchError → Type 0
 FlushedRun outcome result = (result ≡ outcome) ⊎ (IsOk outcome × (result ≡ Err WriteFailed))
 
--- if the input is known, the run has an error that says all this; and if standard error took the
+-- if the input is known, `run` returned an error that says all this; and if standard error took the
 -- line, it is that error's
 abbrev pub FailedRun : Transcript → Option (List ℕ) → Option (List ℕ) → Option (List ℕ) →
     Option (List ℕ) → Option (List ℕ) → Option (List ℕ) → Bool → Type 0

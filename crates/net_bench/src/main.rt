@@ -1,4 +1,4 @@
-//! A bench for the storage types: command lines come in, and a reply line goes out for each.
+//! A bench for the storage types: lines come in, and a reply line goes out for each.
 #![tactic(auto)]
 
 mod serve;

@@ -13,9 +13,9 @@ use std::io::{Read, Write};
 /// What standard error says of words that name no mode.
 const USAGE: &str = "usage: net_bench ring CAP | asm N | stream CAP N [FIRST]\n";
 
-/// Runs the mode that the words name and flushes the writer once; a flush that fails after a run
-/// without an error is a failed write. An error is written to `errors` as a line; whether `errors`
-/// takes it changes nothing else. The status is `Done` after a run and a flush that returned Ok,
+/// Calls `run` in the mode that the words name and flushes the writer once; a flush that fails where
+/// `run` returned Ok is a failed write. An error is written to `errors` as a line; whether `errors`
+/// takes it changes nothing else. The status is `Done` if `run` and the flush returned Ok,
 /// `Failed` after an error, and `Misused` if the words name no mode: then nothing is read, and
 /// nothing written but the usage line, to `errors`.
 pub fn serve<A: Allocator + Copy, R: Read, W: Write, E: Write>(
@@ -53,7 +53,7 @@ pub fn serve<A: Allocator + Copy, R: Read, W: Write, E: Write>(
     ended_after(outcome, errors)
 }
 
-/// Flushes the writer after a run. A flush that fails after a run without an error is a failed write.
+/// Flushes the writer after `run`. A flush that fails where `run` returned Ok is a failed write.
 fn flush_after<W: Write>(outcome: Result<(), BenchError>, writer: &mut W) -> Result<(), BenchError>
     ensures kept { Keeps (W.contents writer.old) (W.contents writer.new) }
     ensures run { FlushedRun outcome result }
@@ -65,7 +65,7 @@ fn flush_after<W: Write>(outcome: Result<(), BenchError>, writer: &mut W) -> Res
     outcome
 }
 
-/// Writes the error of a run as a line, if it has one.
+/// Writes the error that `run` returned as a line, if there is one.
 fn ended_after<E: Write>(outcome: Result<(), BenchError>, errors: &mut E) -> Ended
     ensures status { result.status ≡ status_of outcome }
     ensures quiet { OnOk outcome ((result.is_told ≡ true)

@@ -4,7 +4,7 @@ ghost use Rattle.net_storage.specs.Ring.{queue};
 
 use net_storage::RingBuffer;
 
-/// Returns the index of the first newline in the queue, which may wrap.
+/// Returns the offset of the first newline in the queue, which may wrap.
 pub fn line_end(ring: &RingBuffer<'_, u8>) -> Option<usize>
     ensures { result ≡ position (λ byte. byte == 10) (queue ring.now) }
 {
@@ -12,7 +12,7 @@ pub fn line_end(ring: &RingBuffer<'_, u8>) -> Option<usize>
     newline_in(first, second)
 }
 
-/// Returns the index of the first newline in two parts, one behind the other.
+/// Returns the offset of the first newline in two parts, one behind the other.
 fn newline_in(first: &[u8], second: &[u8]) -> Option<usize>
     requires { length first.now + length second.now < 2 ^ 64 }
     ensures { result ≡ position (λ byte. byte == 10) (first.now ++ second.now) }

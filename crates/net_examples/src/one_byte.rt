@@ -3,14 +3,14 @@ ghost use Rattle.net_storage.specs.Ring.{queue, window, SpareWritten};
 
 use net_storage::RingBuffer;
 
-/// Returns the byte of the queue at an index, if there is one.
+/// Returns the byte of the queue at an offset, if there is one.
 pub fn byte_at(ring: &RingBuffer<'_, u8>, at: usize) -> Option<u8>
     ensures { result ≡ slice_get (queue ring.now) at }
 {
     ring.get_allocated(at, 1).first().copied()
 }
 
-/// Writes a byte ahead of the queue, if its place is free, and returns whether it is.
+/// Writes a byte at an offset of the spare part, if an element is there, and returns whether one is.
 pub fn stage(ring: &mut RingBuffer<'_, u8>, offset: usize, byte: u8) -> bool
     ensures staged { IsTrue result → SpareWritten ring.old offset (byte ∷ []) ring.new }
     ensures refused { IsFalse result → ring.new ≡ ring.old }

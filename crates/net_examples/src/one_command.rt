@@ -5,7 +5,7 @@ ghost use Rattle.net_receiver.specs.Stored.{stored_after, stored_reply};
 use net_receiver::{Command, Receiver, Reply, replay};
 use std::alloc::{AllocError, Global};
 
-/// Runs one command by a list of one: what `execute` does with less memory.
+/// Executes one command by a list of one: what `execute` does with less memory.
 pub fn execute_by_list<const N: usize>(
     alloc: Global,
     receiver: &mut Receiver<'_, N>,

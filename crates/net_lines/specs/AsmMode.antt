@@ -1,4 +1,8 @@
 -- Mode asm: a set of positions in at most so many maximal runs.
+--     asm_line words      what a line says, if its words are a line of the mode
+--     makes_too_many_runs most_runs set offset size      whether the set with this range has too many
+--     asm_does most_runs set line      what a line does to the set, and its reply
+--     asm_rules most_runs      the rules of the mode
 use Rattle.std.specs.Prelude.{ℕ, ◌+◌, ◌^◌, ◌&&◌, nat_lt, List, [], ◌∷◌, ◌++◌, codes, bytes_eq}
 use Rattle.std.specs.Prelude.{decimal, if◌then◌else◌, Bool, Option, Some, None, Result, Ok, Err}
 use Rattle.std.specs.Prelude.{option_map}
@@ -58,7 +62,7 @@ addition_then_removal most_runs set offset size =
     if nat_lt 0 offset && makes_too_many_runs most_runs set offset size then (set, refused_text)
     else front_removal (with_range set offset size)
 
--- what a range's command does where 64 bits hold the range's end
+-- what a line with a range does: `next`, or the fault if the range's end does not fit 64 bits
 abbrev pub within_range : ℕ → ℕ → Positions × List ℕ → Result (Positions × List ℕ) Fault
 within_range offset size next =
     if nat_lt (offset + size) (2 ^ 64) then Ok next else Err faults.RangeTooLong

@@ -1,4 +1,7 @@
 -- The modes: what their words are, and what each makes of an input.
+--     Mode, mode_of words      a mode with its numbers, and the one that words name
+--     transcript_of mode      what a mode makes of lines
+--     output mode input, fault mode input      what is written for an input, and its first fault
 use Rattle.std.specs.Prelude.{ℕ, List, [], ◌∷◌, ◌==◌, ◌||◌, codes, bytes_eq, nat_le, if◌then◌else◌}
 use Rattle.std.specs.Prelude.{Option, Some, None, option_map, option_and_then}
 use Rattle.net_program.specs.Numeral.{number_of}

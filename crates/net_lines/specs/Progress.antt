@@ -1,4 +1,9 @@
--- How a run goes on over the bytes that come: for the contracts of its parts.
+-- How the bytes of an input lead from line to line as they come: for the contracts of the calls that
+-- `run` makes.
+--     HasNoFeed line      no line feed stands in it
+--     Advances rules bytes n state line n' state' line' text      where these bytes lead
+--     Gathers old pending new pending' text      a text came to the replies that are pending
+--     PendingError all lines old pending new pending' e      what an error says, with pending replies
 use Rattle.std.specs.Prelude.{◌≡◌, ℕ, List, [], ◌++◌, false, ◌==◌, Option, Some, take}
 use Rattle.std.specs.List.{All}
 use Rattle.std.specs.Io.KnownBytes.{Appends}
@@ -42,8 +47,8 @@ abbrev pub IsPendingFault : Transcript → List (List ℕ) → Option (List ℕ)
 IsPendingFault all lines old pending new pending' e =
     (all.fault lines ≡ Some e) × Gathers old pending new pending' (all.text lines)
 
--- what an error says of the lines, of what a writer held and of what was pending, before and after:
--- as `ErrorOfLines`, with replies that are still pending
+-- what an error says of the lines, of what a writer has and of what is pending, before and after: as
+-- `ErrorOfLines`, with replies that are still pending
 abbrev pub PendingError : Transcript → List (List ℕ) → Option (List ℕ) → List ℕ → Option (List ℕ) →
     List ℕ → BenchError → Type 0
 PendingError all lines old pending new pending' (BadCommand n) =

@@ -1,4 +1,8 @@
 -- Mode ring: a bounded queue of bytes.
+--     Queue, empty_queue capacity      a queue of bytes and its capacity
+--     RingCommand, ring_command words      what a line says, if its words are a line of the mode
+--     ring_does queue command      what it does to the queue, and the reply
+--     ring_rules      the rules of the mode
 use Rattle.std.specs.Prelude.{ℕ, ◌-◌, min, List, [], ◌∷◌, ◌++◌, length, take, drop, codes, bytes_eq}
 use Rattle.std.specs.Prelude.{decimal, if◌then◌else◌, Option, Some, None, Result, Ok, Err}
 use Rattle.std.specs.Prelude.{option_map}
@@ -8,7 +12,7 @@ use Rattle.net_lines.specs.Transcript.{Rules}
 use Rattle.net_lines.specs.declared.fault.Fault.{Fault}
 use Rattle.net_lines.specs.declared.fault.Fault.TheVariants as faults
 
--- a queue of bytes, and the most that it holds
+-- a queue of bytes, and its capacity
 pub record Queue : Type 0 where
   pub capacity : ℕ
   pub bytes : List ℕ
@@ -17,7 +21,7 @@ pub record Queue : Type 0 where
 abbrev pub empty_queue : ℕ → Queue
 empty_queue capacity = record { capacity = capacity; bytes = [] }
 
--- a command of the mode
+-- what a line of the mode says
 pub data RingCommand : Type 0 where
   Write : List ℕ → RingCommand
   Read : ℕ → RingCommand
@@ -30,7 +34,7 @@ ring_command (verb ∷ word ∷ []) =
     else None
 ring_command _ = None
 
--- what a command does to the queue, and its reply
+-- what a line does to the queue, and its reply
 abbrev pub ring_does : Queue → RingCommand → Queue × List ℕ
 -- as many bytes as there is room for join the queue
 ring_does queue (Write bytes) =

@@ -1,4 +1,11 @@
 -- Mode stream: a schedule of segments and reads, or two of them, one after the other.
+--     StreamCommand, stream_command words      what a line says, if its words are a line of the mode
+--     runs_text runs, reply_text reply      runs, and a reply, as text
+--     Outcome, comparison a b      what is compared of two schedules, and the line that says it
+--     Scheduling S, of_states      what stands for a schedule: its states
+--     Schedules S, first_schedule scheduling setting      the one or two schedules of an input
+--     stream_rules scheduling, stream_closing scheduling schedules      the rules of the mode, and what
+--         is written after the last line
 use Rattle.std.specs.Prelude.{ℕ, ◌+◌, ◌^◌, ◌&&◌, ◌==◌, nat_lt, if◌then◌else◌, Bool, true, List, []}
 use Rattle.std.specs.Prelude.{◌∷◌, ◌++◌, length, flat_map, codes, bytes_eq, decimal, Option, Some}
 use Rattle.std.specs.Prelude.{None, option_map, Result, Ok, Err}
@@ -16,7 +23,7 @@ use Rattle.net_lines.specs.declared.fault.Fault.TheVariants as faults
 
 -- ---- lines
 
--- a line of the mode: a command to the receiver, or the end of the first schedule
+-- what a line of the mode says: a command to the receiver, or the end of the first schedule
 pub data StreamCommand : Type 0 where
   ToReceiver : CommandSeen → StreamCommand
   NextSchedule : StreamCommand
@@ -41,7 +48,7 @@ stream_command (verb ∷ position ∷ bytes ∷ []) =
     else None
 stream_command _ = None
 
--- whether 64 bits hold the end of a segment
+-- whether the end of a segment fits 64 bits
 abbrev pub end_fits : CommandSeen → Bool
 end_fits (Segment position bytes) = nat_lt (position + length bytes) (2 ^ 64)
 end_fits (Read count) = true
@@ -62,7 +69,7 @@ abbrev pub runs_text : List (ℕ × ℕ) → List ℕ
 runs_text [] = codes "-"
 runs_text (run ∷ runs) = run_text run ++ flat_map next_run_text runs
 
--- the runs up to the first that is missing
+-- the runs before the first `None`
 abbrev pub leading_runs : List (Option (ℕ × ℕ)) → List (ℕ × ℕ)
 leading_runs (Some run ∷ runs) = run ∷ leading_runs runs
 leading_runs _ = []
@@ -126,7 +133,7 @@ outcome keeping s = record {
 abbrev pub of_states : Scheduling State
 of_states = record { begun = λ w. fresh_state; keeping = by_kept }
 
--- the schedules of a run
+-- the one or two schedules of an input
 pub record Schedules (S : Type 0) : Type 0 where
   -- first position, capacity and most runs, the same for both
   pub setting : Setting
@@ -169,7 +176,7 @@ module _ {S : Type 0} (scheduling : Scheduling S) where
       else Err faults.RangeTooLong
   stream_does schedules NextSchedule = next_schedule schedules schedules.ended
 
-  -- what the words of a line do, as the command that they are, if they are one
+  -- what the words of a line do, if they say something, and else the fault
   abbrev pub stream_replies
       : Schedules S → Option StreamCommand → Result (Schedules S × List ℕ) Fault
   stream_replies schedules (Some command) = stream_does schedules command

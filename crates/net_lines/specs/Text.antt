@@ -1,4 +1,9 @@
 -- The text of the bench: lines, words, numbers and hex words.
+--     lines_of input      its lines
+--     ended_lines text, unended_line text      its lines up to the last line feed, and what is behind it
+--     next_number n      the number of the line after line n
+--     words_of line      its words
+--     hex_bytes word, hex_text bytes      the bytes that a word writes, and bytes as a reply shows them
 use Rattle.std.specs.Prelude.{ℕ, ◌+◌, ◌-◌, ◌^◌, ◌==◌, nat_lt, min, if◌then◌else◌}
 use Rattle.std.specs.Prelude.{List, [], ◌∷◌, length, codes, bytes_eq, Option, Some}
 use Rattle.std.specs.Prelude.{None}
@@ -27,7 +32,7 @@ without_empty_last (part ∷ next ∷ parts) = part ∷ without_empty_last (next
 abbrev pub lines_of : List ℕ → List (List ℕ)
 lines_of input = without_empty_last (parts_of input)
 
--- the last part
+-- the last of them
 abbrev pub last_part : List (List ℕ) → List ℕ
 last_part [] = []
 last_part (part ∷ []) = part
@@ -46,7 +51,7 @@ abbrev pub next_number : ℕ → ℕ
 next_number n = min (n + 1) (2 ^ 64 - 1)
 
 -- the words of a line, parted by exactly one space: a space too many makes an empty word, which no
--- command has
+-- line of a mode has
 abbrev pub words_of : List ℕ → List (List ℕ)
 words_of line = slice_split (λ b. b == 32) line
 

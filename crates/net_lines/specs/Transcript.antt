@@ -1,5 +1,10 @@
 -- What is written for the lines of an input, and which fault they have: for any mode, from what one
 -- line does.
+--     Rules S      what the words of a line do to a state
+--     text_of rules closing state lines, replies_of rules state lines      what is written
+--     first_fault rules n state lines, error_at n fault      the first fault, as an error
+--     Transcript, transcript rules closing n state      all three, for any lines
+--     ErrorOfLines all lines old new e, ErrorOfInput all input left old new e      what an error says
 use Rattle.std.specs.Prelude.{◌≡◌, ℕ, List, [], ◌++◌, ◌∷◌, ◌≤◌, length, take, nat_lt, if◌then◌else◌}
 use Rattle.std.specs.Prelude.{Option, Some, None, Result, Ok, Err}
 use Rattle.std.specs.Io.KnownBytes.{Appends, Consumes}
@@ -76,7 +81,7 @@ abbrev pub IsFirstFault : Transcript → List (List ℕ) → Option (List ℕ) �
     BenchError → Type 0
 IsFirstFault all lines old new e = (all.fault lines ≡ Some e) × Appends old new (all.text lines)
 
--- what an error says of the lines, and of what a writer held before and after
+-- what an error says of the lines, and of what a writer has before and after
 abbrev pub ErrorOfLines : Transcript → List (List ℕ) → Option (List ℕ) → Option (List ℕ) →
     BenchError → Type 0
 ErrorOfLines all lines old new (BadCommand n) = IsFirstFault all lines old new (BadCommand n)
@@ -84,13 +89,13 @@ ErrorOfLines all lines old new (RangeTooLong n) = IsFirstFault all lines old new
 ErrorOfLines all lines old new (LineTooLong n) = IsFirstFault all lines old new (LineTooLong n)
 ErrorOfLines all lines old new (TooManySchedules n) =
     IsFirstFault all lines old new (TooManySchedules n)
--- whole replies of a beginning of the lines were written
+-- whole replies of a prefix of the lines were written
 ErrorOfLines all lines old new OutOfMemory = (k : ℕ) × Appends old new (all.replies (take k lines))
 ErrorOfLines all lines old new WriteFailed = AppendsPrefix old new (all.text lines)
 -- a failed read says nothing of these lines, but of those that came
 ErrorOfLines all lines old new ReadFailed = ⊥
 
--- what the error of a run says of its input, of what is left of that, and of what the writer held
+-- what the error of `run` says of the input, of what is left of that, and of what the writer has
 -- before and after
 abbrev pub ErrorOfInput : Transcript → List ℕ → Option (List ℕ) → Option (List ℕ) →
     Option (List ℕ) → BenchError → Type 0

@@ -28,7 +28,7 @@ fn feed_at(bytes: &[u8]) -> Option<usize>
     bytes.iter().position(|b| *b == b'\n')
 }
 
-/// Runs a line of this number, and gathers its reply.
+/// Executes a line of this number, and gathers its reply.
 fn answer<A: Allocator + Copy, S: Session<A>, W: Write>(
     buffers: &mut Buffers<A>,
     session: &mut S,
@@ -60,8 +60,8 @@ fn answer<A: Allocator + Copy, S: Session<A>, W: Write>(
     }
 }
 
-/// A run under way: the mode's state, the number of the line that comes next, what has come of it,
-/// and the replies that are pending.
+/// What is known between two reads: the mode's state, the number of the line that comes next, what has
+/// come of it, and the replies that are pending.
 #[derive(Drop)]
 struct Bench<A: Allocator + Copy, S> {
     buffers: Buffers<A>,
@@ -75,7 +75,7 @@ struct Bench<A: Allocator + Copy, S> {
 }
 
 impl<A: Allocator + Copy, S: Session<A>> Bench<A, S> {
-    /// A run whose first line comes next. All memory for lines and replies is taken here.
+    /// The same before the first line. All memory for lines and replies is taken here.
     fn new(alloc: A, session: S) -> Result<Bench<A, S>, AllocError>
     where
         S: Drop,
@@ -91,7 +91,7 @@ impl<A: Allocator + Copy, S: Session<A>> Bench<A, S> {
         })
     }
 
-    /// Keeps the beginning of a line, for the bytes that come after it.
+    /// Stores the beginning of a line, for the bytes that come after it.
     fn keep(&mut self, bytes: &[u8]) -> Result<(), BenchError>
         requires { HasNoFeed bytes.now }
         ensures ok { OnOk result ((self.new.line.items ≡ self.old.line.items ++ bytes.now)
@@ -107,7 +107,7 @@ impl<A: Allocator + Copy, S: Session<A>> Bench<A, S> {
         Ok(())
     }
 
-    /// Runs the line that these bytes end, and gathers its reply.
+    /// Executes the line that these bytes end, and gathers its reply.
     fn end_line<W: Write>(&mut self, bytes: &[u8], writer: &mut W) -> Result<(), BenchError>
         requires { HasNoFeed bytes.now }
         ensures ok { OnOk result ((reply : List ℕ)
@@ -147,7 +147,8 @@ impl<A: Allocator + Copy, S: Session<A>> Bench<A, S> {
         Ok(())
     }
 
-    /// Runs the lines that these bytes end, keeps what stands behind them, and gathers the replies.
+    /// Executes the lines that these bytes end, stores what stands behind them, and gathers the
+    /// replies.
     // Apart from `take`, which writes the replies out also where this fails.
     fn execute_ended<W: Write>(&mut self, bytes: &[u8], writer: &mut W) -> Result<(), BenchError>
         ensures ok { OnOk result ((text : List ℕ)
@@ -199,7 +200,7 @@ impl<A: Allocator + Copy, S: Session<A>> Bench<A, S> {
         self.replies.gather(closing.as_bytes(), writer)
     }
 
-    /// Runs what has come of the last line, if anything has, and gathers its reply and the closing
+    /// Executes what has come of the last line, if anything has, and gathers its reply and the closing
     /// text.
     // Apart from `finish`, which writes the replies out also where this fails.
     fn execute_last<W: Write>(&mut self, writer: &mut W) -> Result<(), BenchError>
@@ -221,7 +222,7 @@ impl<A: Allocator + Copy, S: Session<A>> Bench<A, S> {
         self.close(writer)
     }
 
-    /// Runs what has come of the last line, if anything has, and writes its reply and the closing
+    /// Executes what has come of the last line, if anything has, and writes its reply and the closing
     /// text. No reply is pending when it returns.
     fn finish<W: Write>(&mut self, writer: &mut W) -> Result<(), BenchError>
         ensures emptied { self.new.replies ≡ [] }
@@ -242,7 +243,7 @@ impl<A: Allocator + Copy, S: Session<A>> Bench<A, S> {
     }
 }
 
-/// Runs the lines that the reader gives, from their first to their last, and writes the replies.
+/// Executes the lines that the reader gives, from their first to their last, and writes the replies.
 pub fn execute_lines<A: Allocator + Copy, S: Session<A> + Drop, R: Read, W: Write>(
     alloc: A,
     session: S,

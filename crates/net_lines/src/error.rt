@@ -1,11 +1,11 @@
-//! How a run ends that has an error.
+//! The errors that `run` returns.
 ghost use Rattle.std.specs.Prelude.{Some};
 ghost use Rattle.net_lines.specs.ErrorText.{error_text};
 
 use std::error::Error;
 use std::fmt;
 
-/// How a run ends that has an error. A number is that of the faulty line, counted from 1.
+/// An error of `run`. A number is that of the faulty line, counted from 1.
 #[derive(Debug, Drop)]
 pub enum BenchError {
     /// The line is no line of the mode.

@@ -18,7 +18,7 @@ pub enum Fault {
 }
 
 impl Fault {
-    /// Returns the fault as the error of a run, for the line of this number.
+    /// Returns the fault as an error, for the line of this number.
     pub fn at(self, number: u64) -> BenchError
         ensures { result ≡ error_at number self }
     {

@@ -1,4 +1,4 @@
-//! Command lines in, reply lines out, over a ring, an assembler or a receiver.
+//! Lines in, reply lines out, over a ring, an assembler or a receiver.
 #![tactic(auto)]
 
 mod asm;

@@ -1,4 +1,4 @@
-//! A run, from the bytes that are read to the bytes that are written.
+//! From the bytes that are read to the bytes that are written.
 ghost use Rattle.std.specs.Prelude.{◌≡◌, IfSome, IfErr, OnOk, None};
 ghost use Rattle.std.specs.Io.KnownBytes.{Appends};
 ghost use Rattle.net_lines.specs.Transcript.{ErrorOfInput};
@@ -16,7 +16,7 @@ use net_receiver::laws;
 use std::alloc::Allocator;
 use std::io::{Read, Write};
 
-/// Runs the lines that the reader gives, and writes the replies. It returns where the reader ends
+/// Executes the lines that the reader gives, and writes the replies. It returns where the reader ends
 /// or fails, or at the first fault. Where reader and writer tell their bytes, as those over memory
 /// do:
 pub fn run<A: Allocator + Copy, R: Read, W: Write>(
@@ -51,7 +51,7 @@ pub fn run<A: Allocator + Copy, R: Read, W: Write>(
     }
 }
 
-/// Runs mode `ring` over so many bytes of storage, all 0.
+/// Does what `run` does in mode `ring`, over so many bytes of storage, all 0.
 fn execute_ring<A: Allocator + Copy, R: Read, W: Write>(
     alloc: A,
     capacity: usize,
@@ -71,7 +71,8 @@ fn execute_ring<A: Allocator + Copy, R: Read, W: Write>(
     execute_lines(alloc, RingSession::new(&mut storage), reader, writer)
 }
 
-/// Runs mode `stream` over so many bytes of storage, all 0, with at most so many held runs.
+/// Does what `run` does in mode `stream`, over so many bytes of storage, all 0, with at most so many
+/// held runs.
 fn execute_stream<A: Allocator + Copy, R: Read, W: Write>(
     alloc: A,
     first: u64,

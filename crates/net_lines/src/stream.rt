@@ -183,7 +183,7 @@ fn keep_read<A: Allocator + Copy>(buffers: &mut Buffers<A>, reply: Reply<A>) {
 
 impl<'a, A: Allocator + Copy, const N: usize> StreamSession<'a, A, N> {
     /// A fresh receiver of a stream that begins at `first`, over this storage. The storage of the
-    /// second schedule takes the place of what `second` holds.
+    /// second schedule takes the place of what `second` is now.
     pub fn new(
         first: u64,
         storage: &'a mut [u8],

@@ -3,7 +3,7 @@ ghost use Rattle.std.specs.Prelude.{◌≡◌, ◌==◌, [], ◌∷◌, MatchOpt
 ghost use Rattle.net_lines.specs.Text.{words_of};
 ghost use Rattle.net_lines.specs.Words.{AreWords};
 
-/// The words of a line, as far as any command has them.
+/// The words of a line, as far as a line of any mode has them.
 pub enum Words<'a> {
     /// One word.
     One(&'a [u8]),

@@ -1,5 +1,5 @@
-//! Functions for C that run a whole workload each and answer a checksum, to time this library
-//! against the original; and `np_asm_bytes` and `np_receiver_bytes`, which answer a size.
+//! Functions for C that do a whole workload each and return a checksum, to time this library
+//! against the original; and `np_asm_bytes` and `np_receiver_bytes`, which return a size.
 #![tactic(auto)]
 
 mod assembler;

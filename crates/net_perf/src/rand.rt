@@ -2,7 +2,7 @@
 use crate::checksum::{START, mix};
 use net_base::rand::Rand;
 
-/// Draws `count` words.
+/// Draws `count` random words.
 #[unsafe(no_mangle)]
 pub extern "C" fn np_rand(seed: u64, count: u64) -> u64 {
     let mut sum = START;

@@ -25,7 +25,7 @@ fn mix_reads<const N: usize>(sum: u64, receiver: &mut Receiver<'_, N>, sink: &mu
     sum
 }
 
-/// Sends the segments of `ops`, pairs of place in `data` and length, and reads all that is queued,
+/// Sends the segments of `ops`, pairs of index in `data` and length, and reads all that is queued,
 /// `rounds` times, each time behind the round before.
 fn stream_at<const N: usize>(
     storage: &mut [u8],

@@ -9,7 +9,7 @@ fn begins_numeral(word: &[u8]) -> bool
     !word.is_empty() && (word[0] > b'0' || word.len() == 1)
 }
 
-/// Returns the number that a word writes, if it is a numeral and 64 bits hold the number.
+/// Returns the number that a word writes, if it is a numeral and the number fits 64 bits.
 pub fn number(word: &[u8]) -> Option<u64>
     ensures { result ≡ number_of word.now }
 {

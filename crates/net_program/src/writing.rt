@@ -4,7 +4,7 @@ ghost use Rattle.std.specs.Io.KnownBytes.{Appends};
 
 use std::io::Write;
 
-/// Writes all of the text. A write that answers an error or takes no byte ends it; the error is how
+/// Writes all of the text. A write that returns an error or takes no byte ends it; the error is how
 /// many bytes were written before.
 ///
 /// std's `write_all` tries a write again that was interrupted, and says nothing of what was written

@@ -1,8 +1,9 @@
 -- Where the queued bytes stand in the storage, and how many of them are contiguous.
 --     index_of v i      the index of the stream's byte number i
 --     contiguous_count v      how many bytes of the queue are contiguous, from the first one on
---     contiguous_count_from v o n      of at most n bytes of the queue from byte o on, how many are
+--     contiguous_count_from v o n      how many are, of at most n bytes of the queue from byte o on
 --     first_part v, second_part v      the queue's two parts, each of them contiguous
+--     IsReadAt g i      the ring g is read where the stream's byte number i stands
 use Rattle.std.specs.Prelude.{◌≡◌, ℕ, ◌+◌, ◌-◌, ◌<◌, ◌%◌, min, List, length, take, drop}
 use Rattle.net_storage.specs.Ring.{RingState}
 use Rattle.net_receiver.specs.Stored.{Stored}

@@ -1,8 +1,10 @@
 -- The statements on schedules that the calls' contracts name.
 --     ExecutedPrefix cs complete      how many of the commands were executed
---     Executed N v u cs rs complete      what cs stored and answered
+--     Executed N v u cs rs complete      what cs leave stored, and their replies
 --     ExecutedFor N v u cs rs complete s      what cs did to a receiver that stood for s
---     Converges v u same      convergence
+--     items_after old new      what was pushed behind old
+--     Converges v u same, TellsStates v u same      when `same_state` finds two receivers the same
+--     FreshStands, EverySchedule, TellsNext, TellsHeld, TellsFresh      laws on what a receiver stands for
 use Rattle.std.specs.Prelude.{◌≡◌, ◌↔◌, ℕ, ◌-◌, ◌≤◌, Bool, true, List, ◌++◌, length, take}
 use Rattle.std.specs.Prelude.{drop, All, slice_range}
 use Rattle.net_storage.specs.Positions.{maximal_runs}
@@ -24,7 +26,7 @@ pub record ExecutedPrefix (cs : List CommandSeen) (complete : Type 0) : Type 0 w
   pub within : count ≤ length cs
   pub whole : complete → count ≡ length cs
 
--- what a prefix of the commands stored and answered
+-- what a prefix of the commands leaves stored, and its replies
 pub record Executed (most_runs : ℕ) (v u : Stored) (cs : List CommandSeen) (rs : List ReplySeen)
     (complete : Type 0) : Type 0 where
   pub prefix : ExecutedPrefix cs complete

@@ -5,6 +5,7 @@
 --     ReportsRuns held sack      sack reports the first three runs of held positions
 --     Replayed N v calls u      what calls of `replay`, one after another, store
 --     Composed N v calls u      these calls do what one call does
+-- The others are laws, and what they name.
 use Rattle.std.specs.Prelude.{◌≡◌, ◌↔◌, ◌⊎◌, ℕ, ◌-◌, ◌≤◌, ◌<◌, Bool, List, [], ◌∷◌, ◌++◌, length}
 use Rattle.std.specs.Prelude.{take, flat_map, slice_index, Option, Some, None, Ok, IsTrue, All}
 use Rattle.std.specs.Prelude.{AllPairs, count_by, ⊤}
@@ -61,13 +62,13 @@ HeldAreAbove = (f : ℕ) (k : List Piece) (p : ℕ) →
     IsTrue (contains (held_positions f k) p) ↔ ((next f k < p) × SomeContains k p)
 
 -- ---- reported runs
--- the runs that are there
+-- the runs of a list in which some are missing
 abbrev pub runs_of_sack : List (Option (ℕ × ℕ)) → List (ℕ × ℕ)
 runs_of_sack [] = []
 runs_of_sack (Some run ∷ places) = run ∷ runs_of_sack places
 runs_of_sack (None ∷ places) = runs_of_sack places
 
--- three places are filled from the first on with maximal runs of held positions, which rise with a gap
+-- three entries, of which the first ones are maximal runs of held positions, which rise with a gap
 -- between neighbours; each held position lies in one of them, or three are reported and it lies
 -- above
 pub record ReportsRuns (held : Positions) (sack : List (Option (ℕ × ℕ))) : Type 0 where
@@ -78,7 +79,7 @@ pub record ReportsRuns (held : Positions) (sack : List (Option (ℕ × ℕ))) : 
       (count_by (lies_in p) (runs_of_sack sack) ≡ 1)
       ⊎ ((length (runs_of_sack sack) ≡ 3) × All (λ r. r.1 < p) (runs_of_sack sack))
 
--- each answer to a segment reports the runs that are held after it, whether a part of it was kept
+-- the result of each accepted segment reports the held runs after it, whether bytes of it were kept
 -- or none
 abbrev pub ReportsHeldRuns : Type 0
 ReportsHeldRuns = (w : Setting) (s : State) (x : Verdict) (kept : Kept) →
@@ -107,7 +108,7 @@ ArePrefixes (call ∷ calls) cs =
     (prefix : ExecutedPrefix call.commands (IsTrue call.complete)) × (rest : List CommandSeen)
     × (cs ≡ take prefix.count call.commands ++ rest) × ArePrefixes calls rest
 
--- the calls did what one complete call does with the commands that they ran
+-- the calls did what one complete call does with the commands that they executed
 pub record Composed (most_runs : ℕ) (v : Stored) (calls : List ReplayCall) (u : Stored)
     : Type 0 where
   pub commands : List CommandSeen

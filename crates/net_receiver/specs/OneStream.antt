@@ -3,7 +3,8 @@
 --     AllSay f x cs      each segment of the commands says what x has
 --     ReceivesFrom f x v      the receiver v took nothing but parts of x
 --     QueueIsOf x v      the queue is what x has behind the bytes that were read
---     kept_of v pos xs      the bytes of a segment that the window of v takes
+--     kept_of v pos xs      the bytes of a segment that the free window of v takes
+-- The others are laws: what makes these, what follows from them, and what commands leave.
 -- `Says`, `AllSay` and `ReceivesFrom` are not unfolded by a caller's proofs, which find them by the
 -- clauses of the calls and by the laws that make them.
 use Rattle.std.specs.Prelude.{◌≡◌, ◌↔◌, ℕ, ◌+◌, ◌-◌, ◌≤◌, List, [], ◌∷◌, ◌++◌, length, take, drop}
@@ -63,21 +64,21 @@ SaysWhatIsThere = (f pos : ℕ) (x xs : List ℕ) → f ≤ pos →
 abbrev pub SaysOfLonger : Type 0
 SaysOfLonger = (f pos : ℕ) (x more xs : List ℕ) → Says f x pos xs → Says f (x ++ more) pos xs
 
--- no command, and then one more in front
+-- no command says anything else
 abbrev pub NoneSay : Type 0
 NoneSay = (f : ℕ) (x : List ℕ) → AllSay f x []
 
--- a truthful segment in front of truthful commands
+-- a truthful segment before truthful commands
 abbrev pub SegmentSays : Type 0
 SegmentSays = (f : ℕ) (x : List ℕ) (pos : ℕ) (xs : List ℕ) (cs : List CommandSeen) →
     Says f x pos xs → AllSay f x cs → AllSay f x (Segment pos xs ∷ cs)
 
--- a read in front of truthful commands
+-- a read before truthful commands
 abbrev pub ReadSays : Type 0
 ReadSays = (f : ℕ) (x : List ℕ) (count : ℕ) (cs : List CommandSeen) →
     AllSay f x cs → AllSay f x (Read count ∷ cs)
 
--- a show in front of truthful commands
+-- a show before truthful commands
 abbrev pub ShowSays : Type 0
 ShowSays = (f : ℕ) (x : List ℕ) (cs : List CommandSeen) → AllSay f x cs → AllSay f x (Show ∷ cs)
 
@@ -158,7 +159,7 @@ FreshStream = (most_runs first capacity : ℕ) (x : List ℕ) (cs : List Command
     bytes_read (stored_replies most_runs (fresh_stored first capacity) cs) ++ v.queue
     ≡ take (stored_next v - first) x
 
--- a call of `replay`, of which all or the first commands were run: the bytes that were read, and
+-- a call of `replay`, of which all or the first commands were executed: the bytes that were read, and
 -- then the queue, are what x has from the first byte on that was not yet read, up to the first
 -- missing position
 abbrev pub RunReceives : Type 0

@@ -1,4 +1,6 @@
 -- What reads leave, of what a receiver stores.
+--     ReadReceives, ReadLeavesNext, ReadLeavesHas      what a read leaves as it was
+--     ReadsAdd, ReadsGiveTogether      two reads are one read of both counts
 use Rattle.std.specs.Prelude.{◌≡◌, ◌↔◌, ℕ, ◌+◌, List, ◌++◌, take}
 use Rattle.net_receiver.specs.Retransmission.{Has}
 use Rattle.net_receiver.specs.Stored.{Stored, stored_next, stored_read}

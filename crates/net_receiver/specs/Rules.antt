@@ -1,8 +1,9 @@
--- What a command does, and what it is answered: the rules, over any way of keeping what comes.
+-- What a command does, and its reply: the rules, over any way of keeping what comes.
 --     CommandSeen, ReplySeen      a command, and its reply, as values
---     Verdict      what becomes of a segment: nothing is kept, it is refused, or a part is kept
---     Keeping S      what a state of type S tells, and what a kept part and a read make of it
+--     Verdict      what becomes of a segment: nothing is kept, it is refused, or a piece is kept
+--     Keeping S      what a state of type S tells, and what a kept piece and a read make of it
 --     verdict keeping N s e      what becomes of the segment e in state s, N being the most runs
+--     state_after keeping s x, segment_result keeping s x      the state after it, and its result
 --     after keeping N s c, reply keeping N s c      the state after one command, and its reply
 --     after_all keeping N s cs, replies keeping N s cs      the same of a list of commands
 -- `Schedule.antt` fills them with kept lists, `Stored.antt` with what a receiver stores.
@@ -31,7 +32,7 @@ pub data Verdict : Type 0 where
   Refused : Verdict
   Keeps : Piece → Verdict
 
--- the verdict of the kept part of a segment, where n is the first missing position
+-- the verdict on what the free window takes of a segment, where n is the first missing position
 abbrev pub verdict_of_part : ℕ → ℕ → Positions → Piece → Verdict
 verdict_of_part n most_runs held part =
     if nat_eq (length part.bytes) 0 then KeptNone
@@ -43,13 +44,13 @@ verdict_of_part n most_runs held part =
 abbrev pub first_three : List (ℕ × ℕ) → List (Option (ℕ × ℕ))
 first_three rs = slice_get rs 0 ∷ slice_get rs 1 ∷ slice_get rs 2 ∷ []
 
--- the numbers, with the first three runs that are held afterwards
+-- the numbers, with the first three held runs after the segment
 abbrev pub with_sack : Result (ℕ × ℕ) TooManyHolesError → Positions → Result Kept TooManyHolesError
 with_sack (Ok n) held =
     Ok (record { kept = n.0; queued = n.1; sack = first_three (maximal_runs held) })
 with_sack (Err e) held = Err e
 
--- a way of keeping what comes: what its states tell, and what a kept part and a read make of them
+-- a way of keeping what comes: what its states tell, and what a kept piece and a read make of them
 pub record Keeping (S : Type 0) : Type 0 where
   -- the first position of the stream
   pub first : S → ℕ
@@ -63,13 +64,13 @@ pub record Keeping (S : Type 0) : Type 0 where
   pub queue : S → List ℕ
   -- the positions above the first missing one whose bytes are there
   pub held : S → Positions
-  -- the state with one more kept part
+  -- the state with one more kept piece
   pub with_part : S → Piece → S
   -- the state after a read of so many bytes, or of the whole queue if it is shorter
   pub after_read : S → ℕ → S
 
 module _ {S : Type 0} (keeping : Keeping S) where
-  -- the limit of what is kept
+  -- the end of the free window
   abbrev pub limit : S → ℕ
   limit s = keeping.first s + keeping.read s + keeping.capacity s
 
@@ -86,13 +87,13 @@ module _ {S : Type 0} (keeping : Keeping S) where
   numbers s (Keeps part) =
       Ok (length part.bytes, keeping.next (keeping.with_part s part) - keeping.next s)
 
-  -- the answer to a segment
+  -- the result of a segment
   abbrev pub segment_result : S → Verdict → Result Kept TooManyHolesError
   segment_result s x = with_sack (numbers s x) (keeping.held (state_after s x))
 
   module _ (most_runs : ℕ) where
-    -- what becomes of a segment in a state, whose kept part is that from the first missing position
-    -- on and below the limit
+    -- what becomes of a segment in a state: the free window takes what it has from the first missing
+    -- position on and below the limit
     abbrev pub verdict : S → Piece → Verdict
     verdict s e =
         verdict_of_part (keeping.next s) most_runs (keeping.held s)

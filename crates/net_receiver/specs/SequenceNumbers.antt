@@ -1,8 +1,9 @@
 -- Sequence numbers of 32 bits, and the positions that they stand for.
 --     number_at i pos      the number of a position, where position 0 has the number i
 --     ahead_of a b      how far the number b is ahead of a, going round at 2^32
---     ComesBefore a b      b is ahead of a by less than half the range
---     IsNear next pos      pos lies within half the range around next
+--     ComesBefore a b      b is ahead of a by 1 to 2^31 - 1
+--     IsNear next pos      pos lies at most 2^31 before next, or less than 2^31 after it
+-- The others are laws.
 use Rattle.std.specs.Prelude.{◌≡◌, ◌≢◌, ◌↔◌, ◌⊎◌, ℕ, ◌+◌, ◌-◌, ◌<◌, ◌≤◌, ◌%◌, ◌^◌}
 
 -- the number of a position, where position 0 has the number i
@@ -13,7 +14,7 @@ number_at i pos = (i + pos) % 2 ^ 32
 abbrev pub ahead_of : ℕ → ℕ → ℕ
 ahead_of a b = (b + 2 ^ 32 - a) % 2 ^ 32
 
--- b is ahead of a by less than half the range, and by 1 at least
+-- b is ahead of a by less than 2^31, and by 1 at least
 abbrev pub ComesBefore : ℕ → ℕ → Type 0
 ComesBefore a b = (0 < ahead_of a b) × (ahead_of a b < 2 ^ 31)
 
@@ -25,8 +26,8 @@ IsNear next pos = (pos < next + 2 ^ 31) × (next ≤ pos + 2 ^ 31)
 abbrev pub NumbersAdd : Type 0
 NumbersAdd = (i pos n : ℕ) → number_at i (pos + n) ≡ (number_at i pos + n) % 2 ^ 32
 
--- of two positions less than the range apart, the lower one's number comes before the other's
--- exactly if they are less than half the range apart
+-- of two positions less than 2^32 apart, the lower one's number comes before the other's exactly if
+-- they are less than 2^31 apart
 abbrev pub NumbersAreOrdered : Type 0
 NumbersAreOrdered = (i p q : ℕ) → p < q → q < p + 2 ^ 32 →
     ComesBefore (number_at i p) (number_at i q) ↔ (q < p + 2 ^ 31)
@@ -39,7 +40,7 @@ NumbersDiffer = (i p q : ℕ) → p < q → q < p + 2 ^ 32 → number_at i p ≢
 abbrev pub OrderIsOneWay : Type 0
 OrderIsOneWay = (a b : ℕ) → a < 2 ^ 32 → b < 2 ^ 32 → ComesBefore a b → ComesBefore b a → ⊥
 
--- and one does, unless they are equal or half the range apart
+-- and one does, unless they are equal or 2^31 apart
 abbrev pub OrderIsTotal : Type 0
 OrderIsTotal = (a b : ℕ) → a < 2 ^ 32 → b < 2 ^ 32 → a ≢ b → ahead_of a b ≢ 2 ^ 31 →
     ComesBefore a b ⊎ ComesBefore b a

@@ -1,4 +1,4 @@
--- What is true of every receiver is true of a fresh one, and is kept by each command.
+-- What is true of every receiver is true of a fresh one, and stays true after each command.
 use Rattle.std.specs.Prelude.{ℕ}
 use Rattle.net_receiver.specs.Rules.{CommandSeen}
 use Rattle.net_receiver.specs.Stored.{Stored, IsSound, fresh_stored, stored_after}

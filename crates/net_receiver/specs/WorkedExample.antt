@@ -66,7 +66,7 @@ NextComputed = (f : ℕ) (k : List Piece) → next f k ≡ missing_in (covered_l
 abbrev pub HeldComputed : Type 0
 HeldComputed = (f : ℕ) (k : List Piece) → maximal_runs (held_positions f k) ≡ runs_in (held_in f k)
 
--- how many runs are held with one more range
+-- how many held runs there are with one more range
 abbrev pub RunsComputed : Type 0
 RunsComputed = (f : ℕ) (k : List Piece) (o n : ℕ) →
     runs (with_range (held_positions f k) o n) ≡ length (runs_in (rising_list (held_in f k ++ range_with_len o n)))
@@ -76,7 +76,7 @@ abbrev pub ByteComputed : Type 0
 ByteComputed = (k : List Piece) (p : ℕ) → byte_at k p ≡ byte_in k p
 
 -- ---- a schedule in full
--- what a segment is answered that keeps so many bytes, of which so many join the queue
+-- the reply to a segment of which so many bytes are kept, and after which so many join the queue
 abbrev pub segment_reply : ℕ → ℕ → List (Option (ℕ × ℕ)) → ReplySeen
 segment_reply kept queued sack = Segmented (Ok (record { kept = kept; queued = queued; sack = sack }))
 
@@ -87,7 +87,7 @@ worked_commands =
     Segment 2 (65 ∷ 65 ∷ []) ∷ Segment 3 (66 ∷ 66 ∷ []) ∷ Show
     ∷ Segment 0 (67 ∷ 67 ∷ []) ∷ Show ∷ Read 5 ∷ Show ∷ []
 
--- what they are answered, by a receiver of 16 bytes and four runs
+-- the replies to them, for a capacity of 16 bytes and at most four runs
 abbrev pub WorkedSchedule : Type 0
 WorkedSchedule =
     let w : Setting = record { first = 0; capacity = 16; most_runs = 4 } in

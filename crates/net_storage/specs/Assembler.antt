@@ -1,4 +1,6 @@
 -- What an assembler refuses, and its text.
+--     MakesTooManyRuns most_runs s o n      what makes a range be refused
+--     display_text s, text_from at runs, hole_text n      the text of a set, of runs, and of a hole
 use Rattle.std.specs.Prelude.{ℕ, ◌-◌, ◌<◌, cond, nat_eq, List, [], ◌∷◌, ◌++◌, codes}
 use Rattle.std.specs.Fmt.{decimal}
 use Rattle.net_storage.specs.Positions.{Positions, runs, with_range, maximal_runs}

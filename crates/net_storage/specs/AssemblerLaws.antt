@@ -1,4 +1,8 @@
 -- Laws of sets of positions and of what the contracts of an assembler's calls say.
+--     Adds, RemovesFront, AddsThenRemovesFront, Compares, Iterates      what a call's contract says of it
+--     CallsNext left answers last      what calls of `next`, one after another, return and leave
+--     answers_of_next left n      what n of them return
+-- The others are laws.
 use Rattle.std.specs.Prelude.{◌≡◌, ◌↔◌, ℕ, zero, suc, ◌+◌, ◌-◌, ◌<◌, ◌≤◌, ◌^◌, Bool, ◌&&◌, ◌||◌}
 use Rattle.std.specs.Prelude.{List, [], ◌∷◌, length, drop, nat_le, nat_eq, Option, Some, None}
 use Rattle.std.specs.Prelude.{Result, Ok, IsTrue, IsFalse, IsOk, IsErr, OnOk, OnErr, MatchResult}
@@ -46,7 +50,7 @@ pub record Iterates (most_runs : ℕ) (s : Positions) (result : List (ℕ × ℕ
   pub listed : result ≡ maximal_runs s
   pub bound : length result ≤ most_runs
 
--- what calls of `next`, one after another, answer and leave by its contract
+-- what calls of `next`, one after another, return and leave by its contract
 abbrev pub CallsNext : List (ℕ × ℕ) → List (Option (ℕ × ℕ)) → List (ℕ × ℕ) → Type 0
 CallsNext left [] last = left ≡ last
 CallsNext left (answer ∷ answers) last =
@@ -156,7 +160,7 @@ AddingInBothOrders = (most_runs a m b n : ℕ) (s one two ab ba : Positions) (eq
     Adds most_runs s b n (Ok tt) two → Adds most_runs two a m (Ok tt) ba →
     Compares ab ba equal → IsTrue equal
 
--- `add_then_remove_front` answers and leaves what `add` and then `remove_front` do, wherever that
+-- `add_then_remove_front` returns and leaves what `add` and then `remove_front` do, wherever that
 -- `add` is accepted
 abbrev pub AddingThenRemoving : Type 0
 AddingThenRemoving = (most_runs offset size count : ℕ) (s all rest both : Positions)
@@ -171,7 +175,7 @@ FrontIsNeverRefused = (most_runs size : ℕ) (s both : Positions)
     AddsThenRemovesFront most_runs s 0 size result both → IsOk result
 
 -- `iter_data` gives the maximal runs, at most most_runs of them, and ends: however often `next` is
--- called, it answers the runs in turn and then None
+-- called, it returns the runs in turn and then None
 abbrev pub IteratesMaximalRuns : Type 0
 IteratesMaximalRuns = (most_runs : ℕ) (s : Positions) (left last : List (ℕ × ℕ))
     (answers : List (Option (ℕ × ℕ))) →

@@ -1,4 +1,8 @@
 -- What came into a queue and what left it, over many calls.
+--     Log X      what was accepted, and what left
+--     empty_log      the log before any call
+--     log_accepted xs log, log_left xs log, log_dropped log      the log after more was accepted, or
+--         left, or what had not left was dropped
 use Rattle.std.specs.Prelude.{List, [], ◌++◌}
 
 -- what was accepted, in order, each as it was last written while it was in the queue, and what left,

@@ -1,4 +1,6 @@
--- What lent or owned storage holds.
+-- The elements of lent or owned storage.
+--     elements s      the elements
+--     with_part s i ws, with_item s i x      the storage with some of them, or one, written over
 use Rattle.std.specs.Prelude.{List, ℕ, slice_set}
 use denote.MutBor.{at_last}
 use Rattle.std.specs.Vec.{with_items_from, with_item as vec_with_item}
@@ -7,7 +9,7 @@ use Rattle.net_storage.specs.declared.managed.ManagedSlice.{ManagedSlice}
 use Rattle.net_storage.specs.declared.managed.ManagedSlice.TheVariants.{Borrowed, Owned}
 
 module _ {T : Type 0} where
-  -- the elements that the storage holds
+  -- the elements of the storage, in order
   abbrev pub elements : ManagedSlice T → List T
   elements (Borrowed s) = s.now
   elements (Owned v) = v.items

@@ -1,5 +1,10 @@
 -- Calls of a closure at a packet: at the bytes that it is given, or at its header and bytes; and
 -- bytes that are copied out.
+--     TakesRoom f q s h, CountsAtMost f q s h      what is asked of a closure that writes a packet
+--     WrotePacket f q s h k r      what a call of it leaves
+--     TakesPacket f h ws, GivesAtPacket f h ws r h' ws'      a closure at a header and bytes
+--     TakesFirstPacket f q, HandedPacket f q answer r      the same at the first packet of a queue
+--     CopiedOut ps h xs k rest ys      the first packet was copied out
 use Rattle.std.specs.Prelude.{◌≡◌, ◌≤◌, ℕ, List, [], ◌∷◌, ◌++◌, Result, is_ok, if◌then◌else◌}
 use Rattle.std.specs.Prelude.{length, min, take, drop}
 use Rattle.std.specs.Borrow.{MutBor}

@@ -1,5 +1,9 @@
 -- The packets of a queue as those who put and take them see them, and what a queue makes of them
 -- over many calls.
+--     contents q      the headers and bytes of a queue's packets
+--     head_bytes ps      the bytes of the first of these
+--     QueueCall H, Makes call q r, MakesAll calls q r      what one call did, and what calls make
+--     log_after call log, log_after_all calls log, history calls      the log after calls
 use Rattle.std.specs.Prelude.{◌≡◌, ◌≢◌, ◌≤◌, ℕ, ◌+◌, List, [], ◌∷◌, length, take, drop, set}
 use Rattle.std.specs.declared.option.Option.TheVariants.{None}
 use Rattle.net_storage.specs.Ring.{queue}

@@ -1,4 +1,7 @@
 -- What a queue of packets ends as, once a reference into it has ended.
+--     lends_bytes r F      it ends as F of the bytes that the borrower leaves
+--     lends_bytes_if r F, lends_packet_if r F      the same at `Ok`, and at `Err` as it was
+--     ends_as q      it ends as q
 use Rattle.std.specs.Prelude.{◌≡◌, List, ℕ, Result, ⊤}
 use Rattle.std.specs.Borrow.{Lends, LendsIfOk, MutBor, Fml, RattleType, Array, u8, follows_if}
 use Rattle.std.specs.Borrow.{follows_so, name_if_ok}

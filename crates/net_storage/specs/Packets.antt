@@ -1,6 +1,17 @@
 -- A queue of packets over a storage of bytes, what decides which packets are refused, and what each
 -- call makes of the queue. Readers think of a queue as its `contents` (PacketHistory), the list of
--- headers and bytes; the places here say only when there is room.
+-- headers and bytes; the indices and gaps here say only when there is room.
+--     Packet H, PacketQueue H      a packet, and a queue of them
+--     byte_ring q, bytes_used ps, slots_used ps      the ring of the bytes, and what packets take
+--     placement q s      the gap before a packet of s bytes, if it is not refused
+--     WellPlaced q      what is true of every queue
+--     no_packets slot_count storage      a queue with no packets
+--     with_packet_if_room q s h, with_packet_of q h ws      a packet came last
+--     last_bytes q, with_last_bytes q ws, with_last_size k q, IsRoom q s h room      the last packet
+--     IsFirst q h ws, without_gap q, with_first_bytes q h ws, without_first q, without_first_and_gap q,
+--         after_hand_out gone q h ws      the first packet
+--     AreFreed q s, IsFreedAt q s p, freed_bytes q s, with_bytes q p ws      the bytes of a packet that
+--         was taken off, and bytes that are written over the storage
 use Rattle.std.specs.Prelude.{◌≡◌, ◌≢◌, Bool, ℕ, zero, suc, ◌+◌, ◌-◌, ◌≤◌, nat_le}
 use Rattle.std.specs.Prelude.{if◌then◌else◌, List, [], ◌∷◌, ◌++◌, length, take, drop, ⊤}
 use Rattle.std.specs.Prelude.{Option}
@@ -16,7 +27,7 @@ pub record Packet (H : Type 0) : Type 0 where
   pub size : ℕ
   pub gap : ℕ
 
--- a queue of packets: how many slots it has, its storage, the place where that is read, and its
+-- a queue of packets: how many slots it has, its storage, the index where that is read, and its
 -- packets in order
 pub record PacketQueue (H : Type 0) : Type 0 where
   pub slot_count : ℕ
@@ -65,13 +76,13 @@ module _ {H : Type 0} where
       let g = from_start_if_empty (byte_ring q) in
       if_slots (q.slot_count - slots_used q.packets) (gap_for s (contiguous_window g) (window g))
 
-  -- a packet that comes o bytes after the place r of c: it doesn't reach past the storage's end,
-  -- and a gap ends there
+  -- in a storage of c bytes, a packet that comes o bytes after the index r: it doesn't reach past the
+  -- storage's end, and a gap ends there
   abbrev pub IsPlaced : ℕ → ℕ → ℕ → Packet H → Type 0
   IsPlaced c r o p =
       (index_after c r (o + p.gap) + p.size ≤ c) × (p.gap ≢ 0 → index_after c r o + p.gap ≡ c)
 
-  -- packets of which the first comes o bytes after the place r of c
+  -- packets of which the first comes o bytes after the index r
   abbrev pub ArePlaced : ℕ → ℕ → ℕ → List (Packet H) → Type 0
   ArePlaced c r o [] = ⊤
   ArePlaced c r o (p ∷ ps) = IsPlaced c r o p × ArePlaced c r (o + p.gap + p.size) ps
@@ -90,7 +101,7 @@ module _ {H : Type 0} where
   no_packets slot_count storage =
       record { slot_count = slot_count; storage = storage; read_at = 0; packets = [] }
 
-  -- the queue with ws written over its storage from the place p on
+  -- the queue with ws written over its storage from the index p on
   abbrev pub with_bytes : PacketQueue H → ℕ → List ℕ → PacketQueue H
   with_bytes q p ws =
       record {
@@ -133,7 +144,7 @@ module _ {H : Type 0} where
   abbrev pub only_last : List (Packet H) → List (Packet H)
   only_last ps = drop (length ps - 1) ps
 
-  -- where the last packet's bytes begin
+  -- the index where the last packet's bytes begin
   abbrev pub last_place : PacketQueue H → ℕ
   last_place q =
       storage_index (byte_ring q) (bytes_used q.packets - first_size (only_last q.packets))
@@ -239,7 +250,7 @@ module _ {H : Type 0} where
   abbrev pub without_first_and_gap : PacketQueue H → PacketQueue H
   without_first_and_gap q = without_first (without_gap q)
 
-  -- where the s bytes before the read index begin
+  -- the index where the s bytes before the read index begin
   abbrev pub freed_place : PacketQueue H → ℕ → ℕ
   freed_place q s = freed_index (byte_ring q) s
 
@@ -247,10 +258,10 @@ module _ {H : Type 0} where
   abbrev pub freed_bytes : PacketQueue H → ℕ → List ℕ
   freed_bytes q s = take s (drop (freed_place q s) q.storage)
 
-  -- the s bytes before the read index lie in a row, and none of them is held
+  -- the s bytes before the read index lie in a row, and none of them is a packet's
   abbrev pub AreFreed : PacketQueue H → ℕ → Type 0
   AreFreed q s = (s ≤ window (byte_ring q)) × (freed_place q s + s ≤ length q.storage)
 
-  -- the s bytes before the read index are such, and begin at the place p
+  -- the s bytes before the read index are such, and begin at the index p
   abbrev pub IsFreedAt : PacketQueue H → ℕ → ℕ → Type 0
   IsFreedAt q s p = AreFreed q s × (freed_place q s ≡ p)

@@ -1,4 +1,10 @@
 -- Finite sets of positions, ranges of positions, and the maximal runs of a set.
+--     Positions, contains s p, positions s, set_of_list ks, nothing      sets, and what is in them
+--     IsRange o n, with_range s o n      a range, and a set with one
+--     runs s, maximal_runs s, IsMaximalRun s run, AreMaximalRuns s list, lies_in p run      the runs
+--     first_missing s p, front s, IsFirstMissing s p n      the first missing position, and the front
+--     shift_down s m, shift_up s n, runs_shifted_up n rs      sets and runs, counted anew
+--     are_same s t      whether two sets are one
 use Rattle.std.specs.Prelude.{◌≡◌, ℕ, zero, suc, ◌+◌, ◌-◌, ◌<◌, ◌≤◌, ◌^◌, max, Bool, cond, not}
 use Rattle.std.specs.Prelude.{◌&&◌, ◌||◌, ◌==◌, List, [], ◌∷◌, ◌++◌, map, filter, length, nat_le}
 use Rattle.std.specs.Prelude.{nat_lt, nat_eq, IsTrue, IsFalse, All, AllPairs, count_by}
@@ -48,7 +54,7 @@ run_starts s = filter (begins_run s) (positions s)
 unfoldable pub runs : Positions → ℕ
 runs s = length (run_starts s)
 
--- above each member of a list
+-- a number above each member of a list
 abbrev pub bound_of : List ℕ → ℕ
 bound_of [] = 0
 bound_of (k ∷ ks) = max (k + 1) (bound_of ks)

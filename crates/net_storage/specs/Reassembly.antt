@@ -1,4 +1,6 @@
 -- A buffer over which lists are written at offsets, and the set of the positions that were.
+--     is_in_writes p writes, newest_element writes p x      what the writes have at a position
+--     Reassembles writes buffer held      a buffer and a set of positions are what the writes make
 use Rattle.std.specs.Prelude.{◌≡◌, ℕ, ◌+◌, ◌-◌, ◌<◌, Bool, IsTrue, if◌then◌else◌}
 use Rattle.std.specs.Prelude.{List, [], ◌∷◌, length, slice_index_or}
 use Rattle.std.specs.List.{list_any}

@@ -1,4 +1,15 @@
--- A ring by its storage, the index where it is read and how many elements it holds.
+-- A ring by its storage, the index where it is read and how many elements are queued.
+--     RingState T, ring b r n, WellFormed g      a ring, and what is true of each
+--     capacity g, window g, queue g, spare g      its capacity and window, and its two parts
+--     index_after c r i, storage_index g i, write_at g, freed_index g k      indices of the storage
+--     contiguous_window g, contiguous_spare g, spare_index g i, contiguous_window_from g i n      the
+--         contiguous elements of the spare part
+--     contiguous_queued g, contiguous_queue g, queue_index g i, contiguous_queued_from g i n      those
+--         of the queue
+--     with_elements g p ws, with_elements_wrapping g p ws, with_enqueued k g, with_dequeued k g,
+--         from_start_if_empty g      what calls leave
+--     Enqueued g ws h, Dequeued g k ws h, SpareWritten g i ws h, QueueWritten g i ws h,
+--         EnqueuedFrom g k ws h, DequeuedFrom g k ws h      the same by queue and spare part
 use Rattle.std.specs.Prelude.{◌≡◌, ◌⊎◌, ℕ, ◌+◌, ◌-◌, ◌<◌, ◌≤◌, nat_lt, nat_eq, min, if◌then◌else◌}
 use Rattle.std.specs.Prelude.{List, ◌++◌, length, take, drop}
 use Rattle.net_storage.specs.Overwrite.{overwrite}
@@ -70,12 +81,12 @@ module _ {T : Type 0} where
   abbrev pub contiguous_queue : RingState T → List T
   contiguous_queue g = take (contiguous_queued g) (queue g)
 
-  -- the index of element i of the spare part, or of its end if i is past the window
+  -- the index of element i of the spare part, or of its end if i is at or above the window
   abbrev pub spare_index : RingState T → ℕ → ℕ
   spare_index g i = storage_index g (g.count + min i (window g))
 
-  -- of at most n spare elements from element i on, how many are contiguous; none if i is past the
-  -- window
+  -- of at most n spare elements from element i on, how many are contiguous; none if i is at or above
+  -- the window
   abbrev pub contiguous_window_from : RingState T → ℕ → ℕ → ℕ
   contiguous_window_from g i n = min n (min (window g - i) (length g.storage - spare_index g i))
 

@@ -1,4 +1,6 @@
 -- What a ring makes of its elements over many calls.
+--     RingCall T, Makes call g h, MakesAll calls g h      what one call did, and what calls make
+--     log_after call log, log_after_all calls log, history calls      the log after calls
 use Rattle.std.specs.Prelude.{◌≡◌, ◌≢◌, ◌≤◌, ℕ, ◌+◌, ◌-◌, List, [], ◌∷◌, length, take, drop}
 use Rattle.net_storage.specs.Overwrite.{overwrite}
 use Rattle.net_storage.specs.Log.{Log, empty_log, log_accepted, log_left, log_dropped}
@@ -93,7 +95,7 @@ module _ {T : Type 0} where
   MakesAll (call ∷ calls) g h = (next : RingState T) × Makes call g next × MakesAll calls next h
 
   -- ---- what came and what left
-  -- ws was written over the elements that have not left, from the one at the index i on
+  -- ws was written over the elements that have not left, from the one at the offset i on
   abbrev pub log_written : ℕ → List T → Log T → Log T
   log_written i ws log =
       record { accepted = overwrite log.accepted (length log.left + i) ws; left = log.left }

@@ -1,4 +1,6 @@
--- What a ring is once elements that it lent come back.
+-- What a ring is once a loan of its elements has ended.
+--     lends_many T S g s after p r, lends_one T S g s after p r      with what the borrower leaves
+--     lends_one_if T S g s after p r      the same at `Ok`, and at `Err` as it was
 use Rattle.std.specs.Prelude.{List, [], ◌∷◌, ℕ, Result}
 use Rattle.std.specs.Borrow.{Lends, LendsIfOk, MutBor, Fml, RattleType, Array}
 use Rattle.net_storage.specs.Ring.{RingState, with_elements}

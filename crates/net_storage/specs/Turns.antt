@@ -1,4 +1,7 @@
 -- Counts of loop turns, and how many binary digits a number has.
+--     number c      the number that a count stands for
+--     binary_digits n      how many binary digits n has
+--     TurnsWithin looks moves old new      counts that rise by at most so many
 use Rattle.std.specs.Prelude.{ℕ, ◌+◌, ◌≤◌, length}
 use Rattle.std.specs.Int.Digits.{digits_of}
 use Rattle.net_storage.specs.declared.assembler.turns.Count.{Count, Zero, Next'}

@@ -1,4 +1,4 @@
--- What a slice or a vector is once its elements, which it lent, come back.
+-- What a slice or a vector is once a loan of its elements has ended.
 use mir.Syntax.{named}
 use Rattle.std.specs.Prelude.{List, []}
 use Rattle.std.specs.Borrow.{Lends, MutBor, Fml, RattleType, Array}

@@ -34,7 +34,7 @@ pub fn front_after_remove_front()
 }
 
 /// Ranges that are added one after another leave the union, whatever their order: a position is
-/// held exactly if it was before or lies in one of the ranges, and ranges in another order, or any
+/// present exactly if it was before or lies in one of the ranges, and ranges in another order, or any
 /// that have the same positions, leave the same set.
 pub fn ranges_in_any_order()
     ensures members { (s : Positions) (ranges : List (ℕ × ℕ)) (p : ℕ) →

@@ -7,7 +7,7 @@ ghost use Rattle.net_storage.specs.WholeLends.{lends_lent, lends_owned};
 
 use std::ops::IndexMut;
 
-/// A list of elements, parts of which can be shown and lent: what a ring keeps its elements in.
+/// A list of elements, parts of which can be shown and lent: the storage of a ring.
 pub trait Elements<T> {
     // The elements, in order.
     ghost elements: { Self → List T };

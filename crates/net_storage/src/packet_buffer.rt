@@ -19,7 +19,7 @@ mod slices;
 mod slots;
 mod taking;
 
-/// A queue of packets over any storage: `M` holds the slots and `B` the bytes. [`PacketBuffer`] is
+/// A queue of packets over any storage: `M` has the slots and `B` the bytes. [`PacketBuffer`] is
 /// its usual form.
 ///
 /// A packet has a header and bytes that lie in a row in the storage. If a packet does not fit
@@ -28,8 +28,8 @@ mod taking;
 /// Packets leave in the order in which they came.
 ///
 /// Contracts lead with `contents q`, the list of the headers and bytes of a queue's packets. Which
-/// packets are refused is seen by its placement: the number of its slots, its storage, the place
-/// where that is read, and the list of its packets (header, size, gap).
+/// packets are refused is seen by the number of its slots, its storage, the read index, and the list
+/// of its packets (header, size, gap).
 #[derive(Debug, Drop)]
 pub struct Packets<H, M: Elements<PacketMetadata<H>>, B: Elements<u8>> {
     slots: Ring<PacketMetadata<H>, M>,
@@ -125,7 +125,7 @@ impl<H, M: Elements<PacketMetadata<H>>, B: Elements<u8>> Packets<H, M, B> {
     /// Empties the queue. The bytes of the storage stay as they are, and it is not promised when
     /// the headers are dropped.
     ///
-    /// smoltcp keeps this call to itself.
+    /// In smoltcp this call is private.
     pub fn reset(&mut self)
         ensures none { contents self.new ≡ [] }
         ensures made { self.new ≡ no_packets self.old.slot_count self.old.storage }

@@ -8,7 +8,7 @@ pub struct PacketMetadata<H> {
 }
 
 impl<H> PacketMetadata<H> {
-    /// A slot that holds nothing, to fill the storage of the slots with.
+    /// A slot with no header and of size 0, to fill the storage of the slots with.
     pub const EMPTY: PacketMetadata<H> = PacketMetadata {
         size: 0,
         header: None,

@@ -18,9 +18,9 @@ mod unallocated;
 
 /// A ring of elements over any storage; [`RingBuffer`] is the one over a [`ManagedSlice`].
 ///
-/// Contracts see a ring as its storage, the index where it is read and the number of elements it
-/// holds. Its queue is what it holds, in order; the rest of the storage is its spare part. Both
-/// parts wrap at the storage's end. Nothing is copied but by the calls whose element type is
+/// Contracts see a ring as its storage, the index where it is read and how many elements are queued.
+/// Its queue is these, in order; the rest of the storage is its spare part. Both wrap at the
+/// storage's end. Nothing is copied but by the calls whose element type is
 /// `Copy`: the others lend parts of the storage, as `&mut` wherever they can, so that a packet can
 /// be filled in or changed where it stands.
 #[derive(Debug)]
@@ -139,7 +139,7 @@ impl<T, S: Elements<T>> Ring<T, S> {
         self.length = 0;
     }
 
-    /// Returns how many elements the ring can hold.
+    /// Returns how many elements the ring has room for, queued ones included.
     #[inline]
     pub fn capacity(&self) -> usize
         ensures capacity { result ≡ capacity self.now }
@@ -149,7 +149,7 @@ impl<T, S: Elements<T>> Ring<T, S> {
         self.storage.count()
     }
 
-    /// Returns how many elements the ring holds.
+    /// Returns how many elements are queued.
     #[inline]
     pub fn len(&self) -> usize
         ensures count { result ≡ self.now.count }
@@ -182,7 +182,7 @@ impl<T, S: Elements<T>> Ring<T, S> {
         self.window().min(to_end)
     }
 
-    /// Returns whether the ring holds nothing.
+    /// Returns whether no element is queued.
     #[inline]
     pub fn is_empty(&self) -> bool
         ensures count { result ≡ (self.now.count == 0) }

@@ -5,6 +5,7 @@
 --     FrameTells r frame      an acknowledgement tells nothing but what the receiver has
 --     ack_of r      the acknowledgement of a receiver
 --     receiver_after N r frame, with_ack r frame back      what a frame that comes leaves
+--     MayComeLate frame old new      the frame was put among the late ones, or nothing changed
 use Rattle.std.specs.Prelude.{◌≡◌, ℕ, ◌+◌, ◌≤◌, ◌^◌, ◌⊎◌, nat_lt, if◌then◌else◌}
 use Rattle.std.specs.Prelude.{IsTrue, Option, Some, None}
 use Rattle.std.specs.Prelude.{List, [], ◌∷◌, ◌++◌, length, take, All}
@@ -18,7 +19,7 @@ use Rattle.net_stream.specs.Frames.{frame_of, segment_of, FrameSays}
 use Rattle.net_stream.specs.Reported.{reports, most_reported, range_bytes, ranges_of}
 use Rattle.net_stream.specs.Fates.{FatesSeen}
 
--- one direction of a link
+-- a path of a link
 pub record PathSeen : Type 0 where
   pub ahead : List (List ℕ)
   pub late : List (List ℕ)
@@ -46,7 +47,7 @@ receiver_after most_runs r None = r
 receiver_after most_runs r (Some (pos, xs)) =
     if nat_lt (pos + length xs) (2 ^ 64) then stored_after most_runs r (Segment pos xs) else r
 
--- what is on its way back then, where the receiver stores r: its answer behind what was there
+-- what is on its way back then, where the receiver stores r: its acknowledgement behind what was there
 abbrev pub with_ack : Stored → Option (ℕ × List ℕ) → PathSeen → PathSeen
 with_ack r None back = back
 with_ack r (Some (pos, xs)) back =
@@ -54,9 +55,9 @@ with_ack r (Some (pos, xs)) back =
     then record back { ahead = back.ahead ++ ack_of r ∷ [] }
     else back
 
--- w was written to the sender; each frame brings nothing but parts of w, and so did each that the
--- receiver took; each acknowledgement tells of bytes that the receiver has, and so did each that
--- the sender took
+-- w was written to the sender; each frame brings nothing but parts of w, and so did each that came to
+-- the receiver; each acknowledgement tells of bytes that the receiver has, and so did each that came
+-- to the sender
 pub record IsUnderWay (f : ℕ) (w : List ℕ) (s : Outgoing) (r : Stored)
     (there back : PathSeen) : Type 0 where
   pub sends : Sends f w s

@@ -3,7 +3,10 @@
 --     gave_up e      whether a copy ended because nothing came on any more
 --     HasPositions first taken      positions are left
 --     Moving f link counts old new held holds more      the bytes are on their way to a writer
---     Stepped old new      what a round of a copy keeps
+--     HandedOut f v u held holds before after      bytes came from the receiver to the writer
+--     HandedPrefix f v held holds before after, WrotePrefix text held holds n      a prefix of them did
+--     Stepped old new room room'      what a round of a copy leaves as it was, or lets grow
+--     FlushedAfter ended result      how a copy ended, once its writer was flushed
 use Rattle.std.specs.Prelude.{◌≡◌, ℕ, List, ◌++◌, ◌+◌, ◌-◌, ◌<◌, ◌≤◌, ◌^◌, ◌⊎◌, [], length, take}
 use Rattle.std.specs.Prelude.{Bool, true, false, Option, Result, Err, min}
 use Rattle.std.specs.Io.{StartsWith}
@@ -18,7 +21,7 @@ use Rattle.net_stream.specs.declared.error.LinkError.{LinkError}
 use Rattle.net_stream.specs.declared.error.LinkError.TheVariants.{GaveUp, OutOfMemory}
 use Rattle.net_stream.specs.declared.error.LinkError.TheVariants.{ReadFailed, WriteFailed}
 
--- a reader gave so many bytes, and a prefix of them, of so many, was appended to what a writer holds:
+-- a reader gave so many bytes, and a prefix of them, of so many, was appended to what a writer has:
 -- all that the reader had, if the copy is complete
 pub record Copied (old new held holds : Option (List ℕ)) (read wrote : ℕ) (complete : Bool)
     : Type 0 where
@@ -43,7 +46,7 @@ abbrev pub HasPositions : ℕ → ℕ → Type 0
 HasPositions f taken = f + taken < 2 ^ 64 - 1
 
 -- the bytes that a reader gave are on their way, and those that the receiver handed out were
--- appended to what a writer holds; both are counted. If `more` is false the reader has no more
+-- appended to what a writer has; both are counted. If `more` is false the reader has no more
 pub record Moving {A : Type 0} (f : ℕ) (link : Link A) (counts : Counts)
     (old new held holds : Option (List ℕ)) (more : Bool) : Type 0 where
   pub given : List ℕ
@@ -54,7 +57,7 @@ pub record Moving {A : Type 0} (f : ℕ) (link : Link A) (counts : Counts)
   pub bytes : link.receiver.read ≡ counts.bytes
   pub ended : more ≡ false → IsAtEnd new
 
--- bytes were handed out, appended to what a writer holds and counted: what any stream has next that
+-- bytes were handed out, appended to what a writer has and counted: what any stream has next that
 -- the receiver took nothing else of
 pub record HandedOut (f : ℕ) (v u : Stored) (held holds : Option (List ℕ)) (before after : ℕ)
     : Type 0 where
@@ -76,7 +79,8 @@ pub record WrotePrefix (text : List ℕ) (held holds : Option (List ℕ)) (n : �
   pub within : n ≤ length text
   pub appended : Appends held holds (take n text)
 
--- what a round of a copy keeps, `room` and `room'` being the lengths of what is read into
+-- what a round of a copy leaves as it was, or lets grow, `room` and `room'` being the lengths of the
+-- buffer that the reader's bytes come to, before and after
 pub record Stepped {A : Type 0} (old new : Link A) (room room' : ℕ) : Type 0 where
   pub ahead : new.there.ahead ≡ []
   pub ahead_back : new.back.ahead ≡ []

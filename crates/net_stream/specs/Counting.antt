@@ -5,6 +5,8 @@
 --     SameButRefused counts counts'      all is the same but the refused segments
 --     with_payload n counts      frames carried n bytes
 --     is_refused reply, with_refusal most_runs r frame counts      a receiver refused a segment
+--     no_frames, nothing_counted      the counts before anything was done
+--     round_trip_time, longest_wait      times of simulated clocks, in microseconds
 use Rattle.std.specs.Prelude.{◌≡◌, ℕ, zero, suc, ◌+◌, ◌-◌, ◌^◌, ◌&&◌, min, nat_lt}
 use Rattle.std.specs.Prelude.{if◌then◌else◌, Bool, true, false, List, length, Option, Some, None, Ok, Err}
 use Rattle.net_receiver.specs.Rules.{ReplySeen, Segmented, Gave, Shown, Segment}
@@ -46,7 +48,7 @@ is_refused (Segmented (Err e)) = true
 is_refused (Gave xs) = false
 is_refused (Shown n q r h) = false
 
--- a frame came to a receiver, which may have refused what it says
+-- a frame came to a receiver: one more is refused if the receiver refuses its segment
 abbrev pub with_refusal : ℕ → Stored → Option (ℕ × List ℕ) → FrameCounts → FrameCounts
 with_refusal most_runs r None c = c
 with_refusal most_runs r (Some (pos, xs)) c =

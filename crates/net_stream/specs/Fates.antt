@@ -1,9 +1,10 @@
 -- What becomes of frames.
---     fate_of rates word      the fate that a word of 32 bits stands for
---     next_fate v, after_fate v      the next fate: the first of a list, and behind it drawn ones
+--     fate_of rates random_word      the fate that a random word stands for
+--     FatesSeen      the fates of a list, and behind it those that a generator draws
+--     next_fate v, after_fate v      the next fate, and the fates that are left then
 --     after_all n v      what is left of v once n fates have come
 --     comes fate, comes_late fate      whether a frame comes at once, and whether it comes late
---     AllCome v      every frame comes at once
+--     AllCome v, NextCome n v      every frame comes at once, or the next n do
 use Rattle.std.specs.Prelude.{ℕ, zero, suc, ◌/◌, ◌%◌, nat_lt, if◌then◌else◌, Bool, true, false}
 use Rattle.std.specs.Prelude.{◌≡◌, List, [], ◌∷◌, All}
 use Rattle.net_base.specs.Generator.{successor, random_word}
@@ -11,8 +12,8 @@ use Rattle.net_stream.specs.declared.fate.Fate.{Fate}
 use Rattle.net_stream.specs.declared.fate.Fate.TheVariants.{Delivered, Lost, Repeated, Late}
 use Rattle.net_stream.specs.declared.fate.Rates.{Rates}
 
--- the last two digits of a word decide whether the frame is lost, the two before them whether it is
--- repeated, and the two before those whether it is late
+-- the last two decimal digits of a random word decide whether the frame is lost, the two before them
+-- whether it is repeated, and the two before those whether it is late
 abbrev pub fate_of : Rates → ℕ → Fate
 fate_of rates random_word =
     if nat_lt (random_word % 100) rates.lost then Lost
@@ -34,7 +35,7 @@ comes_late Lost = false
 comes_late Repeated = true
 comes_late Late = true
 
--- the fates of a list, and behind it those of the words that follow a generator's state
+-- the fates of a list, and behind it those of the random words that follow a generator's state
 pub record FatesSeen : Type 0 where
   pub listed : List Fate
   pub state : ℕ

@@ -3,6 +3,9 @@
 --     segment_of frame      what a frame says: its position and its bytes, if it has a position
 --     Part      some bytes, and whether they are spared: then no frame has them
 --     frames_from p parts      the frames of parts that follow one another from position p on
+--     part_bytes parts      the bytes of parts
+--     FrameSays f w frame      the frame brings nothing but what the stream w has
+--     RoundTrip, DistinctFrames      laws of frames
 use Rattle.std.specs.Prelude.{◌≡◌, ℕ, ◌+◌, ◌<◌, ◌^◌, if◌then◌else◌, nat_lt, Bool, true, false}
 use Rattle.std.specs.Prelude.{List, [], ◌∷◌, ◌++◌, length, take, drop, Option, Some, None}
 use Rattle.std.specs.Int.{w64, to_be_bytes, from_be_bytes}

@@ -1,6 +1,6 @@
 -- A link as one thing: what is true of it, and what a round does to it.
 --     Carries f w link      the stream w, whose first byte has position f, is on its way
---     HasRoomFor link      the receiver's free window ends behind all that the sender keeps
+--     HasRoomFor link      the receiver's free window ends at or behind the sender's end
 --     next_flight limit flight full      how many frames the next round may send
 --     Passed old new      what a round leaves
 --     Round old new      the same, and what it brings if its frames and acknowledgements all come
@@ -23,16 +23,15 @@ use Rattle.net_stream.specs.declared.link.Link.{Link}
 abbrev pub Carries : {A : Type 0} → ℕ → List ℕ → Link A → Type 0
 Carries f w link = IsUnderWay f w link.sender link.receiver link.there link.back
 
--- how many frames a round may send after one that might send `flight`: half as many, but not fewer
--- than an acknowledgement can report ranges, if it reported as many as it can, and else so many more,
--- up to a limit
+-- how many frames a round may send after one that might send `flight`: half as many, but no fewer
+-- than the most ranges of a report, if the report is full, and else so many more; at most `limit`
 abbrev pub next_flight : ℕ → ℕ → Bool → ℕ
 next_flight limit flight full =
     min limit (if full then max most_reported (flight / 2) else flight + most_reported)
 
--- a round: n of the bytes kept are spared or sent, as many as its flight lets, the late frames come and those of the others
--- whose fates say so, each is answered, and once more at the end, and the late answers come and
--- those of the others whose fates say so
+-- a round: n of the sender's queued bytes are spared or sent, as many as its flight lets; the late
+-- frames come, and those of the others whose fates say so; the receiver acknowledges each of them, and
+-- once more at the end; and the late acknowledgements come, and those of the others whose fates say so
 pub record Passed {A : Type 0} (old new : Link A) : Type 0 where
   pub sent : PathSeen
   pub n : ℕ
@@ -57,11 +56,11 @@ pub record Passed {A : Type 0} (old new : Link A) : Type 0 where
   pub flight : new.flight
       ≡ next_flight old.limit old.flight (is_full new.sender.reported)
 
--- the window has room for all that the sender keeps
+-- the receiver's free window ends at or behind the sender's end
 abbrev pub HasRoomFor : {A : Type 0} → Link A → Type 0
 HasRoomFor link = end_of link.sender ≤ limit_of link.receiver
 
--- a round; if all its frames and acknowledgements come, and the window has room, it brings the
+-- a round; if all its frames and acknowledgements come, and the free window has room, it brings the
 -- receiver to the end of what was sent, and leaves the sender the rest: nothing, if all was sent,
 -- as it is if the flight isn't used up and the report isn't full
 pub record Round {A : Type 0} (old new : Link A) : Type 0 where

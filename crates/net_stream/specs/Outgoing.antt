@@ -1,14 +1,17 @@
--- What a sender keeps, and the stream that it sends.
---     Outgoing      the capacity, the position of the first byte that is kept, the bytes kept, the
---                   ranges of positions that were reported last, and the position at which the
---                   storage begins again
+-- What a sender has queued, and the stream that it sends.
+--     Outgoing, outgoing capacity base queue reported cut      the capacity, the position of the head
+--         of the queue, the queue, the ranges of positions that were reported last, and the position
+--         at which the storage begins again
+--     end_of v, room_of v      the position behind the queue, and how many bytes can be written
 --     row_end v p      where the bytes end that stand in a row in the storage with the one at p
---     after_ack v n ranges      what is kept once all below position n was acknowledged, and
---                                  these ranges were reported
---     with_written v xs      what is kept once these bytes were written
---     CalledOnRoom g f v answer u      f was run on free bytes, and what it counted was written
---     after_acks v acks      what is kept once several acknowledgements were taken
---     Sends f w v      w was written to a sender, its first byte at position f; it keeps v
+--     after_ack v n ranges      the sender once all below position n was acknowledged, and these ranges
+--         were reported
+--     after_acks v acks      the sender once several acknowledgements came
+--     with_written v xs      the sender once these bytes were written
+--     TakesRoom g f n, CountsRoom g f n      what is asked of a closure that is lent free bytes
+--     CalledOnRoom g f old answer new      f was called on free bytes, and what it counted was written
+--     KeepsFromGreatest      a law on several acknowledgements
+--     Sends f w v      w was written to a sender, its first byte at position f
 use Rattle.std.specs.Prelude.{◌≡◌, ℕ, ◌+◌, ◌-◌, ◌≤◌, ◌^◌, ◌&&◌, nat_lt, nat_le, nat_eq, min, max}
 use Rattle.std.specs.Prelude.{if◌then◌else◌, List, [], ◌∷◌, ◌++◌, length, take, drop}
 use Rattle.std.specs.Borrow.{MutBor}
@@ -23,8 +26,8 @@ pub record Outgoing : Type 0 where
   pub reported : List (ℕ × ℕ)
   pub cut : ℕ
 
--- a sender of this capacity, which keeps these bytes from position `base` on, to which these
--- ranges were reported, and whose storage begins again at `cut`
+-- a sender of this capacity, with this queue from position `base` on, to which these ranges were
+-- reported, and whose storage begins again at `cut`
 abbrev pub outgoing : ℕ → ℕ → List ℕ → List (ℕ × ℕ) → ℕ → Outgoing
 outgoing capacity base queue reported cut =
     record { capacity = capacity; base = base; queue = queue; reported = reported; cut = cut }
@@ -37,11 +40,11 @@ end_of v = v.base + length v.queue
 abbrev pub room_of : Outgoing → ℕ
 room_of v = min (v.capacity - length v.queue) (2 ^ 64 - 1 - end_of v)
 
--- of the bytes kept from position p on, where those end that stand in a row in the storage
+-- of the queued bytes from position p on, where those end that stand in a row in the storage
 abbrev pub row_end : Outgoing → ℕ → ℕ
 row_end v p = if nat_lt p v.cut then min v.cut (end_of v) else end_of v
 
--- where the storage begins again for the bytes that are written next: if nothing is kept, the first
+-- where the storage begins again for the bytes that are written next: if the queue is empty, the first
 -- of them stands at the storage's beginning
 abbrev pub next_cut : Outgoing → ℕ
 next_cut v = if nat_eq (length v.queue) 0 then v.base + v.capacity else v.cut
@@ -51,23 +54,23 @@ abbrev pub room_in_row : Outgoing → ℕ
 room_in_row v =
     if nat_lt (end_of v) (next_cut v) then min (room_of v) (next_cut v - end_of v) else room_of v
 
--- these bytes were written behind those that are kept
+-- these bytes were written behind the queue
 abbrev pub with_written : Outgoing → List ℕ → Outgoing
 with_written v xs = record v { queue = v.queue ++ xs; cut = next_cut v }
 
--- ---- a closure is lent free bytes, whatever they hold, and answers how many it wrote, and more
+-- ---- a closure is lent free bytes, whatever they are, and returns how many it wrote, and more
 module _ {F R : Type 0}
     (g : Once F (MutBor (List ℕ) × Unit {0}) ((ℕ × R) × (MutBor (List ℕ) × Unit {0}))) where
-  -- f may be run on n bytes
+  -- f may be called on n bytes
   abbrev pub TakesRoom : F → ℕ → Type 0
   TakesRoom f n = (xs : List ℕ) → length xs ≡ n → FnOnceTakesAtMut g f xs
 
-  -- run on n bytes, f counts at most n
+  -- called on n bytes, f counts at most n
   abbrev pub CountsRoom : F → ℕ → Type 0
   CountsRoom f n = (xs ws : List ℕ) (r : ℕ × R) → length xs ≡ n →
       FnOnceReturnsAtMut g f xs r ws → r.0 ≤ n
 
-  -- f was run on all the room that stands in a row, left ws there and gave the answer: the first
+  -- f was called on all the room that stands in a row, left ws there and returned `answer`: the first
   -- ones of ws, as many as it counts, were written
   abbrev pub CalledOnRoom : F → Outgoing → ℕ × R → Outgoing → Type 0
   CalledOnRoom f old answer new = (xs : List ℕ) × (ws : List ℕ)
@@ -81,13 +84,13 @@ abbrev pub sender_from : Outgoing → ℕ → List (ℕ × ℕ) → Outgoing
 sender_from v n ranges = outgoing v.capacity n (drop (n - v.base) v.queue) ranges
     (if nat_lt n v.cut then v.cut else v.cut + v.capacity)
 
--- numbers outside what is kept change nothing
+-- a position below `base` or above the end changes nothing
 abbrev pub after_ack : Outgoing → ℕ → List (ℕ × ℕ) → Outgoing
 after_ack v n ranges =
     if nat_le v.base n && nat_le n (end_of v) then sender_from v n ranges else v
 
 -- ---- several acknowledgements, each of a position and of ranges
--- what is kept once they were taken, one after another
+-- the sender once they came, one after another
 abbrev pub after_acks : Outgoing → List (ℕ × List (ℕ × ℕ)) → Outgoing
 after_acks v [] = v
 after_acks v ((n, ranges) ∷ acks) = after_acks (after_ack v n ranges) acks
@@ -98,7 +101,7 @@ greatest_within limit p [] = p
 greatest_within limit p ((n, ranges) ∷ acks) =
     greatest_within limit (if nat_le n limit then max p n else p) acks
 
--- a sender keeps all from the greatest position on that was acknowledged, of those up to its end
+-- a sender's queue is all from the greatest position on that was acknowledged, of those up to its end
 abbrev pub KeepsFromGreatest : Type 0
 KeepsFromGreatest = (v : Outgoing) (acks : List (ℕ × List (ℕ × ℕ))) →
     ((after_acks v acks).base ≡ greatest_within (end_of v) v.base acks)
@@ -106,7 +109,7 @@ KeepsFromGreatest = (v : Outgoing) (acks : List (ℕ × List (ℕ × ℕ))) →
     × ((after_acks v acks).queue
     ≡ drop ((after_acks v acks).base - v.base) v.queue)
 
--- what is kept is the rest of w, from its position on
+-- the queue is the rest of w, from its position on
 pub record Sends (f : ℕ) (w : List ℕ) (v : Outgoing) : Type 0 where
   pub from : f ≤ v.base
   pub end : end_of v ≡ f + length w

@@ -3,7 +3,8 @@
 --                                               come at once, and those that come late
 --     receiver_after_all N r frames      what a receiver stores once frames have come, one after another
 --     acks_of N r frames      its acknowledgements of them
---     path_after path      what is left of a direction whose frames have all met their fates
+--     with_late fate frame path      the path once this frame met its fate
+--     path_after path      what is left of a path whose frames have all met their fates
 use Rattle.std.specs.Prelude.{ℕ, ◌+◌, ◌^◌, nat_lt, if◌then◌else◌}
 use Rattle.std.specs.Prelude.{List, [], ◌∷◌, ◌++◌, length, Option, Some, None}
 use Rattle.net_receiver.specs.Stored.{Stored}
@@ -26,7 +27,7 @@ late_of v (frame ∷ frames) =
     if comes_late (next_fate v) then frame ∷ late_of (after_fate v) frames
     else late_of (after_fate v) frames
 
--- a direction of which a frame met its fate
+-- the path once a frame, which was taken off it, met its fate
 abbrev pub with_late : Fate → List ℕ → PathSeen → PathSeen
 with_late fate frame path =
     if comes_late fate then record path { late = path.late ++ frame ∷ [] } else path
@@ -49,7 +50,7 @@ acks_of most_runs r (frame ∷ frames) =
     ack_to (receiver_after most_runs r (segment_of frame)) (segment_of frame)
     ++ acks_of most_runs (receiver_after most_runs r (segment_of frame)) frames
 
--- what is left of a direction whose frames have all met their fates
+-- what is left of a path whose frames have all met their fates
 abbrev pub path_after : PathSeen → PathSeen
 path_after path = record {
   ahead = [];

@@ -1,8 +1,9 @@
 -- How far frames and acknowledgements bring a receiver and a sender, once they have come.
 --     reach_one p frame      how far a receiver comes at least that has all before p
 --     Reaches ranges end p frames      frames bring it to `end`, if it has the ranges too
---     after_ack_frames s frames      a sender once the acknowledgements have come
---     HasRoom s r      the receiver's free window ends behind all that the sender keeps
+--     after_ack_frame s frame, after_ack_frames s frames      a sender once acknowledgements have come
+--     limit_of r      where the receiver's free window ends
+--     HasRoom s r      the receiver's free window ends at or behind the sender's end
 use Rattle.std.specs.Prelude.{◌≡◌, ℕ, ◌+◌, ◌-◌, ◌<◌, ◌≤◌, ◌^◌, ◌⊎◌, max, nat_le, if◌then◌else◌}
 use Rattle.std.specs.Prelude.{true, List, [], ◌∷◌, length, Option, Some, None}
 use Rattle.net_receiver.specs.Stored.{Stored}
@@ -26,7 +27,7 @@ Reaches ranges end p (frame ∷ frames) =
     × IsMarked ranges p (pos - p) true
     × Reaches ranges end (max p (pos + length xs)) frames)
 
--- a sender that took what an acknowledgement says
+-- a sender once an acknowledgement has come: one too short for a position changes nothing
 abbrev pub after_ack_frame : Outgoing → Option (ℕ × List ℕ) → Outgoing
 after_ack_frame s None = s
 after_ack_frame s (Some (n, xs)) = after_ack s n (ranges_of most_reported xs)
@@ -40,7 +41,7 @@ after_ack_frames s (frame ∷ frames) = after_ack_frames (after_ack_frame s (seg
 abbrev pub limit_of : Stored → ℕ
 limit_of r = r.first + r.read + r.capacity
 
--- there is room for all that the sender keeps, and its positions fit a word
+-- there is room for all that the sender has queued, and its positions fit 64 bits
 pub record HasRoom (s : Outgoing) (r : Stored) : Type 0 where
   pub window : end_of s ≤ limit_of r
   pub word : end_of s < 2 ^ 64

@@ -6,6 +6,7 @@
 --     last_end ranges p      the greatest end, or p if that is greater
 --     range_bytes ranges      the ranges as bytes: each start, and each end, in 8 bytes
 --     ranges_of n xs      the first n ranges that bytes list
+--     most_reported, is_full ranges      the most ranges of a report, and whether there are as many
 use Rattle.std.specs.Prelude.{ℕ, zero, suc, ◌-◌, min, max, nat_lt, nat_eq, if◌then◌else◌}
 use Rattle.std.specs.Prelude.{Bool, not, List, [], ◌∷◌, length, Option, Some, None}
 use Rattle.std.specs.List.{list_any, count_by, range_with_len}
@@ -54,7 +55,7 @@ abbrev pub range_to : ℕ → Option (ℕ × List ℕ) → Option (ℕ × ℕ ×
 range_to start None = None
 range_to start (Some (end, rest)) = Some (start, end, rest)
 
--- a start in front of an end
+-- a start before an end
 abbrev pub range_from : Option (ℕ × List ℕ) → Option (ℕ × ℕ × List ℕ)
 range_from None = None
 range_from (Some (start, rest)) = range_to start (segment_of rest)
@@ -63,7 +64,7 @@ range_from (Some (start, rest)) = range_to start (segment_of rest)
 abbrev pub first_range : List ℕ → Option (ℕ × ℕ × List ℕ)
 first_range xs = range_from (segment_of xs)
 
--- the first range, in front of those that the bytes behind it list
+-- the first range, before those that the bytes behind it list
 abbrev pub with_more : (List ℕ → List (ℕ × ℕ)) → Option (ℕ × ℕ × List ℕ) → List (ℕ × ℕ)
 with_more more None = []
 with_more more (Some (start, end, rest)) = (start, end) ∷ more rest

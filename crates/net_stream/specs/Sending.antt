@@ -1,11 +1,13 @@
 -- What a sender puts on its way.
 --     Sent p parts old new      frames of the parts, from position p on, were put on their way
 --     IsMarked ranges p n spared, AreMarked ranges p parts      exactly what was reported is spared
+--     most_of n      a number of which 0 counts as 1
+--     stop_of s      the position at and above which no part begins
 --     part_end s most p      where the part ends that begins at position p
 --     HaveEnds s most p parts      each of the parts, from position p on, ends there
 --     SentPart s most p n k old new      n bytes from position p on were spared or sent, in k frames
---     SentPrefix s most flight n old new      so were the first n bytes that a sender keeps, in at
---                                            most `flight` frames
+--     SentPrefix s most flight n old new      so were the first n bytes of the queue, in at most
+--                                            `flight` frames
 --     SentRound s most flight n old new      and no frame more could be sent
 use Rattle.std.specs.Prelude.{◌≡◌, ℕ, ◌+◌, ◌-◌, ◌<◌, ◌≤◌, ◌⊎◌, min, max, if◌then◌else◌}
 use Rattle.std.specs.Prelude.{Bool, false}
@@ -67,8 +69,7 @@ HaveEnds s most p ((spared, xs) ∷ parts) =
     (p < stop_of s) × (p + length xs ≡ part_end s most p)
     × HaveEnds s most (p + length xs) parts
 
--- n of the bytes that the sender keeps, from position p on, were spared or put on their way, in k
--- frames
+-- n of the sender's queued bytes, from position p on, were spared or put on their way, in k frames
 pub record SentPart (s : Outgoing) (most p n k : ℕ) (old new : PathSeen) : Type 0 where
   pub some : 0 < n
   pub within : p + n ≤ end_of s
@@ -79,9 +80,9 @@ pub record SentPart (s : Outgoing) (most p n k : ℕ) (old new : PathSeen) : Typ
   pub frames : k ≡ (if spared then 0 else 1)
   pub sent : Sent p ((spared, take n (drop (p - s.base) s.queue)) ∷ []) old new
 
--- frames of the first n bytes that the sender keeps were put on their way, in order: each byte in
--- one of them if it wasn't reported, and in none if it was; each frame has at least one byte and at
--- most so many, and as many as can be
+-- frames of the first n bytes of the sender's queue were put on their way, in order: each byte in one
+-- of them if it wasn't reported, and in none if it was; each frame has at least one byte and at most
+-- so many, and as many as can be
 pub record SentPrefix (s : Outgoing) (most flight n : ℕ) (old new : PathSeen) : Type 0 where
   pub parts : List Part
   pub within : n ≤ length s.queue

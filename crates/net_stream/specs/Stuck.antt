@@ -1,7 +1,8 @@
 -- Rounds that bring nothing on.
 --     failures counts, losses counts      how many frames and acknowledgements didn't come at once,
 --                                         and how many were lost
---     RoundKeeps old new      what a round never takes back
+--     RoundKeeps old new      what a round leaves as it was, or lets grow
+--     HasFailed follow fate, IsStuck follow frames acks v v'      what fails in a stuck round
 --     IsDue link      what comes late brings the next round on
 --     Stuck old new      a round in which a frame or an acknowledgement failed that had to come
 --     RoundMoves old new      a round that brings nothing on was stuck
@@ -29,7 +30,7 @@ failures c = min c.lost (2 ^ 64 - 1) + min c.late (2 ^ 64 - 1)
 abbrev pub losses : FrameCounts → ℕ
 losses c = min c.lost (2 ^ 64 - 1)
 
--- what a round keeps: nothing is on its way but what is late, and no number goes back
+-- what a round leaves: nothing is on its way but what is late, and no number falls
 pub record RoundKeeps {A : Type 0} (old new : Link A) : Type 0 where
   pub ahead : new.there.ahead ≡ []
   pub ahead_back : new.back.ahead ≡ []
@@ -51,8 +52,8 @@ abbrev pub AllFail : ℕ → ℕ → FatesSeen → Type 0
 AllFail follow zero v = Unit {0}
 AllFail follow (suc n) v = HasFailed follow (next_fate v) × AllFail follow n (after_fate v)
 
--- of the frames of a round, which meet the next fates of v, the first fails, or of its
--- acknowledgements, which meet those of v', each does
+-- in a round that so many stuck rounds follow: of its frames, which meet the next fates of v, the
+-- first fails, or of its acknowledgements, which meet those of v', each does
 abbrev pub IsStuck : ℕ → ℕ → ℕ → FatesSeen → FatesSeen → Type 0
 IsStuck follow frames acks v v' =
     ((0 < frames) × HasFailed follow (next_fate v)) ⊎ ((0 < acks) × AllFail follow acks v')

@@ -79,7 +79,7 @@ pub(crate) fn arrive<A: Allocator + Copy, const N: usize>(
 }
 
 /// An acknowledgement comes to the sender. One that is too short for a position, or whose position
-/// lies outside what is kept, changes nothing.
+/// is below the sender's `base` or above its `end`, changes nothing.
 pub(crate) fn acknowledge(sender: &mut Sender<'_>, frame: &[u8])
     ensures carried { (f : ℕ) (w : List ℕ) (r : Stored) (there back : PathSeen) →
         FrameTells r frame.now → IsUnderWay f w sender.old r there back

@@ -23,8 +23,7 @@ use std::io::{Read, Write};
 pub struct Settings {
     /// The position of the stream's first byte.
     pub first: u64,
-    /// How many bytes the sender keeps at most, and the receiver: the window. With 0 a copy gives
-    /// up.
+    /// The capacity of the sender and of the receiver, in bytes. With 0 a copy gives up.
     pub capacity: usize,
     /// The most bytes of a frame's payload; 0 counts as 1.
     pub payload: u32,
@@ -57,8 +56,8 @@ fn flush_after<W: Write>(ended: Result<(), LinkError>, writer: &mut W) -> Result
     ended
 }
 
-/// `copy` over storage that is lent: the sender keeps bytes in `outgoing`, the receiver in
-/// `incoming`, and `chunk` is read into and written from. The capacity of the settings isn't read.
+/// `copy` over storage that is lent: `outgoing` is the sender's, `incoming` the receiver's, and
+/// `chunk` is read into and written from. The capacity of the settings isn't read.
 pub fn copy_over<'a, 'f, A: Allocator + Copy, R: Read, W: Write>(
     alloc: A,
     settings: Settings,

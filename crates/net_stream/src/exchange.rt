@@ -256,7 +256,7 @@ fn stalled_after(stalled: u64, moved: bool) -> u64
     stalled.saturating_add(1)
 }
 
-/// Turns, until all that the reader has is written: one reads at most once and passes a round.
+/// Passes rounds until all that the reader has is written, and reads at most once before each.
 pub(crate) fn exchange<A: Allocator + Copy, R: Read, W: Write>(
     link: &mut Link<'_, '_, A>,
     settings: Settings,

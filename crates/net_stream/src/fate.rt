@@ -31,8 +31,8 @@ pub struct Rates {
 }
 
 impl Fate {
-    /// The fate that a word of 32 bits stands for: its last two decimal digits are compared to
-    /// `lost`, the two before them to `repeated`, and the two before those to `late`.
+    /// The fate that a random word stands for: its last two decimal digits are compared to `lost`,
+    /// the two before them to `repeated`, and the two before those to `late`.
     pub fn of_word(word: u32, rates: Rates) -> Fate
         ensures { result ≡ fate_of rates word }
     {
@@ -100,7 +100,8 @@ impl<'f> Fates<'f> {
         }
     }
 
-    /// The next fate: the first of the list, or if it has none that of the generator's next word.
+    /// The next fate: the first of the list, or if it has none that of the generator's next random
+    /// word.
     pub fn draw(&mut self) -> Fate
         ensures fate { result ≡ next_fate self.old }
         ensures state { self.new ≡ after_fate self.old }

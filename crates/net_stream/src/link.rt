@@ -21,25 +21,24 @@ use net_receiver::{Receiver, laws};
 use net_storage::ManagedSlice;
 use std::alloc::{AllocError, Allocator};
 
-/// The most runs that the receiver of a link holds out of order: as many as an acknowledgement
-/// reports.
+/// The most held runs of a link's receiver: as many as an acknowledgement reports.
 const MOST_RUNS: usize = 32;
 
-/// A link that carries a stream one way: its sender and its receiver, the direction in which frames
-/// go, and the one in which acknowledgements come back.
+/// A link that carries a stream one way: its sender and its receiver, the path of the frames, and
+/// the path of the acknowledgements.
 ///
-/// The parts are there to be used: the sender can be asked how much it keeps, and the receiver how
-/// much is queued. A conversation takes two links, one each way, for a direction carries either
-/// frames or acknowledgements. Time is simulated: a link has a clock of its own, which `wait` moves.
+/// The fields are there to be used: the sender and the receiver can be asked how many bytes are
+/// queued. A conversation takes two links, one each way, for a path carries either frames or
+/// acknowledgements. Time is simulated: a link has a clock of its own, which `wait` advances.
 #[derive(Drop)]
 pub struct Link<'a, 'f, A: Allocator + Copy> {
     /// What sends.
     pub sender: Sender<'a>,
     /// What receives.
     pub receiver: Receiver<'a, MOST_RUNS>,
-    /// The direction of the frames, from the sender to the receiver.
+    /// The path of the frames, from the sender to the receiver.
     pub there: Path<'f, A>,
-    /// The direction of the acknowledgements, from the receiver to the sender.
+    /// The path of the acknowledgements, from the receiver to the sender.
     pub back: Path<'f, A>,
     /// The most bytes of a frame's payload; 0 counts as 1.
     pub payload: u32,
@@ -57,8 +56,7 @@ pub struct Link<'a, 'f, A: Allocator + Copy> {
 impl<'a, 'f, A: Allocator + Copy> Link<'a, 'f, A> {
     /// A link on which nothing is on its way. The stream's first byte has position `first`.
     ///
-    /// The sender keeps as many bytes as `to_send` is long, and the receiver as many as
-    /// `to_receive`.
+    /// The sender's capacity is the length of `to_send`, and the receiver's that of `to_receive`.
     /// Frames meet `fates`, and acknowledgements `ack_fates`. The first round may send as many frames
     /// as any may: `limit`, of which 0 counts as 1.
     pub fn new(
@@ -101,7 +99,7 @@ impl<'a, 'f, A: Allocator + Copy> Link<'a, 'f, A> {
         Instant::ZERO.saturating_add(self.elapsed)
     }
 
-    /// Lets time pass: the clock goes on by so much, up to 2^64 - 1 microseconds.
+    /// Lets time pass: the clock goes on by so much, up to 2^64 - 1 microseconds in all.
     pub fn wait(&mut self, time: Duration)
         ensures state { self.new
             ≡ record self.old { elapsed = min (self.old.elapsed + time) (2 ^ 64 - 1) } }
@@ -180,7 +178,7 @@ impl<'a, 'f, A: Allocator + Copy> Link<'a, 'f, A> {
     }
 
     /// An acknowledgement comes to the sender. One that is too short for a position, or whose
-    /// position lies outside what is kept, changes nothing.
+    /// position is below the sender's `base` or above its `end`, changes nothing.
     pub fn acknowledge(&mut self, frame: &[u8])
         ensures state { self.new
             ≡ record self.old { sender = after_ack_frame self.old.sender (segment_of frame.now) } }

@@ -1,4 +1,4 @@
-//! The parts of a round: frames and acknowledgements meet their fates.
+//! What a round is made of: frames and acknowledgements meet their fates.
 ghost use Rattle.std.specs.Prelude.{◌≡◌, ◌+◌, ◌≤◌, ◌<◌, ◌++◌, [], ℕ, List, length, true};
 ghost use Rattle.std.specs.Prelude.{IfOk, OnOk, OnErr, IsTrue, IsFalse, if◌then◌else◌};
 ghost use Rattle.net_receiver.specs.Stored.{Stored, stored_next};

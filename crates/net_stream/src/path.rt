@@ -1,4 +1,4 @@
-//! One direction of a link.
+//! A path of a link.
 ghost use Rattle.std.specs.Prelude.{◌≡◌, ◌+◌, ◌<◌, ◌^◌, ◌++◌, ◌∷◌, [], length};
 ghost use Rattle.std.specs.Prelude.{MatchOption, OnOk, OnErr};
 ghost use Rattle.net_stream.specs.Frames.{frame_of};
@@ -12,8 +12,8 @@ use net_base::time::Instant;
 use std::alloc::{AllocError, Allocator};
 use std::marker::Model;
 
-/// One direction of a link: the frames that are on their way, those that come late, and the fates
-/// of those that meet theirs next.
+/// A path of a link, in one direction: the frames that are on their way, those that come late, and
+/// the fates of those that meet theirs next.
 ///
 /// Contracts see the two lists of frames, each the next first, and the fates. Each list is a
 /// loopback device, which takes its memory from the allocator.
@@ -33,7 +33,7 @@ impl<'f, A: Allocator + Copy> Model for Path<'f, A> {
 }
 
 impl<'f, A: Allocator + Copy> Path<'f, A> {
-    /// A direction with no frames, whose frames meet these fates.
+    /// A path with no frames, whose frames will meet these fates.
     pub fn new(alloc: A, fates: Fates<'f>) -> Path<'f, A>
         ensures { result ≡ record { ahead = []; late = []; fates = fates.entry } }
     {

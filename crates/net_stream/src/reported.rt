@@ -1,4 +1,4 @@
-//! What a receiver reports of the bytes that it holds out of order.
+//! The held runs that a receiver reports.
 ghost use Rattle.std.specs.Prelude.{◌≡◌, ◌+◌, ◌^◌, ◌<◌, ◌≤◌, ◌++◌, ◌∷◌, [], length, take};
 ghost use Rattle.std.specs.Prelude.{All, MatchOption, None, Some, min, nat_lt, if◌then◌else◌};
 ghost use Rattle.std.specs.Int.{w64, to_be_bytes};
@@ -142,7 +142,7 @@ fn decode_range(bytes: &[u8]) -> Option<(u64, u64, &[u8])>
     Some((start, end, rest))
 }
 
-/// Writes a word at a place of a buffer, in 8 bytes, the most significant first.
+/// Writes a number at an index of a buffer, in 8 bytes, the most significant first.
 fn write_word(buffer: &mut [u8], at: usize, word: u64)
     requires { at + 8 ≤ length buffer.old }
     ensures len { length buffer.new ≡ length buffer.old }

@@ -29,7 +29,7 @@ fn flight_after(flight: u32, limit: u32, full: bool) -> u32
 
 /// Rounds: sending, and what becomes of frames and acknowledgements.
 impl<'a, 'f, A: Allocator + Copy> Link<'a, 'f, A> {
-    /// Puts frames of what the sender keeps on their way, but of what the receiver reported: at most
+    /// Puts frames of the sender's queue on their way, but of what the receiver reported: at most
     /// `flight` frames. While as many ranges are reported as an acknowledgement has room for, no
     /// frame begins behind the last of them. A refusal of memory leaves frames of a prefix on their
     /// way, and they are counted.
@@ -61,13 +61,14 @@ impl<'a, 'f, A: Allocator + Copy> Link<'a, 'f, A> {
         )
     }
 
-    /// One round: what the sender keeps and wasn't reported is put on its way, as far as `transmit`
-    /// says, late frames of the round before come, the frames on their way meet their fates, the receiver acknowledges
-    /// once more what it has, and late acknowledgements and those on their way come likewise.
+    /// One round: what the sender has queued and wasn't reported is put on its way, as far as
+    /// `transmit` says, late frames of the round before come, the frames on their way meet their
+    /// fates, the receiver acknowledges once more what it has, and late acknowledgements and those on
+    /// their way come likewise.
     ///
     /// `round` says it exactly. Whatever becomes of the frames, the stream stays on its way
-    /// (`carries`). If all of this round come, and the receiver's window has room for all that the
-    /// sender keeps, then the receiver has all that was sent, and the sender keeps the rest.
+    /// (`carries`). If all of this round come, and the receiver's free window has room for all that
+    /// the sender has queued, then the receiver has all that was sent, and the queue is the rest.
     ///
     /// Then the flight is halved if as many ranges are reported as an acknowledgement has room for,
     /// and else it grows by so many. A refusal of memory ends the round, and leaves the flight.

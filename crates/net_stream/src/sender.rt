@@ -16,14 +16,13 @@ use net_storage::ring_buffer::laws::overwritten;
 use net_storage::{ManagedSlice, RingBuffer};
 use std::marker::Model;
 
-/// The sender of a stream: it keeps the bytes that were written and not yet acknowledged.
+/// The sender of a stream: its queue has the bytes that were written and not yet acknowledged.
 ///
 /// Positions are absolute and counted in bytes, as a `Receiver` counts them. Contracts see the
-/// capacity, the position of the first byte that is kept, the bytes that are kept, the ranges that
-/// the last acknowledgement reported, and the position at which the storage begins again; `Sends f
-/// w` says of a sender that all bytes that were ever written to it are `w`, the first at position
-/// `f`. No call takes memory. smoltcp's TCP
-/// socket has the transmit buffer as a part of itself, and takes no notice of reported ranges.
+/// capacity, the position of the queue's head, the queue, the ranges that the last acknowledgement
+/// reported, and the position at which the storage begins again; `Sends f w` says of a sender that
+/// all bytes that were ever written to it are `w`, the first at position `f`. No call takes memory.
+/// smoltcp's TCP socket has the transmit buffer in itself, and takes no notice of reported ranges.
 #[derive(Drop)]
 pub struct Sender<'a> {
     ring: RingBuffer<'a, u8>,
@@ -31,8 +30,8 @@ pub struct Sender<'a> {
     reported: Reported,
 }
 
-/// What a sender keeps after several acknowledgements begins at the greatest position of those that
-/// its end isn't below, whatever their order.
+/// After several acknowledgements a sender's queue begins at the greatest of where it began and of
+/// their positions, those above its end left out, whatever their order.
 pub fn keeps_from_greatest()
     ensures { KeepsFromGreatest }
 {}
@@ -74,7 +73,7 @@ impl<'a> Sender<'a> {
         }
     }
 
-    /// Returns the position of the first byte that is kept: all before it is acknowledged.
+    /// Returns the position of the queue's head: all before it is acknowledged.
     pub fn base(&self) -> u64
         ensures value { result ≡ self.now.base }
         ensures fits { end_of self.now < 2 ^ 64 }
@@ -91,7 +90,7 @@ impl<'a> Sender<'a> {
         self.base + self.ring.len() as u64
     }
 
-    /// Returns how many bytes are kept.
+    /// Returns how many bytes are queued.
     pub fn len(&self) -> usize
         ensures { result ≡ length self.now.queue }
     {
@@ -113,7 +112,7 @@ impl<'a> Sender<'a> {
         (self.ring.window() as u64).min(positions) as usize
     }
 
-    /// Keeps the first of these bytes, as many as `window` says, and returns how many.
+    /// Enqueues the first of these bytes, as many as `window` says, and returns how many.
     pub fn write(&mut self, bytes: &[u8]) -> usize
         ensures count { result ≡ min (length bytes.now) (room_of self.old) }
         ensures state { self.new ≡ with_written self.old (take result bytes.now) }
@@ -124,10 +123,10 @@ impl<'a> Sender<'a> {
         self.ring.enqueue_slice(&bytes[..count])
     }
 
-    /// Runs `f` on the free bytes that come next, keeps as many of them as `f` counts, and returns
-    /// what `f` returned.
+    /// Calls `f` on the free bytes that come next, enqueues as many of them as `f` counts, and
+    /// returns what `f` returned.
     ///
-    /// `f` is lent as many as stand in a row in the storage, as far as positions go; what they hold
+    /// `f` is lent as many as stand in a row in the storage, as far as positions go; what they are
     /// isn't said. It must count no more than it is lent. smoltcp's `send` does the same.
     ///
     /// # Requires
@@ -159,8 +158,8 @@ impl<'a> Sender<'a> {
         }
     }
 
-    /// Lends the bytes that are kept from the one at `pos` on, at most `max`, without a copy: as many
-    /// as lie in a row in the storage, which wraps. None if the byte at `pos` isn't kept.
+    /// Lends the queued bytes from the one at `pos` on, at most `max`, without a copy: as many as lie
+    /// in a row in the storage, which wraps. None if the byte at `pos` isn't queued.
     pub fn segment(&self, pos: u64, max: usize) -> &[u8]
         ensures value { result.now
             ≡ take (length result.now) (drop (pos - self.now.base) self.now.queue) }
@@ -185,8 +184,8 @@ impl<'a> Sender<'a> {
         self.ring.get_allocated((pos - self.base) as usize, max)
     }
 
-    /// Returns how many of the bytes that are kept, from the one at `pos` on, lie in the first
-    /// reported range that has `pos`: 0 if none has, or `pos` is at or past the end.
+    /// Returns how many of the queued bytes, from the one at `pos` on, lie in the first reported
+    /// range that has `pos`: 0 if none has, or `pos` is at or past the end.
     pub(crate) fn reported_from(&self, pos: u64) -> u64
         ensures value { result ≡ spared_from self.now pos }
         ensures inside { (q : ℕ) → pos ≤ q → q < pos + result
@@ -211,7 +210,7 @@ impl<'a> Sender<'a> {
     }
 
     /// Returns whether as many ranges were reported as an acknowledgement has room for: then the
-    /// receiver may hold bytes that it couldn't report.
+    /// receiver may have held bytes that it couldn't report.
     pub(crate) fn is_report_full(&self) -> bool
         ensures { result ≡ is_full self.now.reported }
     {
@@ -230,8 +229,8 @@ impl<'a> Sender<'a> {
         last.saturating_add(1).min(self.end())
     }
 
-    /// Lets go the bytes below `next`, and keeps the ranges that the receiver reported, in place of
-    /// those that it reported before. A position outside what is kept changes nothing.
+    /// Lets go the bytes below `next`, and takes over the ranges that the receiver reported, in place
+    /// of those that it reported before. A position below `base` or above `end` changes nothing.
     pub fn acknowledge(&mut self, next: u64, reported: Reported)
         ensures state { self.new ≡ after_ack self.old next reported }
         ensures sends { (f : ℕ) (w : List ℕ) → Sends f w self.old → Sends f w self.new }

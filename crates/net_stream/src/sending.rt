@@ -1,4 +1,4 @@
-//! What a sender keeps is put on its way.
+//! What a sender has queued is put on its way.
 ghost use Rattle.std.specs.Prelude.{◌≡◌, ◌≤◌, ◌<◌, ℕ, List, OnOk, OnErr, IfOk};
 ghost use Rattle.net_receiver.specs.Stored.{Stored};
 ghost use Rattle.net_stream.specs.Outgoing.{end_of};
@@ -49,7 +49,7 @@ fn transmit_part<A: Allocator + Copy>(
     Ok((bytes.len() as u64, 1))
 }
 
-/// Puts frames of what the sender keeps on their way, but of what the receiver reported: at most
+/// Puts frames of the sender's queue on their way, but of what the receiver reported: at most
 /// `flight` frames, each of at most `most` bytes of payload. A number of 0 counts as 1.
 ///
 /// A frame ends at `most` bytes, at the next reported range, where the sender's storage wraps, or

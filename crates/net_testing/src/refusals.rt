@@ -1,15 +1,15 @@
 use crate::refusing::Refusing;
 use std::alloc::Allocator;
 
-/// More requests than any run of a test makes.
+/// More requests than any test makes.
 const MOST_REQUESTS: usize = 1_000_000;
 
-/// Refuses each request for memory of a run in turn, up to a run that succeeds, and returns how many
-/// requests that one makes.
+/// Calls `run` with memory that refuses its first request, then its second, and so on, up to a call
+/// that succeeds, and returns how many requests that call makes.
 ///
-/// `run` makes one run over the memory that it is given, from the beginning on, and returns whether
-/// it succeeded. It has to fail exactly if a request was refused: `None` if one fails where none
-/// was, or succeeds where one was.
+/// Each call of `run` begins anew, with the memory that it is given, and returns whether it succeeded.
+/// It has to fail exactly if a request was refused: `None` if a call fails where none was, or succeeds
+/// where one was.
 pub fn refuse_each<A: Allocator + Copy, F: FnMut(&Refusing<A>) -> bool>(
     alloc: A,
     mut run: F,

@@ -5,7 +5,7 @@ use std::alloc::{AllocError, Global};
 use std::io;
 use std::io::{ErrorKind, Write};
 
-/// A writer that keeps what it takes: at most `bytes_per_call` bytes a call. Its call number
+/// A writer to memory. It takes at most `bytes_per_call` bytes a call. Its call number
 /// `failing_call`, counted from 0, fails with an error of this kind, or takes no byte if there is
 /// none. Each flush fails with an error of the kind `flush_kind`, if there is one.
 #[derive(Drop)]

@@ -1,4 +1,8 @@
--- What a socket holds, and what it hands out.
+-- The datagrams of a socket, and what it hands out.
+--     SocketState, received s, to_send s      its two queues, and the datagrams of each
+--     KeepsCapacity old new      its slots and bytes are as many as they were
+--     Shown ds e n xs ys      the first datagram was copied
+--     TakesFirstDatagram f ds, Dispatched f q answer r      a closure at the first datagram
 use Rattle.std.specs.Prelude.{◌≡◌, ℕ, List, ◌∷◌, ◌++◌, Result, is_ok}
 use Rattle.std.specs.Prelude.{if◌then◌else◌, length, min, take, drop}
 use Rattle.std.specs.Borrow.{Bor}
@@ -53,8 +57,8 @@ module _ {F R : Type 0} (g : Once F (Endpoint × (Bor (List ℕ) × Unit {0})) R
       (e : Endpoint) (bytes : List ℕ) → ds ≡ (e, bytes) ∷ drop 1 ds → TakesDatagram f e bytes
 
 module _ {F R E : Type 0} (g : Once F (Endpoint × (Bor (List ℕ) × Unit {0})) (Result R E)) where
-  -- f was handed the first datagram of the queue q and gave the answer: that datagram is gone from
-  -- the queue r where the answer is `Ok`, and else nothing is
+  -- f was handed the first datagram of the queue q and returned `answer`: that datagram is gone from
+  -- the queue r where that is `Ok`, and else nothing is
   pub record Dispatched (f : F) (q : PacketQueue Endpoint) (answer : Result R E)
       (r : PacketQueue Endpoint) : Type 0 where
     pub endpoint : Endpoint

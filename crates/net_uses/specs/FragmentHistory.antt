@@ -1,4 +1,7 @@
--- What a buffer holds after many fragments.
+-- What a buffer has after many fragments.
+--     after_fragments b fs      the buffer after fragments
+--     last_byte p d fs      the byte at a position: that of the last fragment there
+--     LastFragmentStands, OldBytesAreGone      what the buffer then has
 use Rattle.std.specs.Prelude.{◌≡◌, Bool, ◌+◌, ◌-◌, ◌<◌, ◌&&◌, ℕ, List, [], ◌∷◌, length}
 use Rattle.std.specs.Prelude.{if◌then◌else◌, nat_le, nat_lt, slice_index_or, IsTrue}
 use Rattle.net_storage.specs.Positions.{contains, nothing}

@@ -1,4 +1,7 @@
 -- A packet that comes in fragments.
+--     FragmentState, state_code      what the buffer has come to, and its code
+--     Fits bytes total      a known size is at most that of the buffer
+--     fragment_added b offset data', IsComplete b n      a fragment came, and all of them did
 use Rattle.std.specs.Prelude.{◌≡◌, ◌<◌, ◌≤◌, ⊤, ℕ, ℤ, List, Option, length, IsTrue, refl}
 use Rattle.std.specs.Coded.{Coded, code_by, coded×, coded_ℕ, coded_ℤ, coded_list, coded_option}
 use Rattle.std.specs.FinSet as set

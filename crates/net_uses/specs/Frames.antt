@@ -1,4 +1,7 @@
 -- Frames that pass, one after another.
+--     Each step x frames y      each frame in turn makes y of x
+--     Forwarded n x x' y y', ForwardedAndLost n x x' y y'      frames that were taken off and sent on
+--     Stops x x' y, Passed max n x x' y y'      no other frame passes, and what passed before
 use Rattle.std.specs.Prelude.{◌≡◌, ◌<◌, ◌⊎◌, ℕ, List, [], ◌∷◌, ◌++◌, length}
 
 -- each of the frames in turn, by the relation step, makes y of x

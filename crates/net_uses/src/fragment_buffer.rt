@@ -17,12 +17,12 @@ pub mod laws;
 pub enum FragmentError {
     /// It reaches past the end of the buffer.
     TooLong,
-    /// It would leave more maximal runs of bytes, with holes between them, than the buffer keeps.
+    /// It would leave more maximal runs of bytes, with holes between them, than there is room for.
     TooManyHoles,
 }
 
 /// A packet that comes in fragments, in any order, over any storage. [`FragmentBuffer`] is its
-/// usual form. `N` is how many maximal runs of bytes it keeps apart.
+/// usual form. `N` is how many maximal runs of bytes it has room for.
 ///
 /// Fragments may overlap: at each position the byte is that of the fragment that came last there.
 ///
@@ -57,8 +57,7 @@ impl<B: Elements<u8>, const N: usize> Model for Fragments<B, N> {
 }
 
 impl<B: Elements<u8>, const N: usize> Fragments<B, N> {
-    /// A packet of which nothing came, which is waited for up to `expires_at`. Condition: `N` is
-    /// not zero.
+    /// A packet of which nothing came, which is waited for up to `expires_at`.
     ///
     /// # Requires
     ///

@@ -32,7 +32,7 @@ impl<M: Elements<PacketMetadata<Endpoint>>, B: Elements<u8>> Model for Inbox<M, 
 impl<M: Elements<PacketMetadata<Endpoint>>, B: Elements<u8>> Inbox<M, B> {
     ghost use Rattle.net_uses.specs.InboxLends.{stays};
 
-    /// The datagrams that the queue holds.
+    /// An inbox of the packets of the queue.
     pub fn new(queue: Packets<Endpoint, M, B>) -> Self
         ensures { result ≡ contents queue }
     {

@@ -37,8 +37,8 @@ impl<'a> Model for UdpSocket<'a> {
 }
 
 impl<'a> UdpSocket<'a> {
-    /// A socket over two queues: what `inbound` holds was received, and what `outbound` holds is to
-    /// be sent.
+    /// A socket over two queues: the packets of `inbound` were received, and those of `outbound` are
+    /// to be sent.
     pub fn new(inbound: PacketBuffer<'a, Endpoint>, outbound: PacketBuffer<'a, Endpoint>) -> Self
         ensures inbound { result.inbound ≡ inbound.entry }
         ensures outbound { result.outbound ≡ outbound.entry }
@@ -135,7 +135,7 @@ impl<'a> UdpSocket<'a> {
     /// datagram is taken off; if it returns `Err`, it stays first, and only the gap before it, if
     /// there is one, is given up.
     ///
-    /// `Empty` changes nothing, and `emit` is not run.
+    /// `Empty` changes nothing, and `emit` is not called.
     ///
     /// # Requires
     ///

@@ -9,7 +9,7 @@ use std::alloc::AllocError;
 
 /// A device that hands over the frames that came in, and sends frames out.
 ///
-/// Tokens are owned: several can be held at once, and a transmit token can be spent on any device
+/// Tokens are owned: several can exist at once, and a transmit token can be spent on any device
 /// that has its type. Each device says what a frame that is taken off it, a frame that is sent, and
 /// a `receive` that finds none, change of it.
 pub trait Device {
@@ -43,11 +43,11 @@ pub trait Device {
     /// What the device can do.
     ghost abilities: { Self → DeviceCapabilities };
 
-    /// Takes the next frame off the device: a token that holds it, and a token to send one frame
+    /// Takes the next frame off the device: a token that has it, and a token to send one frame
     /// with. Returns `None` only if `is_idle` holds of the device, as the device states it, and
     /// then the device becomes what it states in `idled`.
     ///
-    /// The second token is there so that a frame can be answered at once: a stack that replies to
+    /// The second token is there so that a stack can send at once in return: one that replies to
     /// an ICMP echo needs no other call to get the right to send. `send` with it can still be
     /// refused memory.
     ///
@@ -68,11 +68,11 @@ pub trait Device {
     fn capabilities(&self) -> DeviceCapabilities
         ensures { result ≡ abilities self.now };
 
-    /// Sends one frame: runs `f` once on `len` zero bytes, sends what `f` made of them, and returns
+    /// Sends one frame: calls `f` once on `len` zero bytes, sends what `f` made of them, and returns
     /// what `f` returned.
     ///
     /// If memory is refused, which comes only if `lacks_memory` holds of the device and `len`, as the
-    /// device states it, `f` is let go without being run, hence its bound `Drop`, and the device
+    /// device states it, `f` is dropped without a call, hence its bound `Drop`, and the device
     /// stays as it was. The token is spent in both cases.
     ///
     /// # Requires

@@ -11,7 +11,7 @@ pub trait FrameLists: Device {
     /// The frames that wait to be taken off, the next first.
     ghost incoming: { Self → List (List ℕ) };
 
-    /// The frames that were sent and are kept, the last one last.
+    /// The frames that were sent and are still there, the last one last.
     ghost outgoing: { Self → List (List ℕ) };
 
     /// The frame that is taken is the first one.

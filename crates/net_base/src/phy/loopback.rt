@@ -19,7 +19,7 @@ const LONGEST_FRAME: usize = 65_535;
 /// A device that receives what it sends, in the order in which it was sent. It serves tests, and two
 /// ends in one program.
 ///
-/// Contracts see its medium and the list of its frames, the next first. It keeps its allocator,
+/// Contracts see its medium and the list of its frames, the next first. It stores its allocator,
 /// from which `send` takes the room in its queue and the bytes of each frame. Frames of any length
 /// are sent, also those beyond the `max_transmission_unit` of its capabilities.
 #[derive_where(Debug)]
@@ -38,7 +38,7 @@ impl<A: Allocator + Copy> Model for Loopback<A> {
 }
 
 impl<A: Allocator + Copy> Loopback<A> {
-    /// A device with no frames, which keeps `alloc` for those to come and takes no memory yet.
+    /// A device with no frames, which stores `alloc` for those to come and takes no memory yet.
     pub fn new(alloc: A, medium: Medium) -> Loopback<A>
         ensures { result ≡ record { medium = medium; frames = [] } }
     {
@@ -92,7 +92,7 @@ impl<A: Allocator + Copy> Device for Loopback<A> {
     }
 
     /// Puts a frame behind the others. The room in the queue and the bytes of the frame are taken
-    /// before `f` is run.
+    /// before `f` is called.
     fn send<R, F: FnOnce(&mut [u8]) -> R + Drop>(
         &mut self,
         _token: TxToken,

@@ -12,7 +12,7 @@ pub trait RxToken: Drop {
     /// Holds of a token whose frame has no metadata. By default every token is one.
     ghost is_plain: { Self → Type 0 } = { λ _. Unit {0} };
 
-    /// Runs `f` once on the frame, and returns what `f` returned.
+    /// Calls `f` once on the frame, and returns what `f` returned.
     ///
     /// # Requires
     ///
@@ -21,7 +21,7 @@ pub trait RxToken: Drop {
         requires { FnOnceTakesAt F.FnOnce f (bytes self) }
         ensures { FnOnceReturnsAt F.FnOnce f (bytes self) result };
 
-    /// The bytes of the frame, which the token keeps.
+    /// The bytes of the frame, which stays with the token.
     fn frame(&self) -> &[u8]
         ensures { result.now ≡ bytes self.now };
 

@@ -51,7 +51,7 @@ const NUMBER_ROOM: usize = 20;
 /// The most bytes of a run's text and a comma: two numbers, and a dash between them.
 const RUN_ROOM: usize = 2 * NUMBER_ROOM + 2;
 
-/// How many runs the answer to a segment reports at most.
+/// How many runs the reply to a segment reports at most.
 const REPORTED: usize = 3;
 
 /// The most bytes of a line that says what was kept: two numbers, the reported runs, and 20 bytes

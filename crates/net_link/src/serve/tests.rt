@@ -1,4 +1,4 @@
-//! What comes of copies. The counts are those of a model of its own, written from docs/LINK.md.
+//! What comes of copies. The counts are those that a second program finds, written from docs/LINK.md.
 use super::*;
 use net_testing::{NEVER, Refusing, Sink, Source};
 use std::alloc::{AllocError, Global};
@@ -61,7 +61,7 @@ const CASES: [Case; 16] = [
         told: "0 bytes, 0 frames, 0 lost, 0 repeated, 0 late, \
             0 refused, 0 bytes sent again, 0 rounds, 0 bytes a second\n",
     },
-    // The window and the payload.
+    // The capacity and the payload.
     Case {
         words: "0 1 0 0 65536",
         input: 100_000,

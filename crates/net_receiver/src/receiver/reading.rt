@@ -42,7 +42,7 @@ impl<'a, const N: usize> Receiver<'a, N> {
     /// there are up to the end of the queue or of the storage. None are lent only if `size` is 0 or
     /// the queue has no byte `offset`.
     ///
-    /// The stream's byte number i, counted from 0, has the place `i` modulo the capacity in the
+    /// The stream's byte number i, counted from 0, has the index `i` modulo the capacity in the
     /// storage, so it is known where a part ends. smoltcp's `peek` lends from the head on.
     pub fn peek(&self, offset: usize, size: usize) -> &[u8]
         ensures count { length result.now ≡ contiguous_count_from self.now offset size }
@@ -100,7 +100,7 @@ impl<'a, const N: usize> Receiver<'a, N> {
         self.ring.as_slices()
     }
 
-    /// Runs `f` on the first part of the queue, as `as_slices` shows it, takes as many bytes off the
+    /// Calls `f` on the first part of the queue, as `as_slices` shows it, takes as many bytes off the
     /// queue as `f` counts, and returns what `f` returned. The part is empty only if the queue is.
     ///
     /// `f` must take that part, and count no more bytes than it is lent. smoltcp's `recv` lends the

@@ -1,4 +1,4 @@
-//! Pairs of an array that are moved up or down, one place after another.
+//! Pairs of an array that are moved up or down, one index after another.
 ghost use Rattle.std.specs.Prelude.{◌≡◌, ◌+◌, ◌-◌, ◌<◌, ◌≤◌, ◌++◌, ◌∷◌, length, take, drop};
 ghost use Rattle.net_storage.specs.Positions.{runs_shifted_up};
 ghost use Rattle.net_storage.specs.RunLists.{AreRuns, FitsFrom, runs_shifted_down, start_at};

@@ -24,7 +24,7 @@ pub(crate) fn runs_ending_before(
     ensures no_look_lost { turns.old.0 ≤ turns.new.0 }
     ensures moves { turns.new.1 ≡ turns.old.1 }
 {
-    // No run, or the first alone, ends before it: most data comes near the front.
+    // No run, or the first alone, ends before it: most data comes near the first run.
     if offset <= pairs[0].1 {
         return 0;
     }

@@ -16,12 +16,11 @@ use crate::packet_metadata::PacketMetadata;
 /// A closure writes the last packet, or is handed the first one.
 impl<H: Drop, M: Elements<PacketMetadata<H>>, B: Elements<u8>> Packets<H, M, B> {
     /// Puts a packet last whose bytes `f` writes: `f` is lent `max_size` bytes, and returns how
-    /// many of them, from the first on, are the packet. That number is returned. Condition: it is
-    /// at most `max_size`.
+    /// many of them, from the first on, are the packet. That number is returned.
     ///
     /// Returns `Full` if [`Packets::place`] would for `max_size` bytes, and then drops the header,
-    /// does not run `f` and changes nothing. smoltcp places these packets by a rule of its
-    /// own and can take more than `max_size` bytes; here the rule is that of `enqueue`.
+    /// does not call `f` and changes nothing. smoltcp places these packets by a rule of its own and
+    /// can take more than `max_size` bytes; here the rule is that of `enqueue`.
     ///
     /// # Requires
     ///
@@ -56,11 +55,11 @@ impl<H: Drop, M: Elements<PacketMetadata<H>>, B: Elements<u8>> Packets<H, M, B> 
         Ok(count)
     }
 
-    /// Runs `f` on the header and the bytes of the first packet, whose gap goes. If `f` returns
+    /// Calls `f` on the header and the bytes of the first packet, whose gap goes. If `f` returns
     /// `Ok`, the packet is taken off; if it returns `Err`, the packet stays first, with what `f`
     /// wrote to its header and bytes.
     ///
-    /// Returns `Empty`, does not run `f` and changes nothing, if the queue has no packets.
+    /// Returns `Empty`, does not call `f` and changes nothing, if the queue has no packets.
     ///
     /// # Requires
     ///
@@ -89,7 +88,7 @@ impl<H: Drop, M: Elements<PacketMetadata<H>>, B: Elements<u8>> Packets<H, M, B> 
     }
 }
 
-/// Runs `f` on a header and the first `size` of bytes in a row, and returns what it returned, the
+/// Calls `f` on a header and the first `size` of bytes in a row, and returns what it returned, the
 /// header and how many bytes are taken off.
 fn with_first<H, R, E, F: FnOnce(&mut H, &mut [u8]) -> Result<R, E>>(
     f: F,

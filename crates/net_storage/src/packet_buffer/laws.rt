@@ -43,7 +43,7 @@ pub fn empty_queue_takes_what_fits<H>()
 
 /// Packets leave in the order in which they were accepted, each with the header and the bytes last
 /// written by who put it or by a closure that refused it: on the list of the headers and bytes that
-/// a queue holds, a packet that is accepted comes to the end, a refusing closure writes the first
+/// a queue has, a packet that is accepted comes to the end, a refusing closure writes the first
 /// one anew, the first one is what is shown and taken off, and dropping a gap changes nothing.
 pub fn packets_leave_in_order<H>()
     ensures accepted { (q : PacketQueue H) (size : ℕ) (header : H) (ws : List ℕ)
@@ -94,7 +94,7 @@ pub fn the_two_steps_apart<H>()
         → contents (with_bytes (without_first_and_gap q) (without_gap q).read_at ws) ≡ drop 1 (contents q) }
 {}
 
-/// A packet that was only looked at: after `peek` the same packet is taken off, and a closure that
+/// A packet that was only shown: after `peek` the same packet is taken off, and a closure that
 /// leaves the header and the bytes of the first packet as they were leaves the contents, less the
 /// packet if it returned `Ok`.
 pub fn looking_changes_nothing<H>()

@@ -59,14 +59,12 @@ impl<H: Drop, M: Elements<PacketMetadata<H>>, B: Elements<u8>> Packets<H, M, B> 
         Ok((header, size))
     }
 
-    /// Lends the `size` bytes before the place where the storage is read: those of the packet that
-    /// was taken off last. Condition: they lie in a row and none is a packet's, as after a call of
-    /// [`Packets::take`] that returned `size`.
+    /// Lends the `size` bytes before the read index: those of the packet that was taken off last.
     ///
     /// # Requires
     ///
-    /// The `size` bytes before the place where the queue is read lie in a row and hold no packet,
-    /// as after `take`, which returns their number.
+    /// The `size` bytes before the read index lie in a row and none is a packet's, as after a call of
+    /// [`Packets::take`] that returned `size`.
     pub fn freed_mut(&mut self, size: usize) -> &mut [u8]
         requires { AreFreed self.old size }
         ensures* writes_back { sem 𝓛 (lends_bytes H.row M.row B.row M.Elements B.Elements

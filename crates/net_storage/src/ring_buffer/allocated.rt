@@ -78,7 +78,7 @@ impl<T, S: Elements<T>> Ring<T, S> {
     /// contiguous.
     ///
     /// An addition to smoltcp's calls: `get_allocated`, for elements that are changed where they
-    /// stand. The ring holds as many after as before.
+    /// stand. As many are queued after as before.
     pub fn get_allocated_mut(&mut self, offset: usize, size: usize) -> &mut [T]
         ensures* writes_back { sem 𝓛 (lends_many T.row S.row S.Elements self.entry
             self.old (queue_index self.old offset) result) }
@@ -115,7 +115,7 @@ impl<T, S: Elements<T>> Ring<T, S> {
 
     /// Dequeues `count` elements.
     ///
-    /// The ring must hold as many, which `len` tells; smoltcp panics if it does not.
+    /// As many must be queued, which `len` tells; smoltcp panics if they are not.
     ///
     /// # Requires
     ///

@@ -39,7 +39,7 @@ pub fn elements_leave_in_turn<T>()
         → (history calls).left ++ queue g ≡ (history calls).accepted }
 {}
 
-/// What was written over the whole of a storage is what it then holds.
+/// What was written over the whole of a storage is what its elements then are.
 pub fn storage_is_what_was_written<T>(storage: &ManagedSlice<'_, T>)
     ensures { (ws : List T) → length ws ≡ length (elements storage.now) →
         elements (with_part storage.now 0 ws) ≡ ws }

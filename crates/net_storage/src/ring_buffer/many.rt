@@ -15,7 +15,7 @@ use crate::managed::Elements;
 impl<T, S: Elements<T>> Ring<T, S> {
     ghost use Rattle.net_storage.specs.RingLends.{lends_many};
 
-    /// Runs `f` on the contiguous free elements that come next, enqueues as many of them as `f`
+    /// Calls `f` on the contiguous free elements that come next, enqueues as many of them as `f`
     /// counts, and returns what `f` returned.
     ///
     /// An empty ring first moves its read index to the storage's beginning. What `f` wrote stays in
@@ -62,7 +62,7 @@ impl<T, S: Elements<T>> Ring<T, S> {
         self.storage.part_mut(from, from + count)
     }
 
-    /// Runs `f` on the contiguous elements at the head of the queue, dequeues as many of them as
+    /// Calls `f` on the contiguous elements at the head of the queue, dequeues as many of them as
     /// `f` counts, and returns what `f` returned.
     ///
     /// What `f` wrote stays in the storage. It must count no more than the elements that it is

@@ -13,11 +13,11 @@ use crate::managed::Elements;
 impl<T, S: Elements<T>> Ring<T, S> {
     ghost use Rattle.net_storage.specs.RingLends.{lends_one, lends_one_if};
 
-    /// Runs `f` on the next free element, enqueues it if `f` returns `Ok`, and returns what `f`
+    /// Calls `f` on the next free element, enqueues it if `f` returns `Ok`, and returns what `f`
     /// returned.
     ///
     /// What `f` wrote stays in the storage in both cases. A full ring returns `Full`, stays as it
-    /// is and does not run `f`.
+    /// is and does not call `f`.
     ///
     /// # Requires
     ///
@@ -75,11 +75,11 @@ impl<T, S: Elements<T>> Ring<T, S> {
         self.storage.item_mut(at)
     }
 
-    /// Runs `f` on the first element of the queue, dequeues it if `f` returns `Ok`, and returns
+    /// Calls `f` on the first element of the queue, dequeues it if `f` returns `Ok`, and returns
     /// what `f` returned.
     ///
     /// What `f` wrote stays in the storage in both cases. An empty ring returns `Empty`, stays as
-    /// it is and does not run `f`.
+    /// it is and does not call `f`.
     ///
     /// # Requires
     ///

@@ -28,8 +28,8 @@ impl<T: Copy, S: Elements<T>> Ring<T, S> {
         count
     }
 
-    /// Dequeues as many elements as `data` has room for and the ring holds, copies them to the
-    /// beginning of `data`, and returns how many. The rest of `data` stays as it is.
+    /// Dequeues as many elements as `data` has room for and are queued, copies them to the beginning
+    /// of `data`, and returns how many. The rest of `data` stays as it is.
     pub fn dequeue_slice(&mut self, data: &mut [T]) -> usize
         ensures count { result ≡ min (length «data».old) self.old.count }
         ensures of_queue { result ≡ min (length «data».old) (length (queue self.old)) }

@@ -29,7 +29,7 @@ impl<T, S: Elements<T>> Ring<T, S> {
 
     /// Lends at most `size` free elements from the one at `offset` on: as many as are contiguous.
     ///
-    /// None if `offset` is past the window. The ring holds as many elements after as before.
+    /// None if `offset` is past the window. As many elements are queued after as before.
     pub fn get_unallocated(&mut self, offset: usize, size: usize) -> &mut [T]
         ensures* writes_back { sem 𝓛 (lends_many T.row S.row S.Elements self.entry
             self.old (spare_index self.old offset) result) }
