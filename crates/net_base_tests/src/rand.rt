@@ -2,7 +2,7 @@ ghost use Rattle.std.specs.Prelude.{◌≡◌};
 
 use net_base::rand::Rand;
 
-/// Draws a word of seed 0, which leaves the state 0x7590ef39.
+/// Draws a random word of seed 0, which leaves the state 0x7590ef39.
 fn first_of_seed_0(rand: &mut Rand) -> u32
     requires { rand.old ≡ 0 }
     ensures { rand.new ≡ 1972432697 }
@@ -10,7 +10,7 @@ fn first_of_seed_0(rand: &mut Rand) -> u32
     rand.rand_u32()
 }
 
-/// Draws the word after it, which leaves the state 0xc7fef67c5151a1ae.
+/// Draws the random word after it, which leaves the state 0xc7fef67c5151a1ae.
 fn second_of_seed_0(rand: &mut Rand) -> u32
     requires { rand.old ≡ 1972432697 }
     ensures { rand.new ≡ 14411226871432847790 }
@@ -18,7 +18,7 @@ fn second_of_seed_0(rand: &mut Rand) -> u32
     rand.rand_u32()
 }
 
-/// Draws a word of seed 1, which leaves the state 0xbb2efcecb1ca5056.
+/// Draws a random word of seed 1, which leaves the state 0xbb2efcecb1ca5056.
 fn first_of_seed_1(rand: &mut Rand) -> u32
     requires { rand.old ≡ 1 }
     ensures { rand.new ≡ 13487996027546521686 }
@@ -40,7 +40,7 @@ fn draws(seed: u64, first: u16) -> bool {
     Rand::new(seed).rand_u16() == first
 }
 
-/// Whether a seed's second draw is this word.
+/// Whether a seed's second random word is this one.
 fn draws_word_then(seed: u64, word: u32) -> bool {
     let mut rand = Rand::new(seed);
     rand.rand_u16();

@@ -1,4 +1,4 @@
--- The modes as the code has them, as modes with their numbers.
+-- The code's kinds of modes, as modes with their numbers.
 use Rattle.std.specs.Prelude.{ℕ}
 use Rattle.net_lines.specs.Modes.{Mode, Ring, Asm, Stream}
 use Rattle.net_lines.specs.declared.mode.ModeKind.{ModeKind}

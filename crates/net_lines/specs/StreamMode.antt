@@ -2,7 +2,7 @@
 --     StreamCommand, stream_command words      what a line says, if its words are a line of the mode
 --     runs_text runs, reply_text reply      runs, and a reply, as text
 --     Outcome, comparison a b      what is compared of two schedules, and the line that says it
---     Scheduling S, of_states      what stands for a schedule: its states
+--     Scheduling S, of_states      what stands for a schedule: here a kept list and a count read
 --     Schedules S, first_schedule scheduling setting      the one or two schedules of an input
 --     stream_rules scheduling, stream_closing scheduling schedules      the rules of the mode, and what
 --         is written after the last line

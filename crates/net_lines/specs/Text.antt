@@ -15,13 +15,13 @@ use Rattle.hex.specs.Hex.{decode_of, encode_lower}
 abbrev pub parts_of : List ℕ → List (List ℕ)
 parts_of text = slice_split (λ b. b == 10) text
 
--- all but the last
+-- a list without its last entry
 abbrev pub without_last : List (List ℕ) → List (List ℕ)
 without_last [] = []
 without_last (part ∷ []) = []
 without_last (part ∷ next ∷ parts) = part ∷ without_last (next ∷ parts)
 
--- all, but without the last where that is empty
+-- a list without its last entry, where that is empty
 abbrev pub without_empty_last : List (List ℕ) → List (List ℕ)
 without_empty_last [] = []
 without_empty_last ([] ∷ []) = []
@@ -32,7 +32,7 @@ without_empty_last (part ∷ next ∷ parts) = part ∷ without_empty_last (next
 abbrev pub lines_of : List ℕ → List (List ℕ)
 lines_of input = without_empty_last (parts_of input)
 
--- the last of them
+-- the last entry of a list
 abbrev pub last_part : List (List ℕ) → List ℕ
 last_part [] = []
 last_part (part ∷ []) = part

@@ -64,7 +64,7 @@ SaysWhatIsThere = (f pos : ℕ) (x xs : List ℕ) → f ≤ pos →
 abbrev pub SaysOfLonger : Type 0
 SaysOfLonger = (f pos : ℕ) (x more xs : List ℕ) → Says f x pos xs → Says f (x ++ more) pos xs
 
--- no command says anything else
+-- the empty list of commands
 abbrev pub NoneSay : Type 0
 NoneSay = (f : ℕ) (x : List ℕ) → AllSay f x []
 

@@ -1,7 +1,9 @@
 -- Finite sets of positions, ranges of positions, and the maximal runs of a set.
 --     Positions, contains s p, positions s, set_of_list ks, nothing      sets, and what is in them
 --     IsRange o n, with_range s o n      a range, and a set with one
---     runs s, maximal_runs s, IsMaximalRun s run, AreMaximalRuns s list, lies_in p run      the runs
+--     runs s, maximal_runs s, IsMaximalRun s run, AreMaximalRuns s list      how many maximal runs there
+--         are, and which
+--     lies_in p run      whether p lies in a run
 --     first_missing s p, front s, IsFirstMissing s p n      the first missing position, and the front
 --     shift_down s m, shift_up s n, runs_shifted_up n rs      sets and runs, counted anew
 --     are_same s t      whether two sets are one

@@ -1,4 +1,4 @@
-//! Tables of calls with their answers, and headers that are dropped.
+//! Tables of calls with their results, and headers that are dropped.
 mod steps;
 
 use crate::counted::Counted;

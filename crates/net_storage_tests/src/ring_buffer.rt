@@ -1,4 +1,4 @@
-//! Worked values as tables, each public call at a concrete type, and refusals that run no closure.
+//! Worked values as tables, each public call at a concrete type, and refusals that call no closure.
 ghost use Rattle.std.specs.Prelude.{◌≡◌};
 
 mod callers;
@@ -285,7 +285,7 @@ fn enqueues_slot(ring: &mut RingBuffer<'_, Slot>) -> bool {
     ring.enqueue_one().is_ok()
 }
 
-/// Returns whether a ring holds nothing, and three free elements are 0.
+/// Returns whether a ring's queue is empty, and three free elements are 0.
 fn is_reset(ring: &mut RingBuffer<'_, Slot>) -> bool {
     ring.is_empty() && *ring.get_unallocated(0, 3) == *[Slot(0); 3].as_slice()
 }

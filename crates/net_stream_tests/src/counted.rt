@@ -308,7 +308,7 @@ fn acknowledgements_that_fail(rt: HostRuntime) -> Result<(), Fail> {
             reads: 2,
             counts: [6, 6, 7, 6, 4, 0, 0, 0, 1, 10_000],
         },
-        // The window is full of bytes that were written, and the reader isn't asked.
+        // The sender's queue is full, and the reader isn't asked.
         Counted {
             fates: (&[], PERFECT),
             acks: (&[], GONE),

@@ -33,7 +33,7 @@ fn link(
     ))
 }
 
-/// What a frame that came is answered: the first missing position, and each held run, as bytes.
+/// The acknowledgement of a frame that came: the first missing position, and each held run, as bytes.
 #[test]
 fn what_comes_is_answered(rt: HostRuntime) -> Result<(), Fail> {
     let mut link = link(rt.alloc(), &[], &[])?;

@@ -28,7 +28,7 @@ fn start() -> Instant {
     Instant::from_micros(0)
 }
 
-/// Bytes that differ from their neighbours at every place: byte i is i / 251 + i, modulo 251.
+/// Bytes that differ from their neighbours at every index: byte i is i / 251 + i, modulo 251.
 fn pattern(alloc: Global, len: usize) -> Result<Vec<u8>, Fail> {
     let mut bytes = vec![in alloc; 0u8; len]?;
     for i in 0..len {
@@ -210,8 +210,8 @@ fn fates_are_listed_and_then_drawn(rt: HostRuntime) -> Result<(), Fail> {
         repeated: 25,
         late: 25,
     };
-    // The words behind the list are 4064760752, 2284120977, 3992114710, 2692415085, 700514163 and
-    // 2995075556, as a model of the generator gives them from 7 on.
+    // The random words behind the list are 4064760752, 2284120977, 3992114710, 2692415085, 700514163
+    // and 2995075556, as a second program finds them from state 7 on.
     let mut fates = Fates::new(&[Fate::Late, Fate::Delivered], 7, rates);
     let expected = [
         Fate::Late,

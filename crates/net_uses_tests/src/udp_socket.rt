@@ -60,7 +60,7 @@ fn asks(socket: &mut UdpSocket<'_>) -> bool {
         && is_idle(socket)
 }
 
-/// An answer comes in, longer than was expected, and one more for which there is no room.
+/// A datagram comes in, longer than was expected, and one more for which there is no room.
 fn is_answered(socket: &mut UdpSocket<'_>) -> bool {
     socket.process(SERVER, b"me, me")
         && !socket.process(SERVER, b"and me")

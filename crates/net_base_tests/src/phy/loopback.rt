@@ -139,7 +139,7 @@ fn send_refused(alloc: Global, refused: usize) -> Outcome {
     }
 }
 
-/// Sends a frame of 200 bytes that are this number, by a closure that counts how often it is run,
+/// Sends a frame of 200 bytes that are this number, by a closure that counts how often it is called,
 /// and returns whether there was memory for it.
 fn sends_number<A: Allocator + Copy>(device: &mut Loopback<A>, number: u8, ran: &mut u8) -> bool {
     let token = device.transmit(Instant::ZERO).unwrap();
@@ -185,7 +185,7 @@ fn each_request_for_memory_is_refused_in_turn(rt: HostRuntime) {
     }
 }
 
-/// Returns whether a frame of the greatest length is refused and its closure isn't run.
+/// Returns whether a frame of the greatest length is refused and its closure isn't called.
 fn refuses_greatest(device: &mut Loopback) -> bool {
     let mut ran = false;
     let token = device.transmit(Instant::ZERO).unwrap();

@@ -90,7 +90,7 @@ fn goes_so(alloc: Global, (refused, succeeds, requests): (usize, bool, usize)) -
 }
 
 /// Eight requests for memory are made before the echo: for two queues, and for the bytes of six
-/// frames. The echo makes two: for a place in the queue of frames sent, which is full with four,
+/// frames. The echo makes two: for room in the queue of frames sent, which is full with four,
 /// and for the bytes.
 #[test]
 fn each_refusal_takes_the_frame_and_sends_nothing(rt: HostRuntime) {

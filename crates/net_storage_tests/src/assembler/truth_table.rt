@@ -131,7 +131,7 @@ fn add_then_remove_agrees<const N: usize>(
     assembler.add_then_remove_front(offset, size).ok() == removed && agrees(assembler, table)
 }
 
-/// Adds the ranges to an assembler that holds nothing and to a table, and compares both after each.
+/// Adds the ranges to an empty assembler and to a table, and compares both after each.
 fn compare_adds<const N: usize>(rt: &impl Abort, assembler: &mut Assembler<N>) {
     let mut table = [false; 64];
     for (number, range) in RANGES.iter().enumerate() {
@@ -139,8 +139,8 @@ fn compare_adds<const N: usize>(rt: &impl Abort, assembler: &mut Assembler<N>) {
     }
 }
 
-/// Adds each range and removes the front then, in an assembler that holds nothing and in a table,
-/// and compares both after each.
+/// Adds each range and removes the front then, in an empty assembler and in a table, and compares
+/// both after each.
 fn compare_adds_with_removal<const N: usize>(rt: &impl Abort, assembler: &mut Assembler<N>) {
     let mut table = [false; 64];
     for (number, range) in RANGES.iter().enumerate() {

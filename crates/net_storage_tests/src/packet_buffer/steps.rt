@@ -27,14 +27,14 @@ pub enum Step<'s> {
     Place(u8, &'s [u8]),
     /// `take` gives this header, and `freed_mut` these bytes.
     Take(u8, &'s [u8]),
-    /// `enqueue_with_infallible` of so many bytes is refused, and its closure isn't run.
+    /// `enqueue_with_infallible` of so many bytes is refused, and its closure isn't called.
     RefusedWith(usize),
     /// `dequeue_with` by a closure that returns `Ok` if it is shown these bytes.
     ReadWith(&'s [u8]),
     /// `dequeue_with` by a closure that leaves this header and first byte, and returns `Err`.
     Return(u8, u8),
     /// `peek`, `dequeue`, `take` and `pop_slice` are refused, and so is `dequeue_with`, whose
-    /// closure isn't run.
+    /// closure isn't called.
     NoPackets,
     /// So many slots are used.
     Slots(usize),
@@ -162,7 +162,7 @@ fn takes(queue: &mut PacketBuffer<'_, u8>, header: u8, text: &[u8]) -> bool {
     given == header && *queue.freed_mut(size) == *text
 }
 
-/// Returns whether `enqueue_with_infallible` is refused and its closure isn't run.
+/// Returns whether `enqueue_with_infallible` is refused and its closure isn't called.
 fn refuses_closure(queue: &mut PacketBuffer<'_, u8>, size: usize) -> bool {
     let called = Cell::new(false);
     let answer = queue.enqueue_with_infallible(size, 0, |_| {
@@ -178,7 +178,7 @@ fn reads_with(queue: &mut PacketBuffer<'_, u8>, text: &[u8]) -> bool {
     answer == Ok(Ok(true))
 }
 
-/// Writes to the first packet and returns it; returns whether the closure was run.
+/// Writes to the first packet and returns it; returns whether the closure was called.
 fn returns_packet(queue: &mut PacketBuffer<'_, u8>, left: u8, byte: u8) -> bool {
     let answer = queue.dequeue_with(|header, shown| -> Result<(), u32> {
         *header = left;
@@ -210,7 +210,7 @@ fn pops_nothing(queue: &mut PacketBuffer<'_, u8>) -> bool {
     queue.pop_slice(&mut []).is_err()
 }
 
-/// Returns whether `dequeue_with` is refused and its closure isn't run.
+/// Returns whether `dequeue_with` is refused and its closure isn't called.
 fn hands_nothing(queue: &mut PacketBuffer<'_, u8>) -> bool {
     let called = Cell::new(false);
     let answer = queue.dequeue_with(|_, _| -> Result<(), ()> {

@@ -91,7 +91,7 @@ pub fn write_and_refuse(ring: &mut RingBuffer<'_, u8>, byte: u8)
     });
 }
 
-/// A closure that may run only on a slice that has an element.
+/// A closure that may be called only on a slice that has an element.
 pub fn enqueue_first(ring: &mut RingBuffer<'_, u8>, byte: u8)
     requires { 0 < contiguous_window (from_start_if_empty ring.old) }
     ensures { queue ring.new ≡ queue (from_start_if_empty ring.old) ++ (byte ∷ []) }

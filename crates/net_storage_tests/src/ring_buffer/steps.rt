@@ -45,7 +45,7 @@ pub enum Step<'t> {
     EnqueueOne(Option<u8>, u8),
     /// `dequeue_one`: the element that is lent, if the ring isn't empty, and the one left there.
     DequeueOne(Option<u8>, u8),
-    /// `enqueue_one_with` by a closure: what it sees, if it is run, what it leaves there, and
+    /// `enqueue_one_with` by a closure: what it sees, if it is called, what it leaves there, and
     /// whether it returns `Ok`.
     EnqueueOneWith(Option<u8>, u8, bool),
     /// `dequeue_one_with` by such a closure.
@@ -67,7 +67,7 @@ pub enum Step<'t> {
     AsSlices(&'t [u8], &'t [u8]),
     /// `get_allocated_mut`: offset, size, how many are lent, and the text that is written there.
     FillAllocated(usize, usize, usize, &'t [u8]),
-    /// `dequeue_allocated`, of a count that the ring holds.
+    /// `dequeue_allocated`, of a count of queued elements.
     DequeueAllocated(usize),
 }
 
