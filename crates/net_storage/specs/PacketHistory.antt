@@ -123,6 +123,6 @@ module _ {H : Type 0} where
   log_after_all [] log = log
   log_after_all (call ∷ calls) log = log_after_all calls (log_after call log)
 
-  -- the log of calls from a queue with no packets on
+  -- the log of calls from a new queue on
   abbrev pub history : List (QueueCall H) → Log (H × List ℕ)
   history calls = log_after_all calls empty_log

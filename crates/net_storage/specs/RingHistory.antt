@@ -124,6 +124,6 @@ module _ {T : Type 0} where
   log_after_all [] log = log
   log_after_all (call ∷ calls) log = log_after_all calls (log_after call log)
 
-  -- the log of calls from an empty ring on
+  -- the log of calls from a new ring on
   abbrev pub history : List (RingCall T) → Log T
   history calls = log_after_all calls empty_log

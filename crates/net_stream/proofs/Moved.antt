@@ -12,7 +12,7 @@ use Rattle.net_receiver.specs.Stored.{Stored, stored_next}
 use Rattle.net_receiver.specs.OneStream.{ReceivesFrom, QueueIsOf, QueueIsOfStream}
 use Rattle.net_stream.specs.Outgoing.{end_of}
 use Rattle.net_stream.specs.Links.{Carries}
-use Rattle.net_stream.specs.Copying.{Moving, HandedOut, HandedPrefix, WrotePrefix, Copied, FlushedAfter, gave_up}
+use Rattle.net_stream.specs.Copying.{Moving, HandedOut, HandedPrefix, Copied, FlushedAfter, gave_up}
 use Rattle.net_stream.specs.declared.counts.Counts.{Counts}
 use Rattle.net_stream.specs.declared.link.Link.{Link}
 use Rattle.net_stream.specs.declared.error.LinkError.{LinkError}
@@ -64,14 +64,14 @@ handed_out f v u held holds into into' count before after queue e is read same c
 pub handed_front : (f : ℕ) (v : Stored) (held holds : Option (List ℕ)) (into into' : List ℕ) (count before after n : ℕ) →
     ((w : List ℕ) → ReceivesFrom f w v → QueueIsOf w v) → count ≡ min (length into) (length v.queue) →
     into' ≡ take (length into) v.queue ++ drop (length v.queue) into →
-    after ≡ min (before + n) (2 ^ 64 - 1) → WrotePrefix (take count into') held holds n → HandedPrefix f v held holds before after
+    after ≡ min (before + n) (2 ^ 64 - 1) → (n < length (take count into')) × Appends held holds (take n (take count into')) → HandedPrefix f v held holds before after
 handed_front f v held holds into into' count before after n queue e is counted wrote =
     let bytes = take n (take count into') in
-    let few = wrote.within in
+    let few : n ≤ length (take count into') = (let l = wrote.0 in omega arith) in
     let size : length bytes ≡ n = omega (arith, length-take n (take count into')) in
     record {
       bytes = bytes;
-      appended = wrote.appended;
+      appended = wrote.1;
       prefix = λ w r.
           let q = queue w r in
           let within : v.read + count ≤ length w = (let h = q.within in omega arith) in

@@ -4,7 +4,7 @@
 --     HasPositions first taken      positions are left
 --     Moving f link counts old new held holds more      the bytes are on their way to a writer
 --     HandedOut f v u held holds before after      bytes came from the receiver to the writer
---     HandedPrefix f v held holds before after, WrotePrefix text held holds n      a prefix of them did
+--     HandedPrefix f v held holds before after      a prefix of them did
 --     Stepped old new room room'      what a round of a copy leaves as it was, or lets grow
 --     FlushedAfter ended result      how a copy ended, once its writer was flushed
 use Rattle.std.specs.Prelude.{◌≡◌, ℕ, List, ◌++◌, ◌+◌, ◌-◌, ◌<◌, ◌≤◌, ◌^◌, ◌⊎◌, [], length, take}
@@ -73,11 +73,6 @@ pub record HandedPrefix (f : ℕ) (v : Stored) (held holds : Option (List ℕ)) 
   pub appended : Appends held holds bytes
   pub prefix : (w : List ℕ) → ReceivesFrom f w v → StartsWith w (take v.read w ++ bytes)
   pub counted : after ≡ min (before + length bytes) (2 ^ 64 - 1)
-
--- the first n bytes of a text were appended
-pub record WrotePrefix (text : List ℕ) (held holds : Option (List ℕ)) (n : ℕ) : Type 0 where
-  pub within : n ≤ length text
-  pub appended : Appends held holds (take n text)
 
 -- what a round of a copy leaves as it was, or lets grow, `room` and `room'` being the lengths of the
 -- buffer that the reader's bytes come to, before and after

@@ -3,7 +3,6 @@ ghost use Rattle.std.specs.Prelude.{◌≡◌, ◌≤◌, ◌<◌, ◌+◌, ◌-
 ghost use Rattle.std.specs.Prelude.{Bool, Option, true, false};
 ghost use Rattle.std.specs.Prelude.{OnOk, OnErr, IfOk, IfErr};
 ghost use Rattle.std.specs.Result.{is_ok};
-ghost use Rattle.std.specs.Io.KnownBytes.{Appends};
 ghost use Rattle.net_receiver.specs.Stored.{Stored, stored_next, stored_read};
 ghost use Rattle.net_stream.specs.Outgoing.{end_of, room_of};
 ghost use Rattle.net_stream.specs.Fates.{FatesSeen, AllCome};
@@ -11,7 +10,7 @@ ghost use Rattle.net_stream.specs.Counting.{no_frames};
 ghost use Rattle.net_stream.specs.Rounds.{FatesCounted, FatesSoFar};
 ghost use Rattle.net_stream.specs.Links.{Carries};
 ghost use Rattle.net_stream.specs.Stuck.{failures, Stuck, StuckAtLast};
-ghost use Rattle.net_stream.specs.Copying.{Moving, HandedOut, HandedPrefix, WrotePrefix, Copied};
+ghost use Rattle.net_stream.specs.Copying.{Moving, HandedOut, HandedPrefix, Copied};
 ghost use Rattle.net_stream.specs.Copying.{Stepped, HasPositions, gave_up};
 
 use crate::copying::Settings;
@@ -20,6 +19,7 @@ use crate::error::LinkError;
 use crate::frame::round_trip;
 use crate::link::Link;
 use crate::timer::{first_wait, next_wait};
+use net_program::write_text;
 use net_receiver::laws;
 use std::alloc::Allocator;
 use std::io::{Read, Write};
@@ -31,23 +31,6 @@ struct Input {
     more: bool,
     /// Whether the last read gave all that it had room for.
     filled: bool,
-}
-
-/// Writes all of the text. On a failed write returns how many bytes were written before it; nothing
-/// is tried again.
-fn write_text<W: Write>(writer: &mut W, text: &[u8]) -> Result<(), usize>
-    ensures ok { OnOk result (Appends (W.contents writer.old) (W.contents writer.new) text.now) }
-    ensures err { IfErr result (λ n. WrotePrefix text.now
-        (W.contents writer.old) (W.contents writer.new) n) }
-{
-    let mut written = 0;
-    while written < text.len() {
-        match writer.write(&text[written..]) {
-            Ok(0) | Err(_) => return Err(written),
-            Ok(count) => written += count,
-        }
-    }
-    Ok(())
 }
 
 /// Hands out what the receiver has queued, as far as `chunk` takes it at once.

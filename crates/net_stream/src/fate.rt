@@ -70,7 +70,7 @@ impl Fate {
 }
 
 /// The fates of the frames to come: those of a list first, and behind it those that a generator
-/// draws.
+/// draws. A list serves for a test of one case, a generator for many.
 ///
 /// Contracts see the rest of the list, the generator's state, and the rates.
 #[derive(Drop)]

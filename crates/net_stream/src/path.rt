@@ -13,7 +13,7 @@ use std::alloc::{AllocError, Allocator};
 use std::marker::Model;
 
 /// A path of a link, in one direction: the frames that are on their way, those that come late, and
-/// the fates of those that meet theirs next.
+/// the fates of those that meet theirs next. It serves as a wire that fails in a known way.
 ///
 /// Contracts see the two lists of frames, each the next first, and the fates. Each list is a
 /// loopback device, which takes its memory from the allocator.

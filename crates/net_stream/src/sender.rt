@@ -16,7 +16,8 @@ use net_storage::ring_buffer::laws::overwritten;
 use net_storage::{ManagedSlice, RingBuffer};
 use std::marker::Model;
 
-/// The sender of a stream: its queue has the bytes that were written and not yet acknowledged.
+/// The sender of a stream: its queue has the bytes that were written and not yet acknowledged. It
+/// serves as the sending half of a TCP socket: `segment` lends what a segment is made of.
 ///
 /// Positions are absolute and counted in bytes, as a `Receiver` counts them. Contracts see the
 /// capacity, the position of the queue's head, the queue, the ranges that the last acknowledgement

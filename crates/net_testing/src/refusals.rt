@@ -10,6 +10,10 @@ const MOST_REQUESTS: usize = 1_000_000;
 /// Each call of `run` begins anew, with the memory that it is given, and returns whether it succeeded.
 /// It has to fail exactly if a request was refused: `None` if a call fails where none was, or succeeds
 /// where one was.
+///
+/// # Requires
+///
+/// The closure may be called with any memory, each time again (`IsAlwaysCallable`).
 pub fn refuse_each<A: Allocator + Copy, F: FnMut(&Refusing<A>) -> bool>(
     alloc: A,
     mut run: F,

@@ -21,8 +21,8 @@ pub enum FragmentError {
     TooManyHoles,
 }
 
-/// A packet that comes in fragments, in any order, over any storage. [`FragmentBuffer`] is its
-/// usual form. `N` is how many maximal runs of bytes it has room for.
+/// A packet that comes in fragments, in any order, over any storage, as those of IPv4 do.
+/// [`FragmentBuffer`] is its usual form. `N` is how many maximal runs of bytes it has room for.
 ///
 /// Fragments may overlap: at each position the byte is that of the fragment that came last there.
 ///

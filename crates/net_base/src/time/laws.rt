@@ -54,6 +54,10 @@ pub fn distance_both_ways(x: &Instant, y: &Instant)
 {}
 
 /// A length that is added to a moment and taken off again leaves the moment.
+///
+/// # Requires
+///
+/// The sum is a moment.
 pub fn instant_there_and_back(instant: Instant, duration: Duration) -> Instant
     requires { IsMoment (instant +ℤ pos duration) }
     ensures { result ≡ instant }
@@ -62,6 +66,10 @@ pub fn instant_there_and_back(instant: Instant, duration: Duration) -> Instant
 }
 
 /// A length that is taken off a moment and added again leaves the moment.
+///
+/// # Requires
+///
+/// The difference is a moment.
 pub fn instant_back_and_there(instant: Instant, duration: Duration) -> Instant
     requires { IsMoment (instant -ℤ pos duration) }
     ensures { result ≡ instant }
@@ -70,6 +78,10 @@ pub fn instant_back_and_there(instant: Instant, duration: Duration) -> Instant
 }
 
 /// A moment and the one that is so much later are so far apart.
+///
+/// # Requires
+///
+/// The later one is a moment.
 pub fn instant_moved(instant: Instant, duration: Duration) -> Duration
     requires { IsMoment (instant +ℤ pos duration) }
     ensures { result ≡ duration }
@@ -78,6 +90,10 @@ pub fn instant_moved(instant: Instant, duration: Duration) -> Duration
 }
 
 /// A length that is added to another and taken off again leaves the other.
+///
+/// # Requires
+///
+/// The sum is a length.
 pub fn duration_there_and_back(duration: Duration, other: Duration) -> Duration
     requires { IsLength (duration + other) }
     ensures { result ≡ duration }

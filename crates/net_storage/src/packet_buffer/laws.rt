@@ -108,7 +108,7 @@ pub fn looking_changes_nothing<H>()
 {}
 
 /// The packet that leaves k-th is the one that was accepted k-th. Over any calls, in any order,
-/// from a queue with no packets on, the packets that left, in order, followed by those that are
+/// from a new queue on, the packets that left, in order, followed by those that are
 /// still in the queue, are exactly the packets that were accepted, in order. Each left, or stays,
 /// with the header and the bytes last written to it, by who put it or by a closure that refused it.
 /// What `reset` drops counts as never accepted.
