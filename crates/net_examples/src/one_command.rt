@@ -14,7 +14,7 @@ pub fn execute_by_list<const N: usize>(
     requires { CommandFits command }
     ensures state { IfOk result
         (λ _. receiver.new ≡ stored_after N receiver.old (command_seen command)) }
-    ensures answer { IfOk result (λ reply.
+    ensures reply { IfOk result (λ reply.
         reply_seen reply ≡ stored_reply N receiver.old (command_seen command)) }
 {
     let mut replies = Vec::new(alloc);

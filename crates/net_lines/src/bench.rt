@@ -29,7 +29,7 @@ fn feed_at(bytes: &[u8]) -> Option<usize>
 }
 
 /// Executes a line of this number, and gathers its reply.
-fn answer<A: Allocator + Copy, S: Session<A>, W: Write>(
+fn execute_line<A: Allocator + Copy, S: Session<A>, W: Write>(
     buffers: &mut Buffers<A>,
     session: &mut S,
     number: u64,
@@ -123,7 +123,7 @@ impl<A: Allocator + Copy, S: Session<A>> Bench<A, S> {
             (W.contents writer.old) self.old.replies (W.contents writer.new) self.new.replies e) }
     {
         if self.line.is_empty() {
-            answer(
+            execute_line(
                 &mut self.buffers,
                 &mut self.session,
                 self.number,
@@ -133,7 +133,7 @@ impl<A: Allocator + Copy, S: Session<A>> Bench<A, S> {
             )?;
         } else {
             self.keep(bytes)?;
-            answer(
+            execute_line(
                 &mut self.buffers,
                 &mut self.session,
                 self.number,

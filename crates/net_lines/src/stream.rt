@@ -137,7 +137,7 @@ fn read_within<A: Allocator + Copy, const N: usize>(
     count: u64,
 ) -> Result<Vec<u8, A>, AllocError>
     ensures state { IfOk result (λ _. receiver.new ≡ stored_after N receiver.old (Read count)) }
-    ensures answer { IfOk result (λ bytes.
+    ensures reply { IfOk result (λ bytes.
         Gave bytes.items ≡ stored_reply N receiver.old (Read count)) }
 {
     let queued = receiver.queued();
@@ -156,7 +156,7 @@ fn execute_within<A: Allocator + Copy, const N: usize>(
     requires { CommandFits command.now }
     ensures state { let seen = command_seen command.now in
         IfOk result (λ _. receiver.new ≡ stored_after N receiver.old seen) }
-    ensures answer { let seen = command_seen command.now in
+    ensures reply { let seen = command_seen command.now in
         IfOk result (λ reply. reply_seen reply ≡ stored_reply N receiver.old seen) }
 {
     match command {

@@ -18,10 +18,10 @@ use Rattle.std.proofs.lemmas.List.Elements.{All-nil, All-cons, All-append}
 use Rattle.net_receiver.specs.KeptList.{byte_at, held_at, next}
 use Rattle.net_receiver.proofs.Stream.{agrees_at}
 use Rattle.net_receiver.specs.Rules.{Show, CommandSeen, ReplySeen, Segment, Read, Verdict, KeptNone}
-use Rattle.net_receiver.specs.Rules.{Refused, Keeps, verdict_of_part, verdict, state_after, segment_result}
+use Rattle.net_receiver.specs.Rules.{Refused, Keeps, verdict_of_piece, verdict, state_after, segment_result}
 use Rattle.net_receiver.specs.Schedule.{State, Agrees, kept_after_all, Follows, EndsBy, bytes_read, PieceAgrees}
 use Rattle.net_receiver.specs.Stored.{stored_reply, stored_after_all, setting, StandsFor, Stored}
-use Rattle.net_receiver.specs.Stored.{HeldBytes, domain, held_with_part, first_lacking, values_at}
+use Rattle.net_receiver.specs.Stored.{HeldBytes, domain, held_with_piece, first_lacking, values_at}
 use Rattle.net_receiver.specs.Stored.{stored_next, by_stored, stored_read, stored_after}
 use Rattle.net_receiver.specs.Stored.{fresh_stored, IsSound, StaysInSetting}
 use Rattle.net_receiver.specs.Segments.{KeepsOrRefuses, JoinsQueue}
@@ -109,20 +109,20 @@ values_of m (x ∷ xs) p (suc n) h at =
     let first : unwrap_or (fin.get m p) 0 ≡ x = ap (λ o. unwrap_or o 0) (at p 0 x (omega arith) refl) in
     (λ i. first i ∷ values_of m xs (p + 1) n (omega arith) (λ q j b e is. at q (suc j) b (omega arith) is) i)
 
-laid_at : (v : Stored) (part : Piece) (q i b : ℕ) → q ≡ part.start + i → slice_get part.bytes i ≡ Some b → fin.get (held_with_part v part) q ≡ Some b
+laid_at : (v : Stored) (part : Piece) (q i b : ℕ) → q ≡ part.start + i → slice_get part.bytes i ≡ Some b → fin.get (held_with_piece v part) q ≡ Some b
 laid_at v part q i b e is =
     let at : q - part.start ≡ i = omega arith in
     get-with_bytes_at v.held part.start part.bytes q ∙ ap (λ o. option_or o (fin.get v.held q))
     (piece_from part q (omega arith) ∙ ap (slice_get part.bytes) at ∙ is)
 
-reaches : (v : Stored) (part : Piece) → part.start ≡ stored_next v → stored_next v + length part.bytes ≤ first_lacking (held_with_part v part) (stored_next v)
+reaches : (v : Stored) (part : Piece) → part.start ≡ stored_next v → stored_next v + length part.bytes ≤ first_lacking (held_with_piece v part) (stored_next v)
 reaches v part at =
-    let m = first_lacking (held_with_part v part) (stored_next v) in
-    let is = first_lacking_is (held_with_part v part) (stored_next v) in
+    let m = first_lacking (held_with_piece v part) (stored_next v) in
+    let is = first_lacking_is (held_with_piece v part) (stored_next v) in
     let from = is.from in
     ⊎_elim (λ (l : m < stored_next v + length part.bytes).
     absurd
-    (both_ways (fin.contains_key (held_with_part v part) m) is.here
+    (both_ways (fin.contains_key (held_with_piece v part) m) is.here
     (ap is_some
     (laid_at v part m (m - part.start) (get_or part.bytes (m - part.start) 0) (omega arith) (slice_get-get_or part.bytes (m - part.start) 0 (omega arith))))))
     (λ (l : stored_next v + length part.bytes ≤ m). l)
@@ -156,8 +156,8 @@ in_order N v u pos xs r state told h =
     (λ some. record {
       accepted = refl;
       joins = omega arith;
-      appends = splits v.queue (values_at (held_with_part v part) n (first_lacking (held_with_part v part) n - n)) part.bytes
-          (values_of (held_with_part v part) part.bytes n (first_lacking (held_with_part v part) n - n) (omega arith)
+      appends = splits v.queue (values_at (held_with_piece v part) n (first_lacking (held_with_piece v part) n - n)) part.bytes
+          (values_of (held_with_piece v part) part.bytes n (first_lacking (held_with_piece v part) n - n) (omega arith)
           (λ q i b e is. laid_at v part q i b (omega arith) is));
     }) in
     subst (λ z. JoinsQueue v part.bytes z r) (sym state)
@@ -165,7 +165,7 @@ in_order N v u pos xs r state told h =
 
 -- what any segment comes to
 pub any_verdict : (P : Verdict → Type 0) (n most : ℕ) (h : Positions) (part : Piece) →
-    (length part.bytes ≡ 0 → P KeptNone) → P Refused → P (Keeps part) → P (verdict_of_part n most h part)
+    (length part.bytes ≡ 0 → P KeptNone) → P Refused → P (Keeps part) → P (verdict_of_piece n most h part)
 any_verdict P n most h part empty refused keeps =
     ⊎_elim (λ (e : nat_eq (length part.bytes) 0 ≡ true). subst P (sym (cond-true _ _ _ e)) (empty (eqb-true (length part.bytes) 0 e)))
     (λ (e : nat_eq (length part.bytes) 0 ≡ false). subst P (sym (cond-false _ _ _ e))
@@ -184,7 +184,7 @@ any_order N v u pos xs r state told =
     let n = stored_next v in
     let part = piece_within n (v.first + v.read + v.capacity) (piece pos xs) in
     let more = next_joined v part in
-    let from = (first_lacking_is (held_with_part v part) n).from in
+    let from = (first_lacking_is (held_with_piece v part) n).from in
     let all = any_verdict (λ y. KeepsOrRefuses v part.bytes (state_after by_stored v y) (segment_result by_stored v y)) n N (domain v.held) part
     (λ none. record { read = refl; refused = tt; kept = sym none; queued = omega arith; grows = omega arith })
     (record { read = refl; refused = refl; kept = tt; queued = tt; grows = omega arith })

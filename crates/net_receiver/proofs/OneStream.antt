@@ -12,7 +12,7 @@ use Rattle.net_receiver.specs.Schedule.{Setting, State, fresh_state, kept_after,
 use Rattle.net_receiver.specs.Stored.{Stored, domain, by_stored, fresh_stored, stored_next, stored_after, stored_after_all, setting}
 use Rattle.net_receiver.specs.OneStream.{IsTruthful, TruthfulIsKept, Receives, FreshReceives}
 use Rattle.net_receiver.specs.OneStream.{OneReceives, AllReceive, LongerReceives, QueueIsOfStream}
-use Rattle.net_receiver.specs.OneStream.{FreshStream, RunReceives, FirstStays, NextGrows}
+use Rattle.net_receiver.specs.OneStream.{FreshStream, ReplayReceives, FirstStays, NextGrows}
 use Rattle.net_receiver.specs.OneStream.{SegmentReadsNothing}
 use Rattle.net_receiver.proofs.Covering.{piece_before, piece_from, slice_get-drop, slice_get-take, next_is}
 use Rattle.net_receiver.proofs.Step.{verdict_cases, same_next, queue_length}
@@ -161,7 +161,7 @@ All-take P zero xs all = All-nil P
 All-take P (suc n) [] all = All-nil P
 All-take P (suc n) (x ∷ xs) all = All-cons P x (take n xs) (All-head P x xs all) (All-take P n xs (All-tail P x xs all))
 
-pub run_receives : RunReceives
+pub run_receives : ReplayReceives
 run_receives most x v u cs rs complete r h run =
     let w = setting most v in
     let prefix = take run.prefix.count cs in

@@ -12,8 +12,8 @@ use Rattle.std.proofs.lemmas.List.Elements.{All-head, All-tail}
 use Rattle.net_receiver.specs.KeptList.{Piece, piece, piece_at, end, piece_within}
 use Rattle.net_receiver.specs.Rules.{CommandSeen, Segment, Read, Show, Segmented, verdict, state_after, segment_result}
 use Rattle.net_receiver.specs.Schedule.{IsAccepted}
-use Rattle.net_receiver.specs.Stored.{HeldBytes, Stored, domain, held_with_part, first_lacking}
-use Rattle.net_receiver.specs.Stored.{values_at, stored_with_part, queue_up_to, stored_next, by_stored}
+use Rattle.net_receiver.specs.Stored.{HeldBytes, Stored, domain, held_with_piece, first_lacking}
+use Rattle.net_receiver.specs.Stored.{values_at, stored_with_piece, queue_up_to, stored_next, by_stored}
 use Rattle.net_receiver.specs.Stored.{stored_read, stored_after, stored_reply, stored_after_all}
 use Rattle.net_receiver.specs.Stored.{stored_replies}
 use Rattle.net_receiver.specs.Retransmission.{IsHeld, HeldChangesNothing, SecondCopy, Has, HasStays, AcceptedBrings, HasAllReaches, Brings, Completes}
@@ -27,7 +27,7 @@ use Rattle.net_receiver.proofs.Called.{any_verdict}
 -- ---- what a kept part leaves
 module _ (v : Stored) (part : Piece) where
   abbrev laid : HeldBytes
-  laid = held_with_part v part
+  laid = held_with_piece v part
 
   abbrev n : ℕ
   n = stored_next v
@@ -38,11 +38,11 @@ module _ (v : Stored) (part : Piece) where
   first : IsFirst (fin.contains_key laid) n m
   first = first_lacking_is laid n
 
-  get_left : (p : ℕ) → fin.get (stored_with_part v part).held p ≡ cond (nat_le m p) (fin.get laid p) None
+  get_left : (p : ℕ) → fin.get (stored_with_piece v part).held p ≡ cond (nat_le m p) (fin.get laid p) None
   get_left p = fin.get-retain_keys laid (λ q. nat_le m q) p (λ x e. ap (nat_le m) (sym (fin.nat_cmp-IsAntisymmetric p x e)))
 
   -- a position of the laid bytes is queued then, or still held
-  has_laid : (p : ℕ) → fin.contains_key laid p ≡ true → Has (stored_with_part v part) p
+  has_laid : (p : ℕ) → fin.contains_key laid p ≡ true → Has (stored_with_piece v part) p
   has_laid p h =
       let at = next_joined v part in
       ⊎_elim (λ (l : p < m). inl (omega arith))
@@ -63,21 +63,21 @@ module _ (v : Stored) (part : Piece) where
       either None b e = e
       either (Some x) b e = refl
 
-  has_joined : (p : ℕ) → Has v p → Has (stored_with_part v part) p
+  has_joined : (p : ℕ) → Has v p → Has (stored_with_piece v part) p
   has_joined p h =
       let at = next_joined v part in
       let from = first.from in
       ⊎_elim (λ (l : p < stored_next v). inl (omega arith)) (λ (k : fin.contains_key v.held p ≡ true). has_laid p (laid_held p k)) h
 
-  missing_joined : fin.contains_key (stored_with_part v part).held (stored_next (stored_with_part v part)) ≡ false
+  missing_joined : fin.contains_key (stored_with_piece v part).held (stored_next (stored_with_piece v part)) ≡ false
   missing_joined =
-      ap (fin.contains_key (stored_with_part v part).held) (next_joined v part)
+      ap (fin.contains_key (stored_with_piece v part).held) (next_joined v part)
       ∙ ap is_some (get_left m ∙ ap (λ o. cond (nat_le m m) o None) (none_of (fin.get laid m) first.here) ∙ same_both (nat_le m m) None)
 
-  above_joined : (p : ℕ) → fin.contains_key (stored_with_part v part).held p ≡ true → stored_next (stored_with_part v part) < p
+  above_joined : (p : ℕ) → fin.contains_key (stored_with_piece v part).held p ≡ true → stored_next (stored_with_piece v part) < p
   above_joined p h =
       let at = next_joined v part in
-      ⊎_elim (λ (same : m ≡ p). absurd (both_ways _ missing_joined (ap (fin.contains_key (stored_with_part v part).held) (at ∙ same) ∙ h)))
+      ⊎_elim (λ (same : m ≡ p). absurd (both_ways _ missing_joined (ap (fin.contains_key (stored_with_piece v part).held) (at ∙ same) ∙ h)))
       (⊎_elim (λ (l : m < p). omega arith)
       (λ (l : p < m). absurd (both_ways _ (ap is_some (get_left p ∙ ap (λ b. cond b (fin.get laid p) None) (lt-leb m p l))) h)))
       (cases_order m p)
@@ -114,7 +114,7 @@ clip_within low high e p b is =
 
 -- ---- segments that come again
 kept_held : (v : Stored) (part : Piece) → ((p : ℕ) → fin.contains_key v.held p ≡ true → stored_next v < p) →
-    ((q b : ℕ) → piece_at part q ≡ Some b → fin.get v.held q ≡ Some b) → stored_with_part v part ≡ v
+    ((q b : ℕ) → piece_at part q ≡ Some b → fin.get v.held q ≡ Some b) → stored_with_piece v part ≡ v
 kept_held v part above same =
     (λ i. queue_up_to v (stored_next v) (laid_same i) (lacking_same i))
     ∙ (λ i. record { first = v.first; capacity = v.capacity; read = v.read; queue = queue_same i; held = held_same i })
@@ -123,7 +123,7 @@ kept_held v part above same =
     or_same None m h = refl
     or_same (Some b) m h = sym (h b refl)
 
-    laid_same : held_with_part v part ≡ v.held
+    laid_same : held_with_piece v part ≡ v.held
     laid_same =
         fin.same_map nat_cmp_total fin.nat_cmp-IsAntisymmetric _ _
         (λ q. get-with_bytes_at v.held part.start part.bytes q ∙ or_same (piece_at part q) (fin.get v.held q) (same q))
@@ -138,7 +138,7 @@ kept_held v part above same =
     at : IsFirst (fin.contains_key v.held) (stored_next v) (stored_next v)
     at = record { from = omega arith; before = λ q a b. absurd (omega arith); here = here }
 
-    lacking_same : first_lacking (held_with_part v part) (stored_next v) ≡ stored_next v
+    lacking_same : first_lacking (held_with_piece v part) (stored_next v) ≡ stored_next v
     lacking_same =
         ap (λ l. first_lacking l (stored_next v)) laid_same
         ∙ first_unique (fin.contains_key v.held) (stored_next v) _ _ (first_lacking_is v.held (stored_next v)) at
@@ -178,7 +178,7 @@ second_copy most v pos xs sound =
     (stored_next v) most (domain v.held) part
     (λ is. ap (state_after by_stored v) is)
     (λ is. ap (state_after by_stored v) is)
-    (λ is. held_changes_nothing_above most (stored_with_part v part) pos xs (above_joined v part) (λ p b from to at.
+    (λ is. held_changes_nothing_above most (stored_with_piece v part) pos xs (above_joined v part) (λ p b from to at.
     let there = next_joined v part in
     let grown = (first v part).from in
     get_left v part p

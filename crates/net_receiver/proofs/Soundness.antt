@@ -14,7 +14,7 @@ use Rattle.net_storage.proofs.Runs.{in_runs, contains-set_of_runs, rising-in_run
 use Rattle.net_receiver.specs.KeptList.{Piece, piece, piece_at, end, piece_within}
 use Rattle.net_receiver.specs.Rules.{Segment, Read, Show, KeptNone, Refused, Keeps, state_after}
 use Rattle.net_receiver.specs.Soundness.{FreshIsSound, SoundStays}
-use Rattle.net_receiver.specs.Stored.{Stored, domain, stored_with_part, stored_next, stored_after, by_stored, IsSound}
+use Rattle.net_receiver.specs.Stored.{Stored, domain, stored_with_piece, stored_next, stored_after, by_stored, IsSound}
 use Rattle.net_receiver.proofs.Covering.{piece_has}
 use Rattle.net_receiver.proofs.Maps.{contains-domain}
 use Rattle.net_receiver.proofs.Sound.{laid_has, after_has, lacking, m, sound_joined, sound_read}
@@ -89,9 +89,9 @@ module _ (most : ℕ) (v : Stored) (sound : IsSound most v) (part : Piece) (star
   outside : (is_some (piece_at part first) ≡ false) × (fin.contains_key v.held first ≡ false)
   outside = or_false _ _ (sym (laid_has most v sound part starts ends first) ∙ (lacking most v sound part starts ends).here)
 
-  left_has : (q : ℕ) → contains (domain (stored_with_part v part).held) q ≡ ((is_some (piece_at part q) || fin.contains_key v.held q) && nat_le first q)
+  left_has : (q : ℕ) → contains (domain (stored_with_piece v part).held) q ≡ ((is_some (piece_at part q) || fin.contains_key v.held q) && nat_le first q)
   left_has q =
-      contains-domain (stored_with_part v part).held q
+      contains-domain (stored_with_piece v part).held q
       ∙ after_has most v sound part starts ends q
       ∙ ap (λ b. b && nat_le first q) (laid_has most v sound part starts ends q)
 
@@ -101,7 +101,7 @@ module _ (most : ℕ) (v : Stored) (sound : IsSound most v) (part : Piece) (star
       ∙ (λ i. contains-domain v.held q i || sym (piece_has part q) i)
       ∙ or_swap (fin.contains_key v.held q) (is_some (piece_at part q))
 
-  few_joined : (is_some (piece_at part (stored_next v)) ≡ true) ⊎ (runs ranged ≤ most) → runs (domain (stored_with_part v part).held) ≤ most
+  few_joined : (is_some (piece_at part (stored_next v)) ≡ true) ⊎ (runs ranged ≤ most) → runs (domain (stored_with_piece v part).held) ≤ most
   few_joined which =
       ⊎_elim
       (λ (at : is_some (piece_at part (stored_next v)) ≡ true).
@@ -109,7 +109,7 @@ module _ (most : ℕ) (v : Stored) (sound : IsSound most v) (part : Piece) (star
       let away = sym (piece_has part first) ∙ outside.0 in
       let from = (lacking most v sound part starts ends).from in
       let past : part.start + length part.bytes ≤ first = grind (arith, nat_tests) in
-      let fewer = few_from (domain v.held) (domain (stored_with_part v part).held) first (contains-domain v.held first ∙ outside.1) (λ q.
+      let fewer = few_from (domain v.held) (domain (stored_with_piece v part).held) first (contains-domain v.held first ∙ outside.1) (λ q.
       left_has q
       ∙ ap (λ b. (b || fin.contains_key v.held q) && nat_le first q) (piece_has part q)
       ∙ no_part part.start (part.start + length part.bytes) first q (fin.contains_key v.held q) past
@@ -118,7 +118,7 @@ module _ (most : ℕ) (v : Stored) (sound : IsSound most v) (part : Piece) (star
       omega arith)
       (λ (few : runs ranged ≤ most).
       let missing = ranged_has first ∙ (λ i. outside.0 i || outside.1 i) in
-      let fewer = few_from ranged (domain (stored_with_part v part).held) first missing
+      let fewer = few_from ranged (domain (stored_with_piece v part).held) first missing
       (λ q. left_has q ∙ ap (λ b. b && nat_le first q) (sym (ranged_has q))) in
       omega arith)
       which
@@ -134,7 +134,7 @@ module _ (most : ℕ) (v : Stored) (pos : ℕ) (xs : List ℕ) (sound : IsSound 
   abbrev more : Positions
   more = with_range (domain v.held) part.start (length part.bytes)
 
-  kept : nat_eq (length part.bytes) 0 ≡ false → (is_some (piece_at part (stored_next v)) ≡ true) ⊎ (runs more ≤ most) → IsSound most (stored_with_part v part)
+  kept : nat_eq (length part.bytes) 0 ≡ false → (is_some (piece_at part (stored_next v)) ≡ true) ⊎ (runs more ≤ most) → IsSound most (stored_with_piece v part)
   kept some which =
       let cut = length-take (limit - pos) xs in
       let size = length-drop (stored_next v - pos) (take (limit - pos) xs) in

@@ -12,7 +12,7 @@ use Rattle.net_storage.specs.Positions.{maximal_runs, with_range}
 use Rattle.net_storage.proofs.Positions.{has, Rises, contains-set_of_list, positions-set_of_list, same_positions, runs-maximal_runs}
 use Rattle.net_receiver.specs.KeptList.{Piece, piece, piece_at, piece_within, byte_at, bytes, covered_set, next, held_positions}
 use Rattle.net_receiver.specs.Rules.{CommandSeen, Segment, Read, Show, ReplySeen, Segmented, Gave}
-use Rattle.net_receiver.specs.Rules.{Shown, Refused, Keeps, verdict_of_part, state_after, segment_result}
+use Rattle.net_receiver.specs.Rules.{Shown, Refused, Keeps, verdict_of_piece, state_after, segment_result}
 use Rattle.net_receiver.specs.Rules.{first_three, verdict}
 use Rattle.net_receiver.specs.Schedule.{Setting, State, fresh_state, kept_after, kept_reply, kept_replies, by_kept}
 use Rattle.net_receiver.specs.WorkedExample.{is_in, with_position, rising_list, missing_of, missing_in, runs_in, covered_list}
@@ -187,16 +187,16 @@ three_held = held_computed 0 three
 
 first_verdict : verdict (by_kept w) 4 fresh_state first ≡ Keeps first
 first_verdict =
-    (λ i. verdict_of_part (none_next i) 4 (held_positions 0 []) (piece_within (none_next i) 16 first))
+    (λ i. verdict_of_piece (none_next i) 4 (held_positions 0 []) (piece_within (none_next i) 16 first))
     ∙ ap (λ r. cond (nat_lt 4 r) Refused (Keeps first)) (let few : runs (with_range (held_positions 0 []) 2 2) ≡ 1 = runs_computed 0 [] 2 2 in few)
 
 second_verdict : verdict (by_kept w) 4 (kept one) second ≡ Keeps second
 second_verdict =
-    (λ i. verdict_of_part (one_next i) 4 (held_positions 0 one) (piece_within (one_next i) 16 second))
+    (λ i. verdict_of_piece (one_next i) 4 (held_positions 0 one) (piece_within (one_next i) 16 second))
     ∙ ap (λ r. cond (nat_lt 4 r) Refused (Keeps second)) (let few : runs (with_range (held_positions 0 one) 3 2) ≡ 1 = runs_computed 0 one 3 2 in few)
 
 third_verdict : verdict (by_kept w) 4 (kept two) third ≡ Keeps third
-third_verdict = λ i. verdict_of_part (two_next i) 4 (held_positions 0 two) (piece_within (two_next i) 16 third)
+third_verdict = λ i. verdict_of_piece (two_next i) 4 (held_positions 0 two) (piece_within (two_next i) 16 third)
 
 step : (s t : State) (c : CommandSeen) (r : ReplySeen) (cs : List CommandSeen) (rs : List ReplySeen) → kept_after w s c ≡ t →
     kept_reply w s c ≡ r → kept_replies w t cs ≡ rs → kept_replies w s (c ∷ cs) ≡ r ∷ rs

@@ -162,8 +162,8 @@ FreshStream = (most_runs first capacity : ℕ) (x : List ℕ) (cs : List Command
 -- a call of `replay`, of which all or the first commands were executed: the bytes that were read, and
 -- then the queue, are what x has from the first byte on that was not yet read, up to the first
 -- missing position
-abbrev pub RunReceives : Type 0
-RunReceives = (most_runs : ℕ) (x : List ℕ) (v u : Stored)
+abbrev pub ReplayReceives : Type 0
+ReplayReceives = (most_runs : ℕ) (x : List ℕ) (v u : Stored)
     (cs : List CommandSeen) (rs : List ReplySeen) (complete : Bool) →
     Receives x v → All (IsTruthful v.first x) cs →
     Executed most_runs v u cs rs (IsTrue complete) →

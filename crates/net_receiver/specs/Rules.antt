@@ -33,8 +33,8 @@ pub data Verdict : Type 0 where
   Keeps : Piece → Verdict
 
 -- the verdict on what the free window takes of a segment, where n is the first missing position
-abbrev pub verdict_of_part : ℕ → ℕ → Positions → Piece → Verdict
-verdict_of_part n most_runs held part =
+abbrev pub verdict_of_piece : ℕ → ℕ → Positions → Piece → Verdict
+verdict_of_piece n most_runs held part =
     if nat_eq (length part.bytes) 0 then KeptNone
     else if not (is_some (piece_at part n))
     && nat_lt most_runs (runs (with_range held part.start (length part.bytes))) then Refused
@@ -65,7 +65,7 @@ pub record Keeping (S : Type 0) : Type 0 where
   -- the positions above the first missing one whose bytes are there
   pub held : S → Positions
   -- the state with one more kept piece
-  pub with_part : S → Piece → S
+  pub with_piece : S → Piece → S
   -- the state after a read of so many bytes, or of the whole queue if it is shorter
   pub after_read : S → ℕ → S
 
@@ -78,14 +78,14 @@ module _ {S : Type 0} (keeping : Keeping S) where
   abbrev pub state_after : S → Verdict → S
   state_after s KeptNone = s
   state_after s Refused = s
-  state_after s (Keeps part) = keeping.with_part s part
+  state_after s (Keeps part) = keeping.with_piece s part
 
   -- how many bytes are kept, and how many join the queue, or the refusal
   abbrev pub numbers : S → Verdict → Result (ℕ × ℕ) TooManyHolesError
   numbers s KeptNone = Ok (0, 0)
   numbers s Refused = Err (record {})
   numbers s (Keeps part) =
-      Ok (length part.bytes, keeping.next (keeping.with_part s part) - keeping.next s)
+      Ok (length part.bytes, keeping.next (keeping.with_piece s part) - keeping.next s)
 
   -- the result of a segment
   abbrev pub segment_result : S → Verdict → Result Kept TooManyHolesError
@@ -96,7 +96,7 @@ module _ {S : Type 0} (keeping : Keeping S) where
     -- position on and below the limit
     abbrev pub verdict : S → Piece → Verdict
     verdict s e =
-        verdict_of_part (keeping.next s) most_runs (keeping.held s)
+        verdict_of_piece (keeping.next s) most_runs (keeping.held s)
         (piece_within (keeping.next s) (limit s) e)
 
     -- the state after a command

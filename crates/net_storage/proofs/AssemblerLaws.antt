@@ -11,7 +11,7 @@ use Rattle.std.proofs.lemmas.Int.Digits.{length-digits_of_step, length-digits_of
 use Rattle.net_storage.specs.Positions.{Positions, contains, with_range, front, runs, maximal_runs, AreMaximalRuns}
 use Rattle.net_storage.specs.Turns.{TurnsWithin, binary_digits}
 use Rattle.net_storage.specs.Assembler.{MakesTooManyRuns}
-use Rattle.net_storage.specs.AssemblerLaws.{CallsNext, answers_of_next, EqualSets, MembersOfList, FirstMissingIsLeast}
+use Rattle.net_storage.specs.AssemblerLaws.{CallsNext, results_of_next, EqualSets, MembersOfList, FirstMissingIsLeast}
 use Rattle.net_storage.specs.AssemblerLaws.{FrontIsLeastMissing, EqualMaximalRuns, MaximalRunsByNumber}
 use Rattle.net_storage.specs.AssemblerLaws.{EnoughBinaryDigits, EqualAssemblers, RangeAgain, AddingAgain}
 use Rattle.net_storage.specs.AssemblerLaws.{AddingInBothOrders, IteratesMaximalRuns}
@@ -126,13 +126,13 @@ drop-nothing (suc n) = refl
 
 -- calls of `next` answer what is left, in turn, and then `None`
 answered : (left last : List (ℕ × ℕ)) (answers : List (Option (ℕ × ℕ))) → CallsNext left answers last →
-    (answers ≡ answers_of_next left (length answers)) × (last ≡ drop (length answers) left)
+    (answers ≡ results_of_next left (length answers)) × (last ≡ drop (length answers) left)
 answered left last [] h = (refl, sym h)
 answered [] last (None ∷ answers) h =
     let ended : h.0 ≡ [] = h.1.1 in
     let rest = answered h.0 last answers h.2 in
     let n = length answers in
-    (ap (λ xs. None ∷ xs) (rest.0 ∙ ap (λ xs. answers_of_next xs n) ended), rest.1 ∙ ap (drop n) ended ∙ drop-nothing n)
+    (ap (λ xs. None ∷ xs) (rest.0 ∙ ap (λ xs. results_of_next xs n) ended), rest.1 ∙ ap (drop n) ended ∙ drop-nothing n)
 answered [] last (Some r ∷ answers) h = let e : [] ≡ r ∷ h.0 = h.1 in cc
 answered (l ∷ left) last (None ∷ answers) h = let e : l ∷ left ≡ [] = h.1.0 in cc
 answered (l ∷ left) last (Some r ∷ answers) h =
@@ -141,7 +141,7 @@ answered (l ∷ left) last (Some r ∷ answers) h =
     let others : left ≡ h.0 = cc in
     let rest = answered h.0 last answers h.2 in
     let n = length answers in
-    ((λ i. Some (sym same i) ∷ rest.0 i) ∙ ap (λ xs. Some l ∷ answers_of_next xs n) (sym others), rest.1 ∙ ap (drop n) (sym others))
+    ((λ i. Some (sym same i) ∷ rest.0 i) ∙ ap (λ xs. Some l ∷ results_of_next xs n) (sym others), rest.1 ∙ ap (drop n) (sym others))
 
 pub iterates_maximal_runs : IteratesMaximalRuns
 iterates_maximal_runs most_runs s left last answers first calls =

@@ -8,7 +8,7 @@ use Rattle.std.specs.Prelude.{Option, true}
 use Rattle.std.specs.declared.option.Option.TheVariants.{Some, None}
 use Rattle.net_storage.specs.Ring.{RingState, index_after, capacity, window, queue, write_at, WellFormed, with_enqueued, with_dequeued, with_elements, Enqueued}
 use Rattle.net_storage.specs.Packets.{Packet, packet, bytes_used, slots_used, slots_for, IsPlaced, ArePlaced, gap_for, if_slots}
-use Rattle.net_storage.specs.PacketSlots.{slot, gap_slot, packet_slots, packets_in, Holds}
+use Rattle.net_storage.specs.PacketSlots.{slot, gap_slot, packet_slots, packets_in, StandFor}
 use Rattle.net_storage.specs.declared.packet_metadata.PacketMetadata.{PacketMetadata}
 use Rattle.net_storage.proofs.Rotations.{length-queue, length-overwrite}
 
@@ -202,7 +202,7 @@ module _ {H : Type 0} where
       let k : 0 + p.gap + p.size ≡ p.size + 0 = omega (arith, z) in
       placed_from c r p.size 0 ps wf (omega (arith, le)) (subst (λ (j : ℕ). ArePlaced c r j ps) k a.1)
 
-  module _ (m : RingState (PacketMetadata H)) (b : RingState ℕ) (ps : List (Packet H)) (h : Holds m b ps) where
+  module _ (m : RingState (PacketMetadata H)) (b : RingState ℕ) (ps : List (Packet H)) (h : StandFor m b ps) where
     pub held_is : m.count ≡ slots_used ps
     held_is = sym (length-queue m h.0) ∙ ap length h.2 ∙ length-slots ps
 
@@ -211,7 +211,7 @@ module _ {H : Type 0} where
   empty_go n (x ∷ xs) e = let p = slots_pos (x ∷ xs) in ne_eqb n 0 (λ z. absurd (omega (arith, p, e, z)))
       ∙ sym (ne_eqb (length (x ∷ xs)) 0 (λ z. absurd (omega (arith, z))))
 
-  pub empty_is : (m : RingState (PacketMetadata H)) (b : RingState ℕ) (ps : List (Packet H)) → Holds m b ps → (m.count == 0) ≡ (length ps == 0)
+  pub empty_is : (m : RingState (PacketMetadata H)) (b : RingState ℕ) (ps : List (Packet H)) → StandFor m b ps → (m.count == 0) ≡ (length ps == 0)
   empty_is m b ps h = empty_go m.count ps (held_is m b ps h)
 
   -- ---- a slot more

@@ -17,7 +17,7 @@ use Rattle.net_storage.specs.Packets.{with_last_bytes, with_last_size, first_gap
 use Rattle.net_storage.specs.Packets.{without_first_gap, without_gap, IsFirstSized, IsFirst}
 use Rattle.net_storage.specs.Packets.{with_first_header, with_first_bytes, without_first}
 use Rattle.net_storage.specs.Packets.{without_first_and_gap, WellPlaced}
-use Rattle.net_storage.specs.PacketSlots.{slot, packet_slots, packets_in, Holds, packet_queue}
+use Rattle.net_storage.specs.PacketSlots.{slot, packet_slots, packets_in, StandFor, packet_queue}
 use Rattle.net_storage.specs.PacketHistory.{contents_of, contents}
 use Rattle.net_storage.specs.declared.packet_metadata.PacketMetadata.{PacketMetadata}
 use Rattle.net_storage.proofs.Rotations.{length-overwrite, length-queue, length-spare}
@@ -103,14 +103,14 @@ module _ {H : Type 0} where
     queue_is = ap (take (slots_used q.packets)) (append-nil (packet_slots q.packets ++ fill))
         ∙ take_at (packet_slots q.packets) fill (slots_used q.packets) (length-slots q.packets)
 
-    pub holds : Holds m b q.packets
+    pub holds : StandFor m b q.packets
     holds = ((inl refl, omega (arith, long, ok.2)), ok.0, queue_is, refl, ok.1)
 
     pub is_queue : packet_queue m b ≡ q
     is_queue = viewed m b q.packets holds ∙ ap (λ (n : ℕ). mk n q.storage q.read_at q.packets) long
 
   -- ---- a packet comes last
-  module _ (m : RingState (PacketMetadata H)) (b : RingState ℕ) (h : Holds m b (packets_in 0 (queue m))) (gap s : ℕ) (e : placement (packet_queue m b) s
+  module _ (m : RingState (PacketMetadata H)) (b : RingState ℕ) (h : StandFor m b (packets_in 0 (queue m))) (gap s : ℕ) (e : placement (packet_queue m b) s
       ≡ Some gap) (hd : H) (k : ℕ) (le : k ≤ s) (ws : List ℕ) (long : length ws ≡ s) where
     abbrev kept : List (Packet H)
     kept = packets_in 0 (queue m)
@@ -142,7 +142,7 @@ module _ {H : Type 0} where
         ∙ ap (λ (o : RingState ℕ). contents_of kept (queue o) ++ ((hd, take k ws) ∷ [])) (sym (same m b h gap s e))
 
   module _ (q : PacketQueue H) (ok : WellPlaced q) (s : ℕ) (hd : H) (ws : List ℕ) (some : placement q s ≢ None) (long : length ws ≡ s) where
-    module _ (m : RingState (PacketMetadata H)) (b : RingState ℕ) (h : Holds m b (packets_in 0 (queue m))) (is : packet_queue m b ≡ q) where
+    module _ (m : RingState (PacketMetadata H)) (b : RingState ℕ) (h : StandFor m b (packets_in 0 (queue m))) (is : packet_queue m b ≡ q) where
       gap_is : (n : ℕ) × (placement (packet_queue m b) s ≡ Some n)
       gap_is = some_of (placement (packet_queue m b) s) (subst (λ (o : PacketQueue H). placement o s ≢ None) (sym is) some)
 

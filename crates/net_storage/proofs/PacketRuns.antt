@@ -13,11 +13,11 @@ use Rattle.net_storage.specs.Overwrite.{overwrite}
 use Rattle.net_storage.specs.Ring.{index_after, queue, storage_index}
 use Rattle.net_storage.specs.Packets.{Packet, PacketQueue, no_packets, packet, bytes_used}
 use Rattle.net_storage.specs.Packets.{slots_used, byte_ring, ArePlaced, placement, with_packet}
-use Rattle.net_storage.specs.Packets.{with_packet_if, with_packet_if_room, only_last, last_place}
+use Rattle.net_storage.specs.Packets.{with_packet_if, with_packet_if_room, only_last, last_index}
 use Rattle.net_storage.specs.Packets.{last_bytes, with_last_bytes, with_last_size, with_first_size}
 use Rattle.net_storage.specs.Packets.{first_gap, first_size, without_first_gap, without_gap}
 use Rattle.net_storage.specs.Packets.{with_first_header, with_first_bytes, without_first}
-use Rattle.net_storage.specs.Packets.{without_first_and_gap, after_hand_out, freed_place}
+use Rattle.net_storage.specs.Packets.{without_first_and_gap, after_hand_out, freed_bytes_index}
 use Rattle.net_storage.specs.Packets.{freed_bytes, AreFreed, with_bytes, first_bytes, IsFirst}
 use Rattle.net_storage.specs.Packets.{IsFirstSized, WellPlaced}
 use Rattle.net_storage.specs.Log.{Log, empty_log}
@@ -110,11 +110,11 @@ module _ {H : Type 0} where
       placed_is : with_packet_if_room q s hd ≡ with_packet q gap s hd
       placed_is = ap (λ o. with_packet_if q o s hd) e
 
-      cut_is : (k : ℕ) (ws : List ℕ) → with_bytes (with_packet q gap k hd) (last_place (with_packet q gap s hd)) ws ≡ with_last_size k
+      cut_is : (k : ℕ) (ws : List ℕ) → with_bytes (with_packet q gap k hd) (last_index (with_packet q gap s hd)) ws ≡ with_last_size k
           (with_last_bytes (with_packet_if_room q s hd) ws)
       cut_is k ws =
           let all = with_packet q gap s hd in
-          ap₂ (λ (front back : List (Packet H)). mk q.slot_count (overwrite q.storage (last_place all) ws) all.read_at (front ++ back))
+          ap₂ (λ (front back : List (Packet H)). mk q.slot_count (overwrite q.storage (last_index all) ws) all.read_at (front ++ back))
           (sym (before_append q.packets (packet hd s gap))) (sym (ap (with_first_size k) (last_append q.packets (packet hd s gap))))
           ∙ ap (λ o. with_last_size k (with_last_bytes o ws)) (sym placed_is)
 
@@ -126,21 +126,21 @@ module _ {H : Type 0} where
       cut_well k le ws =
           let g = some_of (placement q s) some in
           subst WellPlaced (cut_is s hd g.0 g.1 k ws)
-          (with_bytes_well (with_packet q g.0 k hd) (pushed_well s hd g.0 g.1 k le) (last_place (with_packet q g.0 s hd)) ws)
+          (with_bytes_well (with_packet q g.0 k hd) (pushed_well s hd g.0 g.1 k le) (last_index (with_packet q g.0 s hd)) ws)
 
   keeps : (call : QueueCall H) (q r : PacketQueue H) → WellPlaced q → Makes call q r → WellPlaced r
   keeps Reset q r ok is = subst WellPlaced (sym is) ((inl refl, omega arith), tt, omega arith)
   keeps (Place hd ws) q r ok does = subst WellPlaced (sym does.1) (placed_well q ok (length ws) hd does.0)
-  keeps (WriteLast ws) q r ok does = subst WellPlaced (sym does.2) (with_bytes_well q ok (last_place q) ws)
+  keeps (WriteLast ws) q r ok does = subst WellPlaced (sym does.2) (with_bytes_well q ok (last_index q) ws)
   keeps (Enqueue hd ws) q r ok does =
       subst WellPlaced (sym does.1) (let o = with_packet_if_room q (length ws) hd in
-      with_bytes_well o (placed_well q ok (length ws) hd does.0) (last_place o) ws)
+      with_bytes_well o (placed_well q ok (length ws) hd does.0) (last_index o) ws)
   keeps (EnqueueWith hd ws count) q r ok does = subst WellPlaced (sym does.2) (cut_well q ok (length ws) hd does.0 count does.1 ws)
   keeps Peek q r ok is = subst WellPlaced (sym is) (skipped_well q ok)
   keeps (DequeueErr hd ws) q r ok does = subst WellPlaced (sym does.2) (written_headed q ok hd ws).0
   keeps (DequeueOk hd ws after written) q r ok does = subst WellPlaced (sym does.2) (written_off q ok after written)
   keeps (Take hd ws) q r ok does = subst WellPlaced (sym does.1) (taken_well q ok)
-  keeps (WriteFreed ws) q r ok does = subst WellPlaced (sym does.1) (with_bytes_well q ok (freed_place q (length ws)) ws)
+  keeps (WriteFreed ws) q r ok does = subst WellPlaced (sym does.1) (with_bytes_well q ok (freed_bytes_index q (length ws)) ws)
   keeps (Dequeue hd ws written) q r ok does = subst WellPlaced (sym does.2)
       (with_bytes_well (without_first_and_gap q) (taken_well q ok) (without_gap q).read_at written)
 
@@ -152,7 +152,7 @@ module _ {H : Type 0} where
       let o = with_packet_if_room q (length ws) hd in
       let same : with_last_bytes o ws ≡ o =
       ap (with_last_bytes o) is ∙ ap (λ (st : List ℕ). mk o.slot_count st o.read_at o.packets)
-      (overwrite-same o.storage (last_place o) (first_size (only_last o.packets))) in
+      (overwrite-same o.storage (last_index o) (first_size (only_last o.packets))) in
       ap contents (sym same) ∙ order.accepted q ok (length ws) hd ws some refl
 
   -- the last packet is written again
@@ -171,7 +171,7 @@ module _ {H : Type 0} where
       let i : ℕ = bytes_used q.packets - first_size (only_last q.packets) in
       let z : 0 + bytes_used q.packets - first_size (only_last q.packets) ≡ i = omega arith in
       let at = ap (index_after (length st) r) z in
-      let w = (held_law c ok.0 i (last_place q) ws (omega (arith, long, f.0)) (omega (arith, long, at, f.1)) (storage_index_is c i)).0 in
+      let w = (held_law c ok.0 i (last_index q) ws (omega (arith, long, f.0)) (omega (arith, long, at, f.1)) (storage_index_is c i)).0 in
       let all = length-queue c ok.0 in
       let c1 = cut (bytes_used ps) bs (omega (arith, all, sum)) in let a = c1.0 in let v = c1.1 in
       let c2 = cut p.gap v (omega (arith, all, sum, c1.4)) in let x = c2.0 in let old = c2.1 in
@@ -199,7 +199,7 @@ module _ {H : Type 0} where
       (l.0, end.1.header, l.1, ap contents is ∙ l.2, ap (λ o. contents (with_last_bytes o ws)) is ∙ l.3)
 
   pub freed_contents : (q : PacketQueue H) → WellPlaced q → (ws : List ℕ) → AreFreed q (length ws)
-      → contents (with_bytes q (freed_place q (length ws)) ws) ≡ contents q
+      → contents (with_bytes q (freed_bytes_index q (length ws)) ws) ≡ contents q
   unfolding contents
   freed_contents q ok ws f =
       let c = byte_ring q in
@@ -207,8 +207,8 @@ module _ {H : Type 0} where
       let i : ℕ = length q.storage - bytes_used q.packets - s in
       let z : length q.storage - s ≡ c.count + i = omega (arith, f.0, ok.0.1) in
       let at = ap (storage_index c) z in
-      let w = spare_law c ok.0 i (freed_place q s) ws (omega (arith, f.0)) f.1
-      (subst (λ (j : ℕ). IsStorageIndex (length q.storage) q.read_at j (freed_place q s)) z (storage_index_is c (length q.storage - s))) in
+      let w = spare_law c ok.0 i (freed_bytes_index q s) ws (omega (arith, f.0)) f.1
+      (subst (λ (j : ℕ). IsStorageIndex (length q.storage) q.read_at j (freed_bytes_index q s)) z (storage_index_is c (length q.storage - s))) in
       ap (contents_of q.packets) w.0
 
   close_size : (ps : List (Packet H)) → first_size (without_first_gap ps) ≡ first_size ps
@@ -221,14 +221,14 @@ module _ {H : Type 0} where
   rest_bytes (p ∷ ps) = omega arith
 
   off_go : (n : ℕ) (st : List ℕ) (r : ℕ) (ps : List (Packet H)) → WellPlaced (mk n st r ps) → first_gap ps ≡ 0 → let o =
-      without_first (mk n st r ps) in (freed_place o (first_size ps) ≡ r) × AreFreed o (first_size ps)
+      without_first (mk n st r ps) in (freed_bytes_index o (first_size ps) ≡ r) × AreFreed o (first_size ps)
   off_go n st r ps ok z =
       let c = length st in
       let s = first_size ps in
       let rest = rest_bytes ps in
       let f = front_fits c r ps ok.0.0 ok.0.1 ok.1 z in
       let back : s + (c - s) ≡ c = omega (arith, f.1) in
-      let round : freed_place (without_first (mk n st r ps)) s ≡ r =
+      let round : freed_bytes_index (without_first (mk n st r ps)) s ≡ r =
       place_place c r s (c - s) ok.0.0 (omega (arith, f.1)) ∙ ap (index_after c r) back ∙ (elim (place_cases c r c) [
         | inl h ↦ absurd (omega (arith, h.0))
         | inr h ↦ omega (arith, h.1, f.1)
@@ -240,7 +240,7 @@ module _ {H : Type 0} where
   off_contents q ok ws long =
       let f = off_go q.slot_count q.storage (without_gap q).read_at (without_first_gap q.packets) (skipped_well q ok) (close_gap q.packets) in
       let size : first_size (without_first_gap q.packets) ≡ length ws = close_size q.packets ∙ sym long in
-      ap (λ (p : ℕ). contents (with_bytes (without_first_and_gap q) p ws)) (sym f.0 ∙ ap (freed_place (without_first_and_gap q)) size)
+      ap (λ (p : ℕ). contents (with_bytes (without_first_and_gap q) p ws)) (sym f.0 ∙ ap (freed_bytes_index (without_first_and_gap q)) size)
       ∙ freed_contents (without_first_and_gap q) (taken_well q ok) ws (subst (λ (s : ℕ). AreFreed (without_first_and_gap q) s) size f.1)
 
   -- ---- laws that users call for
@@ -272,12 +272,12 @@ module _ {H : Type 0} where
       let f = last_fits (length o.storage) o.read_at 0 o.packets w.0.0 (omega (arith, w.0.1)) w.1 in
       let z : 0 + bytes_used o.packets - first_size (only_last o.packets) ≡ bytes_used o.packets - first_size (only_last o.packets) = omega arith in
       let at = ap (index_after (length o.storage) o.read_at) z in
-      let long = length-drop (last_place o) o.storage in
+      let long = length-drop (last_index o) o.storage in
       let size : first_size (only_last o.packets) ≡ s =
       ap (λ (p : PacketQueue H). first_size (only_last p.packets)) (placed_is q ok s hd g.0 g.1)
       ∙ ap first_size (last_append q.packets (packet hd s g.0)) in
       let n : length (last_bytes o) ≡ s =
-      length-take-le (first_size (only_last o.packets)) (drop (last_place o) o.storage) (omega (arith, at, f.1, long)) ∙ size in
+      length-take-le (first_size (only_last o.packets)) (drop (last_index o) o.storage) (omega (arith, at, f.1, long)) ∙ size in
       ap (λ (m : ℕ). contents (with_packet_if_room q m hd)) (sym n)
       ∙ placed_contents q ok hd (last_bytes o) (subst (λ (m : ℕ). placement q m ≢ None) (sym n) some)
       (ap (λ (m : ℕ). last_bytes (with_packet_if_room q m hd)) (sym n))
@@ -295,10 +295,10 @@ module _ {H : Type 0} where
       let f = off_go q.slot_count q.storage (without_gap q).read_at (without_first_gap q.packets) (skipped_well q ok) (close_gap q.packets) in
       let size : first_size (without_first_gap q.packets) ≡ s = close_size q.packets ∙ sym is in
       let fits = subst (λ (n : ℕ). AreFreed (without_first_and_gap q) n) size f.1 in
-      let at : freed_place (without_first_and_gap q) s ≡ (without_gap q).read_at = sym (ap (freed_place (without_first_and_gap q)) size) ∙ f.0 in
-      let long = length-drop (freed_place (without_first_and_gap q) s) q.storage in (
+      let at : freed_bytes_index (without_first_and_gap q) s ≡ (without_gap q).read_at = sym (ap (freed_bytes_index (without_first_and_gap q)) size) ∙ f.0 in
+      let long = length-drop (freed_bytes_index (without_first_and_gap q) s) q.storage in (
         ap₂ (λ (p n : ℕ). take n (drop p q.storage)) at (sym size),
-        length-take-le s (drop (freed_place (without_first_and_gap q) s) q.storage) (omega (arith, long, fits.1)),
+        length-take-le s (drop (freed_bytes_index (without_first_and_gap q) s) q.storage) (omega (arith, long, fits.1)),
       )
 
   pub taken_contents : (q : PacketQueue H) → WellPlaced q → (hd : H) (s : ℕ) → IsFirstSized q.packets hd s
@@ -310,9 +310,9 @@ module _ {H : Type 0} where
       ∙ ap (λ l. (hd, freed_bytes (without_first_and_gap q) s) ∷ l) (sym (order.left q ok))
 
   -- what stands before the read index is written over itself
-  pub freed_stay : (q : PacketQueue H) (s : ℕ) (ws : List ℕ) → ws ≡ freed_bytes q s → with_bytes q (freed_place q s) ws ≡ q
-  freed_stay q s ws is = ap (with_bytes q (freed_place q s)) is
-      ∙ ap (λ (st : List ℕ). mk q.slot_count st q.read_at q.packets) (overwrite-same q.storage (freed_place q s) s)
+  pub freed_stay : (q : PacketQueue H) (s : ℕ) (ws : List ℕ) → ws ≡ freed_bytes q s → with_bytes q (freed_bytes_index q s) ws ≡ q
+  freed_stay q s ws is = ap (with_bytes q (freed_bytes_index q s)) is
+      ∙ ap (λ (st : List ℕ). mk q.slot_count st q.read_at q.packets) (overwrite-same q.storage (freed_bytes_index q s) s)
 
   pub peeked_contents : (q : PacketQueue H) → WellPlaced q → contents (without_first_and_gap (without_gap q)) ≡ drop 1 (contents q)
   peeked_contents q ok = order.left (without_gap q) (skipped_well q ok) ∙ ap (drop 1) (order.gap_dropped q ok)
@@ -382,9 +382,9 @@ module _ {H : Type 0} where
   left_as q ok n is = ap contents is ∙ order.left q ok
 
   pub freed_unseen : (q : PacketQueue H) → WellPlaced q → (s : ℕ) → AreFreed q s → (ws : List ℕ) → length ws ≡ s
-      → contents (with_bytes q (freed_place q s) ws) ≡ contents q
+      → contents (with_bytes q (freed_bytes_index q s) ws) ≡ contents q
   freed_unseen q ok s free ws long =
-      ap (λ (n : ℕ). contents (with_bytes q (freed_place q n) ws)) (sym long) ∙ freed_contents q ok ws (subst (λ (n : ℕ). AreFreed q n) (sym long) free)
+      ap (λ (n : ℕ). contents (with_bytes q (freed_bytes_index q n) ws)) (sym long) ∙ freed_contents q ok ws (subst (λ (n : ℕ). AreFreed q n) (sym long) free)
 
   pub handed_contents : (q : PacketQueue H) → WellPlaced q → (hd : H) (ws : List ℕ) (new : H) (news : List ℕ) (gone : Bool)
       → IsFirst q hd ws → length news ≡ length ws

@@ -17,12 +17,12 @@ use Rattle.net_storage.specs.Ring.{spare_index, contiguous_window_from}
 use Rattle.net_storage.specs.Packets.{Packet, PacketQueue, packet, bytes_used, slots_used}
 use Rattle.net_storage.specs.Packets.{slots_for, byte_ring, IsPlaced, ArePlaced, gap_for, placement}
 use Rattle.net_storage.specs.Packets.{with_packet, with_packet_if_room, with_packet_if, only_last}
-use Rattle.net_storage.specs.Packets.{before_last, last_place, last_bytes, with_last_bytes}
+use Rattle.net_storage.specs.Packets.{before_last, last_index, last_bytes, with_last_bytes}
 use Rattle.net_storage.specs.Packets.{with_last_size, with_first_size, IsRoom, first_gap}
 use Rattle.net_storage.specs.Packets.{first_size, without_first_gap, without_gap, IsFirstSized}
 use Rattle.net_storage.specs.Packets.{first_bytes, IsFirst, with_first_header, with_first_bytes}
-use Rattle.net_storage.specs.Packets.{without_first, freed_place, AreFreed, WellPlaced, with_bytes}
-use Rattle.net_storage.specs.PacketSlots.{slot, gap_slot, packet_slots, packets_in, Holds, packet_queue}
+use Rattle.net_storage.specs.Packets.{without_first, freed_bytes_index, AreFreed, WellPlaced, with_bytes}
+use Rattle.net_storage.specs.PacketSlots.{slot, gap_slot, packet_slots, packets_in, StandFor, packet_queue}
 use Rattle.net_storage.specs.declared.packet_metadata.PacketMetadata.{PacketMetadata}
 use Rattle.net_storage.proofs.Rotations.{length-overwrite, length-queue, with_dequeued_parts, part-rotation, cut, overwrite_at, read_at_le}
 use Rattle.net_storage.proofs.RingFacts.{read_index_is, restart_cases, restart_wf}
@@ -42,19 +42,19 @@ module _ {H : Type 0} where
   abbrev mk : ℕ → List ℕ → ℕ → List (Packet H) → PacketQueue H
   mk n st r ps = record { slot_count = n; storage = st; read_at = r; packets = ps }
 
-  module _ (m : RingState (PacketMetadata H)) (b : RingState ℕ) (ps : List (Packet H)) (h : Holds m b ps) where
+  module _ (m : RingState (PacketMetadata H)) (b : RingState ℕ) (ps : List (Packet H)) (h : StandFor m b ps) where
     -- ---- rings that hold packets are seen as these
     pub seen : packets_in 0 (queue m) ≡ ps
     seen = ap (packets_in 0) h.2 ∙ round ps
 
-    pub closed : Holds m b (packets_in 0 (queue m))
-    closed = subst (λ (l : List (Packet H)). Holds m b l) (sym seen) h
+    pub closed : StandFor m b (packets_in 0 (queue m))
+    closed = subst (λ (l : List (Packet H)). StandFor m b l) (sym seen) h
 
     pub viewed : packet_queue m b ≡ mk (capacity m) b.storage b.read_at ps
     viewed = ap (mk (capacity m) b.storage b.read_at) seen
 
     -- bytes that are written over the storage change no place
-    pub written_holds : (p : ℕ) (ws : List ℕ) → Holds m (with_elements b p ws) ps
+    pub written_holds : (p : ℕ) (ws : List ℕ) → StandFor m (with_elements b p ws) ps
     written_holds p ws =
         let long = length-overwrite b.storage p ws in (
           h.0,
@@ -72,7 +72,7 @@ module _ {H : Type 0} where
   before_append ps p = let n = length-append ps (p ∷ []) in take_at ps (p ∷ []) (length (ps ++ (p ∷ [])) - 1) (omega (arith, n))
 
   -- ---- a packet comes last
-  module _ (m : RingState (PacketMetadata H)) (b : RingState ℕ) (h : Holds m b (packets_in 0 (queue m))) (gap s : ℕ) (e : placement (packet_queue m b) s
+  module _ (m : RingState (PacketMetadata H)) (b : RingState ℕ) (h : StandFor m b (packets_in 0 (queue m))) (gap s : ℕ) (e : placement (packet_queue m b) s
       ≡ Some gap) where
     abbrev held_packets : List (Packet H)
     held_packets = packets_in 0 (queue m)
@@ -144,7 +144,7 @@ module _ {H : Type 0} where
             subst WellPlaced push_is ((wfg.0, omega (arith, here.2, le, all, held_g)), push_placed, omega (arith, more, n, free_room, h.0.1))
 
         module _ (m2 : RingState (PacketMetadata H)) (em : queue m2 ≡ queue m ++ (gap_slot gap ++ (slot k (Some hd) ∷ []))) (wfm : WellFormed m2) where
-          pub push_holds : Holds m2 (with_enqueued (gap + k) g) one_more
+          pub push_holds : StandFor m2 (with_enqueued (gap + k) g) one_more
           push_holds =
               let slots_all : queue m2 ≡ packet_slots one_more =
               em ∙ ap (λ (l : List (PacketMetadata H)). l ++ (gap_slot gap ++ (slot k (Some hd) ∷ []))) h.2
@@ -166,7 +166,7 @@ module _ {H : Type 0} where
       end_size : first_size (only_last all) ≡ s
       end_size = ap first_size (last_append held_packets (packet hd s gap))
 
-      push_place : last_place (with_packet before gap s hd) ≡ index_after room g.read_at (g.count + gap)
+      push_place : last_index (with_packet before gap s hd) ≡ index_after room g.read_at (g.count + gap)
       push_place =
           let sum = bytes_append held_packets (packet hd s gap) in
           let n : bytes_used all - first_size (only_last all) ≡ g.count + gap = omega (arith, sum, end_size, held_g) in
@@ -199,8 +199,8 @@ module _ {H : Type 0} where
             let z : g.count + min gap (window g) ≡ g.count + gap = omega (arith, byte_room) in
             ap (λ o. spare_index o gap) is ∙ ap (index_after room g.read_at) z
 
-        fill_place : spare_index b1 gap ≡ last_place (with_packet_if_room before s hd)
-        fill_place = fill_at ∙ sym push_place ∙ ap last_place (sym pushed_is)
+        fill_place : spare_index b1 gap ≡ last_index (with_packet_if_room before s hd)
+        fill_place = fill_at ∙ sym push_place ∙ ap last_index (sym pushed_is)
 
         pub fill_run : contiguous_window_from b1 gap s ≡ s
         fill_run =
@@ -217,7 +217,7 @@ module _ {H : Type 0} where
             let st : (with_packet_if_room before s hd).storage ≡ b1.storage = ap (λ o. o.storage) pushed_is ∙ sym (restart_storage b)
             ∙ ap (λ o. o.storage) (sym is) in
             let one : last_bytes (with_packet_if_room before s hd) ≡ take s (drop (spare_index b1 gap) b1.storage) =
-            ap (λ (n : ℕ). take n (drop (last_place (with_packet_if_room before s hd)) (with_packet_if_room before s hd).storage)) size
+            ap (λ (n : ℕ). take n (drop (last_index (with_packet_if_room before s hd)) (with_packet_if_room before s hd).storage)) size
             ∙ ap₂ (λ (p : ℕ) (l : List ℕ). take s (drop p l)) (sym fill_place) st in
             ((λ n. none-some gap (sym n ∙ e)), stored ∙ ap (λ (n : ℕ). take n (drop (spare_index b1 gap) b1.storage)) long ∙ sym one, long)
 
@@ -227,11 +227,11 @@ module _ {H : Type 0} where
           after_is : b3 ≡ with_elements (with_enqueued (gap + k) g) at ws
           after_is = after ∙ ap₂ (λ (o : RingState ℕ) (p : ℕ). with_enqueued (gap + k) (with_elements o p ws)) is fill_at
 
-          holds : Holds m2 (with_elements (with_enqueued (gap + k) g) at ws) (held_packets ++ (packet hd k gap ∷ []))
+          holds : StandFor m2 (with_elements (with_enqueued (gap + k) g) at ws) (held_packets ++ (packet hd k gap ∷ []))
           holds = written_holds m2 (with_enqueued (gap + k) g) (held_packets ++ (packet hd k gap ∷ [])) (push_holds hd k le m2 em wfm) at ws
 
-          pub fill_holds : Holds m2 b3 (packets_in 0 (queue m2))
-          fill_holds = subst (λ (o : RingState ℕ). Holds m2 o (packets_in 0 (queue m2))) (sym after_is) (closed m2 _ _ holds)
+          pub fill_holds : StandFor m2 b3 (packets_in 0 (queue m2))
+          fill_holds = subst (λ (o : RingState ℕ). StandFor m2 o (packets_in 0 (queue m2))) (sym after_is) (closed m2 _ _ holds)
 
           pub fill_left : capacity m2 ≡ capacity m → packet_queue m2 b3 ≡ with_last_size k (with_last_bytes (with_packet_if_room before s hd) ws)
           fill_left cm =
@@ -283,7 +283,7 @@ module _ {H : Type 0} where
         rest.3 ∙ sym (ap first_size (last_cons p q ps)),
       )
 
-  module _ (m : RingState (PacketMetadata H)) (b : RingState ℕ) (h : Holds m b (packets_in 0 (queue m))) where
+  module _ (m : RingState (PacketMetadata H)) (b : RingState ℕ) (h : StandFor m b (packets_in 0 (queue m))) where
     abbrev end : ℕ
     end = first_size (only_last (packets_in 0 (queue m)))
 
@@ -293,7 +293,7 @@ module _ {H : Type 0} where
     pub end_held : end ≤ b.count
     end_held = omega (arith, h.3, ends.0)
 
-    pub end_place : queue_index b (b.count - end) ≡ last_place (packet_queue m b)
+    pub end_place : queue_index b (b.count - end) ≡ last_index (packet_queue m b)
     end_place =
         let z : min (b.count - end) b.count ≡ bytes_used (packets_in 0 (queue m)) - end = omega (arith, h.3) in
         ap (index_after (capacity b) b.read_at) z
@@ -305,8 +305,8 @@ module _ {H : Type 0} where
         omega (arith, at, ends.0, ends.1, h.3)
 
   -- ---- the gap before the first packet goes
-  pub skip_holds : (m : RingState (PacketMetadata H)) (b : RingState ℕ) (ps : List (Packet H)) → Holds m b ps → 0 < first_gap ps
-      → Holds (with_dequeued 1 m) (with_dequeued (first_gap ps) b) (without_first_gap ps)
+  pub skip_holds : (m : RingState (PacketMetadata H)) (b : RingState ℕ) (ps : List (Packet H)) → StandFor m b ps → 0 < first_gap ps
+      → StandFor (with_dequeued 1 m) (with_dequeued (first_gap ps) b) (without_first_gap ps)
   skip_holds m b [] h pos = absurd (omega arith)
   skip_holds m b (p ∷ ps) h pos =
       let wf = h.1 in
@@ -334,20 +334,20 @@ module _ {H : Type 0} where
   close_first [] x s e = e
   close_first (p ∷ ps) x s e = ap (with_gap p.gap) e
 
-  module _ (m : RingState (PacketMetadata H)) (b : RingState ℕ) (h : Holds m b (packets_in 0 (queue m))) where
+  module _ (m : RingState (PacketMetadata H)) (b : RingState ℕ) (h : StandFor m b (packets_in 0 (queue m))) where
     pub skip_kept : 0 < first_gap (packets_in 0 (queue m))
-        → Holds (with_dequeued 1 m) (with_dequeued (first_gap (packets_in 0 (queue m))) b) (packets_in 0 (queue (with_dequeued 1 m)))
+        → StandFor (with_dequeued 1 m) (with_dequeued (first_gap (packets_in 0 (queue m))) b) (packets_in 0 (queue (with_dequeued 1 m)))
     skip_kept pos =
         let ps = packets_in 0 (queue m) in
         closed (with_dequeued 1 m) (with_dequeued (first_gap ps) b) (without_first_gap ps) (skip_holds m b ps h pos)
 
     -- the same by what the two steps left
     pub skip_keeps : (gap : ℕ) (q : PacketQueue H) (m2 : RingState (PacketMetadata H)) (b2 : RingState ℕ) → packet_queue m b ≡ q
-        → gap ≡ first_gap q.packets → 0 < gap → m2 ≡ with_dequeued 1 m → b2 ≡ with_dequeued gap b → Holds m2 b2 (packets_in 0 (queue m2))
+        → gap ≡ first_gap q.packets → 0 < gap → m2 ≡ with_dequeued 1 m → b2 ≡ with_dequeued gap b → StandFor m2 b2 (packets_in 0 (queue m2))
     skip_keeps gap q m2 b2 is size some off freed =
         let all : gap ≡ first_gap (packets_in 0 (queue m)) = size ∙ ap (λ o. first_gap o.packets) (sym is) in
-        subst (λ n. Holds n b2 (packets_in 0 (queue n))) (sym off)
-        (subst (λ o. Holds (with_dequeued 1 m) o (packets_in 0 (queue (with_dequeued 1 m)))) (sym (freed
+        subst (λ n. StandFor n b2 (packets_in 0 (queue n))) (sym off)
+        (subst (λ o. StandFor (with_dequeued 1 m) o (packets_in 0 (queue (with_dequeued 1 m)))) (sym (freed
         ∙ ap (λ n. with_dequeued n b) all)) (skip_kept (omega (arith, all, some))))
 
   -- ---- the first packet, whose gap is gone
@@ -378,7 +378,7 @@ module _ {H : Type 0} where
 
   pop_go : (m2 : RingState (PacketMetadata H)) (b : RingState ℕ) (ps : List (Packet H)) → WellFormed m2
       → queue m2 ≡ packet_slots (drop 1 ps) → WellFormed b → b.count ≡ bytes_used ps → ArePlaced (capacity b) b.read_at 0 ps → first_gap ps ≡ 0
-      → Holds m2 (with_dequeued (first_size ps) b) (drop 1 ps)
+      → StandFor m2 (with_dequeued (first_size ps) b) (drop 1 ps)
   pop_go m2 b [] wfm em wf n a z =
       (wfm, (place_wf (capacity b) b.read_at 0 wf.0 (omega arith), omega (arith, wf.1)), em, omega (arith, n), tt)
   pop_go m2 b (p ∷ ps) wfm em wf n a z = (
@@ -389,7 +389,7 @@ module _ {H : Type 0} where
     placed_pop (capacity b) b.read_at p ps wf.0 (omega (arith, n, wf.1)) z a,
   )
 
-  module _ (m : RingState (PacketMetadata H)) (b : RingState ℕ) (h : Holds m b (packets_in 0 (queue m))) (z : first_gap (packets_in 0 (queue m)) ≡ 0) where
+  module _ (m : RingState (PacketMetadata H)) (b : RingState ℕ) (h : StandFor m b (packets_in 0 (queue m))) (z : first_gap (packets_in 0 (queue m)) ≡ 0) where
     abbrev front : ℕ
     front = first_size (packets_in 0 (queue m))
 
@@ -428,7 +428,7 @@ module _ {H : Type 0} where
 
     -- the first packet goes
     pub pop_holds : (m2 : RingState (PacketMetadata H)) → queue m2 ≡ packet_slots (drop 1 (packets_in 0 (queue m)))
-        → WellFormed m2 → Holds m2 (with_dequeued front b) (drop 1 (packets_in 0 (queue m)))
+        → WellFormed m2 → StandFor m2 (with_dequeued front b) (drop 1 (packets_in 0 (queue m)))
     pop_holds m2 em wfm = pop_go m2 b (packets_in 0 (queue m)) wfm em h.1 h.3 h.4 z
 
 -- ---- the first element of a list that was read
@@ -503,7 +503,7 @@ module _ {H : Type 0} where
       let many = length-append s.0 (s.1 ∷ []) in
       absurd (last_unread s.0 s.1 l k n (omega (arith, ek, long, many)) (some (omega (arith, long, many))) (el ∙ ap (λ o. take n (drop k o)) whole) i)
 
-  module _ (m : RingState (PacketMetadata H)) (b : RingState ℕ) (h : Holds m b (packets_in 0 (queue m))) (k n : ℕ) (ek : k
+  module _ (m : RingState (PacketMetadata H)) (b : RingState ℕ) (h : StandFor m b (packets_in 0 (queue m))) (k n : ℕ) (ek : k
       ≡ m.count - 1) (en : n ≡ contiguous_queued_from m k 1) (l : List (PacketMetadata H)) (el : l ≡ take n (drop k (queue m))) where
     back : k ≡ length (queue m) - 1
     back = let long = length-queue m h.0 in omega (arith, long, ek)
@@ -523,7 +523,7 @@ module _ {H : Type 0} where
     end_none = none_go (packets_in 0 (queue m)) (queue m) l k n h.2 back el some
 
   -- ---- what holds of every queue
-  pub well_placed : (m : RingState (PacketMetadata H)) (b : RingState ℕ) (h : Holds m b (packets_in 0 (queue m))) → WellPlaced (packet_queue m b)
+  pub well_placed : (m : RingState (PacketMetadata H)) (b : RingState ℕ) (h : StandFor m b (packets_in 0 (queue m))) → WellPlaced (packet_queue m b)
   well_placed m b h =
       let n = held_is m b (packets_in 0 (queue m)) h in
       let k = h.3 in
@@ -552,11 +552,11 @@ module _ {H : Type 0} where
 
     -- they are lent
     module _ (q : PacketQueue H) (is : packet_queue m b ≡ q) where
-      pub freed_ends : (ws : List ℕ) → packet_queue m (with_elements b (freed_index b s) ws) ≡ with_bytes q (freed_place q s) ws
-      freed_ends ws = ap (λ (o : PacketQueue H). with_bytes o (freed_place o s) ws) is
+      pub freed_ends : (ws : List ℕ) → packet_queue m (with_elements b (freed_index b s) ws) ≡ with_bytes q (freed_bytes_index q s) ws
+      freed_ends ws = ap (λ (o : PacketQueue H). with_bytes o (freed_bytes_index o s) ws) is
 
-      pub freed_value : (now : List ℕ) → now ≡ take s (drop (freed_index b s) b.storage) → now ≡ take s (drop (freed_place q s) q.storage)
-      freed_value now stored = stored ∙ ap (λ (o : PacketQueue H). take s (drop (freed_place o s) o.storage)) is
+      pub freed_value : (now : List ℕ) → now ≡ take s (drop (freed_index b s) b.storage) → now ≡ take s (drop (freed_bytes_index q s) q.storage)
+      freed_value now stored = stored ∙ ap (λ (o : PacketQueue H). take s (drop (freed_bytes_index o s) o.storage)) is
 
 -- ---- a write to a part of which the rest stays as it was
 over_part : (st ws : List ℕ) (r n : ℕ) → r + n ≤ length st → length ws ≤ n → overwrite st r (ws ++ drop (length ws) (take n (drop r st))) ≡ overwrite st r ws
@@ -584,7 +584,7 @@ lent_is b wf =
 module _ {H : Type 0} where
   headed_go : (m2 : RingState (PacketMetadata H)) (b : RingState ℕ) (ps : List (Packet H)) (hd : H) → first_gap ps ≡ 0
       → 0 < length ps → queue m2 ≡ slot (first_size ps) (Some hd) ∷ packet_slots (drop 1 ps) → WellFormed m2
-      → WellFormed b → b.count ≡ bytes_used ps → ArePlaced (capacity b) b.read_at 0 ps → Holds m2 b (with_first_header hd ps)
+      → WellFormed b → b.count ≡ bytes_used ps → ArePlaced (capacity b) b.read_at 0 ps → StandFor m2 b (with_first_header hd ps)
   headed_go m2 b [] hd z some em wfm wf n a = absurd (omega (arith, some))
   headed_go m2 b (p ∷ ps) hd z some em wfm wf n a = (wfm, wf, em ∙ sym (front_slots ps (packet hd p.size p.gap) z), n, a)
 
@@ -597,7 +597,7 @@ module _ {H : Type 0} where
   headed_rest hd (p ∷ ps) = refl
 
   -- ---- the first packet is lent, and is then taken off or stays
-  module _ (m : RingState (PacketMetadata H)) (b : RingState ℕ) (h : Holds m b (packets_in 0 (queue m))) (z : first_gap (packets_in 0 (queue m))
+  module _ (m : RingState (PacketMetadata H)) (b : RingState ℕ) (h : StandFor m b (packets_in 0 (queue m))) (z : first_gap (packets_in 0 (queue m))
       ≡ 0) (s : ℕ) (hd : H) (e : queue m ≡ slot s (Some hd) ∷ drop 1 (queue m)) where
     abbrev kept : List (Packet H)
     kept = packets_in 0 (queue m)
@@ -656,11 +656,11 @@ module _ {H : Type 0} where
             bytes_are ∙ ap (λ (n : ℕ). with_elements (with_dequeued n b) b.read_at ws) (all ∙ size_is)
             ∙ ap (λ (c : ℕ). ring (overwrite b.storage b.read_at ws) (index_after c b.read_at (first_size kept)) (b.count - first_size kept)) long_is
 
-        off_holds : Holds m2 (with_dequeued (first_size kept) (with_elements b b.read_at ws)) (drop 1 kept)
+        off_holds : StandFor m2 (with_dequeued (first_size kept) (with_elements b b.read_at ws)) (drop 1 kept)
         off_holds = pop_holds m (with_elements b b.read_at ws) (written_holds m b kept h b.read_at ws) z m2 (em ∙ first_is.3) wfm
 
-        pub off_kept : Holds m2 b2 (packets_in 0 (queue m2))
-        off_kept = subst (λ (o : RingState ℕ). Holds m2 o (packets_in 0 (queue m2))) (sym off_is) (closed m2 _ _ off_holds)
+        pub off_kept : StandFor m2 b2 (packets_in 0 (queue m2))
+        off_kept = subst (λ (o : RingState ℕ). StandFor m2 o (packets_in 0 (queue m2))) (sym off_is) (closed m2 _ _ off_holds)
 
         pub off_left : capacity m2 ≡ capacity m → (new : H) → packet_queue m2 b2 ≡ without_first (with_first_bytes (packet_queue m b) new ws)
         off_left cm new =
@@ -678,15 +678,15 @@ module _ {H : Type 0} where
             ∙ ap₂ (λ (r n : ℕ). ring (overwrite b.storage b.read_at ws) r n) (place_zero (capacity b) b.read_at h.1.0) (let n : b.count - 0 ≡ b.count =
             omega arith in n)
 
-        on_holds : Holds m2 (with_elements b b.read_at ws) (with_first_header new kept)
+        on_holds : StandFor m2 (with_elements b b.read_at ws) (with_first_header new kept)
         on_holds =
             let w = written_holds m b kept h b.read_at ws in
             let n = ap length first_is.1 in
             headed_go m2 (with_elements b b.read_at ws) kept new z (omega (arith, n)) (em
             ∙ ap₂ (λ (n : ℕ) (l : List (PacketMetadata H)). slot n (Some new) ∷ l) size_is first_is.3) wfm w.1 w.3 w.4
 
-        pub on_kept : Holds m2 b2 (packets_in 0 (queue m2))
-        on_kept = subst (λ (o : RingState ℕ). Holds m2 o (packets_in 0 (queue m2))) (sym on_is) (closed m2 _ _ on_holds)
+        pub on_kept : StandFor m2 b2 (packets_in 0 (queue m2))
+        on_kept = subst (λ (o : RingState ℕ). StandFor m2 o (packets_in 0 (queue m2))) (sym on_is) (closed m2 _ _ on_holds)
 
         pub on_left : capacity m2 ≡ capacity m → packet_queue m2 b2 ≡ with_first_bytes (packet_queue m b) new ws
         on_left cm =

@@ -1,7 +1,7 @@
 -- Laws of sets of positions and of what the contracts of an assembler's calls say.
 --     Adds, RemovesFront, AddsThenRemovesFront, Compares, Iterates      what a call's contract says of it
 --     CallsNext left answers last      what calls of `next`, one after another, return and leave
---     answers_of_next left n      what n of them return
+--     results_of_next left n      what n of them return
 -- The others are laws.
 use Rattle.std.specs.Prelude.{◌≡◌, ◌↔◌, ℕ, zero, suc, ◌+◌, ◌-◌, ◌<◌, ◌≤◌, ◌^◌, Bool, ◌&&◌, ◌||◌}
 use Rattle.std.specs.Prelude.{List, [], ◌∷◌, length, drop, nat_le, nat_eq, Option, Some, None}
@@ -58,10 +58,10 @@ CallsNext left (answer ∷ answers) last =
     × CallsNext rest answers last
 
 -- the first n runs of a list, and `None` from its end on
-abbrev pub answers_of_next : List (ℕ × ℕ) → ℕ → List (Option (ℕ × ℕ))
-answers_of_next left zero = []
-answers_of_next [] (suc n) = None ∷ answers_of_next [] n
-answers_of_next (run ∷ left) (suc n) = Some run ∷ answers_of_next left n
+abbrev pub results_of_next : List (ℕ × ℕ) → ℕ → List (Option (ℕ × ℕ))
+results_of_next left zero = []
+results_of_next [] (suc n) = None ∷ results_of_next [] n
+results_of_next (run ∷ left) (suc n) = Some run ∷ results_of_next left n
 
 -- sets are equal exactly if they have the same members
 abbrev pub EqualSets : Type 0
@@ -181,4 +181,4 @@ IteratesMaximalRuns = (most_runs : ℕ) (s : Positions) (left last : List (ℕ �
     (answers : List (Option (ℕ × ℕ))) →
     Iterates most_runs s left → CallsNext left answers last →
     AreMaximalRuns s left × (length left ≤ most_runs)
-    × (answers ≡ answers_of_next left (length answers)) × (last ≡ drop (length answers) left)
+    × (answers ≡ results_of_next left (length answers)) × (last ≡ drop (length answers) left)

@@ -11,7 +11,7 @@ use Rattle.net_storage.specs.Log.{Log, empty_log, log_accepted, log_left, log_dr
 use Rattle.net_storage.specs.Packets.{Packet, PacketQueue, no_packets, byte_ring, placement}
 use Rattle.net_storage.specs.Packets.{with_packet_if_room, only_last, last_bytes, with_last_bytes, with_last_size}
 use Rattle.net_storage.specs.Packets.{with_packet_of, first_size, without_gap, with_first_bytes, IsFirst, without_first}
-use Rattle.net_storage.specs.Packets.{without_first_and_gap, freed_place, AreFreed, with_bytes}
+use Rattle.net_storage.specs.Packets.{without_first_and_gap, freed_bytes_index, AreFreed, with_bytes}
 
 module _ {H : Type 0} where
   -- the headers and bytes of packets whose bytes, gaps among them, are bs
@@ -83,7 +83,7 @@ module _ {H : Type 0} where
       × (r ≡ without_first (with_first_bytes (without_gap q) after written))
   Makes (Take header bytes) q r = IsFirst q header bytes × (r ≡ without_first_and_gap q)
   Makes (WriteFreed bytes) q r =
-      AreFreed q (length bytes) × (r ≡ with_bytes q (freed_place q (length bytes)) bytes)
+      AreFreed q (length bytes) × (r ≡ with_bytes q (freed_bytes_index q (length bytes)) bytes)
   Makes (Dequeue header bytes written) q r =
       IsFirst q header bytes × (length written ≡ length bytes)
       × (r ≡ with_bytes (without_first_and_gap q) (without_gap q).read_at written)

@@ -1,6 +1,6 @@
 -- A queue of packets by the two rings that store it.
 --     slot s h, packet_slots ps, packets_in gap ms      a slot, the slots of packets, and back
---     Holds m b ps, packet_queue m b      the packets, and the queue, that two rings stand for
+--     StandFor m b ps, packet_queue m b      the packets, and the queue, that two rings stand for
 --     IsFirstSlot m s h, HasFirstSlot m s h n      what the first slot of a ring is
 use Rattle.std.specs.Prelude.{◌≡◌, ℕ, zero, suc, ◌+◌, List, [], ◌∷◌, ◌++◌, drop}
 use Rattle.std.specs.Prelude.{Option}
@@ -34,8 +34,8 @@ module _ {H : Type 0} where
       ]
 
   -- the rings stand for these packets
-  abbrev pub Holds : RingState (PacketMetadata H) → RingState ℕ → List (Packet H) → Type 0
-  Holds m b ps =
+  abbrev pub StandFor : RingState (PacketMetadata H) → RingState ℕ → List (Packet H) → Type 0
+  StandFor m b ps =
       WellFormed m × WellFormed b × (queue m ≡ packet_slots ps) × (b.count ≡ bytes_used ps)
       × ArePlaced (capacity b) b.read_at 0 ps
 

@@ -145,17 +145,17 @@ module _ {H : Type 0} where
   only_last ps = drop (length ps - 1) ps
 
   -- the index where the last packet's bytes begin
-  abbrev pub last_place : PacketQueue H → ℕ
-  last_place q =
+  abbrev pub last_index : PacketQueue H → ℕ
+  last_index q =
       storage_index (byte_ring q) (bytes_used q.packets - first_size (only_last q.packets))
 
   -- the last packet's bytes
   abbrev pub last_bytes : PacketQueue H → List ℕ
-  last_bytes q = take (first_size (only_last q.packets)) (drop (last_place q) q.storage)
+  last_bytes q = take (first_size (only_last q.packets)) (drop (last_index q) q.storage)
 
   -- the last packet's bytes are ws
   abbrev pub with_last_bytes : PacketQueue H → List ℕ → PacketQueue H
-  with_last_bytes q ws = with_bytes q (last_place q) ws
+  with_last_bytes q ws = with_bytes q (last_index q) ws
 
   -- a packet with the header h and the bytes ws came last, if it could be placed
   abbrev pub with_packet_of : PacketQueue H → H → List ℕ → PacketQueue H
@@ -251,17 +251,17 @@ module _ {H : Type 0} where
   without_first_and_gap q = without_first (without_gap q)
 
   -- the index where the s bytes before the read index begin
-  abbrev pub freed_place : PacketQueue H → ℕ → ℕ
-  freed_place q s = freed_index (byte_ring q) s
+  abbrev pub freed_bytes_index : PacketQueue H → ℕ → ℕ
+  freed_bytes_index q s = freed_index (byte_ring q) s
 
   -- these bytes
   abbrev pub freed_bytes : PacketQueue H → ℕ → List ℕ
-  freed_bytes q s = take s (drop (freed_place q s) q.storage)
+  freed_bytes q s = take s (drop (freed_bytes_index q s) q.storage)
 
   -- the s bytes before the read index lie in a row, and none of them is a packet's
   abbrev pub AreFreed : PacketQueue H → ℕ → Type 0
-  AreFreed q s = (s ≤ window (byte_ring q)) × (freed_place q s + s ≤ length q.storage)
+  AreFreed q s = (s ≤ window (byte_ring q)) × (freed_bytes_index q s + s ≤ length q.storage)
 
   -- the s bytes before the read index are such, and begin at the index p
   abbrev pub IsFreedAt : PacketQueue H → ℕ → ℕ → Type 0
-  IsFreedAt q s p = AreFreed q s × (freed_place q s ≡ p)
+  IsFreedAt q s p = AreFreed q s × (freed_bytes_index q s ≡ p)

@@ -48,13 +48,13 @@ pub type PacketBuffer<'a, H> = Packets<
 impl<H, M: Elements<PacketMetadata<H>>, B: Elements<u8>> Model for Packets<H, M, B> {
     ghost use Rattle.net_storage.specs.Ring.{queue};
     ghost use Rattle.net_storage.specs.Packets.{PacketQueue};
-    ghost use Rattle.net_storage.specs.PacketSlots.{packet_queue, packets_in, Holds};
+    ghost use Rattle.net_storage.specs.PacketSlots.{packet_queue, packets_in, StandFor};
 
     ghost Value = { PacketQueue H };
 
     ghost view = { λ a. packet_queue a.slots a.bytes };
 
-    ghost invariant = { λ a. Holds a.slots a.bytes (packets_in 0 (queue a.slots)) };
+    ghost invariant = { λ a. StandFor a.slots a.bytes (packets_in 0 (queue a.slots)) };
 }
 
 impl<H, M: Elements<PacketMetadata<H>>, B: Elements<u8>> Packets<H, M, B> {

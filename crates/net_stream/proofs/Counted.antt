@@ -6,7 +6,7 @@ use Rattle.net_receiver.specs.Stored.{Stored, stored_reply}
 use Rattle.net_stream.specs.declared.counts.FrameCounts.{FrameCounts}
 use Rattle.net_stream.specs.declared.fate.Fate.{Fate}
 use Rattle.net_stream.specs.declared.fate.Fate.TheVariants.{Delivered, Lost, Repeated, Late}
-use Rattle.net_stream.specs.Fates.{FatesSeen, next_fate, after_fate, after_all}
+use Rattle.net_stream.specs.Fates.{FatesSeen, next_fate, after_fate, fates_after}
 use Rattle.net_stream.specs.Counting.{more, with_fate, with_fates, SameButRefused, is_refused, with_refusal}
 use Rattle.net_stream.specs.Carrying.{PathSeen, MayComeLate}
 use Rattle.net_stream.proofs.Reached.{returned}
@@ -60,11 +60,11 @@ met_left v v' c c' m n is left same =
     ∙ ap (λ j. record (with_fates j v c) { refused = 0 }) (sym k)
 
 -- the fates that are left in the end
-pub all_left : (v v' : FatesSeen) (m n : ℕ) → m ≡ n + 1 → v' ≡ after_fate v → after_all n v' ≡ after_all m v
-all_left v v' m n is left = (let k : suc n ≡ m = omega arith in ap (after_all n) left ∙ ap (λ j. after_all j v) k)
+pub all_left : (v v' : FatesSeen) (m n : ℕ) → m ≡ n + 1 → v' ≡ after_fate v → fates_after n v' ≡ fates_after m v
+all_left v v' m n is left = (let k : suc n ≡ m = omega arith in ap (fates_after n) left ∙ ap (λ j. fates_after j v) k)
 
-pub none_left : (v v' u : FatesSeen) (n : ℕ) → v' ≡ v → n ≡ 0 → after_all n v ≡ u → v' ≡ u
-none_left v v' u n is none left = is ∙ ap (λ j. after_all j v) (sym none) ∙ left
+pub none_left : (v v' u : FatesSeen) (n : ℕ) → v' ≡ v → n ≡ 0 → fates_after n v ≡ u → v' ≡ u
+none_left v v' u n is none left = is ∙ ap (λ j. fates_after j v) (sym none) ∙ left
 
 -- some frames met their fates so far, and the next one does
 abbrev pub MetSoFar : ℕ → FatesSeen → FatesSeen → FrameCounts → FrameCounts → Type 0

@@ -5,7 +5,7 @@ use Rattle.std.proofs.lemmas.Bool.{both_ways}
 use Rattle.net_stream.specs.declared.counts.FrameCounts.{FrameCounts}
 use Rattle.net_stream.specs.declared.fate.Fate.{Fate}
 use Rattle.net_stream.specs.declared.fate.Fate.TheVariants.{Delivered, Lost, Repeated, Late}
-use Rattle.net_stream.specs.Fates.{FatesSeen, next_fate, after_fate, after_all}
+use Rattle.net_stream.specs.Fates.{FatesSeen, next_fate, after_fate, fates_after}
 use Rattle.net_stream.specs.Counting.{with_fate, with_fates, SameButRefused, with_payload, no_frames}
 use Rattle.net_stream.specs.declared.link.Link.{Link}
 use Rattle.net_stream.specs.Links.{Passed}
@@ -40,14 +40,14 @@ all_past zero n v u c = refl
 all_past (suc m) n v u c = ap (with_fates m (after_fate v)) (met_past n u (next_fate v) c) ∙ all_past m n (after_fate v) u (with_fate (next_fate v) c)
 
 -- ---- and so are those of one direction, one behind the other
-met_more : (m n : ℕ) (v : FatesSeen) (c : FrameCounts) → with_fates n (after_all m v) (with_fates m v c) ≡ with_fates (m + n) v c
+met_more : (m n : ℕ) (v : FatesSeen) (c : FrameCounts) → with_fates n (fates_after m v) (with_fates m v c) ≡ with_fates (m + n) v c
 met_more zero n v c = ap (λ j. with_fates j v c) (let e : n ≡ 0 + n = omega arith in e)
 met_more (suc m) n v c = met_more m n (after_fate v) (with_fate (next_fate v) c)
     ∙ ap (λ j. with_fates j v c) (let e : suc (m + n) ≡ suc m + n = omega arith in e)
 
-after_more : (m n : ℕ) (v : FatesSeen) → after_all n (after_all m v) ≡ after_all (m + n) v
-after_more zero n v = ap (λ j. after_all j v) (let e : n ≡ 0 + n = omega arith in e)
-after_more (suc m) n v = after_more m n (after_fate v) ∙ ap (λ j. after_all j v) (let e : suc (m + n) ≡ suc m + n = omega arith in e)
+after_more : (m n : ℕ) (v : FatesSeen) → fates_after n (fates_after m v) ≡ fates_after (m + n) v
+after_more zero n v = ap (λ j. fates_after j v) (let e : n ≡ 0 + n = omega arith in e)
+after_more (suc m) n v = after_more m n (after_fate v) ∙ ap (λ j. fates_after j v) (let e : suc (m + n) ≡ suc m + n = omega arith in e)
 
 -- ---- counts that are the same but for bytes, refused segments, rounds and time
 same_fate : (lot : Fate) (c d : FrameCounts) → fates_only c ≡ fates_only d → fates_only (with_fate lot c) ≡ fates_only (with_fate lot d)
@@ -90,9 +90,9 @@ round_met v v' old new round h =
     record {
       frames = h.frames + frames;
       acks = h.acks + acks;
-      left = ap (λ p. p.fates) round.left ∙ ap (λ p. after_all frames p.fates) round.all.prefix.sent ∙ ap (after_all frames) h.left
+      left = ap (λ p. p.fates) round.left ∙ ap (λ p. fates_after frames p.fates) round.all.prefix.sent ∙ ap (fates_after frames) h.left
           ∙ after_more h.frames frames v;
-      left_back = ap (λ p. p.fates) round.left_back ∙ ap (after_all acks) h.left_back ∙ after_more h.acks acks v';
+      left_back = ap (λ p. p.fates) round.left_back ∙ ap (fates_after acks) h.left_back ∙ after_more h.acks acks v';
       counted = more_met v v' old.there.fates old.back.fates old.counts new.counts (count_outside s.reported s.base round.n) frames acks round.counted h;
     }
 

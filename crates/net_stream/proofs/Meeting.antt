@@ -9,7 +9,7 @@ use Rattle.net_stream.specs.Fates.{next_fate, after_fate, comes, comes_late}
 use Rattle.net_stream.specs.Carrying.{PathSeen, ack_of, receiver_after, with_ack}
 use Rattle.net_stream.specs.Passing.{coming_of, with_late, receiver_after_all, ack_to, acks_of}
 
--- ---- answers
+-- ---- acknowledgements
 pub with_ack_ahead : (r : Stored) (o : Option (ℕ × List ℕ)) (back : PathSeen) → (with_ack r o back).ahead ≡ back.ahead ++ ack_to r o
 with_ack_ahead r None back = sym (append-nil back.ahead)
 with_ack_ahead r (Some (pos, xs)) back = both (nat_lt (pos + length xs) (2 ^ 64))
@@ -73,9 +73,9 @@ pub brought_append : (N : ℕ) (r : Stored) (xs ys : List (List ℕ)) → receiv
 brought_append N r [] ys = refl
 brought_append N r (x ∷ xs) ys = brought_append N (receiver_after N r (segment_of x)) xs ys
 
-pub answers_append : (N : ℕ) (r : Stored) (xs ys : List (List ℕ)) → acks_of N r (xs ++ ys) ≡ acks_of N r xs ++ acks_of N (receiver_after_all N r xs) ys
-answers_append N r [] ys = refl
-answers_append N r (x ∷ xs) ys =
+pub acks_append : (N : ℕ) (r : Stored) (xs ys : List (List ℕ)) → acks_of N r (xs ++ ys) ≡ acks_of N r xs ++ acks_of N (receiver_after_all N r xs) ys
+acks_append N r [] ys = refl
+acks_append N r (x ∷ xs) ys =
     let r1 = receiver_after N r (segment_of x) in
-    ap (λ l. ack_to r1 (segment_of x) ++ l) (answers_append N r1 xs ys)
+    ap (λ l. ack_to r1 (segment_of x) ++ l) (acks_append N r1 xs ys)
     ∙ sym (append_assoc (ack_to r1 (segment_of x)) (acks_of N r1 xs) (acks_of N (receiver_after_all N r1 xs) ys))

@@ -64,7 +64,8 @@ handed_out f v u held holds into into' count before after queue e is read same c
 pub handed_front : (f : ℕ) (v : Stored) (held holds : Option (List ℕ)) (into into' : List ℕ) (count before after n : ℕ) →
     ((w : List ℕ) → ReceivesFrom f w v → QueueIsOf w v) → count ≡ min (length into) (length v.queue) →
     into' ≡ take (length into) v.queue ++ drop (length v.queue) into →
-    after ≡ min (before + n) (2 ^ 64 - 1) → (n < length (take count into')) × Appends held holds (take n (take count into')) → HandedPrefix f v held holds before after
+    after ≡ min (before + n) (2 ^ 64 - 1) → (n < length (take count into')) × Appends held holds (take n (take count into')) →
+    HandedPrefix f v held holds before after
 handed_front f v held holds into into' count before after n queue e is counted wrote =
     let bytes = take n (take count into') in
     let few : n ≤ length (take count into') = (let l = wrote.0 in omega arith) in

@@ -14,7 +14,7 @@ use Rattle.net_stream.specs.Fates.{FatesSeen, next_fate, after_fate, comes, AllC
 use Rattle.net_stream.specs.Progress.{after_ack_frames}
 use Rattle.net_stream.specs.Passing.{coming_of, acks_of}
 use Rattle.net_stream.specs.Links.{Carries, Passed}
-use Rattle.net_stream.specs.Stuck.{RoundKeeps, RoundMoves, HasFailed, AllFail, IsStuck}
+use Rattle.net_stream.specs.Stuck.{RoundLeaves, RoundMoves, HasFailed, AllFail, IsStuck}
 use Rattle.net_stream.proofs.Reached.{come_next, next_come, first_is}
 use Rattle.net_stream.proofs.Moved.{queue_from}
 use Rattle.net_stream.proofs.Stuck.{acked_last, some_come}
@@ -64,7 +64,7 @@ base_meets trip old new p come behind within word =
     front = old.back.late ++ (old.back.ahead ++ answers)
 
     acks : coming_of old.back.fates p.acks ≡ (old.back.ahead ++ answers) ++ frame_of n xs ∷ []
-    acks = coming_all old.back.fates p.acks (next_come (length p.acks) old.back.fates come) ∙ p.answers
+    acks = coming_all old.back.fates p.acks (next_come (length p.acks) old.back.fates come) ∙ p.acks_are
 
     is : new.sender ≡ after_ack_frames old.sender (front ++ frame_of n xs ∷ [])
     is = p.acked ∙ ap (λ a. after_ack_frames old.sender (old.back.late ++ a)) acks
@@ -79,7 +79,7 @@ never_fails frames acks v v' come come' stuck =
 
 -- a round of a copy writes some
 pub round_at_once : {A : Type 0} → RoundTrip → QueueIsOfStream → (f : ℕ) (w : List ℕ) (old new last : Link A) (room : ℕ) (p : Passed old new) →
-    RoundKeeps old new → RoundMoves old new → end_of old.sender < 2 ^ 64 → last ≡ record new { receiver = stored_read new.receiver room } →
+    RoundLeaves old new → RoundMoves old new → end_of old.sender < 2 ^ 64 → last ≡ record new { receiver = stored_read new.receiver room } →
     Carries f w old → Carries f w new →
     old.there.ahead ≡ [] → old.back.ahead ≡ [] → AllCome old.there.fates → AllCome old.back.fates → old.sender.base ≡ stored_next old.receiver →
     0 < old.receiver.capacity → 0 < room → (length old.receiver.queue ≡ 0 → 0 < length old.sender.queue) →

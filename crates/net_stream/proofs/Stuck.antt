@@ -18,14 +18,14 @@ use Rattle.net_stream.specs.declared.link.Link.{Link}
 use Rattle.net_stream.specs.declared.fate.Fate.{Fate}
 use Rattle.net_stream.specs.declared.fate.Fate.TheVariants.{Delivered, Lost, Repeated, Late}
 use Rattle.net_stream.specs.Counting.{with_fate, with_fates, with_payload}
-use Rattle.net_stream.specs.Fates.{FatesSeen, next_fate, after_fate, after_all, comes, comes_late, AllCome}
+use Rattle.net_stream.specs.Fates.{FatesSeen, next_fate, after_fate, fates_after, comes, comes_late, AllCome}
 use Rattle.net_stream.specs.Rounds.{PartCounted, FatesSoFar}
 use Rattle.net_stream.specs.Carrying.{ack_of, receiver_after}
 use Rattle.net_stream.specs.Sending.{most_of}
 use Rattle.net_stream.specs.Progress.{after_ack_frame, after_ack_frames, limit_of}
 use Rattle.net_stream.specs.Passing.{coming_of, late_of, receiver_after_all, ack_to, acks_of}
 use Rattle.net_stream.specs.Links.{Carries, Passed}
-use Rattle.net_stream.specs.Stuck.{failures, losses, RoundKeeps, RoundMoves, HasFailed, AllFail}
+use Rattle.net_stream.specs.Stuck.{failures, losses, RoundLeaves, RoundMoves, HasFailed, AllFail}
 use Rattle.net_stream.specs.Stuck.{IsStuck, FirstSays, IsDue, Stuck, StuckTo, StuckAtLast}
 use Rattle.net_stream.specs.Stuck.{NeverStuck}
 use Rattle.net_stream.proofs.Sent.{first_sent}
@@ -293,7 +293,7 @@ rounds_move trip numbers order queue f w old new p sound carries word none none_
         let both : All (Acks n n) (acks_of most_reported old.receiver p.came ++ ack_of new.receiver ∷ []) =
         All-both (Acks n n) (acks_of most_reported old.receiver p.came) (ack_of new.receiver ∷ []) ours
         (All-cons (Acks n n) (ack_of new.receiver) [] last (All-nil (Acks n n))) in
-        subst (All (Acks n n)) (sym (p.answers ∙ ap (λ b. b ++ acks_of most_reported old.receiver p.came ++ ack_of new.receiver ∷ []) none_back)) both
+        subst (All (Acks n n)) (sym (p.acks_are ∙ ap (λ b. b ++ acks_of most_reported old.receiver p.came ++ ack_of new.receiver ∷ []) none_back)) both
 
     -- none of them came
     quiet : old.sender.base < stored_next old.receiver → coming_of old.back.fates p.acks ≡ []
@@ -498,28 +498,28 @@ stuck_weaker k j frames acks v v' h stuck =
 stuck_last : (n : ℕ) (v v' u u' : FatesSeen) → StuckTo 1 n v v' u u' → StuckTo 0 n v v' u u'
 stuck_last zero v v' u u' to = to
 stuck_last (suc n) v v' u u' to =
-    (to.0, to.1, stuck_weaker (1 + n) (0 + n) to.0 to.1 v v' (λ some. omega arith) to.2, stuck_last n (after_all to.0 v) (after_all to.1 v') u u' to.3)
+    (to.0, to.1, stuck_weaker (1 + n) (0 + n) to.0 to.1 v v' (λ some. omega arith) to.2, stuck_last n (fates_after to.0 v) (fates_after to.1 v') u u' to.3)
 
 -- one more round that was stuck
 stuck_more : (follow n : ℕ) (v v' u u' : FatesSeen) (frames acks : ℕ) → StuckTo 1 n v v' u u' → IsStuck follow frames acks u u' →
-    StuckTo follow (suc n) v v' (after_all frames u) (after_all acks u')
+    StuckTo follow (suc n) v v' (fates_after frames u) (fates_after acks u')
 stuck_more follow zero v v' u u' frames acks to one = (
   frames,
   acks,
   subst (λ k. IsStuck k frames acks v v') (let e : follow ≡ follow + 0 = omega arith in e)
       (subst (λ x. IsStuck follow frames acks x v') to.0 (subst (IsStuck follow frames acks u) to.1 one)),
-  (ap (after_all frames) to.0, ap (after_all acks) to.1),
+  (ap (fates_after frames) to.0, ap (fates_after acks) to.1),
 )
 stuck_more follow (suc n) v v' u u' frames acks to one = (
   to.0,
   to.1,
   stuck_weaker (1 + n) (follow + suc n) to.0 to.1 v v' (λ some. omega arith) to.2,
-  stuck_more follow n (after_all to.0 v) (after_all to.1 v') u u' frames acks to.3 one,
+  stuck_more follow n (fates_after to.0 v) (fates_after to.1 v') u u' frames acks to.3 one,
 )
 
 module _ {A : Type 0} (old new : Link A) (p : Passed old new) where
   acks_some : 0 < length p.acks
-  acks_some = subst (λ l. 0 < length l) (sym p.answers)
+  acks_some = subst (λ l. 0 < length l) (sym p.acks_are)
       (let e = length-append (old.back.ahead ++ acks_of most_reported old.receiver p.came) (ack_of new.receiver ∷ []) in omega arith)
 
   same_failed : failures new.counts ≡ failures
@@ -534,7 +534,7 @@ module _ {A : Type 0} (old new : Link A) (p : Passed old new) where
       subst (λ n. failures old.counts ≤ n) (sym same_failed)
       (le_trans (failed_all (length p.sent.ahead) old.there.fates c) (failed_all (length p.acks) old.back.fates m))
 
-  pub round_keeps : Numbers → RoundKeeps old new
+  pub round_keeps : Numbers → RoundLeaves old new
   round_keeps numbers = record {
     ahead = ap (λ t. t.ahead) p.left;
     ahead_back = ap (λ t. t.ahead) p.left_back;
@@ -565,8 +565,8 @@ module _ {A : Type 0} (old new : Link A) (p : Passed old new) where
       subst (λ n. losses old.counts ≤ n) (sym same_lost)
       (le_trans (lost_all (length p.sent.ahead) old.there.fates c) (lost_all (length p.acks) old.back.fates m))
 
-  fates_left : new.there.fates ≡ after_all (length p.sent.ahead) old.there.fates
-  fates_left = ap (λ t. t.fates) p.left ∙ ap (λ t. after_all (length p.sent.ahead) t.fates) p.all.prefix.sent
+  fates_left : new.there.fates ≡ fates_after (length p.sent.ahead) old.there.fates
+  fates_left = ap (λ t. t.fates) p.left ∙ ap (λ t. fates_after (length p.sent.ahead) t.fates) p.all.prefix.sent
 
   late_left : new.there.late ≡ late_of old.there.fates p.sent.ahead
   late_left = ap (λ t. t.late) p.left ∙ ap (λ t. late_of t.fates p.sent.ahead) p.all.prefix.sent
@@ -717,7 +717,7 @@ due_kept l l1 late late_back next base end due =
     (λ k e j. (let low = j.0 in let high = j.1 in (omega (arith, low, base), le_trans high end))) h)))
     due
 
-pub step_moves : {A : Type 0} (f : ℕ) (w : List ℕ) (old new last : Link A) (room : ℕ) → RoundKeeps old new → RoundMoves old new →
+pub step_moves : {A : Type 0} (f : ℕ) (w : List ℕ) (old new last : Link A) (room : ℕ) → RoundLeaves old new → RoundMoves old new →
     last ≡ record new { receiver = stored_read new.receiver room } →
     Carries f w old → old.there.ahead ≡ [] → old.back.ahead ≡ [] → 0 < length old.sender.queue → 0 < old.receiver.capacity → 0 < room →
     last.sender.base ≡ old.sender.base → last.receiver.read ≡ old.receiver.read → Stuck old last
@@ -787,11 +787,11 @@ step_moves {A = A} f w old new last room keeps moves handed carries none none_ba
 -- comes late is due
 abbrev pub StuckSoFar : {A : Type 0} → ℕ → FatesSeen → FatesSeen → Link A → Type 0
 StuckSoFar n v v' link =
-    ((frames : ℕ) × (acks : ℕ) × StuckTo 1 n (after_all frames v) (after_all acks v') link.there.fates link.back.fates × (n ≤ losses link.counts))
-    ⊎ ((frames : ℕ) × (acks : ℕ) × StuckTo 0 n (after_all frames v) (after_all acks v') link.there.fates link.back.fates × (n ≤ losses link.counts + 1)
+    ((frames : ℕ) × (acks : ℕ) × StuckTo 1 n (fates_after frames v) (fates_after acks v') link.there.fates link.back.fates × (n ≤ losses link.counts))
+    ⊎ ((frames : ℕ) × (acks : ℕ) × StuckTo 0 n (fates_after frames v) (fates_after acks v') link.there.fates link.back.fates × (n ≤ losses link.counts + 1)
     × IsDue link)
 
-pub stuck_none : {A : Type 0} (frames acks : ℕ) (v v' : FatesSeen) (l : Link A) → l.there.fates ≡ after_all frames v → l.back.fates ≡ after_all acks v' →
+pub stuck_none : {A : Type 0} (frames acks : ℕ) (v v' : FatesSeen) (l : Link A) → l.there.fates ≡ fates_after frames v → l.back.fates ≡ fates_after acks v' →
     StuckSoFar 0 v v' l
 stuck_none frames acks v v' l left left_back = inl (frames, acks, (left, left_back), omega arith)
 
@@ -800,9 +800,10 @@ pub stuck_kept : {A : Type 0} (n : ℕ) (v v' : FatesSeen) (l l1 : Link A) → l
     l1.sender.base ≡ l.sender.base → end_of l.sender ≤ end_of l1.sender → l1.counts ≡ l.counts → StuckSoFar n v v' l → StuckSoFar n v v' l1
 stuck_kept n v v' l l1 there back receiver base end counts so_far =
     ⊎_elim {C = StuckSoFar n v v' l1}
-    (λ (h : (frames : ℕ) × (acks : ℕ) × StuckTo 1 n (after_all frames v) (after_all acks v') l.there.fates l.back.fates × (n ≤ losses l.counts)).
+    (λ (h : (frames : ℕ) × (acks : ℕ) × StuckTo 1 n (fates_after frames v) (fates_after acks v') l.there.fates l.back.fates × (n ≤ losses l.counts)).
     inl (h.0, h.1, to 1 h.0 h.1 h.2, subst (λ c. n ≤ losses c) (sym counts) h.3))
-    (λ (h : (frames : ℕ) × (acks : ℕ) × StuckTo 0 n (after_all frames v) (after_all acks v') l.there.fates l.back.fates × (n ≤ losses l.counts + 1) × IsDue l).
+    (λ (h : (frames : ℕ) × (acks : ℕ) × StuckTo 0 n (fates_after frames v) (fates_after acks v') l.there.fates l.back.fates
+    × (n ≤ losses l.counts + 1) × IsDue l).
     inr (
       h.0,
       h.1,
@@ -812,17 +813,17 @@ stuck_kept n v v' l l1 there back receiver base end counts so_far =
     ))
     so_far
   where
-    to : (k frames acks : ℕ) → StuckTo k n (after_all frames v) (after_all acks v') l.there.fates l.back.fates →
-        StuckTo k n (after_all frames v) (after_all acks v') l1.there.fates l1.back.fates
-    to k frames acks h = subst (λ t. StuckTo k n (after_all frames v) (after_all acks v') t.fates l1.back.fates) (sym there)
-        (subst (λ t. StuckTo k n (after_all frames v) (after_all acks v') l.there.fates t.fates) (sym back) h)
+    to : (k frames acks : ℕ) → StuckTo k n (fates_after frames v) (fates_after acks v') l.there.fates l.back.fates →
+        StuckTo k n (fates_after frames v) (fates_after acks v') l1.there.fates l1.back.fates
+    to k frames acks h = subst (λ t. StuckTo k n (fates_after frames v) (fates_after acks v') t.fates l1.back.fates) (sym there)
+        (subst (λ t. StuckTo k n (fates_after frames v) (fates_after acks v') l.there.fates t.fates) (sym back) h)
 
 -- what is due comes in the next round, so that one more that is stuck follows a loss
 pub stuck_next : {A : Type 0} (n : ℕ) (v v' : FatesSeen) (old new : Link A) → n < 2 ^ 64 - 1 → StuckSoFar n v v' old → Stuck old new →
     StuckSoFar (suc n) v v' new
 stuck_next n v v' old new word so_far one =
     ⊎_elim {C = StuckSoFar (suc n) v v' new}
-    (λ (h : (frames : ℕ) × (acks : ℕ) × StuckTo 1 n (after_all frames v) (after_all acks v') old.there.fates old.back.fates × (n ≤ losses old.counts)).
+    (λ (h : (frames : ℕ) × (acks : ℕ) × StuckTo 1 n (fates_after frames v) (fates_after acks v') old.there.fates old.back.fates × (n ≤ losses old.counts)).
     ⊎_elim {C = StuckSoFar (suc n) v v' new}
     (λ (e : IsStuck 1 one.frames one.acks old.there.fates old.back.fates × (min (losses old.counts + 1) (2 ^ 64 - 1) ≤ losses new.counts)).
     let few = h.3 in
@@ -830,7 +831,7 @@ stuck_next n v v' old new word so_far one =
     inl (
       h.0,
       h.1,
-      to 1 h.0 h.1 (stuck_more 1 n (after_all h.0 v) (after_all h.1 v') old.there.fates old.back.fates one.frames one.acks h.2 e.0),
+      to 1 h.0 h.1 (stuck_more 1 n (fates_after h.0 v) (fates_after h.1 v') old.there.fates old.back.fates one.frames one.acks h.2 e.0),
       omega (arith, few, more, word),
     ))
     (λ (d : IsDue new × (losses old.counts ≤ losses new.counts)).
@@ -839,34 +840,35 @@ stuck_next n v v' old new word so_far one =
     inr (
       h.0,
       h.1,
-      to 0 h.0 h.1 (stuck_more 0 n (after_all h.0 v) (after_all h.1 v') old.there.fates old.back.fates one.frames one.acks h.2 one.why),
+      to 0 h.0 h.1 (stuck_more 0 n (fates_after h.0 v) (fates_after h.1 v') old.there.fates old.back.fates one.frames one.acks h.2 one.why),
       omega (arith, few, more),
       d.0,
     ))
     one.lost)
-    (λ (h : (frames : ℕ) × (acks : ℕ) × StuckTo 0 n (after_all frames v) (after_all acks v') old.there.fates old.back.fates × (n ≤ losses old.counts + 1)
+    (λ (h : (frames : ℕ) × (acks : ℕ) × StuckTo 0 n (fates_after frames v) (fates_after acks v') old.there.fates old.back.fates × (n ≤ losses old.counts + 1)
     × IsDue old). absurd (one.due h.4))
     so_far
   where
-    to : (k frames acks : ℕ) → StuckTo k (suc n) (after_all frames v) (after_all acks v') (after_all one.frames old.there.fates)
-        (after_all one.acks old.back.fates) → StuckTo k (suc n) (after_all frames v) (after_all acks v') new.there.fates new.back.fates
-    to k frames acks h = subst (λ x. StuckTo k (suc n) (after_all frames v) (after_all acks v') x new.back.fates) (sym one.left)
-        (subst (λ x. StuckTo k (suc n) (after_all frames v) (after_all acks v') (after_all one.frames old.there.fates) x) (sym one.left_back) h)
+    to : (k frames acks : ℕ) → StuckTo k (suc n) (fates_after frames v) (fates_after acks v') (fates_after one.frames old.there.fates)
+        (fates_after one.acks old.back.fates) → StuckTo k (suc n) (fates_after frames v) (fates_after acks v') new.there.fates new.back.fates
+    to k frames acks h = subst (λ x. StuckTo k (suc n) (fates_after frames v) (fates_after acks v') x new.back.fates) (sym one.left)
+        (subst (λ x. StuckTo k (suc n) (fates_after frames v) (fates_after acks v') (fates_after one.frames old.there.fates) x) (sym one.left_back) h)
 
 -- how it stands at the end
 pub stuck_at_last : {A : Type 0} (n : ℕ) (v v' : FatesSeen) (l : Link A) (counts : FrameCounts) → counts ≡ l.counts → n ≤ failures l.counts →
     FatesSoFar v v' l.there.fates l.back.fates l.counts → StuckSoFar n v v' l → StuckAtLast n v v' counts
 stuck_at_last n v v' l counts same failed fates so_far =
     ⊎_elim {C = StuckAtLast n v v' counts}
-    (λ (h : (frames : ℕ) × (acks : ℕ) × StuckTo 1 n (after_all frames v) (after_all acks v') l.there.fates l.back.fates × (n ≤ losses l.counts)).
+    (λ (h : (frames : ℕ) × (acks : ℕ) × StuckTo 1 n (fates_after frames v) (fates_after acks v') l.there.fates l.back.fates × (n ≤ losses l.counts)).
     let few = h.3 in
-    stands h.0 h.1 (stuck_last n (after_all h.0 v) (after_all h.1 v') l.there.fates l.back.fates h.2) (omega (arith, few)))
-    (λ (h : (frames : ℕ) × (acks : ℕ) × StuckTo 0 n (after_all frames v) (after_all acks v') l.there.fates l.back.fates × (n ≤ losses l.counts + 1) × IsDue l).
+    stands h.0 h.1 (stuck_last n (fates_after h.0 v) (fates_after h.1 v') l.there.fates l.back.fates h.2) (omega (arith, few)))
+    (λ (h : (frames : ℕ) × (acks : ℕ) × StuckTo 0 n (fates_after frames v) (fates_after acks v') l.there.fates l.back.fates
+    × (n ≤ losses l.counts + 1) × IsDue l).
     let few = h.3 in
     stands h.0 h.1 h.2 (omega (arith, few)))
     so_far
   where
-    stands : (frames acks : ℕ) → StuckTo 0 n (after_all frames v) (after_all acks v') l.there.fates l.back.fates → n ≤ l.counts.lost + 1 →
+    stands : (frames acks : ℕ) → StuckTo 0 n (fates_after frames v) (fates_after acks v') l.there.fates l.back.fates → n ≤ l.counts.lost + 1 →
         StuckAtLast n v v' counts
     stands frames acks to few = record {
       frames = frames;
@@ -896,7 +898,7 @@ asked_again queue f w w1 l l1 room carries carries1 same grows next none fed som
     omega arith
 
 -- ---- known fates
-pub all_after : (n : ℕ) (v : FatesSeen) → AllCome v → AllCome (after_all n v)
+pub all_after : (n : ℕ) (v : FatesSeen) → AllCome v → AllCome (fates_after n v)
 all_after zero v all = all
 all_after (suc n) v all = all_after n (after_fate v) (come_next v all).1
 
@@ -908,8 +910,8 @@ pub never_stuck : NeverStuck
 never_stuck zero v v' counts all all' some stuck = absurd (omega arith)
 never_stuck (suc n) v v' counts all all' some stuck =
     let r = stuck.rounds in
-    let u = after_all stuck.frames v in
-    let u' = after_all stuck.acks v' in
+    let u = fates_after stuck.frames v in
+    let u' = fates_after stuck.acks v' in
     ⊎_elim {C = ⊥}
     (λ (a : (0 < r.0) × HasFailed (0 + n) (next_fate u)). both_ways (comes (next_fate u)) a.1.0 (come_next u (all_after stuck.frames v all)).0)
     (λ (b : (0 < r.1) × AllFail (0 + n) r.1 u'). some_come (0 + n) r.1 u' b.0 b.1 (come_next u' (all_after stuck.acks v' all')).0)

@@ -1,10 +1,10 @@
 -- What comes of a copy, from a reader over a link to a writer.
---     Copied old new held holds read wrote complete      what came, and what was written
+--     Copied old new had has read wrote complete      what came, and what was written
 --     gave_up e      whether a copy ended because nothing came on any more
 --     HasPositions first taken      positions are left
---     Moving f link counts old new held holds more      the bytes are on their way to a writer
---     HandedOut f v u held holds before after      bytes came from the receiver to the writer
---     HandedPrefix f v held holds before after      a prefix of them did
+--     Moving f link counts old new had has more      the bytes are on their way to a writer
+--     HandedOut f v u had has before after      bytes came from the receiver to the writer
+--     HandedPrefix f v had has before after      a prefix of them did
 --     Stepped old new room room'      what a round of a copy leaves as it was, or lets grow
 --     FlushedAfter ended result      how a copy ended, once its writer was flushed
 use Rattle.std.specs.Prelude.{◌≡◌, ℕ, List, ◌++◌, ◌+◌, ◌-◌, ◌<◌, ◌≤◌, ◌^◌, ◌⊎◌, [], length, take}
@@ -23,12 +23,12 @@ use Rattle.net_stream.specs.declared.error.LinkError.TheVariants.{ReadFailed, Wr
 
 -- a reader gave so many bytes, and a prefix of them, of so many, was appended to what a writer has:
 -- all that the reader had, if the copy is complete
-pub record Copied (old new held holds : Option (List ℕ)) (read wrote : ℕ) (complete : Bool)
+pub record Copied (old new had has : Option (List ℕ)) (read wrote : ℕ) (complete : Bool)
     : Type 0 where
   pub given : List ℕ
   pub written : List ℕ
   pub consumed : Consumes old new given
-  pub appended : Appends held holds written
+  pub appended : Appends had has written
   pub prefix : StartsWith given written
   pub taken : length given ≡ read
   pub bytes : length written ≡ wrote
@@ -48,29 +48,29 @@ HasPositions f taken = f + taken < 2 ^ 64 - 1
 -- the bytes that a reader gave are on their way, and those that the receiver handed out were
 -- appended to what a writer has; both are counted. If `more` is false the reader has no more
 pub record Moving {A : Type 0} (f : ℕ) (link : Link A) (counts : Counts)
-    (old new held holds : Option (List ℕ)) (more : Bool) : Type 0 where
+    (old new had has : Option (List ℕ)) (more : Bool) : Type 0 where
   pub given : List ℕ
   pub consumed : Consumes old new given
   pub carries : Carries f given link
-  pub appended : Appends held holds (take link.receiver.read given)
+  pub appended : Appends had has (take link.receiver.read given)
   pub taken : length given ≡ counts.taken
   pub bytes : link.receiver.read ≡ counts.bytes
   pub ended : more ≡ false → IsAtEnd new
 
 -- bytes were handed out, appended to what a writer has and counted: what any stream has next that
 -- the receiver took nothing else of
-pub record HandedOut (f : ℕ) (v u : Stored) (held holds : Option (List ℕ)) (before after : ℕ)
+pub record HandedOut (f : ℕ) (v u : Stored) (had has : Option (List ℕ)) (before after : ℕ)
     : Type 0 where
   pub bytes : List ℕ
-  pub appended : Appends held holds bytes
+  pub appended : Appends had has bytes
   pub next : (w : List ℕ) → ReceivesFrom f w v → take v.read w ++ bytes ≡ take u.read w
   pub counted : after ≡ min (before + length bytes) (2 ^ 64 - 1)
 
 -- the same if the writer took only a prefix of them
-pub record HandedPrefix (f : ℕ) (v : Stored) (held holds : Option (List ℕ)) (before after : ℕ)
+pub record HandedPrefix (f : ℕ) (v : Stored) (had has : Option (List ℕ)) (before after : ℕ)
     : Type 0 where
   pub bytes : List ℕ
-  pub appended : Appends held holds bytes
+  pub appended : Appends had has bytes
   pub prefix : (w : List ℕ) → ReceivesFrom f w v → StartsWith w (take v.read w ++ bytes)
   pub counted : after ≡ min (before + length bytes) (2 ^ 64 - 1)
 

@@ -2,7 +2,7 @@
 --     fate_of rates random_word      the fate that a random word stands for
 --     FatesSeen      the fates of a list, and behind it those that a generator draws
 --     next_fate v, after_fate v      the next fate, and the fates that are left then
---     after_all n v      what is left of v once n fates have come
+--     fates_after n v      what is left of v once n fates have come
 --     comes fate, comes_late fate      whether a frame comes at once, and whether it comes late
 --     AllCome v, NextCome n v      every frame comes at once, or the next n do
 use Rattle.std.specs.Prelude.{ℕ, zero, suc, ◌/◌, ◌%◌, nat_lt, if◌then◌else◌, Bool, true, false}
@@ -58,9 +58,9 @@ abbrev pub after_fate : FatesSeen → FatesSeen
 after_fate v = after_of v.rates v.state v.listed
 
 -- what is left once n fates have come
-abbrev pub after_all : ℕ → FatesSeen → FatesSeen
-after_all zero v = v
-after_all (suc n) v = after_all n (after_fate v)
+abbrev pub fates_after : ℕ → FatesSeen → FatesSeen
+fates_after zero v = v
+fates_after (suc n) v = fates_after n (after_fate v)
 
 -- each of the next n frames comes at once
 abbrev pub NextCome : ℕ → FatesSeen → Type 0

@@ -40,7 +40,7 @@ pub record Passed {A : Type 0} (old new : Link A) : Type 0 where
   pub coming : came ≡ old.there.late ++ coming_of old.there.fates sent.ahead
   pub received : new.receiver ≡ receiver_after_all most_reported old.receiver came
   pub acks : List (List ℕ)
-  pub answers : acks
+  pub acks_are : acks
       ≡ old.back.ahead ++ acks_of most_reported old.receiver came
       ++ ack_of new.receiver ∷ []
   pub acked : new.sender

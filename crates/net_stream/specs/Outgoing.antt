@@ -8,9 +8,9 @@
 --         were reported
 --     after_acks v acks      the sender once several acknowledgements came
 --     with_written v xs      the sender once these bytes were written
---     TakesRoom g f n, CountsRoom g f n      what is asked of a closure that is lent free bytes
+--     TakesFreeBytes g f n, CountsFreeBytes g f n      what is asked of a closure that is lent free bytes
 --     CalledOnRoom g f old answer new      f was called on free bytes, and what it counted was written
---     KeepsFromGreatest      a law on several acknowledgements
+--     QueueFromGreatest      a law on several acknowledgements
 --     Sends f w v      w was written to a sender, its first byte at position f
 use Rattle.std.specs.Prelude.{◌≡◌, ℕ, ◌+◌, ◌-◌, ◌≤◌, ◌^◌, ◌&&◌, nat_lt, nat_le, nat_eq, min, max}
 use Rattle.std.specs.Prelude.{if◌then◌else◌, List, [], ◌∷◌, ◌++◌, length, take, drop}
@@ -62,12 +62,12 @@ with_written v xs = record v { queue = v.queue ++ xs; cut = next_cut v }
 module _ {F R : Type 0}
     (g : Once F (MutBor (List ℕ) × Unit {0}) ((ℕ × R) × (MutBor (List ℕ) × Unit {0}))) where
   -- f may be called on n bytes
-  abbrev pub TakesRoom : F → ℕ → Type 0
-  TakesRoom f n = (xs : List ℕ) → length xs ≡ n → FnOnceTakesAtMut g f xs
+  abbrev pub TakesFreeBytes : F → ℕ → Type 0
+  TakesFreeBytes f n = (xs : List ℕ) → length xs ≡ n → FnOnceTakesAtMut g f xs
 
   -- called on n bytes, f counts at most n
-  abbrev pub CountsRoom : F → ℕ → Type 0
-  CountsRoom f n = (xs ws : List ℕ) (r : ℕ × R) → length xs ≡ n →
+  abbrev pub CountsFreeBytes : F → ℕ → Type 0
+  CountsFreeBytes f n = (xs ws : List ℕ) (r : ℕ × R) → length xs ≡ n →
       FnOnceReturnsAtMut g f xs r ws → r.0 ≤ n
 
   -- f was called on all the room that stands in a row, left ws there and returned `answer`: the first
@@ -102,8 +102,8 @@ greatest_within limit p ((n, ranges) ∷ acks) =
     greatest_within limit (if nat_le n limit then max p n else p) acks
 
 -- a sender's queue is all from the greatest position on that was acknowledged, of those up to its end
-abbrev pub KeepsFromGreatest : Type 0
-KeepsFromGreatest = (v : Outgoing) (acks : List (ℕ × List (ℕ × ℕ))) →
+abbrev pub QueueFromGreatest : Type 0
+QueueFromGreatest = (v : Outgoing) (acks : List (ℕ × List (ℕ × ℕ))) →
     ((after_acks v acks).base ≡ greatest_within (end_of v) v.base acks)
     × (end_of (after_acks v acks) ≡ end_of v)
     × ((after_acks v acks).queue

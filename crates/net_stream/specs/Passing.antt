@@ -9,7 +9,7 @@ use Rattle.std.specs.Prelude.{ℕ, ◌+◌, ◌^◌, nat_lt, if◌then◌else◌
 use Rattle.std.specs.Prelude.{List, [], ◌∷◌, ◌++◌, length, Option, Some, None}
 use Rattle.net_receiver.specs.Stored.{Stored}
 use Rattle.net_stream.specs.Frames.{segment_of}
-use Rattle.net_stream.specs.Fates.{FatesSeen, next_fate, after_fate, after_all, comes, comes_late}
+use Rattle.net_stream.specs.Fates.{FatesSeen, next_fate, after_fate, fates_after, comes, comes_late}
 use Rattle.net_stream.specs.declared.fate.Fate.{Fate}
 use Rattle.net_stream.specs.Carrying.{PathSeen, ack_of, receiver_after}
 
@@ -55,5 +55,5 @@ abbrev pub path_after : PathSeen → PathSeen
 path_after path = record {
   ahead = [];
   late = late_of path.fates path.ahead;
-  fates = after_all (length path.ahead) path.fates;
+  fates = fates_after (length path.ahead) path.fates;
 }

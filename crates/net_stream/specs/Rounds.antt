@@ -3,7 +3,7 @@
 --     FatesCounted v v' counts      what is counted of the frames of rounds
 --     FatesSoFar v v' u u' counts      the same, with the fates u and u' left
 use Rattle.std.specs.Prelude.{◌≡◌, ℕ}
-use Rattle.net_stream.specs.Fates.{FatesSeen, after_all}
+use Rattle.net_stream.specs.Fates.{FatesSeen, fates_after}
 use Rattle.net_stream.specs.Counting.{with_fates, SameButRefused, with_payload, no_frames}
 use Rattle.net_stream.specs.declared.counts.FrameCounts.{FrameCounts}
 
@@ -30,6 +30,6 @@ pub record FatesCounted (v v' : FatesSeen) (counts : FrameCounts) : Type 0 where
 pub record FatesSoFar (v v' u u' : FatesSeen) (counts : FrameCounts) : Type 0 where
   pub frames : ℕ
   pub acks : ℕ
-  pub left : u ≡ after_all frames v
-  pub left_back : u' ≡ after_all acks v'
+  pub left : u ≡ fates_after frames v
+  pub left_back : u' ≡ fates_after acks v'
   pub counted : fates_only counts ≡ fates_only (with_fates acks v' (with_fates frames v no_frames))

@@ -1,7 +1,7 @@
 -- Rounds that bring nothing on.
 --     failures counts, losses counts      how many frames and acknowledgements didn't come at once,
 --                                         and how many were lost
---     RoundKeeps old new      what a round leaves as it was, or lets grow
+--     RoundLeaves old new      what a round leaves as it was, or lets grow
 --     HasFailed follow fate, IsStuck follow frames acks v v'      what fails in a stuck round
 --     IsDue link      what comes late brings the next round on
 --     Stuck old new      a round in which a frame or an acknowledgement failed that had to come
@@ -16,7 +16,7 @@ use Rattle.net_stream.specs.declared.link.Link.{Link}
 use Rattle.net_stream.specs.declared.fate.Fate.{Fate}
 use Rattle.net_stream.specs.Outgoing.{end_of}
 use Rattle.net_stream.specs.Frames.{segment_of}
-use Rattle.net_stream.specs.Fates.{FatesSeen, next_fate, after_fate, after_all, comes, comes_late}
+use Rattle.net_stream.specs.Fates.{FatesSeen, next_fate, after_fate, fates_after, comes, comes_late}
 use Rattle.net_stream.specs.Fates.{AllCome}
 use Rattle.net_stream.specs.Rounds.{FatesSoFar}
 use Rattle.net_stream.specs.Progress.{limit_of}
@@ -31,7 +31,7 @@ abbrev pub losses : FrameCounts → ℕ
 losses c = min c.lost (2 ^ 64 - 1)
 
 -- what a round leaves: nothing is on its way but what is late, and no number falls
-pub record RoundKeeps {A : Type 0} (old new : Link A) : Type 0 where
+pub record RoundLeaves {A : Type 0} (old new : Link A) : Type 0 where
   pub ahead : new.there.ahead ≡ []
   pub ahead_back : new.back.ahead ≡ []
   pub end : end_of new.sender ≡ end_of old.sender
@@ -76,8 +76,8 @@ pub record Stuck {A : Type 0} (old new : Link A) : Type 0 where
   pub frames : ℕ
   pub acks : ℕ
   pub why : IsStuck 0 frames acks old.there.fates old.back.fates
-  pub left : new.there.fates ≡ after_all frames old.there.fates
-  pub left_back : new.back.fates ≡ after_all acks old.back.fates
+  pub left : new.there.fates ≡ fates_after frames old.there.fates
+  pub left_back : new.back.fates ≡ fates_after acks old.back.fates
   pub counted : min (failures old.counts + 1) (2 ^ 64 - 1) ≤ failures new.counts
   pub due : IsDue old → ⊥
   pub lost : (IsStuck 1 frames acks old.there.fates old.back.fates
@@ -90,7 +90,7 @@ abbrev pub StuckTo : ℕ → ℕ → FatesSeen → FatesSeen → FatesSeen → F
 StuckTo follow zero v v' u u' = (u ≡ v) × (u' ≡ v')
 StuckTo follow (suc n) v v' u u' = (frames : ℕ) × (acks : ℕ)
     × IsStuck (follow + n) frames acks v v'
-    × StuckTo follow n (after_all frames v) (after_all acks v') u u'
+    × StuckTo follow n (fates_after frames v) (fates_after acks v') u u'
 
 -- the last n rounds were stuck, behind frames and acknowledgements that met the first fates of v and
 -- of v'; all of them together were counted, so that at least n were lost or late, and at least n - 1
@@ -100,7 +100,7 @@ pub record StuckAtLast (n : ℕ) (v v' : FatesSeen) (counts : FrameCounts) : Typ
   pub acks : ℕ
   pub last : FatesSeen
   pub last_back : FatesSeen
-  pub rounds : StuckTo 0 n (after_all frames v) (after_all acks v') last last_back
+  pub rounds : StuckTo 0 n (fates_after frames v) (fates_after acks v') last last_back
   pub all : FatesSoFar v v' last last_back counts
   pub failures : n ≤ counts.lost + counts.late
   pub lost : n ≤ counts.lost + 1

@@ -21,7 +21,7 @@ use std::alloc::{AllocError, Allocator};
 
 /// Puts an acknowledgement of all that the receiver has on its way: the first missing position, and
 /// the first 32 held runs.
-pub(crate) fn answer<A: Allocator + Copy, const N: usize>(
+pub(crate) fn send_ack<A: Allocator + Copy, const N: usize>(
     receiver: &Receiver<'_, N>,
     back: &mut Path<'_, A>,
     now: Instant,
@@ -50,7 +50,7 @@ pub(crate) fn arrive<A: Allocator + Copy, const N: usize>(
     counts: &mut FrameCounts,
 ) -> Result<(), AllocError>
     ensures state { receiver.new ≡ receiver_after N receiver.old (segment_of frame.now) }
-    ensures answers { OnOk result
+    ensures acks { OnOk result
         (back.new ≡ with_ack receiver.new (segment_of frame.now) back.old) }
     ensures err { OnErr result (back.new ≡ back.old) }
     ensures counted { counts.new ≡ with_refusal N receiver.old (segment_of frame.now) counts.old }
@@ -75,7 +75,7 @@ pub(crate) fn arrive<A: Allocator + Copy, const N: usize>(
     }
     let refused = receiver.segment(pos, payload).is_err();
     counts.refuse_if(refused);
-    answer(receiver, back, now)
+    send_ack(receiver, back, now)
 }
 
 /// An acknowledgement comes to the sender. One that is too short for a position, or whose position

@@ -4,7 +4,7 @@ ghost use Rattle.std.specs.Prelude.{IfOk, OnOk, OnErr, IsTrue, IsFalse, if◌the
 ghost use Rattle.net_receiver.specs.Stored.{Stored, stored_next};
 ghost use Rattle.net_stream.specs.Outgoing.{Outgoing, end_of};
 ghost use Rattle.net_stream.specs.Frames.{segment_of, FrameSays};
-ghost use Rattle.net_stream.specs.Fates.{comes, next_fate, after_fate, after_all, NextCome};
+ghost use Rattle.net_stream.specs.Fates.{comes, next_fate, after_fate, fates_after, NextCome};
 ghost use Rattle.net_stream.specs.Counting.{with_fate, with_fates, SameButRefused};
 ghost use Rattle.net_stream.specs.Carrying.{PathSeen, IsUnderWay, FrameTells, MayComeLate};
 ghost use Rattle.net_stream.specs.Carrying.{receiver_after, with_ack};
@@ -117,7 +117,7 @@ fn pass_frame<A: Allocator + Copy, const N: usize>(
     ensures none { IfOk result (λ some. IsFalse some → there.new.ahead ≡ []) }
     ensures brought { OnOk result (receiver_after_all N receiver.new (coming_of there.new.fates there.new.ahead)
         ≡ receiver_after_all N receiver.old (coming_of there.old.fates there.old.ahead)) }
-    ensures answered { OnOk result (back.new.ahead
+    ensures acks { OnOk result (back.new.ahead
         ++ acks_of N receiver.new (coming_of there.new.fates there.new.ahead)
         ≡ back.old.ahead ++ acks_of N receiver.old (coming_of there.old.fates there.old.ahead)) }
     ensures returned { OnOk result (there.new.late ++ late_of there.new.fates there.new.ahead
@@ -194,7 +194,7 @@ pub(crate) fn pass_late_frames<A: Allocator + Copy, const N: usize>(
     ensures back_fates { back.new.fates ≡ back.old.fates }
     ensures grows { stored_next receiver.old ≤ stored_next receiver.new }
     ensures brought { OnOk result (receiver.new ≡ receiver_after_all N receiver.old there.old.late) }
-    ensures answered { OnOk result (back.new.ahead
+    ensures acks { OnOk result (back.new.ahead
         ≡ back.old.ahead ++ acks_of N receiver.old there.old.late) }
     ensures back_late { OnOk result (back.new.late ≡ back.old.late) }
     ensures none { OnOk result (there.new.late ≡ []) }
@@ -220,7 +220,7 @@ pub(crate) fn pass_frames<A: Allocator + Copy, const N: usize>(
     ensures counted { OnOk result (SameButRefused counts.new
         (with_fates (length there.old.ahead) there.old.fates counts.old)) }
     ensures left { OnOk result
-        (there.new.fates ≡ after_all (length there.old.ahead) there.old.fates) }
+        (there.new.fates ≡ fates_after (length there.old.ahead) there.old.fates) }
     ensures err { OnErr result ((n : ℕ)
         × SameButRefused counts.new (with_fates n there.old.fates counts.old)) }
     ensures limit { limit_of receiver.new ≡ limit_of receiver.old }
@@ -233,7 +233,7 @@ pub(crate) fn pass_frames<A: Allocator + Copy, const N: usize>(
     ensures fates { back.new.fates ≡ back.old.fates }
     ensures brought { OnOk result (receiver.new
         ≡ receiver_after_all N receiver.old (coming_of there.old.fates there.old.ahead)) }
-    ensures answered { OnOk result (back.new.ahead
+    ensures acks { OnOk result (back.new.ahead
         ≡ back.old.ahead ++ acks_of N receiver.old (coming_of there.old.fates there.old.ahead)) }
     ensures returned { OnOk result (there.new.late
         ≡ there.old.late ++ late_of there.old.fates there.old.ahead) }
@@ -280,7 +280,7 @@ pub(crate) fn pass_acks<A: Allocator + Copy>(
     ensures counted { OnOk result (SameButRefused counts.new
         (with_fates (length back.old.ahead) back.old.fates counts.old)) }
     ensures left { OnOk result
-        (back.new.fates ≡ after_all (length back.old.ahead) back.old.fates) }
+        (back.new.fates ≡ fates_after (length back.old.ahead) back.old.fates) }
     ensures err { OnErr result ((n : ℕ)
         × SameButRefused counts.new (with_fates n back.old.fates counts.old)) }
     ensures acked { OnOk result (NextCome (length back.old.ahead) back.old.fates

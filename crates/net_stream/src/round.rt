@@ -7,7 +7,7 @@ ghost use Rattle.net_stream.specs.Sending.{SentPrefix, SentRound, most_of};
 ghost use Rattle.net_stream.specs.Rounds.{PartCounted};
 ghost use Rattle.net_stream.specs.Links.{Carries, Round, next_flight};
 
-use crate::arriving::answer;
+use crate::arriving::send_ack;
 use crate::frame::round_trip;
 use crate::link::Link;
 use crate::passing::{pass_acks, pass_frames, pass_late_acks, pass_late_frames};
@@ -107,7 +107,7 @@ impl<'a, 'f, A: Allocator + Copy> Link<'a, 'f, A> {
             &mut self.counts,
         )?;
         laws::queue(&self.receiver);
-        answer(&self.receiver, &mut self.back, now)?;
+        send_ack(&self.receiver, &mut self.back, now)?;
         pass_late_acks(&mut self.sender, &mut self.back, now);
         pass_acks(&mut self.sender, &mut self.back, now, &mut self.counts)?;
         self.flight = flight_after(self.flight, self.limit, self.sender.is_report_full());

@@ -5,8 +5,8 @@ ghost use Rattle.net_storage.specs.Managed.{elements};
 ghost use Rattle.net_receiver.specs.OneStream.{Says};
 ghost use Rattle.net_stream.specs.Outgoing.{outgoing, end_of, room_of, row_end, with_written};
 ghost use Rattle.net_stream.specs.Outgoing.{room_in_row, after_ack, Sends};
-ghost use Rattle.net_stream.specs.Outgoing.{KeepsFromGreatest};
-ghost use Rattle.net_stream.specs.Outgoing.{TakesRoom, CountsRoom, CalledOnRoom};
+ghost use Rattle.net_stream.specs.Outgoing.{QueueFromGreatest};
+ghost use Rattle.net_stream.specs.Outgoing.{TakesFreeBytes, CountsFreeBytes, CalledOnRoom};
 ghost use Rattle.net_stream.specs.Reported.{reports, is_full};
 ghost use Rattle.net_stream.specs.Sending.{spared_from, next_reported, stop_of};
 
@@ -34,7 +34,7 @@ pub struct Sender<'a> {
 /// After several acknowledgements a sender's queue begins at the greatest of where it began and of
 /// their positions, those above its end left out, whatever their order.
 pub fn keeps_from_greatest()
-    ensures { KeepsFromGreatest }
+    ensures { QueueFromGreatest }
 {}
 
 impl<'a> Model for Sender<'a> {
@@ -134,8 +134,8 @@ impl<'a> Sender<'a> {
     ///
     /// `f` may be called on the free bytes that it is lent, and counts at most as many.
     pub fn send_with<R, F: FnOnce(&mut [u8]) -> (usize, R)>(&mut self, f: F) -> (usize, R)
-        requires callable { TakesRoom F.FnOnce f (room_in_row self.old) }
-        requires count { CountsRoom F.FnOnce f (room_in_row self.old) }
+        requires callable { TakesFreeBytes F.FnOnce f (room_in_row self.old) }
+        requires count { CountsFreeBytes F.FnOnce f (room_in_row self.old) }
         ensures called { CalledOnRoom F.FnOnce f self.old result self.new }
         ensures sends { (f : ℕ) (w : List ℕ) → Sends f w self.old
             → Sends f (w ++ drop (length self.old.queue) self.new.queue) self.new }

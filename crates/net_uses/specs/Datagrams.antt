@@ -1,7 +1,7 @@
 -- The datagrams of a socket, and what it hands out.
 --     SocketState, received s, to_send s      its two queues, and the datagrams of each
---     KeepsCapacity old new      its slots and bytes are as many as they were
---     Shown ds e n xs ys      the first datagram was copied
+--     HasSameCapacity old new      its slots and bytes are as many as they were
+--     CopiedFirst ds e n xs ys      the first datagram was copied
 --     TakesFirstDatagram f ds, Dispatched f q answer r      a closure at the first datagram
 use Rattle.std.specs.Prelude.{◌≡◌, ℕ, List, ◌∷◌, ◌++◌, Result, is_ok}
 use Rattle.std.specs.Prelude.{if◌then◌else◌, length, min, take, drop}
@@ -29,13 +29,13 @@ abbrev pub SameCapacity : PacketQueue Endpoint → PacketQueue Endpoint → Type
 SameCapacity q r = (q.slot_count ≡ r.slot_count) × (length q.storage ≡ length r.storage)
 
 -- a socket has the slots and bytes that it had, in both directions
-abbrev pub KeepsCapacity : SocketState → SocketState → Type 0
-KeepsCapacity old new =
+abbrev pub HasSameCapacity : SocketState → SocketState → Type 0
+HasSameCapacity old new =
     SameCapacity new.inbound old.inbound × SameCapacity new.outbound old.outbound
 
 -- the first of the datagrams ds has the endpoint e, and as many of its bytes as xs has elements, n
 -- of them, were copied over the first of xs, which made ys
-pub record Shown (ds : List (Endpoint × List ℕ)) (e : Endpoint) (n : ℕ) (xs : List ℕ)
+pub record CopiedFirst (ds : List (Endpoint × List ℕ)) (e : Endpoint) (n : ℕ) (xs : List ℕ)
     (ys : List ℕ) : Type 0 where
   pub bytes : List ℕ
   pub first : ds ≡ (e, bytes) ∷ drop 1 ds

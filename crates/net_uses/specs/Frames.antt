@@ -1,7 +1,7 @@
 -- Frames that pass, one after another.
 --     Each step x frames y      each frame in turn makes y of x
 --     Forwarded n x x' y y', ForwardedAndLost n x x' y y'      frames that were taken off and sent on
---     Stops x x' y, Passed max n x x' y y'      no other frame passes, and what passed before
+--     Stops x x' y, ForwardedUpTo max n x x' y y'      no other frame passes, and what passed before
 use Rattle.std.specs.Prelude.{◌≡◌, ◌<◌, ◌⊎◌, ℕ, List, [], ◌∷◌, ◌++◌, length}
 
 -- each of the frames in turn, by the relation step, makes y of x
@@ -36,7 +36,7 @@ module _ {A B : Type 0} (taken : A → List ℕ → A → Type 0) (is_idle : A �
   Stops x x' y = (is_busy y × (x' ≡ x)) ⊎ (is_idle x × idled x x')
 
   -- n frames passed, and then either these were as many as are to pass, or no other one passes
-  pub record Passed (max n : ℕ) (x x' : A) (y y' : B) : Type 0 where
+  pub record ForwardedUpTo (max n : ℕ) (x x' : A) (y y' : B) : Type 0 where
     pub between : A
     pub passed : Forwarded taken sent n x between y y'
     pub ended : ((n ≡ max) × (x' ≡ between)) ⊎ Stops between x' y'

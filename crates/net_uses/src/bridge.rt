@@ -1,7 +1,7 @@
 //! A bridge of two devices.
 ghost use Rattle.std.specs.Prelude.{◌≡◌, ◌≤◌, ◌+◌, ◌∷◌, ◌++◌, [], ℕ, List, OnErr, IfOk, Ok, true};
 ghost use Rattle.std.specs.Prelude.{false, length};
-ghost use Rattle.net_uses.specs.Frames.{Passed, Stops, ForwardedAndLost};
+ghost use Rattle.net_uses.specs.Frames.{ForwardedUpTo, Stops, ForwardedAndLost};
 
 use net_base::phy::{Device, FrameLists, RxToken};
 use net_base::time::Instant;
@@ -51,7 +51,7 @@ pub fn forward<A: Device, B: Device>(
     max: usize,
 ) -> Result<usize, AllocError>
     ensures forwarded { IfOk result (λ n. (n ≤ max)
-        × Passed A.taken A.is_idle A.idled B.is_busy B.sent max n from.old from.new to.old to.new) }
+        × ForwardedUpTo A.taken A.is_idle A.idled B.is_busy B.sent max n from.old from.new to.old to.new) }
     ensures err { OnErr result
         (ForwardedAndLost A.taken B.sent B.lacks_memory max from.old from.new to.old to.new) }
 {
@@ -72,7 +72,7 @@ pub fn forward_lists<A: FrameLists, B: FrameLists>(
     max: usize,
 ) -> Result<usize, AllocError>
     ensures forwarded { IfOk result (λ n. (n ≤ max)
-        × Passed A.taken A.is_idle A.idled B.is_busy B.sent max n from.old from.new to.old to.new) }
+        × ForwardedUpTo A.taken A.is_idle A.idled B.is_busy B.sent max n from.old from.new to.old to.new) }
     ensures lists { IfOk result (λ _. (moved : List (List ℕ))
         × (A.incoming from.old ≡ moved ++ A.incoming from.new)
         × (B.outgoing to.new ≡ B.outgoing to.old ++ moved)) }

@@ -6,8 +6,8 @@ ghost use Rattle.std.specs.declared.option.Option.TheVariants.{None};
 ghost use Rattle.net_storage.specs.Packets.{placement, slots_used, with_packet_of, without_first_and_gap, without_gap};
 ghost use Rattle.net_storage.specs.PacketHistory.{contents};
 ghost use Rattle.net_storage.specs.PacketCalls.{CopiedOut};
-ghost use Rattle.net_uses.specs.Datagrams.{received, to_send, SameCapacity, KeepsCapacity};
-ghost use Rattle.net_uses.specs.Datagrams.{Shown, TakesDatagram, GivesAtDatagram};
+ghost use Rattle.net_uses.specs.Datagrams.{received, to_send, SameCapacity, HasSameCapacity};
+ghost use Rattle.net_uses.specs.Datagrams.{CopiedFirst, TakesDatagram, GivesAtDatagram};
 ghost use Rattle.net_uses.specs.Datagrams.{TakesFirstDatagram, Dispatched};
 
 use crate::endpoint::Endpoint;
@@ -57,7 +57,7 @@ impl<'a> UdpSocket<'a> {
         ensures unchanged { OnErr result (self.new ≡ self.old) }
         ensures made { OnOk result (self.new.outbound ≡ with_packet_of self.old.outbound to «data».now) }
         ensures sent { OnOk result (to_send self.new ≡ to_send self.old ++ (to, «data».now) ∷ []) }
-        ensures capacity { KeepsCapacity self.old self.new }
+        ensures capacity { HasSameCapacity self.old self.new }
     {
         put(&mut self.outbound, to, data)
     }
@@ -74,7 +74,7 @@ impl<'a> UdpSocket<'a> {
         ensures received { IfOk result
             (λ r. CopiedOut (received self.old) r.1 into.old r.0 (received self.new) into.new) }
         ensures outbound { self.new.outbound ≡ self.old.outbound }
-        ensures capacity { KeepsCapacity self.old self.new }
+        ensures capacity { HasSameCapacity self.old self.new }
     {
         laws::contents_are_packets::<Endpoint>();
         let (from, count) = self.inbound.pop_slice(into)?;
@@ -92,8 +92,8 @@ impl<'a> UdpSocket<'a> {
         ensures inbound { self.new.inbound ≡ without_gap self.old.inbound }
         ensures outbound { self.new.outbound ≡ self.old.outbound }
         ensures unwritten { OnErr result ((self.new ≡ self.old) × (into.new ≡ into.old)) }
-        ensures shown { IfOk result (λ r. Shown (received self.old) r.1 r.0 into.old into.new) }
-        ensures capacity { KeepsCapacity self.old self.new }
+        ensures shown { IfOk result (λ r. CopiedFirst (received self.old) r.1 r.0 into.old into.new) }
+        ensures capacity { HasSameCapacity self.old self.new }
     {
         look(&mut self.inbound, into)
     }
@@ -126,7 +126,7 @@ impl<'a> UdpSocket<'a> {
         ensures received { IsTrue result
             → received self.new ≡ received self.old ++ (from, «data».now) ∷ [] }
         ensures dropped { IsFalse result → self.new ≡ self.old }
-        ensures capacity { KeepsCapacity self.old self.new }
+        ensures capacity { HasSameCapacity self.old self.new }
     {
         put(&mut self.inbound, from, data).is_ok()
     }
@@ -150,7 +150,7 @@ impl<'a> UdpSocket<'a> {
         ensures inbound { self.new.inbound ≡ self.old.inbound }
         ensures dispatched { IfOk result
             (λ r. Dispatched F.FnOnce emit self.old.outbound r self.new.outbound) }
-        ensures capacity { KeepsCapacity self.old self.new }
+        ensures capacity { HasSameCapacity self.old self.new }
     {
         hand(&mut self.outbound, emit)
     }
@@ -175,7 +175,7 @@ fn look(queue: &mut PacketBuffer<'_, Endpoint>, into: &mut [u8]) -> Result<(usiz
     ensures skipped { queue.new ≡ without_gap queue.old }
     ensures empty { IsErr result ↔ (contents queue.old ≡ []) }
     ensures unwritten { OnErr result ((queue.new ≡ queue.old) × (into.new ≡ into.old)) }
-    ensures shown { IfOk result (λ r. Shown (contents queue.old) r.1 r.0 into.old into.new) }
+    ensures shown { IfOk result (λ r. CopiedFirst (contents queue.old) r.1 r.0 into.old into.new) }
 {
     laws::contents_are_packets::<Endpoint>();
     laws::packets_leave_in_order::<Endpoint>();

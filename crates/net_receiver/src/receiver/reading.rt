@@ -69,7 +69,7 @@ impl<'a, const N: usize> Receiver<'a, N> {
         ensures count { result ≡ min (length into.old) (length self.old.queue) }
         ensures into { into.new ≡
             take (length into.old) self.old.queue ++ drop (length self.old.queue) into.old }
-        ensures answer { Gave (take result into.new)
+        ensures reply { Gave (take result into.new)
             ≡ stored_reply N self.old (Read (length into.old)) }
         ensures step { (s : State) → StandsFor self.old s → Gave (take result into.new)
             ≡ kept_reply (setting N self.old) s (Read (length into.old)) }

@@ -7,7 +7,7 @@ ghost use Rattle.net_storage.specs.Packets.{PacketQueue, WellPlaced, no_packets,
 ghost use Rattle.net_storage.specs.Packets.{IsFirstSized, placement, with_packet_if_room, only_last};
 ghost use Rattle.net_storage.specs.Packets.{last_bytes, with_last_bytes, with_last_size, without_gap};
 ghost use Rattle.net_storage.specs.Packets.{first_size, with_first_bytes, without_first, after_hand_out, without_first_and_gap};
-ghost use Rattle.net_storage.specs.Packets.{with_bytes, freed_place, freed_bytes, AreFreed};
+ghost use Rattle.net_storage.specs.Packets.{with_bytes, freed_bytes_index, freed_bytes, AreFreed};
 ghost use Rattle.net_storage.specs.PacketHistory.{contents, with_bytes_in_last_entry, QueueCall, MakesAll};
 ghost use Rattle.net_storage.specs.PacketHistory.{history};
 
@@ -88,7 +88,7 @@ pub fn the_two_steps_apart<H>()
         → contents q ≡ (header, freed_bytes (without_first_and_gap q) size) ∷ contents (without_first_and_gap q) }
     ensures freed_written { (q : PacketQueue H) (ws : List ℕ)
         → WellPlaced q → AreFreed q (length ws)
-        → contents (with_bytes q (freed_place q (length ws)) ws) ≡ contents q }
+        → contents (with_bytes q (freed_bytes_index q (length ws)) ws) ≡ contents q }
     ensures lent_written { (q : PacketQueue H) (ws : List ℕ)
         → WellPlaced q → length ws ≡ first_size q.packets
         → contents (with_bytes (without_first_and_gap q) (without_gap q).read_at ws) ≡ drop 1 (contents q) }

@@ -3,7 +3,7 @@ ghost use Rattle.std.specs.Prelude.{◌≡◌, ◌↔◌, ◌∷◌, [], ℕ, Li
 ghost use Rattle.std.specs.Prelude.{drop};
 ghost use Rattle.std.specs.Borrow.{sem};
 ghost use Rattle.net_storage.specs.Packets.{without_gap, first_gap, first_bytes, IsFirstSized, IsFirst};
-ghost use Rattle.net_storage.specs.Packets.{without_first_and_gap, freed_place, freed_bytes, AreFreed};
+ghost use Rattle.net_storage.specs.Packets.{without_first_and_gap, freed_bytes_index, freed_bytes, AreFreed};
 ghost use Rattle.net_storage.specs.Packets.{IsFreedAt, with_bytes};
 ghost use Rattle.net_storage.specs.PacketHistory.{contents};
 
@@ -68,9 +68,9 @@ impl<H: Drop, M: Elements<PacketMetadata<H>>, B: Elements<u8>> Packets<H, M, B> 
     pub fn freed_mut(&mut self, size: usize) -> &mut [u8]
         requires { AreFreed self.old size }
         ensures* writes_back { sem 𝓛 (lends_bytes H.row M.row B.row M.Elements B.Elements
-            self.entry result (with_bytes self.old (freed_place self.old size))) }
+            self.entry result (with_bytes self.old (freed_bytes_index self.old size))) }
         ensures unseen { (ws : List ℕ) → length ws ≡ size
-            → contents (with_bytes self.old (freed_place self.old size) ws) ≡ contents self.old }
+            → contents (with_bytes self.old (freed_bytes_index self.old size) ws) ≡ contents self.old }
         ensures value { result.now ≡ freed_bytes self.old size }
         ensures size { length result.now ≡ size }
     {

@@ -15,4 +15,4 @@ returns-clause-receives g c =
 pub returns-clause-bytes : goal.returns-clause-bytes
 returns-clause-bytes g c =
     λ f x r h. executed_bytes g.row.N f x reply_seen c.run-result.result c.args.receiver.now c.run-result.new.receiver
-    (command_seen c.args.command.now) c.run-result.ensures.state c.run-result.ensures.answer r h
+    (command_seen c.args.command.now) c.run-result.ensures.state c.run-result.ensures.reply r h

@@ -11,7 +11,7 @@ returns-in_ok-bytes-in-Read-clause-state g c =
     read_is g.row.N c.args.receiver.now (command_seen c.args.command.now) c.read.new.self c.in-Read.count room
     c.read.ensures.state size (ap command_seen c.in-Read.is)
 
-pub returns-in_ok-held-in-Show-clause-answer : goal.returns-in_ok-held-in-Show-clause-answer
-returns-in_ok-held-in-Show-clause-answer g c =
+pub returns-in_ok-held-in-Show-clause-reply : goal.returns-in_ok-held-in-Show-clause-reply
+returns-in_ok-held-in-Show-clause-reply g c =
     show_is g.row.N c.args.receiver.now (command_seen c.args.command.now) c.next.result c.queued.result c.window.result c.in_ok-held-in-Show.held.items
     c.next.ensures c.queued.ensures c.window.ensures.window c.in_ok-held-in-Show.ensures (ap command_seen c.in-Show.is)

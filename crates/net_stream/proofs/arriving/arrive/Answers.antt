@@ -23,8 +23,8 @@ returns-then-not-fits-clause-state g c =
     let xs = c.in-Some.payload.now in
     past_arrived g.row.N c.args.receiver.now _ pos xs c.in-Some.ensures (past c.fits.result (pos + length xs) c.if-not-fits.true c.fits.ensures.1)
 
-pub returns-then-not-fits-clause-answers : goal.returns-then-not-fits-clause-answers
-returns-then-not-fits-clause-answers g c =
+pub returns-then-not-fits-clause-acks : goal.returns-then-not-fits-clause-acks
+returns-then-not-fits-clause-acks g c =
     let pos = c.in-Some.pos in
     let xs = c.in-Some.payload.now in
     past_answer g.row.N c.args.receiver.now _ pos xs c.in-Some.ensures c.args.back.now
@@ -53,19 +53,19 @@ returns-clause-state g c =
     let xs = c.in-Some.payload.now in
     c.segment.ensures.state ∙ taken_arrived g.row.N c.args.receiver.now _ pos xs c.in-Some.ensures (c.fits.ensures.0 c.if-not-fits.false)
 
-pub returns-clause-answers : goal.returns-clause-answers
-returns-clause-answers g c =
+pub returns-clause-acks : goal.returns-clause-acks
+returns-clause-acks g c =
     let pos = c.in-Some.pos in
     let xs = c.in-Some.payload.now in
-    on_ok_weaker c.answer.result (λ e. e ∙ taken_answer g.row.N c.segment.new.self _ pos xs c.in-Some.ensures c.args.back.now
-    (c.fits.ensures.0 c.if-not-fits.false)) c.answer.ensures.ok
+    on_ok_weaker c.send_ack.result (λ e. e ∙ taken_answer g.row.N c.segment.new.self _ pos xs c.in-Some.ensures c.args.back.now
+    (c.fits.ensures.0 c.if-not-fits.false)) c.send_ack.ensures.ok
 
 pub returns-clause-counted : goal.returns-clause-counted
 returns-clause-counted g c =
     let pos = c.in-Some.pos in
     let xs = c.in-Some.payload.now in
     c.refuse_if.ensures ∙ taken_counted g.row.N c.args.receiver.now _ pos xs c.in-Some.ensures c.args.counts.now c.segment.result c.is_err-refused.result
-    (c.fits.ensures.0 c.if-not-fits.false) c.segment.ensures.answer c.is_err-refused.ensures.value
+    (c.fits.ensures.0 c.if-not-fits.false) c.segment.ensures.reply c.is_err-refused.ensures.value
 
 pub returns-clause-carried : goal.returns-clause-carried
 returns-clause-carried g c = λ f w s there says carries.
@@ -76,8 +76,8 @@ returns-clause-carried g c = λ f w s there says carries.
     λ p h. subst (λ t. Has t p) (sym c.segment.ensures.state) (c.completion.ensures.stays g.row.N v (Segment c.in-Some.pos c.in-Some.payload.now) p h) in
     let more = took f w s v u there back (λ r. c.segment.ensures.receives f w r (says c.in-Some.pos c.in-Some.payload.now c.in-Some.ensures))
     c.segment.ensures.keeps.grows keeps carries in
-    either (IsUnderWay f w s u there c.answer.new.back) c.answer.result c.answer.ensures.ok c.answer.ensures.err
-    (λ e. answered f w s u there back c.answer.new.back (ack_of u) e c.answer.ensures.tells more)
+    either (IsUnderWay f w s u there c.send_ack.new.back) c.send_ack.result c.send_ack.ensures.ok c.send_ack.ensures.err
+    (λ e. answered f w s u there back c.send_ack.new.back (ack_of u) e c.send_ack.ensures.tells more)
     (λ e. subst (IsUnderWay f w s u there) (sym e) more)
 
 pub returns-clause-reaches : goal.returns-clause-reaches

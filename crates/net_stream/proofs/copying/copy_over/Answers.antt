@@ -5,7 +5,7 @@ use Rattle.std.proofs.lemmas.Result.{IfErr-weaker, on_ok_weaker}
 use Rattle.net_receiver.specs.Stored.{stored_next}
 use Rattle.net_stream.specs.Rounds.{FatesCounted, FatesSoFar}
 use Rattle.net_stream.specs.Stuck.{failures, StuckTo, StuckAtLast}
-use Rattle.net_stream.specs.Fates.{after_all, AllCome}
+use Rattle.net_stream.specs.Fates.{fates_after, AllCome}
 use Rattle.net_stream.specs.Copying.{Copied, HasPositions, gave_up}
 use Rattle.net_stream.proofs.Moved.{nothing_moved, flushed, gave_up_after, ok_after}
 use Rattle.net_stream.proofs.copying.copy_over.Goals as goal
@@ -79,8 +79,8 @@ returns-clause-stalls g c =
       acks = r.acks;
       last = r.last;
       last_back = r.last_back;
-      rounds = subst (λ v. StuckTo 0 n (after_all r.frames v) (after_all r.acks c.args.ack_fates) r.last r.last_back) there
-          (subst (λ v. StuckTo 0 n (after_all r.frames c.new-link.result.there.fates) (after_all r.acks v) r.last r.last_back) back r.rounds);
+      rounds = subst (λ v. StuckTo 0 n (fates_after r.frames v) (fates_after r.acks c.args.ack_fates) r.last r.last_back) there
+          (subst (λ v. StuckTo 0 n (fates_after r.frames c.new-link.result.there.fates) (fates_after r.acks v) r.last r.last_back) back r.rounds);
       all = subst (λ v. FatesSoFar v c.args.ack_fates r.last r.last_back counts) there
           (subst (λ v. FatesSoFar c.new-link.result.there.fates v r.last r.last_back counts) back r.all);
       failures = r.failures;

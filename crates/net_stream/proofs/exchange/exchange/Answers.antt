@@ -4,7 +4,7 @@ use Rattle.net_receiver.specs.Stored.{stored_next}
 use Rattle.net_stream.specs.Outgoing.{end_of}
 use Rattle.net_stream.specs.Links.{Carries}
 use Rattle.net_stream.specs.Stuck.{failures, Stuck, StuckAtLast}
-use Rattle.net_stream.specs.Fates.{AllCome, after_all}
+use Rattle.net_stream.specs.Fates.{AllCome, fates_after}
 use Rattle.net_stream.specs.Rounds.{FatesSoFar}
 use Rattle.net_stream.proofs.Reached.{first_is}
 use Rattle.net_stream.proofs.Stuck.{asked_again, StuckSoFar, stuck_none, stuck_kept, stuck_next, stuck_at_last, all_after}
@@ -524,9 +524,9 @@ rounds-preserved g c =
           (cases_Bool c.has_moved-moved.result);
       at_once = λ come come_back meet none cap cap' some left.
           let before = i.at_once come come_back meet none cap cap' some (fewer left) in
-          let there : l2.there.fates ≡ after_all i.fates.frames v = ap (λ x. x.there.fates) c.wait.ensures.state
+          let there : l2.there.fates ≡ fates_after i.fates.frames v = ap (λ x. x.there.fates) c.wait.ensures.state
           ∙ ap (λ x. x.there.fates) c.feed.ensures.state ∙ i.fates.left in
-          let back : l2.back.fates ≡ after_all i.fates.acks v' = ap (λ x. x.back.fates) c.wait.ensures.state ∙ ap (λ x. x.back.fates) c.feed.ensures.state
+          let back : l2.back.fates ≡ fates_after i.fates.acks v' = ap (λ x. x.back.fates) c.wait.ensures.state ∙ ap (λ x. x.back.fates) c.feed.ensures.state
           ∙ i.fates.left_back in
           let receiver2 : l2.receiver ≡ l1.receiver = ap (λ x. x.receiver) c.wait.ensures.state in
           let next2 : stored_next l2.receiver ≡ stored_next l.receiver = ap stored_next (receiver2 ∙ ap (λ x. x.receiver) c.feed.ensures.state) in

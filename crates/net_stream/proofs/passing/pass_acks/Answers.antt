@@ -1,5 +1,5 @@
 use Rattle.std.proofs.Common.{◌≡◌, ◌+◌, ◌++◌, length, refl, sym, ap, ◌∙◌, arith}
-use Rattle.net_stream.specs.Fates.{after_all}
+use Rattle.net_stream.specs.Fates.{fates_after}
 use Rattle.net_stream.proofs.Counted.{all_left, none_left, none_met, one_more_met, all_met, met_last}
 use Rattle.std.proofs.lemmas.List.{append-nil}
 use Rattle.net_stream.specs.Progress.{after_ack_frames}
@@ -61,7 +61,7 @@ pub returns-then-not-branch-clause-left : goal.returns-then-not-branch-clause-le
 returns-then-not-branch-clause-left g c =
     let none = c.in_ok-pass_ack.ensures.none c.if-not-branch.true in
     let same = c.in_ok-pass_ack.ensures.unmet c.if-not-branch.true in
-    none_left c.acks.back.fates c.pass_ack.new.back.fates (after_all (length c.args.back.now.ahead) c.args.back.now.fates) (length c.acks.back.ahead)
+    none_left c.acks.back.fates c.pass_ack.new.back.fates (fates_after (length c.args.back.now.ahead) c.args.back.now.fates) (length c.acks.back.ahead)
     (ap (λ p. p.fates) same.0) (ap length (sym (ap (λ p. p.ahead) same.0) ∙ none)) c.acks.invariant.left
 
 pub returns-then-not-branch-clause-came : goal.returns-then-not-branch-clause-came

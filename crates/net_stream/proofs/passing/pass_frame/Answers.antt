@@ -68,8 +68,8 @@ returns-clause-met g c = λ _.
     met_one c.args.there.now t1 c.draw-fate.new.self c.return_if.new.path c.frame-frame.result.now c.draw-fate.result c.args.counts.now c.meet.new.self
     c.arrive_if.new.counts first c.draw-fate.ensures.fate c.draw-fate.ensures.state c.return_if.ensures.may c.meet.ensures c.arrive_if.ensures.counted
 
-pub returns-clause-answered : goal.returns-clause-answered
-returns-clause-answered g c =
+pub returns-clause-acks : goal.returns-clause-acks
+returns-clause-acks g c =
     let t1 = c.take.new.self in
     let first = first_ahead c.args.there.now t1 _ c.frame-frame.result.now c.in-Some.ensures c.frame-frame.ensures in
     frame_answered g.row.N c.args.receiver.now c.arrive_if.new.receiver c.args.back.now c.arrive_if.new.back c.args.there.now t1 c.draw-fate.new.self

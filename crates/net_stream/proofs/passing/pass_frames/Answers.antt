@@ -1,7 +1,7 @@
 use Rattle.std.proofs.Common.{◌≡◌, ◌+◌, ◌++◌, length, refl, sym, ap, subst, ◌∙◌, arith}
 use Rattle.net_receiver.specs.Stored.{stored_next}
 use Rattle.net_stream.specs.Progress.{Reaches}
-use Rattle.net_stream.specs.Fates.{after_all}
+use Rattle.net_stream.specs.Fates.{fates_after}
 use Rattle.net_stream.proofs.Counted.{all_left, none_left, none_met, one_more_met, all_met, met_last}
 use Rattle.net_stream.proofs.Reached.{no_gap, room_same}
 use Rattle.std.proofs.lemmas.List.{append-nil}
@@ -46,7 +46,7 @@ frames-init g c =
       reaches = λ f w s carries room come. (come, λ end reaches. reaches);
       fates = refl;
       brought = refl;
-      answered = refl;
+      acks = refl;
       returned = refl;
       back_late = refl;
     }
@@ -74,7 +74,7 @@ frames-preserved g c =
           (step.0, λ end reaches. step.1 end (before.1 end reaches));
       fates = c.pass_frame.ensures.fates ∙ i.fates;
       brought = c.in_ok-pass_frame.ensures.brought ∙ i.brought;
-      answered = c.in_ok-pass_frame.ensures.answered ∙ i.answered;
+      acks = c.in_ok-pass_frame.ensures.acks ∙ i.acks;
       returned = c.in_ok-pass_frame.ensures.returned ∙ i.returned;
       back_late = c.in_ok-pass_frame.ensures.back_late ∙ i.back_late;
     }
@@ -83,7 +83,7 @@ pub returns-then-not-branch-clause-left : goal.returns-then-not-branch-clause-le
 returns-then-not-branch-clause-left g c =
     let none = c.in_ok-pass_frame.ensures.none c.if-not-branch.true in
     let same = c.in_ok-pass_frame.ensures.unmet c.if-not-branch.true in
-    none_left c.frames.there.fates c.pass_frame.new.there.fates (after_all (length c.args.there.now.ahead) c.args.there.now.fates)
+    none_left c.frames.there.fates c.pass_frame.new.there.fates (fates_after (length c.args.there.now.ahead) c.args.there.now.fates)
     (length c.frames.there.ahead) (ap (λ p. p.fates) same.0) (ap length (sym (ap (λ p. p.ahead) same.0) ∙ none)) c.frames.invariant.left
 
 pub returns-then-not-branch-clause-brought : goal.returns-then-not-branch-clause-brought
@@ -93,13 +93,13 @@ returns-then-not-branch-clause-brought g c =
     sym (ap (λ l. receiver_after_all g.row.N c.pass_frame.new.receiver (coming_of t.fates l)) none) ∙ c.in_ok-pass_frame.ensures.brought
     ∙ c.frames.invariant.brought
 
-pub returns-then-not-branch-clause-answered : goal.returns-then-not-branch-clause-answered
-returns-then-not-branch-clause-answered g c =
+pub returns-then-not-branch-clause-acks : goal.returns-then-not-branch-clause-acks
+returns-then-not-branch-clause-acks g c =
     let none = c.in_ok-pass_frame.ensures.none c.if-not-branch.true in
     let t = c.pass_frame.new.there in
     let b = c.pass_frame.new.back.ahead in
-    sym (append-nil b) ∙ sym (ap (λ l. b ++ acks_of g.row.N c.pass_frame.new.receiver (coming_of t.fates l)) none) ∙ c.in_ok-pass_frame.ensures.answered
-    ∙ c.frames.invariant.answered
+    sym (append-nil b) ∙ sym (ap (λ l. b ++ acks_of g.row.N c.pass_frame.new.receiver (coming_of t.fates l)) none) ∙ c.in_ok-pass_frame.ensures.acks
+    ∙ c.frames.invariant.acks
 
 pub returns-then-not-branch-clause-returned : goal.returns-then-not-branch-clause-returned
 returns-then-not-branch-clause-returned g c =

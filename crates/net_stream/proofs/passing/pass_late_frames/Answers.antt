@@ -40,19 +40,19 @@ late-preserved g c =
       grows = le_trans i.grows c.arrive.ensures.grows;
       brought = ap (λ r. receiver_after_all g.row.N r t1.late) c.arrive.ensures.state
           ∙ sym (ap (λ p. receiver_after_all g.row.N c.late.receiver p.late) first) ∙ i.brought;
-      answered = one_answered g.row.N c.late.receiver c.arrive.new.receiver c.frame-frame.result.now c.late.back c.arrive.new.back t1.late
-          c.arrive.ensures.state c.in_ok-arrive.ensures.answers ∙ sym (ap (λ p. c.late.back.ahead ++ acks_of g.row.N c.late.receiver p.late) first)
-          ∙ i.answered;
-      back_late = ap (λ p. p.late) c.in_ok-arrive.ensures.answers ∙ with_ack_late c.arrive.new.receiver
+      acks = one_answered g.row.N c.late.receiver c.arrive.new.receiver c.frame-frame.result.now c.late.back c.arrive.new.back t1.late
+          c.arrive.ensures.state c.in_ok-arrive.ensures.acks ∙ sym (ap (λ p. c.late.back.ahead ++ acks_of g.row.N c.late.receiver p.late) first)
+          ∙ i.acks;
+      back_late = ap (λ p. p.late) c.in_ok-arrive.ensures.acks ∙ with_ack_late c.arrive.new.receiver
           (segment_of c.frame-frame.result.now) c.late.back ∙ i.back_late;
     }
 
 pub returns-clause-brought : goal.returns-clause-brought
 returns-clause-brought g c = sym (ap (λ l. receiver_after_all g.row.N c.late.receiver l) c.in_default.ensures.0) ∙ c.late.invariant.brought
 
-pub returns-clause-answered : goal.returns-clause-answered
-returns-clause-answered g c = sym (append-nil c.late.back.ahead) ∙ sym
-    (ap (λ l. c.late.back.ahead ++ acks_of g.row.N c.late.receiver l) c.in_default.ensures.0) ∙ c.late.invariant.answered
+pub returns-clause-acks : goal.returns-clause-acks
+returns-clause-acks g c = sym (append-nil c.late.back.ahead) ∙ sym
+    (ap (λ l. c.late.back.ahead ++ acks_of g.row.N c.late.receiver l) c.in_default.ensures.0) ∙ c.late.invariant.acks
 
 pub returns-clause-back_late : goal.returns-clause-back_late
 returns-clause-back_late g c = c.late.invariant.back_late

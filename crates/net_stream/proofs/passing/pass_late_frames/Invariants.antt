@@ -19,7 +19,7 @@ invariant-late g l =
       back_fates : l.back.fates ≡ l.fn.back.fates;
       grows : stored_next l.fn.receiver ≤ stored_next l.receiver;
       brought : receiver_after_all g.row.N l.receiver l.there.late ≡ receiver_after_all g.row.N l.fn.receiver l.fn.there.late;
-      answered : l.back.ahead ++ acks_of g.row.N l.receiver l.there.late ≡ l.fn.back.ahead ++ acks_of g.row.N l.fn.receiver l.fn.there.late;
+      acks : l.back.ahead ++ acks_of g.row.N l.receiver l.there.late ≡ l.fn.back.ahead ++ acks_of g.row.N l.fn.receiver l.fn.there.late;
       back_late : l.back.late ≡ l.fn.back.late;
     }
 

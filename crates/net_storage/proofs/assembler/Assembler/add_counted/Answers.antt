@@ -2,7 +2,7 @@ use Rattle.std.proofs.Common.{ap, arith}
 use Rattle.net_storage.specs.Positions.{runs}
 use Rattle.net_storage.specs.RunLists.{set_of}
 use Rattle.net_storage.proofs.AssemblerLaws.{few_binary_digits}
-use Rattle.net_storage.proofs.HeldRuns.{added_accepted, added_more}
+use Rattle.net_storage.proofs.SortedRuns.{added_accepted, added_more}
 use Rattle.net_storage.proofs.assembler.Assembler.add_counted.Goals as goal
 
 pub returns-clause-accepted : goal.returns-clause-accepted

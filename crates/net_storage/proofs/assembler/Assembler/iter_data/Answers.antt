@@ -1,6 +1,6 @@
 use Rattle.std.proofs.Common.{◌∙◌, ap, sym}
 use Rattle.net_storage.specs.Positions.{maximal_runs}
-use Rattle.net_storage.proofs.HeldRuns.{maximal_runs-set_of}
+use Rattle.net_storage.proofs.SortedRuns.{maximal_runs-set_of}
 use Rattle.net_storage.proofs.assembler.Assembler.iter_data.Goals as goal
 
 pub returns-clause-runs : goal.returns-clause-runs

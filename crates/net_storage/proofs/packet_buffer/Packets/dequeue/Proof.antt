@@ -54,7 +54,7 @@ use Rattle.std.proofs.raw_atomic.Walks.{proved_at}
 use Rattle.std.proofs.ResultValues.{ok_of, err_of, and_tt}
 use Rattle.std.specs.Prelude.{Ok, Err, IsErr, IfOk, OnOk, OnErr, ◌↔◌}
 use Rattle.std.specs.contracts.result.Result as RS
-use Rattle.net_storage.specs.Packets.{without_gap, without_first_and_gap, freed_place, freed_bytes}
+use Rattle.net_storage.specs.Packets.{without_gap, without_first_and_gap, freed_bytes_index, freed_bytes}
 use Rattle.net_storage.specs.Packets.{AreFreed, IsFirstSized, IsFirst, first_size}
 use Rattle.net_storage.specs.Packets.{without_first_gap, with_bytes}
 use Rattle.net_storage.specs.contracts.error.Empty as EM
@@ -237,7 +237,7 @@ module _ (G : Given) {M : Type 1} {𝓤 : Ura M} (𝓛 : Logic 𝓤) (𝓜 : Mod
         raw (fact 𝓤 (OnOk r (contents ws.0 ≡ drop-list 1 (contents x))))
         ⊛ raw (fact 𝓤 (IsErr r ↔ (length x.packets ≡ 0))) ⊛ raw (fact 𝓤 (OnErr r (ws.0 ≡ x))) ⊛
         raw (fact 𝓤 (IfOk r (λ t. IsFirstSized x.packets t.0 t.1))) ⊛ raw (fact 𝓤 (OnOk r (ws.0 ≡ y)))
-        ⊛ raw (fact 𝓤 (IfOk r (λ t. AreFreed ws.0 t.1 × (freed_place ws.0 t.1 ≡ from)))))))) (id⊢ 𝓤 (Take.post (to_take p) v)) $
+        ⊛ raw (fact 𝓤 (IfOk r (λ t. AreFreed ws.0 t.1 × (freed_bytes_index ws.0 t.1 ≡ from)))))))) (id⊢ 𝓤 (Take.post (to_take p) v)) $
         await ! tt $ pick ! (λ r. split ! $ split ! $ move ! (2 ∷ []) $
         pick ! (λ ws. split3 ! $ move ! (1 ∷ []) $ heard ! _ (λ none. move ! (1 ∷ []) $ split3 ! $
         heard ! _ (λ taken. heard ! _ (λ left. split3 ! $
@@ -254,9 +254,9 @@ module _ (G : Given) {M : Type 1} {𝓤 : Ura M} (𝓛 : Logic 𝓤) (𝓜 : Mod
               let k : ℕ = number_of s (passed G) in
               let is_y : ws.0 ≡ y = subst (λ t. OnOk t (ws.0 ≡ y)) c.1 is_taken in
               let front_is : IsFirstSized x.packets h s = subst (λ t. IfOk t (λ u. IsFirstSized x.packets u.0 u.1)) c.1 is_first in
-              let lies : AreFreed y s × (freed_place y s ≡ from) = subst
-              (λ m. AreFreed m s × (freed_place m s ≡ from)) is_y
-              (subst (λ t. IfOk t (λ u. AreFreed ws.0 u.1 × (freed_place ws.0 u.1 ≡ from))) c.1 is_freed) in
+              let lies : AreFreed y s × (freed_bytes_index y s ≡ from) = subst
+              (λ m. AreFreed m s × (freed_bytes_index m s ≡ from)) is_y
+              (subst (λ t. IfOk t (λ u. AreFreed ws.0 u.1 × (freed_bytes_index ws.0 u.1 ≡ from))) c.1 is_freed) in
               let lists : contents x ≡ (h, freed_bytes y s) ∷ contents y =
               subst (λ m. contents x ≡ (h, freed_bytes m s) ∷ contents m) is_y
               (subst (λ t. IfOk t (λ u. contents x ≡ (u.0, freed_bytes ws.0 u.1) ∷ contents ws.0)) c.1 taken) in
@@ -292,8 +292,9 @@ module _ (G : Given) {M : Type 1} {𝓤 : Ura M} (𝓛 : Logic 𝓤) (𝓜 : Mod
               use1 𝓛 (later (some (λ (m : MutBor (List ℕ)). ((‵ (flft κs.0 qs.0) ⊛ others G 𝓤 κs qs) ⊛ ‵ (Part.own_val m (u ∷ []))) ⊛
               some (λ (ws : Unit {0} × (Unit {0} × Unit {0})).
               ‵ (lasts (freed.ended G.H G.N G.B G.slots G.slots_by G.bytes G.bytes_by G.drops_by) (to_freed k).0.0 (to_freed k).0.3 ws)
-              ⊛ ‵ (follow (freed_place y k) m) ⊛ raw (fact 𝓤 ((l : List ℕ) → length l ≡ k → contents (with_bytes y (freed_place y k) l) ≡ contents y)) ⊛
-              raw (fact 𝓤 (m.now ≡ take-list k (drop-list (freed_place y k) y.storage))) ⊛ raw (fact 𝓤 (length m.now ≡ k))))))
+              ⊛ ‵ (follow (freed_bytes_index y k) m)
+              ⊛ raw (fact 𝓤 ((l : List ℕ) → length l ≡ k → contents (with_bytes y (freed_bytes_index y k) l) ≡ contents y)) ⊛
+              raw (fact 𝓤 (m.now ≡ take-list k (drop-list (freed_bytes_index y k) y.storage))) ⊛ raw (fact 𝓤 (length m.now ≡ k))))))
               (id⊢ 𝓤 (Freed.post (to_freed k) u)) $
               await ! tt $ pick ! (λ m. split ! $ split ! $ move ! (2 ∷ []) $
               pick ! (λ _. split3 ! $ drop ! $ move ! (1 ∷ []) $ split3 ! $ heard ! _ (λ unseen. heard ! _ (λ value. heard ! _ (λ size.

@@ -1,5 +1,5 @@
 use Rattle.std.proofs.Common.{◌≡◌, ◌∷◌, ◌++◌, ◌∙◌, ℕ, List, length, min, take, drop, sym, ap}
-use Rattle.net_storage.specs.Packets.{without_first_and_gap, freed_place, freed_bytes, with_bytes}
+use Rattle.net_storage.specs.Packets.{without_first_and_gap, freed_bytes_index, freed_bytes, with_bytes}
 use Rattle.net_storage.specs.PacketHistory.{contents, head_bytes}
 use Rattle.net_storage.proofs.PacketRuns.{freed_stay, copied_whole}
 use Rattle.net_storage.proofs.packet_buffer.Packets.pop_slice.Goals as goal
@@ -17,7 +17,7 @@ returns-clause-popped g c =
     let size = c.in_ok-header.size in
     let bytes = c.freed_mut.result.now in
     let is : r ≡ without_first_and_gap q = c.in_ok-header.ensures.dequeued in
-    let left : with_bytes r (freed_place r size) bytes ≡ without_first_and_gap q = freed_stay r size bytes c.freed_mut.ensures.value ∙ is in
+    let left : with_bytes r (freed_bytes_index r size) bytes ≡ without_first_and_gap q = freed_stay r size bytes c.freed_mut.ensures.value ∙ is in
     let shown : contents q ≡ (h, bytes) ∷ contents (without_first_and_gap q) =
     c.in_ok-header.ensures.taken ∙ ap (λ o. (h, freed_bytes r size) ∷ contents o) is
     ∙ ap (λ (l : List ℕ). (h, l) ∷ contents (without_first_and_gap q)) (sym c.freed_mut.ensures.value) in
@@ -84,7 +84,7 @@ returns-clause-left g c =
     let size = c.in_ok-header.size in
     let bytes = c.freed_mut.result.now in
     let is : r ≡ without_first_and_gap q = c.in_ok-header.ensures.dequeued in
-    let left : with_bytes r (freed_place r size) bytes ≡ without_first_and_gap q = freed_stay r size bytes c.freed_mut.ensures.value ∙ is in
+    let left : with_bytes r (freed_bytes_index r size) bytes ≡ without_first_and_gap q = freed_stay r size bytes c.freed_mut.ensures.value ∙ is in
     let shown : contents q ≡ (h, bytes) ∷ contents (without_first_and_gap q) =
     c.in_ok-header.ensures.taken ∙ ap (λ o. (h, freed_bytes r size) ∷ contents o) is
     ∙ ap (λ (l : List ℕ). (h, l) ∷ contents (without_first_and_gap q)) (sym c.freed_mut.ensures.value) in

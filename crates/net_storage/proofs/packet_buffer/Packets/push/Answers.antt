@@ -1,7 +1,7 @@
 use Rattle.std.proofs.Common.{sym, ap, ◌∙◌, subst, arith, ◌+◌, ◌≤◌}
 use Rattle.net_storage.specs.Ring.{RingState, queue, from_start_if_empty, with_enqueued}
 use Rattle.net_storage.specs.Packets.{placement, with_packet}
-use Rattle.net_storage.specs.PacketSlots.{packet_queue, packets_in, Holds}
+use Rattle.net_storage.specs.PacketSlots.{packet_queue, packets_in, StandFor}
 use Rattle.net_storage.proofs.PacketSteps.{free_room, byte_room, push_holds, push_left, closed}
 use Rattle.net_storage.proofs.packet_buffer.Packets.push.Goals as goal
 
@@ -37,7 +37,7 @@ invariant_of-self g c =
     let le : c.args.size ≤ c.args.size = omega arith in
     let after = push_holds m b c.self.invariant c.args.gap c.args.size e c.args.header c.args.size le m2 c.push_slots.ensures.queue
     c.push_slots.ensures.well_formed in
-    subst (λ o. Holds m2 o (packets_in 0 (queue m2))) (sym is) (closed m2 (with_enqueued (c.args.gap + c.args.size) (from_start_if_empty b)) _ after)
+    subst (λ o. StandFor m2 o (packets_in 0 (queue m2))) (sym is) (closed m2 (with_enqueued (c.args.gap + c.args.size) (from_start_if_empty b)) _ after)
 
 pub returns : goal.returns
 returns g c =

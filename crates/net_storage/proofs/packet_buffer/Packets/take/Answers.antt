@@ -2,7 +2,7 @@ use Rattle.std.proofs.Common.{◌≡◌, sym, ap, ◌∙◌, subst, drop, rules}
 use Rattle.std.specs.declared.option.Option.TheVariants.{Some, None}
 use Rattle.net_storage.specs.Ring.{queue, with_dequeued, WellFormed}
 use Rattle.net_storage.specs.Packets.{first_gap, without_first_and_gap, IsFirstSized}
-use Rattle.net_storage.specs.PacketSlots.{packet_queue, packets_in, slot, Holds}
+use Rattle.net_storage.specs.PacketSlots.{packet_queue, packets_in, slot, StandFor}
 use Rattle.net_storage.proofs.PacketFacts.{off_wf}
 use Rattle.net_storage.proofs.PacketSteps.{close_gap, front_slot, front_long, pop_holds, closed}
 use Rattle.net_storage.proofs.PacketRuns.{none_of, taken_as, left_as}
@@ -22,7 +22,7 @@ invariant_of-self-2 g c =
     let wfm = subst WellFormed (sym c.dequeue_allocated.ensures.ring)
     (off_wf c.lift_header.new.slots (slot c.in_ok-size.size None) (drop 1 (queue m)) lifted.1 lifted.0) in
     let is = c.dequeue_allocated-2.ensures.ring ∙ ap (λ n. with_dequeued n b) size in
-    subst (λ o. Holds m2 o (packets_in 0 (queue m2))) (sym is) (closed m2 _ _ (pop_holds m b c.self.invariant z m2 (em ∙ f.3) wfm))
+    subst (λ o. StandFor m2 o (packets_in 0 (queue m2))) (sym is) (closed m2 _ _ (pop_holds m b c.self.invariant z m2 (em ∙ f.3) wfm))
 
 pub returns-in_err-size-clause-none : goal.returns-in_err-size-clause-none
 returns-in_err-size-clause-none g c = none_of c.args.self.now (search rules)

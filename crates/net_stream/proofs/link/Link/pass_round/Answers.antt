@@ -6,13 +6,13 @@ use Rattle.net_stream.specs.Frames.{frames_from}
 use Rattle.net_stream.specs.Reported.{count_outside, most_reported, range_bytes}
 use Rattle.net_stream.specs.Counting.{with_fates, SameButRefused, with_payload}
 use Rattle.net_stream.specs.declared.counts.FrameCounts.{FrameCounts}
-use Rattle.net_stream.specs.Fates.{FatesSeen, after_all, NextCome}
+use Rattle.net_stream.specs.Fates.{FatesSeen, fates_after, NextCome}
 use Rattle.net_stream.specs.Carrying.{PathSeen, IsUnderWay, ack_of}
 use Rattle.net_stream.specs.Sending.{most_of}
 use Rattle.net_stream.specs.Links.{next_flight}
 use Rattle.net_stream.specs.Progress.{Reaches, HasRoom, after_ack_frames}
 use Rattle.net_stream.specs.Passing.{coming_of, late_of, receiver_after_all, acks_of}
-use Rattle.net_stream.proofs.Meeting.{brought_append, answers_append}
+use Rattle.net_stream.proofs.Meeting.{brought_append, acks_append}
 use Rattle.net_stream.proofs.Carried.{answered}
 use Rattle.net_stream.proofs.Reached.{acked_append, room_same, sent_reaches, first_is, all_keep_end}
 use Rattle.net_stream.proofs.Sent.{all_sent}
@@ -33,9 +33,9 @@ returns-in_err-pass_frames-clause-carries g c = λ f w h.
     c.pass_frames.ensures.carried f w c.args.self.now.sender
     (c.pass_late_frames.ensures.carried f w c.args.self.now.sender (c.transmit.ensures.carried f w c.args.self.now.receiver c.args.self.now.back h))
 
-pub returns-in_err-answer-clause-carries : goal.returns-in_err-answer-clause-carries
-returns-in_err-answer-clause-carries g c = λ f w h.
-    subst (IsUnderWay f w c.args.self.now.sender c.pass_frames.new.receiver c.pass_frames.new.there) (sym c.in_err-answer.ensures.err)
+pub returns-in_err-send_ack-clause-carries : goal.returns-in_err-send_ack-clause-carries
+returns-in_err-send_ack-clause-carries g c = λ f w h.
+    subst (IsUnderWay f w c.args.self.now.sender c.pass_frames.new.receiver c.pass_frames.new.there) (sym c.in_err-send_ack.ensures.err)
     (c.pass_frames.ensures.carried f w c.args.self.now.sender
     (c.pass_late_frames.ensures.carried f w c.args.self.now.sender (c.transmit.ensures.carried f w c.args.self.now.receiver c.args.self.now.back h)))
 
@@ -45,8 +45,8 @@ returns-in_err-pass_acks-clause-carries g c = λ f w h.
     let there = c.pass_frames.new.there in
     let came = c.pass_frames.ensures.carried f w c.args.self.now.sender
     (c.pass_late_frames.ensures.carried f w c.args.self.now.sender (c.transmit.ensures.carried f w c.args.self.now.receiver c.args.self.now.back h)) in
-    let told = answered f w c.args.self.now.sender r there c.pass_frames.new.back c.answer.new.back
-    (ack_of r) c.in_ok-answer.ensures.ok c.answer.ensures.tells came in
+    let told = answered f w c.args.self.now.sender r there c.pass_frames.new.back c.send_ack.new.back
+    (ack_of r) c.in_ok-send_ack.ensures.ok c.send_ack.ensures.tells came in
     c.pass_acks.ensures.carried f w r there (c.pass_late_acks.ensures.carried f w r there told)
 
 pub returns-clause-carries : goal.returns-clause-carries
@@ -55,8 +55,8 @@ returns-clause-carries g c = λ f w h.
     let there = c.pass_frames.new.there in
     let came = c.pass_frames.ensures.carried f w c.args.self.now.sender
     (c.pass_late_frames.ensures.carried f w c.args.self.now.sender (c.transmit.ensures.carried f w c.args.self.now.receiver c.args.self.now.back h)) in
-    let told = answered f w c.args.self.now.sender r there c.pass_frames.new.back c.answer.new.back
-    (ack_of r) c.in_ok-answer.ensures.ok c.answer.ensures.tells came in
+    let told = answered f w c.args.self.now.sender r there c.pass_frames.new.back c.send_ack.new.back
+    (ack_of r) c.in_ok-send_ack.ensures.ok c.send_ack.ensures.tells came in
     c.pass_acks.ensures.carried f w r there (c.pass_late_acks.ensures.carried f w r there told)
 
 -- what a round counts, once n frames have met their fates
@@ -103,12 +103,12 @@ returns-in_err-pass_frames-clause-err g c =
           (ap (λ p. p.fates) c.in_ok-transmit.ensures.sent.1.prefix.sent) c.in_ok-transmit.ensures.sent.2 late.counted late.fates met.1;
     })
 
-pub returns-in_err-answer-clause-err : goal.returns-in_err-answer-clause-err
-returns-in_err-answer-clause-err g c =
+pub returns-in_err-send_ack-clause-err : goal.returns-in_err-send_ack-clause-err
+returns-in_err-send_ack-clause-err g c =
     let s = c.args.self.now.sender in
     let late = c.pass_late_frames.ensures in
     let t2 = c.pass_late_frames.new.there in
-    OnErr-always c.from_residual-in_err-answer.result
+    OnErr-always c.from_residual-in_err-send_ack.result
     (record {
       bytes = count_outside s.reported s.base c.in_ok-transmit.ensures.sent.0;
       frames = length t2.ahead;
@@ -132,7 +132,7 @@ returns-in_err-pass_acks-clause-err g c =
     (length t2.ahead) c.args.self.now.there c.transmit.new.there t2.fates c.args.self.now.counts c.transmit.new.counts c.pass_late_frames.new.counts
     c.pass_frames.new.counts (ap (λ p. p.fates) c.in_ok-transmit.ensures.sent.1.prefix.sent) c.in_ok-transmit.ensures.sent.2 late.counted late.fates
     c.in_ok-pass_frames.ensures.counted in
-    let back : b4.fates ≡ c.args.self.now.back.fates = c.pass_late_acks.ensures.fates ∙ ap (λ p. p.fates) c.in_ok-answer.ensures.ok
+    let back : b4.fates ≡ c.args.self.now.back.fates = c.pass_late_acks.ensures.fates ∙ ap (λ p. p.fates) c.in_ok-send_ack.ensures.ok
     ∙ c.pass_frames.ensures.fates ∙ late.back_fates in
     OnErr-always c.from_residual-in_err-pass_acks.result
     (record {
@@ -159,14 +159,14 @@ returns-clause-round g c =
     let b0 = c.args.self.now.back in
     let b1 = c.pass_late_frames.new.back in
     let b2 = c.pass_frames.new.back in
-    let b3 = c.answer.new.back in
+    let b3 = c.send_ack.new.back in
     let b4 = c.pass_late_acks.new.back in
     let s4 = c.pass_late_acks.new.sender in
     let late = c.pass_late_frames.ensures in
     let ok_late = c.in_ok-pass_late_frames.ensures in
     let ok_frames = c.in_ok-pass_frames.ensures in
     let sent = round.prefix in
-    let told = c.in_ok-answer.ensures.ok in
+    let told = c.in_ok-send_ack.ensures.ok in
     let fates : t2.fates ≡ t0.fates = late.fates ∙ ap (λ p. p.fates) sent.sent in
     let old : t1.late ≡ t0.late = ap (λ p. p.late) sent.sent in
     let come = coming_of t0.fates t1.ahead in
@@ -175,11 +175,11 @@ returns-clause-round g c =
     let back : b4.fates ≡ b0.fates = c.pass_late_acks.ensures.fates ∙ ap (λ p. p.fates) told ∙ c.pass_frames.ensures.fates ∙ late.back_fates in
     let back_late : b3.late ≡ b0.late = ap (λ p. p.late) told ∙ ok_frames.back_late ∙ ok_late.back_late in
     let more : b2.ahead ≡ b0.ahead ++ acks_of N r0 (t0.late ++ come) =
-    ok_frames.answered
-    ∙ (λ i. ok_late.answered i ++ acks_of N r1 (coming i))
+    ok_frames.acks
+    ∙ (λ i. ok_late.acks i ++ acks_of N r1 (coming i))
     ∙ append_assoc b0.ahead (acks_of N r0 t1.late) (acks_of N r1 come)
     ∙ (λ i. b0.ahead ++ (acks_of N r0 (old i) ++ acks_of N (here i) come))
-    ∙ ap (λ l. b0.ahead ++ l) (sym (answers_append N r0 t0.late come)) in
+    ∙ ap (λ l. b0.ahead ++ l) (sym (acks_append N r0 t0.late come)) in
     let bytes = with_payload (count_outside s.reported s.base c.in_ok-transmit.ensures.sent.0) c.args.self.now.counts in
     let framed' = framed (count_outside s.reported s.base n) (length t2.ahead) t0 t1 t2.fates c.args.self.now.counts c.transmit.new.counts
     c.pass_late_frames.new.counts c.pass_frames.new.counts (ap (λ p. p.fates) sent.sent) c.in_ok-transmit.ensures.sent.2 late.counted late.fates
@@ -197,14 +197,14 @@ returns-clause-round g c =
         coming = refl;
         received = ok_frames.brought ∙ (λ i. receiver_after_all N (here i) (coming i)) ∙ sym (brought_append N r0 t0.late come);
         acks = b4.ahead;
-        answers = c.pass_late_acks.ensures.ahead ∙ ap (λ p. p.ahead) told ∙ ap (λ l. l ++ ack_of r2 ∷ []) more;
+        acks_are = c.pass_late_acks.ensures.ahead ∙ ap (λ p. p.ahead) told ∙ ap (λ l. l ++ ack_of r2 ∷ []) more;
         acked = acks.came ∙ (λ i. after_ack_frames (c.pass_late_acks.ensures.came i) (coming_of (back i) b4.ahead))
             ∙ ap (λ l. after_ack_frames (after_ack_frames s l) (coming_of b0.fates b4.ahead)) back_late
             ∙ sym (acked_append s b0.late (coming_of b0.fates b4.ahead));
         left = λ i. record {
           ahead = ok_frames.none i;
           late = (ok_frames.returned ∙ (λ j. ok_late.none j ++ late_of (late.fates j) (late.ahead j))) i;
-          fates = (ok_frames.left ∙ (λ j. after_all (length (late.ahead j)) (late.fates j))) i;
+          fates = (ok_frames.left ∙ (λ j. fates_after (length (late.ahead j)) (late.fates j))) i;
         };
         counted = counted;
         payload = refl;
@@ -214,7 +214,7 @@ returns-clause-round g c =
         left_back = λ i. record {
           ahead = acks.none i;
           late = (acks.returned ∙ (λ j. c.pass_late_acks.ensures.none j ++ late_of (back j) b4.ahead)) i;
-          fates = (acks.left ∙ ap (after_all (length b4.ahead)) back) i;
+          fates = (acks.left ∙ ap (fates_after (length b4.ahead)) back) i;
         };
       };
       brings = λ f w carries room come come_back.
