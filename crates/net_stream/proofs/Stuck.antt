@@ -21,7 +21,7 @@ use Rattle.net_stream.specs.Counting.{with_fate, with_fates, with_payload}
 use Rattle.net_stream.specs.Fates.{FatesSeen, next_fate, after_fate, fates_after, comes, comes_late, AllCome}
 use Rattle.net_stream.specs.Rounds.{PartCounted, FatesSoFar}
 use Rattle.net_stream.specs.Carrying.{ack_of, receiver_after}
-use Rattle.net_stream.specs.Sending.{most_of}
+use Rattle.net_stream.specs.Sending.{at_least_one}
 use Rattle.net_stream.specs.Progress.{after_ack_frame, after_ack_frames, limit_of}
 use Rattle.net_stream.specs.Passing.{coming_of, late_of, receiver_after_all, ack_to, acks_of}
 use Rattle.net_stream.specs.Links.{Carries, Passed}
@@ -314,7 +314,7 @@ rounds_move trip numbers order queue f w old new p sound carries word none none_
         (missing most_reported old.receiver sound (subst (Has old.receiver) (lacking l) (carries.reported old.sender.base e))))
         (λ (e : reports old.sender.reported old.sender.base ≡ false). e)
         (cases_Bool (reports old.sender.reported old.sender.base)) in
-        let one = first_sent old.sender (most_of old.payload) (most_of old.flight) p.n old.there p.sent p.all (omega arith) some told in
+        let one = first_sent old.sender (at_least_one old.payload) (at_least_one old.flight) p.n old.there p.sent p.all (omega arith) some told in
         let xs = one.0 in
         let size : length xs ≡ min (length xs) (length old.sender.queue) = ap length one.5 ∙ length-take (length xs) old.sender.queue in (
           xs,

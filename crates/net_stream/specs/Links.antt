@@ -12,7 +12,7 @@ use Rattle.net_stream.specs.Counting.{with_fates, SameButRefused, with_payload}
 use Rattle.net_stream.specs.Outgoing.{end_of}
 use Rattle.net_stream.specs.Fates.{NextCome}
 use Rattle.net_stream.specs.Carrying.{PathSeen, IsUnderWay, ack_of}
-use Rattle.net_stream.specs.Sending.{SentRound, most_of}
+use Rattle.net_stream.specs.Sending.{SentRound, at_least_one}
 use Rattle.net_stream.specs.Frames.{frames_from}
 use Rattle.net_stream.specs.Progress.{after_ack_frames, limit_of}
 use Rattle.net_stream.specs.Passing.{coming_of, receiver_after_all, acks_of, path_after}
@@ -35,7 +35,7 @@ next_flight limit flight full =
 pub record Passed {A : Type 0} (old new : Link A) : Type 0 where
   pub sent : PathSeen
   pub n : ℕ
-  pub all : SentRound old.sender (most_of old.payload) (most_of old.flight) n old.there sent
+  pub all : SentRound old.sender (at_least_one old.payload) (at_least_one old.flight) n old.there sent
   pub came : List (List ℕ)
   pub coming : came ≡ old.there.late ++ coming_of old.there.fates sent.ahead
   pub received : new.receiver ≡ receiver_after_all most_reported old.receiver came
@@ -72,5 +72,5 @@ pub record Round {A : Type 0} (old new : Link A) : Type 0 where
       × (new.sender.base ≡ stored_next new.receiver)
       × (passed.n ≡ length old.sender.queue
       → (stored_next new.receiver ≡ end_of old.sender) × (length new.sender.queue ≡ 0))
-  pub all : length (frames_from old.sender.base passed.all.prefix.parts) < most_of old.flight
+  pub all : length (frames_from old.sender.base passed.all.prefix.parts) < at_least_one old.flight
       → is_full old.sender.reported ≡ false → passed.n ≡ length old.sender.queue

@@ -1,7 +1,7 @@
 -- What a sender puts on its way.
 --     Sent p parts old new      frames of the parts, from position p on, were put on their way
 --     IsMarked ranges p n spared, AreMarked ranges p parts      exactly what was reported is spared
---     most_of n      a number of which 0 counts as 1
+--     at_least_one n      a number of which 0 counts as 1
 --     stop_of s      the position at and above which no part begins
 --     part_end s most p      where the part ends that begins at position p
 --     HaveEnds s most p parts      each of the parts, from position p on, ends there
@@ -37,8 +37,8 @@ abbrev pub HasSize : ℕ → Part → Type 0
 HasSize most part = (0 < length part.1) × (part.0 ≡ false → length part.1 ≤ most)
 
 -- a number of which 0 counts as 1
-abbrev pub most_of : ℕ → ℕ
-most_of n = max n 1
+abbrev pub at_least_one : ℕ → ℕ
+at_least_one n = max n 1
 
 -- how many bytes from position p on are spared
 abbrev pub spared_from : Outgoing → ℕ → ℕ

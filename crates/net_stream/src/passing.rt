@@ -69,14 +69,14 @@ fn acknowledge_if(sender: &mut Sender<'_>, frame: &[u8], fate: Fate)
 }
 
 /// A frame is put among the late ones, if that is its fate.
-fn return_if<A: Allocator + Copy>(
+fn put_late_if<A: Allocator + Copy>(
     path: &mut Path<'_, A>,
     now: Instant,
     frame: &[u8],
     fate: Fate,
 ) -> Result<(), AllocError>
     ensures may { MayComeLate frame.now path.old path.new }
-    ensures returned { OnOk result (path.new ≡ with_late fate frame.now path.old) }
+    ensures put_late { OnOk result (path.new ≡ with_late fate frame.now path.old) }
 {
     if !fate.comes_late() {
         return Ok(());
@@ -120,7 +120,7 @@ fn pass_frame<A: Allocator + Copy, const N: usize>(
     ensures acks { OnOk result (back.new.ahead
         ++ acks_of N receiver.new (coming_of there.new.fates there.new.ahead)
         ≡ back.old.ahead ++ acks_of N receiver.old (coming_of there.old.fates there.old.ahead)) }
-    ensures returned { OnOk result (there.new.late ++ late_of there.new.fates there.new.ahead
+    ensures put_late { OnOk result (there.new.late ++ late_of there.new.fates there.new.ahead
         ≡ there.old.late ++ late_of there.old.fates there.old.ahead) }
     ensures back_late { OnOk result (back.new.late ≡ back.old.late) }
 {
@@ -132,7 +132,7 @@ fn pass_frame<A: Allocator + Copy, const N: usize>(
     let fate = there.draw();
     counts.meet(fate);
     arrive_if(receiver, back, now, frame, fate, counts)?;
-    return_if(there, now, frame, fate)?;
+    put_late_if(there, now, frame, fate)?;
     Ok(true)
 }
 
@@ -161,7 +161,7 @@ fn pass_ack<A: Allocator + Copy>(
     ensures none { IfOk result (λ some. IsFalse some → back.new.ahead ≡ []) }
     ensures came { OnOk result (after_ack_frames sender.new (coming_of back.new.fates back.new.ahead)
         ≡ after_ack_frames sender.old (coming_of back.old.fates back.old.ahead)) }
-    ensures returned { OnOk result (back.new.late ++ late_of back.new.fates back.new.ahead
+    ensures put_late { OnOk result (back.new.late ++ late_of back.new.fates back.new.ahead
         ≡ back.old.late ++ late_of back.old.fates back.old.ahead) }
 {
     let Some(token) = back.take(now) else {
@@ -171,7 +171,7 @@ fn pass_ack<A: Allocator + Copy>(
     let fate = back.draw();
     counts.meet(fate);
     acknowledge_if(sender, frame, fate);
-    return_if(back, now, frame, fate)?;
+    put_late_if(back, now, frame, fate)?;
     Ok(true)
 }
 
@@ -235,7 +235,7 @@ pub(crate) fn pass_frames<A: Allocator + Copy, const N: usize>(
         ≡ receiver_after_all N receiver.old (coming_of there.old.fates there.old.ahead)) }
     ensures acks { OnOk result (back.new.ahead
         ≡ back.old.ahead ++ acks_of N receiver.old (coming_of there.old.fates there.old.ahead)) }
-    ensures returned { OnOk result (there.new.late
+    ensures put_late { OnOk result (there.new.late
         ≡ there.old.late ++ late_of there.old.fates there.old.ahead) }
     ensures back_late { OnOk result (back.new.late ≡ back.old.late) }
     ensures none { OnOk result (there.new.ahead ≡ []) }
@@ -287,7 +287,7 @@ pub(crate) fn pass_acks<A: Allocator + Copy>(
         → sender.new ≡ after_ack_frames sender.old back.old.ahead) }
     ensures came { OnOk result (sender.new
         ≡ after_ack_frames sender.old (coming_of back.old.fates back.old.ahead)) }
-    ensures returned { OnOk result (back.new.late
+    ensures put_late { OnOk result (back.new.late
         ≡ back.old.late ++ late_of back.old.fates back.old.ahead) }
     ensures none { OnOk result (back.new.ahead ≡ []) }
 {

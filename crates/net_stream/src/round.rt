@@ -3,7 +3,7 @@ ghost use Rattle.std.specs.Prelude.{◌≡◌, ℕ, List};
 ghost use Rattle.std.specs.Prelude.{OnOk, OnErr};
 ghost use Rattle.net_stream.specs.Reported.{count_outside};
 ghost use Rattle.net_stream.specs.Counting.{with_payload};
-ghost use Rattle.net_stream.specs.Sending.{SentPrefix, SentRound, most_of};
+ghost use Rattle.net_stream.specs.Sending.{SentPrefix, SentRound, at_least_one};
 ghost use Rattle.net_stream.specs.Rounds.{PartCounted};
 ghost use Rattle.net_stream.specs.Links.{Carries, Round, next_flight};
 
@@ -34,15 +34,15 @@ impl<'a, 'f, A: Allocator + Copy> Link<'a, 'f, A> {
     /// frame begins behind the last of them. A refusal of memory leaves frames of a prefix on their
     /// way, and they are counted.
     pub fn transmit(&mut self) -> Result<(), AllocError>
-        ensures sent { OnOk result ((n : ℕ) × SentRound self.old.sender (most_of self.old.payload)
-            (most_of self.old.flight) n self.old.there self.new.there
+        ensures sent { OnOk result ((n : ℕ) × SentRound self.old.sender (at_least_one self.old.payload)
+            (at_least_one self.old.flight) n self.old.there self.new.there
             × (self.new ≡ record self.old {
               there = self.new.there;
               counts = with_payload
                   (count_outside self.old.sender.reported self.old.sender.base n) self.old.counts;
             })) }
-        ensures err { OnErr result ((n : ℕ) × SentPrefix self.old.sender (most_of self.old.payload)
-            (most_of self.old.flight) n self.old.there self.new.there
+        ensures err { OnErr result ((n : ℕ) × SentPrefix self.old.sender (at_least_one self.old.payload)
+            (at_least_one self.old.flight) n self.old.there self.new.there
             × (self.new ≡ record self.old {
               there = self.new.there;
               counts = with_payload

@@ -5,7 +5,7 @@ ghost use Rattle.net_stream.specs.Outgoing.{end_of};
 ghost use Rattle.net_stream.specs.Reported.{count_outside};
 ghost use Rattle.net_stream.specs.Counting.{with_payload};
 ghost use Rattle.net_stream.specs.Carrying.{PathSeen, IsUnderWay};
-ghost use Rattle.net_stream.specs.Sending.{most_of, SentPart, SentPrefix, SentRound};
+ghost use Rattle.net_stream.specs.Sending.{at_least_one, SentPart, SentPrefix, SentRound};
 
 use crate::counts::FrameCounts;
 use crate::frame::round_trip;
@@ -67,10 +67,10 @@ pub(crate) fn transmit<A: Allocator + Copy>(
     ensures carried { (f : ℕ) (w : List ℕ) (r : Stored) (back : PathSeen) →
         IsUnderWay f w sender.now r there.old back → IsUnderWay f w sender.now r there.new back }
     ensures sent { OnOk result ((n : ℕ)
-        × SentRound sender.now (most_of most) (most_of flight) n there.old there.new
+        × SentRound sender.now (at_least_one most) (at_least_one flight) n there.old there.new
         × (counts.new ≡ with_payload (count_outside sender.now.reported sender.now.base n) counts.old)) }
     ensures err { OnErr result ((n : ℕ)
-        × SentPrefix sender.now (most_of most) (most_of flight) n there.old there.new
+        × SentPrefix sender.now (at_least_one most) (at_least_one flight) n there.old there.new
         × (counts.new ≡ with_payload (count_outside sender.now.reported sender.now.base n) counts.old)) }
 {
     let most = most.max(1) as usize;

@@ -95,7 +95,7 @@ impl<'a> UdpSocket<'a> {
         ensures shown { IfOk result (λ r. CopiedFirst (received self.old) r.1 r.0 into.old into.new) }
         ensures capacity { HasSameCapacity self.old self.new }
     {
-        look(&mut self.inbound, into)
+        copy_first(&mut self.inbound, into)
     }
 
     /// Whether a datagram was received that was not taken off.
@@ -170,7 +170,10 @@ fn put(queue: &mut PacketBuffer<'_, Endpoint>, endpoint: Endpoint, data: &[u8]) 
 }
 
 /// The bytes of the first packet are copied as far as `into` has room.
-fn look(queue: &mut PacketBuffer<'_, Endpoint>, into: &mut [u8]) -> Result<(usize, Endpoint), Empty>
+fn copy_first(
+    queue: &mut PacketBuffer<'_, Endpoint>,
+    into: &mut [u8],
+) -> Result<(usize, Endpoint), Empty>
     ensures contents { contents queue.new ≡ contents queue.old }
     ensures skipped { queue.new ≡ without_gap queue.old }
     ensures empty { IsErr result ↔ (contents queue.old ≡ []) }
@@ -199,7 +202,7 @@ fn hand<R, E, F: FnOnce(Endpoint, &[u8]) -> Result<R, E>>(
     ring_buffer::laws::overwritten::<u8>();
     laws::contents_are_packets::<Endpoint>();
     laws::packets_leave_in_order::<Endpoint>();
-    laws::looking_changes_nothing::<Endpoint>();
+    laws::showing_changes_nothing::<Endpoint>();
     laws::well_placed(queue);
     queue.dequeue_with(
         move |to: &mut Endpoint, bytes: &mut [u8]|

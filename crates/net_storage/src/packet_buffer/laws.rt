@@ -97,7 +97,7 @@ pub fn the_two_steps_apart<H>()
 /// A packet that was only shown: after `peek` the same packet is taken off, and a closure that
 /// leaves the header and the bytes of the first packet as they were leaves the contents, less the
 /// packet if it returned `Ok`.
-pub fn looking_changes_nothing<H>()
+pub fn showing_changes_nothing<H>()
     ensures peeked { (q : PacketQueue H) → WellPlaced q
         → contents (without_first_and_gap (without_gap q)) ≡ drop 1 (contents q) }
     ensures still_there { (q : PacketQueue H) → length (without_gap q).packets ≡ length q.packets }

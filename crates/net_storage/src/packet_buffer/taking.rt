@@ -108,7 +108,7 @@ impl<H, M: Elements<PacketMetadata<H>>, B: Elements<u8>> Packets<H, M, B> {
         ensures first { IfOk result (λ r. IsFirstSized self.now.packets r.0.now (length r.1.now)) }
         ensures bytes { IfOk result (λ r. r.1.now ≡ first_bytes self.now) }
     {
-        let Some(slot) = self.slots.front().first() else {
+        let Some(slot) = self.slots.head().first() else {
             return Err(Empty);
         };
         match &slot.header {

@@ -103,7 +103,7 @@ impl<T, S: Elements<T>> Ring<T, S> {
     /// Shows the first element of the queue, or nothing if there is none: `get_allocated(0, 1)` in
     /// fewer steps.
     #[inline]
-    pub(crate) fn front(&self) -> &[T]
+    pub(crate) fn head(&self) -> &[T]
         ensures value { result.now ≡ take 1 (queue self.now) }
         ensures first { slice_get result.now 0 ≡ slice_get (queue self.now) 0 }
     {

@@ -27,7 +27,7 @@ acks-preserved g c = record {
       ));
   acked = λ all. let before = c.acks.invariant.acked all in let step = c.pass_ack.ensures.acked before.0 in (step.0, before.1 ∙ step.1);
   came = c.in_ok-pass_ack.ensures.came ∙ c.acks.invariant.came;
-  returned = c.in_ok-pass_ack.ensures.returned ∙ c.acks.invariant.returned;
+  put_late = c.in_ok-pass_ack.ensures.put_late ∙ c.acks.invariant.put_late;
 }
 
 pub returns-then-not-branch-clause-counted : goal.returns-then-not-branch-clause-counted
@@ -54,7 +54,7 @@ acks-init g c =
       counted = (0, omega arith, none_met c.args.back.now.fates c.args.counts.now);
       acked = λ come. (come, refl);
       came = refl;
-      returned = refl;
+      put_late = refl;
     }
 
 pub returns-then-not-branch-clause-left : goal.returns-then-not-branch-clause-left
@@ -70,8 +70,8 @@ returns-then-not-branch-clause-came g c =
     let b = c.pass_ack.new.back in
     sym (ap (λ l. after_ack_frames c.pass_ack.new.sender (coming_of b.fates l)) none) ∙ c.in_ok-pass_ack.ensures.came ∙ c.acks.invariant.came
 
-pub returns-then-not-branch-clause-returned : goal.returns-then-not-branch-clause-returned
-returns-then-not-branch-clause-returned g c =
+pub returns-then-not-branch-clause-put_late : goal.returns-then-not-branch-clause-put_late
+returns-then-not-branch-clause-put_late g c =
     let none = c.in_ok-pass_ack.ensures.none c.if-not-branch.true in
     let b = c.pass_ack.new.back in
-    sym (append-nil b.late) ∙ sym (ap (λ l. b.late ++ late_of b.fates l) none) ∙ c.in_ok-pass_ack.ensures.returned ∙ c.acks.invariant.returned
+    sym (append-nil b.late) ∙ sym (ap (λ l. b.late ++ late_of b.fates l) none) ∙ c.in_ok-pass_ack.ensures.put_late ∙ c.acks.invariant.put_late

@@ -16,7 +16,7 @@ invariant-acks g l =
       acked : NextCome (length l.fn.back.ahead) l.fn.back.fates → NextCome (length l.back.ahead) l.back.fates
           × (after_ack_frames l.fn.sender l.fn.back.ahead ≡ after_ack_frames l.sender l.back.ahead);
       came : after_ack_frames l.sender (coming_of l.back.fates l.back.ahead) ≡ after_ack_frames l.fn.sender (coming_of l.fn.back.fates l.fn.back.ahead);
-      returned : l.back.late ++ late_of l.back.fates l.back.ahead ≡ l.fn.back.late ++ late_of l.fn.back.fates l.fn.back.ahead;
+      put_late : l.back.late ++ late_of l.back.fates l.back.ahead ≡ l.fn.back.late ++ late_of l.fn.back.fates l.fn.back.ahead;
     }
 
 abbrev pub decreases-acks : goal.decreases-acks

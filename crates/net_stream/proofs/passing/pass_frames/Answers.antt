@@ -47,7 +47,7 @@ frames-init g c =
       fates = refl;
       brought = refl;
       acks = refl;
-      returned = refl;
+      put_late = refl;
       back_late = refl;
     }
 
@@ -75,7 +75,7 @@ frames-preserved g c =
       fates = c.pass_frame.ensures.fates ∙ i.fates;
       brought = c.in_ok-pass_frame.ensures.brought ∙ i.brought;
       acks = c.in_ok-pass_frame.ensures.acks ∙ i.acks;
-      returned = c.in_ok-pass_frame.ensures.returned ∙ i.returned;
+      put_late = c.in_ok-pass_frame.ensures.put_late ∙ i.put_late;
       back_late = c.in_ok-pass_frame.ensures.back_late ∙ i.back_late;
     }
 
@@ -101,11 +101,11 @@ returns-then-not-branch-clause-acks g c =
     sym (append-nil b) ∙ sym (ap (λ l. b ++ acks_of g.row.N c.pass_frame.new.receiver (coming_of t.fates l)) none) ∙ c.in_ok-pass_frame.ensures.acks
     ∙ c.frames.invariant.acks
 
-pub returns-then-not-branch-clause-returned : goal.returns-then-not-branch-clause-returned
-returns-then-not-branch-clause-returned g c =
+pub returns-then-not-branch-clause-put_late : goal.returns-then-not-branch-clause-put_late
+returns-then-not-branch-clause-put_late g c =
     let none = c.in_ok-pass_frame.ensures.none c.if-not-branch.true in
     let t = c.pass_frame.new.there in
-    sym (append-nil t.late) ∙ sym (ap (λ l. t.late ++ late_of t.fates l) none) ∙ c.in_ok-pass_frame.ensures.returned ∙ c.frames.invariant.returned
+    sym (append-nil t.late) ∙ sym (ap (λ l. t.late ++ late_of t.fates l) none) ∙ c.in_ok-pass_frame.ensures.put_late ∙ c.frames.invariant.put_late
 
 pub returns-then-not-branch-clause-back_late : goal.returns-then-not-branch-clause-back_late
 returns-then-not-branch-clause-back_late g c = c.in_ok-pass_frame.ensures.back_late ∙ c.frames.invariant.back_late

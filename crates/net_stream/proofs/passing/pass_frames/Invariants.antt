@@ -26,7 +26,7 @@ invariant-frames g l =
           (coming_of l.fn.there.fates l.fn.there.ahead);
       acks : l.back.ahead ++ acks_of g.row.N l.receiver (coming_of l.there.fates l.there.ahead) ≡ l.fn.back.ahead ++ acks_of g.row.N
           l.fn.receiver (coming_of l.fn.there.fates l.fn.there.ahead);
-      returned : l.there.late ++ late_of l.there.fates l.there.ahead ≡ l.fn.there.late ++ late_of l.fn.there.fates l.fn.there.ahead;
+      put_late : l.there.late ++ late_of l.there.fates l.there.ahead ≡ l.fn.there.late ++ late_of l.fn.there.fates l.fn.there.ahead;
       back_late : l.back.late ≡ l.fn.back.late;
     }
 

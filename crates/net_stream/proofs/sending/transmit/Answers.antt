@@ -1,6 +1,6 @@
 use Rattle.std.proofs.Common.{◌≡◌, ◌-◌, ◌<◌, ◌≤◌, ◌∙◌, sym, ap, subst, arith, inl, inr}
 use Rattle.net_stream.specs.Reported.{count_outside}
-use Rattle.net_stream.specs.Sending.{most_of, stop_of, SentPrefix, SentRound}
+use Rattle.net_stream.specs.Sending.{at_least_one, stop_of, SentPrefix, SentRound}
 use Rattle.net_stream.proofs.Ranges.{counted_more, counted_none}
 use Rattle.net_stream.proofs.Sent.{SentSoFar, none_sent, sent_more, round_sent}
 use Rattle.net_stream.proofs.Results.{OnErr-always}
@@ -11,13 +11,14 @@ loop-pos-init g c =
     let s = c.args.sender.now in
     let base = c.base-pos.ensures.value in
     let none : c.base-pos.result - s.base ≡ 0 = omega arith in
-    let flight : c.max-left.result ≡ most_of c.args.flight = c.max-left.ensures in
+    let flight : c.max-left.result ≡ at_least_one c.args.flight = c.max-left.ensures in
     record {
       from = omega arith;
       within = omega arith;
       carried = λ f w r back h. h;
-      sent = subst (λ k. SentSoFar s c.max-most.result (most_of c.args.flight) k (c.base-pos.result - s.base) c.args.there.now c.args.there.now) (sym flight)
-          (none_sent s c.max-most.result (most_of c.args.flight) c.base-pos.result c.args.there.now base);
+      sent = subst (λ k. SentSoFar s c.max-most.result (at_least_one c.args.flight) k (c.base-pos.result - s.base)
+          c.args.there.now c.args.there.now) (sym flight)
+          (none_sent s c.max-most.result (at_least_one c.args.flight) c.base-pos.result c.args.there.now base);
       counted = counted_none _ c.args.counts.now (omega arith) (ap (count_outside s.reported s.base) none);
     }
 
@@ -34,7 +35,7 @@ loop-pos-preserved g c =
       from = omega arith;
       within = omega arith;
       carried = λ f w r back h. c.transmit_part.ensures.carried f w r back (i.carried f w r back h);
-      sent = sent_more s c.max-most.result (most_of c.args.flight) c.loop-pos.left c.loop-pos.pos n c.in_ok-count.frames
+      sent = sent_more s c.max-most.result (at_least_one c.args.flight) c.loop-pos.left c.loop-pos.pos n c.in_ok-count.frames
           (c.loop-pos.left - c.in_ok-count.frames)
           c.args.there.now c.loop-pos.there c.transmit_part.new.there i.sent part i.from below c.if-left-gt0.true (λ _. c.loop-pos.left - c.in_ok-count.frames);
       counted = counted_more s.reported s.base c.loop-pos.pos n c.args.counts.now c.loop-pos.counts c.transmit_part.new.counts
@@ -51,8 +52,9 @@ returns-else-left-gt0-clause-sent g c =
     let n = c.loop-pos.pos - s.base in
     let none : c.loop-pos.left ≡ 0 = omega arith in (
       n,
-      subst (λ m. SentRound s m (most_of c.args.flight) n c.args.there.now c.loop-pos.there) c.max-most.ensures
-          (round_sent s c.max-most.result (most_of c.args.flight) c.loop-pos.left c.loop-pos.pos c.args.there.now c.loop-pos.there i.sent i.from (inr none)),
+      subst (λ m. SentRound s m (at_least_one c.args.flight) n c.args.there.now c.loop-pos.there) c.max-most.ensures
+          (round_sent s c.max-most.result (at_least_one c.args.flight) c.loop-pos.left c.loop-pos.pos c.args.there.now
+              c.loop-pos.there i.sent i.from (inr none)),
       i.counted,
     )
 
@@ -63,8 +65,9 @@ returns-after-loop-pos-clause-sent g c =
     let n = c.loop-pos.pos - s.base in
     let stopped : stop_of s ≤ c.loop-pos.pos = omega (arith, c.stop-stop.ensures) in (
       n,
-      subst (λ m. SentRound s m (most_of c.args.flight) n c.args.there.now c.loop-pos.there) c.max-most.ensures
-          (round_sent s c.max-most.result (most_of c.args.flight) c.loop-pos.left c.loop-pos.pos c.args.there.now c.loop-pos.there i.sent i.from (inl stopped)),
+      subst (λ m. SentRound s m (at_least_one c.args.flight) n c.args.there.now c.loop-pos.there) c.max-most.ensures
+          (round_sent s c.max-most.result (at_least_one c.args.flight) c.loop-pos.left c.loop-pos.pos c.args.there.now
+              c.loop-pos.there i.sent i.from (inl stopped)),
       i.counted,
     )
 
@@ -76,7 +79,7 @@ returns-in_err-count-clause-err g c =
     let n = c.loop-pos.pos - s.base in
     OnErr-always c.from_residual.result (
       n,
-      subst (SentPrefix s (most_of c.args.most) (most_of c.args.flight) n c.args.there.now) (sym same.0)
-          (subst (λ m. SentPrefix s m (most_of c.args.flight) n c.args.there.now c.loop-pos.there) c.max-most.ensures i.sent.prefix),
+      subst (SentPrefix s (at_least_one c.args.most) (at_least_one c.args.flight) n c.args.there.now) (sym same.0)
+          (subst (λ m. SentPrefix s m (at_least_one c.args.flight) n c.args.there.now c.loop-pos.there) c.max-most.ensures i.sent.prefix),
       same.1 ∙ i.counted,
     )

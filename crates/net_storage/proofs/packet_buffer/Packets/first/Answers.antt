@@ -9,7 +9,7 @@ returns-in-Some-header-clause-first g c =
     let m = c.self.inside.slots in
     let b = c.self.inside.bytes in
     let z = ap (λ q. first_gap q.packets) c.self.view_is ∙ c.requires in
-    let at = first_read (queue m) c.front.result.now 1 c.in-Some.slot.now c.front.ensures.value c.in-Some.ensures.value in
+    let at = first_read (queue m) c.head.result.now 1 c.in-Some.slot.now c.head.ensures.value c.in-Some.ensures.value in
     let size = front_long m b c.self.invariant z c.in-Some.slot.now at in
     let long = c.get_allocated.ensures.count ∙ ap (contiguous_queued_from b 0) size ∙ front_run m b c.self.invariant z in
     front_first m b c.self.invariant z c.in-Some.slot.now at c.in-Some-header.header c.in-Some-header.is _ long c.args.self.now c.self.view_is
@@ -19,7 +19,7 @@ returns-in-Some-header-clause-bytes g c =
     let m = c.self.inside.slots in
     let b = c.self.inside.bytes in
     let z = ap (λ q. first_gap q.packets) c.self.view_is ∙ c.requires in
-    let at = first_read (queue m) c.front.result.now 1 c.in-Some.slot.now c.front.ensures.value c.in-Some.ensures.value in
+    let at = first_read (queue m) c.head.result.now 1 c.in-Some.slot.now c.head.ensures.value c.in-Some.ensures.value in
     let size = front_long m b c.self.invariant z c.in-Some.slot.now at in
     let long = c.get_allocated.ensures.count ∙ ap (contiguous_queued_from b 0) size ∙ front_run m b c.self.invariant z in
     c.get_allocated.ensures.stored ∙ ap₂ (λ n p. take n (drop p b.storage)) long (front_at m b c.self.invariant z) ∙ ap first_bytes c.self.view_is

@@ -8,7 +8,7 @@ use Rattle.net_stream.specs.Counting.{with_fates, SameButRefused, with_payload}
 use Rattle.net_stream.specs.declared.counts.FrameCounts.{FrameCounts}
 use Rattle.net_stream.specs.Fates.{FatesSeen, fates_after, NextCome}
 use Rattle.net_stream.specs.Carrying.{PathSeen, IsUnderWay, ack_of}
-use Rattle.net_stream.specs.Sending.{most_of}
+use Rattle.net_stream.specs.Sending.{at_least_one}
 use Rattle.net_stream.specs.Links.{next_flight}
 use Rattle.net_stream.specs.Progress.{Reaches, HasRoom, after_ack_frames}
 use Rattle.net_stream.specs.Passing.{coming_of, late_of, receiver_after_all, acks_of}
@@ -203,7 +203,7 @@ returns-clause-round g c =
             ∙ sym (acked_append s b0.late (coming_of b0.fates b4.ahead));
         left = λ i. record {
           ahead = ok_frames.none i;
-          late = (ok_frames.returned ∙ (λ j. ok_late.none j ++ late_of (late.fates j) (late.ahead j))) i;
+          late = (ok_frames.put_late ∙ (λ j. ok_late.none j ++ late_of (late.fates j) (late.ahead j))) i;
           fates = (ok_frames.left ∙ (λ j. fates_after (length (late.ahead j)) (late.fates j))) i;
         };
         counted = counted;
@@ -213,7 +213,7 @@ returns-clause-round g c =
         flight = c.flight_after-self.ensures ∙ ap (next_flight c.args.self.now.limit c.args.self.now.flight) c.is_report_full.ensures;
         left_back = λ i. record {
           ahead = acks.none i;
-          late = (acks.returned ∙ (λ j. c.pass_late_acks.ensures.none j ++ late_of (back j) b4.ahead)) i;
+          late = (acks.put_late ∙ (λ j. c.pass_late_acks.ensures.none j ++ late_of (back j) b4.ahead)) i;
           fates = (acks.left ∙ ap (fates_after (length b4.ahead)) back) i;
         };
       };
@@ -254,5 +254,5 @@ returns-clause-round g c =
             base,
             λ all. (let next : stored_next r2 ≡ end_of s = omega (arith, far, size, all, below) in next, omega (arith, base, end5, far, size, all)),
           );
-      all = all_sent s (most_of c.args.self.now.payload) (most_of c.args.self.now.flight) n t0 t1 round;
+      all = all_sent s (at_least_one c.args.self.now.payload) (at_least_one c.args.self.now.flight) n t0 t1 round;
     }

@@ -1,4 +1,4 @@
-use Rattle.net_uses.proofs.udp_socket.look.Goals as goal
+use Rattle.net_uses.proofs.udp_socket.copy_first.Goals as goal
 
 pub returns-clause-shown : goal.returns-clause-shown
 returns-clause-shown c = record {

@@ -2,7 +2,7 @@ use Rattle.std.proofs.Common.{◌≤◌, ◌∙◌, min, ap, inl, inr, arith}
 use Rattle.net_storage.specs.Ring.{queue, contiguous_queued}
 use Rattle.net_storage.proofs.RingFacts.{well, shown_front, take_first, first_taken}
 use Rattle.net_storage.proofs.Rotations.{length-queue}
-use Rattle.net_storage.proofs.ring_buffer.Ring.front.Goals as goal
+use Rattle.net_storage.proofs.ring_buffer.Ring.head.Goals as goal
 
 pub returns-clause-value : goal.returns-clause-value
 returns-clause-value g c =
