@@ -179,7 +179,7 @@ impl<H, M: Elements<PacketMetadata<H>>, B: Elements<u8>> Packets<H, M, B> {
         ensures gap { result ≡ first_gap self.now.packets }
         ensures well_placed { WellPlaced self.now }
     {
-        match self.slots.front().first() {
+        match self.slots.head().first() {
             Some(slot) => { if slot.header.is_none() { slot.size } else { 0 } }
             None => 0,
         }
