@@ -133,7 +133,7 @@ fn each_request_for_memory_is_refused_in_turn(rt: HostRuntime) -> Result<(), Fai
     check_refusals(&rt, rt.alloc(), "stream 4 4 1000", &DIFFERING)
 }
 
-/// Whether a run over this memory ends without an error, and writes so many bytes.
+/// Whether a run over this memory ends without an error, writes so many bytes, and flushes nothing.
 fn writes_all(
     alloc: Global,
     memory: &Refusing,
@@ -150,7 +150,8 @@ fn writes_all(
         return false;
     };
     let mut source = Source::new(input);
-    run(memory, mode, &mut source, &mut sink).is_ok() && sink.bytes.len() == length
+    let is_ok = run(memory, mode, &mut source, &mut sink).is_ok();
+    is_ok && sink.bytes.len() == length && sink.flushes == 0
 }
 
 /// Refuses each request for memory of a run in turn: it makes so many, for at most so many bytes in

@@ -287,7 +287,7 @@ flushed old new held holds holds' taken bytes ended result kept after c =
     ⊎_elim
     (λ (e : result ≡ ended). subst (λ r. Copied old new held holds' taken bytes (is_ok r)) (sym e)
     (kept_copied old new held holds holds' taken bytes (is_ok ended) kept c))
-    (λ (e : result ≡ Err WriteFailed). subst (λ r. Copied old new held holds' taken bytes (is_ok r)) (sym e)
+    (λ (e : (is_ok ended ≡ true) × (result ≡ Err WriteFailed)). subst (λ r. Copied old new held holds' taken bytes (is_ok r)) (sym e.1)
     (less_copied old new held holds' taken bytes (is_ok ended) (kept_copied old new held holds holds' taken bytes (is_ok ended) kept c)))
     after
 
@@ -295,7 +295,7 @@ pub ok_after : {T : Type 0} (P : Type 0) (ended result : Result T LinkError) →
 ok_after P ended result after h =
     ⊎_elim
     (λ (e : result ≡ ended). subst (λ r. OnOk r P) (sym e) h)
-    (λ (e : result ≡ Err WriteFailed). subst (λ r. OnOk r P) (sym e) tt)
+    (λ (e : (is_ok ended ≡ true) × (result ≡ Err WriteFailed)). subst (λ r. OnOk r P) (sym e.1) tt)
     after
 
 pub gave_up_after : {T : Type 0} (P : Type 0) (ended result : Result T LinkError) → FlushedAfter ended result → IfErr ended (λ e. gave_up e ≡ true → P) →
@@ -303,5 +303,6 @@ pub gave_up_after : {T : Type 0} (P : Type 0) (ended result : Result T LinkError
 gave_up_after P ended result after h =
     ⊎_elim
     (λ (e : result ≡ ended). subst (λ r. IfErr r (λ e. gave_up e ≡ true → P)) (sym e) h)
-    (λ (e : result ≡ Err WriteFailed). subst (λ r. IfErr r (λ e. gave_up e ≡ true → P)) (sym e) (λ n. absurd (both_ways false refl n)))
+    (λ (e : (is_ok ended ≡ true) × (result ≡ Err WriteFailed)). subst (λ r. IfErr r (λ e. gave_up e ≡ true → P)) (sym e.1)
+    (λ n. absurd (both_ways false refl n)))
     after

@@ -10,6 +10,7 @@
 use Rattle.std.specs.Prelude.{◌≡◌, ℕ, List, ◌++◌, ◌+◌, ◌-◌, ◌<◌, ◌≤◌, ◌^◌, ◌⊎◌, [], length, take}
 use Rattle.std.specs.Prelude.{Bool, true, false, Option, Result, Err, min}
 use Rattle.std.specs.Io.{StartsWith}
+use Rattle.std.specs.Result.{is_ok}
 use Rattle.std.specs.Io.KnownBytes.{Appends, Consumes, IsAtEnd}
 use Rattle.net_receiver.specs.Stored.{Stored, stored_next}
 use Rattle.net_receiver.specs.OneStream.{ReceivesFrom}
@@ -91,6 +92,7 @@ pub record Stepped {A : Type 0} (old new : Link A) (room room' : ℕ) : Type 0 w
   pub drained : 0 < room → new.receiver.read ≡ old.receiver.read
       → length new.receiver.queue ≡ 0
 
--- how a copy ended, once its writer was flushed
+-- how a copy ended, once its writer was flushed: a flush that failed takes no other error's place
 abbrev pub FlushedAfter : {T : Type 0} → Result T LinkError → Result T LinkError → Type 0
-FlushedAfter ended result = (result ≡ ended) ⊎ (result ≡ Err WriteFailed)
+FlushedAfter ended result =
+    (result ≡ ended) ⊎ ((is_ok ended ≡ true) × (result ≡ Err WriteFailed))

@@ -149,6 +149,7 @@ fn each_refusal_ends_a_copy(rt: HostRuntime) -> Result<(), Fail> {
         (NEVER, 1, NEVER, None, "read failed", 6),
         (NEVER, NEVER, 0, None, "write failed", 0),
         (NEVER, NEVER, 1, None, "write failed", 4),
+        (NEVER, 1, NEVER, other, "read failed", 6),
         (NEVER, NEVER, NEVER, other, "write failed", 6),
         (NEVER, NEVER, NEVER, None, "Ok", 6),
     ];

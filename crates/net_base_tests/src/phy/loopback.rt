@@ -6,6 +6,7 @@ use net_base::phy::{Device, Medium, PacketMeta, RxToken as _, TxToken as _};
 use net_base::time::Instant;
 use net_testing::Refusing;
 use std::alloc::{AllocError, Allocator, Global};
+use std::cell::Cell;
 
 /// Loses the next frame by letting its token go, and lets a transmit token go.
 fn let_go(device: &mut Loopback) -> bool
@@ -107,11 +108,24 @@ fn its_tokens_have_no_metadata(rt: HostRuntime) {
     assert!(rt; sent && comes_unmarked(&mut device));
 }
 
+/// What a closure owns, to count how often one is called or let go.
+struct Owned<'c> {
+    drops: &'c Cell<u8>,
+}
+
+impl Drop for Owned<'_> {
+    fn drop(self) {
+        let Owned { drops } = self;
+        drops.set(drops.get().saturating_add(1));
+    }
+}
+
 /// What came of five frames that were sent in turn, of whose requests for memory one was refused.
 #[derive(Drop)]
 struct Outcome {
     sent: u8,
     ran: u8,
+    drops: u8,
     requests: usize,
     arrived: u8,
     is_over: bool,
@@ -122,10 +136,11 @@ struct Outcome {
 fn send_refused(alloc: Global, refused: usize) -> Outcome {
     let memory = Refusing::new(alloc, refused);
     let mut device = Loopback::new(&memory, Medium::Ip);
+    let drops = Cell::new(0);
     let mut sent = 0u8;
     let mut ran = 0u8;
     for number in 0..5 {
-        if !sends_number(&mut device, number, &mut ran) {
+        if !sends_number(&mut device, number, &mut ran, &drops) {
             break;
         }
         sent = sent.saturating_add(1);
@@ -133,6 +148,7 @@ fn send_refused(alloc: Global, refused: usize) -> Outcome {
     Outcome {
         sent,
         ran,
+        drops: drops.get(),
         requests: memory.requests(),
         arrived: count_arrived(&mut device, sent),
         is_over: is_over(&mut device),
@@ -140,14 +156,21 @@ fn send_refused(alloc: Global, refused: usize) -> Outcome {
 }
 
 /// Sends a frame of 200 bytes that are this number, by a closure that counts how often it is called,
-/// and returns whether there was memory for it.
-fn sends_number<A: Allocator + Copy>(device: &mut Loopback<A>, number: u8, ran: &mut u8) -> bool {
+/// and how often it is called or let go; returns whether there was memory for it.
+fn sends_number<A: Allocator + Copy>(
+    device: &mut Loopback<A>,
+    number: u8,
+    ran: &mut u8,
+    drops: &Cell<u8>,
+) -> bool {
     let token = device.transmit(Instant::ZERO).unwrap();
-    let answer = device.send(token, 200, |buffer| {
+    let owned = Owned { drops };
+    let sent = device.send(token, 200, move |buffer| {
+        drop(owned);
         *ran = ran.saturating_add(1);
         buffer.fill(number);
     });
-    answer.is_ok()
+    sent.is_ok()
 }
 
 /// Takes so many frames off, and returns how many are 200 bytes that are the frame's number.
@@ -161,10 +184,12 @@ fn count_arrived<A: Allocator + Copy>(device: &mut Loopback<A>, sent: u8) -> u8 
     arrived
 }
 
-/// Returns whether so many frames were sent and arrived, and no others, by so many requests.
+/// Returns whether so many frames were sent and arrived, and no others, by so many requests, and no
+/// closure was forgotten.
 fn is_expected(outcome: &Outcome, sent: u8, requests: usize) -> bool {
     outcome.sent == sent
         && outcome.ran == sent
+        && outcome.drops == sent.saturating_add(1).min(5)
         && outcome.requests == requests
         && outcome.arrived == sent
         && outcome.is_over

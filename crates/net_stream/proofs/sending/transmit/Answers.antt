@@ -54,7 +54,7 @@ returns-else-left-gt0-clause-sent g c =
       n,
       subst (λ m. SentRound s m (at_least_one c.args.flight) n c.args.there.now c.loop-pos.there) c.max-most.ensures
           (round_sent s c.max-most.result (at_least_one c.args.flight) c.loop-pos.left c.loop-pos.pos c.args.there.now
-              c.loop-pos.there i.sent i.from (inr none)),
+          c.loop-pos.there i.sent i.from (inr none)),
       i.counted,
     )
 
@@ -67,7 +67,7 @@ returns-after-loop-pos-clause-sent g c =
       n,
       subst (λ m. SentRound s m (at_least_one c.args.flight) n c.args.there.now c.loop-pos.there) c.max-most.ensures
           (round_sent s c.max-most.result (at_least_one c.args.flight) c.loop-pos.left c.loop-pos.pos c.args.there.now
-              c.loop-pos.there i.sent i.from (inl stopped)),
+          c.loop-pos.there i.sent i.from (inl stopped)),
       i.counted,
     )
 
