@@ -74,22 +74,8 @@ fn ring_refuses(alloc: Global, count: usize, drops: &Cell<u32>) -> Result<bool, 
     Ok(empty && next_is_refused(&mut ring, drops))
 }
 
-/// Returns whether `enqueue_with_infallible` is refused for so many bytes.
-fn placing_is_refused(
-    queue: &mut PacketBuffer<'_, u8>,
-    drops: &Cell<u32>,
-    max_size: usize,
-) -> bool {
-    let token = Counted { drops };
-    let answer = queue.enqueue_with_infallible(max_size, 0, move |_| {
-        drop(token);
-        0
-    });
-    answer == Err(Full)
-}
-
-/// Refuses a closure for want of packets, and one for want of room, in a queue of one slot and so
-/// many bytes; returns whether both were refused.
+/// Refuses a closure for want of packets, in a queue of one slot and so many bytes; returns whether
+/// it was refused.
 fn queue_refuses(alloc: Global, count: usize, drops: &Cell<u32>) -> Result<bool, Fail> {
     let mut slots = [PacketMetadata::<u8>::EMPTY];
     let bytes = vec![in alloc; 0u8; count]?;
@@ -97,8 +83,7 @@ fn queue_refuses(alloc: Global, count: usize, drops: &Cell<u32>) -> Result<bool,
         ManagedSlice::Borrowed(&mut slots),
         ManagedSlice::Owned(bytes),
     );
-    let empty = packet_is_refused(&mut queue, drops);
-    Ok(empty && placing_is_refused(&mut queue, drops, count.saturating_add(1)))
+    Ok(packet_is_refused(&mut queue, drops))
 }
 
 #[test]
@@ -108,7 +93,7 @@ fn refused_closures_are_dropped(rt: HostRuntime) -> Result<(), Fail> {
         assert!(rt; ring_refuses(rt.alloc(), count, &drops)?);
         assert_eq!(rt; drops.get(), 2);
         assert!(rt; queue_refuses(rt.alloc(), count, &drops)?);
-        assert_eq!(rt; drops.get(), 4);
+        assert_eq!(rt; drops.get(), 3);
     }
     Ok(())
 }
