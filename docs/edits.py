@@ -30,7 +30,7 @@ import tempfile
 ROOT = pathlib.Path(__file__).resolve().parent.parent
 CRATES = ROOT / "crates"
 OPEN_GOAL = re.compile(r"(src/\S+?):(\d+):\d+: .*?\(`([^`]*)(`?)")
-FAILED_ANSWER = re.compile(r"proofs/(\S+)/\w+\.antt:\d+:\d+: error: `([^`]*)`")
+FAILED_ANSWER = re.compile(r"proofs/(\S+)/\w+\.antt:\d+:\d+: error: (?:\d+ declarations that depend on )?`([^`]*)`")
 
 
 def lines_of(edit, word):
@@ -60,9 +60,11 @@ def function_at(text, line):
 
 
 def clause_of(goal):
-    """The clause that a goal belongs to, if it is one of what a function ensures."""
+    """The clause that a goal belongs to, if it is one of what a function ensures. A lemma beside the
+    answers that several of them cite is named by the clause that it states.
+    """
     if not goal.startswith("returns"):
-        return ""
+        return goal
     return goal.rpartition("clause-")[2] if "clause-" in goal else "ensures"
 
 
