@@ -133,21 +133,21 @@ def predicted(length, loss, seed, repeated, late, payload):
             status = 1
             break
         base, written = sender.base, receiver.written
-        frames, answers = sender.frames(payload, flight), []
+        frames, acks = sender.frames(payload, flight), []
         carried += sum(end - start for start, end in frames)
         for frame in there.take_late():
             receiver.come(*frame)
-            answers.append(receiver.acknowledgement())
+            acks.append(receiver.acknowledgement())
         for frame in frames:
             if there.comes(frame):
                 receiver.come(*frame)
-                answers.append(receiver.acknowledgement())
-        answers.append(receiver.acknowledgement())
-        for answer in back.take_late():
-            sender.take(*answer)
-        for answer in answers:
-            if back.comes(answer):
-                sender.take(*answer)
+                acks.append(receiver.acknowledgement())
+        acks.append(receiver.acknowledgement())
+        for ack in back.take_late():
+            sender.take(*ack)
+        for ack in acks:
+            if back.comes(ack):
+                sender.take(*ack)
         full = len(sender.ranges) == MOST_RUNS
         flight = max(flight // 2, MOST_RUNS) if full else min(flight + 32, MOST_FRAMES)
         receiver.written = receiver.next

@@ -114,12 +114,12 @@ def whole_runs(bench, plain, count, samples):
         flags = ["--sack"] if b"sack" in shown else []
         sides = [[bench, *mode], [plain, *flags, *mode], [plain, *flags, *mode]]
         data = lines.encode()
-        times, answers = ([], [], []), [None, None, None]
+        times, results = ([], [], []), [None, None, None]
         for sample in range(samples):
             for side in [0, 1, 2] if sample % 2 == 0 else [2, 1, 0]:
-                took, answers[side] = whole_run(sides[side], data)
+                took, results[side] = whole_run(sides[side], data)
                 times[side].append(took)
-        if answers[0] != answers[1]:
+        if results[0] != results[1]:
             differ.append(title)
         pairs, noise = (statistics.median(a / b for a, b in zip(times[side], times[1])) for side in (0, 2))
         here, original = statistics.median(times[0]), statistics.median(times[1])

@@ -54,7 +54,7 @@ struct Runs<A>(A);
 impl<A: Assembler + Display> Mode for Runs<A> {
     fn line(&mut self, words: &[&[u8]], out: &mut dyn Write) -> Option<io::Result<()>> {
         let pair = |offset, size| Some((number(offset)? as usize, number(size)? as usize));
-        let answer = match *words {
+        let result = match *words {
             [b"a", offset, size] => {
                 let (offset, size) = pair(offset, size)?;
                 self.0.add(offset, size).map(|()| None)
@@ -67,7 +67,7 @@ impl<A: Assembler + Display> Mode for Runs<A> {
             [b"p"] => return Some(writeln!(out, "{}", self.0)),
             _ => return None,
         };
-        Some(match answer {
+        Some(match result {
             None => writeln!(out, "refused too many holes"),
             Some(None) => writeln!(out, "ok"),
             Some(Some(front)) => writeln!(out, "front {front}"),
@@ -92,13 +92,13 @@ impl<A: Assembler> Mode for Stream<A> {
         Some(match *words {
             [b"s", position, hex] => match receiver.segment(number(position)?, &bytes(hex)?) {
                 None => writeln!(out, "refused too many holes"),
-                Some(answer) if self.sack => {
+                Some(result) if self.sack => {
                     let mut held = receiver.held();
                     held.truncate(3);
                     let runs = runs_text(&held);
-                    writeln!(out, "kept {} queued {} sack {runs}", answer.kept, answer.queued)
+                    writeln!(out, "kept {} queued {} sack {runs}", result.kept, result.queued)
                 }
-                Some(answer) => writeln!(out, "kept {} queued {}", answer.kept, answer.queued),
+                Some(result) => writeln!(out, "kept {} queued {}", result.kept, result.queued),
             },
             [b"r", count] => {
                 let mut some = vec![0; number(count)?.min(receiver.queued() as u64) as usize];

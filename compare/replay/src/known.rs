@@ -31,25 +31,25 @@ fn ring(d: &Difference, capacity: usize) -> Option<&'static str> {
         16 => mix(mix_bytes(START, &[0; 64]), 0),
         _ => return None,
     };
-    let stays = d.port == Seen { answer: nothing, ..d.before };
-    (d.call.a > capacity as u64 && d.original.answer == FORBIDDEN && stays)
-        .then_some("ring: an offset so large that smoltcp's sum overflows; here the answer is empty or 0")
+    let stays = d.port == Seen { result: nothing, ..d.before };
+    (d.call.a > capacity as u64 && d.original.result == FORBIDDEN && stays)
+        .then_some("ring: an offset so large that smoltcp's sum overflows; here nothing is lent")
 }
 
 fn packets(d: &Difference) -> Option<&'static str> {
-    let port_stays = d.port == Seen { answer: REFUSED, ..d.before };
+    let port_stays = d.port == Seen { result: REFUSED, ..d.before };
     let more_held = d.original.held > d.before.held;
     if !matches!(d.call.number, 0 | 1 | 7) {
         None
-    } else if d.original.answer == REFUSED && port_stays && more_held {
+    } else if d.original.result == REFUSED && port_stays && more_held {
         Some("packet queue: a refusal that leaves its padding behind in smoltcp")
-    } else if d.call.number != 1 || d.before.held != 0 || d.port.answer <= REFUSED {
+    } else if d.call.number != 1 || d.before.held != 0 || d.port.result <= REFUSED {
         None
-    } else if d.original.answer == REFUSED && more_held {
+    } else if d.original.result == REFUSED && more_held {
         Some(
             "packet queue: enqueue_with_infallible into no bytes is Full in smoltcp, with its padding left behind",
         )
-    } else if d.original.answer == REFUSED {
+    } else if d.original.result == REFUSED {
         Some("packet queue: enqueue_with_infallible into no bytes is Full in smoltcp")
     } else if d.original.held > d.port.held {
         Some("packet queue: enqueue_with_infallible into no bytes leaves a gap in smoltcp")
@@ -60,7 +60,7 @@ fn packets(d: &Difference) -> Option<&'static str> {
 
 fn assembler(d: &Difference) -> Option<&'static str> {
     let fits = d.call.a.checked_add(d.call.b).is_some();
-    let port_stays = d.port == Seen { answer: FORBIDDEN, ..d.before };
+    let port_stays = d.port == Seen { result: FORBIDDEN, ..d.before };
     (d.call.number <= 1 && !fits && port_stays)
         .then_some("assembler: a range that ends above 2^64 - 1, which a condition forbids here")
 }
@@ -69,14 +69,14 @@ fn time(d: &Difference) -> Option<&'static str> {
     let (a, b) = (i128::from(d.call.a as i64), i128::from(d.call.b));
     let cast = b > i128::from(i64::MAX);
     match d.call.number {
-        3 if cast && d.port.answer == exact_moment(a + b) => {
+        3 if cast && d.port.result == exact_moment(a + b) => {
             Some("time: Instant + Duration, a Duration that smoltcp casts to i64; exact or forbidden here")
         }
-        4 if cast && d.port.answer == exact_moment(a - b) => {
+        4 if cast && d.port.result == exact_moment(a - b) => {
             Some("time: Instant - Duration, a Duration that smoltcp casts to i64; exact or forbidden here")
         }
-        5 if d.original.answer == FORBIDDEN
-            && d.port.answer == exact_distance((d.call.a as i64).abs_diff(d.call.b as i64)) =>
+        5 if d.original.result == FORBIDDEN
+            && d.port.result == exact_distance((d.call.a as i64).abs_diff(d.call.b as i64)) =>
         {
             Some("time: Instant - Instant, a distance that overflows in smoltcp; exact here")
         }

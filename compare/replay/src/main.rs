@@ -48,12 +48,12 @@ impl Counts {
 
     /// Counts a script of which the calls before that of number `end` were equal, and what `seen` says of them.
     fn count(&mut self, title: (&'static str, &'static str), script: &Script, seen: &[Seen], end: usize) {
-        let forbidden = seen[..end].iter().filter(|seen| seen.answer == FORBIDDEN).count();
+        let forbidden = seen[..end].iter().filter(|seen| seen.result == FORBIDDEN).count();
         add(&mut self.kinds, title, [1, end as u64, forbidden as u64, 0]);
         if let Subject::Assembler { runs } = script.subject {
             for at in (1..end).filter(|&at| seen[at - 1].held == runs as u64) {
                 let (number, fell) = (script.calls[at].number, runs as u64 - seen[at].held);
-                let refused = seen[at].answer == REFUSED;
+                let refused = seen[at].result == REFUSED;
                 let removed = matches!(number, 1 | 2) && fell == 1;
                 let joined = number <= 1 && fell > 1 && 2 * fell >= runs as u64;
                 add(&mut self.full, runs, [1, refused.into(), removed.into(), joined.into()]);
@@ -155,7 +155,7 @@ fn show(script: &Script) {
             println!("They differ in what is taken off at the end.");
         }
         for (what, port, original) in [
-            ("answer", port.answer, original.answer),
+            ("result", port.result, original.result),
             ("state", port.state, original.state),
             ("held", port.held, original.held),
         ] {

@@ -55,11 +55,11 @@ fn replay(mut subject: impl Replayed, calls: &[Call]) -> Vec<Seen> {
     CALLING.set(true);
     let mut seen = Vec::with_capacity(calls.len() + 1);
     seen.extend(calls.iter().map(|&call| Seen {
-        answer: caught(&mut || subject.make(Global, call)),
+        result: caught(&mut || subject.make(Global, call)),
         state: caught(&mut || subject.state(Global)),
         held: caught(&mut || subject.held()),
     }));
-    seen.push(Seen { answer: caught(&mut || subject.drain()), ..Seen::default() });
+    seen.push(Seen { result: caught(&mut || subject.drain()), ..Seen::default() });
     CALLING.set(false);
     seen
 }
@@ -155,18 +155,18 @@ pub struct Assembler<const N: usize>(Build);
 
 /// What an expression is for smoltcp's own assembler.
 macro_rules! with {
-    ($self:ident, $runs:ident => $answer:expr) => {
+    ($self:ident, $runs:ident => $result:expr) => {
         match $self.0 {
-            Build::One(ref $runs) => $answer,
-            Build::Four(ref $runs) => $answer,
-            Build::ThirtyTwo(ref $runs) => $answer,
+            Build::One(ref $runs) => $result,
+            Build::Four(ref $runs) => $result,
+            Build::ThirtyTwo(ref $runs) => $result,
         }
     };
-    (mut $self:ident, $runs:ident => $answer:expr) => {
+    (mut $self:ident, $runs:ident => $result:expr) => {
         match $self.0 {
-            Build::One(ref mut $runs) => $answer,
-            Build::Four(ref mut $runs) => $answer,
-            Build::ThirtyTwo(ref mut $runs) => $answer,
+            Build::One(ref mut $runs) => $result,
+            Build::Four(ref mut $runs) => $result,
+            Build::ThirtyTwo(ref mut $runs) => $result,
         }
     };
 }

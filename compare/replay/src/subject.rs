@@ -37,15 +37,15 @@ impl Subject {
             Subject::Ring { .. } => &[
                 "enqueue_one", "dequeue_one", "enqueue_many", "dequeue_many", "enqueue_slice",
                 "dequeue_slice", "clear", "enqueue_many_with", "dequeue_many_with",
-                "enqueue_one_with answering Ok", "dequeue_one_with answering Ok",
-                "enqueue_one_with answering Err", "dequeue_one_with answering Err", "get_unallocated",
+                "enqueue_one_with returning Ok", "dequeue_one_with returning Ok",
+                "enqueue_one_with returning Err", "dequeue_one_with returning Err", "get_unallocated",
                 "write_unallocated", "get_allocated", "read_allocated", "enqueue_unallocated",
                 "dequeue_allocated",
             ],
             Subject::Cells { .. } => &["enqueue_one", "dequeue_one", "reset"],
             Subject::Packets { .. } => &[
-                "enqueue", "enqueue_with_infallible", "dequeue", "dequeue_with answering Ok",
-                "dequeue_with answering Err", "peek", "reset", "push_slice", "pop_slice",
+                "enqueue", "enqueue_with_infallible", "dequeue", "dequeue_with returning Ok",
+                "dequeue_with returning Err", "peek", "reset", "push_slice", "pop_slice",
             ],
             Subject::Assembler { .. } => {
                 &["add", "add_then_remove_front", "remove_front", "clear", "clone", "== the clone"]

@@ -2,7 +2,7 @@
 use Rattle.std.specs.Prelude.{ℕ, List}
 
 -- one frame was taken off the device, and then that very frame was sent
-abbrev pub Echoed : {D : Type 0} → (D → List ℕ → D → Type 0) → (D → List ℕ → D → Type 0)
+abbrev pub Echoes : {D : Type 0} → (D → List ℕ → D → Type 0) → (D → List ℕ → D → Type 0)
     → D → D → Type 0
-Echoed {D} taken sent old new =
+Echoes {D} taken sent old new =
     (frame : List ℕ) × (between : D) × taken old frame between × sent between frame new

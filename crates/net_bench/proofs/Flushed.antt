@@ -14,7 +14,7 @@ use Rattle.net_lines.specs.declared.error.BenchError.{BenchError}
 use Rattle.net_lines.specs.declared.error.BenchError.TheVariants.{BadCommand, RangeTooLong, LineTooLong}
 use Rattle.net_lines.specs.declared.error.BenchError.TheVariants.{TooManySchedules, OutOfMemory}
 use Rattle.net_lines.specs.declared.error.BenchError.TheVariants.{ReadFailed, WriteFailed}
-use Rattle.net_bench.specs.Serving.{error_line, status_of, FlushedResult, FailedInput}
+use Rattle.net_bench.specs.Serving.{error_line, status_of, FlushesAfter, FailsOnInput}
 
 abbrev is_done : Status → Bool
 is_done Done = true
@@ -74,7 +74,7 @@ unflushed all (Some input) left old new (Ok done) is_ok h = record {
 
 -- what is left of a run and a flush behind it
 module _ (all : Transcript) (before left old mid new : Option (List ℕ)) where
-  flushed : (r r' : Result (Unit {0}) BenchError) → Keeps mid new → FlushedResult r r' →
+  flushed : (r r' : Result (Unit {0}) BenchError) → Keeps mid new → FlushesAfter r r' →
       Ends all before left old mid r → Ends all before left old new r'
   flushed r r' k after h =
       ⊎_elim
@@ -84,7 +84,7 @@ module _ (all : Transcript) (before left old mid new : Option (List ℕ)) where
       (unflushed all before left old new r e.0 (kept_ends all before left old mid new r k h)))
       after
 
-  pub flushed_ok : (r r' : Result (Unit {0}) BenchError) → Keeps mid new → FlushedResult r r' →
+  pub flushed_ok : (r r' : Result (Unit {0}) BenchError) → Keeps mid new → FlushesAfter r r' →
       OnOk r (Ran all before old mid)
       → IfErr r (λ e. IfSome before (λ input. ErrorOfInput all input left old mid e))
       → status_of r' ≡ Done → Ran all before old new
@@ -93,16 +93,16 @@ module _ (all : Transcript) (before left old mid new : Option (List ℕ)) where
   flushed_ok r (Err e) k after ok err is = absurd (true≢false (sym (ap is_done is)))
 
   pub flushed_err : (r r' : Result (Unit {0}) BenchError) (said says : Option (List ℕ))
-      (told : Bool) → Keeps mid new → FlushedResult r r' → OnOk r (Ran all before old mid)
+      (told : Bool) → Keeps mid new → FlushesAfter r r' → OnOk r (Ran all before old mid)
       → IfErr r (λ e. IfSome before (λ input. ErrorOfInput all input left old mid e))
       → IfErr r' (λ e. told ≡ true → Appends said says (error_line e))
-      → status_of r' ≡ Failed → FailedInput all before left old new said says told
+      → status_of r' ≡ Failed → FailsOnInput all before left old new said says told
   flushed_err r (Ok done) said says told k after ok err line is =
       absurd (true≢false (ap is_done is))
   flushed_err r (Err e) said says told k after ok err line is =
       named before (flushed r (Err e) k after (ends all before left old mid r ok err))
     where
       named : (b : Option (List ℕ)) → IfSome b (λ input. ErrorOfInput all input left old new e) →
-          FailedInput all b left old new said says told
+          FailsOnInput all b left old new said says told
       named None h = tt
       named (Some input) h = (e, h, line)

@@ -1,8 +1,8 @@
 -- What comes of a call of `run`, and what standard error says.
 --     usage_line, error_line e      the line for words that name no mode, and for an error
 --     status_of outcome      the status after this result of `run`
---     FlushedResult outcome result      the result of `run`, and that once its writer was flushed
---     FailedInput all before left old new said says told      what an error says of the input, of what
+--     FlushesAfter outcome result      the result of `run`, and that once its writer was flushed
+--     FailsOnInput all before left old new said says told      what an error says of the input, of what
 --         the writer has, and of standard error, before and after
 use Rattle.std.specs.Prelude.{◌≡◌, ℕ, List, ◌++◌, ◌⊎◌, Option, IfSome, Bool, true}
 use Rattle.std.specs.Prelude.{Result, Ok, Err, IsOk, codes}
@@ -25,13 +25,13 @@ status_of (Ok t) = Done
 status_of (Err e) = Failed
 
 -- a flush that fails where `run` returned no error is a failed write
-abbrev pub FlushedResult : {T : Type 0} → Result T BenchError → Result T BenchError → Type 0
-FlushedResult outcome result = (result ≡ outcome) ⊎ (IsOk outcome × (result ≡ Err WriteFailed))
+abbrev pub FlushesAfter : {T : Type 0} → Result T BenchError → Result T BenchError → Type 0
+FlushesAfter outcome result = (result ≡ outcome) ⊎ (IsOk outcome × (result ≡ Err WriteFailed))
 
 -- if the input is known, `run` returned an error that says all this; and if standard error took the
 -- line, it is that error's
-abbrev pub FailedInput : Transcript → Option (List ℕ) → Option (List ℕ) → Option (List ℕ) →
+abbrev pub FailsOnInput : Transcript → Option (List ℕ) → Option (List ℕ) → Option (List ℕ) →
     Option (List ℕ) → Option (List ℕ) → Option (List ℕ) → Bool → Type 0
-FailedInput all before left old new said says told = IfSome before (λ input.
+FailsOnInput all before left old new said says told = IfSome before (λ input.
     (e : BenchError) × ErrorOfInput all input left old new e
     × (told ≡ true → Appends said says (error_line e)))

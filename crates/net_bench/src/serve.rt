@@ -3,7 +3,8 @@ ghost use Rattle.std.specs.Prelude.{◌≡◌, ◌↔◌, map, IfSome, OnOk, IfE
 ghost use Rattle.std.specs.Io.KnownBytes.{Appends, Keeps};
 ghost use Rattle.net_program.specs.declared.ending.Status.TheVariants.{Done, Failed, Misused};
 ghost use Rattle.net_lines.specs.Modes.{output, fault, mode_of, transcript_of};
-ghost use Rattle.net_bench.specs.Serving.{usage_line, error_line, status_of, FailedInput, FlushedResult};
+ghost use Rattle.net_bench.specs.Serving.{usage_line, error_line, status_of};
+ghost use Rattle.net_bench.specs.Serving.{FailsOnInput, FlushesAfter};
 
 use net_lines::{BenchError, Mode, run};
 use net_program::{Ended, Status};
@@ -37,7 +38,7 @@ pub fn serve<A: Allocator + Copy, R: Read, W: Write, E: Write>(
     ensures quiet { result.status ≡ Done →
         (result.is_told ≡ true) × Keeps (E.contents errors.old) (E.contents errors.new) }
     ensures err { result.status ≡ Failed → IfSome (mode_of (map string_bytes words.now)) (λ mode.
-        FailedInput (transcript_of mode) (R.remaining reader.old) (R.remaining reader.new)
+        FailsOnInput (transcript_of mode) (R.remaining reader.old) (R.remaining reader.new)
         (W.contents writer.old) (W.contents writer.new)
         (E.contents errors.old) (E.contents errors.new) result.is_told) }
 {
@@ -56,7 +57,7 @@ pub fn serve<A: Allocator + Copy, R: Read, W: Write, E: Write>(
 /// Flushes the writer after `run`. A flush that fails where `run` returned Ok is a failed write.
 fn flush_after<W: Write>(outcome: Result<(), BenchError>, writer: &mut W) -> Result<(), BenchError>
     ensures kept { Keeps (W.contents writer.old) (W.contents writer.new) }
-    ensures run { FlushedResult outcome result }
+    ensures run { FlushesAfter outcome result }
 {
     let flushed = writer.flush();
     if outcome.is_ok() && flushed.is_err() {

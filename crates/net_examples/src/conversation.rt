@@ -22,9 +22,9 @@ pub fn ask<A: Allocator + Copy>(
 ) -> Result<Option<usize>, AllocError>
     requires to_server { Carries 0 [] to_server.old × (to_server.old.receiver.read ≡ 0) }
     requires to_client { Carries 0 [] to_client.old × (to_client.old.receiver.read ≡ 0) }
-    ensures request { IfOk result (λ answer. IfSome answer
+    ensures request { IfOk result (λ came. IfSome came
         (λ _. AgreeBelow (length request.now) at_server.new request.now)) }
-    ensures reply { IfOk result (λ answer. IfSome answer
+    ensures reply { IfOk result (λ came. IfSome came
         (λ count. (count ≤ length reply.now) × AgreeBelow count at_client.new reply.now)) }
 {
     let heard = deliver(to_server, request, at_server, rounds)?;

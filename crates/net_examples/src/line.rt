@@ -1,6 +1,7 @@
 ghost use Rattle.std.specs.Prelude.{◌≡◌, length, List, ℕ};
 ghost use Rattle.std.specs.Borrow.{sem};
-ghost use Rattle.net_storage.specs.Ring.{contiguous_window_from, spare_index, with_elements, SpareWritten};
+ghost use Rattle.net_storage.specs.Ring.{contiguous_window_from, spare_index, with_elements};
+ghost use Rattle.net_storage.specs.Ring.{WritesSpare};
 
 use net_storage::{Elements, Ring};
 
@@ -19,7 +20,7 @@ impl<S: Elements<u8>> Line<S> {
         ensures count { length result.now ≡ contiguous_window_from self.old.ring offset size }
         ensures written { (ws : List ℕ)
             → length ws ≡ contiguous_window_from self.old.ring offset size
-            → SpareWritten self.old.ring offset ws
+            → WritesSpare self.old.ring offset ws
             (with_elements self.old.ring (spare_index self.old.ring offset) ws) }
     {
         self.ring.get_unallocated(offset, size)

@@ -1,8 +1,8 @@
 ghost use Rattle.std.specs.Prelude.{◌≡◌, ◌+◌, ◌-◌, ◌^◌, ◌<◌, ◌≤◌, true, IfErr};
 ghost use Rattle.std.specs.Result.{is_ok};
-ghost use Rattle.net_stream.specs.Copying.{Copied, gave_up};
+ghost use Rattle.net_stream.specs.Copying.{Copies, gave_up};
 
-use net_stream::{Counts, Fates, LinkError, Rates, Settings, copy};
+use net_stream::{Config, Counts, Fates, LinkError, Rates, copy};
 use std::alloc::Allocator;
 use std::io::{Read, Write};
 
@@ -14,7 +14,7 @@ pub fn over_a_bad_link<A: Allocator + Copy, R: Read, W: Write>(
     writer: &mut W,
     counts: &mut Counts,
 ) -> Result<(), LinkError>
-    ensures copied { Copied (R.remaining reader.old) (R.remaining reader.new)
+    ensures copied { Copies (R.remaining reader.old) (R.remaining reader.new)
         (W.contents writer.old) (W.contents writer.new)
         counts.new.taken counts.new.bytes (is_ok result) }
     ensures gave_up { IfErr result (λ e. gave_up e ≡ true → counts.new.taken < 2 ^ 64 - 1
@@ -25,7 +25,7 @@ pub fn over_a_bad_link<A: Allocator + Copy, R: Read, W: Write>(
         repeated: 0,
         late: 0,
     };
-    let settings = Settings {
+    let config = Config {
         first: 0,
         capacity: 65_536,
         payload: 1_400,
@@ -34,5 +34,5 @@ pub fn over_a_bad_link<A: Allocator + Copy, R: Read, W: Write>(
     };
     let fates = Fates::new(&[], 1, rates);
     let ack_fates = Fates::new(&[], 2, rates);
-    copy(alloc, settings, fates, ack_fates, reader, writer, counts)
+    copy(alloc, config, fates, ack_fates, reader, writer, counts)
 }

@@ -66,7 +66,7 @@ without_empty_last-append [] y ys = refl
 without_empty_last-append (x ∷ []) y ys = refl
 without_empty_last-append (x ∷ z ∷ xs) y ys = ap (λ t. x ∷ t) (without_empty_last-append (z ∷ xs) y ys)
 
--- lines in front of a text are its first lines
+-- lines before a text are its first lines
 pub lines-from_parts : (text : List ℕ) (lines : List (List ℕ)) (rest : List ℕ) →
     parts_of text ≡ lines ++ parts_of rest → lines_of text ≡ lines ++ lines_of rest
 lines-from_parts text lines rest e =
@@ -87,12 +87,12 @@ parts-feed line bytes rest none none' =
     ∙ slice_split_at (λ b. b == 10) (line ++ bytes) 10 rest (All-append (λ b. (b == 10) ≡ false) line bytes none none') refl
 
 -- a text that begins with bytes other than a line feed
-pub parts-front : (line rest part : List ℕ) (parts : List (List ℕ)) → HasNoFeed line →
+pub parts-prefix : (line rest part : List ℕ) (parts : List (List ℕ)) → HasNoFeed line →
     parts_of rest ≡ part ∷ parts → parts_of (line ++ rest) ≡ (line ++ part) ∷ parts
-parts-front [] rest part parts none e = e
-parts-front (b ∷ line) rest part parts none e =
+parts-prefix [] rest part parts none e = e
+parts-prefix (b ∷ line) rest part parts none e =
     slice_split-cons_no (λ b. b == 10) b (line ++ rest) (All-head (λ b. (b == 10) ≡ false) b line none)
-    ∙ ap (onto_first b) (parts-front line rest part parts (All-tail (λ b. (b == 10) ≡ false) b line none) e)
+    ∙ ap (onto_first b) (parts-prefix line rest part parts (All-tail (λ b. (b == 10) ≡ false) b line none) e)
 
 -- a part that is not empty is a line
 pub lines-nonempty : (text part : List ℕ) (parts : List (List ℕ)) (b : ℕ) →

@@ -1,4 +1,4 @@
--- Replies that are pending, and fronts that were written.
+-- Replies that are pending, and prefixes that were written.
 use Rattle.std.proofs.Common.{◌≡◌, ℕ, List, [], ◌∷◌, ◌++◌, Option, refl, sym, ◌∙◌, ap, append_assoc}
 use Rattle.std.specs.Io.{StartsWith}
 use Rattle.std.specs.Io.KnownBytes.{Appends}
@@ -44,7 +44,7 @@ Gathers-out a b c p q xs f w = record {
 pub Gathers-written : (a b : Option (List ℕ)) (xs : List ℕ) → Gathers a [] b [] xs → Appends a b xs
 Gathers-written a b xs f = rw (f.whole ∙ append-nil f.written) f.appended
 
--- a front of what comes after a text
+-- a prefix of what comes after a text
 pub AppendsPrefix-after : (a b c : Option (List ℕ)) (p q xs more : List ℕ) →
     Gathers a p b q xs → AppendsPrefix b c (q ++ more) → AppendsPrefix a c (p ++ (xs ++ more))
 AppendsPrefix-after a b c p q xs more f w = record {
@@ -58,7 +58,7 @@ AppendsPrefix-after a b c p q xs more f w = record {
         sym (append_assoc p xs more) ∙ ap (λ t. t ++ more) f.whole
         ∙ append_assoc f.written q more
 
--- what was pending was written, and then a front of the text
+-- what was pending was written, and then a prefix of the text
 pub AppendsPrefix-behind : (a b c : Option (List ℕ)) (p xs : List ℕ) →
     Appends a b p → AppendsPrefix b c xs → AppendsPrefix a c (p ++ xs)
 AppendsPrefix-behind a b c p xs w f = record {
@@ -67,7 +67,7 @@ AppendsPrefix-behind a b c p xs w f = record {
   appended = Appends-two a b c p f.written _ w f.appended refl;
 }
 
--- a front of a text is one of a longer text
+-- a prefix of a text is one of a longer text
 pub AppendsPrefix-more : (xs more : List ℕ) (a b : Option (List ℕ)) →
     AppendsPrefix a b xs → AppendsPrefix a b (xs ++ more)
 AppendsPrefix-more xs more a b w =
@@ -80,7 +80,7 @@ AppendsPrefix-more xs more a b w =
       appended = w.appended;
     }
 
--- a front of what is pending after a text
+-- a prefix of what is pending after a text
 pub AppendsPrefix-out : (a b c : Option (List ℕ)) (p q xs : List ℕ) →
     Gathers a p b q xs → AppendsPrefix b c q → AppendsPrefix a c (p ++ xs)
 AppendsPrefix-out a b c p q xs f w = record {
@@ -98,7 +98,7 @@ AppendsPrefix-kept a b c xs w h = record {
   appended = Appends-two a b c w.written [] _ w.appended h (append-nil w.written);
 }
 
--- a front of nothing is nothing
+-- a prefix of nothing is nothing
 pub StartsWith-none : (xs : List ℕ) → StartsWith [] xs → xs ≡ []
 StartsWith-none [] h = refl
 StartsWith-none (x ∷ xs) h = sym h

@@ -21,7 +21,7 @@ use Rattle.net_program.proofs.KnownBytes.{Keeps-same, Consumes-two, Consumes-non
 use Rattle.net_lines.proofs.Pending.{Gathers-two, Gathers-same, Gathers-out, Gathers-written}
 use Rattle.net_lines.proofs.Pending.{AppendsPrefix-after, AppendsPrefix-more, AppendsPrefix-out}
 use Rattle.net_lines.proofs.Pending.{AppendsPrefix-kept, StartsWith-none}
-use Rattle.net_lines.proofs.LineParts.{feed-found, parts-cons, parts-feed, parts-front}
+use Rattle.net_lines.proofs.LineParts.{feed-found, parts-cons, parts-feed, parts-prefix}
 use Rattle.net_lines.proofs.LineParts.{lines-from_parts, lines-nonempty, lines-one, ended-from_parts}
 use Rattle.net_lines.proofs.LineParts.{ended-none, unended-from_parts}
 
@@ -112,12 +112,12 @@ PendingError-long_line rules closing n state line more old p long =
     (rw e refl, rw e (Gathers-same old p))
 
 -- the beginning of a line that is too long, whatever comes after it
-pub PendingError-long_front : {S : Type 0} (rules : Rules S) (closing : S → List ℕ) (n : ℕ) (state : S)
+pub PendingError-long_prefix : {S : Type 0} (rules : Rules S) (closing : S → List ℕ) (n : ℕ) (state : S)
     (line rest : List ℕ) (old : Option (List ℕ)) (p : List ℕ) → HasNoFeed line → 4096 < length line →
     PendingError (transcript rules closing n state) (lines_of (line ++ rest)) old p old p (LineTooLong n)
-PendingError-long_front rules closing n state line rest old q none long =
+PendingError-long_prefix rules closing n state line rest old q none long =
     let p = parts-cons rest in
-    whole (line ++ p.0) p.1 (parts-front line rest p.0 p.1 none p.2) (omega (arith, length-append line p.0))
+    whole (line ++ p.0) p.1 (parts-prefix line rest p.0 p.1 none p.2) (omega (arith, length-append line p.0))
   where
     whole : (part : List ℕ) (parts : List (List ℕ)) → parts_of (line ++ rest) ≡ part ∷ parts →
         4096 < length part → PendingError (transcript rules closing n state) (lines_of (line ++ rest))
@@ -191,11 +191,11 @@ pub AfterLines-long : {S : Type 0} (rules : Rules S) (closing : S → List ℕ) 
 AfterLines-long rules closing bytes rest n state line n' state' line' more old new p q e t none h =
     rw (t.whole, append_assoc t.done rest more, h.0) (PendingError-after rules closing t.done n state
     line n' state' line' t.text (rest ++ more) old new new p q q (LineTooLong n') t.goes t.gathered
-    (rw (← append_assoc line' rest more) (PendingError-long_front rules closing n' state' (line' ++ rest) more new q none h.1)))
+    (rw (← append_assoc line' rest more) (PendingError-long_prefix rules closing n' state' (line' ++ rest) more new q none h.1)))
 
 -- ---- the end of the input
 
--- what `is_empty` answers of a vector
+-- what `is_empty` returns for a vector
 pub nonempty : (n : ℕ) (xs : List ℕ) (r : _) → n ≡ length xs → r ≡ (n == 0) → (r ≡ false) → 0 < length xs
 nonempty n xs r len e h = let t : (n == 0) ≡ false = sym e ∙ h in grind (arith, nat_tests)
 
@@ -239,18 +239,18 @@ last-err rules closing n state line n' state' line' old mid new p q r e some non
 
 -- ---- what is pending is written
 
--- the replies of some lines are a front of the text
-replies-front : {S : Type 0} (rules : Rules S) (closing : S → List ℕ) (state : S) (k : ℕ)
+-- the replies of some lines are a prefix of the text
+replies-prefix : {S : Type 0} (rules : Rules S) (closing : S → List ℕ) (state : S) (k : ℕ)
     (lines : List (List ℕ)) → (rest : List ℕ) × (text_of rules closing state lines ≡ replies_of rules
     state (take k lines) ++ rest)
-replies-front rules closing state zero lines = (text_of rules closing state lines, refl)
-replies-front rules closing state (suc k) [] = (closing state, refl)
-replies-front rules closing state (suc k) (line ∷ lines) =
+replies-prefix rules closing state zero lines = (text_of rules closing state lines, refl)
+replies-prefix rules closing state (suc k) [] = (closing state, refl)
+replies-prefix rules closing state (suc k) (line ∷ lines) =
     elim (line_step rules state line) as (λ v. (rest : List ℕ) ×
     (by_step (λ next reply. reply ++ text_of rules closing next lines) (λ _. []) v ≡ by_step
     (λ next reply. reply ++ replies_of rules next (take k lines)) (λ _. []) v ++ rest)) [
       | Ok next ↦
-          let f = replies-front rules closing next.0 k lines in
+          let f = replies-prefix rules closing next.0 k lines in
           (f.0, ap (λ t. next.1 ++ t) f.1 ∙ sym (append_assoc next.1 (replies_of rules next.0 (take k lines)) f.0))
       | Err fault ↦ ([], refl)
     ]
@@ -277,7 +277,7 @@ PendingError-failed rules closing n state lines old mid new p q (RangeTooLong m)
 PendingError-failed rules closing n state lines old mid new p q (LineTooLong m) h w = (refl, AppendsPrefix-out old mid new p q _ h.1 w)
 PendingError-failed rules closing n state lines old mid new p q (TooManySchedules m) h w = (refl, AppendsPrefix-out old mid new p q _ h.1 w)
 PendingError-failed rules closing n state lines old mid new p q OutOfMemory h w =
-    let f = replies-front rules closing state h.0 lines in
+    let f = replies-prefix rules closing state h.0 lines in
     (refl, rw f.1 (AppendsPrefix-after old mid new p q (replies_of rules state (take h.0 lines)) f.0 h.1 (AppendsPrefix-more q f.0 mid new w)))
 PendingError-failed rules closing n state lines old mid new p q WriteFailed h w =
     let w' = rw h.0 at w in

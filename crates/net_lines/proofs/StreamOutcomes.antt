@@ -1,4 +1,4 @@
--- What `same_state` answers is whether two outcomes are one.
+-- What `same_state` returns is whether two outcomes are one.
 use Rattle.std.proofs.Common.{◌≡◌, ◌↔◌, ℕ, length, Bool, true, false, cond, ◌==◌, Some, IsTrue, codes, refl, sym, ◌∙◌, ap, arith}
 use Rattle.std.specs.Bool.{Decides}
 use Rattle.std.specs.Cmp.Lexicographic.{pointwise}
@@ -43,7 +43,7 @@ closing_is : (x : Schedules Stored) (ended : Stored) (same : Bool) → x.ended �
 closing_is x ended same there exact =
     ap (λ s. cond s (codes "same\n") (codes "differs\n")) (same_decides ended x.present same exact) ∙ ap (comparison_with of_stored x) (sym there)
 
--- the closing line, as `same_state` answers
+-- the closing line, as `same_state` returns
 module _ (x y : Schedules Stored) (seen : x ≡ y) (ended : Stored) (same : Bool)
     (there : x.ended ≡ Some ended) (exact : IsTrue same ↔ IsSameState ended x.present) where
   pub closing_same : same ≡ true → codes "same\n" ≡ stream_closing of_stored y

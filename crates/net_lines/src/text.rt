@@ -66,10 +66,10 @@ fn put_read_reply(first: &[u8], second: &[u8], reply: &mut [u8])
 {
     let (verb, rest) = reply.split_at_mut(5);
     verb.copy_from_slice(b"read ");
-    let (front, rest) = rest.split_at_mut(2 * first.len());
-    let _ = hex::encode_to_slice(first, front);
-    let (back, end) = rest.split_at_mut(2 * second.len());
-    let _ = hex::encode_to_slice(second, back);
+    let (first_text, rest) = rest.split_at_mut(2 * first.len());
+    let _ = hex::encode_to_slice(first, first_text);
+    let (second_text, end) = rest.split_at_mut(2 * second.len());
+    let _ = hex::encode_to_slice(second, second_text);
     end.copy_from_slice(b"\n");
 }
 

@@ -184,15 +184,15 @@ fn check_long_stream(
     let mut sink = Sink::failing(alloc, 500, failing_write, None)?;
     let text = ending(alloc, alloc, "stream 8 4", &mut source, &mut sink)?;
     assert_text(rt, &text, end, ("writes", sink.calls));
-    assert_front(rt, &sink.bytes, output, failing_write == NEVER);
+    assert_prefix(rt, &sink.bytes, output, failing_write == NEVER);
     Ok(sink.calls)
 }
 
 /// These bytes are a prefix of the others; all of them, or not, as it is told.
-fn assert_front(rt: &impl Abort, front: &[u8], whole: &[u8], is_whole: bool) {
-    let place = ("bytes", front.len());
-    assert_holds(rt, whole.starts_with(front), place);
-    assert_holds(rt, is_whole == (front.len() == whole.len()), place);
+fn assert_prefix(rt: &impl Abort, prefix: &[u8], whole: &[u8], is_whole: bool) {
+    let place = ("bytes", prefix.len());
+    assert_holds(rt, whole.starts_with(prefix), place);
+    assert_holds(rt, is_whole == (prefix.len() == whole.len()), place);
 }
 
 #[test]
@@ -282,7 +282,7 @@ fn check_long_reply(
     let is_whole = text.as_str() == "Ok";
     let end = if is_whole { "Ok" } else { "write failed" };
     assert_text(rt, &text, end, ("write", failing_call));
-    assert_front(rt, &sink.bytes, output, is_whole);
+    assert_prefix(rt, &sink.bytes, output, is_whole);
     Ok(sink.bytes.len())
 }
 

@@ -1,4 +1,4 @@
--- What a copy ensures, by the settings and the fates of a plan.
+-- What a copy ensures, by the config and the fates of a plan.
 use Rattle.std.proofs.Common.{◌≡◌, Bool, true, Result, Ok, Err, OnOk, IfErr, sym, ◌∙◌, true≢false}
 use Rattle.std.specs.Result.{is_ok}
 use Rattle.net_stream.specs.Copying.{gave_up}

@@ -1,4 +1,4 @@
 -- The definitions that the contracts cite.
-pub mod Report
+pub mod Summary
 pub mod Serving
 pub mod Words

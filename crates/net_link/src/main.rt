@@ -1,8 +1,8 @@
 //! Copies standard input to standard output over a link that loses, repeats and reorders frames.
 #![tactic(auto)]
 
-mod report;
 mod serve;
+mod summary;
 mod words;
 
 use net_program::command_words;

@@ -3,13 +3,13 @@ ghost use Rattle.std.specs.Prelude.{◌≡◌, ◌↔◌, IfSome, None, true, ma
 ghost use Rattle.std.specs.Io.KnownBytes.{Appends, Keeps};
 ghost use Rattle.net_program.specs.declared.ending.Status.TheVariants.{Misused};
 ghost use Rattle.net_link.specs.Words.{plan_of};
-ghost use Rattle.net_link.specs.Report.{usage_text};
-ghost use Rattle.net_link.specs.Serving.{settings_of, rates_of, status_of, CopiedOver};
+ghost use Rattle.net_link.specs.Summary.{usage_text};
+ghost use Rattle.net_link.specs.Serving.{config_of, rates_of, status_of, CopiesOver};
 
-use crate::report::write_report;
+use crate::summary::write_summary;
 use crate::words::{Plan, plan_of};
 use net_program::{Ended, Status};
-use net_stream::{Counts, Fates, LinkError, Rates, Settings, copy};
+use net_stream::{Config, Counts, Fates, LinkError, Rates, copy};
 use std::alloc::Allocator;
 use std::io::{Read, Write};
 
@@ -32,11 +32,11 @@ const FLIGHT: u32 = 4_096;
 /// After how many rounds in a row that bring nothing on it gives up.
 const ROUNDS: u64 = 100;
 
-/// The settings of a copy.
-fn settings(plan: Plan) -> Settings
-    ensures { result ≡ settings_of plan }
+/// The config of a copy.
+fn config(plan: Plan) -> Config
+    ensures { result ≡ config_of plan }
 {
-    Settings {
+    Config {
         first: 0,
         capacity: CAPACITY,
         payload: plan.payload,
@@ -86,7 +86,7 @@ pub fn serve<A: Allocator + Copy, R: Read, W: Write, E: Write>(
     ensures told { result.status ≡ Misused → result.is_told ≡ true →
         Appends (E.contents errors.old) (E.contents errors.new) usage_text }
     ensures copied { IfSome (plan_of (map string_bytes words.now)) (λ plan.
-        CopiedOver plan (R.remaining reader.old) (R.remaining reader.new)
+        CopiesOver plan (R.remaining reader.old) (R.remaining reader.new)
         (W.contents writer.old) (W.contents writer.new)
         (E.contents errors.old) (E.contents errors.new) result) }
 {
@@ -102,14 +102,14 @@ pub fn serve<A: Allocator + Copy, R: Read, W: Write, E: Write>(
     let mut counts = Counts::new();
     let ended = copy(
         alloc,
-        settings(plan),
+        config(plan),
         fates,
         ack_fates,
         reader,
         writer,
         &mut counts,
     );
-    let told = write_report(errors, &ended, &counts);
+    let told = write_summary(errors, &ended, &counts);
     Ended {
         status: status(&ended),
         is_told: told.is_ok(),

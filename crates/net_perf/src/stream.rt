@@ -55,9 +55,9 @@ fn stream_at<const N: usize>(
                 return sum;
             }
             match receiver.segment(pos, bytes) {
-                Ok(answer) => {
-                    kept = kept.wrapping_add(answer.kept as u64);
-                    queued = queued.wrapping_add(answer.queued as u64);
+                Ok(result) => {
+                    kept = kept.wrapping_add(result.kept as u64);
+                    queued = queued.wrapping_add(result.queued as u64);
                 }
                 Err(_) => refused = refused.wrapping_add(1),
             }
@@ -99,10 +99,10 @@ pub extern "C" fn np_stream_lent(storage: &mut [u8], source: &[u8], rounds: u64)
         if !Receiver::<4>::fits(pos, source.len()) {
             return sum;
         }
-        let Ok(answer) = receiver.segment(pos, source) else {
+        let Ok(result) = receiver.segment(pos, source) else {
             return sum;
         };
-        sum = mix(sum, answer.queued as u64);
+        sum = mix(sum, result.queued as u64);
         // The queue has two parts at most.
         for _ in 0..2 {
             sum = mix_ends(sum, receiver.peek(0, receiver.queued()));

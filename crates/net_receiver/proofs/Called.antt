@@ -1,4 +1,4 @@
--- What one call leaves and answers, as its callers want it.
+-- What one call leaves and replies, as its callers want it.
 use Rattle.std.proofs.Common.{◌≡◌, ℕ, zero, suc, ◌+◌, ◌-◌, ◌<◌, ◌≤◌, min, Bool, true, false, cond}
 use Rattle.std.proofs.Common.{List, [], ◌∷◌, ◌++◌, length, take, drop, nat_eq, nat_lt, not, ◌&&◌}
 use Rattle.std.proofs.Common.{Some, is_some, unwrap_or, slice_get, slice_range, get_or, refl, sym}
@@ -33,13 +33,13 @@ use Rattle.net_receiver.specs.OneStream.{HeldIsOfStream}
 use Rattle.net_receiver.proofs.Step.{same_next}
 use Rattle.net_receiver.proofs.Run.{setting_kept}
 use Rattle.net_receiver.proofs.OneStream.{longer_at, longer_receives}
-use Rattle.net_receiver.specs.Execution.{Executed}
+use Rattle.net_receiver.specs.Execution.{Executes}
 use Rattle.net_receiver.specs.Retransmission.{InOrderReaches}
 use Rattle.net_receiver.specs.OneStream.{CapacityStays, Receives, ReceivesFrom, Says, AllSay, IsTruthful, SaysWhatIsThere, QueueIsOf, kept_of}
 use Rattle.net_receiver.proofs.Maps.{get-with_bytes_at, first_lacking_is, next_joined}
 use Rattle.net_receiver.proofs.Covering.{next_is, piece_before, piece_from, slice_get-drop, slice_get-take}
 use Rattle.net_receiver.proofs.Recover.{follows_verdict}
-use Rattle.net_receiver.proofs.Run.{read_front}
+use Rattle.net_receiver.proofs.Run.{read_prefix}
 use Rattle.net_receiver.proofs.OneStream.{none_is_not, cond_some, one_receives, queue_is_of, fresh_receives, first_stays, first_kept, run_receives}
 
 -- ---- streams
@@ -68,7 +68,7 @@ queue_of f x v r = queue_is_of x v r.1
 
 pub run_receives_from :
     (N f : ℕ) (x : List ℕ) (v u : Stored) (cs : List CommandSeen) (rs : List ReplySeen) (complete : Bool) →
-    Executed N v u cs rs (IsTrue complete) → ReceivesFrom f x v → AllSay f x cs →
+    Executes N v u cs rs (IsTrue complete) → ReceivesFrom f x v → AllSay f x cs →
     ReceivesFrom f x u × (bytes_read rs ++ u.queue ≡ slice_range x v.read (stored_next u - u.first))
 unfolding ReceivesFrom AllSay
 run_receives_from N f x v u cs rs complete run r h =
@@ -88,8 +88,8 @@ says_what_is_there f pos x xs h e = λ p b from is.
     (sym (slice_get-take (length xs) (drop (pos - f) x) (p - pos)) ∙ ap (λ l. slice_get l (p - pos)) (sym e) ∙ sym (piece_from (piece pos xs) p l) ∙ is))
     (cases_lt p pos)
 
-front_of : (x q : List ℕ) (a n : ℕ) → q ≡ take (length q) (drop a x) → n ≤ length q → take n q ≡ slice_range x a (a + n)
-front_of x q a n e h = grind (arith, common_steps)
+prefix_of : (x q : List ℕ) (a n : ℕ) → q ≡ take (length q) (drop a x) → n ≤ length q → take n q ≡ slice_range x a (a + n)
+prefix_of x q a n e h = grind (arith, common_steps)
 
 few_of : (q : List ℕ) (k n : ℕ) → n ≡ min k (length q) → take k q ≡ take n q
 few_of q k n e = grind (arith, common_steps)
@@ -98,7 +98,7 @@ pub read_bytes : (f : ℕ) (x : List ℕ) (v : Stored) (into old : List ℕ) (n 
     into ≡ take (length old) v.queue ++ drop (length v.queue) old → ReceivesFrom f x v →
     take n into ≡ slice_range x v.read (v.read + n)
 read_bytes f x v into old n count is r =
-    read_front v.queue into old n count is ∙ few_of v.queue (length old) n count ∙ front_of x v.queue v.read n (queue_of f x v r).queue (omega arith)
+    read_prefix v.queue into old n count is ∙ few_of v.queue (length old) n count ∙ prefix_of x v.queue v.read n (queue_of f x v r).queue (omega arith)
 
 -- ---- a segment
 values_of : (m : HeldBytes) (xs : List ℕ) (p n : ℕ) → length xs ≤ n →
@@ -271,7 +271,7 @@ pub executed_stays : (N : ℕ) {T E : Type 0} (r : Result T E) (v u : Stored) (c
 executed_stays N (Ok t) v u c ok err sound = stays N v u c ok sound
 executed_stays N (Err e) v u c ok err sound = stays N v u Show err sound
 
-one_run : (N : ℕ) (v : Stored) (c : CommandSeen) → Executed N v (stored_after N v c) (c ∷ []) (stored_reply N v c ∷ []) (IsTrue true)
+one_run : (N : ℕ) (v : Stored) (c : CommandSeen) → Executes N v (stored_after N v c) (c ∷ []) (stored_reply N v c ∷ []) (IsTrue true)
 one_run N v c = record { prefix = record { count = 1; within = omega arith; whole = λ _. refl }; state = refl; replies = refl }
 
 pub one_receives_from : (N f : ℕ) (x : List ℕ) (v : Stored) (c : CommandSeen) → ReceivesFrom f x v → AllSay f x (c ∷ []) → ReceivesFrom f x (stored_after N v c)
@@ -298,7 +298,7 @@ capacity_kept most v [] = refl
 capacity_kept most v (c ∷ cs) = capacity_kept most (stored_after most v c) cs ∙ capacity_stays most v c
 
 pub run_stays : (N : ℕ) (v u : Stored) (cs : List CommandSeen) (rs : List ReplySeen) (complete : Type 0) →
-    Executed N v u cs rs complete → IsSound N u → StaysInSetting N v u
+    Executes N v u cs rs complete → IsSound N u → StaysInSetting N v u
 run_stays N v u cs rs complete run sound =
     record {
       first = ap (λ (y : Stored). y.first) run.state ∙ first_kept N v (take run.prefix.count cs);
@@ -309,7 +309,7 @@ run_stays N v u cs rs complete run sound =
 -- ---- segments that follow on one another
 pub reached :
     (N : ℕ) (v u : Stored) (cs : List CommandSeen) (rs : List ReplySeen) {T E : Type 0} (r : Result T E) (s : State) →
-    Executed N v u cs rs (IsOk r) → StandsFor v s →
+    Executes N v u cs rs (IsOk r) → StandsFor v s →
     Follows (setting N v) s (stored_next v) cs → IfOk r (λ _. EndsBy (stored_next u) cs)
 reached N v u cs rs (Err e) s run d follows = tt
 reached N v u cs rs (Ok t) s run d follows =
@@ -343,7 +343,7 @@ pub part_bytes : (f : ℕ) (x : List ℕ) (v : Stored) (bytes : List ℕ) (o : �
 part_bytes f x v bytes o is r = part_of x v.queue bytes v.read o (queue_of f x v r).queue is
 
 pub head_bytes : (f : ℕ) (x : List ℕ) (v : Stored) (n : ℕ) → n ≤ length v.queue → ReceivesFrom f x v → take n v.queue ≡ slice_range x v.read (v.read + n)
-head_bytes f x v n few r = front_of x v.queue v.read n (queue_of f x v r).queue few
+head_bytes f x v n few r = prefix_of x v.queue v.read n (queue_of f x v r).queue few
 
 -- ---- a segment in order
 pub in_order_reaches : InOrderReaches

@@ -35,7 +35,7 @@ module _ (g : RingState ℕ) where
   rotated =
       let both = length-append (drop g.read_at g.storage) (take g.read_at g.storage) in
       let back = length-drop g.read_at g.storage in
-      let front = length-take g.read_at g.storage in
+      let prefix = length-take g.read_at g.storage in
       omega arith
 
   pub queue_length : length (queue g) ≡ min g.count (length g.storage)
@@ -68,9 +68,9 @@ module _ (g : RingState ℕ) where
         (cases_lt o (length (queue g))))
 
     -- how many are lent from the first byte of the queue on
-    pub lent_front : (lent : ℕ) → lent ≡ contiguous_queued g → lent ≤ length (queue g) →
+    pub lent_prefix : (lent : ℕ) → lent ≡ contiguous_queued g → lent ≤ length (queue g) →
         lent ≡ min (length (queue g)) (length (queue g) + length (spare g) - i % (length (queue g) + length (spare g)))
-    lent_front lent is few =
+    lent_prefix lent is few =
         let a = queue_length in
         let whole = both_lengths in
         subst (λ c. lent ≡ min (length (queue g)) (c - i % c)) (sym whole)

@@ -6,7 +6,7 @@ use Rattle.std.specs.FinMap as fin
 use Rattle.std.proofs.lemmas.Bool.{both_ways, cases_lt}
 use Rattle.std.proofs.lemmas.Bool.Decides.{nat_tests}
 use Rattle.net_storage.specs.Positions.{Positions, contains, runs, with_range, maximal_runs}
-use Rattle.net_storage.specs.RunLists.{Rising, set_of_runs}
+use Rattle.net_storage.specs.RunLists.{IsRising, set_of_runs}
 use Rattle.net_storage.proofs.MaximalRuns.{rising-maximal_runs, set_of_maximal_runs}
 use Rattle.net_storage.proofs.Positions.{contains-with_range, same_positions, runs-maximal_runs}
 use Rattle.net_storage.proofs.RunLists.{runs-nothing}
@@ -23,7 +23,7 @@ use Rattle.net_receiver.proofs.Whole.{fresh_sound}
 -- ---- the positions of a set from one on that is not in it
 record RunsFrom (m low : ℕ) (rs : List (ℕ × ℕ)) : Type 0 where
   list : List (ℕ × ℕ)
-  rising : Rising low list
+  rising : IsRising low list
   few : length list ≤ length rs
   has : (q : ℕ) → in_runs list q ≡ (in_runs rs q && nat_le m q)
 
@@ -31,7 +31,7 @@ or_false : (a b : Bool) → (a || b) ≡ false → (a ≡ false) × (b ≡ false
 or_false true b e = absurd (both_ways true e refl)
 or_false false b e = (refl, e)
 
-runs_from : (m low : ℕ) (rs : List (ℕ × ℕ)) → Rising low rs → in_runs rs m ≡ false → RunsFrom m low rs
+runs_from : (m low : ℕ) (rs : List (ℕ × ℕ)) → IsRising low rs → in_runs rs m ≡ false → RunsFrom m low rs
 runs_from m low [] h out = record { list = []; rising = tt; few = omega arith; has = λ q. refl }
 runs_from m low (r ∷ rs) h out =
     let outs = or_false (nat_le r.0 m && nat_lt m r.1) (in_runs rs m) out in
@@ -51,7 +51,7 @@ runs_from m low (r ∷ rs) h out =
     })
     (cases_lt m r.1)
   where
-    above : {low : ℕ} (rs : List (ℕ × ℕ)) → Rising low rs → m < low → (q : ℕ) (b : Bool) → in_runs rs q ≡ b → in_runs rs q ≡ (in_runs rs q && nat_le m q)
+    above : {low : ℕ} (rs : List (ℕ × ℕ)) → IsRising low rs → m < low → (q : ℕ) (b : Bool) → in_runs rs q ≡ b → in_runs rs q ≡ (in_runs rs q && nat_le m q)
     above {low} rs h l q true is = (let from = rising-in_runs low rs q h is in grind (arith, nat_tests))
     above {low} rs h l q false is = grind (arith, nat_tests)
 

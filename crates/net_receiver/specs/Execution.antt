@@ -1,7 +1,7 @@
 -- The statements on schedules that the calls' contracts name.
 --     ExecutedPrefix cs complete      how many of the commands were executed
---     Executed N v u cs rs complete      what cs leave stored, and their replies
---     ExecutedFor N v u cs rs complete s      what cs did to a receiver that stood for s
+--     Executes N v u cs rs complete      what cs leave stored, and their replies
+--     ExecutesFor N v u cs rs complete s      what cs did to a receiver that stood for s
 --     items_after old new      what was pushed behind old
 --     Converges v u same, TellsStates v u same      when `same_state` finds two receivers the same
 --     FreshStands, EverySchedule, TellsNext, TellsHeld, TellsFresh      laws on what a receiver stands for
@@ -27,7 +27,7 @@ pub record ExecutedPrefix (cs : List CommandSeen) (complete : Type 0) : Type 0 w
   pub whole : complete → count ≡ length cs
 
 -- what a prefix of the commands leaves stored, and its replies
-pub record Executed (most_runs : ℕ) (v u : Stored) (cs : List CommandSeen) (rs : List ReplySeen)
+pub record Executes (most_runs : ℕ) (v u : Stored) (cs : List CommandSeen) (rs : List ReplySeen)
     (complete : Type 0) : Type 0 where
   pub prefix : ExecutedPrefix cs complete
   pub state : u ≡ stored_after_all most_runs v (take prefix.count cs)
@@ -35,7 +35,7 @@ pub record Executed (most_runs : ℕ) (v u : Stored) (cs : List CommandSeen) (rs
 
 -- the same of a schedule's state, with what follows of the bytes that were read and of what is
 -- accepted
-pub record ExecutedFor (most_runs : ℕ) (v u : Stored) (cs : List CommandSeen) (rs : List ReplySeen)
+pub record ExecutesFor (most_runs : ℕ) (v u : Stored) (cs : List CommandSeen) (rs : List ReplySeen)
     (complete : Type 0) (s : State) : Type 0 where
   pub prefix : ExecutedPrefix cs complete
   pub stands : StandsFor u (kept_after_all (setting most_runs v) s (take prefix.count cs))

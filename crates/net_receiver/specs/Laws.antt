@@ -3,8 +3,8 @@
 --     IsLast k p e      e is the last entry of k that contains p
 --     IsLeastMissing f k n      n is the least position from f on that no entry of k contains
 --     ReportsRuns held sack      sack reports the first three runs of held positions
---     Replayed N v calls u      what calls of `replay`, one after another, store
---     Composed N v calls u      these calls do what one call does
+--     Replays N v calls u      what calls of `replay`, one after another, store
+--     Composes N v calls u      these calls do what one call does
 -- The others are laws, and what they name.
 use Rattle.std.specs.Prelude.{◌≡◌, ◌↔◌, ◌⊎◌, ℕ, ◌-◌, ◌≤◌, ◌<◌, Bool, List, [], ◌∷◌, ◌++◌, length}
 use Rattle.std.specs.Prelude.{take, flat_map, slice_index, Option, Some, None, Ok, IsTrue, All}
@@ -16,7 +16,7 @@ use Rattle.net_receiver.specs.Rules.{CommandSeen, ReplySeen, Verdict, state_afte
 use Rattle.net_receiver.specs.Rules.{first_three}
 use Rattle.net_receiver.specs.Schedule.{Setting, State, by_kept}
 use Rattle.net_receiver.specs.Stored.{Stored, StandsFor}
-use Rattle.net_receiver.specs.Execution.{ExecutedPrefix, Executed, ExecutedFor}
+use Rattle.net_receiver.specs.Execution.{ExecutedPrefix, Executes, ExecutesFor}
 
 -- ---- kept lists
 -- p is one of the positions of an entry
@@ -94,12 +94,12 @@ pub record ReplayCall : Type 0 where
   pub complete : Bool
 
 -- what the contract of `replay` says of each call
-abbrev pub Replayed : ℕ → Stored → List ReplayCall → Stored → Type 0
-Replayed most_runs v [] u = u ≡ v
-Replayed most_runs v (call ∷ calls) u =
+abbrev pub Replays : ℕ → Stored → List ReplayCall → Stored → Type 0
+Replays most_runs v [] u = u ≡ v
+Replays most_runs v (call ∷ calls) u =
     (between : Stored)
-    × Executed most_runs v between call.commands call.replies (IsTrue call.complete)
-    × Replayed most_runs between calls u
+    × Executes most_runs v between call.commands call.replies (IsTrue call.complete)
+    × Replays most_runs between calls u
 
 -- cs is made of the first commands of each call in turn, and of all of them if the call is complete
 abbrev pub ArePrefixes : List ReplayCall → List CommandSeen → Type 0
@@ -109,15 +109,15 @@ ArePrefixes (call ∷ calls) cs =
     × (cs ≡ take prefix.count call.commands ++ rest) × ArePrefixes calls rest
 
 -- the calls did what one complete call does with the commands that they executed
-pub record Composed (most_runs : ℕ) (v : Stored) (calls : List ReplayCall) (u : Stored)
+pub record Composes (most_runs : ℕ) (v : Stored) (calls : List ReplayCall) (u : Stored)
     : Type 0 where
   pub commands : List CommandSeen
   pub prefixes : ArePrefixes calls commands
-  pub stored : Executed most_runs v u commands (flat_map (λ call. call.replies) calls) ⊤
+  pub stored : Executes most_runs v u commands (flat_map (λ call. call.replies) calls) ⊤
   pub ran : (s : State) → StandsFor v s →
-      ExecutedFor most_runs v u commands (flat_map (λ call. call.replies) calls) ⊤ s
+      ExecutesFor most_runs v u commands (flat_map (λ call. call.replies) calls) ⊤ s
 
 -- calls one after another do what one call does
 abbrev pub CallsCompose : Type 0
 CallsCompose = (most_runs : ℕ) (v u : Stored) (calls : List ReplayCall) →
-    Replayed most_runs v calls u → Composed most_runs v calls u
+    Replays most_runs v calls u → Composes most_runs v calls u

@@ -15,7 +15,7 @@ use Rattle.net_receiver.specs.Rules.{CommandSeen, Segment, Read, Show, ReplySeen
 use Rattle.net_receiver.specs.Schedule.{Setting, State, kept_after_all, bytes_read, PieceAgrees, Agrees}
 use Rattle.net_receiver.specs.Stored.{Stored, fresh_stored, stored_next, stored_after, StandsFor}
 use Rattle.net_receiver.specs.Stored.{stored_after_all, stored_replies}
-use Rattle.net_receiver.specs.Execution.{Executed}
+use Rattle.net_receiver.specs.Execution.{Executes}
 
 -- ---- the relations
 -- a segment says what x has at its positions from f on; the other commands bring nothing
@@ -166,7 +166,7 @@ abbrev pub ReplayReceives : Type 0
 ReplayReceives = (most_runs : ℕ) (x : List ℕ) (v u : Stored)
     (cs : List CommandSeen) (rs : List ReplySeen) (complete : Bool) →
     Receives x v → All (IsTruthful v.first x) cs →
-    Executed most_runs v u cs rs (IsTrue complete) →
+    Executes most_runs v u cs rs (IsTrue complete) →
     Receives x u × (bytes_read rs ++ u.queue ≡ slice_range x v.read (stored_next u - u.first))
 
 -- ---- what commands change

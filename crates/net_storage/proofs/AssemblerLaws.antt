@@ -124,28 +124,28 @@ drop-nothing : (n : ℕ) → let none : List (ℕ × ℕ) = [] in drop n none �
 drop-nothing zero = refl
 drop-nothing (suc n) = refl
 
--- calls of `next` answer what is left, in turn, and then `None`
-answered : (left last : List (ℕ × ℕ)) (answers : List (Option (ℕ × ℕ))) → CallsNext left answers last →
-    (answers ≡ results_of_next left (length answers)) × (last ≡ drop (length answers) left)
-answered left last [] h = (refl, sym h)
-answered [] last (None ∷ answers) h =
+-- calls of `next` return what is left, in turn, and then `None`
+next_results : (left last : List (ℕ × ℕ)) (results : List (Option (ℕ × ℕ))) → CallsNext left results last →
+    (results ≡ results_of_next left (length results)) × (last ≡ drop (length results) left)
+next_results left last [] h = (refl, sym h)
+next_results [] last (None ∷ results) h =
     let ended : h.0 ≡ [] = h.1.1 in
-    let rest = answered h.0 last answers h.2 in
-    let n = length answers in
+    let rest = next_results h.0 last results h.2 in
+    let n = length results in
     (ap (λ xs. None ∷ xs) (rest.0 ∙ ap (λ xs. results_of_next xs n) ended), rest.1 ∙ ap (drop n) ended ∙ drop-nothing n)
-answered [] last (Some r ∷ answers) h = let e : [] ≡ r ∷ h.0 = h.1 in cc
-answered (l ∷ left) last (None ∷ answers) h = let e : l ∷ left ≡ [] = h.1.0 in cc
-answered (l ∷ left) last (Some r ∷ answers) h =
+next_results [] last (Some r ∷ results) h = let e : [] ≡ r ∷ h.0 = h.1 in cc
+next_results (l ∷ left) last (None ∷ results) h = let e : l ∷ left ≡ [] = h.1.0 in cc
+next_results (l ∷ left) last (Some r ∷ results) h =
     let e : l ∷ left ≡ r ∷ h.0 = h.1 in
     let same : l ≡ r = cc in
     let others : left ≡ h.0 = cc in
-    let rest = answered h.0 last answers h.2 in
-    let n = length answers in
+    let rest = next_results h.0 last results h.2 in
+    let n = length results in
     ((λ i. Some (sym same i) ∷ rest.0 i) ∙ ap (λ xs. Some l ∷ results_of_next xs n) (sym others), rest.1 ∙ ap (drop n) (sym others))
 
 pub iterates_maximal_runs : IteratesMaximalRuns
-iterates_maximal_runs most_runs s left last answers first calls =
-    let given = answered left last answers calls in
+iterates_maximal_runs most_runs s left last results first calls =
+    let given = next_results left last results calls in
     (subst (AreMaximalRuns s) (sym first.listed) (are_maximal_runs s), first.bound, given.0, given.1)
 
 -- counts that stay as they are

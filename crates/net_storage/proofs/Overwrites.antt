@@ -4,7 +4,7 @@ use Rattle.std.proofs.Common.{length, take, drop, get_or, refl, ap, ◌∙◌, a
 use Rattle.std.proofs.Common.{nat_le, nat_lt}
 use Rattle.std.proofs.lemmas.List.{get_or-take, get_or-drop, get_or_append_left, get_or-append_right, length-take-le, length-take, take-append-drop, take_all}
 use Rattle.std.proofs.lemmas.Bool.Decides.{nat_tests}
-use Rattle.net_storage.specs.Overwrite.{overwrite, OverwrittenAt}
+use Rattle.net_storage.specs.Overwrite.{overwrite, OverwritesAt}
 
 module _ {X : Type 0} where
   -- without the cut at the end
@@ -32,7 +32,7 @@ module _ {X : Type 0} where
   pick : (i k n : ℕ) (a b y : X) → (k < i → y ≡ b) → (i ≤ k → k < i + n → y ≡ a) → (i + n ≤ k → y ≡ b) → y ≡ (if nat_le i k && nat_lt k (i + n) then a else b)
   pick i k n a b y f g h = grind (arith, nat_tests)
 
-  pub overwritten_at : (xs ws : List X) (i k : ℕ) (x : X) → OverwrittenAt xs i ws k x
+  pub overwritten_at : (xs ws : List X) (i k : ℕ) (x : X) → OverwritesAt xs i ws k x
   overwritten_at xs ws i k x h =
       get_or-take (length xs) (uncut xs i ws) k x h
       ∙ pick i k (length ws) (get_or ws (k - i) x) (get_or xs k x) (get_or (uncut xs i ws) k x) (before xs ws i k x h) (inside xs ws i k x h)

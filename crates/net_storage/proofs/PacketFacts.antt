@@ -6,7 +6,8 @@ use Rattle.std.proofs.lemmas.Bool.{cases_lt, le-leb, lt-leb, lt-ltb, le-ltb, ne_
 use Rattle.std.proofs.lemmas.Option.{none-some, cond_some}
 use Rattle.std.specs.Prelude.{Option, true}
 use Rattle.std.specs.declared.option.Option.TheVariants.{Some, None}
-use Rattle.net_storage.specs.Ring.{RingState, index_after, capacity, window, queue, write_at, WellFormed, with_enqueued, with_dequeued, with_elements, Enqueued}
+use Rattle.net_storage.specs.Ring.{RingState, index_after, capacity, window, queue, write_at, IsWellFormed, Enqueues}
+use Rattle.net_storage.specs.Ring.{with_enqueued, with_dequeued, with_elements}
 use Rattle.net_storage.specs.Packets.{Packet, packet, bytes_used, slots_used, slots_for, IsPlaced, ArePlaced, gap_for, if_slots}
 use Rattle.net_storage.specs.PacketSlots.{slot, gap_slot, packet_slots, packets_in, StandFor}
 use Rattle.net_storage.specs.declared.packet_metadata.PacketMetadata.{PacketMetadata}
@@ -157,7 +158,7 @@ module _ {H : Type 0} where
       let e : o + bytes_used (q ∷ ps) ≡ o + q.gap + q.size + bytes_used ps = omega arith in
       (a.0, placed_append c r (o + q.gap + q.size) ps p a.1 (subst (λ (n : ℕ). IsPlaced c r n p) e i))
 
-  -- where no bytes are held, packets are placed from any place on
+  -- where no bytes are queued, packets are placed from any place on
   pub placed_anew : (c r o : ℕ) (ps : List (Packet H)) → bytes_used ps ≡ 0 → index_after c r o ≤ c → ArePlaced c r o ps
   placed_anew c r o [] e le = tt
   placed_anew c r o (p ∷ ps) e le =
@@ -203,8 +204,8 @@ module _ {H : Type 0} where
       placed_from c r p.size 0 ps wf (omega (arith, le)) (subst (λ (j : ℕ). ArePlaced c r j ps) k a.1)
 
   module _ (m : RingState (PacketMetadata H)) (b : RingState ℕ) (ps : List (Packet H)) (h : StandFor m b ps) where
-    pub held_is : m.count ≡ slots_used ps
-    held_is = sym (length-queue m h.0) ∙ ap length h.2 ∙ length-slots ps
+    pub count_is : m.count ≡ slots_used ps
+    count_is = sym (length-queue m h.0) ∙ ap length h.2 ∙ length-slots ps
 
   empty_go : (n : ℕ) (xs : List (Packet H)) → n ≡ slots_used xs → (n == 0) ≡ (length xs == 0)
   empty_go n [] e = ap (λ (k : ℕ). k == 0) e
@@ -212,7 +213,7 @@ module _ {H : Type 0} where
       ∙ sym (ne_eqb (length (x ∷ xs)) 0 (λ z. absurd (omega (arith, z))))
 
   pub empty_is : (m : RingState (PacketMetadata H)) (b : RingState ℕ) (ps : List (Packet H)) → StandFor m b ps → (m.count == 0) ≡ (length ps == 0)
-  empty_is m b ps h = empty_go m.count ps (held_is m b ps h)
+  empty_is m b ps h = empty_go m.count ps (count_is m b ps h)
 
   -- ---- a slot more
   pub gap_slot_one : (gap : ℕ) → 0 < gap → gap_slot {H = H} gap ≡ slot gap None ∷ []
@@ -223,9 +224,9 @@ module _ {H : Type 0} where
   gap_slot_none gap e = ap (λ (n : ℕ). gap_slot {H = H} n) e
 
 -- ---- what the ring of slots is after a slot came last
-pub pushed_slot : {T : Type 0} (g h : RingState T) (w : T) → WellFormed g → window g ≢ 0
-    → h ≡ with_elements (with_enqueued 1 g) (write_at g) (w ∷ []) → Enqueued g (w ∷ []) h
-    → (queue h ≡ queue g ++ (w ∷ [])) × WellFormed h × (window h ≡ window g - 1) × (capacity h ≡ capacity g)
+pub pushed_slot : {T : Type 0} (g h : RingState T) (w : T) → IsWellFormed g → window g ≢ 0
+    → h ≡ with_elements (with_enqueued 1 g) (write_at g) (w ∷ []) → Enqueues g (w ∷ []) h
+    → (queue h ≡ queue g ++ (w ∷ [])) × IsWellFormed h × (window h ≡ window g - 1) × (capacity h ≡ capacity g)
 pushed_slot g h w wf some e q =
     let cap : capacity h ≡ capacity g = ap capacity e ∙ length-overwrite g.storage (write_at g) (w ∷ []) in
     let r : h.read_at ≡ g.read_at = ap (λ o. o.read_at) e in
@@ -233,7 +234,7 @@ pushed_slot g h w wf some e q =
     (q.0, (elim wf.0 [ inl z ↦ inl (r ∙ z) | inr l ↦ inr (omega (arith, r, cap, l)) ], omega (arith, n, cap, some)), omega (arith, n, cap), cap)
 
 -- and after the first one was taken off as it is
-pub off_wf : {T : Type 0} (g : RingState T) (x : T) (xs : List T) → WellFormed g → queue g ≡ x ∷ xs → WellFormed (with_dequeued 1 g)
+pub off_wf : {T : Type 0} (g : RingState T) (x : T) (xs : List T) → IsWellFormed g → queue g ≡ x ∷ xs → IsWellFormed (with_dequeued 1 g)
 off_wf g x xs wf e =
     let long = length-queue g wf in
     let n = ap length e in

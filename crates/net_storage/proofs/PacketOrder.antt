@@ -9,23 +9,23 @@ use Rattle.std.specs.Prelude.{Option, replicate}
 use Rattle.std.specs.declared.option.Option.TheVariants.{Some, None}
 use Rattle.net_storage.specs.Overwrite.{overwrite}
 use Rattle.net_storage.specs.Ring.{RingState, ring, index_after, capacity, window, queue, spare}
-use Rattle.net_storage.specs.Ring.{storage_index, WellFormed, from_start_if_empty, with_enqueued}
+use Rattle.net_storage.specs.Ring.{storage_index, IsWellFormed, from_start_if_empty, with_enqueued}
 use Rattle.net_storage.specs.Ring.{with_elements}
 use Rattle.net_storage.specs.Packets.{Packet, PacketQueue, packet, bytes_used, slots_used}
 use Rattle.net_storage.specs.Packets.{byte_ring, ArePlaced, placement, with_packet_if_room}
 use Rattle.net_storage.specs.Packets.{with_last_bytes, with_last_size, first_gap, first_size}
 use Rattle.net_storage.specs.Packets.{without_first_gap, without_gap, IsFirstSized, IsFirst}
 use Rattle.net_storage.specs.Packets.{with_first_header, with_first_bytes, without_first}
-use Rattle.net_storage.specs.Packets.{without_first_and_gap, WellPlaced}
+use Rattle.net_storage.specs.Packets.{without_first_and_gap, IsWellPlaced}
 use Rattle.net_storage.specs.PacketSlots.{slot, packet_slots, packets_in, StandFor, packet_queue}
 use Rattle.net_storage.specs.PacketHistory.{contents_of, contents}
 use Rattle.net_storage.specs.declared.packet_metadata.PacketMetadata.{PacketMetadata}
 use Rattle.net_storage.proofs.Rotations.{length-overwrite, length-queue, length-spare}
 use Rattle.net_storage.proofs.Rotations.{with_enqueued_parts, with_dequeued_parts, take_sum, cut}
 use Rattle.net_storage.proofs.Rotations.{overwrite_at, storage_index_is}
-use Rattle.net_storage.proofs.RingFacts.{written_wf, spare_law, held_law, held_value, restarted_is, read_index_is}
+use Rattle.net_storage.proofs.RingFacts.{written_wf, spare_law, queue_law, queue_value, restarted_is, read_index_is}
 use Rattle.net_storage.proofs.PacketFacts.{bytes_append, length-slots, place_wf}
-use Rattle.net_storage.proofs.PacketSteps.{viewed, here, wfg, held_g, byte_room, put_is, cut_is, same, closed}
+use Rattle.net_storage.proofs.PacketSteps.{viewed, here, wfg, count_g, byte_room, put_is, cut_is, same, closed}
 
 pub some_of : (o : Option ℕ) → o ≢ None → (n : ℕ) × (o ≡ Some n)
 some_of None h = absurd (h refl)
@@ -38,19 +38,19 @@ take_over xs ws i k fits le =
     let c2 = cut (length ws) v (omega (arith, c1.4, fits)) in let part = c2.0 in let z = c2.1 in
     let whole : xs ≡ a ++ (part ++ z) = c1.2 ∙ ap (λ (l : List ℕ). a ++ l) c2.2 in
     let over : overwrite xs i ws ≡ a ++ (ws ++ z) = ap (λ (l : List ℕ). overwrite l i ws) whole ∙ overwrite_at a part z ws i c1.3 c2.3 in
-    let front : take i xs ≡ a = ap (take i) c1.2 ∙ take_at a v i c1.3 in
+    let before : take i xs ≡ a = ap (take i) c1.2 ∙ take_at a v i c1.3 in
     ap (take (i + k)) over ∙ take_sum i k (a ++ (ws ++ z))
     ∙ ap₂ ◌++◌ (take_at a (ws ++ z) i c1.3) (ap (take k) (drop_at a (ws ++ z) i c1.3) ∙ take-append-le k ws z le)
-    ∙ ap (λ (l : List ℕ). l ++ take k ws) (sym front)
+    ∙ ap (λ (l : List ℕ). l ++ take k ws) (sym before)
 
-over_front : (xs ws : List ℕ) (s : ℕ) → s ≤ length xs → length ws ≡ s → (take s (overwrite xs 0 ws) ≡ ws) × (drop s (overwrite xs 0 ws) ≡ drop s xs)
-over_front xs ws s fits long =
+over_head : (xs ws : List ℕ) (s : ℕ) → s ≤ length xs → length ws ≡ s → (take s (overwrite xs 0 ws) ≡ ws) × (drop s (overwrite xs 0 ws) ≡ drop s xs)
+over_head xs ws s fits long =
     let c = cut s xs fits in let part = c.0 in let z = c.1 in
     let over : overwrite xs 0 ws ≡ ws ++ z = ap (λ (l : List ℕ). overwrite l 0 ws) c.2 ∙ overwrite_at [] part z ws 0 refl (c.3 ∙ sym long) in
     (ap (take s) over ∙ take_at ws z s long, ap (drop s) over ∙ drop_at ws z s long ∙ sym (ap (drop s) c.2 ∙ drop_at part z s c.3))
 
 -- the queue of a ring to whose spare part ws was written past a gap, and of which k bytes came in with the gap
-filled_queue : (g : RingState ℕ) (wf : WellFormed g) (gap k : ℕ) (ws : List ℕ) → gap + length ws ≤ window g
+filled_queue : (g : RingState ℕ) (wf : IsWellFormed g) (gap k : ℕ) (ws : List ℕ) → gap + length ws ≤ window g
     → storage_index g (g.count + gap) + length ws ≤ capacity g → k ≤ length ws
     → queue (with_enqueued (gap + k) (with_elements g (storage_index g (g.count + gap)) ws)) ≡ queue g ++ (take gap (spare g) ++ take k ws)
 filled_queue g wf gap k ws room fits le =
@@ -82,7 +82,7 @@ module _ {H : Type 0} where
       ∙ ap (λ c. (o.header, take o.size (drop o.gap bs)) ∷ c) (contents_append ps p (drop (o.gap + o.size) bs) x ws (omega (arith, n, m)) l)
 
   -- ---- the rings of a queue
-  module _ (q : PacketQueue H) (ok : WellPlaced q) where
+  module _ (q : PacketQueue H) (ok : IsWellPlaced q) where
     abbrev fill : List (PacketMetadata H)
     fill = replicate (q.slot_count - slots_used q.packets) (slot 0 None)
 
@@ -128,20 +128,20 @@ module _ {H : Type 0} where
         let fits = here m b h gap s e in
         let room = byte_room m b h gap s e in
         let wf = wfg m b h gap s e in
-        let held = held_g m b h gap s e in
+        let counts = count_g m b h gap s e in
         let sum = bytes_append kept (packet hd k gap) in
-        let n : bytes_used (kept ++ (packet hd k gap ∷ [])) ≡ g.count + (gap + k) = omega (arith, sum, held) in
+        let n : bytes_used (kept ++ (packet hd k gap ∷ [])) ≡ g.count + (gap + k) = omega (arith, sum, counts) in
         let filled = filled_queue g wf gap k ws (omega (arith, room, long)) (omega (arith, fits.0, long)) (omega (arith, le, long)) in
         let q = length-queue g wf in
         let free = length-spare g wf in
         let skip : length (take gap (spare g)) ≡ gap = length-take-le gap (spare g) (omega (arith, free, room)) in
         ap (λ (i : ℕ). contents_of (kept ++ (packet hd k gap ∷ [])) (queue (ring (overwrite g.storage at ws) g.read_at i))) n
         ∙ ap (contents_of (kept ++ (packet hd k gap ∷ []))) filled
-        ∙ contents_append kept (packet hd k gap) (queue g) (take gap (spare g)) (take k ws) (omega (arith, q, held)) skip
+        ∙ contents_append kept (packet hd k gap) (queue g) (take gap (spare g)) (take k ws) (omega (arith, q, counts)) skip
         ∙ ap₂ (λ (bs one : List ℕ). contents_of kept bs ++ ((hd, one) ∷ [])) (restarted_is b).0 (take-take k k ws (omega arith))
         ∙ ap (λ (o : RingState ℕ). contents_of kept (queue o) ++ ((hd, take k ws) ∷ [])) (sym (same m b h gap s e))
 
-  module _ (q : PacketQueue H) (ok : WellPlaced q) (s : ℕ) (hd : H) (ws : List ℕ) (some : placement q s ≢ None) (long : length ws ≡ s) where
+  module _ (q : PacketQueue H) (ok : IsWellPlaced q) (s : ℕ) (hd : H) (ws : List ℕ) (some : placement q s ≢ None) (long : length ws ≡ s) where
     module _ (m : RingState (PacketMetadata H)) (b : RingState ℕ) (h : StandFor m b (packets_in 0 (queue m))) (is : packet_queue m b ≡ q) where
       gap_is : (n : ℕ) × (placement (packet_queue m b) s ≡ Some n)
       gap_is = some_of (placement (packet_queue m b) s) (subst (λ (o : PacketQueue H). placement o s ≢ None) (sym is) some)
@@ -175,9 +175,9 @@ module _ {H : Type 0} where
   head_or d (o ∷ os) = o
 
   -- the queue of bytes once a gap is gone
-  skip_queue : (st : List ℕ) (r : ℕ) (p : Packet H) (ps : List (Packet H)) → WellFormed (bytes st r (p ∷ ps))
+  skip_queue : (st : List ℕ) (r : ℕ) (p : Packet H) (ps : List (Packet H)) → IsWellFormed (bytes st r (p ∷ ps))
       → (queue (bytes st (storage_index (bytes st r (p ∷ ps)) p.gap) (packet p.header p.size 0 ∷ ps)) ≡ drop p.gap (queue (bytes st r (p ∷ ps))))
-      × WellFormed (bytes st (storage_index (bytes st r (p ∷ ps)) p.gap) (packet p.header p.size 0 ∷ ps))
+      × IsWellFormed (bytes st (storage_index (bytes st r (p ∷ ps)) p.gap) (packet p.header p.size 0 ∷ ps))
   skip_queue st r p ps wf =
       let c = bytes st r (p ∷ ps) in
       let n : p.gap + p.size + bytes_used ps - p.gap ≡ 0 + p.size + bytes_used ps = omega arith in (
@@ -186,7 +186,7 @@ module _ {H : Type 0} where
       )
 
   -- the queue of bytes once the first packet is gone, where it has no gap
-  pop_queue : (st : List ℕ) (r : ℕ) (h : H) (s : ℕ) (ps : List (Packet H)) → WellFormed (bytes st r (packet h s 0 ∷ ps))
+  pop_queue : (st : List ℕ) (r : ℕ) (h : H) (s : ℕ) (ps : List (Packet H)) → IsWellFormed (bytes st r (packet h s 0 ∷ ps))
       → queue (bytes st (storage_index (bytes st r (packet h s 0 ∷ ps)) s) ps) ≡ drop s (queue (bytes st r (packet h s 0 ∷ ps)))
   pop_queue st r h s ps wf =
       let c = bytes st r (packet h s 0 ∷ ps) in
@@ -195,12 +195,12 @@ module _ {H : Type 0} where
 
   -- the queue of bytes once the first packet, which has no gap, is written
   write_queue : (st : List ℕ) (r : ℕ) (h : H) (s : ℕ) (ps : List (Packet H)) (ws : List ℕ)
-      → WellFormed (bytes st r (packet h s 0 ∷ ps)) → r + s ≤ length st → length ws ≡ s
+      → IsWellFormed (bytes st r (packet h s 0 ∷ ps)) → r + s ≤ length st → length ws ≡ s
       → (queue (bytes (overwrite st r ws) r (packet h s 0 ∷ ps)) ≡ overwrite (queue (bytes st r (packet h s 0 ∷ ps))) 0 ws)
-      × WellFormed (bytes (overwrite st r ws) r (packet h s 0 ∷ ps))
+      × IsWellFormed (bytes (overwrite st r ws) r (packet h s 0 ∷ ps))
   write_queue st r h s ps ws wf fits long =
       let c = bytes st r (packet h s 0 ∷ ps) in
-      ((held_law c wf 0 r ws (omega (arith, long)) (omega (arith, long, fits)) (read_index_is c wf)).0, written_wf c wf r ws)
+      ((queue_law c wf 0 r ws (omega (arith, long)) (omega (arith, long, fits)) (read_index_is c wf)).0, written_wf c wf r ws)
 
   contents_skip : (h : H) (s gap : ℕ) (ps : List (Packet H)) (bs : List ℕ)
       → contents_of (packet h s 0 ∷ ps) (drop gap bs) ≡ contents_of (packet h s gap ∷ ps) bs
@@ -210,7 +210,7 @@ module _ {H : Type 0} where
       ap (λ (l : List ℕ). (h, take s l) ∷ contents_of ps (drop (0 + s) (drop gap bs))) (drop-drop 0 gap bs ∙ ap (λ (i : ℕ). drop i bs) z)
       ∙ ap (λ (l : List ℕ). (h, take s (drop gap bs)) ∷ contents_of ps l) (drop-drop (0 + s) gap bs ∙ ap (λ (i : ℕ). drop i bs) n)
 
-  skipped_go : (st : List ℕ) (r : ℕ) (ps : List (Packet H)) → WellFormed (bytes st r ps)
+  skipped_go : (st : List ℕ) (r : ℕ) (ps : List (Packet H)) → IsWellFormed (bytes st r ps)
       → contents_of (without_first_gap ps) (queue (bytes st (storage_index (bytes st r ps) (first_gap ps)) (without_first_gap ps)))
       ≡ contents_of ps (queue (bytes st r ps))
   skipped_go st r [] wf = refl
@@ -218,7 +218,7 @@ module _ {H : Type 0} where
       ap (contents_of (packet p.header p.size 0 ∷ ps)) (skip_queue st r p ps wf).0 ∙ contents_skip p.header p.size p.gap ps (queue (bytes st r (p ∷ ps)))
 
   -- where the first packet's bytes are
-  first_run : (st : List ℕ) (r : ℕ) (p : Packet H) (ps : List (Packet H)) → WellFormed (bytes st r (p ∷ ps)) → ArePlaced (length st) r 0 (p ∷ ps)
+  first_run : (st : List ℕ) (r : ℕ) (p : Packet H) (ps : List (Packet H)) → IsWellFormed (bytes st r (p ∷ ps)) → ArePlaced (length st) r 0 (p ∷ ps)
       → (storage_index (bytes st r (p ∷ ps)) p.gap + p.size ≤ length st)
       × (take p.size (drop (storage_index (bytes st r (p ∷ ps)) p.gap) st) ≡ take p.size (drop p.gap (queue (bytes st r (p ∷ ps)))))
   first_run st r p ps wf a =
@@ -226,9 +226,9 @@ module _ {H : Type 0} where
       let z : 0 + p.gap ≡ p.gap = omega arith in
       let at = ap (index_after (length st) r) z in
       let fits : storage_index c p.gap + p.size ≤ length st = omega (arith, at, a.0.0) in
-      (fits, held_value c wf p.gap p.size (storage_index c p.gap) (omega arith) fits (storage_index_is c p.gap))
+      (fits, queue_value c wf p.gap p.size (storage_index c p.gap) (omega arith) fits (storage_index_is c p.gap))
 
-  shown_go : (st : List ℕ) (r : ℕ) (ps : List (Packet H)) → WellFormed (bytes st r ps) → ArePlaced (length st) r 0 ps
+  shown_go : (st : List ℕ) (r : ℕ) (ps : List (Packet H)) → IsWellFormed (bytes st r ps) → ArePlaced (length st) r 0 ps
       → (hd : H) (ws : List ℕ) → IsFirstSized ps hd (length ws)
       → ws ≡ take (first_size (without_first_gap ps)) (drop (storage_index (bytes st r ps) (first_gap ps)) st)
       → contents_of ps (queue (bytes st r ps)) ≡ (hd, ws) ∷ drop 1 (contents_of ps (queue (bytes st r ps)))
@@ -241,14 +241,14 @@ module _ {H : Type 0} where
   contents_first : (h : H) (s : ℕ) (ps : List (Packet H)) (bs ws : List ℕ) → s ≤ length bs → length ws ≡ s
       → contents_of (packet h s 0 ∷ ps) (overwrite bs 0 ws) ≡ (h, ws) ∷ contents_of ps (drop s bs)
   contents_first h s ps bs ws fits long =
-      let o = over_front bs ws s fits long in
+      let o = over_head bs ws s fits long in
       let n : 0 + s ≡ s = omega arith in
       ap₂ (λ (one rest : List ℕ). (h, one) ∷ contents_of ps rest) o.0 (ap (λ (i : ℕ). drop i (overwrite bs 0 ws)) n ∙ o.1)
 
   contents_rest : (h : H) (s : ℕ) (ps : List (Packet H)) (bs : List ℕ) → drop 1 (contents_of (packet h s 0 ∷ ps) bs) ≡ contents_of ps (drop s bs)
   contents_rest h s ps bs = let n : 0 + s ≡ s = omega arith in ap (λ (i : ℕ). contents_of ps (drop i bs)) n
 
-  refused_go : (st : List ℕ) (r : ℕ) (ps : List (Packet H)) → WellFormed (bytes st r ps) → ArePlaced (length st) r 0 ps → ps ≢ []
+  refused_go : (st : List ℕ) (r : ℕ) (ps : List (Packet H)) → IsWellFormed (bytes st r ps) → ArePlaced (length st) r 0 ps → ps ≢ []
       → (hd : H) (ws : List ℕ) → length ws ≡ first_size ps
       → contents_of (with_first_header hd (without_first_gap ps))
       (queue (bytes (overwrite st (storage_index (bytes st r ps) (first_gap ps)) ws) (storage_index (bytes st r ps) (first_gap ps))
@@ -266,7 +266,7 @@ module _ {H : Type 0} where
       ∙ contents_first hd p.size ps (drop p.gap (queue c)) ws (omega (arith, n, q)) long
       ∙ ap (λ l. (hd, ws) ∷ l) (sym (contents_rest p.header p.size ps (drop p.gap (queue c))) ∙ ap (drop 1) (contents_skip p.header p.size p.gap ps (queue c)))
 
-  left_go : (st : List ℕ) (r : ℕ) (ps : List (Packet H)) → WellFormed (bytes st r ps)
+  left_go : (st : List ℕ) (r : ℕ) (ps : List (Packet H)) → IsWellFormed (bytes st r ps)
       → contents_of (drop 1 (without_first_gap ps))
       (queue (bytes st (storage_index (bytes st (storage_index (bytes st r ps) (first_gap ps)) (without_first_gap ps))
       (first_size (without_first_gap ps))) (drop 1 (without_first_gap ps))))
@@ -278,7 +278,7 @@ module _ {H : Type 0} where
       ap (contents_of ps) (pop_queue st (storage_index c p.gap) p.header p.size ps sk.1 ∙ ap (drop p.size) sk.0)
       ∙ sym (contents_rest p.header p.size ps (drop p.gap (queue c))) ∙ ap (drop 1) (contents_skip p.header p.size p.gap ps (queue c))
 
-  left_with_go : (st : List ℕ) (r : ℕ) (ps : List (Packet H)) → WellFormed (bytes st r ps) → ArePlaced (length st) r 0 ps
+  left_with_go : (st : List ℕ) (r : ℕ) (ps : List (Packet H)) → IsWellFormed (bytes st r ps) → ArePlaced (length st) r 0 ps
       → (hd : H) (ws : List ℕ) → length ws ≡ first_size ps → (o : List ℕ) → o ≡ overwrite st (storage_index (bytes st r ps) (first_gap ps)) ws
       → contents_of (drop 1 (with_first_header hd (without_first_gap ps)))
       (queue (bytes o (storage_index (bytes o (storage_index (bytes st r ps) (first_gap ps)) (with_first_header hd (without_first_gap ps)))
@@ -295,10 +295,10 @@ module _ {H : Type 0} where
       let q = length-queue c wf in
       ap (λ (l : List ℕ). contents_of ps (queue (bytes l (storage_index (bytes l from (packet hd p.size 0 ∷ ps)) p.size) ps))) is
       ∙ ap (contents_of ps) (pop_queue (overwrite st from ws) from p.header p.size ps w.1
-      ∙ ap (drop p.size) (w.0 ∙ ap (λ (l : List ℕ). overwrite l 0 ws) sk.0) ∙ (over_front (drop p.gap (queue c)) ws p.size (omega (arith, n, q)) long).1)
+      ∙ ap (drop p.size) (w.0 ∙ ap (λ (l : List ℕ). overwrite l 0 ws) sk.0) ∙ (over_head (drop p.gap (queue c)) ws p.size (omega (arith, n, q)) long).1)
       ∙ sym (contents_rest p.header p.size ps (drop p.gap (queue c))) ∙ ap (drop 1) (contents_skip p.header p.size p.gap ps (queue c))
 
-  module _ (q : PacketQueue H) (ok : WellPlaced q) where
+  module _ (q : PacketQueue H) (ok : IsWellPlaced q) where
     pub gap_dropped : contents (without_gap q) ≡ contents q
     unfolding contents
     gap_dropped = skipped_go q.storage q.read_at q.packets ok.0

@@ -10,7 +10,7 @@ use Rattle.std.specs.List.{slice_get}
 use Rattle.std.specs.declared.option.Option.TheVariants.{Some, None}
 use Rattle.net_storage.specs.Overwrite.{overwrite}
 use Rattle.net_storage.specs.Ring.{RingState, ring, index_after, freed_index, rotation, capacity}
-use Rattle.net_storage.specs.Ring.{window, queue, storage_index, WellFormed, from_start_if_empty}
+use Rattle.net_storage.specs.Ring.{window, queue, storage_index, IsWellFormed, from_start_if_empty}
 use Rattle.net_storage.specs.Ring.{with_enqueued, with_dequeued, with_elements, contiguous_window}
 use Rattle.net_storage.specs.Ring.{contiguous_queued, queue_index, contiguous_queued_from}
 use Rattle.net_storage.specs.Ring.{spare_index, contiguous_window_from}
@@ -21,19 +21,19 @@ use Rattle.net_storage.specs.Packets.{before_last, last_index, last_bytes, with_
 use Rattle.net_storage.specs.Packets.{with_last_size, with_first_size, IsRoom, first_gap}
 use Rattle.net_storage.specs.Packets.{first_size, without_first_gap, without_gap, IsFirstSized}
 use Rattle.net_storage.specs.Packets.{first_bytes, IsFirst, with_first_header, with_first_bytes}
-use Rattle.net_storage.specs.Packets.{without_first, freed_bytes_index, AreFreed, WellPlaced, with_bytes}
+use Rattle.net_storage.specs.Packets.{without_first, freed_bytes_index, AreFreed, IsWellPlaced, with_bytes}
 use Rattle.net_storage.specs.PacketSlots.{slot, gap_slot, packet_slots, packets_in, StandFor, packet_queue}
 use Rattle.net_storage.specs.declared.packet_metadata.PacketMetadata.{PacketMetadata}
 use Rattle.net_storage.proofs.Rotations.{length-overwrite, length-queue, with_dequeued_parts, part-rotation, cut, overwrite_at, read_at_le}
 use Rattle.net_storage.proofs.RingFacts.{read_index_is, restart_cases, restart_wf}
 use Rattle.net_storage.proofs.PacketFacts.{round, slots_append, slots_of_append, bytes_append}
 use Rattle.net_storage.proofs.PacketFacts.{placed_append, placed_anew, placed_here, placed_skip}
-use Rattle.net_storage.proofs.PacketFacts.{placed_pop, slots_some, held_is, place_zero, place_le_in}
+use Rattle.net_storage.proofs.PacketFacts.{placed_pop, slots_some, count_is, place_zero, place_le_in}
 use Rattle.net_storage.proofs.PacketFacts.{place_wf, gap_slot_one, gap_slot_none, place_cases}
 
 module _ (b : RingState ℕ) where
-  pub restart_held : (from_start_if_empty b).count ≡ b.count
-  restart_held = elim (restart_cases b) [ inl h ↦ ap (λ o. o.count) h.1 ∙ sym h.0 | inr h ↦ ap (λ o. o.count) h.1 ]
+  pub restart_count : (from_start_if_empty b).count ≡ b.count
+  restart_count = elim (restart_cases b) [ inl h ↦ ap (λ o. o.count) h.1 ∙ sym h.0 | inr h ↦ ap (λ o. o.count) h.1 ]
 
   pub restart_storage : (from_start_if_empty b).storage ≡ b.storage
   restart_storage = elim (restart_cases b) [ inl h ↦ ap (λ o. o.storage) h.1 | inr h ↦ ap (λ o. o.storage) h.1 ]
@@ -74,8 +74,8 @@ module _ {H : Type 0} where
   -- ---- a packet comes last
   module _ (m : RingState (PacketMetadata H)) (b : RingState ℕ) (h : StandFor m b (packets_in 0 (queue m))) (gap s : ℕ) (e : placement (packet_queue m b) s
       ≡ Some gap) where
-    abbrev held_packets : List (Packet H)
-    held_packets = packets_in 0 (queue m)
+    abbrev queued_packets : List (Packet H)
+    queued_packets = packets_in 0 (queue m)
 
     abbrev before : PacketQueue H
     before = packet_queue m b
@@ -90,14 +90,14 @@ module _ {H : Type 0} where
     same = ap (λ (n : ℕ). ring b.storage b.read_at n) (sym h.3)
 
     parts : (gap_for s (contiguous_window (from_start_if_empty (byte_ring before))) (window (from_start_if_empty (byte_ring before))) ≡ Some gap)
-        × (slots_for gap ≤ capacity m - slots_used held_packets)
-    parts = slots_some (capacity m - slots_used held_packets)
+        × (slots_for gap ≤ capacity m - slots_used queued_packets)
+    parts = slots_some (capacity m - slots_used queued_packets)
         (gap_for s (contiguous_window (from_start_if_empty (byte_ring before))) (window (from_start_if_empty (byte_ring before)))) gap e
 
     for_g : gap_for s (contiguous_window g) (window g) ≡ Some gap
     for_g = sym (ap (λ o. gap_for s (contiguous_window (from_start_if_empty o)) (window (from_start_if_empty o))) same) ∙ parts.0
 
-    pub wfg : WellFormed g
+    pub wfg : IsWellFormed g
     wfg = restart_wf b h.1
 
     pub here : (index_after room g.read_at (g.count + gap) + s ≤ room)
@@ -105,23 +105,23 @@ module _ {H : Type 0} where
     here = placed_here room g.read_at g.count s gap wfg.0 wfg.1 for_g
 
     pub free_room : slots_for gap ≤ window m
-    free_room = let n = held_is m b held_packets h in omega (arith, parts.1, n)
+    free_room = let n = count_is m b queued_packets h in omega (arith, parts.1, n)
 
     pub byte_room : gap + s ≤ window g
     byte_room = omega (arith, here.2)
 
-    pub held_g : g.count ≡ bytes_used held_packets
-    held_g = restart_held b ∙ h.3
+    pub count_g : g.count ≡ bytes_used queued_packets
+    count_g = restart_count b ∙ h.3
 
-    placed_g : ArePlaced room g.read_at 0 held_packets
+    placed_g : ArePlaced room g.read_at 0 queued_packets
     placed_g = elim (restart_cases b) [
-      | inl k ↦ placed_anew room g.read_at 0 held_packets (sym h.3 ∙ k.0) (place_le_in room g.read_at 0 wfg.0 (omega arith))
-      | inr k ↦ subst (λ (o : RingState ℕ). ArePlaced (capacity o) o.read_at 0 held_packets) (sym k.1) h.4
+      | inl k ↦ placed_anew room g.read_at 0 queued_packets (sym h.3 ∙ k.0) (place_le_in room g.read_at 0 wfg.0 (omega arith))
+      | inr k ↦ subst (λ (o : RingState ℕ). ArePlaced (capacity o) o.read_at 0 queued_packets) (sym k.1) h.4
     ]
 
     module _ (hd : H) (k : ℕ) where
       abbrev one_more : List (Packet H)
-      one_more = held_packets ++ (packet hd k gap ∷ [])
+      one_more = queued_packets ++ (packet hd k gap ∷ [])
 
       pub push_is : mk (capacity m) g.storage g.read_at one_more ≡ with_packet before gap k hd
       push_is =
@@ -131,26 +131,26 @@ module _ {H : Type 0} where
       module _ (le : k ≤ s) where
         push_placed : ArePlaced room g.read_at 0 one_more
         push_placed =
-            let at : IsPlaced room g.read_at (0 + bytes_used held_packets) (packet hd k gap) =
-            subst (λ (n : ℕ). IsPlaced room g.read_at n (packet hd k gap)) (let z : g.count ≡ 0 + bytes_used held_packets =
-            omega (arith, held_g) in z) (omega (arith, here.0, le), here.1) in
-            placed_append room g.read_at 0 held_packets (packet hd k gap) placed_g at
+            let at : IsPlaced room g.read_at (0 + bytes_used queued_packets) (packet hd k gap) =
+            subst (λ (n : ℕ). IsPlaced room g.read_at n (packet hd k gap)) (let z : g.count ≡ 0 + bytes_used queued_packets =
+            omega (arith, count_g) in z) (omega (arith, here.0, le), here.1) in
+            placed_append room g.read_at 0 queued_packets (packet hd k gap) placed_g at
 
-        pub push_well : WellPlaced (with_packet before gap k hd)
+        pub push_well : IsWellPlaced (with_packet before gap k hd)
         push_well =
-            let n = held_is m b held_packets h in
-            let all = bytes_append held_packets (packet hd k gap) in
-            let more = slots_of_append held_packets (packet hd k gap) in
-            subst WellPlaced push_is ((wfg.0, omega (arith, here.2, le, all, held_g)), push_placed, omega (arith, more, n, free_room, h.0.1))
+            let n = count_is m b queued_packets h in
+            let all = bytes_append queued_packets (packet hd k gap) in
+            let more = slots_of_append queued_packets (packet hd k gap) in
+            subst IsWellPlaced push_is ((wfg.0, omega (arith, here.2, le, all, count_g)), push_placed, omega (arith, more, n, free_room, h.0.1))
 
-        module _ (m2 : RingState (PacketMetadata H)) (em : queue m2 ≡ queue m ++ (gap_slot gap ++ (slot k (Some hd) ∷ []))) (wfm : WellFormed m2) where
+        module _ (m2 : RingState (PacketMetadata H)) (em : queue m2 ≡ queue m ++ (gap_slot gap ++ (slot k (Some hd) ∷ []))) (wfm : IsWellFormed m2) where
           pub push_holds : StandFor m2 (with_enqueued (gap + k) g) one_more
           push_holds =
               let slots_all : queue m2 ≡ packet_slots one_more =
               em ∙ ap (λ (l : List (PacketMetadata H)). l ++ (gap_slot gap ++ (slot k (Some hd) ∷ []))) h.2
-              ∙ sym (slots_append held_packets (packet hd k gap)) in
-              let all = bytes_append held_packets (packet hd k gap) in
-              (wfm, (wfg.0, omega (arith, here.2, le)), slots_all, omega (arith, held_g, all), push_placed)
+              ∙ sym (slots_append queued_packets (packet hd k gap)) in
+              let all = bytes_append queued_packets (packet hd k gap) in
+              (wfm, (wfg.0, omega (arith, here.2, le)), slots_all, omega (arith, count_g, all), push_placed)
 
           pub push_left : (cm : capacity m2 ≡ capacity m) → packet_queue m2 (with_enqueued (gap + k) g) ≡ with_packet before gap k hd
           push_left cm = viewed m2 (with_enqueued (gap + k) g) one_more push_holds ∙ ap (λ (n : ℕ). mk n g.storage g.read_at one_more) cm ∙ push_is
@@ -158,18 +158,18 @@ module _ {H : Type 0} where
     -- ---- a packet comes last, and bytes are written to it
     module _ (hd : H) where
       abbrev all : List (Packet H)
-      all = held_packets ++ (packet hd s gap ∷ [])
+      all = queued_packets ++ (packet hd s gap ∷ [])
 
       pushed_is : with_packet_if_room before s hd ≡ with_packet before gap s hd
       pushed_is = ap (λ o. with_packet_if before o s hd) e
 
       end_size : first_size (only_last all) ≡ s
-      end_size = ap first_size (last_append held_packets (packet hd s gap))
+      end_size = ap first_size (last_append queued_packets (packet hd s gap))
 
       push_place : last_index (with_packet before gap s hd) ≡ index_after room g.read_at (g.count + gap)
       push_place =
-          let sum = bytes_append held_packets (packet hd s gap) in
-          let n : bytes_used all - first_size (only_last all) ≡ g.count + gap = omega (arith, sum, end_size, held_g) in
+          let sum = bytes_append queued_packets (packet hd s gap) in
+          let n : bytes_used all - first_size (only_last all) ≡ g.count + gap = omega (arith, sum, end_size, count_g) in
           ap (index_after (length b.storage) (from_start_if_empty (byte_ring before)).read_at) n
           ∙ ap (λ (o : RingState ℕ). index_after (length b.storage) (from_start_if_empty o).read_at (g.count + gap)) same
           ∙ ap (λ (st : List ℕ). index_after (length st) g.read_at (g.count + gap)) (sym (restart_storage b))
@@ -186,11 +186,11 @@ module _ {H : Type 0} where
           ∙ ap (λ (o : PacketQueue H). with_last_bytes o ws) (sym pushed_is)
 
       pub cut_is : (k : ℕ) (ws : List ℕ)
-          → mk (capacity m) (overwrite g.storage at ws) g.read_at (held_packets ++ (packet hd k gap ∷ []))
+          → mk (capacity m) (overwrite g.storage at ws) g.read_at (queued_packets ++ (packet hd k gap ∷ []))
           ≡ with_last_size k (with_last_bytes (with_packet_if_room before s hd) ws)
       cut_is k ws =
-          ap₂ (λ (front back : List (Packet H)). mk (capacity m) (overwrite g.storage at ws) g.read_at (front ++ back))
-          (sym (before_append held_packets (packet hd s gap))) (sym (ap (with_first_size k) (last_append held_packets (packet hd s gap))))
+          ap₂ (λ (head_size back : List (Packet H)). mk (capacity m) (overwrite g.storage at ws) g.read_at (head_size ++ back))
+          (sym (before_append queued_packets (packet hd s gap))) (sym (ap (with_first_size k) (last_append queued_packets (packet hd s gap))))
           ∙ ap (with_last_size k) (put_is ws)
 
       module _ (b1 : RingState ℕ) (is : b1 ≡ g) where
@@ -222,13 +222,13 @@ module _ {H : Type 0} where
             ((λ n. none-some gap (sym n ∙ e)), stored ∙ ap (λ (n : ℕ). take n (drop (spare_index b1 gap) b1.storage)) long ∙ sym one, long)
 
         module _ (k : ℕ) (le : k ≤ s) (ws : List ℕ) (m2 : RingState (PacketMetadata H)) (em : queue m2
-            ≡ queue m ++ (gap_slot gap ++ (slot k (Some hd) ∷ []))) (wfm : WellFormed m2) (b3 : RingState ℕ) (after : b3
+            ≡ queue m ++ (gap_slot gap ++ (slot k (Some hd) ∷ []))) (wfm : IsWellFormed m2) (b3 : RingState ℕ) (after : b3
             ≡ with_enqueued (gap + k) (with_elements b1 (spare_index b1 gap) ws)) where
           after_is : b3 ≡ with_elements (with_enqueued (gap + k) g) at ws
           after_is = after ∙ ap₂ (λ (o : RingState ℕ) (p : ℕ). with_enqueued (gap + k) (with_elements o p ws)) is fill_at
 
-          holds : StandFor m2 (with_elements (with_enqueued (gap + k) g) at ws) (held_packets ++ (packet hd k gap ∷ []))
-          holds = written_holds m2 (with_enqueued (gap + k) g) (held_packets ++ (packet hd k gap ∷ [])) (push_holds hd k le m2 em wfm) at ws
+          holds : StandFor m2 (with_elements (with_enqueued (gap + k) g) at ws) (queued_packets ++ (packet hd k gap ∷ []))
+          holds = written_holds m2 (with_enqueued (gap + k) g) (queued_packets ++ (packet hd k gap ∷ [])) (push_holds hd k le m2 em wfm) at ws
 
           pub fill_holds : StandFor m2 b3 (packets_in 0 (queue m2))
           fill_holds = subst (λ (o : RingState ℕ). StandFor m2 o (packets_in 0 (queue m2))) (sym after_is) (closed m2 _ _ holds)
@@ -236,7 +236,7 @@ module _ {H : Type 0} where
           pub fill_left : capacity m2 ≡ capacity m → packet_queue m2 b3 ≡ with_last_size k (with_last_bytes (with_packet_if_room before s hd) ws)
           fill_left cm =
               ap (packet_queue m2) after_is ∙ viewed m2 _ _ holds
-              ∙ ap (λ (n : ℕ). mk n (overwrite g.storage at ws) g.read_at (held_packets ++ (packet hd k gap ∷ []))) cm ∙ cut_is k ws
+              ∙ ap (λ (n : ℕ). mk n (overwrite g.storage at ws) g.read_at (queued_packets ++ (packet hd k gap ∷ []))) cm ∙ cut_is k ws
 
   -- ---- the last packet
   last_one : (p : Packet H) → only_last (p ∷ []) ≡ p ∷ []
@@ -290,8 +290,8 @@ module _ {H : Type 0} where
     ends : (end ≤ bytes_used (packets_in 0 (queue m))) × (index_after (capacity b) b.read_at (0 + bytes_used (packets_in 0 (queue m)) - end) + end ≤ capacity b)
     ends = last_fits (capacity b) b.read_at 0 (packets_in 0 (queue m)) h.1.0 (omega (arith, h.3, h.1.1)) h.4
 
-    pub end_held : end ≤ b.count
-    end_held = omega (arith, h.3, ends.0)
+    pub end_queued : end ≤ b.count
+    end_queued = omega (arith, h.3, ends.0)
 
     pub end_place : queue_index b (b.count - end) ≡ last_index (packet_queue m b)
     end_place =
@@ -351,33 +351,33 @@ module _ {H : Type 0} where
         ∙ ap (λ n. with_dequeued n b) all)) (skip_kept (omega (arith, all, some))))
 
   -- ---- the first packet, whose gap is gone
-  front_slots : (ps : List (Packet H)) (p : Packet H) → p.gap ≡ 0 → packet_slots (p ∷ ps) ≡ slot p.size (Some p.header) ∷ packet_slots ps
-  front_slots ps p z = ap (λ l. l ++ (slot p.size (Some p.header) ∷ packet_slots ps)) (gap_slot_none p.gap z)
+  head_slots : (ps : List (Packet H)) (p : Packet H) → p.gap ≡ 0 → packet_slots (p ∷ ps) ≡ slot p.size (Some p.header) ∷ packet_slots ps
+  head_slots ps p z = ap (λ l. l ++ (slot p.size (Some p.header) ∷ packet_slots ps)) (gap_slot_none p.gap z)
 
   abbrev first_or : PacketMetadata H → List (PacketMetadata H) → PacketMetadata H
   first_or d [] = d
   first_or d (x ∷ xs) = x
 
   -- the slot that stands first is that of the first packet
-  pub front_is : (ps : List (Packet H)) (x : PacketMetadata H) (ms : List (PacketMetadata H)) → x ∷ ms ≡ packet_slots ps → first_gap ps ≡ 0
+  pub head_is : (ps : List (Packet H)) (x : PacketMetadata H) (ms : List (PacketMetadata H)) → x ∷ ms ≡ packet_slots ps → first_gap ps ≡ 0
       → (p : Packet H) × (ps ≡ p ∷ drop 1 ps) × (x ≡ slot p.size (Some p.header)) × (ms ≡ packet_slots (drop 1 ps)) × (p.gap ≡ 0)
-  front_is [] x ms e z = absurd (let n = ap length e in omega (arith, n))
-  front_is (p ∷ ps) x ms e z =
-      let f = e ∙ front_slots ps p z in
+  head_is [] x ms e z = absurd (let n = ap length e in omega (arith, n))
+  head_is (p ∷ ps) x ms e z =
+      let f = e ∙ head_slots ps p z in
       (p, refl, ap (first_or x) f, ap (drop 1) f, z)
 
   -- where the first packet is
-  pub front_fits : (c r : ℕ) (ps : List (Packet H)) → (r ≡ 0) ⊎ (r < c) → bytes_used ps ≤ c → ArePlaced c r 0 ps
+  pub head_fits : (c r : ℕ) (ps : List (Packet H)) → (r ≡ 0) ⊎ (r < c) → bytes_used ps ≤ c → ArePlaced c r 0 ps
       → first_gap ps ≡ 0 → (first_size ps ≤ bytes_used ps) × (r + first_size ps ≤ c)
-  front_fits c r [] wf le a z = (omega arith, elim wf [ inl e ↦ omega (arith, e) | inr l ↦ omega (arith, l) ])
-  front_fits c r (p ∷ ps) wf le a z =
+  head_fits c r [] wf le a z = (omega arith, elim wf [ inl e ↦ omega (arith, e) | inr l ↦ omega (arith, l) ])
+  head_fits c r (p ∷ ps) wf le a z =
       let n : 0 + p.gap ≡ 0 = omega (arith, z) in
       let is = ap (index_after c r) n in
       let at = place_zero c r wf in
       (omega arith, omega (arith, is, at, a.0.0))
 
-  pop_go : (m2 : RingState (PacketMetadata H)) (b : RingState ℕ) (ps : List (Packet H)) → WellFormed m2
-      → queue m2 ≡ packet_slots (drop 1 ps) → WellFormed b → b.count ≡ bytes_used ps → ArePlaced (capacity b) b.read_at 0 ps → first_gap ps ≡ 0
+  pop_go : (m2 : RingState (PacketMetadata H)) (b : RingState ℕ) (ps : List (Packet H)) → IsWellFormed m2
+      → queue m2 ≡ packet_slots (drop 1 ps) → IsWellFormed b → b.count ≡ bytes_used ps → ArePlaced (capacity b) b.read_at 0 ps → first_gap ps ≡ 0
       → StandFor m2 (with_dequeued (first_size ps) b) (drop 1 ps)
   pop_go m2 b [] wfm em wf n a z =
       (wfm, (place_wf (capacity b) b.read_at 0 wf.0 (omega arith), omega (arith, wf.1)), em, omega (arith, n), tt)
@@ -390,34 +390,34 @@ module _ {H : Type 0} where
   )
 
   module _ (m : RingState (PacketMetadata H)) (b : RingState ℕ) (h : StandFor m b (packets_in 0 (queue m))) (z : first_gap (packets_in 0 (queue m)) ≡ 0) where
-    abbrev front : ℕ
-    front = first_size (packets_in 0 (queue m))
+    abbrev head_size : ℕ
+    head_size = first_size (packets_in 0 (queue m))
 
-    fits : (front ≤ bytes_used (packets_in 0 (queue m))) × (b.read_at + front ≤ capacity b)
-    fits = front_fits (capacity b) b.read_at (packets_in 0 (queue m)) h.1.0 (omega (arith, h.3, h.1.1)) h.4 z
+    fits : (head_size ≤ bytes_used (packets_in 0 (queue m))) × (b.read_at + head_size ≤ capacity b)
+    fits = head_fits (capacity b) b.read_at (packets_in 0 (queue m)) h.1.0 (omega (arith, h.3, h.1.1)) h.4 z
 
-    pub front_in_row : front ≤ contiguous_queued b
-    front_in_row = omega (arith, h.3, fits.0, fits.1)
+    pub head_in_row : head_size ≤ contiguous_queued b
+    head_in_row = omega (arith, h.3, fits.0, fits.1)
 
-    pub front_at : queue_index b 0 ≡ b.read_at
-    front_at = let n : min 0 b.count ≡ 0 = omega arith in ap (index_after (capacity b) b.read_at) n ∙ place_zero (capacity b) b.read_at h.1.0
+    pub head_at : queue_index b 0 ≡ b.read_at
+    head_at = let n : min 0 b.count ≡ 0 = omega arith in ap (index_after (capacity b) b.read_at) n ∙ place_zero (capacity b) b.read_at h.1.0
 
-    pub front_run : contiguous_queued_from b 0 front ≡ front
-    front_run = let at = front_at in omega (arith, h.3, fits.0, fits.1, at)
+    pub head_run : contiguous_queued_from b 0 head_size ≡ head_size
+    head_run = let at = head_at in omega (arith, h.3, fits.0, fits.1, at)
 
     -- the first slot is that of the first packet
-    pub front_slot : (x : PacketMetadata H) → queue m ≡ x ∷ drop 1 (queue m)
+    pub head_slot : (x : PacketMetadata H) → queue m ≡ x ∷ drop 1 (queue m)
         → (p : Packet H) × (packets_in 0 (queue m) ≡ p ∷ drop 1 (packets_in 0 (queue m))) × (x ≡ slot p.size (Some p.header))
         × (drop 1 (queue m) ≡ packet_slots (drop 1 (packets_in 0 (queue m)))) × (p.gap ≡ 0)
-    front_slot x e = front_is (packets_in 0 (queue m)) x (drop 1 (queue m)) (sym e ∙ h.2) z
+    head_slot x e = head_is (packets_in 0 (queue m)) x (drop 1 (queue m)) (sym e ∙ h.2) z
 
-    pub front_long : (x : PacketMetadata H) → queue m ≡ x ∷ drop 1 (queue m) → x.size ≡ front
-    front_long x e = let f = front_slot x e in ap (λ y. y.size) f.2 ∙ sym (ap first_size f.1)
+    pub head_long : (x : PacketMetadata H) → queue m ≡ x ∷ drop 1 (queue m) → x.size ≡ head_size
+    head_long x e = let f = head_slot x e in ap (λ y. y.size) f.2 ∙ sym (ap first_size f.1)
 
-    pub front_first : (x : PacketMetadata H) → queue m ≡ x ∷ drop 1 (queue m) → (hd : H) → x.header ≡ Some hd → (n : ℕ)
-        → n ≡ front → (q : PacketQueue H) → packet_queue m b ≡ q → IsFirstSized q.packets hd n
-    front_first x e hd i n en q is =
-        let f = front_slot x e in
+    pub head_first : (x : PacketMetadata H) → queue m ≡ x ∷ drop 1 (queue m) → (hd : H) → x.header ≡ Some hd → (n : ℕ)
+        → n ≡ head_size → (q : PacketQueue H) → packet_queue m b ≡ q → IsFirstSized q.packets hd n
+    head_first x e hd i n en q is =
+        let f = head_slot x e in
         let same : f.0.header ≡ hd = (cond_some true f.0.header hd (sym (ap (λ y. y.header) f.2) ∙ i)).1 in
         let size : f.0.size ≡ n = sym (ap first_size f.1) ∙ sym en in
         let gap : f.0.gap ≡ first_gap (packets_in 0 (queue m)) = sym (ap first_gap f.1) in
@@ -428,7 +428,7 @@ module _ {H : Type 0} where
 
     -- the first packet goes
     pub pop_holds : (m2 : RingState (PacketMetadata H)) → queue m2 ≡ packet_slots (drop 1 (packets_in 0 (queue m)))
-        → WellFormed m2 → StandFor m2 (with_dequeued front b) (drop 1 (packets_in 0 (queue m)))
+        → IsWellFormed m2 → StandFor m2 (with_dequeued head_size b) (drop 1 (packets_in 0 (queue m)))
     pop_holds m2 em wfm = pop_go m2 b (packets_in 0 (queue m)) wfm em h.1 h.3 h.4 z
 
 -- ---- the first element of a list that was read
@@ -523,9 +523,9 @@ module _ {H : Type 0} where
     end_none = none_go (packets_in 0 (queue m)) (queue m) l k n h.2 back el some
 
   -- ---- what holds of every queue
-  pub well_placed : (m : RingState (PacketMetadata H)) (b : RingState ℕ) (h : StandFor m b (packets_in 0 (queue m))) → WellPlaced (packet_queue m b)
+  pub well_placed : (m : RingState (PacketMetadata H)) (b : RingState ℕ) (h : StandFor m b (packets_in 0 (queue m))) → IsWellPlaced (packet_queue m b)
   well_placed m b h =
-      let n = held_is m b (packets_in 0 (queue m)) h in
+      let n = count_is m b (packets_in 0 (queue m)) h in
       let k = h.3 in
       ((h.1.0, omega (arith, k, h.1.1)), h.4, omega (arith, n, h.0.1))
 
@@ -575,7 +575,7 @@ over_part st ws r n fits le =
     ∙ sym (ap (λ (l : List ℕ). overwrite l r ws) parts ∙ overwrite_at a one (two ++ z) ws r c1.3 c3.3)
 
 -- what a ring lends from its read index on
-lent_is : (b : RingState ℕ) → WellFormed b → take (contiguous_queued b) (queue b) ≡ take (contiguous_queued b) (drop b.read_at b.storage)
+lent_is : (b : RingState ℕ) → IsWellFormed b → take (contiguous_queued b) (queue b) ≡ take (contiguous_queued b) (drop b.read_at b.storage)
 lent_is b wf =
     let r = read_at_le b wf in
     take-take (contiguous_queued b) b.count (rotation b.storage b.read_at) (omega arith)
@@ -583,10 +583,10 @@ lent_is b wf =
 
 module _ {H : Type 0} where
   headed_go : (m2 : RingState (PacketMetadata H)) (b : RingState ℕ) (ps : List (Packet H)) (hd : H) → first_gap ps ≡ 0
-      → 0 < length ps → queue m2 ≡ slot (first_size ps) (Some hd) ∷ packet_slots (drop 1 ps) → WellFormed m2
-      → WellFormed b → b.count ≡ bytes_used ps → ArePlaced (capacity b) b.read_at 0 ps → StandFor m2 b (with_first_header hd ps)
+      → 0 < length ps → queue m2 ≡ slot (first_size ps) (Some hd) ∷ packet_slots (drop 1 ps) → IsWellFormed m2
+      → IsWellFormed b → b.count ≡ bytes_used ps → ArePlaced (capacity b) b.read_at 0 ps → StandFor m2 b (with_first_header hd ps)
   headed_go m2 b [] hd z some em wfm wf n a = absurd (omega (arith, some))
-  headed_go m2 b (p ∷ ps) hd z some em wfm wf n a = (wfm, wf, em ∙ sym (front_slots ps (packet hd p.size p.gap) z), n, a)
+  headed_go m2 b (p ∷ ps) hd z some em wfm wf n a = (wfm, wf, em ∙ sym (head_slots ps (packet hd p.size p.gap) z), n, a)
 
   headed_size : (hd : H) (ps : List (Packet H)) → first_size (with_first_header hd ps) ≡ first_size ps
   headed_size hd [] = refl
@@ -607,13 +607,13 @@ module _ {H : Type 0} where
 
     first_is : (p : Packet H) × (kept ≡ p ∷ drop 1 kept) × (slot s (Some hd) ≡ slot p.size (Some p.header))
         × (drop 1 (queue m) ≡ packet_slots (drop 1 kept)) × (p.gap ≡ 0)
-    first_is = front_slot m b h z (slot s (Some hd)) e
+    first_is = head_slot m b h z (slot s (Some hd)) e
 
     size_is : s ≡ first_size kept
-    size_is = front_long m b h z (slot s (Some hd)) e
+    size_is = head_long m b h z (slot s (Some hd)) e
 
     row : s ≤ contiguous_queued b
-    row = let f = front_in_row m b h z in omega (arith, f, size_is)
+    row = let f = head_in_row m b h z in omega (arith, f, size_is)
 
     pub lift_fits : s ≤ length lent
     lift_fits =
@@ -625,10 +625,10 @@ module _ {H : Type 0} where
     lift_bytes = ap (take s) (lent_is b h.1) ∙ take-take s (contiguous_queued b) (drop b.read_at b.storage) row
         ∙ ap (λ (n : ℕ). take n (drop b.read_at b.storage)) size_is
 
-    pub lift_front : (old : PacketQueue H) → packet_queue m b ≡ without_gap old → IsFirst old hd (take s lent)
-    lift_front old is =
+    pub lift_head : (old : PacketQueue H) → packet_queue m b ≡ without_gap old → IsFirst old hd (take s lent)
+    lift_head old is =
         let n : length (take s lent) ≡ s = length-take-le s lent lift_fits in (
-          close_first old.packets hd (length (take s lent)) (front_first m b h z (slot s (Some hd)) e hd refl (length (take s lent)) (n
+          close_first old.packets hd (length (take s lent)) (head_first m b h z (slot s (Some hd)) e hd refl (length (take s lent)) (n
               ∙ size_is) (without_gap old) is),
           lift_bytes
               ∙ ap first_bytes is,
@@ -647,7 +647,7 @@ module _ {H : Type 0} where
       bytes_are = is ∙ ap (λ (st : List ℕ). ring st (storage_index b k) (b.count - k)) over
 
       -- it is taken off
-      module _ (all : k ≡ s) (m2 : RingState (PacketMetadata H)) (em : queue m2 ≡ drop 1 (queue m)) (wfm : WellFormed m2) where
+      module _ (all : k ≡ s) (m2 : RingState (PacketMetadata H)) (em : queue m2 ≡ drop 1 (queue m)) (wfm : IsWellFormed m2) where
         long_is : length b.storage ≡ length (overwrite b.storage b.read_at ws)
         long_is = sym (length-overwrite b.storage b.read_at ws)
 
@@ -671,7 +671,7 @@ module _ {H : Type 0} where
             (index_after (length (overwrite b.storage b.read_at ws)) b.read_at n) l) (sym (headed_size new kept)) (sym (headed_rest new kept))
 
       -- it stays
-      module _ (none : k ≡ 0) (new : H) (m2 : RingState (PacketMetadata H)) (em : queue m2 ≡ slot s (Some new) ∷ drop 1 (queue m)) (wfm : WellFormed m2) where
+      module _ (none : k ≡ 0) (new : H) (m2 : RingState (PacketMetadata H)) (em : queue m2 ≡ slot s (Some new) ∷ drop 1 (queue m)) (wfm : IsWellFormed m2) where
         on_is : b2 ≡ with_elements b b.read_at ws
         on_is =
             bytes_are ∙ ap (λ (n : ℕ). with_elements (with_dequeued n b) b.read_at ws) none

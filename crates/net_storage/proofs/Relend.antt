@@ -40,8 +40,8 @@ uncapped (suc i) k h = let step = suc-mul i k in ap (λ (j : ℕ). suc i * j) (c
 module _ {M : Type 1} {𝓤 : Ura M} (𝓛 : Logic 𝓤) (ℓ : Lifetime) (κ : Lft) (q : Share) (b o : ℕ) (γ : GName) where
   open 𝓛 use {H, A}
 
-  module _ (R : RattleType) (m : ℕ) (xs front mid back : List R.Denot) (cut : xs ≡ front ++ (mid ++ back)) (lf : length front ≡ m) (p : ℕ)
-      (on : at o (mem R).size (length front) ≡ p) (rm : Room R (length mid)) where
+  module _ (R : RattleType) (m : ℕ) (xs prefix mid back : List R.Denot) (cut : xs ≡ prefix ++ (mid ++ back)) (lf : length prefix ≡ m) (p : ℕ)
+      (on : at o (mem R).size (length prefix) ≡ p) (rm : Room R (length mid)) where
     abbrev pub part_lent : GName → Item 𝓤
     part_lent δ = ‵ ((MutSlice ℓ κ R).own_val (record { ref_ptr = (b, p); ghost_name = δ; now = mid }) (slice_val (b, p) (length mid) ∷ [])) ⊛
         ‵ (flft κ q) ⊛ ‵ (follows (Array R 0) (Array R 0) γ δ (overwrite xs m))
@@ -51,23 +51,23 @@ module _ {M : Type 1} {𝓤 : Ura M} (𝓛 : Logic 𝓤) (ℓ : Lifetime) (κ : 
         (sep 𝓤 (A.lft κ q) (sem 𝓛 (follows (Array R 0) (Array R 0) γ δ (overwrite xs m))))
 
     abbrev Others : SProp 𝓤
-    Others = sep 𝓤 (sem 𝓛 (cells (mem R) front b o)) (sem 𝓛 (cells (mem R) back b (at p (mem R).size (length mid))))
+    Others = sep 𝓤 (sem 𝓛 (cells (mem R) prefix b o)) (sem 𝓛 (cells (mem R) back b (at p (mem R).size (length mid))))
 
     put : (ws : List R.Denot) → ent 𝓤 (sep 𝓤 (sem 𝓛 ((Arr (mem R) (length mid)).own_at ws b p)) Others)
         (sem 𝓛 ((Arr (mem R) (length xs)).own_at (overwrite xs m ws) b o))
-    put ws = qed 𝓛 (‵ ((Arr (mem R) (length mid)).own_at ws b p) ∷ ‵ (cells (mem R) front b o) ∷
+    put ws = qed 𝓛 (‵ ((Arr (mem R) (length mid)).own_at ws b p) ∷ ‵ (cells (mem R) prefix b o) ∷
         ‵ (cells (mem R) back b (at p (mem R).size (length mid))) ∷ []) ∵
         fsplit ! $ feq_l ! (λ e.
-        let is : overwrite xs m ws ≡ front ++ (ws ++ back) = ap (λ (l : List R.Denot). overwrite l m ws) cut ∙ overwrite_at front mid back ws m lf (sym e) in
-        let whole : length xs ≡ length front + length (mid ++ back) = ap length cut ∙ length-append front (mid ++ back) in
+        let is : overwrite xs m ws ≡ prefix ++ (ws ++ back) = ap (λ (l : List R.Denot). overwrite l m ws) cut ∙ overwrite_at prefix mid back ws m lf (sym e) in
+        let whole : length xs ≡ length prefix + length (mid ++ back) = ap length cut ∙ length-append prefix (mid ++ back) in
         let inner : length (mid ++ back) ≡ length mid + length back = length-append mid back in
-        let now_whole : length (front ++ (ws ++ back)) ≡ length front + length (ws ++ back) = length-append front (ws ++ back) in
+        let now_whole : length (prefix ++ (ws ++ back)) ≡ length prefix + length (ws ++ back) = length-append prefix (ws ++ back) in
         let now_inner : length (ws ++ back) ≡ length ws + length back = length-append ws back in
-        let same : length (overwrite xs m ws) ≡ length (front ++ (ws ++ back)) = ap length is in
+        let same : length (overwrite xs m ws) ≡ length (prefix ++ (ws ++ back)) = ap length is in
         rewrite ! 2 (λ (k : ℕ). ‵ (cells (mem R) back b (at p (mem R).size k))) (sym e) refl $ move ! (0 ∷ 2 ∷ []) $
         use2 𝓛 (‵ (cells (mem R) (ws ++ back) b p)) (join_app 𝓛 (mem R) ws back b p) $
         rewrite ! 0 (λ (k : ℕ). ‵ (cells (mem R) (ws ++ back) b k)) (sym on) refl $ move ! (1 ∷ 0 ∷ []) $
-        use2 𝓛 (‵ (cells (mem R) (front ++ (ws ++ back)) b o)) (join_app 𝓛 (mem R) front (ws ++ back) b o) $
+        use2 𝓛 (‵ (cells (mem R) (prefix ++ (ws ++ back)) b o)) (join_app 𝓛 (mem R) prefix (ws ++ back) b o) $
         rewrite ! 0 (λ (l : List R.Denot). ‵ (cells (mem R) l b o)) (sym is) refl $
         feq_i ! ℕ (length (overwrite xs m ws)) (length xs) (omega arith) $ fjoin ! $ done !)
 
@@ -78,8 +78,8 @@ module _ {M : Type 1} {𝓤 : Ura M} (𝓛 : Logic 𝓤) (ℓ : Lifetime) (κ : 
         rewrite ! 0 (λ (l : List R.Denot). ‵ (fobs γ ((coded_list R.coded).code l))) (heres_id R xs) refl $
         open_ref ! tt (Arr (mem R) (length xs)) {b = b} {o = o} $ fsplit ! $ drop ! $
         rewrite ! 0 (λ (l : List R.Denot). ‵ (cells (mem R) l b o)) cut refl $
-        use1 𝓛 (‵ (cells (mem R) front b o) ⊛ ‵ (cells (mem R) (mid ++ back) b (at o (mem R).size (length front))))
-        (cut_app 𝓛 (mem R) front (mid ++ back) b o) $ split ! $ move ! (1 ∷ []) $
+        use1 𝓛 (‵ (cells (mem R) prefix b o) ⊛ ‵ (cells (mem R) (mid ++ back) b (at o (mem R).size (length prefix))))
+        (cut_app 𝓛 (mem R) prefix (mid ++ back) b o) $ split ! $ move ! (1 ∷ []) $
         rewrite ! 0 (λ (k : ℕ). ‵ (cells (mem R) (mid ++ back) b k)) on refl $
         use1 𝓛 (‵ (cells (mem R) mid b p) ⊛ ‵ (cells (mem R) back b (at p (mem R).size (length mid)))) (cut_app 𝓛 (mem R) mid back b p) $ split ! $
         feq_i ! ℕ (length mid) (length mid) refl $ fjoin ! $ move ! (2 ∷ 1 ∷ []) $ join ! $ move ! (2 ∷ 3 ∷ 4 ∷ 1 ∷ 0 ∷ []) $ group ! 5 $
@@ -90,8 +90,8 @@ module _ {M : Type 1} {𝓤 : Ura M} (𝓛 : Logic 𝓤) (ℓ : Lifetime) (κ : 
         use2 𝓛 (‵ ((MutSlice ℓ κ R).own_val (record { ref_ptr = (b, p); ghost_name = δ; now = mid }) (slice_val (b, p) (length mid) ∷ [])))
         (slice_of 𝓛 R ℓ κ b p δ mid rm) $ now ! $ show ! PartLent δ $ done !)
 
-  module _ (R : RattleType) (m : ℕ) (xs front : List R.Denot) (x : R.Denot) (back : List R.Denot) (cut : xs ≡ front ++ (x ∷ back)) (lf : length front ≡ m)
-      (p : ℕ) (on : at o (mem R).size (length front) ≡ p) where
+  module _ (R : RattleType) (m : ℕ) (xs prefix : List R.Denot) (x : R.Denot) (back : List R.Denot) (cut : xs ≡ prefix ++ (x ∷ back)) (lf : length prefix ≡ m)
+      (p : ℕ) (on : at o (mem R).size (length prefix) ≡ p) where
     abbrev pub item_lent : GName → Item 𝓤
     item_lent δ = ‵ ((MutRef ℓ κ R).own_val (record { ref_ptr = (b, p); ghost_name = δ; now = x }) (vptr b p ∷ [])) ⊛ ‵ (flft κ q) ⊛
         ‵ (follows (Array R 0) R γ δ (set xs m))
@@ -101,17 +101,17 @@ module _ {M : Type 1} {𝓤 : Ura M} (𝓛 : Logic 𝓤) (ℓ : Lifetime) (κ : 
         (sep 𝓤 (A.lft κ q) (sem 𝓛 (follows (Array R 0) R γ δ (set xs m))))
 
     abbrev Rest : SProp 𝓤
-    Rest = sep 𝓤 (sem 𝓛 (cells (mem R) front b o)) (sem 𝓛 (cells (mem R) back b (at p (mem R).size 1)))
+    Rest = sep 𝓤 (sem 𝓛 (cells (mem R) prefix b o)) (sem 𝓛 (cells (mem R) back b (at p (mem R).size 1)))
 
     put_item : (w : R.Denot) → ent 𝓤 (sep 𝓤 (sem 𝓛 ((mem R).own_at w b p)) Rest) (sem 𝓛 ((Arr (mem R) (length xs)).own_at (set xs m w) b o))
-    put_item w = qed 𝓛 (‵ ((mem R).own_at w b p) ∷ ‵ (cells (mem R) front b o) ∷ ‵ (cells (mem R) back b (at p (mem R).size 1)) ∷ []) ∵
-        let is : set xs m w ≡ front ++ (w ∷ back) = ap (λ (l : List R.Denot). set l m w) cut ∙ set_at front x back w m lf in
-        let whole : length xs ≡ length front + length (x ∷ back) = ap length cut ∙ length-append front (x ∷ back) in
-        let now_whole : length (front ++ (w ∷ back)) ≡ length front + length (w ∷ back) = length-append front (w ∷ back) in
-        let same : length (set xs m w) ≡ length (front ++ (w ∷ back)) = ap length is in
+    put_item w = qed 𝓛 (‵ ((mem R).own_at w b p) ∷ ‵ (cells (mem R) prefix b o) ∷ ‵ (cells (mem R) back b (at p (mem R).size 1)) ∷ []) ∵
+        let is : set xs m w ≡ prefix ++ (w ∷ back) = ap (λ (l : List R.Denot). set l m w) cut ∙ set_at prefix x back w m lf in
+        let whole : length xs ≡ length prefix + length (x ∷ back) = ap length cut ∙ length-append prefix (x ∷ back) in
+        let now_whole : length (prefix ++ (w ∷ back)) ≡ length prefix + length (w ∷ back) = length-append prefix (w ∷ back) in
+        let same : length (set xs m w) ≡ length (prefix ++ (w ∷ back)) = ap length is in
         move ! (0 ∷ 2 ∷ []) $ fjoin ! $
         rewrite ! 0 (λ (k : ℕ). ‵ (cells (mem R) (w ∷ back) b k)) (sym on) refl $ move ! (1 ∷ 0 ∷ []) $
-        use2 𝓛 (‵ (cells (mem R) (front ++ (w ∷ back)) b o)) (join_app 𝓛 (mem R) front (w ∷ back) b o) $
+        use2 𝓛 (‵ (cells (mem R) (prefix ++ (w ∷ back)) b o)) (join_app 𝓛 (mem R) prefix (w ∷ back) b o) $
         rewrite ! 0 (λ (l : List R.Denot). ‵ (cells (mem R) l b o)) (sym is) refl $
         feq_i ! ℕ (length (set xs m w)) (length xs) (omega arith) $ fjoin ! $ done !
 
@@ -122,7 +122,7 @@ module _ {M : Type 1} {𝓤 : Ura M} (𝓛 : Logic 𝓤) (ℓ : Lifetime) (κ : 
         rewrite ! 0 (λ (l : List R.Denot). ‵ (fobs γ ((coded_list R.coded).code l))) (heres_id R xs) refl $
         open_ref ! tt (Arr (mem R) (length xs)) {b = b} {o = o} $ fsplit ! $ drop ! $
         rewrite ! 0 (λ (l : List R.Denot). ‵ (cells (mem R) l b o)) cut refl $
-        use1 𝓛 (‵ (cells (mem R) front b o) ⊛ ‵ (cells (mem R) (x ∷ back) b (at o (mem R).size (length front)))) (cut_app 𝓛 (mem R) front (x ∷ back) b o) $
+        use1 𝓛 (‵ (cells (mem R) prefix b o) ⊛ ‵ (cells (mem R) (x ∷ back) b (at o (mem R).size (length prefix)))) (cut_app 𝓛 (mem R) prefix (x ∷ back) b o) $
         split ! $ move ! (1 ∷ []) $
         rewrite ! 0 (λ (k : ℕ). ‵ (cells (mem R) (x ∷ back) b k)) on refl $ fsplit ! $
         move ! (2 ∷ 1 ∷ []) $ join ! $ move ! (2 ∷ 3 ∷ 4 ∷ 1 ∷ 0 ∷ []) $ group ! 5 $
@@ -132,7 +132,7 @@ module _ {M : Type 1} {𝓤 : Ura M} (𝓛 : Logic 𝓤) (ℓ : Lifetime) (κ : 
         ((coded_list R.coded).code xs) x) $ await ! tt $ pick ! (λ δ. split3 ! $
         feq_i ! (List Val) (vptr b p ∷ []) (vptr b p ∷ []) refl $ fjoin3 ! $ now ! $ show ! ItemLent δ $ done !)
 
--- the element behind a front part is what the list has there
-pub here_or : {X : Type 0} (front back : List X) (x : X) (xs : List X) (m : ℕ) → length front ≡ m → xs ≡ front ++ (x ∷ back) → x ≡ get_or xs m x
+-- the element behind a prefix part is what the list has there
+pub here_or : {X : Type 0} (prefix back : List X) (x : X) (xs : List X) (m : ℕ) → length prefix ≡ m → xs ≡ prefix ++ (x ∷ back) → x ≡ get_or xs m x
 here_or [] back x xs m e cut = rw (cut, sym e) refl
 here_or (y ∷ ys) back x xs m e cut = rw (cut, sym e) (here_or ys back x (ys ++ (x ∷ back)) (length ys) refl refl)

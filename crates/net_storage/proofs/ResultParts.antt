@@ -1,4 +1,4 @@
--- What is owned of a `Result` that a call answered is taken apart, and an error or a pair is made: steps of a walk.
+-- What is owned of a `Result` that a call returned is taken apart, and an error or a pair is made: steps of a walk.
 use mathlib.Core.Path.{◌≡◌, refl, ap, ◌∙◌}
 use mathlib.Core.Logic.{◌⊎◌, inl, inr}
 use mathlib.Core.List.{List, [], ◌∷◌, ◌++◌}

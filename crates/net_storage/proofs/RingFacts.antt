@@ -14,12 +14,12 @@ use Rattle.std.proofs.lemmas.Option.{slice_get_past}
 use Rattle.std.specs.declared.result.Result.TheVariants.{Ok, Err}
 use Rattle.net_storage.specs.Overwrite.{overwrite}
 use Rattle.net_storage.specs.Ring.{RingState, freed_index, rotation, ring, capacity, window, queue}
-use Rattle.net_storage.specs.Ring.{spare, storage_index, write_at, WellFormed, with_elements}
+use Rattle.net_storage.specs.Ring.{spare, storage_index, write_at, IsWellFormed, with_elements}
 use Rattle.net_storage.specs.Ring.{with_elements_wrapping, with_enqueued, with_dequeued}
 use Rattle.net_storage.specs.Ring.{from_start_if_empty, contiguous_window, contiguous_queued}
 use Rattle.net_storage.specs.Ring.{spare_index, contiguous_window_from, queue_index}
-use Rattle.net_storage.specs.Ring.{contiguous_queued_from, Enqueued, Dequeued, SpareWritten}
-use Rattle.net_storage.specs.Ring.{QueueWritten, EnqueuedFrom, DequeuedFrom}
+use Rattle.net_storage.specs.Ring.{contiguous_queued_from, Enqueues, Dequeues, WritesSpare}
+use Rattle.net_storage.specs.Ring.{WritesQueue, EnqueuesFrom, DequeuesFrom}
 use Rattle.net_storage.proofs.Rotations.{IsStorageIndex, cut, length-rotation, overwrite_at}
 use Rattle.net_storage.proofs.Rotations.{length-overwrite, storage_index_is, part-rotation}
 use Rattle.net_storage.proofs.Rotations.{read_at_le, whole, length-queue, length-spare}
@@ -29,9 +29,9 @@ use Rattle.net_storage.proofs.Rotations.{with_dequeued_parts, take_sum}
 module _ {T : Type 0} where
   -- ---- lists
   -- a write over the first elements
-  overwrite_front : (s ws : List T) (k : ℕ) → k ≤ length ws → length ws ≤ length s → (take k (overwrite s 0 ws) ≡ take k ws)
+  overwrite_head : (s ws : List T) (k : ℕ) → k ≤ length ws → length ws ≤ length s → (take k (overwrite s 0 ws) ≡ take k ws)
       × (drop (length ws) (overwrite s 0 ws) ≡ drop (length ws) s)
-  overwrite_front s ws k e le =
+  overwrite_head s ws k e le =
       let c = cut (length ws) s le in let m = c.0 in let z = c.1 in
       let is : overwrite s 0 ws ≡ ws ++ z = ap (λ (l : List T). overwrite l 0 ws) c.2 ∙ overwrite_at [] m z ws 0 refl c.3 in
       let low : take k (ws ++ z) ≡ take k ws = sym (take-take k (length ws) (ws ++ z) e) ∙ ap (take k) (take_at ws z (length ws) refl) in
@@ -42,7 +42,7 @@ module _ {T : Type 0} where
 
   pub overwrite_whole : (s ws : List T) → length ws ≡ length s → overwrite s 0 ws ≡ ws
   overwrite_whole s ws e = sym (take_all (length s) (overwrite s 0 ws) (omega (arith, length-overwrite s 0 ws)))
-      ∙ (overwrite_front s ws (length s) (omega (arith, e)) (omega (arith, e))).0 ∙ take_all (length s) ws (omega (arith, e))
+      ∙ (overwrite_head s ws (length s) (omega (arith, e)) (omega (arith, e))).0 ∙ take_all (length s) ws (omega (arith, e))
 
   overwrite_twice : (s a b : List T) (i : ℕ) → i + length a + length b ≤ length s → overwrite (overwrite s i a) (i + length a) b ≡ overwrite s i (a ++ b)
   overwrite_twice s a b i le =
@@ -114,8 +114,8 @@ module _ {T : Type 0} where
   pub ring_is : (a b : RingState T) → a.storage ≡ b.storage → a.read_at ≡ b.read_at → a.count ≡ b.count → a ≡ b
   ring_is a b es er eh = ap (λ l. ring l a.read_at a.count) es ∙ ap₂ (λ r n. ring b.storage r n) er eh
 
-  module _ (g : RingState T) (wf : WellFormed g) where
-    pub written_wf : (p : ℕ) (ws : List T) → WellFormed (with_elements g p ws)
+  module _ (g : RingState T) (wf : IsWellFormed g) where
+    pub written_wf : (p : ℕ) (ws : List T) → IsWellFormed (with_elements g p ws)
     written_wf p ws = subst (λ (n : ℕ). ((g.read_at ≡ 0) ⊎ (g.read_at < n)) × (g.count ≤ n)) (sym (length-overwrite g.storage p ws)) wf
 
     pub storage_index_le : (j : ℕ) → j ≤ capacity g → storage_index g j ≤ capacity g
@@ -143,9 +143,9 @@ module _ {T : Type 0} where
         part-rotation g.storage g.read_at (g.count + i) p k (read_at_le g wf) (omega (arith, wf.1)) hp at
         ∙ ap (take k) (sym (drop-drop i g.count (rotation g.storage g.read_at)))
 
-    pub held_value : (i k p : ℕ) → i + k ≤ g.count → p + k ≤ capacity g → IsStorageIndex (capacity g) g.read_at i p
+    pub queue_value : (i k p : ℕ) → i + k ≤ g.count → p + k ≤ capacity g → IsStorageIndex (capacity g) g.read_at i p
         → take k (drop p g.storage) ≡ take k (drop i (queue g))
-    held_value i k p hi hp at =
+    queue_value i k p hi hp at =
         let all = rotation g.storage g.read_at in
         let whole : queue g ≡ take (i + (g.count - i)) all = ap (λ (j : ℕ). take j all) (omega arith) in
         let low : take k (drop i (queue g)) ≡ take k (drop i all) =
@@ -154,35 +154,35 @@ module _ {T : Type 0} where
 
     -- ---- writes
     pub spare_law : (i p : ℕ) (ws : List T) → i + length ws ≤ window g → p + length ws ≤ capacity g
-        → IsStorageIndex (capacity g) g.read_at (g.count + i) p → SpareWritten g i ws (with_elements g p ws)
+        → IsStorageIndex (capacity g) g.read_at (g.count + i) p → WritesSpare g i ws (with_elements g p ws)
     spare_law i p ws hi hp at = let w = spare-written g wf i p ws hi hp at in (w.0, w.1, refl)
 
-    pub held_law : (i p : ℕ) (ws : List T) → i + length ws ≤ g.count → p + length ws ≤ capacity g
-        → IsStorageIndex (capacity g) g.read_at i p → QueueWritten g i ws (with_elements g p ws)
-    held_law i p ws hi hp at = let w = queue-written g wf i p ws hi hp at in (w.0, w.1, refl)
+    pub queue_law : (i p : ℕ) (ws : List T) → i + length ws ≤ g.count → p + length ws ≤ capacity g
+        → IsStorageIndex (capacity g) g.read_at i p → WritesQueue g i ws (with_elements g p ws)
+    queue_law i p ws hi hp at = let w = queue-written g wf i p ws hi hp at in (w.0, w.1, refl)
 
     -- ---- elements that are enqueued
     pub enqueued_from : (k : ℕ) (ws : List T) → k ≤ length ws → length ws ≤ contiguous_window g
-        → EnqueuedFrom g k ws (with_elements (with_enqueued k g) (write_at g) ws)
+        → EnqueuesFrom g k ws (with_elements (with_enqueued k g) (write_at g) ws)
     enqueued_from k ws le room =
         let p = write_at g in
         let fits : p + length ws ≤ capacity g = omega (arith, room, storage_index_le g.count wf.1) in
         let w = spare_law 0 p ws (omega (arith, room)) fits write_index_is in
         let t = with_enqueued_parts (with_elements g p ws) (written_wf p ws) k (omega (arith, room, le, length-overwrite g.storage p ws)) in
-        let f = overwrite_front (spare g) ws k le (omega (arith, room, length-spare g wf)) in
+        let f = overwrite_head (spare g) ws k le (omega (arith, room, length-spare g wf)) in
         (t.0 ∙ ap₂ ◌++◌ w.0 (ap (take k) w.1 ∙ f.0), t.1 ∙ ap (drop k) w.1, refl)
 
-    pub enqueued_law : (k : ℕ) → k ≤ contiguous_window g → (ws : List T) → length ws ≡ k → Enqueued g ws (with_elements (with_enqueued k g) (write_at g) ws)
+    pub enqueued_law : (k : ℕ) → k ≤ contiguous_window g → (ws : List T) → length ws ≡ k → Enqueues g ws (with_elements (with_enqueued k g) (write_at g) ws)
     enqueued_law k le ws e =
         let all = enqueued_from k ws (omega (arith, e)) (omega (arith, e, le)) in
-        let f = overwrite_front (spare g) ws k (omega (arith, e)) (omega (arith, e, le, length-spare g wf)) in (
+        let f = overwrite_head (spare g) ws k (omega (arith, e)) (omega (arith, e, le, length-spare g wf)) in (
           all.0 ∙ ap (λ (l : List T). queue g ++ l) (take_all k ws (omega (arith, e))),
           all.1
               ∙ ap (λ (n : ℕ). drop n (overwrite (spare g) 0 ws)) (sym e) ∙ f.1,
           refl,
         )
 
-    pub with_enqueued_law : (k : ℕ) → k ≤ window g → Enqueued g (take k (spare g)) (with_enqueued k g)
+    pub with_enqueued_law : (k : ℕ) → k ≤ window g → Enqueues g (take k (spare g)) (with_enqueued k g)
     with_enqueued_law k le =
         let t = with_enqueued_parts g wf k le in
         let long : length (take k (spare g)) ≡ k = length-take-le k (spare g) (omega (arith, le, length-spare g wf)) in
@@ -190,43 +190,43 @@ module _ {T : Type 0} where
 
     -- ---- elements that are dequeued
     pub dequeued_from : (k : ℕ) (ws : List T) → k ≤ length ws → length ws ≤ contiguous_queued g →
-        DequeuedFrom g k ws (with_elements (with_dequeued k g) g.read_at ws)
+        DequeuesFrom g k ws (with_elements (with_dequeued k g) g.read_at ws)
     dequeued_from k ws le room =
         let w = with_elements g g.read_at ws in
         let wwf = written_wf g.read_at ws in
         let same : with_dequeued k w ≡ with_elements (with_dequeued k g) g.read_at ws =
         ap (λ n. ring (overwrite g.storage g.read_at ws) (if nat_lt k (n - g.read_at) then g.read_at + k else k - (n - g.read_at))
         (g.count - k)) (length-overwrite g.storage g.read_at ws) in
-        let q = held_law 0 g.read_at ws (omega (arith, room)) (omega (arith, room, read_at_le g wf)) read_index_is in
-        let f = overwrite_front (queue g) ws k le (omega (arith, room, length-queue g wf)) in
+        let q = queue_law 0 g.read_at ws (omega (arith, room)) (omega (arith, room, read_at_le g wf)) read_index_is in
+        let f = overwrite_head (queue g) ws k le (omega (arith, room, length-queue g wf)) in
         let t = with_dequeued_parts w wwf k (omega (arith, room, le)) in
-        let whole : DequeuedFrom g k ws (with_dequeued k w) = (t.0 ∙ ap (drop k) q.0, t.1 ∙ ap₂ ◌++◌ q.1 (ap (take k) q.0 ∙ f.0), ap (λ o. o.read_at) same) in
-        subst (DequeuedFrom g k ws) same whole
+        let whole : DequeuesFrom g k ws (with_dequeued k w) = (t.0 ∙ ap (drop k) q.0, t.1 ∙ ap₂ ◌++◌ q.1 (ap (take k) q.0 ∙ f.0), ap (λ o. o.read_at) same) in
+        subst (DequeuesFrom g k ws) same whole
 
-    pub dequeued_law : (k : ℕ) → k ≤ contiguous_queued g → (ws : List T) → length ws ≡ k → Dequeued g k ws (with_elements (with_dequeued k g) g.read_at ws)
+    pub dequeued_law : (k : ℕ) → k ≤ contiguous_queued g → (ws : List T) → length ws ≡ k → Dequeues g k ws (with_elements (with_dequeued k g) g.read_at ws)
     dequeued_law k le ws e =
         let all = dequeued_from k ws (omega (arith, e)) (omega (arith, e, le)) in
-        let f = overwrite_front (queue g) ws k (omega (arith, e)) (omega (arith, e, le, length-queue g wf)) in (
+        let f = overwrite_head (queue g) ws k (omega (arith, e)) (omega (arith, e, le, length-queue g wf)) in (
           all.0 ∙ ap (λ (n : ℕ). drop n (overwrite (queue g) 0 ws)) (sym e) ∙ f.1 ∙ ap (λ (n : ℕ). drop n (queue g)) e,
           all.1
               ∙ ap (λ (l : List T). spare g ++ l) (take_all k ws (omega (arith, e))),
           refl,
         )
 
-    pub with_dequeued_law : (k : ℕ) → k ≤ g.count → Dequeued g k (take k (queue g)) (with_dequeued k g)
+    pub with_dequeued_law : (k : ℕ) → k ≤ g.count → Dequeues g k (take k (queue g)) (with_dequeued k g)
     with_dequeued_law k le = let t = with_dequeued_parts g wf k le in (t.0, t.1, refl)
 
     -- ---- a write that wraps at the storage's end
     wrapping_once : (i p : ℕ) (ws : List T) → i + length ws ≤ window g → p + length ws ≤ capacity g
-        → IsStorageIndex (capacity g) g.read_at (g.count + i) p → SpareWritten g i ws (with_elements_wrapping g p ws)
+        → IsStorageIndex (capacity g) g.read_at (g.count + i) p → WritesSpare g i ws (with_elements_wrapping g p ws)
     wrapping_once i p ws le room at =
         let none : drop (length g.storage - p) ws ≡ [] = drop_all (length g.storage - p) ws (omega (arith, room)) in
         let still : with_elements_wrapping g p ws ≡ with_elements g p ws = ap (λ l. with_elements (with_elements g p ws) 0 l) none
         ∙ ap (λ b. ring b g.read_at g.count) (overwrite_none (overwrite g.storage p ws) 0) in
-        subst (SpareWritten g i ws) (sym still) (spare_law i p ws le room at)
+        subst (WritesSpare g i ws) (sym still) (spare_law i p ws le room at)
 
     wrapping_twice : (i p : ℕ) (a b : List T) → i + length a + length b ≤ window g → p + length a ≡ capacity g → 0 < length b
-        → IsStorageIndex (capacity g) g.read_at (g.count + i) p → SpareWritten g i (a ++ b) (with_elements (with_elements g p a) 0 b)
+        → IsStorageIndex (capacity g) g.read_at (g.count + i) p → WritesSpare g i (a ++ b) (with_elements (with_elements g p a) 0 b)
     wrapping_twice i p a b le full some at =
         let s = spare_law i p a (omega (arith, le)) (omega (arith, full)) at in
         let w = with_elements g p a in
@@ -240,7 +240,7 @@ module _ {T : Type 0} where
         (t.0 ∙ s.0, t.1 ∙ ap (λ (l : List T). overwrite l (i + length a) b) s.1 ∙ overwrite_twice (spare g) a b i (omega (arith, le, length-spare g wf)), refl)
 
     pub wrapping_law : (i p : ℕ) (ws : List T) → i + length ws ≤ window g → p ≤ capacity g
-        → IsStorageIndex (capacity g) g.read_at (g.count + i) p → SpareWritten g i ws (with_elements_wrapping g p ws)
+        → IsStorageIndex (capacity g) g.read_at (g.count + i) p → WritesSpare g i ws (with_elements_wrapping g p ws)
     wrapping_law i p ws le within at = elim (cases_lt (length g.storage - p) (length ws)) [
       | inr once ↦ wrapping_once i p ws le (omega (arith, once, within)) at
       | inl past ↦
@@ -251,8 +251,8 @@ module _ {T : Type 0} where
           let two = wrapping_twice i p (take m ws) (drop m ws) (omega (arith, le, la, lb, past)) (omega (arith, la, within)) (omega (arith, lb, past)) at in
           let same : with_elements (with_elements g p (take m ws)) 0 (drop m ws) ≡ with_elements_wrapping g p ws =
           ap (λ b. ring b g.read_at g.count) (wrapping_is g.storage ws p m within n) in
-          subst (SpareWritten g i ws) same
-          (subst (λ (l : List T). SpareWritten g i l (with_elements (with_elements g p (take m ws)) 0 (drop m ws))) (take-append-drop m ws) two)
+          subst (WritesSpare g i ws) same
+          (subst (λ (l : List T). WritesSpare g i l (with_elements (with_elements g p (take m ws)) 0 (drop m ws))) (take-append-drop m ws) two)
     ]
 
     -- ---- an index that is found within the window, or within the queue
@@ -261,16 +261,16 @@ module _ {T : Type 0} where
         let same : g.count + min i (window g) ≡ g.count + i = omega (arith, le) in
         subst (λ (j : ℕ). IsStorageIndex (capacity g) g.read_at j (spare_index g i)) same (storage_index_is g (g.count + min i (window g)))
 
-    pub held_at : (i : ℕ) → i ≤ g.count → IsStorageIndex (capacity g) g.read_at i (queue_index g i)
-    held_at i le =
+    pub queue_at : (i : ℕ) → i ≤ g.count → IsStorageIndex (capacity g) g.read_at i (queue_index g i)
+    queue_at i le =
         let same : min i g.count ≡ i = omega (arith, le) in
         subst (λ (j : ℕ). IsStorageIndex (capacity g) g.read_at j (queue_index g i)) same (storage_index_is g (min i g.count))
 
     spare_index_le : (i : ℕ) → spare_index g i ≤ capacity g
     spare_index_le i = storage_index_le (g.count + min i (window g)) (omega (arith, wf.1))
 
-    held_index_le : (i : ℕ) → queue_index g i ≤ capacity g
-    held_index_le i = storage_index_le (min i g.count) (omega (arith, wf.1))
+    queue_index_le : (i : ℕ) → queue_index g i ≤ capacity g
+    queue_index_le i = storage_index_le (min i g.count) (omega (arith, wf.1))
 
     pub spare_part_value : (i n : ℕ)
         → take (contiguous_window_from g i n) (drop (spare_index g i) g.storage) ≡ take (contiguous_window_from g i n) (drop i (spare g))
@@ -280,40 +280,40 @@ module _ {T : Type 0} where
           none ∙ sym (ap (λ (k : ℕ). take k (drop i (spare g))) none)
     ]
 
-    pub held_part_value : (i n : ℕ)
+    pub queue_part_value : (i n : ℕ)
         → take (contiguous_queued_from g i n) (drop (queue_index g i) g.storage) ≡ take (contiguous_queued_from g i n) (drop i (queue g))
-    held_part_value i n = elim (cases_lt g.count i) [
-      | inr h ↦ held_value i (contiguous_queued_from g i n) (queue_index g i) (omega (arith, h)) (omega (arith, held_index_le i)) (held_at i h)
+    queue_part_value i n = elim (cases_lt g.count i) [
+      | inr h ↦ queue_value i (contiguous_queued_from g i n) (queue_index g i) (omega (arith, h)) (omega (arith, queue_index_le i)) (queue_at i h)
       | inl h ↦ let none : contiguous_queued_from g i n ≡ 0 = omega (arith, h) in ap (λ (k : ℕ). take k (drop (queue_index g i) g.storage))
           none ∙ sym (ap (λ (k : ℕ). take k (drop i (queue g))) none)
     ]
 
-    nothing_spare : (i p : ℕ) → SpareWritten g i [] (with_elements g p [])
+    nothing_spare : (i p : ℕ) → WritesSpare g i [] (with_elements g p [])
     nothing_spare i p =
         let still : with_elements g p [] ≡ g = ap (λ b. ring b g.read_at g.count) (overwrite_none g.storage p) in
-        subst (SpareWritten g i []) (sym still) (refl, sym (overwrite_none (spare g) i), refl)
+        subst (WritesSpare g i []) (sym still) (refl, sym (overwrite_none (spare g) i), refl)
 
-    nothing_held : (i p : ℕ) → QueueWritten g i [] (with_elements g p [])
-    nothing_held i p =
+    nothing_in_queue : (i p : ℕ) → WritesQueue g i [] (with_elements g p [])
+    nothing_in_queue i p =
         let still : with_elements g p [] ≡ g = ap (λ b. ring b g.read_at g.count) (overwrite_none g.storage p) in
-        subst (QueueWritten g i []) (sym still) (sym (overwrite_none (queue g) i), refl, refl)
+        subst (WritesQueue g i []) (sym still) (sym (overwrite_none (queue g) i), refl, refl)
 
-    pub spare_part_law : (i n : ℕ) (ws : List T) → length ws ≡ contiguous_window_from g i n → SpareWritten g i ws (with_elements g (spare_index g i) ws)
+    pub spare_part_law : (i n : ℕ) (ws : List T) → length ws ≡ contiguous_window_from g i n → WritesSpare g i ws (with_elements g (spare_index g i) ws)
     spare_part_law i n ws e = elim (cases_lt (window g) i) [
       | inr h ↦ spare_law i (spare_index g i) ws (omega (arith, h, e)) (omega (arith, e, spare_index_le i)) (spare_at i h)
       | inl h ↦ let none : ws ≡ [] = nil_from_length ws (omega (arith, e, h)) in subst
-          (λ (l : List T). SpareWritten g i l (with_elements g (spare_index g i) l)) (sym none) (nothing_spare i (spare_index g i))
+          (λ (l : List T). WritesSpare g i l (with_elements g (spare_index g i) l)) (sym none) (nothing_spare i (spare_index g i))
     ]
 
-    pub held_part_law : (i n : ℕ) (ws : List T) → length ws ≡ contiguous_queued_from g i n → QueueWritten g i ws (with_elements g (queue_index g i) ws)
-    held_part_law i n ws e = elim (cases_lt g.count i) [
-      | inr h ↦ held_law i (queue_index g i) ws (omega (arith, h, e)) (omega (arith, e, held_index_le i)) (held_at i h)
+    pub queue_part_law : (i n : ℕ) (ws : List T) → length ws ≡ contiguous_queued_from g i n → WritesQueue g i ws (with_elements g (queue_index g i) ws)
+    queue_part_law i n ws e = elim (cases_lt g.count i) [
+      | inr h ↦ queue_law i (queue_index g i) ws (omega (arith, h, e)) (omega (arith, e, queue_index_le i)) (queue_at i h)
       | inl h ↦ let none : ws ≡ [] = nil_from_length ws (omega (arith, e, h)) in subst
-          (λ (l : List T). QueueWritten g i l (with_elements g (queue_index g i) l)) (sym none) (nothing_held i (queue_index g i))
+          (λ (l : List T). WritesQueue g i l (with_elements g (queue_index g i) l)) (sym none) (nothing_in_queue i (queue_index g i))
     ]
 
     -- the clause of `write_unallocated`
-    pub wrapping_at : (i : ℕ) (ws : List T) → length ws ≤ window g - i → SpareWritten g i ws (with_elements_wrapping g (spare_index g i) ws)
+    pub wrapping_at : (i : ℕ) (ws : List T) → length ws ≤ window g - i → WritesSpare g i ws (with_elements_wrapping g (spare_index g i) ws)
     wrapping_at i ws le = elim (cases_lt (window g) i) [
       | inr h ↦ wrapping_law i (spare_index g i) ws (omega (arith, h, le)) (spare_index_le i) (spare_at i h)
       | inl h ↦
@@ -322,7 +322,7 @@ module _ {T : Type 0} where
           let nothing : drop (length g.storage - p) [] ≡ [] = drop_all (length g.storage - p) [] (omega arith) in
           let still : with_elements_wrapping g p [] ≡ with_elements g p [] = ap (λ l. with_elements (with_elements g p []) 0 l) nothing
           ∙ ap (λ b. ring b g.read_at g.count) (overwrite_none (overwrite g.storage p []) 0) in
-          subst (λ (l : List T). SpareWritten g i l (with_elements_wrapping g p l)) (sym none) (subst (SpareWritten g i []) (sym still) (nothing_spare i p))
+          subst (λ (l : List T). WritesSpare g i l (with_elements_wrapping g p l)) (sym none) (subst (WritesSpare g i []) (sym still) (nothing_spare i p))
     ]
 
     -- ---- one element
@@ -332,55 +332,55 @@ module _ {T : Type 0} where
     pub write_fits : window g ≢ 0 → write_at g < capacity g
     write_fits h = elim (storage_index_is g g.count) [ inl p ↦ omega (arith, p.0, p.1, wf.1, h) | inr p ↦ omega (arith, p.0, p.1, wf.1, h, read_at_le g wf) ]
 
-    pub queue_front : (x : T) → x ≡ get_or g.storage g.read_at x → g.count ≢ 0 → queue g ≡ x ∷ drop 1 (queue g)
-    queue_front x e h =
+    pub queue_head : (x : T) → x ≡ get_or g.storage g.read_at x → g.count ≢ 0 → queue g ≡ x ∷ drop 1 (queue g)
+    queue_head x e h =
         let fits = read_fits h in
-        first_of (queue g) x (sym (take_one g.storage g.read_at x fits e) ∙ held_value 0 1 g.read_at (omega (arith, h)) (omega (arith, fits)) read_index_is)
+        first_of (queue g) x (sym (take_one g.storage g.read_at x fits e) ∙ queue_value 0 1 g.read_at (omega (arith, h)) (omega (arith, fits)) read_index_is)
 
-    pub spare_front : (x : T) → x ≡ get_or g.storage (write_at g) x → window g ≢ 0 → spare g ≡ x ∷ drop 1 (spare g)
-    spare_front x e h =
+    pub spare_head : (x : T) → x ≡ get_or g.storage (write_at g) x → window g ≢ 0 → spare g ≡ x ∷ drop 1 (spare g)
+    spare_head x e h =
         let fits = write_fits h in
         first_of (spare g) x (sym (take_one g.storage (write_at g) x fits e)
         ∙ spare_value 0 1 (write_at g) (omega (arith, h)) (omega (arith, fits)) write_index_is)
 
-    pub enqueued_one : (w : T) → window g ≢ 0 → Enqueued g (w ∷ []) (with_elements (with_enqueued 1 g) (write_at g) (w ∷ []))
+    pub enqueued_one : (w : T) → window g ≢ 0 → Enqueues g (w ∷ []) (with_elements (with_enqueued 1 g) (write_at g) (w ∷ []))
     enqueued_one w h = enqueued_law 1 (omega (arith, write_fits h, h)) (w ∷ []) refl
 
-    pub dequeued_one : (w : T) → g.count ≢ 0 → Dequeued g 1 (w ∷ []) (with_elements (with_dequeued 1 g) g.read_at (w ∷ []))
+    pub dequeued_one : (w : T) → g.count ≢ 0 → Dequeues g 1 (w ∷ []) (with_elements (with_dequeued 1 g) g.read_at (w ∷ []))
     dequeued_one w h = dequeued_law 1 (omega (arith, read_fits h, h)) (w ∷ []) refl
 
-    pub next_written : (w : T) → window g ≢ 0 → SpareWritten g 0 (w ∷ []) (with_elements g (write_at g) (w ∷ []))
+    pub next_written : (w : T) → window g ≢ 0 → WritesSpare g 0 (w ∷ []) (with_elements g (write_at g) (w ∷ []))
     next_written w h = spare_law 0 (write_at g) (w ∷ []) (omega (arith, h)) (omega (arith, write_fits h)) write_index_is
 
-    pub front_written : (w : T) → g.count ≢ 0 → QueueWritten g 0 (w ∷ []) (with_elements g g.read_at (w ∷ []))
-    front_written w h = held_law 0 g.read_at (w ∷ []) (omega (arith, h)) (omega (arith, read_fits h)) read_index_is
+    pub head_written : (w : T) → g.count ≢ 0 → WritesQueue g 0 (w ∷ []) (with_elements g g.read_at (w ∷ []))
+    head_written w h = queue_law 0 g.read_at (w ∷ []) (omega (arith, h)) (omega (arith, read_fits h)) read_index_is
 
     -- what a closure that was run on the next free element leaves, by its answer
     pub next_either : {A E : Type 0} (w : T) → window g ≢ 0 → (answer : Result A E) (h : RingState T)
         → h ≡ with_elements (if is_ok answer then with_enqueued 1 g else g) (write_at g) (w ∷ [])
-        → (IsOk answer → Enqueued g (w ∷ []) h) × (IsErr answer → SpareWritten g 0 (w ∷ []) h)
-    next_either w some (Ok x) h e = (λ _. subst (Enqueued g (w ∷ [])) (sym e) (enqueued_one w some), λ no. absurd (false≢true no))
-    next_either w some (Err x) h e = (λ no. absurd (false≢true no), λ _. subst (SpareWritten g 0 (w ∷ [])) (sym e) (next_written w some))
+        → (IsOk answer → Enqueues g (w ∷ []) h) × (IsErr answer → WritesSpare g 0 (w ∷ []) h)
+    next_either w some (Ok x) h e = (λ _. subst (Enqueues g (w ∷ [])) (sym e) (enqueued_one w some), λ no. absurd (false≢true no))
+    next_either w some (Err x) h e = (λ no. absurd (false≢true no), λ _. subst (WritesSpare g 0 (w ∷ [])) (sym e) (next_written w some))
 
     -- and on the first element of the queue
-    pub front_either : {A E : Type 0} (w : T) → g.count ≢ 0 → (answer : Result A E) (h : RingState T)
+    pub head_either : {A E : Type 0} (w : T) → g.count ≢ 0 → (answer : Result A E) (h : RingState T)
         → h ≡ with_elements (if is_ok answer then with_dequeued 1 g else g) g.read_at (w ∷ [])
-        → (IsOk answer → Dequeued g 1 (w ∷ []) h) × (IsErr answer → QueueWritten g 0 (w ∷ []) h)
-    front_either w some (Ok x) h e = (λ _. subst (Dequeued g 1 (w ∷ [])) (sym e) (dequeued_one w some), λ no. absurd (false≢true no))
-    front_either w some (Err x) h e = (λ no. absurd (false≢true no), λ _. subst (QueueWritten g 0 (w ∷ [])) (sym e) (front_written w some))
+        → (IsOk answer → Dequeues g 1 (w ∷ []) h) × (IsErr answer → WritesQueue g 0 (w ∷ []) h)
+    head_either w some (Ok x) h e = (λ _. subst (Dequeues g 1 (w ∷ [])) (sym e) (dequeued_one w some), λ no. absurd (false≢true no))
+    head_either w some (Err x) h e = (λ no. absurd (false≢true no), λ _. subst (WritesQueue g 0 (w ∷ [])) (sym e) (head_written w some))
 
   -- ---- clauses that a call proves of the fields' ring v, said of the caller's ring g
-  module _ (v g : RingState T) (is : v ≡ g) (wf' : WellFormed v) where
-    pub well : WellFormed g
-    well = subst WellFormed is wf'
+  module _ (v g : RingState T) (is : v ≡ g) (wf' : IsWellFormed v) where
+    pub well : IsWellFormed g
+    well = subst IsWellFormed is wf'
 
     -- one write leaves the ring well-formed
-    pub once_wf : (p : ℕ) (a st : List T) → st ≡ overwrite v.storage p a → WellFormed (ring st v.read_at v.count)
-    once_wf p a st e = subst (λ l. WellFormed (ring l v.read_at v.count)) (sym e) (written_wf v wf' p a)
+    pub once_wf : (p : ℕ) (a st : List T) → st ≡ overwrite v.storage p a → IsWellFormed (ring st v.read_at v.count)
+    once_wf p a st e = subst (λ l. IsWellFormed (ring l v.read_at v.count)) (sym e) (written_wf v wf' p a)
 
     -- so does a write to the queue after which elements were dequeued
     pub off_wf : (k p m : ℕ) (a st : List T) → p ≡ storage_index g k → k ≤ capacity g → m ≤ v.count
-        → st ≡ overwrite v.storage v.read_at a → WellFormed (ring st p m)
+        → st ≡ overwrite v.storage v.read_at a → IsWellFormed (ring st p m)
     off_wf k p m a st ep le few e =
         let long : length st ≡ length v.storage = ap length e ∙ length-overwrite v.storage v.read_at a in
         let size : length v.storage ≡ length g.storage = ap (λ o. length o.storage) is in
@@ -391,7 +391,7 @@ module _ {T : Type 0} where
         (at, omega (arith, few, wf'.1, long))
 
     -- and one after which elements were enqueued
-    pub in_wf : (p n : ℕ) (a st : List T) → n ≤ window g → st ≡ overwrite v.storage p a → WellFormed (ring st v.read_at (v.count + n))
+    pub in_wf : (p n : ℕ) (a st : List T) → n ≤ window g → st ≡ overwrite v.storage p a → IsWellFormed (ring st v.read_at (v.count + n))
     in_wf p n a st le e =
         let w = once_wf p a st e in
         let long : length st ≡ length v.storage = ap length e ∙ length-overwrite v.storage p a in
@@ -404,8 +404,8 @@ module _ {T : Type 0} where
         let long : length st ≡ length g.storage = ap length e ∙ length-overwrite v.storage q a ∙ ap (λ o. length o.storage) is in
         ep ∙ ap₂ (λ m r. if nat_lt n (m - r) then r + n else n - (m - r)) long (ap (λ o. o.read_at) is)
 
-    same_held : v.count ≡ g.count
-    same_held = ap (λ o. o.count) is
+    same_count : v.count ≡ g.count
+    same_count = ap (λ o. o.count) is
 
     same_storage : v.storage ≡ g.storage
     same_storage = ap (λ o. o.storage) is
@@ -438,13 +438,13 @@ module _ {T : Type 0} where
 
     -- and what it leaves of the two parts
     pub ahead_clause : (i n : ℕ) (src : List T) (h : RingState T) → n ≡ min (length src) (window g - i)
-        → h ≡ with_elements_wrapping g (spare_index g i) (take n src) → SpareWritten g i (take n src) h
+        → h ≡ with_elements_wrapping g (spare_index g i) (take n src) → WritesSpare g i (take n src) h
     ahead_clause i n src h en e =
-        subst (SpareWritten g i (take n src)) (sym e) (wrapping_at g well i (take n src) (omega (arith, en, length-take-le n src (omega (arith, en)))))
+        subst (WritesSpare g i (take n src)) (sym e) (wrapping_at g well i (take n src) (omega (arith, en, length-take-le n src (omega (arith, en)))))
 
     -- two writes leave the ring well-formed
-    pub twice_wf : (p q : ℕ) (a b st : List T) → st ≡ overwrite (overwrite v.storage p a) q b → WellFormed (ring st v.read_at v.count)
-    twice_wf p q a b st e = subst (λ l. WellFormed (ring l v.read_at v.count)) (sym e) (written_wf (with_elements v p a) (written_wf v wf' p a) q b)
+    pub twice_wf : (p q : ℕ) (a b st : List T) → st ≡ overwrite (overwrite v.storage p a) q b → IsWellFormed (ring st v.read_at v.count)
+    twice_wf p q a b st e = subst (λ l. IsWellFormed (ring l v.read_at v.count)) (sym e) (written_wf (with_elements v p a) (written_wf v wf' p a) q b)
 
     pub read_on : (o n p k : ℕ) (b : List T) → n ≤ g.count - o → o ≤ g.count → p ≡ storage_index g o → k ≡ min n (capacity g - p)
         → b ≡ take (n - k) g.storage → b ≡ take (n - k) (drop k (drop o (queue g)))
@@ -457,7 +457,7 @@ module _ {T : Type 0} where
             | inl h ↦ inr (omega (arith, h.0, h.1, full, read_at_le g well), omega (arith, h.0, h.1, full, read_at_le g well))
             | inr h ↦ absurd (omega (arith, h.0, h.1, full, more, le, read_at_le g well, (well).1))
           ] in
-          eb ∙ held_value g well (o + k) (n - k) 0 (omega (arith, more, le)) (omega (arith, le, (well).1)) next
+          eb ∙ queue_value g well (o + k) (n - k) 0 (omega (arith, more, le)) (omega (arith, le, (well).1)) next
           ∙ ap (take (n - k)) (sym (drop-drop k o (queue g)))
       | inr none ↦
           let y : n - k ≡ 0 = omega (arith, none) in
@@ -479,7 +479,7 @@ module _ {T : Type 0} where
         let within : p ≤ capacity g = omega (arith, ep, storage_index_le g well o (omega (arith, lo, (well).1))) in
         let at : IsStorageIndex (capacity g) g.read_at o p = subst (IsStorageIndex (capacity g) g.read_at o) (sym ep) (storage_index_is g o) in
         let r = part_is g.storage p l k el (omega (arith, ek, within)) a (ea ∙ ap (λ s. take l (drop p s)) same_storage) in
-        (r.0, r.1 ∙ held_value g well o k p (omega (arith, ek, le, lo)) (omega (arith, ek, within)) at)
+        (r.0, r.1 ∙ queue_value g well o k p (omega (arith, ek, le, lo)) (omega (arith, ek, within)) at)
 
     -- `read_allocated`: a is read from the index p on, and the rest of what is read at the beginning
     pub read_clause : (i n p k l : ℕ) (to a b : List T) → l ≡ k → n ≤ g.count - i → p ≡ queue_index g i → k ≡ min n (capacity g - p)
@@ -569,15 +569,15 @@ module _ {T : Type 0} where
         let n = ap (λ o. capacity o) is in
         elim (storage_index_is g (capacity g - k)) [ inl i ↦ omega (arith, r, n, i.0, i.1) | inr i ↦ omega (arith, r, n, i.0, i.1) ]
 
-    pub shown_held : (i n p m : ℕ) → p ≡ queue_index g i → m ≡ contiguous_queued_from g i n → (now : List T) → now ≡ take m (drop p v.storage)
+    pub shown_in_queue : (i n p m : ℕ) → p ≡ queue_index g i → m ≡ contiguous_queued_from g i n → (now : List T) → now ≡ take m (drop p v.storage)
         → (length now ≡ contiguous_queued_from g i n) × (now ≡ take (length now) (drop i (queue g)))
         × (now ≡ take (length now) (drop (queue_index g i) g.storage))
-    shown_held i n p m ep em now e =
-        let r = shown p m (contiguous_queued_from g i n) em (omega (arith, ep, held_index_le g well i)) now e in
+    shown_in_queue i n p m ep em now e =
+        let r = shown p m (contiguous_queued_from g i n) em (omega (arith, ep, queue_index_le g well i)) now e in
         let stored : now ≡ take (contiguous_queued_from g i n) (drop (queue_index g i) g.storage) = r.1
         ∙ ap (λ q. take (contiguous_queued_from g i n) (drop q g.storage)) ep in (
           r.0,
-          stored ∙ held_part_value g well i n ∙ ap (λ j. take j (drop i (queue g))) (sym r.0),
+          stored ∙ queue_part_value g well i n ∙ ap (λ j. take j (drop i (queue g))) (sym r.0),
           stored
               ∙ ap (λ j. take j (drop (queue_index g i) g.storage)) (sym r.0),
         )
@@ -594,58 +594,58 @@ module _ {T : Type 0} where
           stored ∙ ap (λ j. take j (drop (write_at g) g.storage)) (sym r.0),
         )
 
-    pub shown_front : (p m k : ℕ) → p ≡ g.read_at → m ≡ k → k ≤ contiguous_queued g → (now : List T) → now ≡ take m (drop p v.storage)
+    pub shown_head : (p m k : ℕ) → p ≡ g.read_at → m ≡ k → k ≤ contiguous_queued g → (now : List T) → now ≡ take m (drop p v.storage)
         → (length now ≡ k) × (now ≡ take (length now) (queue g)) × (now ≡ take (length now) (drop g.read_at g.storage))
-    shown_front p m k ep em le now e =
+    shown_head p m k ep em le now e =
         let fits : g.read_at + k ≤ capacity g = omega (arith, le, read_at_le g well) in
         let r = shown p m k em (omega (arith, ep, fits)) now e in
         let stored : now ≡ take k (drop g.read_at g.storage) = r.1 ∙ ap (λ q. take k (drop q g.storage)) ep in (
           r.0,
-          stored ∙ held_value g well 0 k g.read_at (omega (arith, le)) fits (read_index_is g well)
+          stored ∙ queue_value g well 0 k g.read_at (omega (arith, le)) fits (read_index_is g well)
               ∙ ap (λ j. take j (queue g)) (sym r.0),
           stored ∙ ap (λ j. take j (drop g.read_at g.storage)) (sym r.0),
         )
 
-    -- the contiguous free elements, and the contiguous ones at the front of the queue
+    -- the contiguous free elements, and the contiguous ones at the head of the queue
     pub lent_next : (p m : ℕ) → p ≡ write_at g → m ≡ contiguous_window g → (now : List T) → now ≡ take m (drop p v.storage)
         → (now ≡ take (contiguous_window g) (spare g)) × (length now ≡ contiguous_window g)
     lent_next p m ep em now e =
         let all = shown_next p m (contiguous_window g) ep em (omega arith) now e in
         (all.1 ∙ ap (λ j. take j (spare g)) all.0, all.0)
 
-    pub lent_front : (p m : ℕ) → p ≡ g.read_at → m ≡ contiguous_queued g → (now : List T) → now ≡ take m (drop p v.storage)
+    pub lent_head : (p m : ℕ) → p ≡ g.read_at → m ≡ contiguous_queued g → (now : List T) → now ≡ take m (drop p v.storage)
         → (now ≡ take (contiguous_queued g) (queue g)) × (length now ≡ contiguous_queued g)
-    lent_front p m ep em now e =
-        let all = shown_front p m (contiguous_queued g) ep em (omega arith) now e in
+    lent_head p m ep em now e =
+        let all = shown_head p m (contiguous_queued g) ep em (omega arith) now e in
         (all.1 ∙ ap (λ j. take j (queue g)) all.0, all.0)
 
     -- and what stays of them, n of the elements w being enqueued, or dequeued
     pub left_in_from : (k n p : ℕ) → k ≡ n → p ≡ write_at g → (st w : List T) → st ≡ overwrite v.storage p w
         → length w ≡ contiguous_window g → n ≤ contiguous_window g
-        → (ring st v.read_at (v.count + k) ≡ with_elements (with_enqueued n g) (write_at g) w) × EnqueuedFrom g n w (ring st v.read_at (v.count + k))
+        → (ring st v.read_at (v.count + k) ≡ with_elements (with_enqueued n g) (write_at g) w) × EnqueuesFrom g n w (ring st v.read_at (v.count + k))
     left_in_from k n p ek ep st w e long le =
         let exact = left_in k n p ek ep st w e in
-        (exact, subst (EnqueuedFrom g n w) (sym exact) (enqueued_from g well n w (omega (arith, long, le)) (omega (arith, long))))
+        (exact, subst (EnqueuesFrom g n w) (sym exact) (enqueued_from g well n w (omega (arith, long, le)) (omega (arith, long))))
 
     pub left_off_from : (k n p : ℕ) → k ≡ n → p ≡ storage_index g n → (st w : List T) → st ≡ overwrite v.storage v.read_at w
         → length w ≡ contiguous_queued g → n ≤ contiguous_queued g
-        → (ring st p (v.count - k) ≡ with_elements (with_dequeued n g) g.read_at w) × DequeuedFrom g n w (ring st p (v.count - k))
+        → (ring st p (v.count - k) ≡ with_elements (with_dequeued n g) g.read_at w) × DequeuesFrom g n w (ring st p (v.count - k))
     left_off_from k n p ek ep st w e long le =
         let exact = left_off k n p ek (ep ∙ ap (storage_index g) (sym ek)) st w e in
-        (exact, subst (DequeuedFrom g n w) (sym exact) (dequeued_from g well n w (omega (arith, long, le)) (omega (arith, long))))
+        (exact, subst (DequeuesFrom g n w) (sym exact) (dequeued_from g well n w (omega (arith, long, le)) (omega (arith, long))))
 
-  -- `enqueue_slice`: a write to the front of the spare part of r, which is then enqueued
-  pub enqueue_clause : (r g w h : RingState T) (ws : List T) (n : ℕ) → r ≡ g → SpareWritten r 0 ws w → h ≡ with_enqueued n w
-      → length ws ≡ n → n ≤ window g → Enqueued g ws h
+  -- `enqueue_slice`: a write to the beginning of the spare part of r, which is then enqueued
+  pub enqueue_clause : (r g w h : RingState T) (ws : List T) (n : ℕ) → r ≡ g → WritesSpare r 0 ws w → h ≡ with_enqueued n w
+      → length ws ≡ n → n ≤ window g → Enqueues g ws h
   enqueue_clause r g w h ws n is s e l le =
-      let t = subst (λ (o : RingState T). SpareWritten o 0 ws w) is s in
+      let t = subst (λ (o : RingState T). WritesSpare o 0 ws w) is s in
       let long : length (spare g) ≡ window g = omega (arith, length-drop g.count (rotation g.storage g.read_at), length-rotation g.storage g.read_at) in
-      let f = overwrite_front (spare g) ws n (omega (arith, l)) (omega (arith, l, long, le)) in
+      let f = overwrite_head (spare g) ws n (omega (arith, l)) (omega (arith, l, long, le)) in
       let q : queue (with_enqueued n w) ≡ queue g ++ ws = take_sum w.count n (rotation w.storage w.read_at)
       ∙ ap₂ ◌++◌ t.0 (ap (take n) t.1 ∙ f.0 ∙ take_all n ws (omega (arith, l))) in
       let p : spare (with_enqueued n w) ≡ drop (length ws) (spare g) = sym (drop-drop n w.count (rotation w.storage w.read_at))
       ∙ ap (drop n) t.1 ∙ ap (λ i. drop i (overwrite (spare g) 0 ws)) (sym l) ∙ f.1 in
-      subst (Enqueued g ws) (sym e) (q, p, t.2)
+      subst (Enqueues g ws) (sym e) (q, p, t.2)
 
   -- ---- laws
   pub restarted_is : (g : RingState T) → (queue (from_start_if_empty g) ≡ queue g) × ((from_start_if_empty g).count ≡ g.count)
@@ -663,7 +663,7 @@ module _ {T : Type 0} where
   abbrev back : List T → ℕ → List T
   back l r = drop (length l - r) l ++ take (length l - r) l
 
-  back_is : (g : RingState T) → WellFormed g → g.storage ≡ back (queue g ++ spare g) g.read_at
+  back_is : (g : RingState T) → IsWellFormed g → g.storage ≡ back (queue g ++ spare g) g.read_at
   back_is g wf =
       let r = g.read_at in
       let b = g.storage in
@@ -672,7 +672,7 @@ module _ {T : Type 0} where
       ∙ ap₂ ◌++◌ (drop_at (drop r b) (take r b) (length (drop r b)) refl) (take_at (drop r b) (take r b) (length (drop r b)) refl) in
       sym (ap (λ l. back l r) (sym (whole g wf)) ∙ e ∙ take-append-drop r b)
 
-  pub parts_are : (g h : RingState T) → WellFormed g → WellFormed h → g.read_at ≡ h.read_at → queue g ≡ queue h → spare g ≡ spare h → g ≡ h
+  pub parts_are : (g h : RingState T) → IsWellFormed g → IsWellFormed h → g.read_at ≡ h.read_at → queue g ≡ queue h → spare g ≡ spare h → g ≡ h
   parts_are g h wg wh er eq es =
       let n : g.count ≡ h.count = sym (length-queue g wg) ∙ ap length eq ∙ length-queue h wh in
       let b : g.storage ≡ h.storage = back_is g wg ∙ ap₂ (λ l r. back l r) (ap₂ ◌++◌ eq es) er ∙ sym (back_is h wh) in
@@ -686,8 +686,8 @@ restart_cases b = elim (cases_eq b.count 0) [
   | inr h ↦ inr (h, ap (λ (t : Bool). if t then ring b.storage 0 0 else b) (ne_eqb b.count 0 h))
 ]
 
-pub restart_wf : {T : Type 0} (b : RingState T) → WellFormed b → WellFormed (from_start_if_empty b)
-restart_wf b wf = elim (restart_cases b) [ inl h ↦ subst WellFormed (sym h.1) (inl refl, omega arith) | inr h ↦ subst WellFormed (sym h.1) wf ]
+pub restart_wf : {T : Type 0} (b : RingState T) → IsWellFormed b → IsWellFormed (from_start_if_empty b)
+restart_wf b wf = elim (restart_cases b) [ inl h ↦ subst IsWellFormed (sym h.1) (inl refl, omega arith) | inr h ↦ subst IsWellFormed (sym h.1) wf ]
 
 -- the index of an element that a ring can hold lies below the storage's end
 storage_index_below : (c r j : ℕ) → j < c → (if nat_lt j (c - r) then r + j else j - (c - r)) < c
@@ -696,9 +696,9 @@ storage_index_below c r j l =
     (λ (b : c - r ≤ j). subst (λ (p : ℕ). p < c) (sym (cond-false _ _ _ (le-ltb j (c - r) b))) (omega arith))
     (cases_lt j (c - r))
 
--- if an element is held, some contiguous ones are
-contiguous_held_some : {T : Type 0} (g : RingState T) (i n : ℕ) → g.count ≤ length g.storage → i < g.count → 0 < n → 0 < contiguous_queued_from g i n
-contiguous_held_some g i n room l m = let below = storage_index_below (length g.storage) g.read_at (min i g.count) (omega arith) in omega arith
+-- if an element is queued, some contiguous ones are
+contiguous_in_queue_some : {T : Type 0} (g : RingState T) (i n : ℕ) → g.count ≤ length g.storage → i < g.count → 0 < n → 0 < contiguous_queued_from g i n
+contiguous_in_queue_some g i n room l m = let below = storage_index_below (length g.storage) g.read_at (min i g.count) (omega arith) in omega arith
 
 -- if an element is free, some contiguous ones are
 pub contiguous_free_some : {T : Type 0} (g : RingState T) (i n : ℕ) → i < window g → 0 < n → 0 < contiguous_window_from g i n
@@ -714,8 +714,8 @@ contiguous_restarted_some g l =
     let same = restarted_is g in
     contiguous_next_some (from_start_if_empty g) (λ none. l (ap₂ (λ (s : List _) (n : ℕ). length s - n) (sym same.2) (sym same.1) ∙ none))
 
-pub contiguous_front_some : {T : Type 0} (g : RingState T) → WellFormed g → g.count ≢ 0 → 0 < contiguous_queued g
-contiguous_front_some g wf l = omega (arith, l, read_fits g wf l)
+pub contiguous_head_some : {T : Type 0} (g : RingState T) → IsWellFormed g → g.count ≢ 0 → 0 < contiguous_queued g
+contiguous_head_some g wf l = omega (arith, l, read_fits g wf l)
 
 slice_get_at : {T : Type 0} (xs : List T) (i : ℕ) → slice_get (drop i xs) 0 ≡ slice_get xs i
 slice_get_at [] zero = refl
@@ -723,15 +723,15 @@ slice_get_at [] (suc i) = refl
 slice_get_at (x ∷ xs) zero = refl
 slice_get_at (x ∷ xs) (suc i) = slice_get_at xs i
 
-slice_get_front : {T : Type 0} (xs : List T) (n : ℕ) → 0 < n → slice_get (take n xs) 0 ≡ slice_get xs 0
-slice_get_front xs zero some = absurd (omega (arith, some))
-slice_get_front [] (suc n) some = refl
-slice_get_front (x ∷ xs) (suc n) some = refl
+slice_get_head : {T : Type 0} (xs : List T) (n : ℕ) → 0 < n → slice_get (take n xs) 0 ≡ slice_get xs 0
+slice_get_head xs zero some = absurd (omega (arith, some))
+slice_get_head [] (suc n) some = refl
+slice_get_head (x ∷ xs) (suc n) some = refl
 
 -- the first of the elements that are shown from an index on, of which some are if there are any
 first_shown : {T : Type 0} (xs now : List T) (i : ℕ) → now ≡ take (length now) (drop i xs) → (i < length xs → 0 < length now) → slice_get now 0 ≡ slice_get xs i
 first_shown xs now i e some = elim (cases_lt 0 (length now)) [
-  | inl h ↦ ap (λ l. slice_get l 0) e ∙ slice_get_front (drop i xs) (length now) h ∙ slice_get_at xs i
+  | inl h ↦ ap (λ l. slice_get l 0) e ∙ slice_get_head (drop i xs) (length now) h ∙ slice_get_at xs i
   | inr h ↦ elim (cases_lt i (length xs)) [
     | inl l ↦ absurd (omega (arith, h, some l))
     | inr r ↦ slice_get_past now 0 h ∙ sym (slice_get_past xs i r)
@@ -739,11 +739,11 @@ first_shown xs now i e some = elim (cases_lt 0 (length now)) [
 ]
 
 -- a part of the queue that is shown from an index on has elements if there are any, and its first one is the one at that index
-pub first_held : {T : Type 0} (g : RingState T) → WellFormed g → (i n : ℕ) (now : List T)
+pub first_in_queue : {T : Type 0} (g : RingState T) → IsWellFormed g → (i n : ℕ) (now : List T)
     → length now ≡ contiguous_queued_from g i n → now ≡ take (length now) (drop i (queue g))
     → (i < g.count → 0 < n → 0 < length now) × (0 < n → slice_get now 0 ≡ slice_get (queue g) i)
-first_held g wf i n now long is =
-    let some : i < g.count → 0 < n → 0 < length now = λ l m. (let h = contiguous_held_some g i n wf.1 l m in omega (arith, h, long)) in
+first_in_queue g wf i n now long is =
+    let some : i < g.count → 0 < n → 0 < length now = λ l m. (let h = contiguous_in_queue_some g i n wf.1 l m in omega (arith, h, long)) in
     (some, λ m. first_shown (queue g) now i is (λ l. some (omega (arith, l, length-queue g wf)) m))
 
 -- a list's first element alone, or nothing if it has none

@@ -5,7 +5,7 @@ use Rattle.std.proofs.lemmas.List.{take-append-drop, drop-append-le, append-nil,
 use Rattle.std.proofs.lemmas.Bool.{cases_lt}
 use Rattle.net_storage.specs.Overwrite.{overwrite}
 use Rattle.net_storage.specs.Log.{Log, empty_log, log_accepted, log_left, log_dropped}
-use Rattle.net_storage.specs.Ring.{RingState, WellFormed, ring, capacity, window, queue, write_at, storage_index}
+use Rattle.net_storage.specs.Ring.{RingState, IsWellFormed, ring, capacity, window, queue, write_at, storage_index}
 use Rattle.net_storage.specs.Ring.{contiguous_window, contiguous_queued, contiguous_queue}
 use Rattle.net_storage.specs.Ring.{spare_index, queue_index, with_elements, with_elements_wrapping, with_enqueued, from_start_if_empty}
 use Rattle.net_storage.specs.RingHistory.{RingCall, Clear, Reset, EnqueueSlice, EnqueueUnallocated, EnqueueMany, EnqueueManyWith}
@@ -25,9 +25,9 @@ module _ {X : Type 0} where
   -- the first ones left
   off : (gone q came next xs : List X) (n : ℕ) → gone ++ q ≡ came → xs ≡ take n q → next ≡ drop n q →
       (gone ++ xs) ++ next ≡ came
-  off gone q came next xs n turn front rest =
+  off gone q came next xs n turn head_is rest =
       append_assoc gone xs next
-      ∙ ap (λ (l : List X). gone ++ l) (ap₂ ◌++◌ front rest ∙ take-append-drop n q)
+      ∙ ap (λ (l : List X). gone ++ l) (ap₂ ◌++◌ head_is rest ∙ take-append-drop n q)
       ∙ turn
 
   -- those that have not left were written over
@@ -45,30 +45,30 @@ module _ {X : Type 0} where
       let c = cut (length ws) q fits in
       let m : List X = c.0 in
       let z : List X = c.1 in
-      let front : overwrite q 0 ws ≡ ws ++ z =
+      let head_is : overwrite q 0 ws ≡ ws ++ z =
       ap (λ (l : List X). overwrite l 0 ws) c.2 ∙ overwrite_at [] m z ws 0 refl c.3 in
       let rest : drop n q ≡ drop n m ++ z = ap (drop n) c.2 ∙ drop-append-le n m z (omega (arith, le, c.3)) in
       let same : length (drop n m) ≡ length (drop n ws) = omega (arith, length-drop n m, length-drop n ws, c.3) in
-      ap (drop n) front ∙ drop-append-le n ws z le
+      ap (drop n) head_is ∙ drop-append-le n ws z le
       ∙ sym (ap (λ (l : List X). overwrite l 0 (drop n ws)) rest ∙ overwrite_at [] (drop n m) z (drop n ws) 0 refl same)
 
 -- ---- rings
 module _ {T : Type 0} where
   -- the ring is well-formed, and what left, followed by the queue, is what came
   pub record InTurn (log : Log T) (g : RingState T) : Type 0 where
-    pub ok : WellFormed g
+    pub ok : IsWellFormed g
     pub turn : log.left ++ queue g ≡ log.accepted
 
   -- a ring with k elements more, or less
-  in_ok : (g : RingState T) (k : ℕ) → WellFormed g → k ≤ window g → WellFormed (with_enqueued k g)
+  in_ok : (g : RingState T) (k : ℕ) → IsWellFormed g → k ≤ window g → IsWellFormed (with_enqueued k g)
   in_ok g k ok le = (ok.0, omega (arith, ok.1, le))
 
-  off_ok : (g : RingState T) (k : ℕ) (storage ws : List T) → WellFormed g → k ≤ g.count → storage ≡ overwrite g.storage g.read_at ws →
-      WellFormed (ring storage (storage_index g k) (g.count - k))
+  off_ok : (g : RingState T) (k : ℕ) (storage ws : List T) → IsWellFormed g → k ≤ g.count → storage ≡ overwrite g.storage g.read_at ws →
+      IsWellFormed (ring storage (storage_index g k) (g.count - k))
   off_ok g k storage ws ok le is =
       facts.off_wf g g refl ok k (storage_index g k) (g.count - k) ws storage refl (omega (arith, ok.1, le)) (omega arith) is
 
-  wrapping_ok : (g : RingState T) (p : ℕ) (ws : List T) → WellFormed g → WellFormed (with_elements_wrapping g p ws)
+  wrapping_ok : (g : RingState T) (p : ℕ) (ws : List T) → IsWellFormed g → IsWellFormed (with_elements_wrapping g p ws)
   wrapping_ok g p ws ok =
       facts.written_wf (with_elements g p ws) (facts.written_wf g ok p ws) 0 (drop (length g.storage - p) ws)
 
@@ -77,15 +77,15 @@ module _ {T : Type 0} where
       length-overwrite (overwrite g.storage p ws) 0 (drop (length g.storage - p) ws) ∙ length-overwrite g.storage p ws
 
   -- an empty ring that was moved to the storage's beginning
-  moved : (g : RingState T) → WellFormed g → WellFormed (from_start_if_empty g) × (queue (from_start_if_empty g) ≡ queue g)
+  moved : (g : RingState T) → IsWellFormed g → IsWellFormed (from_start_if_empty g) × (queue (from_start_if_empty g) ≡ queue g)
       × (window (from_start_if_empty g) ≡ window g)
   moved g ok =
       let same = facts.restarted_is g in
       (facts.restart_wf g ok, same.0, ap₂ (λ (s : List T) (n : ℕ). length s - n) same.2 same.1)
 
   -- xs was written over the spare part, round the storage's end, and then enqueued
-  in_wrapping : (g : RingState T) (xs : List T) → WellFormed g → length xs ≤ window g →
-      WellFormed (with_enqueued (length xs) (with_elements_wrapping g (write_at g) xs))
+  in_wrapping : (g : RingState T) (xs : List T) → IsWellFormed g → length xs ≤ window g →
+      IsWellFormed (with_enqueued (length xs) (with_elements_wrapping g (write_at g) xs))
       × (queue (with_enqueued (length xs) (with_elements_wrapping g (write_at g) xs)) ≡ queue g ++ xs)
   in_wrapping g xs ok le =
       let o = with_elements_wrapping g (write_at g) xs in
@@ -96,8 +96,8 @@ module _ {T : Type 0} where
       )
 
   -- ws was written over the spare part and its first k elements were enqueued
-  in_written : (g : RingState T) (k : ℕ) (ws : List T) → WellFormed g → k ≤ length ws → length ws ≤ contiguous_window g →
-      WellFormed (with_elements (with_enqueued k g) (write_at g) ws)
+  in_written : (g : RingState T) (k : ℕ) (ws : List T) → IsWellFormed g → k ≤ length ws → length ws ≤ contiguous_window g →
+      IsWellFormed (with_elements (with_enqueued k g) (write_at g) ws)
       × (queue (with_elements (with_enqueued k g) (write_at g) ws) ≡ queue g ++ take k ws)
   in_written g k ws ok le fits = (
     facts.written_wf (with_enqueued k g) (in_ok g k ok (omega (arith, le, fits))) (write_at g) ws,
@@ -105,7 +105,7 @@ module _ {T : Type 0} where
   )
 
   -- the log and the ring after a call that made o of g
-  module _ (log : Log T) (g o h : RingState T) (before : InTurn log g) (is : h ≡ o) (ok : WellFormed o) where
+  module _ (log : Log T) (g o h : RingState T) (before : InTurn log g) (is : h ≡ o) (ok : IsWellFormed o) where
     same_as : queue o ≡ queue g → InTurn log h
     same_as q = subst (InTurn log) (sym is) (record { ok = ok; turn = ap (λ (l : List T). log.left ++ l) q ∙ before.turn })
 
@@ -120,8 +120,8 @@ module _ {T : Type 0} where
         subst (InTurn (log_accepted xs log)) (sym is) (record { ok = ok; turn = turn })
 
     less_after : (n : ℕ) (xs : List T) → xs ≡ take n (queue g) → queue o ≡ drop n (queue g) → InTurn (log_left xs log) h
-    less_after n xs front q =
-        let turn = off log.left (queue g) log.accepted (queue o) xs n before.turn front q in
+    less_after n xs head_is q =
+        let turn = off log.left (queue g) log.accepted (queue o) xs n before.turn head_is q in
         subst (InTurn (log_left xs log)) (sym is) (record { ok = ok; turn = turn })
 
     over_after : (i : ℕ) (ws : List T) → i + length ws ≤ length (queue g) → queue o ≡ overwrite (queue g) i ws → InTurn (log_written i ws log) h
@@ -144,8 +144,8 @@ module _ {T : Type 0} where
         InTurn (log_written 0 (drop n ws) (log_left (take n xs) log)) h
     less_and_over_after n xs ws shown long le fits q =
         let rest : queue o ≡ overwrite (drop n (queue g)) 0 (drop n ws) = q ∙ drop-overwrite (queue g) ws n le (omega (arith, long, fits)) in
-        let front : take n xs ≡ take n (queue g) = ap (take n) shown ∙ take-take n (contiguous_queued g) (queue g) (omega (arith, long, le)) in
-        let half = off log.left (queue g) log.accepted (drop n (queue g)) (take n xs) n before.turn front refl in
+        let head_is : take n xs ≡ take n (queue g) = ap (take n) shown ∙ take-take n (contiguous_queued g) (queue g) (omega (arith, long, le)) in
+        let half = off log.left (queue g) log.accepted (drop n (queue g)) (take n xs) n before.turn head_is refl in
         let room : 0 + length (drop n ws) ≤ length (drop n (queue g)) = omega (arith, length-drop n ws, length-drop n (queue g), long, fits) in
         let turn = over (log.left ++ take n xs) (drop n (queue g)) log.accepted (queue o) (drop n ws) 0 half room rest in
         subst (InTurn (log_written 0 (drop n ws) (log_left (take n xs) log))) (sym is) (record { ok = ok; turn = turn })
@@ -193,10 +193,10 @@ module _ {T : Type 0} where
   step (DequeueErr y) log g h before does =
       let ok = facts.written_wf g before.ok g.read_at (y ∷ []) in
       let room : 0 + 1 ≤ length (queue g) = omega (arith, does.0, length-queue g before.ok) in
-      over_after log g _ h before does.1 ok 0 (y ∷ []) room (facts.front_written g before.ok y does.0).0
+      over_after log g _ h before does.1 ok 0 (y ∷ []) room (facts.head_written g before.ok y does.0).0
   step (GetAllocatedMut i ws) log g h before does =
       let ok = facts.written_wf g before.ok (queue_index g i) ws in
-      let law = facts.held_part_law g before.ok i (length ws) ws does.0 in
+      let law = facts.queue_part_law g before.ok i (length ws) ws does.0 in
       elim (cases_lt g.count i) [
         | inl past ↦ nothing_after log g _ h before does.1 ok i ws (nil_from_length ws (omega (arith, does.0, past))) law.0
         | inr within ↦ over_after log g _ h before does.1 ok i ws (omega (arith, does.0, within, length-queue g before.ok)) law.0

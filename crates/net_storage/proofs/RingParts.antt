@@ -3,9 +3,9 @@ use Rattle.std.proofs.Common.{◌≡◌, ◌≢◌, ℕ, ◌+◌, ◌-◌, ◌<�
 use Rattle.std.proofs.Common.{refl, sym, ap, ap₂, ◌∙◌, arith, length-take, length-drop}
 use Rattle.std.proofs.lemmas.List.{get_or-take, get_or-drop, get_or_append_left, get_or-append_right}
 use Rattle.std.proofs.lemmas.List.{take-append-drop, take_all}
-use Rattle.net_storage.specs.Ring.{RingState, WellFormed, queue, contiguous_queue, contiguous_queued, storage_index}
+use Rattle.net_storage.specs.Ring.{RingState, IsWellFormed, queue, contiguous_queue, contiguous_queued, storage_index}
 use Rattle.net_storage.proofs.Rotations.{length-queue}
-use Rattle.net_storage.proofs.RingFacts.{well, shown_front, contiguous_front_some, read_on, storage_index-zero}
+use Rattle.net_storage.proofs.RingFacts.{well, shown_head, contiguous_head_some, read_on, storage_index-zero}
 
 module _ {X : Type 0} where
   -- the elements of a part of a list, which begins at the index i
@@ -28,8 +28,8 @@ module _ {X : Type 0} where
       omega (arith, long, le, length-take (length part) (drop i xs), length-drop i xs)
 
   -- the elements of two lists that are one, of the first and of the second
-  pub each_front : (xs a b : List X) → a ++ b ≡ xs → (k : ℕ) (d : X) → k < length a → get_or xs k d ≡ get_or a k d
-  each_front xs a b is k d below = ap (λ (l : List X). get_or l k d) (sym is) ∙ get_or_append_left a b d k below
+  pub each_head : (xs a b : List X) → a ++ b ≡ xs → (k : ℕ) (d : X) → k < length a → get_or xs k d ≡ get_or a k d
+  each_head xs a b is k d below = ap (λ (l : List X). get_or l k d) (sym is) ∙ get_or_append_left a b d k below
 
   pub each_behind : (xs a b : List X) → a ++ b ≡ xs →
       (k : ℕ) (d : X) → length a ≤ k → get_or xs k d ≡ get_or b (k - length a) d
@@ -37,7 +37,7 @@ module _ {X : Type 0} where
       ap (λ (l : List X). get_or l k d) (sym is) ∙ get_or-append_right a b (length a) k d refl from
 
 module _ {T : Type 0} where
-  -- what stands in a row at the front of the queue, and what wraps
+  -- what stands in a row at the head of the queue, and what wraps
   pub record Parts (g : RingState T) (a b : List T) : Type 0 where
     pub cut : length a ≡ contiguous_queued g
     pub count : length a + length b ≡ g.count
@@ -47,27 +47,27 @@ module _ {T : Type 0} where
     pub queue : a ++ b ≡ queue g
     pub stored : (a ≡ take (length a) (drop g.read_at g.storage)) × (b ≡ take (g.count - length a) g.storage)
 
-  module _ (v g : RingState T) (is : v ≡ g) (wf : WellFormed v) where
+  module _ (v g : RingState T) (is : v ≡ g) (wf : IsWellFormed v) where
     -- a is the queue up to the storage's end, and b the rest of it, at the storage's beginning
     pub two_parts : (k p m n : ℕ) → k ≡ contiguous_queued g → p ≡ g.read_at → m ≡ k → n ≡ g.count - k →
         (a b : List T) → a ≡ take m (drop p v.storage) → b ≡ take n v.storage → Parts g a b
     two_parts k p m n ek ep em en a b ea eb =
         let wg = well v g is wf in
-        let front = shown_front v g is wf p m k ep em (omega (arith, ek)) a ea in
+        let head_is = shown_head v g is wf p m k ep em (omega (arith, ek)) a ea in
         let at : g.read_at ≡ storage_index g 0 = sym (storage_index-zero g wg) in
-        let held : b ≡ take (g.count - k) g.storage = eb ∙ ap₂ (λ j (o : RingState T). take j o.storage) en is in
+        let second_is : b ≡ take (g.count - k) g.storage = eb ∙ ap₂ (λ j (o : RingState T). take j o.storage) en is in
         let rest : b ≡ take (g.count - k) (drop k (queue g)) =
-        read_on v g is wf 0 g.count g.read_at k b (omega arith) (omega arith) at (omega (arith, ek)) held in
+        read_on v g is wf 0 g.count g.read_at k b (omega arith) (omega arith) at (omega (arith, ek)) second_is in
         let behind : length (drop k (queue g)) ≡ g.count - k = omega (arith, length-drop k (queue g), length-queue g wg) in
         let second : b ≡ drop k (queue g) = rest ∙ take_all (g.count - k) (drop k (queue g)) (omega (arith, behind)) in
-        let first : a ≡ take k (queue g) = front.1 ∙ ap (λ (j : ℕ). take j (queue g)) front.0 in
+        let first : a ≡ take k (queue g) = head_is.1 ∙ ap (λ (j : ℕ). take j (queue g)) head_is.0 in
         let long : length b ≡ g.count - k = ap length second ∙ behind in
         record {
-          cut = front.0 ∙ ek;
-          count = omega (arith, front.0, long, ek);
-          some = λ l. (let h = contiguous_front_some g wg l in omega (arith, front.0, ek, h));
+          cut = head_is.0 ∙ ek;
+          count = omega (arith, head_is.0, long, ek);
+          some = λ l. (let h = contiguous_head_some g wg l in omega (arith, head_is.0, ek, h));
           first = first ∙ ap (λ (j : ℕ). take j (queue g)) ek;
-          second = second ∙ sym (ap (λ (j : ℕ). drop j (queue g)) front.0);
+          second = second ∙ sym (ap (λ (j : ℕ). drop j (queue g)) head_is.0);
           queue = ap₂ ◌++◌ first second ∙ take-append-drop k (queue g);
-          stored = (front.2, held ∙ sym (ap (λ (j : ℕ). take (g.count - j) g.storage) front.0));
+          stored = (head_is.2, second_is ∙ sym (ap (λ (j : ℕ). take (g.count - j) g.storage) head_is.0));
         }

@@ -6,7 +6,8 @@ use Rattle.std.proofs.lemmas.List.{take-append-drop, length-take-le, take_at, dr
 use Rattle.std.proofs.lemmas.List.{take-append-le, drop-append-le, take-take, drop-take, drop-drop}
 use Rattle.std.proofs.lemmas.Bool.{cases_lt, lt-ltb, le-ltb}
 use Rattle.net_storage.specs.Overwrite.{overwrite}
-use Rattle.net_storage.specs.Ring.{RingState, rotation, capacity, window, queue, spare, storage_index, WellFormed, with_elements, with_enqueued, with_dequeued}
+use Rattle.net_storage.specs.Ring.{RingState, rotation, capacity, window, queue, spare, storage_index, IsWellFormed}
+use Rattle.net_storage.specs.Ring.{with_elements, with_enqueued, with_dequeued}
 
 -- p is the index, in a list of c elements, of the element j of the list rotated by r
 abbrev pub IsStorageIndex : ℕ → ℕ → ℕ → ℕ → Type 0
@@ -184,7 +185,7 @@ module _ {T : Type 0} where
   take_sum n k xs = sym (take-append-drop n (take (n + k) xs)) ∙ ap₂ ◌++◌ (take-take n (n + k) xs (omega arith)) (drop-take n k xs)
 
   -- ---- the queue and the spare part of a ring
-  module _ (g : RingState T) (wf : WellFormed g) where
+  module _ (g : RingState T) (wf : IsWellFormed g) where
     pub read_at_le : g.read_at ≤ length g.storage
     read_at_le = elim wf.0 [ inl e ↦ omega (arith, e) | inr h ↦ omega (arith, h) ]
 
@@ -241,6 +242,6 @@ module _ {T : Type 0} where
         )
 
   -- a list that isn't empty has a first element
-  pub cut_front : (xs : List T) → 0 < length xs → (x : T) × (us : List T) × (xs ≡ x ∷ us)
-  cut_front [] h = absurd (omega arith)
-  cut_front (x ∷ xs) h = (x, xs, refl)
+  pub cut_prefix : (xs : List T) → 0 < length xs → (x : T) × (us : List T) × (xs ≡ x ∷ us)
+  cut_prefix [] h = absurd (omega arith)
+  cut_prefix (x ∷ xs) h = (x, xs, refl)

@@ -6,7 +6,7 @@ use Rattle.std.proofs.lemmas.List.{drop-map, length-map, length-take-le, get_or-
 use Rattle.std.proofs.lemmas.Bool.{cases_lt}
 use Rattle.std.proofs.lemmas.Bool.Decides.{nat_tests}
 use Rattle.net_storage.specs.Positions.{runs_shifted_up}
-use Rattle.net_storage.specs.RunLists.{start_at, end_at, Rising, AreRuns, StartsAtZero, FitsFrom, runs_with_range, runs_shifted_down}
+use Rattle.net_storage.specs.RunLists.{start_at, end_at, IsRising, AreRuns, StartsAtZero, FitsFrom, runs_with_range, runs_shifted_down}
 use Rattle.net_storage.proofs.Moves.{rest_at}
 use Rattle.net_storage.proofs.Positions.{either}
 use Rattle.net_storage.proofs.RunLists.{at_run, top_of, absorbed}
@@ -20,8 +20,8 @@ pub drop-up : (n k : ℕ) (rs : List (ℕ × ℕ)) →
     drop k (runs_shifted_up n rs) ≡ runs_shifted_up n (drop k rs)
 drop-up n k rs = drop-map (λ (r : ℕ × ℕ). (n + r.0, n + r.1)) k rs
 
-pub rising-up : (n low high : ℕ) (rs : List (ℕ × ℕ)) → high ≤ n + low → Rising low rs →
-    Rising high (runs_shifted_up n rs)
+pub rising-up : (n low high : ℕ) (rs : List (ℕ × ℕ)) → high ≤ n + low → IsRising low rs →
+    IsRising high (runs_shifted_up n rs)
 rising-up n low high [] l h = tt
 rising-up n low high (r ∷ rs) l h =
     (omega (arith, h.0), omega (arith, h.1), rising-up n (r.1 + 1) (n + r.1 + 1) rs (omega arith) h.2)
@@ -42,7 +42,7 @@ pub up-same : (a b : ℕ) (rs : List (ℕ × ℕ)) → a ≡ b → runs_shifted_
 up-same a b rs e = ap (λ n. runs_shifted_up n rs) e
 
 -- up and down again
-pub up-down : (f e : ℕ) (rs : List (ℕ × ℕ)) → e ≤ f → Rising f rs →
+pub up-down : (f e : ℕ) (rs : List (ℕ × ℕ)) → e ≤ f → IsRising f rs →
     runs_shifted_up (f - e) (runs_shifted_down f rs) ≡ runs_shifted_down e rs
 up-down f e [] l h = refl
 up-down f e (r ∷ rs) l h =
@@ -113,7 +113,7 @@ pub fits-up : (a b c : ℕ) (rs : List (ℕ × ℕ)) → a + b ≡ c → FitsFro
 fits-up a b c [] e f = tt
 fits-up a b c (r ∷ rs) e f = (omega (arith, f.0), fits-up a b c rs e f.1)
 
-pub fits-down : (n m c : ℕ) (rs : List (ℕ × ℕ)) → n ≤ m → Rising m rs → FitsFrom c rs →
+pub fits-down : (n m c : ℕ) (rs : List (ℕ × ℕ)) → n ≤ m → IsRising m rs → FitsFrom c rs →
     FitsFrom n (runs_shifted_down m rs)
 fits-down n m c [] l h f = tt
 fits-down n m c (r ∷ rs) l h f = (

@@ -9,7 +9,7 @@ module _ {X : Type 0} where
 
   -- the element k is that of ws which was written there, and else the one that xs has. x is what
   -- a read past a list's end gives, so that the statement holds of each element there is
-  abbrev pub OverwrittenAt : List X → ℕ → List X → ℕ → X → Type 0
-  OverwrittenAt xs i ws k x = k < length xs → slice_index_or (overwrite xs i ws) k x
+  abbrev pub OverwritesAt : List X → ℕ → List X → ℕ → X → Type 0
+  OverwritesAt xs i ws k x = k < length xs → slice_index_or (overwrite xs i ws) k x
       ≡ (if nat_le i k && nat_lt k (i + length ws) then slice_index_or ws (k - i) x
       else slice_index_or xs k x)

@@ -1,10 +1,10 @@
 -- Calls of a closure at a packet: at the bytes that it is given, or at its header and bytes; and
 -- bytes that are copied out.
 --     TakesRoom f q s h, CountsAtMost f q s h      what is asked of a closure that writes a packet
---     WrotePacket f q s h k r      what a call of it leaves
+--     WritesPacket f q s h k r      what a call of it leaves
 --     TakesPacket f h ws, GivesAtPacket f h ws r h' ws'      a closure at a header and bytes
---     TakesFirstPacket f q, HandedPacket f q answer r      the same at the first packet of a queue
---     CopiedOut ps h xs k rest ys      the first packet was copied out
+--     TakesFirstPacket f q, HandsPacket f q answer r      the same at the first packet of a queue
+--     CopiesOut ps h xs k rest ys      the first packet was copied out
 use Rattle.std.specs.Prelude.{◌≡◌, ◌≤◌, ℕ, List, [], ◌∷◌, ◌++◌, Result, is_ok, if◌then◌else◌}
 use Rattle.std.specs.Prelude.{length, min, take, drop}
 use Rattle.std.specs.Borrow.{MutBor}
@@ -27,7 +27,7 @@ module _ {F H : Type 0}
 
   -- f was lent the bytes room, wrote ws there and returned k: the first k bytes of ws came last as
   -- a packet, which made r of q
-  pub record WrotePacket (f : F) (q : PacketQueue H) (s : ℕ) (h : H) (k : ℕ)
+  pub record WritesPacket (f : F) (q : PacketQueue H) (s : ℕ) (h : H) (k : ℕ)
       (r : PacketQueue H) : Type 0 where
     pub room : List ℕ
     pub bytes : List ℕ
@@ -66,7 +66,7 @@ module _ {F H R E : Type 0}
 
   -- f was handed the first packet, wrote its header and bytes anew and returned: the packet is gone
   -- from r if that is `Ok`, and else stays as f wrote it
-  pub record HandedPacket (f : F) (q : PacketQueue H) (answer : Result R E)
+  pub record HandsPacket (f : F) (q : PacketQueue H) (answer : Result R E)
       (r : PacketQueue H) : Type 0 where
     pub header : H
     pub bytes : List ℕ
@@ -84,7 +84,7 @@ module _ {F H R E : Type 0}
 -- ---- a packet is copied out
 -- the first of the packets ps, with the header h, is gone from rest, and as many of its bytes as xs
 -- has elements, k of them, stand over the first of xs, which made ys
-pub record CopiedOut {H : Type 0} (ps : List (H × List ℕ)) (h : H) (xs : List ℕ) (k : ℕ)
+pub record CopiesOut {H : Type 0} (ps : List (H × List ℕ)) (h : H) (xs : List ℕ) (k : ℕ)
     (rest : List (H × List ℕ)) (ys : List ℕ) : Type 0 where
   pub bytes : List ℕ
   pub first : ps ≡ (h, bytes) ∷ rest

@@ -5,7 +5,7 @@
 use Rattle.std.specs.Prelude.{◌≡◌, ℕ, zero, suc, ◌+◌, List, [], ◌∷◌, ◌++◌, drop}
 use Rattle.std.specs.Prelude.{Option}
 use Rattle.std.specs.declared.option.Option.TheVariants.{Some, None}
-use Rattle.net_storage.specs.Ring.{RingState, capacity, queue, WellFormed}
+use Rattle.net_storage.specs.Ring.{RingState, capacity, queue, IsWellFormed}
 use Rattle.net_storage.specs.Packets.{Packet, PacketQueue, packet, bytes_used, ArePlaced}
 use Rattle.net_storage.specs.declared.packet_metadata.PacketMetadata.{PacketMetadata}
 
@@ -36,7 +36,7 @@ module _ {H : Type 0} where
   -- the rings stand for these packets
   abbrev pub StandFor : RingState (PacketMetadata H) → RingState ℕ → List (Packet H) → Type 0
   StandFor m b ps =
-      WellFormed m × WellFormed b × (queue m ≡ packet_slots ps) × (b.count ≡ bytes_used ps)
+      IsWellFormed m × IsWellFormed b × (queue m ≡ packet_slots ps) × (b.count ≡ bytes_used ps)
       × ArePlaced (capacity b) b.read_at 0 ps
 
   -- the queue that the two rings stand for
@@ -57,4 +57,4 @@ module _ {H : Type 0} where
   abbrev pub HasFirstSlot : RingState (PacketMetadata H) → ℕ → Option H → RingState
       (PacketMetadata H) → Type 0
   HasFirstSlot m s h n =
-      (queue n ≡ slot s h ∷ drop 1 (queue m)) × WellFormed n × (capacity n ≡ capacity m)
+      (queue n ≡ slot s h ∷ drop 1 (queue m)) × IsWellFormed n × (capacity n ≡ capacity m)

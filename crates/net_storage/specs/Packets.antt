@@ -4,7 +4,7 @@
 --     Packet H, PacketQueue H      a packet, and a queue of them
 --     byte_ring q, bytes_used ps, slots_used ps      the ring of the bytes, and what packets take
 --     placement q s      the gap before a packet of s bytes, if it is not refused
---     WellPlaced q      what is true of every queue
+--     IsWellPlaced q      what is true of every queue
 --     no_packets slot_count storage      a queue with no packets
 --     with_packet_if_room q s h, with_packet_of q h ws      a packet came last
 --     last_bytes q, with_last_bytes q ws, with_last_size k q, IsRoom q s h room      the last packet
@@ -18,7 +18,7 @@ use Rattle.std.specs.Prelude.{Option}
 use Rattle.std.specs.declared.option.Option.TheVariants.{Some, None}
 use Rattle.net_storage.specs.Overwrite.{overwrite}
 use Rattle.net_storage.specs.Ring.{RingState, ring, window, index_after, storage_index, freed_index}
-use Rattle.net_storage.specs.Ring.{contiguous_window, from_start_if_empty, WellFormed}
+use Rattle.net_storage.specs.Ring.{contiguous_window, from_start_if_empty, IsWellFormed}
 
 -- a packet: its header, how many bytes it has, and how many bytes of the storage are skipped before
 -- it
@@ -89,9 +89,9 @@ module _ {H : Type 0} where
 
   -- what holds of every queue: its bytes are a ring, in which each packet lies in a row and each
   -- gap ends at the storage's end; there is a slot for each packet and gap
-  abbrev pub WellPlaced : PacketQueue H → Type 0
-  WellPlaced q =
-      WellFormed (byte_ring q) × ArePlaced (length q.storage) q.read_at 0 q.packets
+  abbrev pub IsWellPlaced : PacketQueue H → Type 0
+  IsWellPlaced q =
+      IsWellFormed (byte_ring q) × ArePlaced (length q.storage) q.read_at 0 q.packets
       × (slots_used q.packets ≤ q.slot_count)
 
 -- ---- what calls leave

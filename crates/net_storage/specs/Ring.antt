@@ -1,5 +1,5 @@
 -- A ring by its storage, the index where it is read and how many elements are queued.
---     RingState T, ring b r n, WellFormed g      a ring, and what is true of each
+--     RingState T, ring b r n, IsWellFormed g      a ring, and what is true of each
 --     capacity g, window g, queue g, spare g      its capacity and window, and its two parts
 --     index_after c r i, storage_index g i, write_at g, freed_index g k      indices of the storage
 --     contiguous_window g, contiguous_spare g, spare_index g i, contiguous_window_from g i n      the
@@ -8,8 +8,8 @@
 --         of the queue
 --     with_elements g p ws, with_elements_wrapping g p ws, with_enqueued k g, with_dequeued k g,
 --         from_start_if_empty g      what calls leave
---     Enqueued g ws h, Dequeued g k ws h, SpareWritten g i ws h, QueueWritten g i ws h,
---         EnqueuedFrom g k ws h, DequeuedFrom g k ws h      the same by queue and spare part
+--     Enqueues g ws h, Dequeues g k ws h, WritesSpare g i ws h, WritesQueue g i ws h,
+--         EnqueuesFrom g k ws h, DequeuesFrom g k ws h      the same by queue and spare part
 use Rattle.std.specs.Prelude.{◌≡◌, ◌⊎◌, ℕ, ◌+◌, ◌-◌, ◌<◌, ◌≤◌, nat_lt, nat_eq, min, if◌then◌else◌}
 use Rattle.std.specs.Prelude.{List, ◌++◌, length, take, drop}
 use Rattle.net_storage.specs.Overwrite.{overwrite}
@@ -43,8 +43,8 @@ module _ {T : Type 0} where
   window g = length g.storage - g.count
 
   -- the read index is one of the storage, or 0 if that is empty; no more is queued than it has
-  abbrev pub WellFormed : RingState T → Type 0
-  WellFormed g =
+  abbrev pub IsWellFormed : RingState T → Type 0
+  IsWellFormed g =
       ((g.read_at ≡ 0) ⊎ (g.read_at < length g.storage)) × (g.count ≤ length g.storage)
 
   -- ---- the two parts of a ring
@@ -127,38 +127,38 @@ module _ {T : Type 0} where
 
   -- ---- the same by queue and spare part
   -- ws came to the end of the queue, over the first spare elements
-  abbrev pub Enqueued : RingState T → List T → RingState T → Type 0
-  Enqueued g ws h =
+  abbrev pub Enqueues : RingState T → List T → RingState T → Type 0
+  Enqueues g ws h =
       (queue h ≡ queue g ++ ws) × (spare h ≡ drop (length ws) (spare g))
       × (h.read_at ≡ g.read_at)
 
   -- the first k elements left the queue, and stand as ws at the end of the spare part
-  abbrev pub Dequeued : RingState T → ℕ → List T → RingState T → Type 0
-  Dequeued g k ws h =
+  abbrev pub Dequeues : RingState T → ℕ → List T → RingState T → Type 0
+  Dequeues g k ws h =
       (queue h ≡ drop k (queue g)) × (spare h ≡ spare g ++ ws)
       × (h.read_at ≡ storage_index g k)
 
   -- ws is written over the spare part from its element i on
-  abbrev pub SpareWritten : RingState T → ℕ → List T → RingState T → Type 0
-  SpareWritten g i ws h =
+  abbrev pub WritesSpare : RingState T → ℕ → List T → RingState T → Type 0
+  WritesSpare g i ws h =
       (queue h ≡ queue g) × (spare h ≡ overwrite (spare g) i ws)
       × (h.read_at ≡ g.read_at)
 
   -- ws is written over the queue from its element i on
-  abbrev pub QueueWritten : RingState T → ℕ → List T → RingState T → Type 0
-  QueueWritten g i ws h =
+  abbrev pub WritesQueue : RingState T → ℕ → List T → RingState T → Type 0
+  WritesQueue g i ws h =
       (queue h ≡ overwrite (queue g) i ws) × (spare h ≡ spare g)
       × (h.read_at ≡ g.read_at)
 
   -- of the list ws, which stands over the first spare elements, the first k came to the end of the
   -- queue
-  abbrev pub EnqueuedFrom : RingState T → ℕ → List T → RingState T → Type 0
-  EnqueuedFrom g k ws h =
+  abbrev pub EnqueuesFrom : RingState T → ℕ → List T → RingState T → Type 0
+  EnqueuesFrom g k ws h =
       (queue h ≡ queue g ++ take k ws) × (spare h ≡ drop k (overwrite (spare g) 0 ws))
       × (h.read_at ≡ g.read_at)
 
   -- of the list ws, which stands over the first elements of the queue, the first k left it
-  abbrev pub DequeuedFrom : RingState T → ℕ → List T → RingState T → Type 0
-  DequeuedFrom g k ws h =
+  abbrev pub DequeuesFrom : RingState T → ℕ → List T → RingState T → Type 0
+  DequeuesFrom g k ws h =
       (queue h ≡ drop k (overwrite (queue g) 0 ws)) × (spare h ≡ spare g ++ take k ws)
       × (h.read_at ≡ storage_index g k)

@@ -8,8 +8,8 @@ use Rattle.std.specs.Borrow.{MutBor}
 use Rattle.std.specs.Fn.{Once, FnOnceTakesAtMut, FnOnceReturnsAtMut}
 use Rattle.net_storage.specs.Ring.{RingState, queue, spare, write_at, contiguous_window}
 use Rattle.net_storage.specs.Ring.{contiguous_queued, contiguous_spare, contiguous_queue, with_elements}
-use Rattle.net_storage.specs.Ring.{with_enqueued, with_dequeued, Enqueued, Dequeued, SpareWritten}
-use Rattle.net_storage.specs.Ring.{QueueWritten, EnqueuedFrom, DequeuedFrom}
+use Rattle.net_storage.specs.Ring.{with_enqueued, with_dequeued, Enqueues, Dequeues, WritesSpare}
+use Rattle.net_storage.specs.Ring.{WritesQueue, EnqueuesFrom, DequeuesFrom}
 
 -- ---- the closure is lent one element
 module _ {F T R E : Type 0}
@@ -25,8 +25,8 @@ module _ {F T R E : Type 0}
       × FnOnceReturnsAtMut g f x answer y
       × (spare old ≡ x ∷ drop 1 (spare old))
       × (new ≡ with_elements (if is_ok answer then with_enqueued 1 old else old) (write_at old) (y ∷ []))
-      × (IsOk answer → Enqueued old (y ∷ []) new)
-      × (IsErr answer → SpareWritten old 0 (y ∷ []) new)
+      × (IsOk answer → Enqueues old (y ∷ []) new)
+      × (IsErr answer → WritesSpare old 0 (y ∷ []) new)
 
   -- f was called on the head x of the queue, left y there and returned `answer`: at `Ok` y left the
   -- queue, and at `Err` it is its head
@@ -35,8 +35,8 @@ module _ {F T R E : Type 0}
       × FnOnceReturnsAtMut g f x answer y
       × (queue old ≡ x ∷ drop 1 (queue old))
       × (new ≡ with_elements (if is_ok answer then with_dequeued 1 old else old) old.read_at (y ∷ []))
-      × (IsOk answer → Dequeued old 1 (y ∷ []) new)
-      × (IsErr answer → QueueWritten old 0 (y ∷ []) new)
+      × (IsOk answer → Dequeues old 1 (y ∷ []) new)
+      × (IsErr answer → WritesQueue old 0 (y ∷ []) new)
 
 -- ---- the closure is lent contiguous elements, and returns how many of them it counts, and more
 module _ {F T R : Type 0}
@@ -52,7 +52,7 @@ module _ {F T R : Type 0}
       × FnOnceReturnsAtMut g f (contiguous_spare old) answer ws
       × (length ws ≡ contiguous_window old)
       × (new ≡ with_elements (with_enqueued answer.0 old) (write_at old) ws)
-      × EnqueuedFrom old answer.0 ws new
+      × EnqueuesFrom old answer.0 ws new
 
   -- f was called on the contiguous elements at the head of the queue, left ws there and returned
   -- `answer`: the first ones of ws, as many as it counts, left the queue
@@ -61,4 +61,4 @@ module _ {F T R : Type 0}
       × FnOnceReturnsAtMut g f (contiguous_queue old) answer ws
       × (length ws ≡ contiguous_queued old)
       × (new ≡ with_elements (with_dequeued answer.0 old) old.read_at ws)
-      × DequeuedFrom old answer.0 ws new
+      × DequeuesFrom old answer.0 ws new

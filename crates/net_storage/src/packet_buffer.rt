@@ -1,7 +1,7 @@
 //! A queue of packets, each with a header, over storage that is lent or owned.
 ghost use Rattle.std.specs.Prelude.{◌≡◌, ◌≤◌, ◌<◌, ◌^◌, ◌-◌, ◌==◌, ◌↔◌, [], IsTrue, length};
 ghost use Rattle.net_storage.specs.Ring.{capacity, window, contiguous_window, from_start_if_empty};
-ghost use Rattle.net_storage.specs.Packets.{WellPlaced, bytes_used, slots_used, no_packets};
+ghost use Rattle.net_storage.specs.Packets.{IsWellPlaced, bytes_used, slots_used, no_packets};
 ghost use Rattle.net_storage.specs.Packets.{byte_ring, placement, only_last, without_gap, first_gap};
 ghost use Rattle.net_storage.specs.Packets.{first_size, gap_for, slots_for, if_slots};
 ghost use Rattle.net_storage.specs.PacketHistory.{contents};
@@ -154,7 +154,7 @@ impl<H, M: Elements<PacketMetadata<H>>, B: Elements<u8>> Packets<H, M, B> {
     #[inline]
     fn placement(&self, size: usize) -> Option<usize>
         ensures gap { result ≡ placement self.now size }
-        ensures well_placed { WellPlaced self.now }
+        ensures well_placed { IsWellPlaced self.now }
     {
         let (contiguous, window) = self.free_in_a_row();
         let free = self.slots.window();
@@ -164,7 +164,7 @@ impl<H, M: Elements<PacketMetadata<H>>, B: Elements<u8>> Packets<H, M, B> {
     /// Returns the size of the last packet, or 0 if there is none.
     fn last_size(&self) -> usize
         ensures size { result ≡ first_size (only_last self.now.packets) }
-        ensures well_placed { WellPlaced self.now }
+        ensures well_placed { IsWellPlaced self.now }
     {
         let used = self.slots.len();
         match self.slots.get_allocated(used.saturating_sub(1), 1).first() {
@@ -177,7 +177,7 @@ impl<H, M: Elements<PacketMetadata<H>>, B: Elements<u8>> Packets<H, M, B> {
     #[inline]
     fn first_gap(&self) -> usize
         ensures gap { result ≡ first_gap self.now.packets }
-        ensures well_placed { WellPlaced self.now }
+        ensures well_placed { IsWellPlaced self.now }
     {
         match self.slots.head().first() {
             Some(slot) => { if slot.header.is_none() { slot.size } else { 0 } }
@@ -190,7 +190,7 @@ impl<H, M: Elements<PacketMetadata<H>>, B: Elements<u8>> Packets<H, M, B> {
     fn skip(&mut self)
         ensures skipped { self.new ≡ without_gap self.old }
         ensures unchanged { first_gap self.old.packets ≡ 0 → self.new ≡ self.old }
-        ensures well_placed { WellPlaced self.old }
+        ensures well_placed { IsWellPlaced self.old }
     {
         let gap = self.first_gap();
         if gap > 0 {

@@ -3,7 +3,8 @@ ghost use Rattle.std.specs.Prelude.{◌≡◌, ◌≤◌, ◌<◌, ◌-◌, ◌+
 ghost use Rattle.std.specs.Prelude.{IsTrue};
 ghost use Rattle.std.specs.List.{AllZip};
 ghost use Rattle.net_storage.specs.Ring.{ring, capacity, window, queue, spare, storage_index};
-ghost use Rattle.net_storage.specs.Ring.{write_at, contiguous_window, from_start_if_empty, WellFormed};
+ghost use Rattle.net_storage.specs.Ring.{write_at, contiguous_window, from_start_if_empty};
+ghost use Rattle.net_storage.specs.Ring.{IsWellFormed};
 
 use crate::managed::{Elements, ManagedSlice};
 use crate::resettable::Resettable;
@@ -56,11 +57,11 @@ impl<T, S: Elements<T>> Model for Ring<T, S> {
     ghost Value = { RingState T };
 
     ghost use Rattle.net_storage.specs.RingView.{ring_seen};
-    ghost use Rattle.net_storage.specs.Ring.{WellFormed};
+    ghost use Rattle.net_storage.specs.Ring.{IsWellFormed};
 
     ghost view = { ring_seen S.elements };
 
-    ghost invariant = { λ a. WellFormed (ring_seen S.elements a) };
+    ghost invariant = { λ a. IsWellFormed (ring_seen S.elements a) };
 }
 
 /// Written by hand: the storage alone has to be `Drop`, and nothing is asked of `T`.
@@ -143,7 +144,7 @@ impl<T, S: Elements<T>> Ring<T, S> {
     #[inline]
     pub fn capacity(&self) -> usize
         ensures capacity { result ≡ capacity self.now }
-        ensures well_formed { WellFormed self.now }
+        ensures well_formed { IsWellFormed self.now }
         ensures fits { capacity self.now < 2 ^ 64 }
     {
         self.storage.count()

@@ -38,31 +38,31 @@ fn a_ring_drops_its_storage(rt: HostRuntime) -> Result<(), Fail> {
 /// Returns whether `enqueue_one_with` is refused.
 fn next_is_refused(ring: &mut RingBuffer<'_, u8>, drops: &Cell<u32>) -> bool {
     let token = Counted { drops };
-    let answer = ring.enqueue_one_with(move |_| {
+    let result = ring.enqueue_one_with(move |_| {
         drop(token);
         Result::<(), ()>::Ok(())
     });
-    answer == Err(Full)
+    result == Err(Full)
 }
 
 /// Returns whether `dequeue_one_with` is refused.
 fn first_is_refused(ring: &mut RingBuffer<'_, u8>, drops: &Cell<u32>) -> bool {
     let token = Counted { drops };
-    let answer = ring.dequeue_one_with(move |_| {
+    let result = ring.dequeue_one_with(move |_| {
         drop(token);
         Result::<(), ()>::Ok(())
     });
-    answer == Err(Empty)
+    result == Err(Empty)
 }
 
 /// Returns whether `dequeue_with` is refused.
 fn packet_is_refused(queue: &mut PacketBuffer<'_, u8>, drops: &Cell<u32>) -> bool {
     let token = Counted { drops };
-    let answer = queue.dequeue_with(move |_, _| {
+    let result = queue.dequeue_with(move |_, _| {
         drop(token);
         Result::<(), ()>::Ok(())
     });
-    answer == Err(Empty)
+    result == Err(Empty)
 }
 
 /// Refuses a closure for want of elements, and one for want of room, in a ring of so many elements;

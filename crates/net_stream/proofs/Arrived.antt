@@ -15,8 +15,8 @@ module _ (most : ℕ) (r : Stored) (o : Option (ℕ × List ℕ)) (pos : ℕ) (x
   pub past_arrived : 2 ^ 64 ≤ pos + length xs → r ≡ receiver_after most r o
   past_arrived past = sym (ap (receiver_after most r) at ∙ cond-false _ (stored_after most r (Segment pos xs)) r (le-ltb (pos + length xs) (2 ^ 64) past))
 
-  pub past_answer : (back : PathSeen) → 2 ^ 64 ≤ pos + length xs → back ≡ with_ack r o back
-  past_answer back past = sym (ap (λ p. with_ack r p back) at ∙ cond-false _ (record back { ahead = back.ahead ++ ack_of r ∷ [] }) back
+  pub past_ack : (back : PathSeen) → 2 ^ 64 ≤ pos + length xs → back ≡ with_ack r o back
+  past_ack back past = sym (ap (λ p. with_ack r p back) at ∙ cond-false _ (record back { ahead = back.ahead ++ ack_of r ∷ [] }) back
       (le-ltb (pos + length xs) (2 ^ 64) past))
 
   pub past_counted : (c : FrameCounts) → 2 ^ 64 ≤ pos + length xs → c ≡ with_refusal most r o c
@@ -30,8 +30,8 @@ module _ (most : ℕ) (r : Stored) (o : Option (ℕ × List ℕ)) (pos : ℕ) (x
   pub taken_arrived : pos + length xs < 2 ^ 64 → stored_after most r (Segment pos xs) ≡ receiver_after most r o
   taken_arrived fits = sym (ap (receiver_after most r) at ∙ cond-true _ (stored_after most r (Segment pos xs)) r (lt-ltb (pos + length xs) (2 ^ 64) fits))
 
-  pub taken_answer : (back : PathSeen) → pos + length xs < 2 ^ 64 → record back { ahead = back.ahead ++ ack_of r ∷ [] } ≡ with_ack r o back
-  taken_answer back fits = sym (ap (λ p. with_ack r p back) at ∙ cond-true _ (record back { ahead = back.ahead ++ ack_of r ∷ [] }) back
+  pub taken_ack : (back : PathSeen) → pos + length xs < 2 ^ 64 → record back { ahead = back.ahead ++ ack_of r ∷ [] } ≡ with_ack r o back
+  taken_ack back fits = sym (ap (λ p. with_ack r p back) at ∙ cond-true _ (record back { ahead = back.ahead ++ ack_of r ∷ [] }) back
       (lt-ltb (pos + length xs) (2 ^ 64) fits))
 
   pub taken_counted : (c : FrameCounts) (result : Result Kept TooManyHolesError) (refused : Bool) → pos + length xs < 2 ^ 64 →

@@ -82,9 +82,9 @@ module _ (f : ℕ) (w : List ℕ) where
   }
 
   -- an acknowledgement was sent
-  pub answered : (s : Outgoing) (r : Stored) (there back back' : PathSeen) (ack : List ℕ) → back' ≡ record back { ahead = back.ahead ++ ack ∷ [] } →
+  pub acked_back : (s : Outgoing) (r : Stored) (there back back' : PathSeen) (ack : List ℕ) → back' ≡ record back { ahead = back.ahead ++ ack ∷ [] } →
       FrameTells r ack → IsUnderWay f w s r there back → IsUnderWay f w s r there back'
-  answered s r there back back' ack is within c =
+  acked_back s r there back back' ack is within c =
       going_are s r there back back'
       (λ all. subst (All (FrameTells r)) (sym (ap (λ p. p.ahead) is)) (All-push (FrameTells r) back.ahead ack all within))
       (subst (All (FrameTells r)) (sym (ap (λ p. p.late) is))) c
@@ -129,7 +129,7 @@ sent_says f w s r there there' back pos xs trip word is says c =
     (All-push (FrameSays f w) there.ahead (frame_of pos xs) all (encoded trip f w pos xs word says)))
     (subst (All (FrameSays f w)) (sym (ap (λ p. p.late) is))) c
 
--- whether a call answered Ok or not
+-- whether a call returned Ok or not
 pub either : {T E : Type 0} {A B : Type 0} (P : Type 0) (r : Result T E) → OnOk r A → OnErr r B → (A → P) → (B → P) → P
 either P (Ok t) a b f h = f a
 either P (Err e) a b f h = h b

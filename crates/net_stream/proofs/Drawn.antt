@@ -8,9 +8,9 @@ use Rattle.net_stream.specs.declared.fate.Fate.TheVariants.{Delivered, Lost, Rep
 use Rattle.net_stream.specs.Fates.{FatesSeen, next_fate, after_fate, fates_after}
 use Rattle.net_stream.specs.Counting.{with_fate, with_fates, SameButRefused, with_payload, no_frames}
 use Rattle.net_stream.specs.declared.link.Link.{Link}
-use Rattle.net_stream.specs.Links.{Passed}
+use Rattle.net_stream.specs.Links.{Passes}
 use Rattle.net_stream.specs.Reported.{count_outside}
-use Rattle.net_stream.specs.Rounds.{PartCounted, fates_only, FatesCounted, FatesSoFar}
+use Rattle.net_stream.specs.Rounds.{CountsPart, fates_only, CountsFates, FatesSoFar}
 
 -- ---- fates in another order are counted alike
 met_met : (a b : Fate) (c : FrameCounts) → with_fate a (with_fate b c) ≡ with_fate b (with_fate a c)
@@ -77,11 +77,11 @@ more_met v v' u u' c d bytes frames acks same h =
     ∙ ap (λ x. fates_only (with_fates acks u' x)) framed
     ∙ ap fates_only acked
 
-pub part_met : (v v' u u' : FatesSeen) (c d : FrameCounts) → PartCounted u u' c d → FatesSoFar v v' u u' c → FatesCounted v v' d
+pub part_met : (v v' u u' : FatesSeen) (c d : FrameCounts) → CountsPart u u' c d → FatesSoFar v v' u u' c → CountsFates v v' d
 part_met v v' u u' c d part h =
     record { frames = h.frames + part.frames; acks = h.acks + part.acks; counted = more_met v v' u u' c d part.bytes part.frames part.acks part.counted h }
 
-pub round_met : {A : Type 0} (v v' : FatesSeen) (old new : Link A) → Passed old new → FatesSoFar v v' old.there.fates old.back.fates old.counts →
+pub round_met : {A : Type 0} (v v' : FatesSeen) (old new : Link A) → Passes old new → FatesSoFar v v' old.there.fates old.back.fates old.counts →
     FatesSoFar v v' new.there.fates new.back.fates new.counts
 round_met v v' old new round h =
     let s = old.sender in
@@ -96,7 +96,7 @@ round_met v v' old new round h =
       counted = more_met v v' old.there.fates old.back.fates old.counts new.counts (count_outside s.reported s.base round.n) frames acks round.counted h;
     }
 
-pub met_so_far : (v v' u u' : FatesSeen) (c : FrameCounts) → FatesSoFar v v' u u' c → FatesCounted v v' c
+pub met_so_far : (v v' u u' : FatesSeen) (c : FrameCounts) → FatesSoFar v v' u u' c → CountsFates v v' c
 met_so_far v v' u u' c h = record { frames = h.frames; acks = h.acks; counted = h.counted }
 
 pub none_drawn : (v v' : FatesSeen) (c : FrameCounts) → c ≡ no_frames → FatesSoFar v v' v v' c

@@ -27,10 +27,10 @@ with_ack_late r (Some (pos, xs)) back = both (nat_lt (pos + length xs) (2 ^ 64))
     both false = refl
 
 -- one frame came, and these come after it
-pub one_answered : (N : ℕ) (r r1 : Stored) (frame : List ℕ) (b b1 : PathSeen) (frames : List (List ℕ)) → r1 ≡ receiver_after N r (segment_of frame) →
+pub one_acked : (N : ℕ) (r r1 : Stored) (frame : List ℕ) (b b1 : PathSeen) (frames : List (List ℕ)) → r1 ≡ receiver_after N r (segment_of frame) →
     b1 ≡ with_ack r1 (segment_of frame) b →
     b1.ahead ++ acks_of N r1 frames ≡ b.ahead ++ acks_of N r (frame ∷ frames)
-one_answered N r r1 frame b b1 frames e k =
+one_acked N r r1 frame b b1 frames e k =
     ap (λ p. p.ahead ++ acks_of N r1 frames) k
     ∙ ap (λ l. l ++ acks_of N r1 frames) (with_ack_ahead r1 (segment_of frame) b)
     ∙ append_assoc b.ahead (ack_to r1 (segment_of frame)) (acks_of N r1 frames)
@@ -55,17 +55,17 @@ coming_step t0 t1 t2 t3 frame lot first is drawn again =
     let same : coming_of (after_fate t1.fates) t1.ahead ≡ coming_of t3.fates t3.ahead = (λ i. coming_of (sym fates i) (sym ahead i)) in
     ap (λ p. coming_of p.fates p.ahead) first ∙ (λ i. cond (comes (sym is i)) (frame ∷ same i) (same i))
 
-pub frame_answered : (N : ℕ) (r r1 : Stored) (b b1 t0 t1 t2 t3 : PathSeen) (frame : List ℕ) (lot : Fate) → t0 ≡ record t1 { ahead = frame ∷ t1.ahead } →
+pub frame_acked : (N : ℕ) (r r1 : Stored) (b b1 t0 t1 t2 t3 : PathSeen) (frame : List ℕ) (lot : Fate) → t0 ≡ record t1 { ahead = frame ∷ t1.ahead } →
     lot ≡ next_fate t1.fates → t2 ≡ record t1 { fates = after_fate t1.fates } → t3 ≡ with_late lot frame t2 →
     r1 ≡ cond (comes lot) (receiver_after N r (segment_of frame)) r → b1 ≡ cond (comes lot) (with_ack r1 (segment_of frame) b) b →
     b1.ahead ++ acks_of N r1 (coming_of t3.fates t3.ahead) ≡ b.ahead ++ acks_of N r (coming_of t0.fates t0.ahead)
-frame_answered N r r1 b b1 t0 t1 t2 t3 frame lot first is drawn again state told =
+frame_acked N r r1 b b1 t0 t1 t2 t3 frame lot first is drawn again state told =
     both (comes lot) state told ∙ ap (λ l. b.ahead ++ acks_of N r l) (sym (coming_step t0 t1 t2 t3 frame lot first is drawn again))
   where
     both : (t : Bool) → r1 ≡ cond t (receiver_after N r (segment_of frame)) r → b1 ≡ cond t (with_ack r1 (segment_of frame) b) b →
         b1.ahead ++ acks_of N r1 (coming_of t3.fates t3.ahead) ≡ b.ahead ++ acks_of N r
         (cond t (frame ∷ coming_of t3.fates t3.ahead) (coming_of t3.fates t3.ahead))
-    both true e k = one_answered N r r1 frame b b1 (coming_of t3.fates t3.ahead) e k
+    both true e k = one_acked N r r1 frame b b1 (coming_of t3.fates t3.ahead) e k
     both false e k = λ i. (k i).ahead ++ acks_of N (e i) (coming_of t3.fates t3.ahead)
 
 -- ---- some frames, and then others

@@ -12,7 +12,7 @@ use Rattle.net_receiver.specs.Stored.{Stored, stored_next}
 use Rattle.net_receiver.specs.OneStream.{ReceivesFrom, QueueIsOf, QueueIsOfStream}
 use Rattle.net_stream.specs.Outgoing.{end_of}
 use Rattle.net_stream.specs.Links.{Carries}
-use Rattle.net_stream.specs.Copying.{Moving, HandedOut, HandedPrefix, Copied, FlushedAfter, gave_up}
+use Rattle.net_stream.specs.Copying.{CopiesSoFar, HandsOut, HandsOutPrefix, Copies, FlushesAfter, gave_up}
 use Rattle.net_stream.specs.declared.counts.Counts.{Counts}
 use Rattle.net_stream.specs.declared.link.Link.{Link}
 use Rattle.net_stream.specs.declared.error.LinkError.{LinkError}
@@ -51,7 +51,7 @@ handed_next w v into into' count q e is =
 pub handed_out : (f : ℕ) (v u : Stored) (held holds : Option (List ℕ)) (into into' : List ℕ) (count before after : ℕ) →
     ((w : List ℕ) → ReceivesFrom f w v → QueueIsOf w v) → count ≡ min (length into) (length v.queue) →
     into' ≡ take (length into) v.queue ++ drop (length v.queue) into → u.read ≡ v.read + count →
-    length into' ≡ length into → after ≡ min (before + count) (2 ^ 64 - 1) → Appends held holds (take count into') → HandedOut f v u held holds before after
+    length into' ≡ length into → after ≡ min (before + count) (2 ^ 64 - 1) → Appends held holds (take count into') → HandsOut f v u held holds before after
 handed_out f v u held holds into into' count before after queue e is read same counted appended =
     let size : length (take count into') ≡ count = omega (arith, length-take count into') in
     record {
@@ -61,12 +61,12 @@ handed_out f v u held holds into into' count before after queue e is read same c
       counted = counted ∙ ap (λ n. min (before + n) (2 ^ 64 - 1)) (sym size);
     }
 
-pub handed_front : (f : ℕ) (v : Stored) (held holds : Option (List ℕ)) (into into' : List ℕ) (count before after n : ℕ) →
+pub handed_prefix : (f : ℕ) (v : Stored) (held holds : Option (List ℕ)) (into into' : List ℕ) (count before after n : ℕ) →
     ((w : List ℕ) → ReceivesFrom f w v → QueueIsOf w v) → count ≡ min (length into) (length v.queue) →
     into' ≡ take (length into) v.queue ++ drop (length v.queue) into →
     after ≡ min (before + n) (2 ^ 64 - 1) → (n < length (take count into')) × Appends held holds (take n (take count into')) →
-    HandedPrefix f v held holds before after
-handed_front f v held holds into into' count before after n queue e is counted wrote =
+    HandsOutPrefix f v held holds before after
+handed_prefix f v held holds into into' count before after n queue e is counted wrote =
     let bytes = take n (take count into') in
     let few : n ≤ length (take count into') = (let l = wrote.0 in omega arith) in
     let size : length bytes ≡ n = omega (arith, length-take n (take count into')) in
@@ -88,7 +88,7 @@ module _ {A : Type 0} (f : ℕ) (old held : Option (List ℕ)) where
   pub fed : QueueIsOfStream → (l m : Link A) (c d : Counts) (now next holds : Option (List ℕ)) (more more' : Bool) (bs : List ℕ) → Consumes now next bs →
       ((w : List ℕ) → Carries f w l → Carries f (w ++ bs) m) → m.receiver ≡ l.receiver →
       d.taken ≡ min (c.taken + length bs) (2 ^ 64 - 1) → d.bytes ≡ c.bytes → end_of l.sender + length bs < 2 ^ 64 → (more' ≡ false → IsAtEnd next) →
-      Moving f l c old now held holds more → Moving f m d old next held holds more'
+      CopiesSoFar f l c old now held holds more → CopiesSoFar f m d old next held holds more'
   fed queue l m c d now next holds more more' bs consumed carries same taken bytes word ended moving =
       let w = moving.given in
       let q = queue_from queue f w l.receiver moving.carries.receives in
@@ -109,7 +109,7 @@ module _ {A : Type 0} (f : ℕ) (old held : Option (List ℕ)) where
 
   -- the reader was asked, and gave nothing
   pub asked : (l : Link A) (c : Counts) (now next holds : Option (List ℕ)) (more more' : Bool) → Consumes now next [] → (more' ≡ false → IsAtEnd next) →
-      Moving f l c old now held holds more → Moving f l c old next held holds more'
+      CopiesSoFar f l c old now held holds more → CopiesSoFar f l c old next held holds more'
   asked l c now next holds more more' consumed ended moving =
       record {
         given = moving.given;
@@ -123,7 +123,8 @@ module _ {A : Type 0} (f : ℕ) (old held : Option (List ℕ)) where
 
   -- time or a round was passed
   pub passed : (l m : Link A) (c d : Counts) (now holds : Option (List ℕ)) (more : Bool) → ((w : List ℕ) → Carries f w l → Carries f w m) →
-      m.receiver.read ≡ l.receiver.read → d.taken ≡ c.taken → d.bytes ≡ c.bytes → Moving f l c old now held holds more → Moving f m d old now held holds more
+      m.receiver.read ≡ l.receiver.read → d.taken ≡ c.taken → d.bytes ≡ c.bytes →
+      CopiesSoFar f l c old now held holds more → CopiesSoFar f m d old now held holds more
   passed l m c d now holds more carries read taken bytes moving =
       record {
         given = moving.given;
@@ -137,9 +138,9 @@ module _ {A : Type 0} (f : ℕ) (old held : Option (List ℕ)) where
 
   -- the receiver handed out some bytes
   pub handed : QueueIsOfStream → (l m : Link A) (c d : Counts) (now holds holds' : Option (List ℕ)) (more : Bool) →
-      ((w : List ℕ) → Carries f w l → Carries f w m) → HandedOut f l.receiver m.receiver holds holds' c.bytes d.bytes → d.taken ≡ c.taken →
+      ((w : List ℕ) → Carries f w l → Carries f w m) → HandsOut f l.receiver m.receiver holds holds' c.bytes d.bytes → d.taken ≡ c.taken →
       end_of m.sender < 2 ^ 64 →
-      Moving f l c old now held holds more → Moving f m d old now held holds' more
+      CopiesSoFar f l c old now held holds more → CopiesSoFar f m d old now held holds' more
   handed queue l m c d now holds holds' more carries h taken word moving =
       let w = moving.given in
       let after = carries w moving.carries in
@@ -164,8 +165,8 @@ module _ {A : Type 0} (f : ℕ) (old held : Option (List ℕ)) where
       }
 
   pub handed_less : (l : Link A) (c d : Counts) (now holds holds' : Option (List ℕ)) (more : Bool) →
-      HandedPrefix f l.receiver holds holds' c.bytes d.bytes → d.taken ≡ c.taken → QueueIsOfStream → end_of l.sender < 2 ^ 64 →
-      Moving f l c old now held holds more → Copied old now held holds' d.taken d.bytes false
+      HandsOutPrefix f l.receiver holds holds' c.bytes d.bytes → d.taken ≡ c.taken → QueueIsOfStream → end_of l.sender < 2 ^ 64 →
+      CopiesSoFar f l c old now held holds more → Copies old now held holds' d.taken d.bytes false
   handed_less l c d now holds holds' more h taken queue word moving =
       let w = moving.given in
       let written = take l.receiver.read w ++ h.bytes in
@@ -188,8 +189,8 @@ module _ {A : Type 0} (f : ℕ) (old held : Option (List ℕ)) where
         whole = λ n. absurd (both_ways false refl n);
       }
 
-  pub so_far : QueueIsOfStream → (l : Link A) (c : Counts) (now holds : Option (List ℕ)) (more : Bool) → Moving f l c old now held holds more →
-      Copied old now held holds c.taken c.bytes false
+  pub so_far : QueueIsOfStream → (l : Link A) (c : Counts) (now holds : Option (List ℕ)) (more : Bool) → CopiesSoFar f l c old now held holds more →
+      Copies old now held holds c.taken c.bytes false
   so_far queue l c now holds more moving =
       let w = moving.given in
       let r = l.receiver in
@@ -207,8 +208,8 @@ module _ {A : Type 0} (f : ℕ) (old held : Option (List ℕ)) where
       }
 
   pub all_done : QueueIsOfStream → (l : Link A) (c : Counts) (now holds : Option (List ℕ)) (more : Bool) → more ≡ false →
-      stored_next l.receiver ≡ end_of l.sender → length l.receiver.queue ≡ 0 → Moving f l c old now held holds more →
-      Copied old now held holds c.taken c.bytes true
+      stored_next l.receiver ≡ end_of l.sender → length l.receiver.queue ≡ 0 → CopiesSoFar f l c old now held holds more →
+      Copies old now held holds c.taken c.bytes true
   all_done queue l c now holds more none came handed_all moving =
       let w = moving.given in
       let r = l.receiver in
@@ -228,7 +229,7 @@ module _ {A : Type 0} (f : ℕ) (old held : Option (List ℕ)) where
       }
 
   -- nothing was read or written yet
-  pub nothing_moved : (l : Link A) (c : Counts) → Carries f [] l → l.receiver.read ≡ 0 → c.taken ≡ 0 → c.bytes ≡ 0 → Moving f l c old old held held true
+  pub nothing_moved : (l : Link A) (c : Counts) → Carries f [] l → l.receiver.read ≡ 0 → c.taken ≡ 0 → c.bytes ≡ 0 → CopiesSoFar f l c old old held held true
   nothing_moved l c carries read taken bytes =
       record {
         given = [];
@@ -241,7 +242,7 @@ module _ {A : Type 0} (f : ℕ) (old held : Option (List ℕ)) where
       }
 
 -- nothing was done
-pub unmoved : (old held : Option (List ℕ)) (taken bytes : ℕ) → taken ≡ 0 → bytes ≡ 0 → Copied old old held held taken bytes false
+pub unmoved : (old held : Option (List ℕ)) (taken bytes : ℕ) → taken ≡ 0 → bytes ≡ 0 → Copies old old held held taken bytes false
 unmoved old held taken bytes none is = record {
   given = [];
   written = [];
@@ -255,7 +256,7 @@ unmoved old held taken bytes none is = record {
 
 -- ---- the writer was flushed
 kept_copied : (old new held holds holds' : Option (List ℕ)) (taken bytes : ℕ) (complete : Bool) → Keeps holds holds' →
-    Copied old new held holds taken bytes complete → Copied old new held holds' taken bytes complete
+    Copies old new held holds taken bytes complete → Copies old new held holds' taken bytes complete
 kept_copied old new held holds holds' taken bytes complete kept c = record {
   given = c.given;
   written = c.written;
@@ -267,8 +268,8 @@ kept_copied old new held holds holds' taken bytes complete kept c = record {
   whole = c.whole;
 }
 
-less_copied : (old new held holds : Option (List ℕ)) (taken bytes : ℕ) (complete : Bool) → Copied old new held holds taken bytes complete →
-    Copied old new held holds taken bytes false
+less_copied : (old new held holds : Option (List ℕ)) (taken bytes : ℕ) (complete : Bool) → Copies old new held holds taken bytes complete →
+    Copies old new held holds taken bytes false
 less_copied old new held holds taken bytes complete c = record {
   given = c.given;
   written = c.written;
@@ -281,24 +282,24 @@ less_copied old new held holds taken bytes complete c = record {
 }
 
 pub flushed : {T : Type 0} (old new held holds holds' : Option (List ℕ)) (taken bytes : ℕ) (ended result : Result T LinkError) → Keeps holds holds' →
-    FlushedAfter ended result →
-    Copied old new held holds taken bytes (is_ok ended) → Copied old new held holds' taken bytes (is_ok result)
+    FlushesAfter ended result →
+    Copies old new held holds taken bytes (is_ok ended) → Copies old new held holds' taken bytes (is_ok result)
 flushed old new held holds holds' taken bytes ended result kept after c =
     ⊎_elim
-    (λ (e : result ≡ ended). subst (λ r. Copied old new held holds' taken bytes (is_ok r)) (sym e)
+    (λ (e : result ≡ ended). subst (λ r. Copies old new held holds' taken bytes (is_ok r)) (sym e)
     (kept_copied old new held holds holds' taken bytes (is_ok ended) kept c))
-    (λ (e : (is_ok ended ≡ true) × (result ≡ Err WriteFailed)). subst (λ r. Copied old new held holds' taken bytes (is_ok r)) (sym e.1)
+    (λ (e : (is_ok ended ≡ true) × (result ≡ Err WriteFailed)). subst (λ r. Copies old new held holds' taken bytes (is_ok r)) (sym e.1)
     (less_copied old new held holds' taken bytes (is_ok ended) (kept_copied old new held holds holds' taken bytes (is_ok ended) kept c)))
     after
 
-pub ok_after : {T : Type 0} (P : Type 0) (ended result : Result T LinkError) → FlushedAfter ended result → OnOk ended P → OnOk result P
+pub ok_after : {T : Type 0} (P : Type 0) (ended result : Result T LinkError) → FlushesAfter ended result → OnOk ended P → OnOk result P
 ok_after P ended result after h =
     ⊎_elim
     (λ (e : result ≡ ended). subst (λ r. OnOk r P) (sym e) h)
     (λ (e : (is_ok ended ≡ true) × (result ≡ Err WriteFailed)). subst (λ r. OnOk r P) (sym e.1) tt)
     after
 
-pub gave_up_after : {T : Type 0} (P : Type 0) (ended result : Result T LinkError) → FlushedAfter ended result → IfErr ended (λ e. gave_up e ≡ true → P) →
+pub gave_up_after : {T : Type 0} (P : Type 0) (ended result : Result T LinkError) → FlushesAfter ended result → IfErr ended (λ e. gave_up e ≡ true → P) →
     IfErr result (λ e. gave_up e ≡ true → P)
 gave_up_after P ended result after h =
     ⊎_elim

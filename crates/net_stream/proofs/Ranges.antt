@@ -107,10 +107,10 @@ has_runs members maximal r n = λ p h.
     inr (sym (contains_held members r.held p) ∙ in_run (domain r.held) p n (maximal_runs (domain r.held)) (maximal (domain r.held)).maximal h)
 
 -- so its acknowledgement tells nothing else
-pub answer_tells : RoundTrip → MembersOfList → MaximalRunsOfEverySet → (r : Stored) → stored_next r < 2 ^ 64 →
+pub ack_tells : RoundTrip → MembersOfList → MaximalRunsOfEverySet → (r : Stored) → stored_next r < 2 ^ 64 →
     length (take most_reported (maximal_runs (domain r.held))) ≤ most_reported →
     All IsWords (take most_reported (maximal_runs (domain r.held))) → FrameTells r (ack_of r)
-answer_tells trip members maximal r word few words = λ n xs at.
+ack_tells trip members maximal r word few words = λ n xs at.
     let rs = take most_reported (maximal_runs (domain r.held)) in
     let e = same_parts (stored_next r) n (range_bytes rs) xs (sym (trip (stored_next r) (range_bytes rs) word) ∙ at) in (
       subst (λ k. k ≤ stored_next r) e.0 (omega arith),

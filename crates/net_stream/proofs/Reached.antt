@@ -102,7 +102,7 @@ reaches_mono ranges end p q (frame ∷ frames) h r =
     ))
     r
 
--- frames in front take nothing away
+-- earlier frames take nothing away
 reaches_behind : (ranges : List (ℕ × ℕ)) (end p : ℕ) (old frames : List (List ℕ)) → Reaches ranges end p frames → Reaches ranges end p (old ++ frames)
 reaches_behind ranges end p [] frames r = r
 reaches_behind ranges end p (x ∷ old) frames r = inl (reaches_behind ranges end p old frames r)

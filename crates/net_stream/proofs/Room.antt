@@ -2,7 +2,7 @@
 use Rattle.std.proofs.Common.{◌≡◌, ℕ, ◌+◌, ◌-◌, ◌<◌, ◌≤◌, min, cond, nat_lt, List, [], ◌++◌, length, take, drop, sym, ap, ◌∙◌, arith, ⊎_elim, length-append}
 use Rattle.std.proofs.lemmas.Bool.{cases_lt, cond-true, cond-false, lt-ltb, le-ltb}
 use Rattle.std.proofs.lemmas.List.{append-nil, take-take, take-append-le, drop-append-le}
-use Rattle.net_storage.specs.Ring.{RingState, index_after, capacity, window, queue, spare, contiguous_window_from, SpareWritten, Enqueued}
+use Rattle.net_storage.specs.Ring.{RingState, index_after, capacity, window, queue, spare, contiguous_window_from, WritesSpare, Enqueues}
 use Rattle.net_stream.specs.Outgoing.{Outgoing, outgoing, end_of, room_of, room_in_row, next_cut, with_written, Sends}
 
 -- of m free elements behind n of a ring of c, read at r, those before the storage's end
@@ -49,8 +49,8 @@ module _ (g : RingState ℕ) (b : ℕ) (ranges : List (ℕ × ℕ)) (old : Outgo
       )
 
   -- the bytes that are counted come behind those that are kept
-  pub room_written : IsRestarted → (k : ℕ) (ws : List ℕ) (h new : RingState ℕ) → SpareWritten g 0 ws h →
-      Enqueued h (take k (spare h)) new → capacity new ≡ capacity g → k ≤ length ws → length ws ≤ length (spare g) →
+  pub room_written : IsRestarted → (k : ℕ) (ws : List ℕ) (h new : RingState ℕ) → WritesSpare g 0 ws h →
+      Enqueues h (take k (spare h)) new → capacity new ≡ capacity g → k ≤ length ws → length ws ≤ length (spare g) →
       outgoing (capacity new) b (queue new) ranges (b + (capacity new - new.read_at)) ≡ with_written old (take k ws)
   room_written e k ws h new wrote enqueued whole few fits =
       let counted : take k (spare h) ≡ take k ws =

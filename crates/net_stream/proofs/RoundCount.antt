@@ -13,8 +13,8 @@ use Rattle.net_stream.specs.declared.link.Link.{Link}
 use Rattle.net_stream.specs.Fates.{FatesSeen, next_fate, after_fate, comes, AllCome, NextCome}
 use Rattle.net_stream.specs.Progress.{after_ack_frames}
 use Rattle.net_stream.specs.Passing.{coming_of, acks_of}
-use Rattle.net_stream.specs.Links.{Carries, Passed}
-use Rattle.net_stream.specs.Stuck.{RoundLeaves, RoundMoves, HasFailed, AllFail, IsStuck}
+use Rattle.net_stream.specs.Links.{Carries, Passes}
+use Rattle.net_stream.specs.Stuck.{RoundLeaves, RoundMoves, HasFailed, AllFail, FatesFail}
 use Rattle.net_stream.proofs.Reached.{come_next, next_come, first_is}
 use Rattle.net_stream.proofs.Moved.{queue_from}
 use Rattle.net_stream.proofs.Stuck.{acked_last, some_come}
@@ -46,10 +46,10 @@ coming_all v (x ∷ xs) come =
     cond-true _ (x ∷ c) c come.0 ∙ ap (λ l. x ∷ l) (coming_all (after_fate v) xs come.1)
 
 -- the last acknowledgement comes, and the sender keeps what the receiver lacks
-base_meets : {A : Type 0} → RoundTrip → (old new : Link A) (p : Passed old new) → AllCome old.back.fates → new.sender.base ≤ stored_next new.receiver →
+base_meets : {A : Type 0} → RoundTrip → (old new : Link A) (p : Passes old new) → AllCome old.back.fates → new.sender.base ≤ stored_next new.receiver →
     stored_next new.receiver ≤ end_of old.sender → end_of old.sender < 2 ^ 64 → new.sender.base ≡ stored_next new.receiver
 base_meets trip old new p come behind within word =
-    ap (λ v. v.base) is ∙ acked_last trip old.sender n xs front within (omega (arith, within, word)) (subst (λ v. v.base ≤ n) is behind)
+    ap (λ v. v.base) is ∙ acked_last trip old.sender n xs earlier within (omega (arith, within, word)) (subst (λ v. v.base ≤ n) is behind)
   where
     n : ℕ
     n = stored_next new.receiver
@@ -57,20 +57,20 @@ base_meets trip old new p come behind within word =
     xs : List ℕ
     xs = range_bytes (take most_reported (maximal_runs (domain new.receiver.held)))
 
-    answers : List (List ℕ)
-    answers = acks_of most_reported old.receiver p.came
+    sent_back : List (List ℕ)
+    sent_back = acks_of most_reported old.receiver p.came
 
-    front : List (List ℕ)
-    front = old.back.late ++ (old.back.ahead ++ answers)
+    earlier : List (List ℕ)
+    earlier = old.back.late ++ (old.back.ahead ++ sent_back)
 
-    acks : coming_of old.back.fates p.acks ≡ (old.back.ahead ++ answers) ++ frame_of n xs ∷ []
+    acks : coming_of old.back.fates p.acks ≡ (old.back.ahead ++ sent_back) ++ frame_of n xs ∷ []
     acks = coming_all old.back.fates p.acks (next_come (length p.acks) old.back.fates come) ∙ p.acks_are
 
-    is : new.sender ≡ after_ack_frames old.sender (front ++ frame_of n xs ∷ [])
+    is : new.sender ≡ after_ack_frames old.sender (earlier ++ frame_of n xs ∷ [])
     is = p.acked ∙ ap (λ a. after_ack_frames old.sender (old.back.late ++ a)) acks
-        ∙ ap (after_ack_frames old.sender) (sym (append_assoc old.back.late (old.back.ahead ++ answers) (frame_of n xs ∷ [])))
+        ∙ ap (after_ack_frames old.sender) (sym (append_assoc old.back.late (old.back.ahead ++ sent_back) (frame_of n xs ∷ [])))
 
-never_fails : (frames acks : ℕ) (v v' : FatesSeen) → AllCome v → AllCome v' → IsStuck 0 frames acks v v' → ⊥
+never_fails : (frames acks : ℕ) (v v' : FatesSeen) → AllCome v → AllCome v' → FatesFail 0 frames acks v v' → ⊥
 never_fails frames acks v v' come come' stuck =
     ⊎_elim {C = ⊥}
     (λ (a : (0 < frames) × HasFailed 0 (next_fate v)). both_ways (comes (next_fate v)) a.1.0 (come_next v come).0)
@@ -78,7 +78,7 @@ never_fails frames acks v v' come come' stuck =
     stuck
 
 -- a round of a copy writes some
-pub round_at_once : {A : Type 0} → RoundTrip → QueueIsOfStream → (f : ℕ) (w : List ℕ) (old new last : Link A) (room : ℕ) (p : Passed old new) →
+pub round_at_once : {A : Type 0} → RoundTrip → QueueIsOfStream → (f : ℕ) (w : List ℕ) (old new last : Link A) (room : ℕ) (p : Passes old new) →
     RoundLeaves old new → RoundMoves old new → end_of old.sender < 2 ^ 64 → last ≡ record new { receiver = stored_read new.receiver room } →
     Carries f w old → Carries f w new →
     old.there.ahead ≡ [] → old.back.ahead ≡ [] → AllCome old.there.fates → AllCome old.back.fates → old.sender.base ≡ stored_next old.receiver →

@@ -10,7 +10,7 @@ use Rattle.net_stream.specs.Outgoing.{Outgoing, end_of, row_end}
 use Rattle.net_stream.specs.Frames.{Part, frame_of, frames_from, part_bytes}
 use Rattle.net_stream.specs.Reported.{reports, last_end, is_full}
 use Rattle.net_stream.specs.Carrying.{PathSeen}
-use Rattle.net_stream.specs.Sending.{IsMarked, AreMarked, HasSize, spared_from, next_reported, part_end, stop_of, HaveEnds, SentPart, SentPrefix, SentRound}
+use Rattle.net_stream.specs.Sending.{IsMarked, AreMarked, HasSize, spared_from, next_reported, part_end, stop_of, HaveEnds, SendsPart, SendsPrefix, SendsRound}
 use Rattle.net_stream.proofs.Carried.{All-push}
 use Rattle.net_stream.proofs.Spared.{end_from}
 
@@ -67,7 +67,7 @@ count_one p false xs = refl
 -- ---- one call
 -- bytes that were reported need no frame
 pub spared_part : (s : Outgoing) (most pos n : ℕ) (t : PathSeen) → 0 < n → pos + n ≤ end_of s → n ≡ spared_from s pos →
-    IsMarked s.reported pos n true → SentPart s most pos n 0 t t
+    IsMarked s.reported pos n true → SendsPart s most pos n 0 t t
 spared_part s most pos n t some within is marked =
     let here : reports s.reported pos ≡ true = marked pos (omega arith) (omega arith) in
     record {
@@ -86,7 +86,7 @@ spared_part s most pos n t some within is marked =
 pub sent_part : (s : Outgoing) (most pos : ℕ) (t0 t1 : PathSeen) (xs : List ℕ) → pos < end_of s → 0 < most →
     pos < next_reported s pos → reports s.reported pos ≡ false →
     length xs ≡ min (min most (next_reported s pos - pos)) (row_end s pos - pos) → pos + length xs ≤ end_of s → IsMarked s.reported pos (length xs) false →
-    xs ≡ take (length xs) (drop (pos - s.base) s.queue) → t1 ≡ record t0 { ahead = t0.ahead ++ frame_of pos xs ∷ [] } → SentPart s most pos (length xs) 1 t0 t1
+    xs ≡ take (length xs) (drop (pos - s.base) s.queue) → t1 ≡ record t0 { ahead = t0.ahead ++ frame_of pos xs ∷ [] } → SendsPart s most pos (length xs) 1 t0 t1
 sent_part s most pos t0 t1 xs kept more next here size within marked is sent =
     let row = row_above s pos kept in
     let end : pos + length xs ≡ min (pos + most) (min (next_reported s pos) (row_end s pos)) = omega arith in
@@ -104,7 +104,7 @@ sent_part s most pos t0 t1 xs kept more next here size within marked is sent =
 -- ---- several calls
 -- parts so far, of which so many frames are left
 pub record SentSoFar (s : Outgoing) (most flight left n : ℕ) (old new : PathSeen) : Type 0 where
-  pub prefix : SentPrefix s most flight n old new
+  pub prefix : SendsPrefix s most flight n old new
   pub left_are : length (frames_from s.base prefix.parts) + left ≡ flight
 
 -- nothing was sent yet
@@ -127,7 +127,7 @@ none_sent s most flight pos t e =
 
 -- what was sent of a part is sent of the first bytes too
 pub sent_more : (s : Outgoing) (most flight left pos n k left' : ℕ) (t0 t1 t2 : PathSeen) →
-    SentSoFar s most flight left (pos - s.base) t0 t1 → SentPart s most pos n k t1 t2 →
+    SentSoFar s most flight left (pos - s.base) t0 t1 → SendsPart s most pos n k t1 t2 →
     s.base ≤ pos → pos < stop_of s → 0 < left → left' ≡ left - k → SentSoFar s most flight left' (pos + n - s.base) t0 t2
 sent_more s most flight left pos n k left' t0 t1 t2 so_far part from below some_left left_is =
     let prefix = so_far.prefix in
@@ -176,7 +176,7 @@ sent_more s most flight left pos n k left' t0 t1 t2 so_far part from below some_
 
 -- nothing more could be sent
 pub round_sent : (s : Outgoing) (most flight left pos : ℕ) (t0 t1 : PathSeen) →
-    SentSoFar s most flight left (pos - s.base) t0 t1 → s.base ≤ pos → (stop_of s ≤ pos) ⊎ (left ≡ 0) → SentRound s most flight (pos - s.base) t0 t1
+    SentSoFar s most flight left (pos - s.base) t0 t1 → s.base ≤ pos → (stop_of s ≤ pos) ⊎ (left ≡ 0) → SendsRound s most flight (pos - s.base) t0 t1
 round_sent s most flight left pos t0 t1 so_far from stopped =
     let total = so_far.left_are in
     let parts = so_far.prefix.parts in
@@ -190,7 +190,7 @@ round_sent s most flight left pos t0 t1 so_far from stopped =
 
 -- ---- what a round sent
 -- all that is kept, if more frames could be sent and the ranges are fewer than can be reported
-pub all_sent : (s : Outgoing) (most flight n : ℕ) (old new : PathSeen) → (round : SentRound s most flight n old new) →
+pub all_sent : (s : Outgoing) (most flight n : ℕ) (old new : PathSeen) → (round : SendsRound s most flight n old new) →
     length (frames_from s.base round.prefix.parts) < flight → is_full s.reported ≡ false → n ≡ length s.queue
 all_sent s most flight n old new round few room =
     let within = round.prefix.within in
@@ -212,7 +212,7 @@ abbrev pub FirstSent : Outgoing → ℕ → List Part → Type 0
 FirstSent s most parts = (xs : List ℕ) × (rest : List Part) × (parts ≡ (false, xs) ∷ rest) × (0 < length xs) × (length xs ≤ most)
     × (xs ≡ take (length xs) s.queue)
 
-pub first_sent : (s : Outgoing) (most flight n : ℕ) (old new : PathSeen) → (round : SentRound s most flight n old new) →
+pub first_sent : (s : Outgoing) (most flight n : ℕ) (old new : PathSeen) → (round : SendsRound s most flight n old new) →
     0 < flight → 0 < length s.queue → reports s.reported s.base ≡ false → FirstSent s most round.prefix.parts
 first_sent s most flight n old new round left some none =
     let prefix = round.prefix in

@@ -19,14 +19,14 @@ use Rattle.net_stream.specs.declared.fate.Fate.{Fate}
 use Rattle.net_stream.specs.declared.fate.Fate.TheVariants.{Delivered, Lost, Repeated, Late}
 use Rattle.net_stream.specs.Counting.{with_fate, with_fates, with_payload}
 use Rattle.net_stream.specs.Fates.{FatesSeen, next_fate, after_fate, fates_after, comes, comes_late, AllCome}
-use Rattle.net_stream.specs.Rounds.{PartCounted, FatesSoFar}
+use Rattle.net_stream.specs.Rounds.{CountsPart, FatesSoFar}
 use Rattle.net_stream.specs.Carrying.{ack_of, receiver_after}
 use Rattle.net_stream.specs.Sending.{at_least_one}
 use Rattle.net_stream.specs.Progress.{after_ack_frame, after_ack_frames, limit_of}
 use Rattle.net_stream.specs.Passing.{coming_of, late_of, receiver_after_all, ack_to, acks_of}
-use Rattle.net_stream.specs.Links.{Carries, Passed}
+use Rattle.net_stream.specs.Links.{Carries, Passes}
 use Rattle.net_stream.specs.Stuck.{failures, losses, RoundLeaves, RoundMoves, HasFailed, AllFail}
-use Rattle.net_stream.specs.Stuck.{IsStuck, FirstSays, IsDue, Stuck, StuckTo, StuckAtLast}
+use Rattle.net_stream.specs.Stuck.{FatesFail, FirstSays, IsDue, IsStuck, AreStuckTo, AreStuckAtLast}
 use Rattle.net_stream.specs.Stuck.{NeverStuck}
 use Rattle.net_stream.proofs.Sent.{first_sent}
 use Rattle.net_stream.proofs.Reached.{come_next, missing, first_is, all_keep_end, acked_append}
@@ -50,8 +50,8 @@ come_of P v (x ∷ xs) all = both (come_of P (after_fate v) xs (All-tail P x xs 
 abbrev Acks : ℕ → ℕ → List ℕ → Type 0
 Acks n m frame = (k : ℕ) × (xs : List ℕ) × (segment_of frame ≡ Some (k, xs)) × (n ≤ k) × (k ≤ m)
 
-one_answers : RoundTrip → (r : Stored) (n m : ℕ) → n ≤ stored_next r → stored_next r ≤ m → m < 2 ^ 64 → Acks n m (ack_of r)
-one_answers trip r n m low high word = (
+one_acks : RoundTrip → (r : Stored) (n m : ℕ) → n ≤ stored_next r → stored_next r ≤ m → m < 2 ^ 64 → Acks n m (ack_of r)
+one_acks trip r n m low high word = (
   stored_next r,
   range_bytes (take most_reported (maximal_runs (domain r.held))),
   trip (stored_next r) (range_bytes (take most_reported (maximal_runs (domain r.held)))) (omega arith),
@@ -59,12 +59,12 @@ one_answers trip r n m low high word = (
   high,
 )
 
-to_answers : RoundTrip → (r : Stored) (o : Option (ℕ × List ℕ)) (n m : ℕ) → n ≤ stored_next r → stored_next r ≤ m → m < 2 ^ 64 → All (Acks n m) (ack_to r o)
-to_answers trip r None n m low high word = All-nil (Acks n m)
-to_answers trip r (Some (pos, xs)) n m low high word = both (nat_lt (pos + length xs) (2 ^ 64))
+to_acks : RoundTrip → (r : Stored) (o : Option (ℕ × List ℕ)) (n m : ℕ) → n ≤ stored_next r → stored_next r ≤ m → m < 2 ^ 64 → All (Acks n m) (ack_to r o)
+to_acks trip r None n m low high word = All-nil (Acks n m)
+to_acks trip r (Some (pos, xs)) n m low high word = both (nat_lt (pos + length xs) (2 ^ 64))
   where
     both : (b : Bool) → All (Acks n m) (cond b (ack_of r ∷ []) [])
-    both true = All-cons (Acks n m) (ack_of r) [] (one_answers trip r n m low high word) (All-nil (Acks n m))
+    both true = All-cons (Acks n m) (ack_of r) [] (one_acks trip r n m low high word) (All-nil (Acks n m))
     both false = All-nil (Acks n m)
 
 -- ---- a receiver never goes back
@@ -124,22 +124,22 @@ module _ (numbers : Numbers) where
   brought_capacity N r (x ∷ xs) = brought_capacity N (receiver_after N r (segment_of x)) xs
       ∙ arrived_keeps (λ v. v.capacity) N r (segment_of x) (λ pos ys. numbers.capacity N r (Segment pos ys))
 
-  all_answers : RoundTrip → (N : ℕ) (r : Stored) (frames : List (List ℕ)) (n m : ℕ) → n ≤ stored_next r → stored_next (receiver_after_all N r frames) ≤ m →
+  all_acks : RoundTrip → (N : ℕ) (r : Stored) (frames : List (List ℕ)) (n m : ℕ) → n ≤ stored_next r → stored_next (receiver_after_all N r frames) ≤ m →
       m < 2 ^ 64 → All (Acks n m) (acks_of N r frames)
-  all_answers trip N r [] n m low high word = All-nil (Acks n m)
-  all_answers trip N r (x ∷ xs) n m low high word =
+  all_acks trip N r [] n m low high word = All-nil (Acks n m)
+  all_acks trip N r (x ∷ xs) n m low high word =
       let r1 = receiver_after N r (segment_of x) in
       let a = arrived_grows N r (segment_of x) in
       let b = brought_grows N r1 xs in
       All-both (Acks n m) (ack_to r1 (segment_of x)) (acks_of N r1 xs)
-      (to_answers trip r1 (segment_of x) n m (le_trans low a) (le_trans b high) word)
-      (all_answers trip N r1 xs n m (le_trans low a) high word)
+      (to_acks trip r1 (segment_of x) n m (le_trans low a) (le_trans b high) word)
+      (all_acks trip N r1 xs n m (le_trans low a) high word)
 
   -- a frame that comes and begins where nothing is missing before it brings the receiver on
-  front_brings : InOrderReaches → (N : ℕ) (r : Stored) (late rest : List (List ℕ)) (frame : List ℕ) (pos : ℕ) (xs : List ℕ) →
+  first_brings : InOrderReaches → (N : ℕ) (r : Stored) (late rest : List (List ℕ)) (frame : List ℕ) (pos : ℕ) (xs : List ℕ) →
       segment_of frame ≡ Some (pos, xs) → pos ≤ stored_next r → stored_next r < pos + length xs → pos + length xs < 2 ^ 64 → stored_next r < limit_of r →
       stored_next r < stored_next (receiver_after_all N r (late ++ frame ∷ rest))
-  front_brings order N r late rest frame pos xs at near far word room =
+  first_brings order N r late rest frame pos xs at near far word room =
       let r1 = receiver_after_all N r late in
       let r2 = receiver_after N r1 (segment_of frame) in
       let more : stored_next r ≤ stored_next r1 = brought_grows N r late in
@@ -252,13 +252,13 @@ HasMissing n frames = FirstSays frames (λ p e. (p ≤ n) × (n < e) × (e < 2 ^
 
 -- the receiver lacked the first byte that the sender keeps, and the first frame, which has it, didn't come at once; or it had
 -- that byte, and no acknowledgement came at once
-abbrev Lacked : {A : Type 0} (old new : Link A) → Passed old new → Type 0
+abbrev Lacked : {A : Type 0} (old new : Link A) → Passes old new → Type 0
 Lacked old new p =
     (HasMissing (stored_next old.receiver) p.sent.ahead × (0 < length p.sent.ahead) × (comes (next_fate old.there.fates) ≡ false))
     ⊎ ((old.sender.base < stored_next old.receiver) × (coming_of old.back.fates p.acks ≡ [])
     × All (Acks (stored_next old.receiver) (stored_next old.receiver)) p.acks)
 
-rounds_move : {A : Type 0} → RoundTrip → Numbers → InOrderReaches → QueueIsOfStream → (f : ℕ) (w : List ℕ) (old new : Link A) (p : Passed old new) →
+rounds_move : {A : Type 0} → RoundTrip → Numbers → InOrderReaches → QueueIsOfStream → (f : ℕ) (w : List ℕ) (old new : Link A) (p : Passes old new) →
     IsSound most_reported old.receiver → Carries f w old → end_of old.sender < 2 ^ 64 → old.there.ahead ≡ [] → old.back.ahead ≡ [] →
     0 < length old.sender.queue →
     stored_next old.receiver < limit_of old.receiver → stored_next new.receiver ≡ stored_next old.receiver → new.sender.base ≡ old.sender.base →
@@ -287,8 +287,8 @@ rounds_move trip numbers order queue f w old new p sound carries word none none_
     acks =
         let n = stored_next old.receiver in
         let ours : All (Acks n n) (acks_of most_reported old.receiver p.came) =
-        all_answers numbers trip most_reported old.receiver p.came n n (omega arith) (subst (λ k. k ≤ n) (sym same) (omega arith)) small in
-        let last : Acks n n (ack_of new.receiver) = one_answers trip new.receiver n n (subst (λ k. n ≤ k) (sym still) (omega arith))
+        all_acks numbers trip most_reported old.receiver p.came n n (omega arith) (subst (λ k. k ≤ n) (sym same) (omega arith)) small in
+        let last : Acks n n (ack_of new.receiver) = one_acks trip new.receiver n n (subst (λ k. n ≤ k) (sym still) (omega arith))
         (subst (λ k. k ≤ n) (sym still) (omega arith)) small in
         let both : All (Acks n n) (acks_of most_reported old.receiver p.came ++ ack_of new.receiver ∷ []) =
         All-both (Acks n n) (acks_of most_reported old.receiver p.came) (ack_of new.receiver ∷ []) ours
@@ -353,7 +353,7 @@ rounds_move trip numbers order queue f w old new p sound carries word none none_
         let coming : coming_of old.there.fates p.sent.ahead ≡ frame ∷ c = ap (coming_of old.there.fates) (ahead l) ∙ cond-true _ (frame ∷ c) c e in
         let came : p.came ≡ old.there.late ++ frame ∷ c = p.coming ∙ ap (λ x. old.there.late ++ x) coming in
         let more : stored_next old.receiver < stored_next (receiver_after_all most_reported old.receiver (old.there.late ++ frame ∷ c)) =
-        front_brings numbers order most_reported old.receiver old.there.late c frame old.sender.base xs (trip old.sender.base xs (omega arith)) l'
+        first_brings numbers order most_reported old.receiver old.there.late c frame old.sender.base xs (trip old.sender.base xs (omega arith)) l'
         (omega arith) (omega arith) room in
         let on : stored_next old.receiver < stored_next (receiver_after_all most_reported old.receiver p.came) =
         subst (λ x. stored_next old.receiver < stored_next (receiver_after_all most_reported old.receiver x)) (sym came) more in
@@ -385,7 +385,7 @@ failed_all zero v c = omega arith
 failed_all (suc n) v c = le_trans (failed_met (next_fate v) c) (failed_all n (after_fate v) (with_fate (next_fate v) c))
 
 -- also in a round that ends early
-pub part_failed : (v v' : FatesSeen) (old new : FrameCounts) → PartCounted v v' old new → failures old ≤ failures new
+pub part_failed : (v v' : FatesSeen) (old new : FrameCounts) → CountsPart v v' old new → failures old ≤ failures new
 part_failed v v' old new part =
     let c = with_payload part.bytes old in
     subst (λ n. failures old ≤ n) (sym (ap failures part.counted))
@@ -487,27 +487,27 @@ all_fail_weaker : (k j n : ℕ) (v : FatesSeen) → (0 < j → 0 < k) → AllFai
 all_fail_weaker k j zero v h all = tt
 all_fail_weaker k j (suc n) v h all = (failed_weaker k j (next_fate v) h all.0, all_fail_weaker k j n (after_fate v) h all.1)
 
-stuck_weaker : (k j frames acks : ℕ) (v v' : FatesSeen) → (0 < j → 0 < k) → IsStuck k frames acks v v' → IsStuck j frames acks v v'
+stuck_weaker : (k j frames acks : ℕ) (v v' : FatesSeen) → (0 < j → 0 < k) → FatesFail k frames acks v v' → FatesFail j frames acks v v'
 stuck_weaker k j frames acks v v' h stuck =
-    ⊎_elim {C = IsStuck j frames acks v v'}
+    ⊎_elim {C = FatesFail j frames acks v v'}
     (λ (a : (0 < frames) × HasFailed k (next_fate v)). inl (a.0, failed_weaker k j (next_fate v) h a.1))
     (λ (b : (0 < acks) × AllFail k acks v'). inr (b.0, all_fail_weaker k j acks v' h b.1))
     stuck
 
 -- none need follow
-stuck_last : (n : ℕ) (v v' u u' : FatesSeen) → StuckTo 1 n v v' u u' → StuckTo 0 n v v' u u'
+stuck_last : (n : ℕ) (v v' u u' : FatesSeen) → AreStuckTo 1 n v v' u u' → AreStuckTo 0 n v v' u u'
 stuck_last zero v v' u u' to = to
 stuck_last (suc n) v v' u u' to =
     (to.0, to.1, stuck_weaker (1 + n) (0 + n) to.0 to.1 v v' (λ some. omega arith) to.2, stuck_last n (fates_after to.0 v) (fates_after to.1 v') u u' to.3)
 
 -- one more round that was stuck
-stuck_more : (follow n : ℕ) (v v' u u' : FatesSeen) (frames acks : ℕ) → StuckTo 1 n v v' u u' → IsStuck follow frames acks u u' →
-    StuckTo follow (suc n) v v' (fates_after frames u) (fates_after acks u')
+stuck_more : (follow n : ℕ) (v v' u u' : FatesSeen) (frames acks : ℕ) → AreStuckTo 1 n v v' u u' → FatesFail follow frames acks u u' →
+    AreStuckTo follow (suc n) v v' (fates_after frames u) (fates_after acks u')
 stuck_more follow zero v v' u u' frames acks to one = (
   frames,
   acks,
-  subst (λ k. IsStuck k frames acks v v') (let e : follow ≡ follow + 0 = omega arith in e)
-      (subst (λ x. IsStuck follow frames acks x v') to.0 (subst (IsStuck follow frames acks u) to.1 one)),
+  subst (λ k. FatesFail k frames acks v v') (let e : follow ≡ follow + 0 = omega arith in e)
+      (subst (λ x. FatesFail follow frames acks x v') to.0 (subst (FatesFail follow frames acks u) to.1 one)),
   (ap (fates_after frames) to.0, ap (fates_after acks) to.1),
 )
 stuck_more follow (suc n) v v' u u' frames acks to one = (
@@ -517,7 +517,7 @@ stuck_more follow (suc n) v v' u u' frames acks to one = (
   stuck_more follow n (fates_after to.0 v) (fates_after to.1 v') u u' frames acks to.3 one,
 )
 
-module _ {A : Type 0} (old new : Link A) (p : Passed old new) where
+module _ {A : Type 0} (old new : Link A) (p : Passes old new) where
   acks_some : 0 < length p.acks
   acks_some = subst (λ l. 0 < length l) (sym p.acks_are)
       (let e = length-append (old.back.ahead ++ acks_of most_reported old.receiver p.came) (ack_of new.receiver ∷ []) in omega arith)
@@ -586,7 +586,7 @@ module _ {A : Type 0} (old new : Link A) (p : Passed old new) where
       (λ (h : HasMissing (stored_next r) old.there.late).
       let came : p.came ≡ h.0 ∷ (h.1 ++ c) = p.coming ∙ ap (λ x. x ++ c) h.4 in
       let on : stored_next r < stored_next (receiver_after_all most_reported r (h.0 ∷ (h.1 ++ c))) =
-      front_brings numbers order most_reported r [] (h.1 ++ c) h.0 h.2 h.3 h.5 h.6.0 h.6.1 h.6.2 room in
+      first_brings numbers order most_reported r [] (h.1 ++ c) h.0 h.2 h.3 h.5 h.6.0 h.6.1 h.6.2 room in
       let is : stored_next new.receiver ≡ stored_next (receiver_after_all most_reported r (h.0 ∷ (h.1 ++ c))) =
       ap stored_next p.received ∙ ap (λ x. stored_next (receiver_after_all most_reported r x)) came in
       less (stored_next r) (stored_next new.receiver) (stored_next (receiver_after_all most_reported r (h.0 ∷ (h.1 ++ c)))) on is still)
@@ -607,7 +607,7 @@ module _ {A : Type 0} (old new : Link A) (p : Passed old new) where
   -- a frame or each acknowledgement was lost, or what came late brings the next round on
   abbrev HasLost : Type 0
   HasLost =
-      (IsStuck 1 (length p.sent.ahead) (length p.acks) old.there.fates old.back.fates × (min (losses old.counts + 1) (2 ^ 64 - 1) ≤ losses new.counts))
+      (FatesFail 1 (length p.sent.ahead) (length p.acks) old.there.fates old.back.fates × (min (losses old.counts + 1) (2 ^ 64 - 1) ≤ losses new.counts))
       ⊎ (IsDue new × (losses old.counts ≤ losses new.counts))
 
   -- a frame that has what the receiver lacks came late, or was lost
@@ -678,7 +678,7 @@ module _ {A : Type 0} (old new : Link A) (p : Passed old new) where
       let first = first_is f w old.receiver carries.receives in
       let end = carries.sends.end in
       omega arith) in
-      ⊎_elim {C = Stuck old new}
+      ⊎_elim {C = IsStuck old new}
       (λ (a : HasMissing n p.sent.ahead × (0 < length p.sent.ahead) × (comes (next_fate old.there.fates) ≡ false)). record {
         frames = length p.sent.ahead;
         acks = length p.acks;
@@ -720,9 +720,9 @@ due_kept l l1 late late_back next base end due =
 pub step_moves : {A : Type 0} (f : ℕ) (w : List ℕ) (old new last : Link A) (room : ℕ) → RoundLeaves old new → RoundMoves old new →
     last ≡ record new { receiver = stored_read new.receiver room } →
     Carries f w old → old.there.ahead ≡ [] → old.back.ahead ≡ [] → 0 < length old.sender.queue → 0 < old.receiver.capacity → 0 < room →
-    last.sender.base ≡ old.sender.base → last.receiver.read ≡ old.receiver.read → Stuck old last
+    last.sender.base ≡ old.sender.base → last.receiver.read ≡ old.receiver.read → IsStuck old last
 step_moves {A = A} f w old new last room keeps moves handed carries none none_back kept cap some still_base still_read =
-    subst (Stuck old) (sym handed) (record {
+    subst (IsStuck old) (sym handed) (record {
       frames = one.frames;
       acks = one.acks;
       why = one.why;
@@ -763,7 +763,7 @@ step_moves {A = A} f w old new last room keeps moves handed carries none none_ba
     room_left : stored_next old.receiver < limit_of old.receiver
     room_left = omega (arith, grow, empty, first, read, cap)
 
-    one : Stuck old new
+    one : IsStuck old new
     one = moves f w carries none none_back kept room_left next_same still_base'
 
     next_read : stored_next r ≡ stored_next new.receiver
@@ -772,10 +772,10 @@ step_moves {A = A} f w old new last room keeps moves handed carries none none_ba
     read_out : Link A
     read_out = record new { receiver = r }
 
-    lost : (IsStuck 1 one.frames one.acks old.there.fates old.back.fates × (min (losses old.counts + 1) (2 ^ 64 - 1) ≤ losses new.counts)) ⊎
+    lost : (FatesFail 1 one.frames one.acks old.there.fates old.back.fates × (min (losses old.counts + 1) (2 ^ 64 - 1) ≤ losses new.counts)) ⊎
         (IsDue read_out × (losses old.counts ≤ losses new.counts))
     lost =
-        ⊎_elim {C = (IsStuck 1 one.frames one.acks old.there.fates old.back.fates × (min (losses old.counts + 1) (2 ^ 64 - 1) ≤ losses new.counts)) ⊎
+        ⊎_elim {C = (FatesFail 1 one.frames one.acks old.there.fates old.back.fates × (min (losses old.counts + 1) (2 ^ 64 - 1) ≤ losses new.counts)) ⊎
         (IsDue read_out × (losses old.counts ≤ losses new.counts))}
         inl
         (λ (d : IsDue new × (losses old.counts ≤ losses new.counts)). inr
@@ -787,8 +787,8 @@ step_moves {A = A} f w old new last room keeps moves handed carries none none_ba
 -- comes late is due
 abbrev pub StuckSoFar : {A : Type 0} → ℕ → FatesSeen → FatesSeen → Link A → Type 0
 StuckSoFar n v v' link =
-    ((frames : ℕ) × (acks : ℕ) × StuckTo 1 n (fates_after frames v) (fates_after acks v') link.there.fates link.back.fates × (n ≤ losses link.counts))
-    ⊎ ((frames : ℕ) × (acks : ℕ) × StuckTo 0 n (fates_after frames v) (fates_after acks v') link.there.fates link.back.fates × (n ≤ losses link.counts + 1)
+    ((frames : ℕ) × (acks : ℕ) × AreStuckTo 1 n (fates_after frames v) (fates_after acks v') link.there.fates link.back.fates × (n ≤ losses link.counts))
+    ⊎ ((frames : ℕ) × (acks : ℕ) × AreStuckTo 0 n (fates_after frames v) (fates_after acks v') link.there.fates link.back.fates × (n ≤ losses link.counts + 1)
     × IsDue link)
 
 pub stuck_none : {A : Type 0} (frames acks : ℕ) (v v' : FatesSeen) (l : Link A) → l.there.fates ≡ fates_after frames v → l.back.fates ≡ fates_after acks v' →
@@ -800,9 +800,9 @@ pub stuck_kept : {A : Type 0} (n : ℕ) (v v' : FatesSeen) (l l1 : Link A) → l
     l1.sender.base ≡ l.sender.base → end_of l.sender ≤ end_of l1.sender → l1.counts ≡ l.counts → StuckSoFar n v v' l → StuckSoFar n v v' l1
 stuck_kept n v v' l l1 there back receiver base end counts so_far =
     ⊎_elim {C = StuckSoFar n v v' l1}
-    (λ (h : (frames : ℕ) × (acks : ℕ) × StuckTo 1 n (fates_after frames v) (fates_after acks v') l.there.fates l.back.fates × (n ≤ losses l.counts)).
+    (λ (h : (frames : ℕ) × (acks : ℕ) × AreStuckTo 1 n (fates_after frames v) (fates_after acks v') l.there.fates l.back.fates × (n ≤ losses l.counts)).
     inl (h.0, h.1, to 1 h.0 h.1 h.2, subst (λ c. n ≤ losses c) (sym counts) h.3))
-    (λ (h : (frames : ℕ) × (acks : ℕ) × StuckTo 0 n (fates_after frames v) (fates_after acks v') l.there.fates l.back.fates
+    (λ (h : (frames : ℕ) × (acks : ℕ) × AreStuckTo 0 n (fates_after frames v) (fates_after acks v') l.there.fates l.back.fates
     × (n ≤ losses l.counts + 1) × IsDue l).
     inr (
       h.0,
@@ -813,19 +813,19 @@ stuck_kept n v v' l l1 there back receiver base end counts so_far =
     ))
     so_far
   where
-    to : (k frames acks : ℕ) → StuckTo k n (fates_after frames v) (fates_after acks v') l.there.fates l.back.fates →
-        StuckTo k n (fates_after frames v) (fates_after acks v') l1.there.fates l1.back.fates
-    to k frames acks h = subst (λ t. StuckTo k n (fates_after frames v) (fates_after acks v') t.fates l1.back.fates) (sym there)
-        (subst (λ t. StuckTo k n (fates_after frames v) (fates_after acks v') l.there.fates t.fates) (sym back) h)
+    to : (k frames acks : ℕ) → AreStuckTo k n (fates_after frames v) (fates_after acks v') l.there.fates l.back.fates →
+        AreStuckTo k n (fates_after frames v) (fates_after acks v') l1.there.fates l1.back.fates
+    to k frames acks h = subst (λ t. AreStuckTo k n (fates_after frames v) (fates_after acks v') t.fates l1.back.fates) (sym there)
+        (subst (λ t. AreStuckTo k n (fates_after frames v) (fates_after acks v') l.there.fates t.fates) (sym back) h)
 
 -- what is due comes in the next round, so that one more that is stuck follows a loss
-pub stuck_next : {A : Type 0} (n : ℕ) (v v' : FatesSeen) (old new : Link A) → n < 2 ^ 64 - 1 → StuckSoFar n v v' old → Stuck old new →
+pub stuck_next : {A : Type 0} (n : ℕ) (v v' : FatesSeen) (old new : Link A) → n < 2 ^ 64 - 1 → StuckSoFar n v v' old → IsStuck old new →
     StuckSoFar (suc n) v v' new
 stuck_next n v v' old new word so_far one =
     ⊎_elim {C = StuckSoFar (suc n) v v' new}
-    (λ (h : (frames : ℕ) × (acks : ℕ) × StuckTo 1 n (fates_after frames v) (fates_after acks v') old.there.fates old.back.fates × (n ≤ losses old.counts)).
+    (λ (h : (frames : ℕ) × (acks : ℕ) × AreStuckTo 1 n (fates_after frames v) (fates_after acks v') old.there.fates old.back.fates × (n ≤ losses old.counts)).
     ⊎_elim {C = StuckSoFar (suc n) v v' new}
-    (λ (e : IsStuck 1 one.frames one.acks old.there.fates old.back.fates × (min (losses old.counts + 1) (2 ^ 64 - 1) ≤ losses new.counts)).
+    (λ (e : FatesFail 1 one.frames one.acks old.there.fates old.back.fates × (min (losses old.counts + 1) (2 ^ 64 - 1) ≤ losses new.counts)).
     let few = h.3 in
     let more = e.1 in
     inl (
@@ -845,31 +845,31 @@ stuck_next n v v' old new word so_far one =
       d.0,
     ))
     one.lost)
-    (λ (h : (frames : ℕ) × (acks : ℕ) × StuckTo 0 n (fates_after frames v) (fates_after acks v') old.there.fates old.back.fates × (n ≤ losses old.counts + 1)
+    (λ (h : (frames : ℕ) × (acks : ℕ) × AreStuckTo 0 n (fates_after frames v) (fates_after acks v') old.there.fates old.back.fates × (n ≤ losses old.counts + 1)
     × IsDue old). absurd (one.due h.4))
     so_far
   where
-    to : (k frames acks : ℕ) → StuckTo k (suc n) (fates_after frames v) (fates_after acks v') (fates_after one.frames old.there.fates)
-        (fates_after one.acks old.back.fates) → StuckTo k (suc n) (fates_after frames v) (fates_after acks v') new.there.fates new.back.fates
-    to k frames acks h = subst (λ x. StuckTo k (suc n) (fates_after frames v) (fates_after acks v') x new.back.fates) (sym one.left)
-        (subst (λ x. StuckTo k (suc n) (fates_after frames v) (fates_after acks v') (fates_after one.frames old.there.fates) x) (sym one.left_back) h)
+    to : (k frames acks : ℕ) → AreStuckTo k (suc n) (fates_after frames v) (fates_after acks v') (fates_after one.frames old.there.fates)
+        (fates_after one.acks old.back.fates) → AreStuckTo k (suc n) (fates_after frames v) (fates_after acks v') new.there.fates new.back.fates
+    to k frames acks h = subst (λ x. AreStuckTo k (suc n) (fates_after frames v) (fates_after acks v') x new.back.fates) (sym one.left)
+        (subst (λ x. AreStuckTo k (suc n) (fates_after frames v) (fates_after acks v') (fates_after one.frames old.there.fates) x) (sym one.left_back) h)
 
 -- how it stands at the end
 pub stuck_at_last : {A : Type 0} (n : ℕ) (v v' : FatesSeen) (l : Link A) (counts : FrameCounts) → counts ≡ l.counts → n ≤ failures l.counts →
-    FatesSoFar v v' l.there.fates l.back.fates l.counts → StuckSoFar n v v' l → StuckAtLast n v v' counts
+    FatesSoFar v v' l.there.fates l.back.fates l.counts → StuckSoFar n v v' l → AreStuckAtLast n v v' counts
 stuck_at_last n v v' l counts same failed fates so_far =
-    ⊎_elim {C = StuckAtLast n v v' counts}
-    (λ (h : (frames : ℕ) × (acks : ℕ) × StuckTo 1 n (fates_after frames v) (fates_after acks v') l.there.fates l.back.fates × (n ≤ losses l.counts)).
+    ⊎_elim {C = AreStuckAtLast n v v' counts}
+    (λ (h : (frames : ℕ) × (acks : ℕ) × AreStuckTo 1 n (fates_after frames v) (fates_after acks v') l.there.fates l.back.fates × (n ≤ losses l.counts)).
     let few = h.3 in
     stands h.0 h.1 (stuck_last n (fates_after h.0 v) (fates_after h.1 v') l.there.fates l.back.fates h.2) (omega (arith, few)))
-    (λ (h : (frames : ℕ) × (acks : ℕ) × StuckTo 0 n (fates_after frames v) (fates_after acks v') l.there.fates l.back.fates
+    (λ (h : (frames : ℕ) × (acks : ℕ) × AreStuckTo 0 n (fates_after frames v) (fates_after acks v') l.there.fates l.back.fates
     × (n ≤ losses l.counts + 1) × IsDue l).
     let few = h.3 in
     stands h.0 h.1 h.2 (omega (arith, few)))
     so_far
   where
-    stands : (frames acks : ℕ) → StuckTo 0 n (fates_after frames v) (fates_after acks v') l.there.fates l.back.fates → n ≤ l.counts.lost + 1 →
-        StuckAtLast n v v' counts
+    stands : (frames acks : ℕ) → AreStuckTo 0 n (fates_after frames v) (fates_after acks v') l.there.fates l.back.fates → n ≤ l.counts.lost + 1 →
+        AreStuckAtLast n v v' counts
     stands frames acks to few = record {
       frames = frames;
       acks = acks;

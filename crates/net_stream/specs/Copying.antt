@@ -1,12 +1,12 @@
 -- What comes of a copy, from a reader over a link to a writer.
---     Copied old new had has read wrote complete      what came, and what was written
+--     Copies old new had has read wrote complete      what came, and what was written
 --     gave_up e      whether a copy ended because nothing came on any more
 --     HasPositions first taken      positions are left
---     Moving f link counts old new had has more      the bytes are on their way to a writer
---     HandedOut f v u had has before after      bytes came from the receiver to the writer
---     HandedPrefix f v had has before after      a prefix of them did
---     Stepped old new room room'      what a round of a copy leaves as it was, or lets grow
---     FlushedAfter ended result      how a copy ended, once its writer was flushed
+--     CopiesSoFar f link counts old new had has more      the bytes are on their way to a writer
+--     HandsOut f v u had has before after      bytes came from the receiver to the writer
+--     HandsOutPrefix f v had has before after      a prefix of them did
+--     CopyRoundLeaves old new room room'      what a round of a copy leaves as it was, or lets grow
+--     FlushesAfter ended result      how a copy ended, once its writer was flushed
 use Rattle.std.specs.Prelude.{◌≡◌, ℕ, List, ◌++◌, ◌+◌, ◌-◌, ◌<◌, ◌≤◌, ◌^◌, ◌⊎◌, [], length, take}
 use Rattle.std.specs.Prelude.{Bool, true, false, Option, Result, Err, min}
 use Rattle.std.specs.Io.{StartsWith}
@@ -24,7 +24,7 @@ use Rattle.net_stream.specs.declared.error.LinkError.TheVariants.{ReadFailed, Wr
 
 -- a reader gave so many bytes, and a prefix of them, of so many, was appended to what a writer has:
 -- all that the reader had, if the copy is complete
-pub record Copied (old new had has : Option (List ℕ)) (read wrote : ℕ) (complete : Bool)
+pub record Copies (old new had has : Option (List ℕ)) (read wrote : ℕ) (complete : Bool)
     : Type 0 where
   pub given : List ℕ
   pub written : List ℕ
@@ -48,7 +48,7 @@ HasPositions f taken = f + taken < 2 ^ 64 - 1
 
 -- the bytes that a reader gave are on their way, and those that the receiver handed out were
 -- appended to what a writer has; both are counted. If `more` is false the reader has no more
-pub record Moving {A : Type 0} (f : ℕ) (link : Link A) (counts : Counts)
+pub record CopiesSoFar {A : Type 0} (f : ℕ) (link : Link A) (counts : Counts)
     (old new had has : Option (List ℕ)) (more : Bool) : Type 0 where
   pub given : List ℕ
   pub consumed : Consumes old new given
@@ -60,7 +60,7 @@ pub record Moving {A : Type 0} (f : ℕ) (link : Link A) (counts : Counts)
 
 -- bytes were handed out, appended to what a writer has and counted: what any stream has next that
 -- the receiver took nothing else of
-pub record HandedOut (f : ℕ) (v u : Stored) (had has : Option (List ℕ)) (before after : ℕ)
+pub record HandsOut (f : ℕ) (v u : Stored) (had has : Option (List ℕ)) (before after : ℕ)
     : Type 0 where
   pub bytes : List ℕ
   pub appended : Appends had has bytes
@@ -68,7 +68,7 @@ pub record HandedOut (f : ℕ) (v u : Stored) (had has : Option (List ℕ)) (bef
   pub counted : after ≡ min (before + length bytes) (2 ^ 64 - 1)
 
 -- the same if the writer took only a prefix of them
-pub record HandedPrefix (f : ℕ) (v : Stored) (had has : Option (List ℕ)) (before after : ℕ)
+pub record HandsOutPrefix (f : ℕ) (v : Stored) (had has : Option (List ℕ)) (before after : ℕ)
     : Type 0 where
   pub bytes : List ℕ
   pub appended : Appends had has bytes
@@ -77,7 +77,7 @@ pub record HandedPrefix (f : ℕ) (v : Stored) (had has : Option (List ℕ)) (be
 
 -- what a round of a copy leaves as it was, or lets grow, `room` and `room'` being the lengths of the
 -- buffer that the reader's bytes come to, before and after
-pub record Stepped {A : Type 0} (old new : Link A) (room room' : ℕ) : Type 0 where
+pub record CopyRoundLeaves {A : Type 0} (old new : Link A) (room room' : ℕ) : Type 0 where
   pub ahead : new.there.ahead ≡ []
   pub ahead_back : new.back.ahead ≡ []
   pub window : new.sender.capacity ≡ old.sender.capacity
@@ -93,6 +93,6 @@ pub record Stepped {A : Type 0} (old new : Link A) (room room' : ℕ) : Type 0 w
       → length new.receiver.queue ≡ 0
 
 -- how a copy ended, once its writer was flushed: a flush that failed takes no other error's place
-abbrev pub FlushedAfter : {T : Type 0} → Result T LinkError → Result T LinkError → Type 0
-FlushedAfter ended result =
+abbrev pub FlushesAfter : {T : Type 0} → Result T LinkError → Result T LinkError → Type 0
+FlushesAfter ended result =
     (result ≡ ended) ⊎ ((is_ok ended ≡ true) × (result ≡ Err WriteFailed))

@@ -2,7 +2,7 @@
 --     Carries f w link      the stream w, whose first byte has position f, is on its way
 --     HasRoomFor link      the receiver's free window ends at or behind the sender's end
 --     next_flight limit flight full      how many frames the next round may send
---     Passed old new      what a round leaves
+--     Passes old new      what a round leaves
 --     Round old new      the same, and what it brings if its frames and acknowledgements all come
 use Rattle.std.specs.Prelude.{◌≡◌, ℕ, ◌+◌, ◌/◌, ◌<◌, ◌≤◌, min, max, List, [], ◌∷◌, ◌++◌, length}
 use Rattle.std.specs.Prelude.{Bool, false, if◌then◌else◌}
@@ -12,7 +12,7 @@ use Rattle.net_stream.specs.Counting.{with_fates, SameButRefused, with_payload}
 use Rattle.net_stream.specs.Outgoing.{end_of}
 use Rattle.net_stream.specs.Fates.{NextCome}
 use Rattle.net_stream.specs.Carrying.{PathSeen, IsUnderWay, ack_of}
-use Rattle.net_stream.specs.Sending.{SentRound, at_least_one}
+use Rattle.net_stream.specs.Sending.{SendsRound, at_least_one}
 use Rattle.net_stream.specs.Frames.{frames_from}
 use Rattle.net_stream.specs.Progress.{after_ack_frames, limit_of}
 use Rattle.net_stream.specs.Passing.{coming_of, receiver_after_all, acks_of, path_after}
@@ -32,10 +32,10 @@ next_flight limit flight full =
 -- a round: n of the sender's queued bytes are spared or sent, as many as its flight lets; the late
 -- frames come, and those of the others whose fates say so; the receiver acknowledges each of them, and
 -- once more at the end; and the late acknowledgements come, and those of the others whose fates say so
-pub record Passed {A : Type 0} (old new : Link A) : Type 0 where
+pub record Passes {A : Type 0} (old new : Link A) : Type 0 where
   pub sent : PathSeen
   pub n : ℕ
-  pub all : SentRound old.sender (at_least_one old.payload) (at_least_one old.flight) n old.there sent
+  pub all : SendsRound old.sender (at_least_one old.payload) (at_least_one old.flight) n old.there sent
   pub came : List (List ℕ)
   pub coming : came ≡ old.there.late ++ coming_of old.there.fates sent.ahead
   pub received : new.receiver ≡ receiver_after_all most_reported old.receiver came
@@ -64,7 +64,7 @@ HasRoomFor link = end_of link.sender ≤ limit_of link.receiver
 -- receiver to the end of what was sent, and leaves the sender the rest: nothing, if all was sent,
 -- as it is if the flight isn't used up and the report isn't full
 pub record Round {A : Type 0} (old new : Link A) : Type 0 where
-  pub passed : Passed old new
+  pub passed : Passes old new
   pub brings : (f : ℕ) (w : List ℕ) → Carries f w old → HasRoomFor old
       → NextCome (length passed.sent.ahead) old.there.fates
       → NextCome (length passed.acks) old.back.fates

@@ -1,6 +1,6 @@
 -- What is counted of rounds.
---     PartCounted v v' old new      what a round counts that ends early
---     FatesCounted v v' counts      what is counted of the frames of rounds
+--     CountsPart v v' old new      what a round counts that ends early
+--     CountsFates v v' counts      what is counted of the frames of rounds
 --     FatesSoFar v v' u u' counts      the same, with the fates u and u' left
 use Rattle.std.specs.Prelude.{◌≡◌, ℕ}
 use Rattle.net_stream.specs.Fates.{FatesSeen, fates_after}
@@ -9,7 +9,7 @@ use Rattle.net_stream.specs.declared.counts.FrameCounts.{FrameCounts}
 
 -- some bytes are counted, and the fates, the next of v and of v', of some frames and of some
 -- acknowledgements
-pub record PartCounted (v v' : FatesSeen) (old new : FrameCounts) : Type 0 where
+pub record CountsPart (v v' : FatesSeen) (old new : FrameCounts) : Type 0 where
   pub bytes : ℕ
   pub frames : ℕ
   pub acks : ℕ
@@ -21,7 +21,7 @@ fates_only c = record c { payload = 0; refused = 0 }
 
 -- the counts of frames are those of the fates, the first of v and of v', of some frames and of some
 -- acknowledgements
-pub record FatesCounted (v v' : FatesSeen) (counts : FrameCounts) : Type 0 where
+pub record CountsFates (v v' : FatesSeen) (counts : FrameCounts) : Type 0 where
   pub frames : ℕ
   pub acks : ℕ
   pub counted : fates_only counts ≡ fates_only (with_fates acks v' (with_fates frames v no_frames))

@@ -1,14 +1,14 @@
 -- What a sender puts on its way.
---     Sent p parts old new      frames of the parts, from position p on, were put on their way
+--     SendsFrames p parts old new      frames of the parts, from position p on, were put on their way
 --     IsMarked ranges p n spared, AreMarked ranges p parts      exactly what was reported is spared
 --     at_least_one n      a number of which 0 counts as 1
 --     stop_of s      the position at and above which no part begins
 --     part_end s most p      where the part ends that begins at position p
 --     HaveEnds s most p parts      each of the parts, from position p on, ends there
---     SentPart s most p n k old new      n bytes from position p on were spared or sent, in k frames
---     SentPrefix s most flight n old new      so were the first n bytes of the queue, in at most
+--     SendsPart s most p n k old new      n bytes from position p on were spared or sent, in k frames
+--     SendsPrefix s most flight n old new      so were the first n bytes of the queue, in at most
 --                                            `flight` frames
---     SentRound s most flight n old new      and no frame more could be sent
+--     SendsRound s most flight n old new      and no frame more could be sent
 use Rattle.std.specs.Prelude.{◌≡◌, ℕ, ◌+◌, ◌-◌, ◌<◌, ◌≤◌, ◌⊎◌, min, max, if◌then◌else◌}
 use Rattle.std.specs.Prelude.{Bool, false}
 use Rattle.std.specs.Prelude.{List, [], ◌∷◌, ◌++◌, length, take, drop, All}
@@ -18,8 +18,8 @@ use Rattle.net_stream.specs.Reported.{reports, count_from, next_start, last_end,
 use Rattle.net_stream.specs.Carrying.{PathSeen}
 
 -- the frames of these parts were put behind those on their way
-abbrev pub Sent : ℕ → List Part → PathSeen → PathSeen → Type 0
-Sent p parts old new = new ≡ record old { ahead = old.ahead ++ frames_from p parts }
+abbrev pub SendsFrames : ℕ → List Part → PathSeen → PathSeen → Type 0
+SendsFrames p parts old new = new ≡ record old { ahead = old.ahead ++ frames_from p parts }
 
 -- each of n positions from p on lies in the ranges if `spared` is true, and none does if it is
 -- false
@@ -70,7 +70,7 @@ HaveEnds s most p ((spared, xs) ∷ parts) =
     × HaveEnds s most (p + length xs) parts
 
 -- n of the sender's queued bytes, from position p on, were spared or put on their way, in k frames
-pub record SentPart (s : Outgoing) (most p n k : ℕ) (old new : PathSeen) : Type 0 where
+pub record SendsPart (s : Outgoing) (most p n k : ℕ) (old new : PathSeen) : Type 0 where
   pub some : 0 < n
   pub within : p + n ≤ end_of s
   pub spared : Bool
@@ -78,12 +78,12 @@ pub record SentPart (s : Outgoing) (most p n k : ℕ) (old new : PathSeen) : Typ
   pub marked : IsMarked s.reported p n spared
   pub ends : p + n ≡ part_end s most p
   pub frames : k ≡ (if spared then 0 else 1)
-  pub sent : Sent p ((spared, take n (drop (p - s.base) s.queue)) ∷ []) old new
+  pub sent : SendsFrames p ((spared, take n (drop (p - s.base) s.queue)) ∷ []) old new
 
 -- frames of the first n bytes of the sender's queue were put on their way, in order: each byte in one
 -- of them if it wasn't reported, and in none if it was; each frame has at least one byte and at most
 -- so many, and as many as can be
-pub record SentPrefix (s : Outgoing) (most flight n : ℕ) (old new : PathSeen) : Type 0 where
+pub record SendsPrefix (s : Outgoing) (most flight n : ℕ) (old new : PathSeen) : Type 0 where
   pub parts : List Part
   pub within : n ≤ length s.queue
   pub all : part_bytes parts ≡ take n s.queue
@@ -91,9 +91,9 @@ pub record SentPrefix (s : Outgoing) (most flight n : ℕ) (old new : PathSeen) 
   pub marked : AreMarked s.reported s.base parts
   pub ends : HaveEnds s most s.base parts
   pub few : length (frames_from s.base parts) ≤ flight
-  pub sent : Sent s.base parts old new
+  pub sent : SendsFrames s.base parts old new
 
 -- so they were; and there are `flight` frames, or no part begins behind them
-pub record SentRound (s : Outgoing) (most flight n : ℕ) (old new : PathSeen) : Type 0 where
-  pub prefix : SentPrefix s most flight n old new
+pub record SendsRound (s : Outgoing) (most flight n : ℕ) (old new : PathSeen) : Type 0 where
+  pub prefix : SendsPrefix s most flight n old new
   pub stop : (stop_of s ≤ s.base + n) ⊎ (length (frames_from s.base prefix.parts) ≡ flight)

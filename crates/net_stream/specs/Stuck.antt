@@ -2,11 +2,11 @@
 --     failures counts, losses counts      how many frames and acknowledgements didn't come at once,
 --                                         and how many were lost
 --     RoundLeaves old new      what a round leaves as it was, or lets grow
---     HasFailed follow fate, IsStuck follow frames acks v v'      what fails in a stuck round
+--     HasFailed follow fate, FatesFail follow frames acks v v'      what fails in a stuck round
 --     IsDue link      what comes late brings the next round on
---     Stuck old new      a round in which a frame or an acknowledgement failed that had to come
+--     IsStuck old new      a round in which a frame or an acknowledgement failed that had to come
 --     RoundMoves old new      a round that brings nothing on was stuck
---     StuckAtLast n v v' counts      the last n rounds were stuck
+--     AreStuckAtLast n v v' counts      the last n rounds were stuck
 --     NeverStuck      no round is stuck over a link that loses and delays nothing
 use Rattle.std.specs.Prelude.{◌≡◌, ◌⊎◌, ℕ, zero, suc, ◌+◌, ◌-◌, ◌<◌, ◌≤◌, ◌^◌, min}
 use Rattle.std.specs.Prelude.{false, List, [], ◌∷◌, length, Some}
@@ -54,8 +54,8 @@ AllFail follow (suc n) v = HasFailed follow (next_fate v) × AllFail follow n (a
 
 -- in a round that so many stuck rounds follow: of its frames, which meet the next fates of v, the
 -- first fails, or of its acknowledgements, which meet those of v', each does
-abbrev pub IsStuck : ℕ → ℕ → ℕ → FatesSeen → FatesSeen → Type 0
-IsStuck follow frames acks v v' =
+abbrev pub FatesFail : ℕ → ℕ → ℕ → FatesSeen → FatesSeen → Type 0
+FatesFail follow frames acks v v' =
     ((0 < frames) × HasFailed follow (next_fate v)) ⊎ ((0 < acks) × AllFail follow acks v')
 
 -- the first of some frames says a position and bytes of which P is true: where they begin and end
@@ -72,35 +72,35 @@ IsDue link =
     ⊎ FirstSays link.back.late (λ p e. (link.sender.base < p) × (p ≤ end_of link.sender))
 
 -- a round that was stuck, and counted it: by a loss, or what came late brings the next one on
-pub record Stuck {A : Type 0} (old new : Link A) : Type 0 where
+pub record IsStuck {A : Type 0} (old new : Link A) : Type 0 where
   pub frames : ℕ
   pub acks : ℕ
-  pub why : IsStuck 0 frames acks old.there.fates old.back.fates
+  pub why : FatesFail 0 frames acks old.there.fates old.back.fates
   pub left : new.there.fates ≡ fates_after frames old.there.fates
   pub left_back : new.back.fates ≡ fates_after acks old.back.fates
   pub counted : min (failures old.counts + 1) (2 ^ 64 - 1) ≤ failures new.counts
   pub due : IsDue old → ⊥
-  pub lost : (IsStuck 1 frames acks old.there.fates old.back.fates
+  pub lost : (FatesFail 1 frames acks old.there.fates old.back.fates
       × (min (losses old.counts + 1) (2 ^ 64 - 1) ≤ losses new.counts))
       ⊎ (IsDue new × (losses old.counts ≤ losses new.counts))
 
 -- n rounds in a row that were stuck, from the fates v and v' to u and u', and that so many more
 -- stuck rounds follow
-abbrev pub StuckTo : ℕ → ℕ → FatesSeen → FatesSeen → FatesSeen → FatesSeen → Type 0
-StuckTo follow zero v v' u u' = (u ≡ v) × (u' ≡ v')
-StuckTo follow (suc n) v v' u u' = (frames : ℕ) × (acks : ℕ)
-    × IsStuck (follow + n) frames acks v v'
-    × StuckTo follow n (fates_after frames v) (fates_after acks v') u u'
+abbrev pub AreStuckTo : ℕ → ℕ → FatesSeen → FatesSeen → FatesSeen → FatesSeen → Type 0
+AreStuckTo follow zero v v' u u' = (u ≡ v) × (u' ≡ v')
+AreStuckTo follow (suc n) v v' u u' = (frames : ℕ) × (acks : ℕ)
+    × FatesFail (follow + n) frames acks v v'
+    × AreStuckTo follow n (fates_after frames v) (fates_after acks v') u u'
 
 -- the last n rounds were stuck, behind frames and acknowledgements that met the first fates of v and
 -- of v'; all of them together were counted, so that at least n were lost or late, and at least n - 1
 -- were lost
-pub record StuckAtLast (n : ℕ) (v v' : FatesSeen) (counts : FrameCounts) : Type 0 where
+pub record AreStuckAtLast (n : ℕ) (v v' : FatesSeen) (counts : FrameCounts) : Type 0 where
   pub frames : ℕ
   pub acks : ℕ
   pub last : FatesSeen
   pub last_back : FatesSeen
-  pub rounds : StuckTo 0 n (fates_after frames v) (fates_after acks v') last last_back
+  pub rounds : AreStuckTo 0 n (fates_after frames v) (fates_after acks v') last last_back
   pub all : FatesSoFar v v' last last_back counts
   pub failures : n ≤ counts.lost + counts.late
   pub lost : n ≤ counts.lost + 1
@@ -112,9 +112,9 @@ RoundMoves old new = (f : ℕ) (w : List ℕ) → Carries f w old
     → old.there.ahead ≡ [] → old.back.ahead ≡ [] → 0 < length old.sender.queue
     → stored_next old.receiver < limit_of old.receiver
     → stored_next new.receiver ≡ stored_next old.receiver → new.sender.base ≡ old.sender.base
-    → Stuck old new
+    → IsStuck old new
 
 -- where every frame and every acknowledgement comes, no round is stuck
 abbrev pub NeverStuck : Type 0
 NeverStuck = (n : ℕ) (v v' : FatesSeen) (counts : FrameCounts) → AllCome v → AllCome v' → 0 < n
-    → StuckAtLast n v v' counts → ⊥
+    → AreStuckAtLast n v v' counts → ⊥

@@ -4,9 +4,9 @@ ghost use Rattle.std.specs.Prelude.{true, false, OnOk, IfOk, IfErr};
 ghost use Rattle.std.specs.Result.{is_ok};
 ghost use Rattle.std.specs.Io.KnownBytes.{Keeps};
 ghost use Rattle.net_stream.specs.Fates.{AllCome};
-ghost use Rattle.net_stream.specs.Rounds.{FatesCounted};
-ghost use Rattle.net_stream.specs.Stuck.{StuckAtLast};
-ghost use Rattle.net_stream.specs.Copying.{Copied, HasPositions, gave_up, FlushedAfter};
+ghost use Rattle.net_stream.specs.Rounds.{CountsFates};
+ghost use Rattle.net_stream.specs.Stuck.{AreStuckAtLast};
+ghost use Rattle.net_stream.specs.Copying.{Copies, HasPositions, gave_up, FlushesAfter};
 
 use crate::counts::Counts;
 use crate::error::LinkError;
@@ -20,7 +20,7 @@ use std::io::{Read, Write};
 
 /// What a copy goes by.
 #[derive(Debug, Clone, Copy, PartialEq, Eq, Drop)]
-pub struct Settings {
+pub struct Config {
     /// The position of the stream's first byte.
     pub first: u64,
     /// The capacity of the sender and of the receiver, in bytes. With 0 a copy gives up.
@@ -48,7 +48,7 @@ fn add_link<A: Allocator + Copy>(counts: &mut Counts, link: &Link<'_, '_, A>)
 /// Flushes the writer after a copy. If all was written, a flush that fails is a failed write.
 fn flush_after<W: Write>(ended: Result<(), LinkError>, writer: &mut W) -> Result<(), LinkError>
     ensures kept { Keeps (W.contents writer.old) (W.contents writer.new) }
-    ensures ended { FlushedAfter ended result }
+    ensures ended { FlushesAfter ended result }
 {
     let flushed = writer.flush();
     if ended.is_ok() && flushed.is_err() {
@@ -58,10 +58,10 @@ fn flush_after<W: Write>(ended: Result<(), LinkError>, writer: &mut W) -> Result
 }
 
 /// `copy` over storage that is lent: `outgoing` is the sender's, `incoming` the receiver's, and
-/// `chunk` is read into and written from. The capacity of the settings isn't read.
+/// `chunk` is read into and written from. The capacity of the config isn't read.
 pub fn copy_over<'a, 'f, A: Allocator + Copy, R: Read, W: Write>(
     alloc: A,
-    settings: Settings,
+    config: Config,
     fates: Fates<'f>,
     ack_fates: Fates<'f>,
     outgoing: &'a mut [u8],
@@ -71,40 +71,40 @@ pub fn copy_over<'a, 'f, A: Allocator + Copy, R: Read, W: Write>(
     writer: &mut W,
     counts: &mut Counts,
 ) -> Result<(), LinkError>
-    ensures copied { Copied (R.remaining reader.old) (R.remaining reader.new)
+    ensures copied { Copies (R.remaining reader.old) (R.remaining reader.new)
         (W.contents writer.old) (W.contents writer.new)
         counts.new.taken counts.new.bytes (is_ok result) }
-    ensures fates { FatesCounted fates.entry ack_fates.entry counts.new.frames }
-    ensures gave_up { IfErr result (λ e. gave_up e ≡ true → settings.rounds ≤ counts.new.rounds) }
+    ensures fates { CountsFates fates.entry ack_fates.entry counts.new.frames }
+    ensures gave_up { IfErr result (λ e. gave_up e ≡ true → config.rounds ≤ counts.new.rounds) }
     ensures unfinished { IfErr result (λ e. gave_up e ≡ true
-        → 0 < length chunk.old → HasPositions settings.first counts.new.taken
+        → 0 < length chunk.old → HasPositions config.first counts.new.taken
         → counts.new.taken < length outgoing.old → counts.new.bytes < counts.new.taken) }
     ensures stalls { IfErr result (λ e. gave_up e ≡ true → 0 < length outgoing.old
         → 0 < length incoming.old → 0 < length chunk.old
-        → HasPositions settings.first counts.new.taken
-        → StuckAtLast settings.rounds fates.entry ack_fates.entry counts.new.frames) }
+        → HasPositions config.first counts.new.taken
+        → AreStuckAtLast config.rounds fates.entry ack_fates.entry counts.new.frames) }
     ensures most { 0 < length outgoing.old → 0 < length incoming.old → 0 < length chunk.old
-        → HasPositions settings.first counts.new.taken
+        → HasPositions config.first counts.new.taken
         → counts.new.rounds
         ≤ 2 * counts.new.taken + counts.new.frames.lost + counts.new.frames.late + 1 }
     ensures least { OnOk result (counts.new.taken ≤ counts.new.rounds * length chunk.old) }
     ensures at_once { OnOk result (AllCome fates.entry → AllCome ack_fates.entry
         → 0 < length outgoing.old → 0 < length incoming.old → 0 < length chunk.old
-        → HasPositions settings.first counts.new.taken
+        → HasPositions config.first counts.new.taken
         → counts.new.rounds ≤ counts.new.taken) }
 {
     *counts = Counts::new();
     let mut link = Link::new(
         alloc,
-        settings.first,
-        settings.payload,
-        settings.flight,
+        config.first,
+        config.payload,
+        config.flight,
         ManagedSlice::Borrowed(outgoing),
         ManagedSlice::Borrowed(incoming),
         fates,
         ack_fates,
     );
-    let ended = exchange(&mut link, settings, chunk, reader, writer, counts);
+    let ended = exchange(&mut link, config, chunk, reader, writer, counts);
     add_link(counts, &link);
     flush_after(ended, writer)
 }
@@ -129,52 +129,52 @@ fn storage_of<A: Allocator + Copy>(alloc: A, len: usize) -> Result<Vec<u8, A>, A
 /// up to 2^64 - 2 gives up: the reader's end isn't looked for once none is left.
 pub fn copy<'f, A: Allocator + Copy, R: Read, W: Write>(
     alloc: A,
-    settings: Settings,
+    config: Config,
     fates: Fates<'f>,
     ack_fates: Fates<'f>,
     reader: &mut R,
     writer: &mut W,
     counts: &mut Counts,
 ) -> Result<(), LinkError>
-    ensures copied { Copied (R.remaining reader.old) (R.remaining reader.new)
+    ensures copied { Copies (R.remaining reader.old) (R.remaining reader.new)
         (W.contents writer.old) (W.contents writer.new)
         counts.new.taken counts.new.bytes (is_ok result) }
-    ensures fates { FatesCounted fates.entry ack_fates.entry counts.new.frames }
-    ensures gave_up { IfErr result (λ e. gave_up e ≡ true → settings.rounds ≤ counts.new.rounds) }
+    ensures fates { CountsFates fates.entry ack_fates.entry counts.new.frames }
+    ensures gave_up { IfErr result (λ e. gave_up e ≡ true → config.rounds ≤ counts.new.rounds) }
     ensures unfinished { IfErr result (λ e. gave_up e ≡ true
-        → HasPositions settings.first counts.new.taken
-        → counts.new.taken < settings.capacity → counts.new.bytes < counts.new.taken) }
+        → HasPositions config.first counts.new.taken
+        → counts.new.taken < config.capacity → counts.new.bytes < counts.new.taken) }
     ensures stalls { IfErr result (λ e. gave_up e ≡ true
-        → HasPositions settings.first counts.new.taken → 0 < settings.capacity
-        → StuckAtLast settings.rounds fates.entry ack_fates.entry counts.new.frames) }
+        → HasPositions config.first counts.new.taken → 0 < config.capacity
+        → AreStuckAtLast config.rounds fates.entry ack_fates.entry counts.new.frames) }
     ensures losses { IfErr result (λ e. gave_up e ≡ true
-        → HasPositions settings.first counts.new.taken → 0 < settings.capacity
-        → settings.rounds ≤ counts.new.frames.lost + 1) }
+        → HasPositions config.first counts.new.taken → 0 < config.capacity
+        → config.rounds ≤ counts.new.frames.lost + 1) }
     ensures ends { IfErr result (λ e. AllCome fates.entry → AllCome ack_fates.entry
-        → HasPositions settings.first counts.new.taken → 0 < settings.capacity
-        → 0 < settings.rounds → gave_up e ≡ false) }
-    ensures most { HasPositions settings.first counts.new.taken → 0 < settings.capacity
+        → HasPositions config.first counts.new.taken → 0 < config.capacity
+        → 0 < config.rounds → gave_up e ≡ false) }
+    ensures most { HasPositions config.first counts.new.taken → 0 < config.capacity
         → counts.new.rounds
         ≤ 2 * counts.new.taken + counts.new.frames.lost + counts.new.frames.late + 1 }
-    ensures least { OnOk result (counts.new.taken ≤ counts.new.rounds * settings.capacity) }
+    ensures least { OnOk result (counts.new.taken ≤ counts.new.rounds * config.capacity) }
     ensures at_once { OnOk result (AllCome fates.entry → AllCome ack_fates.entry
-        → HasPositions settings.first counts.new.taken → 0 < settings.capacity
+        → HasPositions config.first counts.new.taken → 0 < config.capacity
         → counts.new.rounds ≤ counts.new.taken) }
 {
     laws::known_fates();
     *counts = Counts::new();
-    let Ok(mut outgoing) = storage_of(alloc, settings.capacity) else {
+    let Ok(mut outgoing) = storage_of(alloc, config.capacity) else {
         return Err(LinkError::OutOfMemory);
     };
-    let Ok(mut incoming) = storage_of(alloc, settings.capacity) else {
+    let Ok(mut incoming) = storage_of(alloc, config.capacity) else {
         return Err(LinkError::OutOfMemory);
     };
-    let Ok(mut chunk) = storage_of(alloc, settings.capacity) else {
+    let Ok(mut chunk) = storage_of(alloc, config.capacity) else {
         return Err(LinkError::OutOfMemory);
     };
     copy_over(
         alloc,
-        settings,
+        config,
         fates,
         ack_fates,
         &mut outgoing,

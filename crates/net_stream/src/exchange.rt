@@ -7,13 +7,13 @@ ghost use Rattle.net_receiver.specs.Stored.{Stored, stored_next, stored_read};
 ghost use Rattle.net_stream.specs.Outgoing.{end_of, room_of};
 ghost use Rattle.net_stream.specs.Fates.{FatesSeen, AllCome};
 ghost use Rattle.net_stream.specs.Counting.{no_frames};
-ghost use Rattle.net_stream.specs.Rounds.{FatesCounted, FatesSoFar};
+ghost use Rattle.net_stream.specs.Rounds.{CountsFates, FatesSoFar};
 ghost use Rattle.net_stream.specs.Links.{Carries};
-ghost use Rattle.net_stream.specs.Stuck.{failures, Stuck, StuckAtLast};
-ghost use Rattle.net_stream.specs.Copying.{Moving, HandedOut, HandedPrefix, Copied};
-ghost use Rattle.net_stream.specs.Copying.{Stepped, HasPositions, gave_up};
+ghost use Rattle.net_stream.specs.Stuck.{failures, IsStuck, AreStuckAtLast};
+ghost use Rattle.net_stream.specs.Copying.{CopiesSoFar, HandsOut, HandsOutPrefix, Copies};
+ghost use Rattle.net_stream.specs.Copying.{CopyRoundLeaves, HasPositions, gave_up};
 
-use crate::copying::Settings;
+use crate::copying::Config;
 use crate::counts::Counts;
 use crate::error::LinkError;
 use crate::frame::round_trip;
@@ -41,9 +41,9 @@ fn hand_out<A: Allocator + Copy, W: Write>(
     counts: &mut Counts,
 ) -> Result<(), LinkError>
     ensures carries { (f : ℕ) (w : List ℕ) → Carries f w link.old → Carries f w link.new }
-    ensures ok { OnOk result ((f : ℕ) → HandedOut f link.old.receiver link.new.receiver
+    ensures ok { OnOk result ((f : ℕ) → HandsOut f link.old.receiver link.new.receiver
         (W.contents writer.old) (W.contents writer.new) counts.old.bytes counts.new.bytes) }
-    ensures err { OnErr result ((f : ℕ) → HandedPrefix f link.old.receiver
+    ensures err { OnErr result ((f : ℕ) → HandsOutPrefix f link.old.receiver
         (W.contents writer.old) (W.contents writer.new) counts.old.bytes counts.new.bytes) }
     ensures kind { IfErr result (λ e. gave_up e ≡ false) }
     ensures state { link.new
@@ -118,8 +118,8 @@ fn feed<A: Allocator + Copy, R: Read>(
     counts: &mut Counts,
 ) -> Result<(), LinkError>
     ensures moving { (f : ℕ) (old held holds : Option (List ℕ)) →
-        Moving f link.old counts.old old (R.remaining reader.old) held holds input.old.more
-        → Moving f link.new counts.new old (R.remaining reader.new) held holds input.new.more }
+        CopiesSoFar f link.old counts.old old (R.remaining reader.old) held holds input.old.more
+        → CopiesSoFar f link.new counts.new old (R.remaining reader.new) held holds input.new.more }
     ensures kind { IfErr result (λ e. gave_up e ≡ false) }
     ensures rounds { counts.new.rounds ≡ counts.old.rounds }
     ensures bytes { counts.new.bytes ≡ counts.old.bytes }
@@ -144,14 +144,14 @@ fn feed<A: Allocator + Copy, R: Read>(
     if !may_read(input, room, link) {
         return Ok(());
     }
-    let (front, _rest) = chunk.split_at_mut(room);
-    match reader.read(front) {
+    let (part, _rest) = chunk.split_at_mut(room);
+    match reader.read(part) {
         Ok(0) => {
             input.more = false;
             Ok(())
         }
         Ok(count) => {
-            link.write(&front[..count]);
+            link.write(&part[..count]);
             input.filled = count == room;
             counts.taken = taken.saturating_add(count as u64);
             Ok(())
@@ -168,28 +168,28 @@ fn step<A: Allocator + Copy, W: Write>(
     counts: &mut Counts,
 ) -> Result<(), LinkError>
     ensures ok { OnOk result ((f : ℕ) (old new held : Option (List ℕ)) (more : Bool) →
-        Moving f link.old counts.old old new held (W.contents writer.old) more
-        → Moving f link.new counts.new old new held (W.contents writer.new) more) }
+        CopiesSoFar f link.old counts.old old new held (W.contents writer.old) more
+        → CopiesSoFar f link.new counts.new old new held (W.contents writer.new) more) }
     ensures err { OnErr result ((f : ℕ) (old new held : Option (List ℕ)) (more : Bool) →
-        Moving f link.old counts.old old new held (W.contents writer.old) more
-        → Copied old new held (W.contents writer.new) counts.new.taken counts.new.bytes false) }
+        CopiesSoFar f link.old counts.old old new held (W.contents writer.old) more
+        → Copies old new held (W.contents writer.new) counts.new.taken counts.new.bytes false) }
     ensures kind { IfErr result (λ e. gave_up e ≡ false) }
     ensures rounds { counts.new.rounds ≡ counts.old.rounds }
     ensures taken { counts.new.taken ≡ counts.old.taken }
     ensures failed { failures link.old.counts ≤ failures link.new.counts }
     ensures fates { (v v' : FatesSeen) →
         FatesSoFar v v' link.old.there.fates link.old.back.fates link.old.counts
-        → FatesCounted v v' link.new.counts }
+        → CountsFates v v' link.new.counts }
     ensures left { OnOk result ((v v' : FatesSeen) →
         FatesSoFar v v' link.old.there.fates link.old.back.fates link.old.counts
         → FatesSoFar v v' link.new.there.fates link.new.back.fates link.new.counts) }
     ensures keeps { OnOk result
-        (Stepped link.old link.new (length chunk.old) (length chunk.new)) }
+        (CopyRoundLeaves link.old link.new (length chunk.old) (length chunk.new)) }
     ensures moves { OnOk result ((f : ℕ) (w : List ℕ) → Carries f w link.old
         → link.old.there.ahead ≡ [] → link.old.back.ahead ≡ []
         → 0 < length link.old.sender.queue → 0 < link.old.receiver.capacity
         → 0 < length chunk.old → link.new.sender.base ≡ link.old.sender.base
-        → link.new.receiver.read ≡ link.old.receiver.read → Stuck link.old link.new) }
+        → link.new.receiver.read ≡ link.old.receiver.read → IsStuck link.old link.new) }
     ensures at_once { OnOk result ((f : ℕ) (w : List ℕ) → Carries f w link.old
         → link.old.there.ahead ≡ [] → link.old.back.ahead ≡ []
         → AllCome link.old.there.fates → AllCome link.old.back.fates
@@ -242,40 +242,40 @@ fn stalled_after(stalled: u64, moved: bool) -> u64
 /// Passes rounds until all that the reader has is written, and reads at most once before each.
 pub(crate) fn exchange<A: Allocator + Copy, R: Read, W: Write>(
     link: &mut Link<'_, '_, A>,
-    settings: Settings,
+    config: Config,
     chunk: &mut [u8],
     reader: &mut R,
     writer: &mut W,
     counts: &mut Counts,
 ) -> Result<(), LinkError>
-    requires moving { Moving settings.first link.old counts.old
+    requires moving { CopiesSoFar config.first link.old counts.old
         (R.remaining reader.old) (R.remaining reader.old)
         (W.contents writer.old) (W.contents writer.old) true }
     requires ahead { link.old.there.ahead ≡ [] }
     requires ahead_back { link.old.back.ahead ≡ [] }
     requires counts { link.old.counts ≡ no_frames }
-    ensures copied { Copied (R.remaining reader.old) (R.remaining reader.new)
+    ensures copied { Copies (R.remaining reader.old) (R.remaining reader.new)
         (W.contents writer.old) (W.contents writer.new)
         counts.new.taken counts.new.bytes (is_ok result) }
-    ensures fates { FatesCounted link.old.there.fates link.old.back.fates link.new.counts }
-    ensures gave_up { IfErr result (λ e. gave_up e ≡ true → settings.rounds ≤ counts.new.rounds) }
+    ensures fates { CountsFates link.old.there.fates link.old.back.fates link.new.counts }
+    ensures gave_up { IfErr result (λ e. gave_up e ≡ true → config.rounds ≤ counts.new.rounds) }
     ensures unfinished { IfErr result (λ e. gave_up e ≡ true
-        → 0 < length chunk.old → HasPositions settings.first counts.new.taken
+        → 0 < length chunk.old → HasPositions config.first counts.new.taken
         → counts.new.taken < link.old.sender.capacity → counts.new.bytes < counts.new.taken) }
     ensures stalls { IfErr result (λ e. gave_up e ≡ true → 0 < link.old.sender.capacity
         → 0 < link.old.receiver.capacity → 0 < length chunk.old
-        → HasPositions settings.first counts.new.taken
-        → StuckAtLast settings.rounds link.old.there.fates link.old.back.fates link.new.counts) }
+        → HasPositions config.first counts.new.taken
+        → AreStuckAtLast config.rounds link.old.there.fates link.old.back.fates link.new.counts) }
     ensures most { counts.old.rounds ≡ 0 → 0 < link.old.sender.capacity
         → 0 < link.old.receiver.capacity → 0 < length chunk.old
-        → HasPositions settings.first counts.new.taken
+        → HasPositions config.first counts.new.taken
         → counts.new.rounds ≤ 2 * counts.new.taken + failures link.new.counts + 1 }
     ensures least { OnOk result (counts.old.taken ≡ 0
         → counts.new.taken ≤ counts.new.rounds * length chunk.old) }
     ensures at_once { OnOk result (AllCome link.old.there.fates → AllCome link.old.back.fates
         → link.old.sender.base ≡ stored_next link.old.receiver → counts.old.rounds ≡ 0
         → 0 < link.old.sender.capacity → 0 < link.old.receiver.capacity → 0 < length chunk.old
-        → HasPositions settings.first counts.new.taken
+        → HasPositions config.first counts.new.taken
         → counts.new.rounds ≤ counts.new.taken) }
 {
     laws::truthful();
@@ -292,7 +292,7 @@ pub(crate) fn exchange<A: Allocator + Copy, R: Read, W: Write>(
         if is_done(&input, link) {
             return Ok(());
         }
-        if stalled >= settings.rounds {
+        if stalled >= config.rounds {
             return Err(LinkError::GaveUp);
         }
         let base = link.sender.base();

@@ -18,7 +18,7 @@ mod sender;
 mod sending;
 mod timer;
 
-pub use copying::{Settings, copy, copy_over};
+pub use copying::{Config, copy, copy_over};
 pub use counts::{Counts, FrameCounts};
 pub use error::LinkError;
 pub use fate::{Fate, Fates, Rates};

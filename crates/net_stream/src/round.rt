@@ -3,8 +3,8 @@ ghost use Rattle.std.specs.Prelude.{◌≡◌, ℕ, List};
 ghost use Rattle.std.specs.Prelude.{OnOk, OnErr};
 ghost use Rattle.net_stream.specs.Reported.{count_outside};
 ghost use Rattle.net_stream.specs.Counting.{with_payload};
-ghost use Rattle.net_stream.specs.Sending.{SentPrefix, SentRound, at_least_one};
-ghost use Rattle.net_stream.specs.Rounds.{PartCounted};
+ghost use Rattle.net_stream.specs.Sending.{SendsPrefix, SendsRound, at_least_one};
+ghost use Rattle.net_stream.specs.Rounds.{CountsPart};
 ghost use Rattle.net_stream.specs.Links.{Carries, Round, next_flight};
 
 use crate::arriving::send_ack;
@@ -34,14 +34,16 @@ impl<'a, 'f, A: Allocator + Copy> Link<'a, 'f, A> {
     /// frame begins behind the last of them. A refusal of memory leaves frames of a prefix on their
     /// way, and they are counted.
     pub fn transmit(&mut self) -> Result<(), AllocError>
-        ensures sent { OnOk result ((n : ℕ) × SentRound self.old.sender (at_least_one self.old.payload)
+        ensures sent { OnOk result ((n : ℕ) ×
+            SendsRound self.old.sender (at_least_one self.old.payload)
             (at_least_one self.old.flight) n self.old.there self.new.there
             × (self.new ≡ record self.old {
               there = self.new.there;
               counts = with_payload
                   (count_outside self.old.sender.reported self.old.sender.base n) self.old.counts;
             })) }
-        ensures err { OnErr result ((n : ℕ) × SentPrefix self.old.sender (at_least_one self.old.payload)
+        ensures err { OnErr result ((n : ℕ) ×
+            SendsPrefix self.old.sender (at_least_one self.old.payload)
             (at_least_one self.old.flight) n self.old.there self.new.there
             × (self.new ≡ record self.old {
               there = self.new.there;
@@ -76,7 +78,7 @@ impl<'a, 'f, A: Allocator + Copy> Link<'a, 'f, A> {
         ensures carries { (f : ℕ) (w : List ℕ) → Carries f w self.old → Carries f w self.new }
         ensures round { OnOk result (Round self.old self.new) }
         ensures read { self.new.receiver.read ≡ self.old.receiver.read }
-        ensures err { OnErr result (PartCounted self.old.there.fates self.old.back.fates
+        ensures err { OnErr result (CountsPart self.old.there.fates self.old.back.fates
             self.old.counts self.new.counts) }
     {
         round_trip();

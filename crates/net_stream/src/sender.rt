@@ -17,7 +17,7 @@ use net_storage::{ManagedSlice, RingBuffer};
 use std::marker::Model;
 
 /// The sender of a stream: its queue has the bytes that were written and not yet acknowledged. It
-/// serves as the sending half of a TCP socket: `segment` lends what a segment is made of.
+/// serves as the sending half of a TCP socket: `peek_at` lends what a segment is made of.
 ///
 /// Positions are absolute and counted in bytes, as a `Receiver` counts them. Contracts see the
 /// capacity, the position of the queue's head, the queue, the ranges that the last acknowledgement
@@ -161,7 +161,7 @@ impl<'a> Sender<'a> {
 
     /// Lends the queued bytes from the one at `pos` on, at most `max`, without a copy: as many as lie
     /// in a row in the storage, which wraps. None if the byte at `pos` isn't queued.
-    pub fn segment(&self, pos: u64, max: usize) -> &[u8]
+    pub fn peek_at(&self, pos: u64, max: usize) -> &[u8]
         ensures value { result.now
             ≡ take (length result.now) (drop (pos - self.now.base) self.now.queue) }
         ensures count { self.now.base ≤ pos

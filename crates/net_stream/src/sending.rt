@@ -5,7 +5,7 @@ ghost use Rattle.net_stream.specs.Outgoing.{end_of};
 ghost use Rattle.net_stream.specs.Reported.{count_outside};
 ghost use Rattle.net_stream.specs.Counting.{with_payload};
 ghost use Rattle.net_stream.specs.Carrying.{PathSeen, IsUnderWay};
-ghost use Rattle.net_stream.specs.Sending.{at_least_one, SentPart, SentPrefix, SentRound};
+ghost use Rattle.net_stream.specs.Sending.{at_least_one, SendsPart, SendsPrefix, SendsRound};
 
 use crate::counts::FrameCounts;
 use crate::frame::round_trip;
@@ -31,7 +31,7 @@ fn transmit_part<A: Allocator + Copy>(
     ensures carried { (f : ℕ) (w : List ℕ) (r : Stored) (back : PathSeen) →
         IsUnderWay f w sender.now r there.old back → IsUnderWay f w sender.now r there.new back }
     ensures sent { IfOk result (λ done.
-        SentPart sender.now most pos done.0 done.1 there.old there.new) }
+        SendsPart sender.now most pos done.0 done.1 there.old there.new) }
     ensures counted { IfOk result (λ done.
         counts.new ≡ with_payload (count_outside sender.now.reported pos done.0) counts.old) }
     ensures err { OnErr result ((there.new ≡ there.old) × (counts.new ≡ counts.old)) }
@@ -43,7 +43,7 @@ fn transmit_part<A: Allocator + Copy>(
         return Ok((spared, 0));
     }
     let room = (sender.next_reported(pos) - pos) as usize;
-    let bytes = sender.segment(pos, most.min(room));
+    let bytes = sender.peek_at(pos, most.min(room));
     there.send(now, pos, bytes)?;
     counts.payload = payload.saturating_add(bytes.len() as u64);
     Ok((bytes.len() as u64, 1))
@@ -67,10 +67,10 @@ pub(crate) fn transmit<A: Allocator + Copy>(
     ensures carried { (f : ℕ) (w : List ℕ) (r : Stored) (back : PathSeen) →
         IsUnderWay f w sender.now r there.old back → IsUnderWay f w sender.now r there.new back }
     ensures sent { OnOk result ((n : ℕ)
-        × SentRound sender.now (at_least_one most) (at_least_one flight) n there.old there.new
+        × SendsRound sender.now (at_least_one most) (at_least_one flight) n there.old there.new
         × (counts.new ≡ with_payload (count_outside sender.now.reported sender.now.base n) counts.old)) }
     ensures err { OnErr result ((n : ℕ)
-        × SentPrefix sender.now (at_least_one most) (at_least_one flight) n there.old there.new
+        × SendsPrefix sender.now (at_least_one most) (at_least_one flight) n there.old there.new
         × (counts.new ≡ with_payload (count_outside sender.now.reported sender.now.base n) counts.old)) }
 {
     let most = most.max(1) as usize;

@@ -1,7 +1,7 @@
 //! Copies over links of known fates: what arrives, what is counted, and how each error ends.
 
 use crate::counted::{EACH_SECOND, EIGHTY};
-use net_stream::{Counts, Fates, FrameCounts, Rates, Settings, copy, copy_over};
+use net_stream::{Config, Counts, Fates, FrameCounts, Rates, copy, copy_over};
 use net_testing::{NEVER, Refusing, Sink, Source};
 use std::alloc::{Allocator, Global};
 use std::io::ErrorKind;
@@ -14,9 +14,9 @@ const PERFECT: Rates = Rates {
     late: 0,
 };
 
-/// Settings of a copy from this position on.
-fn settings(first: u64, capacity: usize, payload: u32) -> Settings {
-    Settings {
+/// Config of a copy from this position on.
+fn config(first: u64, capacity: usize, payload: u32) -> Config {
+    Config {
         first,
         capacity,
         payload,
@@ -29,14 +29,14 @@ fn settings(first: u64, capacity: usize, payload: u32) -> Settings {
 fn ending<A: Allocator + Copy>(
     alloc: Global,
     heap: A,
-    settings: Settings,
+    config: Config,
     fates: Fates<'_>,
     ack_fates: Fates<'_>,
     source: &mut Source<'_>,
     sink: &mut Sink,
     counts: &mut Counts,
 ) -> Result<String, Fail> {
-    match copy(heap, settings, fates, ack_fates, source, sink, counts) {
+    match copy(heap, config, fates, ack_fates, source, sink, counts) {
         Ok(()) => Ok(String::from_str(alloc, "Ok")?),
         Err(error) => Ok(format!(in alloc; "{error}")?),
     }
@@ -56,7 +56,7 @@ fn comes(
     let text_of = ending(
         alloc,
         alloc,
-        settings(7, capacity, 5),
+        config(7, capacity, 5),
         Fates::new(&[], seed, rates),
         Fates::new(&[], !seed, rates),
         &mut source,
@@ -106,7 +106,7 @@ fn all_comes_whatever_becomes_of_the_frames(rt: HostRuntime) -> Result<(), Fail>
 }
 
 /// A round reads as much as the third storage takes, keeps as much as the first, and the receiver
-/// takes as much as the second. The capacity of the settings isn't read.
+/// takes as much as the second. The capacity of the config isn't read.
 #[test]
 fn each_lent_storage_has_its_own_use(rt: HostRuntime) -> Result<(), Fail> {
     let text = b"abcdefghij".as_slice();
@@ -118,7 +118,7 @@ fn each_lent_storage_has_its_own_use(rt: HostRuntime) -> Result<(), Fail> {
     let mut counts = Counts::new();
     let ended = copy_over(
         rt.alloc(),
-        settings(0, 0, 2),
+        config(0, 0, 2),
         Fates::new(&[], 1, PERFECT),
         Fates::new(&[], 1, PERFECT),
         &mut outgoing,
@@ -166,7 +166,7 @@ fn each_refusal_ends_a_copy(rt: HostRuntime) -> Result<(), Fail> {
         let told = ending(
             rt.alloc(),
             &heap,
-            settings(0, 16, 2),
+            config(0, 16, 2),
             Fates::new(&[], 1, PERFECT),
             Fates::new(&[], 1, PERFECT),
             &mut source,
@@ -199,7 +199,7 @@ fn are_kept(counts: &Counts, has_storage: bool) -> bool {
 }
 
 #[test]
-fn each_refused_request_leaves_a_front(rt: HostRuntime) -> Result<(), Fail> {
+fn each_refused_request_leaves_a_prefix(rt: HostRuntime) -> Result<(), Fail> {
     let rates = Rates {
         lost: 30,
         repeated: 20,
@@ -213,7 +213,7 @@ fn each_refused_request_leaves_a_front(rt: HostRuntime) -> Result<(), Fail> {
         let told = ending(
             rt.alloc(),
             &heap,
-            settings(0, 4096, 1),
+            config(0, 4096, 1),
             Fates::new(&EACH_SECOND, 7, rates),
             Fates::new(&[], 8, rates),
             &mut source,

@@ -2,7 +2,7 @@
 //!
 //! The numbers are those of a model of its own, written from docs/LINK.md.
 
-use net_stream::{Counts, Fate, Fates, Rates, Settings, copy};
+use net_stream::{Config, Counts, Fate, Fates, Rates, copy};
 use net_testing::{NEVER, Sink, Source};
 use std::alloc::Global;
 use std::io::ErrorKind;
@@ -57,7 +57,7 @@ pub(crate) const EACH_SECOND: [Fate; 80] = [
 ];
 
 /// A copy: the fates of its frames and of its acknowledgements, each a list and the rates behind it,
-/// its text, the most bytes of a read, its settings (first position, capacity, payload, flight and
+/// its text, the most bytes of a read, its config (first position, capacity, payload, flight and
 /// rounds), and then how it ends, how often it reads, and its counts: bytes taken and written, frames
 /// sent, bytes that they carried, frames lost, repeated and late, segments refused, rounds and
 /// microseconds.
@@ -67,7 +67,7 @@ struct Counted {
     acks: (&'static [Fate], Rates),
     text: &'static [u8],
     read: usize,
-    settings: (u64, usize, u32, u32, u64),
+    config: (u64, usize, u32, u32, u64),
     end: &'static str,
     reads: usize,
     counts: [u64; 10],
@@ -95,18 +95,18 @@ fn is_counted(alloc: Global, case: &Counted, text: &[u8]) -> Result<bool, Fail> 
     let mut source = Source::failing(text, case.read, NEVER, ErrorKind::Other);
     let mut sink = Sink::new(alloc)?;
     let mut counts = Counts::new();
-    let settings = Settings {
-        first: case.settings.0,
-        capacity: case.settings.1,
-        payload: case.settings.2,
-        flight: case.settings.3,
-        rounds: case.settings.4,
+    let config = Config {
+        first: case.config.0,
+        capacity: case.config.1,
+        payload: case.config.2,
+        flight: case.config.3,
+        rounds: case.config.4,
     };
     let fates = Fates::new(case.fates.0, 1, case.fates.1);
     let ack_fates = Fates::new(case.acks.0, 1, case.acks.1);
     let ended = copy(
         alloc,
-        settings,
+        config,
         fates,
         ack_fates,
         &mut source,
@@ -117,13 +117,13 @@ fn is_counted(alloc: Global, case: &Counted, text: &[u8]) -> Result<bool, Fail> 
         Ok(()) => String::from_str(alloc, "Ok")?,
         Err(error) => format!(in alloc; "{error}")?,
     };
-    let front = &text[..sink.bytes.len().min(text.len())];
+    let prefix = &text[..sink.bytes.len().min(text.len())];
     Ok(
         told.as_str() == case.end
             && all_of(&counts) == case.counts
             && source.calls == case.reads
             && sink.calls as u64 <= counts.rounds
-            && sink.bytes.as_slice() == front
+            && sink.bytes.as_slice() == prefix
             && sink.bytes.len() as u64 == counts.bytes
             && sink.flushes == 1
             && sink.flushed == sink.bytes.len(),
@@ -139,7 +139,7 @@ fn frames_that_fail(rt: HostRuntime) -> Result<(), Fail> {
             acks: (&[], PERFECT),
             text: b"abcdef",
             read: usize::MAX,
-            settings: (0, 16, 2, 4096, 100),
+            config: (0, 16, 2, 4096, 100),
             end: "Ok",
             reads: 2,
             counts: [6, 6, 7, 6, 0, 0, 0, 0, 1, 10_000],
@@ -150,7 +150,7 @@ fn frames_that_fail(rt: HostRuntime) -> Result<(), Fail> {
             acks: (&[], PERFECT),
             text: b"abcdef",
             read: usize::MAX,
-            settings: (0, 16, 2, 4096, 100),
+            config: (0, 16, 2, 4096, 100),
             end: "Ok",
             reads: 2,
             counts: [6, 6, 9, 8, 1, 0, 0, 0, 2, 20_000],
@@ -161,7 +161,7 @@ fn frames_that_fail(rt: HostRuntime) -> Result<(), Fail> {
             acks: (&[], PERFECT),
             text: b"abcdef",
             read: usize::MAX,
-            settings: (0, 16, 2, 4096, 100),
+            config: (0, 16, 2, 4096, 100),
             end: "Ok",
             reads: 2,
             counts: [6, 6, 10, 10, 2, 0, 0, 0, 2, 30_000],
@@ -172,7 +172,7 @@ fn frames_that_fail(rt: HostRuntime) -> Result<(), Fail> {
             acks: (&[], PERFECT),
             text: b"abcdef",
             read: usize::MAX,
-            settings: (0, 16, 2, 4096, 100),
+            config: (0, 16, 2, 4096, 100),
             end: "Ok",
             reads: 2,
             counts: [6, 6, 11, 8, 0, 1, 1, 0, 2, 30_000],
@@ -183,7 +183,7 @@ fn frames_that_fail(rt: HostRuntime) -> Result<(), Fail> {
             acks: (&[], PERFECT),
             text: b"abcdef",
             read: usize::MAX,
-            settings: (0, 16, 2, 4096, 100),
+            config: (0, 16, 2, 4096, 100),
             end: "Ok",
             reads: 2,
             counts: [6, 6, 11, 12, 3, 0, 3, 0, 2, 30_000],
@@ -194,7 +194,7 @@ fn frames_that_fail(rt: HostRuntime) -> Result<(), Fail> {
             acks: (&[], PERFECT),
             text: b"abcdef",
             read: usize::MAX,
-            settings: (0, 16, 2, 4096, 100),
+            config: (0, 16, 2, 4096, 100),
             end: "gave up",
             reads: 1,
             counts: [6, 2, 306, 406, 202, 1, 0, 0, 101, 94_280_000],
@@ -205,7 +205,7 @@ fn frames_that_fail(rt: HostRuntime) -> Result<(), Fail> {
             acks: (&[], PERFECT),
             text: b"abcdef",
             read: usize::MAX,
-            settings: (0, 16, 2, 4096, 100),
+            config: (0, 16, 2, 4096, 100),
             end: "gave up",
             reads: 1,
             counts: [6, 0, 400, 600, 300, 0, 0, 0, 100, 94_270_000],
@@ -215,7 +215,7 @@ fn frames_that_fail(rt: HostRuntime) -> Result<(), Fail> {
             acks: (&[], PERFECT),
             text: b"abcdef",
             read: usize::MAX,
-            settings: (0, 16, 2, 4096, 3),
+            config: (0, 16, 2, 4096, 3),
             end: "gave up",
             reads: 1,
             counts: [6, 0, 12, 18, 9, 0, 0, 0, 3, 70_000],
@@ -226,7 +226,7 @@ fn frames_that_fail(rt: HostRuntime) -> Result<(), Fail> {
             acks: (&[], PERFECT),
             text: b"abcdef",
             read: usize::MAX,
-            settings: (0, 16, 2, 4096, 5),
+            config: (0, 16, 2, 4096, 5),
             end: "gave up",
             reads: 1,
             counts: [6, 0, 17, 22, 10, 0, 0, 0, 5, 310_000],
@@ -237,7 +237,7 @@ fn frames_that_fail(rt: HostRuntime) -> Result<(), Fail> {
             acks: (&[], PERFECT),
             text: EIGHTY,
             read: usize::MAX,
-            settings: (0, 4096, 1, 4096, 3),
+            config: (0, 4096, 1, 4096, 3),
             end: "gave up",
             reads: 1,
             counts: [80, 0, 189, 146, 106, 0, 0, 8, 3, 70_000],
@@ -248,7 +248,7 @@ fn frames_that_fail(rt: HostRuntime) -> Result<(), Fail> {
             acks: (&[], PERFECT),
             text: b"abcdef",
             read: usize::MAX,
-            settings: (0, 16, 2, 4096, 100),
+            config: (0, 16, 2, 4096, 100),
             end: "Ok",
             reads: 2,
             counts: [6, 6, 19, 24, 9, 0, 0, 0, 4, 150_000],
@@ -259,7 +259,7 @@ fn frames_that_fail(rt: HostRuntime) -> Result<(), Fail> {
             acks: (&[], PERFECT),
             text: b"abcdef",
             read: usize::MAX,
-            settings: (0, 16, 2, 4096, 100),
+            config: (0, 16, 2, 4096, 100),
             end: "Ok",
             reads: 2,
             counts: [6, 6, 47, 66, 30, 0, 0, 0, 11, 5_270_000],
@@ -271,7 +271,7 @@ fn frames_that_fail(rt: HostRuntime) -> Result<(), Fail> {
             acks: (&[], PERFECT),
             text: EIGHTY,
             read: usize::MAX,
-            settings: (0, 4096, 1, 4096, 100),
+            config: (0, 4096, 1, 4096, 100),
             end: "Ok",
             reads: 2,
             counts: [80, 80, 219, 128, 40, 0, 0, 8, 3, 40_000],
@@ -293,7 +293,7 @@ fn acknowledgements_that_fail(rt: HostRuntime) -> Result<(), Fail> {
             acks: (&[LOST, LOST, LOST, LOST], PERFECT),
             text: b"abcdef",
             read: usize::MAX,
-            settings: (0, 16, 2, 4096, 100),
+            config: (0, 16, 2, 4096, 100),
             end: "Ok",
             reads: 2,
             counts: [6, 6, 7, 6, 4, 0, 0, 0, 1, 10_000],
@@ -303,7 +303,7 @@ fn acknowledgements_that_fail(rt: HostRuntime) -> Result<(), Fail> {
             acks: (&[], GONE),
             text: b"abcdef",
             read: usize::MAX,
-            settings: (0, 16, 2, 4096, 100),
+            config: (0, 16, 2, 4096, 100),
             end: "Ok",
             reads: 2,
             counts: [6, 6, 7, 6, 4, 0, 0, 0, 1, 10_000],
@@ -314,7 +314,7 @@ fn acknowledgements_that_fail(rt: HostRuntime) -> Result<(), Fail> {
             acks: (&[], GONE),
             text: b"abcdef",
             read: usize::MAX,
-            settings: (0, 6, 2, 4096, 5),
+            config: (0, 6, 2, 4096, 5),
             end: "gave up",
             reads: 1,
             counts: [6, 6, 42, 36, 24, 0, 0, 0, 6, 320_000],
@@ -325,7 +325,7 @@ fn acknowledgements_that_fail(rt: HostRuntime) -> Result<(), Fail> {
             acks: (&[LATE, LATE, LATE, LATE], GONE),
             text: b"abcdef",
             read: usize::MAX,
-            settings: (0, 6, 2, 4096, 5),
+            config: (0, 6, 2, 4096, 5),
             end: "Ok",
             reads: 2,
             counts: [6, 6, 14, 12, 4, 0, 4, 0, 2, 20_000],
@@ -335,7 +335,7 @@ fn acknowledgements_that_fail(rt: HostRuntime) -> Result<(), Fail> {
             acks: (&[REPEATED, LOST, LOST, LOST], GONE),
             text: b"abcdef",
             read: usize::MAX,
-            settings: (0, 6, 2, 4096, 5),
+            config: (0, 6, 2, 4096, 5),
             end: "Ok",
             reads: 2,
             counts: [6, 6, 7, 6, 3, 1, 0, 0, 1, 10_000],
@@ -346,7 +346,7 @@ fn acknowledgements_that_fail(rt: HostRuntime) -> Result<(), Fail> {
             acks: (&[LOST, LOST, LOST, LOST], PERFECT),
             text: b"abcdefgh",
             read: usize::MAX,
-            settings: (0, 6, 2, 4096, 1),
+            config: (0, 6, 2, 4096, 1),
             end: "Ok",
             reads: 3,
             counts: [8, 8, 17, 14, 4, 0, 0, 0, 3, 30_000],
@@ -367,7 +367,7 @@ fn sizes_and_rates(rt: HostRuntime) -> Result<(), Fail> {
             acks: (&[], PERFECT),
             text: TEXT,
             read: usize::MAX,
-            settings: (0, 1, 5, 4096, 100),
+            config: (0, 1, 5, 4096, 100),
             end: "Ok",
             reads: 61,
             counts: [60, 60, 180, 60, 0, 0, 0, 0, 60, 600_000],
@@ -377,7 +377,7 @@ fn sizes_and_rates(rt: HostRuntime) -> Result<(), Fail> {
             acks: (&[], PERFECT),
             text: TEXT,
             read: usize::MAX,
-            settings: (0, 7, 5, 4096, 100),
+            config: (0, 7, 5, 4096, 100),
             end: "Ok",
             reads: 10,
             counts: [60, 60, 43, 60, 0, 0, 0, 0, 9, 90_000],
@@ -387,7 +387,7 @@ fn sizes_and_rates(rt: HostRuntime) -> Result<(), Fail> {
             acks: (&[], PERFECT),
             text: TEXT,
             read: usize::MAX,
-            settings: (0, 4096, 5, 4096, 100),
+            config: (0, 4096, 5, 4096, 100),
             end: "Ok",
             reads: 2,
             counts: [60, 60, 25, 60, 0, 0, 0, 0, 1, 10_000],
@@ -397,7 +397,7 @@ fn sizes_and_rates(rt: HostRuntime) -> Result<(), Fail> {
             acks: (&[], PERFECT),
             text: b"abcdef",
             read: usize::MAX,
-            settings: (0, 16, 0, 4096, 100),
+            config: (0, 16, 0, 4096, 100),
             end: "Ok",
             reads: 2,
             counts: [6, 6, 13, 6, 0, 0, 0, 0, 1, 10_000],
@@ -407,7 +407,7 @@ fn sizes_and_rates(rt: HostRuntime) -> Result<(), Fail> {
             acks: (&[], MIXED),
             text: TEXT,
             read: usize::MAX,
-            settings: (0, 4096, 5, 4096, 100),
+            config: (0, 4096, 5, 4096, 100),
             end: "Ok",
             reads: 2,
             counts: [60, 60, 35, 80, 6, 7, 7, 0, 3, 70_000],
@@ -418,7 +418,7 @@ fn sizes_and_rates(rt: HostRuntime) -> Result<(), Fail> {
             acks: (&[], PERFECT),
             text: b"abcdefghij",
             read: usize::MAX,
-            settings: (0, 16, 2, 2, 100),
+            config: (0, 16, 2, 2, 100),
             end: "Ok",
             reads: 2,
             counts: [10, 10, 13, 10, 0, 0, 0, 0, 3, 30_000],
@@ -428,7 +428,7 @@ fn sizes_and_rates(rt: HostRuntime) -> Result<(), Fail> {
             acks: (&[], PERFECT),
             text: b"abcdef",
             read: usize::MAX,
-            settings: (0, 16, 2, 0, 100),
+            config: (0, 16, 2, 0, 100),
             end: "Ok",
             reads: 2,
             counts: [6, 6, 9, 6, 0, 0, 0, 0, 3, 30_000],
@@ -439,7 +439,7 @@ fn sizes_and_rates(rt: HostRuntime) -> Result<(), Fail> {
             acks: (&[], PERFECT),
             text: b"abcdefghij",
             read: 3,
-            settings: (0, 16, 2, 4096, 100),
+            config: (0, 16, 2, 4096, 100),
             end: "Ok",
             reads: 5,
             counts: [10, 10, 18, 10, 0, 0, 0, 0, 4, 40_000],
@@ -449,7 +449,7 @@ fn sizes_and_rates(rt: HostRuntime) -> Result<(), Fail> {
             acks: (&[], PERFECT),
             text: b"abcdefghij",
             read: 3,
-            settings: (0, 16, 2, 4096, 100),
+            config: (0, 16, 2, 4096, 100),
             end: "Ok",
             reads: 5,
             counts: [10, 10, 20, 12, 1, 0, 0, 0, 5, 60_000],
@@ -460,7 +460,7 @@ fn sizes_and_rates(rt: HostRuntime) -> Result<(), Fail> {
             acks: (&[], PERFECT),
             text: b"",
             read: usize::MAX,
-            settings: (0, 16, 2, 4096, 100),
+            config: (0, 16, 2, 4096, 100),
             end: "Ok",
             reads: 1,
             counts: [0, 0, 0, 0, 0, 0, 0, 0, 0, 0],
@@ -470,7 +470,7 @@ fn sizes_and_rates(rt: HostRuntime) -> Result<(), Fail> {
             acks: (&[], PERFECT),
             text: b"",
             read: usize::MAX,
-            settings: (0, 16, 2, 4096, 0),
+            config: (0, 16, 2, 4096, 0),
             end: "Ok",
             reads: 1,
             counts: [0, 0, 0, 0, 0, 0, 0, 0, 0, 0],
@@ -480,7 +480,7 @@ fn sizes_and_rates(rt: HostRuntime) -> Result<(), Fail> {
             acks: (&[], PERFECT),
             text: b"abcdef",
             read: usize::MAX,
-            settings: (0, 16, 2, 4096, 0),
+            config: (0, 16, 2, 4096, 0),
             end: "gave up",
             reads: 1,
             counts: [6, 0, 0, 0, 0, 0, 0, 0, 0, 0],
@@ -491,7 +491,7 @@ fn sizes_and_rates(rt: HostRuntime) -> Result<(), Fail> {
             acks: (&[], PERFECT),
             text: b"abcdef",
             read: usize::MAX,
-            settings: (0, 0, 2, 4096, 100),
+            config: (0, 0, 2, 4096, 100),
             end: "gave up",
             reads: 0,
             counts: [0, 0, 100, 0, 0, 0, 0, 0, 100, 94_270_000],
@@ -502,7 +502,7 @@ fn sizes_and_rates(rt: HostRuntime) -> Result<(), Fail> {
             acks: (&[], PERFECT),
             text: b"012345678",
             read: usize::MAX,
-            settings: (u64::MAX - 10, 16, 2, 4096, 100),
+            config: (u64::MAX - 10, 16, 2, 4096, 100),
             end: "Ok",
             reads: 2,
             counts: [9, 9, 11, 9, 0, 0, 0, 0, 1, 10_000],
@@ -512,7 +512,7 @@ fn sizes_and_rates(rt: HostRuntime) -> Result<(), Fail> {
             acks: (&[], PERFECT),
             text: b"0123456789a",
             read: usize::MAX,
-            settings: (u64::MAX - 10, 16, 2, 4096, 100),
+            config: (u64::MAX - 10, 16, 2, 4096, 100),
             end: "gave up",
             reads: 1,
             counts: [10, 10, 111, 10, 0, 0, 0, 0, 101, 94_280_000],
@@ -537,7 +537,7 @@ fn sizes_that_links_are_used_at(rt: HostRuntime) -> Result<(), Fail> {
                 acks: (&[], PERFECT),
                 text: b"",
                 read: usize::MAX,
-                settings: (0, 65_536, 1400, 4096, 100),
+                config: (0, 65_536, 1400, 4096, 100),
                 end: "Ok",
                 reads: 3,
                 counts: [100_000, 100_000, 146, 100_000, 0, 0, 0, 0, 2, 20_000],
@@ -551,7 +551,7 @@ fn sizes_that_links_are_used_at(rt: HostRuntime) -> Result<(), Fail> {
                 acks: (&[LATE], PERFECT),
                 text: b"",
                 read: usize::MAX,
-                settings: (0, 262_144, 100000, 4096, 100),
+                config: (0, 262_144, 100000, 4096, 100),
                 end: "Ok",
                 reads: 2,
                 counts: [100_000, 100_000, 6, 200_000, 0, 0, 2, 0, 2, 30_000],
@@ -565,7 +565,7 @@ fn sizes_that_links_are_used_at(rt: HostRuntime) -> Result<(), Fail> {
                 acks: (&[], PERFECT),
                 text: b"",
                 read: usize::MAX,
-                settings: (0, 262_144, 65528, 4096, 100),
+                config: (0, 262_144, 65528, 4096, 100),
                 end: "Ok",
                 reads: 3,
                 counts: [300_000, 300_000, 14, 300_000, 0, 0, 0, 0, 2, 20_000],
@@ -579,7 +579,7 @@ fn sizes_that_links_are_used_at(rt: HostRuntime) -> Result<(), Fail> {
                 acks: (&[], PERFECT),
                 text: b"",
                 read: usize::MAX,
-                settings: (0, 1, 2, 4096, 100),
+                config: (0, 1, 2, 4096, 100),
                 end: "Ok",
                 reads: 2001,
                 counts: [2000, 2000, 6000, 2000, 0, 0, 0, 0, 2000, 20_000_000],
@@ -618,7 +618,7 @@ fn fails_so(
 ) -> Result<bool, Fail> {
     let mut source = Source::failing(case.text, case.read.0, case.read.1, read);
     let mut sink = Sink::failing(alloc, case.write.0, case.write.1, write)?;
-    let settings = Settings {
+    let config = Config {
         first: 0,
         capacity: 4096,
         payload: 1,
@@ -630,7 +630,7 @@ fn fails_so(
     let ack_fates = Fates::new(&[], 1, PERFECT);
     let ended = copy(
         alloc,
-        settings,
+        config,
         fates,
         ack_fates,
         &mut source,

@@ -35,16 +35,22 @@ fn link(
 
 /// The acknowledgement of a frame that came: the first missing position, and each held run, as bytes.
 #[test]
-fn what_comes_is_answered(rt: HostRuntime) -> Result<(), Fail> {
+fn what_comes_is_acknowledged(rt: HostRuntime) -> Result<(), Fail> {
     let mut link = link(rt.alloc(), &[], &[])?;
     link.arrive(&[0, 0, 0, 0, 0, 0, 0, 2, 99, 100])?;
-    let token = link.back.take(Instant::ZERO).expect(&rt, "an answer");
-    let mut answer = [0u8; 24];
-    answer[15] = 2;
-    answer[23] = 4;
-    assert_eq!(rt; token.frame(), answer.as_slice());
+    let token = link
+        .back
+        .take(Instant::ZERO)
+        .expect(&rt, "an acknowledgement");
+    let mut ack = [0u8; 24];
+    ack[15] = 2;
+    ack[23] = 4;
+    assert_eq!(rt; token.frame(), ack.as_slice());
     link.arrive(&[0, 0, 0, 0, 0, 0, 0, 0, 97, 98])?;
-    let token = link.back.take(Instant::ZERO).expect(&rt, "an answer");
+    let token = link
+        .back
+        .take(Instant::ZERO)
+        .expect(&rt, "an acknowledgement");
     assert_eq!(rt; token.frame(), [0, 0, 0, 0, 0, 0, 0, 4].as_slice());
     // Seven bytes are no frame, and no position is beyond 2^64 - 1.
     link.arrive(&[0, 0, 0, 0, 0, 0, 4])?;

@@ -260,16 +260,16 @@ fn a_sender_lends_what_stands_in_a_row(rt: HostRuntime) -> Result<(), Fail> {
     assert!(rt; sender.is_empty());
     assert_eq!(rt; (sender.window(), sender.write(b"abcd")), (5, 4));
     assert_eq!(rt; (sender.base(), sender.end(), sender.len()), (10, 14, 4));
-    assert_eq!(rt; sender.segment(11, 2), b"bc".as_slice());
+    assert_eq!(rt; sender.peek_at(11, 2), b"bc".as_slice());
     sender.acknowledge(13, Reported::new());
     // Only `e` has room before the storage's end, and `fg` stands at its beginning.
     assert_eq!(rt; (sender.base(), sender.write(b"efg")), (13, 3));
-    assert_eq!(rt; sender.segment(13, 100), b"de".as_slice());
-    assert_eq!(rt; sender.segment(14, 100), b"e".as_slice());
-    assert_eq!(rt; sender.segment(15, 100), b"fg".as_slice());
-    assert_eq!(rt; sender.segment(16, 1), b"g".as_slice());
-    assert_eq!(rt; sender.segment(17, 100), b"".as_slice());
-    assert_eq!(rt; sender.segment(12, 100), b"".as_slice());
+    assert_eq!(rt; sender.peek_at(13, 100), b"de".as_slice());
+    assert_eq!(rt; sender.peek_at(14, 100), b"e".as_slice());
+    assert_eq!(rt; sender.peek_at(15, 100), b"fg".as_slice());
+    assert_eq!(rt; sender.peek_at(16, 1), b"g".as_slice());
+    assert_eq!(rt; sender.peek_at(17, 100), b"".as_slice());
+    assert_eq!(rt; sender.peek_at(12, 100), b"".as_slice());
     // Neither what lies below the base nor what lies above the end is acknowledged.
     sender.acknowledge(12, Reported::new());
     sender.acknowledge(18, Reported::new());
@@ -278,7 +278,7 @@ fn a_sender_lends_what_stands_in_a_row(rt: HostRuntime) -> Result<(), Fail> {
     assert!(rt; sender.is_empty());
     // Empty, it begins at the storage's beginning.
     assert_eq!(rt; sender.write(b"hijklm"), 5);
-    assert_eq!(rt; sender.segment(17, 100), b"hijkl".as_slice());
+    assert_eq!(rt; sender.peek_at(17, 100), b"hijkl".as_slice());
     Ok(())
 }
 
@@ -288,12 +288,12 @@ fn a_large_sender_lends_all_in_a_row(rt: HostRuntime) -> Result<(), Fail> {
     let bytes = bytes.as_slice();
     let mut sender = full(rt.alloc(), 262_144, 0)?;
     assert_eq!(rt; (sender.len(), sender.window()), (262_144, 0));
-    assert!(rt; sender.segment(0, usize::MAX) == bytes);
-    assert!(rt; sender.segment(1_000, LONG) == part(bytes, 1_000, 66_528));
+    assert!(rt; sender.peek_at(0, usize::MAX) == bytes);
+    assert!(rt; sender.peek_at(1_000, LONG) == part(bytes, 1_000, 66_528));
     sender.acknowledge(200_000, Reported::new());
     assert_eq!(rt; sender.write(part(bytes, 0, 100_000)), 100_000);
-    assert!(rt; sender.segment(200_000, usize::MAX) == part(bytes, 200_000, 262_144));
-    assert!(rt; sender.segment(262_144, usize::MAX) == part(bytes, 0, 100_000));
+    assert!(rt; sender.peek_at(200_000, usize::MAX) == part(bytes, 200_000, 262_144));
+    assert!(rt; sender.peek_at(262_144, usize::MAX) == part(bytes, 0, 100_000));
     Ok(())
 }
 
@@ -310,17 +310,17 @@ fn put(room: &mut [u8], text: &[u8]) -> usize
 fn free_places_are_lent_for_writing(rt: HostRuntime) -> Result<(), Fail> {
     let mut storage = [0u8; 5];
     let mut sender = Sender::new(ManagedSlice::Borrowed(&mut storage));
-    let answer = sender.send_with(|room| (put(room, b"abc"), 7u8));
-    assert_eq!(rt; answer, (3, 7));
+    let result = sender.send_with(|room| (put(room, b"abc"), 7u8));
+    assert_eq!(rt; result, (3, 7));
     sender.acknowledge(2, Reported::new());
     // Two stand before the storage's end, and two at its beginning.
-    let answer = sender.send_with(|room| (put(room, b"defg"), 8u8));
-    assert_eq!(rt; answer, (2, 8));
+    let result = sender.send_with(|room| (put(room, b"defg"), 8u8));
+    assert_eq!(rt; result, (2, 8));
     // What isn't counted isn't kept.
-    let answer = sender.send_with(|room| (put(room, b"xy").saturating_sub(1), 9u8));
-    assert_eq!(rt; answer, (1, 9));
-    assert_eq!(rt; sender.segment(2, 9), b"cde".as_slice());
-    assert_eq!(rt; sender.segment(5, 9), b"x".as_slice());
+    let result = sender.send_with(|room| (put(room, b"xy").saturating_sub(1), 9u8));
+    assert_eq!(rt; result, (1, 9));
+    assert_eq!(rt; sender.peek_at(2, 9), b"cde".as_slice());
+    assert_eq!(rt; sender.peek_at(5, 9), b"x".as_slice());
     Ok(())
 }
 
@@ -333,7 +333,7 @@ fn places_are_lent_as_far_as_positions_go(rt: HostRuntime) -> Result<(), Fail> {
     assert_eq!(rt; count, 4);
     let (count, _more) = sender.send_with(|room| (put(room, b"e"), ()));
     assert_eq!(rt; count, 0);
-    assert_eq!(rt; sender.segment(u64::MAX - 4, 9), b"abcd".as_slice());
+    assert_eq!(rt; sender.peek_at(u64::MAX - 4, 9), b"abcd".as_slice());
     Ok(())
 }
 
@@ -448,7 +448,7 @@ fn a_full_report_stops_a_round(rt: HostRuntime) -> Result<(), Fail> {
 /// With each request for memory refused in turn, the frames that were sent before are on their way,
 /// and their bytes are counted.
 #[test]
-fn a_refused_request_leaves_a_front_of_the_frames(rt: HostRuntime) -> Result<(), Fail> {
+fn a_refused_request_leaves_a_prefix_of_the_frames(rt: HostRuntime) -> Result<(), Fail> {
     for refused in 0..100usize {
         let heap = Refusing::new(rt.alloc(), refused);
         let mut link = link_of(&heap, full(rt.alloc(), 9, 0)?, 2, 100);

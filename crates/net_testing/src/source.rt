@@ -69,8 +69,8 @@ impl Read for Source<'_> {
             .len()
             .min(self.bytes.len())
             .min(self.bytes_per_call.max(1));
-        let (front, rest) = self.bytes.split_at(count);
-        buf[..count].copy_from_slice(front);
+        let (first, rest) = self.bytes.split_at(count);
+        buf[..count].copy_from_slice(first);
         self.bytes = rest;
         Ok(count)
     }

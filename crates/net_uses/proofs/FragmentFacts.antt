@@ -3,7 +3,7 @@ use Rattle.std.proofs.Common.{◌≡◌, ℕ, zero, suc, ◌+◌, ◌-◌, ◌<�
 use Rattle.std.proofs.Common.{[], ◌∷◌, length, get_or, refl, ap, ◌∙◌, arith, if◌then◌else◌, nat_le}
 use Rattle.std.proofs.Common.{nat_lt, IsTrue, IsFalse, ap₂, ◌||◌}
 use Rattle.std.proofs.lemmas.Bool.Decides.{nat_tests}
-use Rattle.net_storage.specs.Overwrite.{overwrite, OverwrittenAt}
+use Rattle.net_storage.specs.Overwrite.{overwrite, OverwritesAt}
 use Rattle.net_storage.specs.Positions.{contains, with_range}
 use Rattle.net_storage.specs.AssemblerLaws.{MembersOfNothing, MembersWithRange}
 use Rattle.net_uses.specs.Fragments.{FragmentState, fragment_added}
@@ -23,7 +23,7 @@ abbrev LengthStays : Type 0
 LengthStays = (xs ws : List ℕ) (i : ℕ) → length (overwrite xs i ws) ≡ length xs
 
 abbrev ElementsAre : Type 0
-ElementsAre = (xs ws : List ℕ) (i k x : ℕ) → OverwrittenAt xs i ws k x
+ElementsAre = (xs ws : List ℕ) (i k x : ℕ) → OverwritesAt xs i ws k x
 
 pub byte_after : LengthStays → ElementsAre → LastFragmentStands
 byte_after long at b [] p d h = refl

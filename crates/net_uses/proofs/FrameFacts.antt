@@ -1,6 +1,6 @@
 -- Frames that pass, one after another.
 use Rattle.std.proofs.Common.{◌≡◌, ◌∙◌, ◌+◌, ◌∷◌, ◌++◌, [], ◌⊎◌, inl, inr, List, ℕ, length, refl, sym, ap, subst, append_assoc, append-nil, length-append}
-use Rattle.net_uses.specs.Frames.{Each, Stops, ForwardedUpTo, ForwardedAndLost}
+use Rattle.net_uses.specs.Frames.{Each, Stops, ForwardsUpTo, ForwardsAndLoses}
 
 -- one frame more
 pub each_more : {D : Type 0} (step : D → List ℕ → D → Type 0) (x y z : D) (frames : List (List ℕ)) (frame : List ℕ) → Each step x frames y →
@@ -37,7 +37,7 @@ module _ {A B : Type 0} (taken : A → List ℕ → A → Type 0) (is_idle : A �
   ended_same keeps max n x x' y (inr (inr e)) = sym (keeps x x' e.1)
 
   pub passed_lists : TakesFirst taken incoming → KeepsAll → PutsLast sent outgoing → (max n : ℕ) (x x' : A) (y y' : B) →
-      ForwardedUpTo taken is_idle idled is_busy sent max n x x' y y' → (moved : List (List ℕ)) × (incoming x ≡ moved ++ incoming x')
+      ForwardsUpTo taken is_idle idled is_busy sent max n x x' y y' → (moved : List (List ℕ)) × (incoming x ≡ moved ++ incoming x')
       × (outgoing y' ≡ outgoing y ++ moved)
   passed_lists takes keeps puts max n x x' y y' p =
       let fs : List (List ℕ) = p.passed.frames in
@@ -47,7 +47,7 @@ module _ {A B : Type 0} (taken : A → List ℕ → A → Type 0) (is_idle : A �
         sent_list sent outgoing puts y y' fs p.passed.sent_on,
       )
 
-  pub passed_count : TakesFirst taken incoming → KeepsAll → (max n : ℕ) (x x' : A) (y y' : B) → ForwardedUpTo taken is_idle idled is_busy sent max n x x' y y' →
+  pub passed_count : TakesFirst taken incoming → KeepsAll → (max n : ℕ) (x x' : A) (y y' : B) → ForwardsUpTo taken is_idle idled is_busy sent max n x x' y y' →
       length (incoming x) ≡ n + length (incoming x')
   passed_count takes keeps max n x x' y y' p =
       let fs : List (List ℕ) = p.passed.frames in
@@ -60,7 +60,7 @@ module _ {A B : Type 0} (taken : A → List ℕ → A → Type 0) (is_idle : A �
 module _ {A B : Type 0} (taken : A → List ℕ → A → Type 0) (sent : B → List ℕ → B → Type 0) (lacks_memory : B → ℕ → Type 0) (incoming : A → List (List ℕ))
     (outgoing : B → List (List ℕ)) where
   pub lost_lists : TakesFirst taken incoming → PutsLast sent outgoing → (max : ℕ) (x x' : A) (y y' : B) →
-      ForwardedAndLost taken sent lacks_memory max x x' y y' → (moved : List (List ℕ)) × (frame : List ℕ) × (incoming x ≡ moved ++ (frame ∷ incoming x'))
+      ForwardsAndLoses taken sent lacks_memory max x x' y y' → (moved : List (List ℕ)) × (frame : List ℕ) × (incoming x ≡ moved ++ (frame ∷ incoming x'))
       × (outgoing y' ≡ outgoing y ++ moved)
   lost_lists takes puts max x x' y y' l = (
     l.frames,

@@ -1,8 +1,8 @@
 -- The datagrams of a socket, and what it hands out.
---     SocketState, received s, to_send s      its two queues, and the datagrams of each
+--     SocketState, inbound_datagrams s, outbound_datagrams s      its two queues, and the datagrams of each
 --     HasSameCapacity old new      its slots and bytes are as many as they were
---     CopiedFirst ds e n xs ys      the first datagram was copied
---     TakesFirstDatagram f ds, Dispatched f q answer r      a closure at the first datagram
+--     CopiesFirst ds e n xs ys      the first datagram was copied
+--     TakesFirstDatagram f ds, Dispatches f q answer r      a closure at the first datagram
 use Rattle.std.specs.Prelude.{◌≡◌, ℕ, List, ◌∷◌, ◌++◌, Result, is_ok}
 use Rattle.std.specs.Prelude.{if◌then◌else◌, length, min, take, drop}
 use Rattle.std.specs.Borrow.{Bor}
@@ -17,12 +17,12 @@ pub record SocketState : Type 0 where
   pub outbound : PacketQueue Endpoint
 
 -- the datagrams that were received, each with its endpoint and its bytes, the first one first
-abbrev pub received : SocketState → List (Endpoint × List ℕ)
-received s = contents s.inbound
+abbrev pub inbound_datagrams : SocketState → List (Endpoint × List ℕ)
+inbound_datagrams s = contents s.inbound
 
 -- the datagrams that are to be sent, likewise
-abbrev pub to_send : SocketState → List (Endpoint × List ℕ)
-to_send s = contents s.outbound
+abbrev pub outbound_datagrams : SocketState → List (Endpoint × List ℕ)
+outbound_datagrams s = contents s.outbound
 
 -- two queues have as many slots and as many bytes of storage
 abbrev pub SameCapacity : PacketQueue Endpoint → PacketQueue Endpoint → Type 0
@@ -35,7 +35,7 @@ HasSameCapacity old new =
 
 -- the first of the datagrams ds has the endpoint e, and as many of its bytes as xs has elements, n
 -- of them, were copied over the first of xs, which made ys
-pub record CopiedFirst (ds : List (Endpoint × List ℕ)) (e : Endpoint) (n : ℕ) (xs : List ℕ)
+pub record CopiesFirst (ds : List (Endpoint × List ℕ)) (e : Endpoint) (n : ℕ) (xs : List ℕ)
     (ys : List ℕ) : Type 0 where
   pub bytes : List ℕ
   pub first : ds ≡ (e, bytes) ∷ drop 1 ds
@@ -59,7 +59,7 @@ module _ {F R : Type 0} (g : Once F (Endpoint × (Bor (List ℕ) × Unit {0})) R
 module _ {F R E : Type 0} (g : Once F (Endpoint × (Bor (List ℕ) × Unit {0})) (Result R E)) where
   -- f was handed the first datagram of the queue q and returned `answer`: that datagram is gone from
   -- the queue r where that is `Ok`, and else nothing is
-  pub record Dispatched (f : F) (q : PacketQueue Endpoint) (answer : Result R E)
+  pub record Dispatches (f : F) (q : PacketQueue Endpoint) (answer : Result R E)
       (r : PacketQueue Endpoint) : Type 0 where
     pub endpoint : Endpoint
     pub bytes : List ℕ

@@ -1,7 +1,7 @@
 -- Frames that pass, one after another.
 --     Each step x frames y      each frame in turn makes y of x
---     Forwarded n x x' y y', ForwardedAndLost n x x' y y'      frames that were taken off and sent on
---     Stops x x' y, ForwardedUpTo max n x x' y y'      no other frame passes, and what passed before
+--     Forwards n x x' y y', ForwardsAndLoses n x x' y y'      frames that were taken off and sent on
+--     Stops x x' y, ForwardsUpTo max n x x' y y'      no other frame passes, and what passed before
 use Rattle.std.specs.Prelude.{◌≡◌, ◌<◌, ◌⊎◌, ℕ, List, [], ◌∷◌, ◌++◌, length}
 
 -- each of the frames in turn, by the relation step, makes y of x
@@ -11,7 +11,7 @@ Each {D} step x (frame ∷ frames) y = (next : D) × step x frame next × Each s
 
 module _ {A B : Type 0} (taken : A → List ℕ → A → Type 0) (sent : B → List ℕ → B → Type 0) where
   -- n frames were taken off one device, and these very frames were sent in turn on the other
-  pub record Forwarded (n : ℕ) (x x' : A) (y y' : B) : Type 0 where
+  pub record Forwards (n : ℕ) (x x' : A) (y y' : B) : Type 0 where
     pub frames : List (List ℕ)
     pub count : length frames ≡ n
     pub taken_off : Each taken x frames x'
@@ -20,7 +20,7 @@ module _ {A B : Type 0} (taken : A → List ℕ → A → Type 0) (sent : B → 
   module _ (lacks_memory : B → ℕ → Type 0) where
     -- the same of fewer than n frames, and then one more was taken off, and is lost: the other
     -- device has no memory for it
-    pub record ForwardedAndLost (n : ℕ) (x x' : A) (y y' : B) : Type 0 where
+    pub record ForwardsAndLoses (n : ℕ) (x x' : A) (y y' : B) : Type 0 where
       pub frames : List (List ℕ)
       pub lost : List ℕ
       pub count : length frames < n
@@ -36,7 +36,7 @@ module _ {A B : Type 0} (taken : A → List ℕ → A → Type 0) (is_idle : A �
   Stops x x' y = (is_busy y × (x' ≡ x)) ⊎ (is_idle x × idled x x')
 
   -- n frames passed, and then either these were as many as are to pass, or no other one passes
-  pub record ForwardedUpTo (max n : ℕ) (x x' : A) (y y' : B) : Type 0 where
+  pub record ForwardsUpTo (max n : ℕ) (x x' : A) (y y' : B) : Type 0 where
     pub between : A
-    pub passed : Forwarded taken sent n x between y y'
+    pub passed : Forwards taken sent n x between y y'
     pub ended : ((n ≡ max) × (x' ≡ between)) ⊎ Stops between x' y'

@@ -1,7 +1,7 @@
 //! A bridge of two devices.
 ghost use Rattle.std.specs.Prelude.{◌≡◌, ◌≤◌, ◌+◌, ◌∷◌, ◌++◌, [], ℕ, List, OnErr, IfOk, Ok, true};
 ghost use Rattle.std.specs.Prelude.{false, length};
-ghost use Rattle.net_uses.specs.Frames.{ForwardedUpTo, Stops, ForwardedAndLost};
+ghost use Rattle.net_uses.specs.Frames.{ForwardsUpTo, Stops, ForwardsAndLoses};
 
 use net_base::phy::{Device, FrameLists, RxToken};
 use net_base::time::Instant;
@@ -51,9 +51,10 @@ pub fn forward<A: Device, B: Device>(
     max: usize,
 ) -> Result<usize, AllocError>
     ensures forwarded { IfOk result (λ n. (n ≤ max)
-        × ForwardedUpTo A.taken A.is_idle A.idled B.is_busy B.sent max n from.old from.new to.old to.new) }
+        × ForwardsUpTo A.taken A.is_idle A.idled B.is_busy B.sent max n
+        from.old from.new to.old to.new) }
     ensures err { OnErr result
-        (ForwardedAndLost A.taken B.sent B.lacks_memory max from.old from.new to.old to.new) }
+        (ForwardsAndLoses A.taken B.sent B.lacks_memory max from.old from.new to.old to.new) }
 {
     for count in 0..max {
         if !forward_one(from, to, timestamp)? {
@@ -72,14 +73,15 @@ pub fn forward_lists<A: FrameLists, B: FrameLists>(
     max: usize,
 ) -> Result<usize, AllocError>
     ensures forwarded { IfOk result (λ n. (n ≤ max)
-        × ForwardedUpTo A.taken A.is_idle A.idled B.is_busy B.sent max n from.old from.new to.old to.new) }
+        × ForwardsUpTo A.taken A.is_idle A.idled B.is_busy B.sent max n
+        from.old from.new to.old to.new) }
     ensures lists { IfOk result (λ _. (moved : List (List ℕ))
         × (A.incoming from.old ≡ moved ++ A.incoming from.new)
         × (B.outgoing to.new ≡ B.outgoing to.old ++ moved)) }
     ensures count { IfOk result
         (λ n. length (A.incoming from.old) ≡ n + length (A.incoming from.new)) }
     ensures err { OnErr result
-        (ForwardedAndLost A.taken B.sent B.lacks_memory max from.old from.new to.old to.new) }
+        (ForwardsAndLoses A.taken B.sent B.lacks_memory max from.old from.new to.old to.new) }
     ensures lost { OnErr result ((moved : List (List ℕ)) × (frame : List ℕ)
         × (A.incoming from.old ≡ moved ++ frame ∷ A.incoming from.new)
         × (B.outgoing to.new ≡ B.outgoing to.old ++ moved)) }

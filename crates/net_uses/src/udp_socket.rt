@@ -5,10 +5,11 @@ ghost use Rattle.std.specs.Prelude.{◌↔◌, ◌==◌, ◌<◌, not, length, t
 ghost use Rattle.std.specs.declared.option.Option.TheVariants.{None};
 ghost use Rattle.net_storage.specs.Packets.{placement, slots_used, with_packet_of, without_first_and_gap, without_gap};
 ghost use Rattle.net_storage.specs.PacketHistory.{contents};
-ghost use Rattle.net_storage.specs.PacketCalls.{CopiedOut};
-ghost use Rattle.net_uses.specs.Datagrams.{received, to_send, SameCapacity, HasSameCapacity};
-ghost use Rattle.net_uses.specs.Datagrams.{CopiedFirst, TakesDatagram, GivesAtDatagram};
-ghost use Rattle.net_uses.specs.Datagrams.{TakesFirstDatagram, Dispatched};
+ghost use Rattle.net_storage.specs.PacketCalls.{CopiesOut};
+ghost use Rattle.net_uses.specs.Datagrams.{inbound_datagrams, outbound_datagrams};
+ghost use Rattle.net_uses.specs.Datagrams.{SameCapacity, HasSameCapacity};
+ghost use Rattle.net_uses.specs.Datagrams.{CopiesFirst, TakesDatagram, GivesAtDatagram};
+ghost use Rattle.net_uses.specs.Datagrams.{TakesFirstDatagram, Dispatches};
 
 use crate::endpoint::Endpoint;
 use net_storage::packet_buffer::laws;
@@ -18,10 +19,10 @@ use std::marker::Model;
 /// Datagrams that were received, and datagrams to be sent, over two packet queues whose header is
 /// an endpoint.
 ///
-/// Contracts see the two queues, and through them the two lists of datagrams, `received` and
-/// `to_send`, each datagram with its endpoint and its bytes. A call never changes how many slots
-/// and bytes a queue has. The user calls `send_slice`, `recv_slice` and `peek_slice`, and the stack
-/// below calls `process` and `dispatch`.
+/// Contracts see the two queues, and through them the two lists of datagrams, `inbound_datagrams`
+/// and `outbound_datagrams`, each datagram with its endpoint and its bytes. A call never changes
+/// how many slots and bytes a queue has. The user calls `send_slice`, `recv_slice` and
+/// `peek_slice`, and the stack below calls `process` and `dispatch`.
 #[derive(Drop)]
 pub struct UdpSocket<'a> {
     inbound: PacketBuffer<'a, Endpoint>,
@@ -56,7 +57,8 @@ impl<'a> UdpSocket<'a> {
         ensures full { IsErr result ↔ (placement self.old.outbound (length «data».now) ≡ None) }
         ensures unchanged { OnErr result (self.new ≡ self.old) }
         ensures made { OnOk result (self.new.outbound ≡ with_packet_of self.old.outbound to «data».now) }
-        ensures sent { OnOk result (to_send self.new ≡ to_send self.old ++ (to, «data».now) ∷ []) }
+        ensures sent { OnOk result (outbound_datagrams self.new
+            ≡ outbound_datagrams self.old ++ (to, «data».now) ∷ []) }
         ensures capacity { HasSameCapacity self.old self.new }
     {
         put(&mut self.outbound, to, data)
@@ -68,11 +70,12 @@ impl<'a> UdpSocket<'a> {
     /// `Empty` changes nothing. smoltcp returns an error in place of the number if a datagram does
     /// not fit, and loses it too.
     pub fn recv_slice(&mut self, into: &mut [u8]) -> Result<(usize, Endpoint), Empty>
-        ensures empty { IsErr result ↔ (received self.old ≡ []) }
+        ensures empty { IsErr result ↔ (inbound_datagrams self.old ≡ []) }
         ensures unchanged { OnErr result ((self.new ≡ self.old) × (into.new ≡ into.old)) }
         ensures made { OnOk result (self.new.inbound ≡ without_first_and_gap self.old.inbound) }
         ensures received { IfOk result
-            (λ r. CopiedOut (received self.old) r.1 into.old r.0 (received self.new) into.new) }
+            (λ r. CopiesOut (inbound_datagrams self.old) r.1 into.old r.0
+            (inbound_datagrams self.new) into.new) }
         ensures outbound { self.new.outbound ≡ self.old.outbound }
         ensures capacity { HasSameCapacity self.old self.new }
     {
@@ -87,12 +90,13 @@ impl<'a> UdpSocket<'a> {
     ///
     /// `Empty` leaves the socket and `into` as they were.
     pub fn peek_slice(&mut self, into: &mut [u8]) -> Result<(usize, Endpoint), Empty>
-        ensures empty { IsErr result ↔ (received self.old ≡ []) }
-        ensures unchanged { received self.new ≡ received self.old }
+        ensures empty { IsErr result ↔ (inbound_datagrams self.old ≡ []) }
+        ensures unchanged { inbound_datagrams self.new ≡ inbound_datagrams self.old }
         ensures inbound { self.new.inbound ≡ without_gap self.old.inbound }
         ensures outbound { self.new.outbound ≡ self.old.outbound }
         ensures unwritten { OnErr result ((self.new ≡ self.old) × (into.new ≡ into.old)) }
-        ensures shown { IfOk result (λ r. CopiedFirst (received self.old) r.1 r.0 into.old into.new) }
+        ensures shown { IfOk result
+            (λ r. CopiesFirst (inbound_datagrams self.old) r.1 r.0 into.old into.new) }
         ensures capacity { HasSameCapacity self.old self.new }
     {
         copy_first(&mut self.inbound, into)
@@ -100,7 +104,7 @@ impl<'a> UdpSocket<'a> {
 
     /// Whether a datagram was received that was not taken off.
     pub fn can_recv(&self) -> bool
-        ensures { result ≡ not (length (received self.now) == 0) }
+        ensures { result ≡ not (length (inbound_datagrams self.now) == 0) }
     {
         laws::contents_are_packets::<Endpoint>();
         !self.inbound.is_empty()
@@ -124,7 +128,7 @@ impl<'a> UdpSocket<'a> {
         ensures made { IsTrue result
             → self.new.inbound ≡ with_packet_of self.old.inbound from «data».now }
         ensures received { IsTrue result
-            → received self.new ≡ received self.old ++ (from, «data».now) ∷ [] }
+            → inbound_datagrams self.new ≡ inbound_datagrams self.old ++ (from, «data».now) ∷ [] }
         ensures dropped { IsFalse result → self.new ≡ self.old }
         ensures capacity { HasSameCapacity self.old self.new }
     {
@@ -144,12 +148,12 @@ impl<'a> UdpSocket<'a> {
         &mut self,
         emit: F,
     ) -> Result<Result<R, E>, Empty>
-        requires { TakesFirstDatagram F.FnOnce emit (to_send self.old) }
-        ensures empty { IsErr result ↔ (to_send self.old ≡ []) }
+        requires { TakesFirstDatagram F.FnOnce emit (outbound_datagrams self.old) }
+        ensures empty { IsErr result ↔ (outbound_datagrams self.old ≡ []) }
         ensures unchanged { OnErr result (self.new ≡ self.old) }
         ensures inbound { self.new.inbound ≡ self.old.inbound }
         ensures dispatched { IfOk result
-            (λ r. Dispatched F.FnOnce emit self.old.outbound r self.new.outbound) }
+            (λ r. Dispatches F.FnOnce emit self.old.outbound r self.new.outbound) }
         ensures capacity { HasSameCapacity self.old self.new }
     {
         hand(&mut self.outbound, emit)
@@ -178,7 +182,7 @@ fn copy_first(
     ensures skipped { queue.new ≡ without_gap queue.old }
     ensures empty { IsErr result ↔ (contents queue.old ≡ []) }
     ensures unwritten { OnErr result ((queue.new ≡ queue.old) × (into.new ≡ into.old)) }
-    ensures shown { IfOk result (λ r. CopiedFirst (contents queue.old) r.1 r.0 into.old into.new) }
+    ensures shown { IfOk result (λ r. CopiesFirst (contents queue.old) r.1 r.0 into.old into.new) }
 {
     laws::contents_are_packets::<Endpoint>();
     laws::packets_leave_in_order::<Endpoint>();
@@ -196,7 +200,7 @@ fn hand<R, E, F: FnOnce(Endpoint, &[u8]) -> Result<R, E>>(
     requires { TakesFirstDatagram F.FnOnce emit (contents queue.old) }
     ensures empty { IsErr result ↔ (contents queue.old ≡ []) }
     ensures unchanged { OnErr result (queue.new ≡ queue.old) }
-    ensures dispatched { IfOk result (λ r. Dispatched F.FnOnce emit queue.old r queue.new) }
+    ensures dispatched { IfOk result (λ r. Dispatches F.FnOnce emit queue.old r queue.new) }
     ensures capacity { SameCapacity queue.new queue.old }
 {
     ring_buffer::laws::overwritten::<u8>();

@@ -61,7 +61,7 @@ fn asks(socket: &mut UdpSocket<'_>) -> bool {
 }
 
 /// A datagram comes in, longer than was expected, and one more for which there is no room.
-fn is_answered(socket: &mut UdpSocket<'_>) -> bool {
+fn is_replied_to(socket: &mut UdpSocket<'_>) -> bool {
     socket.process(SERVER, b"me, me")
         && !socket.process(SERVER, b"and me")
         && socket.can_recv()
@@ -81,7 +81,7 @@ fn a_question_goes_out_and_its_answer_comes_in(rt: HostRuntime) {
         queue_over(&mut slots_out, &mut bytes_out),
     );
     assert_holds(&rt, asks(&mut socket), ("asked", 0));
-    assert_holds(&rt, is_answered(&mut socket), ("answered", 0));
+    assert_holds(&rt, is_replied_to(&mut socket), ("replied to", 0));
 }
 
 /// The bytes of a datagram of so many, at most 32.

@@ -70,9 +70,9 @@ fn check_status<A: Allocator + Copy>(
 ) -> Result<(), Fail> {
     let list = words_of(alloc, words)?;
     let mut errors = Sink::new(alloc)?;
-    let answer = serve(heap, &list, source, sink, &mut errors);
+    let ended = serve(heap, &list, source, sink, &mut errors);
     let place = (words, status as usize);
-    assert_ended(rt, answer, status, true, place);
+    assert_ended(rt, ended, status, true, place);
     assert_bytes(rt, &errors.bytes, told, place);
     assert_bytes(rt, &sink.bytes, output, place);
     assert_count(rt, source.calls, reads, place);
@@ -199,8 +199,8 @@ fn check_no_words(rt: &impl Abort, alloc: Global) -> Result<(), Fail> {
     let none = Vec::new(alloc);
     let mut errors = Sink::new(alloc)?;
     let mut sink = Sink::new(alloc)?;
-    let answer = serve(alloc, &none, &mut Source::new(b""), &mut sink, &mut errors);
-    assert_ended(rt, answer, 2, true, ("no words", 0));
+    let ended = serve(alloc, &none, &mut Source::new(b""), &mut sink, &mut errors);
+    assert_ended(rt, ended, 2, true, ("no words", 0));
     assert_bytes(rt, &errors.bytes, USAGE_LINE, ("no words", 0));
     Ok(())
 }
@@ -326,8 +326,8 @@ fn check_untold(rt: &impl Abort, alloc: Global, line: &str, status: u8) -> Resul
     let mut source = Source::new(b"w 61\nx\n");
     let mut sink = Sink::new(alloc)?;
     let mut errors = Sink::failing(alloc, usize::MAX, 0, Some(ErrorKind::Other))?;
-    let answer = serve(alloc, &words, &mut source, &mut sink, &mut errors);
-    assert_ended(rt, answer, status, false, (line, 0));
+    let ended = serve(alloc, &words, &mut source, &mut sink, &mut errors);
+    assert_ended(rt, ended, status, false, (line, 0));
     assert_bytes(rt, &errors.bytes, b"", (line, 0));
     Ok(())
 }

@@ -237,9 +237,9 @@ fn assert_bytes(rt: &impl Abort, found: &[u8], wanted: &[u8], words: &str) {
 }
 
 /// Stops the test unless these are so many bytes of the input.
-fn assert_front(rt: &impl Abort, found: &[u8], input: &[u8], len: usize, words: &str) {
-    let front = &input[..len.min(input.len())];
-    assert!(rt; found == front, "{words}");
+fn assert_prefix(rt: &impl Abort, found: &[u8], input: &[u8], len: usize, words: &str) {
+    let prefix = &input[..len.min(input.len())];
+    assert!(rt; found == prefix, "{words}");
 }
 
 /// Stops the test unless a copy ended so, and standard error took what there was to say.
@@ -266,7 +266,7 @@ fn check(rt: &impl Abort, alloc: Global, case: &Case) -> Result<(), Fail> {
     let mut errors = Sink::new(alloc)?;
     let ended = serve(alloc, &words, &mut source, &mut sink, &mut errors);
     assert_ended(rt, ended, case.status, case.words);
-    assert_front(rt, &sink.bytes, &input, case.written, case.words);
+    assert_prefix(rt, &sink.bytes, &input, case.written, case.words);
     assert_bytes(rt, &errors.bytes, case.told.as_bytes(), case.words);
     assert!(rt; sink.flushes == 1, "{}", case.words);
     Ok(())

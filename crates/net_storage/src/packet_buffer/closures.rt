@@ -3,8 +3,8 @@ ghost use Rattle.std.specs.Prelude.{◌≡◌, ◌≤◌, ◌↔◌, ◌++◌, [
 ghost use Rattle.std.specs.Prelude.{take, drop, is_ok, if◌then◌else◌};
 ghost use Rattle.std.specs.declared.option.Option.TheVariants.{None};
 ghost use Rattle.net_storage.specs.Packets.{placement};
-ghost use Rattle.net_storage.specs.PacketCalls.{TakesRoom, CountsAtMost, WrotePacket, TakesPacket};
-ghost use Rattle.net_storage.specs.PacketCalls.{GivesAtPacket, TakesFirstPacket, HandedPacket};
+ghost use Rattle.net_storage.specs.PacketCalls.{TakesRoom, CountsAtMost, WritesPacket, TakesPacket};
+ghost use Rattle.net_storage.specs.PacketCalls.{GivesAtPacket, TakesFirstPacket, HandsPacket};
 ghost use Rattle.net_storage.specs.PacketHistory.{contents};
 
 use super::Packets;
@@ -36,7 +36,7 @@ impl<H: Drop, M: Elements<PacketMetadata<H>>, B: Elements<u8>> Packets<H, M, B> 
         ensures full { IsErr result ↔ (placement self.old max_size ≡ None) }
         ensures unchanged { OnErr result (self.new ≡ self.old) }
         ensures wrote { IfOk result
-            (λ k. WrotePacket F.FnOnce f self.old max_size header k self.new) }
+            (λ k. WritesPacket F.FnOnce f self.old max_size header k self.new) }
     {
         let Some(gap) = self.placement(max_size) else {
             return Err(Full);
@@ -72,7 +72,7 @@ impl<H: Drop, M: Elements<PacketMetadata<H>>, B: Elements<u8>> Packets<H, M, B> 
         ensures none { IsErr result ↔ (contents self.old ≡ []) }
         ensures empty { IsErr result ↔ (length self.old.packets ≡ 0) }
         ensures unchanged { OnErr result (self.new ≡ self.old) }
-        ensures handed { IfOk result (λ answer. HandedPacket F.FnOnce f self.old answer self.new) }
+        ensures handed { IfOk result (λ answer. HandsPacket F.FnOnce f self.old answer self.new) }
     {
         self.skip();
         let (size, header) = lift_header(&mut self.slots)?;

@@ -3,7 +3,7 @@
 ghost use Rattle.std.specs.Prelude.{◌≡◌, ◌≢◌, ◌≤◌, ◌<◌, ◌++◌, ◌∷◌, ◌↔◌, [], ℕ, List, Bool};
 ghost use Rattle.std.specs.Prelude.{length, take, drop, if◌then◌else◌};
 ghost use Rattle.std.specs.declared.option.Option.TheVariants.{Some, None};
-ghost use Rattle.net_storage.specs.Packets.{PacketQueue, WellPlaced, no_packets, IsFirst};
+ghost use Rattle.net_storage.specs.Packets.{PacketQueue, IsWellPlaced, no_packets, IsFirst};
 ghost use Rattle.net_storage.specs.Packets.{IsFirstSized, placement, with_packet_if_room, only_last};
 ghost use Rattle.net_storage.specs.Packets.{last_bytes, with_last_bytes, with_last_size, without_gap};
 ghost use Rattle.net_storage.specs.Packets.{first_size, with_first_bytes, without_first, after_hand_out, without_first_and_gap};
@@ -18,7 +18,7 @@ use crate::packet_metadata::PacketMetadata;
 /// Every queue is well placed: its packets fit into its storage, each in a row, its gaps end at the
 /// storage's end, and there is a slot for each packet and gap. The other laws speak of such queues.
 pub fn well_placed<H, M: Elements<PacketMetadata<H>>, B: Elements<u8>>(queue: &Packets<H, M, B>)
-    ensures { WellPlaced queue.now }
+    ensures { IsWellPlaced queue.now }
 {
     let _slots = queue.slots.capacity();
 }
@@ -47,25 +47,26 @@ pub fn empty_queue_takes_what_fits<H>()
 /// one anew, the first one is what is shown and taken off, and dropping a gap changes nothing.
 pub fn packets_leave_in_order<H>()
     ensures accepted { (q : PacketQueue H) (size : ℕ) (header : H) (ws : List ℕ)
-        → WellPlaced q → placement q size ≢ None → length ws ≡ size
+        → IsWellPlaced q → placement q size ≢ None → length ws ≡ size
         → contents (with_last_bytes (with_packet_if_room q size header) ws)
         ≡ contents q ++ (header, ws) ∷ [] }
     ensures accepted_with { (q : PacketQueue H) (size count : ℕ) (header : H) (ws : List ℕ)
-        → WellPlaced q → placement q size ≢ None → length ws ≡ size → count ≤ size
+        → IsWellPlaced q → placement q size ≢ None → length ws ≡ size → count ≤ size
         → contents (with_last_size count (with_last_bytes (with_packet_if_room q size header) ws))
         ≡ contents q ++ (header, take count ws) ∷ [] }
-    ensures gap_dropped { (q : PacketQueue H) → WellPlaced q → contents (without_gap q) ≡ contents q }
+    ensures gap_dropped { (q : PacketQueue H) → IsWellPlaced q
+        → contents (without_gap q) ≡ contents q }
     ensures shown { (q : PacketQueue H) (header : H) (ws : List ℕ)
-        → WellPlaced q → IsFirst q header ws
+        → IsWellPlaced q → IsFirst q header ws
         → contents q ≡ (header, ws) ∷ drop 1 (contents q) }
     ensures refused { (q : PacketQueue H) (header : H) (ws : List ℕ)
-        → WellPlaced q → q.packets ≢ [] → length ws ≡ first_size q.packets
+        → IsWellPlaced q → q.packets ≢ [] → length ws ≡ first_size q.packets
         → contents (with_first_bytes (without_gap q) header ws)
         ≡ (header, ws) ∷ drop 1 (contents q) }
-    ensures left { (q : PacketQueue H) → WellPlaced q
+    ensures left { (q : PacketQueue H) → IsWellPlaced q
         → contents (without_first_and_gap q) ≡ drop 1 (contents q) }
     ensures left_with { (q : PacketQueue H) (header : H) (ws : List ℕ)
-        → WellPlaced q → length ws ≡ first_size q.packets
+        → IsWellPlaced q → length ws ≡ first_size q.packets
         → contents (without_first (with_first_bytes (without_gap q) header ws)) ≡ drop 1 (contents q) }
 {}
 
@@ -77,20 +78,20 @@ pub fn packets_leave_in_order<H>()
 /// changes no content. The same holds of the bytes that `dequeue` lends.
 pub fn the_two_steps_apart<H>()
     ensures placed { (q : PacketQueue H) (size : ℕ) (header : H)
-        → WellPlaced q → placement q size ≢ None
+        → IsWellPlaced q → placement q size ≢ None
         → contents (with_packet_if_room q size header)
         ≡ contents q ++ (header, last_bytes (with_packet_if_room q size header)) ∷ [] }
     ensures last_written { (q : PacketQueue H) (ws : List ℕ)
-        → WellPlaced q → q.packets ≢ [] → length ws ≡ first_size (only_last q.packets)
+        → IsWellPlaced q → q.packets ≢ [] → length ws ≡ first_size (only_last q.packets)
         → contents (with_last_bytes q ws) ≡ with_bytes_in_last_entry ws (contents q) }
     ensures taken { (q : PacketQueue H) (header : H) (size : ℕ)
-        → WellPlaced q → IsFirstSized q.packets header size
+        → IsWellPlaced q → IsFirstSized q.packets header size
         → contents q ≡ (header, freed_bytes (without_first_and_gap q) size) ∷ contents (without_first_and_gap q) }
     ensures freed_written { (q : PacketQueue H) (ws : List ℕ)
-        → WellPlaced q → AreFreed q (length ws)
+        → IsWellPlaced q → AreFreed q (length ws)
         → contents (with_bytes q (freed_bytes_index q (length ws)) ws) ≡ contents q }
     ensures lent_written { (q : PacketQueue H) (ws : List ℕ)
-        → WellPlaced q → length ws ≡ first_size q.packets
+        → IsWellPlaced q → length ws ≡ first_size q.packets
         → contents (with_bytes (without_first_and_gap q) (without_gap q).read_at ws) ≡ drop 1 (contents q) }
 {}
 
@@ -98,11 +99,11 @@ pub fn the_two_steps_apart<H>()
 /// leaves the header and the bytes of the first packet as they were leaves the contents, less the
 /// packet if it returned `Ok`.
 pub fn showing_changes_nothing<H>()
-    ensures peeked { (q : PacketQueue H) → WellPlaced q
+    ensures peeked { (q : PacketQueue H) → IsWellPlaced q
         → contents (without_first_and_gap (without_gap q)) ≡ drop 1 (contents q) }
     ensures still_there { (q : PacketQueue H) → length (without_gap q).packets ≡ length q.packets }
     ensures kept { (q : PacketQueue H) (header : H) (ws : List ℕ) (gone : Bool)
-        → WellPlaced q → IsFirst q header ws
+        → IsWellPlaced q → IsFirst q header ws
         → contents (after_hand_out gone q header ws)
         ≡ (if gone then drop 1 (contents q) else contents q) }
 {}

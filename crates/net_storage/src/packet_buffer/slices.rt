@@ -3,7 +3,7 @@ ghost use Rattle.std.specs.Prelude.{◌≡◌, ◌↔◌, ◌∷◌, ◌++◌, [
 ghost use Rattle.std.specs.Prelude.{take, drop};
 ghost use Rattle.std.specs.declared.option.Option.TheVariants.{None};
 ghost use Rattle.net_storage.specs.Packets.{placement, with_packet, with_packet_of, without_first_and_gap};
-ghost use Rattle.net_storage.specs.PacketCalls.{CopiedOut};
+ghost use Rattle.net_storage.specs.PacketCalls.{CopiesOut};
 ghost use Rattle.net_storage.specs.PacketHistory.{contents, head_bytes};
 
 use super::Packets;
@@ -36,7 +36,7 @@ impl<H: Drop, M: Elements<PacketMetadata<H>>, B: Elements<u8>> Packets<H, M, B> 
     pub fn pop_slice(&mut self, into: &mut [u8]) -> Result<(H, usize), Empty>
         ensures none { IsErr result ↔ (contents self.old ≡ []) }
         ensures popped { IfOk result
-            (λ r. CopiedOut (contents self.old) r.0 into.old r.1 (contents self.new) into.new) }
+            (λ r. CopiesOut (contents self.old) r.0 into.old r.1 (contents self.new) into.new) }
         ensures count { IfOk result
             (λ r. r.1 ≡ min (length (head_bytes (contents self.old))) (length into.old)) }
         ensures bytes { IfOk result

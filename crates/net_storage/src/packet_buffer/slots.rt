@@ -2,7 +2,7 @@
 ghost use Rattle.std.specs.Prelude.{◌≡◌, ◌≢◌, ◌≤◌, ◌-◌, ◌↔◌, ◌∷◌, ◌++◌, [], ℕ, IsErr, IfOk, OnErr};
 ghost use Rattle.std.specs.Prelude.{drop};
 ghost use Rattle.std.specs.declared.option.Option.TheVariants.{Some, None};
-ghost use Rattle.net_storage.specs.Ring.{capacity, window, queue, WellFormed};
+ghost use Rattle.net_storage.specs.Ring.{capacity, window, queue, IsWellFormed};
 ghost use Rattle.net_storage.specs.Packets.{slots_for};
 ghost use Rattle.net_storage.specs.PacketSlots.{gap_slot, slot, IsFirstSlot, HasFirstSlot};
 
@@ -17,11 +17,11 @@ pub(crate) fn push_slots<H: Drop, M: Elements<PacketMetadata<H>>>(
     gap: usize,
     slot: PacketMetadata<H>,
 )
-    requires well_formed { WellFormed slots.old }
+    requires well_formed { IsWellFormed slots.old }
     requires free { slots_for gap ≤ window slots.old }
     ensures queue { queue slots.new ≡ queue slots.old ++ (gap_slot gap ++ slot ∷ []) }
     ensures capacity { capacity slots.new ≡ capacity slots.old }
-    ensures well_formed { WellFormed slots.new }
+    ensures well_formed { IsWellFormed slots.new }
 {
     if gap > 0 {
         push_slot(
@@ -40,12 +40,12 @@ fn push_slot<H: Drop, M: Elements<PacketMetadata<H>>>(
     slots: &mut Ring<PacketMetadata<H>, M>,
     slot: PacketMetadata<H>,
 )
-    requires well_formed { WellFormed slots.old }
+    requires well_formed { IsWellFormed slots.old }
     requires free { window slots.old ≢ 0 }
     ensures queue { queue slots.new ≡ queue slots.old ++ slot ∷ [] }
     ensures window { window slots.new ≡ window slots.old - 1 }
     ensures capacity { capacity slots.new ≡ capacity slots.old }
-    ensures well_formed { WellFormed slots.new }
+    ensures well_formed { IsWellFormed slots.new }
 {
     if let Ok(place) = slots.enqueue_one() {
         *place = slot;
@@ -56,7 +56,7 @@ fn push_slot<H: Drop, M: Elements<PacketMetadata<H>>>(
 pub(crate) fn lift_header<H: Drop, M: Elements<PacketMetadata<H>>>(
     slots: &mut Ring<PacketMetadata<H>, M>,
 ) -> Result<(usize, H), Empty>
-    requires well_formed { WellFormed slots.old }
+    requires well_formed { IsWellFormed slots.old }
     requires header { (size : ℕ) → IsFirstSlot slots.old size None → ⊥ }
     ensures empty { IsErr result ↔ (slots.old.count ≡ 0) }
     ensures unchanged { OnErr result (slots.new ≡ slots.old) }
@@ -81,10 +81,10 @@ pub(crate) fn put_header<H: Drop, M: Elements<PacketMetadata<H>>>(
     slots: &mut Ring<PacketMetadata<H>, M>,
     header: H,
 )
-    requires { WellFormed slots.old }
+    requires { IsWellFormed slots.old }
     ensures queue { (size : ℕ) (h : _) → IsFirstSlot slots.old size h
         → queue slots.new ≡ slot size (Some header) ∷ drop 1 (queue slots.old) }
-    ensures well_formed { WellFormed slots.new }
+    ensures well_formed { IsWellFormed slots.new }
     ensures capacity { capacity slots.new ≡ capacity slots.old }
 {
     if let Some(slot) = slots.get_allocated_mut(0, 1).first_mut() {

@@ -4,7 +4,7 @@ ghost use Rattle.std.specs.Prelude.{ℕ, List, slice_get, slice_index_or};
 ghost use Rattle.std.specs.Borrow.{sem};
 ghost use Rattle.net_storage.specs.Ring.{ring, queue, queue_index, contiguous_queued_from, with_elements};
 ghost use Rattle.net_storage.specs.Ring.{contiguous_queued, contiguous_queue};
-ghost use Rattle.net_storage.specs.Ring.{with_dequeued, Dequeued, QueueWritten};
+ghost use Rattle.net_storage.specs.Ring.{with_dequeued, Dequeues, WritesQueue};
 
 use super::{Ring, Span};
 use crate::managed::Elements;
@@ -93,7 +93,8 @@ impl<T, S: Elements<T>> Ring<T, S> {
         ensures stored { result.now
             ≡ take (length result.now) (drop (queue_index self.old offset) self.old.storage) }
         ensures written { (ws : List T) → length ws ≡ contiguous_queued_from self.old offset size →
-            QueueWritten self.old offset ws (with_elements self.old (queue_index self.old offset) ws) }
+            WritesQueue self.old offset ws
+            (with_elements self.old (queue_index self.old offset) ws) }
     {
         let span = self.span(0, self.length, offset, size);
         self.storage
@@ -123,7 +124,7 @@ impl<T, S: Elements<T>> Ring<T, S> {
     pub fn dequeue_allocated(&mut self, count: usize)
         requires len { count ≤ self.old.count }
         ensures ring { self.new ≡ with_dequeued count self.old }
-        ensures dequeued { Dequeued self.old count (take count (queue self.old)) self.new }
+        ensures dequeued { Dequeues self.old count (take count (queue self.old)) self.new }
     {
         let next = self.storage_index(count);
         self.read_at = next;

@@ -1,9 +1,9 @@
 //! Laws of rings and of their storage, over the definitions alone: the functions do nothing.
 ghost use Rattle.std.specs.Prelude.{◌≡◌, ◌+◌, ◌++◌, List, length, take, drop, ℕ};
 ghost use Rattle.net_storage.specs.Managed.{elements, with_part};
-ghost use Rattle.net_storage.specs.Overwrite.{overwrite, OverwrittenAt};
+ghost use Rattle.net_storage.specs.Overwrite.{overwrite, OverwritesAt};
 ghost use Rattle.net_storage.specs.Ring.{RingState, ring, capacity, window, queue, spare, from_start_if_empty};
-ghost use Rattle.net_storage.specs.Ring.{WellFormed};
+ghost use Rattle.net_storage.specs.Ring.{IsWellFormed};
 ghost use Rattle.net_storage.specs.RingHistory.{RingCall, MakesAll, history};
 
 use crate::managed::ManagedSlice;
@@ -11,13 +11,13 @@ use crate::managed::ManagedSlice;
 /// A ring is no more than its read index, its queue and its spare part: two rings that agree in
 /// these are the same.
 pub fn ring_is_its_parts<T>()
-    ensures { (g h : RingState T) → WellFormed g → WellFormed h →
+    ensures { (g h : RingState T) → IsWellFormed g → IsWellFormed h →
         g.read_at ≡ h.read_at → queue g ≡ queue h → spare g ≡ spare h → g ≡ h }
 {}
 
 /// What is queued and what is free are a ring's capacity, and the lengths of its two parts.
 pub fn count_and_window_are_capacity<T>()
-    ensures { (g : RingState T) → WellFormed g → (g.count + window g ≡ capacity g)
+    ensures { (g : RingState T) → IsWellFormed g → (g.count + window g ≡ capacity g)
         × (length (queue g) ≡ g.count) × (length (spare g) ≡ window g) }
 {}
 
@@ -50,6 +50,6 @@ pub fn storage_is_what_was_written<T>(storage: &ManagedSlice<'_, T>)
 /// it is as it was.
 pub fn overwritten<T>()
     ensures count { (xs ws : List T) (i : ℕ) → length (overwrite xs i ws) ≡ length xs }
-    ensures element { (xs ws : List T) (i k : ℕ) (x : T) → OverwrittenAt xs i ws k x }
+    ensures element { (xs ws : List T) (i k : ℕ) (x : T) → OverwritesAt xs i ws k x }
     ensures same { (xs : List T) (i n : ℕ) → overwrite xs i (take n (drop i xs)) ≡ xs }
 {}

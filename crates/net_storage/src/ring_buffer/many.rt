@@ -5,7 +5,7 @@ ghost use Rattle.std.specs.Fn.{FnOnceTakesAtMut};
 ghost use Rattle.net_storage.specs.Ring.{window, queue, spare, write_at, contiguous_window};
 ghost use Rattle.net_storage.specs.Ring.{contiguous_queued, contiguous_spare, contiguous_queue};
 ghost use Rattle.net_storage.specs.Ring.{with_elements, with_enqueued, with_dequeued, from_start_if_empty};
-ghost use Rattle.net_storage.specs.Ring.{Enqueued, Dequeued};
+ghost use Rattle.net_storage.specs.Ring.{Enqueues, Dequeues};
 ghost use Rattle.net_storage.specs.RingCalls.{CountsWithin, CalledOnSpare, CalledOnQueue};
 
 use super::Ring;
@@ -52,7 +52,7 @@ impl<T, S: Elements<T>> Ring<T, S> {
         ensures stored { let g = from_start_if_empty self.old in
             result.now ≡ take (length result.now) (drop (write_at g) g.storage) }
         ensures enqueued { let g = from_start_if_empty self.old in let k = min size (contiguous_window g) in
-            (ws : List T) → length ws ≡ k → Enqueued g ws
+            (ws : List T) → length ws ≡ k → Enqueues g ws
             (with_elements (with_enqueued k g) (write_at g) ws) }
     {
         self.restart();
@@ -96,7 +96,7 @@ impl<T, S: Elements<T>> Ring<T, S> {
         ensures stored { result.now
             ≡ take (length result.now) (drop self.old.read_at self.old.storage) }
         ensures dequeued { let k = min size (contiguous_queued self.old) in
-            (ws : List T) → length ws ≡ k → Dequeued self.old k ws
+            (ws : List T) → length ws ≡ k → Dequeues self.old k ws
             (with_elements (with_dequeued k self.old) self.old.read_at ws) }
     {
         let from = self.read_at;

@@ -2,7 +2,7 @@
 ghost use Rattle.std.specs.Prelude.{◌≡◌, ◌≢◌, ◌↔◌, drop, [], ◌∷◌, IsErr, OnErr, IfOk};
 ghost use Rattle.std.specs.Borrow.{sem};
 ghost use Rattle.net_storage.specs.Ring.{window, queue, spare, write_at, with_elements, with_enqueued};
-ghost use Rattle.net_storage.specs.Ring.{with_dequeued, Enqueued, Dequeued};
+ghost use Rattle.net_storage.specs.Ring.{with_dequeued, Enqueues, Dequeues};
 ghost use Rattle.net_storage.specs.RingCalls.{TakesFirstOf, CalledOnNext, CalledOnFirst};
 
 use super::Ring;
@@ -50,7 +50,7 @@ impl<T, S: Elements<T>> Ring<T, S> {
             (with_enqueued 1 self.old) (write_at self.old) result) }
         ensures full { IsErr result ↔ (window self.old ≡ 0) }
         ensures value { IfOk result (λ r. spare self.old ≡ r.now ∷ drop 1 (spare self.old)) }
-        ensures enqueued { window self.old ≢ 0 → (w : T) → Enqueued self.old (w ∷ [])
+        ensures enqueued { window self.old ≢ 0 → (w : T) → Enqueues self.old (w ∷ [])
             (with_elements (with_enqueued 1 self.old) (write_at self.old) (w ∷ [])) }
     {
         if self.is_full() {
@@ -67,7 +67,7 @@ impl<T, S: Elements<T>> Ring<T, S> {
         ensures* writes_back { sem 𝓛 (lends_one T.row S.row S.Elements self.entry
             (with_enqueued 1 self.old) (write_at self.old) result) }
         ensures value { spare self.old ≡ result.now ∷ drop 1 (spare self.old) }
-        ensures enqueued { (w : T) → Enqueued self.old (w ∷ [])
+        ensures enqueued { (w : T) → Enqueues self.old (w ∷ [])
             (with_elements (with_enqueued 1 self.old) (write_at self.old) (w ∷ [])) }
     {
         let at = self.storage_index(self.length);
@@ -114,7 +114,7 @@ impl<T, S: Elements<T>> Ring<T, S> {
             (with_dequeued 1 self.old) self.old.read_at result) }
         ensures empty { IsErr result ↔ (self.old.count ≡ 0) }
         ensures value { IfOk result (λ r. queue self.old ≡ r.now ∷ drop 1 (queue self.old)) }
-        ensures dequeued { self.old.count ≢ 0 → (w : T) → Dequeued self.old 1 (w ∷ [])
+        ensures dequeued { self.old.count ≢ 0 → (w : T) → Dequeues self.old 1 (w ∷ [])
             (with_elements (with_dequeued 1 self.old) self.old.read_at (w ∷ [])) }
     {
         if self.is_empty() {
@@ -131,7 +131,7 @@ impl<T, S: Elements<T>> Ring<T, S> {
         ensures* writes_back { sem 𝓛 (lends_one T.row S.row S.Elements self.entry
             (with_dequeued 1 self.old) self.old.read_at result) }
         ensures value { queue self.old ≡ result.now ∷ drop 1 (queue self.old) }
-        ensures dequeued { (w : T) → Dequeued self.old 1 (w ∷ [])
+        ensures dequeued { (w : T) → Dequeues self.old 1 (w ∷ [])
             (with_elements (with_dequeued 1 self.old) self.old.read_at (w ∷ [])) }
     {
         let at = self.read_at;

@@ -1,8 +1,9 @@
 //! Elements that are copied in and out.
 ghost use Rattle.std.specs.Prelude.{◌≡◌, ◌-◌, ◌+◌, length, take, drop, ◌++◌, min};
 ghost use Rattle.net_storage.specs.Ring.{ring, capacity, window, queue, write_at, with_elements_wrapping};
-ghost use Rattle.net_storage.specs.Ring.{with_enqueued, with_dequeued, from_start_if_empty, Enqueued};
-ghost use Rattle.net_storage.specs.Ring.{Dequeued};
+ghost use Rattle.net_storage.specs.Ring.{with_enqueued, with_dequeued, from_start_if_empty};
+ghost use Rattle.net_storage.specs.Ring.{Enqueues};
+ghost use Rattle.net_storage.specs.Ring.{Dequeues};
 
 use super::Ring;
 use crate::managed::Elements;
@@ -17,7 +18,8 @@ impl<T: Copy, S: Elements<T>> Ring<T, S> {
         ensures count { result ≡ min (length «data».now) (window self.old) }
         ensures ring { let g = from_start_if_empty self.old in self.new
             ≡ with_enqueued result (with_elements_wrapping g (write_at g) (take result «data».now)) }
-        ensures enqueued { Enqueued (from_start_if_empty self.old) (take result «data».now) self.new }
+        ensures enqueued { Enqueues (from_start_if_empty self.old)
+            (take result «data».now) self.new }
         ensures queue { queue self.new ≡ queue self.old ++ take result «data».now }
         ensures same { (self.new.count ≡ self.old.count + result)
             × (capacity self.new ≡ capacity self.old) }
@@ -35,7 +37,7 @@ impl<T: Copy, S: Elements<T>> Ring<T, S> {
         ensures of_queue { result ≡ min (length «data».old) (length (queue self.old)) }
         ensures given { «data».new ≡ take result (queue self.old) ++ drop result «data».old }
         ensures ring { self.new ≡ with_dequeued result self.old }
-        ensures dequeued { Dequeued self.old result (take result (queue self.old)) self.new }
+        ensures dequeued { Dequeues self.old result (take result (queue self.old)) self.new }
         ensures queue { queue self.new ≡ drop result (queue self.old) }
         ensures same { (self.new.count ≡ self.old.count - result)
             × (capacity self.new ≡ capacity self.old) }

@@ -4,7 +4,7 @@ ghost use Rattle.std.specs.Prelude.{slice_index_or};
 ghost use Rattle.std.specs.Borrow.{sem};
 ghost use Rattle.net_storage.specs.Ring.{ring, capacity, window, spare, spare_index, freed_index};
 ghost use Rattle.net_storage.specs.Ring.{contiguous_window_from, with_elements, with_elements_wrapping};
-ghost use Rattle.net_storage.specs.Ring.{with_enqueued, Enqueued, SpareWritten};
+ghost use Rattle.net_storage.specs.Ring.{with_enqueued, Enqueues, WritesSpare};
 
 use super::{Ring, Span};
 use crate::managed::Elements;
@@ -43,7 +43,8 @@ impl<T, S: Elements<T>> Ring<T, S> {
         ensures stored { result.now
             ≡ take (length result.now) (drop (spare_index self.old offset) self.old.storage) }
         ensures written { (ws : List T) → length ws ≡ contiguous_window_from self.old offset size →
-            SpareWritten self.old offset ws (with_elements self.old (spare_index self.old offset) ws) }
+            WritesSpare self.old offset ws
+            (with_elements self.old (spare_index self.old offset) ws) }
     {
         let span = self.span(self.length, self.window(), offset, size);
         self.storage
@@ -80,7 +81,7 @@ impl<T, S: Elements<T>> Ring<T, S> {
     pub fn enqueue_unallocated(&mut self, count: usize)
         requires window { count ≤ window self.old }
         ensures ring { self.new ≡ with_enqueued count self.old }
-        ensures enqueued { Enqueued self.old (take count (spare self.old)) self.new }
+        ensures enqueued { Enqueues self.old (take count (spare self.old)) self.new }
         ensures of_spare { spare self.new ≡ drop count (spare self.old) }
     {
         // Called for its clauses alone: by them the sum below does not wrap.
@@ -97,7 +98,7 @@ impl<T: Copy, S: Elements<T>> Ring<T, S> {
         ensures count { result ≡ min (length «data».now) (window self.old - offset) }
         ensures ring { self.new
             ≡ with_elements_wrapping self.old (spare_index self.old offset) (take result «data».now) }
-        ensures written { SpareWritten self.old offset (take result «data».now) self.new }
+        ensures written { WritesSpare self.old offset (take result «data».now) self.new }
         ensures same { (self.new.count ≡ self.old.count) × (capacity self.new ≡ capacity self.old) }
     {
         let Span {

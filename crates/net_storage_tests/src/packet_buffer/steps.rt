@@ -104,7 +104,7 @@ fn write(queue: &mut PacketBuffer<'_, u8>, header: u8, text: &[u8]) -> bool {
 fn write_with(queue: &mut PacketBuffer<'_, u8>, size: usize, count: usize) -> bool {
     let kept = count.min(size);
     match queue.enqueue_with_infallible(size, 0, move |_| kept) {
-        Ok(answer) => answer == count,
+        Ok(result) => result == count,
         Err(Full) => false,
     }
 }
@@ -165,29 +165,29 @@ fn takes(queue: &mut PacketBuffer<'_, u8>, header: u8, text: &[u8]) -> bool {
 /// Returns whether `enqueue_with_infallible` is refused and its closure isn't called.
 fn refuses_closure(queue: &mut PacketBuffer<'_, u8>, size: usize) -> bool {
     let called = Cell::new(false);
-    let answer = queue.enqueue_with_infallible(size, 0, |_| {
+    let result = queue.enqueue_with_infallible(size, 0, |_| {
         called.set(true);
         0
     });
-    answer == Err(Full) && !called.get()
+    result == Err(Full) && !called.get()
 }
 
 /// Returns whether `dequeue_with` shows these bytes.
 fn reads_with(queue: &mut PacketBuffer<'_, u8>, text: &[u8]) -> bool {
-    let answer = queue.dequeue_with(|_, shown| -> Result<bool, ()> { Ok(*shown == *text) });
-    answer == Ok(Ok(true))
+    let result = queue.dequeue_with(|_, shown| -> Result<bool, ()> { Ok(*shown == *text) });
+    result == Ok(Ok(true))
 }
 
 /// Writes to the first packet and returns it; returns whether the closure was called.
 fn returns_packet(queue: &mut PacketBuffer<'_, u8>, left: u8, byte: u8) -> bool {
-    let answer = queue.dequeue_with(|header, shown| -> Result<(), u32> {
+    let result = queue.dequeue_with(|header, shown| -> Result<(), u32> {
         *header = left;
         if let Some(first) = shown.first_mut() {
             *first = byte;
         }
         Err(123)
     });
-    answer == Ok(Err(123))
+    result == Ok(Err(123))
 }
 
 /// Returns whether `peek` is refused.
@@ -213,11 +213,11 @@ fn pops_nothing(queue: &mut PacketBuffer<'_, u8>) -> bool {
 /// Returns whether `dequeue_with` is refused and its closure isn't called.
 fn hands_nothing(queue: &mut PacketBuffer<'_, u8>) -> bool {
     let called = Cell::new(false);
-    let answer = queue.dequeue_with(|_, _| -> Result<(), ()> {
+    let result = queue.dequeue_with(|_, _| -> Result<(), ()> {
         called.set(true);
         Ok(())
     });
-    answer == Err(Empty) && !called.get()
+    result == Err(Empty) && !called.get()
 }
 
 /// Returns whether each call that gives a packet is refused.

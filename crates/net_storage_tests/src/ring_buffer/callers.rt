@@ -3,8 +3,9 @@ ghost use Rattle.std.specs.Prelude.{◌≡◌, ◌≢◌, ◌<◌, ◌↔◌, �
 ghost use Rattle.std.specs.Prelude.{List, IsErr, OnOk, OnErr, IfOk, vec_len};
 ghost use Rattle.net_storage.specs.Ring.{window, queue, spare, contiguous_window};
 ghost use Rattle.net_storage.specs.Ring.{contiguous_queued, contiguous_window_from};
-ghost use Rattle.net_storage.specs.Ring.{contiguous_queued_from, from_start_if_empty, Enqueued, Dequeued};
-ghost use Rattle.net_storage.specs.Ring.{SpareWritten, QueueWritten};
+ghost use Rattle.net_storage.specs.Ring.{contiguous_queued_from, from_start_if_empty};
+ghost use Rattle.net_storage.specs.Ring.{Enqueues, Dequeues};
+ghost use Rattle.net_storage.specs.Ring.{WritesSpare, WritesQueue};
 
 use net_storage::{Empty, Full, ManagedSlice, RingBuffer};
 use std::marker::Model;
@@ -12,7 +13,7 @@ use std::marker::Model;
 /// A byte is written to the part that `enqueue_many` lends.
 pub fn enqueue_byte(ring: &mut RingBuffer<'_, u8>, byte: u8)
     requires { 0 < contiguous_window (from_start_if_empty ring.old) }
-    ensures parts { Enqueued (from_start_if_empty ring.old) (byte ∷ []) ring.new }
+    ensures parts { Enqueues (from_start_if_empty ring.old) (byte ∷ []) ring.new }
     ensures queue { queue ring.new ≡ queue (from_start_if_empty ring.old) ++ (byte ∷ []) }
 {
     ring.enqueue_many(1)[0] = byte;
@@ -22,7 +23,7 @@ pub fn enqueue_byte(ring: &mut RingBuffer<'_, u8>, byte: u8)
 pub fn enqueue_one_byte(ring: &mut RingBuffer<'_, u8>, byte: u8) -> Result<(), Full>
     ensures full { IsErr result ↔ (window ring.old ≡ 0) }
     ensures unchanged { OnErr result (ring.new ≡ ring.old) }
-    ensures parts { OnOk result (Enqueued ring.old (byte ∷ []) ring.new) }
+    ensures parts { OnOk result (Enqueues ring.old (byte ∷ []) ring.new) }
 {
     *ring.enqueue_one()? = byte;
     Ok(())
@@ -31,7 +32,7 @@ pub fn enqueue_one_byte(ring: &mut RingBuffer<'_, u8>, byte: u8) -> Result<(), F
 /// A byte is written to a free element, and stands there.
 pub fn stage(ring: &mut RingBuffer<'_, u8>, offset: usize, byte: u8)
     requires { 0 < contiguous_window_from ring.old offset 1 }
-    ensures { SpareWritten ring.old offset (byte ∷ []) ring.new }
+    ensures { WritesSpare ring.old offset (byte ∷ []) ring.new }
 {
     ring.get_unallocated(offset, 1)[0] = byte;
 }
@@ -39,7 +40,7 @@ pub fn stage(ring: &mut RingBuffer<'_, u8>, offset: usize, byte: u8)
 /// A byte of the queue is written over.
 pub fn patch(ring: &mut RingBuffer<'_, u8>, offset: usize, byte: u8)
     requires { 0 < contiguous_queued_from ring.old offset 1 }
-    ensures { QueueWritten ring.old offset (byte ∷ []) ring.new }
+    ensures { WritesQueue ring.old offset (byte ∷ []) ring.new }
 {
     ring.get_allocated_mut(offset, 1)[0] = byte;
 }
@@ -47,7 +48,7 @@ pub fn patch(ring: &mut RingBuffer<'_, u8>, offset: usize, byte: u8)
 /// The first byte of the queue is dequeued, and zero is left in its place.
 pub fn dequeue_byte(ring: &mut RingBuffer<'_, u8>) -> u8
     requires { 0 < contiguous_queued ring.old }
-    ensures parts { Dequeued ring.old 1 (0 ∷ []) ring.new }
+    ensures parts { Dequeues ring.old 1 (0 ∷ []) ring.new }
     ensures byte { take 1 (queue ring.old) ≡ result ∷ [] }
 {
     let part = ring.dequeue_many(1);
@@ -61,7 +62,7 @@ pub fn dequeue_one_byte(ring: &mut RingBuffer<'_, u8>) -> Result<u8, Empty>
     ensures empty { IsErr result ↔ (ring.old.count ≡ 0) }
     ensures unchanged { OnErr result (ring.new ≡ ring.old) }
     ensures byte { IfOk result (λ byte. queue ring.old ≡ byte ∷ drop 1 (queue ring.old)) }
-    ensures parts { OnOk result (Dequeued ring.old 1 (0 ∷ []) ring.new) }
+    ensures parts { OnOk result (Dequeues ring.old 1 (0 ∷ []) ring.new) }
 {
     let front = ring.dequeue_one()?;
     let byte = *front;
@@ -83,7 +84,7 @@ pub fn write_and_enqueue(ring: &mut RingBuffer<'_, u8>, data: &[u8]) -> usize
 pub fn write_and_refuse(ring: &mut RingBuffer<'_, u8>, byte: u8)
     ensures queue { queue ring.new ≡ queue ring.old }
     ensures count { ring.new.count ≡ ring.old.count }
-    ensures spare { window ring.old ≢ 0 → SpareWritten ring.old 0 (byte ∷ []) ring.new }
+    ensures spare { window ring.old ≢ 0 → WritesSpare ring.old 0 (byte ∷ []) ring.new }
 {
     let _ = ring.enqueue_one_with(|free| -> Result<(), ()> {
         *free = byte;

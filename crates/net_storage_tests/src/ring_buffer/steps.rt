@@ -158,19 +158,19 @@ fn reads(ring: &mut RingBuffer<'_, u8>, offset: usize, count: usize, after: &[u8
 }
 
 fn enqueues_text(ring: &mut RingBuffer<'_, u8>, text: &[u8], count: usize, lent: usize) -> bool {
-    let answer = ring.enqueue_many_with(|part| {
+    let result = ring.enqueue_many_with(|part| {
         fill(part, text);
         (part.len().min(count), part.len())
     });
-    answer == (count, lent)
+    result == (count, lent)
 }
 
 fn dequeues_text(ring: &mut RingBuffer<'_, u8>, text: &[u8], count: usize, lent: usize) -> bool {
-    let answer = ring.dequeue_many_with(|part| {
+    let result = ring.dequeue_many_with(|part| {
         fill(part, text);
         (part.len().min(count), part.len())
     });
-    answer == (count, lent)
+    result == (count, lent)
 }
 
 fn enqueues_one(ring: &mut RingBuffer<'_, u8>, shown: Option<u8>, left: u8) -> bool {
@@ -202,13 +202,13 @@ fn verdict(accepts: bool) -> Result<(), ()> {
 
 fn offers_next(ring: &mut RingBuffer<'_, u8>, shown: Option<u8>, left: u8, accepts: bool) -> bool {
     let mut seen = None;
-    let answer = ring.enqueue_one_with(|place| {
+    let result = ring.enqueue_one_with(|place| {
         seen = Some(*place);
         *place = left;
         verdict(accepts)
     });
     seen == shown
-        && answer
+        && result
             == if shown.is_some() {
                 Ok(verdict(accepts))
             } else {
@@ -218,13 +218,13 @@ fn offers_next(ring: &mut RingBuffer<'_, u8>, shown: Option<u8>, left: u8, accep
 
 fn offers_first(ring: &mut RingBuffer<'_, u8>, shown: Option<u8>, left: u8, accepts: bool) -> bool {
     let mut seen = None;
-    let answer = ring.dequeue_one_with(|place| {
+    let result = ring.dequeue_one_with(|place| {
         seen = Some(*place);
         *place = left;
         verdict(accepts)
     });
     seen == shown
-        && answer
+        && result
             == if shown.is_some() {
                 Ok(verdict(accepts))
             } else {

@@ -1,9 +1,9 @@
 use Rattle.std.proofs.Common.{◌≡◌, ◌≤◌, ◌<◌, ◌-◌, ◌^◌, true, [], IfErr, subst, ap, arith, ◌∙◌}
 use Rattle.net_stream.specs.Copying.{gave_up, HasPositions}
 use Rattle.net_stream.specs.Fates.{FatesSeen}
-use Rattle.net_stream.specs.Rounds.{FatesCounted}
-use Rattle.net_stream.specs.Stuck.{StuckAtLast}
-use Rattle.net_stream.specs.declared.copying.Settings.{Settings}
+use Rattle.net_stream.specs.Rounds.{CountsFates}
+use Rattle.net_stream.specs.Stuck.{AreStuckAtLast}
+use Rattle.net_stream.specs.declared.copying.Config.{Config}
 use Rattle.net_stream.specs.declared.fate.Rates.{Rates}
 use Rattle.net_link.specs.Serving.{fates_of, ack_fates_of}
 use Rattle.net_link.proofs.Copied.{without, if_told}
@@ -26,27 +26,27 @@ returns-clause-copied g c =
       outcome = ended;
       counts = counts;
       copied = c.copy-ended.ensures.copied;
-      fates = subst (λ (v : FatesSeen). FatesCounted v (ack_fates_of plan) counts.frames) there
-          (subst (λ (v : FatesSeen). FatesCounted c.new-fates.result v counts.frames) back
+      fates = subst (λ (v : FatesSeen). CountsFates v (ack_fates_of plan) counts.frames) there
+          (subst (λ (v : FatesSeen). CountsFates c.new-fates.result v counts.frames) back
           c.copy-ended.ensures.fates);
-      rounds = subst (λ (s : Settings). IfErr ended (λ e. gave_up e ≡ true
-          → s.rounds ≤ counts.rounds)) c.settings.ensures c.copy-ended.ensures.gave_up;
-      unfinished = subst (λ (s : Settings). IfErr ended (λ e. gave_up e ≡ true
+      rounds = subst (λ (s : Config). IfErr ended (λ e. gave_up e ≡ true
+          → s.rounds ≤ counts.rounds)) c.config.ensures c.copy-ended.ensures.gave_up;
+      unfinished = subst (λ (s : Config). IfErr ended (λ e. gave_up e ≡ true
           → HasPositions s.first counts.taken → counts.taken < s.capacity
-          → counts.bytes < counts.taken)) c.settings.ensures c.copy-ended.ensures.unfinished;
+          → counts.bytes < counts.taken)) c.config.ensures c.copy-ended.ensures.unfinished;
       stalls = without _ (0 < 262144) _ (omega arith) ended
-          (subst (λ (s : Settings). IfErr ended (λ e. gave_up e ≡ true
+          (subst (λ (s : Config). IfErr ended (λ e. gave_up e ≡ true
           → HasPositions s.first counts.taken → 0 < s.capacity
-          → StuckAtLast s.rounds (fates_of plan) (ack_fates_of plan) counts.frames))
-          c.settings.ensures
+          → AreStuckAtLast s.rounds (fates_of plan) (ack_fates_of plan) counts.frames))
+          c.config.ensures
           (subst (λ (v : FatesSeen). IfErr ended (λ e. gave_up e ≡ true
-          → HasPositions c.settings.result.first counts.taken → 0 < c.settings.result.capacity
-          → StuckAtLast c.settings.result.rounds v (ack_fates_of plan) counts.frames)) there
+          → HasPositions c.config.result.first counts.taken → 0 < c.config.result.capacity
+          → AreStuckAtLast c.config.result.rounds v (ack_fates_of plan) counts.frames)) there
           (subst (λ (v : FatesSeen). IfErr ended (λ e. gave_up e ≡ true
-          → HasPositions c.settings.result.first counts.taken → 0 < c.settings.result.capacity
-          → StuckAtLast c.settings.result.rounds c.new-fates.result v counts.frames)) back
+          → HasPositions c.config.result.first counts.taken → 0 < c.config.result.capacity
+          → AreStuckAtLast c.config.result.rounds c.new-fates.result v counts.frames)) back
           c.copy-ended.ensures.stalls)));
       status = c.status.ensures;
-      told = if_told _ c.write_report-told.result c.is_ok-2.ensures.value
-          c.write_report-told.ensures;
+      told = if_told _ c.write_summary-told.result c.is_ok-2.ensures.value
+          c.write_summary-told.ensures;
     }

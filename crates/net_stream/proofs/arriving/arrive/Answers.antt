@@ -6,9 +6,9 @@ use Rattle.net_receiver.specs.Retransmission.{Has}
 use Rattle.net_stream.specs.Outgoing.{end_of}
 use Rattle.net_stream.specs.Carrying.{IsUnderWay, ack_of}
 use Rattle.net_stream.specs.Progress.{reach_one}
-use Rattle.net_stream.proofs.Arrived.{past_arrived, past_answer, past_counted, taken_arrived, taken_answer, taken_counted}
+use Rattle.net_stream.proofs.Arrived.{past_arrived, past_ack, past_counted, taken_arrived, taken_ack, taken_counted}
 use Rattle.std.proofs.lemmas.Result.{on_ok_weaker}
-use Rattle.net_stream.proofs.Carried.{took, answered, either}
+use Rattle.net_stream.proofs.Carried.{took, acked_back, either}
 use Rattle.net_stream.proofs.Reached.{says_ends, segment_reaches, no_word_reaches}
 use Rattle.net_stream.proofs.arriving.arrive.Goals as goal
 
@@ -27,7 +27,7 @@ pub returns-then-not-fits-clause-acks : goal.returns-then-not-fits-clause-acks
 returns-then-not-fits-clause-acks g c =
     let pos = c.in-Some.pos in
     let xs = c.in-Some.payload.now in
-    past_answer g.row.N c.args.receiver.now _ pos xs c.in-Some.ensures c.args.back.now
+    past_ack g.row.N c.args.receiver.now _ pos xs c.in-Some.ensures c.args.back.now
     (past c.fits.result (pos + length xs) c.if-not-fits.true c.fits.ensures.1)
 
 pub returns-then-not-fits-clause-counted : goal.returns-then-not-fits-clause-counted
@@ -57,7 +57,7 @@ pub returns-clause-acks : goal.returns-clause-acks
 returns-clause-acks g c =
     let pos = c.in-Some.pos in
     let xs = c.in-Some.payload.now in
-    on_ok_weaker c.send_ack.result (λ e. e ∙ taken_answer g.row.N c.segment.new.self _ pos xs c.in-Some.ensures c.args.back.now
+    on_ok_weaker c.send_ack.result (λ e. e ∙ taken_ack g.row.N c.segment.new.self _ pos xs c.in-Some.ensures c.args.back.now
     (c.fits.ensures.0 c.if-not-fits.false)) c.send_ack.ensures.ok
 
 pub returns-clause-counted : goal.returns-clause-counted
@@ -77,7 +77,7 @@ returns-clause-carried g c = λ f w s there says carries.
     let more = took f w s v u there back (λ r. c.segment.ensures.receives f w r (says c.in-Some.pos c.in-Some.payload.now c.in-Some.ensures))
     c.segment.ensures.keeps.grows keeps carries in
     either (IsUnderWay f w s u there c.send_ack.new.back) c.send_ack.result c.send_ack.ensures.ok c.send_ack.ensures.err
-    (λ e. answered f w s u there back c.send_ack.new.back (ack_of u) e c.send_ack.ensures.tells more)
+    (λ e. acked_back f w s u there back c.send_ack.new.back (ack_of u) e c.send_ack.ensures.tells more)
     (λ e. subst (IsUnderWay f w s u there) (sym e) more)
 
 pub returns-clause-reaches : goal.returns-clause-reaches

@@ -3,7 +3,7 @@ use Rattle.net_storage.specs.Positions.{maximal_runs}
 use Rattle.net_receiver.specs.Stored.{stored_next, domain}
 use Rattle.net_stream.specs.Frames.{frame_of}
 use Rattle.net_stream.specs.Reported.{most_reported}
-use Rattle.net_stream.proofs.Ranges.{answer_tells}
+use Rattle.net_stream.proofs.Ranges.{ack_tells}
 use Rattle.std.proofs.lemmas.Result.{on_ok_weaker}
 use Rattle.net_stream.proofs.arriving.send_ack.Goals as goal
 
@@ -13,7 +13,7 @@ returns-clause-tells g c =
     let word : stored_next r < 2 ^ 64 = omega arith in
     let few : length (take most_reported (maximal_runs (domain r.held))) ≤ most_reported =
     omega (arith, length-take most_reported (maximal_runs (domain r.held))) in
-    answer_tells c.round_trip.ensures c.members.ensures.of_list c.maximal_runs.ensures r word few c.list_held-len.ensures.words
+    ack_tells c.round_trip.ensures c.members.ensures.of_list c.maximal_runs.ensures r word few c.list_held-len.ensures.words
 
 pub returns-clause-ok : goal.returns-clause-ok
 returns-clause-ok g c =

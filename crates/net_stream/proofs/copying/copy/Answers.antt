@@ -52,7 +52,7 @@ returns-clause-ends g c = IfErr-weaker c.copy_over.result _ _
     (λ e h come come_back left cap some.
     ⊎_elim {C = gave_up e ≡ false}
     (λ (gave : gave_up e ≡ true). absurd
-    (c.known_fates.ensures.stuck c.args.settings.rounds c.args.fates c.args.ack_fates c.copy_over.new.counts.frames come come_back some (h gave left cap)))
+    (c.known_fates.ensures.stuck c.args.config.rounds c.args.fates c.args.ack_fates c.copy_over.new.counts.frames come come_back some (h gave left cap)))
     (λ (not : gave_up e ≡ false). not)
     (cases_Bool (gave_up e)))
     (returns-clause-stalls g c)

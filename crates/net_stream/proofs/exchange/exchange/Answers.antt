@@ -3,7 +3,7 @@ use Rattle.std.proofs.lemmas.Bool.{both_ways, cases_Bool, cases_lt}
 use Rattle.net_receiver.specs.Stored.{stored_next}
 use Rattle.net_stream.specs.Outgoing.{end_of}
 use Rattle.net_stream.specs.Links.{Carries}
-use Rattle.net_stream.specs.Stuck.{failures, Stuck, StuckAtLast}
+use Rattle.net_stream.specs.Stuck.{failures, IsStuck, AreStuckAtLast}
 use Rattle.net_stream.specs.Fates.{AllCome, fates_after}
 use Rattle.net_stream.specs.Rounds.{FatesSoFar}
 use Rattle.net_stream.proofs.Reached.{first_is}
@@ -33,7 +33,7 @@ rounds-init g c = record {
 
 pub returns-in-Err-clause-copied : goal.returns-in-Err-clause-copied
 returns-in-Err-clause-copied g c =
-    let f = c.args.settings.first in
+    let f = c.args.config.first in
     let old = g.R.Read.remaining c.args.reader.now in
     let now = g.R.Read.remaining c.feed.new.reader in
     let held = g.W.Write.contents c.args.writer.now in
@@ -46,7 +46,7 @@ returns-in-Err-clause-copied g c =
 
 pub returns-then-is_done-clause-copied : goal.returns-then-is_done-clause-copied
 returns-then-is_done-clause-copied g c =
-    let f = c.args.settings.first in
+    let f = c.args.config.first in
     let old = g.R.Read.remaining c.args.reader.now in
     let now = g.R.Read.remaining c.feed.new.reader in
     let held = g.W.Write.contents c.args.writer.now in
@@ -58,9 +58,9 @@ returns-then-is_done-clause-copied g c =
     let all = c.is_done.ensures.only c.if-is_done.true in
     all_done f old held c.truthful.ensures.queue l1 c.feed.new.counts now holds c.feed.new.input.more all.0 all.1 all.2 m1
 
-pub returns-then-stalled-settings-clause-copied : goal.returns-then-stalled-settings-clause-copied
-returns-then-stalled-settings-clause-copied g c =
-    let f = c.args.settings.first in
+pub returns-then-stalled-config-clause-copied : goal.returns-then-stalled-config-clause-copied
+returns-then-stalled-config-clause-copied g c =
+    let f = c.args.config.first in
     let old = g.R.Read.remaining c.args.reader.now in
     let now = g.R.Read.remaining c.feed.new.reader in
     let held = g.W.Write.contents c.args.writer.now in
@@ -71,9 +71,9 @@ returns-then-stalled-settings-clause-copied g c =
     let m1 = c.feed.ensures.moving f old held holds i.moving in
     so_far f old held c.truthful.ensures.queue l1 c.feed.new.counts now holds c.feed.new.input.more m1
 
-pub returns-then-stalled-settings-clause-unfinished : goal.returns-then-stalled-settings-clause-unfinished
-returns-then-stalled-settings-clause-unfinished g c = λ gave some left few.
-    let f = c.args.settings.first in
+pub returns-then-stalled-config-clause-unfinished : goal.returns-then-stalled-config-clause-unfinished
+returns-then-stalled-config-clause-unfinished g c = λ gave some left few.
+    let f = c.args.config.first in
     let old = g.R.Read.remaining c.args.reader.now in
     let now = g.R.Read.remaining c.feed.new.reader in
     let held = g.W.Write.contents c.args.writer.now in
@@ -108,9 +108,9 @@ returns-then-stalled-settings-clause-unfinished g c = λ gave some left few.
     (omega (arith, chunk, some)) (omega (arith, from, end, end1, taken, grows, window, few)) (omega (arith, end1, taken, left))))
     (cases_lt counts.bytes counts.taken)
 
-pub returns-then-stalled-settings-clause-stalls : goal.returns-then-stalled-settings-clause-stalls
-returns-then-stalled-settings-clause-stalls g c = λ gave cap cap' some left.
-    let f = c.args.settings.first in
+pub returns-then-stalled-config-clause-stalls : goal.returns-then-stalled-config-clause-stalls
+returns-then-stalled-config-clause-stalls g c = λ gave cap cap' some left.
+    let f = c.args.config.first in
     let old = g.R.Read.remaining c.args.reader.now in
     let now = g.R.Read.remaining c.feed.new.reader in
     let held = g.W.Write.contents c.args.writer.now in
@@ -125,18 +125,18 @@ returns-then-stalled-settings-clause-stalls g c = λ gave cap cap' some left.
     let taken = m1.taken in
     let grows = c.feed.ensures.grows in
     let short : end_of l.sender < 2 ^ 64 - 1 = omega (arith, end1, taken, grows, left) in
-    let enough = c.if-stalled-settings.true in
+    let enough = c.if-stalled-config.true in
     let most = i.most in
-    let all : c.rounds.stalled ≡ c.args.settings.rounds = omega (arith, enough, most) in
+    let all : c.rounds.stalled ≡ c.args.config.rounds = omega (arith, enough, most) in
     let failures = i.failing cap cap' some short in
     let fates : FatesSoFar v v' l.there.fates l.back.fates l.counts =
     record { frames = i.fates.frames; acks = i.fates.acks; left = i.fates.left; left_back = i.fates.left_back; counted = i.fates.counted } in
-    subst (λ n. StuckAtLast n v v' l1.counts) all
+    subst (λ n. AreStuckAtLast n v v' l1.counts) all
     (stuck_at_last c.rounds.stalled v v' l l1.counts (ap (λ x. x.counts) c.feed.ensures.state) failures fates (i.stuck cap cap' some short))
 
 pub returns-in-Err-step-clause-copied : goal.returns-in-Err-step-clause-copied
 returns-in-Err-step-clause-copied g c =
-    let f = c.args.settings.first in
+    let f = c.args.config.first in
     let old = g.R.Read.remaining c.args.reader.now in
     let now = g.R.Read.remaining c.feed.new.reader in
     let held = g.W.Write.contents c.args.writer.now in
@@ -161,7 +161,7 @@ returns-in-Err-step-clause-copied g c =
 
 pub returns-in-Err-step-clause-fates : goal.returns-in-Err-step-clause-fates
 returns-in-Err-step-clause-fates g c =
-    let f = c.args.settings.first in
+    let f = c.args.config.first in
     let old = g.R.Read.remaining c.args.reader.now in
     let now = g.R.Read.remaining c.feed.new.reader in
     let held = g.W.Write.contents c.args.writer.now in
@@ -186,7 +186,7 @@ returns-in-Err-step-clause-fates g c =
 
 pub returns-in-Err-clause-most : goal.returns-in-Err-clause-most
 returns-in-Err-clause-most g c = λ none cap cap' some left.
-    let f = c.args.settings.first in
+    let f = c.args.config.first in
     let old = g.R.Read.remaining c.args.reader.now in
     let now = g.R.Read.remaining c.feed.new.reader in
     let held = g.W.Write.contents c.args.writer.now in
@@ -208,7 +208,7 @@ returns-in-Err-clause-most g c = λ none cap cap' some left.
 
 pub returns-then-is_done-clause-most : goal.returns-then-is_done-clause-most
 returns-then-is_done-clause-most g c = λ none cap cap' some left.
-    let f = c.args.settings.first in
+    let f = c.args.config.first in
     let old = g.R.Read.remaining c.args.reader.now in
     let now = g.R.Read.remaining c.feed.new.reader in
     let held = g.W.Write.contents c.args.writer.now in
@@ -228,9 +228,9 @@ returns-then-is_done-clause-most g c = λ none cap cap' some left.
     let fails : failures l1.counts ≡ failures l.counts = ap (λ x. failures x.counts) c.feed.ensures.state in
     omega (arith, few, rounds, fails)
 
-pub returns-then-stalled-settings-clause-most : goal.returns-then-stalled-settings-clause-most
-returns-then-stalled-settings-clause-most g c = λ none cap cap' some left.
-    let f = c.args.settings.first in
+pub returns-then-stalled-config-clause-most : goal.returns-then-stalled-config-clause-most
+returns-then-stalled-config-clause-most g c = λ none cap cap' some left.
+    let f = c.args.config.first in
     let old = g.R.Read.remaining c.args.reader.now in
     let now = g.R.Read.remaining c.feed.new.reader in
     let held = g.W.Write.contents c.args.writer.now in
@@ -252,7 +252,7 @@ returns-then-stalled-settings-clause-most g c = λ none cap cap' some left.
 
 pub returns-in-Err-step-clause-most : goal.returns-in-Err-step-clause-most
 returns-in-Err-step-clause-most g c = λ none cap cap' some left.
-    let f = c.args.settings.first in
+    let f = c.args.config.first in
     let old = g.R.Read.remaining c.args.reader.now in
     let now = g.R.Read.remaining c.feed.new.reader in
     let held = g.W.Write.contents c.args.writer.now in
@@ -286,7 +286,7 @@ returns-then-is_done-clause-least g c = λ none.
 
 pub returns-then-is_done-clause-at_once : goal.returns-then-is_done-clause-at_once
 returns-then-is_done-clause-at_once g c = λ come come_back meet none cap cap' some left.
-    let f = c.args.settings.first in
+    let f = c.args.config.first in
     let old = g.R.Read.remaining c.args.reader.now in
     let held = g.W.Write.contents c.args.writer.now in
     let holds = g.W.Write.contents c.rounds.writer in
@@ -321,7 +321,7 @@ further a a' b b' h k not =
 
 pub rounds-smaller : goal.rounds-smaller
 rounds-smaller g c =
-    let f = c.args.settings.first in
+    let f = c.args.config.first in
     let old = g.R.Read.remaining c.args.reader.now in
     let now = g.R.Read.remaining c.feed.new.reader in
     let held = g.W.Write.contents c.args.writer.now in
@@ -359,10 +359,10 @@ rounds-smaller g c =
     let q = (queue_from c.truthful.ensures.queue f m3.given l3.receiver m3.carries.receives).within in
     let end = m3.carries.sends.end in
     let word = k.word in
-    let test = c.if-stalled-settings.false in
+    let test = c.if-stalled-config.false in
     ⊎_elim
     (λ (e : c.has_moved-moved.result ≡ true).
-    smaller_moved t u c.args.settings.rounds c.rounds.stalled c.stalled_after-stalled.result
+    smaller_moved t u c.args.config.rounds c.rounds.stalled c.stalled_after-stalled.result
     (further l.sender.base l3.sender.base l.receiver.read l3.receiver.read base_on read_on
     (λ same. c.has_moved-moved.ensures.moved e (same.0 ∙ sym base1 ∙ sym base, sym bytes3 ∙ same.1 ∙ sym read1 ∙ bytes1)))
     (omega (arith, q, end, word)) (omega arith))
@@ -370,13 +370,13 @@ rounds-smaller g c =
     let same = c.has_moved-moved.ensures.still e in
     let one : l3.sender.base ≡ l.sender.base = same.0 ∙ base ∙ base1 in
     let two : l3.receiver.read ≡ l.receiver.read = bytes3 ∙ same.1 ∙ sym bytes1 ∙ read1 in
-    smaller_still t u c.args.settings.rounds c.rounds.stalled c.stalled_after-stalled.result (omega (arith, one, two)) test
+    smaller_still t u c.args.config.rounds c.rounds.stalled c.stalled_after-stalled.result (omega (arith, one, two)) test
     (c.stalled_after-stalled.ensures.stays e (omega (arith, test))))
     (cases_Bool c.has_moved-moved.result)
 
 pub rounds-preserved : goal.rounds-preserved
 rounds-preserved g c =
-    let f = c.args.settings.first in
+    let f = c.args.config.first in
     let old = g.R.Read.remaining c.args.reader.now in
     let now = g.R.Read.remaining c.feed.new.reader in
     let held = g.W.Write.contents c.args.writer.now in
@@ -403,7 +403,7 @@ rounds-preserved g c =
     let fates3 : FatesSoFar v v' l3.there.fates l3.back.fates l3.counts = c.in_default-step.ensures.left v v' fates2 in
     let stalled = c.stalled_after-stalled.result in
     let bound = c.stalled_after-stalled.ensures.bound in
-    let test = c.if-stalled-settings.false in
+    let test = c.if-stalled-config.false in
     let grows1 = c.feed.ensures.grows in
     let end2 : end_of l2.sender ≡ end_of l1.sender = ap (λ x. end_of x.sender) c.wait.ensures.state in
     let end3 = k.end in
@@ -434,7 +434,7 @@ rounds-preserved g c =
     (omega (arith, chunk, some)) (omega (arith, base1, grows1, h, window, cap)) (omega (arith, end2, end3, left))))
     (cases_lt 0 (length l1.sender.queue)) in
     let quiet : c.has_moved-moved.result ≡ false → 0 < c.args.link.now.sender.capacity → 0 < c.args.link.now.receiver.capacity →
-    0 < length c.args.chunk.now → end_of l3.sender < 2 ^ 64 - 1 → Stuck l2 l3 =
+    0 < length c.args.chunk.now → end_of l3.sender < 2 ^ 64 - 1 → IsStuck l2 l3 =
     λ e cap cap' some left.
     (let same = c.has_moved-moved.ensures.still e in
     let base1 : l1.sender.base ≡ l.sender.base = ap (λ x. x.sender.base) c.feed.ensures.state in

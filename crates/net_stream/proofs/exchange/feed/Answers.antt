@@ -13,13 +13,13 @@ returns-in-Ok-clause-moving g c = λ f old held holds.
     let l = c.args.link.now in
     let given = take c.in-Ok.count c.read.new.buf in
     let count = c.write.ensures.count in
-    let front = c.split_at_mut-front.ensures.front_len in
+    let lent = c.split_at_mut-part.ensures.front_len in
     let bound = c.in-Ok.ensures.bound in
     let all : length given ≤ c.write.result = omega (arith, length-take c.in-Ok.count c.read.new.buf) in
     let is = (c.may_read.ensures.only c.if-not-may_read.false).0 in
     let some = (c.may_read.ensures.only c.if-not-may_read.false).1 in
     let word : end_of l.sender + length given < 2 ^ 64 =
-    omega (arith, some, front, bound, c.window.ensures, c.min-room.ensures, length-take c.in-Ok.count c.read.new.buf) in
+    omega (arith, some, lent, bound, c.window.ensures, c.min-room.ensures, length-take c.in-Ok.count c.read.new.buf) in
     let long : length given ≡ c.in-Ok.count = omega (arith, bound, length-take c.in-Ok.count c.read.new.buf) in
     fed f old held c.truthful.ensures.queue l c.write.new.self c.args.counts.now _ (g.R.Read.remaining c.args.reader.now)
     (g.R.Read.remaining c.read.new.self) holds c.args.input.now.more c.args.input.now.more
@@ -34,10 +34,10 @@ returns-in-Ok-eq0-clause-moving g c = λ f old held holds.
     let next = g.R.Read.remaining c.read.new.self in
     let none = c.in-Ok-eq0.field-0-test in
     let some = (c.may_read.ensures.only c.if-not-may_read.false).1 in
-    let front = c.split_at_mut-front.ensures.front_len in
+    let lent = c.split_at_mut-part.ensures.front_len in
     let bytes = c.in-Ok-eq0.ensures.bytes in
     asked f old held c.args.link.now c.args.counts.now now next holds c.args.input.now.more false
-    (subst (λ n. Consumes now next (take n c.read.new.buf)) none bytes.0) (λ _. bytes.1 none (omega (arith, some, front)))
+    (subst (λ n. Consumes now next (take n c.read.new.buf)) none bytes.0) (λ _. bytes.1 none (omega (arith, some, lent)))
 
 pub returns-in-Err-clause-moving : goal.returns-in-Err-clause-moving
 returns-in-Err-clause-moving g c = λ f old held holds.

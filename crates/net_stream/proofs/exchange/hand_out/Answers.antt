@@ -1,5 +1,5 @@
 use Rattle.std.proofs.Common.{◌≡◌, ◌+◌, ◌∙◌, ap, sym, arith}
-use Rattle.net_stream.proofs.Moved.{handed_out, handed_front}
+use Rattle.net_stream.proofs.Moved.{handed_out, handed_prefix}
 use Rattle.net_stream.proofs.exchange.hand_out.Goals as goal
 
 pub returns-in-Ok-clause-ok : goal.returns-in-Ok-clause-ok
@@ -14,7 +14,7 @@ returns-in-Ok-clause-ok g c = λ f.
 
 pub returns-in-Err-clause-err : goal.returns-in-Err-clause-err
 returns-in-Err-clause-err g c = λ f.
-    handed_front f c.args.link.now.receiver (g.W.Write.contents c.args.writer.now)
+    handed_prefix f c.args.link.now.receiver (g.W.Write.contents c.args.writer.now)
     (g.W.Write.contents c.write_text.new.writer) c.args.chunk.now c.read-count.new.into c.read-count.result c.args.counts.now.bytes
     c.saturating_add-counts-in-Err.result c.in-Err.written
     (c.queue.ensures.receives f) c.read-count.ensures.count c.read-count.ensures.into c.saturating_add-counts-in-Err.ensures c.in-Err.ensures.err

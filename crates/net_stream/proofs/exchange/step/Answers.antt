@@ -1,10 +1,10 @@
 use Rattle.std.proofs.Common.{◌≡◌, ◌∙◌, ◌-◌, ◌<◌, ◌≤◌, ◌^◌, drop, length, length-drop, refl, sym, subst, arith}
 use Rattle.std.proofs.lemmas.Result.{on_ok_weaker, on_err_weaker}
 use Rattle.net_stream.specs.Outgoing.{end_of}
-use Rattle.net_stream.specs.Rounds.{PartCounted, FatesCounted, FatesSoFar}
+use Rattle.net_stream.specs.Rounds.{CountsPart, CountsFates, FatesSoFar}
 use Rattle.net_stream.specs.Links.{Round}
 use Rattle.net_stream.specs.Stuck.{failures}
-use Rattle.net_stream.specs.Copying.{Stepped}
+use Rattle.net_stream.specs.Copying.{CopyRoundLeaves}
 use Rattle.net_stream.proofs.Drawn.{part_met, round_met, met_so_far, was_ok, was_err}
 use Rattle.net_stream.proofs.Stuck.{Numbers, part_failed, round_failed, round_keeps, round_moves, step_moves}
 use Rattle.net_stream.proofs.RoundCount.{round_at_once}
@@ -68,7 +68,7 @@ pub returns-then-is_err-clause-failed : goal.returns-then-is_err-clause-failed
 returns-then-is_err-clause-failed g c =
     let old = c.args.link.now in
     let new = c.pass_round-passed.new.self in
-    let part = was_err (PartCounted old.there.fates old.back.fates old.counts new.counts) c.pass_round-passed.result
+    let part = was_err (CountsPart old.there.fates old.back.fates old.counts new.counts) c.pass_round-passed.result
     (sym c.is_err.ensures.value ∙ c.if-is_err.true) c.pass_round-passed.ensures.err in
     part_failed old.there.fates old.back.fates old.counts new.counts part
 
@@ -83,7 +83,7 @@ pub returns-then-is_err-clause-fates : goal.returns-then-is_err-clause-fates
 returns-then-is_err-clause-fates g c = λ v v' h.
     let old = c.args.link.now in
     let new = c.pass_round-passed.new.self in
-    let part = was_err (PartCounted old.there.fates old.back.fates old.counts new.counts) c.pass_round-passed.result
+    let part = was_err (CountsPart old.there.fates old.back.fates old.counts new.counts) c.pass_round-passed.result
     (sym c.is_err.ensures.value ∙ c.if-is_err.true) c.pass_round-passed.ensures.err in
     part_met v v' old.there.fates old.back.fates old.counts new.counts part h
 
@@ -92,7 +92,7 @@ returns-clause-fates g c = λ v v' h.
     let old = c.args.link.now in
     let new = c.pass_round-passed.new.self in
     let round = was_ok (Round old new) c.pass_round-passed.result (sym c.is_err.ensures.value ∙ c.if-is_err.false) c.pass_round-passed.ensures.round in
-    subst (λ l. FatesCounted v v' l.counts) (sym c.hand_out.ensures.state)
+    subst (λ l. CountsFates v v' l.counts) (sym c.hand_out.ensures.state)
     (met_so_far v v' new.there.fates new.back.fates new.counts (round_met v v' old new round.passed h))
 
 pub returns-clause-left : goal.returns-clause-left
@@ -124,7 +124,7 @@ returns-clause-keeps g c = on_ok_weaker c.hand_out.result
     let room = length c.args.chunk.now in
     let q = new.receiver.queue in
     let left : length (drop room q) ≡ length q - room = length-drop room q in
-    subst (λ l. Stepped old l (length c.args.chunk.now) (length c.hand_out.new.chunk)) (sym c.hand_out.ensures.state)
+    subst (λ l. CopyRoundLeaves old l (length c.args.chunk.now) (length c.hand_out.new.chunk)) (sym c.hand_out.ensures.state)
     (record {
       ahead = k.ahead;
       ahead_back = k.ahead_back;

@@ -4,7 +4,7 @@ use Rattle.net_stream.specs.Fates.{after_fate}
 use Rattle.net_stream.proofs.Carried.{first_ahead, frame_met, before}
 use Rattle.net_stream.proofs.Counted.{met_one}
 use Rattle.net_stream.proofs.Reached.{frame_reaches}
-use Rattle.net_stream.proofs.Meeting.{frame_answered}
+use Rattle.net_stream.proofs.Meeting.{frame_acked}
 use Rattle.net_stream.proofs.passing.pass_frame.Goals as goal
 
 pub returns-in_err-arrive_if-clause-carried : goal.returns-in_err-arrive_if-clause-carried
@@ -72,7 +72,7 @@ pub returns-clause-acks : goal.returns-clause-acks
 returns-clause-acks g c =
     let t1 = c.take.new.self in
     let first = first_ahead c.args.there.now t1 _ c.frame-frame.result.now c.in-Some.ensures c.frame-frame.ensures in
-    frame_answered g.row.N c.args.receiver.now c.arrive_if.new.receiver c.args.back.now c.arrive_if.new.back c.args.there.now t1 c.draw-fate.new.self
+    frame_acked g.row.N c.args.receiver.now c.arrive_if.new.receiver c.args.back.now c.arrive_if.new.back c.args.there.now t1 c.draw-fate.new.self
     c.put_late_if.new.path c.frame-frame.result.now c.draw-fate.result first c.draw-fate.ensures.fate c.draw-fate.ensures.state
     c.in_ok-put_late_if.ensures.put_late
     c.arrive_if.ensures.state c.in_ok-arrive_if.ensures.back

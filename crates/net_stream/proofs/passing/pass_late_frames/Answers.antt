@@ -3,7 +3,7 @@ use Rattle.net_stream.specs.Frames.{segment_of}
 use Rattle.net_stream.proofs.Counted.{same_refusing}
 use Rattle.std.proofs.lemmas.List.{append-nil}
 use Rattle.net_stream.specs.Passing.{receiver_after_all, acks_of}
-use Rattle.net_stream.proofs.Meeting.{one_answered, with_ack_late}
+use Rattle.net_stream.proofs.Meeting.{one_acked, with_ack_late}
 use Rattle.net_stream.proofs.Carried.{first_late, late_met}
 use Rattle.net_stream.proofs.passing.pass_late_frames.Goals as goal
 
@@ -40,7 +40,7 @@ late-preserved g c =
       grows = le_trans i.grows c.arrive.ensures.grows;
       brought = ap (λ r. receiver_after_all g.row.N r t1.late) c.arrive.ensures.state
           ∙ sym (ap (λ p. receiver_after_all g.row.N c.late.receiver p.late) first) ∙ i.brought;
-      acks = one_answered g.row.N c.late.receiver c.arrive.new.receiver c.frame-frame.result.now c.late.back c.arrive.new.back t1.late
+      acks = one_acked g.row.N c.late.receiver c.arrive.new.receiver c.frame-frame.result.now c.late.back c.arrive.new.back t1.late
           c.arrive.ensures.state c.in_ok-arrive.ensures.acks ∙ sym (ap (λ p. c.late.back.ahead ++ acks_of g.row.N c.late.receiver p.late) first)
           ∙ i.acks;
       back_late = ap (λ p. p.late) c.in_ok-arrive.ensures.acks ∙ with_ack_late c.arrive.new.receiver

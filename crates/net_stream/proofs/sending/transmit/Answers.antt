@@ -1,6 +1,6 @@
 use Rattle.std.proofs.Common.{◌≡◌, ◌-◌, ◌<◌, ◌≤◌, ◌∙◌, sym, ap, subst, arith, inl, inr}
 use Rattle.net_stream.specs.Reported.{count_outside}
-use Rattle.net_stream.specs.Sending.{at_least_one, stop_of, SentPrefix, SentRound}
+use Rattle.net_stream.specs.Sending.{at_least_one, stop_of, SendsPrefix, SendsRound}
 use Rattle.net_stream.proofs.Ranges.{counted_more, counted_none}
 use Rattle.net_stream.proofs.Sent.{SentSoFar, none_sent, sent_more, round_sent}
 use Rattle.net_stream.proofs.Results.{OnErr-always}
@@ -52,7 +52,7 @@ returns-else-left-gt0-clause-sent g c =
     let n = c.loop-pos.pos - s.base in
     let none : c.loop-pos.left ≡ 0 = omega arith in (
       n,
-      subst (λ m. SentRound s m (at_least_one c.args.flight) n c.args.there.now c.loop-pos.there) c.max-most.ensures
+      subst (λ m. SendsRound s m (at_least_one c.args.flight) n c.args.there.now c.loop-pos.there) c.max-most.ensures
           (round_sent s c.max-most.result (at_least_one c.args.flight) c.loop-pos.left c.loop-pos.pos c.args.there.now
           c.loop-pos.there i.sent i.from (inr none)),
       i.counted,
@@ -65,7 +65,7 @@ returns-after-loop-pos-clause-sent g c =
     let n = c.loop-pos.pos - s.base in
     let stopped : stop_of s ≤ c.loop-pos.pos = omega (arith, c.stop-stop.ensures) in (
       n,
-      subst (λ m. SentRound s m (at_least_one c.args.flight) n c.args.there.now c.loop-pos.there) c.max-most.ensures
+      subst (λ m. SendsRound s m (at_least_one c.args.flight) n c.args.there.now c.loop-pos.there) c.max-most.ensures
           (round_sent s c.max-most.result (at_least_one c.args.flight) c.loop-pos.left c.loop-pos.pos c.args.there.now
           c.loop-pos.there i.sent i.from (inl stopped)),
       i.counted,
@@ -79,7 +79,7 @@ returns-in_err-count-clause-err g c =
     let n = c.loop-pos.pos - s.base in
     OnErr-always c.from_residual.result (
       n,
-      subst (SentPrefix s (at_least_one c.args.most) (at_least_one c.args.flight) n c.args.there.now) (sym same.0)
-          (subst (λ m. SentPrefix s m (at_least_one c.args.flight) n c.args.there.now c.loop-pos.there) c.max-most.ensures i.sent.prefix),
+      subst (SendsPrefix s (at_least_one c.args.most) (at_least_one c.args.flight) n c.args.there.now) (sym same.0)
+          (subst (λ m. SendsPrefix s m (at_least_one c.args.flight) n c.args.there.now c.loop-pos.there) c.max-most.ensures i.sent.prefix),
       same.1 ∙ i.counted,
     )

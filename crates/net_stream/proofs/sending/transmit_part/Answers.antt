@@ -19,21 +19,21 @@ overflow_sub-room g c = (let above = c.next_reported.ensures.above c.requires.ke
 pub returns-clause-carried : goal.returns-clause-carried
 returns-clause-carried g c = λ f w r back h.
     let word : c.args.pos < 2 ^ 64 = omega arith in
-    sent_says f w c.args.sender.now r c.args.there.now c.send.new.self back c.args.pos c.segment-bytes.result.now
+    sent_says f w c.args.sender.now r c.args.there.now c.send.new.self back c.args.pos c.peek_at-bytes.result.now
     c.round_trip.ensures word c.in_ok-send.ensures.ok
-    (c.segment-bytes.ensures.says f w h.sends c.requires.from) h
+    (c.peek_at-bytes.ensures.says f w h.sends c.requires.from) h
 
 pub returns-clause-sent : goal.returns-clause-sent
 returns-clause-sent g c =
     let s = c.args.sender.now in
     let next = c.next_reported.ensures in
-    let bytes = c.segment-bytes.ensures in
+    let bytes = c.peek_at-bytes.ensures in
     let above = next.above c.requires.kept in
     let value = next.value in
     let count = bytes.count c.requires.from in
     let some = bytes.some c.requires.from c.requires.kept (omega arith) in
     let none = c.reported_from-spared.ensures.none c.requires.kept (omega arith) in
-    sent_part s c.args.most c.args.pos c.args.there.now c.send.new.self c.segment-bytes.result.now c.requires.kept c.requires.some
+    sent_part s c.args.most c.args.pos c.args.there.now c.send.new.self c.peek_at-bytes.result.now c.requires.kept c.requires.some
     (omega arith) none (omega arith) (bytes.within some)
     (λ q from to. next.between none q from (omega arith)) bytes.value c.in_ok-send.ensures.ok
 
@@ -46,9 +46,9 @@ pub returns-clause-counted : goal.returns-clause-counted
 returns-clause-counted g c =
     let s = c.args.sender.now in
     let counts = c.args.counts.now in
-    let n = length c.segment-bytes.result.now in
+    let n = length c.peek_at-bytes.result.now in
     let above = c.next_reported.ensures.above c.requires.kept in
-    let count = c.segment-bytes.ensures.count c.requires.from in
+    let count = c.peek_at-bytes.ensures.count c.requires.from in
     let none = c.reported_from-spared.ensures.none c.requires.kept (omega arith) in
     let e = count_marked s.reported c.args.pos n false (λ q from to. c.next_reported.ensures.between none q from (omega arith)) in
     let sum : c.saturating_add-counts.result ≡ min (counts.payload + count_outside s.reported c.args.pos n) (2 ^ 64 - 1) = omega (arith, e) in

@@ -1,5 +1,5 @@
 use Rattle.std.proofs.Common.{◌≡◌, ◌∷◌, ◌++◌, [], Ok, true, sym, ap, subst, arith, length, rules, length-append}
-use Rattle.net_uses.specs.Frames.{Each, ForwardedAndLost}
+use Rattle.net_uses.specs.Frames.{Each, ForwardsAndLoses}
 use Rattle.std.proofs.lemmas.Result.{MatchResult-from_err}
 use Rattle.net_uses.proofs.FrameFacts.{each_more}
 use Rattle.net_uses.proofs.bridge.forward.Goals as goal
@@ -8,7 +8,7 @@ pub returns-in_err-forward_one-clause-err : goal.returns-in_err-forward_one-clau
 returns-in_err-forward_one-clause-err g c =
     let i = c.loop-count.invariant in
     let e = c.in_err-forward_one.ensures.err in
-    let lost : ForwardedAndLost g.A.Device.taken g.B.Device.sent g.B.Device.lacks_memory c.args.max c.args.from.now c.forward_one.new.from c.args.to.now
+    let lost : ForwardsAndLoses g.A.Device.taken g.B.Device.sent g.B.Device.lacks_memory c.args.max c.args.from.now c.forward_one.new.from c.args.to.now
     c.forward_one.new.to =
     record {
       frames = i.frames;

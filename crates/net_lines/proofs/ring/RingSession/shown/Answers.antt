@@ -13,8 +13,8 @@ first_of_both xs ys n m is =
     (λ (less : n < length xs).
     let all : m ≡ n = omega (arith, is, less) in
     let none : n - m ≡ 0 = omega (arith, all) in
-    let front = take-append-le n xs ys (omega (arith, less)) in
-    grind (arith, common_steps, all, none, front))
+    let prefix = take-append-le n xs ys (omega (arith, less)) in
+    grind (arith, common_steps, all, none, prefix))
     (λ (more : length xs ≤ n).
     let all : m ≡ length xs = omega (arith, is, more) in
     let rest : length xs + (n - m) ≡ n = omega (arith, all, more) in

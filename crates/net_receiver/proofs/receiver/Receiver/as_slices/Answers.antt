@@ -2,7 +2,7 @@ use Rattle.std.proofs.Common.{◌≡◌, ◌∙◌, ◌++◌, sym, ap, length, l
 use Rattle.net_receiver.specs.Contiguous.{contiguous_count}
 use Rattle.net_receiver.specs.Stored.{Stored}
 use Rattle.net_receiver.proofs.Called.{head_bytes}
-use Rattle.net_receiver.proofs.Contiguous.{lent_front, parts_are}
+use Rattle.net_receiver.proofs.Contiguous.{lent_prefix, parts_are}
 use Rattle.net_receiver.proofs.receiver.Receiver.as_slices.Given as given
 use Rattle.net_receiver.proofs.receiver.Receiver.as_slices.Goals as goal
 
@@ -11,7 +11,7 @@ whole_is g c = c.as_slices.ensures.queue ∙ ap (λ (v : Stored). v.queue) c.sel
 
 cut_is : (g : given.Over) (c : goal.After-as_slices g) → length c.as_slices.result.0.now ≡ contiguous_count c.args.self.now
 cut_is g c =
-    lent_front c.self.inside.ring c.self.inside.count_read c.self.invariant.2 (length c.as_slices.result.0.now)
+    lent_prefix c.self.inside.ring c.self.inside.count_read c.self.invariant.2 (length c.as_slices.result.0.now)
     c.as_slices.ensures.cut
     (omega (arith, ap length c.as_slices.ensures.queue, length-append c.as_slices.result.0.now c.as_slices.result.1.now))
     ∙ ap contiguous_count c.self.view_is

@@ -8,12 +8,12 @@ use Rattle.net_storage.proofs.assembler.Assembler.add_counted.Goals as goal
 pub returns-clause-accepted : goal.returns-clause-accepted
 returns-clause-accepted g c = λ few.
     let same = ap runs c.self.view_is in
-    added_accepted g.row.N (set_of c.self.inside.held) c.args.offset c.args.size c.add.result _ c.add.ensures.added (omega arith)
+    added_accepted g.row.N (set_of c.self.inside.runs) c.args.offset c.args.size c.add.result _ c.add.ensures.added (omega arith)
 
 pub returns-clause-more : goal.returns-clause-more
 returns-clause-more g c =
     let same = ap runs c.self.view_is in
-    let more = added_more g.row.N (set_of c.self.inside.held) c.args.offset c.args.size c.add.result _ c.add.ensures.added in
+    let more = added_more g.row.N (set_of c.self.inside.runs) c.args.offset c.args.size c.add.result _ c.add.ensures.added in
     omega arith
 
 pub returns-clause-turns : goal.returns-clause-turns

@@ -5,4 +5,4 @@ use Rattle.net_storage.proofs.assembler.Assembler.iter_data.Goals as goal
 
 pub returns-clause-runs : goal.returns-clause-runs
 returns-clause-runs g c =
-    c.iter.ensures ∙ sym (maximal_runs-set_of c.self.inside.held c.self.invariant) ∙ ap maximal_runs c.self.view_is
+    c.iter.ensures ∙ sym (maximal_runs-set_of c.self.inside.runs c.self.invariant) ∙ ap maximal_runs c.self.view_is

@@ -48,7 +48,7 @@ use denote.Triple.Spec.{Meets, triple_of}
 use denote.Triple.Table.{entered}
 use denote.Triple.Walked.{says, Stays, stay_dropped, walk_of, ends_at, walked, Goes-dropped, Goes-spent_ref, walk_Meets}
 use borrow.Table.Elements.{at, at_mul, length-take-le}
-use Rattle.net_storage.proofs.Rotations.{cut_front}
+use Rattle.net_storage.proofs.Rotations.{cut_prefix}
 use lib.ListN.{set}
 use Rattle.net_storage.proofs.Relend.{uncapped, item_lent, lends_item, here_or}
 use Rattle.net_storage.specs.contracts.managed.RefMutSliceElements.item_mut as F
@@ -107,14 +107,14 @@ module _ (X : RattleType) {M : Type 1} {𝓤 : Ura M} (𝓛 : Logic 𝓤) (at_me
         let c : ℕ = inner.ref_ptr.0 in
         let d : ℕ = inner.ref_ptr.1 in
         let s : ℕ = size (layout X) in
-        let front : List X.Denot = take m xs in
-        let lf : length front ≡ m = length-take-le m xs (omega arith) in
+        let prefix : List X.Denot = take m xs in
+        let lf : length prefix ≡ m = length-take-le m xs (omega arith) in
         let lb : length (drop_list m xs) ≡ length xs - m = length-drop m xs in
-        let first = cut_front (drop_list m xs) (omega arith) in
+        let first = cut_prefix (drop_list m xs) (omega arith) in
         let x : X.Denot = first.0 in
         let back : List X.Denot = first.1 in
-        let cut : xs ≡ front ++ (x ∷ back) = sym (take-append-drop m xs) ∙ ap (λ (l : List X.Denot). front ++ l) first.2 in
-        let on : at d s (length front) ≡ m * s + d = at_mul d s (length front) ∙ ap (λ (k : ℕ). k * s + d) lf in
+        let cut : xs ≡ prefix ++ (x ∷ back) = sym (take-append-drop m xs) ∙ ap (λ (l : List X.Denot). prefix ++ l) first.2 in
+        let on : at d s (length prefix) ≡ m * s + d = at_mul d s (length prefix) ∙ ap (λ (k : ℕ). k * s + d) lf in
         qed 𝓛 ((‵ (flft κ q) ⊛ ‵ (flft κA qA) ⊛ ‵ (flft κT qT) ⊛ ‵ ftrue) ∷
         ‵ (owns (MutRef (named 0) κ Sl ∷ usize ∷ []) (self, (m, tt)) (mut_vals self, (vint w64 m ∷ [], tt))) ∷ []) ∵
         split ! $ move ! (2 ∷ []) $ fsplit ! $ fsplit3 ! $ move ! (1 ∷ 2 ∷ 4 ∷ []) $
@@ -140,15 +140,15 @@ module _ (X : RattleType) {M : Type 1} {𝓤 : Ura M} (𝓛 : Logic 𝓤) (at_me
         use3 𝓛 (later (some (λ (δ : GName). ‵ ((MutSlice (named 0) κ (R X)).own_val (renamed inner δ) (mut_slice_vals inner)) ⊛ ‵ (flft κ q) ⊛
         ‵ (follows Sl (Array (R X) 0) γ δ (at_last inner)))))
         (lends_inner_slice 𝓛 (R X) (named 0) (named 1) κ κA self bd.0 rm q) $ await ! tt $ pick ! (λ δ. split3 ! $ move ! (0 ∷ 1 ∷ []) $
-        use2 𝓛 (later (some (item_lent 𝓛 (named 0) κ q c d δ (R X) m xs front x back cut lf p on)))
-        (lends_item 𝓛 (named 0) κ q c d δ (R X) m xs front x back cut lf p on (mut_slice_vals inner)) $ await ! tt $ pick ! (λ δ'. split3 ! $
+        use2 𝓛 (later (some (item_lent 𝓛 (named 0) κ q c d δ (R X) m xs prefix x back cut lf p on)))
+        (lends_item 𝓛 (named 0) κ q c d δ (R X) m xs prefix x back cut lf p on (mut_slice_vals inner)) $ await ! tt $ pick ! (λ δ'. split3 ! $
         let r : MutBor (R X).Denot = record { ref_ptr = (c, p); ghost_name = δ'; now = x } in
         move ! (3 ∷ 2 ∷ []) $
         use2 𝓛 (‵ (follows Sl (R X) γ δ' (λ w. at_last inner (set xs m w)))) (follows_then 𝓛 Sl (Array (R X) 0) (R X) (at_last inner) (set xs m) γ δ δ') $
         returns ! (look_at ! 0 refl) $ free_all ! refl $ keep ! (1 ∷ 2 ∷ 0 ∷ 5 ∷ []) $
         suffices ! _ (ends_at 𝓛 (ended X) (stayed X) clauses bound (vptr c p) r (tt, (tt, tt)) (tt, (tt, tt))) $
         nothing ! $ nothing ! $ fjoin ! $ nothing ! $ fjoin ! $ join ! $ move ! (1 ∷ 3 ∷ []) $ join ! $ join ! $ frame ! $
-        says ! (here_or front back x xs m lf cut) $ done !)))))
+        says ! (here_or prefix back x xs m lf cut) $ done !)))))
 
   meets : (𝓣 : Tables 𝓤 H) → Meets 𝓛 (ended X).signature (WpFn 𝓤 H 𝓣.C 𝓣.Λ (function X)) (closing 𝓛 (ended X) clauses)
   meets 𝓣 =

@@ -111,15 +111,15 @@ module _ (X : RattleType) {M : Type 1} {𝓤 : Ura M} (𝓛 : Logic 𝓤) (at_me
         let d : ℕ = inner.ref_ptr.1 in
         let s : ℕ = size (layout X) in
         let fr : e - m < 2 ^ 64 = omega arith in
-        let front : List X.Denot = take m xs in
+        let prefix : List X.Denot = take m xs in
         let mid : List X.Denot = take (e - m) (drop_list m xs) in
         let back : List X.Denot = drop_list (e - m) (drop_list m xs) in
-        let lf : length front ≡ m = length-take-le m xs (omega arith) in
+        let lf : length prefix ≡ m = length-take-le m xs (omega arith) in
         let lb : length (drop_list m xs) ≡ length xs - m = length-drop m xs in
         let long : length mid ≡ e - m = length-take-le (e - m) (drop_list m xs) (omega arith) in
-        let cut : xs ≡ front ++ (mid ++ back) = sym (take-append-drop m xs)
-        ∙ ap (λ (l : List X.Denot). front ++ l) (sym (take-append-drop (e - m) (drop_list m xs))) in
-        let on : at d s (length front) ≡ m * s + d = at_mul d s (length front) ∙ ap (λ (k : ℕ). k * s + d) lf in
+        let cut : xs ≡ prefix ++ (mid ++ back) = sym (take-append-drop m xs)
+        ∙ ap (λ (l : List X.Denot). prefix ++ l) (sym (take-append-drop (e - m) (drop_list m xs))) in
+        let on : at d s (length prefix) ≡ m * s + d = at_mul d s (length prefix) ∙ ap (λ (k : ℕ). k * s + d) lf in
         qed 𝓛 ((‵ (flft κ q) ⊛ ‵ (flft κA qA) ⊛ ‵ (flft κT qT) ⊛ ‵ ftrue) ∷
         ‵ (owns (MutRef (named 0) κ Sl ∷ usize ∷ usize ∷ []) (self, (m, (e, tt))) (mut_vals self, (vint w64 m ∷ [], (vint w64 e ∷ [], tt)))) ∷ []) ∵
         split ! $ move ! (2 ∷ []) $ fsplit ! $ fsplit3 ! $ move ! (1 ∷ 2 ∷ 4 ∷ []) $
@@ -153,8 +153,8 @@ module _ (X : RattleType) {M : Type 1} {𝓤 : Ura M} (𝓛 : Logic 𝓤) (at_me
         use3 𝓛 (later (some (λ (δ : GName). ‵ ((MutSlice (named 0) κ (R X)).own_val (renamed inner δ) (mut_slice_vals inner)) ⊛ ‵ (flft κ q) ⊛
         ‵ (follows Sl (Array (R X) 0) γ δ (at_last inner)))))
         (lends_inner_slice 𝓛 (R X) (named 0) (named 1) κ κA self bd.0 rm q) $ await ! tt $ pick ! (λ δ. split3 ! $ move ! (0 ∷ 1 ∷ []) $
-        use2 𝓛 (later (some (part_lent 𝓛 (named 0) κ q c d δ (R X) m xs front mid back cut lf p on rm')))
-        (lends_part 𝓛 (named 0) κ q c d δ (R X) m xs front mid back cut lf p on rm' (mut_slice_vals inner)) $ await ! tt $ pick ! (λ δ'. split3 ! $
+        use2 𝓛 (later (some (part_lent 𝓛 (named 0) κ q c d δ (R X) m xs prefix mid back cut lf p on rm')))
+        (lends_part 𝓛 (named 0) κ q c d δ (R X) m xs prefix mid back cut lf p on rm' (mut_slice_vals inner)) $ await ! tt $ pick ! (λ δ'. split3 ! $
         let r : MutBor (List (R X).Denot) = record { ref_ptr = (c, p); ghost_name = δ'; now = mid } in
         move ! (3 ∷ 2 ∷ []) $
         use2 𝓛 (‵ (follows Sl (Array (R X) 0) γ δ' (λ w. at_last inner (overwrite xs m w))))

@@ -100,8 +100,8 @@ module _ (G : Given) {M : Type 1} {𝓤 : Ura M} (𝓛 : Logic 𝓤) (𝓜 : Mod
   abbrev 𝓣 : MachineTables 𝓤 H 𝓜
   𝓣 = tables 𝓤 H 𝓜 𝓡 𝓡.env
 
-  abbrev held : Clauses 𝓤 (ended G)
-  held = F.clauses G.H G.N G.B G.slots G.slots_by G.bytes G.bytes_by G.drops_by 𝓛 𝓜.mem 𝓡.returns
+  abbrev all_clauses : Clauses 𝓤 (ended G)
+  all_clauses = F.clauses G.H G.N G.B G.slots G.slots_by G.bytes G.bytes_by G.drops_by 𝓛 𝓜.mem 𝓡.returns
 
   abbrev Take : Contract 𝓤
   Take = triple_of 𝓛 (take.signature G.H G.N G.B G.slots G.slots_by G.bytes G.bytes_by G.drops_by)
@@ -122,11 +122,11 @@ module _ (G : Given) {M : Type 1} {𝓤 : Ura M} (𝓛 : Logic 𝓤) (𝓜 : Mod
     abbrev from : ℕ
     from = (without_gap x).read_at
 
-    abbrev bound : (walk_of 𝓛 (ended G) (stayed G) held).Ghost
+    abbrev bound : (walk_of 𝓛 (ended G) (stayed G) all_clauses).Ghost
     bound = ((κs, qs, bounds, (self, tt), (mut_vals self, tt)), tt)
 
     abbrev Post : Val → SProp 𝓤
-    Post = (walk_of 𝓛 (ended G) (stayed G) held).post bound
+    Post = (walk_of 𝓛 (ended G) (stayed G) all_clauses).post bound
 
     abbrev Part : RattleType
     Part = MutSlice (named 0) κs.0 u8
@@ -178,7 +178,7 @@ module _ (G : Given) {M : Type 1} {𝓤 : Ura M} (𝓛 : Logic 𝓤) (𝓜 : Mod
         fpack ! (Valss []) (within (Declared.shape EM.the_type) tt (no_fields ∷ [])) tt $
         use1 𝓛 (‵ ((RS.the_row Both EM.the_row).own_val (Err (record {})) (live 1 (of_list (no_fields ∷ [])) ∷ [])))
         (err_of 𝓛 Both EM.the_row (record {}) no_fields) $
-        suffices ! _ (ends_at 𝓛 (ended G) (stayed G) held bound (live 1 (of_list (no_fields ∷ []))) (Err (record {})) (tt, tt) (tt, tt)) $
+        suffices ! _ (ends_at 𝓛 (ended G) (stayed G) all_clauses bound (live 1 (of_list (no_fields ∷ []))) (Err (record {})) (tt, tt) (tt, tt)) $
         nothing ! $ nothing ! $ fjoin ! $ join ! $ move ! (2 ∷ 3 ∷ []) $ join ! $ join ! $ frame ! $
         says_five ! (((λ _. no_contents), (λ _. refl)), tt, tt, ((λ _. none), (λ _. refl)), tt) $ done !
 
@@ -197,19 +197,19 @@ module _ (G : Given) {M : Type 1} {𝓤 : Ura M} (𝓛 : Logic 𝓤) (𝓜 : Mod
         (sep 𝓤 (sem 𝓛 (Part.own_val r (w ∷ []))) (sep 𝓤 (sem 𝓛 (follow from r)) (sep 𝓤 (𝓛.A.lft κs.0 qs.0) (mean 𝓛 (others G 𝓤 κs qs))))))
         (Post (live 0 (of_list (pair_val hv w ∷ []))))
     unfolding follows_by
-    lends h hv r w is_some has_some shown leaves is_front =
+    lends h hv r w is_some has_some shown leaves is_head =
         qed 𝓛 (‵ ((Header G).own_val h (hv ∷ [])) ∷ ‵ (Part.own_val r (w ∷ [])) ∷ ‵ (follow from r) ∷ ‵ (flft κs.0 qs.0) ∷ others G 𝓤 κs qs ∷ []) ∵
         use2 𝓛 (‵ (Both.own_val (h, r) (pair_val hv w ∷ []))) (pair_of 𝓛 (Header G) Part h r hv w) $
         use1 𝓛 (‵ ((RS.the_row Both EM.the_row).own_val (Ok (h, r)) (live 0 (of_list (pair_val hv w ∷ [])) ∷ [])))
         (ok_of 𝓛 Both EM.the_row (h, r) (pair_val hv w)) $
-        suffices ! _ (ends_at 𝓛 (ended G) (stayed G) held bound (live 0 (of_list (pair_val hv w ∷ []))) (Ok (h, r)) (tt, tt) (tt, tt)) $
+        suffices ! _ (ends_at 𝓛 (ended G) (stayed G) all_clauses bound (live 0 (of_list (pair_val hv w ∷ []))) (Ok (h, r)) (tt, tt) (tt, tt)) $
         nothing ! $ nothing ! $ fjoin ! $ join ! $ move ! (2 ∷ 3 ∷ []) $ join ! $ join ! $ frame ! $
         says_five ! (
           ((λ f. absurd (subst T (sym f) tt)), (λ e. absurd (has_some e))),
           shown,
           leaves,
           ((λ f. absurd (subst T (sym f) tt)), (λ e. absurd (is_some e))),
-          is_front,
+          is_head,
         ) $ done !
 
     walk : ent 𝓤 (on_entry 𝓛 (ended G).signature κs qs bound.0.3 bound.0.4) (WpFn 𝓤 H 𝓣.C 𝓣.Λ (function G) (vptr self.ref_ptr.0 self.ref_ptr.1 ∷ []) Post)
@@ -253,7 +253,7 @@ module _ (G : Given) {M : Type 1} {𝓤 : Ura M} (𝓛 : Logic 𝓤) (𝓜 : Mod
               let s : ℕ = c.0.1 in
               let k : ℕ = number_of s (passed G) in
               let is_y : ws.0 ≡ y = subst (λ t. OnOk t (ws.0 ≡ y)) c.1 is_taken in
-              let front_is : IsFirstSized x.packets h s = subst (λ t. IfOk t (λ u. IsFirstSized x.packets u.0 u.1)) c.1 is_first in
+              let head_is : IsFirstSized x.packets h s = subst (λ t. IfOk t (λ u. IsFirstSized x.packets u.0 u.1)) c.1 is_first in
               let lies : AreFreed y s × (freed_bytes_index y s ≡ from) = subst
               (λ m. AreFreed m s × (freed_bytes_index m s ≡ from)) is_y
               (subst (λ t. IfOk t (λ u. AreFreed ws.0 u.1 × (freed_bytes_index ws.0 u.1 ≡ from))) c.1 is_freed) in
@@ -305,7 +305,7 @@ module _ (G : Given) {M : Type 1} {𝓤 : Ura M} (𝓛 : Logic 𝓤) (𝓜 : Mod
               let w : Val = slice_val m.ref_ptr (length m.now) in
               let fits : length m.now < 2 ^ 64 = ok.0.1.0 in
               let both = pair_typed (layout G.H) (slice_ty (ty_ref erased mut (ty_int w8))) hv w good (tt, (tt, (record { fits = fits }, tt))) in
-              let sizes : first_size (without_first_gap x.packets) ≡ s = ap (λ ps. first_size (without_first_gap ps)) front_is in
+              let sizes : first_size (without_first_gap x.packets) ≡ s = ap (λ ps. first_size (without_first_gap ps)) head_is in
               lands_as ! (ap only ok.0.0) refl (tt, (tt, (record { fits = fits }, tt))) $
               sets ! (agg ! (and_then ! (get ! refl) (and_then ! (get ! refl) (no_more !)))) refl both $
               sets ! (agg ! (and_then ! (lit ! tt) (and_then ! (get ! refl) (no_more !)))) refl (and_tt _ both.0, (record { fits = lit< tt }, (both.1, tt))) $
@@ -315,7 +315,7 @@ module _ (G : Given) {M : Type 1} {𝓤 : Ura M} (𝓛 : Logic 𝓤) (𝓜 : Mod
               (λ (p : ℕ). contents (with_bytes y p l) ≡ contents y) lies.1 (unseen l (long ∙ size)) ∙ rest in
               by ! (lends h hv m w (λ e. subst T (sym (subst (λ t. IsErr t) c.1 (empty.1 e))) tt)
               (λ e. subst T (sym (subst (λ t. IsErr t) c.1 (none.1 e))) tt) shown leaves
-              (subst (IsFirstSized x.packets h) (sym sized) front_is, value ∙ (λ i. take-list (sym sizes i) (drop-list (lies.1 i) x.storage)))))))))))))))
+              (subst (IsFirstSized x.packets h) (sym sized) head_is, value ∙ (λ i. take-list (sym sizes i) (drop-list (lies.1 i) x.storage)))))))))))))))
           | inr c ↦
               let is_x : ws.0 ≡ x = subst (λ t. OnErr t (ws.0 ≡ x)) c.1 unchanged in
               rewrite ! 0 (λ (m : Q G). ‵ (mine m)) is_x refl $ rewrite ! 3 (λ (t : Answer.Denot). ‵ (Answer.own_val t (v ∷ []))) c.1 refl $ move ! (3 ∷ []) $
@@ -332,19 +332,20 @@ module _ (G : Given) {M : Type 1} {𝓤 : Ura M} (𝓛 : Logic 𝓤) (𝓜 : Mod
               by ! (refuses (empty.0 (subst (λ t. IsErr t) (sym c.1) refl)) (none.0 (subst (λ t. IsErr t) (sym c.1) refl)))))
         ])))))))))))))
 
-  module _ (z : (walk_of 𝓛 (ended G) (stayed G) held).Ghost) where
+  module _ (z : (walk_of 𝓛 (ended G) (stayed G) all_clauses).Ghost) where
     abbrev Rs : List RattleType
     Rs = types_at (ended G).signature.params z.0.0
 
-    abbrev At : Valss Rs → (walk_of 𝓛 (ended G) (stayed G) held).Ghost
+    abbrev At : Valss Rs → (walk_of 𝓛 (ended G) (stayed G) all_clauses).Ghost
     At vss = ((z.0.0, z.0.1, z.0.2, z.0.3, vss), z.1)
 
     abbrev Goes : Valss Rs → Type 1
     Goes vss = ent 𝓤 (on_entry 𝓛 (ended G).signature z.0.0 z.0.1 z.0.3 vss)
-        (WpFn 𝓤 H 𝓣.C 𝓣.Λ (function G) ((walk_of 𝓛 (ended G) (stayed G) held).args (At vss)) ((walk_of 𝓛 (ended G) (stayed G) held).post (At vss)))
+        (WpFn 𝓤 H 𝓣.C 𝓣.Λ (function G) ((walk_of 𝓛 (ended G) (stayed G) all_clauses).args (At vss))
+        ((walk_of 𝓛 (ended G) (stayed G) all_clauses).post (At vss)))
 
-    entry : Are Rs (Ises Rs) z.0.3 z.0.4 → ent 𝓤 ((walk_of 𝓛 (ended G) (stayed G) held).pre z)
-        (WpFn 𝓤 H 𝓣.C 𝓣.Λ (function G) ((walk_of 𝓛 (ended G) (stayed G) held).args z) ((walk_of 𝓛 (ended G) (stayed G) held).post z))
+    entry : Are Rs (Ises Rs) z.0.3 z.0.4 → ent 𝓤 ((walk_of 𝓛 (ended G) (stayed G) all_clauses).pre z)
+        (WpFn 𝓤 H 𝓣.C 𝓣.Λ (function G) ((walk_of 𝓛 (ended G) (stayed G) all_clauses).args z) ((walk_of 𝓛 (ended G) (stayed G) all_clauses).post z))
     entry are =
         let κs = z.0.0 in
         qed 𝓛 (raw (on_entry 𝓛 (ended G).signature κs z.0.1 z.0.3 z.0.4) ∷ raw (fact 𝓤 (κs.1.0 ⊑ G.H.lives)) ∷ raw (fact 𝓤 (κs.1.1.0 ⊑ G.N.lives)) ∷ raw
@@ -358,5 +359,5 @@ dequeue_spec 𝓤 𝓛 𝓜 𝓡 wired X Y Z LX LY LZ g gd b bd hd gm bm hm =
     let G : Given = record { H = X; N = Y; B = Z; laws = LX; slots = g; slots_by = gd; bytes = b; bytes_by = bd; drops_by = hd } in
     let first = take_met.met 𝓤 𝓛 𝓜 𝓡 (code.calls-net_storage::packet_buffer::Packets::take 𝓡.env wired) X Y Z LX LY LZ g gd b bd hd gm bm hm in
     let second = freed_met.met 𝓤 𝓛 𝓜 𝓡 (code.calls-net_storage::packet_buffer::Packets::freed_mut 𝓡.env wired) X Y Z LX LY LZ g gd b bd hd gm bm hm in
-    proved_at 𝓛 (ended G) (stayed G) (held G 𝓛 𝓜 𝓡 first second) 𝓜 𝓡 (Goes-spent_ref 𝓛 4 (0 ∷ []) tt (plain (λ _. Self G)), tt)
+    proved_at 𝓛 (ended G) (stayed G) (all_clauses G 𝓛 𝓜 𝓡 first second) 𝓜 𝓡 (Goes-spent_ref 𝓛 4 (0 ∷ []) tt (plain (λ _. Self G)), tt)
     (#self (args G)) (function G) (code.unfolded 𝓤 𝓛.H 𝓜 𝓡 wired (X, (Y, (Z, tt))) gd bd hd) (entry G 𝓛 𝓜 𝓡 first second)

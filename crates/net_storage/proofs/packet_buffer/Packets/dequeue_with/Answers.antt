@@ -1,6 +1,6 @@
 use Rattle.std.proofs.Common.{◌≡◌, ◌++◌, ◌∷◌, sym, ap, ◌∙◌, subst, arith, of_calls, List, ℕ, if◌then◌else◌, is_ok, length, drop, take, rules}
 use Rattle.std.specs.declared.option.Option.TheVariants.{Some, None}
-use Rattle.net_storage.specs.Ring.{queue, capacity, WellFormed, contiguous_queued}
+use Rattle.net_storage.specs.Ring.{queue, capacity, IsWellFormed, contiguous_queued}
 use Rattle.net_storage.specs.Packets.{first_gap, without_first, with_first_bytes, after_hand_out}
 use Rattle.net_storage.specs.PacketHistory.{contents}
 use Rattle.net_storage.specs.PacketSlots.{slot}
@@ -9,7 +9,7 @@ use Rattle.std.proofs.lemmas.List.{length-take-le}
 use Rattle.net_storage.proofs.PacketFacts.{off_wf}
 use Rattle.net_storage.proofs.PacketOrder as order
 use Rattle.net_storage.proofs.PacketRuns.{handed_contents, none_of}
-use Rattle.net_storage.proofs.PacketSteps.{close_gap, lift_fits, lift_front, off_kept, off_left, on_kept, on_left}
+use Rattle.net_storage.proofs.PacketSteps.{close_gap, lift_fits, lift_head, off_kept, off_left, on_kept, on_left}
 use Rattle.net_storage.proofs.packet_buffer.Packets.dequeue_with.Goals as goal
 use Rattle.net_storage.proofs.packet_buffer.Packets.dequeue_with.Goals.{then-is_ok, else-is_ok}
 
@@ -22,8 +22,8 @@ dequeue_many_with-answer-requires-clause-callable g c = λ p e κs a b k fit n �
     let at = c.in_ok-size.ensures.first in
     let long = ap length e in
     let fits = lift_fits m bytes c.self.invariant z c.in_ok-size.size c.in_ok-size.header at in
-    let front = lift_front m bytes c.self.invariant z c.in_ok-size.size c.in_ok-size.header at c.args.self.now is in
-    (omega (arith, long, fits), λ x y hx hy. c.requires c.in_ok-size.header _ front x y hx (hy ∙ ap (take c.in_ok-size.size) e))
+    let before = lift_head m bytes c.self.invariant z c.in_ok-size.size c.in_ok-size.header at c.args.self.now is in
+    (omega (arith, long, fits), λ x y hx hy. c.requires c.in_ok-size.header _ before x y hx (hy ∙ ap (take c.in_ok-size.size) e))
 
 pub invariant_of-self-then-is_ok : goal.invariant_of-self-then-is_ok
 invariant_of-self-then-is_ok g c =
@@ -44,7 +44,8 @@ invariant_of-self-then-is_ok g c =
     let left = sym k.1.leaves ∙ called.3 ∙ ap (λ l. called.0 ++ drop size l) k.1.shows in
     let all = count ∙ ap (λ t. if t then size else 0) (sym c.if-is_ok.ensures.value) in
     let em = c.dequeue_allocated.ensures.dequeued.0 ∙ rest in
-    let wfm = subst WellFormed (sym c.dequeue_allocated.ensures.ring) (off_wf c.lift_header.new.slots (slot size None) (drop 1 (queue m)) lifted.1 lifted.0) in
+    let wfm = subst IsWellFormed (sym c.dequeue_allocated.ensures.ring)
+    (off_wf c.lift_header.new.slots (slot size None) (drop 1 (queue m)) lifted.1 lifted.0) in
     off_kept m bytes c.self.invariant z size c.in_ok-size.header at k.0 called.0 left called.2 r.0 c.dequeue_many_with-answer.new.self k.3 all
     c.dequeue_allocated.new.self em wfm
 
@@ -87,7 +88,7 @@ returns-clause-handed g c =
     let called : (ws : List ℕ) × GivesAtPacket g.F.FnOnce c.args.f c.in_ok-size.header (take size k.1.shown.now) r.1.0 r.1.1 ws
     × (length ws ≡ size) × (k.1.left.now ≡ ws ++ drop size k.1.shown.now) = search of_calls parts 8 in
     let left = sym k.1.leaves ∙ called.3 ∙ ap (λ l. called.0 ++ drop size l) k.1.shows in
-    let front = lift_front m bytes c.self.invariant z size c.in_ok-size.header at c.args.self.now is in
+    let before = lift_head m bytes c.self.invariant z size c.in_ok-size.header at c.args.self.now is in
     let gives = subst (λ l. GivesAtPacket g.F.FnOnce c.args.f c.in_ok-size.header (take size l) r.1.0 r.1.1 called.0) k.1.shows called.1 in
     let whole = length-take-le size (take (contiguous_queued bytes) (queue bytes)) (lift_fits m bytes c.self.invariant z size c.in_ok-size.header at) in
     let q = c.args.self.now in
@@ -97,7 +98,7 @@ returns-clause-handed g c =
       | then-is_ok w ↦
           let all = count ∙ ap (λ t. if t then size else 0) (sym w.if-is_ok.ensures.value) in
           let em = w.dequeue_allocated.ensures.dequeued.0 ∙ rest in
-          let wfm = subst WellFormed (sym w.dequeue_allocated.ensures.ring)
+          let wfm = subst IsWellFormed (sym w.dequeue_allocated.ensures.ring)
           (off_wf c.lift_header.new.slots (slot size None) (drop 1 (queue m)) lifted.1 lifted.0) in
           let cm = ap capacity w.dequeue_allocated.ensures.ring ∙ lifted.2 in
           w.self-is ∙ off_left m bytes c.self.invariant z size c.in_ok-size.header at k.0 called.0 left called.2 r.0
@@ -116,12 +117,12 @@ returns-clause-handed g c =
       bytes = take size (take (contiguous_queued bytes) (queue bytes));
       new_header = r.1.1;
       new_bytes = called.0;
-      first = front;
+      first = before;
       gives = gives;
       size = long;
-      shown = order.shown q ok c.in_ok-size.header (take size (take (contiguous_queued bytes) (queue bytes))) front;
+      shown = order.shown q ok c.in_ok-size.header (take size (take (contiguous_queued bytes) (queue bytes))) before;
       left = ap contents made ∙ handed_contents q ok c.in_ok-size.header (take size (take (contiguous_queued bytes) (queue bytes))) r.1.1
-          called.0 (is_ok r.1.0) front long;
+          called.0 (is_ok r.1.0) before long;
       made = made;
     }
 

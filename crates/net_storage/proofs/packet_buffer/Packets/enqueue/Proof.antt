@@ -104,8 +104,8 @@ module _ (G : Given) {M : Type 1} {𝓤 : Ura M} (𝓛 : Logic 𝓤) (𝓜 : Mod
   abbrev 𝓣 : MachineTables 𝓤 H 𝓜
   𝓣 = tables 𝓤 H 𝓜 𝓡 𝓡.env
 
-  abbrev held : Clauses 𝓤 (ended G)
-  held = F.clauses G.H G.N G.B G.slots G.slots_by G.bytes G.bytes_by G.drops_by 𝓛 𝓜.mem 𝓡.returns
+  abbrev all_clauses : Clauses 𝓤 (ended G)
+  all_clauses = F.clauses G.H G.N G.B G.slots G.slots_by G.bytes G.bytes_by G.drops_by 𝓛 𝓜.mem 𝓡.returns
 
   abbrev Place : Contract 𝓤
   Place = triple_of 𝓛 (place.signature G.H G.N G.B G.slots G.slots_by G.bytes G.bytes_by G.drops_by)
@@ -132,11 +132,11 @@ module _ (G : Given) {M : Type 1} {𝓤 : Ura M} (𝓛 : Logic 𝓤) (𝓜 : Mod
     abbrev y : Q G
     y = with_packet_if_room x k h
 
-    abbrev bound : (walk_of 𝓛 (ended G) (stayed G) held).Ghost
+    abbrev bound : (walk_of 𝓛 (ended G) (stayed G) all_clauses).Ghost
     bound = ((κs, qs, bounds, (self, (n, (h, tt))), (mut_vals self, (vint w64 n ∷ [], (hv ∷ [], tt)))), tt)
 
     abbrev Post : Val → SProp 𝓤
-    Post = (walk_of 𝓛 (ended G) (stayed G) held).post bound
+    Post = (walk_of 𝓛 (ended G) (stayed G) all_clauses).post bound
 
     abbrev Part : RattleType
     Part = MutSlice (named 0) κs.0 u8
@@ -189,7 +189,7 @@ module _ (G : Given) {M : Type 1} {𝓤 : Ura M} (𝓛 : Logic 𝓤) (𝓜 : Mod
         fpack ! (Valss []) (within (Declared.shape FU.the_type) tt (no_fields ∷ [])) tt $
         use1 𝓛 (‵ ((RS.the_row Part FU.the_row).own_val (Err (record {})) (live 1 (of_list (no_fields ∷ [])) ∷ [])))
         (err_of 𝓛 Part FU.the_row (record {}) no_fields) $
-        suffices ! _ (ends_at 𝓛 (ended G) (stayed G) held bound (live 1 (of_list (no_fields ∷ []))) (Err (record {})) (tt, (tt, (tt, tt)))
+        suffices ! _ (ends_at 𝓛 (ended G) (stayed G) all_clauses bound (live 1 (of_list (no_fields ∷ []))) (Err (record {})) (tt, (tt, (tt, tt)))
         (tt, (tt, (tt, tt)))) $
         nothing ! $ nothing ! $ fjoin ! $ nothing ! $ fjoin ! $ nothing ! $ fjoin ! $ join ! $ move ! (2 ∷ 3 ∷ []) $ join ! $ join ! $ frame ! $
         says_four ! (tt, ((λ _. none), (λ _. refl)), tt, tt) $ done !
@@ -207,7 +207,7 @@ module _ (G : Given) {M : Type 1} {𝓤 : Ura M} (𝓛 : Logic 𝓤) (𝓜 : Mod
     lends r w is_placed accepted value size =
         qed 𝓛 (‵ (Part.own_val r (w ∷ [])) ∷ ‵ (follow (with_packet_if_room x n h) r) ∷ ‵ (flft κs.0 qs.0) ∷ others G 𝓤 κs qs ∷ []) ∵
         use1 𝓛 (‵ ((RS.the_row Part FU.the_row).own_val (Ok r) (live 0 (of_list (w ∷ [])) ∷ []))) (ok_of 𝓛 Part FU.the_row r w) $
-        suffices ! _ (ends_at 𝓛 (ended G) (stayed G) held bound (live 0 (of_list (w ∷ []))) (Ok r) (tt, (tt, (tt, tt))) (tt, (tt, (tt, tt)))) $
+        suffices ! _ (ends_at 𝓛 (ended G) (stayed G) all_clauses bound (live 0 (of_list (w ∷ []))) (Ok r) (tt, (tt, (tt, tt))) (tt, (tt, (tt, tt)))) $
         nothing ! $ nothing ! $ fjoin ! $ nothing ! $ fjoin ! $ nothing ! $ fjoin ! $ join ! $ move ! (2 ∷ 3 ∷ []) $ join ! $ join ! $ frame ! $
         says_four ! (accepted, ((λ f. absurd (subst T (sym f) tt)), (λ e. absurd (is_placed e))), value, size) $ done !
 
@@ -299,19 +299,20 @@ module _ (G : Given) {M : Type 1} {𝓤 : Ura M} (𝓛 : Logic 𝓤) (𝓜 : Mod
               returns_within ! Post refl (look_at ! 0 refl) $ free_all ! refl $ keep ! (0 ∷ 2 ∷ 3 ∷ []) $ by ! (refuses none)))
         ])))))))))))
 
-  module _ (z : (walk_of 𝓛 (ended G) (stayed G) held).Ghost) where
+  module _ (z : (walk_of 𝓛 (ended G) (stayed G) all_clauses).Ghost) where
     abbrev Rs : List RattleType
     Rs = types_at (ended G).signature.params z.0.0
 
-    abbrev At : Valss Rs → (walk_of 𝓛 (ended G) (stayed G) held).Ghost
+    abbrev At : Valss Rs → (walk_of 𝓛 (ended G) (stayed G) all_clauses).Ghost
     At vss = ((z.0.0, z.0.1, z.0.2, z.0.3, vss), z.1)
 
     abbrev Goes : Valss Rs → Type 1
     Goes vss = ent 𝓤 (on_entry 𝓛 (ended G).signature z.0.0 z.0.1 z.0.3 vss)
-        (WpFn 𝓤 H 𝓣.C 𝓣.Λ (function G) ((walk_of 𝓛 (ended G) (stayed G) held).args (At vss)) ((walk_of 𝓛 (ended G) (stayed G) held).post (At vss)))
+        (WpFn 𝓤 H 𝓣.C 𝓣.Λ (function G) ((walk_of 𝓛 (ended G) (stayed G) all_clauses).args (At vss))
+        ((walk_of 𝓛 (ended G) (stayed G) all_clauses).post (At vss)))
 
-    entry : Are Rs (Ises Rs) z.0.3 z.0.4 → ent 𝓤 ((walk_of 𝓛 (ended G) (stayed G) held).pre z)
-        (WpFn 𝓤 H 𝓣.C 𝓣.Λ (function G) ((walk_of 𝓛 (ended G) (stayed G) held).args z) ((walk_of 𝓛 (ended G) (stayed G) held).post z))
+    entry : Are Rs (Ises Rs) z.0.3 z.0.4 → ent 𝓤 ((walk_of 𝓛 (ended G) (stayed G) all_clauses).pre z)
+        (WpFn 𝓤 H 𝓣.C 𝓣.Λ (function G) ((walk_of 𝓛 (ended G) (stayed G) all_clauses).args z) ((walk_of 𝓛 (ended G) (stayed G) all_clauses).post z))
     entry are =
         let κs = z.0.0 in
         let h = alone (layout G.H) z.0.4.1.1.0 (((param_laws 0 G.H G.laws).lawful 𝓛).typed z.0.3.1.1.0 z.0.4.1.1.0 are.1.1.0) in
@@ -326,7 +327,7 @@ enqueue_spec 𝓤 𝓛 𝓜 𝓡 wired X Y Z LX LY LZ g gd b bd hd gm bm hm =
     let G : Given = record { H = X; N = Y; B = Z; laws = LX; slots = g; slots_by = gd; bytes = b; bytes_by = bd; drops_by = hd } in
     let first = place_met.met 𝓤 𝓛 𝓜 𝓡 (code.calls-net_storage::packet_buffer::Packets::place 𝓡.env wired) X Y Z LX LY LZ g gd b bd hd gm bm hm in
     let second = last_met.met 𝓤 𝓛 𝓜 𝓡 (code.calls-net_storage::packet_buffer::Packets::last_part_mut 𝓡.env wired) X Y Z LX LY LZ g gd b bd hd gm bm hm in
-    proved_at 𝓛 (ended G) (stayed G) (held G 𝓛 𝓜 𝓡 first second) 𝓜 𝓡 (
+    proved_at 𝓛 (ended G) (stayed G) (all_clauses G 𝓛 𝓜 𝓡 first second) 𝓜 𝓡 (
       Goes-spent_ref 𝓛 4 (0 ∷ []) tt (plain (λ _. Self G)),
       (Goes-dropped 𝓛 4 (plain (λ _. usize)) yes (λ κs x f. refl), (Goes-dropped 𝓛 4 (plain (λ _. Header G)) no (λ κs x f. refl), tt)),
     )

@@ -1,6 +1,6 @@
 use Rattle.std.proofs.Common.{refl, sym, subst}
 use Rattle.net_storage.specs.Ring.{queue}
-use Rattle.net_storage.specs.Packets.{AreFreed, WellPlaced}
+use Rattle.net_storage.specs.Packets.{AreFreed, IsWellPlaced}
 use Rattle.net_storage.specs.PacketSlots.{packets_in}
 use Rattle.net_storage.proofs.PacketSteps.{freed_fits, freed_ends, freed_value, written_holds, well_placed}
 use Rattle.net_storage.proofs.PacketRuns.{freed_unseen}
@@ -22,7 +22,7 @@ returns g c =
       (refl, freed_ends m b size c.args.self.now c.self.view_is),
       record {
         writes_back = tt;
-        unseen = freed_unseen c.args.self.now (subst (λ q. WellPlaced q) c.self.view_is (well_placed m b c.self.invariant)) size c.requires;
+        unseen = freed_unseen c.args.self.now (subst (λ q. IsWellPlaced q) c.self.view_is (well_placed m b c.self.invariant)) size c.requires;
         value = freed_value m b size c.args.self.now c.self.view_is _ c.get_freed.ensures.stored;
         size = c.get_freed.ensures.count;
       },

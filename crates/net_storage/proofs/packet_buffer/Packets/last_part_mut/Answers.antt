@@ -2,13 +2,13 @@ use Rattle.std.proofs.Common.{refl, sym, ap, ap₂, ◌∙◌, arith, ◌-◌, t
 use Rattle.net_storage.specs.Ring.{queue, queue_index, contiguous_queued_from, with_elements}
 use Rattle.net_storage.specs.Packets.{only_last, first_size, with_last_bytes, last_bytes}
 use Rattle.net_storage.specs.PacketSlots.{packet_queue, packets_in}
-use Rattle.net_storage.proofs.PacketSteps.{end_held, end_run, end_place, written_holds}
+use Rattle.net_storage.proofs.PacketSteps.{end_queued, end_run, end_place, written_holds}
 use Rattle.net_storage.proofs.packet_buffer.Packets.last_part_mut.Goals as goal
 
 pub overflow_sub-before : goal.overflow_sub-before
 overflow_sub-before g c =
     let k = c.requires ∙ ap (λ q. first_size (only_last q.packets)) (sym c.self.view_is) in
-    let le = end_held c.self.inside.slots c.self.inside.bytes c.self.invariant in
+    let le = end_queued c.self.inside.slots c.self.inside.bytes c.self.invariant in
     omega (arith, k, le, c.len.ensures.count)
 
 pub invariant_of-self-lent : goal.invariant_of-self-lent

@@ -1,5 +1,5 @@
 use Rattle.std.proofs.Common.{ap, ◌∙◌, arith, length, subst}
-use Rattle.net_storage.specs.Packets.{only_last, first_size, WellPlaced}
+use Rattle.net_storage.specs.Packets.{only_last, first_size, IsWellPlaced}
 use Rattle.net_storage.proofs.PacketSteps.{end_some, end_none, well_placed}
 use Rattle.net_storage.proofs.packet_buffer.Packets.last_size.Goals as goal
 
@@ -19,7 +19,7 @@ returns-in-None-clause-size g c =
     ∙ ap (λ q. first_size (only_last q.packets)) c.self.view_is
 
 pub returns-in-Some-clause-well_placed : goal.returns-in-Some-clause-well_placed
-returns-in-Some-clause-well_placed g c = subst (λ q. WellPlaced q) c.self.view_is (well_placed c.self.inside.slots c.self.inside.bytes c.self.invariant)
+returns-in-Some-clause-well_placed g c = subst (λ q. IsWellPlaced q) c.self.view_is (well_placed c.self.inside.slots c.self.inside.bytes c.self.invariant)
 
 pub returns-in-None-clause-well_placed : goal.returns-in-None-clause-well_placed
-returns-in-None-clause-well_placed g c = subst (λ q. WellPlaced q) c.self.view_is (well_placed c.self.inside.slots c.self.inside.bytes c.self.invariant)
+returns-in-None-clause-well_placed g c = subst (λ q. IsWellPlaced q) c.self.view_is (well_placed c.self.inside.slots c.self.inside.bytes c.self.invariant)

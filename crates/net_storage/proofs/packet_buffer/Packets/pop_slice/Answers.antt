@@ -41,8 +41,8 @@ returns-clause-count g c =
     c.in_ok-header.ensures.taken ∙ ap (λ o. (h, freed_bytes r size) ∷ contents o) is
     ∙ ap (λ (l : List ℕ). (h, l) ∷ contents (without_first_and_gap q)) (sym c.freed_mut.ensures.value) in
     let first : contents q ≡ (h, bytes) ∷ contents (without_first_and_gap q) = shown in
-    let front : bytes ≡ head_bytes (contents q) = sym (ap head_bytes first) in
-    c.copy-count.ensures.count ∙ ap (λ (l : List ℕ). min (length l) (length c.args.into.now)) front
+    let before : bytes ≡ head_bytes (contents q) = sym (ap head_bytes first) in
+    c.copy-count.ensures.count ∙ ap (λ (l : List ℕ). min (length l) (length c.args.into.now)) before
 
 pub returns-clause-bytes : goal.returns-clause-bytes
 returns-clause-bytes g c =
@@ -56,8 +56,8 @@ returns-clause-bytes g c =
     c.in_ok-header.ensures.taken ∙ ap (λ o. (h, freed_bytes r size) ∷ contents o) is
     ∙ ap (λ (l : List ℕ). (h, l) ∷ contents (without_first_and_gap q)) (sym c.freed_mut.ensures.value) in
     let first : contents q ≡ (h, bytes) ∷ contents (without_first_and_gap q) = shown in
-    let front : bytes ≡ head_bytes (contents q) = sym (ap head_bytes first) in
-    c.copy-count.ensures.copied ∙ ap (λ (l : List ℕ). take c.copy-count.result l ++ drop c.copy-count.result c.args.into.now) front
+    let before : bytes ≡ head_bytes (contents q) = sym (ap head_bytes first) in
+    c.copy-count.ensures.copied ∙ ap (λ (l : List ℕ). take c.copy-count.result l ++ drop c.copy-count.result c.args.into.now) before
 
 pub returns-clause-whole : goal.returns-clause-whole
 returns-clause-whole g c =
@@ -71,10 +71,10 @@ returns-clause-whole g c =
     c.in_ok-header.ensures.taken ∙ ap (λ o. (h, freed_bytes r size) ∷ contents o) is
     ∙ ap (λ (l : List ℕ). (h, l) ∷ contents (without_first_and_gap q)) (sym c.freed_mut.ensures.value) in
     let first : contents q ≡ (h, bytes) ∷ contents (without_first_and_gap q) = shown in
-    let front : bytes ≡ head_bytes (contents q) = sym (ap head_bytes first) in
+    let before : bytes ≡ head_bytes (contents q) = sym (ap head_bytes first) in
     λ long.
-    let same : length bytes ≡ length c.args.into.now = ap length front ∙ long in
-    copied_whole bytes c.args.into.now c.copy-count.new.into c.copy-count.result c.copy-count.ensures.count c.copy-count.ensures.copied same ∙ front
+    let same : length bytes ≡ length c.args.into.now = ap length before ∙ long in
+    copied_whole bytes c.args.into.now c.copy-count.new.into c.copy-count.result c.copy-count.ensures.count c.copy-count.ensures.copied same ∙ before
 
 pub returns-clause-left : goal.returns-clause-left
 returns-clause-left g c =
@@ -89,5 +89,5 @@ returns-clause-left g c =
     c.in_ok-header.ensures.taken ∙ ap (λ o. (h, freed_bytes r size) ∷ contents o) is
     ∙ ap (λ (l : List ℕ). (h, l) ∷ contents (without_first_and_gap q)) (sym c.freed_mut.ensures.value) in
     let first : contents q ≡ (h, bytes) ∷ contents (without_first_and_gap q) = shown in
-    let front : bytes ≡ head_bytes (contents q) = sym (ap head_bytes first) in
+    let before : bytes ≡ head_bytes (contents q) = sym (ap head_bytes first) in
     ap contents left ∙ ap (drop 1) (sym first)

@@ -1,6 +1,6 @@
 use Rattle.std.proofs.Common.{◌≡◌, ap, arith}
 use Rattle.net_storage.specs.Ring.{contiguous_queued}
-use Rattle.net_storage.proofs.RingParts.{two_parts, each_front, each_behind}
+use Rattle.net_storage.proofs.RingParts.{two_parts, each_head, each_behind}
 use Rattle.net_storage.proofs.ring_buffer.Ring.as_slices.Goals as goal
 
 pub returns : goal.returns
@@ -8,10 +8,10 @@ returns g c =
     let old = c.args.self.now in
     let is = c.self.view_is in
     let n = c.min-first.result in
-    let held = ap (λ o. o.count) is in
+    let counts = ap (λ o. o.count) is in
     let at = ap (λ o. o.read_at) is in
-    let cut : n ≡ contiguous_queued old = omega (arith, held, at) in
-    let parts = two_parts _ _ is c.self.invariant n c.self.inside.read_at _ _ cut at (omega arith) (omega (arith, held))
+    let cut : n ≡ contiguous_queued old = omega (arith, counts, at) in
+    let parts = two_parts _ _ is c.self.invariant n c.self.inside.read_at _ _ cut at (omega arith) (omega (arith, counts))
     c.part.result.now c.part-2.result.now c.part.ensures c.part-2.ensures in
     record {
       queue = parts.queue;
@@ -19,7 +19,7 @@ returns g c =
       count = parts.count;
       not_empty = parts.some;
       value = (parts.first, parts.second);
-      first = each_front _ _ _ parts.queue;
+      first = each_head _ _ _ parts.queue;
       second = each_behind _ _ _ parts.queue;
       stored = parts.stored;
     }

@@ -1,5 +1,5 @@
 use Rattle.std.proofs.Common.{ap, sym, subst, take, arith}
-use Rattle.net_storage.specs.Ring.{storage_index, queue, Dequeued}
+use Rattle.net_storage.specs.Ring.{storage_index, queue, Dequeues}
 use Rattle.net_storage.proofs.RingFacts.{well, with_dequeued_is, with_dequeued_law}
 use Rattle.net_storage.proofs.ring_buffer.Ring.dequeue_allocated.Goals as goal
 
@@ -11,5 +11,5 @@ returns-clause-ring g c =
 pub returns-clause-dequeued : goal.returns-clause-dequeued
 returns-clause-dequeued g c =
     let old = c.args.self.now in
-    subst (Dequeued old c.args.count (take c.args.count (queue old))) (sym (returns-clause-ring g c))
+    subst (Dequeues old c.args.count (take c.args.count (queue old))) (sym (returns-clause-ring g c))
     (with_dequeued_law old (well _ _ c.self.view_is c.self.invariant) c.args.count c.requires.len)

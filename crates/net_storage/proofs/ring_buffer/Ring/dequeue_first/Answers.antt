@@ -1,6 +1,6 @@
 use Rattle.std.proofs.Common.{◌≡◌, ◌∷◌, [], ◌∙◌, refl, ap, slice_index_or, arith}
 use Rattle.net_storage.specs.Ring.{storage_index}
-use Rattle.net_storage.proofs.RingFacts.{well, left_off, queue_front, dequeued_one}
+use Rattle.net_storage.proofs.RingFacts.{well, left_off, queue_head, dequeued_one}
 use Rattle.net_storage.proofs.ring_buffer.Ring.dequeue_first.Goals as goal
 
 pub returns : goal.returns
@@ -16,7 +16,7 @@ returns g c =
       ),
       record {
         writes_back = tt;
-        value = queue_front _ (well _ _ is c.self.invariant) x here c.requires;
+        value = queue_head _ (well _ _ is c.self.invariant) x here c.requires;
         dequeued = λ w. dequeued_one _ (well _ _ is c.self.invariant) w c.requires;
       },
     )

@@ -2,7 +2,7 @@ use Rattle.std.proofs.Common.{◌≡◌, ◌-◌, take, refl, ap, ◌∙◌, min
 use Rattle.std.specs.Fn.{FnOnceReturnsAtMut}
 use denote.MutBor.{at_last}
 use Rattle.net_storage.specs.Ring.{capacity, queue, contiguous_queued}
-use Rattle.net_storage.proofs.RingFacts.{well, off_wf, once_wf, storage_index_after, lent_front, left_off_from}
+use Rattle.net_storage.proofs.RingFacts.{well, off_wf, once_wf, storage_index_after, lent_head, left_off_from}
 use Rattle.net_storage.proofs.ring_buffer.Ring.dequeue_many_with.Goals as goal
 
 pub f-answer-requires : goal.f-answer-requires
@@ -11,7 +11,7 @@ f-answer-requires g c =
     let run : c.min.result ≡ contiguous_queued c.args.self.now = c.min.ensures
     ∙ ap (λ n. min c.self.inside.length (n - c.self.inside.read_at)) c.capacity.ensures.capacity
     ∙ ap (λ o. min o.count (capacity c.args.self.now - o.read_at)) is in
-    c.requires.callable c.part_mut.result (lent_front _ _ is c.self.invariant _ _ (ap (λ o. o.read_at) is) (omega (arith, run)) _ c.part_mut.ensures.value).0
+    c.requires.callable c.part_mut.result (lent_head _ _ is c.self.invariant _ _ (ap (λ o. o.read_at) is) (omega (arith, run)) _ c.part_mut.ensures.value).0
 
 pub storage_index-self-inside-requires : goal.storage_index-self-inside-requires
 storage_index-self-inside-requires g c =
@@ -19,7 +19,7 @@ storage_index-self-inside-requires g c =
     let run : c.min.result ≡ contiguous_queued c.args.self.now = c.min.ensures
     ∙ ap (λ n. min c.self.inside.length (n - c.self.inside.read_at)) c.capacity.ensures.capacity
     ∙ ap (λ o. min o.count (capacity c.args.self.now - o.read_at)) is in
-    let lent = lent_front _ _ is c.self.invariant _ _ (ap (λ o. o.read_at) is) (omega (arith, run)) _ c.part_mut.ensures.value in
+    let lent = lent_head _ _ is c.self.invariant _ _ (ap (λ o. o.read_at) is) (omega (arith, run)) _ c.part_mut.ensures.value in
     let le = c.requires.count c.f-answer.result c.f-answer.new.arg2 (record {
       shown = c.part_mut.result;
       shows = lent.0;
@@ -38,7 +38,7 @@ overflow_sub-self g c =
     let run : c.min.result ≡ contiguous_queued c.args.self.now = c.min.ensures
     ∙ ap (λ n. min c.self.inside.length (n - c.self.inside.read_at)) c.capacity.ensures.capacity
     ∙ ap (λ o. min o.count (capacity c.args.self.now - o.read_at)) is in
-    let lent = lent_front _ _ is c.self.invariant _ _ (ap (λ o. o.read_at) is) (omega (arith, run)) _ c.part_mut.ensures.value in
+    let lent = lent_head _ _ is c.self.invariant _ _ (ap (λ o. o.read_at) is) (omega (arith, run)) _ c.part_mut.ensures.value in
     let le = c.requires.count c.f-answer.result c.f-answer.new.arg2 (record {
       shown = c.part_mut.result;
       shows = lent.0;
@@ -55,7 +55,7 @@ invariant_of-self-2 g c =
     let run : c.min.result ≡ contiguous_queued c.args.self.now = c.min.ensures
     ∙ ap (λ n. min c.self.inside.length (n - c.self.inside.read_at)) c.capacity.ensures.capacity
     ∙ ap (λ o. min o.count (capacity c.args.self.now - o.read_at)) is in
-    let lent = lent_front _ _ is c.self.invariant _ _ (ap (λ o. o.read_at) is) (omega (arith, run)) _ c.part_mut.ensures.value in
+    let lent = lent_head _ _ is c.self.invariant _ _ (ap (λ o. o.read_at) is) (omega (arith, run)) _ c.part_mut.ensures.value in
     let le = c.requires.count c.f-answer.result c.f-answer.new.arg2 (record {
       shown = c.part_mut.result;
       shows = lent.0;
@@ -77,7 +77,7 @@ returns g c =
     let run : c.min.result ≡ contiguous_queued c.args.self.now = c.min.ensures
     ∙ ap (λ n. min c.self.inside.length (n - c.self.inside.read_at)) c.capacity.ensures.capacity
     ∙ ap (λ o. min o.count (capacity c.args.self.now - o.read_at)) is in
-    let lent = lent_front _ _ is c.self.invariant _ _ (ap (λ o. o.read_at) is) (omega (arith, run)) _ c.part_mut.ensures.value in
+    let lent = lent_head _ _ is c.self.invariant _ _ (ap (λ o. o.read_at) is) (omega (arith, run)) _ c.part_mut.ensures.value in
     let after = c.f-answer.new.arg2 in
     let met : FnOnceReturnsAtMut g.F.FnOnce c.args.f (take (contiguous_queued c.args.self.now) (queue c.args.self.now)) c.f-answer.result after =
     record { shown = c.part_mut.result; shows = lent.0; left = at_last c.part_mut.result after; leaves = refl; met = c.f-answer.ensures } in

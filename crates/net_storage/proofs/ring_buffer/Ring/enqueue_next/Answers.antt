@@ -1,6 +1,6 @@
 use Rattle.std.proofs.Common.{◌∷◌, [], ◌∙◌, refl, ap, slice_index_or, arith}
 use Rattle.net_storage.specs.Ring.{write_at}
-use Rattle.net_storage.proofs.RingFacts.{well, left_in, spare_front, enqueued_one}
+use Rattle.net_storage.proofs.RingFacts.{well, left_in, spare_head, enqueued_one}
 use Rattle.net_storage.proofs.ring_buffer.Ring.enqueue_next.Goals as goal
 
 pub returns : goal.returns
@@ -17,7 +17,7 @@ returns g c =
       ),
       record {
         writes_back = tt;
-        value = spare_front _ (well _ _ is c.self.invariant) x here c.requires;
+        value = spare_head _ (well _ _ is c.self.invariant) x here c.requires;
         enqueued = λ w. enqueued_one _ (well _ _ is c.self.invariant) w c.requires;
       },
     )

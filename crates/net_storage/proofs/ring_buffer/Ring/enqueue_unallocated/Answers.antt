@@ -1,5 +1,5 @@
 use Rattle.std.proofs.Common.{ap, sym, subst, take, ◌∙◌, arith}
-use Rattle.net_storage.specs.Ring.{spare, Enqueued}
+use Rattle.net_storage.specs.Ring.{spare, Enqueues}
 use Rattle.net_storage.proofs.Rotations.{with_enqueued_parts}
 use Rattle.net_storage.proofs.RingFacts.{well, with_enqueued_is, with_enqueued_law}
 use Rattle.net_storage.proofs.ring_buffer.Ring.enqueue_unallocated.Goals as goal
@@ -10,7 +10,7 @@ returns-clause-ring g c = with_enqueued_is _ _ c.self.view_is c.self.invariant _
 pub returns-clause-enqueued : goal.returns-clause-enqueued
 returns-clause-enqueued g c =
     let old = c.args.self.now in
-    subst (Enqueued old (take c.args.count (spare old))) (sym (returns-clause-ring g c))
+    subst (Enqueues old (take c.args.count (spare old))) (sym (returns-clause-ring g c))
     (with_enqueued_law old (well _ _ c.self.view_is c.self.invariant) c.args.count c.requires.window)
 
 pub returns-clause-of_spare : goal.returns-clause-of_spare

@@ -9,13 +9,13 @@ returns g c =
     let old = c.args.self.now in
     let is = c.self.view_is in
     let span = c.span-span.ensures in
-    let held = ap (λ o. o.count) is in
+    let counts = ap (λ o. o.count) is in
     let size = ap (λ o. capacity o) is in
     let at : c.span-span.result.from ≡ spare_index old c.args.offset = span.from
     ∙ ap (λ o. storage_index o (c.self.inside.length + min c.args.offset c.window.result)) is
-    ∙ ap (storage_index old) (omega (arith, held, size, c.window.ensures.window)) in
+    ∙ ap (storage_index old) (omega (arith, counts, size, c.window.ensures.window)) in
     let count : c.span-span.result.contiguous ≡ contiguous_window_from old c.args.offset c.args.size =
-    omega (arith, span.count, span.contiguous, at, held, size, c.window.ensures.window) in
+    omega (arith, span.count, span.contiguous, at, counts, size, c.window.ensures.window) in
     let lent = shown_spare _ _ is c.self.invariant c.args.offset c.args.size _ _ at (omega (arith, count)) _ c.part_mut.ensures.value in (
       (refl, λ w. left_at _ _ is c.self.invariant _ _ at _ w (g.met.S.Elements.part_written c.self.inside.storage c.span-span.result.from w)),
       record {

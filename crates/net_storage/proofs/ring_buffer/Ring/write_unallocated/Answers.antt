@@ -31,8 +31,9 @@ returns-then-contiguous-count-clause-ring g c =
     let two = law one 0 b ∙ ap (λ l. overwrite l 0 b) (law c.self.inside.storage c.span-from.result.from a) in
     let span = c.span-from.ensures in
     let room = c.window.ensures.window in
-    let held = ap (λ o. o.count) c.self.view_is in
-    let at : c.span-from.result.from ≡ spare_index c.args.self.now c.args.offset = span.from ∙ ap (storage_index c.args.self.now) (omega (arith, held, room)) in
+    let counts = ap (λ o. o.count) c.self.view_is in
+    let at : c.span-from.result.from ≡ spare_index c.args.self.now c.args.offset =
+    span.from ∙ ap (storage_index c.args.self.now) (omega (arith, counts, room)) in
     let rest : b ≡ take (c.span-from.result.count - c.span-from.result.contiguous) (drop c.span-from.result.contiguous c.args.«data».now) = search rules in
     wrapping_clause _ _ c.self.view_is c.self.invariant c.args.offset c.span-from.result.count c.span-from.result.from
     c.span-from.result.contiguous c.args.«data».now _ _ _
@@ -47,8 +48,9 @@ pub returns-else-contiguous-count-clause-ring : goal.returns-else-contiguous-cou
 returns-else-contiguous-count-clause-ring g c =
     let span = c.span-from.ensures in
     let room = c.window.ensures.window in
-    let held = ap (λ o. o.count) c.self.view_is in
-    let at : c.span-from.result.from ≡ spare_index c.args.self.now c.args.offset = span.from ∙ ap (storage_index c.args.self.now) (omega (arith, held, room)) in
+    let counts = ap (λ o. o.count) c.self.view_is in
+    let at : c.span-from.result.from ≡ spare_index c.args.self.now c.args.offset =
+    span.from ∙ ap (storage_index c.args.self.now) (omega (arith, counts, room)) in
     once_clause _ _ c.self.view_is c.self.invariant c.args.offset c.span-from.result.count c.span-from.result.from c.span-from.result.contiguous
     c.args.«data».now _ _
     (omega (arith, span.count, room)) at span.contiguous c.if-contiguous-count.false c.copy_from_slice.ensures.after

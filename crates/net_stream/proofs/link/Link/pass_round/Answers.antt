@@ -13,7 +13,7 @@ use Rattle.net_stream.specs.Links.{next_flight}
 use Rattle.net_stream.specs.Progress.{Reaches, HasRoom, after_ack_frames}
 use Rattle.net_stream.specs.Passing.{coming_of, late_of, receiver_after_all, acks_of}
 use Rattle.net_stream.proofs.Meeting.{brought_append, acks_append}
-use Rattle.net_stream.proofs.Carried.{answered}
+use Rattle.net_stream.proofs.Carried.{acked_back}
 use Rattle.net_stream.proofs.Reached.{acked_append, room_same, sent_reaches, first_is, all_keep_end}
 use Rattle.net_stream.proofs.Sent.{all_sent}
 use Rattle.net_stream.proofs.Stuck.{acked_last}
@@ -45,7 +45,7 @@ returns-in_err-pass_acks-clause-carries g c = λ f w h.
     let there = c.pass_frames.new.there in
     let came = c.pass_frames.ensures.carried f w c.args.self.now.sender
     (c.pass_late_frames.ensures.carried f w c.args.self.now.sender (c.transmit.ensures.carried f w c.args.self.now.receiver c.args.self.now.back h)) in
-    let told = answered f w c.args.self.now.sender r there c.pass_frames.new.back c.send_ack.new.back
+    let told = acked_back f w c.args.self.now.sender r there c.pass_frames.new.back c.send_ack.new.back
     (ack_of r) c.in_ok-send_ack.ensures.ok c.send_ack.ensures.tells came in
     c.pass_acks.ensures.carried f w r there (c.pass_late_acks.ensures.carried f w r there told)
 
@@ -55,7 +55,7 @@ returns-clause-carries g c = λ f w h.
     let there = c.pass_frames.new.there in
     let came = c.pass_frames.ensures.carried f w c.args.self.now.sender
     (c.pass_late_frames.ensures.carried f w c.args.self.now.sender (c.transmit.ensures.carried f w c.args.self.now.receiver c.args.self.now.back h)) in
-    let told = answered f w c.args.self.now.sender r there c.pass_frames.new.back c.send_ack.new.back
+    let told = acked_back f w c.args.self.now.sender r there c.pass_frames.new.back c.send_ack.new.back
     (ack_of r) c.in_ok-send_ack.ensures.ok c.send_ack.ensures.tells came in
     c.pass_acks.ensures.carried f w r there (c.pass_late_acks.ensures.carried f w r there told)
 

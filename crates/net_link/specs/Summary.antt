@@ -1,5 +1,5 @@
 -- What standard error says of a copy.
---     report ended counts      the line of its error, if there is one, and the line of its counts
+--     summary ended counts      the line of its error, if there is one, and the line of its counts
 --     usage_text      how the program is used
 use Rattle.std.specs.Prelude.{ℕ, ◌*◌, ◌-◌, ◌/◌, ◌^◌, min, max, List, [], ◌++◌, Result, Ok, Err, codes, decimal}
 use Rattle.net_stream.specs.declared.counts.Counts.{Counts}
@@ -38,8 +38,8 @@ error_line (Err OutOfMemory) = codes "out of memory\n"
 error_line (Err ReadFailed) = codes "read failed\n"
 error_line (Err WriteFailed) = codes "write failed\n"
 
-abbrev pub report : {T : Type 0} → Result T LinkError → Counts → List ℕ
-report ended counts = error_line ended ++ counts_text counts ++ codes "\n"
+abbrev pub summary : {T : Type 0} → Result T LinkError → Counts → List ℕ
+summary ended counts = error_line ended ++ counts_text counts ++ codes "\n"
 
 -- how the program is used: the words, and of each what it is and what it is if it is left out
 abbrev pub usage_text : List ℕ

@@ -1,6 +1,6 @@
 use Rattle.std.proofs.Common.{◌-◌, ◌∙◌, ap, length, take, drop, arith}
 use Rattle.net_stream.proofs.Parts.{lent_says, lent_at}
-use Rattle.net_stream.proofs.sender.Sender.segment.Goals as goal
+use Rattle.net_stream.proofs.sender.Sender.peek_at.Goals as goal
 
 pub returns-clause-says : goal.returns-clause-says
 returns-clause-says c = λ f w s h.

@@ -1,7 +1,7 @@
 //! What standard error says of a copy.
 ghost use Rattle.std.specs.Prelude.{◌≡◌, OnOk, Some};
 ghost use Rattle.std.specs.Io.KnownBytes.{Appends};
-ghost use Rattle.net_link.specs.Report.{rate, frames_text, counts_text, error_line, report};
+ghost use Rattle.net_link.specs.Summary.{rate, frames_text, counts_text, error_line, summary};
 
 use net_stream::{Counts, FrameCounts, LinkError};
 use std::io::Write;
@@ -71,13 +71,13 @@ fn error_line(ended: &Result<(), LinkError>) -> &'static str
 }
 
 /// Writes how a copy ended: its error, if it has one, and its counts, each as a line.
-pub fn write_report<E: Write>(
+pub fn write_summary<E: Write>(
     errors: &mut E,
     ended: &Result<(), LinkError>,
     counts: &Counts,
 ) -> io::Result<()>
     ensures { OnOk result
-        (Appends (E.contents errors.old) (E.contents errors.new) (report ended.now counts.now)) }
+        (Appends (E.contents errors.old) (E.contents errors.new) (summary ended.now counts.now)) }
 {
     let error = error_line(ended);
     let counts = CountsText(*counts);
