@@ -4,7 +4,7 @@ use Rattle.std.proofs.Common.{OnOk, IfErr, IfSome, subst, sym, ap, true≢false,
 use Rattle.std.specs.Prelude.{IsOk, ◌⊎◌}
 use Rattle.std.proofs.Common.{⊎_elim}
 use Rattle.std.specs.Io.KnownBytes.{Appends, Keeps}
-use Rattle.net_program.specs.Writing.{AppendsPrefix}
+use Rattle.net_program.specs.Writing.{AppendsPrefix, FlushesAfter}
 use Rattle.net_program.specs.declared.ending.Status.{Status}
 use Rattle.net_program.specs.declared.ending.Status.TheVariants.{Done, Failed, Misused}
 use Rattle.net_program.proofs.KnownBytes.{Appends-kept, StartsWith-all}
@@ -14,7 +14,7 @@ use Rattle.net_lines.specs.declared.error.BenchError.{BenchError}
 use Rattle.net_lines.specs.declared.error.BenchError.TheVariants.{BadCommand, RangeTooLong, LineTooLong}
 use Rattle.net_lines.specs.declared.error.BenchError.TheVariants.{TooManySchedules, OutOfMemory}
 use Rattle.net_lines.specs.declared.error.BenchError.TheVariants.{ReadFailed, WriteFailed}
-use Rattle.net_bench.specs.Serving.{error_line, status_of, FlushesAfter, FailsOnInput}
+use Rattle.net_bench.specs.Serving.{error_line, status_of, FailsOnInput}
 
 abbrev is_done : Status → Bool
 is_done Done = true
@@ -74,7 +74,7 @@ unflushed all (Some input) left old new (Ok done) is_ok h = record {
 
 -- what is left of a run and a flush behind it
 module _ (all : Transcript) (before left old mid new : Option (List ℕ)) where
-  flushed : (r r' : Result (Unit {0}) BenchError) → Keeps mid new → FlushesAfter r r' →
+  flushed : (r r' : Result (Unit {0}) BenchError) → Keeps mid new → FlushesAfter WriteFailed r r' →
       Ends all before left old mid r → Ends all before left old new r'
   flushed r r' k after h =
       ⊎_elim
@@ -84,7 +84,7 @@ module _ (all : Transcript) (before left old mid new : Option (List ℕ)) where
       (unflushed all before left old new r e.0 (kept_ends all before left old mid new r k h)))
       after
 
-  pub flushed_ok : (r r' : Result (Unit {0}) BenchError) → Keeps mid new → FlushesAfter r r' →
+  pub flushed_ok : (r r' : Result (Unit {0}) BenchError) → Keeps mid new → FlushesAfter WriteFailed r r' →
       OnOk r (Ran all before old mid)
       → IfErr r (λ e. IfSome before (λ input. ErrorOfInput all input left old mid e))
       → status_of r' ≡ Done → Ran all before old new
@@ -93,7 +93,7 @@ module _ (all : Transcript) (before left old mid new : Option (List ℕ)) where
   flushed_ok r (Err e) k after ok err is = absurd (true≢false (sym (ap is_done is)))
 
   pub flushed_err : (r r' : Result (Unit {0}) BenchError) (said says : Option (List ℕ))
-      (told : Bool) → Keeps mid new → FlushesAfter r r' → OnOk r (Ran all before old mid)
+      (told : Bool) → Keeps mid new → FlushesAfter WriteFailed r r' → OnOk r (Ran all before old mid)
       → IfErr r (λ e. IfSome before (λ input. ErrorOfInput all input left old mid e))
       → IfErr r' (λ e. told ≡ true → Appends said says (error_line e))
       → status_of r' ≡ Failed → FailsOnInput all before left old new said says told

@@ -1,18 +1,16 @@
 -- What comes of a call of `run`, and what standard error says.
 --     usage_line, error_line e      the line for words that name no mode, and for an error
 --     status_of outcome      the status after this result of `run`
---     FlushesAfter outcome result      the result of `run`, and that once its writer was flushed
 --     FailsOnInput all before left old new said says told      what an error says of the input, of what
 --         the writer has, and of standard error, before and after
-use Rattle.std.specs.Prelude.{◌≡◌, ℕ, List, ◌++◌, ◌⊎◌, Option, IfSome, Bool, true}
-use Rattle.std.specs.Prelude.{Result, Ok, Err, IsOk, codes}
+use Rattle.std.specs.Prelude.{◌≡◌, ℕ, List, ◌++◌, Option, IfSome, Bool, true}
+use Rattle.std.specs.Prelude.{Result, Ok, Err, codes}
 use Rattle.std.specs.Io.KnownBytes.{Appends}
 use Rattle.net_program.specs.declared.ending.Status.{Status}
 use Rattle.net_program.specs.declared.ending.Status.TheVariants.{Done, Failed}
 use Rattle.net_lines.specs.Transcript.{Transcript, ErrorOfInput}
 use Rattle.net_lines.specs.ErrorText.{error_text}
 use Rattle.net_lines.specs.declared.error.BenchError.{BenchError}
-use Rattle.net_lines.specs.declared.error.BenchError.TheVariants.{WriteFailed}
 
 abbrev pub usage_line : List ℕ
 usage_line = codes "usage: net_bench ring CAP | asm N | stream CAP N [FIRST]\n"
@@ -23,10 +21,6 @@ error_line e = error_text e ++ codes "\n"
 abbrev pub status_of : {T : Type 0} → Result T BenchError → Status
 status_of (Ok t) = Done
 status_of (Err e) = Failed
-
--- a flush that fails where `run` returned no error is a failed write
-abbrev pub FlushesAfter : {T : Type 0} → Result T BenchError → Result T BenchError → Type 0
-FlushesAfter outcome result = (result ≡ outcome) ⊎ (IsOk outcome × (result ≡ Err WriteFailed))
 
 -- if the input is known, `run` returned an error that says all this; and if standard error took the
 -- line, it is that error's

@@ -3,11 +3,10 @@ ghost use Rattle.std.specs.Prelude.{◌≡◌, ◌↔◌, map, IfSome, OnOk, IfE
 ghost use Rattle.std.specs.Io.KnownBytes.{Appends, Keeps};
 ghost use Rattle.net_program.specs.declared.ending.Status.TheVariants.{Done, Failed, Misused};
 ghost use Rattle.net_lines.specs.Modes.{output, fault, mode_of, transcript_of};
-ghost use Rattle.net_bench.specs.Serving.{usage_line, error_line, status_of};
-ghost use Rattle.net_bench.specs.Serving.{FailsOnInput, FlushesAfter};
+ghost use Rattle.net_bench.specs.Serving.{usage_line, error_line, status_of, FailsOnInput};
 
 use net_lines::{BenchError, Mode, run};
-use net_program::{Ended, Status};
+use net_program::{Ended, Status, flush_after};
 use std::alloc::Allocator;
 use std::io::{Read, Write};
 
@@ -50,20 +49,8 @@ pub fn serve<A: Allocator + Copy, R: Read, W: Write, E: Write>(
         };
     };
     let outcome = run(alloc, mode, reader, writer);
-    let outcome = flush_after(outcome, writer);
+    let outcome = flush_after(outcome, BenchError::WriteFailed, writer);
     ended_after(outcome, errors)
-}
-
-/// Flushes the writer after `run`. A flush that fails where `run` returned Ok is a failed write.
-fn flush_after<W: Write>(outcome: Result<(), BenchError>, writer: &mut W) -> Result<(), BenchError>
-    ensures kept { Keeps (W.contents writer.old) (W.contents writer.new) }
-    ensures run { FlushesAfter outcome result }
-{
-    let flushed = writer.flush();
-    if outcome.is_ok() && flushed.is_err() {
-        return Err(BenchError::WriteFailed);
-    }
-    outcome
 }
 
 /// Writes the error that `run` returned as a line, if there is one.

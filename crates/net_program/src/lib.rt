@@ -1,5 +1,5 @@
 //! What the programs here share: the words of a command line, the numbers that words write, writing
-//! a text whole, and how a program ends.
+//! a text whole, flushing, and how a program ends.
 //!
 //! Beside them stand the lemmas on what readers give and writers take that several crates cite.
 #![tactic(auto)]
@@ -12,4 +12,4 @@ mod writing;
 pub use arguments::{command_words, gather};
 pub use ending::{Ended, Status};
 pub use numeral::number;
-pub use writing::write_text;
+pub use writing::{flush_after, write_text};

@@ -1,6 +1,7 @@
-//! Writing a text whole.
+//! Writing a text whole, and flushing.
 ghost use Rattle.std.specs.Prelude.{◌<◌, length, take, OnOk, IfErr};
-ghost use Rattle.std.specs.Io.KnownBytes.{Appends};
+ghost use Rattle.std.specs.Io.KnownBytes.{Appends, Keeps};
+ghost use Rattle.net_program.specs.Writing.{FlushesAfter};
 
 use std::io::Write;
 
@@ -22,4 +23,21 @@ pub fn write_text<W: Write>(writer: &mut W, text: &[u8]) -> Result<(), usize>
         }
     }
     Ok(())
+}
+
+/// Flushes a writer, and returns how the work over it ended: a flush that fails where the work
+/// succeeded is the error `failed`, and it takes no other error's place.
+pub fn flush_after<E: Drop, W: Write>(
+    ended: Result<(), E>,
+    failed: E,
+    writer: &mut W,
+) -> Result<(), E>
+    ensures kept { Keeps (W.contents writer.old) (W.contents writer.new) }
+    ensures ended { FlushesAfter failed ended result }
+{
+    let flushed = writer.flush();
+    if ended.is_ok() && flushed.is_err() {
+        return Err(failed);
+    }
+    ended
 }

@@ -1,5 +1,5 @@
-//! Texts that are written whole, or up to an error.
-use net_program::write_text;
+//! Texts that are written whole, or up to an error, and flushes.
+use net_program::{flush_after, write_text};
 use net_testing::{NEVER, Sink};
 use std::alloc::Global;
 use std::io::ErrorKind;
@@ -46,4 +46,28 @@ fn a_text_of_no_bytes_needs_no_write(rt: HostRuntime) -> Result<(), Fail> {
     let mut sink = Sink::failing(rt.alloc(), 1, 0, None)?;
     assert!(rt; write_text(&mut sink, b"").is_ok() && sink.calls == 0);
     Ok(())
+}
+
+/// Whether a result is this one once a writer was flushed, whose flushes fail or don't.
+fn flush(
+    rt: &impl Abort,
+    alloc: Global,
+    kind: Option<ErrorKind>,
+    ended: Result<(), u8>,
+    wanted: Result<(), u8>,
+) -> Result<(), Fail> {
+    let mut sink = Sink::new(alloc)?;
+    sink.flush_kind = kind;
+    assert!(rt; flush_after(ended, 7, &mut sink) == wanted);
+    assert!(rt; sink.flushes == 1 && sink.calls == 0);
+    Ok(())
+}
+
+#[test]
+fn a_failed_flush_takes_no_other_error_s_place(rt: HostRuntime) -> Result<(), Fail> {
+    let other = Some(ErrorKind::Other);
+    flush(&rt, rt.alloc(), None, Ok(()), Ok(()))?;
+    flush(&rt, rt.alloc(), other, Ok(()), Err(7))?;
+    flush(&rt, rt.alloc(), None, Err(3), Err(3))?;
+    flush(&rt, rt.alloc(), other, Err(3), Err(3))
 }

@@ -8,11 +8,12 @@ use Rattle.std.specs.Io.KnownBytes.{Appends, Consumes, IsAtEnd, Keeps}
 use Rattle.std.specs.Result.{is_ok}
 use Rattle.std.proofs.lemmas.Bool.{both_ways}
 use Rattle.std.proofs.lemmas.List.{append-nil, take_all, take-take, take-append-le}
+use Rattle.net_program.specs.Writing.{FlushesAfter}
 use Rattle.net_receiver.specs.Stored.{Stored, stored_next}
 use Rattle.net_receiver.specs.OneStream.{ReceivesFrom, QueueIsOf, QueueIsOfStream}
 use Rattle.net_stream.specs.Outgoing.{end_of}
 use Rattle.net_stream.specs.Links.{Carries}
-use Rattle.net_stream.specs.Copying.{CopiesSoFar, HandsOut, HandsOutPrefix, Copies, FlushesAfter, gave_up}
+use Rattle.net_stream.specs.Copying.{CopiesSoFar, HandsOut, HandsOutPrefix, Copies, gave_up}
 use Rattle.net_stream.specs.declared.counts.Counts.{Counts}
 use Rattle.net_stream.specs.declared.link.Link.{Link}
 use Rattle.net_stream.specs.declared.error.LinkError.{LinkError}
@@ -282,7 +283,7 @@ less_copied old new held holds taken bytes complete c = record {
 }
 
 pub flushed : {T : Type 0} (old new held holds holds' : Option (List ℕ)) (taken bytes : ℕ) (ended result : Result T LinkError) → Keeps holds holds' →
-    FlushesAfter ended result →
+    FlushesAfter WriteFailed ended result →
     Copies old new held holds taken bytes (is_ok ended) → Copies old new held holds' taken bytes (is_ok result)
 flushed old new held holds holds' taken bytes ended result kept after c =
     ⊎_elim
@@ -292,14 +293,14 @@ flushed old new held holds holds' taken bytes ended result kept after c =
     (less_copied old new held holds' taken bytes (is_ok ended) (kept_copied old new held holds holds' taken bytes (is_ok ended) kept c)))
     after
 
-pub ok_after : {T : Type 0} (P : Type 0) (ended result : Result T LinkError) → FlushesAfter ended result → OnOk ended P → OnOk result P
+pub ok_after : {T : Type 0} (P : Type 0) (ended result : Result T LinkError) → FlushesAfter WriteFailed ended result → OnOk ended P → OnOk result P
 ok_after P ended result after h =
     ⊎_elim
     (λ (e : result ≡ ended). subst (λ r. OnOk r P) (sym e) h)
     (λ (e : (is_ok ended ≡ true) × (result ≡ Err WriteFailed)). subst (λ r. OnOk r P) (sym e.1) tt)
     after
 
-pub gave_up_after : {T : Type 0} (P : Type 0) (ended result : Result T LinkError) → FlushesAfter ended result → IfErr ended (λ e. gave_up e ≡ true → P) →
+pub gave_up_after : {T : Type 0} (P : Type 0) (ended result : Result T LinkError) → FlushesAfter WriteFailed ended result → IfErr ended (λ e. gave_up e ≡ true → P) →
     IfErr result (λ e. gave_up e ≡ true → P)
 gave_up_after P ended result after h =
     ⊎_elim

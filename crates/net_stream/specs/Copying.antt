@@ -6,7 +6,6 @@
 --     HandsOut f v u had has before after      bytes came from the receiver to the writer
 --     HandsOutPrefix f v had has before after      a prefix of them did
 --     CopyRoundLeaves old new room room'      what a round of a copy leaves as it was, or lets grow
---     FlushesAfter ended result      how a copy ended, once its writer was flushed
 use Rattle.std.specs.Prelude.{◌≡◌, ℕ, List, ◌++◌, ◌+◌, ◌-◌, ◌<◌, ◌≤◌, ◌^◌, ◌⊎◌, [], length, take}
 use Rattle.std.specs.Prelude.{Bool, true, false, Option, Result, Err, min}
 use Rattle.std.specs.Io.{StartsWith}
@@ -91,8 +90,3 @@ pub record CopyRoundLeaves {A : Type 0} (old new : Link A) (room room' : ℕ) : 
   pub grows : stored_next old.receiver ≤ stored_next new.receiver
   pub drained : 0 < room → new.receiver.read ≡ old.receiver.read
       → length new.receiver.queue ≡ 0
-
--- how a copy ended, once its writer was flushed: a flush that failed takes no other error's place
-abbrev pub FlushesAfter : {T : Type 0} → Result T LinkError → Result T LinkError → Type 0
-FlushesAfter ended result =
-    (result ≡ ended) ⊎ ((is_ok ended ≡ true) × (result ≡ Err WriteFailed))

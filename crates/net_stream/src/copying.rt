@@ -2,11 +2,10 @@
 ghost use Rattle.std.specs.Prelude.{◌≡◌, ◌≤◌, ◌<◌, ◌+◌, ◌*◌, length};
 ghost use Rattle.std.specs.Prelude.{true, false, OnOk, IfOk, IfErr};
 ghost use Rattle.std.specs.Result.{is_ok};
-ghost use Rattle.std.specs.Io.KnownBytes.{Keeps};
 ghost use Rattle.net_stream.specs.Fates.{AllCome};
 ghost use Rattle.net_stream.specs.Rounds.{CountsFates};
 ghost use Rattle.net_stream.specs.Stuck.{AreStuckAtLast};
-ghost use Rattle.net_stream.specs.Copying.{Copies, HasPositions, gave_up, FlushesAfter};
+ghost use Rattle.net_stream.specs.Copying.{Copies, HasPositions, gave_up};
 
 use crate::counts::Counts;
 use crate::error::LinkError;
@@ -14,6 +13,7 @@ use crate::exchange::exchange;
 use crate::fate::Fates;
 use crate::laws;
 use crate::link::Link;
+use net_program::flush_after;
 use net_storage::ManagedSlice;
 use std::alloc::{AllocError, Allocator};
 use std::io::{Read, Write};
@@ -43,18 +43,6 @@ fn add_link<A: Allocator + Copy>(counts: &mut Counts, link: &Link<'_, '_, A>)
 {
     counts.frames = link.counts;
     counts.micros = link.elapsed.total_micros();
-}
-
-/// Flushes the writer after a copy. If all was written, a flush that fails is a failed write.
-fn flush_after<W: Write>(ended: Result<(), LinkError>, writer: &mut W) -> Result<(), LinkError>
-    ensures kept { Keeps (W.contents writer.old) (W.contents writer.new) }
-    ensures ended { FlushesAfter ended result }
-{
-    let flushed = writer.flush();
-    if ended.is_ok() && flushed.is_err() {
-        return Err(LinkError::WriteFailed);
-    }
-    ended
 }
 
 /// `copy` over storage that is lent: `outgoing` is the sender's, `incoming` the receiver's, and
@@ -106,7 +94,7 @@ pub fn copy_over<'a, 'f, A: Allocator + Copy, R: Read, W: Write>(
     );
     let ended = exchange(&mut link, config, chunk, reader, writer, counts);
     add_link(counts, &link);
-    flush_after(ended, writer)
+    flush_after(ended, LinkError::WriteFailed, writer)
 }
 
 /// So many bytes of storage. It stands alone so that no proof below computes with the zeros.

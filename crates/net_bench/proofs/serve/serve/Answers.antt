@@ -8,7 +8,7 @@ returns-clause-ok g c = λ done.
     rw (← c.in-Some.ensures)
     (flushed_ok (transcript_of c.in-Some.mode) (g.R.Read.remaining c.args.reader.now)
     _ _ _ _ c.run-outcome.result c.flush_after-outcome.result
-    c.flush_after-outcome.ensures.kept c.flush_after-outcome.ensures.run
+    c.flush_after-outcome.ensures.kept c.flush_after-outcome.ensures.ended
     c.run-outcome.ensures.ok c.run-outcome.ensures.err
     (sym c.ended_after.ensures.status ∙ done))
 
@@ -17,6 +17,6 @@ returns-clause-err g c = λ failed.
     rw (← c.in-Some.ensures)
     (flushed_err (transcript_of c.in-Some.mode) (g.R.Read.remaining c.args.reader.now)
     _ _ _ _ c.run-outcome.result c.flush_after-outcome.result _ _ _
-    c.flush_after-outcome.ensures.kept c.flush_after-outcome.ensures.run
+    c.flush_after-outcome.ensures.kept c.flush_after-outcome.ensures.ended
     c.run-outcome.ensures.ok c.run-outcome.ensures.err c.ended_after.ensures.told
     (sym c.ended_after.ensures.status ∙ failed))
