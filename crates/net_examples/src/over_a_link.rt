@@ -7,7 +7,7 @@ use std::alloc::Allocator;
 use std::io::{Read, Write};
 
 /// Copies over a link that loses a fifth of its frames. It gives up only once a hundred frames or
-/// acknowledgements were lost, unless the reader gave 2^64 - 1 bytes.
+/// acknowledgements were lost or came late, unless the reader gave 2^64 - 1 bytes.
 pub fn over_a_bad_link<A: Allocator + Copy, R: Read, W: Write>(
     alloc: A,
     reader: &mut R,

@@ -6,57 +6,63 @@ use Rattle.std.proofs.KnownBytes.{starts_with_rest}
 use Rattle.std.proofs.Transfers.{starts_with_of_append}
 use Rattle.std.proofs.lemmas.List.{append-nil}
 use Rattle.net_program.specs.Writing.{AppendsPrefix}
-use Rattle.net_lines.specs.Progress.{Gathers}
+use Rattle.net_lines.specs.Progress.{Outlet, outlet, Gathers}
 use Rattle.net_program.proofs.KnownBytes.{Appends-two, Appends-none, Keeps-same, StartsWith-after}
 
 -- two texts, one after the other
-pub Gathers-two : (a b c : Option (List ℕ)) (p q r xs ys zs : List ℕ) → Gathers a p b q xs → Gathers b q c r ys → xs ++ ys ≡ zs → Gathers a p c r zs
-Gathers-two a b c p q r xs ys zs f g e = record {
+pub Gathers-two : (a b c : Outlet) (xs ys zs : List ℕ) → Gathers a b xs → Gathers b c ys → xs ++ ys ≡ zs → Gathers a c zs
+Gathers-two a b c xs ys zs f g e = record {
   written = f.written ++ g.written;
-  appended = Appends-two a b c f.written g.written _ f.appended g.appended refl;
-  whole = ap (λ t. p ++ t) (sym e) ∙ sym (append_assoc p xs ys) ∙ ap (λ t. t ++ ys) f.whole ∙
-      append_assoc f.written q ys ∙ ap (λ t. f.written ++ t) g.whole ∙ sym
-      (append_assoc f.written g.written r);
+  appended = Appends-two a.contents b.contents c.contents f.written g.written _ f.appended g.appended refl;
+  whole = ap (λ t. a.pending ++ t) (sym e) ∙ sym (append_assoc a.pending xs ys) ∙ ap (λ t. t ++ ys) f.whole ∙
+      append_assoc f.written b.pending ys ∙ ap (λ t. f.written ++ t) g.whole ∙ sym
+      (append_assoc f.written g.written c.pending);
 }
 
 -- nothing came
-pub Gathers-same : (a : Option (List ℕ)) (p : List ℕ) → Gathers a p a p []
-Gathers-same a p = record { written = []; appended = Appends-none a a (Keeps-same a); whole = append-nil p }
+pub Gathers-same : (a : Outlet) → Gathers a a []
+Gathers-same a = record {
+  written = [];
+  appended = Appends-none a.contents a.contents (Keeps-same a.contents);
+  whole = append-nil a.pending;
+}
 
 -- what was pending was written, and then the text
-pub Gathers-through : (a b c : Option (List ℕ)) (p q xs : List ℕ) → Appends a b p → q ≡ [] → Appends b c xs → Gathers a p c q xs
-Gathers-through a b c p q xs w e v = record {
-  written = p ++ xs;
-  appended =
-      Appends-two a b c p xs _ w v refl;
-  whole = rw e (sym (append-nil (p ++ xs)));
+pub Gathers-through : (a c : Outlet) (b : Option (List ℕ)) (xs : List ℕ) → Appends a.contents b a.pending →
+    c.pending ≡ [] → Appends b c.contents xs → Gathers a c xs
+Gathers-through a c b xs w e v = record {
+  written = a.pending ++ xs;
+  appended = Appends-two a.contents b c.contents a.pending xs _ w v refl;
+  whole = rw e (sym (append-nil (a.pending ++ xs)));
 }
 
 -- what was pending was written too
-pub Gathers-out : (a b c : Option (List ℕ)) (p q xs : List ℕ) → Gathers a p b q xs → Appends b c q → Gathers a p c [] xs
-Gathers-out a b c p q xs f w = record {
-  written = f.written ++ q;
-  appended = Appends-two a b c f.written q _ f.appended w refl;
-  whole = f.whole ∙ sym (append-nil (f.written ++ q));
+pub Gathers-out : (a b c : Outlet) (xs : List ℕ) → Gathers a b xs → Appends b.contents c.contents b.pending →
+    c.pending ≡ [] → Gathers a c xs
+Gathers-out a b c xs f w e = record {
+  written = f.written ++ b.pending;
+  appended = Appends-two a.contents b.contents c.contents f.written b.pending _ f.appended w refl;
+  whole = rw e (f.whole ∙ sym (append-nil (f.written ++ b.pending)));
 }
 
 -- where nothing is pending before and after, the text was written
-pub Gathers-written : (a b : Option (List ℕ)) (xs : List ℕ) → Gathers a [] b [] xs → Appends a b xs
-Gathers-written a b xs f = rw (f.whole ∙ append-nil f.written) f.appended
+pub Gathers-written : (a : Option (List ℕ)) (b : Outlet) (xs : List ℕ) → b.pending ≡ [] → Gathers (outlet a []) b xs →
+    Appends a b.contents xs
+Gathers-written a b xs e f = rw (f.whole ∙ ap (λ t. f.written ++ t) e ∙ append-nil f.written) f.appended
 
 -- a prefix of what comes after a text
-pub AppendsPrefix-after : (a b c : Option (List ℕ)) (p q xs more : List ℕ) →
-    Gathers a p b q xs → AppendsPrefix b c (q ++ more) → AppendsPrefix a c (p ++ (xs ++ more))
-AppendsPrefix-after a b c p q xs more f w = record {
+pub AppendsPrefix-after : (a b : Outlet) (c : Option (List ℕ)) (xs more : List ℕ) →
+    Gathers a b xs → AppendsPrefix b.contents c (b.pending ++ more) → AppendsPrefix a.contents c (a.pending ++ (xs ++ more))
+AppendsPrefix-after a b c xs more f w = record {
   written = f.written ++ w.written;
-  prefix = rw whole (StartsWith-after f.written (q ++ more) w.written w.prefix);
-  appended = Appends-two a b c f.written w.written _ f.appended w.appended refl;
+  prefix = rw whole (StartsWith-after f.written (b.pending ++ more) w.written w.prefix);
+  appended = Appends-two a.contents b.contents c f.written w.written _ f.appended w.appended refl;
 }
   where
-    whole : p ++ (xs ++ more) ≡ f.written ++ (q ++ more)
+    whole : a.pending ++ (xs ++ more) ≡ f.written ++ (b.pending ++ more)
     whole =
-        sym (append_assoc p xs more) ∙ ap (λ t. t ++ more) f.whole
-        ∙ append_assoc f.written q more
+        sym (append_assoc a.pending xs more) ∙ ap (λ t. t ++ more) f.whole
+        ∙ append_assoc f.written b.pending more
 
 -- what was pending was written, and then a prefix of the text
 pub AppendsPrefix-behind : (a b c : Option (List ℕ)) (p xs : List ℕ) →
@@ -81,12 +87,12 @@ AppendsPrefix-more xs more a b w =
     }
 
 -- a prefix of what is pending after a text
-pub AppendsPrefix-out : (a b c : Option (List ℕ)) (p q xs : List ℕ) →
-    Gathers a p b q xs → AppendsPrefix b c q → AppendsPrefix a c (p ++ xs)
-AppendsPrefix-out a b c p q xs f w = record {
+pub AppendsPrefix-out : (a b : Outlet) (c : Option (List ℕ)) (xs : List ℕ) →
+    Gathers a b xs → AppendsPrefix b.contents c b.pending → AppendsPrefix a.contents c (a.pending ++ xs)
+AppendsPrefix-out a b c xs f w = record {
   written = f.written ++ w.written;
-  prefix = rw f.whole (StartsWith-after f.written q w.written w.prefix);
-  appended = Appends-two a b c f.written w.written _ f.appended w.appended refl;
+  prefix = rw f.whole (StartsWith-after f.written b.pending w.written w.prefix);
+  appended = Appends-two a.contents b.contents c f.written w.written _ f.appended w.appended refl;
 }
 
 -- no byte more

@@ -1,6 +1,6 @@
 -- What receivers store in mode stream stands for the states of schedules, line by line.
 use Rattle.std.proofs.Common.{◌≡◌, ℕ, [], ◌∷◌, cond, true, false, Option, Some, None, Ok, Err, refl, sym, ◌∙◌, ap, subst}
-use Rattle.net_receiver.specs.Rules.{CommandSeen, Segment, Read, Show, Verdict, KeptNone, Refused, Keeps, state_after}
+use Rattle.net_receiver.specs.Rules.{CommandSeen, Segment, Read, Show, Verdict, KeepsNone, Refuses, Keeps, state_after}
 use Rattle.net_receiver.specs.Schedule.{Setting, State, queue_bytes, by_kept, kept_after, kept_reply}
 use Rattle.net_receiver.specs.Stored.{Stored, by_stored, stored_after, stored_reply, setting, StandsFor}
 use Rattle.net_receiver.specs.Execution.{FreshStands, EverySchedule}
@@ -32,8 +32,8 @@ record Alike (x : Schedules Stored) (y : Schedules State) : Type 0 where
 
 -- no command changes the setting
 verdict_setting : (most : ℕ) (v : Stored) (verdict : Verdict) → setting most (state_after by_stored v verdict) ≡ setting most v
-verdict_setting most v KeptNone = refl
-verdict_setting most v Refused = refl
+verdict_setting most v KeepsNone = refl
+verdict_setting most v Refuses = refl
 verdict_setting most v (Keeps part) = refl
 
 command_setting : (most : ℕ) (v : Stored) (c : CommandSeen) → setting most (stored_after most v c) ≡ setting most v

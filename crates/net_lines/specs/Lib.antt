@@ -10,4 +10,5 @@ pub mod StreamLines
 pub mod StreamStored
 pub mod Words
 pub mod Kinds
+pub mod BenchReading
 pub mod ErrorText

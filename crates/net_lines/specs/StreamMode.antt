@@ -11,8 +11,8 @@ use Rattle.std.specs.Prelude.{◌∷◌, ◌++◌, length, flat_map, codes, byte
 use Rattle.std.specs.Prelude.{None, option_map, Result, Ok, Err}
 use Rattle.std.specs.Cmp.Lexicographic.{pointwise}
 use Rattle.net_storage.specs.Positions.{maximal_runs}
-use Rattle.net_receiver.specs.Rules.{CommandSeen, Segment, Read, Show, ReplySeen, Segmented, Gave}
-use Rattle.net_receiver.specs.Rules.{Shown, Keeping, after, reply}
+use Rattle.net_receiver.specs.Rules.{CommandSeen, Segment, Read, Show, ReplySeen, SegmentReply, ReadReply}
+use Rattle.net_receiver.specs.Rules.{ShowReply, Keeping, after, reply}
 use Rattle.net_receiver.specs.Schedule.{Setting, State, fresh_state, by_kept}
 use Rattle.net_program.specs.Numeral.{number_of}
 use Rattle.net_lines.specs.Text.{hex_bytes, hex_text}
@@ -82,10 +82,10 @@ accepted_line kept queued sack =
 
 -- the reply line
 abbrev pub reply_text : ReplySeen → List ℕ
-reply_text (Segmented (Ok kept)) = accepted_line kept.kept kept.queued (leading_runs kept.sack)
-reply_text (Segmented (Err refused)) = refused_text
-reply_text (Gave bytes) = codes "read " ++ hex_text bytes ++ codes "\n"
-reply_text (Shown next queued window held) =
+reply_text (SegmentReply (Ok kept)) = accepted_line kept.kept kept.queued (leading_runs kept.sack)
+reply_text (SegmentReply (Err refused)) = refused_text
+reply_text (ReadReply bytes) = codes "read " ++ hex_text bytes ++ codes "\n"
+reply_text (ShowReply next queued window held) =
     codes "next " ++ decimal next ++ codes " queued " ++ decimal queued
     ++ codes " window " ++ decimal window ++ codes " held " ++ runs_text held ++ codes "\n"
 
@@ -186,7 +186,7 @@ module _ {S : Type 0} (scheduling : Scheduling S) where
   abbrev pub stream_rules : Rules (Schedules S)
   stream_rules schedules words = stream_replies schedules (stream_command words)
 
-  -- whether the outcome of the schedule that ended is that of the present one
+  -- the line that compares the schedule that ended with the present one; nothing if none ended
   abbrev pub comparison_with : Schedules S → Option S → List ℕ
   comparison_with schedules None = []
   comparison_with schedules (Some ended) =

@@ -5,7 +5,7 @@ ghost use Rattle.std.specs.Io.KnownBytes.{Appends};
 ghost use Rattle.net_program.specs.Writing.{AppendsPrefix};
 ghost use Rattle.net_lines.specs.Text.{lines_of, next_number};
 ghost use Rattle.net_lines.specs.Transcript.{line_step, transcript, ErrorOfInput};
-ghost use Rattle.net_lines.specs.Progress.{HasNoFeed, Advances, Gathers, PendingError};
+ghost use Rattle.net_lines.specs.Progress.{HasNoFeed, Advances, outlet, Gathers, PendingError};
 
 use crate::buffers::Buffers;
 use crate::error::BenchError;
@@ -39,10 +39,12 @@ fn execute_line<A: Allocator + Copy, S: Session<A>, W: Write>(
 ) -> Result<(), BenchError>
     ensures ok { OnOk result ((reply : List ℕ)
         × (line_step S.rules session.old line.now ≡ Ok (session.new, reply))
-        × Gathers (W.contents writer.old) replies.old (W.contents writer.new) replies.new reply) }
+        × Gathers (outlet (W.contents writer.old) replies.old)
+        (outlet (W.contents writer.new) replies.new) reply) }
     ensures err { IfErr result (λ e. (more : List (List ℕ)) →
         PendingError (transcript S.rules S.closing number session.old) (line.now ∷ more)
-        (W.contents writer.old) replies.old (W.contents writer.new) replies.new e) }
+        (outlet (W.contents writer.old) replies.old)
+        (outlet (W.contents writer.new) replies.new) e) }
 {
     if line.len() > MAX_LINE {
         return Err(Fault::LineTooLong.at(number));
@@ -53,7 +55,7 @@ fn execute_line<A: Allocator + Copy, S: Session<A>, W: Write>(
     match outcome {
         Ok(reply) => {
             let gathered = replies.gather(reply.as_bytes(), writer);
-            buffers.keep_text(reply);
+            buffers.hand_back_text(reply);
             gathered
         }
         Err(fault) => Err(fault.at(number)),
@@ -75,6 +77,8 @@ struct Bench<A: Allocator + Copy, S> {
 }
 
 impl<A: Allocator + Copy, S: Session<A>> Bench<A, S> {
+    ghost use Rattle.net_lines.specs.BenchReading.{reading};
+
     /// The same before the first line. All memory for lines and replies is taken here.
     fn new(alloc: A, session: S) -> Result<Bench<A, S>, AllocError>
     where
@@ -92,7 +96,7 @@ impl<A: Allocator + Copy, S: Session<A>> Bench<A, S> {
     }
 
     /// Stores the beginning of a line, for the bytes that come after it.
-    fn keep(&mut self, bytes: &[u8]) -> Result<(), BenchError>
+    fn store(&mut self, bytes: &[u8]) -> Result<(), BenchError>
         requires { HasNoFeed bytes.now }
         ensures ok { OnOk result ((self.new.line.items ≡ self.old.line.items ++ bytes.now)
             × (self.new.number ≡ self.old.number) × (self.new.session ≡ self.old.session)) }
@@ -115,12 +119,13 @@ impl<A: Allocator + Copy, S: Session<A>> Bench<A, S> {
             ≡ Ok (self.new.session, reply))
             × (self.new.number ≡ next_number self.old.number)
             × (self.new.line.items ≡ [])
-            × Gathers (W.contents writer.old) self.old.replies
-            (W.contents writer.new) self.new.replies reply) }
+            × Gathers (outlet (W.contents writer.old) self.old.replies)
+            (outlet (W.contents writer.new) self.new.replies) reply) }
         ensures err { IfErr result (λ e. (more : List (List ℕ)) →
             PendingError (transcript S.rules S.closing self.old.number self.old.session)
             ((self.old.line.items ++ bytes.now) ∷ more)
-            (W.contents writer.old) self.old.replies (W.contents writer.new) self.new.replies e) }
+            (outlet (W.contents writer.old) self.old.replies)
+            (outlet (W.contents writer.new) self.new.replies) e) }
     {
         if self.line.is_empty() {
             execute_line(
@@ -132,7 +137,7 @@ impl<A: Allocator + Copy, S: Session<A>> Bench<A, S> {
                 writer,
             )?;
         } else {
-            self.keep(bytes)?;
+            self.store(bytes)?;
             execute_line(
                 &mut self.buffers,
                 &mut self.session,
@@ -152,14 +157,14 @@ impl<A: Allocator + Copy, S: Session<A>> Bench<A, S> {
     // Apart from `take`, which writes the replies out also where this fails.
     fn execute_ended<W: Write>(&mut self, bytes: &[u8], writer: &mut W) -> Result<(), BenchError>
         ensures ok { OnOk result ((text : List ℕ)
-            × Advances S.rules bytes.now self.old.number self.old.session self.old.line.items
-            self.new.number self.new.session self.new.line.items text
-            × Gathers (W.contents writer.old) self.old.replies
-            (W.contents writer.new) self.new.replies text) }
+            × Advances S.rules bytes.now (reading self.old) (reading self.new) text
+            × Gathers (outlet (W.contents writer.old) self.old.replies)
+            (outlet (W.contents writer.new) self.new.replies) text) }
         ensures err { IfErr result (λ e. (more : List ℕ) →
             PendingError (transcript S.rules S.closing self.old.number self.old.session)
             (lines_of (self.old.line.items ++ (bytes.now ++ more)))
-            (W.contents writer.old) self.old.replies (W.contents writer.new) self.new.replies e) }
+            (outlet (W.contents writer.old) self.old.replies)
+            (outlet (W.contents writer.new) self.new.replies) e) }
     {
         let mut rest = bytes;
         // The label is the loop's name in its proof.
@@ -167,21 +172,21 @@ impl<A: Allocator + Copy, S: Session<A>> Bench<A, S> {
             self.end_line(&rest[..at], writer)?;
             rest = &rest[at + 1..];
         }
-        self.keep(rest)
+        self.store(rest)
     }
 
     /// Takes the next bytes of the input. No reply is pending when it returns.
     fn take<W: Write>(&mut self, bytes: &[u8], writer: &mut W) -> Result<(), BenchError>
         ensures emptied { self.new.replies ≡ [] }
         ensures ok { OnOk result ((text : List ℕ)
-            × Advances S.rules bytes.now self.old.number self.old.session self.old.line.items
-            self.new.number self.new.session self.new.line.items text
-            × Gathers (W.contents writer.old) self.old.replies
-            (W.contents writer.new) self.new.replies text) }
+            × Advances S.rules bytes.now (reading self.old) (reading self.new) text
+            × Gathers (outlet (W.contents writer.old) self.old.replies)
+            (outlet (W.contents writer.new) self.new.replies) text) }
         ensures err { IfErr result (λ e. (more : List ℕ) →
             PendingError (transcript S.rules S.closing self.old.number self.old.session)
             (lines_of (self.old.line.items ++ (bytes.now ++ more)))
-            (W.contents writer.old) self.old.replies (W.contents writer.new) self.new.replies e) }
+            (outlet (W.contents writer.old) self.old.replies)
+            (outlet (W.contents writer.new) self.new.replies) e) }
     {
         let outcome = self.execute_ended(bytes, writer);
         self.replies.write_out(writer)?;
@@ -190,8 +195,8 @@ impl<A: Allocator + Copy, S: Session<A>> Bench<A, S> {
 
     /// Gathers the closing text.
     fn close<W: Write>(&mut self, writer: &mut W) -> Result<(), BenchError>
-        ensures ok { OnOk result (Gathers (W.contents writer.old) self.old.replies
-            (W.contents writer.new) self.new.replies (S.closing self.old.session)) }
+        ensures ok { OnOk result (Gathers (outlet (W.contents writer.old) self.old.replies)
+            (outlet (W.contents writer.new) self.new.replies) (S.closing self.old.session)) }
         ensures err { IfErr result (λ e. (e ≡ BenchError.WriteFailed) × (self.new.replies ≡ [])
             × AppendsPrefix (W.contents writer.old) (W.contents writer.new)
             (self.old.replies ++ S.closing self.old.session)) }
@@ -208,12 +213,12 @@ impl<A: Allocator + Copy, S: Session<A>> Bench<A, S> {
             let all = transcript S.rules S.closing self.old.number self.old.session in
             let lines = lines_of self.old.line.items in
             (all.fault lines ≡ None)
-            × Gathers (W.contents writer.old) self.old.replies
-            (W.contents writer.new) self.new.replies (all.text lines)) }
+            × Gathers (outlet (W.contents writer.old) self.old.replies)
+            (outlet (W.contents writer.new) self.new.replies) (all.text lines)) }
         ensures err { IfErr result (λ e.
             PendingError (transcript S.rules S.closing self.old.number self.old.session)
-            (lines_of self.old.line.items) (W.contents writer.old) self.old.replies
-            (W.contents writer.new) self.new.replies e) }
+            (lines_of self.old.line.items) (outlet (W.contents writer.old) self.old.replies)
+            (outlet (W.contents writer.new) self.new.replies) e) }
     {
         if self.line.is_empty() {
             return self.close(writer);
@@ -230,12 +235,12 @@ impl<A: Allocator + Copy, S: Session<A>> Bench<A, S> {
             let all = transcript S.rules S.closing self.old.number self.old.session in
             let lines = lines_of self.old.line.items in
             (all.fault lines ≡ None)
-            × Gathers (W.contents writer.old) self.old.replies
-            (W.contents writer.new) self.new.replies (all.text lines)) }
+            × Gathers (outlet (W.contents writer.old) self.old.replies)
+            (outlet (W.contents writer.new) self.new.replies) (all.text lines)) }
         ensures err { IfErr result (λ e.
             PendingError (transcript S.rules S.closing self.old.number self.old.session)
-            (lines_of self.old.line.items) (W.contents writer.old) self.old.replies
-            (W.contents writer.new) self.new.replies e) }
+            (lines_of self.old.line.items) (outlet (W.contents writer.old) self.old.replies)
+            (outlet (W.contents writer.new) self.new.replies) e) }
     {
         let outcome = self.execute_last(writer);
         self.replies.write_out(writer)?;

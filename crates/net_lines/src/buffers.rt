@@ -38,8 +38,8 @@ impl<A: Allocator + Copy> Buffers<A> {
         Ok(text)
     }
 
-    /// Keeps a text's memory for the next one.
-    pub fn keep_text(&mut self, text: String<A>) {
+    /// Hands back a text, whose memory the next one takes.
+    pub fn hand_back_text(&mut self, text: String<A>) {
         self.text = text;
     }
 
@@ -53,8 +53,8 @@ impl<A: Allocator + Copy> Buffers<A> {
         Ok(bytes)
     }
 
-    /// Keeps the memory of bytes for the next ones.
-    pub fn keep_bytes(&mut self, bytes: Vec<u8, A>) {
+    /// Hands back bytes, whose memory the next ones take.
+    pub fn hand_back_bytes(&mut self, bytes: Vec<u8, A>) {
         self.bytes = bytes;
     }
 }

@@ -4,7 +4,7 @@
 ghost use Rattle.std.specs.Prelude.{◌≡◌, ◌↔◌, ℕ, IsTrue, [], ◌∷◌, codes, Some, None, Ok};
 ghost use Rattle.net_storage.specs.Positions.{Positions};
 ghost use Rattle.net_storage.specs.Assembler.{MakesTooManyRuns};
-ghost use Rattle.net_receiver.specs.Rules.{Segment, Segmented, Shown};
+ghost use Rattle.net_receiver.specs.Rules.{Segment, SegmentReply, ShowReply};
 ghost use Rattle.net_lines.specs.Text.{words_of};
 ghost use Rattle.net_lines.specs.AsmMode.{makes_too_many_runs};
 ghost use Rattle.net_lines.specs.StreamMode.{ToReceiver, stream_command, reply_text, comparison};
@@ -37,9 +37,9 @@ pub fn stream_lines()
     ensures segment { stream_command (words_of (codes "s 7 6162"))
         ≡ Some (ToReceiver (Segment 7 (codes "ab"))) }
     ensures kept { let sack = Some (7, 9) ∷ Some (12, 13) ∷ None ∷ [] in
-        reply_text (Segmented (Ok (record { kept = 2; queued = 0; sack = sack })))
+        reply_text (SegmentReply (Ok (record { kept = 2; queued = 0; sack = sack })))
         ≡ codes "kept 2 queued 0 sack 7-9,12-13\n" }
-    ensures shown { reply_text (Shown 3 2 61 []) ≡ codes "next 3 queued 2 window 61 held -\n" }
+    ensures shown { reply_text (ShowReply 3 2 61 []) ≡ codes "next 3 queued 2 window 61 held -\n" }
     ensures same { comparison
         (record { read = 1; next = 3; queue = codes "bc"; held = (5, 7) ∷ [] })
         (record { read = 1; next = 3; queue = codes "bc"; held = (5, 7) ∷ [] })

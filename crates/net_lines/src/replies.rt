@@ -2,7 +2,7 @@
 ghost use Rattle.std.specs.Prelude.{◌≡◌, [], ◌++◌, length, ◌≤◌, IfOk, OnOk, IfErr, vec_capacity};
 ghost use Rattle.std.specs.Io.KnownBytes.{Appends};
 ghost use Rattle.net_program.specs.Writing.{AppendsPrefix};
-ghost use Rattle.net_lines.specs.Progress.{Gathers};
+ghost use Rattle.net_lines.specs.Progress.{outlet, Gathers};
 ghost use Rattle.net_lines.specs.declared.error.BenchError.{BenchError};
 
 use crate::error::BenchError;
@@ -55,8 +55,8 @@ impl<A: Allocator + Copy> Replies<A> {
     /// Gathers a reply. What is pending is written first if there is no room beside it, and a
     /// reply that is longer than the whole buffer is written at once.
     pub fn gather<W: Write>(&mut self, reply: &[u8], writer: &mut W) -> Result<(), BenchError>
-        ensures ok { OnOk result
-            (Gathers (W.contents writer.old) self.old (W.contents writer.new) self.new reply.now) }
+        ensures ok { OnOk result (Gathers (outlet (W.contents writer.old) self.old)
+            (outlet (W.contents writer.new) self.new) reply.now) }
         ensures err { IfErr result (λ e. (e ≡ BenchError.WriteFailed) × (self.new ≡ [])
             × AppendsPrefix (W.contents writer.old) (W.contents writer.new)
             (self.old ++ reply.now)) }

@@ -137,7 +137,7 @@ impl<'a> RingSession<'a> {
         match line {
             RingLine::Write(bytes) => {
                 let reply = self.write(buffers, &bytes)?;
-                buffers.keep_bytes(bytes);
+                buffers.hand_back_bytes(bytes);
                 Ok(reply)
             }
             RingLine::Read(number) => self.read(buffers, number),

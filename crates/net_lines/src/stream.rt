@@ -2,7 +2,7 @@
 ghost use Rattle.std.specs.Prelude.{◌≡◌, IfOk, MatchResult, Ok, Err, string_bytes};
 ghost use Rattle.std.specs.Prelude.{option_map, ◌≤◌, length};
 ghost use Rattle.net_receiver.specs.Commands.{command_seen, reply_seen, CommandFits};
-ghost use Rattle.net_receiver.specs.Rules.{Read, Gave};
+ghost use Rattle.net_receiver.specs.Rules.{Read, ReadReply};
 ghost use Rattle.net_receiver.specs.Stored.{stored_after, stored_reply};
 ghost use Rattle.net_program.specs.Numeral.{number_of};
 ghost use Rattle.net_lines.specs.Text.{words_of, hex_bytes};
@@ -138,7 +138,7 @@ fn read_within<A: Allocator + Copy, const N: usize>(
 ) -> Result<Vec<u8, A>, AllocError>
     ensures state { IfOk result (λ _. receiver.new ≡ stored_after N receiver.old (Read count)) }
     ensures reply { IfOk result (λ bytes.
-        Gave bytes.items ≡ stored_reply N receiver.old (Read count)) }
+        ReadReply bytes.items ≡ stored_reply N receiver.old (Read count)) }
 {
     let queued = receiver.queued();
     let taken = count.min(queued as u64) as usize;
@@ -167,11 +167,11 @@ fn execute_within<A: Allocator + Copy, const N: usize>(
     }
 }
 
-/// Keeps the memory of bytes that were read.
-fn keep_read<A: Allocator + Copy>(buffers: &mut Buffers<A>, reply: Reply<A>) {
+/// Hands back the bytes that were read.
+fn hand_back_read<A: Allocator + Copy>(buffers: &mut Buffers<A>, reply: Reply<A>) {
     match reply {
-        Reply::Read(bytes) => buffers.keep_bytes(bytes),
-        Reply::Segment(_answer) => {}
+        Reply::Read(bytes) => buffers.hand_back_bytes(bytes),
+        Reply::Segment(_result) => {}
         Reply::Show {
             next: _next,
             queued: _queued,
@@ -218,10 +218,10 @@ impl<'a, A: Allocator + Copy, const N: usize> StreamSession<'a, A, N> {
         }
         let reply = execute_within(buffers, &mut self.present, &command)?;
         if let Command::Segment { pos: _, bytes } = command {
-            buffers.keep_bytes(bytes);
+            buffers.hand_back_bytes(bytes);
         }
         let text = reply_lines::reply_text(buffers, &reply)?;
-        keep_read(buffers, reply);
+        hand_back_read(buffers, reply);
         Ok(Ok(text))
     }
 

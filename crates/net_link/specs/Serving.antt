@@ -2,7 +2,7 @@
 --     config_of plan, rates_of plan      what the copy goes by
 --     fates_of plan, ack_fates_of plan      the fates of frames and of acknowledgements
 --     status_of ended      the status after a copy
---     CopiesOver plan old new held holds said says ended      what came of the copy
+--     CopiesOver plan old new had has said says ended      what came of the copy
 use Rattle.std.specs.Prelude.{◌≡◌, ◌<◌, ◌≤◌, ℕ, ◌-◌, ◌^◌, List, [], Option, true, Result, Ok, Err, IfErr}
 use Rattle.std.specs.Result.{is_ok}
 use Rattle.std.specs.Io.KnownBytes.{Appends}
@@ -20,8 +20,9 @@ use Rattle.net_stream.specs.declared.fate.Rates.{Rates}
 use Rattle.net_link.specs.declared.words.Plan.{Plan}
 use Rattle.net_link.specs.Summary.{summary}
 
--- a stream from position 0 on, 262,144 bytes of storage at each end, frames of as many bytes as the
--- plan says, and 100 rounds in a row that bring nothing on before the copy gives up
+-- a stream from position 0 on, 262,144 bytes of storage at each end, frames of at most as many bytes
+-- of payload as the plan says, at most 4,096 of them in a round, and 100 rounds in a row that bring
+-- nothing on before the copy gives up
 abbrev pub config_of : Plan → Config
 config_of plan = record {
   first = 0;
@@ -50,11 +51,11 @@ status_of (Err e) = Failed
 -- the bytes that a reader gave went to a writer over the link of the plan, all of them or a prefix up
 -- to an error; and if standard error took all, what it says is the error, if there was one, and
 -- the counts
-pub record CopiesOver (plan : Plan) (old new held holds said says : Option (List ℕ))
+pub record CopiesOver (plan : Plan) (old new had has said says : Option (List ℕ))
     (ended : Ended) : Type 0 where
   pub outcome : Result (Unit {0}) LinkError
   pub counts : Counts
-  pub copied : Copies old new held holds counts.taken counts.bytes (is_ok outcome)
+  pub copied : Copies old new had has counts.taken counts.bytes (is_ok outcome)
   pub fates : CountsFates (fates_of plan) (ack_fates_of plan) counts.frames
   pub rounds : IfErr outcome (λ e. gave_up e ≡ true → (config_of plan).rounds ≤ counts.rounds)
   pub unfinished : IfErr outcome (λ e. gave_up e ≡ true → HasPositions 0 counts.taken

@@ -10,8 +10,8 @@ use Rattle.net_stream.specs.declared.error.LinkError.TheVariants.{ReadFailed, Wr
 
 -- bytes written for each second of simulated time, rounded down; the bytes times a million, as far as
 -- 64 bits go, over the microseconds, of which none count as one
-abbrev pub rate : Counts → ℕ
-rate c = min (c.bytes * 1000000) (2 ^ 64 - 1) / max c.micros 1
+abbrev pub bytes_a_second : Counts → ℕ
+bytes_a_second c = min (c.bytes * 1000000) (2 ^ 64 - 1) / max c.micros 1
 
 -- what frames carried beyond what was read
 abbrev pub bytes_sent_again : Counts → ℕ
@@ -28,7 +28,7 @@ abbrev pub counts_text : Counts → List ℕ
 counts_text c =
     decimal c.bytes ++ codes " bytes, " ++ frames_text c.frames ++ codes ", "
     ++ decimal (bytes_sent_again c) ++ codes " bytes sent again, "
-    ++ decimal c.rounds ++ codes " rounds, " ++ decimal (rate c) ++ codes " bytes a second"
+    ++ decimal c.rounds ++ codes " rounds, " ++ decimal (bytes_a_second c) ++ codes " bytes a second"
 
 -- the line of an error, if there is one
 abbrev pub error_line : {T : Type 0} → Result T LinkError → List ℕ

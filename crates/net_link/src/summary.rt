@@ -1,15 +1,16 @@
 //! What standard error says of a copy.
 ghost use Rattle.std.specs.Prelude.{◌≡◌, OnOk, Some};
 ghost use Rattle.std.specs.Io.KnownBytes.{Appends};
-ghost use Rattle.net_link.specs.Summary.{rate, frames_text, counts_text, error_line, summary};
+ghost use Rattle.net_link.specs.Summary.{bytes_a_second, frames_text, counts_text, error_line};
+ghost use Rattle.net_link.specs.Summary.{summary};
 
 use net_stream::{Counts, FrameCounts, LinkError};
 use std::io::Write;
 use std::{fmt, io};
 
 /// How many bytes a second of simulated time came, rounded down.
-fn rate(counts: &Counts) -> u64
-    ensures { result ≡ rate counts.now }
+fn bytes_a_second(counts: &Counts) -> u64
+    ensures { result ≡ bytes_a_second counts.now }
 {
     counts.bytes.saturating_mul(1_000_000) / counts.micros.max(1)
 }
@@ -48,11 +49,11 @@ impl fmt::Display for CountsText {
         let Counts { bytes, rounds, .. } = self.0;
         let frames = FramesText(self.0.frames);
         let sent_again = self.0.sent_again();
-        let rate = rate(&self.0);
+        let speed = bytes_a_second(&self.0);
         write!(
             f,
             "{bytes} bytes, {frames}, {sent_again} bytes sent again, {rounds} rounds, \
-             {rate} bytes a second"
+             {speed} bytes a second"
         )
     }
 }

@@ -13,16 +13,16 @@ use Rattle.std.proofs.lemmas.List.{take-append-drop, drop-take, drop-drop, take-
 use Rattle.net_storage.specs.Positions.{Positions, runs, with_range}
 use Rattle.net_storage.specs.declared.assembler.error.TooManyHolesError.{TooManyHolesError}
 use Rattle.net_receiver.specs.declared.receiver.kept.Kept.{Kept}
-use Rattle.net_receiver.specs.KeptList.{Piece, piece, piece_at, piece_within}
+use Rattle.net_receiver.specs.KeptList.{Piece, piece, piece_byte_at, piece_within}
 use Rattle.std.proofs.lemmas.List.Elements.{All-nil, All-cons, All-append}
-use Rattle.net_receiver.specs.KeptList.{byte_at, held_at, next}
+use Rattle.net_receiver.specs.KeptList.{byte_at, held_byte_at, next}
 use Rattle.net_receiver.proofs.Stream.{agrees_at}
-use Rattle.net_receiver.specs.Rules.{Show, CommandSeen, ReplySeen, Segment, Read, Verdict, KeptNone}
-use Rattle.net_receiver.specs.Rules.{Refused, Keeps, verdict_of_piece, verdict, state_after, segment_result}
+use Rattle.net_receiver.specs.Rules.{Show, CommandSeen, ReplySeen, Segment, Read, Verdict, KeepsNone}
+use Rattle.net_receiver.specs.Rules.{Refuses, Keeps, verdict_of_piece, verdict, state_after, segment_result}
 use Rattle.net_receiver.specs.Schedule.{State, Agrees, kept_after_all, Follows, EndsBy, bytes_read, PieceAgrees}
 use Rattle.net_receiver.specs.Stored.{stored_reply, stored_after_all, setting, StandsFor, Stored}
-use Rattle.net_receiver.specs.Stored.{HeldBytes, domain, held_with_piece, first_lacking, values_at}
-use Rattle.net_receiver.specs.Stored.{stored_next, by_stored, stored_read, stored_after}
+use Rattle.net_receiver.specs.Stored.{HeldBytes, domain, held_with_piece, first_lacking, held_bytes_at}
+use Rattle.net_receiver.specs.Stored.{stored_next, by_stored, stored_after_read, stored_after}
 use Rattle.net_receiver.specs.Stored.{fresh_stored, IsSound, StaysInSetting}
 use Rattle.net_receiver.specs.Segments.{KeepsOrRefuses, JoinsQueue}
 use Rattle.net_receiver.proofs.Whole.{ran}
@@ -35,7 +35,7 @@ use Rattle.net_receiver.proofs.Run.{setting_kept}
 use Rattle.net_receiver.proofs.OneStream.{longer_at, longer_receives}
 use Rattle.net_receiver.specs.Execution.{Executes}
 use Rattle.net_receiver.specs.Retransmission.{InOrderReaches}
-use Rattle.net_receiver.specs.OneStream.{CapacityStays, Receives, ReceivesFrom, Says, AllSay, IsTruthful, SaysWhatIsThere, QueueIsOf, kept_of}
+use Rattle.net_receiver.specs.OneStream.{CapacityStays, Receives, ReceivesFrom, Says, AllSay, IsTruthful, SaysWhatIsThere, QueueIsOf, window_part}
 use Rattle.net_receiver.proofs.Maps.{get-with_bytes_at, first_lacking_is, next_joined}
 use Rattle.net_receiver.proofs.Covering.{next_is, piece_before, piece_from, slice_get-drop, slice_get-take}
 use Rattle.net_receiver.proofs.Recover.{follows_verdict}
@@ -54,7 +54,7 @@ segment_receives N f x v u pos xs e r h = (
   subst (Receives x) (sym e) (one_receives N x v (Segment pos xs) r.1 (subst (λ b. PieceAgrees b x (piece pos xs)) (sym r.0) h)),
 )
 
-pub read_receives : (f : ℕ) (x : List ℕ) (v u : Stored) (n : ℕ) → u ≡ stored_read v n → ReceivesFrom f x v → ReceivesFrom f x u
+pub read_receives : (f : ℕ) (x : List ℕ) (v u : Stored) (n : ℕ) → u ≡ stored_after_read v n → ReceivesFrom f x v → ReceivesFrom f x u
 unfolding ReceivesFrom
 read_receives f x v u n e r = (first_of 0 v u (Read n) e ∙ r.0, subst (Receives x) (sym e) (one_receives 0 x v (Read n) r.1 tt))
 
@@ -102,7 +102,7 @@ read_bytes f x v into old n count is r =
 
 -- ---- a segment
 values_of : (m : HeldBytes) (xs : List ℕ) (p n : ℕ) → length xs ≤ n →
-    ((q i b : ℕ) → q ≡ p + i → slice_get xs i ≡ Some b → fin.get m q ≡ Some b) → take (length xs) (values_at m p n) ≡ xs
+    ((q i b : ℕ) → q ≡ p + i → slice_get xs i ≡ Some b → fin.get m q ≡ Some b) → take (length xs) (held_bytes_at m p n) ≡ xs
 values_of m [] p n h at = refl
 values_of m (x ∷ xs) p zero h at = absurd (omega arith)
 values_of m (x ∷ xs) p (suc n) h at =
@@ -144,7 +144,7 @@ splits_none q part e = grind (arith, common_steps)
 pub in_order : (N : ℕ) (v u : Stored) (pos : ℕ) (xs : List ℕ) (r : Result Kept TooManyHolesError) →
     u ≡ state_after by_stored v (verdict by_stored N v (piece pos xs)) →
     r ≡ segment_result by_stored v (verdict by_stored N v (piece pos xs)) →
-    pos ≤ stored_next v → JoinsQueue v (kept_of v pos xs) u r
+    pos ≤ stored_next v → JoinsQueue v (window_part v pos xs) u r
 in_order N v u pos xs r state told h =
     let n = stored_next v in
     let part = piece_within n (v.first + v.read + v.capacity) (piece pos xs) in
@@ -156,7 +156,7 @@ in_order N v u pos xs r state told h =
     (λ some. record {
       accepted = refl;
       joins = omega arith;
-      appends = splits v.queue (values_at (held_with_piece v part) n (first_lacking (held_with_piece v part) n - n)) part.bytes
+      appends = splits v.queue (held_bytes_at (held_with_piece v part) n (first_lacking (held_with_piece v part) n - n)) part.bytes
           (values_of (held_with_piece v part) part.bytes n (first_lacking (held_with_piece v part) n - n) (omega arith)
           (λ q i b e is. laid_at v part q i b (omega arith) is));
     }) in
@@ -165,21 +165,21 @@ in_order N v u pos xs r state told h =
 
 -- what any segment comes to
 pub any_verdict : (P : Verdict → Type 0) (n most : ℕ) (h : Positions) (part : Piece) →
-    (length part.bytes ≡ 0 → P KeptNone) → P Refused → P (Keeps part) → P (verdict_of_piece n most h part)
+    (length part.bytes ≡ 0 → P KeepsNone) → P Refuses → P (Keeps part) → P (verdict_of_piece n most h part)
 any_verdict P n most h part empty refused keeps =
     ⊎_elim (λ (e : nat_eq (length part.bytes) 0 ≡ true). subst P (sym (cond-true _ _ _ e)) (empty (eqb-true (length part.bytes) 0 e)))
     (λ (e : nat_eq (length part.bytes) 0 ≡ false). subst P (sym (cond-false _ _ _ e))
-    (both (not (is_some (piece_at part n)) && nat_lt most (runs (with_range h part.start (length part.bytes))))))
+    (both (not (is_some (piece_byte_at part n)) && nat_lt most (runs (with_range h part.start (length part.bytes))))))
     (cases_Bool (nat_eq (length part.bytes) 0))
   where
-    both : (b : Bool) → P (cond b Refused (Keeps part))
+    both : (b : Bool) → P (cond b Refuses (Keeps part))
     both true = refused
     both false = keeps
 
 pub any_order : (N : ℕ) (v u : Stored) (pos : ℕ) (xs : List ℕ) (r : Result Kept TooManyHolesError) →
     u ≡ state_after by_stored v (verdict by_stored N v (piece pos xs)) →
     r ≡ segment_result by_stored v (verdict by_stored N v (piece pos xs)) →
-    KeepsOrRefuses v (kept_of v pos xs) u r
+    KeepsOrRefuses v (window_part v pos xs) u r
 any_order N v u pos xs r state told =
     let n = stored_next v in
     let part = piece_within n (v.first + v.read + v.capacity) (piece pos xs) in
@@ -244,7 +244,7 @@ unfolding ReceivesFrom
 held_of_stream f x v p b r is =
     let s = r.1.state in
     let low = (next_is v.first s.kept).from in
-    let there : held_at v.first s.kept p ≡ Some b = sym (r.1.stands.held p) ∙ is in
+    let there : held_byte_at v.first s.kept p ≡ Some b = sym (r.1.stands.held p) ∙ is in
     ⊎_elim
     (λ (l : next v.first s.kept < p).
     let from : v.first ≤ p = omega arith in
@@ -354,9 +354,9 @@ in_order_reaches N v pos xs h =
     let near = in_order N v u pos xs r refl refl h in
     let any = any_order N v u pos xs r refl refl in
     let cut = length-take (limit - pos) xs in
-    let part : length (kept_of v pos xs) ≡ length (take (limit - pos) xs) - (stored_next v - pos)
+    let part : length (window_part v pos xs) ≡ length (take (limit - pos) xs) - (stored_next v - pos)
     = length-drop (stored_next v - pos) (take (limit - pos) xs) in
-    by (min (pos + length xs) limit) (stored_next u) (stored_next v) (length (kept_of v pos xs)) r
+    by (min (pos + length xs) limit) (stored_next u) (stored_next v) (length (window_part v pos xs)) r
     near.accepted any.kept any.queued near.joins (omega (arith, cut, part, h))
   where
     by : (e n m k : ℕ) (r : Result Kept TooManyHolesError) → IsOk r → IfOk r (λ t. t.kept ≡ k)

@@ -6,7 +6,7 @@ use Rattle.std.proofs.Common.{arith, length-append, length-drop, ⊎_elim, take-
 use Rattle.std.proofs.lemmas.Bool.{both_ways, cases_lt}
 use Rattle.std.proofs.lemmas.Option.{slice_get_within}
 use Rattle.std.proofs.lemmas.List.Elements.{All-nil, All-cons, All-head, All-tail}
-use Rattle.net_receiver.specs.KeptList.{Piece, piece, piece_at, piece_within, byte_at, next, bytes, held_positions}
+use Rattle.net_receiver.specs.KeptList.{Piece, piece, piece_byte_at, piece_within, byte_at, next, bytes, held_positions}
 use Rattle.net_receiver.specs.Rules.{CommandSeen, Segment, Read, Show, Keeps, state_after}
 use Rattle.net_receiver.specs.Schedule.{Setting, State, fresh_state, kept_after, kept_after_all, bytes_read, PieceAgrees, Agrees, by_kept}
 use Rattle.net_receiver.specs.Stored.{Stored, domain, by_stored, fresh_stored, stored_next, stored_after, stored_after_all, setting}
@@ -28,7 +28,7 @@ pub cond_some : {A : Type 0} (t : Bool) (o : Option A) (b : A) → cond t o None
 cond_some true o b e = e
 cond_some false o b e = absurd (none_is_not b e)
 
-pub clip_at : (low high : ℕ) (e : Piece) (p b : ℕ) → piece_at (piece_within low high e) p ≡ Some b → piece_at e p ≡ Some b
+pub clip_at : (low high : ℕ) (e : Piece) (p b : ℕ) → piece_byte_at (piece_within low high e) p ≡ Some b → piece_byte_at e p ≡ Some b
 clip_at low high e p b is =
     ⊎_elim
     (λ (l : p < max e.start low). absurd (none_is_not b (sym (piece_before (piece_within low high e) p l) ∙ is)))

@@ -2,12 +2,12 @@
 use Rattle.std.proofs.Common.{◌≡◌, inl, inr, ◌+◌, ◌<◌, min, true, length, drop, refl, sym, arith, ⊎_elim, length-drop, take-add}
 use Rattle.std.specs.FinMap as fin
 use Rattle.std.proofs.lemmas.List.{drop-drop}
-use Rattle.net_receiver.specs.Stored.{stored_next, stored_read}
+use Rattle.net_receiver.specs.Stored.{stored_next, stored_after_read}
 use Rattle.net_receiver.specs.Reading.{ReadReceives, ReadLeavesNext, ReadLeavesHas, ReadsAdd, ReadsGiveTogether}
 use Rattle.net_receiver.proofs.Called.{read_receives}
 
 pub read_receives_from : ReadReceives
-read_receives_from f n x v r = read_receives f x v (stored_read v n) n refl r
+read_receives_from f n x v r = read_receives f x v (stored_after_read v n) n refl r
 
 pub read_leaves_next : ReadLeavesNext
 read_leaves_next v n = (let size = length-drop n v.queue in omega arith)
@@ -15,7 +15,7 @@ read_leaves_next v n = (let size = length-drop n v.queue in omega arith)
 pub read_leaves_has : ReadLeavesHas
 read_leaves_has v n p =
     let same = read_leaves_next v n in (
-      (λ h. ⊎_elim (λ (l : p < stored_next (stored_read v n)). inl (omega arith)) (λ (k : fin.contains_key v.held p ≡ true). inr k) h),
+      (λ h. ⊎_elim (λ (l : p < stored_next (stored_after_read v n)). inl (omega arith)) (λ (k : fin.contains_key v.held p ≡ true). inr k) h),
       (λ h. ⊎_elim (λ (l : p < stored_next v). inl (omega arith)) (λ (k : fin.contains_key v.held p ≡ true). inr k) h),
     )
 

@@ -9,12 +9,12 @@ use Rattle.std.specs.FinMap as fin
 use Rattle.std.proofs.lemmas.Bool.{both_ways, cases_lt, cases_order, cond-true, lt-leb, and_from}
 use Rattle.std.proofs.lemmas.List.{append-nil}
 use Rattle.std.proofs.lemmas.List.Elements.{All-head, All-tail}
-use Rattle.net_receiver.specs.KeptList.{Piece, piece, piece_at, end, piece_within}
-use Rattle.net_receiver.specs.Rules.{CommandSeen, Segment, Read, Show, Segmented, verdict, state_after, segment_result}
+use Rattle.net_receiver.specs.KeptList.{Piece, piece, piece_byte_at, end, piece_within}
+use Rattle.net_receiver.specs.Rules.{CommandSeen, Segment, Read, Show, SegmentReply, verdict, state_after, segment_result}
 use Rattle.net_receiver.specs.Schedule.{IsAccepted}
 use Rattle.net_receiver.specs.Stored.{HeldBytes, Stored, domain, held_with_piece, first_lacking}
-use Rattle.net_receiver.specs.Stored.{values_at, stored_with_piece, queue_up_to, stored_next, by_stored}
-use Rattle.net_receiver.specs.Stored.{stored_read, stored_after, stored_reply, stored_after_all}
+use Rattle.net_receiver.specs.Stored.{held_bytes_at, stored_with_piece, stored_up_to, stored_next, by_stored}
+use Rattle.net_receiver.specs.Stored.{stored_after_read, stored_after, stored_reply, stored_after_all}
 use Rattle.net_receiver.specs.Stored.{stored_replies}
 use Rattle.net_receiver.specs.Retransmission.{IsHeld, HeldChangesNothing, SecondCopy, Has, HasStays, AcceptedBrings, HasAllReaches, Brings, Completes}
 use Rattle.net_receiver.proofs.Search.{IsFirst, first_unique}
@@ -49,15 +49,15 @@ module _ (v : Stored) (part : Piece) where
       (λ (l : m ≤ p). inr (ap is_some (get_left p ∙ cond-true _ _ _ (le-leb m p l)) ∙ h))
       (cases_lt p m)
 
-  laid_part : (p : ℕ) → is_some (piece_at part p) ≡ true → fin.contains_key laid p ≡ true
-  laid_part p h = ap is_some (get-with_bytes_at v.held part.start part.bytes p) ∙ either (piece_at part p) (fin.get v.held p) h
+  laid_part : (p : ℕ) → is_some (piece_byte_at part p) ≡ true → fin.contains_key laid p ≡ true
+  laid_part p h = ap is_some (get-with_bytes_at v.held part.start part.bytes p) ∙ either (piece_byte_at part p) (fin.get v.held p) h
     where
       either : (a b : Option ℕ) → is_some a ≡ true → is_some (option_or a b) ≡ true
       either None b e = absurd (both_ways false refl e)
       either (Some x) b e = refl
 
   laid_held : (p : ℕ) → fin.contains_key v.held p ≡ true → fin.contains_key laid p ≡ true
-  laid_held p h = ap is_some (get-with_bytes_at v.held part.start part.bytes p) ∙ either (piece_at part p) (fin.get v.held p) h
+  laid_held p h = ap is_some (get-with_bytes_at v.held part.start part.bytes p) ∙ either (piece_byte_at part p) (fin.get v.held p) h
     where
       either : (a b : Option ℕ) → is_some b ≡ true → is_some (option_or a b) ≡ true
       either None b e = e
@@ -83,7 +83,7 @@ module _ (v : Stored) (part : Piece) where
       (cases_order m p)
 
 -- a clip has what the whole has between its limits
-at_clip : (low high : ℕ) (e : Piece) (p b : ℕ) → low ≤ p → p < high → piece_at e p ≡ Some b → piece_at (piece_within low high e) p ≡ Some b
+at_clip : (low high : ℕ) (e : Piece) (p b : ℕ) → low ≤ p → p < high → piece_byte_at e p ≡ Some b → piece_byte_at (piece_within low high e) p ≡ Some b
 at_clip low high e p b from to is =
     ⊎_elim
     (λ (l : p < e.start). absurd (none_is_not b (sym (piece_before e p l) ∙ is)))
@@ -99,7 +99,7 @@ at_clip low high e p b from to is =
     (cases_lt p e.start)
 
 -- where a clip has a byte
-clip_within : (low high : ℕ) (e : Piece) (p b : ℕ) → piece_at (piece_within low high e) p ≡ Some b → (low ≤ p) × (p < high)
+clip_within : (low high : ℕ) (e : Piece) (p b : ℕ) → piece_byte_at (piece_within low high e) p ≡ Some b → (low ≤ p) × (p < high)
 clip_within low high e p b is =
     let part = piece_within low high e in
     let cut = length-drop (low - e.start) (take (high - e.start) e.bytes) in
@@ -114,9 +114,9 @@ clip_within low high e p b is =
 
 -- ---- segments that come again
 kept_held : (v : Stored) (part : Piece) → ((p : ℕ) → fin.contains_key v.held p ≡ true → stored_next v < p) →
-    ((q b : ℕ) → piece_at part q ≡ Some b → fin.get v.held q ≡ Some b) → stored_with_piece v part ≡ v
+    ((q b : ℕ) → piece_byte_at part q ≡ Some b → fin.get v.held q ≡ Some b) → stored_with_piece v part ≡ v
 kept_held v part above same =
-    (λ i. queue_up_to v (stored_next v) (laid_same i) (lacking_same i))
+    (λ i. stored_up_to v (stored_next v) (laid_same i) (lacking_same i))
     ∙ (λ i. record { first = v.first; capacity = v.capacity; read = v.read; queue = queue_same i; held = held_same i })
   where
     or_same : (o : Option ℕ) (m : Option ℕ) → ((b : ℕ) → o ≡ Some b → m ≡ Some b) → option_or o m ≡ m
@@ -126,7 +126,7 @@ kept_held v part above same =
     laid_same : held_with_piece v part ≡ v.held
     laid_same =
         fin.same_map nat_cmp_total fin.nat_cmp-IsAntisymmetric _ _
-        (λ q. get-with_bytes_at v.held part.start part.bytes q ∙ or_same (piece_at part q) (fin.get v.held q) (same q))
+        (λ q. get-with_bytes_at v.held part.start part.bytes q ∙ or_same (piece_byte_at part q) (fin.get v.held q) (same q))
 
     missing : (b : Bool) → fin.contains_key v.held (stored_next v) ≡ b → b ≡ false
     missing true h = (let l = above (stored_next v) h in absurd (omega arith))
@@ -143,9 +143,9 @@ kept_held v part above same =
         ap (λ l. first_lacking l (stored_next v)) laid_same
         ∙ first_unique (fin.contains_key v.held) (stored_next v) _ _ (first_lacking_is v.held (stored_next v)) at
 
-    queue_same : v.queue ++ values_at v.held (stored_next v) (stored_next v - stored_next v) ≡ v.queue
+    queue_same : v.queue ++ held_bytes_at v.held (stored_next v) (stored_next v - stored_next v) ≡ v.queue
     queue_same =
-        (let none : stored_next v - stored_next v ≡ 0 = omega arith in ap (λ k. v.queue ++ values_at v.held (stored_next v) k) none ∙ append-nil v.queue)
+        (let none : stored_next v - stored_next v ≡ 0 = omega arith in ap (λ k. v.queue ++ held_bytes_at v.held (stored_next v) k) none ∙ append-nil v.queue)
 
     held_same : fin.retain_keys v.held (λ p. nat_le (stored_next v) p) ≡ v.held
     held_same = fin.same_map nat_cmp_total fin.nat_cmp-IsAntisymmetric _ _ (λ q.
@@ -200,7 +200,7 @@ accepted_brings most v pos xs p accepted from to below =
     let part = piece_within (stored_next v) (v.first + v.read + v.capacity) (piece pos xs) in
     let cut = length-drop (stored_next v - pos) (take (v.first + v.read + v.capacity - pos) xs) in
     let size = length-take (v.first + v.read + v.capacity - pos) xs in
-    any_verdict (λ y. IsAccepted (Segmented (segment_result by_stored v y)) → Has (state_after by_stored v y) p) (stored_next v) most (domain v.held) part
+    any_verdict (λ y. IsAccepted (SegmentReply (segment_result by_stored v y)) → Has (state_after by_stored v y) p) (stored_next v) most (domain v.held) part
     (λ none _. inl (omega arith))
     (λ no. absurd no)
     (λ _. ⊎_elim (λ (l : p < stored_next v). has_joined v part p (inl l))
@@ -215,7 +215,7 @@ missing_stays : (most : ℕ) (v : Stored) (c : CommandSeen) → fin.contains_key
 missing_stays most v (Segment pos xs) h = segment_cases (λ u. fin.contains_key u.held (stored_next u) ≡ false) most v pos xs h (λ part. missing_joined v part)
 missing_stays most v (Read count) h =
     let size = length-drop count v.queue in
-    let same : stored_next (stored_read v count) ≡ stored_next v = omega arith in
+    let same : stored_next (stored_after_read v count) ≡ stored_next v = omega arith in
     ap (fin.contains_key v.held) same ∙ h
 missing_stays most v Show h = h
 

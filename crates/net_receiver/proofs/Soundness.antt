@@ -11,8 +11,8 @@ use Rattle.net_storage.proofs.MaximalRuns.{rising-maximal_runs, set_of_maximal_r
 use Rattle.net_storage.proofs.Positions.{contains-with_range, same_positions, runs-maximal_runs}
 use Rattle.net_storage.proofs.RunLists.{runs-nothing}
 use Rattle.net_storage.proofs.Runs.{in_runs, contains-set_of_runs, rising-in_runs, rising_from, runs-set_of_runs}
-use Rattle.net_receiver.specs.KeptList.{Piece, piece, piece_at, end, piece_within}
-use Rattle.net_receiver.specs.Rules.{Segment, Read, Show, KeptNone, Refused, Keeps, state_after}
+use Rattle.net_receiver.specs.KeptList.{Piece, piece, piece_byte_at, end, piece_within}
+use Rattle.net_receiver.specs.Rules.{Segment, Read, Show, KeepsNone, Refuses, Keeps, state_after}
 use Rattle.net_receiver.specs.Soundness.{FreshIsSound, SoundStays}
 use Rattle.net_receiver.specs.Stored.{Stored, domain, stored_with_piece, stored_next, stored_after, by_stored, IsSound}
 use Rattle.net_receiver.proofs.Covering.{piece_has}
@@ -86,25 +86,25 @@ module _ (most : ℕ) (v : Stored) (sound : IsSound most v) (part : Piece) (star
   abbrev ranged : Positions
   ranged = with_range (domain v.held) part.start (length part.bytes)
 
-  outside : (is_some (piece_at part first) ≡ false) × (fin.contains_key v.held first ≡ false)
+  outside : (is_some (piece_byte_at part first) ≡ false) × (fin.contains_key v.held first ≡ false)
   outside = or_false _ _ (sym (laid_has most v sound part starts ends first) ∙ (lacking most v sound part starts ends).here)
 
-  left_has : (q : ℕ) → contains (domain (stored_with_piece v part).held) q ≡ ((is_some (piece_at part q) || fin.contains_key v.held q) && nat_le first q)
+  left_has : (q : ℕ) → contains (domain (stored_with_piece v part).held) q ≡ ((is_some (piece_byte_at part q) || fin.contains_key v.held q) && nat_le first q)
   left_has q =
       contains-domain (stored_with_piece v part).held q
       ∙ after_has most v sound part starts ends q
       ∙ ap (λ b. b && nat_le first q) (laid_has most v sound part starts ends q)
 
-  ranged_has : (q : ℕ) → contains ranged q ≡ (is_some (piece_at part q) || fin.contains_key v.held q)
+  ranged_has : (q : ℕ) → contains ranged q ≡ (is_some (piece_byte_at part q) || fin.contains_key v.held q)
   ranged_has q =
       contains-with_range (domain v.held) part.start (length part.bytes) q
       ∙ (λ i. contains-domain v.held q i || sym (piece_has part q) i)
-      ∙ or_swap (fin.contains_key v.held q) (is_some (piece_at part q))
+      ∙ or_swap (fin.contains_key v.held q) (is_some (piece_byte_at part q))
 
-  few_joined : (is_some (piece_at part (stored_next v)) ≡ true) ⊎ (runs ranged ≤ most) → runs (domain (stored_with_piece v part).held) ≤ most
+  few_joined : (is_some (piece_byte_at part (stored_next v)) ≡ true) ⊎ (runs ranged ≤ most) → runs (domain (stored_with_piece v part).held) ≤ most
   few_joined which =
       ⊎_elim
-      (λ (at : is_some (piece_at part (stored_next v)) ≡ true).
+      (λ (at : is_some (piece_byte_at part (stored_next v)) ≡ true).
       let here = sym (piece_has part (stored_next v)) ∙ at in
       let away = sym (piece_has part first) ∙ outside.0 in
       let from = (lacking most v sound part starts ends).from in
@@ -134,7 +134,8 @@ module _ (most : ℕ) (v : Stored) (pos : ℕ) (xs : List ℕ) (sound : IsSound 
   abbrev more : Positions
   more = with_range (domain v.held) part.start (length part.bytes)
 
-  kept : nat_eq (length part.bytes) 0 ≡ false → (is_some (piece_at part (stored_next v)) ≡ true) ⊎ (runs more ≤ most) → IsSound most (stored_with_piece v part)
+  kept : nat_eq (length part.bytes) 0 ≡ false →
+      (is_some (piece_byte_at part (stored_next v)) ≡ true) ⊎ (runs more ≤ most) → IsSound most (stored_with_piece v part)
   kept some which =
       let cut = length-take (limit - pos) xs in
       let size = length-drop (stored_next v - pos) (take (limit - pos) xs) in
@@ -147,14 +148,14 @@ module _ (most : ℕ) (v : Stored) (pos : ℕ) (xs : List ℕ) (sound : IsSound 
   accepted true r e = inl refl
   accepted false r e = inr (grind (arith, nat_tests))
 
-  by : (a : Bool) → nat_eq (length part.bytes) 0 ≡ a → (b : Bool) → (not (is_some (piece_at part (stored_next v))) && nat_lt most (runs more)) ≡ b →
-      IsSound most (state_after by_stored v (cond a KeptNone (cond b Refused (Keeps part))))
+  by : (a : Bool) → nat_eq (length part.bytes) 0 ≡ a → (b : Bool) → (not (is_some (piece_byte_at part (stored_next v))) && nat_lt most (runs more)) ≡ b →
+      IsSound most (state_after by_stored v (cond a KeepsNone (cond b Refuses (Keeps part))))
   by true none b test = sound
   by false some true test = sound
-  by false some false test = kept some (accepted (is_some (piece_at part (stored_next v))) (runs more) test)
+  by false some false test = kept some (accepted (is_some (piece_byte_at part (stored_next v))) (runs more) test)
 
   segment_sound : IsSound most (stored_after most v (Segment pos xs))
-  segment_sound = by (nat_eq (length part.bytes) 0) refl (not (is_some (piece_at part (stored_next v))) && nat_lt most (runs more)) refl
+  segment_sound = by (nat_eq (length part.bytes) 0) refl (not (is_some (piece_byte_at part (stored_next v))) && nat_lt most (runs more)) refl
 
 pub sound_stays : SoundStays
 sound_stays most v (Segment pos xs) sound = segment_sound most v pos xs sound

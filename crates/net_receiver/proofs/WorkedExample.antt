@@ -10,13 +10,13 @@ use Rattle.net_storage.specs.Positions.{Positions, contains, positions, set_of_l
 use Rattle.net_storage.specs.Positions.{missing_within, first_missing, begins_run, run_starts, runs}
 use Rattle.net_storage.specs.Positions.{maximal_runs, with_range}
 use Rattle.net_storage.proofs.Positions.{has, Rises, contains-set_of_list, positions-set_of_list, same_positions, runs-maximal_runs}
-use Rattle.net_receiver.specs.KeptList.{Piece, piece, piece_at, piece_within, byte_at, bytes, covered_set, next, held_positions}
-use Rattle.net_receiver.specs.Rules.{CommandSeen, Segment, Read, Show, ReplySeen, Segmented, Gave}
-use Rattle.net_receiver.specs.Rules.{Shown, Refused, Keeps, verdict_of_piece, state_after, segment_result}
+use Rattle.net_receiver.specs.KeptList.{Piece, piece, piece_byte_at, piece_within, byte_at, bytes, covered_set, next, held_positions}
+use Rattle.net_receiver.specs.Rules.{CommandSeen, Segment, Read, Show, ReplySeen, SegmentReply, ReadReply}
+use Rattle.net_receiver.specs.Rules.{ShowReply, Refuses, Keeps, verdict_of_piece, state_after, segment_result}
 use Rattle.net_receiver.specs.Rules.{first_three, verdict}
 use Rattle.net_receiver.specs.Schedule.{Setting, State, fresh_state, kept_after, kept_reply, kept_replies, by_kept}
 use Rattle.net_receiver.specs.WorkedExample.{is_in, with_position, rising_list, missing_of, missing_in, runs_in, covered_list}
-use Rattle.net_receiver.specs.WorkedExample.{held_in, NextComputed, HeldComputed, RunsComputed}
+use Rattle.net_receiver.specs.WorkedExample.{held_list, NextComputed, HeldComputed, RunsComputed}
 use Rattle.net_receiver.specs.WorkedExample.{ByteComputed, segment_reply, WorkedSchedule}
 
 in_has : (ks : List ℕ) (q : ℕ) → is_in ks q ≡ has ks q
@@ -113,31 +113,31 @@ pub next_computed : NextComputed
 unfolding next
 next_computed f k = missing_is (covered_set k) (covered_list k) (covered_is k) (listed_rises k) f
 
-held_is : (f : ℕ) (k : List Piece) → held_positions f k ≡ set_of_list (held_in f k)
+held_is : (f : ℕ) (k : List Piece) → held_positions f k ≡ set_of_list (held_list f k)
 unfolding held_positions
 held_is f k = λ i. set_of_list (filter (nat_lt (next_computed f k i)) (positions_are (covered_set k) (covered_list k) (covered_is k) (listed_rises k) i))
 
-held_rises : (f : ℕ) (k : List Piece) → Rises 0 (held_in f k)
+held_rises : (f : ℕ) (k : List Piece) → Rises 0 (held_list f k)
 held_rises f k = filter_rises (nat_lt (missing_in (covered_list k) f)) 0 (covered_list k) (listed_rises k)
 
 pub held_computed : HeldComputed
-held_computed f k = runs_are (held_positions f k) (held_in f k) (held_is f k) (held_rises f k)
+held_computed f k = runs_are (held_positions f k) (held_list f k) (held_is f k) (held_rises f k)
 
-range_is : (f : ℕ) (k : List Piece) (o n : ℕ) → with_range (held_positions f k) o n ≡ set_of_list (rising_list (held_in f k ++ range_with_len o n))
+range_is : (f : ℕ) (k : List Piece) (o n : ℕ) → with_range (held_positions f k) o n ≡ set_of_list (rising_list (held_list f k ++ range_with_len o n))
 unfolding with_range
 range_is f k o n =
-    ap (λ l. set_of_list (l ++ range_with_len o n)) (positions_are (held_positions f k) (held_in f k) (held_is f k) (held_rises f k))
-    ∙ rising_set (held_in f k ++ range_with_len o n)
+    ap (λ l. set_of_list (l ++ range_with_len o n)) (positions_are (held_positions f k) (held_list f k) (held_is f k) (held_rises f k))
+    ∙ rising_set (held_list f k ++ range_with_len o n)
 
 pub runs_computed : RunsComputed
 runs_computed f k o n =
-    runs_number (with_range (held_positions f k) o n) (rising_list (held_in f k ++ range_with_len o n)) (range_is f k o n)
-    (rising_rises (held_in f k ++ range_with_len o n))
+    runs_number (with_range (held_positions f k) o n) (rising_list (held_list f k ++ range_with_len o n)) (range_is f k o n)
+    (rising_rises (held_list f k ++ range_with_len o n))
 
 pub byte_computed : ByteComputed
 unfolding byte_at
 byte_computed [] p = refl
-byte_computed (e ∷ k) p = ap (λ o. option_or o (piece_at e p)) (byte_computed k p)
+byte_computed (e ∷ k) p = ap (λ o. option_or o (piece_byte_at e p)) (byte_computed k p)
 
 -- ---- a schedule in full
 abbrev w : Setting
@@ -188,12 +188,12 @@ three_held = held_computed 0 three
 first_verdict : verdict (by_kept w) 4 fresh_state first ≡ Keeps first
 first_verdict =
     (λ i. verdict_of_piece (none_next i) 4 (held_positions 0 []) (piece_within (none_next i) 16 first))
-    ∙ ap (λ r. cond (nat_lt 4 r) Refused (Keeps first)) (let few : runs (with_range (held_positions 0 []) 2 2) ≡ 1 = runs_computed 0 [] 2 2 in few)
+    ∙ ap (λ r. cond (nat_lt 4 r) Refuses (Keeps first)) (let few : runs (with_range (held_positions 0 []) 2 2) ≡ 1 = runs_computed 0 [] 2 2 in few)
 
 second_verdict : verdict (by_kept w) 4 (kept one) second ≡ Keeps second
 second_verdict =
     (λ i. verdict_of_piece (one_next i) 4 (held_positions 0 one) (piece_within (one_next i) 16 second))
-    ∙ ap (λ r. cond (nat_lt 4 r) Refused (Keeps second)) (let few : runs (with_range (held_positions 0 one) 3 2) ≡ 1 = runs_computed 0 one 3 2 in few)
+    ∙ ap (λ r. cond (nat_lt 4 r) Refuses (Keeps second)) (let few : runs (with_range (held_positions 0 one) 3 2) ≡ 1 = runs_computed 0 one 3 2 in few)
 
 third_verdict : verdict (by_kept w) 4 (kept two) third ≡ Keeps third
 third_verdict = λ i. verdict_of_piece (two_next i) 4 (held_positions 0 two) (piece_within (two_next i) 16 third)
@@ -210,22 +210,23 @@ pub worked_schedule : WorkedSchedule
 worked_schedule =
     step fresh_state (kept one) (Segment 2 (65 ∷ 65 ∷ [])) _ (Segment 3 (66 ∷ 66 ∷ []) ∷ Show ∷ Segment 0 (67 ∷ 67 ∷ []) ∷ Show ∷ Read 5 ∷ Show ∷ []) _
     (ap (state_after (by_kept w) fresh_state) first_verdict)
-    (ap (λ x. Segmented (segment_result (by_kept w) fresh_state x)) first_verdict
+    (ap (λ x. SegmentReply (segment_result (by_kept w) fresh_state x)) first_verdict
     ∙ (λ i. segment_reply 2 (one_next i - none_next i) (first_three (one_held i))))
     (step (kept one) (kept two) (Segment 3 (66 ∷ 66 ∷ [])) _ (Show ∷ Segment 0 (67 ∷ 67 ∷ []) ∷ Show ∷ Read 5 ∷ Show ∷ []) _
     (ap (state_after (by_kept w) (kept one)) second_verdict)
-    (ap (λ x. Segmented (segment_result (by_kept w) (kept one) x)) second_verdict ∙ (λ i. segment_reply 2 (two_next i - one_next i) (first_three (two_held i))))
+    (ap (λ x. SegmentReply (segment_result (by_kept w) (kept one) x)) second_verdict ∙
+    (λ i. segment_reply 2 (two_next i - one_next i) (first_three (two_held i))))
     (step (kept two) (kept two) Show _ (Segment 0 (67 ∷ 67 ∷ []) ∷ Show ∷ Read 5 ∷ Show ∷ []) _ refl
-    (λ i. Shown (two_next i) (length (bytes two 0 (two_next i - 0))) (16 - length (bytes two 0 (two_next i - 0))) (two_held i))
+    (λ i. ShowReply (two_next i) (length (bytes two 0 (two_next i - 0))) (16 - length (bytes two 0 (two_next i - 0))) (two_held i))
     (step (kept two) (kept three) (Segment 0 (67 ∷ 67 ∷ [])) _ (Show ∷ Read 5 ∷ Show ∷ []) _
     (ap (state_after (by_kept w) (kept two)) third_verdict)
-    (ap (λ x. Segmented (segment_result (by_kept w) (kept two) x)) third_verdict
+    (ap (λ x. SegmentReply (segment_result (by_kept w) (kept two) x)) third_verdict
     ∙ (λ i. segment_reply 2 (three_next i - two_next i) (first_three (three_held i))))
     (step (kept three) (kept three) Show _ (Read 5 ∷ Show ∷ []) _ refl
-    (λ i. Shown (three_next i) (length (bytes three 0 (three_next i - 0))) (16 - length (bytes three 0 (three_next i - 0))) (three_held i))
+    (λ i. ShowReply (three_next i) (length (bytes three 0 (three_next i - 0))) (16 - length (bytes three 0 (three_next i - 0))) (three_held i))
     (step (kept three) (record { kept = three; read = 5 }) (Read 5) _ (Show ∷ []) _
     (λ i. record { kept = three; read = 0 + min 5 (three_next i - 0) })
-    ((λ i. Gave (take 5 (bytes three 0 (three_next i - 0)))) ∙ ap (λ xs. Gave xs) bytes_three)
+    ((λ i. ReadReply (take 5 (bytes three 0 (three_next i - 0)))) ∙ ap (λ xs. ReadReply xs) bytes_three)
     (step (record { kept = three; read = 5 }) (record { kept = three; read = 5 }) Show _ [] [] refl
-    (λ i. Shown (three_next i) (length (bytes three 5 (three_next i - 5))) (16 - length (bytes three 5 (three_next i - 5))) (three_held i))
+    (λ i. ShowReply (three_next i) (length (bytes three 5 (three_next i - 5))) (16 - length (bytes three 5 (three_next i - 5))) (three_held i))
     refl))))))

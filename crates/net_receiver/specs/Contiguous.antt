@@ -22,11 +22,11 @@ contiguous_count v = min (length v.queue) (v.capacity - index_of v v.read)
 abbrev pub contiguous_count_from : Stored → ℕ → ℕ → ℕ
 contiguous_count_from v o n = min n (min (length v.queue - o) (v.capacity - index_of v (v.read + o)))
 
--- the bytes up to the storage's end, and those from its beginning on
+-- the bytes of the queue up to the storage's end
 abbrev pub first_part : Stored → List ℕ
 first_part v = take (contiguous_count v) v.queue
 
--- what the first part leaves
+-- those from its beginning on: what the first part leaves
 abbrev pub second_part : Stored → List ℕ
 second_part v = drop (contiguous_count v) v.queue
 

@@ -3,6 +3,7 @@
 --     Executes N v u cs rs complete      what cs leave stored, and their replies
 --     ExecutesFor N v u cs rs complete s      what cs did to a receiver that stood for s
 --     items_after old new      what was pushed behind old
+--     AreAlike f s g t      what `same_state` finds alike of two states
 --     Converges v u same, TellsStates v u same      when `same_state` finds two receivers the same
 --     FreshStands, EverySchedule, TellsNext, TellsHeld, TellsFresh      laws on what a receiver stands for
 use Rattle.std.specs.Prelude.{◌≡◌, ◌↔◌, ℕ, ◌-◌, ◌≤◌, Bool, true, List, ◌++◌, length, take}

@@ -1,8 +1,8 @@
--- The laws on kept lists, on the runs that are reported, and on calls that follow one another.
+-- The laws on kept lists, on the runs that are listed, and on calls that follow one another.
 --     Contains e p, NoneContains k p      the entry e, or no entry of k, contains the position p
 --     IsLast k p e      e is the last entry of k that contains p
 --     IsLeastMissing f k n      n is the least position from f on that no entry of k contains
---     ReportsRuns held sack      sack reports the first three runs of held positions
+--     ListsRuns held sack      sack lists the first three runs of held positions
 --     Replays N v calls u      what calls of `replay`, one after another, store
 --     Composes N v calls u      these calls do what one call does
 -- The others are laws, and what they name.
@@ -61,30 +61,30 @@ abbrev pub HeldAreAbove : Type 0
 HeldAreAbove = (f : ℕ) (k : List Piece) (p : ℕ) →
     IsTrue (contains (held_positions f k) p) ↔ ((next f k < p) × SomeContains k p)
 
--- ---- reported runs
+-- ---- listed runs
 -- the runs of a list in which some are missing
 abbrev pub runs_of_sack : List (Option (ℕ × ℕ)) → List (ℕ × ℕ)
 runs_of_sack [] = []
-runs_of_sack (Some run ∷ places) = run ∷ runs_of_sack places
-runs_of_sack (None ∷ places) = runs_of_sack places
+runs_of_sack (Some run ∷ entries) = run ∷ runs_of_sack entries
+runs_of_sack (None ∷ entries) = runs_of_sack entries
 
--- three entries, of which the first ones are maximal runs of held positions, which rise with a gap
--- between neighbours; each held position lies in one of them, or three are reported and it lies
+-- three entries, of which the first ones are maximal runs of held positions, which rise with a hole
+-- between neighbours; each held position lies in one of them, or three are listed and it lies
 -- above
-pub record ReportsRuns (held : Positions) (sack : List (Option (ℕ × ℕ))) : Type 0 where
-  pub places : sack ≡ first_three (runs_of_sack sack)
+pub record ListsRuns (held : Positions) (sack : List (Option (ℕ × ℕ))) : Type 0 where
+  pub entries : sack ≡ first_three (runs_of_sack sack)
   pub maximal : All (IsMaximalRun held) (runs_of_sack sack)
   pub rising : AllPairs (λ q r. q.1 < r.0) (runs_of_sack sack)
   pub complete : (p : ℕ) → IsTrue (contains held p) →
       (count_by (lies_in p) (runs_of_sack sack) ≡ 1)
       ⊎ ((length (runs_of_sack sack) ≡ 3) × All (λ r. r.1 < p) (runs_of_sack sack))
 
--- the result of each accepted segment reports the held runs after it, whether bytes of it were kept
+-- the result of each accepted segment lists the held runs after it, whether bytes of it were kept
 -- or none
-abbrev pub ReportsHeldRuns : Type 0
-ReportsHeldRuns = (w : Setting) (s : State) (x : Verdict) (kept : Kept) →
+abbrev pub ListsHeldRuns : Type 0
+ListsHeldRuns = (w : Setting) (s : State) (x : Verdict) (kept : Kept) →
     segment_result (by_kept w) s x ≡ Ok kept →
-    ReportsRuns (held_positions w.first (state_after (by_kept w) s x).kept) kept.sack
+    ListsRuns (held_positions w.first (state_after (by_kept w) s x).kept) kept.sack
 
 -- ---- calls of `replay`, one after another
 -- a call by its commands and the replies that it appended, and whether it returned Ok
@@ -114,7 +114,7 @@ pub record Composes (most_runs : ℕ) (v : Stored) (calls : List ReplayCall) (u 
   pub commands : List CommandSeen
   pub prefixes : ArePrefixes calls commands
   pub stored : Executes most_runs v u commands (flat_map (λ call. call.replies) calls) ⊤
-  pub ran : (s : State) → StandsFor v s →
+  pub for_states : (s : State) → StandsFor v s →
       ExecutesFor most_runs v u commands (flat_map (λ call. call.replies) calls) ⊤ s
 
 -- calls one after another do what one call does

@@ -3,7 +3,7 @@
 --     AllSay f x cs      each segment of the commands says what x has
 --     ReceivesFrom f x v      the receiver v took nothing but parts of x
 --     QueueIsOf x v      the queue is what x has behind the bytes that were read
---     kept_of v pos xs      the bytes of a segment that the free window of v takes
+--     window_part v pos xs      the bytes of a segment that the free window of v takes
 -- The others are laws: what makes these, what follows from them, and what commands leave.
 -- `Says`, `AllSay` and `ReceivesFrom` are not unfolded by a caller's proofs, which find them by the
 -- clauses of the calls and by the laws that make them.
@@ -51,8 +51,8 @@ pub record QueueIsOf (x : List ℕ) (v : Stored) : Type 0 where
   pub next : v.first ≤ stored_next v
 
 -- the bytes of a segment from the first missing position on, as far as the free window goes
-abbrev pub kept_of : Stored → ℕ → List ℕ → List ℕ
-kept_of v pos xs = drop (stored_next v - pos) (take (v.first + v.read + v.capacity - pos) xs)
+abbrev pub window_part : Stored → ℕ → List ℕ → List ℕ
+window_part v pos xs = drop (stored_next v - pos) (take (v.first + v.read + v.capacity - pos) xs)
 
 -- ---- what makes them, and what follows
 -- a segment that is the stream's bytes at its position says what the stream has

@@ -1,11 +1,12 @@
 -- Segments that come again, and segments that together cover a range.
 --     IsHeld v pos xs      what the free window would take of a segment is held already
---     Has v p      the position p was read, or is queued or held
+--     Has v p      the position p lies below the first missing one, or is held
 --     Brings cs p      a segment of cs contains the position p
+-- The others are laws.
 use Rattle.std.specs.Prelude.{◌≡◌, ◌⊎◌, ℕ, ◌+◌, ◌≤◌, ◌<◌, min, List, [], ◌∷◌, length, Some}
 use Rattle.std.specs.Prelude.{All, IsTrue}
 use Rattle.std.specs.FinMap as fin
-use Rattle.net_receiver.specs.KeptList.{piece, piece_at}
+use Rattle.net_receiver.specs.KeptList.{piece, piece_byte_at}
 use Rattle.net_receiver.specs.Rules.{CommandSeen, Segment, Read, Show}
 use Rattle.net_receiver.specs.Schedule.{IsAccepted}
 use Rattle.net_receiver.specs.Stored.{Stored, IsSound, stored_next, stored_after, stored_reply}
@@ -15,7 +16,7 @@ use Rattle.net_receiver.specs.Stored.{stored_after_all, stored_replies}
 -- each byte of a segment within the free window is held already
 abbrev pub IsHeld : Stored → ℕ → List ℕ → Type 0
 IsHeld v pos xs = (p b : ℕ) → stored_next v ≤ p → p < v.first + v.read + v.capacity →
-    piece_at (piece pos xs) p ≡ Some b → fin.get v.held p ≡ Some b
+    piece_byte_at (piece pos xs) p ≡ Some b → fin.get v.held p ≡ Some b
 
 -- a segment of which that is so changes nothing
 abbrev pub HeldChangesNothing : Type 0
@@ -29,7 +30,7 @@ SecondCopy = (most_runs : ℕ) (v : Stored) (pos : ℕ) (xs : List ℕ) → IsSo
     stored_after most_runs u (Segment pos xs) ≡ u
 
 -- ---- segments that cover a range
--- a position was read, or is queued or held
+-- a position lies below the first missing one, so that it was read or is queued, or is held
 abbrev pub Has : Stored → ℕ → Type 0
 Has v p = (p < stored_next v) ⊎ IsTrue (fin.contains_key v.held p)
 

@@ -12,7 +12,7 @@ use Rattle.std.specs.Prelude.{nat_lt, nat_eq, slice_get, Option, is_some, Result
 use Rattle.net_storage.specs.declared.assembler.error.TooManyHolesError.{TooManyHolesError}
 use Rattle.net_storage.specs.Positions.{Positions, with_range, runs, maximal_runs}
 use Rattle.net_receiver.specs.declared.receiver.kept.Kept.{Kept}
-use Rattle.net_receiver.specs.KeptList.{Piece, piece, piece_at, piece_within}
+use Rattle.net_receiver.specs.KeptList.{Piece, piece, piece_byte_at, piece_within}
 
 -- commands
 pub data CommandSeen : Type 0 where
@@ -22,22 +22,22 @@ pub data CommandSeen : Type 0 where
 
 -- replies
 pub data ReplySeen : Type 0 where
-  Segmented : Result Kept TooManyHolesError → ReplySeen
-  Gave : List ℕ → ReplySeen
-  Shown : ℕ → ℕ → ℕ → List (ℕ × ℕ) → ReplySeen
+  SegmentReply : Result Kept TooManyHolesError → ReplySeen
+  ReadReply : List ℕ → ReplySeen
+  ShowReply : ℕ → ℕ → ℕ → List (ℕ × ℕ) → ReplySeen
 
 -- what becomes of a segment
 pub data Verdict : Type 0 where
-  KeptNone : Verdict
-  Refused : Verdict
+  KeepsNone : Verdict
+  Refuses : Verdict
   Keeps : Piece → Verdict
 
 -- the verdict on what the free window takes of a segment, where n is the first missing position
 abbrev pub verdict_of_piece : ℕ → ℕ → Positions → Piece → Verdict
 verdict_of_piece n most_runs held part =
-    if nat_eq (length part.bytes) 0 then KeptNone
-    else if not (is_some (piece_at part n))
-    && nat_lt most_runs (runs (with_range held part.start (length part.bytes))) then Refused
+    if nat_eq (length part.bytes) 0 then KeepsNone
+    else if not (is_some (piece_byte_at part n))
+    && nat_lt most_runs (runs (with_range held part.start (length part.bytes))) then Refuses
     else Keeps part
 
 -- the first three of a list of runs, filled from the first on
@@ -54,7 +54,7 @@ with_sack (Err e) held = Err e
 pub record Keeping (S : Type 0) : Type 0 where
   -- the first position of the stream
   pub first : S → ℕ
-  -- how many bytes there is room for
+  -- how many bytes queue and spare part have together
   pub capacity : S → ℕ
   -- how many bytes were read
   pub read : S → ℕ
@@ -76,14 +76,14 @@ module _ {S : Type 0} (keeping : Keeping S) where
 
   -- the state after a segment, by what becomes of it
   abbrev pub state_after : S → Verdict → S
-  state_after s KeptNone = s
-  state_after s Refused = s
+  state_after s KeepsNone = s
+  state_after s Refuses = s
   state_after s (Keeps part) = keeping.with_piece s part
 
   -- how many bytes are kept, and how many join the queue, or the refusal
   abbrev pub numbers : S → Verdict → Result (ℕ × ℕ) TooManyHolesError
-  numbers s KeptNone = Ok (0, 0)
-  numbers s Refused = Err (record {})
+  numbers s KeepsNone = Ok (0, 0)
+  numbers s Refuses = Err (record {})
   numbers s (Keeps part) =
       Ok (length part.bytes, keeping.next (keeping.with_piece s part) - keeping.next s)
 
@@ -107,10 +107,10 @@ module _ {S : Type 0} (keeping : Keeping S) where
 
     -- the reply to a command
     abbrev pub reply : S → CommandSeen → ReplySeen
-    reply s (Segment pos xs) = Segmented (segment_result s (verdict s (piece pos xs)))
-    reply s (Read count) = Gave (take count (keeping.queue s))
+    reply s (Segment pos xs) = SegmentReply (segment_result s (verdict s (piece pos xs)))
+    reply s (Read count) = ReadReply (take count (keeping.queue s))
     reply s Show =
-        Shown (keeping.next s) (length (keeping.queue s))
+        ShowReply (keeping.next s) (length (keeping.queue s))
         (keeping.capacity s - length (keeping.queue s)) (maximal_runs (keeping.held s))
 
     -- the state after commands

@@ -1,18 +1,19 @@
 -- What the sets of a kept list come to, by computing with lists; and a schedule computed in full.
 --     covered_list k      the covered positions, rising and each once
 --     missing_in ks p      the least position from p on that is not in ks
---     held_in f k      the held positions
+--     held_list f k      the held positions
 --     runs_in ks      the maximal runs of the positions ks
 --     byte_in k p      the byte at p of the last entry that contains p
+-- The others serve these, or are laws.
 use Rattle.std.specs.Prelude.{◌≡◌, ℕ, zero, suc, ◌+◌, ◌-◌, Bool, false, if◌then◌else◌, not}
 use Rattle.std.specs.Prelude.{◌||◌, ◌==◌, List, [], ◌∷◌, ◌++◌, map, filter, flat_map, length}
 use Rattle.std.specs.Prelude.{nat_lt, Option, Some, None, Ok}
 use Rattle.std.specs.Option.{option_or}
 use Rattle.std.specs.List.{range_with_len}
 use Rattle.net_storage.specs.Positions.{bound_of, runs, with_range, maximal_runs}
-use Rattle.net_receiver.specs.KeptList.{Piece, piece_at, byte_at, next, held_positions}
-use Rattle.net_receiver.specs.Rules.{CommandSeen, Segment, Read, Show, ReplySeen, Segmented, Gave}
-use Rattle.net_receiver.specs.Rules.{Shown}
+use Rattle.net_receiver.specs.KeptList.{Piece, piece_byte_at, byte_at, next, held_positions}
+use Rattle.net_receiver.specs.Rules.{CommandSeen, Segment, Read, Show, ReplySeen, SegmentReply, ReadReply}
+use Rattle.net_receiver.specs.Rules.{ShowReply}
 use Rattle.net_receiver.specs.Schedule.{Setting, fresh_state, kept_replies}
 
 -- ---- lists of positions
@@ -31,7 +32,7 @@ abbrev pub rising_list : List ℕ → List ℕ
 rising_list [] = []
 rising_list (p ∷ ps) = with_position p (rising_list ps)
 
--- the least position from p on that is not in ks, of the n that follow
+-- the least position from p on that is not in ks, where p + n is above all of them
 abbrev pub missing_of : List ℕ → ℕ → ℕ → ℕ
 missing_of ks p zero = p
 missing_of ks p (suc n) = if is_in ks p then missing_of ks (p + 1) n else p
@@ -50,13 +51,13 @@ abbrev pub covered_list : List Piece → List ℕ
 covered_list k = rising_list (flat_map (λ e. range_with_len e.start (length e.bytes)) k)
 
 -- the held positions
-abbrev pub held_in : ℕ → List Piece → List ℕ
-held_in f k = filter (nat_lt (missing_in (covered_list k) f)) (covered_list k)
+abbrev pub held_list : ℕ → List Piece → List ℕ
+held_list f k = filter (nat_lt (missing_in (covered_list k) f)) (covered_list k)
 
 -- the byte at p of the last entry that contains p
 abbrev pub byte_in : List Piece → ℕ → Option ℕ
 byte_in [] p = None
-byte_in (e ∷ k) p = option_or (byte_in k p) (piece_at e p)
+byte_in (e ∷ k) p = option_or (byte_in k p) (piece_byte_at e p)
 
 -- these are what the definitions of kept lists mean
 abbrev pub NextComputed : Type 0
@@ -64,12 +65,12 @@ NextComputed = (f : ℕ) (k : List Piece) → next f k ≡ missing_in (covered_l
 
 -- the held runs
 abbrev pub HeldComputed : Type 0
-HeldComputed = (f : ℕ) (k : List Piece) → maximal_runs (held_positions f k) ≡ runs_in (held_in f k)
+HeldComputed = (f : ℕ) (k : List Piece) → maximal_runs (held_positions f k) ≡ runs_in (held_list f k)
 
 -- how many held runs there are with one more range
 abbrev pub RunsComputed : Type 0
 RunsComputed = (f : ℕ) (k : List Piece) (o n : ℕ) →
-    runs (with_range (held_positions f k) o n) ≡ length (runs_in (rising_list (held_in f k ++ range_with_len o n)))
+    runs (with_range (held_positions f k) o n) ≡ length (runs_in (rising_list (held_list f k ++ range_with_len o n)))
 
 -- the byte at a position
 abbrev pub ByteComputed : Type 0
@@ -78,7 +79,7 @@ ByteComputed = (k : List Piece) (p : ℕ) → byte_at k p ≡ byte_in k p
 -- ---- a schedule in full
 -- the reply to a segment of which so many bytes are kept, and after which so many join the queue
 abbrev pub segment_reply : ℕ → ℕ → List (Option (ℕ × ℕ)) → ReplySeen
-segment_reply kept queued sack = Segmented (Ok (record { kept = kept; queued = queued; sack = sack }))
+segment_reply kept queued sack = SegmentReply (Ok (record { kept = kept; queued = queued; sack = sack }))
 
 -- two segments that disagree come out of order, then the bytes before them: `AA` at 2, `BB` at 3,
 -- `CC` at 0, and then `CCABB` is read
@@ -94,8 +95,8 @@ WorkedSchedule =
     kept_replies w fresh_state worked_commands
     ≡ segment_reply 2 0 (Some (2, 4) ∷ None ∷ None ∷ [])
     ∷ segment_reply 2 0 (Some (2, 5) ∷ None ∷ None ∷ [])
-    ∷ Shown 0 0 16 ((2, 5) ∷ [])
+    ∷ ShowReply 0 0 16 ((2, 5) ∷ [])
     ∷ segment_reply 2 5 (None ∷ None ∷ None ∷ [])
-    ∷ Shown 5 5 11 []
-    ∷ Gave (67 ∷ 67 ∷ 65 ∷ 66 ∷ 66 ∷ [])
-    ∷ Shown 5 0 16 [] ∷ []
+    ∷ ShowReply 5 5 11 []
+    ∷ ReadReply (67 ∷ 67 ∷ 65 ∷ 66 ∷ 66 ∷ [])
+    ∷ ShowReply 5 0 16 [] ∷ []

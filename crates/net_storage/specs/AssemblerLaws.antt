@@ -1,7 +1,7 @@
 -- Laws of sets of positions and of what the contracts of an assembler's calls say.
 --     Adds, RemovesFront, AddsThenRemovesFront, Compares, Iterates      what a call's contract says of it
---     CallsNext left answers last      what calls of `next`, one after another, return and leave
---     results_of_next left n      what n of them return
+--     CallsNext rest results last      what calls of `next`, one after another, return and leave
+--     results_of_next rest n       what n of them return
 -- The others are laws.
 use Rattle.std.specs.Prelude.{◌≡◌, ◌↔◌, ℕ, zero, suc, ◌+◌, ◌-◌, ◌<◌, ◌≤◌, ◌^◌, Bool, ◌&&◌, ◌||◌}
 use Rattle.std.specs.Prelude.{List, [], ◌∷◌, length, drop, nat_le, nat_eq, Option, Some, None}
@@ -27,14 +27,14 @@ pub record Adds (most_runs : ℕ) (old : Positions) (offset size : ℕ)
 -- what the contract of `remove_front` says of a call
 pub record RemovesFront (most_runs : ℕ) (old : Positions) (result : ℕ) (new : Positions) :
     Type 0 where
-  pub count : result ≡ front old
+  pub length : result ≡ front old
   pub rest : new ≡ shift_down old (front old)
   pub bound : runs new ≤ most_runs
 
 -- what the contract of `add_then_remove_front` says of a call
 pub record AddsThenRemovesFront (most_runs : ℕ) (old : Positions) (offset size : ℕ)
     (result : Result ℕ TooManyHolesError) (new : Positions) : Type 0 where
-  pub answer : let all = with_range old offset size in MatchResult result
+  pub value : let all = with_range old offset size in MatchResult result
       (λ n. (n ≡ front all) × (new ≡ shift_down all n))
       (λ _. new ≡ old)
   pub refused : IsErr result ↔ ((0 < offset) × MakesTooManyRuns most_runs old offset size)
@@ -52,16 +52,16 @@ pub record Iterates (most_runs : ℕ) (s : Positions) (result : List (ℕ × ℕ
 
 -- what calls of `next`, one after another, return and leave by its contract
 abbrev pub CallsNext : List (ℕ × ℕ) → List (Option (ℕ × ℕ)) → List (ℕ × ℕ) → Type 0
-CallsNext left [] last = left ≡ last
-CallsNext left (answer ∷ answers) last =
-    (rest : List (ℕ × ℕ)) × YieldsFirst (λ runs. runs) left answer rest
-    × CallsNext rest answers last
+CallsNext rest [] last = rest ≡ last
+CallsNext rest (result ∷ results) last =
+    (more : List (ℕ × ℕ)) × YieldsFirst (λ runs. runs) rest result more
+    × CallsNext more results last
 
 -- the first n runs of a list, and `None` from its end on
 abbrev pub results_of_next : List (ℕ × ℕ) → ℕ → List (Option (ℕ × ℕ))
-results_of_next left zero = []
+results_of_next rest zero = []
 results_of_next [] (suc n) = None ∷ results_of_next [] n
-results_of_next (run ∷ left) (suc n) = Some run ∷ results_of_next left n
+results_of_next (run ∷ rest) (suc n) = Some run ∷ results_of_next rest n
 
 -- sets are equal exactly if they have the same members
 abbrev pub EqualSets : Type 0
@@ -169,8 +169,8 @@ AddingThenRemoving = (most_runs offset size count : ℕ) (s all rest both : Posi
     AddsThenRemovesFront most_runs s offset size result both → (result ≡ Ok count) × (both ≡ rest)
 
 -- with offset 0 it is never refused
-abbrev pub FrontIsNeverRefused : Type 0
-FrontIsNeverRefused = (most_runs size : ℕ) (s both : Positions)
+abbrev pub RangeAtZeroIsNeverRefused : Type 0
+RangeAtZeroIsNeverRefused = (most_runs size : ℕ) (s both : Positions)
     (result : Result ℕ TooManyHolesError) →
     AddsThenRemovesFront most_runs s 0 size result both → IsOk result
 
@@ -178,7 +178,7 @@ FrontIsNeverRefused = (most_runs size : ℕ) (s both : Positions)
 -- called, it returns the runs in turn and then None
 abbrev pub IteratesMaximalRuns : Type 0
 IteratesMaximalRuns = (most_runs : ℕ) (s : Positions) (left last : List (ℕ × ℕ))
-    (answers : List (Option (ℕ × ℕ))) →
-    Iterates most_runs s left → CallsNext left answers last →
+    (results : List (Option (ℕ × ℕ))) →
+    Iterates most_runs s left → CallsNext left results last →
     AreMaximalRuns s left × (length left ≤ most_runs)
-    × (answers ≡ results_of_next left (length answers)) × (last ≡ drop (length answers) left)
+    × (results ≡ results_of_next left (length results)) × (last ≡ drop (length results) left)

@@ -2,6 +2,7 @@
 -- over many calls.
 --     contents q      the headers and bytes of a queue's packets
 --     head_bytes ps      the bytes of the first of these
+--     with_bytes_in_last_entry bytes ps      the last of these has other bytes
 --     QueueCall H, Makes call q r, MakesAll calls q r      what one call did, and what calls make
 --     log_after call log, log_after_all calls log, history calls      the log after calls
 use Rattle.std.specs.Prelude.{◌≡◌, ◌≢◌, ◌≤◌, ℕ, ◌+◌, List, [], ◌∷◌, length, take, drop, set}

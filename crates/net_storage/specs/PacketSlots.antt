@@ -1,7 +1,7 @@
 -- A queue of packets by the two rings that store it.
 --     slot s h, packet_slots ps, packets_in gap ms      a slot, the slots of packets, and back
 --     StandFor m b ps, packet_queue m b      the packets, and the queue, that two rings stand for
---     IsFirstSlot m s h, HasFirstSlot m s h n      what the first slot of a ring is
+--     IsFirstSlot m s h, WithFirstSlot m s h n      what the first slot of a ring is
 use Rattle.std.specs.Prelude.{◌≡◌, ℕ, zero, suc, ◌+◌, List, [], ◌∷◌, ◌++◌, drop}
 use Rattle.std.specs.Prelude.{Option}
 use Rattle.std.specs.declared.option.Option.TheVariants.{Some, None}
@@ -53,8 +53,8 @@ module _ {H : Type 0} where
   abbrev pub IsFirstSlot : RingState (PacketMetadata H) → ℕ → Option H → Type 0
   IsFirstSlot m s h = queue m ≡ slot s h ∷ drop 1 (queue m)
 
-  -- n is m, but its first slot has this size and header
-  abbrev pub HasFirstSlot : RingState (PacketMetadata H) → ℕ → Option H → RingState
+  -- n has the queue of m, but with a first slot of this size and header, and the capacity of m
+  abbrev pub WithFirstSlot : RingState (PacketMetadata H) → ℕ → Option H → RingState
       (PacketMetadata H) → Type 0
-  HasFirstSlot m s h n =
+  WithFirstSlot m s h n =
       (queue n ≡ slot s h ∷ drop 1 (queue m)) × IsWellFormed n × (capacity n ≡ capacity m)

@@ -8,10 +8,12 @@
 --     no_packets slot_count storage      a queue with no packets
 --     with_packet_if_room q s h, with_packet_of q h ws      a packet came last
 --     last_bytes q, with_last_bytes q ws, with_last_size k q, IsRoom q s h room      the last packet
+--     first_size ps, only_last ps, IsFirstSized ps s, first_bytes q      the first packet's size and bytes,
+--         and the last packet alone
 --     IsFirst q h ws, without_gap q, with_first_bytes q h ws, without_first q, without_first_and_gap q,
 --         after_hand_out gone q h ws      the first packet
---     AreFreed q s, IsFreedAt q s p, freed_bytes q s, with_bytes q p ws      the bytes of a packet that
---         was taken off, and bytes that are written over the storage
+--     AreFreed q s, IsFreedAt q s p, freed_bytes_index q s, freed_bytes q s, with_bytes q p ws      the
+--         bytes of a packet that was taken off, and bytes that are written over the storage
 use Rattle.std.specs.Prelude.{◌≡◌, ◌≢◌, Bool, ℕ, zero, suc, ◌+◌, ◌-◌, ◌≤◌, nat_le}
 use Rattle.std.specs.Prelude.{if◌then◌else◌, List, [], ◌∷◌, ◌++◌, length, take, drop, ⊤}
 use Rattle.std.specs.Prelude.{Option}

@@ -1,6 +1,6 @@
 -- Finite sets of positions, ranges of positions, and the maximal runs of a set.
 --     Positions, contains s p, positions s, set_of_list ks, nothing      sets, and what is in them
---     IsRange o n, with_range s o n      a range, and a set with one
+--     RangeFits o n, with_range s o n      a range, and a set with one
 --     runs s, maximal_runs s, IsMaximalRun s run, AreMaximalRuns s list      how many maximal runs there
 --         are, and which
 --     lies_in p run      whether p lies in a run
@@ -37,8 +37,8 @@ abbrev pub nothing : Positions
 nothing = empty
 
 -- the range (o, n) and its end are numbers of 64 bits
-abbrev pub IsRange : ℕ → ℕ → Type 0
-IsRange o n = o + n < 2 ^ 64
+abbrev pub RangeFits : ℕ → ℕ → Type 0
+RangeFits o n = o + n < 2 ^ 64
 
 -- s with the range (o, n): with the positions from o to o + n - 1
 unfoldable pub with_range : Positions → ℕ → ℕ → Positions
@@ -91,7 +91,7 @@ abbrev pub lies_in : ℕ → ℕ × ℕ → Bool
 lies_in p run = nat_le run.0 p && nat_lt p run.1
 
 -- the list of the maximal runs of s: each is one, each position of s lies in exactly one, they rise
--- with a gap between neighbours, and there are as many as s has maximal runs
+-- with a hole between neighbours, and there are as many as s has maximal runs
 pub record AreMaximalRuns (s : Positions) (list : List (ℕ × ℕ)) : Type 0 where
   pub maximal : All (IsMaximalRun s) list
   pub complete : (p : ℕ) → IsTrue (contains s p) → count_by (lies_in p) list ≡ 1

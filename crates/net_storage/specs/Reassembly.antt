@@ -1,6 +1,6 @@
 -- A buffer over which lists are written at offsets, and the set of the positions that were.
 --     is_in_writes p writes, newest_element writes p x      what the writes have at a position
---     Reassembles writes buffer held      a buffer and a set of positions are what the writes make
+--     Reassembles writes buffer present      a buffer and a set of positions are what the writes make
 use Rattle.std.specs.Prelude.{◌≡◌, ℕ, ◌+◌, ◌-◌, ◌<◌, Bool, IsTrue, if◌then◌else◌}
 use Rattle.std.specs.Prelude.{List, [], ◌∷◌, length, slice_index_or}
 use Rattle.std.specs.List.{list_any}
@@ -23,9 +23,9 @@ module _ {X : Type 0} where
 
   -- the set has the positions of the writes, these are positions of the buffer, and there it has
   -- the newest write's element
-  pub record Reassembles (writes : List (ℕ × List X)) (buffer : List X) (held : Positions) :
+  pub record Reassembles (writes : List (ℕ × List X)) (buffer : List X) (present : Positions) :
       Type 0 where
-    pub positions : (p : ℕ) → contains held p ≡ is_in_writes p writes
+    pub positions : (p : ℕ) → contains present p ≡ is_in_writes p writes
     pub within : (p : ℕ) → IsTrue (is_in_writes p writes) → p < length buffer
     pub elements : (p : ℕ) (x : X) → IsTrue (is_in_writes p writes) →
         slice_index_or buffer p x ≡ newest_element writes p x

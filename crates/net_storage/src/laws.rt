@@ -73,14 +73,14 @@ pub fn element_after_overwrite<T>()
 pub fn reassembling<T>()
     ensures none { (buffer : List T) → Reassembles [] buffer nothing }
     ensures more { (writes : List (ℕ × List T)) (offset : ℕ) (xs old new : List T)
-        (held after : Positions) → new ≡ overwrite old offset xs →
-        after ≡ with_range held offset (length xs) → offset + length xs ≤ length old →
-        Reassembles writes old held → Reassembles ((offset, xs) ∷ writes) new after }
-    ensures whole { (writes : List (ℕ × List T)) (buffer : List T) (held : Positions) (n p : ℕ) →
-        Reassembles writes buffer held → n ≤ front held → p < n →
+        (present after : Positions) → new ≡ overwrite old offset xs →
+        after ≡ with_range present offset (length xs) → offset + length xs ≤ length old →
+        Reassembles writes old present → Reassembles ((offset, xs) ∷ writes) new after }
+    ensures whole { (writes : List (ℕ × List T)) (buffer : List T) (present : Positions) (n p : ℕ) →
+        Reassembles writes buffer present → n ≤ front present → p < n →
         IsTrue (is_in_writes p writes) }
-    ensures element { (writes : List (ℕ × List T)) (buffer : List T) (held : Positions) (n p : ℕ)
-        (x : T) → Reassembles writes buffer held → n ≤ front held → p < n →
+    ensures element { (writes : List (ℕ × List T)) (buffer : List T) (present : Positions) (n p : ℕ)
+        (x : T) → Reassembles writes buffer present → n ≤ front present → p < n →
         slice_index_or buffer p x ≡ newest_element writes p x }
 {
     members();

@@ -4,7 +4,7 @@ use Rattle.std.specs.Result.{is_err}
 use Rattle.std.proofs.lemmas.Bool.{cond-true, cond-false, lt-ltb, le-ltb}
 use Rattle.net_storage.specs.declared.assembler.error.TooManyHolesError.{TooManyHolesError}
 use Rattle.net_receiver.specs.declared.receiver.kept.Kept.{Kept}
-use Rattle.net_receiver.specs.Rules.{Segment, Segmented}
+use Rattle.net_receiver.specs.Rules.{Segment, SegmentReply}
 use Rattle.net_receiver.specs.Stored.{Stored, stored_after, stored_reply}
 use Rattle.net_stream.specs.declared.counts.FrameCounts.{FrameCounts}
 use Rattle.net_stream.specs.Carrying.{PathSeen, ack_of, receiver_after, with_ack}
@@ -35,7 +35,7 @@ module _ (most : ℕ) (r : Stored) (o : Option (ℕ × List ℕ)) (pos : ℕ) (x
       (lt-ltb (pos + length xs) (2 ^ 64) fits))
 
   pub taken_counted : (c : FrameCounts) (result : Result Kept TooManyHolesError) (refused : Bool) → pos + length xs < 2 ^ 64 →
-      Segmented result ≡ stored_reply most r (Segment pos xs) → refused ≡ is_err result →
+      SegmentReply result ≡ stored_reply most r (Segment pos xs) → refused ≡ is_err result →
       cond refused (record c { refused = more c.refused }) c ≡ with_refusal most r o c
   taken_counted c result refused fits reply is =
       ap (λ b. cond b (record c { refused = more c.refused }) c) (is ∙ told result ∙ ap is_refused reply)
@@ -43,6 +43,6 @@ module _ (most : ℕ) (r : Stored) (o : Option (ℕ × List ℕ)) (pos : ℕ) (x
       (sym (lt-ltb (pos + length xs) (2 ^ 64) fits))
       ∙ ap (λ p. with_refusal most r p c) (sym at)
     where
-      told : (t : Result Kept TooManyHolesError) → is_err t ≡ is_refused (Segmented t)
+      told : (t : Result Kept TooManyHolesError) → is_err t ≡ is_refused (SegmentReply t)
       told (Ok kept) = refl
       told (Err e) = refl

@@ -8,10 +8,10 @@ use Rattle.net_receiver.specs.Stored.{Stored, stored_next}
 use Rattle.net_receiver.specs.OneStream.{ReceivesFrom, Says, SaysOfLonger, ReceivesFromLonger}
 use Rattle.net_receiver.specs.Retransmission.{Has}
 use Rattle.net_stream.specs.Outgoing.{Outgoing, sender_from, Sends, after_ack, end_of}
-use Rattle.net_stream.specs.Frames.{frame_of, segment_of, RoundTrip, FrameSays}
+use Rattle.net_stream.specs.Frames.{frame_of, segment_of, FramesDecode, FrameSays}
 use Rattle.net_stream.specs.Reported.{most_reported, ranges_of}
 use Rattle.net_stream.specs.Fates.{FatesSeen}
-use Rattle.net_stream.specs.Carrying.{PathSeen, IsUnderWay, HasReported, FrameTells, MayComeLate}
+use Rattle.net_stream.specs.Carrying.{PathSeen, IsUnderWay, HasRanges, FrameTells, MayComeLate}
 
 -- ---- lists
 pub All-push : {X : Type 0} (P : X → Type 0) (xs : List X) (y : X) → All P xs → P y → All P (xs ++ y ∷ [])
@@ -27,7 +27,7 @@ pub same_parts : (pos p : ℕ) (xs ys : List ℕ) → ◌≡◌ {A = Option (ℕ
 same_parts pos p xs ys e = (let both : ◌≡◌ {A = ℕ × List ℕ} (pos, xs) (p, ys) = cc in (ap (λ q. q.0) both, ap (λ q. q.1) both))
 
 -- a frame says what was encoded
-pub encoded : RoundTrip → (f : ℕ) (w : List ℕ) (pos : ℕ) (xs : List ℕ) → pos < 2 ^ 64 → Says f w pos xs → FrameSays f w (frame_of pos xs)
+pub encoded : FramesDecode → (f : ℕ) (w : List ℕ) (pos : ℕ) (xs : List ℕ) → pos < 2 ^ 64 → Says f w pos xs → FrameSays f w (frame_of pos xs)
 encoded trip f w pos xs h says = λ p ys is.
     let e = same_parts pos p xs ys (sym (trip pos xs h) ∙ is) in
     subst (λ q. Says f w q ys) e.0 (subst (Says f w pos) e.1 says)
@@ -100,7 +100,7 @@ begun f s r there back sends base none_reported receives from none none_late non
   going_back = subst (All (FrameTells r)) (sym none_back) (All-nil (FrameTells r));
   late_back = subst (All (FrameTells r)) (sym none_late_back) (All-nil (FrameTells r));
   behind = omega arith;
-  reported = subst (HasReported r) (sym none_reported) (λ p h. absurd (both_ways false refl h));
+  reported = subst (HasRanges r) (sym none_reported) (λ p h. absurd (both_ways false refl h));
 }
 
 -- more was written
@@ -117,11 +117,11 @@ written longer longer_from f w more s t r there back base reported sends c =
       going_back = c.going_back;
       late_back = c.late_back;
       behind = subst (λ n. n ≤ stored_next r) (sym base) c.behind;
-      reported = subst (HasReported r) (sym reported) c.reported;
+      reported = subst (HasRanges r) (sym reported) c.reported;
     }
 
 -- a frame was sent that says what the stream has
-pub sent_says : (f : ℕ) (w : List ℕ) (s : Outgoing) (r : Stored) (there there' back : PathSeen) (pos : ℕ) (xs : List ℕ) → RoundTrip → pos < 2 ^ 64 →
+pub sent_says : (f : ℕ) (w : List ℕ) (s : Outgoing) (r : Stored) (there there' back : PathSeen) (pos : ℕ) (xs : List ℕ) → FramesDecode → pos < 2 ^ 64 →
     there' ≡ record there { ahead = there.ahead ++ frame_of pos xs ∷ [] } → Says f w pos xs → IsUnderWay f w s r there back → IsUnderWay f w s r there' back
 sent_says f w s r there there' back pos xs trip word is says c =
     coming_are f w s r there there' back
@@ -143,11 +143,11 @@ no_further v n ranges limit h k = both (nat_le v.base n && nat_le n (end_of v))
     both false = h
 
 -- what was reported before or is reported now, the receiver has
-still_had : (r : Stored) (v : Outgoing) (n : ℕ) (ranges : List (ℕ × ℕ)) → HasReported r v.reported → HasReported r ranges →
-    HasReported r (after_ack v n ranges).reported
+still_had : (r : Stored) (v : Outgoing) (n : ℕ) (ranges : List (ℕ × ℕ)) → HasRanges r v.reported → HasRanges r ranges →
+    HasRanges r (after_ack v n ranges).reported
 still_had r v n ranges h k = both (nat_le v.base n && nat_le n (end_of v))
   where
-    both : (t : Bool) → HasReported r (cond t (sender_from v n ranges) v).reported
+    both : (t : Bool) → HasRanges r (cond t (sender_from v n ranges) v).reported
     both true = k
     both false = h
 
@@ -164,7 +164,7 @@ acked f w s t r there back frame n xs at is sends tells c =
       going_back = c.going_back;
       late_back = c.late_back;
       behind = subst (λ v. v.base ≤ stored_next r) (sym is) (no_further s n (ranges_of most_reported xs) (stored_next r) c.behind told.0);
-      reported = subst (λ v. HasReported r v.reported) (sym is) (still_had r s n (ranges_of most_reported xs) c.reported told.1);
+      reported = subst (λ v. HasRanges r v.reported) (sym is) (still_had r s n (ranges_of most_reported xs) c.reported told.1);
     }
 
 -- ---- a frame was taken off a list of frames that all have P

@@ -10,7 +10,7 @@ use Rattle.net_stream.specs.Counting.{with_fate, with_fates, SameButRefused, wit
 use Rattle.net_stream.specs.declared.link.Link.{Link}
 use Rattle.net_stream.specs.Links.{Passes}
 use Rattle.net_stream.specs.Reported.{count_outside}
-use Rattle.net_stream.specs.Rounds.{CountsPart, fates_only, CountsFates, FatesSoFar}
+use Rattle.net_stream.specs.Rounds.{CountsBrokenRound, fates_only, CountsFates, FatesSoFar}
 
 -- ---- fates in another order are counted alike
 met_met : (a b : Fate) (c : FrameCounts) → with_fate a (with_fate b c) ≡ with_fate b (with_fate a c)
@@ -77,7 +77,7 @@ more_met v v' u u' c d bytes frames acks same h =
     ∙ ap (λ x. fates_only (with_fates acks u' x)) framed
     ∙ ap fates_only acked
 
-pub part_met : (v v' u u' : FatesSeen) (c d : FrameCounts) → CountsPart u u' c d → FatesSoFar v v' u u' c → CountsFates v v' d
+pub part_met : (v v' u u' : FatesSeen) (c d : FrameCounts) → CountsBrokenRound u u' c d → FatesSoFar v v' u u' c → CountsFates v v' d
 part_met v v' u u' c d part h =
     record { frames = h.frames + part.frames; acks = h.acks + part.acks; counted = more_met v v' u u' c d part.bytes part.frames part.acks part.counted h }
 

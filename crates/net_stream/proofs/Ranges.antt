@@ -15,10 +15,10 @@ use Rattle.std.proofs.lemmas.List.Elements.{All-head, All-tail}
 use Rattle.net_storage.specs.Positions.{Positions, contains, lies_in, IsMaximalRun, maximal_runs}
 use Rattle.net_storage.specs.AssemblerLaws.{MembersOfList, MaximalRunsOfEverySet}
 use Rattle.net_receiver.specs.Stored.{HeldBytes, Stored, stored_next, domain}
-use Rattle.net_stream.specs.Frames.{frame_of, RoundTrip}
+use Rattle.net_stream.specs.Frames.{frame_of, FramesDecode}
 use Rattle.net_stream.specs.Reported.{reports, count_outside, most_reported, range_bytes, range_to, range_from, first_range, with_more, ranges_of}
-use Rattle.net_stream.specs.Carrying.{HasReported, FrameTells, ack_of}
-use Rattle.net_stream.specs.Sending.{IsMarked}
+use Rattle.net_stream.specs.Carrying.{HasRanges, FrameTells, ack_of}
+use Rattle.net_stream.specs.Sending.{IsReportedIf}
 use Rattle.net_stream.specs.Counting.{with_payload}
 use Rattle.net_stream.specs.declared.counts.FrameCounts.{FrameCounts}
 use Rattle.net_stream.proofs.Carried.{same_parts}
@@ -47,7 +47,7 @@ abbrev pub IsWords : ℕ × ℕ → Type 0
 IsWords range = (range.0 < 2 ^ 64) × (range.1 < 2 ^ 64)
 
 -- reading finds the ranges that were listed
-ranges_listed : RoundTrip → (n : ℕ) (rs : List (ℕ × ℕ)) → All IsWords rs → length rs ≤ n → ranges_of n (range_bytes rs) ≡ rs
+ranges_listed : FramesDecode → (n : ℕ) (rs : List (ℕ × ℕ)) → All IsWords rs → length rs ≤ n → ranges_of n (range_bytes rs) ≡ rs
 ranges_listed trip n [] words h = ranges_stop n [] refl
 ranges_listed trip zero (x ∷ rs) words h = absurd (omega arith)
 ranges_listed trip (suc n) (x ∷ rs) words h =
@@ -102,20 +102,20 @@ contains_held : MembersOfList → (m : HeldBytes) (q : ℕ) → contains (domain
 contains_held members m q = members (fin.keys m) q ∙ sym (fin.contains_key-keys m q ∙ same_tests (fin.keys m) q)
 
 -- the runs that a receiver reports are of what it holds
-has_runs : MembersOfList → MaximalRunsOfEverySet → (r : Stored) (n : ℕ) → HasReported r (take n (maximal_runs (domain r.held)))
+has_runs : MembersOfList → MaximalRunsOfEverySet → (r : Stored) (n : ℕ) → HasRanges r (take n (maximal_runs (domain r.held)))
 has_runs members maximal r n = λ p h.
     inr (sym (contains_held members r.held p) ∙ in_run (domain r.held) p n (maximal_runs (domain r.held)) (maximal (domain r.held)).maximal h)
 
 -- so its acknowledgement tells nothing else
-pub ack_tells : RoundTrip → MembersOfList → MaximalRunsOfEverySet → (r : Stored) → stored_next r < 2 ^ 64 →
+pub ack_tells : FramesDecode → MembersOfList → MaximalRunsOfEverySet → (r : Stored) → stored_next r < 2 ^ 64 →
     length (take most_reported (maximal_runs (domain r.held))) ≤ most_reported →
     All IsWords (take most_reported (maximal_runs (domain r.held))) → FrameTells r (ack_of r)
 ack_tells trip members maximal r word few words = λ n xs at.
     let rs = take most_reported (maximal_runs (domain r.held)) in
     let e = same_parts (stored_next r) n (range_bytes rs) xs (sym (trip (stored_next r) (range_bytes rs) word) ∙ at) in (
       subst (λ k. k ≤ stored_next r) e.0 (omega arith),
-      subst (λ ys. HasReported r (ranges_of most_reported ys)) e.1
-          (subst (HasReported r) (sym (ranges_listed trip most_reported rs words few)) (has_runs members maximal r most_reported)),
+      subst (λ ys. HasRanges r (ranges_of most_reported ys)) e.1
+          (subst (HasRanges r) (sym (ranges_listed trip most_reported rs words few)) (has_runs members maximal r most_reported)),
     )
 
 -- ---- how many positions were not reported
@@ -134,7 +134,7 @@ count_cons p x xs = sum_by-append (λ y. cond (p y) 1 0) (x ∷ []) xs ∙ ap
     (λ n. n + count_by p xs) (let e : 0 + cond (p x) 1 0 ≡ cond (p x) 1 0 = omega arith in e)
 
 -- of positions that are marked all or none were reported
-pub count_marked : (ranges : List (ℕ × ℕ)) (a n : ℕ) (spared : Bool) → IsMarked ranges a n spared → count_outside ranges a n ≡ cond spared 0 n
+pub count_marked : (ranges : List (ℕ × ℕ)) (a n : ℕ) (spared : Bool) → IsReportedIf ranges a n spared → count_outside ranges a n ≡ cond spared 0 n
 count_marked ranges a zero true marked = refl
 count_marked ranges a zero false marked = refl
 count_marked ranges a (suc n) true marked =

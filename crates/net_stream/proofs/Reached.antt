@@ -11,19 +11,19 @@ use Rattle.std.proofs.lemmas.List.Elements.{All-head, All-tail}
 use Rattle.net_base.specs.Generator.{successor, random_word}
 use Rattle.net_storage.specs.declared.assembler.error.TooManyHolesError.{TooManyHolesError}
 use Rattle.net_receiver.specs.declared.receiver.kept.Kept.{Kept}
-use Rattle.net_receiver.specs.KeptList.{piece, piece_at}
+use Rattle.net_receiver.specs.KeptList.{piece, piece_byte_at}
 use Rattle.net_receiver.specs.Stored.{Stored, stored_next, IsSound}
-use Rattle.net_receiver.specs.OneStream.{ReceivesFrom, Says, kept_of}
+use Rattle.net_receiver.specs.OneStream.{ReceivesFrom, Says, window_part}
 use Rattle.net_receiver.specs.Retransmission.{Has}
 use Rattle.net_stream.specs.Outgoing.{Outgoing, sender_from, after_ack, end_of}
-use Rattle.net_stream.specs.Frames.{Part, frame_of, frames_from, part_bytes, segment_of, RoundTrip}
+use Rattle.net_stream.specs.Frames.{Part, frame_of, frames_from, part_bytes, segment_of, FramesDecode}
 use Rattle.net_stream.specs.Reported.{reports, most_reported, ranges_of}
 use Rattle.net_stream.specs.Fates.{FatesSeen, next_of, after_of, next_fate, after_fate, comes, AllCome, NextCome}
 use Rattle.net_stream.specs.declared.fate.Fate.{Fate}
 use Rattle.net_stream.specs.declared.fate.Fate.TheVariants.{Delivered, Lost, Repeated, Late}
 use Rattle.net_stream.specs.declared.fate.Rates.{Rates}
-use Rattle.net_stream.specs.Carrying.{PathSeen, HasReported, MayComeLate}
-use Rattle.net_stream.specs.Sending.{IsMarked, AreMarked}
+use Rattle.net_stream.specs.Carrying.{PathSeen, HasRanges, MayComeLate}
+use Rattle.net_stream.specs.Sending.{IsReportedIf, AreSparedIfReported}
 use Rattle.net_stream.specs.Progress.{reach_one, Reaches, after_ack_frame, after_ack_frames, limit_of, HasRoom}
 
 -- ---- where a truthful segment ends
@@ -36,7 +36,7 @@ says_ends f w pos (x ∷ xs) says =
     (λ (l : f ≤ pos + length xs).
     let last = get_or (x ∷ xs) (length xs) 0 in
     let place : pos + length xs - pos ≡ length xs = omega arith in
-    let at : piece_at (piece pos (x ∷ xs)) (pos + length xs) ≡ Some last =
+    let at : piece_byte_at (piece pos (x ∷ xs)) (pos + length xs) ≡ Some last =
     cond-true _ _ _ (le-leb pos (pos + length xs) (omega arith)) ∙ ap (slice_get (x ∷ xs)) place ∙ slice_get-get_or (x ∷ xs) (length xs) 0 (omega arith) in
     let within = slice_get_within w (pos + length xs - f) last (says (pos + length xs) last l at) in
     omega arith)
@@ -52,17 +52,17 @@ reach_cases P p pos n near far =
 
 -- what a receiver keeps of a segment that it takes in order brings it to the segment's end
 ok_reaches : (v u : Stored) (pos : ℕ) (xs : List ℕ) (r : Result Kept TooManyHolesError) → IsOk r →
-    IfOk r (λ k. k.kept ≡ length (kept_of v pos xs)) → IfOk r (λ k. stored_next u ≡ stored_next v + k.queued) → IfOk r (λ k. k.kept ≤ k.queued) →
+    IfOk r (λ k. k.kept ≡ length (window_part v pos xs)) → IfOk r (λ k. stored_next u ≡ stored_next v + k.queued) → IfOk r (λ k. k.kept ≤ k.queued) →
     pos ≤ stored_next v → pos + length xs ≤ limit_of v → pos + length xs ≤ stored_next u
 ok_reaches v u pos xs (Ok k) ok kept queued order h l =
     let a : length (take (limit_of v - pos) xs) ≡ min (limit_of v - pos) (length xs) = length-take (limit_of v - pos) xs in
-    let b : length (kept_of v pos xs) ≡ length (take (limit_of v - pos) xs) - (stored_next v - pos) =
+    let b : length (window_part v pos xs) ≡ length (take (limit_of v - pos) xs) - (stored_next v - pos) =
     length-drop (stored_next v - pos) (take (limit_of v - pos) xs) in
     omega arith
 ok_reaches v u pos xs (Err e) ok kept queued order h l = absurd (false≢true ok)
 
 pub segment_reaches : (v u : Stored) (e pos : ℕ) (xs : List ℕ) (r : Result Kept TooManyHolesError) → (pos ≤ stored_next v → IsOk r) →
-    IfOk r (λ k. k.kept ≡ length (kept_of v pos xs)) → IfOk r (λ k. stored_next u ≡ stored_next v + k.queued) →
+    IfOk r (λ k. k.kept ≡ length (window_part v pos xs)) → IfOk r (λ k. stored_next u ≡ stored_next v + k.queued) →
     (pos ≤ stored_next v → IfOk r (λ k. k.kept ≤ k.queued)) →
     stored_next v ≤ stored_next u → pos + length xs ≤ max pos e → e ≤ limit_of v → reach_one (stored_next v) (Some (pos, xs)) ≤ stored_next u
 segment_reaches v u e pos xs r accepted kept queued order grows end room =
@@ -84,7 +84,7 @@ one_from p (Some (pos, xs)) = reach_cases (λ m. p ≤ m) p pos (pos + length xs
 -- ---- lists of frames
 -- the first frame counts
 abbrev FirstCounts : List (ℕ × ℕ) → ℕ → ℕ → List ℕ → List (List ℕ) → Type 0
-FirstCounts ranges end p frame frames = (pos : ℕ) × (xs : List ℕ) × (segment_of frame ≡ Some (pos, xs)) × IsMarked ranges p (pos - p) true
+FirstCounts ranges end p frame frames = (pos : ℕ) × (xs : List ℕ) × (segment_of frame ≡ Some (pos, xs)) × IsReportedIf ranges p (pos - p) true
     × Reaches ranges end (max p (pos + length xs)) frames
 
 -- whoever has more comes as far
@@ -116,8 +116,8 @@ missing most r sound h =
     h
 
 -- a receiver that has all up to a position is not below it
-pub no_gap : (most : ℕ) (r : Stored) (ranges : List (ℕ × ℕ)) (pos : ℕ) → IsSound most r → HasReported r ranges →
-    IsMarked ranges (stored_next r) (pos - stored_next r) true → pos ≤ stored_next r
+pub no_gap : (most : ℕ) (r : Stored) (ranges : List (ℕ × ℕ)) (pos : ℕ) → IsSound most r → HasRanges r ranges →
+    IsReportedIf ranges (stored_next r) (pos - stored_next r) true → pos ≤ stored_next r
 no_gap most r ranges pos sound had marked =
     ⊎_elim {C = pos ≤ stored_next r}
     (λ (l : stored_next r < pos). absurd (missing most r sound (had (stored_next r) (marked (stored_next r) (omega arith) (omega arith)))))
@@ -126,7 +126,7 @@ no_gap most r ranges pos sound had marked =
 
 -- once the first frame has come, the others bring the receiver as far
 brought : (most : ℕ) (ranges : List (ℕ × ℕ)) (end : ℕ) (r : Stored) (m : ℕ) (frame : List ℕ) (frames : List (List ℕ)) → IsSound most r →
-    HasReported r ranges → reach_one (stored_next r) (segment_of frame) ≤ m →
+    HasRanges r ranges → reach_one (stored_next r) (segment_of frame) ≤ m →
     Reaches ranges end (stored_next r) (frame ∷ frames) → Reaches ranges end m frames
 brought most ranges end r m frame frames sound had far reaches =
     ⊎_elim {C = Reaches ranges end m frames}
@@ -140,8 +140,8 @@ brought most ranges end r m frame frames sound had far reaches =
     reaches
 
 -- the frames of parts that follow one another bring a receiver to their end
-reaches_parts : RoundTrip → (ranges : List (ℕ × ℕ)) (end b p : ℕ) (parts : List Part) → end ≡ b + length (part_bytes parts) → end < 2 ^ 64 →
-    AreMarked ranges b parts → ((q : ℕ) → p ≤ q → q < b → reports ranges q ≡ true) → Reaches ranges end p (frames_from b parts)
+reaches_parts : FramesDecode → (ranges : List (ℕ × ℕ)) (end b p : ℕ) (parts : List Part) → end ≡ b + length (part_bytes parts) → end < 2 ^ 64 →
+    AreSparedIfReported ranges b parts → ((q : ℕ) → p ≤ q → q < b → reports ranges q ≡ true) → Reaches ranges end p (frames_from b parts)
 reaches_parts trip ranges end b p [] is random_word marked gap = λ q from to. gap q from (omega arith)
 reaches_parts trip ranges end b p ((true, xs) ∷ parts) is random_word marked gap =
     let both : length (xs ++ part_bytes parts) ≡ length xs + length (part_bytes parts) = length-append xs (part_bytes parts) in
@@ -159,8 +159,9 @@ reaches_parts trip ranges end b p ((false, xs) ∷ parts) is random_word marked 
           (omega arith) random_word marked.1 (λ q from to. absurd (omega arith)),
     )
 
-pub sent_reaches : RoundTrip → (ranges : List (ℕ × ℕ)) (p b : ℕ) (q : List ℕ) (parts : List Part) (old new : List (List ℕ)) →
-    new ≡ old ++ frames_from b parts → part_bytes parts ≡ q → AreMarked ranges b parts → b + length q < 2 ^ 64 → b ≤ p → Reaches ranges (b + length q) p new
+pub sent_reaches : FramesDecode → (ranges : List (ℕ × ℕ)) (p b : ℕ) (q : List ℕ) (parts : List Part) (old new : List (List ℕ)) →
+    new ≡ old ++ frames_from b parts → part_bytes parts ≡ q →
+    AreSparedIfReported ranges b parts → b + length q < 2 ^ 64 → b ≤ p → Reaches ranges (b + length q) p new
 sent_reaches trip ranges p b q parts old new is all marked random_word h =
     let long : length (part_bytes parts) ≡ length q = ap length all in
     subst (Reaches ranges (b + length q) p) (sym is)
@@ -219,7 +220,7 @@ next_come zero v all = tt
 next_come (suc n) v all = (let both = come_next v all in (both.0, next_come n (after_fate v) both.1))
 
 pub frame_reaches : (most : ℕ) (ranges : List (ℕ × ℕ)) (r : Stored) (m : ℕ) (t0 t1 t2 t3 : PathSeen) (frame : List ℕ) (lot : Fate) → IsSound most r →
-    HasReported r ranges →
+    HasRanges r ranges →
     t0 ≡ record t1 { ahead = frame ∷ t1.ahead } → lot ≡ next_fate t1.fates → t2 ≡ record t1 { fates = after_fate t1.fates } → MayComeLate frame t2 t3 →
     (comes lot ≡ true → reach_one (stored_next r) (segment_of frame) ≤ m) → NextCome (length t0.ahead) t0.fates →
     NextCome (length t3.ahead) t3.fates × ((end : ℕ) → Reaches ranges end (stored_next r) t0.ahead → Reaches ranges end m t3.ahead)
@@ -265,7 +266,7 @@ acked_append s [] ys = refl
 acked_append s (x ∷ xs) ys = acked_append (after_ack_frame s (segment_of x)) xs ys
 
 pub room_same : (s : Outgoing) (v u : Stored) → limit_of u ≡ limit_of v → HasRoom s v → HasRoom s u
-room_same s v u e room = record { window = (let h = room.window in omega arith); word = room.word }
+room_same s v u e room = record { within = (let h = room.within in omega arith); fits = room.fits }
 
 pub first_is : (f : ℕ) (w : List ℕ) (r : Stored) → ReceivesFrom f w r → r.first ≡ f
 unfolding ReceivesFrom

@@ -4,17 +4,17 @@ use Rattle.std.proofs.Common.{◌++◌, length, take, refl, sym, ap, subst, ◌�
 use Rattle.std.proofs.Common.{append_assoc, length-drop}
 use Rattle.std.proofs.lemmas.Bool.{both_ways, cases_lt, cond-true}
 use Rattle.net_storage.specs.Positions.{maximal_runs}
-use Rattle.net_receiver.specs.Stored.{stored_next, stored_read, domain}
+use Rattle.net_receiver.specs.Stored.{stored_next, stored_after_read, domain}
 use Rattle.net_receiver.specs.OneStream.{QueueIsOfStream}
 use Rattle.net_stream.specs.Outgoing.{end_of}
-use Rattle.net_stream.specs.Frames.{frame_of, RoundTrip}
+use Rattle.net_stream.specs.Frames.{frame_of, FramesDecode}
 use Rattle.net_stream.specs.Reported.{most_reported, range_bytes}
 use Rattle.net_stream.specs.declared.link.Link.{Link}
 use Rattle.net_stream.specs.Fates.{FatesSeen, next_fate, after_fate, comes, AllCome, NextCome}
 use Rattle.net_stream.specs.Progress.{after_ack_frames}
 use Rattle.net_stream.specs.Passing.{coming_of, acks_of}
 use Rattle.net_stream.specs.Links.{Carries, Passes}
-use Rattle.net_stream.specs.Stuck.{RoundLeaves, RoundMoves, HasFailed, AllFail, FatesFail}
+use Rattle.net_stream.specs.Stuck.{RoundLeaves, BringsOnOrIsStuck, HasFailed, AllFail, FatesFail}
 use Rattle.net_stream.proofs.Reached.{come_next, next_come, first_is}
 use Rattle.net_stream.proofs.Moved.{queue_from}
 use Rattle.net_stream.proofs.Stuck.{acked_last, some_come}
@@ -46,7 +46,7 @@ coming_all v (x ∷ xs) come =
     cond-true _ (x ∷ c) c come.0 ∙ ap (λ l. x ∷ l) (coming_all (after_fate v) xs come.1)
 
 -- the last acknowledgement comes, and the sender keeps what the receiver lacks
-base_meets : {A : Type 0} → RoundTrip → (old new : Link A) (p : Passes old new) → AllCome old.back.fates → new.sender.base ≤ stored_next new.receiver →
+base_meets : {A : Type 0} → FramesDecode → (old new : Link A) (p : Passes old new) → AllCome old.back.fates → new.sender.base ≤ stored_next new.receiver →
     stored_next new.receiver ≤ end_of old.sender → end_of old.sender < 2 ^ 64 → new.sender.base ≡ stored_next new.receiver
 base_meets trip old new p come behind within word =
     ap (λ v. v.base) is ∙ acked_last trip old.sender n xs earlier within (omega (arith, within, word)) (subst (λ v. v.base ≤ n) is behind)
@@ -78,8 +78,8 @@ never_fails frames acks v v' come come' stuck =
     stuck
 
 -- a round of a copy writes some
-pub round_at_once : {A : Type 0} → RoundTrip → QueueIsOfStream → (f : ℕ) (w : List ℕ) (old new last : Link A) (room : ℕ) (p : Passes old new) →
-    RoundLeaves old new → RoundMoves old new → end_of old.sender < 2 ^ 64 → last ≡ record new { receiver = stored_read new.receiver room } →
+pub round_at_once : {A : Type 0} → FramesDecode → QueueIsOfStream → (f : ℕ) (w : List ℕ) (old new last : Link A) (room : ℕ) (p : Passes old new) →
+    RoundLeaves old new → BringsOnOrIsStuck old new → end_of old.sender < 2 ^ 64 → last ≡ record new { receiver = stored_after_read new.receiver room } →
     Carries f w old → Carries f w new →
     old.there.ahead ≡ [] → old.back.ahead ≡ [] → AllCome old.there.fates → AllCome old.back.fates → old.sender.base ≡ stored_next old.receiver →
     0 < old.receiver.capacity → 0 < room → (length old.receiver.queue ≡ 0 → 0 < length old.sender.queue) →
@@ -97,7 +97,7 @@ round_at_once trip queue f w old new last room p keeps moves word handed carries
     grows : stored_next old.receiver ≤ stored_next new.receiver
     grows = keeps.grows
 
-    next_read : stored_next (stored_read new.receiver room) ≡ stored_next new.receiver
+    next_read : stored_next (stored_after_read new.receiver room) ≡ stored_next new.receiver
     next_read = (let left = length-drop room new.receiver.queue in omega (arith, left))
 
     within : stored_next new.receiver ≤ end_of old.sender

@@ -8,9 +8,10 @@ use Rattle.std.proofs.Math.Seq.{take-append_seam}
 use Rattle.std.proofs.lemmas.List.Elements.{All-nil, All-head}
 use Rattle.net_stream.specs.Outgoing.{Outgoing, end_of, row_end}
 use Rattle.net_stream.specs.Frames.{Part, frame_of, frames_from, part_bytes}
-use Rattle.net_stream.specs.Reported.{reports, last_end, is_full}
+use Rattle.net_stream.specs.Reported.{reports, greatest_end, is_full}
 use Rattle.net_stream.specs.Carrying.{PathSeen}
-use Rattle.net_stream.specs.Sending.{IsMarked, AreMarked, HasSize, spared_from, next_reported, part_end, stop_of, HaveEnds, SendsPart, SendsPrefix, SendsRound}
+use Rattle.net_stream.specs.Sending.{IsReportedIf, AreSparedIfReported, HasSize, spared_from, next_reported}
+use Rattle.net_stream.specs.Sending.{part_end, stop_of, HaveEnds, SendsPart, SendsPrefix, SendsRound}
 use Rattle.net_stream.proofs.Carried.{All-push}
 use Rattle.net_stream.proofs.Spared.{end_from}
 
@@ -25,7 +26,7 @@ row_above s p kept =
 pub stop_within : (s : Outgoing) → stop_of s ≤ end_of s
 stop_within s = both (is_full s.reported)
   where
-    both : (t : Bool) → cond t (min (end_of s) (last_end s.reported s.base + 1)) (end_of s) ≤ end_of s
+    both : (t : Bool) → cond t (min (end_of s) (greatest_end s.reported s.base + 1)) (end_of s) ≤ end_of s
     both true = omega arith
     both false = omega arith
 
@@ -45,8 +46,8 @@ frames_push b p ((false, y) ∷ parts) spared xs e =
     ap (λ l. frame_of b y ∷ l) (frames_push (b + length y) p parts spared xs (omega arith))
 
 marked_push : (ranges : List (ℕ × ℕ)) (b p : ℕ) (parts : List Part) (spared : Bool) (xs : List ℕ) → p ≡ b + length (part_bytes parts) →
-    AreMarked ranges b parts → IsMarked ranges p (length xs) spared → AreMarked ranges b (parts ++ (spared, xs) ∷ [])
-marked_push ranges b p [] spared xs e all one = (subst (λ n. IsMarked ranges n (length xs) spared) (let h : p ≡ b = omega arith in h) one, tt)
+    AreSparedIfReported ranges b parts → IsReportedIf ranges p (length xs) spared → AreSparedIfReported ranges b (parts ++ (spared, xs) ∷ [])
+marked_push ranges b p [] spared xs e all one = (subst (λ n. IsReportedIf ranges n (length xs) spared) (let h : p ≡ b = omega arith in h) one, tt)
 marked_push ranges b p ((t, y) ∷ parts) spared xs e all one =
     let long : length (y ++ part_bytes parts) ≡ length y + length (part_bytes parts) = length-append y (part_bytes parts) in
     (all.0, marked_push ranges (b + length y) p parts spared xs (omega arith) all.1 one)
@@ -67,7 +68,7 @@ count_one p false xs = refl
 -- ---- one call
 -- bytes that were reported need no frame
 pub spared_part : (s : Outgoing) (most pos n : ℕ) (t : PathSeen) → 0 < n → pos + n ≤ end_of s → n ≡ spared_from s pos →
-    IsMarked s.reported pos n true → SendsPart s most pos n 0 t t
+    IsReportedIf s.reported pos n true → SendsPart s most pos n 0 t t
 spared_part s most pos n t some within is marked =
     let here : reports s.reported pos ≡ true = marked pos (omega arith) (omega arith) in
     record {
@@ -85,7 +86,7 @@ spared_part s most pos n t some within is marked =
 -- a frame of others was sent
 pub sent_part : (s : Outgoing) (most pos : ℕ) (t0 t1 : PathSeen) (xs : List ℕ) → pos < end_of s → 0 < most →
     pos < next_reported s pos → reports s.reported pos ≡ false →
-    length xs ≡ min (min most (next_reported s pos - pos)) (row_end s pos - pos) → pos + length xs ≤ end_of s → IsMarked s.reported pos (length xs) false →
+    length xs ≡ min (min most (next_reported s pos - pos)) (row_end s pos - pos) → pos + length xs ≤ end_of s → IsReportedIf s.reported pos (length xs) false →
     xs ≡ take (length xs) (drop (pos - s.base) s.queue) → t1 ≡ record t0 { ahead = t0.ahead ++ frame_of pos xs ∷ [] } → SendsPart s most pos (length xs) 1 t0 t1
 sent_part s most pos t0 t1 xs kept more next here size within marked is sent =
     let row = row_above s pos kept in
@@ -162,7 +163,7 @@ sent_more s most flight left pos n k left' t0 t1 t2 so_far part from below some_
         sizes = All-push (HasSize most) prefix.parts (part.spared, xs) prefix.sizes
             (subst (λ j. 0 < j) (sym size) some, λ e. subst (λ j. j ≤ most) (sym size) (part.short e));
         marked = marked_push s.reported b pos prefix.parts part.spared xs at prefix.marked
-            (subst (λ j. IsMarked s.reported pos j part.spared) (sym size) part.marked);
+            (subst (λ j. IsReportedIf s.reported pos j part.spared) (sym size) part.marked);
         ends = ends_push s most b pos prefix.parts part.spared xs at prefix.ends below (ap (λ j. pos + j) size ∙ part.ends);
         few = omega arith;
         sent = part.sent ∙ (λ i. record { ahead = ahead i; late = (ap (λ p. p.late) prefix.sent) i; fates = (ap (λ p. p.fates) prefix.sent) i });
@@ -194,7 +195,7 @@ pub all_sent : (s : Outgoing) (most flight n : ℕ) (old new : PathSeen) → (ro
     length (frames_from s.base round.prefix.parts) < flight → is_full s.reported ≡ false → n ≡ length s.queue
 all_sent s most flight n old new round few room =
     let within = round.prefix.within in
-    let end : stop_of s ≡ end_of s = cond-false (is_full s.reported) (min (end_of s) (last_end s.reported s.base + 1)) (end_of s) room in
+    let end : stop_of s ≡ end_of s = cond-false (is_full s.reported) (min (end_of s) (greatest_end s.reported s.base + 1)) (end_of s) room in
     ⊎_elim {C = n ≡ length s.queue}
     (λ (l : stop_of s ≤ s.base + n). omega arith)
     (λ (l : length (frames_from s.base round.prefix.parts) ≡ flight). absurd (omega arith))
@@ -203,7 +204,7 @@ all_sent s most flight n old new round few room =
 stop_above : (s : Outgoing) → 0 < length s.queue → s.base < stop_of s
 stop_above s some = (let from = end_from s.reported s.base in both (is_full s.reported))
   where
-    both : (t : Bool) → s.base < cond t (min (end_of s) (last_end s.reported s.base + 1)) (end_of s)
+    both : (t : Bool) → s.base < cond t (min (end_of s) (greatest_end s.reported s.base + 1)) (end_of s)
     both true = (let from = end_from s.reported s.base in omega arith)
     both false = omega arith
 
@@ -229,7 +230,7 @@ first_sent s most flight n old new round left some none =
     round.stop)
   where
     first_of : (parts : List Part) → part_bytes parts ≡ take n s.queue → All (HasSize most) parts →
-        AreMarked s.reported s.base parts → (parts ≡ [] → ⊥) → FirstSent s most parts
+        AreSparedIfReported s.reported s.base parts → (parts ≡ [] → ⊥) → FirstSent s most parts
     first_of [] all sizes marked some_part = absurd (some_part refl)
     first_of ((true, xs) ∷ parts) all sizes marked some_part =
         let size = All-head (HasSize most) (true, xs) parts sizes in

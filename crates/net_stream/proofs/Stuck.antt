@@ -7,11 +7,11 @@ use Rattle.std.proofs.lemmas.Bool.{both_ways, cases_lt, cases_Bool, cond-true, c
 use Rattle.std.proofs.lemmas.List.Elements.{All-nil, All-cons, All-head, All-tail}
 use Rattle.net_storage.specs.Positions.{maximal_runs}
 use Rattle.net_receiver.specs.Rules.{Segment}
-use Rattle.net_receiver.specs.Stored.{Stored, IsSound, stored_next, stored_after, stored_read, domain}
+use Rattle.net_receiver.specs.Stored.{Stored, IsSound, stored_next, stored_after, stored_after_read, domain}
 use Rattle.net_receiver.specs.OneStream.{FirstStays, NextGrows, SegmentReadsNothing, CapacityStays, QueueIsOfStream}
 use Rattle.net_receiver.specs.Retransmission.{Has, InOrderReaches}
 use Rattle.net_stream.specs.Outgoing.{Outgoing, sender_from, end_of, room_of}
-use Rattle.net_stream.specs.Frames.{Part, frame_of, frames_from, segment_of, RoundTrip}
+use Rattle.net_stream.specs.Frames.{Part, frame_of, frames_from, segment_of, FramesDecode}
 use Rattle.net_stream.specs.Reported.{count_outside, reports, most_reported, range_bytes, ranges_of}
 use Rattle.net_stream.specs.declared.counts.FrameCounts.{FrameCounts}
 use Rattle.net_stream.specs.declared.link.Link.{Link}
@@ -19,13 +19,13 @@ use Rattle.net_stream.specs.declared.fate.Fate.{Fate}
 use Rattle.net_stream.specs.declared.fate.Fate.TheVariants.{Delivered, Lost, Repeated, Late}
 use Rattle.net_stream.specs.Counting.{with_fate, with_fates, with_payload}
 use Rattle.net_stream.specs.Fates.{FatesSeen, next_fate, after_fate, fates_after, comes, comes_late, AllCome}
-use Rattle.net_stream.specs.Rounds.{CountsPart, FatesSoFar}
+use Rattle.net_stream.specs.Rounds.{CountsBrokenRound, FatesSoFar}
 use Rattle.net_stream.specs.Carrying.{ack_of, receiver_after}
 use Rattle.net_stream.specs.Sending.{at_least_one}
 use Rattle.net_stream.specs.Progress.{after_ack_frame, after_ack_frames, limit_of}
 use Rattle.net_stream.specs.Passing.{coming_of, late_of, receiver_after_all, ack_to, acks_of}
 use Rattle.net_stream.specs.Links.{Carries, Passes}
-use Rattle.net_stream.specs.Stuck.{failures, losses, RoundLeaves, RoundMoves, HasFailed, AllFail}
+use Rattle.net_stream.specs.Stuck.{failures, losses, RoundLeaves, BringsOnOrIsStuck, HasFailed, AllFail}
 use Rattle.net_stream.specs.Stuck.{FatesFail, FirstSays, IsDue, IsStuck, AreStuckTo, AreStuckAtLast}
 use Rattle.net_stream.specs.Stuck.{NeverStuck}
 use Rattle.net_stream.proofs.Sent.{first_sent}
@@ -50,7 +50,7 @@ come_of P v (x ∷ xs) all = both (come_of P (after_fate v) xs (All-tail P x xs 
 abbrev Acks : ℕ → ℕ → List ℕ → Type 0
 Acks n m frame = (k : ℕ) × (xs : List ℕ) × (segment_of frame ≡ Some (k, xs)) × (n ≤ k) × (k ≤ m)
 
-one_acks : RoundTrip → (r : Stored) (n m : ℕ) → n ≤ stored_next r → stored_next r ≤ m → m < 2 ^ 64 → Acks n m (ack_of r)
+one_acks : FramesDecode → (r : Stored) (n m : ℕ) → n ≤ stored_next r → stored_next r ≤ m → m < 2 ^ 64 → Acks n m (ack_of r)
 one_acks trip r n m low high word = (
   stored_next r,
   range_bytes (take most_reported (maximal_runs (domain r.held))),
@@ -59,7 +59,7 @@ one_acks trip r n m low high word = (
   high,
 )
 
-to_acks : RoundTrip → (r : Stored) (o : Option (ℕ × List ℕ)) (n m : ℕ) → n ≤ stored_next r → stored_next r ≤ m → m < 2 ^ 64 → All (Acks n m) (ack_to r o)
+to_acks : FramesDecode → (r : Stored) (o : Option (ℕ × List ℕ)) (n m : ℕ) → n ≤ stored_next r → stored_next r ≤ m → m < 2 ^ 64 → All (Acks n m) (ack_to r o)
 to_acks trip r None n m low high word = All-nil (Acks n m)
 to_acks trip r (Some (pos, xs)) n m low high word = both (nat_lt (pos + length xs) (2 ^ 64))
   where
@@ -124,7 +124,7 @@ module _ (numbers : Numbers) where
   brought_capacity N r (x ∷ xs) = brought_capacity N (receiver_after N r (segment_of x)) xs
       ∙ arrived_keeps (λ v. v.capacity) N r (segment_of x) (λ pos ys. numbers.capacity N r (Segment pos ys))
 
-  all_acks : RoundTrip → (N : ℕ) (r : Stored) (frames : List (List ℕ)) (n m : ℕ) → n ≤ stored_next r → stored_next (receiver_after_all N r frames) ≤ m →
+  all_acks : FramesDecode → (N : ℕ) (r : Stored) (frames : List (List ℕ)) (n m : ℕ) → n ≤ stored_next r → stored_next (receiver_after_all N r frames) ≤ m →
       m < 2 ^ 64 → All (Acks n m) (acks_of N r frames)
   all_acks trip N r [] n m low high word = All-nil (Acks n m)
   all_acks trip N r (x ∷ xs) n m low high word =
@@ -201,7 +201,7 @@ one_moves s b k xs o at above within =
     past x y z h l = omega arith
 
 -- the last acknowledgement is of a position that the sender keeps, and that it isn't beyond
-pub acked_last : RoundTrip → (s : Outgoing) (n : ℕ) (xs : List ℕ) (prefix : List (List ℕ)) → n ≤ end_of s → n < 2 ^ 64 →
+pub acked_last : FramesDecode → (s : Outgoing) (n : ℕ) (xs : List ℕ) (prefix : List (List ℕ)) → n ≤ end_of s → n < 2 ^ 64 →
     (after_ack_frames s (prefix ++ frame_of n xs ∷ [])).base ≤ n → (after_ack_frames s (prefix ++ frame_of n xs ∷ [])).base ≡ n
 acked_last trip s n xs prefix within word below =
     let t = after_ack_frames s prefix in
@@ -258,7 +258,7 @@ Lacked old new p =
     ⊎ ((old.sender.base < stored_next old.receiver) × (coming_of old.back.fates p.acks ≡ [])
     × All (Acks (stored_next old.receiver) (stored_next old.receiver)) p.acks)
 
-rounds_move : {A : Type 0} → RoundTrip → Numbers → InOrderReaches → QueueIsOfStream → (f : ℕ) (w : List ℕ) (old new : Link A) (p : Passes old new) →
+rounds_move : {A : Type 0} → FramesDecode → Numbers → InOrderReaches → QueueIsOfStream → (f : ℕ) (w : List ℕ) (old new : Link A) (p : Passes old new) →
     IsSound most_reported old.receiver → Carries f w old → end_of old.sender < 2 ^ 64 → old.there.ahead ≡ [] → old.back.ahead ≡ [] →
     0 < length old.sender.queue →
     stored_next old.receiver < limit_of old.receiver → stored_next new.receiver ≡ stored_next old.receiver → new.sender.base ≡ old.sender.base →
@@ -385,7 +385,7 @@ failed_all zero v c = omega arith
 failed_all (suc n) v c = le_trans (failed_met (next_fate v) c) (failed_all n (after_fate v) (with_fate (next_fate v) c))
 
 -- also in a round that ends early
-pub part_failed : (v v' : FatesSeen) (old new : FrameCounts) → CountsPart v v' old new → failures old ≤ failures new
+pub part_failed : (v v' : FatesSeen) (old new : FrameCounts) → CountsBrokenRound v v' old new → failures old ≤ failures new
 part_failed v v' old new part =
     let c = with_payload part.bytes old in
     subst (λ n. failures old ≤ n) (sym (ap failures part.counted))
@@ -540,10 +540,10 @@ module _ {A : Type 0} (old new : Link A) (p : Passes old new) where
     ahead_back = ap (λ t. t.ahead) p.left_back;
     end = ap end_of p.acked ∙ all_keep_end old.sender (old.back.late ++ coming_of old.back.fates p.acks);
     base = subst (λ v. old.sender.base ≤ v.base) (sym p.acked) (all_base_grows old.sender (old.back.late ++ coming_of old.back.fates p.acks));
-    room = ap (λ v. v.capacity) p.acked ∙ all_keep_room old.sender (old.back.late ++ coming_of old.back.fates p.acks);
+    sender_capacity = ap (λ v. v.capacity) p.acked ∙ all_keep_room old.sender (old.back.late ++ coming_of old.back.fates p.acks);
     first = ap (λ v. v.first) p.received ∙ brought_first numbers most_reported old.receiver p.came;
     read = ap (λ v. v.read) p.received ∙ brought_read numbers most_reported old.receiver p.came;
-    capacity = ap (λ v. v.capacity) p.received ∙ brought_capacity numbers most_reported old.receiver p.came;
+    receiver_capacity = ap (λ v. v.capacity) p.received ∙ brought_capacity numbers most_reported old.receiver p.came;
     grows = subst (λ v. stored_next old.receiver ≤ stored_next v) (sym p.received) (brought_grows numbers most_reported old.receiver p.came);
   }
 
@@ -664,8 +664,8 @@ module _ {A : Type 0} (old new : Link A) (p : Passes old new) where
       first_lost zero u some all = absurd (omega arith)
       first_lost (suc k) u some all = all.0
 
-  pub round_moves : RoundTrip → Numbers → InOrderReaches → QueueIsOfStream → IsSound most_reported old.receiver → end_of old.sender < 2 ^ 64 →
-      RoundMoves old new
+  pub round_moves : FramesDecode → Numbers → InOrderReaches → QueueIsOfStream → IsSound most_reported old.receiver → end_of old.sender < 2 ^ 64 →
+      BringsOnOrIsStuck old new
   round_moves trip numbers order queue sound word f w carries none none_back some room still still_back =
       let c = with_payload (count_outside old.sender.reported old.sender.base p.n) old.counts in
       let m = with_fates (length p.sent.ahead) old.there.fates c in
@@ -686,7 +686,7 @@ module _ {A : Type 0} (old new : Link A) (p : Passes old new) where
         left = fates_left;
         left_back = ap (λ t. t.fates) p.left_back;
         counted = counted (failures m) (failed_first (length p.sent.ahead) old.there.fates c a.1 a.2) two;
-        due = not_due numbers order room still still_back;
+        not_due = not_due numbers order room still still_back;
         lost = frame_lost a.0 a.1 a.2 still;
       })
       (λ (b : (old.sender.base < n) × (coming_of old.back.fates p.acks ≡ []) × All (Acks n n) p.acks). record {
@@ -698,7 +698,7 @@ module _ {A : Type 0} (old new : Link A) (p : Passes old new) where
         counted = counted (failures e)
             (le_trans (more_failed (failures c) (failures m) one)
             (failed_first (length p.acks) old.back.fates m acks_some (first_fails old.back.fates p.acks acks_some b.1))) (le_refl (failures e));
-        due = not_due numbers order room still still_back;
+        not_due = not_due numbers order room still still_back;
         lost = acks_lost b.0 b.1 b.2 within still_back;
       })
       (rounds_move trip numbers order queue f w old new p sound carries word none none_back some room still still_back)
@@ -717,8 +717,8 @@ due_kept l l1 late late_back next base end due =
     (λ k e j. (let low = j.0 in let high = j.1 in (omega (arith, low, base), le_trans high end))) h)))
     due
 
-pub step_moves : {A : Type 0} (f : ℕ) (w : List ℕ) (old new last : Link A) (room : ℕ) → RoundLeaves old new → RoundMoves old new →
-    last ≡ record new { receiver = stored_read new.receiver room } →
+pub step_moves : {A : Type 0} (f : ℕ) (w : List ℕ) (old new last : Link A) (room : ℕ) → RoundLeaves old new → BringsOnOrIsStuck old new →
+    last ≡ record new { receiver = stored_after_read new.receiver room } →
     Carries f w old → old.there.ahead ≡ [] → old.back.ahead ≡ [] → 0 < length old.sender.queue → 0 < old.receiver.capacity → 0 < room →
     last.sender.base ≡ old.sender.base → last.receiver.read ≡ old.receiver.read → IsStuck old last
 step_moves {A = A} f w old new last room keeps moves handed carries none none_back kept cap some still_base still_read =
@@ -729,12 +729,12 @@ step_moves {A = A} f w old new last room keeps moves handed carries none none_ba
       left = one.left;
       left_back = one.left_back;
       counted = one.counted;
-      due = one.due;
+      not_due = one.not_due;
       lost = lost;
     })
   where
     r : Stored
-    r = stored_read new.receiver room
+    r = stored_after_read new.receiver room
 
     still_base' : new.sender.base ≡ old.sender.base
     still_base' = sym (ap (λ l. l.sender.base) handed) ∙ still_base
@@ -846,7 +846,7 @@ stuck_next n v v' old new word so_far one =
     ))
     one.lost)
     (λ (h : (frames : ℕ) × (acks : ℕ) × AreStuckTo 0 n (fates_after frames v) (fates_after acks v') old.there.fates old.back.fates × (n ≤ losses old.counts + 1)
-    × IsDue old). absurd (one.due h.4))
+    × IsDue old). absurd (one.not_due h.4))
     so_far
   where
     to : (k frames acks : ℕ) → AreStuckTo k (suc n) (fates_after frames v) (fates_after acks v') (fates_after one.frames old.there.fates)

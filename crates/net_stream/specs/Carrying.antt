@@ -2,6 +2,7 @@
 -- becomes of these.
 --     PathSeen      the frames on their way in one direction, the late ones, and the fates to come
 --     IsUnderWay f w s r there back      the stream w, whose first byte has position f, is on its way
+--     HasRanges r ranges      the receiver has each position of the ranges
 --     FrameTells r frame      an acknowledgement tells nothing but what the receiver has
 --     ack_of r      the acknowledgement of a receiver
 --     receiver_after N r frame, with_ack r frame back      what a frame that comes leaves
@@ -26,14 +27,14 @@ pub record PathSeen : Type 0 where
   pub fates : FatesSeen
 
 -- the receiver has each position of the ranges
-abbrev pub HasReported : Stored → List (ℕ × ℕ) → Type 0
-HasReported r ranges = (p : ℕ) → IsTrue (reports ranges p) → Has r p
+abbrev pub HasRanges : Stored → List (ℕ × ℕ) → Type 0
+HasRanges r ranges = (p : ℕ) → IsTrue (reports ranges p) → Has r p
 
 -- an acknowledgement is of nothing past the first missing position, and reports nothing but
 -- positions that the receiver has
 abbrev pub FrameTells : Stored → List ℕ → Type 0
 FrameTells r frame = (n : ℕ) (xs : List ℕ) → segment_of frame ≡ Some (n, xs) →
-    (n ≤ stored_next r) × HasReported r (ranges_of most_reported xs)
+    (n ≤ stored_next r) × HasRanges r (ranges_of most_reported xs)
 
 -- an acknowledgement of what a receiver has: the first missing position, and the first held runs
 abbrev pub ack_of : Stored → List ℕ
@@ -67,7 +68,7 @@ pub record IsUnderWay (f : ℕ) (w : List ℕ) (s : Outgoing) (r : Stored)
   pub going_back : All (FrameTells r) back.ahead
   pub late_back : All (FrameTells r) back.late
   pub behind : s.base ≤ stored_next r
-  pub reported : HasReported r s.reported
+  pub reported : HasRanges r s.reported
 
 -- the frame was put among the late ones, or nothing changed
 abbrev pub MayComeLate : List ℕ → PathSeen → PathSeen → Type 0

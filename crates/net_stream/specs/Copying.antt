@@ -5,7 +5,7 @@
 --     CopiesSoFar f link counts old new had has more      the bytes are on their way to a writer
 --     HandsOut f v u had has before after      bytes came from the receiver to the writer
 --     HandsOutPrefix f v had has before after      a prefix of them did
---     CopyRoundLeaves old new room room'      what a round of a copy leaves as it was, or lets grow
+--     CopyRoundLeaves old new size size'      what a round of a copy leaves as it was, or lets grow
 use Rattle.std.specs.Prelude.{◌≡◌, ℕ, List, ◌++◌, ◌+◌, ◌-◌, ◌<◌, ◌≤◌, ◌^◌, ◌⊎◌, [], length, take}
 use Rattle.std.specs.Prelude.{Bool, true, false, Option, Result, Err, min}
 use Rattle.std.specs.Io.{StartsWith}
@@ -74,19 +74,19 @@ pub record HandsOutPrefix (f : ℕ) (v : Stored) (had has : Option (List ℕ)) (
   pub prefix : (w : List ℕ) → ReceivesFrom f w v → StartsWith w (take v.read w ++ bytes)
   pub counted : after ≡ min (before + length bytes) (2 ^ 64 - 1)
 
--- what a round of a copy leaves as it was, or lets grow, `room` and `room'` being the lengths of the
+-- what a round of a copy leaves as it was, or lets grow, `size` and `size'` being the lengths of the
 -- buffer that the reader's bytes come to, before and after
-pub record CopyRoundLeaves {A : Type 0} (old new : Link A) (room room' : ℕ) : Type 0 where
+pub record CopyRoundLeaves {A : Type 0} (old new : Link A) (size size' : ℕ) : Type 0 where
   pub ahead : new.there.ahead ≡ []
   pub ahead_back : new.back.ahead ≡ []
-  pub window : new.sender.capacity ≡ old.sender.capacity
-  pub capacity : new.receiver.capacity ≡ old.receiver.capacity
-  pub chunk : room' ≡ room
+  pub sender_capacity : new.sender.capacity ≡ old.sender.capacity
+  pub receiver_capacity : new.receiver.capacity ≡ old.receiver.capacity
+  pub same_size : size' ≡ size
   pub end : end_of new.sender ≡ end_of old.sender
-  pub word : end_of new.sender < 2 ^ 64
+  pub fits : end_of new.sender < 2 ^ 64
   pub base : old.sender.base ≤ new.sender.base
   pub read : old.receiver.read ≤ new.receiver.read
   pub first : new.receiver.first ≡ old.receiver.first
   pub grows : stored_next old.receiver ≤ stored_next new.receiver
-  pub drained : 0 < room → new.receiver.read ≡ old.receiver.read
+  pub drained : 0 < size → new.receiver.read ≡ old.receiver.read
       → length new.receiver.queue ≡ 0

@@ -5,11 +5,11 @@
 --     SameButRefused counts counts'      all is the same but the refused segments
 --     with_payload n counts      frames carried n bytes
 --     is_refused reply, with_refusal most_runs r frame counts      a receiver refused a segment
---     no_frames, nothing_counted      the counts before anything was done
+--     no_frames, no_counts      the counts before anything was done
 --     round_trip_time, longest_wait      times of simulated clocks, in microseconds
 use Rattle.std.specs.Prelude.{◌≡◌, ℕ, zero, suc, ◌+◌, ◌-◌, ◌^◌, ◌&&◌, min, nat_lt}
 use Rattle.std.specs.Prelude.{if◌then◌else◌, Bool, true, false, List, length, Option, Some, None, Ok, Err}
-use Rattle.net_receiver.specs.Rules.{ReplySeen, Segmented, Gave, Shown, Segment}
+use Rattle.net_receiver.specs.Rules.{ReplySeen, SegmentReply, ReadReply, ShowReply, Segment}
 use Rattle.net_receiver.specs.Stored.{Stored, stored_reply}
 use Rattle.net_stream.specs.Fates.{FatesSeen, next_fate, after_fate}
 use Rattle.net_stream.specs.declared.fate.Fate.{Fate}
@@ -43,10 +43,10 @@ with_payload n c = record c { payload = min (c.payload + n) (2 ^ 64 - 1) }
 
 -- whether a reply refuses a segment
 abbrev pub is_refused : ReplySeen → Bool
-is_refused (Segmented (Ok kept)) = false
-is_refused (Segmented (Err e)) = true
-is_refused (Gave xs) = false
-is_refused (Shown n q r h) = false
+is_refused (SegmentReply (Ok kept)) = false
+is_refused (SegmentReply (Err e)) = true
+is_refused (ReadReply xs) = false
+is_refused (ShowReply n q r h) = false
 
 -- a frame came to a receiver: one more is refused if the receiver refuses its segment
 abbrev pub with_refusal : ℕ → Stored → Option (ℕ × List ℕ) → FrameCounts → FrameCounts
@@ -62,8 +62,8 @@ abbrev pub no_frames : FrameCounts
 no_frames = record { sent = 0; payload = 0; lost = 0; repeated = 0; late = 0; refused = 0 }
 
 -- nothing was done yet
-abbrev pub nothing_counted : Counts
-nothing_counted = record { taken = 0; bytes = 0; rounds = 0; micros = 0; frames = no_frames }
+abbrev pub no_counts : Counts
+no_counts = record { taken = 0; bytes = 0; rounds = 0; micros = 0; frames = no_frames }
 
 -- a round trip takes 10 milliseconds
 abbrev pub round_trip_time : ℕ

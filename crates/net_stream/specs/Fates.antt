@@ -5,6 +5,7 @@
 --     fates_after n v      what is left of v once n fates have come
 --     comes fate, comes_late fate      whether a frame comes at once, and whether it comes late
 --     AllCome v, NextCome n v      every frame comes at once, or the next n do
+--     EachNextComes      a law: if every frame comes, so do the next n
 use Rattle.std.specs.Prelude.{ℕ, zero, suc, ◌/◌, ◌%◌, nat_lt, if◌then◌else◌, Bool, true, false}
 use Rattle.std.specs.Prelude.{◌≡◌, List, [], ◌∷◌, All}
 use Rattle.net_base.specs.Generator.{successor, random_word}

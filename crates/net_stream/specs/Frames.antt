@@ -5,7 +5,7 @@
 --     frames_from p parts      the frames of parts that follow one another from position p on
 --     part_bytes parts      the bytes of parts
 --     FrameSays f w frame      the frame brings nothing but what the stream w has
---     RoundTrip, DistinctFrames      laws of frames
+--     FramesDecode, DistinctFrames      laws of frames
 use Rattle.std.specs.Prelude.{◌≡◌, ℕ, ◌+◌, ◌<◌, ◌^◌, if◌then◌else◌, nat_lt, Bool, true, false}
 use Rattle.std.specs.Prelude.{List, [], ◌∷◌, ◌++◌, length, take, drop, Option, Some, None}
 use Rattle.std.specs.Int.{w64, to_be_bytes, from_be_bytes}
@@ -22,8 +22,8 @@ segment_of frame =
     else Some (from_be_bytes w64 (take 8 frame), drop 8 frame)
 
 -- decoding finds what was encoded
-abbrev pub RoundTrip : Type 0
-RoundTrip = (pos : ℕ) (xs : List ℕ) → pos < 2 ^ 64 → segment_of (frame_of pos xs) ≡ Some (pos, xs)
+abbrev pub FramesDecode : Type 0
+FramesDecode = (pos : ℕ) (xs : List ℕ) → pos < 2 ^ 64 → segment_of (frame_of pos xs) ≡ Some (pos, xs)
 
 -- frames that are equal have equal positions and bytes
 abbrev pub DistinctFrames : Type 0

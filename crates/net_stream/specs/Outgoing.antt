@@ -3,6 +3,7 @@
 --         of the queue, the queue, the ranges of positions that were reported last, and the position
 --         at which the storage begins again
 --     end_of v, room_of v      the position behind the queue, and how many bytes can be written
+--     room_in_row v      how many of them stand in a row in the storage
 --     row_end v p      where the bytes end that stand in a row in the storage with the one at p
 --     after_ack v n ranges      the sender once all below position n was acknowledged, and these ranges
 --         were reported

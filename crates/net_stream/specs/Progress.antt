@@ -3,14 +3,14 @@
 --     Reaches ranges end p frames      frames bring it to `end`, if it has the ranges too
 --     after_ack_frame s frame, after_ack_frames s frames      a sender once acknowledgements have come
 --     limit_of r      where the receiver's free window ends
---     HasRoom s r      the receiver's free window ends at or behind the sender's end
+--     HasRoom s r      the receiver's free window has room for all that the sender has queued
 use Rattle.std.specs.Prelude.{◌≡◌, ℕ, ◌+◌, ◌-◌, ◌<◌, ◌≤◌, ◌^◌, ◌⊎◌, max, nat_le, if◌then◌else◌}
 use Rattle.std.specs.Prelude.{true, List, [], ◌∷◌, length, Option, Some, None}
 use Rattle.net_receiver.specs.Stored.{Stored}
 use Rattle.net_stream.specs.Outgoing.{Outgoing, end_of, after_ack}
 use Rattle.net_stream.specs.Frames.{segment_of}
 use Rattle.net_stream.specs.Reported.{most_reported, ranges_of}
-use Rattle.net_stream.specs.Sending.{IsMarked}
+use Rattle.net_stream.specs.Sending.{IsReportedIf}
 
 -- a frame that begins past p brings nothing that counts
 abbrev pub reach_one : ℕ → Option (ℕ × List ℕ) → ℕ
@@ -20,11 +20,11 @@ reach_one p (Some (pos, xs)) = if nat_le pos p then max p (pos + length xs) else
 -- frames bring a receiver to the position `end` that has all before p and what the ranges report:
 -- some of them one after another, each of which begins where nothing before it is missing
 abbrev pub Reaches : List (ℕ × ℕ) → ℕ → ℕ → List (List ℕ) → Type 0
-Reaches ranges end p [] = IsMarked ranges p (end - p) true
+Reaches ranges end p [] = IsReportedIf ranges p (end - p) true
 Reaches ranges end p (frame ∷ frames) =
     Reaches ranges end p frames
     ⊎ ((pos : ℕ) × (xs : List ℕ) × (segment_of frame ≡ Some (pos, xs))
-    × IsMarked ranges p (pos - p) true
+    × IsReportedIf ranges p (pos - p) true
     × Reaches ranges end (max p (pos + length xs)) frames)
 
 -- a sender once an acknowledgement has come: one too short for a position changes nothing
@@ -43,5 +43,5 @@ limit_of r = r.first + r.read + r.capacity
 
 -- there is room for all that the sender has queued, and its positions fit 64 bits
 pub record HasRoom (s : Outgoing) (r : Stored) : Type 0 where
-  pub window : end_of s ≤ limit_of r
-  pub word : end_of s < 2 ^ 64
+  pub within : end_of s ≤ limit_of r
+  pub fits : end_of s < 2 ^ 64

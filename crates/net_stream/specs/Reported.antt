@@ -3,7 +3,7 @@
 --     count_outside ranges p n      how many of the n positions from p on lie in none of the ranges
 --     count_from ranges p      how many positions from p on lie in the first range that has p
 --     next_start ranges p limit      the least start above p, or the limit if that is less
---     last_end ranges p      the greatest end, or p if that is greater
+--     greatest_end ranges p      the greatest end, or p if that is greater
 --     range_bytes ranges      the ranges as bytes: each start, and each end, in 8 bytes
 --     ranges_of n xs      the first n ranges that bytes list
 --     most_reported, is_full ranges      the most ranges of a report, and whether there are as many
@@ -33,9 +33,9 @@ next_start (range ∷ ranges) p limit =
     next_start ranges p (if nat_lt p range.0 then min range.0 limit else limit)
 
 -- the greatest of p and of the ends
-abbrev pub last_end : List (ℕ × ℕ) → ℕ → ℕ
-last_end [] p = p
-last_end (range ∷ ranges) p = last_end ranges (max p range.1)
+abbrev pub greatest_end : List (ℕ × ℕ) → ℕ → ℕ
+greatest_end [] p = p
+greatest_end (range ∷ ranges) p = greatest_end ranges (max p range.1)
 
 -- an acknowledgement reports no more ranges than this
 abbrev pub most_reported : ℕ

@@ -1,5 +1,5 @@
 -- What is counted of rounds.
---     CountsPart v v' old new      what a round counts that ends early
+--     CountsBrokenRound v v' old new      what a round counts that ends early
 --     CountsFates v v' counts      what is counted of the frames of rounds
 --     FatesSoFar v v' u u' counts      the same, with the fates u and u' left
 use Rattle.std.specs.Prelude.{◌≡◌, ℕ}
@@ -9,7 +9,7 @@ use Rattle.net_stream.specs.declared.counts.FrameCounts.{FrameCounts}
 
 -- some bytes are counted, and the fates, the next of v and of v', of some frames and of some
 -- acknowledgements
-pub record CountsPart (v v' : FatesSeen) (old new : FrameCounts) : Type 0 where
+pub record CountsBrokenRound (v v' : FatesSeen) (old new : FrameCounts) : Type 0 where
   pub bytes : ℕ
   pub frames : ℕ
   pub acks : ℕ

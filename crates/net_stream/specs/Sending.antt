@@ -1,6 +1,7 @@
 -- What a sender puts on its way.
 --     SendsFrames p parts old new      frames of the parts, from position p on, were put on their way
---     IsMarked ranges p n spared, AreMarked ranges p parts      exactly what was reported is spared
+--     IsReportedIf ranges p n spared, AreSparedIfReported ranges p parts      exactly what was
+--         reported is spared
 --     at_least_one n      a number of which 0 counts as 1
 --     stop_of s      the position at and above which no part begins
 --     part_end s most p      where the part ends that begins at position p
@@ -14,7 +15,7 @@ use Rattle.std.specs.Prelude.{Bool, false}
 use Rattle.std.specs.Prelude.{List, [], ◌∷◌, ◌++◌, length, take, drop, All}
 use Rattle.net_stream.specs.Outgoing.{Outgoing, end_of, row_end}
 use Rattle.net_stream.specs.Frames.{Part, frames_from, part_bytes}
-use Rattle.net_stream.specs.Reported.{reports, count_from, next_start, last_end, is_full}
+use Rattle.net_stream.specs.Reported.{reports, count_from, next_start, greatest_end, is_full}
 use Rattle.net_stream.specs.Carrying.{PathSeen}
 
 -- the frames of these parts were put behind those on their way
@@ -23,14 +24,14 @@ SendsFrames p parts old new = new ≡ record old { ahead = old.ahead ++ frames_f
 
 -- each of n positions from p on lies in the ranges if `spared` is true, and none does if it is
 -- false
-abbrev pub IsMarked : List (ℕ × ℕ) → ℕ → ℕ → Bool → Type 0
-IsMarked ranges p n spared = (q : ℕ) → p ≤ q → q < p + n → reports ranges q ≡ spared
+abbrev pub IsReportedIf : List (ℕ × ℕ) → ℕ → ℕ → Bool → Type 0
+IsReportedIf ranges p n spared = (q : ℕ) → p ≤ q → q < p + n → reports ranges q ≡ spared
 
 -- parts that follow one another from position p on are spared exactly where they lie in the ranges
-abbrev pub AreMarked : List (ℕ × ℕ) → ℕ → List Part → Type 0
-AreMarked ranges p [] = Unit {0}
-AreMarked ranges p ((spared, xs) ∷ parts) =
-    IsMarked ranges p (length xs) spared × AreMarked ranges (p + length xs) parts
+abbrev pub AreSparedIfReported : List (ℕ × ℕ) → ℕ → List Part → Type 0
+AreSparedIfReported ranges p [] = Unit {0}
+AreSparedIfReported ranges p ((spared, xs) ∷ parts) =
+    IsReportedIf ranges p (length xs) spared × AreSparedIfReported ranges (p + length xs) parts
 
 -- a part has bytes, and a frame of it at most so many
 abbrev pub HasSize : ℕ → Part → Type 0
@@ -56,10 +57,10 @@ part_end s most p =
     else min (p + most) (min (next_reported s p) (row_end s p))
 
 -- no part begins here or above: at the end, or, if the ranges are as many as can be reported, above
--- the last of them
+-- the greatest end of them
 abbrev pub stop_of : Outgoing → ℕ
 stop_of s =
-    if is_full s.reported then min (end_of s) (last_end s.reported s.base + 1) else end_of s
+    if is_full s.reported then min (end_of s) (greatest_end s.reported s.base + 1) else end_of s
 
 -- parts that follow one another from position p on begin below that position, and end where they
 -- have to
@@ -75,7 +76,7 @@ pub record SendsPart (s : Outgoing) (most p n k : ℕ) (old new : PathSeen) : Ty
   pub within : p + n ≤ end_of s
   pub spared : Bool
   pub short : spared ≡ false → n ≤ most
-  pub marked : IsMarked s.reported p n spared
+  pub marked : IsReportedIf s.reported p n spared
   pub ends : p + n ≡ part_end s most p
   pub frames : k ≡ (if spared then 0 else 1)
   pub sent : SendsFrames p ((spared, take n (drop (p - s.base) s.queue)) ∷ []) old new
@@ -88,7 +89,7 @@ pub record SendsPrefix (s : Outgoing) (most flight n : ℕ) (old new : PathSeen)
   pub within : n ≤ length s.queue
   pub all : part_bytes parts ≡ take n s.queue
   pub sizes : All (HasSize most) parts
-  pub marked : AreMarked s.reported s.base parts
+  pub marked : AreSparedIfReported s.reported s.base parts
   pub ends : HaveEnds s most s.base parts
   pub few : length (frames_from s.base parts) ≤ flight
   pub sent : SendsFrames s.base parts old new

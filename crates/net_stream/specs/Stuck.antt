@@ -5,7 +5,7 @@
 --     HasFailed follow fate, FatesFail follow frames acks v v'      what fails in a stuck round
 --     IsDue link      what comes late brings the next round on
 --     IsStuck old new      a round in which a frame or an acknowledgement failed that had to come
---     RoundMoves old new      a round that brings nothing on was stuck
+--     BringsOnOrIsStuck old new      a round that brings nothing on was stuck
 --     AreStuckAtLast n v v' counts      the last n rounds were stuck
 --     NeverStuck      no round is stuck over a link that loses and delays nothing
 use Rattle.std.specs.Prelude.{◌≡◌, ◌⊎◌, ℕ, zero, suc, ◌+◌, ◌-◌, ◌<◌, ◌≤◌, ◌^◌, min}
@@ -36,10 +36,10 @@ pub record RoundLeaves {A : Type 0} (old new : Link A) : Type 0 where
   pub ahead_back : new.back.ahead ≡ []
   pub end : end_of new.sender ≡ end_of old.sender
   pub base : old.sender.base ≤ new.sender.base
-  pub room : new.sender.capacity ≡ old.sender.capacity
+  pub sender_capacity : new.sender.capacity ≡ old.sender.capacity
   pub first : new.receiver.first ≡ old.receiver.first
   pub read : new.receiver.read ≡ old.receiver.read
-  pub capacity : new.receiver.capacity ≡ old.receiver.capacity
+  pub receiver_capacity : new.receiver.capacity ≡ old.receiver.capacity
   pub grows : stored_next old.receiver ≤ stored_next new.receiver
 
 -- the fate of a frame in a stuck round that so many stuck rounds follow: it doesn't come at once, and
@@ -79,7 +79,7 @@ pub record IsStuck {A : Type 0} (old new : Link A) : Type 0 where
   pub left : new.there.fates ≡ fates_after frames old.there.fates
   pub left_back : new.back.fates ≡ fates_after acks old.back.fates
   pub counted : min (failures old.counts + 1) (2 ^ 64 - 1) ≤ failures new.counts
-  pub due : IsDue old → ⊥
+  pub not_due : IsDue old → ⊥
   pub lost : (FatesFail 1 frames acks old.there.fates old.back.fates
       × (min (losses old.counts + 1) (2 ^ 64 - 1) ≤ losses new.counts))
       ⊎ (IsDue new × (losses old.counts ≤ losses new.counts))
@@ -107,8 +107,8 @@ pub record AreStuckAtLast (n : ℕ) (v v' : FatesSeen) (counts : FrameCounts) : 
 
 -- a round that began with nothing on its way but what is late, and brought neither the receiver nor
 -- the sender on, was stuck
-abbrev pub RoundMoves : {A : Type 0} → Link A → Link A → Type 0
-RoundMoves old new = (f : ℕ) (w : List ℕ) → Carries f w old
+abbrev pub BringsOnOrIsStuck : {A : Type 0} → Link A → Link A → Type 0
+BringsOnOrIsStuck old new = (f : ℕ) (w : List ℕ) → Carries f w old
     → old.there.ahead ≡ [] → old.back.ahead ≡ [] → 0 < length old.sender.queue
     → stored_next old.receiver < limit_of old.receiver
     → stored_next new.receiver ≡ stored_next old.receiver → new.sender.base ≡ old.sender.base

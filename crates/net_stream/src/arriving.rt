@@ -10,7 +10,7 @@ ghost use Rattle.net_stream.specs.Carrying.{ack_of, receiver_after, with_ack};
 ghost use Rattle.net_stream.specs.Progress.{reach_one, after_ack_frame, limit_of, HasRoom};
 
 use crate::counts::FrameCounts;
-use crate::frame::{decode, round_trip};
+use crate::frame::{decode, frames_decode};
 use crate::path::Path;
 use crate::reported::{REPORT_LEN, Reported, list_held};
 use crate::sender::Sender;
@@ -31,7 +31,7 @@ pub(crate) fn send_ack<A: Allocator + Copy, const N: usize>(
         ≡ record back.old { ahead = back.old.ahead ++ ack_of receiver.now ∷ [] }) }
     ensures err { OnErr result (back.new ≡ back.old) }
 {
-    round_trip();
+    frames_decode();
     assembler::laws::members();
     assembler::laws::maximal_runs();
     let mut report = [0u8; REPORT_LEN];

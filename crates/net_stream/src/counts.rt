@@ -1,6 +1,6 @@
 //! What is counted of a copy, and of the frames of a link.
 ghost use Rattle.std.specs.Prelude.{◌≡◌, ◌-◌, if◌then◌else◌};
-ghost use Rattle.net_stream.specs.Counting.{more, with_fate, no_frames, nothing_counted};
+ghost use Rattle.net_stream.specs.Counting.{more, with_fate, no_frames, no_counts};
 
 use crate::fate::Fate;
 
@@ -78,7 +78,7 @@ pub struct Counts {
 impl Counts {
     /// Nothing is counted yet.
     pub fn new() -> Counts
-        ensures { result ≡ nothing_counted }
+        ensures { result ≡ no_counts }
     {
         Counts {
             taken: 0,

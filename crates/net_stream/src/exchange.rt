@@ -3,7 +3,7 @@ ghost use Rattle.std.specs.Prelude.{◌≡◌, ◌≤◌, ◌<◌, ◌+◌, ◌-
 ghost use Rattle.std.specs.Prelude.{Bool, Option, true, false};
 ghost use Rattle.std.specs.Prelude.{OnOk, OnErr, IfOk, IfErr};
 ghost use Rattle.std.specs.Result.{is_ok};
-ghost use Rattle.net_receiver.specs.Stored.{Stored, stored_next, stored_read};
+ghost use Rattle.net_receiver.specs.Stored.{Stored, stored_next, stored_after_read};
 ghost use Rattle.net_stream.specs.Outgoing.{end_of, room_of};
 ghost use Rattle.net_stream.specs.Fates.{FatesSeen, AllCome};
 ghost use Rattle.net_stream.specs.Counting.{no_frames};
@@ -16,7 +16,7 @@ ghost use Rattle.net_stream.specs.Copying.{CopyRoundLeaves, HasPositions, gave_u
 use crate::copying::Config;
 use crate::counts::Counts;
 use crate::error::LinkError;
-use crate::frame::round_trip;
+use crate::frame::frames_decode;
 use crate::link::Link;
 use crate::timer::{first_wait, next_wait};
 use net_program::write_text;
@@ -47,7 +47,7 @@ fn hand_out<A: Allocator + Copy, W: Write>(
         (W.contents writer.old) (W.contents writer.new) counts.old.bytes counts.new.bytes) }
     ensures kind { IfErr result (λ e. gave_up e ≡ false) }
     ensures state { link.new
-        ≡ record link.old { receiver = stored_read link.old.receiver (length chunk.old) } }
+        ≡ record link.old { receiver = stored_after_read link.old.receiver (length chunk.old) } }
     ensures chunk { length chunk.new ≡ length chunk.old }
     ensures taken { counts.new.taken ≡ counts.old.taken }
     ensures rounds { counts.new.rounds ≡ counts.old.rounds }
@@ -117,9 +117,9 @@ fn feed<A: Allocator + Copy, R: Read>(
     input: &mut Input,
     counts: &mut Counts,
 ) -> Result<(), LinkError>
-    ensures moving { (f : ℕ) (old held holds : Option (List ℕ)) →
-        CopiesSoFar f link.old counts.old old (R.remaining reader.old) held holds input.old.more
-        → CopiesSoFar f link.new counts.new old (R.remaining reader.new) held holds input.new.more }
+    ensures so_far { (f : ℕ) (old had has : Option (List ℕ)) →
+        CopiesSoFar f link.old counts.old old (R.remaining reader.old) had has input.old.more
+        → CopiesSoFar f link.new counts.new old (R.remaining reader.new) had has input.new.more }
     ensures kind { IfErr result (λ e. gave_up e ≡ false) }
     ensures rounds { counts.new.rounds ≡ counts.old.rounds }
     ensures bytes { counts.new.bytes ≡ counts.old.bytes }
@@ -161,18 +161,18 @@ fn feed<A: Allocator + Copy, R: Read>(
 }
 
 /// Passes a round, and hands out what came of it.
-fn step<A: Allocator + Copy, W: Write>(
+fn copy_round<A: Allocator + Copy, W: Write>(
     link: &mut Link<'_, '_, A>,
     chunk: &mut [u8],
     writer: &mut W,
     counts: &mut Counts,
 ) -> Result<(), LinkError>
-    ensures ok { OnOk result ((f : ℕ) (old new held : Option (List ℕ)) (more : Bool) →
-        CopiesSoFar f link.old counts.old old new held (W.contents writer.old) more
-        → CopiesSoFar f link.new counts.new old new held (W.contents writer.new) more) }
-    ensures err { OnErr result ((f : ℕ) (old new held : Option (List ℕ)) (more : Bool) →
-        CopiesSoFar f link.old counts.old old new held (W.contents writer.old) more
-        → Copies old new held (W.contents writer.new) counts.new.taken counts.new.bytes false) }
+    ensures ok { OnOk result ((f : ℕ) (old new had : Option (List ℕ)) (more : Bool) →
+        CopiesSoFar f link.old counts.old old new had (W.contents writer.old) more
+        → CopiesSoFar f link.new counts.new old new had (W.contents writer.new) more) }
+    ensures err { OnErr result ((f : ℕ) (old new had : Option (List ℕ)) (more : Bool) →
+        CopiesSoFar f link.old counts.old old new had (W.contents writer.old) more
+        → Copies old new had (W.contents writer.new) counts.new.taken counts.new.bytes false) }
     ensures kind { IfErr result (λ e. gave_up e ≡ false) }
     ensures rounds { counts.new.rounds ≡ counts.old.rounds }
     ensures taken { counts.new.taken ≡ counts.old.taken }
@@ -183,9 +183,9 @@ fn step<A: Allocator + Copy, W: Write>(
     ensures left { OnOk result ((v v' : FatesSeen) →
         FatesSoFar v v' link.old.there.fates link.old.back.fates link.old.counts
         → FatesSoFar v v' link.new.there.fates link.new.back.fates link.new.counts) }
-    ensures keeps { OnOk result
+    ensures leaves { OnOk result
         (CopyRoundLeaves link.old link.new (length chunk.old) (length chunk.new)) }
-    ensures moves { OnOk result ((f : ℕ) (w : List ℕ) → Carries f w link.old
+    ensures stuck { OnOk result ((f : ℕ) (w : List ℕ) → Carries f w link.old
         → link.old.there.ahead ≡ [] → link.old.back.ahead ≡ []
         → 0 < length link.old.sender.queue → 0 < link.old.receiver.capacity
         → 0 < length chunk.old → link.new.sender.base ≡ link.old.sender.base
@@ -199,7 +199,7 @@ fn step<A: Allocator + Copy, W: Write>(
         → (link.new.sender.base ≡ stored_next link.new.receiver)
         × (link.old.receiver.read < link.new.receiver.read)) }
 {
-    round_trip();
+    frames_decode();
     laws::numbers();
     laws::completion();
     laws::truthful();
@@ -214,26 +214,26 @@ fn step<A: Allocator + Copy, W: Write>(
 }
 
 /// Whether a round let bytes go, or wrote some.
-fn has_moved<A: Allocator + Copy>(
+fn has_brought_on<A: Allocator + Copy>(
     base: u64,
     bytes: u64,
     link: &Link<'_, '_, A>,
     counts: &Counts,
 ) -> bool
     ensures still { result ≡ false → (link.now.sender.base ≡ base) × (counts.now.bytes ≡ bytes) }
-    ensures moved { result ≡ true → (link.now.sender.base ≡ base) × (counts.now.bytes ≡ bytes) → ⊥ }
+    ensures brought { result ≡ true → (link.now.sender.base ≡ base) × (counts.now.bytes ≡ bytes) → ⊥ }
 {
     link.sender.base() != base || counts.bytes != bytes
 }
 
 /// How many rounds in a row brought nothing on, after one more.
-fn stalled_after(stalled: u64, moved: bool) -> u64
+fn stalled_after(stalled: u64, brought: bool) -> u64
     ensures bound { result ≤ stalled + 1 }
-    ensures word { result < 2 ^ 64 }
-    ensures moved { moved ≡ true → result ≡ 0 }
-    ensures stays { moved ≡ false → stalled < 2 ^ 64 - 1 → result ≡ stalled + 1 }
+    ensures fits { result < 2 ^ 64 }
+    ensures brought { brought ≡ true → result ≡ 0 }
+    ensures stays { brought ≡ false → stalled < 2 ^ 64 - 1 → result ≡ stalled + 1 }
 {
-    if moved {
+    if brought {
         return 0;
     }
     stalled.saturating_add(1)
@@ -248,7 +248,7 @@ pub(crate) fn exchange<A: Allocator + Copy, R: Read, W: Write>(
     writer: &mut W,
     counts: &mut Counts,
 ) -> Result<(), LinkError>
-    requires moving { CopiesSoFar config.first link.old counts.old
+    requires so_far { CopiesSoFar config.first link.old counts.old
         (R.remaining reader.old) (R.remaining reader.old)
         (W.contents writer.old) (W.contents writer.old) true }
     requires ahead { link.old.there.ahead ≡ [] }
@@ -300,11 +300,11 @@ pub(crate) fn exchange<A: Allocator + Copy, R: Read, W: Write>(
         let rounds = counts.rounds;
         counts.rounds = rounds.saturating_add(1);
         link.wait(wait);
-        if let Err(error) = step(link, chunk, writer, counts) {
+        if let Err(error) = copy_round(link, chunk, writer, counts) {
             return Err(error);
         }
-        let moved = has_moved(base, bytes, link, counts);
-        stalled = stalled_after(stalled, moved);
-        wait = next_wait(wait, moved);
+        let brought = has_brought_on(base, bytes, link, counts);
+        stalled = stalled_after(stalled, brought);
+        wait = next_wait(wait, brought);
     }
 }

@@ -2,7 +2,7 @@
 ghost use Rattle.std.specs.Prelude.{◌≡◌, ◌+◌, ◌≤◌, ◌<◌, ◌^◌, ◌-◌, ◌++◌, [], ℕ, List, length, min, max};
 ghost use Rattle.std.specs.Prelude.{take, drop, slice_index, slice_range, OnOk, OnErr};
 ghost use Rattle.net_storage.specs.Managed.{elements};
-ghost use Rattle.net_receiver.specs.Stored.{fresh_stored, stored_read};
+ghost use Rattle.net_receiver.specs.Stored.{fresh_stored, stored_after_read};
 ghost use Rattle.net_stream.specs.Outgoing.{outgoing, room_of, with_written};
 ghost use Rattle.net_stream.specs.Frames.{segment_of, FrameSays};
 ghost use Rattle.net_stream.specs.Counting.{no_frames, with_refusal};
@@ -133,7 +133,7 @@ impl<'a, 'f, A: Allocator + Copy> Link<'a, 'f, A> {
         ensures into { into.new ≡ take (length into.old) self.old.receiver.queue
             ++ drop (length self.old.receiver.queue) into.old }
         ensures state { self.new
-            ≡ record self.old { receiver = stored_read self.old.receiver (length into.old) } }
+            ≡ record self.old { receiver = stored_after_read self.old.receiver (length into.old) } }
         ensures carries { (f : ℕ) (w : List ℕ) → Carries f w self.old → Carries f w self.new }
         ensures read { self.new.receiver.read ≡ self.old.receiver.read + result }
         ensures bytes { (f : ℕ) (w : List ℕ) → Carries f w self.old → take result into.new

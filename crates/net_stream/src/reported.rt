@@ -4,7 +4,7 @@ ghost use Rattle.std.specs.Prelude.{All, MatchOption, None, Some, min, nat_lt, i
 ghost use Rattle.std.specs.Int.{w64, to_be_bytes};
 ghost use Rattle.net_storage.specs.Positions.{maximal_runs};
 ghost use Rattle.net_receiver.specs.Stored.{domain};
-ghost use Rattle.net_stream.specs.Reported.{count_from, next_start, last_end, is_full};
+ghost use Rattle.net_stream.specs.Reported.{count_from, next_start, greatest_end, is_full};
 ghost use Rattle.net_stream.specs.Reported.{most_reported, range_bytes, first_range, ranges_of};
 
 use crate::frame::decode;
@@ -109,8 +109,8 @@ impl Reported {
     }
 
     /// Returns the greatest end of a range, or `pos` if no end is greater.
-    pub(crate) fn last_end(&self, pos: u64) -> u64
-        ensures { result ≡ last_end self.now pos }
+    pub(crate) fn greatest_end(&self, pos: u64) -> u64
+        ensures { result ≡ greatest_end self.now pos }
     {
         let mut last = pos;
         for i in 0..self.count {
@@ -143,13 +143,13 @@ fn decode_range(bytes: &[u8]) -> Option<(u64, u64, &[u8])>
 }
 
 /// Writes a number at an index of a buffer, in 8 bytes, the most significant first.
-fn write_word(buffer: &mut [u8], at: usize, word: u64)
+fn write_number(buffer: &mut [u8], at: usize, number: u64)
     requires { at + 8 ≤ length buffer.old }
     ensures len { length buffer.new ≡ length buffer.old }
-    ensures prefix { take (at + 8) buffer.new ≡ take at buffer.old ++ to_be_bytes w64 word }
-    ensures fits { word < 2 ^ 64 }
+    ensures prefix { take (at + 8) buffer.new ≡ take at buffer.old ++ to_be_bytes w64 number }
+    ensures fits { number < 2 ^ 64 }
 {
-    buffer[at..at + 8].copy_from_slice(&word.to_be_bytes());
+    buffer[at..at + 8].copy_from_slice(&number.to_be_bytes());
 }
 
 /// Lists the first 32 of a receiver's held runs in a buffer of 512 bytes. Returns how many bytes
@@ -160,7 +160,7 @@ pub(crate) fn list_held<const N: usize>(receiver: &Receiver<'_, N>, buffer: &mut
     ensures bound { result ≤ 512 }
     ensures listed { take result buffer.new
         ≡ range_bytes (take most_reported (maximal_runs (domain receiver.now.held))) }
-    ensures words { All (λ run. (run.0 < 2 ^ 64) × (run.1 < 2 ^ 64))
+    ensures fit { All (λ run. (run.0 < 2 ^ 64) × (run.1 < 2 ^ 64))
         (take most_reported (maximal_runs (domain receiver.now.held))) }
 {
     let mut runs = receiver.held();
@@ -168,8 +168,8 @@ pub(crate) fn list_held<const N: usize>(receiver: &Receiver<'_, N>, buffer: &mut
         let Some((start, end)) = runs.next() else {
             return 16 * i;
         };
-        write_word(buffer, 16 * i, start);
-        write_word(buffer, 16 * i + 8, end);
+        write_number(buffer, 16 * i, start);
+        write_number(buffer, 16 * i + 8, end);
     }
     REPORT_LEN
 }

@@ -4,11 +4,11 @@ ghost use Rattle.std.specs.Prelude.{OnOk, OnErr};
 ghost use Rattle.net_stream.specs.Reported.{count_outside};
 ghost use Rattle.net_stream.specs.Counting.{with_payload};
 ghost use Rattle.net_stream.specs.Sending.{SendsPrefix, SendsRound, at_least_one};
-ghost use Rattle.net_stream.specs.Rounds.{CountsPart};
+ghost use Rattle.net_stream.specs.Rounds.{CountsBrokenRound};
 ghost use Rattle.net_stream.specs.Links.{Carries, Round, next_flight};
 
 use crate::arriving::send_ack;
-use crate::frame::round_trip;
+use crate::frame::frames_decode;
 use crate::link::Link;
 use crate::passing::{pass_acks, pass_frames, pass_late_acks, pass_late_frames};
 use crate::reported::MOST_REPORTED;
@@ -78,10 +78,10 @@ impl<'a, 'f, A: Allocator + Copy> Link<'a, 'f, A> {
         ensures carries { (f : ℕ) (w : List ℕ) → Carries f w self.old → Carries f w self.new }
         ensures round { OnOk result (Round self.old self.new) }
         ensures read { self.new.receiver.read ≡ self.old.receiver.read }
-        ensures err { OnErr result (CountsPart self.old.there.fates self.old.back.fates
+        ensures err { OnErr result (CountsBrokenRound self.old.there.fates self.old.back.fates
             self.old.counts self.new.counts) }
     {
-        round_trip();
+        frames_decode();
         laws::truthful();
         // Called for its clause alone: the end is a position.
         let _end = self.sender.end();

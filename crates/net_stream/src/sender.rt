@@ -33,7 +33,7 @@ pub struct Sender<'a> {
 
 /// After several acknowledgements a sender's queue begins at the greatest of where it began and of
 /// their positions, those above its end left out, whatever their order.
-pub fn keeps_from_greatest()
+pub fn queue_from_greatest()
     ensures { QueueFromGreatest }
 {}
 
@@ -226,7 +226,7 @@ impl<'a> Sender<'a> {
         if !self.is_report_full() {
             return self.end();
         }
-        let last = self.reported.last_end(self.base);
+        let last = self.reported.greatest_end(self.base);
         last.saturating_add(1).min(self.end())
     }
 

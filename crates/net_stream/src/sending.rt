@@ -8,7 +8,7 @@ ghost use Rattle.net_stream.specs.Carrying.{PathSeen, IsUnderWay};
 ghost use Rattle.net_stream.specs.Sending.{at_least_one, SendsPart, SendsPrefix, SendsRound};
 
 use crate::counts::FrameCounts;
-use crate::frame::round_trip;
+use crate::frame::frames_decode;
 use crate::path::Path;
 use crate::sender::Sender;
 use net_base::time::Instant;
@@ -26,7 +26,7 @@ fn transmit_part<A: Allocator + Copy>(
     counts: &mut FrameCounts,
 ) -> Result<(u64, u32), AllocError>
     requires from { sender.now.base ≤ pos }
-    requires kept { pos < end_of sender.now }
+    requires queued { pos < end_of sender.now }
     requires some { 0 < most }
     ensures carried { (f : ℕ) (w : List ℕ) (r : Stored) (back : PathSeen) →
         IsUnderWay f w sender.now r there.old back → IsUnderWay f w sender.now r there.new back }
@@ -36,7 +36,7 @@ fn transmit_part<A: Allocator + Copy>(
         counts.new ≡ with_payload (count_outside sender.now.reported pos done.0) counts.old) }
     ensures err { OnErr result ((there.new ≡ there.old) × (counts.new ≡ counts.old)) }
 {
-    round_trip();
+    frames_decode();
     let payload = counts.payload;
     let spared = sender.reported_from(pos);
     if spared > 0 {

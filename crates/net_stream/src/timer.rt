@@ -29,10 +29,10 @@ fn doubled(wait: Duration) -> Duration
 }
 
 /// The wait after a round: a round trip if it brought something on, and twice the last one if not.
-pub fn next_wait(wait: Duration, moved: bool) -> Duration
-    ensures { result ≡ (if moved then round_trip_time else min (wait * 2) longest_wait) }
+pub fn next_wait(wait: Duration, brought: bool) -> Duration
+    ensures { result ≡ (if brought then round_trip_time else min (wait * 2) longest_wait) }
 {
-    if moved {
+    if brought {
         return first_wait();
     }
     doubled(wait)

@@ -6,7 +6,7 @@ use Rattle.std.proofs.lemmas.Bool.Decides.{nat_tests}
 use Rattle.net_storage.specs.Overwrite.{overwrite, OverwritesAt}
 use Rattle.net_storage.specs.Positions.{contains, with_range}
 use Rattle.net_storage.specs.AssemblerLaws.{MembersOfNothing, MembersWithRange}
-use Rattle.net_uses.specs.Fragments.{FragmentState, fragment_added}
+use Rattle.net_uses.specs.Fragments.{FragmentState, with_fragment}
 use Rattle.net_uses.specs.FragmentHistory.{after_fragments, covers, last_byte, LastFragmentStands, OldBytesAreGone}
 
 same_default : (l : List ℕ) (k d e : ℕ) → k < length l → get_or l k d ≡ get_or l k e
@@ -29,7 +29,7 @@ pub byte_after : LengthStays → ElementsAre → LastFragmentStands
 byte_after long at b [] p d h = refl
 byte_after long at b (f ∷ fs) p d h =
     let was : ℕ = get_or b.bytes p d in
-    byte_after long at (fragment_added b f.0 f.1) fs p d (omega (arith, h, long b.bytes f.1 f.0))
+    byte_after long at (with_fragment b f.0 f.1) fs p d (omega (arith, h, long b.bytes f.1 f.0))
     ∙ ap (λ (x : ℕ). last_byte p x fs)
     (at b.bytes f.1 f.0 p d h
     ∙ pick_inside f.0 p (length f.1) (get_or f.1 (p - f.0) d) (get_or f.1 (p - f.0) was) was (λ l m. same_default f.1 (p - f.0) d was (omega arith)))
@@ -45,10 +45,10 @@ covered p f e = (grind (arith, nat_tests), grind (arith, nat_tests))
 independent : MembersWithRange → (b : FragmentState) (fs : List (ℕ × List ℕ)) (p d e : ℕ) → IsFalse (contains b.present p) →
     IsTrue (contains (after_fragments b fs).present p) → last_byte p d fs ≡ last_byte p e fs
 independent members b [] p d e none some = absurd (not_both (contains b.present p) none some)
-independent members b (f ∷ fs) p d e none some = by_cover (covers p f) refl (independent members (fragment_added b f.0 f.1) fs p d e)
+independent members b (f ∷ fs) p d e none some = by_cover (covers p f) refl (independent members (with_fragment b f.0 f.1) fs p d e)
   where
     by_cover : (t : Bool) → covers p f ≡ t →
-        (IsFalse (contains (with_range b.present f.0 (length f.1)) p) → IsTrue (contains (after_fragments (fragment_added b f.0 f.1) fs).present p) →
+        (IsFalse (contains (with_range b.present f.0 (length f.1)) p) → IsTrue (contains (after_fragments (with_fragment b f.0 f.1) fs).present p) →
         last_byte p d fs ≡ last_byte p e fs) →
         last_byte p d (f ∷ fs) ≡ last_byte p e (f ∷ fs)
     by_cover true is rest =

@@ -33,7 +33,7 @@ abbrev pub HasSameCapacity : SocketState → SocketState → Type 0
 HasSameCapacity old new =
     SameCapacity new.inbound old.inbound × SameCapacity new.outbound old.outbound
 
--- the first of the datagrams ds has the endpoint e, and as many of its bytes as xs has elements, n
+-- the first of the datagrams ds has the endpoint e, and as many of its bytes as xs has room for, n
 -- of them, were copied over the first of xs, which made ys
 pub record CopiesFirst (ds : List (Endpoint × List ℕ)) (e : Endpoint) (n : ℕ) (xs : List ℕ)
     (ys : List ℕ) : Type 0 where

@@ -5,12 +5,12 @@
 use Rattle.std.specs.Prelude.{◌≡◌, Bool, ◌+◌, ◌-◌, ◌<◌, ◌&&◌, ℕ, List, [], ◌∷◌, length}
 use Rattle.std.specs.Prelude.{if◌then◌else◌, nat_le, nat_lt, slice_index_or, IsTrue}
 use Rattle.net_storage.specs.Positions.{contains, nothing}
-use Rattle.net_uses.specs.Fragments.{FragmentState, fragment_added}
+use Rattle.net_uses.specs.Fragments.{FragmentState, with_fragment}
 
 -- the buffer after fragments (offset, bytes), the first one first
 abbrev pub after_fragments : FragmentState → List (ℕ × List ℕ) → FragmentState
 after_fragments b [] = b
-after_fragments b (f ∷ fs) = after_fragments (fragment_added b f.0 f.1) fs
+after_fragments b (f ∷ fs) = after_fragments (with_fragment b f.0 f.1) fs
 
 -- whether the fragment has a byte at the position
 abbrev pub covers : ℕ → ℕ × List ℕ → Bool

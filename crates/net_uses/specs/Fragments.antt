@@ -1,7 +1,7 @@
 -- A packet that comes in fragments.
 --     FragmentState, state_code      what the buffer has come to, and its code
 --     Fits bytes total      a known size is at most that of the buffer
---     fragment_added b offset data', IsComplete b n      a fragment came, and all of them did
+--     with_fragment b offset data', IsComplete b n      a fragment came, and all of them did
 use Rattle.std.specs.Prelude.{◌≡◌, ◌<◌, ◌≤◌, ⊤, ℕ, ℤ, List, Option, length, IsTrue, refl}
 use Rattle.std.specs.Coded.{Coded, code_by, coded×, coded_ℕ, coded_ℤ, coded_list, coded_option}
 use Rattle.std.specs.FinSet as set
@@ -33,8 +33,8 @@ Fits bytes None = ⊤
 Fits bytes (Some n) = n ≤ length bytes
 
 -- a fragment came: its bytes stand from the offset on, and its positions are present
-abbrev pub fragment_added : FragmentState → ℕ → List ℕ → FragmentState
-fragment_added b offset data' = record b {
+abbrev pub with_fragment : FragmentState → ℕ → List ℕ → FragmentState
+with_fragment b offset data' = record b {
   bytes = overwrite b.bytes offset data';
   present = with_range b.present offset (length data');
 }

@@ -4,7 +4,7 @@ ghost use Rattle.std.specs.Prelude.{OnOk, OnErr, ◌<ℤ◌, Err, length, take};
 ghost use Rattle.std.specs.declared.option.Option.TheVariants.{Some, None};
 ghost use Rattle.net_storage.specs.Positions.{nothing};
 ghost use Rattle.net_storage.specs.Assembler.{MakesTooManyRuns};
-ghost use Rattle.net_uses.specs.Fragments.{fragment_added, IsComplete};
+ghost use Rattle.net_uses.specs.Fragments.{with_fragment, IsComplete};
 
 use net_base::time::Instant;
 use net_storage::{Assembler, Elements, ManagedSlice, assembler};
@@ -81,7 +81,7 @@ impl<B: Elements<u8>, const N: usize> Fragments<B, N> {
     /// It is refused, and nothing changes, exactly if it reaches past the buffer's end, which is
     /// `TooLong`, or would leave more than `N` maximal runs.
     pub fn add(&mut self, offset: usize, data: &[u8]) -> Result<(), FragmentError>
-        ensures ok { OnOk result (self.new ≡ fragment_added self.old offset «data».now) }
+        ensures ok { OnOk result (self.new ≡ with_fragment self.old offset «data».now) }
         ensures err { OnErr result (self.new ≡ self.old) }
         ensures too_long { (result ≡ Err FragmentError.TooLong)
             ↔ (length self.old.bytes < offset + length «data».now) }

@@ -1,6 +1,6 @@
 //! The replies of a receiver as text.
 ghost use Rattle.std.specs.Prelude.{◌≡◌, Some, flat_map, IfOk, Ok, string_bytes};
-ghost use Rattle.net_receiver.specs.Rules.{Segmented, Gave, Shown};
+ghost use Rattle.net_receiver.specs.Rules.{SegmentReply, ReadReply, ShowReply};
 ghost use Rattle.net_receiver.specs.Commands.{reply_seen};
 ghost use Rattle.net_lines.specs.StreamMode.{next_run_text, runs_text, accepted_line};
 ghost use Rattle.net_lines.specs.StreamMode.{reply_text as text_of_reply};
@@ -84,7 +84,7 @@ fn kept_text<A: Allocator + Copy>(
     buffers: &mut Buffers<A>,
     kept: &Kept,
 ) -> Result<String<A>, AllocError>
-    ensures { IfOk result (λ text. string_bytes text ≡ text_of_reply (Segmented (Ok kept.now))) }
+    ensures { IfOk result (λ text. string_bytes text ≡ text_of_reply (SegmentReply (Ok kept.now))) }
 {
     let [first, second, third] = kept.sack;
     let Some(first) = first else {
@@ -104,7 +104,7 @@ fn read_text<A: Allocator + Copy>(
     buffers: &mut Buffers<A>,
     bytes: &[u8],
 ) -> Result<String<A>, AllocError>
-    ensures { IfOk result (λ text. string_bytes text ≡ text_of_reply (Gave bytes.now)) }
+    ensures { IfOk result (λ text. string_bytes text ≡ text_of_reply (ReadReply bytes.now)) }
 {
     text::read_reply(buffers, bytes, &[])
 }
@@ -118,7 +118,7 @@ fn shown_text<A: Allocator + Copy>(
     held: &[(u64, u64)],
 ) -> Result<String<A>, AllocError>
     ensures { IfOk result (λ text.
-        string_bytes text ≡ text_of_reply (Shown next queued window held.now)) }
+        string_bytes text ≡ text_of_reply (ShowReply next queued window held.now)) }
 {
     let held = Runs(held);
     text::displayed(

@@ -2,9 +2,9 @@
 ghost use Rattle.std.specs.Prelude.{◌≡◌, ℕ, ◌+◌, ◌-◌, ◌<◌, ◌≤◌, min, List, ◌++◌, length, take};
 ghost use Rattle.std.specs.Prelude.{drop, slice_range, slice_index_or};
 ghost use Rattle.std.specs.Fn.{FnOnceTakesAt, FnOnceReturnsAt};
-ghost use Rattle.net_receiver.specs.Rules.{Read, Gave};
+ghost use Rattle.net_receiver.specs.Rules.{Read, ReadReply};
 ghost use Rattle.net_receiver.specs.Schedule.{State, queue_bytes, kept_reply};
-ghost use Rattle.net_receiver.specs.Stored.{stored_next, stored_read, stored_reply};
+ghost use Rattle.net_receiver.specs.Stored.{stored_next, stored_after_read, stored_reply};
 ghost use Rattle.net_receiver.specs.Stored.{setting, StaysInSetting, Steps, StandsFor};
 ghost use Rattle.net_receiver.specs.Contiguous.{contiguous_count, contiguous_count_from, first_part};
 ghost use Rattle.net_receiver.specs.Contiguous.{second_part};
@@ -20,12 +20,12 @@ impl<'a, const N: usize> Receiver<'a, N> {
     /// As for `segment`, `state`, `count` and `into` say it by what is stored, `step` by kept
     /// lists, and `receives` and `bytes` by the stream that the segments were of.
     pub fn read(&mut self, into: &mut [u8]) -> usize
-        ensures state { self.new ≡ stored_read self.old (length into.old) }
+        ensures state { self.new ≡ stored_after_read self.old (length into.old) }
         ensures count { result ≡ min (length into.old) (length self.old.queue) }
         ensures into { into.new ≡
             take (length into.old) self.old.queue ++ drop (length self.old.queue) into.old }
         ensures step { Steps N self.old self.new
-            (Read (length into.old)) (Gave (take result into.new)) }
+            (Read (length into.old)) (ReadReply (take result into.new)) }
         ensures setting { StaysInSetting N self.old self.new }
         ensures next { stored_next self.new ≡ stored_next self.old }
         ensures receives { (f : ℕ) (x : List ℕ) → ReceivesFrom f x self.old →
@@ -69,9 +69,9 @@ impl<'a, const N: usize> Receiver<'a, N> {
         ensures count { result ≡ min (length into.old) (length self.old.queue) }
         ensures into { into.new ≡
             take (length into.old) self.old.queue ++ drop (length self.old.queue) into.old }
-        ensures reply { Gave (take result into.new)
+        ensures reply { ReadReply (take result into.new)
             ≡ stored_reply N self.old (Read (length into.old)) }
-        ensures step { (s : State) → StandsFor self.old s → Gave (take result into.new)
+        ensures step { (s : State) → StandsFor self.old s → ReadReply (take result into.new)
             ≡ kept_reply (setting N self.old) s (Read (length into.old)) }
         ensures bytes { (f : ℕ) (x : List ℕ) → ReceivesFrom f x self.old → take result into.new
             ≡ slice_range x self.old.read (self.old.read + result) }
@@ -116,9 +116,9 @@ impl<'a, const N: usize> Receiver<'a, N> {
         ensures called { FnOnceReturnsAt F.FnOnce f (first_part self.old) result }
         ensures count { result.0 ≤ contiguous_count self.old }
         ensures not_empty { 0 < length self.old.queue → 0 < contiguous_count self.old }
-        ensures state { self.new ≡ stored_read self.old result.0 }
+        ensures state { self.new ≡ stored_after_read self.old result.0 }
         ensures step { Steps N self.old self.new
-            (Read result.0) (Gave (take result.0 self.old.queue)) }
+            (Read result.0) (ReadReply (take result.0 self.old.queue)) }
         ensures setting { StaysInSetting N self.old self.new }
         ensures next { stored_next self.new ≡ stored_next self.old }
         ensures receives { (f : ℕ) (x : List ℕ) → ReceivesFrom f x self.old →

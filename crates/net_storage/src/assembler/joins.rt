@@ -1,7 +1,7 @@
 //! How a range joins sorted runs.
 //!
 //! The first `used` pairs of an array are the runs, counted from where the first of them starts:
-//! they rise, with a gap between neighbours, and the rest of the array isn't read.
+//! they rise, with a hole between neighbours, and the rest of the array isn't read.
 ghost use Rattle.std.specs.Prelude.{ℕ, ◌+◌, ◌*◌, ◌<◌, ◌≤◌, ◌^◌, length, take};
 ghost use Rattle.net_storage.specs.Positions.{runs_shifted_up};
 ghost use Rattle.net_storage.specs.RunLists.{AreRuns, FitsFrom, JoinsRange, StartsAtZero, end_at};
@@ -32,7 +32,7 @@ pub(crate) fn join_range(
     ensures turns { let n = length pairs.old in
         TurnsWithin (2 * binary_digits n) n turns.old turns.new }
 {
-    // The range lies behind a gap behind all runs: it is a run of its own, and the last.
+    // The range lies behind a hole behind all runs: it is a run of its own, and the last.
     let last = pairs[used - 1];
     if last.1 < start {
         if used == pairs.len() {

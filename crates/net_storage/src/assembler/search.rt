@@ -7,7 +7,7 @@ use super::turns::Turns;
 
 /// Returns how many runs end before `offset`, if the last doesn't.
 ///
-/// The first two are looked at by themselves, and the others are halved.
+/// The first two are tested by themselves, and the others are halved.
 #[inline(always)]
 pub(crate) fn runs_ending_before(
     pairs: &[(usize, usize)],
@@ -48,7 +48,7 @@ pub(crate) fn runs_ending_before(
 
 /// Returns how many runs start at or before `end`, but at least `from`.
 ///
-/// The run at `from` is looked at by itself, and those behind it are halved.
+/// The run at `from` is tested by itself, and those behind it are halved.
 #[inline(always)]
 pub(crate) fn runs_starting_by(
     pairs: &[(usize, usize)],

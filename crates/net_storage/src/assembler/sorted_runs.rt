@@ -2,7 +2,7 @@
 ghost use Rattle.std.specs.Prelude.{◌≡◌, ℕ, ◌+◌, ◌*◌, ◌<◌, ◌≤◌, ◌↔◌, drop, IsTrue, IfSome};
 ghost use Rattle.std.specs.List.{slice_get};
 ghost use Rattle.net_storage.specs.AssemblerLaws.{Adds, RemovesFront};
-ghost use Rattle.net_storage.specs.Positions.{IsRange, are_same, contains, front, nothing};
+ghost use Rattle.net_storage.specs.Positions.{RangeFits, are_same, contains, front, nothing};
 ghost use Rattle.net_storage.specs.Positions.{maximal_runs, runs, shift_down, with_range};
 ghost use Rattle.net_storage.specs.RunLists.{HasSoundPairs, pairs_of, runs_of, runs_shifted_down, set_of};
 ghost use Rattle.net_storage.specs.RunLists.{start_at};
@@ -14,7 +14,7 @@ use super::search::{holds, runs_starting_by};
 use super::turns::Turns;
 use super::{IterData, TooManyHolesError};
 
-/// The runs of a set: sorted pairs (start, end), end not included, with a gap between neighbours.
+/// The runs of a set: sorted pairs (start, end), end not included, with a hole between neighbours.
 ///
 /// They are counted from where the first of them starts, so the first pair starts at 0; `hole` is
 /// that position, and so how many are missing before it. Where positions below it are removed, only
@@ -121,7 +121,7 @@ impl<const N: usize> SortedRuns<N> {
         turns: &mut Turns,
     ) -> Result<(), TooManyHolesError>
         requires sound { HasSoundPairs self.old }
-        requires range { IsRange offset size }
+        requires range { RangeFits offset size }
         ensures sound { HasSoundPairs self.new }
         ensures added { Adds N (set_of self.old) offset size result (set_of self.new) }
         ensures turns { TurnsWithin (2 * binary_digits N) N turns.old turns.new }
@@ -183,7 +183,7 @@ impl<const N: usize> SortedRuns<N> {
         ensures turns { TurnsWithin (binary_digits N) N turns.old turns.new }
         ensures waiting { runs (set_of self.new) ≡ runs (set_of self.old) → turns.new ≡ turns.old }
     {
-        // All runs lie behind a gap. The range itself is the front, and they wait on.
+        // All runs lie behind a hole. The range itself is the front, and they wait on.
         if size < self.hole {
             self.hole -= size;
             return size;

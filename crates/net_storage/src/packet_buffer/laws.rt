@@ -102,7 +102,7 @@ pub fn showing_changes_nothing<H>()
     ensures peeked { (q : PacketQueue H) → IsWellPlaced q
         → contents (without_first_and_gap (without_gap q)) ≡ drop 1 (contents q) }
     ensures still_there { (q : PacketQueue H) → length (without_gap q).packets ≡ length q.packets }
-    ensures kept { (q : PacketQueue H) (header : H) (ws : List ℕ) (gone : Bool)
+    ensures unwritten { (q : PacketQueue H) (header : H) (ws : List ℕ) (gone : Bool)
         → IsWellPlaced q → IsFirst q header ws
         → contents (after_hand_out gone q header ws)
         ≡ (if gone then drop 1 (contents q) else contents q) }

@@ -4,7 +4,7 @@ ghost use Rattle.std.specs.Prelude.{drop};
 ghost use Rattle.std.specs.declared.option.Option.TheVariants.{Some, None};
 ghost use Rattle.net_storage.specs.Ring.{capacity, window, queue, IsWellFormed};
 ghost use Rattle.net_storage.specs.Packets.{slots_for};
-ghost use Rattle.net_storage.specs.PacketSlots.{gap_slot, slot, IsFirstSlot, HasFirstSlot};
+ghost use Rattle.net_storage.specs.PacketSlots.{gap_slot, slot, IsFirstSlot, WithFirstSlot};
 
 use crate::error::Empty;
 use crate::managed::Elements;
@@ -61,7 +61,7 @@ pub(crate) fn lift_header<H: Drop, M: Elements<PacketMetadata<H>>>(
     ensures empty { IsErr result ↔ (slots.old.count ≡ 0) }
     ensures unchanged { OnErr result (slots.new ≡ slots.old) }
     ensures first { IfOk result (λ r. IsFirstSlot slots.old r.0 (Some r.1)) }
-    ensures left { IfOk result (λ r. HasFirstSlot slots.old r.0 None slots.new) }
+    ensures left { IfOk result (λ r. WithFirstSlot slots.old r.0 None slots.new) }
 {
     let answer = slots.dequeue_one_with(|slot| {
         let header = slot.header.take();

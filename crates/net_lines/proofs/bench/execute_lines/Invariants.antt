@@ -1,3 +1,5 @@
+use Rattle.net_lines.specs.Progress.{outlet}
+use Rattle.net_lines.specs.BenchReading.{reading}
 use Rattle.net_lines.proofs.Progress.{AfterReads}
 use Rattle.net_lines.proofs.bench.execute_lines.Given as goal
 
@@ -5,5 +7,5 @@ use Rattle.net_lines.proofs.bench.execute_lines.Given as goal
 abbrev pub invariant-reads : goal.invariant-reads
 invariant-reads g l =
     AfterReads g.S.Session.rules (g.R.Read.remaining l.fn.reader) (g.R.Read.remaining l.reader)
-    (g.W.Write.contents l.fn.writer) (g.W.Write.contents l.writer) l.fn.session l.bench.number
-    l.bench.session l.bench.line.items l.bench.replies
+    (g.W.Write.contents l.fn.writer) (outlet (g.W.Write.contents l.writer) l.bench.replies)
+    l.fn.session (reading l.bench)

@@ -45,7 +45,7 @@ returns-then-not-fits-clause-reaches g c = λ f w s there says carries room.
     let end = carries.sends.end in
     let ends = says_ends f w pos xs (says pos xs c.in-Some.ensures) in
     let far = past c.fits.result (pos + length xs) c.if-not-fits.true c.fits.ensures.1 in
-    subst (λ o. reach_one n o ≤ n) (sym c.in-Some.ensures) (no_word_reaches n (end_of s) pos xs room.word far (omega arith))
+    subst (λ o. reach_one n o ≤ n) (sym c.in-Some.ensures) (no_word_reaches n (end_of s) pos xs room.fits far (omega arith))
 
 pub returns-clause-state : goal.returns-clause-state
 returns-clause-state g c =
@@ -91,4 +91,4 @@ returns-clause-reaches g c = λ f w s there says carries room.
     subst (λ o. reach_one (stored_next v) o ≤ stored_next u) (sym c.in-Some.ensures)
     (segment_reaches v u (end_of s) pos xs c.segment.result (λ h. (c.segment.ensures.in_order h).accepted)
     c.segment.ensures.keeps.kept c.segment.ensures.keeps.queued (λ h. (c.segment.ensures.in_order h).joins)
-    c.segment.ensures.keeps.grows (omega arith) room.window)
+    c.segment.ensures.keeps.grows (omega arith) room.within)

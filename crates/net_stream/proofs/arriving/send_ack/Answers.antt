@@ -13,7 +13,7 @@ returns-clause-tells g c =
     let word : stored_next r < 2 ^ 64 = omega arith in
     let few : length (take most_reported (maximal_runs (domain r.held))) ≤ most_reported =
     omega (arith, length-take most_reported (maximal_runs (domain r.held))) in
-    ack_tells c.round_trip.ensures c.members.ensures.of_list c.maximal_runs.ensures r word few c.list_held-len.ensures.words
+    ack_tells c.frames_decode.ensures c.members.ensures.of_list c.maximal_runs.ensures r word few c.list_held-len.ensures.fit
 
 pub returns-clause-ok : goal.returns-clause-ok
 returns-clause-ok g c =

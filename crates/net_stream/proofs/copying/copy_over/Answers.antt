@@ -12,7 +12,7 @@ use Rattle.net_stream.proofs.copying.copy_over.Goals as goal
 
 pub exchange-ended-requires : goal.exchange-ended-requires
 exchange-ended-requires g c = record {
-  moving =
+  so_far =
       nothing_moved c.args.config.first (g.R.Read.remaining c.args.reader.now)
       (g.W.Write.contents c.args.writer.now) c.new-link.result c.new.result c.new-link.ensures.carries (ap (λ r. r.read) c.new-link.ensures.receiver)
       (ap (λ n. n.taken) c.new.ensures)

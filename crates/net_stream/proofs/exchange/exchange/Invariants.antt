@@ -12,7 +12,7 @@ use Rattle.net_stream.proofs.exchange.exchange.Given as goal
 abbrev pub invariant-rounds : goal.invariant-rounds
 invariant-rounds g l =
     record {
-      moving : CopiesSoFar l.fn.config.first l.link l.counts (g.R.Read.remaining l.fn.reader) (g.R.Read.remaining l.reader) (g.W.Write.contents l.fn.writer)
+      so_far : CopiesSoFar l.fn.config.first l.link l.counts (g.R.Read.remaining l.fn.reader) (g.R.Read.remaining l.reader) (g.W.Write.contents l.fn.writer)
           (g.W.Write.contents l.writer) l.input.more;
       fates : FatesSoFar l.fn.link.there.fates l.fn.link.back.fates l.link.there.fates l.link.back.fates l.link.counts;
       rounds : l.stalled ≤ l.counts.rounds;

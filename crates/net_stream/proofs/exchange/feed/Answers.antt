@@ -8,8 +8,8 @@ use Rattle.net_stream.specs.Links.{Carries}
 use Rattle.net_stream.proofs.Moved.{asked, fed}
 use Rattle.net_stream.proofs.exchange.feed.Goals as goal
 
-pub returns-in-Ok-clause-moving : goal.returns-in-Ok-clause-moving
-returns-in-Ok-clause-moving g c = λ f old held holds.
+pub returns-in-Ok-clause-so_far : goal.returns-in-Ok-clause-so_far
+returns-in-Ok-clause-so_far g c = λ f old held holds.
     let l = c.args.link.now in
     let given = take c.in-Ok.count c.read.new.buf in
     let count = c.write.ensures.count in
@@ -28,8 +28,8 @@ returns-in-Ok-clause-moving g c = λ f old held holds.
     (c.saturating_add-counts.ensures ∙ ap (λ n. min (c.args.counts.now.taken + n) (2 ^ 64 - 1)) (sym long)) (λ i. c.args.counts.now.bytes) word
     (λ e. absurd (both_ways c.args.input.now.more e is))
 
-pub returns-in-Ok-eq0-clause-moving : goal.returns-in-Ok-eq0-clause-moving
-returns-in-Ok-eq0-clause-moving g c = λ f old held holds.
+pub returns-in-Ok-eq0-clause-so_far : goal.returns-in-Ok-eq0-clause-so_far
+returns-in-Ok-eq0-clause-so_far g c = λ f old held holds.
     let now = g.R.Read.remaining c.args.reader.now in
     let next = g.R.Read.remaining c.read.new.self in
     let none = c.in-Ok-eq0.field-0-test in
@@ -39,8 +39,8 @@ returns-in-Ok-eq0-clause-moving g c = λ f old held holds.
     asked f old held c.args.link.now c.args.counts.now now next holds c.args.input.now.more false
     (subst (λ n. Consumes now next (take n c.read.new.buf)) none bytes.0) (λ _. bytes.1 none (omega (arith, some, lent)))
 
-pub returns-in-Err-clause-moving : goal.returns-in-Err-clause-moving
-returns-in-Err-clause-moving g c = λ f old held holds.
+pub returns-in-Err-clause-so_far : goal.returns-in-Err-clause-so_far
+returns-in-Err-clause-so_far g c = λ f old held holds.
     let now = g.R.Read.remaining c.args.reader.now in
     let next = g.R.Read.remaining c.read.new.self in
     let is = (c.may_read.ensures.only c.if-not-may_read.false).0 in

@@ -13,8 +13,8 @@ returns-in_default-clause-listed g c =
     let none = sym c.loop-i.invariant.left ∙ c.in_default.ensures.steps.0 in
     c.loop-i.invariant.listed ∙ ap range_bytes (take_same c.loop-i.i most_reported all none (omega arith))
 
-pub returns-in_default-clause-words : goal.returns-in_default-clause-words
-returns-in_default-clause-words g c =
+pub returns-in_default-clause-fit : goal.returns-in_default-clause-fit
+returns-in_default-clause-fit g c =
     let all = maximal_runs (domain c.args.receiver.now.held) in
     let none = sym c.loop-i.invariant.left ∙ c.in_default.ensures.steps.0 in
     subst (All IsWords) (take_same c.loop-i.i most_reported all none (omega arith)) c.loop-i.invariant.words
@@ -26,7 +26,7 @@ loop-i-preserved g c =
     let run : ℕ × ℕ = (c.in-Some.start, c.in-Some.end) in
     let first = sym c.loop-i.invariant.left ∙ c.in-Some.ensures.steps in
     let one = take_next i all c.next.new.self run first in
-    let b2 = c.write_word-in-loop-i.new.buffer in
+    let b2 = c.write_number-in-loop-i.new.buffer in
     let s = to_be_bytes w64 c.in-Some.start in
     let e = to_be_bytes w64 c.in-Some.end in
     let place : 16 * (i + 1) ≡ 16 * i + 8 + 8 = omega arith in
@@ -34,15 +34,15 @@ loop-i-preserved g c =
       can = tt;
       finite = tt;
       left = rest_is i all c.next.new.self run first;
-      len = c.write_word-in-loop-i.ensures.len ∙ c.write_word.ensures.len ∙ c.loop-i.invariant.len;
+      len = c.write_number-in-loop-i.ensures.len ∙ c.write_number.ensures.len ∙ c.loop-i.invariant.len;
       listed =
           ap (λ n. take n b2) place
-          ∙ c.write_word-in-loop-i.ensures.prefix
-          ∙ ap (λ l. l ++ e) (c.write_word.ensures.prefix ∙ ap (λ l. l ++ s) c.loop-i.invariant.listed)
+          ∙ c.write_number-in-loop-i.ensures.prefix
+          ∙ ap (λ l. l ++ e) (c.write_number.ensures.prefix ∙ ap (λ l. l ++ s) c.loop-i.invariant.listed)
           ∙ listed_push (take i all) c.in-Some.start c.in-Some.end
           ∙ ap range_bytes (sym one);
       words = subst (All IsWords) (sym one) (All-push IsWords (take i all) run c.loop-i.invariant.words
-          (c.write_word.ensures.fits, c.write_word-in-loop-i.ensures.fits));
+          (c.write_number.ensures.fits, c.write_number-in-loop-i.ensures.fits));
     }
 
 pub returns-clause-listed : goal.returns-clause-listed

@@ -20,7 +20,7 @@ returns-clause-dispatched g c =
     let bytes : k.new_bytes ≡ k.bytes = sym gives.leaves.1 ∙ called.2 ∙ gives.shows.1 in
     let left : contents c.dequeue_with.new.self ≡ (if is_ok answer then drop 1 (contents q) else contents q) =
     ap contents k.made ∙ ap₂ (λ h ws. contents (after_hand_out (is_ok answer) q h ws)) header bytes
-    ∙ c.showing_changes_nothing.ensures.kept q k.header k.bytes (is_ok answer) c.well_placed.ensures k.first in
+    ∙ c.showing_changes_nothing.ensures.unwritten q k.header k.bytes (is_ok answer) c.well_placed.ensures k.first in
     record {
       endpoint = k.header;
       bytes = k.bytes;

@@ -10,5 +10,5 @@ returns-in_err-execute_line-clause-err g c =
 pub returns-in_err-execute_line-2-clause-err : goal.returns-in_err-execute_line-2-clause-err
 returns-in_err-execute_line-2-clause-err g c =
     let p = err_from_is_err_and c.from_residual-in_err-execute_line-2.result c.from_residual-in_err-execute_line-2.ensures.1 in
-    let k = c.in_ok-keep.ensures.ok in
-    rw (p.1, p.2, ← k.0, ← k.1, ← k.2, ← c.keep.ensures.replies, ← c.deref.ensures.value) c.in_err-execute_line-2.ensures.err
+    let k = c.in_ok-store.ensures.ok in
+    rw (p.1, p.2, ← k.0, ← k.1, ← k.2, ← c.store.ensures.replies, ← c.deref.ensures.value) c.in_err-execute_line-2.ensures.err

@@ -8,23 +8,22 @@ pub returns-in_err-write_out-clause-err : goal.returns-in_err-write_out-clause-e
 returns-in_err-write_out-clause-err g c =
     let p = err_from_is_err_and c.from_residual.result c.from_residual.ensures.1 in
     let failed = c.in_err-write_out.ensures.err in
-    rw (p.1, p.2, failed.0, c.write_out.ensures.emptied) (last-failed g.S.Session.rules
-    g.S.Session.closing _ _ (lines_of c.args.self.now.line.items) _ _ _ _ _
-    c.execute_last-outcome.result failed.1 c.execute_last-outcome.ensures.ok
+    rw (p.1, p.2, failed.0) (last-failed g.S.Session.rules
+    g.S.Session.closing _ _ (lines_of c.args.self.now.line.items) _ _ _
+    c.execute_last-outcome.result failed.1 c.write_out.ensures.emptied c.execute_last-outcome.ensures.ok
     c.execute_last-outcome.ensures.err)
 
 pub returns-clause-ok : goal.returns-clause-ok
 returns-clause-ok g c =
     on_ok_weaker c.execute_last-outcome.result (last-written g.S.Session.rules g.S.Session.closing _ _
-    (lines_of c.args.self.now.line.items) _ _ _ _ _ _ c.in_ok-write_out.ensures.ok
+    (lines_of c.args.self.now.line.items) _ _ _ c.in_ok-write_out.ensures.ok
     c.write_out.ensures.emptied) c.execute_last-outcome.ensures.ok
 
 pub returns-clause-err : goal.returns-clause-err
 returns-clause-err g c =
     IfErr-weaker c.execute_last-outcome.result _ _
-    (λ e h. rw c.write_out.ensures.emptied (PendingError-written
+    (λ e h. PendingError-written
     (transcript g.S.Session.rules g.S.Session.closing c.args.self.now.number
     c.args.self.now.session) (lines_of c.args.self.now.line.items)
-    (g.W.Write.contents c.args.writer.now) _ _ c.args.self.now.replies _ e h
-    c.in_ok-write_out.ensures.ok))
+    _ _ _ e h c.in_ok-write_out.ensures.ok c.write_out.ensures.emptied)
     c.execute_last-outcome.ensures.err

@@ -2,6 +2,7 @@ use Rattle.std.proofs.lemmas.Result.{err_from_is_err_and, on_ok_weaker, IfErr-we
 use Rattle.std.proofs.Common.{◌++◌}
 use Rattle.net_lines.specs.Text.{lines_of}
 use Rattle.net_lines.specs.Transcript.{transcript}
+use Rattle.net_lines.specs.BenchReading.{reading}
 use Rattle.net_lines.proofs.Progress.{Advances-written, Advances-failed, PendingError-written}
 use Rattle.net_lines.proofs.bench.Bench.take.Goals as goal
 
@@ -9,22 +10,21 @@ pub returns-in_err-write_out-clause-err : goal.returns-in_err-write_out-clause-e
 returns-in_err-write_out-clause-err g c =
     let p = err_from_is_err_and c.from_residual.result c.from_residual.ensures.1 in
     let failed = c.in_err-write_out.ensures.err in
-    rw (p.1, p.2, failed.0, c.write_out.ensures.emptied) (λ more. Advances-failed g.S.Session.rules
-    g.S.Session.closing c.args.bytes.now _ _ _ _ _ _ _ _ _ _ _ c.execute_ended-outcome.result more
-    failed.1 c.execute_ended-outcome.ensures.ok c.execute_ended-outcome.ensures.err)
+    rw (p.1, p.2, failed.0) (λ more. Advances-failed g.S.Session.rules
+    g.S.Session.closing c.args.bytes.now (reading c.args.self.now) _ _ _ _ c.execute_ended-outcome.result more
+    failed.1 c.write_out.ensures.emptied c.execute_ended-outcome.ensures.ok c.execute_ended-outcome.ensures.err)
 
 pub returns-clause-ok : goal.returns-clause-ok
 returns-clause-ok g c =
     on_ok_weaker c.execute_ended-outcome.result (Advances-written g.S.Session.rules c.args.bytes.now _ _
-    _ _ _ _ _ _ _ _ _ _ c.in_ok-write_out.ensures.ok c.write_out.ensures.emptied)
+    _ _ _ c.in_ok-write_out.ensures.ok c.write_out.ensures.emptied)
     c.execute_ended-outcome.ensures.ok
 
 pub returns-clause-err : goal.returns-clause-err
 returns-clause-err g c =
     IfErr-weaker c.execute_ended-outcome.result _ _
-    (λ e h more. rw c.write_out.ensures.emptied (PendingError-written
+    (λ e h more. PendingError-written
     (transcript g.S.Session.rules g.S.Session.closing c.args.self.now.number
     c.args.self.now.session) (lines_of (c.args.self.now.line.items ++ (c.args.bytes.now ++ more)))
-    (g.W.Write.contents c.args.writer.now) _ _ c.args.self.now.replies _ e (h more)
-    c.in_ok-write_out.ensures.ok))
+    _ _ _ e (h more) c.in_ok-write_out.ensures.ok c.write_out.ensures.emptied)
     c.execute_ended-outcome.ensures.err

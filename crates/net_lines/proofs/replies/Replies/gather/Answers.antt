@@ -5,7 +5,7 @@ use Rattle.net_lines.proofs.replies.Replies.gather.Goals as goal
 pub returns-then-reply-gt-ROOM-clause-ok : goal.returns-then-reply-gt-ROOM-clause-ok
 returns-then-reply-gt-ROOM-clause-ok g c =
     on_ok_weaker c.write_whole.result
-    (Gathers-through _ _ _ _ _ _ c.in_ok-write_out.ensures.ok c.write_out.ensures.emptied)
+    (Gathers-through _ _ _ _ c.in_ok-write_out.ensures.ok c.write_out.ensures.emptied)
     c.write_whole.ensures.ok
 
 pub returns-then-reply-gt-ROOM-clause-err : goal.returns-then-reply-gt-ROOM-clause-err

@@ -3,8 +3,8 @@ use Rattle.std.proofs.Common.{◌≡◌, ◌+◌, ◌≤◌, refl, subst, ap, �
 use Rattle.net_storage.specs.Ring.{queue, spare}
 use Rattle.net_receiver.specs.Contiguous.{contiguous_count, first_part}
 use Rattle.net_receiver.specs.Parts.{parts, Fits64Bits}
-use Rattle.net_receiver.specs.Rules.{Read, Gave}
-use Rattle.net_receiver.specs.Stored.{Stored, stored_next, stored_read, IsSound}
+use Rattle.net_receiver.specs.Rules.{Read, ReadReply}
+use Rattle.net_receiver.specs.Stored.{Stored, stored_next, stored_after_read, IsSound}
 use Rattle.net_receiver.proofs.Called.{read_receives, stays, head_bytes}
 use Rattle.net_receiver.proofs.Contiguous.{first_part_lent, first_part_length, contiguous_some, read_on}
 use Rattle.net_receiver.proofs.Reading.{read_leaves_next}
@@ -59,7 +59,7 @@ left g c =
     (queue c.dequeue_allocated.new.self) (spare c.dequeue_allocated.new.self) c.self.inside.held
 
 left_is : (g : given.Over) (c : goal.After-self-1 g) →
-    (left g c ≡ stored_read c.args.self.now c.f-answer.result.0) × IsSound g.row.N (left g c) × Fits64Bits (left g c)
+    (left g c ≡ stored_after_read c.args.self.now c.f-answer.result.0) × IsSound g.row.N (left g c) × Fits64Bits (left g c)
 left_is g c =
     let i = c.self.inside in
     let few = (lent_is g c).1 in
@@ -67,7 +67,7 @@ left_is g c =
     let all = read_invariant g.row.N i.first i.count_read (queue i.ring) (spare i.ring) i.held c.self.invariant.0 c.self.invariant.1
     c.f-answer.result.0 c.f-answer.result.0 (queue c.dequeue_allocated.new.self) (spare c.dequeue_allocated.new.self)
     (omega arith) c.dequeue_allocated.ensures.dequeued.0 c.dequeue_allocated.ensures.dequeued.1 in
-    (all.0 ∙ ap (λ v. stored_read v c.f-answer.result.0) c.self.view_is, all.1, all.2)
+    (all.0 ∙ ap (λ v. stored_after_read v c.f-answer.result.0) c.self.view_is, all.1, all.2)
 
 pub invariant_of-self : goal.invariant_of-self
 invariant_of-self g c =
@@ -94,7 +94,7 @@ returns-clause-state g c = (left_is g c).0
 
 pub returns-clause-step : goal.returns-clause-step
 returns-clause-step g c = λ s d.
-    steps g.row.N c.args.self.now (left g c) (Read c.f-answer.result.0) (Gave (take c.f-answer.result.0 c.args.self.now.queue)) (left_is g c).0 refl s d
+    steps g.row.N c.args.self.now (left g c) (Read c.f-answer.result.0) (ReadReply (take c.f-answer.result.0 c.args.self.now.queue)) (left_is g c).0 refl s d
 
 pub returns-clause-setting : goal.returns-clause-setting
 returns-clause-setting g c = stays g.row.N c.args.self.now (left g c) (Read c.f-answer.result.0) (left_is g c).0 (left_is g c).1

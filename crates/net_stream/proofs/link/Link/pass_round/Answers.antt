@@ -219,7 +219,7 @@ returns-clause-round g c =
       };
       brings = λ f w carries room come come_back.
           let word : end_of s < 2 ^ 64 = (let e = c.end-end.ensures.end in omega arith) in
-          let has_room : HasRoom s r0 = record { window = room; word = word } in
+          let has_room : HasRoom s r0 = record { within = room; fits = word } in
           let c1 = c.transmit.ensures.carried f w r0 b0 carries in
           let c2 = late.carried f w s c1 in
           let c3 = c.pass_frames.ensures.carried f w s c2 in
@@ -231,7 +231,7 @@ returns-clause-round g c =
           let fits = sent.within in
           let size : length part ≡ n = omega (arith, fits, length-take n s.queue) in
           let reaches : Reaches s.reported (s.base + length part) (stored_next r1) t2.ahead =
-          sent_reaches c.round_trip.ensures s.reported (stored_next r1) s.base part sent.parts t0.ahead t2.ahead ahead sent.all sent.marked
+          sent_reaches c.frames_decode.ensures s.reported (stored_next r1) s.base part sent.parts t0.ahead t2.ahead ahead sent.all sent.marked
           (omega (arith, size, fits, word)) (le_trans carries.behind late.grows) in
           let far : s.base + length part ≤ stored_next r2 = c.in_ok-pass_frames.ensures.reaches f w s c2 (room_same s r0 r1 late.limit has_room) come1
           (s.base + length part) reaches in
@@ -246,7 +246,7 @@ returns-clause-round g c =
           acks.acked come2 ∙ ap (after_ack_frames s4) last in
           let end4 : end_of s4 ≡ end_of s = c.pass_late_acks.ensures.end in
           let base : c.pass_acks.new.sender.base ≡ stored_next r2 =
-          ap (λ v. v.base) is ∙ acked_last c.round_trip.ensures s4 (stored_next r2)
+          ap (λ v. v.base) is ∙ acked_last c.frames_decode.ensures s4 (stored_next r2)
           (range_bytes (take most_reported (maximal_runs (domain r2.held)))) c.pass_frames.new.back.ahead (omega (arith, below, end4)) small
           (subst (λ v. v.base ≤ stored_next r2) is behind) in
           let end5 : end_of c.pass_acks.new.sender ≡ end_of s = ap end_of is ∙ all_keep_end s4 (c.pass_frames.new.back.ahead ++ ack_of r2 ∷ []) ∙ end4 in (

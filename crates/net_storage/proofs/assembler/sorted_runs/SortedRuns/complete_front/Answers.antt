@@ -16,11 +16,11 @@ use Rattle.net_storage.proofs.assembler.sorted_runs.SortedRuns.complete_front.Go
 
 pub returns-then-size-eq0-clause-size : goal.returns-then-size-eq0-clause-size
 returns-then-size-eq0-clause-size g c =
-    c.remove_front.ensures.removed.count ∙ ap front (sym (with_range-none _ 0 c.args.size (omega arith)))
+    c.remove_front.ensures.removed.length ∙ ap front (sym (with_range-none _ 0 c.args.size (omega arith)))
 
 pub returns-then-size-eq0-clause-rest : goal.returns-then-size-eq0-clause-rest
 returns-then-size-eq0-clause-rest g c =
-    c.remove_front.ensures.removed.rest ∙ ap (shift_down (set_of c.args.self.now)) (sym c.remove_front.ensures.removed.count)
+    c.remove_front.ensures.removed.rest ∙ ap (shift_down (set_of c.args.self.now)) (sym c.remove_front.ensures.removed.length)
     ∙ ap (λ s. shift_down s c.remove_front.result) (sym (with_range-none _ 0 c.args.size (omega arith)))
 
 pub returns-then-self-eq0-clause-size : goal.returns-then-self-eq0-clause-size

@@ -9,7 +9,7 @@ pub returns-then-size-eq0-clause-removed : goal.returns-then-size-eq0-clause-rem
 returns-then-size-eq0-clause-removed g c =
     let h = c.args.self.now in
     record {
-      count = omega (arith, c.front-size.ensures);
+      length = omega (arith, c.front-size.ensures);
       rest = sym (shift_down-zero (set_of h) (front (set_of h)) (omega (arith, c.front-size.ensures)));
       bound = few_held h c.requires;
     }
@@ -29,7 +29,7 @@ returns-clause-removed g c =
     let is = c.front-size.ensures in
     let held = front_held h c.requires (omega (arith, is)) in
     record {
-      count = is;
+      length = is;
       rest = ap set_of_runs (c.drop_front.ensures.runs ∙ dropped h c.requires 1 size size (omega (arith, held.1)))
           ∙ shifted_down_set (runs_of h) size (are_runs h c.requires) is (omega arith)
           ∙ ap (Rattle.net_storage.specs.Positions.shift_down (set_of h)) is;

@@ -1,7 +1,7 @@
 use Rattle.std.proofs.Common.{◌≡◌, min, length, ap, arith}
 use Rattle.net_receiver.specs.Commands.{command_seen}
 use Rattle.net_receiver.proofs.Run.{read_is, show_is}
-use Rattle.net_receiver.proofs.schedule.run.Goals as goal
+use Rattle.net_receiver.proofs.schedule.execute_command.Goals as goal
 
 pub returns-in_ok-bytes-in-Read-clause-state : goal.returns-in_ok-bytes-in-Read-clause-state
 returns-in_ok-bytes-in-Read-clause-state g c =

@@ -3,7 +3,7 @@ use Rattle.std.proofs.Common.{◌∙◌, arith, ⊎_elim, length-drop}
 use Rattle.std.proofs.lemmas.Bool.{cases_lt, cond-true, cond-false, and_from, and_left, and_right, le-leb, lt-leb}
 use Rattle.std.proofs.lemmas.List.{drop-drop}
 use Rattle.net_stream.specs.Outgoing.{Outgoing, end_of, sender_from, after_ack, after_acks, greatest_within}
-use Rattle.net_stream.proofs.sender.keeps_from_greatest.Goals as goal
+use Rattle.net_stream.proofs.sender.queue_from_greatest.Goals as goal
 
 -- what one acknowledgement leaves
 abbrev Follows : Outgoing → ℕ → Outgoing → Type 0

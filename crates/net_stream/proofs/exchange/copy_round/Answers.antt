@@ -1,7 +1,7 @@
 use Rattle.std.proofs.Common.{◌≡◌, ◌∙◌, ◌-◌, ◌<◌, ◌≤◌, ◌^◌, drop, length, length-drop, refl, sym, subst, arith}
 use Rattle.std.proofs.lemmas.Result.{on_ok_weaker, on_err_weaker}
 use Rattle.net_stream.specs.Outgoing.{end_of}
-use Rattle.net_stream.specs.Rounds.{CountsPart, CountsFates, FatesSoFar}
+use Rattle.net_stream.specs.Rounds.{CountsBrokenRound, CountsFates, FatesSoFar}
 use Rattle.net_stream.specs.Links.{Round}
 use Rattle.net_stream.specs.Stuck.{failures}
 use Rattle.net_stream.specs.Copying.{CopyRoundLeaves}
@@ -9,7 +9,7 @@ use Rattle.net_stream.proofs.Drawn.{part_met, round_met, met_so_far, was_ok, was
 use Rattle.net_stream.proofs.Stuck.{Numbers, part_failed, round_failed, round_keeps, round_moves, step_moves}
 use Rattle.net_stream.proofs.RoundCount.{round_at_once}
 use Rattle.net_stream.proofs.Moved.{passed, handed, handed_less, so_far}
-use Rattle.net_stream.proofs.exchange.step.Goals as goal
+use Rattle.net_stream.proofs.exchange.copy_round.Goals as goal
 
 pub returns-then-is_err-clause-err : goal.returns-then-is_err-clause-err
 returns-then-is_err-clause-err g c = λ f old now held more m.
@@ -68,7 +68,7 @@ pub returns-then-is_err-clause-failed : goal.returns-then-is_err-clause-failed
 returns-then-is_err-clause-failed g c =
     let old = c.args.link.now in
     let new = c.pass_round-passed.new.self in
-    let part = was_err (CountsPart old.there.fates old.back.fates old.counts new.counts) c.pass_round-passed.result
+    let part = was_err (CountsBrokenRound old.there.fates old.back.fates old.counts new.counts) c.pass_round-passed.result
     (sym c.is_err.ensures.value ∙ c.if-is_err.true) c.pass_round-passed.ensures.err in
     part_failed old.there.fates old.back.fates old.counts new.counts part
 
@@ -83,7 +83,7 @@ pub returns-then-is_err-clause-fates : goal.returns-then-is_err-clause-fates
 returns-then-is_err-clause-fates g c = λ v v' h.
     let old = c.args.link.now in
     let new = c.pass_round-passed.new.self in
-    let part = was_err (CountsPart old.there.fates old.back.fates old.counts new.counts) c.pass_round-passed.result
+    let part = was_err (CountsBrokenRound old.there.fates old.back.fates old.counts new.counts) c.pass_round-passed.result
     (sym c.is_err.ensures.value ∙ c.if-is_err.true) c.pass_round-passed.ensures.err in
     part_met v v' old.there.fates old.back.fates old.counts new.counts part h
 
@@ -104,8 +104,8 @@ returns-clause-left g c = on_ok_weaker c.hand_out.result
     subst (λ l. FatesSoFar v v' l.there.fates l.back.fates l.counts) (sym c.hand_out.ensures.state) (round_met v v' old new round.passed h))
     c.hand_out.ensures.ok
 
-pub returns-clause-keeps : goal.returns-clause-keeps
-returns-clause-keeps g c = on_ok_weaker c.hand_out.result
+pub returns-clause-leaves : goal.returns-clause-leaves
+returns-clause-leaves g c = on_ok_weaker c.hand_out.result
     (λ out.
     let old = c.args.link.now in
     let new = c.pass_round-passed.new.self in
@@ -128,11 +128,11 @@ returns-clause-keeps g c = on_ok_weaker c.hand_out.result
     (record {
       ahead = k.ahead;
       ahead_back = k.ahead_back;
-      window = k.room;
-      capacity = k.capacity;
-      chunk = c.hand_out.ensures.chunk;
+      sender_capacity = k.sender_capacity;
+      receiver_capacity = k.receiver_capacity;
+      same_size = c.hand_out.ensures.chunk;
       end = k.end;
-      word = (let e = c.end-end.ensures.end in omega arith);
+      fits = (let e = c.end-end.ensures.end in omega arith);
       base = k.base;
       read = omega arith;
       first = k.first;
@@ -141,8 +141,8 @@ returns-clause-keeps g c = on_ok_weaker c.hand_out.result
     }))
     c.hand_out.ensures.ok
 
-pub returns-clause-moves : goal.returns-clause-moves
-returns-clause-moves g c = on_ok_weaker c.hand_out.result
+pub returns-clause-stuck : goal.returns-clause-stuck
+returns-clause-stuck g c = on_ok_weaker c.hand_out.result
     (λ out f w carries none none_back kept cap some still still_read.
     let old = c.args.link.now in
     let new = c.pass_round-passed.new.self in
@@ -155,7 +155,8 @@ returns-clause-moves g c = on_ok_weaker c.hand_out.result
     } in
     let k = round_keeps old new round.passed numbers in
     let word : end_of old.sender < 2 ^ 64 = (let e = c.end-end.ensures.end in omega arith) in
-    let moves = round_moves old new round.passed c.round_trip.ensures numbers c.completion.ensures.in_order c.truthful.ensures.queue c.is_sound.ensures word in
+    let moves = round_moves old new round.passed c.frames_decode.ensures numbers
+    c.completion.ensures.in_order c.truthful.ensures.queue c.is_sound.ensures word in
     step_moves f w old new c.hand_out.new.link (length c.args.chunk.now) k moves c.hand_out.ensures.state carries none none_back kept cap some still still_read)
     c.hand_out.ensures.ok
 
@@ -172,8 +173,9 @@ returns-clause-at_once g c = on_ok_weaker c.hand_out.result
       capacity = c.numbers.ensures.capacity;
     } in
     let word : end_of old.sender < 2 ^ 64 = (let e = c.end-end.ensures.end in omega arith) in
-    let moves = round_moves old new round.passed c.round_trip.ensures numbers c.completion.ensures.in_order c.truthful.ensures.queue c.is_sound.ensures word in
-    round_at_once c.round_trip.ensures c.truthful.ensures.queue f w old new c.hand_out.new.link (length c.args.chunk.now) round.passed
+    let moves = round_moves old new round.passed c.frames_decode.ensures numbers
+    c.completion.ensures.in_order c.truthful.ensures.queue c.is_sound.ensures word in
+    round_at_once c.frames_decode.ensures c.truthful.ensures.queue f w old new c.hand_out.new.link (length c.args.chunk.now) round.passed
     (round_keeps old new round.passed numbers) moves word c.hand_out.ensures.state carries (c.pass_round-passed.ensures.carries f w carries)
     none none_back come come_back meet cap some kept)
     c.hand_out.ensures.ok

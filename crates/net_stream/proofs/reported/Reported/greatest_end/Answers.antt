@@ -1,13 +1,13 @@
 use Rattle.std.proofs.Common.{◌+◌, ◌∙◌, sym, ap, arith, take, drop}
-use Rattle.net_stream.specs.Reported.{last_end}
+use Rattle.net_stream.specs.Reported.{greatest_end}
 use Rattle.net_stream.proofs.Spared.{rest_of_first}
-use Rattle.net_stream.proofs.reported.Reported.last_end.Goals as goal
+use Rattle.net_stream.proofs.reported.Reported.greatest_end.Goals as goal
 
 pub loop-i-preserved : goal.loop-i-preserved
 loop-i-preserved c =
     let i = c.loop-i.i in
     let ranges = take c.self.inside.count c.self.inside.ranges in
     let rest = rest_of_first c.self.inside.count i c.self.inside.ranges (0, 0) (omega arith) (omega arith) in
-    ap (last_end (drop (i + 1) ranges)) c.max-last.ensures
-    ∙ sym (ap (λ l. last_end l c.loop-i.last) rest)
+    ap (greatest_end (drop (i + 1) ranges)) c.max-last.ensures
+    ∙ sym (ap (λ l. greatest_end l c.loop-i.last) rest)
     ∙ c.loop-i.invariant

@@ -1,0 +1,5 @@
+use Rattle.net_receiver.proofs.KeptLists.{lists_held_runs}
+use Rattle.net_receiver.proofs.laws.listed_runs.Goals as goal
+
+pub returns : goal.returns
+returns c = lists_held_runs c.maximal_runs.ensures
