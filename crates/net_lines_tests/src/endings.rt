@@ -1,4 +1,4 @@
-//! How a run over a reader and a writer ends.
+//! How a call of `run` ends.
 use crate::assertions::{Place, assert_bytes, assert_count, assert_text};
 use net_lines::{Mode, run};
 use net_testing::{Sink, Source};
@@ -16,7 +16,7 @@ pub fn command_words(alloc: Global, line: &str) -> Result<Vec<String>, AllocErro
     Ok(words)
 }
 
-/// Returns the text of how a run ends whose memory is that of `heap`, in the mode that these words
+/// Returns the text of how `run` ends whose memory is that of `heap`, in the mode that these words
 /// name.
 pub fn ending<A: Allocator + Copy, R: Read, W: Write>(
     alloc: Global,
@@ -35,7 +35,7 @@ pub fn ending<A: Allocator + Copy, R: Read, W: Write>(
     }
 }
 
-/// Runs the mode that a place names, in memory of `heap`: the run ends with this text, this is all
+/// Calls `run` in the mode that a place names, in memory of `heap`: `run` ends with this text, this is all
 /// that is written, and nothing is flushed.
 pub fn check_run<A: Allocator + Copy>(
     rt: &impl Abort,

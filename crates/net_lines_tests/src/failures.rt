@@ -1,4 +1,4 @@
-//! Runs over readers and writers that fail, and whose calls are counted.
+//! Calls of `run` over readers and writers that fail, and whose calls are counted.
 ghost use Rattle.std.specs.Prelude.{None};
 
 use crate::assertions::{assert_count, assert_holds, assert_text};
@@ -11,25 +11,25 @@ use std::io::{ErrorKind, Read, Write};
 use std::process::Abort;
 use std::test::Fail;
 
-/// A reader that gives one piece a call, and notes before each call how many bytes were written.
+/// A reader that gives one part a call, and notes before each call how many bytes were written.
 #[derive(Drop)]
-struct Pieces<'a> {
-    pieces: &'a [&'a [u8]],
+struct Parts<'a> {
+    parts: &'a [&'a [u8]],
     written: &'a Cell<usize>,
     seen: Vec<usize>,
 }
 
-impl Read for Pieces<'_> {
+impl Read for Parts<'_> {
     ghost remaining = { λ _. None };
 
     fn read(&mut self, buf: &mut [u8]) -> io::Result<usize> {
         let call = self.seen.len();
         self.seen.push(self.written.get())?;
-        let Some(piece) = self.pieces.get(call) else {
+        let Some(part) = self.parts.get(call) else {
             return Ok(0);
         };
-        let count = piece.len().min(buf.len());
-        buf[..count].copy_from_slice(&piece[..count]);
+        let count = part.len().min(buf.len());
+        buf[..count].copy_from_slice(&part[..count]);
         Ok(count)
     }
 }
@@ -54,16 +54,16 @@ impl Write for Counter<'_> {
     }
 }
 
-/// Runs pieces that are read one a call: before each read so many bytes were written.
+/// Executes parts that are read one a call: before each read so many bytes were written.
 fn check_written(
     rt: &impl Abort,
     alloc: Global,
-    pieces: &[&[u8]],
+    parts: &[&[u8]],
     seen: &[usize],
 ) -> Result<(), Fail> {
     let written = Cell::new(0);
-    let mut reader = Pieces {
-        pieces,
+    let mut reader = Parts {
+        parts,
         written: &written,
         seen: Vec::new(alloc),
     };
@@ -78,7 +78,7 @@ fn check_written(
 fn writes_each_reply_before_the_next_read(rt: HostRuntime) -> Result<(), Fail> {
     let lines: [&[u8]; 5] = [b"w 616263\n", b"r 2\n", b"w 646566\n", b"r 9\n", b"r 1"];
     check_written(&rt, rt.alloc(), &lines, &[0, 7, 17, 24, 38, 38])?;
-    // The second piece ends a line that the first one begins.
+    // The second part ends a line that the first one begins.
     let cut: [&[u8]; 2] = [b"w 61\nr", b" 1\n"];
     check_written(&rt, rt.alloc(), &cut, &[0, 7, 15])
 }
@@ -120,7 +120,7 @@ fn output_for((_, input, output, ends): Script, given: usize) -> &'static [u8] {
     output.get(..end).unwrap_or(output)
 }
 
-/// Runs a script over a reader whose call of this number fails with this kind of error.
+/// Executes a script over a reader whose call of this number fails with this kind of error.
 fn check_failing_read(
     rt: &impl Abort,
     alloc: Global,
@@ -146,7 +146,7 @@ fn check_failing_read(
     Ok(())
 }
 
-/// Runs each script by reads of so many bytes that fail in turn.
+/// Executes each script by reads of so many bytes that fail in turn.
 fn check_failing_reads(
     rt: &impl Abort,
     alloc: Global,
@@ -196,7 +196,7 @@ fn taken_before(failing_call: usize, bytes_per_call: usize, together: &[usize]) 
     taken
 }
 
-/// Runs a script, with so many bytes a read, over a writer whose call of this number fails with
+/// Executes a script, with so many bytes a read, over a writer whose call of this number fails with
 /// this kind of error or takes 0 bytes. Replies of these lengths are written together.
 fn check_failing_write(
     rt: &impl Abort,
@@ -227,7 +227,7 @@ fn check_failing_write(
     Ok(())
 }
 
-/// Runs each script by writes of so many bytes that fail in turn, with all of the input in one read
+/// Executes each script by writes of so many bytes that fail in turn, with all of the input in one read
 /// and with a byte a read.
 fn check_failing_writes(
     rt: &impl Abort,
@@ -262,7 +262,7 @@ fn each_write_fails_in_turn(rt: HostRuntime) -> Result<(), Fail> {
 }
 
 /// A line of so many bytes that no line feed ends, by reads of so many bytes of which one fails:
-/// how the run ends, and after how many reads.
+/// how `run` ends, and after how many reads.
 const LONG_LINES: [(usize, usize, usize, &str, usize); 8] = [
     (4096, 65536, 1, "read failed", 2),
     (4097, 65536, 1, "line 1: line too long", 1),
@@ -274,7 +274,7 @@ const LONG_LINES: [(usize, usize, usize, &str, usize); 8] = [
     (4097, 1, 4097, "line 1: line too long", 4097),
 ];
 
-/// Runs a row of a long line: nothing is written.
+/// Executes a row of a long line: nothing is written.
 fn check_long_line(
     rt: &impl Abort,
     alloc: Global,

@@ -1,4 +1,4 @@
-//! Runs over long inputs: what gives up from some size on is caught.
+//! Calls of `run` over long inputs: what gives up from some size on is caught.
 ghost use Rattle.std.specs.Prelude.{None};
 
 use crate::assertions::{assert_count, assert_holds, assert_text};
@@ -80,7 +80,7 @@ impl Write for Expected<'_> {
 /// How often four lines are given: 60,000 lines.
 const TIMES: usize = 15000;
 
-/// Runs four lines again and again, with these last bytes or a failed read behind them, over a
+/// Executes four lines again and again, with these last bytes or a failed read behind them, over a
 /// writer with so much room.
 fn check_repeated(
     rt: &impl Abort,
@@ -134,7 +134,7 @@ const SCRIPTS: [Script<'static>; 3] = [
     ),
 ];
 
-/// Runs each script again and again: to its end, to a failed read, to a failed write and to a fault.
+/// Executes each script again and again: to its end, to a failed read, to a failed write and to a fault.
 fn check_scripts(rt: &impl Abort, alloc: Global, scripts: &[Script<'_>]) -> Result<(), Fail> {
     for script in scripts {
         let room = script.2.len().saturating_mul(TIMES).saturating_sub(1);
@@ -171,7 +171,7 @@ fn long_stream(alloc: Global) -> Result<(Vec<u8>, Vec<u8>), AllocError> {
     Ok((input, output))
 }
 
-/// Runs lines of mode `stream` by reads of 1,000 bytes and writes of 500, of which some may fail,
+/// Executes lines of mode `stream` by reads of 1,000 bytes and writes of 500, of which some may fail,
 /// and returns how many writes there were. All replies are written unless a write fails.
 fn check_long_stream(
     rt: &impl Abort,
@@ -223,7 +223,7 @@ fn line_of(alloc: Global, length: usize) -> Result<Vec<u8>, AllocError> {
     Ok(line)
 }
 
-/// Runs a line of so many bytes by reads of 1,000 bytes.
+/// Executes a line of so many bytes by reads of 1,000 bytes.
 fn check_line_of(rt: &impl Abort, alloc: Global, length: usize) -> Result<(), Fail> {
     let line = line_of(alloc, length)?;
     let mut source = Source::failing(&line, 1000, NEVER, ErrorKind::Other);
@@ -268,7 +268,7 @@ pub fn long_reply(alloc: Global) -> Result<(Vec<u8>, Vec<u8>), AllocError> {
     Ok((input, output))
 }
 
-/// Runs these lines by writes of 60,000 bytes, of which this one fails, and returns how many bytes
+/// Executes these lines by writes of 60,000 bytes, of which this one fails, and returns how many bytes
 /// were written.
 fn check_long_reply(
     rt: &impl Abort,

@@ -1,4 +1,4 @@
-//! Runs whose requests for memory are refused, each in turn.
+//! Calls of `run` whose requests for memory are refused, each in turn.
 use crate::assertions::{assert_count, assert_holds};
 use crate::endings::{check_run, command_words};
 use crate::long_inputs::long_reply;
@@ -8,7 +8,7 @@ use std::alloc::{AllocError, Global};
 use std::process::Abort;
 use std::test::Fail;
 
-/// A part of a run: what is read, what is written for it, and how many requests for memory it
+/// A part of a call: what is read, what is written for it, and how many requests for memory it
 /// makes.
 type Part<'a> = (&'a [u8], &'a [u8], usize);
 
@@ -37,7 +37,7 @@ fn output_before(alloc: Global, parts: &[Part<'_>], refused: usize) -> Result<Ve
     Ok(output)
 }
 
-/// Refuses this request for memory of a run that makes so many.
+/// Refuses this request for memory of a call that makes so many.
 fn check_refusal(
     rt: &impl Abort,
     alloc: Global,
@@ -60,7 +60,7 @@ fn check_refusal(
     Ok(())
 }
 
-/// Refuses each request for memory of a run in turn. Before the first line the memory of storage,
+/// Refuses each request for memory of a call in turn. Before the first line the memory of storage,
 /// if the mode has any, and of the buffers for a line and for replies is asked for.
 fn check_refusals(
     rt: &impl Abort,
@@ -133,7 +133,7 @@ fn each_request_for_memory_is_refused_in_turn(rt: HostRuntime) -> Result<(), Fai
     check_refusals(&rt, rt.alloc(), "stream 4 4 1000", &DIFFERING)
 }
 
-/// Whether a run over this memory ends without an error, writes so many bytes, and flushes nothing.
+/// Whether a call over this memory ends without an error, writes so many bytes, and flushes nothing.
 fn writes_all(
     alloc: Global,
     memory: &Refusing,
@@ -154,7 +154,7 @@ fn writes_all(
     is_ok && sink.bytes.len() == length && sink.flushes == 0
 }
 
-/// Refuses each request for memory of a run in turn: it makes so many, for at most so many bytes in
+/// Refuses each request for memory of a call in turn: it makes so many, for at most so many bytes in
 /// all, and at last it writes so many bytes.
 fn check_memory(
     rt: &impl Abort,

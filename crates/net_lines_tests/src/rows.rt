@@ -8,10 +8,10 @@ use std::io::ErrorKind;
 use std::process::Abort;
 use std::test::Fail;
 
-/// A row: the mode's words, the input, the output and how the run ends.
+/// A row: the mode's words, the input, the output and how `run` ends.
 type Row<'a> = (&'a str, &'a [u8], &'a [u8], &'a str);
 
-/// Runs a row by a reader and a writer that give and take so many bytes a call. Without a fault one
+/// Executes a row by a reader and a writer that give and take so many bytes a call. Without a fault one
 /// read more than those that give bytes is made, which sees the end.
 fn check_row(
     rt: &impl Abort,
@@ -30,7 +30,7 @@ fn check_row(
     Ok(())
 }
 
-/// Runs each row by readers and writers that give and take one byte, three bytes or all bytes a
+/// Executes each row by readers and writers that give and take one byte, three bytes or all bytes a
 /// call.
 fn check_rows(rt: &impl Abort, alloc: Global, rows: &[Row<'_>]) -> Result<(), Fail> {
     for row in rows {
@@ -291,7 +291,7 @@ fn compares_two_schedules(rt: HostRuntime) -> Result<(), Fail> {
     check_rows(&rt, rt.alloc(), &SCHEDULE_ROWS)
 }
 
-/// Runs each of these lines by itself: it is no command of the mode.
+/// Executes each of these lines by itself: it is no line of the mode.
 fn check_refused(rt: &impl Abort, alloc: Global, words: &str, lines: &[&[u8]]) -> Result<(), Fail> {
     for line in lines {
         check_rows(rt, alloc, &[(words, *line, b"", "line 1: bad command")])?;

@@ -221,7 +221,8 @@ fn has_brought_on<A: Allocator + Copy>(
     counts: &Counts,
 ) -> bool
     ensures still { result ≡ false → (link.now.sender.base ≡ base) × (counts.now.bytes ≡ bytes) }
-    ensures brought { result ≡ true → (link.now.sender.base ≡ base) × (counts.now.bytes ≡ bytes) → ⊥ }
+    ensures brought { result ≡ true
+        → (link.now.sender.base ≡ base) × (counts.now.bytes ≡ bytes) → ⊥ }
 {
     link.sender.base() != base || counts.bytes != bytes
 }

@@ -132,7 +132,7 @@ fn check(
 /// The words, the input, and what comes of it.
 type Row<'a> = (&'a str, &'a [u8], Expected<'a>);
 
-/// Runs of each status but 2.
+/// Calls of each status but 2.
 const STATUSES: [Row<'static>; 13] = [
     ("ring 8", b"w 61\n", (b"took 1\n", 0, b"", 2, 1)),
     ("ring 8", b"", (b"", 0, b"", 1, 0)),
