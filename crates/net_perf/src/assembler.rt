@@ -43,12 +43,11 @@ fn front_at<const N: usize>(ops: &[usize], rounds: u64) -> u64
         assembler.clear();
         let mut refused: u64 = 0;
         for range in ops.chunks_exact(2) {
-            if !Assembler::<N>::fits(range[0], range[1]) {
-                continue;
-            }
-            match assembler.add_then_remove_front(range[0], range[1]) {
-                Ok(length) => sum = mix(sum, length as u64),
-                Err(_) => refused = refused.wrapping_add(1),
+            if Assembler::<N>::fits(range[0], range[1]) {
+                match assembler.add_then_remove_front(range[0], range[1]) {
+                    Ok(length) => sum = mix(sum, length as u64),
+                    Err(_) => refused = refused.wrapping_add(1),
+                }
             }
         }
         sum = mix(sum, refused);

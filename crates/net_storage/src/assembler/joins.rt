@@ -2,7 +2,7 @@
 //!
 //! The first `used` pairs of an array are the runs, counted from where the first of them starts:
 //! they rise, with a hole between neighbours, and the rest of the array isn't read.
-ghost use Rattle.std.specs.Prelude.{ℕ, ◌+◌, ◌*◌, ◌<◌, ◌≤◌, ◌^◌, length, take};
+ghost use Rattle.std.specs.Prelude.{ℕ, ◌+◌, ◌-◌, ◌*◌, ◌<◌, ◌≤◌, ◌^◌, length, take};
 ghost use Rattle.net_storage.specs.Positions.{runs_shifted_up};
 ghost use Rattle.net_storage.specs.RunLists.{AreRuns, FitsFrom, JoinsRange, StartsAtZero, end_at};
 ghost use Rattle.net_storage.specs.Turns.{TurnsWithin, binary_digits};
@@ -47,6 +47,30 @@ pub(crate) fn join_range(
         return Ok(used);
     }
     // The range starts before the last run: it may meet any.
+    join_any(pairs, used, start, end, turns)
+}
+
+/// Joins a range that isn't empty, and doesn't lie behind the last run, with the runs that it meets
+/// or touches.
+// Most segments don't come here. Were this code inline, with all its loops, the tests that they take
+// would lie far apart, and more of them across lines of the processor's cache of decoded code.
+#[inline(never)]
+fn join_any(
+    pairs: &mut [(usize, usize)],
+    used: usize,
+    start: usize,
+    end: usize,
+    turns: &mut Turns,
+) -> Result<usize, TooManyHolesError>
+    requires used { used ≤ length pairs.old }
+    requires runs { AreRuns (take used pairs.old) }
+    requires waiting { 0 < used }
+    requires some { start < end }
+    requires last { start ≤ end_at (take used pairs.old) (used - 1) }
+    ensures joined { JoinsRange (take used pairs.old) pairs.old pairs.new start end result }
+    ensures turns { let n = length pairs.old in
+        TurnsWithin (2 * binary_digits n) n turns.old turns.new }
+{
     let first = runs_ending_before(&pairs[..used], start, turns);
     join_from(pairs, used, first, start, end, turns)
 }

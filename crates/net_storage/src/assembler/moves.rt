@@ -6,7 +6,8 @@ ghost use Rattle.net_storage.specs.RunLists.{AreRuns, FitsFrom, runs_shifted_dow
 use super::turns::Turns;
 
 /// Writes `entry` at `at`, and the used pairs from there on one index up.
-#[inline(always)]
+// Where a range is joined, most lie next to a run and need no loop: that code stays short.
+#[inline(never)]
 pub(crate) fn insert_pair(
     pairs: &mut [(usize, usize)],
     used: usize,

@@ -20,11 +20,14 @@ use super::{IterData, TooManyHolesError};
 /// that position, and so how many are missing before it. Where positions below it are removed, only
 /// `hole` changes. The first `used` pairs of the array are the runs, and the others aren't read; with
 /// no run `hole` means nothing.
+///
+/// The two numbers stand before the array: so close to where the value begins, instructions that
+/// read them are short.
 #[derive(Debug, Clone, Copy)]
 pub(crate) struct SortedRuns<const N: usize> {
-    pairs: [(usize, usize); N],
     used: usize,
     hole: usize,
+    pairs: [(usize, usize); N],
 }
 
 impl<const N: usize> SortedRuns<N> {
@@ -34,9 +37,9 @@ impl<const N: usize> SortedRuns<N> {
         ensures empty { set_of result ≡ nothing }
     {
         SortedRuns {
-            pairs: [(0, 0); N],
             used: 0,
             hole: 0,
+            pairs: [(0, 0); N],
         }
     }
 
