@@ -12,8 +12,8 @@ use std::marker::Model;
 #[cfg(test)]
 mod tests;
 
-/// A device of two lists: frames to come, and frames that were sent. It keeps the moment at which it
-/// was last asked for a frame.
+/// A device of two lists: frames to come, and frames that were sent. It stores the moment at which
+/// it was last asked for a frame.
 #[derive(Drop)]
 pub struct TwoLists<A: Allocator + Copy = Global> {
     pub to_come: VecDeque<Vec<u8, A>, A>,

@@ -192,9 +192,9 @@ fn a_ring_asks_for_its_memory_once(rt: HostRuntime) -> Result<(), Fail> {
     Ok(())
 }
 
-/// Segments of 1,000 bytes each that fill a window of 64,000, and a read of it, so many times: the
-/// lines of mode `stream`, and how many bytes are written.
-fn long_windows(alloc: Global, times: usize) -> Result<(Vec<u8>, usize), AllocError> {
+/// Segments of 1,000 bytes each that fill a receiver of 64,000, and a read of all, so many times:
+/// the lines of mode `stream`, and how many bytes are written.
+fn full_receivers(alloc: Global, times: usize) -> Result<(Vec<u8>, usize), AllocError> {
     let mut input = Vec::new(alloc);
     let digits = vec![in alloc; b'6'; 2_000]?;
     for number in 0..times.saturating_mul(64) {
@@ -210,11 +210,11 @@ fn long_windows(alloc: Global, times: usize) -> Result<(Vec<u8>, usize), AllocEr
     Ok((input, times.saturating_mul(replies)))
 }
 
-/// Fills a window three times and reads all of it. Besides what a ring asks for, the bytes that are
-/// read are asked for, once.
+/// Fills a receiver three times and reads all of it. Besides what a ring asks for, the bytes that
+/// are read are asked for, once.
 #[test]
 fn a_stream_asks_for_its_memory_once(rt: HostRuntime) -> Result<(), Fail> {
-    let (input, length) = long_windows(rt.alloc(), 3)?;
+    let (input, length) = full_receivers(rt.alloc(), 3)?;
     let bytes = 64_000 + 4_096 + 65_536 + 1_000 + 64_000 + 128_006 + 256;
     let words = "stream 64000 4";
     check_memory(&rt, rt.alloc(), words, (&input, length), (7, bytes));

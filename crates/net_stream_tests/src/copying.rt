@@ -105,8 +105,8 @@ fn all_comes_whatever_becomes_of_the_frames(rt: HostRuntime) -> Result<(), Fail>
     Ok(())
 }
 
-/// A round reads as much as the third storage takes, keeps as much as the first, and the receiver
-/// takes as much as the second. The capacity of the config isn't read.
+/// A round reads as much as the third storage has room for, queues as much as the first, and the
+/// receiver takes as much as the second. The capacity of the config isn't read.
 #[test]
 fn each_lent_storage_has_its_own_use(rt: HostRuntime) -> Result<(), Fail> {
     let text = b"abcdefghij".as_slice();

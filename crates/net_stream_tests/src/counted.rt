@@ -1,6 +1,6 @@
 //! All that is counted of copies over links of known fates.
 //!
-//! The numbers are those of a model of its own, written from docs/LINK.md.
+//! The numbers are those of a second program, written from docs/LINK.md alone.
 
 use net_stream::{Config, Counts, Fate, Fates, Rates, copy};
 use net_testing::{NEVER, Sink, Source};

@@ -14,8 +14,8 @@ const PERFECT: Rates = Rates {
     late: 0,
 };
 
-/// A link whose sender and receiver keep ten bytes each, with frames of three bytes, and a perfect
-/// one behind these fates.
+/// A link whose sender and receiver have room for ten bytes each, with frames of three bytes, and a
+/// perfect one behind these fates.
 fn link(
     alloc: Global,
     fates: &'static [Fate],

@@ -1,4 +1,4 @@
-//! Frames, fates, what a sender keeps, and what a round sends, at known bytes.
+//! Frames, fates, what a sender has queued, and what a round sends, at known bytes.
 
 ghost use Rattle.std.specs.Prelude.{◌≤◌, length};
 
@@ -316,7 +316,7 @@ fn free_places_are_lent_for_writing(rt: HostRuntime) -> Result<(), Fail> {
     // Two stand before the storage's end, and two at its beginning.
     let result = sender.send_with(|room| (put(room, b"defg"), 8u8));
     assert_eq!(rt; result, (2, 8));
-    // What isn't counted isn't kept.
+    // What isn't counted isn't queued.
     let result = sender.send_with(|room| (put(room, b"xy").saturating_sub(1), 9u8));
     assert_eq!(rt; result, (1, 9));
     assert_eq!(rt; sender.peek_at(2, 9), b"cde".as_slice());

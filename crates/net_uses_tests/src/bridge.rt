@@ -135,7 +135,7 @@ fn many_frames_pass_at_once(rt: HostRuntime) -> Result<(), AllocError> {
     Ok(())
 }
 
-/// A loopback device that keeps the moments at which it was last asked for a frame and for room.
+/// A loopback device that stores the moments at which it was last asked for a frame and for room.
 #[derive(Drop)]
 struct Noting {
     device: Loopback,

@@ -101,7 +101,7 @@ fn a_thousand_frames_at_a_time_keep_their_order(rt: HostRuntime) {
     assert!(rt; is_over(&mut device));
 }
 
-/// A device without frames, which keeps the moment at which it was last asked for one.
+/// A device without frames, which stores the moment at which it was last asked for one.
 #[derive(Drop)]
 struct Asked {
     at: Instant,

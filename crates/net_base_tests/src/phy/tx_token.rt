@@ -2,7 +2,7 @@ ghost use Rattle.std.specs.Prelude.{◌≡◌};
 
 use net_base::phy::{PacketMeta, TxToken};
 
-/// A token that keeps metadata.
+/// A token that stores metadata.
 #[derive(Drop)]
 struct Marking {
     meta: PacketMeta,

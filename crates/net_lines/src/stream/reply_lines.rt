@@ -51,12 +51,12 @@ const NUMBER_ROOM: usize = 20;
 /// The most bytes of a run's text and a comma: two numbers, and a dash between them.
 const RUN_ROOM: usize = 2 * NUMBER_ROOM + 2;
 
-/// How many runs the reply to a segment reports at most.
-const REPORTED: usize = 3;
+/// How many runs the reply to a segment lists at most.
+const LISTED: usize = 3;
 
-/// The most bytes of a line that says what was kept: two numbers, the reported runs, and 20 bytes
+/// The most bytes of a line that says what was kept: two numbers, the listed runs, and 20 bytes
 /// beside them.
-const ACCEPTED_ROOM: usize = 20 + 2 * NUMBER_ROOM + RUN_ROOM * REPORTED;
+const ACCEPTED_ROOM: usize = 20 + 2 * NUMBER_ROOM + RUN_ROOM * LISTED;
 
 /// The most bytes of a line that shows a receiver: three numbers, 32 held runs, and 28 bytes beside
 /// them.

@@ -11,7 +11,7 @@ pub enum Step<'s> {
     Refused(usize),
     /// `enqueue` of a packet with this header is accepted, and these bytes are written to it.
     Write(u8, &'s [u8]),
-    /// `enqueue_with_infallible`, of whose first number of bytes the closure keeps the second one.
+    /// `enqueue_with_infallible`, of whose first number of bytes the closure counts the second one.
     WriteWith(usize, usize),
     /// `peek` shows this header and these bytes.
     Peek(u8, &'s [u8]),
@@ -100,7 +100,7 @@ fn write(queue: &mut PacketBuffer<'_, u8>, header: u8, text: &[u8]) -> bool {
     }
 }
 
-/// Enqueues a packet of which a closure keeps `count` bytes; returns whether it was accepted so.
+/// Enqueues a packet of which a closure counts `count` bytes; returns whether it was accepted so.
 fn write_with(queue: &mut PacketBuffer<'_, u8>, size: usize, count: usize) -> bool {
     let kept = count.min(size);
     match queue.enqueue_with_infallible(size, 0, move |_| kept) {
