@@ -329,8 +329,8 @@ fn takes_byte(ring: &mut RingBuffer<'_, u8>, byte: u8) -> bool {
 }
 
 /// Returns whether a caller gets this from the head.
-fn gives_byte(ring: &mut RingBuffer<'_, u8>, result: Result<u8, Empty>) -> bool {
-    dequeue_one_byte(ring) == result
+fn gives_byte(ring: &mut RingBuffer<'_, u8>, wanted: Result<u8, Empty>) -> bool {
+    dequeue_one_byte(ring) == wanted
 }
 
 #[test]
