@@ -198,7 +198,7 @@ impl<T, S: Elements<T>> Ring<T, S> {
         ensures room { result ≡ (window self.now == 0) }
         ensures none_spare { IsTrue result ↔ (spare self.now ≡ []) }
     {
-        self.window() == 0
+        self.len() >= self.capacity()
     }
 
     /// Returns the index in the storage of what is `offset` elements after the read index, wrapping
