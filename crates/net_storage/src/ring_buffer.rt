@@ -217,15 +217,15 @@ impl<T, S: Elements<T>> Ring<T, S> {
         }
     }
 
-    /// Returns the index in the storage of what is one element after the read index, wrapping at the
-    /// storage's end. It is `storage_index` of 1, with one comparison.
+    /// Returns the index in the storage of what is `count` elements after the read index, if these
+    /// are contiguous, wrapping at the storage's end. It is `storage_index`, with one comparison.
     #[inline]
-    fn next_index(&self) -> usize
-        requires { 1 ≤ capacity self.now }
-        ensures { result ≡ storage_index self.now 1 }
+    fn next_index(&self, count: usize) -> usize
+        requires { self.now.read_at + count ≤ capacity self.now }
+        ensures { result ≡ storage_index self.now count }
     {
         let capacity = self.capacity();
-        let next = self.read_at + 1;
+        let next = self.read_at + count;
         if next < capacity { next } else { 0 }
     }
 

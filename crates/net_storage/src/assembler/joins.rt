@@ -2,9 +2,10 @@
 //!
 //! The first `used` pairs of an array are the runs, counted from where the first of them starts:
 //! they rise, with a hole between neighbours, and the rest of the array isn't read.
-ghost use Rattle.std.specs.Prelude.{ℕ, ◌+◌, ◌-◌, ◌*◌, ◌<◌, ◌≤◌, ◌^◌, length, take};
+ghost use Rattle.std.specs.Prelude.{◌≡◌, ℕ, ◌+◌, ◌-◌, ◌*◌, ◌<◌, ◌≤◌, ◌^◌, length, take};
 ghost use Rattle.net_storage.specs.Positions.{runs_shifted_up};
 ghost use Rattle.net_storage.specs.RunLists.{AreRuns, FitsFrom, JoinsRange, StartsAtZero, end_at};
+ghost use Rattle.net_storage.specs.RunLists.{runs_with_range, start_at};
 ghost use Rattle.net_storage.specs.Turns.{TurnsWithin, binary_digits};
 
 use super::TooManyHolesError;
@@ -26,6 +27,7 @@ pub(crate) fn join_range(
 ) -> Result<usize, TooManyHolesError>
     requires used { used ≤ length pairs.old }
     requires runs { AreRuns (take used pairs.old) }
+    requires first { StartsAtZero (take used pairs.old) }
     requires waiting { 0 < used }
     requires some { start < end }
     ensures joined { JoinsRange (take used pairs.old) pairs.old pairs.new start end result }
@@ -64,6 +66,7 @@ fn join_any(
 ) -> Result<usize, TooManyHolesError>
     requires used { used ≤ length pairs.old }
     requires runs { AreRuns (take used pairs.old) }
+    requires first { StartsAtZero (take used pairs.old) }
     requires waiting { 0 < used }
     requires some { start < end }
     requires last { start ≤ end_at (take used pairs.old) (used - 1) }
@@ -71,49 +74,55 @@ fn join_any(
     ensures turns { let n = length pairs.old in
         TurnsWithin (2 * binary_digits n) n turns.old turns.new }
 {
+    // The range starts in the first run, or right behind it, as what fills one gap after another.
+    if start <= pairs[0].1 {
+        return Ok(grow_run(pairs, used, 0, start, end, turns));
+    }
     let first = runs_ending_before(&pairs[..used], start, turns);
-    join_from(pairs, used, first, start, end, turns)
-}
-
-/// Joins a range that isn't empty with the runs that it meets or touches; `first` is the first run
-/// that doesn't end before it.
-///
-/// A range that meets none or one of them takes no search.
-#[inline(always)]
-fn join_from(
-    pairs: &mut [(usize, usize)],
-    used: usize,
-    first: usize,
-    start: usize,
-    end: usize,
-    turns: &mut Turns,
-) -> Result<usize, TooManyHolesError>
-    requires used { used ≤ length pairs.old }
-    requires runs { AreRuns (take used pairs.old) }
-    requires some { start < end }
-    requires first { first < used }
-    requires before { (k : ℕ) → k < first → end_at (take used pairs.old) k < start }
-    requires from { start ≤ end_at (take used pairs.old) first }
-    ensures joined { JoinsRange (take used pairs.old) pairs.old pairs.new start end result }
-    ensures turns { let n = length pairs.old in
-        TurnsWithin (binary_digits n) n turns.old turns.new }
-{
-    let run = pairs[first];
     // The range lies in the hole before that run: it is a run of its own.
-    if end < run.0 {
+    if end < pairs[first].0 {
         if used == pairs.len() {
             return Err(TooManyHolesError);
         }
         insert_pair(pairs, used, first, (start, end), turns);
         return Ok(used + 1);
     }
-    // The range meets that run, which may begin before it.
+    Ok(grow_run(pairs, used, first, start, end, turns))
+}
+
+/// Joins a range that isn't empty with the run at `first`, which it meets or touches, and with those
+/// behind it that it meets or touches; it meets none before it. Returns how many runs there are then.
+///
+/// A range that meets no other takes no search.
+#[inline(always)]
+fn grow_run(
+    pairs: &mut [(usize, usize)],
+    used: usize,
+    first: usize,
+    start: usize,
+    end: usize,
+    turns: &mut Turns,
+) -> usize
+    requires used { used ≤ length pairs.old }
+    requires runs { AreRuns (take used pairs.old) }
+    requires some { start < end }
+    requires first { first < used }
+    requires before { (k : ℕ) → k < first → end_at (take used pairs.old) k < start }
+    requires from { start ≤ end_at (take used pairs.old) first }
+    requires meets { start_at (take used pairs.old) first ≤ end }
+    ensures joined { take result pairs.new ≡ runs_with_range (take used pairs.old) start end }
+    ensures within { result ≤ length pairs.old }
+    ensures turns { let n = length pairs.old in
+        TurnsWithin (binary_digits n) n turns.old turns.new }
+{
+    // The run may begin before the range.
+    let run = pairs[first];
     let low = run.0.min(start);
     // It meets no other: that run grows.
     let second = first + 1;
     if second == used || end < pairs[second].0 {
         pairs[first] = (low, run.1.max(end));
-        return Ok(used);
+        return used;
     }
     // It meets more of them, up to `next`: all become one run, which ends where the last of them
     // does, or where the range does.
@@ -121,7 +130,7 @@ fn join_from(
     let high = pairs[next - 1].1.max(end);
     pairs[first] = (low, high);
     remove_pairs(pairs, used, second, next, turns);
-    Ok(used - (next - second))
+    used - (next - second)
 }
 
 /// Joins a range that starts `by` positions before the first run, and isn't empty, with the runs

@@ -5,9 +5,9 @@ ghost use Rattle.net_storage.specs.Positions.{contains};
 
 use super::turns::Turns;
 
-/// Returns how many runs end before `offset`, if the last doesn't.
+/// Returns how many runs end before `offset`, if the first does and the last doesn't.
 ///
-/// The first two are tested by themselves, and the others are halved.
+/// The second is tested by itself, and those behind it are halved.
 #[inline(always)]
 pub(crate) fn runs_ending_before(
     pairs: &[(usize, usize)],
@@ -16,6 +16,7 @@ pub(crate) fn runs_ending_before(
 ) -> usize
     requires runs { AreRuns pairs.now }
     requires some { 0 < length pairs.now }
+    requires first { end_at pairs.now 0 < offset }
     requires last { offset ≤ end_at pairs.now (length pairs.now - 1) }
     ensures within { result < length pairs.now }
     ensures before { (k : ℕ) → k < result → end_at pairs.now k < offset }
@@ -24,10 +25,7 @@ pub(crate) fn runs_ending_before(
     ensures no_look_lost { turns.old.0 ≤ turns.new.0 }
     ensures moves { turns.new.1 ≡ turns.old.1 }
 {
-    // No run, or the first alone, ends before it: most data comes near the first run.
-    if offset <= pairs[0].1 {
-        return 0;
-    }
+    // No other than the first ends before it: most data comes near the first run.
     if offset <= pairs[1].1 {
         return 1;
     }

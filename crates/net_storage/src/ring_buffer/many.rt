@@ -80,7 +80,7 @@ impl<T, S: Elements<T>> Ring<T, S> {
         let from = self.read_at;
         let to = from + self.length.min(self.capacity() - from);
         let answer = f(self.storage.part_mut(from, to));
-        self.read_at = self.storage_index(answer.0);
+        self.read_at = self.next_index(answer.0);
         self.length -= answer.0;
         answer
     }
@@ -101,7 +101,7 @@ impl<T, S: Elements<T>> Ring<T, S> {
     {
         let from = self.read_at;
         let count = size.min(self.length.min(self.capacity() - from));
-        self.read_at = self.storage_index(count);
+        self.read_at = self.next_index(count);
         self.length -= count;
         self.storage.part_mut(from, from + count)
     }

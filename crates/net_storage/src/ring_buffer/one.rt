@@ -97,7 +97,7 @@ impl<T, S: Elements<T>> Ring<T, S> {
             return Err(Empty);
         }
         let at = self.read_at;
-        let next = self.next_index();
+        let next = self.next_index(1);
         let answer = f(self.storage.item_mut(at));
         if answer.is_ok() {
             self.read_at = next;
@@ -135,7 +135,7 @@ impl<T, S: Elements<T>> Ring<T, S> {
             (with_elements (with_dequeued 1 self.old) self.old.read_at (w ∷ [])) }
     {
         let at = self.read_at;
-        self.read_at = self.next_index();
+        self.read_at = self.next_index(1);
         self.length -= 1;
         self.storage.item_mut(at)
     }

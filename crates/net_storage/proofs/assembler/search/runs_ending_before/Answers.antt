@@ -34,7 +34,4 @@ loop-low-preserved c =
     }
 
 pub returns-then-offset-pairs-clause-behind : goal.returns-then-offset-pairs-clause-behind
-returns-then-offset-pairs-clause-behind c = λ k a b. let p = ends_rise 0 c.args.pairs.now 0 k c.requires.runs (omega arith) b in omega arith
-
-pub returns-then-offset-pairs-2-clause-behind : goal.returns-then-offset-pairs-2-clause-behind
-returns-then-offset-pairs-2-clause-behind c = λ k a b. let p = ends_rise 0 c.args.pairs.now 1 k c.requires.runs a b in omega arith
+returns-then-offset-pairs-clause-behind c = λ k a b. let p = ends_rise 0 c.args.pairs.now 1 k c.requires.runs a b in omega arith

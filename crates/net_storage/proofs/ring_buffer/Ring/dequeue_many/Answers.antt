@@ -11,7 +11,7 @@ returns g c =
     let counts : min c.self.inside.length (c.capacity.result - c.self.inside.read_at) ≡ contiguous_queued old =
     ap (λ n. min c.self.inside.length (n - c.self.inside.read_at)) c.capacity.ensures.capacity ∙ ap contiguous_queued is in
     let count : k ≡ min c.args.size (contiguous_queued old) = omega (arith, counts) in
-    let next : c.storage_index-self-inside.result ≡ storage_index old k = omega (arith, ap (λ o. storage_index o k) is) in
+    let next : c.next_index-self-inside.result ≡ storage_index old k = omega (arith, ap (λ o. storage_index o k) is) in
     let lent = shown_head _ _ is c.self.invariant _ _ k (ap (λ o. o.read_at) is) (omega arith) (omega (arith, count)) _ c.part_mut.ensures.value in (
       (refl, λ w. left_off _ _ is c.self.invariant k _ _ count next _ w (g.met.S.Elements.part_written c.self.inside.storage c.self.inside.read_at w)),
       record {
