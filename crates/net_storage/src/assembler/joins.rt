@@ -91,7 +91,7 @@ fn join_any(
 }
 
 /// Joins a range that isn't empty with the run at `first`, which it meets or touches, and with those
-/// behind it that it meets or touches; it meets none before it. Returns how many runs there are then.
+/// behind that run that it meets or touches; it meets none before. Returns how many runs are left.
 ///
 /// A range that meets no other takes no search.
 #[inline(always)]
