@@ -198,6 +198,8 @@ impl<T, S: Elements<T>> Ring<T, S> {
         ensures room { result ≡ (window self.now == 0) }
         ensures none_spare { IsTrue result ↔ (spare self.now ≡ []) }
     {
+        // `window() == 0` says the same; this tells the compiler that a ring with room for one more
+        // doesn't have the largest length there is, so that one more can't make it 0.
         self.len() >= self.capacity()
     }
 

@@ -21,8 +21,8 @@ returns-then-second-used-clause-joined c =
           (omega arith) k a b
     ] in
     grown_run xs c.args.used c.args.first c.args.start c.args.end c.min-low.result c.max.result c.requires.runs
-        c.requires.first c.requires.used c.requires.before c.requires.from c.requires.meets behind c.min-low.ensures
-        c.max.ensures
+    c.requires.first c.requires.used c.requires.before c.requires.from c.requires.meets behind c.min-low.ensures
+    c.max.ensures
 
 pub returns-clause-joined : goal.returns-clause-joined
 returns-clause-joined c =
@@ -36,9 +36,9 @@ returns-clause-joined c =
     (λ l. let p = starts_rise 0 cs k (c.args.first + 1) c.requires.runs (omega arith) (omega arith) in
     omega arith) (λ l. search.before k (omega arith) b) in
     c.remove_pairs.ensures.pairs
-        ∙ replaced_run xs c.args.used c.args.first c.runs_starting_by-next.result c.args.start c.args.end
-        c.min-low.result c.max-high.result c.requires.runs (omega arith) (omega (arith, search.within)) c.requires.used
-        c.requires.before c.requires.from upto (λ k a b. search.behind k a (omega arith)) c.min-low.ensures c.max-high.ensures
+    ∙ replaced_run xs c.args.used c.args.first c.runs_starting_by-next.result c.args.start c.args.end
+    c.min-low.result c.max-high.result c.requires.runs (omega arith) (omega (arith, search.within)) c.requires.used
+    c.requires.before c.requires.from upto (λ k a b. search.behind k a (omega arith)) c.min-low.ensures c.max-high.ensures
 
 pub returns-then-second-used-clause-turns : goal.returns-then-second-used-clause-turns
 returns-then-second-used-clause-turns c = no_turn _ _ _
