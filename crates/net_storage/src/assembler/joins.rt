@@ -74,7 +74,7 @@ fn join_any(
     ensures turns { let n = length pairs.old in
         TurnsWithin (2 * binary_digits n) n turns.old turns.new }
 {
-    // The range starts in the first run, or right behind it, as what fills one gap after another.
+    // The range starts in the first run, or right behind it, as what fills one hole after another.
     if start <= pairs[0].1 {
         return Ok(grow_run(pairs, used, 0, start, end, turns));
     }
