@@ -269,13 +269,15 @@ met_before by size n high rs h f l some m upto behind is =
     (top_before ups n size some ∙ ap (λ e. max e size) last ∙ sym is)
     ∙ ap (λ ts. (0, high) ∷ ts) (drop-up by n rs)
 
--- an array whose first entry is written last
-pub set_first : (ys xs : List (ℕ × ℕ)) (n : ℕ) (v : ℕ × ℕ) (rest : List (ℕ × ℕ)) → 0 < n → 0 < length xs →
-    0 < length ys → take n ys ≡ take 1 xs ++ rest → take n (set ys 0 v) ≡ v ∷ rest
-set_first ys xs zero v rest l m o h = absurd (omega arith)
-set_first [] xs (suc n) v rest l m o h = absurd (omega arith)
-set_first (y ∷ ys) [] (suc n) v rest l m o h = absurd (omega arith)
-set_first (y ∷ ys) (x ∷ xs) (suc n) v rest l m o h = ap (λ ts. v ∷ drop 1 ts) h
+-- an array of which the first entry, a run that starts at 0, gets its end last
+pub set_first_end : (ys xs : List (ℕ × ℕ)) (n e : ℕ) (rest : List (ℕ × ℕ)) → 0 < n → 0 < length xs →
+    0 < length ys → start_at xs 0 ≡ 0 → take n ys ≡ take 1 xs ++ rest →
+    take n (set ys 0 (start_at ys 0, e)) ≡ (0, e) ∷ rest
+set_first_end ys xs zero e rest l m o f h = absurd (omega arith)
+set_first_end [] xs (suc n) e rest l m o f h = absurd (omega arith)
+set_first_end (y ∷ ys) [] (suc n) e rest l m o f h = absurd (omega arith)
+set_first_end (y ∷ ys) (x ∷ xs) (suc n) e rest l m o f h =
+    ap (λ ts. (start_at ts 0, e) ∷ drop 1 ts) h ∙ ap (λ s. (s, e) ∷ rest) f
 
 pub get_or-up : (n : ℕ) (rs : List (ℕ × ℕ)) (k : ℕ) → k < length rs →
     get_or (runs_shifted_up n rs) k (0, 0) ≡ (n + start_at rs k, n + end_at rs k)

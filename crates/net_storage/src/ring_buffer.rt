@@ -179,8 +179,14 @@ impl<T, S: Elements<T>> Ring<T, S> {
         ensures within { (result ≤ window self.now)
             × (write_at self.now + result ≤ capacity self.now) }
     {
-        let to_end = self.capacity() - self.storage_index(self.length);
-        self.window().min(to_end)
+        // All up to the storage's end, or up to the queue's start, which lies behind a queue that
+        // wraps.
+        let to_end = self.capacity() - self.read_at;
+        if self.length < to_end {
+            to_end - self.length
+        } else {
+            self.window()
+        }
     }
 
     /// Returns whether no element is queued.

@@ -163,11 +163,11 @@ pub(crate) fn join_before(
         prepend_pair(pairs, used, (0, size), by, turns);
         return Ok(used + 1);
     }
-    // It meets the first run, and may meet more, up to `next`: all become one run, which ends where
-    // the last of them does, or where the range does.
+    // It meets the first run, and may meet more, up to `next`: all become one run, which starts at 0
+    // as the first did, and ends where the last of them does, or where the range does.
     let next = runs_starting_by(&pairs[..used], 1, size - by, turns);
     let high = (by + pairs[next - 1].1).max(size);
     shift_pairs_up(pairs, used, next, by, turns);
-    pairs[0] = (0, high);
+    pairs[0].1 = high;
     Ok(used - (next - 1))
 }

@@ -102,7 +102,8 @@ pub(crate) fn shift_pairs_up(
     ensures moves { turns.new.1 + from ≡ turns.old.1 + used }
 {
     let count = from - 1;
-    for k in from..used {
+    // `min` changes nothing; it tells the compiler how many turns there can be where it knows `N`.
+    for k in from..used.min(pairs.len()) {
         let (start, end) = pairs[k];
         pairs[k - count] = (by + start, by + end);
         turns.count_move();
@@ -126,7 +127,8 @@ pub(crate) fn shift_pairs_down(
     ensures moves { turns.new.1 + from ≡ turns.old.1 + used }
 {
     let by = pairs[from].0;
-    for k in from..used {
+    // As in `shift_pairs_up`, `min` is for the compiler.
+    for k in from..used.min(pairs.len()) {
         let (start, end) = pairs[k];
         pairs[k - from] = (start - by, end - by);
         turns.count_move();

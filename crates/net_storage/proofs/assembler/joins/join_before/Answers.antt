@@ -3,7 +3,7 @@ use Rattle.std.proofs.lemmas.List.{length-take-le, get_or-take}
 use Rattle.net_storage.specs.Positions.{runs_shifted_up}
 use Rattle.net_storage.specs.Turns.{binary_digits}
 use Rattle.net_storage.proofs.AssemblerLaws.{below_binary_digits, no_turn}
-use Rattle.net_storage.proofs.ShiftedRuns.{before_first, met_before, set_first, length-up, fits-at}
+use Rattle.net_storage.proofs.ShiftedRuns.{before_first, first_at, met_before, set_first_end, length-up, fits-at}
 use Rattle.net_storage.proofs.assembler.joins.join_before.Goals as goal
 
 pub overflow_add-by : goal.overflow_add-by
@@ -41,10 +41,11 @@ returns-clause-joined c =
     let high = c.max-high.ensures ∙ ap (λ e. max (c.args.by + e) c.args.size) (sym same) in
     let met = met_before c.args.by c.args.size next c.max-high.result cs c.requires.runs c.requires.first (omega arith)
     (omega (arith, search.from)) search.within search.before search.behind high in
-    let left = c.shift_pairs_up.auto.pairs in (
-      set_first c.shift_pairs_up.new.pairs xs (c.args.used - (next - 1)) (0, c.max-high.result) (runs_shifted_up c.args.by (drop next cs))
+    let left = c.shift_pairs_up.auto.pairs in
+    let zero = sym (ap (λ (r : ℕ × ℕ). r.0) (get_or-take c.args.used xs 0 (0, 0) c.requires.some)) ∙ first_at cs c.requires.first in (
+      set_first_end c.shift_pairs_up.new.pairs xs (c.args.used - (next - 1)) c.max-high.result (runs_shifted_up c.args.by (drop next cs))
           (omega (arith, search.within, c.requires.some)) (omega (arith, c.requires.used, c.requires.some)) (omega (arith, c.requires.used, c.requires.some))
-          c.shift_pairs_up.ensures.pairs ∙ sym met,
+          zero c.shift_pairs_up.ensures.pairs ∙ sym met,
       omega (arith, c.requires.used),
     )
 
