@@ -179,8 +179,8 @@ impl<T, S: Elements<T>> Ring<T, S> {
         ensures within { (result ≤ window self.now)
             × (write_at self.now + result ≤ capacity self.now) }
     {
-        // All up to the storage's end, or up to the queue's start, which lies behind a queue that
-        // wraps.
+        // What is spare lies behind the queue, up to the storage's end, and before it. If the queue
+        // reaches that end, all of it lies together.
         let to_end = self.capacity() - self.read_at;
         if self.length < to_end {
             to_end - self.length
