@@ -42,10 +42,10 @@ returns-clause-joined c =
     let met = met_before c.args.by c.args.size next c.max-high.result cs c.requires.runs c.requires.first (omega arith)
     (omega (arith, search.from)) search.within search.before search.behind high in
     let left = c.shift_pairs_up.auto.pairs in
-    let zero = sym (ap (λ (r : ℕ × ℕ). r.0) (get_or-take c.args.used xs 0 (0, 0) c.requires.some)) ∙ first_at cs c.requires.first in (
+    let at_zero = sym (ap (λ (r : ℕ × ℕ). r.0) (get_or-take c.args.used xs 0 (0, 0) c.requires.some)) ∙ first_at cs c.requires.first in (
       set_first_end c.shift_pairs_up.new.pairs xs (c.args.used - (next - 1)) c.max-high.result (runs_shifted_up c.args.by (drop next cs))
           (omega (arith, search.within, c.requires.some)) (omega (arith, c.requires.used, c.requires.some)) (omega (arith, c.requires.used, c.requires.some))
-          zero c.shift_pairs_up.ensures.pairs ∙ sym met,
+          at_zero c.shift_pairs_up.ensures.pairs ∙ sym met,
       omega (arith, c.requires.used),
     )
 
