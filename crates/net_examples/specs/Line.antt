@@ -1,8 +1,8 @@
 -- What a line is once a loan of its free bytes has ended.
 use Rattle.std.specs.Prelude.{List, ℕ}
 use Rattle.std.specs.Borrow.{MutBor, Fml, Lends, RattleType, Array, u8}
-use Rattle.net_storage.specs.Ring.{with_elements, spare_index}
-use Rattle.net_storage.specs.declared.managed.Elements.{Ghosts}
+use Rattle.net_ring.specs.Ring.{with_elements, spare_index}
+use Rattle.net_ring.specs.declared.managed.Elements.{Ghosts}
 use Rattle.net_examples.specs.declared.line.Line.{Line}
 use Rattle.net_examples.specs.contracts.line.Line.{the_row}
 

@@ -1,7 +1,8 @@
 ghost use Rattle.std.specs.Prelude.{◌≡◌, ◌≤◌, ◌↔◌, ◌++◌, length, take, drop, min, IfSome, IfNone};
 ghost use Rattle.std.specs.Prelude.{IsSome};
 
-use net_storage::{Empty, ManagedSlice, PacketBuffer, PacketMetadata};
+use net_packets::{PacketBuffer, PacketMetadata};
+use net_ring::{Empty, ManagedSlice};
 use net_uses::{Endpoint, UdpSocket};
 
 /// A datagram comes in at a socket over arrays, and is received: as much of it as `into` has room

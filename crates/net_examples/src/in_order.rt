@@ -2,7 +2,7 @@ ghost use Rattle.std.specs.Prelude.{◌≡◌, ℕ, ◌+◌, List, take, slice_r
 ghost use Rattle.net_receiver.specs.OneStream.{ReceivesFrom, Says};
 
 use net_receiver::{Receiver, laws};
-use net_storage::ManagedSlice;
+use net_ring::ManagedSlice;
 
 /// A segment comes, and bytes are read: they are the stream's, from those read before on.
 pub fn receive(receiver: &mut Receiver<'_, 4>, pos: u64, payload: &[u8], into: &mut [u8]) -> usize

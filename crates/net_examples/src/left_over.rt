@@ -1,7 +1,7 @@
 ghost use Rattle.std.specs.Prelude.{◌≡◌, ◌+◌, ◌++◌, length, take, min};
-ghost use Rattle.net_storage.specs.Ring.{queue, window};
+ghost use Rattle.net_ring.specs.Ring.{queue, window};
 
-use net_storage::RingBuffer;
+use net_ring::RingBuffer;
 
 /// Enqueues as many bytes as there is room for, and returns how many are left over.
 pub fn send_part(ring: &mut RingBuffer<'_, u8>, bytes: &[u8]) -> usize

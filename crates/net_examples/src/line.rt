@@ -1,9 +1,9 @@
 ghost use Rattle.std.specs.Prelude.{◌≡◌, length, List, ℕ};
 ghost use Rattle.std.specs.Borrow.{sem};
-ghost use Rattle.net_storage.specs.Ring.{contiguous_window_from, spare_index, with_elements};
-ghost use Rattle.net_storage.specs.Ring.{WritesSpare};
+ghost use Rattle.net_ring.specs.Ring.{contiguous_window_from, spare_index, with_elements};
+ghost use Rattle.net_ring.specs.Ring.{WritesSpare};
 
-use net_storage::{Elements, Ring};
+use net_ring::{Elements, Ring};
 
 /// A line of bytes, over any storage.
 #[derive(Drop)]

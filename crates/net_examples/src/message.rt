@@ -1,7 +1,7 @@
 ghost use Rattle.std.specs.Prelude.{◌≡◌, ◌≤◌, ◌↔◌, ◌++◌, IsTrue, IsFalse, length};
-ghost use Rattle.net_storage.specs.Ring.{queue, window};
+ghost use Rattle.net_ring.specs.Ring.{queue, window};
 
-use net_storage::RingBuffer;
+use net_ring::RingBuffer;
 
 /// Enqueues a whole message, or nothing of it where there isn't room.
 pub fn send(ring: &mut RingBuffer<'_, u8>, message: &[u8]) -> bool

@@ -1,8 +1,8 @@
 ghost use Rattle.std.specs.Prelude.{◌≡◌, ◌==◌, ◌+◌, ◌<◌, ◌≤◌, ◌++◌, ◌^◌, ℕ, length, take, drop, position};
 ghost use Rattle.std.specs.Prelude.{Some, IfSome, IfNone};
-ghost use Rattle.net_storage.specs.Ring.{queue};
+ghost use Rattle.net_ring.specs.Ring.{queue};
 
-use net_storage::RingBuffer;
+use net_ring::RingBuffer;
 
 /// Returns the offset of the first newline in the queue, which may wrap.
 pub fn line_end(ring: &RingBuffer<'_, u8>) -> Option<usize>

@@ -1,7 +1,7 @@
 ghost use Rattle.std.specs.Prelude.{◌≡◌, ◌<◌, [], ◌∷◌, IsTrue, IsFalse, slice_get};
-ghost use Rattle.net_storage.specs.Ring.{queue, window, WritesSpare};
+ghost use Rattle.net_ring.specs.Ring.{queue, window, WritesSpare};
 
-use net_storage::RingBuffer;
+use net_ring::RingBuffer;
 
 /// Returns the byte of the queue at an offset, if there is one.
 pub fn byte_at(ring: &RingBuffer<'_, u8>, at: usize) -> Option<u8>

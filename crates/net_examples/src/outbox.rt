@@ -1,7 +1,7 @@
 ghost use Rattle.std.specs.Prelude.{◌≡◌, ◌++◌, [], length, take, drop, min};
-ghost use Rattle.net_storage.specs.Managed.{elements};
+ghost use Rattle.net_ring.specs.Managed.{elements};
 
-use net_storage::{ManagedSlice, RingBuffer};
+use net_ring::{ManagedSlice, RingBuffer};
 use std::marker::Model;
 
 /// Bytes that wait to be sent. Contracts see them, the first one first.
@@ -12,7 +12,7 @@ pub struct Outbox<'a> {
 
 impl<'a> Model for Outbox<'a> {
     ghost use Rattle.std.specs.Prelude.{List, ℕ};
-    ghost use Rattle.net_storage.specs.Ring.{queue};
+    ghost use Rattle.net_ring.specs.Ring.{queue};
 
     ghost Value = { List ℕ };
 

@@ -1,9 +1,10 @@
 ghost use Rattle.std.specs.Prelude.{◌≡◌, ◌↔◌, ◌∷◌, ◌++◌, [], OnOk, OnErr, IsErr, drop, length};
 ghost use Rattle.std.specs.declared.option.Option.TheVariants.{None};
-ghost use Rattle.net_storage.specs.PacketHistory.{contents};
-ghost use Rattle.net_storage.specs.Packets.{placement};
+ghost use Rattle.net_packets.specs.PacketHistory.{contents};
+ghost use Rattle.net_packets.specs.Packets.{placement};
 
-use net_storage::{Empty, Full, PacketBuffer};
+use net_packets::PacketBuffer;
+use net_ring::{Empty, Full};
 
 /// Writes a packet in place. It is refused exactly if the queue can't place so many bytes.
 pub fn push_packet(queue: &mut PacketBuffer<'_, u16>, header: u16, bytes: &[u8]) -> Result<(), Full>

@@ -1,8 +1,8 @@
 ghost use Rattle.std.specs.Prelude.{◌≡◌, ◌↔◌, ◌<◌, ◌^◌, ◌+◌, OnOk, OnErr, IfOk, IsErr};
-ghost use Rattle.net_storage.specs.Assembler.{MakesTooManyRuns};
-ghost use Rattle.net_storage.specs.Positions.{front, with_range};
+ghost use Rattle.net_assembler.specs.Assembler.{MakesTooManyRuns};
+ghost use Rattle.net_assembler.specs.Positions.{front, with_range};
 
-use net_storage::{Assembler, TooManyHolesError};
+use net_assembler::{Assembler, TooManyHolesError};
 
 /// Adds the range of the bytes that came, and returns the front: how many bytes are complete from
 /// position 0 on. It is refused exactly if that would make more than `N` runs.

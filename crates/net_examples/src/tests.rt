@@ -7,7 +7,7 @@ use crate::{
 use net_base::phy::{Device, Loopback, Medium};
 use net_base::time::{Duration, Instant};
 use net_receiver::Receiver;
-use net_storage::{ManagedSlice, RingBuffer};
+use net_ring::{ManagedSlice, RingBuffer};
 use net_stream::{Counts, Fates, Link, Rates};
 use net_uses::Endpoint;
 use std::alloc::{AllocError, Global};

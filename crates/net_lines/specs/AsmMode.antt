@@ -6,8 +6,8 @@
 use Rattle.std.specs.Prelude.{ℕ, ◌+◌, ◌^◌, ◌&&◌, nat_lt, List, [], ◌∷◌, ◌++◌, codes, bytes_eq}
 use Rattle.std.specs.Prelude.{decimal, if◌then◌else◌, Bool, Option, Some, None, Result, Ok, Err}
 use Rattle.std.specs.Prelude.{option_map}
-use Rattle.net_storage.specs.Positions.{Positions, runs, with_range, front, shift_down}
-use Rattle.net_storage.specs.Assembler.{display_text}
+use Rattle.net_assembler.specs.Positions.{Positions, runs, with_range, front, shift_down}
+use Rattle.net_assembler.specs.Assembler.{display_text}
 use Rattle.net_program.specs.Numeral.{number_of}
 use Rattle.net_lines.specs.Transcript.{Rules}
 use Rattle.net_lines.specs.declared.asm.AsmLine.{AsmLine}

@@ -7,7 +7,7 @@ use Rattle.std.specs.Prelude.{Option, Some, None, option_map, option_and_then}
 use Rattle.net_program.specs.Numeral.{number_of}
 use Rattle.net_lines.specs.Text.{lines_of}
 use Rattle.net_lines.specs.Transcript.{Transcript, transcript}
-use Rattle.net_storage.specs.Positions.{nothing}
+use Rattle.net_assembler.specs.Positions.{nothing}
 use Rattle.net_lines.specs.RingMode.{ring_rules, empty_queue}
 use Rattle.net_receiver.specs.Schedule.{Setting}
 use Rattle.net_lines.specs.AsmMode.{asm_rules}

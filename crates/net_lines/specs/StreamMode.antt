@@ -10,7 +10,7 @@ use Rattle.std.specs.Prelude.{ℕ, ◌+◌, ◌^◌, ◌&&◌, ◌==◌, nat_lt,
 use Rattle.std.specs.Prelude.{◌∷◌, ◌++◌, length, flat_map, codes, bytes_eq, decimal, Option, Some}
 use Rattle.std.specs.Prelude.{None, option_map, Result, Ok, Err}
 use Rattle.std.specs.Cmp.Lexicographic.{pointwise}
-use Rattle.net_storage.specs.Positions.{maximal_runs}
+use Rattle.net_assembler.specs.Positions.{maximal_runs}
 use Rattle.net_receiver.specs.Rules.{CommandSeen, Segment, Read, Show, ReplySeen, SegmentReply, ReadReply}
 use Rattle.net_receiver.specs.Rules.{ShowReply, Keeping, after, reply}
 use Rattle.net_receiver.specs.Schedule.{Setting, State, fresh_state, by_kept}

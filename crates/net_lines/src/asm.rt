@@ -1,7 +1,7 @@
 //! Mode `asm`: ranges are added to a set of positions, and its front is removed.
 ghost use Rattle.std.specs.Prelude.{◌≡◌, [], ◌++◌, ◌≤◌, codes, decimal, IfOk};
 ghost use Rattle.std.specs.Prelude.{MatchResult, Ok, Err, string_bytes};
-ghost use Rattle.net_storage.specs.Positions.{nothing};
+ghost use Rattle.net_assembler.specs.Positions.{nothing};
 ghost use Rattle.net_program.specs.Numeral.{number_of};
 ghost use Rattle.net_lines.specs.Text.{words_of};
 ghost use Rattle.net_lines.specs.AsmMode.{asm_rules, asm_line, range_of, asm_does};
@@ -14,7 +14,7 @@ use crate::session::Session;
 use crate::words::Words;
 use crate::{text, words};
 use net_program::number;
-use net_storage::Assembler;
+use net_assembler::Assembler;
 use std::alloc::{AllocError, Allocator};
 use std::marker::Model;
 
@@ -51,7 +51,7 @@ pub struct AsmSession<const N: usize> {
 impl<const N: usize> Model for AsmSession<N> {
     ghost use Rattle.std.specs.Coded.{coded_ℕ};
     ghost use Rattle.std.specs.FinSet as set;
-    ghost use Rattle.net_storage.specs.Positions.{Positions};
+    ghost use Rattle.net_assembler.specs.Positions.{Positions};
 
     ghost Value = { Positions };
 

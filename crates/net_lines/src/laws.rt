@@ -2,8 +2,8 @@
 //!
 //! Each function does nothing: its contract is the law.
 ghost use Rattle.std.specs.Prelude.{◌≡◌, ◌↔◌, ℕ, IsTrue, [], ◌∷◌, codes, Some, None, Ok};
-ghost use Rattle.net_storage.specs.Positions.{Positions};
-ghost use Rattle.net_storage.specs.Assembler.{MakesTooManyRuns};
+ghost use Rattle.net_assembler.specs.Positions.{Positions};
+ghost use Rattle.net_assembler.specs.Assembler.{MakesTooManyRuns};
 ghost use Rattle.net_receiver.specs.Rules.{Segment, SegmentReply, ShowReply};
 ghost use Rattle.net_lines.specs.Text.{words_of};
 ghost use Rattle.net_lines.specs.AsmMode.{makes_too_many_runs};

@@ -12,7 +12,7 @@ use crate::session::Session;
 use crate::words::Words;
 use crate::{text, words};
 use net_program::number;
-use net_storage::{ManagedSlice, RingBuffer};
+use net_ring::{ManagedSlice, RingBuffer};
 use std::alloc::{AllocError, Allocator};
 use std::marker::Model;
 
@@ -41,7 +41,7 @@ impl<'a> Model for RingSession<'a> {
     ghost Value = { Queue };
 
     ghost use Rattle.std.specs.Prelude.{◌≡◌, length};
-    ghost use Rattle.net_storage.specs.Ring.{capacity, queue};
+    ghost use Rattle.net_ring.specs.Ring.{capacity, queue};
 
     // The queue and the capacity of the ring; where in the storage it is read is forgotten.
     ghost view = { λ s. record { capacity = capacity s.ring; bytes = queue s.ring } };

@@ -20,7 +20,7 @@ use crate::words::Words;
 use crate::{text, words};
 use net_program::number;
 use net_receiver::{Command, Receiver, Reply, execute};
-use net_storage::ManagedSlice;
+use net_ring::ManagedSlice;
 use std::alloc::{AllocError, Allocator};
 use std::marker::Model;
 use std::mem;

@@ -2,7 +2,7 @@
 ghost use Rattle.std.specs.Prelude.{◌≤◌};
 
 use crate::checksum::{START, mix};
-use net_storage::Assembler;
+use net_assembler::Assembler;
 
 /// Adds each range of `ops`, pairs of offset and size, to an empty assembler, `rounds` times.
 ///

@@ -1,6 +1,7 @@
 //! The workload of the packet queue.
 use crate::checksum::{START, mix};
-use net_storage::{ManagedSlice, PacketBuffer, PacketMetadata};
+use net_packets::{PacketBuffer, PacketMetadata};
+use net_ring::ManagedSlice;
 
 /// Enqueues `source` as a packet, and from the fifth round on dequeues one.
 #[unsafe(no_mangle)]

@@ -1,6 +1,6 @@
 //! Workloads of the ring.
 use crate::checksum::{START, mix};
-use net_storage::{ManagedSlice, RingBuffer};
+use net_ring::{ManagedSlice, RingBuffer};
 
 /// Returns how many chunks stand in the ring before the first round: half of the storage, at most
 /// 64.

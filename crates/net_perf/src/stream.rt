@@ -3,7 +3,7 @@ ghost use Rattle.std.specs.Prelude.{◌≡◌, ◌≤◌, length};
 
 use crate::checksum::{START, mix};
 use net_receiver::Receiver;
-use net_storage::ManagedSlice;
+use net_ring::ManagedSlice;
 
 /// The `len` bytes of `data` from `at` on, if they lie within it.
 fn part(data: &[u8], at: usize, len: usize) -> Option<&[u8]> {

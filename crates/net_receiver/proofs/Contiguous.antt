@@ -5,9 +5,9 @@ use Rattle.std.proofs.Common.{length-drop, length-append, take_at, drop_at}
 use Rattle.std.proofs.Math.Nat.{mod-eq_of_lt, mod-add-mod, add-mod_left}
 use Rattle.std.proofs.lemmas.Bool.{cond-true, cond-false, cases_lt}
 use Rattle.std.proofs.lemmas.Nat.{mod_below}
-use Rattle.net_storage.specs.Ring.{RingState, ring, index_after, storage_index, rotation, queue}
-use Rattle.net_storage.specs.Ring.{spare, contiguous_queued_from, contiguous_queued, with_dequeued}
-use Rattle.net_storage.specs.Positions.{Positions}
+use Rattle.net_ring.specs.Ring.{RingState, ring, index_after, storage_index, rotation, queue}
+use Rattle.net_ring.specs.Ring.{spare, contiguous_queued_from, contiguous_queued, with_dequeued}
+use Rattle.net_assembler.specs.Positions.{Positions}
 use Rattle.net_receiver.specs.Contiguous.{contiguous_count, first_part, IsReadAt}
 use Rattle.net_receiver.specs.Parts.{parts}
 use Rattle.net_receiver.specs.Stored.{Stored}

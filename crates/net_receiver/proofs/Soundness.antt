@@ -5,12 +5,12 @@ use Rattle.std.proofs.Common.{is_some, refl, sym, ap, ◌∙◌, arith, ⊎_elim
 use Rattle.std.specs.FinMap as fin
 use Rattle.std.proofs.lemmas.Bool.{both_ways, cases_lt}
 use Rattle.std.proofs.lemmas.Bool.Decides.{nat_tests}
-use Rattle.net_storage.specs.Positions.{Positions, contains, runs, with_range, maximal_runs}
-use Rattle.net_storage.specs.RunLists.{IsRising, set_of_runs}
-use Rattle.net_storage.proofs.MaximalRuns.{rising-maximal_runs, set_of_maximal_runs}
-use Rattle.net_storage.proofs.Positions.{contains-with_range, same_positions, runs-maximal_runs}
-use Rattle.net_storage.proofs.RunLists.{runs-nothing}
-use Rattle.net_storage.proofs.Runs.{in_runs, contains-set_of_runs, rising-in_runs, rising_from, runs-set_of_runs}
+use Rattle.net_assembler.specs.Positions.{Positions, contains, runs, with_range, maximal_runs}
+use Rattle.net_assembler.specs.RunLists.{IsRising, set_of_runs}
+use Rattle.net_assembler.proofs.MaximalRuns.{rising-maximal_runs, set_of_maximal_runs}
+use Rattle.net_assembler.proofs.Positions.{contains-with_range, same_positions, runs-maximal_runs}
+use Rattle.net_assembler.proofs.RunLists.{runs-nothing}
+use Rattle.net_assembler.proofs.Runs.{in_runs, contains-set_of_runs, rising-in_runs, rising_from, runs-set_of_runs}
 use Rattle.net_receiver.specs.KeptList.{Piece, piece, piece_byte_at, end, piece_within}
 use Rattle.net_receiver.specs.Rules.{Segment, Read, Show, KeepsNone, Refuses, Keeps, state_after}
 use Rattle.net_receiver.specs.Soundness.{FreshIsSound, SoundStays}

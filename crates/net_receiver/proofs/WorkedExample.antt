@@ -6,10 +6,10 @@ use Rattle.std.proofs.Common.{eq-eqb, ne_eqb, le_trans, take}
 use Rattle.std.specs.Option.{option_or}
 use Rattle.std.specs.List.{range_with_len}
 use Rattle.std.proofs.lemmas.Bool.{cond-true, cond-false, cases_order}
-use Rattle.net_storage.specs.Positions.{Positions, contains, positions, set_of_list, bound_of}
-use Rattle.net_storage.specs.Positions.{missing_within, first_missing, begins_run, run_starts, runs}
-use Rattle.net_storage.specs.Positions.{maximal_runs, with_range}
-use Rattle.net_storage.proofs.Positions.{has, Rises, contains-set_of_list, positions-set_of_list, same_positions, runs-maximal_runs}
+use Rattle.net_assembler.specs.Positions.{Positions, contains, positions, set_of_list, bound_of}
+use Rattle.net_assembler.specs.Positions.{missing_within, first_missing, begins_run, run_starts, runs}
+use Rattle.net_assembler.specs.Positions.{maximal_runs, with_range}
+use Rattle.net_assembler.proofs.Positions.{has, Rises, contains-set_of_list, positions-set_of_list, same_positions, runs-maximal_runs}
 use Rattle.net_receiver.specs.KeptList.{Piece, piece, piece_byte_at, piece_within, byte_at, bytes, covered_set, next, held_positions}
 use Rattle.net_receiver.specs.Rules.{CommandSeen, Segment, Read, Show, ReplySeen, SegmentReply, ReadReply}
 use Rattle.net_receiver.specs.Rules.{ShowReply, Refuses, Keeps, verdict_of_piece, state_after, segment_result}

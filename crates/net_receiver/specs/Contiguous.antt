@@ -5,7 +5,7 @@
 --     first_part v, second_part v      the queue's two parts, each of them contiguous
 --     IsReadAt g i      the ring g is read where the stream's byte number i stands
 use Rattle.std.specs.Prelude.{◌≡◌, ℕ, ◌+◌, ◌-◌, ◌<◌, ◌%◌, min, List, length, take, drop}
-use Rattle.net_storage.specs.Ring.{RingState}
+use Rattle.net_ring.specs.Ring.{RingState}
 use Rattle.net_receiver.specs.Stored.{Stored}
 
 -- the index of the stream's byte number i, counted from 0: the storage is filled in order, and from

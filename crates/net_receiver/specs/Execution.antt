@@ -8,7 +8,7 @@
 --     FreshStands, EverySchedule, TellsNext, TellsHeld, TellsFresh      laws on what a receiver stands for
 use Rattle.std.specs.Prelude.{◌≡◌, ◌↔◌, ℕ, ◌-◌, ◌≤◌, Bool, true, List, ◌++◌, length, take}
 use Rattle.std.specs.Prelude.{drop, All, slice_range}
-use Rattle.net_storage.specs.Positions.{maximal_runs}
+use Rattle.net_assembler.specs.Positions.{maximal_runs}
 use Rattle.net_receiver.specs.KeptList.{is_covered, next, held_positions}
 use Rattle.net_receiver.specs.Rules.{CommandSeen, ReplySeen}
 use Rattle.net_receiver.specs.Schedule.{State, fresh_state, kept_after_all, kept_replies, bytes_read, queue_bytes}

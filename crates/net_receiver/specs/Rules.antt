@@ -9,8 +9,8 @@
 -- `Schedule.antt` fills them with kept lists, `Stored.antt` with what a receiver stores.
 use Rattle.std.specs.Prelude.{ℕ, ◌+◌, ◌-◌, if◌then◌else◌, not, ◌&&◌, List, [], ◌∷◌, length, take}
 use Rattle.std.specs.Prelude.{nat_lt, nat_eq, slice_get, Option, is_some, Result, Ok, Err}
-use Rattle.net_storage.specs.declared.assembler.error.TooManyHolesError.{TooManyHolesError}
-use Rattle.net_storage.specs.Positions.{Positions, with_range, runs, maximal_runs}
+use Rattle.net_assembler.specs.declared.assembler.error.TooManyHolesError.{TooManyHolesError}
+use Rattle.net_assembler.specs.Positions.{Positions, with_range, runs, maximal_runs}
 use Rattle.net_receiver.specs.declared.receiver.kept.Kept.{Kept}
 use Rattle.net_receiver.specs.KeptList.{Piece, piece, piece_byte_at, piece_within}
 

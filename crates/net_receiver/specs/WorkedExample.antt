@@ -10,7 +10,7 @@ use Rattle.std.specs.Prelude.{◌||◌, ◌==◌, List, [], ◌∷◌, ◌++◌,
 use Rattle.std.specs.Prelude.{nat_lt, Option, Some, None, Ok}
 use Rattle.std.specs.Option.{option_or}
 use Rattle.std.specs.List.{range_with_len}
-use Rattle.net_storage.specs.Positions.{bound_of, runs, with_range, maximal_runs}
+use Rattle.net_assembler.specs.Positions.{bound_of, runs, with_range, maximal_runs}
 use Rattle.net_receiver.specs.KeptList.{Piece, piece_byte_at, byte_at, next, held_positions}
 use Rattle.net_receiver.specs.Rules.{CommandSeen, Segment, Read, Show, ReplySeen, SegmentReply, ReadReply}
 use Rattle.net_receiver.specs.Rules.{ShowReply}

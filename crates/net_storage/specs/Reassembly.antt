@@ -4,7 +4,7 @@
 use Rattle.std.specs.Prelude.{◌≡◌, ℕ, ◌+◌, ◌-◌, ◌<◌, Bool, IsTrue, if◌then◌else◌}
 use Rattle.std.specs.Prelude.{List, [], ◌∷◌, length, slice_index_or}
 use Rattle.std.specs.List.{list_any}
-use Rattle.net_storage.specs.Positions.{Positions, contains, lies_in}
+use Rattle.net_assembler.specs.Positions.{Positions, contains, lies_in}
 
 module _ {X : Type 0} where
   -- whether a write, an offset and a list, has an element at the position p

@@ -1,71 +1,18 @@
 //! Laws whose premises are what the contracts of calls say: an equation of what a call left, and
 //! what follows from it at one index or position.
 //!
-//! Each function does nothing. Where a law of `assembler::laws` or `ring_buffer::laws` speaks of
-//! `with_range s o n` or `overwrite xs i ws` itself, a law here speaks of any set or list that is
-//! equal to it, as one that stands in a field is after a call.
-ghost use Rattle.std.specs.Prelude.{◌≡◌, ◌+◌, ◌-◌, ◌<◌, ◌≤◌, ◌&&◌, ◌||◌, nat_le, nat_lt};
-ghost use Rattle.std.specs.Prelude.{ℕ, List, [], ◌∷◌, length, slice_index_or, IsTrue, if◌then◌else◌};
-ghost use Rattle.net_storage.specs.Overwrite.{overwrite};
-ghost use Rattle.std.specs.List.Sorted.{IsPermutation};
-ghost use Rattle.net_storage.specs.Positions.{Positions, contains, with_range, lies_in, front};
-ghost use Rattle.net_storage.specs.Positions.{nothing, shift_down};
-ghost use Rattle.net_storage.specs.Ranges.{with_ranges, lies_in_some};
+//! One speaks of a list that was written over and of a set of positions, and stands here. The others
+//! are those of `net_ring::laws` and `net_assembler::laws`.
+ghost use Rattle.std.specs.Prelude.{◌≡◌, ◌+◌, ◌<◌, ◌≤◌};
+ghost use Rattle.std.specs.Prelude.{ℕ, List, [], ◌∷◌, length, slice_index_or, IsTrue};
+ghost use Rattle.net_ring.specs.Overwrite.{overwrite};
+ghost use Rattle.net_assembler.specs.Positions.{Positions, with_range, front, nothing};
 ghost use Rattle.net_storage.specs.Reassembly.{Reassembles, is_in_writes, newest_element};
 
-use crate::assembler::laws::{front as front_is_least, members};
-use crate::ring_buffer::laws::overwritten;
+pub use net_assembler::laws::{front_after_remove_front, member_after_with_range, ranges_in_any_order};
+pub use net_ring::laws::element_after_overwrite;
 
-/// A set to which a range was added has its positions and those of the range.
-pub fn member_after_with_range()
-    ensures { (s t : Positions) (offset size p : ℕ) → t ≡ with_range s offset size →
-        contains t p ≡ (contains s p || lies_in p (offset, offset + size)) }
-{
-    members();
-}
-
-/// `remove_front` twice returns 0 the second time: no position is missing below the first missing
-/// one, and once as many are removed the first position is missing.
-pub fn front_after_remove_front()
-    ensures { (s t : Positions) → t ≡ shift_down s (front s) → front t ≡ 0 }
-{
-    members();
-    front_is_least();
-}
-
-/// Ranges that are added one after another leave the union, whatever their order: a position is
-/// present exactly if it was before or lies in one of the ranges, and ranges in another order, or any
-/// that have the same positions, leave the same set.
-pub fn ranges_in_any_order()
-    ensures members { (s : Positions) (ranges : List (ℕ × ℕ)) (p : ℕ) →
-        contains (with_ranges s ranges) p ≡ (contains s p || lies_in_some p ranges) }
-    ensures same { (s : Positions) (ranges others : List (ℕ × ℕ)) →
-        ((p : ℕ) → lies_in_some p ranges ≡ lies_in_some p others) →
-        with_ranges s ranges ≡ with_ranges s others }
-    ensures reordered { (s : Positions) (ranges others : List (ℕ × ℕ)) →
-        IsPermutation ranges others → with_ranges s ranges ≡ with_ranges s others }
-{
-    members();
-}
-
-/// A list that was written over has, at an index, the element that was written there, or the old
-/// one if none was; and as many elements as before.
-pub fn element_after_overwrite<T>()
-    ensures length { (xs ys ws : List T) (i : ℕ) → ys ≡ overwrite xs i ws →
-        length ys ≡ length xs }
-    ensures element { (xs ys ws : List T) (i k : ℕ) (d : T) → ys ≡ overwrite xs i ws →
-        k < length xs → slice_index_or ys k d ≡ (if nat_le i k && nat_lt k (i + length ws)
-        then slice_index_or ws (k - i) d else slice_index_or xs k d) }
-    ensures written { (xs ys ws : List T) (i k : ℕ) (d : T) → ys ≡ overwrite xs i ws →
-        i + length ws ≤ length xs → i ≤ k → k < i + length ws →
-        slice_index_or ys k d ≡ slice_index_or ws (k - i) d }
-    ensures before { (xs ys ws : List T) (i k : ℕ) (d : T) → ys ≡ overwrite xs i ws →
-        k < length xs → k < i → slice_index_or ys k d ≡ slice_index_or xs k d }
-    ensures behind { (xs ys ws : List T) (i k : ℕ) (d : T) → ys ≡ overwrite xs i ws →
-        k < length xs → i + length ws ≤ k → slice_index_or ys k d ≡ slice_index_or xs k d }
-{
-    overwritten::<T>();
-}
+use net_assembler::assembler::laws::{front as front_is_least, members};
 
 /// A buffer that is written over wherever lists come, with the set of the positions that were: one
 /// more write and its range keep the two true to the writes, and below the front of the set no

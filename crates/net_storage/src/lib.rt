@@ -1,20 +1,15 @@
-//! Storage for packets and streams: rings, packet queues, and the assembler of data that comes out
-//! of order.
+//! Storage for packets and streams, under one name: rings, packet queues, and the assembler of data
+//! that comes out of order.
+//!
+//! Each of the three is a crate of its own, `net_ring`, `net_packets` and `net_assembler`; this one
+//! passes them on, and has the one law that speaks of two of them.
 #![tactic(auto)]
 
-pub mod assembler;
-mod error;
 pub mod laws;
-mod managed;
-pub mod packet_buffer;
-mod packet_metadata;
-mod resettable;
-pub mod ring_buffer;
 
-pub use assembler::{Assembler, IterData, TooManyHolesError, Turns};
-pub use error::{Empty, Full};
-pub use managed::{Elements, ManagedSlice};
-pub use packet_buffer::{PacketBuffer, Packets};
-pub use packet_metadata::PacketMetadata;
-pub use resettable::Resettable;
-pub use ring_buffer::{Ring, RingBuffer};
+pub use net_assembler::assembler;
+pub use net_assembler::{Assembler, IterData, TooManyHolesError, Turns};
+pub use net_packets::packet_buffer;
+pub use net_packets::{PacketBuffer, PacketMetadata, Packets};
+pub use net_ring::ring_buffer;
+pub use net_ring::{Elements, Empty, Full, ManagedSlice, Resettable, Ring, RingBuffer};

@@ -3,9 +3,9 @@ use Rattle.std.proofs.Common.{◌≡◌, ℕ, zero, suc, ◌+◌, ◌-◌, ◌<�
 use Rattle.std.proofs.Common.{[], ◌∷◌, length, get_or, refl, ap, ◌∙◌, arith, if◌then◌else◌, nat_le}
 use Rattle.std.proofs.Common.{nat_lt, IsTrue, IsFalse, ap₂, ◌||◌}
 use Rattle.std.proofs.lemmas.Bool.Decides.{nat_tests}
-use Rattle.net_storage.specs.Overwrite.{overwrite, OverwritesAt}
-use Rattle.net_storage.specs.Positions.{contains, with_range}
-use Rattle.net_storage.specs.AssemblerLaws.{MembersOfNothing, MembersWithRange}
+use Rattle.net_ring.specs.Overwrite.{overwrite, OverwritesAt}
+use Rattle.net_assembler.specs.Positions.{contains, with_range}
+use Rattle.net_assembler.specs.AssemblerLaws.{MembersOfNothing, MembersWithRange}
 use Rattle.net_uses.specs.Fragments.{FragmentState, with_fragment}
 use Rattle.net_uses.specs.FragmentHistory.{after_fragments, covers, last_byte, LastFragmentStands, OldBytesAreGone}
 

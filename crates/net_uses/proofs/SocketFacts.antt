@@ -2,8 +2,8 @@
 use Rattle.std.proofs.Common.{◌≡◌, ◌∙◌, ℕ, List, Bool, true, false, length, Result, Ok, Err, OnOk, OnErr, IfOk, refl, subst, sym}
 use Rattle.std.specs.Prelude.{Option}
 use Rattle.std.specs.declared.option.Option.TheVariants.{Some, None}
-use Rattle.net_storage.specs.Overwrite.{overwrite}
-use Rattle.net_storage.specs.Packets.{PacketQueue, placement, with_packet_if, with_packet_of, after_hand_out}
+use Rattle.net_ring.specs.Overwrite.{overwrite}
+use Rattle.net_packets.specs.Packets.{PacketQueue, placement, with_packet_if, with_packet_of, after_hand_out}
 use Rattle.net_uses.specs.declared.endpoint.Endpoint.{Endpoint}
 use Rattle.net_uses.specs.Datagrams.{SameCapacity}
 

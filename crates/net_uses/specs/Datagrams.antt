@@ -7,8 +7,8 @@ use Rattle.std.specs.Prelude.{◌≡◌, ℕ, List, ◌∷◌, ◌++◌, Result,
 use Rattle.std.specs.Prelude.{if◌then◌else◌, length, min, take, drop}
 use Rattle.std.specs.Borrow.{Bor}
 use Rattle.std.specs.Fn.{Once}
-use Rattle.net_storage.specs.Packets.{PacketQueue, after_hand_out}
-use Rattle.net_storage.specs.PacketHistory.{contents}
+use Rattle.net_packets.specs.Packets.{PacketQueue, after_hand_out}
+use Rattle.net_packets.specs.PacketHistory.{contents}
 use Rattle.net_uses.specs.declared.endpoint.Endpoint.{Endpoint}
 
 -- the two queues of a socket, each with its slots, its storage and where its packets lie

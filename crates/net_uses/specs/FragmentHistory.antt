@@ -4,7 +4,7 @@
 --     LastFragmentStands, OldBytesAreGone      what the buffer then has
 use Rattle.std.specs.Prelude.{◌≡◌, Bool, ◌+◌, ◌-◌, ◌<◌, ◌&&◌, ℕ, List, [], ◌∷◌, length}
 use Rattle.std.specs.Prelude.{if◌then◌else◌, nat_le, nat_lt, slice_index_or, IsTrue}
-use Rattle.net_storage.specs.Positions.{contains, nothing}
+use Rattle.net_assembler.specs.Positions.{contains, nothing}
 use Rattle.net_uses.specs.Fragments.{FragmentState, with_fragment}
 
 -- the buffer after fragments (offset, bytes), the first one first

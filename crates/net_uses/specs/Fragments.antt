@@ -6,8 +6,8 @@ use Rattle.std.specs.Prelude.{◌≡◌, ◌<◌, ◌≤◌, ⊤, ℕ, ℤ, List
 use Rattle.std.specs.Coded.{Coded, code_by, coded×, coded_ℕ, coded_ℤ, coded_list, coded_option}
 use Rattle.std.specs.FinSet as set
 use Rattle.std.specs.declared.option.Option.TheVariants.{Some, None}
-use Rattle.net_storage.specs.Overwrite.{overwrite}
-use Rattle.net_storage.specs.Positions.{Positions, contains, with_range}
+use Rattle.net_ring.specs.Overwrite.{overwrite}
+use Rattle.net_assembler.specs.Positions.{Positions, contains, with_range}
 
 -- the bytes of the buffer, the positions that came, how many bytes the packet has, once that is
 -- known, and the last moment at which it is waited for

@@ -2,12 +2,13 @@
 ghost use Rattle.std.specs.Prelude.{◌≡◌, ◌↔◌, ◌+◌, ◌<◌, ◌≤◌, ◌⊎◌, ℕ, IsTrue, IsSome, IsErr, IfSome};
 ghost use Rattle.std.specs.Prelude.{OnOk, OnErr, ◌<ℤ◌, Err, length, take};
 ghost use Rattle.std.specs.declared.option.Option.TheVariants.{Some, None};
-ghost use Rattle.net_storage.specs.Positions.{nothing};
-ghost use Rattle.net_storage.specs.Assembler.{MakesTooManyRuns};
+ghost use Rattle.net_assembler.specs.Positions.{nothing};
+ghost use Rattle.net_assembler.specs.Assembler.{MakesTooManyRuns};
 ghost use Rattle.net_uses.specs.Fragments.{with_fragment, IsComplete};
 
 use net_base::time::Instant;
-use net_storage::{Assembler, Elements, ManagedSlice, assembler};
+use net_assembler::{Assembler, assembler};
+use net_ring::{Elements, ManagedSlice};
 use std::marker::Model;
 
 pub mod laws;

@@ -1,11 +1,12 @@
 //! A queue of datagrams that shows its first one in place.
 ghost use Rattle.std.specs.Prelude.{◌≡◌, ◌∷◌, [], ◌↔◌, IsErr, IfOk, drop};
 ghost use Rattle.std.specs.Borrow.{sem};
-ghost use Rattle.net_storage.specs.PacketHistory.{contents};
+ghost use Rattle.net_packets.specs.PacketHistory.{contents};
 
 use crate::endpoint::Endpoint;
-use net_storage::packet_buffer::laws;
-use net_storage::{Elements, Empty, PacketMetadata, Packets};
+use net_packets::packet_buffer::laws;
+use net_packets::{PacketMetadata, Packets};
+use net_ring::{Elements, Empty};
 use std::marker::Model;
 
 /// Datagrams that came in, over any storage.
@@ -21,7 +22,7 @@ pub struct Inbox<M: Elements<PacketMetadata<Endpoint>>, B: Elements<u8>> {
 
 impl<M: Elements<PacketMetadata<Endpoint>>, B: Elements<u8>> Model for Inbox<M, B> {
     ghost use Rattle.std.specs.Prelude.{List, ℕ};
-    ghost use Rattle.net_storage.specs.PacketHistory.{contents};
+    ghost use Rattle.net_packets.specs.PacketHistory.{contents};
     ghost use Rattle.net_uses.specs.declared.endpoint.Endpoint.{Endpoint};
 
     ghost Value = { List (Endpoint × List ℕ) };

@@ -3,17 +3,18 @@ ghost use Rattle.std.specs.Prelude.{◌≡◌, ◌∷◌, ◌++◌, [], ℕ, OnO
 ghost use Rattle.std.specs.Prelude.{IsFalse};
 ghost use Rattle.std.specs.Prelude.{◌↔◌, ◌==◌, ◌<◌, not, length, take, drop, min, is_ok};
 ghost use Rattle.std.specs.declared.option.Option.TheVariants.{None};
-ghost use Rattle.net_storage.specs.Packets.{placement, slots_used, with_packet_of, without_first_and_gap, without_gap};
-ghost use Rattle.net_storage.specs.PacketHistory.{contents};
-ghost use Rattle.net_storage.specs.PacketCalls.{CopiesOut};
+ghost use Rattle.net_packets.specs.Packets.{placement, slots_used, with_packet_of, without_first_and_gap, without_gap};
+ghost use Rattle.net_packets.specs.PacketHistory.{contents};
+ghost use Rattle.net_packets.specs.PacketCalls.{CopiesOut};
 ghost use Rattle.net_uses.specs.Datagrams.{inbound_datagrams, outbound_datagrams};
 ghost use Rattle.net_uses.specs.Datagrams.{SameCapacity, HasSameCapacity};
 ghost use Rattle.net_uses.specs.Datagrams.{CopiesFirst, TakesDatagram, GivesAtDatagram};
 ghost use Rattle.net_uses.specs.Datagrams.{TakesFirstDatagram, Dispatches};
 
 use crate::endpoint::Endpoint;
-use net_storage::packet_buffer::laws;
-use net_storage::{Empty, Full, PacketBuffer, ring_buffer};
+use net_packets::packet_buffer::laws;
+use net_packets::PacketBuffer;
+use net_ring::{Empty, Full, ring_buffer};
 use std::marker::Model;
 
 /// Datagrams that were received, and datagrams to be sent, over two packet queues whose header is

@@ -1,5 +1,6 @@
 use crate::assertions::assert_holds;
-use net_storage::{Empty, PacketMetadata, Packets};
+use net_packets::{PacketMetadata, Packets};
+use net_ring::Empty;
 use net_uses::{Endpoint, Inbox};
 
 /// Whether an inbox shows this datagram as its first.

@@ -1,5 +1,6 @@
 use crate::assertions::assert_holds;
-use net_storage::{Empty, ManagedSlice, PacketBuffer, PacketMetadata};
+use net_packets::{PacketBuffer, PacketMetadata};
+use net_ring::{Empty, ManagedSlice};
 use net_uses::{Endpoint, UdpSocket};
 
 /// Where datagrams come from.

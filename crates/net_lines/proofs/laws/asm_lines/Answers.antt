@@ -1,6 +1,6 @@
 use Rattle.std.proofs.Common.{nat_lt}
 use Rattle.std.proofs.lemmas.Bool.Decides.{Decides-and, Decides-ltb}
-use Rattle.net_storage.specs.Positions.{runs, with_range}
+use Rattle.net_assembler.specs.Positions.{runs, with_range}
 use Rattle.net_lines.proofs.laws.asm_lines.Goals as goal
 
 pub returns-clause-refused : goal.returns-clause-refused

@@ -1,6 +1,6 @@
 use Rattle.std.proofs.Common.{◌≡◌, ◌∙◌, sym, ap, ap₂, subst, drop, if◌then◌else◌, is_ok, of_calls}
-use Rattle.net_storage.specs.Packets.{after_hand_out}
-use Rattle.net_storage.specs.PacketHistory.{contents}
+use Rattle.net_packets.specs.Packets.{after_hand_out}
+use Rattle.net_packets.specs.PacketHistory.{contents}
 use Rattle.net_uses.specs.declared.endpoint.Endpoint.{Endpoint}
 use Rattle.net_uses.specs.Datagrams.{GivesAtDatagram}
 use Rattle.std.proofs.lemmas.Result.{IfOk-weaker}

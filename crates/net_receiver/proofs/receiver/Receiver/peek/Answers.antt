@@ -1,5 +1,5 @@
 use Rattle.std.proofs.Common.{◌≡◌, ◌∙◌, ap, drop, take, length, length-take, length-drop, arith}
-use Rattle.net_storage.specs.Ring.{queue}
+use Rattle.net_ring.specs.Ring.{queue}
 use Rattle.net_receiver.specs.Stored.{Stored}
 use Rattle.net_receiver.specs.Contiguous.{contiguous_count_from}
 use Rattle.net_receiver.proofs.Called.{part_bytes}

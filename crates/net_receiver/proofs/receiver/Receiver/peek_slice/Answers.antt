@@ -1,6 +1,6 @@
 use Rattle.std.proofs.Common.{◌≡◌, ◌∙◌, ◌++◌, ap, min, length, take, drop, arith}
 use Rattle.std.proofs.lemmas.Grind.{common_steps}
-use Rattle.net_storage.specs.Ring.{queue}
+use Rattle.net_ring.specs.Ring.{queue}
 use Rattle.net_receiver.specs.Stored.{Stored}
 use Rattle.net_receiver.proofs.Called.{read_bytes}
 use Rattle.net_receiver.proofs.Segment.{given_is}

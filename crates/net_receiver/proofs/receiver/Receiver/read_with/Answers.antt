@@ -1,6 +1,6 @@
 -- `f` was run on the queue's first part; what it counts is taken off, as by a read of that many bytes.
 use Rattle.std.proofs.Common.{◌≡◌, ◌+◌, ◌≤◌, refl, subst, ap, ◌∙◌, length, take, arith}
-use Rattle.net_storage.specs.Ring.{queue, spare}
+use Rattle.net_ring.specs.Ring.{queue, spare}
 use Rattle.net_receiver.specs.Contiguous.{contiguous_count, first_part}
 use Rattle.net_receiver.specs.Parts.{parts, Fits64Bits}
 use Rattle.net_receiver.specs.Rules.{Read, ReadReply}

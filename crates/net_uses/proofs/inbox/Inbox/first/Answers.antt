@@ -1,5 +1,5 @@
 use Rattle.std.proofs.Common.{◌≡◌, ◌∙◌, refl, ap, Result, Ok, Err, IfOk}
-use Rattle.net_storage.specs.PacketHistory.{contents}
+use Rattle.net_packets.specs.PacketHistory.{contents}
 use Rattle.net_uses.proofs.inbox.Inbox.first.Goals as goal
 
 -- two facts of what `Ok` holds give one

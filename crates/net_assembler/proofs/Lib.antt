@@ -1,0 +1,9 @@
+pub mod Positions
+pub mod Runs
+pub mod RunLists
+pub mod ShiftedRuns
+pub mod SortedRuns
+pub mod Moves
+pub mod AssemblerText
+pub mod MaximalRuns
+pub mod AssemblerLaws

@@ -1,0 +1,385 @@
+-- Where a range joins a list of runs.
+use Rattle.std.proofs.Common.{◌≡◌, ℕ, zero, suc, ◌+◌, ◌-◌, ◌*◌, ◌<◌, ◌≤◌, ◌^◌, max, min, true, false, cond, ◌&&◌}
+use Rattle.std.proofs.Common.{◌||◌, ◌==◌, List, [], ◌∷◌, ◌++◌, length, take, drop, set, get_or, nat_le, nat_lt, refl}
+use Rattle.std.proofs.Common.{sym, ap, subst, ◌∙◌, arith, ◌≢◌}
+use Rattle.std.proofs.Math.Nat.{pow-suc}
+use Rattle.std.proofs.Math.Seq.{take-set-lt}
+use Rattle.std.proofs.lemmas.List.{get_or-drop, drop_all, append_assoc, length-append, length-take-le}
+use Rattle.std.proofs.lemmas.List.{length-drop, take_more_set, drop-set-lt, take-append-drop, take-take, get_or-take}
+use Rattle.std.proofs.lemmas.Bool.{cases_lt, cases_eq, eq-eqb, ne_eqb, lt-ltb, le-ltb}
+use Rattle.std.proofs.lemmas.Bool.Decides.{nat_tests}
+use Rattle.net_assembler.proofs.Moves.{rest_at}
+use Rattle.net_assembler.specs.Positions.{Positions, contains, nothing, front, with_range, runs, shift_down, set_of_list}
+use Rattle.net_assembler.specs.RunLists.{start_at, end_at, IsRising, AreRuns, runs_with_range, runs_shifted_down, set_of_runs}
+use Rattle.net_assembler.proofs.Positions.{either, same_positions, contains-with_range, contains-shift_down}
+use Rattle.net_assembler.proofs.Runs.{in_runs, in_first, past_first, not_in_runs, front_of_runs, step_before}
+use Rattle.net_assembler.proofs.Runs.{step_behind, step_meets, rising-runs_with_range, front-set_of_runs}
+use Rattle.net_assembler.proofs.Runs.{set_of_runs_injective, or_false, set-without_front, rising-runs_shifted_down}
+use Rattle.net_assembler.proofs.Runs.{runs-set_of_runs, set-runs_with_range}
+
+-- what rising runs say of the run k
+pub at_run : (low : ℕ) (rs : List (ℕ × ℕ)) (k : ℕ) → IsRising low rs → k < length rs → (low ≤ start_at rs k) × (start_at rs k < end_at rs k)
+at_run low [] k h l = absurd (omega arith)
+at_run low (r ∷ rs) zero h l = (h.0, h.1)
+at_run low (r ∷ rs) (suc k) h l = let ih = at_run (r.1 + 1) rs k h.2 (omega arith) in (omega (arith, h.0, h.1, ih.0), ih.1)
+
+-- and of two runs
+pub apart : (low : ℕ) (rs : List (ℕ × ℕ)) (i k : ℕ) → IsRising low rs → i < k → k < length rs → end_at rs i < start_at rs k
+apart low [] i k h l m = absurd (omega arith)
+apart low (r ∷ rs) i zero h l m = absurd (omega arith)
+apart low (r ∷ rs) zero (suc k) h l m = let ih = at_run (r.1 + 1) rs k h.2 (omega arith) in omega (arith, ih.0)
+apart low (r ∷ rs) (suc i) (suc k) h l m = apart (r.1 + 1) rs i k h.2 (omega arith) (omega arith)
+
+pub ends_rise : (low : ℕ) (rs : List (ℕ × ℕ)) (i k : ℕ) → IsRising low rs → i ≤ k → k < length rs → end_at rs i ≤ end_at rs k
+ends_rise low rs i k h l m =
+    either (cases_lt i k) (λ b. let p = apart low rs i k h b m in let q = at_run low rs k h m in omega (arith, q.1))
+    (λ b. let e : i ≡ k = omega arith in let same = ap (end_at rs) e in omega arith)
+
+pub starts_rise : (low : ℕ) (rs : List (ℕ × ℕ)) (i k : ℕ) → IsRising low rs → i ≤ k → k < length rs → start_at rs i ≤ start_at rs k
+starts_rise low rs i k h l m =
+    either (cases_lt i k) (λ b. let p = apart low rs i k h b m in let q = at_run low rs i h (omega arith) in omega
+    (arith, q.1)) (λ b. let e : i ≡ k = omega arith in let same = ap (start_at rs) e in omega arith)
+
+-- how far a run that ends at hi reaches, once it is joined with the first n runs
+abbrev pub top_of : List (ℕ × ℕ) → ℕ → ℕ → ℕ
+top_of rs zero hi = hi
+top_of rs (suc n) hi = max (end_at rs n) hi
+
+top_more : (r : ℕ × ℕ) (rs : List (ℕ × ℕ)) (n low hi : ℕ) → IsRising low (r ∷ rs) → n ≤ length rs → top_of rs n (max r.1 hi) ≡ max (end_at (r ∷ rs) n) hi
+top_more r rs zero low hi h l = refl
+top_more r rs (suc n) low hi h l = let p = ends_rise low (r ∷ rs) 0 (suc n) h (omega arith) (omega arith) in omega arith
+
+-- a run from low on, at or below all others, is joined with the first n
+pub absorbed : (low : ℕ) (rs : List (ℕ × ℕ)) (n lo hi : ℕ) → IsRising low rs → lo ≤ low → n ≤ length rs →
+    ((k : ℕ) → k < n → start_at rs k ≤ hi) → ((k : ℕ) → n ≤ k → k < length rs → hi < start_at rs k) →
+    runs_with_range rs lo hi ≡ (lo, top_of rs n hi) ∷ drop n rs
+absorbed low [] zero lo hi h l m upto behind = refl
+absorbed low [] (suc n) lo hi h l m upto behind = absurd (omega arith)
+absorbed low (r ∷ rs) zero lo hi h l m upto behind = let p = behind 0 (omega arith) (omega arith) in step_behind r rs lo hi (omega (arith, h.0, h.1)) p
+absorbed low (r ∷ rs) (suc n) lo hi h l m upto behind =
+    let p = upto 0 (omega arith) in
+    let least : min r.0 lo ≡ lo = omega (arith, h.0) in
+    step_meets r rs lo hi (omega (arith, h.0, h.1)) p
+    ∙ ap (λ a. runs_with_range rs a (max r.1 hi)) least
+    ∙ absorbed (r.1 + 1) rs n lo (max r.1 hi) h.2 (omega (arith, h.0, h.1)) (omega arith)
+    (λ k b. let q = upto (suc k) (omega arith) in omega (arith, q))
+    (λ k b d. let q = behind (suc k) (omega arith) (omega arith) in let s = at_run (r.1 + 1) rs k h.2 d in omega (arith, q, s.0))
+    ∙ ap (λ t. (lo, t) ∷ drop n rs) (top_more r rs n low hi h (omega arith))
+
+-- a run that meets those from i to m
+pub joined_at : (low : ℕ) (rs : List (ℕ × ℕ)) (i m lo hi : ℕ) → IsRising low rs → i ≤ m → m < length rs →
+    ((k : ℕ) → k < i → end_at rs k < lo) → lo ≤ end_at rs i →
+    ((k : ℕ) → i ≤ k → k ≤ m → start_at rs k ≤ hi) → ((k : ℕ) → m < k → k < length rs → hi < start_at rs k) →
+    runs_with_range rs lo hi ≡ take i rs ++ (min (start_at rs i) lo, max (end_at rs m) hi) ∷ drop (suc m) rs
+joined_at low [] i m lo hi h l n before from upto behind = absurd (omega arith)
+joined_at low (r ∷ rs) zero m lo hi h l n before from upto behind =
+    let p = upto 0 (omega arith) (omega arith) in
+    step_meets r rs lo hi from p
+    ∙ absorbed (r.1 + 1) rs m (min r.0 lo) (max r.1 hi) h.2 (omega (arith, h.1)) (omega arith)
+    (λ k b. let q = upto (suc k) (omega arith) (omega arith) in omega (arith, q))
+    (λ k b d. let q = behind (suc k) (omega arith) (omega arith) in let s = at_run (r.1 + 1) rs k h.2 d in omega (arith, q, s.0))
+    ∙ ap (λ t. (min r.0 lo, t) ∷ drop m rs) (top_more r rs m low hi h (omega arith))
+joined_at low (r ∷ rs) (suc i) zero lo hi h l n before from upto behind = absurd (omega arith)
+joined_at low (r ∷ rs) (suc i) (suc m) lo hi h l n before from upto behind =
+    step_before r rs lo hi (before 0 (omega arith))
+    ∙ ap (λ ts. r ∷ ts) (joined_at (r.1 + 1) rs i m lo hi h.2 (omega arith) (omega arith)
+    (λ k b. before (suc k) (omega arith)) from (λ k b d. upto (suc k) (omega arith) (omega arith)) (λ k b d. behind (suc k) (omega arith) (omega arith)))
+
+-- a run that meets none
+pub apart_at : (low : ℕ) (rs : List (ℕ × ℕ)) (i lo hi : ℕ) → IsRising low rs → i ≤ length rs → lo < hi →
+    ((k : ℕ) → k < i → end_at rs k < lo) → ((k : ℕ) → i ≤ k → k < length rs → hi < start_at rs k) →
+    runs_with_range rs lo hi ≡ take i rs ++ (lo, hi) ∷ drop i rs
+apart_at low [] zero lo hi h l m before behind = refl
+apart_at low [] (suc i) lo hi h l m before behind = absurd (omega arith)
+apart_at low (r ∷ rs) zero lo hi h l m before behind = let p = behind 0 (omega arith) (omega arith) in step_behind r rs lo hi (omega (arith, h.1)) p
+apart_at low (r ∷ rs) (suc i) lo hi h l m before behind =
+    step_before r rs lo hi (before 0 (omega arith))
+    ∙ ap (λ ts. r ∷ ts) (apart_at (r.1 + 1) rs i lo hi h.2 (omega arith) m (λ k b. before (suc k) (omega arith))
+    (λ k b d. behind (suc k) (omega arith) (omega arith)))
+
+pub rising-drop : (low : ℕ) (rs : List (ℕ × ℕ)) (n m : ℕ) → IsRising low rs → ((k : ℕ) → n ≤ k → k < length rs → m ≤ start_at rs k) → IsRising m (drop n rs)
+rising-drop low [] zero m h above = tt
+rising-drop low [] (suc n) m h above = tt
+rising-drop low (r ∷ rs) zero m h above = (above 0 (omega arith) (omega arith), h.1, h.2)
+rising-drop low (r ∷ rs) (suc n) m h above = rising-drop (r.1 + 1) rs n m h.2 (λ k b d. above (suc k) (omega arith) (omega arith))
+
+-- what stands behind the run `from` starts at or above it
+pub rising_behind : (xs : List (ℕ × ℕ)) (used from : ℕ) → AreRuns (take used xs) → from < used → used ≤ length xs →
+    IsRising (start_at xs from) (drop from (take used xs))
+rising_behind xs used from h l m =
+    let cs = take used xs in
+    let len = length-take-le used xs m in
+    let same = ap (λ (r : ℕ × ℕ). r.0) (get_or-take used xs from (0, 0) l) in
+    rising-drop 0 cs from (start_at xs from) h (λ k a b. let p = starts_rise 0 cs from k h a b in omega arith)
+
+set_of_no_runs : nothing ≡ set_of_runs []
+unfolding set_of_runs set_of_list
+set_of_no_runs = refl
+
+pub runs-nothing : runs nothing ≡ 0
+runs-nothing = ap runs set_of_no_runs ∙ runs-set_of_runs [] tt
+
+pub no_runs : (rs : List (ℕ × ℕ)) → length rs ≡ 0 → set_of_runs rs ≡ nothing
+no_runs [] e = sym set_of_no_runs
+no_runs (r ∷ rs) e = absurd (omega arith)
+
+pub empty-set_of_runs : (rs : List (ℕ × ℕ)) → AreRuns rs → set_of_runs rs ≡ nothing → length rs ≡ 0
+empty-set_of_runs rs h e = ap length (set_of_runs_injective rs [] h tt (e ∙ set_of_no_runs))
+
+no_range : (o n q : ℕ) → n ≡ 0 → (nat_le o q && nat_lt q (o + n)) ≡ false
+no_range o n q e = grind (arith, nat_tests)
+
+-- a set with the range (o, 0) is itself
+pub with_range-none : (s : Positions) (o n : ℕ) → n ≡ 0 → with_range s o n ≡ s
+with_range-none s o n e = same_positions _ _ (λ q. contains-with_range s o n q ∙ ap (λ b. contains s q || b) (no_range o n q e) ∙ or_false (contains s q))
+
+pub shift_down-zero : (s : Positions) (m : ℕ) → m ≡ 0 → shift_down s m ≡ s
+shift_down-zero s m e = same_positions _ _ (λ q. let z : q + m ≡ q = omega arith in contains-shift_down s m q ∙ ap (contains s) z)
+
+pub runs_bound : (rs : List (ℕ × ℕ)) (s : Positions) (n : ℕ) → AreRuns rs → set_of_runs rs ≡ s → length rs ≤ n → runs s ≤ n
+runs_bound rs s n h e l = let r = ap runs (sym e) ∙ runs-set_of_runs rs h in omega arith
+
+-- the removal of the front
+pub front_of_first : (rs : List (ℕ × ℕ)) → 0 < front_of_runs rs → (0 < length rs) × (start_at rs 0 ≡ 0) × (end_at rs 0 ≡ front_of_runs rs)
+front_of_first [] l = absurd (omega arith)
+front_of_first (r ∷ rs) l =
+    either (cases_eq r.0 0) (λ e. (omega arith, e, ap (λ b. cond b r.1 0) (sym (eq-eqb r.0 0 e))))
+    (λ ne. let z = ap (λ b. cond b r.1 0) (ne_eqb r.0 0 ne) in absurd (omega arith))
+
+pub shifted_down_set : (rs : List (ℕ × ℕ)) (m : ℕ) → AreRuns rs → m ≡ front (set_of_runs rs) → 0 < m →
+    set_of_runs (runs_shifted_down m (drop 1 rs)) ≡ shift_down (set_of_runs rs) m
+shifted_down_set [] m h e l = let f = front-set_of_runs [] h in absurd (omega arith)
+shifted_down_set (r ∷ rs) m h e l =
+    let f = front-set_of_runs (r ∷ rs) h in
+    either (cases_eq r.0 0)
+    (λ z. let is : (r.0 == 0) ≡ true = eq-eqb r.0 0 z in
+    ap (λ n. set_of_runs (runs_shifted_down n rs)) (e ∙ f ∙ ap (λ b. cond b r.1 0) is)
+    ∙ ap (λ b. set_of_runs (cond b (runs_shifted_down r.1 rs) (r ∷ rs))) (sym is) ∙ set-without_front (r ∷ rs) h
+    ∙ ap (shift_down (set_of_runs (r ∷ rs))) (sym e))
+    (λ ne. let z = ap (λ b. cond b r.1 0) (ne_eqb r.0 0 ne) in absurd (omega arith))
+
+-- a range at 0 that was joined with the first n runs, and removed
+pub completed : (rs : List (ℕ × ℕ)) (n size : ℕ) → AreRuns rs → 0 < size → n ≤ length rs →
+    ((k : ℕ) → k < n → start_at rs k ≤ size) → ((k : ℕ) → n ≤ k → k < length rs → size < start_at rs k) →
+    (top_of rs n size ≡ front (with_range (set_of_runs rs) 0 size)) ×
+    (set_of_runs (runs_shifted_down (top_of rs n size) (drop n rs))
+    ≡ shift_down (with_range (set_of_runs rs) 0 size) (top_of rs n size))
+completed rs n size h l m upto behind =
+    let same = absorbed 0 rs n 0 size h (omega arith) m upto behind in
+    let top = top_of rs n size in
+    let size_is : size ≡ 0 + size = omega arith in
+    let all : List (ℕ × ℕ) = (0, top) ∷ drop n rs in
+    let rises : AreRuns all = subst (IsRising 0) same (rising-runs_with_range 0 rs 0 size h (omega arith) l) in
+    let set : set_of_runs all ≡ with_range (set_of_runs rs) 0 size = ap set_of_runs (sym same)
+    ∙ ap (λ k. set_of_runs (runs_with_range rs 0 k)) size_is ∙ set-runs_with_range rs 0 size h l in
+    let first : top ≡ front (with_range (set_of_runs rs) 0 size) = sym (front-set_of_runs all rises) ∙ ap front set in
+    (first, set-without_front all rises ∙ (λ i. shift_down (set i) (front (set i))) ∙ ap (shift_down (with_range (set_of_runs rs) 0 size)) (sym first))
+
+pub top_above : (rs : List (ℕ × ℕ)) (n size : ℕ) → AreRuns rs → n ≤ length rs →
+    ((k : ℕ) → n ≤ k → k < length rs → size < start_at rs k) → (k : ℕ) → n ≤ k → k < length rs →
+    top_of rs n size + 1 ≤ start_at rs k
+top_above rs zero size h l behind k m p = let q = behind k m p in omega arith
+top_above rs (suc n) size h l behind k m p = let q = behind k m p in let s = apart 0 rs n k h (omega arith) p in omega arith
+
+pub rising_completed : (rs : List (ℕ × ℕ)) (n size top : ℕ) → AreRuns rs → n ≤ length rs →
+    ((k : ℕ) → n ≤ k → k < length rs → size < start_at rs k) → top ≡ top_of rs n size → IsRising (top + 1) (drop n rs)
+rising_completed rs n size top h l behind e = rising-drop 0 rs n (top + 1) h (λ k m p. let q = top_above rs n size h l behind k m p in omega arith)
+
+-- what the first run says of the front
+pub front_none : (rs : List (ℕ × ℕ)) → (0 < length rs → start_at rs 0 ≢ 0) → 0 ≡ front_of_runs rs
+front_none [] h = refl
+front_none (r ∷ rs) h = ap (λ b. cond b r.1 0) (sym (ne_eqb r.0 0 (h (omega arith))))
+
+pub front_some : (rs : List (ℕ × ℕ)) → 0 < length rs → start_at rs 0 ≡ 0 → end_at rs 0 ≡ front_of_runs rs
+front_some [] l h = absurd (omega arith)
+front_some (r ∷ rs) l h = ap (λ b. cond b r.1 0) (sym (eq-eqb r.0 0 h))
+
+-- half of a number below a power of two is below half of it
+pub halved : (c w v : ℕ) → 0 < w → w < 2 ^ c → 2 * v ≤ w → (d : ℕ) × (c ≡ d + 1) × (v < 2 ^ d)
+halved zero w v l m n = absurd (omega arith)
+halved (suc d) w v l m n = (d, omega arith, omega (arith, pow-suc 2 d))
+
+pub length_apart : (rs : List (ℕ × ℕ)) (i : ℕ) (r : ℕ × ℕ) → i ≤ length rs → length (take i rs ++ r ∷ drop i rs) ≡ length rs + 1
+length_apart rs i r l = let n = length-append (take i rs) (r ∷ drop i rs) in omega (arith, length-take-le i rs l, length-drop i rs)
+
+replaced : (xs : List (ℕ × ℕ)) (used i j : ℕ) (v : ℕ × ℕ) → i < j → j ≤ used → used ≤ length xs →
+    take (i + 1) (set xs i v) ++ drop j (take used (set xs i v)) ≡ take i (take used xs) ++ v ∷ drop j (take used xs)
+replaced xs used i j v l m n =
+    (λ k. take_more_set xs i v (omega arith) k ++ (ap (drop j) (take-set-lt used xs i v (omega arith)) ∙ drop-set-lt j (take used xs) i v l) k)
+    ∙ append_assoc (take i xs) (v ∷ []) (drop j (take used xs))
+    ∙ ap (λ zs. zs ++ v ∷ drop j (take used xs)) (sym (take-take i used xs (omega arith)))
+
+-- one entry in the place of those from i up to j
+pub replaced_run : (xs : List (ℕ × ℕ)) (used i j start end lo hi : ℕ) → AreRuns (take used xs) → i < j → j ≤ used → used ≤ length xs →
+    ((k : ℕ) → k < i → end_at (take used xs) k < start) → start ≤ end_at (take used xs) i →
+    ((k : ℕ) → i ≤ k → k < j → start_at (take used xs) k ≤ end) → ((k : ℕ) → j ≤ k → k < used → end < start_at (take used xs) k) →
+    lo ≡ min (start_at xs i) start → hi ≡ max (end_at xs (j - 1)) end →
+    take (i + 1) (set xs i (lo, hi)) ++ drop j (take used (set xs i (lo, hi))) ≡ runs_with_range (take used xs) start end
+replaced_run xs used i j start end lo hi h l m n before from upto behind low high =
+    let cs = take used xs in
+    let len = length-take-le used xs n in
+    let last : suc (j - 1) ≡ j = omega arith in
+    let lo_is : lo ≡ min (start_at cs i) start = low ∙ ap (λ (r : ℕ × ℕ). min r.0 start) (sym (get_or-take used xs i (0, 0) (omega arith))) in
+    let hi_is : hi ≡ max (end_at cs (j - 1)) end = high ∙ ap (λ (r : ℕ × ℕ). max r.1 end) (sym (get_or-take used xs (j - 1) (0, 0) (omega arith))) in
+    replaced xs used i j (lo, hi) l m n
+    ∙ (λ k. take i cs ++ (lo_is k, hi_is k) ∷ drop (sym last k) cs)
+    ∙ sym (joined_at 0 cs i (j - 1) start end h (omega arith) (omega arith) before from
+    (λ k a b. upto k a (omega arith)) (λ k a b. behind k (omega arith) (omega arith)))
+
+-- one entry more
+pub inserted_run : (xs : List (ℕ × ℕ)) (used i start end : ℕ) → AreRuns (take used xs) → i ≤ used → used ≤ length xs → start < end →
+    ((k : ℕ) → k < i → end_at (take used xs) k < start) → ((k : ℕ) → i ≤ k → k < used → end < start_at (take used xs) k) →
+    take i xs ++ (start, end) ∷ drop i (take used xs) ≡ runs_with_range (take used xs) start end
+inserted_run xs used i start end h l n m before behind =
+    let cs = take used xs in
+    let len = length-take-le used xs n in
+    ap (λ zs. zs ++ (start, end) ∷ drop i cs) (sym (take-take i used xs l))
+    ∙ sym (apart_at 0 cs i start end h (omega arith) m before (λ k a b. behind k a (omega arith)))
+
+pub refused_run : (xs : List (ℕ × ℕ)) (used i start end : ℕ) → AreRuns (take used xs) → i ≤ used → used ≤ length xs → start < end →
+    ((k : ℕ) → k < i → end_at (take used xs) k < start) → ((k : ℕ) → i ≤ k → k < used → end < start_at (take used xs) k) →
+    length (runs_with_range (take used xs) start end) ≡ used + 1
+refused_run xs used i start end h l n m before behind =
+    let cs = take used xs in
+    let len = length-take-le used xs n in
+    ap length (apart_at 0 cs i start end h (omega arith) m before (λ k a b. behind k a (omega arith)))
+    ∙ length_apart cs i (start, end) (omega arith) ∙ omega arith
+
+-- entries that were taken down by the front
+pub shifted_down_runs : (xs ys : List (ℕ × ℕ)) (m : ℕ) → IsRising (m + 1) xs → ys ≡ runs_shifted_down m xs → AreRuns ys
+shifted_down_runs xs ys m h e = subst (IsRising 0) (sym e) (rising-runs_shifted_down m 0 (m + 1) xs (omega arith) h)
+
+-- what is left behind a range at 0 that ends at top once it is joined with the first n runs, and removed
+abbrev pub Completed : List (ℕ × ℕ) → ℕ → ℕ → ℕ → Type 0
+Completed rs n size top = let all = with_range (set_of_runs rs) 0 size in
+    (top ≡ front all) × (set_of_runs (runs_shifted_down top (drop n rs)) ≡ shift_down all top)
+
+pub completed_at : (rs : List (ℕ × ℕ)) (n size top : ℕ) → AreRuns rs → 0 < size → n ≤ length rs →
+    ((k : ℕ) → k < n → start_at rs k ≤ size) →
+    ((k : ℕ) → n ≤ k → k < length rs → size < start_at rs k) → top ≡ top_of rs n size → Completed rs n size top
+completed_at rs n size top h l m upto behind e =
+    let both = completed rs n size h l m upto behind in
+    (e ∙ both.0, ap (λ t. set_of_runs (runs_shifted_down t (drop n rs))) e ∙ both.1 ∙ ap (shift_down (with_range (set_of_runs rs) 0 size)) (sym e))
+
+pub top_last : (xs : List (ℕ × ℕ)) (used n size : ℕ) → 0 < n → n ≤ used → top_of (take used xs) n size ≡ max (end_at xs (n - 1)) size
+top_last xs used zero size l m = absurd (omega arith)
+top_last xs used (suc n) size l m =
+    let at : suc n - 1 ≡ n = omega arith in
+    ap (λ (r : ℕ × ℕ). max r.1 size) (get_or-take used xs n (0, 0) (omega arith)) ∙ ap (λ k. max (end_at xs k) size) (sym at)
+
+-- entries that are runs are no more than their number
+pub few_runs : (xs : List (ℕ × ℕ)) (used n : ℕ) → AreRuns (take used xs) → used ≤ length xs → used ≤ n → runs (set_of_runs (take used xs)) ≤ n
+few_runs xs used n h l m = runs_bound (take used xs) _ n h refl (let len = length-take-le used xs l in omega arith)
+
+none_behind : (xs : List (ℕ × ℕ)) (used : ℕ) → used ≤ length xs → drop used (take used xs) ≡ []
+none_behind xs used l = drop_all used (take used xs) (let n = length-take-le used xs l in omega arith)
+
+-- runs that all end before a range
+pub all_before : (xs : List (ℕ × ℕ)) (used start : ℕ) → AreRuns (take used xs) → used ≤ length xs →
+    (0 < used → end_at xs (used - 1) < start) → (k : ℕ) → k < used → end_at (take used xs) k < start
+all_before xs used start h l last k m =
+    let cs = take used xs in
+    let len = length-take-le used xs l in
+    let p = ends_rise 0 cs k (used - 1) h (omega arith) (omega arith) in
+    let same = ap (λ (r : ℕ × ℕ). r.1) (get_or-take used xs (used - 1) (0, 0) (omega arith)) in
+    let q = last (omega arith) in
+    omega arith
+
+pub pushed_run : (xs : List (ℕ × ℕ)) (used start end : ℕ) → AreRuns (take used xs) → used < length xs → start < end →
+    (0 < used → end_at xs (used - 1) < start) →
+    take (used + 1) (set xs used (start, end)) ≡ runs_with_range (take used xs) start end
+pushed_run xs used start end h l m last =
+    take_more_set xs used (start, end) l ∙ ap (λ ts. take used xs ++ (start, end) ∷ ts) (sym (none_behind xs used (omega arith)))
+    ∙ inserted_run xs used used start end h (omega arith) (omega arith) m (all_before xs used start h (omega arith) last) (λ k a b. absurd (omega arith))
+
+pub not_pushed : (xs : List (ℕ × ℕ)) (used start end : ℕ) → AreRuns (take used xs) → used ≤ length xs → start < end →
+    (0 < used → end_at xs (used - 1) < start) →
+    length (runs_with_range (take used xs) start end) ≡ used + 1
+not_pushed xs used start end h l m last = refused_run xs used used start end h (omega arith) l m
+    (all_before xs used start h l last) (λ k a b. absurd (omega arith))
+
+-- a range that meets the run i alone
+pub grown_run : (xs : List (ℕ × ℕ)) (used i start end lo hi : ℕ) → AreRuns (take used xs) → i < used → used ≤ length xs →
+    ((k : ℕ) → k < i → end_at (take used xs) k < start) → start ≤ end_at (take used xs) i → start_at (take used xs) i ≤ end →
+    ((k : ℕ) → i + 1 ≤ k → k < used → end < start_at (take used xs) k) → lo ≡ min (start_at xs i) start → hi ≡ max (end_at xs i) end →
+    take used (set xs i (lo, hi)) ≡ runs_with_range (take used xs) start end
+grown_run xs used i start end lo hi h l m before from upto behind low high =
+    let cs = take used xs in
+    let ys = set xs i (lo, hi) in
+    let len = length-take-le used xs m in
+    let at : i + 1 - 1 ≡ i = omega arith in
+    sym (take-append-drop (i + 1) (take used ys)) ∙ ap (λ zs. zs ++ drop (i + 1) (take used ys)) (take-take (i + 1) used ys (omega arith))
+    ∙ replaced_run xs used i (i + 1) start end lo hi h (omega arith) (omega arith) m before from
+    (λ k a b. let p = starts_rise 0 cs k i h (omega arith) (omega arith) in omega arith)
+    behind low (high ∙ ap (λ k. max (end_at xs k) end) (sym at))
+
+-- a range that meets the last run alone
+pub extended_run : (xs : List (ℕ × ℕ)) (used start end hi : ℕ) → AreRuns (take used xs) → 0 < used → used ≤ length xs → start < end →
+    start_at xs (used - 1) ≤ start → start ≤ end_at xs (used - 1) → hi ≡ max (end_at xs (used - 1)) end →
+    take used (set xs (used - 1) (start_at xs (used - 1), hi)) ≡ runs_with_range (take used xs) start end
+extended_run xs used start end hi h some l m low from high =
+    let cs = take used xs in
+    let len = length-take-le used xs l in
+    let i = used - 1 in
+    let same = get_or-take used xs i (0, 0) (omega arith) in
+    let same_start = ap (λ (r : ℕ × ℕ). r.0) same in
+    let same_end = ap (λ (r : ℕ × ℕ). r.1) same in
+    grown_run xs used i start end (start_at xs i) hi h (omega arith) l
+    (λ k a. let p = apart 0 cs k i h a (omega arith) in omega arith)
+    (omega arith) (omega arith) (λ k a b. absurd (omega arith)) (omega arith) high
+
+-- the entry k, which a loop that counts lower has not reached, lies above
+pub above_at : (xs ys : List (ℕ × ℕ)) (used from by k : ℕ) → from ≤ k → k < used → used ≤ length ys →
+    IsRising by (drop from (take used ys)) → drop k xs ≡ drop k ys →
+    (by ≤ (get_or xs k (0, 0)).0) × (by ≤ (get_or xs k (0, 0)).1)
+above_at xs ys used from by k l m n h rest =
+    let at : from + (k - from) ≡ k = omega arith in
+    let len = length-take-le used ys n in
+    let dropped = length-drop from (take used ys) in
+    let same : get_or (drop from (take used ys)) (k - from) (0, 0) ≡ get_or xs k (0, 0) =
+    get_or-drop from (take used ys) (k - from) (0, 0) ∙ ap (λ i. get_or (take used ys) i (0, 0)) at
+    ∙ get_or-take used ys k (0, 0) m ∙ sym (rest_at xs ys k (0, 0) rest) in
+    let p = at_run by (drop from (take used ys)) (k - from) h (omega arith) in
+    let start = ap (λ (r : ℕ × ℕ). r.0) same in
+    let end = ap (λ (r : ℕ × ℕ). r.1) same in
+    (omega (arith, p.0, p.1), omega (arith, p.0, p.1))
+
+-- runs from i on, where a range ends before the run i
+pub all_behind : (xs : List (ℕ × ℕ)) (used i end : ℕ) → AreRuns (take used xs) → i < used → used ≤ length xs →
+    end < start_at xs i → (k : ℕ) → i ≤ k → k < used → end < start_at (take used xs) k
+all_behind xs used i end h l m first k a b =
+    let len = length-take-le used xs m in
+    let p = starts_rise 0 (take used xs) i k h a (omega arith) in
+    let same = ap (λ (r : ℕ × ℕ). r.0) (get_or-take used xs i (0, 0) l) in
+    omega arith
+
+pub behind_first : (xs : List (ℕ × ℕ)) (used end : ℕ) → AreRuns (take used xs) → 0 < used → used ≤ length xs →
+    end < start_at xs 0 → (k : ℕ) → 0 ≤ k → k < length (take used xs) → end < start_at (take used xs) k
+behind_first xs used end h l m first k a b =
+    let len = length-take-le used xs m in
+    all_behind xs used 0 end h l m first k a (omega arith)
+
+-- runs up to n that start at or before end, where the first does
+pub upto_from_first : (xs : List (ℕ × ℕ)) (used n end : ℕ) → 0 < used → used ≤ length xs → start_at xs 0 ≤ end →
+    ((k : ℕ) → 1 ≤ k → k < n → start_at (take used xs) k ≤ end) → (k : ℕ) → k < n → start_at (take used xs) k ≤ end
+upto_from_first xs used n end l m first upto zero a =
+    let same = ap (λ (r : ℕ × ℕ). r.0) (get_or-take used xs 0 (0, 0) l) in
+    omega arith
+upto_from_first xs used n end l m first upto (suc k) a = upto (suc k) (omega arith) a
+
+-- a position before the first run
+pub not_before : (low : ℕ) (rs : List (ℕ × ℕ)) (q : ℕ) → IsRising low rs → (0 < length rs → q < start_at rs 0) → in_runs rs q ≡ false
+not_before low [] q h first = refl
+not_before low (r ∷ rs) q h first = not_in_runs r.0 (r ∷ rs) q (omega arith, h.1, h.2) (first (omega arith))
+
+-- a position at or behind the start of the run n, and before that of the next
+pub in_run_at : (low : ℕ) (rs : List (ℕ × ℕ)) (n q : ℕ) → IsRising low rs → n < length rs → start_at rs n ≤ q →
+    ((k : ℕ) → n < k → k < length rs → q < start_at rs k) →
+    in_runs rs q ≡ nat_lt q (end_at rs n)
+in_run_at low [] n q h l from behind = absurd (omega arith)
+in_run_at low (r ∷ rs) zero q h l from behind =
+    either (cases_lt q r.1) (λ b. in_first r.0 r.1 q rs from b ∙ sym (lt-ltb q r.1 b))
+    (λ b. past_first r.0 r.1 q rs b ∙ not_before (r.1 + 1) rs q h.2 (λ a. behind 1 (omega arith) (omega arith)) ∙ sym (le-ltb q r.1 b))
+in_run_at low (r ∷ rs) (suc n) q h l from behind =
+    let p = apart low (r ∷ rs) 0 (suc n) h (omega arith) l in
+    past_first r.0 r.1 q rs (omega arith) ∙ in_run_at (r.1 + 1) rs n q h.2 (omega arith) from (λ k a b. behind (suc k) (omega arith) (omega arith))

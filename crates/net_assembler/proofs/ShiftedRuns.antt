@@ -1,0 +1,308 @@
+-- Runs that are counted from where the first of them starts, and the sets that they stand for.
+use Rattle.std.proofs.Common.{◌≡◌, ℕ, zero, suc, ◌+◌, ◌-◌, ◌<◌, ◌≤◌, ◌^◌, max, min, false, ◌&&◌}
+use Rattle.std.proofs.Common.{◌||◌, List, [], ◌∷◌, ◌++◌, length, take, drop, set, get_or, nat_le, nat_lt, refl, sym}
+use Rattle.std.proofs.Common.{ap, subst, ◌∙◌, arith}
+use Rattle.std.proofs.lemmas.List.{drop-map, length-map, length-take-le, get_or-take}
+use Rattle.std.proofs.lemmas.Bool.{cases_lt}
+use Rattle.std.proofs.lemmas.Bool.Decides.{nat_tests}
+use Rattle.net_assembler.specs.Positions.{runs_shifted_up}
+use Rattle.net_assembler.specs.RunLists.{start_at, end_at, IsRising, AreRuns, StartsAtZero, FitsFrom, runs_with_range, runs_shifted_down}
+use Rattle.net_assembler.proofs.Moves.{rest_at}
+use Rattle.net_assembler.proofs.Positions.{either}
+use Rattle.net_assembler.proofs.RunLists.{at_run, top_of, absorbed}
+use Rattle.net_assembler.proofs.Runs.{in_runs, rising_from, step_before, step_behind, step_meets}
+
+-- runs that are counted n higher
+pub length-up : (n : ℕ) (rs : List (ℕ × ℕ)) → length (runs_shifted_up n rs) ≡ length rs
+length-up n rs = length-map rs (λ (r : ℕ × ℕ). (n + r.0, n + r.1))
+
+pub drop-up : (n k : ℕ) (rs : List (ℕ × ℕ)) →
+    drop k (runs_shifted_up n rs) ≡ runs_shifted_up n (drop k rs)
+drop-up n k rs = drop-map (λ (r : ℕ × ℕ). (n + r.0, n + r.1)) k rs
+
+pub rising-up : (n low high : ℕ) (rs : List (ℕ × ℕ)) → high ≤ n + low → IsRising low rs →
+    IsRising high (runs_shifted_up n rs)
+rising-up n low high [] l h = tt
+rising-up n low high (r ∷ rs) l h =
+    (omega (arith, h.0), omega (arith, h.1), rising-up n (r.1 + 1) (n + r.1 + 1) rs (omega arith) h.2)
+
+pub runs-up : (n : ℕ) (rs : List (ℕ × ℕ)) → AreRuns rs → AreRuns (runs_shifted_up n rs)
+runs-up n rs h = rising-up n 0 0 rs (omega arith) h
+
+-- twice
+pub up-up : (a b c : ℕ) (rs : List (ℕ × ℕ)) → a + b ≡ c →
+    runs_shifted_up a (runs_shifted_up b rs) ≡ runs_shifted_up c rs
+up-up a b c [] e = refl
+up-up a b c (r ∷ rs) e =
+    let start : a + (b + r.0) ≡ c + r.0 = omega arith in
+    let end : a + (b + r.1) ≡ c + r.1 = omega arith in
+    λ i. (start i, end i) ∷ up-up a b c rs e i
+
+pub up-same : (a b : ℕ) (rs : List (ℕ × ℕ)) → a ≡ b → runs_shifted_up a rs ≡ runs_shifted_up b rs
+up-same a b rs e = ap (λ n. runs_shifted_up n rs) e
+
+-- up and down again
+pub up-down : (f e : ℕ) (rs : List (ℕ × ℕ)) → e ≤ f → IsRising f rs →
+    runs_shifted_up (f - e) (runs_shifted_down f rs) ≡ runs_shifted_down e rs
+up-down f e [] l h = refl
+up-down f e (r ∷ rs) l h =
+    let start : f - e + (r.0 - f) ≡ r.0 - e = omega (arith, h.0) in
+    let end : f - e + (r.1 - f) ≡ r.1 - e = omega (arith, h.0, h.1) in
+    let rest = up-down f e rs l (rising_from f (r.1 + 1) rs (omega (arith, h.0, h.1)) h.2) in
+    λ i. (start i, end i) ∷ rest i
+
+pub down-up : (n m : ℕ) (rs : List (ℕ × ℕ)) →
+    runs_shifted_down (n + m) (runs_shifted_up n rs) ≡ runs_shifted_down m rs
+down-up n m [] = refl
+down-up n m (r ∷ rs) =
+    let start : n + r.0 - (n + m) ≡ r.0 - m = omega arith in
+    let end : n + r.1 - (n + m) ≡ r.1 - m = omega arith in
+    λ i. (start i, end i) ∷ down-up n m rs i
+
+pub down-less : (n m : ℕ) (rs : List (ℕ × ℕ)) → m ≤ n →
+    runs_shifted_down m (runs_shifted_up n rs) ≡ runs_shifted_up (n - m) rs
+down-less n m [] l = refl
+down-less n m (r ∷ rs) l =
+    let start : n + r.0 - m ≡ n - m + r.0 = omega arith in
+    let end : n + r.1 - m ≡ n - m + r.1 = omega arith in
+    λ i. (start i, end i) ∷ down-less n m rs l i
+
+-- a range that joins them, counted alike
+pub up-runs_with_range : (n : ℕ) (rs : List (ℕ × ℕ)) (lo hi : ℕ) →
+    runs_shifted_up n (runs_with_range rs lo hi)
+    ≡ runs_with_range (runs_shifted_up n rs) (n + lo) (n + hi)
+up-runs_with_range n [] lo hi = refl
+up-runs_with_range n (r ∷ rs) lo hi =
+    let q : ℕ × ℕ = (n + r.0, n + r.1) in
+    let ups = runs_shifted_up n rs in
+    let least : n + min r.0 lo ≡ min (n + r.0) (n + lo) = omega arith in
+    let most : n + max r.1 hi ≡ max (n + r.1) (n + hi) = omega arith in
+    either (cases_lt r.1 lo)
+    (λ b.
+    ap (runs_shifted_up n) (step_before r rs lo hi b)
+    ∙ ap (λ xs. q ∷ xs) (up-runs_with_range n rs lo hi)
+    ∙ sym (step_before q ups (n + lo) (n + hi) (omega arith)))
+    (λ b. either (cases_lt hi r.0)
+    (λ c.
+    ap (runs_shifted_up n) (step_behind r rs lo hi b c)
+    ∙ sym (step_behind q ups (n + lo) (n + hi) (omega arith) (omega arith)))
+    (λ c.
+    ap (runs_shifted_up n) (step_meets r rs lo hi b c)
+    ∙ up-runs_with_range n rs (min r.0 lo) (max r.1 hi)
+    ∙ (λ i. runs_with_range ups (least i) (most i))
+    ∙ sym (step_meets q ups (n + lo) (n + hi) (omega arith) (omega arith))))
+
+-- their ends fit
+pub fits-at : (n : ℕ) (rs : List (ℕ × ℕ)) (k : ℕ) → FitsFrom n rs → k < length rs →
+    n + end_at rs k < 2 ^ 64
+fits-at n [] k f l = absurd (omega arith)
+fits-at n (r ∷ rs) zero f l = f.0
+fits-at n (r ∷ rs) (suc k) f l = fits-at n rs k f.1 (omega arith)
+
+pub fits-less : (m n : ℕ) (rs : List (ℕ × ℕ)) → m ≤ n → FitsFrom n rs → FitsFrom m rs
+fits-less m n [] l f = tt
+fits-less m n (r ∷ rs) l f = (omega (arith, f.0), fits-less m n rs l f.1)
+
+pub fits-drop : (n k : ℕ) (rs : List (ℕ × ℕ)) → FitsFrom n rs → FitsFrom n (drop k rs)
+fits-drop n zero rs f = f
+fits-drop n (suc k) [] f = tt
+fits-drop n (suc k) (r ∷ rs) f = fits-drop n k rs f.1
+
+pub fits-up : (a b c : ℕ) (rs : List (ℕ × ℕ)) → a + b ≡ c → FitsFrom c rs →
+    FitsFrom a (runs_shifted_up b rs)
+fits-up a b c [] e f = tt
+fits-up a b c (r ∷ rs) e f = (omega (arith, f.0), fits-up a b c rs e f.1)
+
+pub fits-down : (n m c : ℕ) (rs : List (ℕ × ℕ)) → n ≤ m → IsRising m rs → FitsFrom c rs →
+    FitsFrom n (runs_shifted_down m rs)
+fits-down n m c [] l h f = tt
+fits-down n m c (r ∷ rs) l h f = (
+  omega (arith, h.0, h.1, f.0),
+  fits-down n m c rs l (rising_from m (r.1 + 1) rs (omega (arith, h.0, h.1)) h.2) f.1,
+)
+
+pub fits-runs_with_range : (n : ℕ) (rs : List (ℕ × ℕ)) (lo hi : ℕ) → FitsFrom n rs → n + hi < 2 ^ 64 →
+    FitsFrom n (runs_with_range rs lo hi)
+fits-runs_with_range n [] lo hi f l = (l, tt)
+fits-runs_with_range n (r ∷ rs) lo hi f l =
+    either (cases_lt r.1 lo)
+    (λ b. subst (FitsFrom n) (sym (step_before r rs lo hi b)) (f.0, fits-runs_with_range n rs lo hi f.1 l))
+    (λ b. either (cases_lt hi r.0)
+    (λ c. subst (FitsFrom n) (sym (step_behind r rs lo hi b c)) (l, f))
+    (λ c.
+    subst (FitsFrom n) (sym (step_meets r rs lo hi b c))
+    (fits-runs_with_range n rs (min r.0 lo) (max r.1 hi) f.1 (omega (arith, f.0)))))
+
+-- the first of them starts at 0
+pub first_at : (rs : List (ℕ × ℕ)) → StartsAtZero rs → start_at rs 0 ≡ 0
+first_at [] f = refl
+first_at (r ∷ rs) f = f
+
+pub starts_at_zero : (rs : List (ℕ × ℕ)) → (0 < length rs → start_at rs 0 ≡ 0) → StartsAtZero rs
+starts_at_zero [] f = tt
+starts_at_zero (r ∷ rs) f = f (omega arith)
+
+pub zero-runs_with_range : (rs : List (ℕ × ℕ)) (lo hi : ℕ) → lo ≡ 0 →
+    StartsAtZero (runs_with_range rs lo hi)
+zero-runs_with_range [] lo hi e = e
+zero-runs_with_range (r ∷ rs) lo hi e =
+    either (cases_lt hi r.0)
+    (λ c. subst StartsAtZero (sym (step_behind r rs lo hi (omega arith) c)) e)
+    (λ c.
+    subst StartsAtZero (sym (step_meets r rs lo hi (omega arith) c))
+    (zero-runs_with_range rs (min r.0 lo) (max r.1 hi) (omega arith)))
+
+pub first-runs_with_range : (rs : List (ℕ × ℕ)) (lo hi : ℕ) → StartsAtZero rs →
+    (length rs ≡ 0 → lo ≡ 0) → StartsAtZero (runs_with_range rs lo hi)
+first-runs_with_range [] lo hi f none = none refl
+first-runs_with_range (r ∷ rs) lo hi f none =
+    either (cases_lt r.1 lo)
+    (λ b. subst StartsAtZero (sym (step_before r rs lo hi b)) f)
+    (λ b.
+    subst StartsAtZero (sym (step_meets r rs lo hi b (omega (arith, f))))
+    (zero-runs_with_range rs (min r.0 lo) (max r.1 hi) (omega (arith, f))))
+
+pub first-down : (n : ℕ) (rs : List (ℕ × ℕ)) → start_at rs 0 ≤ n → StartsAtZero (runs_shifted_down n rs)
+first-down n [] l = tt
+first-down n (r ∷ rs) l = omega arith
+
+-- equal runs are counted from one place
+pub start-up : (n : ℕ) (rs : List (ℕ × ℕ)) → 0 < length rs → StartsAtZero rs →
+    start_at (runs_shifted_up n rs) 0 ≡ n
+start-up n [] l f = absurd (omega arith)
+start-up n (r ∷ rs) l f = omega (arith, f)
+
+pub end-up : (n : ℕ) (rs : List (ℕ × ℕ)) → 0 < length rs →
+    end_at (runs_shifted_up n rs) 0 ≡ n + end_at rs 0
+end-up n [] l = absurd (omega arith)
+end-up n (r ∷ rs) l = refl
+
+down-all : (n : ℕ) (rs : List (ℕ × ℕ)) → runs_shifted_down n (runs_shifted_up n rs) ≡ rs
+down-all n [] = refl
+down-all n (r ∷ rs) =
+    let start : n + r.0 - n ≡ r.0 = omega arith in
+    let end : n + r.1 - n ≡ r.1 = omega arith in
+    λ i. (start i, end i) ∷ down-all n rs i
+
+pub up-injective : (m n : ℕ) (rs ts : List (ℕ × ℕ)) → m ≡ n →
+    runs_shifted_up m rs ≡ runs_shifted_up n ts → rs ≡ ts
+up-injective m n rs ts e is =
+    sym (down-all m rs) ∙ ap (runs_shifted_down m) is
+    ∙ ap (λ k. runs_shifted_down k (runs_shifted_up n ts)) e ∙ down-all n ts
+
+-- a position of them
+pub in_runs-below : (n : ℕ) (rs : List (ℕ × ℕ)) (q : ℕ) → q < n → in_runs (runs_shifted_up n rs) q ≡ false
+in_runs-below n [] q l = refl
+in_runs-below n (r ∷ rs) q l =
+    let here : (nat_le (n + r.0) q && nat_lt q (n + r.1)) ≡ false = grind (arith, nat_tests) in
+    λ i. here i || in_runs-below n rs q l i
+
+pub in_runs-up : (n : ℕ) (rs : List (ℕ × ℕ)) (q : ℕ) → n ≤ q →
+    in_runs (runs_shifted_up n rs) q ≡ in_runs rs (q - n)
+in_runs-up n [] q l = refl
+in_runs-up n (r ∷ rs) q l =
+    λ i. up_test n r.0 r.1 q l i || in_runs-up n rs q l i
+  where
+    up_test : (n a e q : ℕ) → n ≤ q →
+        (nat_le (n + a) q && nat_lt q (n + e)) ≡ (nat_le a (q - n) && nat_lt (q - n) e)
+    up_test n a e q l = grind (arith, nat_tests)
+
+-- the entry k, which a loop that counts higher has not reached, fits
+pub below_at : (xs ys : List (ℕ × ℕ)) (used by k : ℕ) → k < used → used ≤ length ys →
+    AreRuns (take used ys) → FitsFrom by (take used ys) → drop k xs ≡ drop k ys →
+    ((get_or xs k (0, 0)).0 + by < 2 ^ 64) × ((get_or xs k (0, 0)).1 + by < 2 ^ 64)
+below_at xs ys used by k m n h f rest =
+    let cs = take used ys in
+    let len = length-take-le used ys n in
+    let same : get_or cs k (0, 0) ≡ get_or xs k (0, 0) =
+    get_or-take used ys k (0, 0) m ∙ sym (rest_at xs ys k (0, 0) rest) in
+    let start = ap (λ (r : ℕ × ℕ). r.0) same in
+    let end = ap (λ (r : ℕ × ℕ). r.1) same in
+    let p = at_run 0 cs k h (omega arith) in
+    let q = fits-at by cs k f (omega arith) in
+    (omega (arith, p.1), omega arith)
+
+pub start_at-up : (n : ℕ) (rs : List (ℕ × ℕ)) (k : ℕ) → k < length rs →
+    start_at (runs_shifted_up n rs) k ≡ n + start_at rs k
+start_at-up n [] k l = absurd (omega arith)
+start_at-up n (r ∷ rs) zero l = refl
+start_at-up n (r ∷ rs) (suc k) l = start_at-up n rs k (omega arith)
+
+pub end_at-up : (n : ℕ) (rs : List (ℕ × ℕ)) (k : ℕ) → k < length rs →
+    end_at (runs_shifted_up n rs) k ≡ n + end_at rs k
+end_at-up n [] k l = absurd (omega arith)
+end_at-up n (r ∷ rs) zero l = refl
+end_at-up n (r ∷ rs) (suc k) l = end_at-up n rs k (omega arith)
+
+-- a range that starts before the first run, and ends before it
+pub before_first : (by size : ℕ) (rs : List (ℕ × ℕ)) → size < by →
+    runs_with_range (runs_shifted_up by rs) 0 size ≡ (0, size) ∷ runs_shifted_up by rs
+before_first by size [] l = refl
+before_first by size (r ∷ rs) l =
+    step_behind (by + r.0, by + r.1) (runs_shifted_up by rs) 0 size (omega arith) (omega arith)
+
+pub top_before : (rs : List (ℕ × ℕ)) (n hi : ℕ) → 0 < n → top_of rs n hi ≡ max (end_at rs (n - 1)) hi
+top_before rs zero hi l = absurd (omega arith)
+top_before rs (suc n) hi l =
+    let last : n ≡ suc n - 1 = omega arith in
+    ap (λ k. max (end_at rs k) hi) last
+
+-- and one that meets the first n
+pub met_before : (by size n high : ℕ) (rs : List (ℕ × ℕ)) → AreRuns rs → StartsAtZero rs → by ≤ size →
+    0 < n → n ≤ length rs →
+    ((k : ℕ) → 1 ≤ k → k < n → start_at rs k ≤ size - by) →
+    ((k : ℕ) → n ≤ k → k < length rs → size - by < start_at rs k) →
+    high ≡ max (by + end_at rs (n - 1)) size →
+    runs_with_range (runs_shifted_up by rs) 0 size ≡ (0, high) ∷ runs_shifted_up by (drop n rs)
+met_before by size n high rs h f l some m upto behind is =
+    let ups = runs_shifted_up by rs in
+    let len = length-up by rs in
+    let last = end_at-up by rs (n - 1) (omega arith) in
+    absorbed 0 ups n 0 size (runs-up by rs h) (omega arith) (omega arith)
+    (λ k a.
+    let s = start_at-up by rs k (omega arith) in
+    either (cases_lt 0 k) (λ b. let p = upto k b a in omega arith)
+    (λ b. let zeroth : k ≡ 0 = omega arith in
+    let e = ap (start_at rs) zeroth in let z = first_at rs f in omega arith))
+    (λ k a b. let s = start_at-up by rs k (omega arith) in let p = behind k a (omega arith) in omega arith)
+    ∙ ap (λ (t : ℕ). (0, t) ∷ drop n ups)
+    (top_before ups n size some ∙ ap (λ e. max e size) last ∙ sym is)
+    ∙ ap (λ ts. (0, high) ∷ ts) (drop-up by n rs)
+
+-- an array of which the first entry, a run that starts at 0, gets its end last
+pub set_first_end : (ys xs : List (ℕ × ℕ)) (n e : ℕ) (rest : List (ℕ × ℕ)) → 0 < n → 0 < length xs →
+    0 < length ys → start_at xs 0 ≡ 0 → take n ys ≡ take 1 xs ++ rest →
+    take n (set ys 0 (start_at ys 0, e)) ≡ (0, e) ∷ rest
+set_first_end ys xs zero e rest l m o f h = absurd (omega arith)
+set_first_end [] xs (suc n) e rest l m o f h = absurd (omega arith)
+set_first_end (y ∷ ys) [] (suc n) e rest l m o f h = absurd (omega arith)
+set_first_end (y ∷ ys) (x ∷ xs) (suc n) e rest l m o f h =
+    ap (λ ts. (start_at ts 0, e) ∷ drop 1 ts) h ∙ ap (λ s. (s, e) ∷ rest) f
+
+pub get_or-up : (n : ℕ) (rs : List (ℕ × ℕ)) (k : ℕ) → k < length rs →
+    get_or (runs_shifted_up n rs) k (0, 0) ≡ (n + start_at rs k, n + end_at rs k)
+get_or-up n [] k l = absurd (omega arith)
+get_or-up n (r ∷ rs) zero l = refl
+get_or-up n (r ∷ rs) (suc k) l = get_or-up n rs k (omega arith)
+
+pub start-drop : (rs : List (ℕ × ℕ)) (k : ℕ) → start_at (drop k rs) 0 ≡ start_at rs k
+start-drop rs zero = refl
+start-drop [] (suc k) = refl
+start-drop (r ∷ rs) (suc k) = start-drop rs k
+
+pub down-none : (n : ℕ) (rs : List (ℕ × ℕ)) → length rs ≡ 0 → runs_shifted_down n rs ≡ rs
+down-none n [] e = refl
+down-none n (r ∷ rs) e = absurd (omega arith)
+
+-- a range where no run is
+pub alone-runs_with_range : (rs : List (ℕ × ℕ)) (lo hi : ℕ) → length rs ≡ 0 →
+    runs_with_range rs lo hi ≡ (lo, hi) ∷ []
+alone-runs_with_range [] lo hi e = refl
+alone-runs_with_range (r ∷ rs) lo hi e = absurd (omega arith)
+
+pub down-zero : (n : ℕ) (rs : List (ℕ × ℕ)) → n ≡ 0 → runs_shifted_down n rs ≡ rs
+down-zero n [] e = refl
+down-zero n (r ∷ rs) e =
+    let start : r.0 - n ≡ r.0 = omega arith in
+    let end : r.1 - n ≡ r.1 = omega arith in
+    λ i. (start i, end i) ∷ down-zero n rs e i

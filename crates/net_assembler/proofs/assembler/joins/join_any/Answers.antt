@@ -1,0 +1,68 @@
+use Rattle.std.proofs.Common.{◌∙◌, length, refl, arith}
+use Rattle.std.proofs.lemmas.List.{length-take-le}
+use Rattle.net_assembler.specs.Turns.{binary_digits}
+use Rattle.net_assembler.proofs.AssemblerLaws.{below_binary_digits}
+use Rattle.net_assembler.proofs.RunLists.{inserted_run, refused_run, all_behind}
+use Rattle.net_assembler.proofs.assembler.joins.join_any.Goals as goal
+
+pub returns-then-used-pairs-clause-joined : goal.returns-then-used-pairs-clause-joined
+returns-then-used-pairs-clause-joined c =
+    let search = c.runs_ending_before-first.ensures in
+    let first = c.runs_ending_before-first.result in
+    let len = length-take-le c.args.used c.args.pairs.now c.requires.used in
+    let behind = all_behind c.args.pairs.now c.args.used first c.args.end c.requires.runs (omega (arith, search.within)) c.requires.used (omega arith) in
+    let n = refused_run c.args.pairs.now c.args.used first c.args.start c.args.end c.requires.runs
+    (omega (arith, search.within)) c.requires.used c.requires.some search.before behind in
+    (refl, omega arith)
+
+pub returns-then-end-pairs-clause-joined : goal.returns-then-end-pairs-clause-joined
+returns-then-end-pairs-clause-joined c =
+    let search = c.runs_ending_before-first.ensures in
+    let first = c.runs_ending_before-first.result in
+    let len = length-take-le c.args.used c.args.pairs.now c.requires.used in
+    let behind = all_behind c.args.pairs.now c.args.used first c.args.end c.requires.runs (omega (arith, search.within)) c.requires.used (omega arith) in (
+      c.insert_pair.ensures.pairs
+          ∙ inserted_run c.args.pairs.now c.args.used first c.args.start c.args.end c.requires.runs
+          (omega (arith, search.within)) c.requires.used c.requires.some search.before behind,
+      omega arith,
+    )
+
+pub returns-then-used-pairs-clause-turns : goal.returns-then-used-pairs-clause-turns
+returns-then-used-pairs-clause-turns c =
+    let n = length c.args.pairs.now in
+    let len = length-take-le c.args.used c.args.pairs.now c.requires.used in
+    let few = c.runs_ending_before-first.ensures.looks (binary_digits n)
+    (let d = below_binary_digits n in omega (arith, c.requires.used)) in
+    record {
+      looks_few = omega arith;
+      moves_few = omega arith;
+      no_look_lost = omega arith;
+      no_move_lost = omega arith;
+    }
+
+pub returns-then-end-pairs-clause-turns : goal.returns-then-end-pairs-clause-turns
+returns-then-end-pairs-clause-turns c =
+    let n = length c.args.pairs.now in
+    let len = length-take-le c.args.used c.args.pairs.now c.requires.used in
+    let few = c.runs_ending_before-first.ensures.looks (binary_digits n)
+    (let d = below_binary_digits n in omega (arith, c.requires.used)) in
+    record {
+      looks_few = omega arith;
+      moves_few = omega (arith, c.requires.used);
+      no_look_lost = omega arith;
+      no_move_lost = omega (arith, c.runs_ending_before-first.ensures.within);
+    }
+
+pub returns-clause-turns : goal.returns-clause-turns
+returns-clause-turns c =
+    let n = length c.args.pairs.now in
+    let len = length-take-le c.args.used c.args.pairs.now c.requires.used in
+    let few = c.runs_ending_before-first.ensures.looks (binary_digits n)
+    (let d = below_binary_digits n in omega (arith, c.requires.used)) in
+    let grows = c.grow_run-2.ensures.turns in
+    record {
+      looks_few = omega (arith, grows.looks_few);
+      moves_few = omega (arith, grows.moves_few);
+      no_look_lost = omega (arith, grows.no_look_lost);
+      no_move_lost = omega (arith, grows.no_move_lost);
+    }

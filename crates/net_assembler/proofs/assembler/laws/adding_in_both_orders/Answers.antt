@@ -1,0 +1,5 @@
+use Rattle.net_assembler.proofs.AssemblerLaws.{adding_in_both_orders}
+use Rattle.net_assembler.proofs.assembler.laws.adding_in_both_orders.Goals as goal
+
+pub returns : goal.returns
+returns c = adding_in_both_orders

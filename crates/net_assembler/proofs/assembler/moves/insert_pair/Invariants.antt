@@ -1,0 +1,11 @@
+use Rattle.std.proofs.Common.{◌≡◌, ◌+◌, ◌++◌, [], ◌∷◌, length, take, drop}
+use Rattle.net_assembler.proofs.assembler.moves.insert_pair.Given as goal
+
+abbrev pub invariant-loop-k : goal.invariant-loop-k
+invariant-loop-k l = record {
+  len : length l.pairs ≡ length l.fn.pairs;
+  taken : take l.k l.pairs ++ l.carried ∷ [] ≡ take l.at l.fn.pairs ++ l.fn.entry ∷ drop l.at (take l.k l.fn.pairs);
+  rest : drop l.k l.pairs ≡ drop l.k l.fn.pairs;
+  looks : l.turns.0 ≡ l.fn.turns.0;
+  moves : l.turns.1 + l.at ≡ l.fn.turns.1 + l.k;
+}

@@ -1,0 +1,92 @@
+use Rattle.std.proofs.Common.{◌-◌, ap, refl, take, arith}
+use Rattle.net_assembler.specs.Positions.{runs_shifted_up}
+use Rattle.net_assembler.specs.RunLists.{pairs_of, set_of_runs}
+use Rattle.net_assembler.proofs.ShiftedRuns.{fits-less}
+use Rattle.net_assembler.proofs.SortedRuns.{accepted, first_runs, first_sound, joined_length, joined_runs, joined_sound}
+use Rattle.net_assembler.proofs.SortedRuns.{no_room, none_added, preceded_length, preceded_runs, preceded_sound, refused}
+use Rattle.net_assembler.proofs.assembler.sorted_runs.SortedRuns.add.Goals as goal
+
+pub returns-then-size-eq0-clause-added : goal.returns-then-size-eq0-clause-added
+returns-then-size-eq0-clause-added g c = none_added c.args.self.now c.requires.sound c.args.offset c.args.size (omega arith)
+
+pub join_before-requires-clause-fits : goal.join_before-requires-clause-fits
+join_before-requires-clause-fits g c =
+    let h = c.args.self.now in
+    fits-less (h.hole - c.args.offset) h.hole (pairs_of h) (omega arith) c.requires.sound.fits
+
+pub returns-then-this-eq0-clause-added : goal.returns-then-this-eq0-clause-added
+returns-then-this-eq0-clause-added g c =
+    let h = c.args.self.now in
+    let s = c.requires.sound in
+    refused h h s c.args.offset c.args.size (omega arith) _ refl
+    (no_room h s c.args.offset c.args.size (omega arith) (omega arith) (omega arith)) refl
+
+pub returns-then-self-eq0-clause-sound : goal.returns-then-self-eq0-clause-sound
+returns-then-self-eq0-clause-sound g c =
+    first_sound c.args.self.now c.requires.sound c.args.offset c.args.size (omega arith) (omega arith) (omega arith) c.requires.range
+
+pub returns-then-self-eq0-clause-added : goal.returns-then-self-eq0-clause-added
+returns-then-self-eq0-clause-added g c =
+    let h = c.args.self.now in
+    let s = c.requires.sound in
+    accepted h _ s c.args.offset c.args.size (omega arith)
+    (first_sound h s c.args.offset c.args.size (omega arith) (omega arith) (omega arith) c.requires.range)
+    (first_runs h s c.args.offset c.args.size (omega arith) (omega arith) (omega arith))
+
+pub returns-in_err-self-clause-added : goal.returns-in_err-self-clause-added
+returns-in_err-self-clause-added g c =
+    let h = c.args.self.now in
+    let s = c.requires.sound in
+    let left = c.in_err-self.ensures.joined in
+    let all = preceded_length h s c.join_before.new.pairs c.args.offset c.args.size (omega arith) (omega arith) in
+    refused h _ s c.args.offset c.args.size (omega arith) _ c.from_residual.ensures.0 (omega (arith, left.1, s.capacity))
+    (ap (λ ps. set_of_runs (runs_shifted_up h.hole (take h.used ps))) left.0)
+
+pub returns-in_err-self-2-clause-added : goal.returns-in_err-self-2-clause-added
+returns-in_err-self-2-clause-added g c =
+    let h = c.args.self.now in
+    let s = c.requires.sound in
+    let left = c.in_err-self-2.ensures.joined in
+    let all = joined_length h s c.join_range.new.pairs c.args.offset c.args.size (omega arith) (omega arith) (omega arith) in
+    refused h _ s c.args.offset c.args.size (omega arith) _ c.from_residual-in_err-self-2.ensures.0 (omega (arith, left.1, s.capacity))
+    (ap (λ ps. set_of_runs (runs_shifted_up h.hole (take h.used ps))) left.0)
+
+pub returns-in_ok-self-clause-sound : goal.returns-in_ok-self-clause-sound
+returns-in_ok-self-clause-sound g c =
+    let h = c.args.self.now in
+    let s = c.requires.sound in
+    let left = c.in_ok-self.ensures.joined in
+    let same = c.join_before.auto.pairs in
+    preceded_sound h s c.join_before.new.pairs c.args.offset c.args.size (omega arith) (omega arith)
+    c.in_ok-self.field-0 (omega (arith, left.1)) (omega (arith, s.capacity)) c.requires.range left.0
+
+pub returns-in_ok-self-clause-added : goal.returns-in_ok-self-clause-added
+returns-in_ok-self-clause-added g c =
+    let h = c.args.self.now in
+    let s = c.requires.sound in
+    let left = c.in_ok-self.ensures.joined in
+    let same = c.join_before.auto.pairs in
+    accepted h _ s c.args.offset c.args.size (omega arith)
+    (preceded_sound h s c.join_before.new.pairs c.args.offset c.args.size (omega arith) (omega arith)
+    c.in_ok-self.field-0 (omega (arith, left.1)) (omega (arith, s.capacity)) c.requires.range left.0)
+    (preceded_runs h s c.join_before.new.pairs c.args.offset c.args.size (omega arith) (omega arith) c.in_ok-self.field-0 left.0)
+
+pub returns-in_ok-self-2-clause-sound : goal.returns-in_ok-self-2-clause-sound
+returns-in_ok-self-2-clause-sound g c =
+    let h = c.args.self.now in
+    let s = c.requires.sound in
+    let left = c.in_ok-self-2.ensures.joined in
+    let same = c.join_range.auto.pairs in
+    joined_sound h s c.join_range.new.pairs c.args.offset c.args.size (omega arith) (omega arith) (omega arith)
+    c.in_ok-self-2.field-0 (omega (arith, left.1)) (omega (arith, s.capacity)) c.requires.range left.0
+
+pub returns-in_ok-self-2-clause-added : goal.returns-in_ok-self-2-clause-added
+returns-in_ok-self-2-clause-added g c =
+    let h = c.args.self.now in
+    let s = c.requires.sound in
+    let left = c.in_ok-self-2.ensures.joined in
+    let same = c.join_range.auto.pairs in
+    accepted h _ s c.args.offset c.args.size (omega arith)
+    (joined_sound h s c.join_range.new.pairs c.args.offset c.args.size (omega arith) (omega arith) (omega arith)
+    c.in_ok-self-2.field-0 (omega (arith, left.1)) (omega (arith, s.capacity)) c.requires.range left.0)
+    (joined_runs h s c.join_range.new.pairs c.args.offset c.args.size (omega arith) (omega arith) (omega arith) c.in_ok-self-2.field-0 left.0)

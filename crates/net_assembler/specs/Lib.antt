@@ -1,0 +1,6 @@
+pub mod Positions
+pub mod Ranges
+pub mod RunLists
+pub mod Turns
+pub mod Assembler
+pub mod AssemblerLaws

@@ -1,0 +1,94 @@
+-- Lists of runs (start, end), end not included, and the sets of positions that they stand for.
+--     AreRuns rs      runs that rise, with a hole between neighbours
+--     run_positions rs, set_of_runs rs      their positions, as a list and as a set
+--     runs_with_range rs lo hi, JoinsRange rs old new start end result      runs with a range
+--     runs_shifted_down m rs, StartsAtZero rs, FitsFrom n rs      how runs are counted
+--     pairs_of h, runs_of h, set_of h, HasSoundPairs h      what the fields of an assembler stand for
+--     contig_text c      a hole and the data behind it, as text
+use Rattle.std.specs.Prelude.{◌≡◌, ℕ, ◌+◌, ◌-◌, ◌<◌, ◌≤◌, ◌^◌, List, [], ◌∷◌, ◌++◌, length, take, map}
+use Rattle.std.specs.Prelude.{flat_map, get_or, cond, nat_lt, min, max, Result, MatchResult}
+use Rattle.std.specs.Fmt.{decimal}
+use Rattle.std.specs.List.{range_with_len}
+use Rattle.net_assembler.specs.Assembler.{hole_text}
+use Rattle.net_assembler.specs.Positions.{Positions, set_of_list, runs_shifted_up}
+use Rattle.net_assembler.specs.declared.assembler.display.Contig.{Contig}
+use Rattle.net_assembler.specs.declared.assembler.error.TooManyHolesError.{TooManyHolesError}
+use Rattle.net_assembler.specs.declared.assembler.sorted_runs.SortedRuns.{SortedRuns}
+
+-- where the run k starts
+abbrev pub start_at : List (ℕ × ℕ) → ℕ → ℕ
+start_at rs k = (get_or rs k (0, 0)).0
+
+-- where the run k ends
+abbrev pub end_at : List (ℕ × ℕ) → ℕ → ℕ
+end_at rs k = (get_or rs k (0, 0)).1
+
+-- runs from low on, which rise with a hole between neighbours
+abbrev pub IsRising : ℕ → List (ℕ × ℕ) → Type 0
+IsRising low [] = Unit {0}
+IsRising low (r ∷ rs) = (low ≤ r.0) × (r.0 < r.1) × IsRising (r.1 + 1) rs
+
+-- runs that rise, with a hole between neighbours; the first may begin at 0
+abbrev pub AreRuns : List (ℕ × ℕ) → Type 0
+AreRuns rs = IsRising 0 rs
+
+-- the positions of a list of runs
+abbrev pub run_positions : List (ℕ × ℕ) → List ℕ
+run_positions rs = flat_map (λ r. range_with_len r.0 (r.1 - r.0)) rs
+
+-- the set of these positions
+unfoldable pub set_of_runs : List (ℕ × ℕ) → Positions
+set_of_runs rs = set_of_list (run_positions rs)
+
+-- the runs with the positions from lo to hi - 1, where what meets or touches becomes one run
+abbrev pub runs_with_range : List (ℕ × ℕ) → ℕ → ℕ → List (ℕ × ℕ)
+runs_with_range [] lo hi = (lo, hi) ∷ []
+runs_with_range (r ∷ rs) lo hi =
+    cond (nat_lt r.1 lo) (r ∷ runs_with_range rs lo hi)
+    (cond (nat_lt hi r.0) ((lo, hi) ∷ r ∷ rs) (runs_with_range rs (min r.0 lo) (max r.1 hi)))
+
+-- what joins a range with runs: the first n pairs of an array are the runs with the range then, or
+-- the array is as it was, where these are more than it has room for
+abbrev pub JoinsRange : List (ℕ × ℕ) → List (ℕ × ℕ) → List (ℕ × ℕ) →
+    ℕ → ℕ → Result ℕ TooManyHolesError → Type 0
+JoinsRange rs old new start end result = MatchResult result
+    (λ n. (take n new ≡ runs_with_range rs start end) × (n ≤ length old))
+    (λ _. (new ≡ old) × (length old < length (runs_with_range rs start end)))
+
+-- runs, each counted m lower
+abbrev pub runs_shifted_down : ℕ → List (ℕ × ℕ) → List (ℕ × ℕ)
+runs_shifted_down m rs = map (λ r. (r.0 - m, r.1 - m)) rs
+
+-- the first of them, if there is one, starts at 0
+abbrev pub StartsAtZero : List (ℕ × ℕ) → Type 0
+StartsAtZero [] = Unit {0}
+StartsAtZero (r ∷ rs) = r.0 ≡ 0
+
+-- the end of each is a number of 64 bits also where it is counted n higher
+abbrev pub FitsFrom : ℕ → List (ℕ × ℕ) → Type 0
+FitsFrom n [] = Unit {0}
+FitsFrom n (r ∷ rs) = (n + r.1 < 2 ^ 64) × FitsFrom n rs
+
+-- the runs of an assembler, counted from where the first of them starts
+abbrev pub pairs_of : {n : ℕ} → SortedRuns n → List (ℕ × ℕ)
+pairs_of h = take h.used h.pairs
+
+-- the runs of an assembler
+abbrev pub runs_of : {n : ℕ} → SortedRuns n → List (ℕ × ℕ)
+runs_of h = runs_shifted_up h.hole (pairs_of h)
+
+-- and their set
+abbrev pub set_of : {n : ℕ} → SortedRuns n → Positions
+set_of h = set_of_runs (runs_of h)
+
+-- the used pairs are runs, at most n of them, counted from where the first of them starts
+pub record HasSoundPairs {n : ℕ} (h : SortedRuns n) : Type 0 where
+  pub room : h.used ≤ n
+  pub capacity : length h.pairs ≡ n
+  pub runs : AreRuns (pairs_of h)
+  pub first : StartsAtZero (pairs_of h)
+  pub fits : FitsFrom h.hole (pairs_of h)
+
+-- a hole in parentheses, if there is one, and the data behind it
+abbrev pub contig_text : Contig → List ℕ
+contig_text c = hole_text c.hole_size ++ decimal c.data_size

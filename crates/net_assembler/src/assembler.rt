@@ -1,0 +1,322 @@
+//! The assembler of ranges that arrive out of order.
+ghost use Rattle.std.specs.Prelude.{◌≡◌, ◌+◌, ◌<◌, ◌≤◌, ◌*◌, ◌↔◌, length, IsTrue, IsOk, IsErr};
+ghost use Rattle.std.specs.Prelude.{IfSome, OnOk, OnErr, MatchResult};
+ghost use Rattle.std.specs.List.{slice_get};
+ghost use Rattle.net_assembler.specs.Assembler.{MakesTooManyRuns};
+ghost use Rattle.net_assembler.specs.Positions.{RangeFits, contains, nothing, front, runs};
+ghost use Rattle.net_assembler.specs.Positions.{with_range, shift_down, maximal_runs};
+ghost use Rattle.net_assembler.specs.Turns.{TurnsWithin, binary_digits};
+
+mod display;
+mod error;
+mod iter;
+mod joins;
+pub mod laws;
+mod moves;
+mod search;
+mod sorted_runs;
+mod turns;
+
+pub use error::TooManyHolesError;
+pub use iter::IterData;
+use sorted_runs::SortedRuns;
+use std::alloc::AllocError;
+use std::marker::Model;
+pub use turns::Turns;
+
+/// A finite set of present positions, such as those of a stream whose segments arrive out of order,
+/// in at most `N` maximal runs.
+///
+/// It serves whoever puts together what comes in any order: it says up to where all has come.
+///
+/// Positions are counted from 0. A maximal run is a range of present positions that no
+/// other present position touches. Two assemblers are equal exactly if their sets are.
+#[derive(Debug, Drop)]
+pub struct Assembler<const N: usize> {
+    runs: SortedRuns<N>,
+}
+
+impl<const N: usize> Model for Assembler<N> {
+    ghost use Rattle.std.specs.Coded.{coded_ℕ};
+    ghost use Rattle.std.specs.FinSet as set;
+    ghost use Rattle.net_assembler.specs.Positions.{Positions};
+
+    ghost Value = { Positions };
+
+    ghost coded = { set.code coded_ℕ };
+
+    ghost use Rattle.net_assembler.specs.RunLists.{set_of, HasSoundPairs};
+
+    ghost view = { λ a. set_of a.runs };
+
+    ghost invariant = { λ a. HasSoundPairs a.runs };
+}
+
+impl<const N: usize> Assembler<N> {
+    /// Returns an assembler with no position, which has room for `N` maximal runs.
+    ///
+    /// # Requires
+    ///
+    /// `N` is at least 1.
+    pub fn new() -> Self
+        requires { 1 ≤ N }
+        ensures empty { result ≡ nothing }
+        ensures no_run { runs result ≡ 0 }
+        ensures bound { runs result ≤ N }
+    {
+        Self::empty()
+    }
+
+    /// Returns an assembler with no position, for any `N`.
+    fn empty() -> Self
+        ensures empty { result ≡ nothing }
+        ensures no_run { runs result ≡ 0 }
+        ensures bound { runs result ≤ N }
+    {
+        Assembler {
+            runs: SortedRuns::new(),
+        }
+    }
+
+    /// Removes every position.
+    pub fn clear(&mut self)
+        ensures empty { self.new ≡ nothing }
+        ensures no_run { runs self.new ≡ 0 }
+        ensures bound { runs self.new ≤ N }
+    {
+        self.runs.clear();
+    }
+
+    /// Returns the length of the run at position 0, or 0 if position 0 is missing.
+    pub fn peek_front(&self) -> usize
+        ensures { result ≡ front self.now }
+    {
+        self.runs.front()
+    }
+
+    /// Returns whether no position is present.
+    pub fn is_empty(&self) -> bool
+        ensures { IsTrue result ↔ (self.now ≡ nothing) }
+    {
+        self.runs.is_empty()
+    }
+
+    /// Returns whether `offset + size` fits `usize`, which all calls that add a range require. It
+    /// isn't in smoltcp, where such a sum overflows.
+    #[inline]
+    pub fn fits(offset: usize, size: usize) -> bool
+        ensures { IsTrue result ↔ RangeFits offset size }
+    {
+        size <= usize::MAX - offset
+    }
+
+    /// Adds the positions from `offset` to `offset + size - 1`; none if `size` is 0.
+    ///
+    /// It is refused, and the set stays as it was, exactly if the set with these positions has more
+    /// than `N` maximal runs: never while there are fewer than `N`. Ranges that only touch are one
+    /// run.
+    ///
+    /// # Requires
+    ///
+    /// The range ends within 64 bits, as `fits` tests.
+    #[inline(always)]
+    pub fn add(&mut self, offset: usize, size: usize) -> Result<(), TooManyHolesError>
+        requires { RangeFits offset size }
+        ensures ok { OnOk result (self.new ≡ with_range self.old offset size) }
+        ensures err { OnErr result (self.new ≡ self.old) }
+        ensures refused { IsErr result ↔ MakesTooManyRuns N self.old offset size }
+        ensures accepted { runs self.old < N → IsOk result }
+        ensures more { runs self.new ≤ runs self.old + 1 }
+        ensures bound { runs self.new ≤ N }
+    {
+        self.add_counted(offset, size, &mut Turns::new())
+    }
+
+    /// Adds a range as `add` does, and counts each turn of a loop: a move if the turn moves a run,
+    /// else a look. It isn't in smoltcp.
+    ///
+    /// Looks rise by at most twice the number of binary digits of `N`, which is 3 for 4 and 6 for
+    /// 32, moves by at most `N`, and both together by at most `4 * N`. Neither count falls.
+    ///
+    /// # Requires
+    ///
+    /// The range ends within 64 bits, as `fits` tests.
+    #[inline(always)]
+    pub fn add_counted(
+        &mut self,
+        offset: usize,
+        size: usize,
+        turns: &mut Turns,
+    ) -> Result<(), TooManyHolesError>
+        requires { RangeFits offset size }
+        ensures ok { OnOk result (self.new ≡ with_range self.old offset size) }
+        ensures err { OnErr result (self.new ≡ self.old) }
+        ensures refused { IsErr result ↔ MakesTooManyRuns N self.old offset size }
+        ensures accepted { runs self.old < N → IsOk result }
+        ensures more { runs self.new ≤ runs self.old + 1 }
+        ensures bound { runs self.new ≤ N }
+        ensures turns { turns.new.0 + turns.new.1 ≤ turns.old.0 + turns.old.1 + 4 * N }
+        ensures looks { turns.new.0 ≤ turns.old.0 + 2 * binary_digits N }
+        ensures moves { turns.new.1 ≤ turns.old.1 + N }
+        ensures no_look_lost { turns.old.0 ≤ turns.new.0 }
+        ensures no_move_lost { turns.old.1 ≤ turns.new.1 }
+    {
+        self.runs.add(offset, size, turns)
+    }
+
+    /// Removes the run at position 0, counts all later positions from its end, and returns its
+    /// length.
+    ///
+    /// If position 0 is missing it returns 0 and changes nothing.
+    #[inline(always)]
+    pub fn remove_front(&mut self) -> usize
+        ensures length { result ≡ front self.old }
+        ensures rest { self.new ≡ shift_down self.old (front self.old) }
+        ensures bound { runs self.new ≤ N }
+    {
+        self.remove_front_counted(&mut Turns::new())
+    }
+
+    /// Removes the front as `remove_front` does, and counts each turn of a loop as `add_counted`
+    /// does. It isn't in smoltcp.
+    ///
+    /// Moves rise by at most `N`, and by none if no run is removed. There are no looks.
+    #[inline(always)]
+    pub fn remove_front_counted(&mut self, turns: &mut Turns) -> usize
+        ensures length { result ≡ front self.old }
+        ensures rest { self.new ≡ shift_down self.old (front self.old) }
+        ensures bound { runs self.new ≤ N }
+        ensures turns { TurnsWithin 0 N turns.old turns.new }
+        ensures waiting { runs self.new ≡ runs self.old → turns.new ≡ turns.old }
+    {
+        self.runs.remove_front(turns)
+    }
+
+    /// Adds a range as `add` does, and then removes the front as `remove_front` does.
+    ///
+    /// A range at 0 is never refused, since the run that it is part of is removed at once. TCP
+    /// stands on that: were the segment that it waits for refused, no other could complete the
+    /// front, and the connection would stall. Elsewhere it is refused exactly if `add` is, and the
+    /// set stays as it was then. With `size` 0 it can still remove a run.
+    ///
+    /// # Requires
+    ///
+    /// The range ends within 64 bits, as `fits` tests.
+    #[inline(always)]
+    pub fn add_then_remove_front(
+        &mut self,
+        offset: usize,
+        size: usize,
+    ) -> Result<usize, TooManyHolesError>
+        requires { RangeFits offset size }
+        ensures value { let all = with_range self.old offset size in MatchResult result
+            (λ n. (n ≡ front all) × (self.new ≡ shift_down all n))
+            (λ _. self.new ≡ self.old) }
+        ensures refused { let too_many = MakesTooManyRuns N self.old offset size in
+            IsErr result ↔ ((0 < offset) × too_many) }
+        ensures accepted { runs self.old < N → IsOk result }
+        ensures bound { runs self.new ≤ N }
+    {
+        self.add_then_remove_front_counted(offset, size, &mut Turns::new())
+    }
+
+    /// Adds a range and removes the front as `add_then_remove_front` does, and counts each turn of
+    /// a loop as `add_counted` does. It isn't in smoltcp.
+    ///
+    /// Looks rise by at most twice the number of binary digits of `N`, moves by at most `2 * N`.
+    /// Data that comes next takes no turn, however many runs wait, unless one of them is removed.
+    ///
+    /// # Requires
+    ///
+    /// The range ends within 64 bits, as `fits` tests.
+    #[inline(always)]
+    pub fn add_then_remove_front_counted(
+        &mut self,
+        offset: usize,
+        size: usize,
+        turns: &mut Turns,
+    ) -> Result<usize, TooManyHolesError>
+        requires { RangeFits offset size }
+        ensures value { let all = with_range self.old offset size in MatchResult result
+            (λ n. (n ≡ front all) × (self.new ≡ shift_down all n))
+            (λ _. self.new ≡ self.old) }
+        ensures refused { let too_many = MakesTooManyRuns N self.old offset size in
+            IsErr result ↔ ((0 < offset) × too_many) }
+        ensures accepted { runs self.old < N → IsOk result }
+        ensures bound { runs self.new ≤ N }
+        ensures turns { TurnsWithin (2 * binary_digits N) (2 * N) turns.old turns.new }
+        ensures waiting { offset ≡ 0 → runs self.new ≡ runs self.old → turns.new ≡ turns.old }
+    {
+        if offset == 0 {
+            return Ok(self.runs.complete_front(size, turns));
+        }
+        self.add_counted(offset, size, turns)?;
+        Ok(self.remove_front_counted(turns))
+    }
+
+    /// Returns the maximal run with number `k`, counted from 0 in rising order, as (start, end),
+    /// the end not included; None exactly if there are no more than `k`. It isn't in smoltcp.
+    ///
+    /// It takes no memory, and is one read of an array.
+    pub fn run_at(&self, k: usize) -> Option<(usize, usize)>
+        ensures run { result ≡ slice_get (maximal_runs self.now) k }
+        ensures some { IfSome result (λ r. r.0 < r.1) }
+    {
+        self.runs.run_at(k)
+    }
+
+    /// Returns whether `position` is present. It isn't in smoltcp.
+    pub fn contains(&self, position: usize) -> bool
+        ensures { result ≡ contains self.now position }
+    {
+        self.runs.contains(position)
+    }
+
+    /// Returns the maximal runs as (start, end), end not included, in rising order.
+    ///
+    /// smoltcp's documentation speaks of offset and size, but its code yields start and end too.
+    pub fn iter_data(&self) -> IterData<'_, N>
+        ensures runs { result ≡ maximal_runs self.now }
+        ensures bound { length result ≤ N }
+    {
+        self.runs.iter()
+    }
+}
+
+impl<const N: usize> PartialEq for Assembler<N> {
+    ghost use Rattle.std.specs.Cmp.{on_per, partial_equiv_from_equiv};
+    ghost use Rattle.std.specs.Cmp.Lexicographic.{nat_list_eq_equiv};
+    ghost use Rattle.net_assembler.specs.Positions.{positions, are_same};
+
+    ghost eq = { are_same };
+
+    ghost laws = { on_per positions (partial_equiv_from_equiv nat_list_eq_equiv) };
+
+    fn eq(&self, other: &Self) -> bool
+        ensures test { result ≡ are_same self.now other.now }
+        ensures same { IsTrue result ↔ (self.now ≡ other.now) }
+    {
+        self.runs.is_same(&other.runs)
+    }
+}
+
+impl<const N: usize> Eq for Assembler<N> {
+    ghost use Rattle.std.specs.Cmp.{on_equiv};
+    ghost use Rattle.std.specs.Cmp.Lexicographic.{nat_list_eq_equiv};
+    ghost use Rattle.net_assembler.specs.Positions.{positions};
+
+    ghost laws = { on_equiv positions nat_list_eq_equiv };
+}
+
+/// A clone always succeeds, and is the same set.
+impl<const N: usize> Clone for Assembler<N> {
+    ghost use Rattle.std.specs.Prelude.{⊤};
+
+    ghost is_clone = { λ s t. t ≡ s };
+
+    ghost is_infallible = { λ _. ⊤ };
+
+    fn clone(&self) -> Result<Self, AllocError> {
+        Ok(Assembler { runs: self.runs })
+    }
+}

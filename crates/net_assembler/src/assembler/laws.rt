@@ -1,0 +1,106 @@
+//! Laws of sets of positions and of an assembler's calls.
+//!
+//! Each function does nothing: its contract is the law, for all sets, ranges and results. The laws
+//! of calls speak of whatever the contracts of these calls allow, so they hold of every body that
+//! meets them.
+ghost use Rattle.std.specs.Prelude.{◌≡◌};
+ghost use Rattle.net_assembler.specs.Turns.{binary_digits};
+ghost use Rattle.net_assembler.specs.AssemblerLaws.{EqualSets, MembersOfNothing, MembersOfList};
+ghost use Rattle.net_assembler.specs.AssemblerLaws.{MembersWithRange, MembersShiftedDown};
+ghost use Rattle.net_assembler.specs.AssemblerLaws.{MembersShiftedUp, FirstMissingIsLeast};
+ghost use Rattle.net_assembler.specs.AssemblerLaws.{FrontIsLeastMissing, MaximalRunsOfEverySet};
+ghost use Rattle.net_assembler.specs.AssemblerLaws.{EqualMaximalRuns, MaximalRunsByNumber};
+ghost use Rattle.net_assembler.specs.AssemblerLaws.{MaximalRunsShiftedUp, AsManyRunsShiftedUp};
+ghost use Rattle.net_assembler.specs.AssemblerLaws.{EqualAssemblers, AddingAgain, RangeAgain};
+ghost use Rattle.net_assembler.specs.AssemblerLaws.{NothingHasNoRun, OneRunMore, AddingInBothOrders};
+ghost use Rattle.net_assembler.specs.AssemblerLaws.{AddingThenRemoving, RangeAtZeroIsNeverRefused};
+ghost use Rattle.net_assembler.specs.AssemblerLaws.{IteratesMaximalRuns, EnoughBinaryDigits};
+
+/// Two sets are equal exactly if they have the same members, and what the members are of the empty
+/// set, of the set of a list, of a set with a range, and of a set that was shifted down or up.
+pub fn members()
+    ensures equal { EqualSets }
+    ensures nothing { MembersOfNothing }
+    ensures of_list { MembersOfList }
+    ensures with_range { MembersWithRange }
+    ensures shifted_down { MembersShiftedDown }
+    ensures shifted_up { MembersShiftedUp }
+{}
+
+/// The first missing position from any position on is the least one from there on that is not in
+/// the set.
+pub fn first_missing()
+    ensures { FirstMissingIsLeast }
+{}
+
+/// The front of a set is the least position that is not in it.
+pub fn front()
+    ensures { FrontIsLeastMissing }
+{}
+
+/// The list of maximal runs has, for every set, exactly its maximal runs: each position of the
+/// set lies in exactly one of them, they rise with a hole between neighbours, and there are as many
+/// as the set has positions that begin a run.
+pub fn maximal_runs()
+    ensures { MaximalRunsOfEverySet }
+{}
+
+/// What `run_at` returns is a maximal run of the set, and it returns None exactly if the set has
+/// no more runs than the number that is asked for.
+pub fn maximal_runs_by_number()
+    ensures { MaximalRunsByNumber }
+{}
+
+/// Two sets are equal exactly if their lists of maximal runs are.
+pub fn equal_maximal_runs()
+    ensures { EqualMaximalRuns }
+{}
+
+/// A set that was shifted up has its maximal runs shifted up, and so as many of them.
+pub fn shifted_up()
+    ensures maximal_runs { MaximalRunsShiftedUp }
+    ensures number { AsManyRunsShiftedUp }
+{}
+
+/// Two assemblers are equal exactly if their sets have the same members.
+pub fn equal_assemblers()
+    ensures { EqualAssemblers }
+{}
+
+/// To add an accepted range again is accepted and changes nothing.
+pub fn adding_again()
+    ensures set { RangeAgain }
+    ensures calls { AddingAgain }
+{}
+
+/// The empty set has no run, and a range makes at most one run more. So a range is accepted if
+/// there are fewer than `N` runs.
+pub fn number_of_runs()
+    ensures of_nothing { NothingHasNoRun }
+    ensures with_range { OneRunMore }
+{}
+
+/// Two ranges that are accepted in both orders leave equal assemblers.
+pub fn adding_in_both_orders()
+    ensures { AddingInBothOrders }
+{}
+
+/// `add_then_remove_front` does what `add` and then `remove_front` do whenever that `add` is
+/// accepted, and with offset 0 it is never refused.
+pub fn adding_then_removing()
+    ensures same { AddingThenRemoving }
+    ensures at_zero { RangeAtZeroIsNeverRefused }
+{}
+
+/// `iter_data` gives the maximal runs, at most as many as the assembler has room for, and ends.
+pub fn iterating()
+    ensures { IteratesMaximalRuns }
+{}
+
+/// What bounds the looks of `add_counted`: b binary digits are enough exactly for the numbers below
+/// 2 to the power b, so 4 has 3 of them, and 32 has 6.
+pub fn counting_binary_digits()
+    ensures enough { EnoughBinaryDigits }
+    ensures of_4 { binary_digits 4 ≡ 3 }
+    ensures of_32 { binary_digits 32 ≡ 6 }
+{}

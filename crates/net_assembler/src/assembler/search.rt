@@ -1,0 +1,94 @@
+//! Where a position lies among sorted runs.
+ghost use Rattle.std.specs.Prelude.{◌≡◌, ℕ, ◌+◌, ◌-◌, ◌<◌, ◌≤◌, ◌^◌, length};
+ghost use Rattle.net_assembler.specs.RunLists.{AreRuns, end_at, set_of_runs, start_at};
+ghost use Rattle.net_assembler.specs.Positions.{contains};
+
+use super::turns::Turns;
+
+/// Returns how many runs end before `offset`, if the first does and the last doesn't.
+///
+/// The second is tested by itself, and those behind it are halved.
+#[inline(always)]
+pub(crate) fn runs_ending_before(
+    pairs: &[(usize, usize)],
+    offset: usize,
+    turns: &mut Turns,
+) -> usize
+    requires runs { AreRuns pairs.now }
+    requires some { 0 < length pairs.now }
+    requires first { end_at pairs.now 0 < offset }
+    requires last { offset ≤ end_at pairs.now (length pairs.now - 1) }
+    ensures within { result < length pairs.now }
+    ensures before { (k : ℕ) → k < result → end_at pairs.now k < offset }
+    ensures behind { (k : ℕ) → result ≤ k → k < length pairs.now → offset ≤ end_at pairs.now k }
+    ensures looks { (b : ℕ) → length pairs.now < 2 ^ b → turns.new.0 ≤ turns.old.0 + b }
+    ensures no_look_lost { turns.old.0 ≤ turns.new.0 }
+    ensures moves { turns.new.1 ≡ turns.old.1 }
+{
+    // No other than the first ends before it: most data comes near the first run.
+    if offset <= pairs[1].1 {
+        return 1;
+    }
+    // The first that doesn't end before it lies from `low` to `high`.
+    let mut low = 2;
+    let mut high = pairs.len() - 1;
+    while low < high {
+        let middle = low + (high - low) / 2;
+        if pairs[middle].1 < offset {
+            low = middle + 1;
+        } else {
+            high = middle;
+        }
+        turns.count_look();
+    }
+    low
+}
+
+/// Returns how many runs start at or before `end`, but at least `from`.
+///
+/// The run at `from` is tested by itself, and those behind it are halved.
+#[inline(always)]
+pub(crate) fn runs_starting_by(
+    pairs: &[(usize, usize)],
+    from: usize,
+    end: usize,
+    turns: &mut Turns,
+) -> usize
+    requires runs { AreRuns pairs.now }
+    requires from { from ≤ length pairs.now }
+    ensures from { from ≤ result }
+    ensures within { result ≤ length pairs.now }
+    ensures before { (k : ℕ) → from ≤ k → k < result → start_at pairs.now k ≤ end }
+    ensures behind { (k : ℕ) → result ≤ k → k < length pairs.now → end < start_at pairs.now k }
+    ensures looks { (b : ℕ) → length pairs.now < 2 ^ b → turns.new.0 ≤ turns.old.0 + b }
+    ensures no_look_lost { turns.old.0 ≤ turns.new.0 }
+    ensures moves { turns.new.1 ≡ turns.old.1 }
+{
+    // No run from `from` on starts by then: most data meets no run but the one that it lies next to.
+    if from == pairs.len() || end < pairs[from].0 {
+        return from;
+    }
+    // The first that starts behind it, if there is one, lies from `low` to `high - 1`.
+    let mut low = from + 1;
+    let mut high = pairs.len();
+    while low < high {
+        let middle = low + (high - low) / 2;
+        if pairs[middle].0 <= end {
+            low = middle + 1;
+        } else {
+            high = middle;
+        }
+        turns.count_look();
+    }
+    low
+}
+
+/// Returns whether `position` is present: whether the last run that starts at or before it, if
+/// there is one, ends behind it.
+pub(crate) fn holds(pairs: &[(usize, usize)], position: usize) -> bool
+    requires { AreRuns pairs.now }
+    ensures { result ≡ contains (set_of_runs pairs.now) position }
+{
+    let count = runs_starting_by(pairs, 0, position, &mut Turns::new());
+    count > 0 && position < pairs[count - 1].1
+}

@@ -1,0 +1,67 @@
+//! Counts of loop turns that only contracts see.
+ghost use Rattle.std.specs.Prelude.{◌≡◌, ◌+◌};
+
+use std::marker::Model;
+use std::mem;
+use std::snapshot::Snapshot;
+
+/// A whole number with no greatest value, which takes no bytes when the program runs.
+#[derive(Drop)]
+enum Count {
+    Zero,
+    Next(Snapshot<Count>),
+}
+
+/// How often loops looked at a run, and how often they moved one.
+///
+/// Contracts see the two counts as whole numbers with no greatest value, looks first. The type
+/// takes no bytes when the program runs, and no code can read the counts.
+#[derive(Drop)]
+pub struct Turns {
+    looks: Snapshot<Count>,
+    moves: Snapshot<Count>,
+}
+
+impl Model for Turns {
+    ghost use Rattle.std.specs.Prelude.{ℕ};
+    ghost use Rattle.net_assembler.specs.Turns.{number};
+
+    ghost Value = { ℕ × ℕ };
+
+    ghost view = { λ t. (number t.looks.value, number t.moves.value) };
+}
+
+impl Turns {
+    /// Returns no looks and no moves.
+    pub fn new() -> Turns
+        ensures looks { result.0 ≡ 0 }
+        ensures moves { result.1 ≡ 0 }
+    {
+        Turns {
+            looks: Snapshot::of(&Count::Zero),
+            moves: Snapshot::of(&Count::Zero),
+        }
+    }
+
+    /// Counts a turn that looks at a run.
+    #[inline]
+    pub fn count_look(&mut self)
+        ensures looks { self.new.0 ≡ self.old.0 + 1 }
+        ensures moves { self.new.1 ≡ self.old.1 }
+    {
+        let before = mem::replace(&mut self.looks, Snapshot::of(&Count::Zero));
+        self.looks = Snapshot::of(&Count::Next(before));
+    }
+
+    /// Counts a turn that moves a run.
+    #[inline]
+    pub fn count_move(&mut self)
+        ensures looks { self.new.0 ≡ self.old.0 }
+        ensures moves { self.new.1 ≡ self.old.1 + 1 }
+    {
+        let before = mem::replace(&mut self.moves, Snapshot::of(&Count::Zero));
+        self.moves = Snapshot::of(&Count::Next(before));
+    }
+}
+
+const _: () = prove!(size_of::<Turns>() == 0);

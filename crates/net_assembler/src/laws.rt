@@ -1,0 +1,44 @@
+//! Laws whose premises are what the contracts of calls say: an equation of what a call left, and
+//! what follows from it at one position.
+//!
+//! Each function does nothing. Where a law of `assembler::laws` speaks of `with_range s o n` itself,
+//! a law here speaks of any set that is equal to it, as one that stands in a field is after a call.
+ghost use Rattle.std.specs.Prelude.{◌≡◌, ◌+◌, ◌||◌, ℕ, List};
+ghost use Rattle.std.specs.List.Sorted.{IsPermutation};
+ghost use Rattle.net_assembler.specs.Positions.{Positions, contains, with_range, lies_in, front};
+ghost use Rattle.net_assembler.specs.Positions.{shift_down};
+ghost use Rattle.net_assembler.specs.Ranges.{with_ranges, lies_in_some};
+
+use crate::assembler::laws::{front as front_is_least, members};
+
+/// A set to which a range was added has its positions and those of the range.
+pub fn member_after_with_range()
+    ensures { (s t : Positions) (offset size p : ℕ) → t ≡ with_range s offset size →
+        contains t p ≡ (contains s p || lies_in p (offset, offset + size)) }
+{
+    members();
+}
+
+/// `remove_front` twice returns 0 the second time: no position is missing below the first missing
+/// one, and once as many are removed the first position is missing.
+pub fn front_after_remove_front()
+    ensures { (s t : Positions) → t ≡ shift_down s (front s) → front t ≡ 0 }
+{
+    members();
+    front_is_least();
+}
+
+/// Ranges that are added one after another leave the union, whatever their order: a position is
+/// present exactly if it was before or lies in one of the ranges, and ranges in another order, or any
+/// that have the same positions, leave the same set.
+pub fn ranges_in_any_order()
+    ensures members { (s : Positions) (ranges : List (ℕ × ℕ)) (p : ℕ) →
+        contains (with_ranges s ranges) p ≡ (contains s p || lies_in_some p ranges) }
+    ensures same { (s : Positions) (ranges others : List (ℕ × ℕ)) →
+        ((p : ℕ) → lies_in_some p ranges ≡ lies_in_some p others) →
+        with_ranges s ranges ≡ with_ranges s others }
+    ensures reordered { (s : Positions) (ranges others : List (ℕ × ℕ)) →
+        IsPermutation ranges others → with_ranges s ranges ≡ with_ranges s others }
+{
+    members();
+}

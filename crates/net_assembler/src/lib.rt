@@ -1,0 +1,7 @@
+//! The assembler of data that comes out of order, and finite sets of positions.
+#![tactic(auto)]
+
+pub mod assembler;
+pub mod laws;
+
+pub use assembler::{Assembler, IterData, TooManyHolesError, Turns};

@@ -1,0 +1,10 @@
+pub mod PacketFacts
+pub mod PacketSteps
+pub mod PacketOrder
+pub mod PacketRuns
+mod EmptyQueue
+mod LendInside
+mod ResultParts
+mod SaidFacts
+mod WalkedQueue
+mod PassedNumber

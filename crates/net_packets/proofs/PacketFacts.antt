@@ -1,0 +1,241 @@
+-- What the two rings of a queue of packets say of its packets.
+use Rattle.std.proofs.Common.{◌≢◌, zero, suc, ◌≡◌, ℕ, ◌+◌, ◌-◌, ◌<◌, ◌≤◌, List, [], ◌∷◌, ◌++◌}
+use Rattle.std.proofs.Common.{length, min, refl, sym, ap, ◌∙◌, subst, inl, inr, arith, ◌⊎◌}
+use Rattle.std.proofs.Common.{append_assoc, nat_le, if◌then◌else◌, Bool, ◌==◌}
+use Rattle.std.proofs.lemmas.Bool.{cases_lt, le-leb, lt-leb, lt-ltb, le-ltb, ne_eqb}
+use Rattle.std.proofs.lemmas.Option.{none-some, cond_some}
+use Rattle.std.specs.Prelude.{Option, true}
+use Rattle.std.specs.declared.option.Option.TheVariants.{Some, None}
+use Rattle.net_ring.specs.Ring.{RingState, index_after, capacity, window, queue, write_at, IsWellFormed, Enqueues}
+use Rattle.net_ring.specs.Ring.{with_enqueued, with_dequeued, with_elements}
+use Rattle.net_packets.specs.Packets.{Packet, packet, bytes_used, slots_used, slots_for, IsPlaced, ArePlaced, gap_for, if_slots}
+use Rattle.net_packets.specs.PacketSlots.{slot, gap_slot, packet_slots, packets_in, StandFor}
+use Rattle.net_packets.specs.declared.packet_metadata.PacketMetadata.{PacketMetadata}
+use Rattle.net_ring.proofs.Rotations.{length-queue, length-overwrite}
+
+-- ---- places of a ring of c elements that is read from r on
+pub place_cases : (c r i : ℕ) → ((i < c - r) × (index_after c r i ≡ r + i)) ⊎ ((c - r ≤ i) × (index_after c r i ≡ i - (c - r)))
+place_cases c r i = elim (cases_lt i (c - r)) [
+  | inl h ↦ inl (h, ap (λ (t : Bool). if t then r + i else i - (c - r)) (lt-ltb i (c - r) h))
+  | inr h ↦ inr (h, ap (λ (t : Bool). if t then r + i else i - (c - r)) (le-ltb i (c - r) h))
+]
+
+pub place_place : (c r k j : ℕ) → (r ≡ 0) ⊎ (r < c) → k + j ≤ c → index_after c (index_after c r k) j ≡ index_after c r (k + j)
+place_place c r k j wf le =
+    let q = index_after c r k in
+    elim (place_cases c r k) [
+      | inl a ↦ elim (place_cases c r (k + j)) [
+        | inl b ↦ elim (place_cases c q j) [ inl d ↦ omega (arith, a.0, a.1, b.0, b.1, d.0, d.1) | inr d ↦ absurd (omega (arith, a.0, a.1, b.0, b.1, d.0)) ]
+        | inr b ↦ elim (place_cases c q j) [ inl d ↦ absurd (omega (arith, a.0, a.1, b.0, d.0)) | inr d ↦ omega (arith, a.0, a.1, b.0, b.1, d.0, d.1) ]
+      ]
+      | inr a ↦ elim (place_cases c r (k + j)) [
+        | inl b ↦ absurd (omega (arith, a.0, b.0))
+        | inr b ↦ elim (place_cases c q j) [
+          | inl d ↦ omega (arith, a.0, a.1, b.0, b.1, d.0, d.1)
+          | inr d ↦ elim wf [ inl z ↦ omega (arith, z, le, a.0, a.1, b.0, b.1, d.0, d.1) | inr l ↦ omega (arith, l, le, a.0, a.1, b.0, b.1, d.0, d.1) ]
+        ]
+      ]
+    ]
+
+pub place_le_in : (c r i : ℕ) → (r ≡ 0) ⊎ (r < c) → i ≤ c → index_after c r i ≤ c
+place_le_in c r i wf le = elim (place_cases c r i) [
+  | inl a ↦ omega (arith, a.0, a.1)
+  | inr a ↦ elim wf [ inl z ↦ omega (arith, z, le, a.1) | inr l ↦ omega (arith, l, le, a.1) ]
+]
+
+pub place_wf : (c r i : ℕ) → (r ≡ 0) ⊎ (r < c) → i ≤ c → (index_after c r i ≡ 0) ⊎ (index_after c r i < c)
+place_wf c r i wf le = elim (place_cases c r i) [
+  | inl a ↦ inr (omega (arith, a.0, a.1))
+  | inr a ↦ elim wf [ inl z ↦ inl (omega (arith, z, le, a.0, a.1)) | inr l ↦ inr (omega (arith, l, le, a.0, a.1)) ]
+]
+
+pub place_zero : (c r : ℕ) → (r ≡ 0) ⊎ (r < c) → index_after c r 0 ≡ r
+place_zero c r wf = elim (place_cases c r 0) [
+  | inl a ↦ omega (arith, a.1)
+  | inr a ↦ elim wf [ inl z ↦ omega (arith, z, a.0, a.1) | inr l ↦ absurd (omega (arith, l, a.0)) ]
+]
+
+pub slots_for_pos : (g : ℕ) → (1 ≤ slots_for g) × (slots_for g ≤ 2)
+slots_for_pos zero = (omega arith, omega arith)
+slots_for_pos (suc g) = (omega arith, omega arith)
+
+some_inj : (x y : ℕ) → Some x ≡ Some y → x ≡ y
+some_inj x y e = (cond_some true x y e).1
+
+-- ---- placement
+if_slots_some : (free g gap : ℕ) → if_slots free (Some g) ≡ Some gap → (g ≡ gap) × (slots_for gap ≤ free)
+if_slots_some free g gap e = elim (cases_lt free (slots_for g)) [
+  | inl h ↦ absurd (none-some _ (sym (ap (λ (t : Bool). if t then Some g else None) (lt-leb (slots_for g) free h)) ∙ e))
+  | inr h ↦
+      let same : g ≡ gap = some_inj _ _ (sym (ap (λ (t : Bool). if t then Some g else None) (le-leb (slots_for g) free h)) ∙ e) in
+      (same, subst (λ (n : ℕ). slots_for n ≤ free) same h)
+]
+
+pub slots_some : (free : ℕ) (o : Option ℕ) (gap : ℕ) → if_slots free o ≡ Some gap → (o ≡ Some gap) × (slots_for gap ≤ free)
+slots_some free None gap e = absurd (none-some _ e)
+slots_some free (Some g) gap e = let i = if_slots_some free g gap e in (ap Some i.0, i.1)
+
+pub gap_some : (s c w gap : ℕ) → gap_for s c w ≡ Some gap → ((gap ≡ 0) × (s ≤ c)) ⊎ ((gap ≡ c) × (c < s) × (s ≤ w - c))
+gap_some s c w gap e = elim (cases_lt c s) [
+  | inr h ↦ inl (sym (some_inj _ _ (sym (ap (λ (t : Bool). if t then Some 0 else if nat_le s (w - c) then Some c else None) (le-leb s c h)) ∙ e)), h)
+  | inl h ↦
+      let f : (if nat_le s (w - c) then Some c else None) ≡ Some gap =
+      sym (ap (λ (t : Bool). if t then Some 0 else if nat_le s (w - c) then Some c else None) (lt-leb s c h)) ∙ e in
+      elim (cases_lt (w - c) s) [
+        | inl n ↦ absurd (none-some _ (sym (ap (λ (t : Bool). if t then Some c else None) (lt-leb s (w - c) n)) ∙ f))
+        | inr l ↦ inr (sym (some_inj _ _ (sym (ap (λ (t : Bool). if t then Some c else None) (le-leb s (w - c) l)) ∙ f)), h, l)
+      ]
+]
+
+-- where a packet of s bytes comes, in a ring of c elements that is read from r on and holds n
+pub placed_here : (c r n s gap : ℕ) → (r ≡ 0) ⊎ (r < c) → n ≤ c → gap_for s (min (c - n) (c - index_after c r n)) (c - n) ≡ Some gap
+    → (index_after c r (n + gap) + s ≤ c) × (gap ≢ 0 → index_after c r n + gap ≡ c) × (n + gap + s ≤ c)
+placed_here c r n s gap wf le e =
+    let at = place_le_in c r n wf le in
+    elim (gap_some s (min (c - n) (c - index_after c r n)) (c - n) gap e) [
+      | inl h ↦
+          let z : n + gap ≡ n = omega (arith, h.0) in
+          let zz = ap (index_after c r) z in
+          (omega (arith, zz, h.1, at), λ k. absurd (k h.0), omega (arith, h.0, h.1, le))
+      | inr h ↦
+          let ends : index_after c r n + gap ≡ c = omega (arith, h.0, h.1, h.2, at, le) in
+          let fits : n + gap + s ≤ c = omega (arith, h.0, h.1, h.2, le) in (
+            elim (place_cases c r n) [
+              | inl a ↦ elim (place_cases c r (n + gap)) [
+                | inl b ↦ absurd (omega (arith, a.0, a.1, b.0, ends))
+                | inr b ↦ omega (arith, a.0, a.1, b.0, b.1, ends, fits)
+              ]
+              | inr a ↦ absurd (omega (arith, a.0, a.1, ends, fits, h.0, h.1))
+            ],
+            λ k. ends,
+            fits,
+          )
+    ]
+
+module _ {H : Type 0} where
+  -- ---- slots
+  gap_in : (g s : ℕ) (h : H) (ms : List (PacketMetadata H)) → packets_in 0 (gap_slot g ++ (slot s (Some h) ∷ ms)) ≡ packet h s g ∷ packets_in 0 ms
+  gap_in zero s h ms = refl
+  gap_in (suc g) s h ms = let e : 0 + suc g ≡ suc g = omega arith in ap (λ (n : ℕ). packet h s n ∷ packets_in 0 ms) e
+
+  pub round : (ps : List (Packet H)) → packets_in 0 (packet_slots ps) ≡ ps
+  round [] = refl
+  round (p ∷ ps) = gap_in p.gap p.size p.header (packet_slots ps) ∙ ap (λ (l : List (Packet H)). p ∷ l) (round ps)
+
+  pub length-gap : (g : ℕ) (m : PacketMetadata H) (ms : List (PacketMetadata H)) → length (gap_slot g ++ (m ∷ ms)) ≡ slots_for g + length ms
+  length-gap zero m ms = omega arith
+  length-gap (suc g) m ms = omega arith
+
+  pub length-slots : (ps : List (Packet H)) → length (packet_slots ps) ≡ slots_used ps
+  length-slots [] = refl
+  length-slots (p ∷ ps) = length-gap p.gap (slot p.size (Some p.header)) (packet_slots ps) ∙ ap (λ (n : ℕ). slots_for p.gap + n) (length-slots ps)
+
+  pub slots_pos : (ps : List (Packet H)) → length ps ≤ slots_used ps
+  slots_pos [] = omega arith
+  slots_pos (p ∷ ps) = omega (arith, slots_pos ps, slots_for_pos p.gap)
+
+  -- ---- a packet more
+  pub slots_append : (ps : List (Packet H)) (p : Packet H)
+      → packet_slots (ps ++ (p ∷ [])) ≡ packet_slots ps ++ (gap_slot p.gap ++ (slot p.size (Some p.header) ∷ []))
+  slots_append [] p = refl
+  slots_append (q ∷ ps) p =
+      let m = slot q.size (Some q.header) in
+      ap (λ (l : List (PacketMetadata H)). gap_slot q.gap ++ (m ∷ l)) (slots_append ps p)
+      ∙ sym (append_assoc (gap_slot q.gap) (m ∷ packet_slots ps) (gap_slot p.gap ++ (slot p.size (Some p.header) ∷ [])))
+
+  pub bytes_append : (ps : List (Packet H)) (p : Packet H) → bytes_used (ps ++ (p ∷ [])) ≡ bytes_used ps + p.gap + p.size
+  bytes_append [] p = omega arith
+  bytes_append (q ∷ ps) p = omega (arith, bytes_append ps p)
+
+  pub slots_of_append : (ps : List (Packet H)) (p : Packet H) → slots_used (ps ++ (p ∷ [])) ≡ slots_used ps + slots_for p.gap
+  slots_of_append [] p = omega arith
+  slots_of_append (q ∷ ps) p = omega (arith, slots_of_append ps p)
+
+  pub placed_append : (c r o : ℕ) (ps : List (Packet H)) (p : Packet H) → ArePlaced c r o ps → IsPlaced c r (o + bytes_used ps) p
+      → ArePlaced c r o (ps ++ (p ∷ []))
+  placed_append c r o [] p a i = let e : o + 0 ≡ o = omega arith in (subst (λ (n : ℕ). IsPlaced c r n p) e i, tt)
+  placed_append c r o (q ∷ ps) p a i =
+      let e : o + bytes_used (q ∷ ps) ≡ o + q.gap + q.size + bytes_used ps = omega arith in
+      (a.0, placed_append c r (o + q.gap + q.size) ps p a.1 (subst (λ (n : ℕ). IsPlaced c r n p) e i))
+
+  -- where no bytes are queued, packets are placed from any place on
+  pub placed_anew : (c r o : ℕ) (ps : List (Packet H)) → bytes_used ps ≡ 0 → index_after c r o ≤ c → ArePlaced c r o ps
+  placed_anew c r o [] e le = tt
+  placed_anew c r o (p ∷ ps) e le =
+      let g : p.gap ≡ 0 = omega (arith, e) in let s : p.size ≡ 0 = omega (arith, e) in
+      let at : o + p.gap ≡ o = omega (arith, g) in
+      let next : o + p.gap + p.size ≡ o = omega (arith, g, s) in
+      let at_is = ap (index_after c r) at in
+      let next_is = ap (index_after c r) next in
+      ((omega (arith, at_is, s, le), λ n. absurd (n g)), placed_anew c r (o + p.gap + p.size) ps (omega (arith, e)) (omega (arith, next_is, le)))
+
+  -- the same packets from a later place on
+  pub placed_from : (c r k o : ℕ) (ps : List (Packet H)) → (r ≡ 0) ⊎ (r < c) → k + o + bytes_used ps ≤ c
+      → ArePlaced c r (k + o) ps → ArePlaced c (index_after c r k) o ps
+  placed_from c r k o [] wf le a = tt
+  placed_from c r k o (p ∷ ps) wf le a =
+      let one = place_place c r k (o + p.gap) wf (omega (arith, le)) in
+      let two = place_place c r k o wf (omega (arith, le)) in
+      let e : k + (o + p.gap) ≡ k + o + p.gap = omega arith in
+      let one_is = ap (index_after c r) e in
+      let n : k + o + p.gap + p.size ≡ k + (o + p.gap + p.size) = omega arith in (
+        (omega (arith, one, one_is, a.0.0), λ z. let w = a.0.1 z in omega (arith, two, w)),
+        placed_from c r k (o + p.gap + p.size) ps wf (omega (arith, le)) (subst (λ (j : ℕ). ArePlaced c r j ps) n a.1),
+      )
+
+  -- the same packets once the gap before the first one is gone
+  pub placed_skip : (c r : ℕ) (p : Packet H) (ps : List (Packet H)) → (r ≡ 0) ⊎ (r < c) → bytes_used (p ∷ ps) ≤ c
+      → ArePlaced c r 0 (p ∷ ps) → ArePlaced c (index_after c r p.gap) 0 (packet p.header p.size 0 ∷ ps)
+  placed_skip c r p ps wf le a =
+      let at = place_place c r p.gap (0 + 0) wf (omega (arith, le)) in
+      let z : p.gap + (0 + 0) ≡ 0 + p.gap = omega arith in
+      let at_is = ap (index_after c r) z in
+      let n : 0 + p.gap + p.size ≡ p.gap + (0 + 0 + p.size) = omega arith in (
+        (omega (arith, at, at_is, a.0.0), λ k. absurd (k refl)),
+        placed_from c r p.gap (0 + 0 + p.size) ps wf (omega (arith, le))
+            (subst (λ (j : ℕ). ArePlaced c r j ps) n a.1),
+      )
+
+  -- and once the first one, which has no gap, is gone
+  pub placed_pop : (c r : ℕ) (p : Packet H) (ps : List (Packet H)) → (r ≡ 0) ⊎ (r < c) → bytes_used (p ∷ ps) ≤ c → p.gap ≡ 0
+      → ArePlaced c r 0 (p ∷ ps) → ArePlaced c (index_after c r p.size) 0 ps
+  placed_pop c r p ps wf le z a =
+      let k : 0 + p.gap + p.size ≡ p.size + 0 = omega (arith, z) in
+      placed_from c r p.size 0 ps wf (omega (arith, le)) (subst (λ (j : ℕ). ArePlaced c r j ps) k a.1)
+
+  module _ (m : RingState (PacketMetadata H)) (b : RingState ℕ) (ps : List (Packet H)) (h : StandFor m b ps) where
+    pub count_is : m.count ≡ slots_used ps
+    count_is = sym (length-queue m h.0) ∙ ap length h.2 ∙ length-slots ps
+
+  empty_go : (n : ℕ) (xs : List (Packet H)) → n ≡ slots_used xs → (n == 0) ≡ (length xs == 0)
+  empty_go n [] e = ap (λ (k : ℕ). k == 0) e
+  empty_go n (x ∷ xs) e = let p = slots_pos (x ∷ xs) in ne_eqb n 0 (λ z. absurd (omega (arith, p, e, z)))
+      ∙ sym (ne_eqb (length (x ∷ xs)) 0 (λ z. absurd (omega (arith, z))))
+
+  pub empty_is : (m : RingState (PacketMetadata H)) (b : RingState ℕ) (ps : List (Packet H)) → StandFor m b ps → (m.count == 0) ≡ (length ps == 0)
+  empty_is m b ps h = empty_go m.count ps (count_is m b ps h)
+
+  -- ---- a slot more
+  pub gap_slot_one : (gap : ℕ) → 0 < gap → gap_slot {H = H} gap ≡ slot gap None ∷ []
+  gap_slot_one zero p = absurd (omega arith)
+  gap_slot_one (suc g) p = refl
+
+  pub gap_slot_none : (gap : ℕ) → gap ≡ 0 → gap_slot {H = H} gap ≡ []
+  gap_slot_none gap e = ap (λ (n : ℕ). gap_slot {H = H} n) e
+
+-- ---- what the ring of slots is after a slot came last
+pub pushed_slot : {T : Type 0} (g h : RingState T) (w : T) → IsWellFormed g → window g ≢ 0
+    → h ≡ with_elements (with_enqueued 1 g) (write_at g) (w ∷ []) → Enqueues g (w ∷ []) h
+    → (queue h ≡ queue g ++ (w ∷ [])) × IsWellFormed h × (window h ≡ window g - 1) × (capacity h ≡ capacity g)
+pushed_slot g h w wf some e q =
+    let cap : capacity h ≡ capacity g = ap capacity e ∙ length-overwrite g.storage (write_at g) (w ∷ []) in
+    let r : h.read_at ≡ g.read_at = ap (λ o. o.read_at) e in
+    let n : h.count ≡ g.count + 1 = ap (λ o. o.count) e in
+    (q.0, (elim wf.0 [ inl z ↦ inl (r ∙ z) | inr l ↦ inr (omega (arith, r, cap, l)) ], omega (arith, n, cap, some)), omega (arith, n, cap), cap)
+
+-- and after the first one was taken off as it is
+pub off_wf : {T : Type 0} (g : RingState T) (x : T) (xs : List T) → IsWellFormed g → queue g ≡ x ∷ xs → IsWellFormed (with_dequeued 1 g)
+off_wf g x xs wf e =
+    let long = length-queue g wf in
+    let n = ap length e in
+    (place_wf (capacity g) g.read_at 1 wf.0 (omega (arith, long, n, wf.1)), omega (arith, wf.1))

@@ -1,0 +1,461 @@
+-- Over whole runs, a queue's packets leave in the order in which they came.
+use Rattle.std.proofs.Common.{◌≢◌, ◌≡◌, ℕ, ◌+◌, ◌-◌, ◌≤◌, List, [], ◌∷◌, ◌++◌, length, take, drop}
+use Rattle.std.proofs.Common.{refl, sym, ap, ap₂, ◌∙◌, subst, inl, inr, arith, ◌⊎◌, ◌<◌}
+use Rattle.std.proofs.Common.{append_assoc, length-append, length-drop, suc, ◌↔◌, Bool, true, false}
+use Rattle.std.proofs.Common.{if◌then◌else◌, ◌==◌, Result, Ok, Err, IfOk, min}
+use Rattle.std.proofs.lemmas.List.{append-nil, take_all, drop_all, nil_from_length, length-take-le}
+use Rattle.std.proofs.lemmas.Bool.{eqb-true, eq-eqb}
+use Rattle.std.proofs.lemmas.Option.{none-some}
+use Rattle.std.proofs.Math.Seq.{set-append_seam}
+use Rattle.std.specs.Prelude.{set}
+use Rattle.std.specs.declared.option.Option.TheVariants.{Some, None}
+use Rattle.net_ring.specs.Overwrite.{overwrite}
+use Rattle.net_ring.specs.Ring.{index_after, queue, storage_index}
+use Rattle.net_packets.specs.Packets.{Packet, PacketQueue, no_packets, packet, bytes_used}
+use Rattle.net_packets.specs.Packets.{slots_used, byte_ring, ArePlaced, placement, with_packet}
+use Rattle.net_packets.specs.Packets.{with_packet_if, with_packet_if_room, only_last, last_index}
+use Rattle.net_packets.specs.Packets.{last_bytes, with_last_bytes, with_last_size, with_first_size}
+use Rattle.net_packets.specs.Packets.{first_gap, first_size, without_first_gap, without_gap}
+use Rattle.net_packets.specs.Packets.{with_first_header, with_first_bytes, without_first}
+use Rattle.net_packets.specs.Packets.{without_first_and_gap, after_hand_out, freed_bytes_index}
+use Rattle.net_packets.specs.Packets.{freed_bytes, AreFreed, with_bytes, first_bytes, IsFirst}
+use Rattle.net_packets.specs.Packets.{IsFirstSized, IsWellPlaced}
+use Rattle.net_ring.specs.Log.{Log, empty_log}
+use Rattle.net_packets.specs.PacketHistory.{contents_of, contents, QueueCall, Reset, Place}
+use Rattle.net_packets.specs.PacketHistory.{WriteLast, Enqueue, EnqueueWith, Peek, DequeueErr}
+use Rattle.net_packets.specs.PacketHistory.{DequeueOk, Take, WriteFreed, Dequeue, Makes, MakesAll}
+use Rattle.net_packets.specs.PacketHistory.{with_bytes_in_last_entry, log_after, log_after_all}
+use Rattle.net_packets.specs.PacketHistory.{history}
+use Rattle.net_ring.proofs.Overwrites.{overwrite-same}
+use Rattle.net_ring.proofs.Rotations.{IsStorageIndex, length-overwrite, length-queue, cut, overwrite_at, storage_index_is}
+use Rattle.net_ring.proofs.RingFacts.{queue_law, spare_law}
+use Rattle.net_packets.proofs.PacketFacts.{bytes_append, place_cases, place_place, place_wf, placed_skip, placed_pop, slots_for_pos}
+use Rattle.net_packets.proofs.PacketSteps.{closed, last_append, before_append, last_fits, head_fits, push_well, close_gap}
+use Rattle.net_packets.proofs.PacketOrder.{some_of, contents_append}
+use Rattle.net_packets.proofs.PacketOrder as order
+
+-- what two clauses say of a result that is `Ok`
+pub if_both : {X E : Type 0} {P Q R : X → Type 0} (r : Result X E) → ((x : X) → P x → Q x → R x) → IfOk r P → IfOk r Q → IfOk r R
+if_both (Ok x) both p q = both x p q
+if_both (Err e) both p q = tt
+
+-- what is copied over a list that is as long
+pub copied_whole : (bs xs ys : List ℕ) (k : ℕ) → k ≡ min (length bs) (length xs) → ys ≡ take k bs ++ drop k xs → length bs ≡ length xs → ys ≡ bs
+copied_whole bs xs ys k count is long =
+    is ∙ ap₂ (λ (a b : List ℕ). a ++ b) (take_all k bs (omega (arith, count, long))) (drop_all k xs (omega (arith, count, long))) ∙ append-nil bs
+
+-- a list that is not empty ends in an element
+ends_in : {X : Type 0} (xs : List X) → xs ≢ [] → (ys : List X) × (y : X) × (xs ≡ ys ++ (y ∷ []))
+ends_in [] some = absurd (some refl)
+ends_in (x ∷ []) some = ([], x, refl)
+ends_in (x ∷ (o ∷ xs)) some =
+    let rest = ends_in (o ∷ xs) (λ e. let n = ap length e in absurd (omega (arith, n))) in
+    (x ∷ rest.0, rest.1, ap (λ l. x ∷ l) rest.2)
+
+module _ {H : Type 0} where
+  abbrev mk : ℕ → List ℕ → ℕ → List (Packet H) → PacketQueue H
+  mk n st r ps = record { slot_count = n; storage = st; read_at = r; packets = ps }
+
+  -- ---- each step leaves the packets well placed
+  with_bytes_well : (q : PacketQueue H) → IsWellPlaced q → (p : ℕ) (ws : List ℕ) → IsWellPlaced (with_bytes q p ws)
+  with_bytes_well q ok p ws =
+      subst (λ (n : ℕ). (((q.read_at ≡ 0) ⊎ (q.read_at < n)) × (bytes_used q.packets ≤ n)) × ArePlaced n q.read_at 0 q.packets
+      × (slots_used q.packets ≤ q.slot_count)) (sym (length-overwrite q.storage p ws)) ok
+
+  skipped_go : (n : ℕ) (st : List ℕ) (r : ℕ) (ps : List (Packet H)) → IsWellPlaced (mk n st r ps) → IsWellPlaced (without_gap (mk n st r ps))
+  skipped_go n st r [] ok = ((place_wf (length st) r 0 ok.0.0 (omega arith), ok.0.1), tt, ok.2)
+  skipped_go n st r (p ∷ ps) ok =
+      let some = slots_for_pos p.gap in
+      let at = place_wf (length st) r p.gap ok.0.0 (omega (arith, ok.0.1)) in
+      ((at, omega (arith, ok.0.1)), placed_skip (length st) r p ps ok.0.0 ok.0.1 ok.1, omega (arith, some, ok.2))
+
+  popped_go : (n : ℕ) (st : List ℕ) (r : ℕ) (ps : List (Packet H)) → first_gap ps ≡ 0 →
+      IsWellPlaced (mk n st r ps) → IsWellPlaced (without_first (mk n st r ps))
+  popped_go n st r [] z ok = ((place_wf (length st) r 0 ok.0.0 (omega arith), ok.0.1), tt, ok.2)
+  popped_go n st r (p ∷ ps) z ok =
+      let at = place_wf (length st) r p.size ok.0.0 (omega (arith, ok.0.1)) in
+      ((at, omega (arith, ok.0.1)), placed_pop (length st) r p ps ok.0.0 ok.0.1 z ok.1, omega (arith, ok.2))
+
+  headed_go : (n : ℕ) (st : List ℕ) (r : ℕ) (ps : List (Packet H)) (hd : H) → IsWellPlaced (mk n st r ps)
+      → IsWellPlaced (mk n st r (with_first_header hd ps)) × (first_gap (with_first_header hd ps) ≡ first_gap ps)
+  headed_go n st r [] hd ok = (ok, refl)
+  headed_go n st r (p ∷ ps) hd ok = (ok, refl)
+
+  module _ (q : PacketQueue H) (ok : IsWellPlaced q) where
+    skipped_well : IsWellPlaced (without_gap q)
+    skipped_well = skipped_go q.slot_count q.storage q.read_at q.packets ok
+
+    taken_well : IsWellPlaced (without_first_and_gap q)
+    taken_well = popped_go q.slot_count q.storage _ (without_first_gap q.packets) (close_gap q.packets) skipped_well
+
+    module _ (hd : H) (ws : List ℕ) where
+      written_headed : IsWellPlaced (with_first_bytes (without_gap q) hd ws)
+          × (first_gap (with_first_bytes (without_gap q) hd ws).packets ≡ first_gap (without_first_gap q.packets))
+      written_headed =
+          let at = (without_gap q).read_at in
+          headed_go q.slot_count (overwrite q.storage at ws) at (without_first_gap q.packets) hd (with_bytes_well (without_gap q) skipped_well at ws)
+
+      written_off : IsWellPlaced (without_first (with_first_bytes (without_gap q) hd ws))
+      written_off = popped_go q.slot_count _ _ (with_first_header hd (without_first_gap q.packets)) (written_headed.1 ∙ close_gap q.packets) written_headed.0
+
+    -- a packet that comes last
+    module _ (s : ℕ) (hd : H) (gap : ℕ) (e : placement q s ≡ Some gap) where
+      pushed_well : (k : ℕ) → k ≤ s → IsWellPlaced (with_packet q gap k hd)
+      pushed_well k le =
+          let m = order.m q ok in let b = order.b q ok in
+          let is = order.is_queue q ok in
+          let h = closed m b q.packets (order.holds q ok) in
+          subst (λ (o : PacketQueue H). IsWellPlaced (with_packet o gap k hd)) is
+          (push_well m b h gap s (ap (λ (o : PacketQueue H). placement o s) is ∙ e) hd k le)
+
+      placed_is : with_packet_if_room q s hd ≡ with_packet q gap s hd
+      placed_is = ap (λ o. with_packet_if q o s hd) e
+
+      cut_is : (k : ℕ) (ws : List ℕ) → with_bytes (with_packet q gap k hd) (last_index (with_packet q gap s hd)) ws ≡ with_last_size k
+          (with_last_bytes (with_packet_if_room q s hd) ws)
+      cut_is k ws =
+          let all = with_packet q gap s hd in
+          ap₂ (λ (before back : List (Packet H)). mk q.slot_count (overwrite q.storage (last_index all) ws) all.read_at (before ++ back))
+          (sym (before_append q.packets (packet hd s gap))) (sym (ap (with_first_size k) (last_append q.packets (packet hd s gap))))
+          ∙ ap (λ o. with_last_size k (with_last_bytes o ws)) (sym placed_is)
+
+    module _ (s : ℕ) (hd : H) (some : placement q s ≢ None) where
+      placed_well : IsWellPlaced (with_packet_if_room q s hd)
+      placed_well = let g = some_of (placement q s) some in subst IsWellPlaced (sym (placed_is s hd g.0 g.1)) (pushed_well s hd g.0 g.1 s (omega arith))
+
+      cut_well : (k : ℕ) → k ≤ s → (ws : List ℕ) → IsWellPlaced (with_last_size k (with_last_bytes (with_packet_if_room q s hd) ws))
+      cut_well k le ws =
+          let g = some_of (placement q s) some in
+          subst IsWellPlaced (cut_is s hd g.0 g.1 k ws)
+          (with_bytes_well (with_packet q g.0 k hd) (pushed_well s hd g.0 g.1 k le) (last_index (with_packet q g.0 s hd)) ws)
+
+  keeps : (call : QueueCall H) (q r : PacketQueue H) → IsWellPlaced q → Makes call q r → IsWellPlaced r
+  keeps Reset q r ok is = subst IsWellPlaced (sym is) ((inl refl, omega arith), tt, omega arith)
+  keeps (Place hd ws) q r ok does = subst IsWellPlaced (sym does.1) (placed_well q ok (length ws) hd does.0)
+  keeps (WriteLast ws) q r ok does = subst IsWellPlaced (sym does.2) (with_bytes_well q ok (last_index q) ws)
+  keeps (Enqueue hd ws) q r ok does =
+      subst IsWellPlaced (sym does.1) (let o = with_packet_if_room q (length ws) hd in
+      with_bytes_well o (placed_well q ok (length ws) hd does.0) (last_index o) ws)
+  keeps (EnqueueWith hd ws count) q r ok does = subst IsWellPlaced (sym does.2) (cut_well q ok (length ws) hd does.0 count does.1 ws)
+  keeps Peek q r ok is = subst IsWellPlaced (sym is) (skipped_well q ok)
+  keeps (DequeueErr hd ws) q r ok does = subst IsWellPlaced (sym does.2) (written_headed q ok hd ws).0
+  keeps (DequeueOk hd ws after written) q r ok does = subst IsWellPlaced (sym does.2) (written_off q ok after written)
+  keeps (Take hd ws) q r ok does = subst IsWellPlaced (sym does.1) (taken_well q ok)
+  keeps (WriteFreed ws) q r ok does = subst IsWellPlaced (sym does.1) (with_bytes_well q ok (freed_bytes_index q (length ws)) ws)
+  keeps (Dequeue hd ws written) q r ok does = subst IsWellPlaced (sym does.2)
+      (with_bytes_well (without_first_and_gap q) (taken_well q ok) (without_gap q).read_at written)
+
+  -- ---- what a step makes of the contents
+  placed_contents : (q : PacketQueue H) → IsWellPlaced q → (hd : H) (ws : List ℕ) → placement q (length ws) ≢ None
+      → ws ≡ last_bytes (with_packet_if_room q (length ws) hd)
+      → contents (with_packet_if_room q (length ws) hd) ≡ contents q ++ ((hd, ws) ∷ [])
+  placed_contents q ok hd ws some is =
+      let o = with_packet_if_room q (length ws) hd in
+      let same : with_last_bytes o ws ≡ o =
+      ap (with_last_bytes o) is ∙ ap (λ (st : List ℕ). mk o.slot_count st o.read_at o.packets)
+      (overwrite-same o.storage (last_index o) (first_size (only_last o.packets))) in
+      ap contents (sym same) ∙ order.accepted q ok (length ws) hd ws some refl
+
+  -- the last packet is written again
+  last_go : (n : ℕ) (st : List ℕ) (r : ℕ) (ps : List (Packet H)) (p : Packet H) (ws : List ℕ) → let q =
+      mk n st r (ps ++ (p ∷ [])) in IsWellPlaced q → length ws ≡ first_size (only_last q.packets)
+      → (before : List (H × List ℕ)) × (old : List ℕ) × (contents q ≡ before ++ ((p.header, old) ∷ []))
+      × (contents (with_last_bytes q ws) ≡ before ++ ((p.header, ws) ∷ []))
+  unfolding contents
+  last_go n st r ps p ws ok long =
+      let q = mk n st r (ps ++ (p ∷ [])) in
+      let c = byte_ring q in
+      let bs = queue c in
+      let sum = bytes_append ps p in
+      let size : length ws ≡ p.size = long ∙ ap first_size (last_append ps p) in
+      let f = last_fits (length st) r 0 q.packets ok.0.0 (omega (arith, ok.0.1)) ok.1 in
+      let i : ℕ = bytes_used q.packets - first_size (only_last q.packets) in
+      let z : 0 + bytes_used q.packets - first_size (only_last q.packets) ≡ i = omega arith in
+      let at = ap (index_after (length st) r) z in
+      let w = (queue_law c ok.0 i (last_index q) ws (omega (arith, long, f.0)) (omega (arith, long, at, f.1)) (storage_index_is c i)).0 in
+      let all = length-queue c ok.0 in
+      let c1 = cut (bytes_used ps) bs (omega (arith, all, sum)) in let a = c1.0 in let v = c1.1 in
+      let c2 = cut p.gap v (omega (arith, all, sum, c1.4)) in let x = c2.0 in let old = c2.1 in
+      let whole : bs ≡ a ++ (x ++ old) = c1.2 ∙ ap (λ (l : List ℕ). a ++ l) c2.2 in
+      let ax = length-append a x in
+      let here : length (a ++ x) ≡ i = omega (arith, ax, c1.3, c2.3, sum, long, size) in
+      let row : length old ≡ length ws = omega (arith, c2.4, c1.4, all, sum, size) in
+      let over : overwrite bs i ws ≡ a ++ (x ++ ws) =
+      ap (λ (l : List ℕ). overwrite l i ws) (whole ∙ sym (append_assoc a x old) ∙ ap (λ (l : List ℕ). (a ++ x) ++ l) (sym (append-nil old)))
+      ∙ overwrite_at (a ++ x) old [] ws i here row ∙ ap (λ (l : List ℕ). (a ++ x) ++ l) (append-nil ws) ∙ append_assoc a x ws in
+      let full : take p.size ws ≡ ws = take_all p.size ws (omega (arith, size)) in (
+        contents_of ps a,
+        take p.size old,
+        ap (contents_of q.packets) whole ∙ contents_append ps p a x old c1.3 c2.3,
+        ap (contents_of q.packets) (w ∙ over) ∙ contents_append ps p a x ws c1.3 c2.3 ∙ ap (λ (l : List ℕ). contents_of ps a ++ ((p.header, l) ∷ [])) full,
+      )
+
+  last_contents : (q : PacketQueue H) → IsWellPlaced q → (ws : List ℕ) → q.packets ≢ [] → length ws ≡ first_size (only_last q.packets)
+      → (before : List (H × List ℕ)) × (hd : H) × (old : List ℕ) × (contents q ≡ before ++ ((hd, old) ∷ []))
+      × (contents (with_last_bytes q ws) ≡ before ++ ((hd, ws) ∷ []))
+  last_contents q ok ws some long =
+      let end = ends_in q.packets some in
+      let is : q ≡ mk q.slot_count q.storage q.read_at (end.0 ++ (end.1 ∷ [])) = ap (mk q.slot_count q.storage q.read_at) end.2 in
+      let l = last_go q.slot_count q.storage q.read_at end.0 end.1 ws (subst IsWellPlaced is ok) (long ∙ ap (λ ps. first_size (only_last ps)) end.2) in
+      (l.0, end.1.header, l.1, ap contents is ∙ l.2, ap (λ o. contents (with_last_bytes o ws)) is ∙ l.3)
+
+  pub freed_contents : (q : PacketQueue H) → IsWellPlaced q → (ws : List ℕ) → AreFreed q (length ws)
+      → contents (with_bytes q (freed_bytes_index q (length ws)) ws) ≡ contents q
+  unfolding contents
+  freed_contents q ok ws f =
+      let c = byte_ring q in
+      let s = length ws in
+      let i : ℕ = length q.storage - bytes_used q.packets - s in
+      let z : length q.storage - s ≡ c.count + i = omega (arith, f.0, ok.0.1) in
+      let at = ap (storage_index c) z in
+      let w = spare_law c ok.0 i (freed_bytes_index q s) ws (omega (arith, f.0)) f.1
+      (subst (λ (j : ℕ). IsStorageIndex (length q.storage) q.read_at j (freed_bytes_index q s)) z (storage_index_is c (length q.storage - s))) in
+      ap (contents_of q.packets) w.0
+
+  close_size : (ps : List (Packet H)) → first_size (without_first_gap ps) ≡ first_size ps
+  close_size [] = refl
+  close_size (p ∷ ps) = refl
+
+  -- the bytes of a packet that was taken off lie before the read index
+  rest_bytes : (ps : List (Packet H)) → bytes_used (drop 1 ps) + first_size ps ≤ bytes_used ps
+  rest_bytes [] = omega arith
+  rest_bytes (p ∷ ps) = omega arith
+
+  off_go : (n : ℕ) (st : List ℕ) (r : ℕ) (ps : List (Packet H)) → IsWellPlaced (mk n st r ps) → first_gap ps ≡ 0 → let o =
+      without_first (mk n st r ps) in (freed_bytes_index o (first_size ps) ≡ r) × AreFreed o (first_size ps)
+  off_go n st r ps ok z =
+      let c = length st in
+      let s = first_size ps in
+      let rest = rest_bytes ps in
+      let f = head_fits c r ps ok.0.0 ok.0.1 ok.1 z in
+      let back : s + (c - s) ≡ c = omega (arith, f.1) in
+      let round : freed_bytes_index (without_first (mk n st r ps)) s ≡ r =
+      place_place c r s (c - s) ok.0.0 (omega (arith, f.1)) ∙ ap (index_after c r) back ∙ (elim (place_cases c r c) [
+        | inl h ↦ absurd (omega (arith, h.0))
+        | inr h ↦ omega (arith, h.1, f.1)
+      ]) in
+      (round, (omega (arith, rest, ok.0.1), omega (arith, round, f.1)))
+
+  pub off_contents : (q : PacketQueue H) → IsWellPlaced q → (ws : List ℕ) → length ws ≡ first_size q.packets
+      → contents (with_bytes (without_first_and_gap q) (without_gap q).read_at ws) ≡ contents (without_first_and_gap q)
+  off_contents q ok ws long =
+      let f = off_go q.slot_count q.storage (without_gap q).read_at (without_first_gap q.packets) (skipped_well q ok) (close_gap q.packets) in
+      let size : first_size (without_first_gap q.packets) ≡ length ws = close_size q.packets ∙ sym long in
+      ap (λ (p : ℕ). contents (with_bytes (without_first_and_gap q) p ws)) (sym f.0 ∙ ap (freed_bytes_index (without_first_and_gap q)) size)
+      ∙ freed_contents (without_first_and_gap q) (taken_well q ok) ws (subst (λ (s : ℕ). AreFreed (without_first_and_gap q) s) size f.1)
+
+  -- ---- laws that users call for
+  last_entry : (ps : List (H × List ℕ)) (hd : H) (old ws : List ℕ) → with_bytes_in_last_entry ws (ps ++ ((hd, old) ∷ [])) ≡ ps ++ ((hd, ws) ∷ [])
+  last_entry [] hd old ws = refl
+  last_entry (p ∷ []) hd old ws = refl
+  last_entry (p ∷ (o ∷ ps)) hd old ws = ap (λ l. p ∷ l) (last_entry (o ∷ ps) hd old ws)
+
+  -- there are as many contents as packets
+  length-contents_of : (ps : List (Packet H)) (bs : List ℕ) → length (contents_of ps bs) ≡ length ps
+  length-contents_of [] bs = refl
+  length-contents_of (p ∷ ps) bs = ap suc (length-contents_of ps (drop (p.gap + p.size) bs))
+
+  pub contents_count : (q : PacketQueue H) → length (contents q) ≡ length q.packets
+  unfolding contents
+  contents_count q = length-contents_of q.packets (queue (byte_ring q))
+
+  pub contents_none : (q : PacketQueue H) → (contents q ≡ []) ↔ (length q.packets ≡ 0)
+  contents_none q =
+      let n = contents_count q in
+      (λ e. sym n ∙ ap length e, λ z. nil_from_length (contents q) (n ∙ z))
+
+  pub placed_stands : (q : PacketQueue H) → IsWellPlaced q → (s : ℕ) (hd : H) → placement q s ≢ None
+      → contents (with_packet_if_room q s hd) ≡ contents q ++ ((hd, last_bytes (with_packet_if_room q s hd)) ∷ [])
+  placed_stands q ok s hd some =
+      let g = some_of (placement q s) some in
+      let o = with_packet_if_room q s hd in
+      let w = placed_well q ok s hd some in
+      let f = last_fits (length o.storage) o.read_at 0 o.packets w.0.0 (omega (arith, w.0.1)) w.1 in
+      let z : 0 + bytes_used o.packets - first_size (only_last o.packets) ≡ bytes_used o.packets - first_size (only_last o.packets) = omega arith in
+      let at = ap (index_after (length o.storage) o.read_at) z in
+      let long = length-drop (last_index o) o.storage in
+      let size : first_size (only_last o.packets) ≡ s =
+      ap (λ (p : PacketQueue H). first_size (only_last p.packets)) (placed_is q ok s hd g.0 g.1)
+      ∙ ap first_size (last_append q.packets (packet hd s g.0)) in
+      let n : length (last_bytes o) ≡ s =
+      length-take-le (first_size (only_last o.packets)) (drop (last_index o) o.storage) (omega (arith, at, f.1, long)) ∙ size in
+      ap (λ (m : ℕ). contents (with_packet_if_room q m hd)) (sym n)
+      ∙ placed_contents q ok hd (last_bytes o) (subst (λ (m : ℕ). placement q m ≢ None) (sym n) some)
+      (ap (λ (m : ℕ). last_bytes (with_packet_if_room q m hd)) (sym n))
+
+  pub last_is_written : (q : PacketQueue H) → IsWellPlaced q → (ws : List ℕ) → q.packets ≢ []
+      → length ws ≡ first_size (only_last q.packets) → contents (with_last_bytes q ws) ≡ with_bytes_in_last_entry ws (contents q)
+  last_is_written q ok ws some long =
+      let l = last_contents q ok ws some long in
+      l.4 ∙ sym (last_entry l.0 l.1 l.2 ws) ∙ ap (with_bytes_in_last_entry ws) (sym l.3)
+
+  -- what was taken off stands before the read index
+  taken_bytes : (q : PacketQueue H) → IsWellPlaced q → (s : ℕ) → s ≡ first_size q.packets
+      → (freed_bytes (without_first_and_gap q) s ≡ first_bytes (without_gap q)) × (length (freed_bytes (without_first_and_gap q) s) ≡ s)
+  taken_bytes q ok s is =
+      let f = off_go q.slot_count q.storage (without_gap q).read_at (without_first_gap q.packets) (skipped_well q ok) (close_gap q.packets) in
+      let size : first_size (without_first_gap q.packets) ≡ s = close_size q.packets ∙ sym is in
+      let fits = subst (λ (n : ℕ). AreFreed (without_first_and_gap q) n) size f.1 in
+      let at : freed_bytes_index (without_first_and_gap q) s ≡ (without_gap q).read_at = sym (ap (freed_bytes_index (without_first_and_gap q)) size) ∙ f.0 in
+      let long = length-drop (freed_bytes_index (without_first_and_gap q) s) q.storage in (
+        ap₂ (λ (p n : ℕ). take n (drop p q.storage)) at (sym size),
+        length-take-le s (drop (freed_bytes_index (without_first_and_gap q) s) q.storage) (omega (arith, long, fits.1)),
+      )
+
+  pub taken_contents : (q : PacketQueue H) → IsWellPlaced q → (hd : H) (s : ℕ) → IsFirstSized q.packets hd s
+      → contents q ≡ (hd, freed_bytes (without_first_and_gap q) s) ∷ contents (without_first_and_gap q)
+  taken_contents q ok hd s first =
+      let t = taken_bytes q ok s (sym (ap first_size first)) in
+      let sized = subst (λ (n : ℕ). IsFirstSized q.packets hd n) (sym t.1) first in
+      order.shown q ok hd (freed_bytes (without_first_and_gap q) s) (sized, t.0)
+      ∙ ap (λ l. (hd, freed_bytes (without_first_and_gap q) s) ∷ l) (sym (order.left q ok))
+
+  -- what stands before the read index is written over itself
+  pub freed_stay : (q : PacketQueue H) (s : ℕ) (ws : List ℕ) → ws ≡ freed_bytes q s → with_bytes q (freed_bytes_index q s) ws ≡ q
+  freed_stay q s ws is = ap (with_bytes q (freed_bytes_index q s)) is
+      ∙ ap (λ (st : List ℕ). mk q.slot_count st q.read_at q.packets) (overwrite-same q.storage (freed_bytes_index q s) s)
+
+  pub peeked_contents : (q : PacketQueue H) → IsWellPlaced q → contents (without_first_and_gap (without_gap q)) ≡ drop 1 (contents q)
+  peeked_contents q ok = order.left (without_gap q) (skipped_well q ok) ∙ ap (drop 1) (order.gap_dropped q ok)
+
+  still_go : (ps : List (Packet H)) → length (without_first_gap ps) ≡ length ps
+  still_go [] = refl
+  still_go (p ∷ ps) = refl
+
+  pub still_there : (q : PacketQueue H) → length (without_gap q).packets ≡ length q.packets
+  still_there q = still_go q.packets
+
+  some_first : (ps : List (Packet H)) (hd : H) (n : ℕ) → IsFirstSized ps hd n → ps ≢ []
+  some_first [] hd n e z = let k = ap length e in omega (arith, k)
+  some_first (p ∷ ps) hd n e z = let k = ap length z in omega (arith, k)
+
+  pub kept_contents : (q : PacketQueue H) → IsWellPlaced q → (hd : H) (ws : List ℕ) (gone : Bool) → IsFirst q hd ws
+      → contents (after_hand_out gone q hd ws) ≡ (if gone then drop 1 (contents q) else contents q)
+  kept_contents q ok hd ws true f = order.left_with q ok hd ws (sym (ap first_size f.0))
+  kept_contents q ok hd ws false f = order.refused q ok hd ws (some_first q.packets hd (length ws) f.0) (sym (ap first_size f.0))
+      ∙ sym (order.shown q ok hd ws f)
+
+  -- ---- what clauses of the calls say
+  pub is_empty_none : (q : PacketQueue H) (b : Bool) → b ≡ (length q.packets == 0) → (b ≡ true) ↔ (contents q ≡ [])
+  is_empty_none q b is =
+      let n = contents_none q in (
+        λ t. n.1 (eqb-true (length q.packets) 0 (sym is ∙ t)),
+        λ e. is ∙ eq-eqb (length q.packets) 0 (n.0 e),
+      )
+
+  pub no_contents : (slots : ℕ) (storage : List ℕ) → contents {H = H} (no_packets slots storage) ≡ []
+  unfolding contents
+  no_contents slots storage = refl
+
+  pub none_of : {P : Type 0} (q : PacketQueue H) → P ↔ (length q.packets ≡ 0) → P ↔ (contents q ≡ [])
+  none_of q e =
+      let n = contents_none q in
+      (λ h. n.1 (e.0 h), λ h. e.1 (n.0 h))
+
+  last_any : (n : ℕ) (st : List ℕ) (r : ℕ) (ps : List (Packet H)) (ws : List ℕ) → IsWellPlaced (mk n st r ps) → length ws ≡ first_size (only_last ps)
+      → contents (with_last_bytes (mk n st r ps) ws) ≡ with_bytes_in_last_entry ws (contents (mk n st r ps))
+  unfolding contents
+  last_any n st r [] ws ok long = refl
+  last_any n st r (p ∷ ps) ws ok long = last_is_written (mk n st r (p ∷ ps)) ok ws (λ e. let k = ap length e in absurd (omega (arith, k))) long
+
+  pub last_shown : (q : PacketQueue H) → IsWellPlaced q → (ws : List ℕ) → length ws ≡ first_size (only_last q.packets)
+      → contents (with_last_bytes q ws) ≡ with_bytes_in_last_entry ws (contents q)
+  last_shown q ok ws long = last_any q.slot_count q.storage q.read_at q.packets ws ok long
+
+  -- a packet that was placed
+  module _ (q : PacketQueue H) (ok : IsWellPlaced q) (s : ℕ) (hd : H) (gap : ℕ) (e : placement q s
+      ≡ Some gap) (n : PacketQueue H) (is : n ≡ with_packet_if_room q s hd) where
+    room : placement q s ≢ None
+    room z = absurd (none-some _ (sym z ∙ e))
+
+    pub accepted_as : (ws : List ℕ) → length ws ≡ s → contents (with_last_bytes n ws) ≡ contents q ++ ((hd, ws) ∷ [])
+    accepted_as ws long = ap (λ o. contents (with_last_bytes o ws)) is ∙ order.accepted q ok s hd ws room long
+
+    pub stands_as : contents n ≡ contents q ++ ((hd, last_bytes n) ∷ [])
+    stands_as = ap contents is ∙ placed_stands q ok s hd room ∙ ap (λ o. contents q ++ ((hd, last_bytes o) ∷ [])) (sym is)
+
+  -- the first packet, which was taken off
+  pub taken_as : (q : PacketQueue H) → IsWellPlaced q → (hd : H) (s : ℕ) → IsFirstSized q.packets hd s → (n : PacketQueue H)
+      → n ≡ without_first_and_gap q → contents q ≡ (hd, freed_bytes n s) ∷ contents n
+  taken_as q ok hd s first n is = taken_contents q ok hd s first ∙ ap (λ o. (hd, freed_bytes o s) ∷ contents o) (sym is)
+
+  pub left_as : (q : PacketQueue H) → IsWellPlaced q → (n : PacketQueue H) → n ≡ without_first_and_gap q → contents n ≡ drop 1 (contents q)
+  left_as q ok n is = ap contents is ∙ order.left q ok
+
+  pub freed_unseen : (q : PacketQueue H) → IsWellPlaced q → (s : ℕ) → AreFreed q s → (ws : List ℕ) → length ws ≡ s
+      → contents (with_bytes q (freed_bytes_index q s) ws) ≡ contents q
+  freed_unseen q ok s free ws long =
+      ap (λ (n : ℕ). contents (with_bytes q (freed_bytes_index q n) ws)) (sym long) ∙ freed_contents q ok ws (subst (λ (n : ℕ). AreFreed q n) (sym long) free)
+
+  pub handed_contents : (q : PacketQueue H) → IsWellPlaced q → (hd : H) (ws : List ℕ) (new : H) (news : List ℕ) (gone : Bool)
+      → IsFirst q hd ws → length news ≡ length ws
+      → contents (after_hand_out gone q new news) ≡ (if gone then drop 1 (contents q) else ((new, news) ∷ drop 1 (contents q)))
+  handed_contents q ok hd ws new news true f long = order.left_with q ok new news (long ∙ sym (ap first_size f.0))
+  handed_contents q ok hd ws new news false f long = order.refused q ok new news (some_first q.packets hd (length ws) f.0) (long ∙ sym (ap first_size f.0))
+
+  -- ---- the log of a run
+  -- the packets that left, followed by those that are queued, are those that came
+  abbrev InTurn : Log (H × List ℕ) → PacketQueue H → Type 0
+  InTurn log q = log.left ++ contents q ≡ log.accepted
+
+  more : (log : Log (H × List ℕ)) (q r : PacketQueue H) (p : H × List ℕ) → InTurn log q → contents r ≡ contents q ++ (p ∷ [])
+      → log.left ++ contents r ≡ log.accepted ++ (p ∷ [])
+  more log q r p turn is = ap (λ l. log.left ++ l) is ∙ sym (append_assoc log.left (contents q) (p ∷ [])) ∙ ap (λ l. l ++ (p ∷ [])) turn
+
+  off : (log : Log (H × List ℕ)) (q r : PacketQueue H) (p : H × List ℕ) → InTurn log q → contents q ≡ p ∷ drop 1 (contents q)
+      → contents r ≡ drop 1 (contents q) → (log.left ++ (p ∷ [])) ++ contents r ≡ log.accepted
+  off log q r p turn first is = append_assoc log.left (p ∷ []) (contents r) ∙ ap (λ l. log.left ++ (p ∷ l)) is ∙ ap (λ l. log.left ++ l) (sym first) ∙ turn
+
+  first_entry : (ps : List (Packet H)) (bs : List ℕ) → ps ≢ [] → (p : H × List ℕ) × (contents_of ps bs ≡ p ∷ drop 1 (contents_of ps bs))
+  first_entry [] bs some = absurd (some refl)
+  first_entry (p ∷ ps) bs some = (_, refl)
+
+  anew : (log : Log (H × List ℕ)) (q r : PacketQueue H) (p : H × List ℕ) → InTurn log q → q.packets ≢ []
+      → contents r ≡ p ∷ drop 1 (contents q) → log.left ++ contents r ≡ set log.accepted (length log.left) p
+  unfolding contents
+  anew log q r p turn some is =
+      let f = first_entry q.packets (queue (byte_ring q)) some in
+      ap (λ l. log.left ++ l) is ∙ sym (set-append_seam log.left f.0 (drop 1 (contents q)) p)
+      ∙ ap (λ l. set (log.left ++ l) (length log.left) p) (sym f.1) ∙ ap (λ l. set l (length log.left) p) turn
+
+  again : (log : Log (H × List ℕ)) (q r : PacketQueue H) (ws : List ℕ) (before : List (H × List ℕ)) (hd : H) (old : List ℕ)
+      → InTurn log q → contents q ≡ before ++ ((hd, old) ∷ []) → contents r ≡ before ++ ((hd, ws) ∷ []) →
+      log.left ++ contents r ≡ with_bytes_in_last_entry ws log.accepted
+  again log q r ws before hd old turn was is =
+      ap (λ l. log.left ++ l) is ∙ sym (append_assoc log.left before ((hd, ws) ∷ [])) ∙ sym (last_entry (log.left ++ before) hd old ws)
+      ∙ ap (with_bytes_in_last_entry ws) (append_assoc log.left before ((hd, old) ∷ []) ∙ ap (λ l. log.left ++ l) (sym was) ∙ turn)
+
+  call_turn : (call : QueueCall H) (log : Log (H × List ℕ)) (q r : PacketQueue H) → IsWellPlaced q →
+      Makes call q r → InTurn log q → InTurn (log_after call log) r
+  unfolding contents
+  call_turn Reset log q r ok is turn = ap (λ o. log.left ++ contents o) is ∙ append-nil log.left
+  call_turn (Place hd ws) log q r ok does turn =
+      more log q r (hd, ws) turn (ap contents does.1 ∙ placed_contents q ok hd ws does.0 (does.2 ∙ ap last_bytes does.1))
+  call_turn (WriteLast ws) log q r ok does turn =
+      let l = last_contents q ok ws does.0 does.1 in
+      again log q r ws l.0 l.1 l.2 turn l.3 (ap contents does.2 ∙ l.4)
+  call_turn (Enqueue hd ws) log q r ok does turn = more log q r (hd, ws) turn (ap contents does.1 ∙ order.accepted q ok (length ws) hd ws does.0 refl)
+  call_turn (EnqueueWith hd ws count) log q r ok does turn =
+      more log q r (hd, take count ws) turn (ap contents does.2 ∙ order.accepted_with q ok (length ws) hd ws does.0 refl count does.1)
+  call_turn Peek log q r ok is turn = ap (λ l. log.left ++ l) (ap contents is ∙ order.gap_dropped q ok) ∙ turn
+  call_turn (DequeueErr hd ws) log q r ok does turn = anew log q r (hd, ws) turn does.0 (ap contents does.2 ∙ order.refused q ok hd ws does.0 does.1)
+  call_turn (DequeueOk hd ws after written) log q r ok does turn =
+      let size = ap first_size does.0.0 in
+      off log q r (hd, ws) turn (order.shown q ok hd ws does.0) (ap contents does.2 ∙ order.left_with q ok after written (does.1 ∙ sym size))
+  call_turn (Take hd ws) log q r ok does turn = off log q r (hd, ws) turn (order.shown q ok hd ws does.0) (ap contents does.1 ∙ order.left q ok)
+  call_turn (WriteFreed ws) log q r ok does turn = ap (λ l. log.left ++ l) (ap contents does.1 ∙ freed_contents q ok ws does.0) ∙ turn
+  call_turn (Dequeue hd ws written) log q r ok does turn =
+      let size = ap first_size does.0.0 in
+      off log q r (hd, ws) turn (order.shown q ok hd ws does.0) (ap contents does.2 ∙ off_contents q ok written (does.1 ∙ sym size) ∙ order.left q ok)
+
+  calls_turn : (calls : List (QueueCall H)) (log : Log (H × List ℕ)) (q r : PacketQueue H) → IsWellPlaced q → MakesAll calls q r
+      → InTurn log q → InTurn (log_after_all calls log) r
+  calls_turn [] log q r ok run turn = ap (λ o. log.left ++ contents o) run ∙ turn
+  calls_turn (call ∷ calls) log q r ok run turn =
+      calls_turn calls (log_after call log) run.0 r (keeps call q run.0 ok run.1) run.2 (call_turn call log q run.0 ok run.1 turn)
+
+  pub in_turn : (slots : ℕ) (storage : List ℕ) (calls : List (QueueCall H)) (r : PacketQueue H)
+      → MakesAll calls (no_packets slots storage) r → InTurn (history calls) r
+  unfolding contents
+  in_turn slots storage calls r run =
+      calls_turn calls empty_log (no_packets slots storage) r ((inl refl, omega arith), tt, omega arith) run refl

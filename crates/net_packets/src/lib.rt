@@ -1,0 +1,8 @@
+//! Queues of packets over two rings, one of slots and one of bytes.
+#![tactic(auto)]
+
+pub mod packet_buffer;
+mod packet_metadata;
+
+pub use packet_buffer::{PacketBuffer, Packets};
+pub use packet_metadata::PacketMetadata;

@@ -1,0 +1,240 @@
+//! A queue of packets, each with a header, over storage that is lent or owned.
+ghost use Rattle.std.specs.Prelude.{◌≡◌, ◌≤◌, ◌<◌, ◌^◌, ◌-◌, ◌==◌, ◌↔◌, [], IsTrue, length};
+ghost use Rattle.net_ring.specs.Ring.{capacity, window, contiguous_window, from_start_if_empty};
+ghost use Rattle.net_packets.specs.Packets.{IsWellPlaced, bytes_used, slots_used, no_packets};
+ghost use Rattle.net_packets.specs.Packets.{byte_ring, placement, only_last, without_gap, first_gap};
+ghost use Rattle.net_packets.specs.Packets.{first_size, gap_for, slots_for, if_slots};
+ghost use Rattle.net_packets.specs.PacketHistory.{contents};
+
+use crate::packet_metadata::PacketMetadata;
+use net_ring::{Elements, Empty, Full, ManagedSlice, Ring};
+use std::marker::Model;
+
+mod closures;
+pub mod laws;
+mod placing;
+mod slices;
+mod slots;
+mod taking;
+
+/// A queue of packets over any storage: `M` has the slots and `B` the bytes. [`PacketBuffer`] is
+/// its usual form.
+///
+/// A packet has a header and bytes that lie in a row in the storage. If a packet does not fit
+/// before the storage's end, it is placed at the storage's beginning, and the bytes before the end
+/// are skipped as its gap. A packet uses one slot, and a gap, which is never of 0 bytes, one more.
+/// Packets leave in the order in which they came.
+///
+/// Contracts lead with `contents q`, the list of the headers and bytes of a queue's packets. Which
+/// packets are refused is seen by the number of its slots, its storage, the read index, and the list
+/// of its packets (header, size, gap).
+#[derive(Debug, Drop)]
+pub struct Packets<H, M: Elements<PacketMetadata<H>>, B: Elements<u8>> {
+    slots: Ring<PacketMetadata<H>, M>,
+    bytes: Ring<u8, B>,
+}
+
+/// A queue of packets over lent or owned storage.
+///
+/// It serves sockets that send and receive whole packets, as those of UDP and ICMP.
+pub type PacketBuffer<'a, H> = Packets<
+    H,
+    ManagedSlice<'a, PacketMetadata<H>>,
+    ManagedSlice<'a, u8>,
+>;
+
+impl<H, M: Elements<PacketMetadata<H>>, B: Elements<u8>> Model for Packets<H, M, B> {
+    ghost use Rattle.net_ring.specs.Ring.{queue};
+    ghost use Rattle.net_packets.specs.Packets.{PacketQueue};
+    ghost use Rattle.net_packets.specs.PacketSlots.{packet_queue, packets_in, StandFor};
+
+    ghost Value = { PacketQueue H };
+
+    ghost view = { λ a. packet_queue a.slots a.bytes };
+
+    ghost invariant = { λ a. StandFor a.slots a.bytes (packets_in 0 (queue a.slots)) };
+}
+
+impl<H, M: Elements<PacketMetadata<H>>, B: Elements<u8>> Packets<H, M, B> {
+    /// Returns a queue with no packets, which has as many slots as `slots` has elements, and room
+    /// for as many bytes as `bytes` has.
+    pub fn new(slots: M, bytes: B) -> Self
+        ensures none { contents result ≡ [] }
+        ensures made { result ≡ no_packets (length (M.elements slots)) (B.elements bytes) }
+    {
+        Packets {
+            slots: Ring::new(slots),
+            bytes: Ring::new(bytes),
+        }
+    }
+
+    /// Returns whether the queue has no packets.
+    #[inline]
+    pub fn is_empty(&self) -> bool
+        ensures none { IsTrue result ↔ (contents self.now ≡ []) }
+        ensures packets { result ≡ (length self.now.packets == 0) }
+    {
+        self.slots.is_empty()
+    }
+
+    /// Returns whether no slot is free. A queue that is not full can still refuse a packet for want
+    /// of bytes, or of a slot for its gap.
+    #[inline]
+    pub fn is_full(&self) -> bool
+        ensures { result ≡ (self.now.slot_count - slots_used self.now.packets == 0) }
+    {
+        self.slots.is_full()
+    }
+
+    /// Returns the number of slots.
+    #[inline]
+    pub fn packet_capacity(&self) -> usize
+        ensures { result ≡ self.now.slot_count }
+    {
+        self.slots.capacity()
+    }
+
+    /// Returns the number of bytes of the storage, used or not.
+    #[inline]
+    pub fn payload_capacity(&self) -> usize
+        ensures { result ≡ length self.now.storage }
+    {
+        self.bytes.capacity()
+    }
+
+    /// Returns the number of bytes that packets take. Gaps are counted, so a call that drops the
+    /// gap before the first packet lowers it.
+    #[inline]
+    pub fn payload_bytes_count(&self) -> usize
+        ensures { result ≡ bytes_used self.now.packets }
+    {
+        self.bytes.len()
+    }
+
+    /// Returns the number of slots used: one for each packet and one for each gap. smoltcp has no
+    /// such call.
+    #[inline]
+    pub fn slots_used(&self) -> usize
+        ensures { result ≡ slots_used self.now.packets }
+    {
+        self.slots.len()
+    }
+
+    /// Empties the queue. The bytes of the storage stay as they are, and it is not promised when
+    /// the headers are dropped.
+    ///
+    /// In smoltcp this call is private.
+    pub fn reset(&mut self)
+        ensures none { contents self.new ≡ [] }
+        ensures made { self.new ≡ no_packets self.old.slot_count self.old.storage }
+    {
+        self.slots.clear();
+        self.bytes.clear();
+    }
+}
+
+/// What the calls share.
+impl<H, M: Elements<PacketMetadata<H>>, B: Elements<u8>> Packets<H, M, B> {
+    /// Returns how many bytes are free in a row, and in all, if an empty ring begins anew.
+    #[inline]
+    fn free_in_a_row(&self) -> (usize, usize)
+        ensures contiguous { result.0 ≡ contiguous_window (from_start_if_empty (byte_ring self.now)) }
+        ensures window { result.1 ≡ window (from_start_if_empty (byte_ring self.now)) }
+    {
+        let window = self.bytes.window();
+        if self.bytes.is_empty() {
+            return (window, window);
+        }
+        (self.bytes.contiguous_window(), window)
+    }
+
+    /// Returns the gap before a packet of `size` bytes, if it can be placed.
+    #[inline]
+    fn placement(&self, size: usize) -> Option<usize>
+        ensures gap { result ≡ placement self.now size }
+        ensures well_placed { IsWellPlaced self.now }
+    {
+        let (contiguous, window) = self.free_in_a_row();
+        let free = self.slots.window();
+        if_slots(free, gap_for(size, contiguous, window))
+    }
+
+    /// Returns the size of the last packet, or 0 if there is none.
+    fn last_size(&self) -> usize
+        ensures size { result ≡ first_size (only_last self.now.packets) }
+        ensures well_placed { IsWellPlaced self.now }
+    {
+        let used = self.slots.len();
+        match self.slots.get_allocated(used.saturating_sub(1), 1).first() {
+            Some(slot) => slot.size,
+            None => 0,
+        }
+    }
+
+    /// Returns the gap before the first packet, or 0 if there is none.
+    #[inline]
+    fn first_gap(&self) -> usize
+        ensures gap { result ≡ first_gap self.now.packets }
+        ensures well_placed { IsWellPlaced self.now }
+    {
+        match self.slots.head().first() {
+            Some(slot) => { if slot.header.is_none() { slot.size } else { 0 } }
+            None => 0,
+        }
+    }
+
+    /// Drops the gap before the first packet.
+    #[inline]
+    fn skip(&mut self)
+        ensures skipped { self.new ≡ without_gap self.old }
+        ensures unchanged { first_gap self.old.packets ≡ 0 → self.new ≡ self.old }
+        ensures well_placed { IsWellPlaced self.old }
+    {
+        let gap = self.first_gap();
+        if gap > 0 {
+            self.slots.dequeue_allocated(1);
+            self.bytes.dequeue_allocated(gap);
+        }
+    }
+}
+
+/// Returns the gap before a packet of `size` bytes, if `contiguous` bytes are free in a row and
+/// `window` in all; `None` if it does not fit.
+#[inline]
+fn gap_for(size: usize, contiguous: usize, window: usize) -> Option<usize>
+    requires { contiguous ≤ window }
+    ensures { result ≡ gap_for size contiguous window }
+{
+    if size <= contiguous {
+        Some(0)
+    } else if size <= window - contiguous {
+        Some(contiguous)
+    } else {
+        None
+    }
+}
+
+/// Returns how many slots a packet after a gap of `gap` bytes uses.
+#[inline]
+fn slots_for(gap: usize) -> usize
+    ensures { result ≡ slots_for gap }
+{
+    if gap == 0 { 1 } else { 2 }
+}
+
+/// Returns the gap, if `free` slots are enough for it and its packet.
+#[inline]
+fn if_slots(free: usize, gap: Option<usize>) -> Option<usize>
+    ensures { result ≡ if_slots free gap }
+{
+    match gap {
+        Some(gap) => {
+            if slots_for(gap) <= free {
+                Some(gap)
+            } else {
+                None
+            }
+        }
+        None => None,
+    }
+}

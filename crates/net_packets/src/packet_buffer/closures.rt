@@ -1,0 +1,108 @@
+//! Closures that write the last packet, or are handed the first one.
+ghost use Rattle.std.specs.Prelude.{◌≡◌, ◌≤◌, ◌↔◌, ◌++◌, [], ℕ, List, IsErr, IfOk, OnErr, length};
+ghost use Rattle.std.specs.Prelude.{take, drop, is_ok, if◌then◌else◌};
+ghost use Rattle.std.specs.declared.option.Option.TheVariants.{None};
+ghost use Rattle.net_packets.specs.Packets.{placement};
+ghost use Rattle.net_packets.specs.PacketCalls.{TakesRoom, CountsAtMost, WritesPacket, TakesPacket};
+ghost use Rattle.net_packets.specs.PacketCalls.{GivesAtPacket, TakesFirstPacket, HandsPacket};
+ghost use Rattle.net_packets.specs.PacketHistory.{contents};
+
+use super::Packets;
+use super::slots::{lift_header, push_slots, put_header};
+use crate::packet_metadata::PacketMetadata;
+use net_ring::{Elements, Empty, Full};
+
+/// A closure writes the last packet, or is handed the first one.
+impl<H: Drop, M: Elements<PacketMetadata<H>>, B: Elements<u8>> Packets<H, M, B> {
+    /// Puts a packet last whose bytes `f` writes: `f` is lent `max_size` bytes, and returns how
+    /// many of them, from the first on, are the packet. That number is returned.
+    ///
+    /// Returns `Full` if [`Packets::place`] would for `max_size` bytes, and then drops the header,
+    /// does not call `f` and changes nothing. smoltcp places these packets by a rule of its own and
+    /// can take more than `max_size` bytes; here the rule is that of `enqueue`.
+    ///
+    /// # Requires
+    ///
+    /// `f` may be called on the `max_size` bytes that it is lent, and returns at most `max_size`.
+    pub fn enqueue_with_infallible<F: FnOnce(&mut [u8]) -> usize>(
+        &mut self,
+        max_size: usize,
+        header: H,
+        f: F,
+    ) -> Result<usize, Full>
+        requires callable { TakesRoom F.FnOnce f self.old max_size header }
+        requires count { CountsAtMost F.FnOnce f self.old max_size header }
+        ensures full { IsErr result ↔ (placement self.old max_size ≡ None) }
+        ensures unchanged { OnErr result (self.new ≡ self.old) }
+        ensures wrote { IfOk result
+            (λ k. WritesPacket F.FnOnce f self.old max_size header k self.new) }
+    {
+        let Some(gap) = self.placement(max_size) else {
+            return Err(Full);
+        };
+        self.bytes.restart();
+        let count = f(self.bytes.get_unallocated(gap, max_size));
+        self.bytes.enqueue_unallocated(gap + count);
+        push_slots(
+            &mut self.slots,
+            gap,
+            PacketMetadata {
+                size: count,
+                header: Some(header),
+            },
+        );
+        Ok(count)
+    }
+
+    /// Calls `f` on the header and the bytes of the first packet, whose gap goes. If `f` returns
+    /// `Ok`, the packet is taken off; if it returns `Err`, the packet stays first, with what `f`
+    /// wrote to its header and bytes.
+    ///
+    /// Returns `Empty`, does not call `f` and changes nothing, if the queue has no packets.
+    ///
+    /// # Requires
+    ///
+    /// `f` may be called on the first packet, if there is one.
+    pub fn dequeue_with<R, E, F: FnOnce(&mut H, &mut [u8]) -> Result<R, E>>(
+        &mut self,
+        f: F,
+    ) -> Result<Result<R, E>, Empty>
+        requires { TakesFirstPacket F.FnOnce f self.old }
+        ensures none { IsErr result ↔ (contents self.old ≡ []) }
+        ensures empty { IsErr result ↔ (length self.old.packets ≡ 0) }
+        ensures unchanged { OnErr result (self.new ≡ self.old) }
+        ensures handed { IfOk result (λ answer. HandsPacket F.FnOnce f self.old answer self.new) }
+    {
+        self.skip();
+        let (size, header) = lift_header(&mut self.slots)?;
+        let (_, (answer, header)) = self
+            .bytes
+            .dequeue_many_with(move |queued| with_first(f, header, size, queued));
+        if answer.is_ok() {
+            self.slots.dequeue_allocated(1);
+        } else {
+            put_header(&mut self.slots, header);
+        }
+        Ok(answer)
+    }
+}
+
+/// Calls `f` on a header and the first `size` of bytes in a row, and returns what it returned, the
+/// header and how many bytes are taken off.
+fn with_first<H, R, E, F: FnOnce(&mut H, &mut [u8]) -> Result<R, E>>(
+    f: F,
+    mut header: H,
+    size: usize,
+    queued: &mut [u8],
+) -> (usize, (Result<R, E>, H))
+    requires fits { size ≤ length queued.old }
+    requires callable { TakesPacket F.FnOnce f header (take size queued.old) }
+    ensures count { result.0 ≡ (if is_ok result.1.0 then size else 0) }
+    ensures called { (ws : List ℕ)
+        × GivesAtPacket F.FnOnce f header (take size queued.old) result.1.0 result.1.1 ws
+        × (length ws ≡ size) × (queued.new ≡ ws ++ drop size queued.old) }
+{
+    let answer = f(&mut header, &mut queued[..size]);
+    let count = if answer.is_ok() { size } else { 0 };
+    (count, (answer, header))
+}

@@ -1,0 +1,108 @@
+//! Packets that come last.
+ghost use Rattle.std.specs.Prelude.{◌≡◌, ◌↔◌, ◌∷◌, ◌++◌, [], ℕ, List, IsErr, IfOk, OnErr, OnOk};
+ghost use Rattle.std.specs.Prelude.{length};
+ghost use Rattle.std.specs.Borrow.{sem};
+ghost use Rattle.std.specs.declared.option.Option.TheVariants.{Some, None};
+ghost use Rattle.net_packets.specs.Packets.{placement, with_packet, with_packet_if_room, only_last};
+ghost use Rattle.net_packets.specs.Packets.{last_bytes, with_last_bytes, first_size};
+ghost use Rattle.net_packets.specs.PacketHistory.{contents, with_bytes_in_last_entry};
+
+use super::Packets;
+use super::slots::push_slots;
+use crate::packet_metadata::PacketMetadata;
+use net_ring::{Elements, Full};
+
+/// A packet comes last, and its bytes are lent.
+impl<H: Drop, M: Elements<PacketMetadata<H>>, B: Elements<u8>> Packets<H, M, B> {
+    ghost use Rattle.net_packets.specs.PacketLends.{lends_bytes, lends_bytes_if};
+
+    /// Puts a packet of `size` bytes last. Its bytes are those that stand in the storage;
+    /// [`Packets::last_mut`] lends them.
+    ///
+    /// Returns `Full`, and drops the header and changes nothing, if no `size` bytes are free in a
+    /// row, or a slot is missing for the packet or its gap. An empty queue is read from the
+    /// storage's beginning on. With `last_mut` this is [`Packets::enqueue`] in two steps, of which
+    /// callers know exactly what they leave.
+    pub fn place(&mut self, size: usize, header: H) -> Result<(), Full>
+        ensures accepted { OnOk result ((ws : List ℕ) → length ws ≡ size
+            → contents (with_last_bytes self.new ws) ≡ contents self.old ++ (header, ws) ∷ []) }
+        ensures stands { OnOk result
+            (contents self.new ≡ contents self.old ++ (header, last_bytes self.new) ∷ []) }
+        ensures unchanged { OnErr result (self.new ≡ self.old) }
+        ensures full { IsErr result ↔ (placement self.old size ≡ None) }
+        ensures placed { self.new ≡ with_packet_if_room self.old size header }
+        ensures size { OnOk result (first_size (only_last self.new.packets) ≡ size) }
+    {
+        let Some(gap) = self.placement(size) else {
+            return Err(Full);
+        };
+        self.push(gap, size, header);
+        Ok(())
+    }
+
+    /// Lends the bytes of the packet that came last, or none if the queue has no packets.
+    pub fn last_mut(&mut self) -> &mut [u8]
+        ensures* writes_back { sem 𝓛 (lends_bytes H.row M.row B.row M.Elements B.Elements
+            self.entry result (with_last_bytes self.old)) }
+        ensures written { (ws : List ℕ) → length ws ≡ length result.now
+            → contents (with_last_bytes self.old ws) ≡ with_bytes_in_last_entry ws (contents self.old) }
+        ensures value { result.now ≡ last_bytes self.old }
+        ensures size { length result.now ≡ first_size (only_last self.old.packets) }
+    {
+        let size = self.last_size();
+        self.last_part_mut(size)
+    }
+
+    /// Puts a packet of `size` bytes last and lends these bytes. Until they are written they are
+    /// what stood in the storage.
+    ///
+    /// Returns `Full`, and drops the header and changes nothing, if no `size` bytes are free in a
+    /// row, or a slot is missing for the packet or its gap. smoltcp can leave padding behind if it
+    /// refuses.
+    pub fn enqueue(&mut self, size: usize, header: H) -> Result<&mut [u8], Full>
+        ensures* writes_back { sem 𝓛 (lends_bytes_if H.row M.row B.row M.Elements B.Elements
+            self.entry result (with_last_bytes (with_packet_if_room self.old size header))) }
+        ensures accepted { IfOk result (λ r. (ws : List ℕ) → length ws ≡ size
+            → contents (with_last_bytes (with_packet_if_room self.old size header) ws)
+            ≡ contents self.old ++ (header, ws) ∷ []) }
+        ensures full { IsErr result ↔ (placement self.old size ≡ None) }
+        ensures value { IfOk result
+            (λ r. r.now ≡ last_bytes (with_packet_if_room self.old size header)) }
+        ensures size { IfOk result (λ r. length r.now ≡ size) }
+    {
+        let Ok(()) = self.place(size, header) else {
+            return Err(Full);
+        };
+        Ok(self.last_part_mut(size))
+    }
+
+    /// Puts a packet last, after `gap` bytes.
+    fn push(&mut self, gap: usize, size: usize, header: H)
+        requires { placement self.old size ≡ Some gap }
+        ensures { self.new ≡ with_packet self.old gap size header }
+    {
+        push_slots(
+            &mut self.slots,
+            gap,
+            PacketMetadata {
+                size,
+                header: Some(header),
+            },
+        );
+        let bytes = &mut self.bytes;
+        bytes.restart();
+        bytes.enqueue_unallocated(gap + size);
+    }
+
+    /// Lends the last `size` bytes, which are those of the last packet.
+    pub(super) fn last_part_mut(&mut self, size: usize) -> &mut [u8]
+        requires { size ≡ first_size (only_last self.old.packets) }
+        ensures* writes_back { sem 𝓛 (lends_bytes H.row M.row B.row M.Elements B.Elements
+            self.entry result (with_last_bytes self.old)) }
+        ensures value { result.now ≡ last_bytes self.old }
+        ensures size { length result.now ≡ first_size (only_last self.old.packets) }
+    {
+        let before = self.bytes.len() - size;
+        self.bytes.get_allocated_mut(before, size)
+    }
+}

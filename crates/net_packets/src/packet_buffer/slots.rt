@@ -1,0 +1,91 @@
+//! The ring of a packet queue's slots.
+ghost use Rattle.std.specs.Prelude.{◌≡◌, ◌≢◌, ◌≤◌, ◌-◌, ◌↔◌, ◌∷◌, ◌++◌, [], ℕ, IsErr, IfOk, OnErr};
+ghost use Rattle.std.specs.Prelude.{drop};
+ghost use Rattle.std.specs.declared.option.Option.TheVariants.{Some, None};
+ghost use Rattle.net_ring.specs.Ring.{capacity, window, queue, IsWellFormed};
+ghost use Rattle.net_packets.specs.Packets.{slots_for};
+ghost use Rattle.net_packets.specs.PacketSlots.{gap_slot, slot, IsFirstSlot, WithFirstSlot};
+
+use crate::packet_metadata::PacketMetadata;
+use net_ring::{Elements, Empty, Ring};
+
+/// Enqueues the slot of a packet, and before it one for its gap, if that is not of 0 bytes.
+pub(crate) fn push_slots<H: Drop, M: Elements<PacketMetadata<H>>>(
+    slots: &mut Ring<PacketMetadata<H>, M>,
+    gap: usize,
+    slot: PacketMetadata<H>,
+)
+    requires well_formed { IsWellFormed slots.old }
+    requires free { slots_for gap ≤ window slots.old }
+    ensures queue { queue slots.new ≡ queue slots.old ++ (gap_slot gap ++ slot ∷ []) }
+    ensures capacity { capacity slots.new ≡ capacity slots.old }
+    ensures well_formed { IsWellFormed slots.new }
+{
+    if gap > 0 {
+        push_slot(
+            slots,
+            PacketMetadata {
+                size: gap,
+                header: None,
+            },
+        );
+    }
+    push_slot(slots, slot);
+}
+
+/// Enqueues a slot.
+fn push_slot<H: Drop, M: Elements<PacketMetadata<H>>>(
+    slots: &mut Ring<PacketMetadata<H>, M>,
+    slot: PacketMetadata<H>,
+)
+    requires well_formed { IsWellFormed slots.old }
+    requires free { window slots.old ≢ 0 }
+    ensures queue { queue slots.new ≡ queue slots.old ++ slot ∷ [] }
+    ensures window { window slots.new ≡ window slots.old - 1 }
+    ensures capacity { capacity slots.new ≡ capacity slots.old }
+    ensures well_formed { IsWellFormed slots.new }
+{
+    if let Ok(place) = slots.enqueue_one() {
+        *place = slot;
+    }
+}
+
+/// Returns the size and the header of the first slot, which stays without its header.
+pub(crate) fn lift_header<H: Drop, M: Elements<PacketMetadata<H>>>(
+    slots: &mut Ring<PacketMetadata<H>, M>,
+) -> Result<(usize, H), Empty>
+    requires well_formed { IsWellFormed slots.old }
+    requires header { (size : ℕ) → IsFirstSlot slots.old size None → ⊥ }
+    ensures empty { IsErr result ↔ (slots.old.count ≡ 0) }
+    ensures unchanged { OnErr result (slots.new ≡ slots.old) }
+    ensures first { IfOk result (λ r. IsFirstSlot slots.old r.0 (Some r.1)) }
+    ensures left { IfOk result (λ r. WithFirstSlot slots.old r.0 None slots.new) }
+{
+    let answer = slots.dequeue_one_with(|slot| {
+        let header = slot.header.take();
+        Result::<(), (usize, Option<H>)>::Err((slot.size, header))
+    })?;
+    let Err((size, header)) = answer else {
+        return Err(Empty);
+    };
+    let Some(header) = header else {
+        return Err(Empty);
+    };
+    Ok((size, header))
+}
+
+/// Puts a header into the first slot.
+pub(crate) fn put_header<H: Drop, M: Elements<PacketMetadata<H>>>(
+    slots: &mut Ring<PacketMetadata<H>, M>,
+    header: H,
+)
+    requires { IsWellFormed slots.old }
+    ensures queue { (size : ℕ) (h : _) → IsFirstSlot slots.old size h
+        → queue slots.new ≡ slot size (Some header) ∷ drop 1 (queue slots.old) }
+    ensures well_formed { IsWellFormed slots.new }
+    ensures capacity { capacity slots.new ≡ capacity slots.old }
+{
+    if let Some(slot) = slots.get_allocated_mut(0, 1).first_mut() {
+        slot.header = Some(header);
+    }
+}

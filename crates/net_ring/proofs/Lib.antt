@@ -1,0 +1,8 @@
+pub mod Rotations
+pub mod Overwrites
+pub mod Relend
+pub mod RingFacts
+pub mod RingParts
+pub mod RingOrder
+pub mod ResetFacts
+mod OneField

@@ -1,0 +1,758 @@
+-- What the clauses of a ring's calls say, from its storage.
+use Rattle.std.proofs.Common.{◌≢◌, zero, suc, get_or, ◌≡◌, ℕ, ◌+◌, ◌-◌, ◌<◌, ◌≤◌, ◌⊎◌, List, []}
+use Rattle.std.proofs.Common.{◌∷◌, ◌++◌, length, take, drop, min, refl, sym, ap, ap₂, ◌∙◌, subst}
+use Rattle.std.proofs.Common.{inl, inr, arith, length-append, length-drop, add-zero, nat_lt}
+use Rattle.std.proofs.Common.{if◌then◌else◌, Bool}
+use Rattle.std.proofs.Common.{append_assoc, ⊎_elim, lt-ltb, le-ltb}
+use Rattle.std.proofs.lemmas.Bool.{cond-true, cond-false}
+use Rattle.std.proofs.lemmas.List.{drop-take, take_at, drop_at, take-take, drop-drop}
+use Rattle.std.proofs.lemmas.List.{length-take-le, take-append-drop, take_all, drop_all, append-nil}
+use Rattle.std.proofs.lemmas.List.{nil_from_length}
+use Rattle.std.proofs.lemmas.Bool.{false≢true, cases_lt, cases_eq, ne_eqb, eq-eqb}
+use Rattle.std.specs.Prelude.{Result, IsOk, IsErr, is_ok, slice_get}
+use Rattle.std.proofs.lemmas.Option.{slice_get_past}
+use Rattle.std.specs.declared.result.Result.TheVariants.{Ok, Err}
+use Rattle.net_ring.specs.Overwrite.{overwrite}
+use Rattle.net_ring.specs.Ring.{RingState, freed_index, rotation, ring, capacity, window, queue}
+use Rattle.net_ring.specs.Ring.{spare, storage_index, write_at, IsWellFormed, with_elements}
+use Rattle.net_ring.specs.Ring.{with_elements_wrapping, with_enqueued, with_dequeued}
+use Rattle.net_ring.specs.Ring.{from_start_if_empty, contiguous_window, contiguous_queued}
+use Rattle.net_ring.specs.Ring.{spare_index, contiguous_window_from, queue_index}
+use Rattle.net_ring.specs.Ring.{contiguous_queued_from, Enqueues, Dequeues, WritesSpare}
+use Rattle.net_ring.specs.Ring.{WritesQueue, EnqueuesFrom, DequeuesFrom}
+use Rattle.net_ring.proofs.Rotations.{IsStorageIndex, cut, length-rotation, overwrite_at}
+use Rattle.net_ring.proofs.Rotations.{length-overwrite, storage_index_is, part-rotation}
+use Rattle.net_ring.proofs.Rotations.{read_at_le, whole, length-queue, length-spare}
+use Rattle.net_ring.proofs.Rotations.{spare-written, queue-written, with_enqueued_parts}
+use Rattle.net_ring.proofs.Rotations.{with_dequeued_parts, take_sum}
+
+module _ {T : Type 0} where
+  -- ---- lists
+  -- a write over the first elements
+  overwrite_head : (s ws : List T) (k : ℕ) → k ≤ length ws → length ws ≤ length s → (take k (overwrite s 0 ws) ≡ take k ws)
+      × (drop (length ws) (overwrite s 0 ws) ≡ drop (length ws) s)
+  overwrite_head s ws k e le =
+      let c = cut (length ws) s le in let m = c.0 in let z = c.1 in
+      let is : overwrite s 0 ws ≡ ws ++ z = ap (λ (l : List T). overwrite l 0 ws) c.2 ∙ overwrite_at [] m z ws 0 refl c.3 in
+      let low : take k (ws ++ z) ≡ take k ws = sym (take-take k (length ws) (ws ++ z) e) ∙ ap (take k) (take_at ws z (length ws) refl) in
+      (ap (take k) is ∙ low, ap (drop (length ws)) is ∙ drop_at ws z (length ws) refl ∙ sym (ap (drop (length ws)) c.2 ∙ drop_at m z (length ws) c.3))
+
+  pub overwrite_none : (s : List T) (i : ℕ) → overwrite s i [] ≡ s
+  overwrite_none s i = ap (take (length s)) (take-append-drop i s) ∙ take_all (length s) s (omega arith)
+
+  pub overwrite_whole : (s ws : List T) → length ws ≡ length s → overwrite s 0 ws ≡ ws
+  overwrite_whole s ws e = sym (take_all (length s) (overwrite s 0 ws) (omega (arith, length-overwrite s 0 ws)))
+      ∙ (overwrite_head s ws (length s) (omega (arith, e)) (omega (arith, e))).0 ∙ take_all (length s) ws (omega (arith, e))
+
+  overwrite_twice : (s a b : List T) (i : ℕ) → i + length a + length b ≤ length s → overwrite (overwrite s i a) (i + length a) b ≡ overwrite s i (a ++ b)
+  overwrite_twice s a b i le =
+      let c1 = cut i s (omega arith) in let f = c1.0 in let v = c1.1 in let lf : length f ≡ i = c1.3 in let lv : length v ≡ length s - i = c1.4 in
+      let c2 = cut (length a) v (omega arith) in let m = c2.0 in let u = c2.1 in let lm : length m ≡ length a = c2.3 in
+      let lu : length u ≡ length v - length a = c2.4 in
+      let c3 = cut (length b) u (omega arith) in let n = c3.0 in let z = c3.1 in let ln : length n ≡ length b = c3.3 in
+      let whole : s ≡ f ++ (m ++ (n ++ z)) = c1.2 ∙ ap (λ (l : List T). f ++ l) (c2.2 ∙ ap (λ (l : List T). m ++ l) c3.2) in
+      let one : overwrite (f ++ (m ++ (n ++ z))) i a ≡ (f ++ a) ++ (n ++ z) = overwrite_at f m (n ++ z) a i lf lm ∙ sym (append_assoc f a (n ++ z)) in
+      let long : length (f ++ a) ≡ i + length a = omega (arith, length-append f a) in
+      let two : overwrite ((f ++ a) ++ (n ++ z)) (i + length a) b ≡ f ++ ((a ++ b) ++ z) =
+      overwrite_at (f ++ a) n z b (i + length a) long ln ∙ append_assoc f a (b ++ z) ∙ ap (λ (l : List T). f ++ l) (sym (append_assoc a b z)) in
+      let both : length (m ++ n) ≡ length (a ++ b) = omega (arith, length-append m n, length-append a b) in
+      let all : overwrite (f ++ (m ++ (n ++ z))) i (a ++ b) ≡ f ++ ((a ++ b) ++ z) =
+      ap (λ (l : List T). overwrite (f ++ l) i (a ++ b)) (sym (append_assoc m n z)) ∙ overwrite_at f (m ++ n) z (a ++ b) i lf both in
+      let P : List T → Type 0 = λ l. overwrite (overwrite l i a) (i + length a) b ≡ overwrite l i (a ++ b) in
+      subst P (sym whole) (ap (λ (l : List T). overwrite l (i + length a) b) one ∙ two ∙ sym all)
+
+  -- what reaches past the end of a list is not written
+  overwrite_cut : (s ws : List T) (i : ℕ) → i ≤ length s → length s ≤ i + length ws → overwrite s i ws ≡ overwrite s i (take (length s - i) ws)
+  overwrite_cut s ws i le past =
+      let m : ℕ = length s - i in
+      let c1 = cut i s le in let f = c1.0 in let v = c1.1 in let lf : length f ≡ i = c1.3 in let lv : length v ≡ m = c1.4 in
+      let c2 = cut m ws (omega arith) in let a = c2.0 in let b = c2.1 in let la : length a ≡ m = c2.3 in
+      let whole : s ≡ f ++ v = c1.2 in
+      let lfv : length (f ++ v) ≡ i + m = omega (arith, length-append f v, lf, lv) in
+      let lws : length ws ≡ m + length b = ap length c2.2 ∙ length-append a b ∙ ap (λ (n : ℕ). n + length b) la in
+      let none : drop (length ws) v ≡ [] = drop_all (length ws) v (omega (arith, lws, lv)) in
+      let lfa : length (f ++ a) ≡ i + m = omega (arith, length-append f a, lf, la) in
+      let left : overwrite (f ++ v) i ws ≡ f ++ a =
+      ap (take (length (f ++ v))) (ap₂ ◌++◌ (take_at f v i lf) (ap (λ (l : List T). ws ++ drop (length ws) l) (drop_at f v i lf)
+      ∙ ap (λ (l : List T). ws ++ l) none ∙ append-nil ws ∙ c2.2))
+      ∙ ap (λ (n : ℕ). take n (f ++ (a ++ b))) lfv ∙ ap (take (i + m)) (sym (append_assoc f a b)) ∙ take_at (f ++ a) b (i + m) lfa in
+      let right : overwrite (f ++ v) i a ≡ f ++ a = ap (λ (l : List T). overwrite (f ++ l) i a) (sym (append-nil v))
+      ∙ overwrite_at f v [] a i lf (omega (arith, la, lv)) ∙ ap (λ (l : List T). f ++ l) (append-nil a) in
+      ap (λ (l : List T). overwrite l i ws) whole ∙ left ∙ sym (ap (λ (l : List T). overwrite l i a) whole ∙ right)
+      ∙ ap (overwrite s i) (sym (ap (take m) c2.2 ∙ take_at a b m la))
+
+  -- a write in two parts, the second at the beginning
+  pub wrapping_is : (s ws : List T) (i k : ℕ) → i ≤ length s → k ≡ min (length ws) (length s - i)
+      → overwrite (overwrite s i (take k ws)) 0 (drop k ws) ≡ overwrite (overwrite s i ws) 0 (drop (length s - i) ws)
+  wrapping_is s ws i k le e = elim (cases_lt (length s - i) (length ws)) [
+    | inl past ↦
+        let n : k ≡ length s - i = omega (arith, e, past) in
+        ap (λ (n : ℕ). overwrite (overwrite s i (take n ws)) 0 (drop n ws)) n
+        ∙ ap (λ (l : List T). overwrite l 0 (drop (length s - i) ws)) (sym (overwrite_cut s ws i le (omega (arith, past))))
+    | inr within ↦
+        let n : k ≡ length ws = omega (arith, e, within) in
+        ap (λ (n : ℕ). overwrite (overwrite s i (take n ws)) 0 (drop n ws)) n
+        ∙ ap₂ (λ (a b : List T). overwrite (overwrite s i a) 0 b) (take_all (length ws) ws (omega arith)) (drop_all (length ws) ws (omega arith)
+        ∙ sym (drop_all (length s - i) ws within))
+  ]
+
+  -- what a part of the storage is shown as
+  pub part_is : (b : List T) (p m k : ℕ) → m ≡ k → p + k ≤ length b → (now : List T) → now ≡ take m (drop p b) → (length now ≡ k) × (now ≡ take k (drop p b))
+  part_is b p m k em le now e =
+      let is : now ≡ take k (drop p b) = e ∙ ap (λ (j : ℕ). take j (drop p b)) em in
+      (ap length is ∙ length-take-le k (drop p b) (omega (arith, length-drop p b)), is)
+
+  pub take_one : (s : List T) (i : ℕ) (x : T) → i < length s → x ≡ get_or s i x → take 1 (drop i s) ≡ x ∷ []
+  take_one [] i x h e = absurd (omega arith)
+  take_one (y ∷ ys) zero x h e = ap (λ (z : T). z ∷ []) (sym e)
+  take_one (y ∷ ys) (suc i) x h e = take_one ys i x (omega arith) e
+
+  first_of : (xs : List T) (x : T) → x ∷ [] ≡ take 1 xs → xs ≡ x ∷ drop 1 xs
+  first_of xs x e = sym (take-append-drop 1 xs) ∙ ap (λ (l : List T). l ++ drop 1 xs) (sym e)
+
+  -- ---- a ring, which is its three parts
+  pub ring_is : (a b : RingState T) → a.storage ≡ b.storage → a.read_at ≡ b.read_at → a.count ≡ b.count → a ≡ b
+  ring_is a b es er eh = ap (λ l. ring l a.read_at a.count) es ∙ ap₂ (λ r n. ring b.storage r n) er eh
+
+  module _ (g : RingState T) (wf : IsWellFormed g) where
+    pub written_wf : (p : ℕ) (ws : List T) → IsWellFormed (with_elements g p ws)
+    written_wf p ws = subst (λ (n : ℕ). ((g.read_at ≡ 0) ⊎ (g.read_at < n)) × (g.count ≤ n)) (sym (length-overwrite g.storage p ws)) wf
+
+    pub storage_index_le : (j : ℕ) → j ≤ capacity g → storage_index g j ≤ capacity g
+    storage_index_le j le = elim (storage_index_is g j) [ inl h ↦ omega (arith, h.0, h.1, read_at_le g wf) | inr h ↦ omega (arith, h.0, h.1, read_at_le g wf) ]
+
+    pub read_index_is : IsStorageIndex (capacity g) g.read_at 0 g.read_at
+    read_index_is = elim wf.0 [
+      | inl e ↦ elim (cases_lt 0 (length g.storage)) [ inl h ↦ inl (omega (arith, e, h), omega arith) | inr h ↦ inr (omega (arith, e, h), omega (arith, e, h)) ]
+      | inr h ↦ inl (omega (arith, h), omega arith)
+    ]
+
+    pub storage_index-zero : storage_index g 0 ≡ g.read_at
+    storage_index-zero = elim (storage_index_is g 0) [
+      | inl i ↦ omega (arith, i.0, i.1)
+      | inr i ↦ elim wf.0 [ inl e ↦ omega (arith, i.0, i.1, e) | inr h ↦ omega (arith, i.0, i.1, h) ]
+    ]
+
+    pub write_index_is : IsStorageIndex (capacity g) g.read_at (g.count + 0) (write_at g)
+    write_index_is = subst (λ (j : ℕ). IsStorageIndex (capacity g) g.read_at j (write_at g)) (sym (add-zero g.count)) (storage_index_is g g.count)
+
+    -- ---- parts of the storage, by queue and spare part
+    pub spare_value : (i k p : ℕ) → i + k ≤ window g → p + k ≤ capacity g → IsStorageIndex (capacity g) g.read_at (g.count + i) p
+        → take k (drop p g.storage) ≡ take k (drop i (spare g))
+    spare_value i k p hi hp at =
+        part-rotation g.storage g.read_at (g.count + i) p k (read_at_le g wf) (omega (arith, wf.1)) hp at
+        ∙ ap (take k) (sym (drop-drop i g.count (rotation g.storage g.read_at)))
+
+    pub queue_value : (i k p : ℕ) → i + k ≤ g.count → p + k ≤ capacity g → IsStorageIndex (capacity g) g.read_at i p
+        → take k (drop p g.storage) ≡ take k (drop i (queue g))
+    queue_value i k p hi hp at =
+        let all = rotation g.storage g.read_at in
+        let whole : queue g ≡ take (i + (g.count - i)) all = ap (λ (j : ℕ). take j all) (omega arith) in
+        let low : take k (drop i (queue g)) ≡ take k (drop i all) =
+        ap (λ (l : List T). take k (drop i l)) whole ∙ ap (take k) (drop-take i (g.count - i) all) ∙ take-take k (g.count - i) (drop i all) (omega arith) in
+        part-rotation g.storage g.read_at i p k (read_at_le g wf) (omega (arith, wf.1)) hp at ∙ sym low
+
+    -- ---- writes
+    pub spare_law : (i p : ℕ) (ws : List T) → i + length ws ≤ window g → p + length ws ≤ capacity g
+        → IsStorageIndex (capacity g) g.read_at (g.count + i) p → WritesSpare g i ws (with_elements g p ws)
+    spare_law i p ws hi hp at = let w = spare-written g wf i p ws hi hp at in (w.0, w.1, refl)
+
+    pub queue_law : (i p : ℕ) (ws : List T) → i + length ws ≤ g.count → p + length ws ≤ capacity g
+        → IsStorageIndex (capacity g) g.read_at i p → WritesQueue g i ws (with_elements g p ws)
+    queue_law i p ws hi hp at = let w = queue-written g wf i p ws hi hp at in (w.0, w.1, refl)
+
+    -- ---- elements that are enqueued
+    pub enqueued_from : (k : ℕ) (ws : List T) → k ≤ length ws → length ws ≤ contiguous_window g
+        → EnqueuesFrom g k ws (with_elements (with_enqueued k g) (write_at g) ws)
+    enqueued_from k ws le room =
+        let p = write_at g in
+        let fits : p + length ws ≤ capacity g = omega (arith, room, storage_index_le g.count wf.1) in
+        let w = spare_law 0 p ws (omega (arith, room)) fits write_index_is in
+        let t = with_enqueued_parts (with_elements g p ws) (written_wf p ws) k (omega (arith, room, le, length-overwrite g.storage p ws)) in
+        let f = overwrite_head (spare g) ws k le (omega (arith, room, length-spare g wf)) in
+        (t.0 ∙ ap₂ ◌++◌ w.0 (ap (take k) w.1 ∙ f.0), t.1 ∙ ap (drop k) w.1, refl)
+
+    pub enqueued_law : (k : ℕ) → k ≤ contiguous_window g → (ws : List T) → length ws ≡ k → Enqueues g ws (with_elements (with_enqueued k g) (write_at g) ws)
+    enqueued_law k le ws e =
+        let all = enqueued_from k ws (omega (arith, e)) (omega (arith, e, le)) in
+        let f = overwrite_head (spare g) ws k (omega (arith, e)) (omega (arith, e, le, length-spare g wf)) in (
+          all.0 ∙ ap (λ (l : List T). queue g ++ l) (take_all k ws (omega (arith, e))),
+          all.1
+              ∙ ap (λ (n : ℕ). drop n (overwrite (spare g) 0 ws)) (sym e) ∙ f.1,
+          refl,
+        )
+
+    pub with_enqueued_law : (k : ℕ) → k ≤ window g → Enqueues g (take k (spare g)) (with_enqueued k g)
+    with_enqueued_law k le =
+        let t = with_enqueued_parts g wf k le in
+        let long : length (take k (spare g)) ≡ k = length-take-le k (spare g) (omega (arith, le, length-spare g wf)) in
+        (t.0, t.1 ∙ ap (λ (n : ℕ). drop n (spare g)) (sym long), refl)
+
+    -- ---- elements that are dequeued
+    pub dequeued_from : (k : ℕ) (ws : List T) → k ≤ length ws → length ws ≤ contiguous_queued g →
+        DequeuesFrom g k ws (with_elements (with_dequeued k g) g.read_at ws)
+    dequeued_from k ws le room =
+        let w = with_elements g g.read_at ws in
+        let wwf = written_wf g.read_at ws in
+        let same : with_dequeued k w ≡ with_elements (with_dequeued k g) g.read_at ws =
+        ap (λ n. ring (overwrite g.storage g.read_at ws) (if nat_lt k (n - g.read_at) then g.read_at + k else k - (n - g.read_at))
+        (g.count - k)) (length-overwrite g.storage g.read_at ws) in
+        let q = queue_law 0 g.read_at ws (omega (arith, room)) (omega (arith, room, read_at_le g wf)) read_index_is in
+        let f = overwrite_head (queue g) ws k le (omega (arith, room, length-queue g wf)) in
+        let t = with_dequeued_parts w wwf k (omega (arith, room, le)) in
+        let whole : DequeuesFrom g k ws (with_dequeued k w) = (t.0 ∙ ap (drop k) q.0, t.1 ∙ ap₂ ◌++◌ q.1 (ap (take k) q.0 ∙ f.0), ap (λ o. o.read_at) same) in
+        subst (DequeuesFrom g k ws) same whole
+
+    pub dequeued_law : (k : ℕ) → k ≤ contiguous_queued g → (ws : List T) → length ws ≡ k → Dequeues g k ws (with_elements (with_dequeued k g) g.read_at ws)
+    dequeued_law k le ws e =
+        let all = dequeued_from k ws (omega (arith, e)) (omega (arith, e, le)) in
+        let f = overwrite_head (queue g) ws k (omega (arith, e)) (omega (arith, e, le, length-queue g wf)) in (
+          all.0 ∙ ap (λ (n : ℕ). drop n (overwrite (queue g) 0 ws)) (sym e) ∙ f.1 ∙ ap (λ (n : ℕ). drop n (queue g)) e,
+          all.1
+              ∙ ap (λ (l : List T). spare g ++ l) (take_all k ws (omega (arith, e))),
+          refl,
+        )
+
+    pub with_dequeued_law : (k : ℕ) → k ≤ g.count → Dequeues g k (take k (queue g)) (with_dequeued k g)
+    with_dequeued_law k le = let t = with_dequeued_parts g wf k le in (t.0, t.1, refl)
+
+    -- ---- a write that wraps at the storage's end
+    wrapping_once : (i p : ℕ) (ws : List T) → i + length ws ≤ window g → p + length ws ≤ capacity g
+        → IsStorageIndex (capacity g) g.read_at (g.count + i) p → WritesSpare g i ws (with_elements_wrapping g p ws)
+    wrapping_once i p ws le room at =
+        let none : drop (length g.storage - p) ws ≡ [] = drop_all (length g.storage - p) ws (omega (arith, room)) in
+        let still : with_elements_wrapping g p ws ≡ with_elements g p ws = ap (λ l. with_elements (with_elements g p ws) 0 l) none
+        ∙ ap (λ b. ring b g.read_at g.count) (overwrite_none (overwrite g.storage p ws) 0) in
+        subst (WritesSpare g i ws) (sym still) (spare_law i p ws le room at)
+
+    wrapping_twice : (i p : ℕ) (a b : List T) → i + length a + length b ≤ window g → p + length a ≡ capacity g → 0 < length b
+        → IsStorageIndex (capacity g) g.read_at (g.count + i) p → WritesSpare g i (a ++ b) (with_elements (with_elements g p a) 0 b)
+    wrapping_twice i p a b le full some at =
+        let s = spare_law i p a (omega (arith, le)) (omega (arith, full)) at in
+        let w = with_elements g p a in
+        let long = length-overwrite g.storage p a in
+        let next : IsStorageIndex (capacity g) g.read_at (g.count + (i + length a)) 0 = elim at [
+          | inl h ↦ inr (omega (arith, h.0, h.1, full, read_at_le g wf), omega (arith, h.0, h.1, full, read_at_le g wf))
+          | inr h ↦ absurd (omega (arith, h.0, h.1, full, le, some, read_at_le g wf, wf.1))
+        ] in
+        let t = spare-written w (written_wf p a) (i + length a) 0 b (omega (arith, long, le)) (omega (arith, long, le, wf.1))
+        (subst (λ (n : ℕ). IsStorageIndex n g.read_at (g.count + (i + length a)) 0) (sym long) next) in
+        (t.0 ∙ s.0, t.1 ∙ ap (λ (l : List T). overwrite l (i + length a) b) s.1 ∙ overwrite_twice (spare g) a b i (omega (arith, le, length-spare g wf)), refl)
+
+    pub wrapping_law : (i p : ℕ) (ws : List T) → i + length ws ≤ window g → p ≤ capacity g
+        → IsStorageIndex (capacity g) g.read_at (g.count + i) p → WritesSpare g i ws (with_elements_wrapping g p ws)
+    wrapping_law i p ws le within at = elim (cases_lt (length g.storage - p) (length ws)) [
+      | inr once ↦ wrapping_once i p ws le (omega (arith, once, within)) at
+      | inl past ↦
+          let m : ℕ = length g.storage - p in
+          let n : m ≡ min (length ws) (length g.storage - p) = omega (arith, past) in
+          let la : length (take m ws) ≡ m = length-take-le m ws (omega (arith, past)) in
+          let lb : length (drop m ws) ≡ length ws - m = length-drop m ws in
+          let two = wrapping_twice i p (take m ws) (drop m ws) (omega (arith, le, la, lb, past)) (omega (arith, la, within)) (omega (arith, lb, past)) at in
+          let same : with_elements (with_elements g p (take m ws)) 0 (drop m ws) ≡ with_elements_wrapping g p ws =
+          ap (λ b. ring b g.read_at g.count) (wrapping_is g.storage ws p m within n) in
+          subst (WritesSpare g i ws) same
+          (subst (λ (l : List T). WritesSpare g i l (with_elements (with_elements g p (take m ws)) 0 (drop m ws))) (take-append-drop m ws) two)
+    ]
+
+    -- ---- an index that is found within the window, or within the queue
+    pub spare_at : (i : ℕ) → i ≤ window g → IsStorageIndex (capacity g) g.read_at (g.count + i) (spare_index g i)
+    spare_at i le =
+        let same : g.count + min i (window g) ≡ g.count + i = omega (arith, le) in
+        subst (λ (j : ℕ). IsStorageIndex (capacity g) g.read_at j (spare_index g i)) same (storage_index_is g (g.count + min i (window g)))
+
+    pub queue_at : (i : ℕ) → i ≤ g.count → IsStorageIndex (capacity g) g.read_at i (queue_index g i)
+    queue_at i le =
+        let same : min i g.count ≡ i = omega (arith, le) in
+        subst (λ (j : ℕ). IsStorageIndex (capacity g) g.read_at j (queue_index g i)) same (storage_index_is g (min i g.count))
+
+    spare_index_le : (i : ℕ) → spare_index g i ≤ capacity g
+    spare_index_le i = storage_index_le (g.count + min i (window g)) (omega (arith, wf.1))
+
+    queue_index_le : (i : ℕ) → queue_index g i ≤ capacity g
+    queue_index_le i = storage_index_le (min i g.count) (omega (arith, wf.1))
+
+    pub spare_part_value : (i n : ℕ)
+        → take (contiguous_window_from g i n) (drop (spare_index g i) g.storage) ≡ take (contiguous_window_from g i n) (drop i (spare g))
+    spare_part_value i n = elim (cases_lt (window g) i) [
+      | inr h ↦ spare_value i (contiguous_window_from g i n) (spare_index g i) (omega (arith, h)) (omega (arith, spare_index_le i)) (spare_at i h)
+      | inl h ↦ let none : contiguous_window_from g i n ≡ 0 = omega (arith, h) in ap (λ (k : ℕ). take k (drop (spare_index g i) g.storage))
+          none ∙ sym (ap (λ (k : ℕ). take k (drop i (spare g))) none)
+    ]
+
+    pub queue_part_value : (i n : ℕ)
+        → take (contiguous_queued_from g i n) (drop (queue_index g i) g.storage) ≡ take (contiguous_queued_from g i n) (drop i (queue g))
+    queue_part_value i n = elim (cases_lt g.count i) [
+      | inr h ↦ queue_value i (contiguous_queued_from g i n) (queue_index g i) (omega (arith, h)) (omega (arith, queue_index_le i)) (queue_at i h)
+      | inl h ↦ let none : contiguous_queued_from g i n ≡ 0 = omega (arith, h) in ap (λ (k : ℕ). take k (drop (queue_index g i) g.storage))
+          none ∙ sym (ap (λ (k : ℕ). take k (drop i (queue g))) none)
+    ]
+
+    nothing_spare : (i p : ℕ) → WritesSpare g i [] (with_elements g p [])
+    nothing_spare i p =
+        let still : with_elements g p [] ≡ g = ap (λ b. ring b g.read_at g.count) (overwrite_none g.storage p) in
+        subst (WritesSpare g i []) (sym still) (refl, sym (overwrite_none (spare g) i), refl)
+
+    nothing_in_queue : (i p : ℕ) → WritesQueue g i [] (with_elements g p [])
+    nothing_in_queue i p =
+        let still : with_elements g p [] ≡ g = ap (λ b. ring b g.read_at g.count) (overwrite_none g.storage p) in
+        subst (WritesQueue g i []) (sym still) (sym (overwrite_none (queue g) i), refl, refl)
+
+    pub spare_part_law : (i n : ℕ) (ws : List T) → length ws ≡ contiguous_window_from g i n → WritesSpare g i ws (with_elements g (spare_index g i) ws)
+    spare_part_law i n ws e = elim (cases_lt (window g) i) [
+      | inr h ↦ spare_law i (spare_index g i) ws (omega (arith, h, e)) (omega (arith, e, spare_index_le i)) (spare_at i h)
+      | inl h ↦ let none : ws ≡ [] = nil_from_length ws (omega (arith, e, h)) in subst
+          (λ (l : List T). WritesSpare g i l (with_elements g (spare_index g i) l)) (sym none) (nothing_spare i (spare_index g i))
+    ]
+
+    pub queue_part_law : (i n : ℕ) (ws : List T) → length ws ≡ contiguous_queued_from g i n → WritesQueue g i ws (with_elements g (queue_index g i) ws)
+    queue_part_law i n ws e = elim (cases_lt g.count i) [
+      | inr h ↦ queue_law i (queue_index g i) ws (omega (arith, h, e)) (omega (arith, e, queue_index_le i)) (queue_at i h)
+      | inl h ↦ let none : ws ≡ [] = nil_from_length ws (omega (arith, e, h)) in subst
+          (λ (l : List T). WritesQueue g i l (with_elements g (queue_index g i) l)) (sym none) (nothing_in_queue i (queue_index g i))
+    ]
+
+    -- the clause of `write_unallocated`
+    pub wrapping_at : (i : ℕ) (ws : List T) → length ws ≤ window g - i → WritesSpare g i ws (with_elements_wrapping g (spare_index g i) ws)
+    wrapping_at i ws le = elim (cases_lt (window g) i) [
+      | inr h ↦ wrapping_law i (spare_index g i) ws (omega (arith, h, le)) (spare_index_le i) (spare_at i h)
+      | inl h ↦
+          let none : ws ≡ [] = nil_from_length ws (omega (arith, le, h)) in
+          let p = spare_index g i in
+          let nothing : drop (length g.storage - p) [] ≡ [] = drop_all (length g.storage - p) [] (omega arith) in
+          let still : with_elements_wrapping g p [] ≡ with_elements g p [] = ap (λ l. with_elements (with_elements g p []) 0 l) nothing
+          ∙ ap (λ b. ring b g.read_at g.count) (overwrite_none (overwrite g.storage p []) 0) in
+          subst (λ (l : List T). WritesSpare g i l (with_elements_wrapping g p l)) (sym none) (subst (WritesSpare g i []) (sym still) (nothing_spare i p))
+    ]
+
+    -- ---- one element
+    pub read_fits : g.count ≢ 0 → g.read_at < capacity g
+    read_fits h = elim wf.0 [ inl e ↦ omega (arith, e, wf.1, h) | inr l ↦ omega (arith, l) ]
+
+    pub write_fits : window g ≢ 0 → write_at g < capacity g
+    write_fits h = elim (storage_index_is g g.count) [ inl p ↦ omega (arith, p.0, p.1, wf.1, h) | inr p ↦ omega (arith, p.0, p.1, wf.1, h, read_at_le g wf) ]
+
+    pub queue_head : (x : T) → x ≡ get_or g.storage g.read_at x → g.count ≢ 0 → queue g ≡ x ∷ drop 1 (queue g)
+    queue_head x e h =
+        let fits = read_fits h in
+        first_of (queue g) x (sym (take_one g.storage g.read_at x fits e) ∙ queue_value 0 1 g.read_at (omega (arith, h)) (omega (arith, fits)) read_index_is)
+
+    pub spare_head : (x : T) → x ≡ get_or g.storage (write_at g) x → window g ≢ 0 → spare g ≡ x ∷ drop 1 (spare g)
+    spare_head x e h =
+        let fits = write_fits h in
+        first_of (spare g) x (sym (take_one g.storage (write_at g) x fits e)
+        ∙ spare_value 0 1 (write_at g) (omega (arith, h)) (omega (arith, fits)) write_index_is)
+
+    pub enqueued_one : (w : T) → window g ≢ 0 → Enqueues g (w ∷ []) (with_elements (with_enqueued 1 g) (write_at g) (w ∷ []))
+    enqueued_one w h = enqueued_law 1 (omega (arith, write_fits h, h)) (w ∷ []) refl
+
+    pub dequeued_one : (w : T) → g.count ≢ 0 → Dequeues g 1 (w ∷ []) (with_elements (with_dequeued 1 g) g.read_at (w ∷ []))
+    dequeued_one w h = dequeued_law 1 (omega (arith, read_fits h, h)) (w ∷ []) refl
+
+    pub next_written : (w : T) → window g ≢ 0 → WritesSpare g 0 (w ∷ []) (with_elements g (write_at g) (w ∷ []))
+    next_written w h = spare_law 0 (write_at g) (w ∷ []) (omega (arith, h)) (omega (arith, write_fits h)) write_index_is
+
+    pub head_written : (w : T) → g.count ≢ 0 → WritesQueue g 0 (w ∷ []) (with_elements g g.read_at (w ∷ []))
+    head_written w h = queue_law 0 g.read_at (w ∷ []) (omega (arith, h)) (omega (arith, read_fits h)) read_index_is
+
+    -- what a closure that was run on the next free element leaves, by its answer
+    pub next_either : {A E : Type 0} (w : T) → window g ≢ 0 → (answer : Result A E) (h : RingState T)
+        → h ≡ with_elements (if is_ok answer then with_enqueued 1 g else g) (write_at g) (w ∷ [])
+        → (IsOk answer → Enqueues g (w ∷ []) h) × (IsErr answer → WritesSpare g 0 (w ∷ []) h)
+    next_either w some (Ok x) h e = (λ _. subst (Enqueues g (w ∷ [])) (sym e) (enqueued_one w some), λ no. absurd (false≢true no))
+    next_either w some (Err x) h e = (λ no. absurd (false≢true no), λ _. subst (WritesSpare g 0 (w ∷ [])) (sym e) (next_written w some))
+
+    -- and on the first element of the queue
+    pub head_either : {A E : Type 0} (w : T) → g.count ≢ 0 → (answer : Result A E) (h : RingState T)
+        → h ≡ with_elements (if is_ok answer then with_dequeued 1 g else g) g.read_at (w ∷ [])
+        → (IsOk answer → Dequeues g 1 (w ∷ []) h) × (IsErr answer → WritesQueue g 0 (w ∷ []) h)
+    head_either w some (Ok x) h e = (λ _. subst (Dequeues g 1 (w ∷ [])) (sym e) (dequeued_one w some), λ no. absurd (false≢true no))
+    head_either w some (Err x) h e = (λ no. absurd (false≢true no), λ _. subst (WritesQueue g 0 (w ∷ [])) (sym e) (head_written w some))
+
+  -- ---- clauses that a call proves of the fields' ring v, said of the caller's ring g
+  module _ (v g : RingState T) (is : v ≡ g) (wf' : IsWellFormed v) where
+    pub well : IsWellFormed g
+    well = subst IsWellFormed is wf'
+
+    -- one write leaves the ring well-formed
+    pub once_wf : (p : ℕ) (a st : List T) → st ≡ overwrite v.storage p a → IsWellFormed (ring st v.read_at v.count)
+    once_wf p a st e = subst (λ l. IsWellFormed (ring l v.read_at v.count)) (sym e) (written_wf v wf' p a)
+
+    -- so does a write to the queue after which elements were dequeued
+    pub off_wf : (k p m : ℕ) (a st : List T) → p ≡ storage_index g k → k ≤ capacity g → m ≤ v.count
+        → st ≡ overwrite v.storage v.read_at a → IsWellFormed (ring st p m)
+    off_wf k p m a st ep le few e =
+        let long : length st ≡ length v.storage = ap length e ∙ length-overwrite v.storage v.read_at a in
+        let size : length v.storage ≡ length g.storage = ap (λ o. length o.storage) is in
+        let at : (p ≡ 0) ⊎ (p < length st) = elim (storage_index_is g k) [
+          | inl h ↦ inr (omega (arith, ep, h.0, h.1, long, size))
+          | inr h ↦ elim (well).0 [ inl z ↦ inl (omega (arith, ep, h.0, h.1, z, le)) | inr l ↦ inr (omega (arith, ep, h.0, h.1, l, le, long, size)) ]
+        ] in
+        (at, omega (arith, few, wf'.1, long))
+
+    -- and one after which elements were enqueued
+    pub in_wf : (p n : ℕ) (a st : List T) → n ≤ window g → st ≡ overwrite v.storage p a → IsWellFormed (ring st v.read_at (v.count + n))
+    in_wf p n a st le e =
+        let w = once_wf p a st e in
+        let long : length st ≡ length v.storage = ap length e ∙ length-overwrite v.storage p a in
+        (w.0, omega (arith, wf'.1, long, ap (λ o. o.count) is, ap (λ o. length o.storage) is, le))
+
+    -- an index that is found after a write
+    pub storage_index_after : (n p q : ℕ) (a st : List T) → st ≡ overwrite v.storage q a
+        → p ≡ storage_index (ring st v.read_at v.count) n → p ≡ storage_index g n
+    storage_index_after n p q a st e ep =
+        let long : length st ≡ length g.storage = ap length e ∙ length-overwrite v.storage q a ∙ ap (λ o. length o.storage) is in
+        ep ∙ ap₂ (λ m r. if nat_lt n (m - r) then r + n else n - (m - r)) long (ap (λ o. o.read_at) is)
+
+    same_count : v.count ≡ g.count
+    same_count = ap (λ o. o.count) is
+
+    same_storage : v.storage ≡ g.storage
+    same_storage = ap (λ o. o.storage) is
+
+    -- `write_unallocated`: a is written from the index p on, and the rest of the data at the beginning
+    pub wrapping_clause : (i n p k : ℕ) (src a b st : List T) → n ≡ min (length src) (window g - i) → p ≡ spare_index g i → k ≡ min n (capacity g - p)
+        → a ≡ take k src → b ≡ take (n - k) (drop k src) → st ≡ overwrite (overwrite v.storage p a) 0 b
+        → ring st v.read_at v.count ≡ with_elements_wrapping g (spare_index g i) (take n src)
+    wrapping_clause i n p k src a b st en at ek ea eb es =
+        let ws : List T = take n src in
+        let long : length ws ≡ n = length-take-le n src (omega (arith, en)) in
+        let within : p ≤ capacity g = omega (arith, at, spare_index_le g well i) in
+        let one : a ≡ take k ws = ea ∙ sym (take-take k n src (omega (arith, ek))) in
+        let two : b ≡ drop k ws = eb ∙ sym (drop-take k (n - k) src) ∙ ap (λ (m : ℕ). drop k (take m src)) (omega (arith, ek)) in
+        let parts : st ≡ overwrite (overwrite g.storage p (take k ws)) 0 (drop k ws) = es
+        ∙ ap₂ (λ x y. overwrite (overwrite v.storage p x) 0 y) one two ∙ ap (λ l. overwrite (overwrite l p (take k ws)) 0 (drop k ws)) same_storage in
+        let all : st ≡ overwrite (overwrite g.storage p ws) 0 (drop (length g.storage - p) ws) = parts
+        ∙ wrapping_is g.storage ws p k within (omega (arith, ek, long)) in
+        ap (λ l. ring l v.read_at v.count) all
+        ∙ ap (λ o. ring (overwrite (overwrite g.storage p ws) 0 (drop (length g.storage - p) ws)) o.read_at o.count) is
+        ∙ ap (λ q. with_elements_wrapping g q ws) at
+
+    -- the same where all of the data comes before the storage's end
+    pub once_clause : (i n p k : ℕ) (src a st : List T) → n ≡ min (length src) (window g - i) → p ≡ spare_index g i → k ≡ min n (capacity g - p) → n ≤ k
+        → a ≡ take k src → st ≡ overwrite v.storage p a
+        → ring st v.read_at v.count ≡ with_elements_wrapping g (spare_index g i) (take n src)
+    once_clause i n p k src a st en at ek le ea es =
+        let none : n - k ≡ 0 = omega (arith, le) in
+        wrapping_clause i n p k src a [] st en at ek ea (sym (ap (λ (m : ℕ). take m (drop k src)) none)) (es ∙ sym (overwrite_none (overwrite v.storage p a) 0))
+
+    -- and what it leaves of the two parts
+    pub ahead_clause : (i n : ℕ) (src : List T) (h : RingState T) → n ≡ min (length src) (window g - i)
+        → h ≡ with_elements_wrapping g (spare_index g i) (take n src) → WritesSpare g i (take n src) h
+    ahead_clause i n src h en e =
+        subst (WritesSpare g i (take n src)) (sym e) (wrapping_at g well i (take n src) (omega (arith, en, length-take-le n src (omega (arith, en)))))
+
+    -- two writes leave the ring well-formed
+    pub twice_wf : (p q : ℕ) (a b st : List T) → st ≡ overwrite (overwrite v.storage p a) q b → IsWellFormed (ring st v.read_at v.count)
+    twice_wf p q a b st e = subst (λ l. IsWellFormed (ring l v.read_at v.count)) (sym e) (written_wf (with_elements v p a) (written_wf v wf' p a) q b)
+
+    pub read_on : (o n p k : ℕ) (b : List T) → n ≤ g.count - o → o ≤ g.count → p ≡ storage_index g o → k ≡ min n (capacity g - p)
+        → b ≡ take (n - k) g.storage → b ≡ take (n - k) (drop k (drop o (queue g)))
+    read_on o n p k b le lo ep ek eb = elim (cases_lt k n) [
+      | inl more ↦
+          let within = storage_index_le g well o (omega (arith, lo, (well).1)) in
+          let at : IsStorageIndex (capacity g) g.read_at o p = subst (IsStorageIndex (capacity g) g.read_at o) (sym ep) (storage_index_is g o) in
+          let full : p + k ≡ capacity g = omega (arith, ek, more, within, ep) in
+          let next : IsStorageIndex (capacity g) g.read_at (o + k) 0 = elim at [
+            | inl h ↦ inr (omega (arith, h.0, h.1, full, read_at_le g well), omega (arith, h.0, h.1, full, read_at_le g well))
+            | inr h ↦ absurd (omega (arith, h.0, h.1, full, more, le, read_at_le g well, (well).1))
+          ] in
+          eb ∙ queue_value g well (o + k) (n - k) 0 (omega (arith, more, le)) (omega (arith, le, (well).1)) next
+          ∙ ap (take (n - k)) (sym (drop-drop k o (queue g)))
+      | inr none ↦
+          let y : n - k ≡ 0 = omega (arith, none) in
+          eb ∙ ap (λ (j : ℕ). take j g.storage) y ∙ sym (ap (λ (j : ℕ). take j (drop k (drop o (queue g)))) y)
+    ]
+
+    clamped : (i o n : ℕ) → o ≡ min i g.count → n ≤ g.count - o → take n (drop o (queue g)) ≡ take n (drop i (queue g))
+    clamped i o n eo le = elim (cases_lt g.count i) [
+      | inr h ↦ let same : o ≡ i = omega (arith, eo, h) in ap (λ (j : ℕ). take n (drop j (queue g))) same
+      | inl h ↦ let none : n ≡ 0 = omega (arith, eo, h, le) in ap (λ (j : ℕ). take j (drop o (queue g))) none ∙ sym
+          (ap (λ (j : ℕ). take j (drop i (queue g))) none)
+    ]
+
+    -- what is read from the index p on, up to the storage's end
+    read_first : (o n p k l : ℕ) (a : List T) → l ≡ k → n ≤ g.count - o → o ≤ g.count → p ≡ storage_index g o
+        → k ≡ min n (capacity g - p) → a ≡ take l (drop p v.storage)
+        → (length a ≡ k) × (a ≡ take k (drop o (queue g)))
+    read_first o n p k l a el le lo ep ek ea =
+        let within : p ≤ capacity g = omega (arith, ep, storage_index_le g well o (omega (arith, lo, (well).1))) in
+        let at : IsStorageIndex (capacity g) g.read_at o p = subst (IsStorageIndex (capacity g) g.read_at o) (sym ep) (storage_index_is g o) in
+        let r = part_is g.storage p l k el (omega (arith, ek, within)) a (ea ∙ ap (λ s. take l (drop p s)) same_storage) in
+        (r.0, r.1 ∙ queue_value g well o k p (omega (arith, ek, le, lo)) (omega (arith, ek, within)) at)
+
+    -- `read_allocated`: a is read from the index p on, and the rest of what is read at the beginning
+    pub read_clause : (i n p k l : ℕ) (to a b : List T) → l ≡ k → n ≤ g.count - i → p ≡ queue_index g i → k ≡ min n (capacity g - p)
+        → a ≡ take l (drop p v.storage) → b ≡ take (n - k) v.storage
+        → take k (a ++ drop k to) ++ (b ++ drop (n - k) (drop k (a ++ drop k to))) ≡ take n (drop i (queue g)) ++ drop n to
+    read_clause i n p k l to a b el le ep ek ea eb =
+        let o : ℕ = min i g.count in
+        let lo : o ≤ g.count = omega arith in
+        let few : n ≤ g.count - o = omega (arith, le) in
+        let r = read_first o n p k l a el few lo ep ek ea in
+        let two : b ≡ take (n - k) (drop k (drop o (queue g))) = read_on o n p k b few lo ep ek (eb ∙ ap (take (n - k)) same_storage) in
+        let m : k + (n - k) ≡ n = omega (arith, ek) in
+        let both : a ++ b ≡ take n (drop i (queue g)) = ap₂ ◌++◌ r.1 two ∙ sym (take_sum k (n - k) (drop o (queue g)))
+        ∙ ap (λ (j : ℕ). take j (drop o (queue g))) m ∙ clamped i o n refl few in
+        let rest : drop (n - k) (drop k (a ++ drop k to)) ≡ drop n to = ap (drop (n - k)) (drop_at a (drop k to) k r.0)
+        ∙ drop-drop (n - k) k to ∙ ap (λ (j : ℕ). drop j to) m in
+        ap₂ ◌++◌ (take_at a (drop k to) k r.0) (ap (λ (l : List T). b ++ l) rest) ∙ sym (append_assoc a b (drop n to))
+        ∙ ap (λ (l : List T). l ++ drop n to) both
+
+    -- the same where all of it comes before the storage's end
+    pub read_once_clause : (i n p k l : ℕ) (to a : List T) → l ≡ k → n ≤ g.count - i → p ≡ queue_index g i → k ≡ min n (capacity g - p) → n ≤ k
+        → a ≡ take l (drop p v.storage) → a ++ drop k to ≡ take n (drop i (queue g)) ++ drop n to
+    read_once_clause i n p k l to a el le ep ek all ea =
+        let o : ℕ = min i g.count in
+        let few : n ≤ g.count - o = omega (arith, le) in
+        let r = read_first o n p k l a el few (omega arith) ep ek ea in
+        let m : k ≡ n = omega (arith, ek, all) in
+        ap (λ (l : List T). l ++ drop k to) r.1 ∙ ap (λ (j : ℕ). take j (drop o (queue g)) ++ drop j to) m
+        ∙ ap (λ (l : List T). l ++ drop n to) (clamped i o n refl few)
+
+    -- ---- elements that are enqueued or dequeued, and none that is written
+    pub with_enqueued_is : (k m : ℕ) → k ≡ m → ring v.storage v.read_at (v.count + k) ≡ with_enqueued m g
+    with_enqueued_is k m ek = ap (with_enqueued k) is ∙ ap (λ n. with_enqueued n g) ek
+
+    pub with_dequeued_is : (k m p : ℕ) → k ≡ m → p ≡ storage_index g m → ring v.storage p (v.count - k) ≡ with_dequeued m g
+    with_dequeued_is k m p ek ep = ap (λ o. ring o.storage p (o.count - k)) is ∙ ap₂ (λ j n. ring g.storage j (g.count - n)) ep ek
+
+    -- ---- what stays once a part that was lent comes back as w
+    pub left_at : (p q : ℕ) → p ≡ q → (st w : List T) → st ≡ overwrite v.storage p w → ring st v.read_at v.count ≡ with_elements g q w
+    left_at p q ep st w e = ap (λ b. ring b v.read_at v.count) e ∙ ap (λ o. with_elements o p w) is ∙ ap (λ j. with_elements g j w) ep
+
+    pub left_in : (k m p : ℕ) → k ≡ m → p ≡ write_at g → (st w : List T) → st ≡ overwrite v.storage p w
+        → ring st v.read_at (v.count + k) ≡ with_elements (with_enqueued m g) (write_at g) w
+    left_in k m p ek ep st w e = ap (λ b. ring b v.read_at (v.count + k)) e ∙ ap (λ o. with_elements (with_enqueued k o) p w) is
+        ∙ ap₂ (λ i j. with_elements (with_enqueued i g) j w) ek ep
+
+    pub left_off : (k m p : ℕ) → k ≡ m → p ≡ storage_index g k → (st w : List T) → st ≡ overwrite v.storage v.read_at w
+        → ring st p (v.count - k) ≡ with_elements (with_dequeued m g) g.read_at w
+    left_off k m p ek ep st w e =
+        ap (λ b. ring b p (v.count - k)) e ∙ ap (λ o. ring (overwrite o.storage o.read_at w) p (o.count - k)) is
+        ∙ ap (λ j. ring (overwrite g.storage g.read_at w) j (g.count - k)) ep
+        ∙ ap (λ i. with_elements (with_dequeued i g) g.read_at w) ek
+
+    -- ---- what a part that is lent or shown holds, at first: m elements from the index p on
+    shown : (p m k : ℕ) → m ≡ k → p + k ≤ capacity g → (now : List T) → now ≡ take m (drop p v.storage) → (length now ≡ k) × (now ≡ take k (drop p g.storage))
+    shown p m k em le now e = part_is g.storage p m k em le now (e ∙ ap (λ l. take m (drop p l)) same_storage)
+
+    pub shown_spare : (i n p m : ℕ) → p ≡ spare_index g i → m ≡ contiguous_window_from g i n → (now : List T) → now ≡ take m (drop p v.storage)
+        → (length now ≡ contiguous_window_from g i n) × (now ≡ take (length now) (drop i (spare g)))
+        × (now ≡ take (length now) (drop (spare_index g i) g.storage))
+    shown_spare i n p m ep em now e =
+        let r = shown p m (contiguous_window_from g i n) em (omega (arith, ep, spare_index_le g well i)) now e in
+        let stored : now ≡ take (contiguous_window_from g i n) (drop (spare_index g i) g.storage) = r.1
+        ∙ ap (λ q. take (contiguous_window_from g i n) (drop q g.storage)) ep in (
+          r.0,
+          stored ∙ spare_part_value g well i n ∙ ap (λ j. take j (drop i (spare g))) (sym r.0),
+          stored
+              ∙ ap (λ j. take j (drop (spare_index g i) g.storage)) (sym r.0),
+        )
+
+    -- the last k spare elements, as they are shown from the index p on, and where p is
+    pub shown_freed : (k p m : ℕ) → k ≤ capacity g → freed_index g k + k ≤ capacity g → p ≡ freed_index g k → m ≡ k
+        → (now : List T) → now ≡ take m (drop p v.storage)
+        → (length now ≡ k) × (now ≡ take k (drop (freed_index g k) g.storage))
+    shown_freed k p m le fits ep em now e =
+        let r = shown p m k em (omega (arith, ep, fits)) now e in
+        (r.0, r.1 ∙ ap (λ q. take k (drop q g.storage)) ep)
+
+    pub freed_before : (k : ℕ) → k ≤ capacity g → k ≤ v.read_at → v.read_at - k ≡ freed_index g k
+    freed_before k le h =
+        let r = ap (λ o. o.read_at) is in
+        elim (storage_index_is g (capacity g - k)) [ inl i ↦ omega (arith, r, i.0, i.1) | inr i ↦ omega (arith, r, i.0, i.1, read_at_le g well) ]
+
+    pub freed_round : (k : ℕ) → k ≤ capacity g → v.read_at < k → capacity v - (k - v.read_at) ≡ freed_index g k
+    freed_round k le h =
+        let r = ap (λ o. o.read_at) is in
+        let n = ap (λ o. capacity o) is in
+        elim (storage_index_is g (capacity g - k)) [ inl i ↦ omega (arith, r, n, i.0, i.1) | inr i ↦ omega (arith, r, n, i.0, i.1) ]
+
+    pub shown_in_queue : (i n p m : ℕ) → p ≡ queue_index g i → m ≡ contiguous_queued_from g i n → (now : List T) → now ≡ take m (drop p v.storage)
+        → (length now ≡ contiguous_queued_from g i n) × (now ≡ take (length now) (drop i (queue g)))
+        × (now ≡ take (length now) (drop (queue_index g i) g.storage))
+    shown_in_queue i n p m ep em now e =
+        let r = shown p m (contiguous_queued_from g i n) em (omega (arith, ep, queue_index_le g well i)) now e in
+        let stored : now ≡ take (contiguous_queued_from g i n) (drop (queue_index g i) g.storage) = r.1
+        ∙ ap (λ q. take (contiguous_queued_from g i n) (drop q g.storage)) ep in (
+          r.0,
+          stored ∙ queue_part_value g well i n ∙ ap (λ j. take j (drop i (queue g))) (sym r.0),
+          stored
+              ∙ ap (λ j. take j (drop (queue_index g i) g.storage)) (sym r.0),
+        )
+
+    pub shown_next : (p m k : ℕ) → p ≡ write_at g → m ≡ k → k ≤ contiguous_window g → (now : List T) → now ≡ take m (drop p v.storage)
+        → (length now ≡ k) × (now ≡ take (length now) (spare g)) × (now ≡ take (length now) (drop (write_at g) g.storage))
+    shown_next p m k ep em le now e =
+        let fits : write_at g + k ≤ capacity g = omega (arith, le, storage_index_le g well g.count (well).1) in
+        let r = shown p m k em (omega (arith, ep, fits)) now e in
+        let stored : now ≡ take k (drop (write_at g) g.storage) = r.1 ∙ ap (λ q. take k (drop q g.storage)) ep in (
+          r.0,
+          stored ∙ spare_value g well 0 k (write_at g) (omega (arith, le)) fits (write_index_is g well)
+              ∙ ap (λ j. take j (spare g)) (sym r.0),
+          stored ∙ ap (λ j. take j (drop (write_at g) g.storage)) (sym r.0),
+        )
+
+    pub shown_head : (p m k : ℕ) → p ≡ g.read_at → m ≡ k → k ≤ contiguous_queued g → (now : List T) → now ≡ take m (drop p v.storage)
+        → (length now ≡ k) × (now ≡ take (length now) (queue g)) × (now ≡ take (length now) (drop g.read_at g.storage))
+    shown_head p m k ep em le now e =
+        let fits : g.read_at + k ≤ capacity g = omega (arith, le, read_at_le g well) in
+        let r = shown p m k em (omega (arith, ep, fits)) now e in
+        let stored : now ≡ take k (drop g.read_at g.storage) = r.1 ∙ ap (λ q. take k (drop q g.storage)) ep in (
+          r.0,
+          stored ∙ queue_value g well 0 k g.read_at (omega (arith, le)) fits (read_index_is g well)
+              ∙ ap (λ j. take j (queue g)) (sym r.0),
+          stored ∙ ap (λ j. take j (drop g.read_at g.storage)) (sym r.0),
+        )
+
+    -- the contiguous free elements, and the contiguous ones at the head of the queue
+    pub lent_next : (p m : ℕ) → p ≡ write_at g → m ≡ contiguous_window g → (now : List T) → now ≡ take m (drop p v.storage)
+        → (now ≡ take (contiguous_window g) (spare g)) × (length now ≡ contiguous_window g)
+    lent_next p m ep em now e =
+        let all = shown_next p m (contiguous_window g) ep em (omega arith) now e in
+        (all.1 ∙ ap (λ j. take j (spare g)) all.0, all.0)
+
+    pub lent_head : (p m : ℕ) → p ≡ g.read_at → m ≡ contiguous_queued g → (now : List T) → now ≡ take m (drop p v.storage)
+        → (now ≡ take (contiguous_queued g) (queue g)) × (length now ≡ contiguous_queued g)
+    lent_head p m ep em now e =
+        let all = shown_head p m (contiguous_queued g) ep em (omega arith) now e in
+        (all.1 ∙ ap (λ j. take j (queue g)) all.0, all.0)
+
+    -- and what stays of them, n of the elements w being enqueued, or dequeued
+    pub left_in_from : (k n p : ℕ) → k ≡ n → p ≡ write_at g → (st w : List T) → st ≡ overwrite v.storage p w
+        → length w ≡ contiguous_window g → n ≤ contiguous_window g
+        → (ring st v.read_at (v.count + k) ≡ with_elements (with_enqueued n g) (write_at g) w) × EnqueuesFrom g n w (ring st v.read_at (v.count + k))
+    left_in_from k n p ek ep st w e long le =
+        let exact = left_in k n p ek ep st w e in
+        (exact, subst (EnqueuesFrom g n w) (sym exact) (enqueued_from g well n w (omega (arith, long, le)) (omega (arith, long))))
+
+    pub left_off_from : (k n p : ℕ) → k ≡ n → p ≡ storage_index g n → (st w : List T) → st ≡ overwrite v.storage v.read_at w
+        → length w ≡ contiguous_queued g → n ≤ contiguous_queued g
+        → (ring st p (v.count - k) ≡ with_elements (with_dequeued n g) g.read_at w) × DequeuesFrom g n w (ring st p (v.count - k))
+    left_off_from k n p ek ep st w e long le =
+        let exact = left_off k n p ek (ep ∙ ap (storage_index g) (sym ek)) st w e in
+        (exact, subst (DequeuesFrom g n w) (sym exact) (dequeued_from g well n w (omega (arith, long, le)) (omega (arith, long))))
+
+  -- `enqueue_slice`: a write to the beginning of the spare part of r, which is then enqueued
+  pub enqueue_clause : (r g w h : RingState T) (ws : List T) (n : ℕ) → r ≡ g → WritesSpare r 0 ws w → h ≡ with_enqueued n w
+      → length ws ≡ n → n ≤ window g → Enqueues g ws h
+  enqueue_clause r g w h ws n is s e l le =
+      let t = subst (λ (o : RingState T). WritesSpare o 0 ws w) is s in
+      let long : length (spare g) ≡ window g = omega (arith, length-drop g.count (rotation g.storage g.read_at), length-rotation g.storage g.read_at) in
+      let f = overwrite_head (spare g) ws n (omega (arith, l)) (omega (arith, l, long, le)) in
+      let q : queue (with_enqueued n w) ≡ queue g ++ ws = take_sum w.count n (rotation w.storage w.read_at)
+      ∙ ap₂ ◌++◌ t.0 (ap (take n) t.1 ∙ f.0 ∙ take_all n ws (omega (arith, l))) in
+      let p : spare (with_enqueued n w) ≡ drop (length ws) (spare g) = sym (drop-drop n w.count (rotation w.storage w.read_at))
+      ∙ ap (drop n) t.1 ∙ ap (λ i. drop i (overwrite (spare g) 0 ws)) (sym l) ∙ f.1 in
+      subst (Enqueues g ws) (sym e) (q, p, t.2)
+
+  -- ---- laws
+  pub restarted_is : (g : RingState T) → (queue (from_start_if_empty g) ≡ queue g) × ((from_start_if_empty g).count ≡ g.count)
+      × ((from_start_if_empty g).storage ≡ g.storage)
+  restarted_is g = elim (cases_lt 0 g.count) [
+    | inl h ↦ let e : from_start_if_empty g ≡ g = ap (λ t. if t then ring g.storage 0 0 else g) (ne_eqb g.count 0 (omega (arith, h)))
+        in (ap (λ o. queue o) e, ap (λ o. o.count) e, ap (λ o. o.storage) e)
+    | inr h ↦
+        let z : g.count ≡ 0 = omega (arith, h) in
+        let e : from_start_if_empty g ≡ ring g.storage 0 0 = ap (λ t. if t then ring g.storage 0 0 else g) (eq-eqb g.count 0 z) in
+        (ap (λ o. queue o) e ∙ sym (ap (λ n. take n (rotation g.storage g.read_at)) z), ap (λ o. o.count) e ∙ sym z, ap (λ o. o.storage) e)
+  ]
+
+  -- the storage, from the rotated list
+  abbrev back : List T → ℕ → List T
+  back l r = drop (length l - r) l ++ take (length l - r) l
+
+  back_is : (g : RingState T) → IsWellFormed g → g.storage ≡ back (queue g ++ spare g) g.read_at
+  back_is g wf =
+      let r = g.read_at in
+      let b = g.storage in
+      let n : length (rotation b r) - r ≡ length (drop r b) = omega (arith, length-rotation b r, length-drop r b) in
+      let e : back (rotation b r) r ≡ take r b ++ drop r b = ap (λ (m : ℕ). drop m (rotation b r) ++ take m (rotation b r)) n
+      ∙ ap₂ ◌++◌ (drop_at (drop r b) (take r b) (length (drop r b)) refl) (take_at (drop r b) (take r b) (length (drop r b)) refl) in
+      sym (ap (λ l. back l r) (sym (whole g wf)) ∙ e ∙ take-append-drop r b)
+
+  pub parts_are : (g h : RingState T) → IsWellFormed g → IsWellFormed h → g.read_at ≡ h.read_at → queue g ≡ queue h → spare g ≡ spare h → g ≡ h
+  parts_are g h wg wh er eq es =
+      let n : g.count ≡ h.count = sym (length-queue g wg) ∙ ap length eq ∙ length-queue h wh in
+      let b : g.storage ≡ h.storage = back_is g wg ∙ ap₂ (λ l r. back l r) (ap₂ ◌++◌ eq es) er ∙ sym (back_is h wh) in
+      ring_is g h b er n
+
+-- a ring with an empty queue is read from the storage's beginning on, and any other is as it was
+pub restart_cases : {T : Type 0} (b : RingState T) → ((b.count ≡ 0) × (from_start_if_empty b ≡ ring b.storage 0 0)) ⊎
+    ((b.count ≢ 0) × (from_start_if_empty b ≡ b))
+restart_cases b = elim (cases_eq b.count 0) [
+  | inl h ↦ inl (h, ap (λ (t : Bool). if t then ring b.storage 0 0 else b) (eq-eqb b.count 0 h))
+  | inr h ↦ inr (h, ap (λ (t : Bool). if t then ring b.storage 0 0 else b) (ne_eqb b.count 0 h))
+]
+
+pub restart_wf : {T : Type 0} (b : RingState T) → IsWellFormed b → IsWellFormed (from_start_if_empty b)
+restart_wf b wf = elim (restart_cases b) [ inl h ↦ subst IsWellFormed (sym h.1) (inl refl, omega arith) | inr h ↦ subst IsWellFormed (sym h.1) wf ]
+
+-- the index of an element that a ring can hold lies below the storage's end
+storage_index_below : (c r j : ℕ) → j < c → (if nat_lt j (c - r) then r + j else j - (c - r)) < c
+storage_index_below c r j l =
+    ⊎_elim (λ (a : j < c - r). subst (λ (p : ℕ). p < c) (sym (cond-true _ _ _ (lt-ltb j (c - r) a))) (omega arith))
+    (λ (b : c - r ≤ j). subst (λ (p : ℕ). p < c) (sym (cond-false _ _ _ (le-ltb j (c - r) b))) (omega arith))
+    (cases_lt j (c - r))
+
+-- if an element is queued, some contiguous ones are
+contiguous_in_queue_some : {T : Type 0} (g : RingState T) (i n : ℕ) → g.count ≤ length g.storage → i < g.count → 0 < n → 0 < contiguous_queued_from g i n
+contiguous_in_queue_some g i n room l m = let below = storage_index_below (length g.storage) g.read_at (min i g.count) (omega arith) in omega arith
+
+-- if an element is free, some contiguous ones are
+pub contiguous_free_some : {T : Type 0} (g : RingState T) (i n : ℕ) → i < window g → 0 < n → 0 < contiguous_window_from g i n
+contiguous_free_some g i n l m = let below =
+    storage_index_below (length g.storage) g.read_at (g.count + min i (window g)) (omega (arith, l)) in omega (arith, l, m, below)
+
+-- the same of what comes next, also after an empty ring was moved to the storage's beginning
+pub contiguous_next_some : {T : Type 0} (g : RingState T) → window g ≢ 0 → 0 < contiguous_window g
+contiguous_next_some g l = let below = storage_index_below (length g.storage) g.read_at g.count (omega (arith, l)) in omega (arith, l, below)
+
+pub contiguous_restarted_some : {T : Type 0} (g : RingState T) → window g ≢ 0 → 0 < contiguous_window (from_start_if_empty g)
+contiguous_restarted_some g l =
+    let same = restarted_is g in
+    contiguous_next_some (from_start_if_empty g) (λ none. l (ap₂ (λ (s : List _) (n : ℕ). length s - n) (sym same.2) (sym same.1) ∙ none))
+
+pub contiguous_head_some : {T : Type 0} (g : RingState T) → IsWellFormed g → g.count ≢ 0 → 0 < contiguous_queued g
+contiguous_head_some g wf l = omega (arith, l, read_fits g wf l)
+
+slice_get_at : {T : Type 0} (xs : List T) (i : ℕ) → slice_get (drop i xs) 0 ≡ slice_get xs i
+slice_get_at [] zero = refl
+slice_get_at [] (suc i) = refl
+slice_get_at (x ∷ xs) zero = refl
+slice_get_at (x ∷ xs) (suc i) = slice_get_at xs i
+
+slice_get_head : {T : Type 0} (xs : List T) (n : ℕ) → 0 < n → slice_get (take n xs) 0 ≡ slice_get xs 0
+slice_get_head xs zero some = absurd (omega (arith, some))
+slice_get_head [] (suc n) some = refl
+slice_get_head (x ∷ xs) (suc n) some = refl
+
+-- the first of the elements that are shown from an index on, of which some are if there are any
+first_shown : {T : Type 0} (xs now : List T) (i : ℕ) → now ≡ take (length now) (drop i xs) → (i < length xs → 0 < length now) → slice_get now 0 ≡ slice_get xs i
+first_shown xs now i e some = elim (cases_lt 0 (length now)) [
+  | inl h ↦ ap (λ l. slice_get l 0) e ∙ slice_get_head (drop i xs) (length now) h ∙ slice_get_at xs i
+  | inr h ↦ elim (cases_lt i (length xs)) [
+    | inl l ↦ absurd (omega (arith, h, some l))
+    | inr r ↦ slice_get_past now 0 h ∙ sym (slice_get_past xs i r)
+  ]
+]
+
+-- a part of the queue that is shown from an index on has elements if there are any, and its first one is the one at that index
+pub first_in_queue : {T : Type 0} (g : RingState T) → IsWellFormed g → (i n : ℕ) (now : List T)
+    → length now ≡ contiguous_queued_from g i n → now ≡ take (length now) (drop i (queue g))
+    → (i < g.count → 0 < n → 0 < length now) × (0 < n → slice_get now 0 ≡ slice_get (queue g) i)
+first_in_queue g wf i n now long is =
+    let some : i < g.count → 0 < n → 0 < length now = λ l m. (let h = contiguous_in_queue_some g i n wf.1 l m in omega (arith, h, long)) in
+    (some, λ m. first_shown (queue g) now i is (λ l. some (omega (arith, l, length-queue g wf)) m))
+
+-- a list's first element alone, or nothing if it has none
+pub take_first : {T : Type 0} (q : List T) (k : ℕ) → k ≡ min (length q) 1 → take k q ≡ take 1 q
+take_first [] zero e = refl
+take_first [] (suc k) e = absurd (omega (arith, e))
+take_first (x ∷ q) k e = let one : k ≡ 1 = omega (arith, e) in ap (λ n. take n (x ∷ q)) one
+
+-- and what stands first in it
+pub first_taken : {T : Type 0} (q l : List T) → l ≡ take 1 q → slice_get l 0 ≡ slice_get q 0
+first_taken [] l e = ap (λ o. slice_get o 0) e
+first_taken (x ∷ q) l e = ap (λ o. slice_get o 0) e

@@ -1,0 +1,6 @@
+use Rattle.net_ring.proofs.Rotations.{length-overwrite}
+use Rattle.net_ring.proofs.Overwrites.{overwritten_at, overwrite-same}
+use Rattle.net_ring.proofs.ring_buffer.laws.overwritten.Goals as goal
+
+pub returns : goal.returns
+returns g c = record { count = λ xs ws i. length-overwrite xs i ws; element = λ xs ws i k x. overwritten_at xs ws i k x; same = overwrite-same }

@@ -1,0 +1,11 @@
+pub mod Overwrite
+pub mod Managed
+pub mod ElementLaws
+pub mod ManagedLends
+pub mod WholeLends
+pub mod Ring
+pub mod RingView
+pub mod RingLends
+pub mod RingCalls
+pub mod Log
+pub mod RingHistory

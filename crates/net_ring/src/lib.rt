@@ -1,0 +1,13 @@
+//! Rings over storage that is lent or owned.
+#![tactic(auto)]
+
+mod error;
+pub mod laws;
+mod managed;
+mod resettable;
+pub mod ring_buffer;
+
+pub use error::{Empty, Full};
+pub use managed::{Elements, ManagedSlice};
+pub use resettable::Resettable;
+pub use ring_buffer::{Ring, RingBuffer};

@@ -1,0 +1,267 @@
+//! Storage that is lent or owned.
+ghost use Rattle.std.specs.Prelude.{◌≡◌, ◌≤◌, ◌<◌, ◌-◌, length, take, drop, ◌∷◌, [], ℕ, List};
+ghost use Rattle.std.specs.Prelude.{slice_set, slice_index_or};
+ghost use Rattle.std.specs.Borrow.{sem, Lends, Array};
+ghost use Rattle.net_ring.specs.Overwrite.{overwrite};
+ghost use Rattle.net_ring.specs.WholeLends.{lends_lent, lends_owned};
+
+use std::ops::IndexMut;
+
+/// A list of elements, parts of which can be shown and lent: the storage of a ring.
+pub trait Elements<T> {
+    // The elements, in order.
+    ghost elements: { Self → List T };
+
+    // The value with a list written over its elements from an index on.
+    ghost with_part: { Self → ℕ → List T → Self };
+
+    // The value with one element replaced.
+    ghost with_item: { Self → ℕ → T → Self };
+
+    /// Returns how many elements there are.
+    fn count(&self) -> usize
+        ensures { result ≡ length (elements self.now) };
+
+    /// Shows the elements from the index `from` up to `to`.
+    ///
+    /// # Requires
+    ///
+    /// `from` is at most `to`, and `to` at most `count()`.
+    fn part(&self, from: usize, to: usize) -> &[T]
+        requires count { (from ≤ to) × (to ≤ length (elements self.now)) }
+        ensures { result.now ≡ take (to - from) (drop from (elements self.now)) };
+
+    /// Lends the elements from the index `from` up to `to`.
+    ///
+    /// # Requires
+    ///
+    /// `from` is at most `to`, and `to` at most `count()`.
+    fn part_mut(&mut self, from: usize, to: usize) -> &mut [T]
+        requires count { (from ≤ to) × (to ≤ length (elements self.old)) }
+        ensures* writes_back { sem 𝓛 (Lends Self.row (Array T.row 0) self.entry result
+            (with_part self.old from)) }
+        ensures value { result.now ≡ take (to - from) (drop from (elements self.old)) };
+
+    /// Lends the element at the index `at`.
+    ///
+    /// # Requires
+    ///
+    /// `at` is below `count()`.
+    fn item_mut(&mut self, at: usize) -> &mut T
+        requires count { at < length (elements self.old) }
+        ensures* writes_back { sem 𝓛 (Lends Self.row T.row self.entry result
+            (with_item self.old at)) }
+        ensures value { result.now ≡ slice_index_or (elements self.old) at result.now };
+
+    // The elements after a list was written over a part.
+    ghost part_written: { (s : Self) (i : ℕ) (ws : List T) →
+        elements (with_part s i ws) ≡ overwrite (elements s) i ws };
+
+    // The elements after one was replaced.
+    ghost item_written: { (s : Self) (i : ℕ) (w : T) →
+        elements (with_item s i w) ≡ overwrite (elements s) i (w ∷ []) };
+}
+
+impl<'a, T> Elements<T> for &'a mut [T] {
+    ghost use denote.Ref.{at_last};
+    ghost use Rattle.std.specs.Prelude.{refl};
+    ghost use Rattle.net_ring.specs.ElementLaws.{item_written-list};
+
+    ghost elements = { λ s. s.now };
+
+    ghost with_part = { λ s i ws. at_last s (overwrite s.now i ws) };
+
+    ghost with_item = { λ s i w. at_last s (slice_set s.now i w) };
+
+    fn count(&self) -> usize {
+        self.len()
+    }
+
+    fn part(&self, from: usize, to: usize) -> &[T] {
+        &self[from..to]
+    }
+
+    fn part_mut(&mut self, from: usize, to: usize) -> &mut [T] {
+        &mut self[from..to]
+    }
+
+    fn item_mut(&mut self, at: usize) -> &mut T {
+        &mut self[at]
+    }
+
+    ghost part_written = { λ s i ws. refl };
+
+    ghost item_written = { λ s i w. item_written-list s.now i w };
+}
+
+impl<T> Elements<T> for Vec<T> {
+    ghost use Rattle.std.specs.Vec.{with_items_from, with_item};
+    ghost use Rattle.net_ring.specs.ElementLaws.{vec-part_written, item_written-list};
+
+    ghost elements = { λ v. v.items };
+
+    ghost with_part = { with_items_from };
+
+    ghost with_item = { with_item };
+
+    fn count(&self) -> usize {
+        self.len()
+    }
+
+    fn part(&self, from: usize, to: usize) -> &[T] {
+        &self.as_slice()[from..to]
+    }
+
+    fn part_mut(&mut self, from: usize, to: usize) -> &mut [T] {
+        self.slice_mut(from..to)
+    }
+
+    fn item_mut(&mut self, at: usize) -> &mut T {
+        self.index_mut(at)
+    }
+
+    ghost part_written = { vec-part_written };
+
+    ghost item_written = { λ s i w. item_written-list s.items i w };
+}
+
+/// Storage of a ring or of a packet queue: lent as a slice, or owned as a vector. So the same code
+/// serves with a heap and without.
+#[derive(Debug, Drop)]
+pub enum ManagedSlice<'a, T> {
+    /// Elements that stand elsewhere, and are lent.
+    Borrowed(&'a mut [T]),
+    /// Elements of its own.
+    Owned(Vec<T>),
+}
+
+impl<'a, T> Elements<T> for ManagedSlice<'a, T> {
+    ghost use Rattle.net_ring.specs.Managed.{elements, with_part, with_item};
+    ghost use Rattle.net_ring.specs.ElementLaws.{part_written, item_written};
+
+    ghost elements = { elements };
+
+    ghost with_part = { with_part };
+
+    ghost with_item = { with_item };
+
+    fn count(&self) -> usize {
+        match self {
+            ManagedSlice::Borrowed(slice) => slice.count(),
+            ManagedSlice::Owned(vec) => vec.count(),
+        }
+    }
+
+    fn part(&self, from: usize, to: usize) -> &[T] {
+        match self {
+            ManagedSlice::Borrowed(slice) => slice.part(from, to),
+            ManagedSlice::Owned(vec) => vec.part(from, to),
+        }
+    }
+
+    fn part_mut(&mut self, from: usize, to: usize) -> &mut [T] {
+        match self {
+            ManagedSlice::Borrowed(slice) => slice.part_mut(from, to),
+            ManagedSlice::Owned(vec) => vec.part_mut(from, to),
+        }
+    }
+
+    fn item_mut(&mut self, at: usize) -> &mut T {
+        match self {
+            ManagedSlice::Borrowed(slice) => slice.item_mut(at),
+            ManagedSlice::Owned(vec) => vec.item_mut(at),
+        }
+    }
+
+    ghost part_written = { part_written };
+
+    ghost item_written = { item_written };
+}
+
+impl<'a, T> From<&'a mut [T]> for ManagedSlice<'a, T> {
+    ghost use Rattle.net_ring.specs.Managed.{elements};
+
+    ghost from_gives = { λ s r. elements r ≡ s.now };
+
+    /// Returns storage that is lent as a slice.
+    fn from(slice: &'a mut [T]) -> Self {
+        Self::Borrowed(slice)
+    }
+}
+
+impl<'a, T, const N: usize> From<&'a mut [T; N]> for ManagedSlice<'a, T> {
+    ghost use Rattle.net_ring.specs.Managed.{elements};
+
+    ghost from_gives = { λ s r. elements r ≡ s.now };
+
+    /// Returns storage that is lent as an array.
+    fn from(array: &'a mut [T; N]) -> Self {
+        Self::Borrowed(array)
+    }
+}
+
+impl<'a, T> From<Vec<T>> for ManagedSlice<'a, T> {
+    ghost use Rattle.net_ring.specs.Managed.{elements};
+
+    ghost from_gives = { λ s r. elements r ≡ s.items };
+
+    /// Returns storage that is owned.
+    fn from(vec: Vec<T>) -> Self {
+        Self::Owned(vec)
+    }
+}
+
+impl<'a, T> ManagedSlice<'a, T> {
+    ghost use Rattle.net_ring.specs.Managed.{elements};
+    ghost use Rattle.net_ring.specs.ManagedLends.{lends_elements};
+
+    /// Returns how many elements the storage has.
+    pub fn len(&self) -> usize
+        ensures { result ≡ length (elements self.now) }
+    {
+        self.count()
+    }
+
+    /// Shows all elements.
+    pub fn as_slice(&self) -> &[T]
+        ensures { result.now ≡ elements self.now }
+    {
+        let count = self.count();
+        self.part(0, count)
+    }
+
+    /// Lends all elements.
+    ///
+    /// A caller's proof does not learn what was written, here or by the calls of [`Elements`] on a
+    /// `ManagedSlice` itself. It learns it of a type parameter `S: Elements<T>`, also where `S` is
+    /// a `ManagedSlice`: a function that has to know what it wrote takes that.
+    pub fn as_mut_slice(&mut self) -> &mut [T]
+        ensures* writes_back { sem 𝓛 (lends_elements T.row self.entry result) }
+        ensures value { result.now ≡ elements self.old }
+    {
+        match self {
+            ManagedSlice::Borrowed(slice) => lent_whole(slice),
+            ManagedSlice::Owned(vec) => owned_whole(vec),
+        }
+    }
+}
+
+/// Lends all elements of a lent slice.
+///
+/// The two arms of `as_mut_slice` are functions of their own, since an arm lends by the clause of
+/// one call.
+fn lent_whole<'s, 'a, T>(slice: &'s mut &'a mut [T]) -> &'s mut [T]
+    ensures* writes_back { sem 𝓛 (lends_lent T.row slice.entry result) }
+    ensures value { result.now ≡ slice.old.now }
+{
+    slice
+}
+
+/// Lends all elements of a vector.
+fn owned_whole<T>(vec: &mut Vec<T>) -> &mut [T]
+    ensures* writes_back { sem 𝓛 (lends_owned T.row vec.entry result) }
+    ensures value { result.now ≡ vec.old.items }
+{
+    let count = vec.len();
+    vec.slice_mut(0..count)
+}

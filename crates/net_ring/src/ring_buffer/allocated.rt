@@ -1,0 +1,159 @@
+//! Elements of the queue, shown, lent and read at an offset.
+ghost use Rattle.std.specs.Prelude.{◌≡◌, ◌≢◌, ◌≤◌, ◌<◌, ◌-◌, ◌+◌, length, take, drop, ◌++◌, min};
+ghost use Rattle.std.specs.Prelude.{ℕ, List, slice_get, slice_index_or};
+ghost use Rattle.std.specs.Borrow.{sem};
+ghost use Rattle.net_ring.specs.Ring.{ring, queue, queue_index, contiguous_queued_from, with_elements};
+ghost use Rattle.net_ring.specs.Ring.{contiguous_queued, contiguous_queue};
+ghost use Rattle.net_ring.specs.Ring.{with_dequeued, Dequeues, WritesQueue};
+
+use super::{Ring, Span};
+use crate::managed::Elements;
+
+/// Elements of the queue, at an offset from the first one.
+impl<T, S: Elements<T>> Ring<T, S> {
+    ghost use Rattle.net_ring.specs.RingLends.{lends_many};
+
+    /// Returns how many elements of the queue `get_allocated` shows and `get_allocated_mut` lends:
+    /// of at most `size` from the one at `offset` on, as many as are contiguous.
+    ///
+    /// An addition to smoltcp's calls, since nothing else can be asked of a ring while a part of it
+    /// is lent.
+    pub fn contiguous_allocated(&self, offset: usize, size: usize) -> usize
+        ensures count { result ≡ contiguous_queued_from self.now offset size }
+        ensures within { (result ≤ size) × (result ≤ self.now.count - offset) }
+        ensures not_empty { offset < self.now.count → 0 < size → 0 < result }
+    {
+        self.span(0, self.length, offset, size).contiguous
+    }
+
+    /// Shows at most `size` elements of the queue from the one at `offset` on: as many as are
+    /// contiguous.
+    ///
+    /// None if `offset` is past the queue.
+    pub fn get_allocated(&self, offset: usize, size: usize) -> &[T]
+        ensures count { length result.now ≡ contiguous_queued_from self.now offset size }
+        ensures not_empty { offset < self.now.count → 0 < size → 0 < length result.now }
+        ensures value { result.now ≡ take (length result.now) (drop offset (queue self.now)) }
+        ensures first { 0 < size → slice_get result.now 0 ≡ slice_get (queue self.now) offset }
+        ensures each { (k : ℕ) (d : T) → offset ≤ k → k < offset + length result.now →
+            slice_index_or (queue self.now) k d ≡ slice_index_or result.now (k - offset) d }
+        ensures end { offset ≤ length (queue self.now) →
+            offset + length result.now ≤ length (queue self.now) }
+        ensures stored { result.now
+            ≡ take (length result.now) (drop (queue_index self.now offset) self.now.storage) }
+    {
+        let span = self.span(0, self.length, offset, size);
+        self.storage.part(span.from, span.from + span.contiguous)
+    }
+
+    /// Shows the queue, in order, in two parts: the elements up to the storage's end, and those from
+    /// its beginning on. The second part is empty unless the queue wraps.
+    ///
+    /// An addition to smoltcp's calls, as std's `VecDeque` has it.
+    pub fn as_slices(&self) -> (&[T], &[T])
+        ensures queue { result.0.now ++ result.1.now ≡ queue self.now }
+        ensures cut { length result.0.now ≡ contiguous_queued self.now }
+        ensures count { length result.0.now + length result.1.now ≡ self.now.count }
+        ensures not_empty { self.now.count ≢ 0 → 0 < length result.0.now }
+        ensures value { (result.0.now ≡ contiguous_queue self.now)
+            × (result.1.now ≡ drop (length result.0.now) (queue self.now)) }
+        ensures first { (k : ℕ) (d : T) → k < length result.0.now →
+            slice_index_or (queue self.now) k d ≡ slice_index_or result.0.now k d }
+        ensures second { (k : ℕ) (d : T) → length result.0.now ≤ k →
+            slice_index_or (queue self.now) k d
+            ≡ slice_index_or result.1.now (k - length result.0.now) d }
+        ensures stored { let n = length result.0.now in
+            (result.0.now ≡ take n (drop self.now.read_at self.now.storage))
+            × (result.1.now ≡ take (self.now.count - n) self.now.storage) }
+    {
+        let from = self.read_at;
+        let first = self.length.min(self.capacity() - from);
+        (
+            self.storage.part(from, from + first),
+            self.storage.part(0, self.length - first),
+        )
+    }
+
+    /// Lends at most `size` elements of the queue from the one at `offset` on: as many as are
+    /// contiguous.
+    ///
+    /// An addition to smoltcp's calls: `get_allocated`, for elements that are changed where they
+    /// stand. As many are queued after as before.
+    pub fn get_allocated_mut(&mut self, offset: usize, size: usize) -> &mut [T]
+        ensures* writes_back { sem 𝓛 (lends_many T.row S.row S.Elements self.entry
+            self.old (queue_index self.old offset) result) }
+        ensures count { length result.now ≡ contiguous_queued_from self.old offset size }
+        ensures not_empty { offset < self.old.count → 0 < size → 0 < length result.now }
+        ensures value { result.now ≡ take (length result.now) (drop offset (queue self.old)) }
+        ensures first { 0 < size → slice_get result.now 0 ≡ slice_get (queue self.old) offset }
+        ensures each { (k : ℕ) (d : T) → offset ≤ k → k < offset + length result.now →
+            slice_index_or (queue self.old) k d ≡ slice_index_or result.now (k - offset) d }
+        ensures end { offset ≤ length (queue self.old) →
+            offset + length result.now ≤ length (queue self.old) }
+        ensures stored { result.now
+            ≡ take (length result.now) (drop (queue_index self.old offset) self.old.storage) }
+        ensures written { (ws : List T) → length ws ≡ contiguous_queued_from self.old offset size →
+            WritesQueue self.old offset ws
+            (with_elements self.old (queue_index self.old offset) ws) }
+    {
+        let span = self.span(0, self.length, offset, size);
+        self.storage
+            .part_mut(span.from, span.from + span.contiguous)
+    }
+
+    /// Shows the first element of the queue, or nothing if there is none: `get_allocated(0, 1)` in
+    /// fewer steps. It isn't in smoltcp.
+    #[inline]
+    pub fn head(&self) -> &[T]
+        ensures value { result.now ≡ take 1 (queue self.now) }
+        ensures first { slice_get result.now 0 ≡ slice_get (queue self.now) 0 }
+    {
+        // Called for its clauses alone: by them the sum below does not wrap.
+        let _capacity = self.capacity();
+        let from = self.read_at;
+        self.storage.part(from, from + self.length.min(1))
+    }
+
+    /// Dequeues `count` elements.
+    ///
+    /// As many must be queued, which `len` tells; smoltcp panics if they are not.
+    ///
+    /// # Requires
+    ///
+    /// `count` is at most `len()`.
+    pub fn dequeue_allocated(&mut self, count: usize)
+        requires len { count ≤ self.old.count }
+        ensures ring { self.new ≡ with_dequeued count self.old }
+        ensures dequeued { Dequeues self.old count (take count (queue self.old)) self.new }
+    {
+        let next = self.storage_index(count);
+        self.read_at = next;
+        self.length -= count;
+    }
+}
+
+/// Elements of the queue that are copied out.
+impl<T: Copy, S: Elements<T>> Ring<T, S> {
+    /// Copies as many elements of the queue as `data` has room for, from the one at `offset` on, to
+    /// the beginning of `data`, and returns how many; 0 if `offset` is past the queue. The rest of
+    /// `data` stays as it is, and nothing is dequeued.
+    pub fn read_allocated(&mut self, offset: usize, data: &mut [T]) -> usize
+        ensures count { result ≡ min (length «data».old) (self.old.count - offset) }
+        ensures given { «data».new
+            ≡ take result (drop offset (queue self.old)) ++ drop result «data».old }
+        ensures same { self.new ≡ self.old }
+    {
+        let Span {
+            from,
+            count,
+            contiguous,
+        } = self.span(0, self.length, offset, data.len());
+        // The elements up to the storage's end.
+        data[..contiguous].copy_from_slice(self.storage.part(from, from + contiguous));
+        // The rest stands at its beginning.
+        if contiguous < count {
+            data[contiguous..count].copy_from_slice(self.storage.part(0, count - contiguous));
+        }
+        count
+    }
+}

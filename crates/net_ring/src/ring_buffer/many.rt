@@ -1,0 +1,108 @@
+//! Many elements at a time.
+ghost use Rattle.std.specs.Prelude.{◌≡◌, ◌≢◌, ◌<◌, ◌-◌, ◌+◌, length, take, drop, min, List};
+ghost use Rattle.std.specs.Borrow.{sem};
+ghost use Rattle.std.specs.Fn.{FnOnceTakesAtMut};
+ghost use Rattle.net_ring.specs.Ring.{window, queue, spare, write_at, contiguous_window};
+ghost use Rattle.net_ring.specs.Ring.{contiguous_queued, contiguous_spare, contiguous_queue};
+ghost use Rattle.net_ring.specs.Ring.{with_elements, with_enqueued, with_dequeued, from_start_if_empty};
+ghost use Rattle.net_ring.specs.Ring.{Enqueues, Dequeues};
+ghost use Rattle.net_ring.specs.RingCalls.{CountsWithin, CalledOnSpare, CalledOnQueue};
+
+use super::Ring;
+use crate::managed::Elements;
+
+/// Many elements at a time: if there is none, the part that is lent is empty.
+impl<T, S: Elements<T>> Ring<T, S> {
+    ghost use Rattle.net_ring.specs.RingLends.{lends_many};
+
+    /// Calls `f` on the contiguous free elements that come next, enqueues as many of them as `f`
+    /// counts, and returns what `f` returned.
+    ///
+    /// An empty ring first moves its read index to the storage's beginning. What `f` wrote stays in
+    /// the storage, also behind the elements that it counted. It must count no more than the
+    /// elements that it is lent.
+    ///
+    /// # Requires
+    ///
+    /// `f` may be called on the part that it is lent, and counts at most its length.
+    pub fn enqueue_many_with<R, F: FnOnce(&mut [T]) -> (usize, R)>(&mut self, f: F) -> (usize, R)
+        requires callable { FnOnceTakesAtMut F.FnOnce f (contiguous_spare (from_start_if_empty self.old)) }
+        requires count { CountsWithin F.FnOnce f (contiguous_spare (from_start_if_empty self.old))
+            (contiguous_window (from_start_if_empty self.old)) }
+        ensures called { CalledOnSpare F.FnOnce f (from_start_if_empty self.old) result self.new }
+    {
+        self.restart();
+        let from = self.storage_index(self.length);
+        let to = from + self.contiguous_window();
+        let answer = f(self.storage.part_mut(from, to));
+        self.length += answer.0;
+        answer
+    }
+
+    /// Enqueues at most `size` elements, as they stand, and lends them: as many as are contiguous.
+    ///
+    /// An empty ring first moves its read index to the storage's beginning.
+    pub fn enqueue_many(&mut self, size: usize) -> &mut [T]
+        ensures* writes_back { sem 𝓛 (lends_many T.row S.row S.Elements self.entry
+            (with_enqueued (min size (contiguous_window (from_start_if_empty self.old))) (from_start_if_empty self.old))
+            (write_at (from_start_if_empty self.old)) result) }
+        ensures count { length result.now ≡ min size (contiguous_window (from_start_if_empty self.old)) }
+        ensures not_empty { window self.old ≢ 0 → 0 < size → 0 < length result.now }
+        ensures value { result.now ≡ take (length result.now) (spare (from_start_if_empty self.old)) }
+        ensures stored { let g = from_start_if_empty self.old in
+            result.now ≡ take (length result.now) (drop (write_at g) g.storage) }
+        ensures enqueued { let g = from_start_if_empty self.old in let k = min size (contiguous_window g) in
+            (ws : List T) → length ws ≡ k → Enqueues g ws
+            (with_elements (with_enqueued k g) (write_at g) ws) }
+    {
+        self.restart();
+        let count = size.min(self.contiguous_window());
+        let from = self.storage_index(self.length);
+        self.length += count;
+        self.storage.part_mut(from, from + count)
+    }
+
+    /// Calls `f` on the contiguous elements at the head of the queue, dequeues as many of them as
+    /// `f` counts, and returns what `f` returned.
+    ///
+    /// What `f` wrote stays in the storage. It must count no more than the elements that it is
+    /// lent.
+    ///
+    /// # Requires
+    ///
+    /// `f` may be called on the part that it is lent, and counts at most its length.
+    pub fn dequeue_many_with<R, F: FnOnce(&mut [T]) -> (usize, R)>(&mut self, f: F) -> (usize, R)
+        requires callable { FnOnceTakesAtMut F.FnOnce f (contiguous_queue self.old) }
+        requires count { CountsWithin F.FnOnce f (contiguous_queue self.old)
+            (contiguous_queued self.old) }
+        ensures called { CalledOnQueue F.FnOnce f self.old result self.new }
+    {
+        let from = self.read_at;
+        let to = from + self.length.min(self.capacity() - from);
+        let answer = f(self.storage.part_mut(from, to));
+        self.read_at = self.next_index(answer.0);
+        self.length -= answer.0;
+        answer
+    }
+
+    /// Dequeues at most `size` elements, and lends them: as many as are contiguous.
+    pub fn dequeue_many(&mut self, size: usize) -> &mut [T]
+        ensures* writes_back { sem 𝓛 (lends_many T.row S.row S.Elements self.entry
+            (with_dequeued (min size (contiguous_queued self.old)) self.old)
+            self.old.read_at result) }
+        ensures count { length result.now ≡ min size (contiguous_queued self.old) }
+        ensures not_empty { self.old.count ≢ 0 → 0 < size → 0 < length result.now }
+        ensures value { result.now ≡ take (length result.now) (queue self.old) }
+        ensures stored { result.now
+            ≡ take (length result.now) (drop self.old.read_at self.old.storage) }
+        ensures dequeued { let k = min size (contiguous_queued self.old) in
+            (ws : List T) → length ws ≡ k → Dequeues self.old k ws
+            (with_elements (with_dequeued k self.old) self.old.read_at ws) }
+    {
+        let from = self.read_at;
+        let count = size.min(self.length.min(self.capacity() - from));
+        self.read_at = self.next_index(count);
+        self.length -= count;
+        self.storage.part_mut(from, from + count)
+    }
+}

@@ -1,0 +1,142 @@
+//! One element at a time.
+ghost use Rattle.std.specs.Prelude.{◌≡◌, ◌≢◌, ◌↔◌, drop, [], ◌∷◌, IsErr, OnErr, IfOk};
+ghost use Rattle.std.specs.Borrow.{sem};
+ghost use Rattle.net_ring.specs.Ring.{window, queue, spare, write_at, with_elements, with_enqueued};
+ghost use Rattle.net_ring.specs.Ring.{with_dequeued, Enqueues, Dequeues};
+ghost use Rattle.net_ring.specs.RingCalls.{TakesFirstOf, CalledOnNext, CalledOnFirst};
+
+use super::Ring;
+use crate::error::{Empty, Full};
+use crate::managed::Elements;
+
+/// One element at a time: if there is none, the refusal is `Full` or `Empty`.
+impl<T, S: Elements<T>> Ring<T, S> {
+    ghost use Rattle.net_ring.specs.RingLends.{lends_one, lends_one_if};
+
+    /// Calls `f` on the next free element, enqueues it if `f` returns `Ok`, and returns what `f`
+    /// returned.
+    ///
+    /// What `f` wrote stays in the storage in both cases. A full ring returns `Full`, stays as it
+    /// is and does not call `f`.
+    ///
+    /// # Requires
+    ///
+    /// `f` may be called on the next free element, if there is one.
+    pub fn enqueue_one_with<R, E, F: FnOnce(&mut T) -> Result<R, E>>(
+        &mut self,
+        f: F,
+    ) -> Result<Result<R, E>, Full>
+        requires callable { TakesFirstOf F.FnOnce f (spare self.old) }
+        ensures full { IsErr result ↔ (window self.old ≡ 0) }
+        ensures unchanged { OnErr result (self.new ≡ self.old) }
+        ensures called { IfOk result (λ answer. CalledOnNext F.FnOnce f self.old answer self.new) }
+    {
+        if self.is_full() {
+            return Err(Full);
+        }
+        let at = self.storage_index(self.length);
+        let answer = f(self.storage.item_mut(at));
+        if answer.is_ok() {
+            self.length += 1;
+        }
+        Ok(answer)
+    }
+
+    /// Enqueues the next free element, as it stands, and lends it.
+    ///
+    /// A full ring returns `Full` and stays as it is.
+    pub fn enqueue_one(&mut self) -> Result<&mut T, Full>
+        ensures* writes_back { sem 𝓛 (lends_one_if T.row S.row S.Elements self.entry
+            (with_enqueued 1 self.old) (write_at self.old) result) }
+        ensures full { IsErr result ↔ (window self.old ≡ 0) }
+        ensures value { IfOk result (λ r. spare self.old ≡ r.now ∷ drop 1 (spare self.old)) }
+        ensures enqueued { window self.old ≢ 0 → (w : T) → Enqueues self.old (w ∷ [])
+            (with_elements (with_enqueued 1 self.old) (write_at self.old) (w ∷ [])) }
+    {
+        if self.is_full() {
+            return Err(Full);
+        }
+        Ok(self.enqueue_next())
+    }
+
+    /// Enqueues the next free element of a ring that has room, and lends it.
+    ///
+    /// It stands alone since `enqueue_one` lends by the clause of one call.
+    fn enqueue_next(&mut self) -> &mut T
+        requires { window self.old ≢ 0 }
+        ensures* writes_back { sem 𝓛 (lends_one T.row S.row S.Elements self.entry
+            (with_enqueued 1 self.old) (write_at self.old) result) }
+        ensures value { spare self.old ≡ result.now ∷ drop 1 (spare self.old) }
+        ensures enqueued { (w : T) → Enqueues self.old (w ∷ [])
+            (with_elements (with_enqueued 1 self.old) (write_at self.old) (w ∷ [])) }
+    {
+        let at = self.storage_index(self.length);
+        self.length += 1;
+        self.storage.item_mut(at)
+    }
+
+    /// Calls `f` on the first element of the queue, dequeues it if `f` returns `Ok`, and returns
+    /// what `f` returned.
+    ///
+    /// What `f` wrote stays in the storage in both cases. An empty ring returns `Empty`, stays as
+    /// it is and does not call `f`.
+    ///
+    /// # Requires
+    ///
+    /// `f` may be called on the first element, if there is one.
+    pub fn dequeue_one_with<R, E, F: FnOnce(&mut T) -> Result<R, E>>(
+        &mut self,
+        f: F,
+    ) -> Result<Result<R, E>, Empty>
+        requires callable { TakesFirstOf F.FnOnce f (queue self.old) }
+        ensures empty { IsErr result ↔ (self.old.count ≡ 0) }
+        ensures unchanged { OnErr result (self.new ≡ self.old) }
+        ensures called { IfOk result (λ answer. CalledOnFirst F.FnOnce f self.old answer self.new) }
+    {
+        if self.is_empty() {
+            return Err(Empty);
+        }
+        let at = self.read_at;
+        let next = self.next_index(1);
+        let answer = f(self.storage.item_mut(at));
+        if answer.is_ok() {
+            self.read_at = next;
+            self.length -= 1;
+        }
+        Ok(answer)
+    }
+
+    /// Dequeues the first element of the queue, and lends it.
+    ///
+    /// An empty ring returns `Empty` and stays as it is.
+    pub fn dequeue_one(&mut self) -> Result<&mut T, Empty>
+        ensures* writes_back { sem 𝓛 (lends_one_if T.row S.row S.Elements self.entry
+            (with_dequeued 1 self.old) self.old.read_at result) }
+        ensures empty { IsErr result ↔ (self.old.count ≡ 0) }
+        ensures value { IfOk result (λ r. queue self.old ≡ r.now ∷ drop 1 (queue self.old)) }
+        ensures dequeued { self.old.count ≢ 0 → (w : T) → Dequeues self.old 1 (w ∷ [])
+            (with_elements (with_dequeued 1 self.old) self.old.read_at (w ∷ [])) }
+    {
+        if self.is_empty() {
+            return Err(Empty);
+        }
+        Ok(self.dequeue_first())
+    }
+
+    /// Dequeues the first element of a ring that is not empty, and lends it.
+    ///
+    /// It stands alone since `dequeue_one` lends by the clause of one call.
+    fn dequeue_first(&mut self) -> &mut T
+        requires { self.old.count ≢ 0 }
+        ensures* writes_back { sem 𝓛 (lends_one T.row S.row S.Elements self.entry
+            (with_dequeued 1 self.old) self.old.read_at result) }
+        ensures value { queue self.old ≡ result.now ∷ drop 1 (queue self.old) }
+        ensures dequeued { (w : T) → Dequeues self.old 1 (w ∷ [])
+            (with_elements (with_dequeued 1 self.old) self.old.read_at (w ∷ [])) }
+    {
+        let at = self.read_at;
+        self.read_at = self.next_index(1);
+        self.length -= 1;
+        self.storage.item_mut(at)
+    }
+}

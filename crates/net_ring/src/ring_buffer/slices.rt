@@ -1,0 +1,49 @@
+//! Elements that are copied in and out.
+ghost use Rattle.std.specs.Prelude.{◌≡◌, ◌-◌, ◌+◌, length, take, drop, ◌++◌, min};
+ghost use Rattle.net_ring.specs.Ring.{ring, capacity, window, queue, write_at, with_elements_wrapping};
+ghost use Rattle.net_ring.specs.Ring.{with_enqueued, with_dequeued, from_start_if_empty};
+ghost use Rattle.net_ring.specs.Ring.{Enqueues};
+ghost use Rattle.net_ring.specs.Ring.{Dequeues};
+
+use super::Ring;
+use crate::managed::Elements;
+
+/// Elements that are copied in and out, wrapping at the storage's end.
+impl<T: Copy, S: Elements<T>> Ring<T, S> {
+    /// Enqueues as many elements of `data` as there is room for, and returns how many.
+    ///
+    /// An empty ring first moves its read index to the storage's beginning, also if nothing is
+    /// enqueued.
+    pub fn enqueue_slice(&mut self, data: &[T]) -> usize
+        ensures count { result ≡ min (length «data».now) (window self.old) }
+        ensures ring { let g = from_start_if_empty self.old in self.new
+            ≡ with_enqueued result (with_elements_wrapping g (write_at g) (take result «data».now)) }
+        ensures enqueued { Enqueues (from_start_if_empty self.old)
+            (take result «data».now) self.new }
+        ensures queue { queue self.new ≡ queue self.old ++ take result «data».now }
+        ensures same { (self.new.count ≡ self.old.count + result)
+            × (capacity self.new ≡ capacity self.old) }
+    {
+        self.restart();
+        let count = self.write_unallocated(0, data);
+        self.enqueue_unallocated(count);
+        count
+    }
+
+    /// Dequeues as many elements as `data` has room for and are queued, copies them to the beginning
+    /// of `data`, and returns how many. The rest of `data` stays as it is.
+    pub fn dequeue_slice(&mut self, data: &mut [T]) -> usize
+        ensures count { result ≡ min (length «data».old) self.old.count }
+        ensures of_queue { result ≡ min (length «data».old) (length (queue self.old)) }
+        ensures given { «data».new ≡ take result (queue self.old) ++ drop result «data».old }
+        ensures ring { self.new ≡ with_dequeued result self.old }
+        ensures dequeued { Dequeues self.old result (take result (queue self.old)) self.new }
+        ensures queue { queue self.new ≡ drop result (queue self.old) }
+        ensures same { (self.new.count ≡ self.old.count - result)
+            × (capacity self.new ≡ capacity self.old) }
+    {
+        let count = self.read_allocated(0, data);
+        self.dequeue_allocated(count);
+        count
+    }
+}

@@ -1,0 +1,126 @@
+//! Free elements, lent and written at an offset.
+ghost use Rattle.std.specs.Prelude.{◌≡◌, ◌≤◌, ◌<◌, ◌-◌, ◌+◌, length, take, drop, min, ℕ, List};
+ghost use Rattle.std.specs.Prelude.{slice_index_or};
+ghost use Rattle.std.specs.Borrow.{sem};
+ghost use Rattle.net_ring.specs.Ring.{ring, capacity, window, spare, spare_index, freed_index};
+ghost use Rattle.net_ring.specs.Ring.{contiguous_window_from, with_elements, with_elements_wrapping};
+ghost use Rattle.net_ring.specs.Ring.{with_enqueued, Enqueues, WritesSpare};
+
+use super::{Ring, Span};
+use crate::managed::Elements;
+
+/// Free elements, at an offset from the first one.
+impl<T, S: Elements<T>> Ring<T, S> {
+    ghost use Rattle.net_ring.specs.RingLends.{lends_many};
+
+    /// Returns how many free elements `get_unallocated` lends: of at most `size` from the one at
+    /// `offset` on, as many as are contiguous.
+    ///
+    /// An addition to smoltcp's calls, since nothing else can be asked of a ring while a part of it
+    /// is lent.
+    pub fn contiguous_unallocated(&self, offset: usize, size: usize) -> usize
+        ensures count { result ≡ contiguous_window_from self.now offset size }
+        ensures within { (result ≤ size) × (result ≤ window self.now - offset) }
+        ensures not_empty { offset < window self.now → 0 < size → 0 < result }
+    {
+        self.span(self.length, self.window(), offset, size)
+            .contiguous
+    }
+
+    /// Lends at most `size` free elements from the one at `offset` on: as many as are contiguous.
+    ///
+    /// None if `offset` is past the window. As many elements are queued after as before.
+    pub fn get_unallocated(&mut self, offset: usize, size: usize) -> &mut [T]
+        ensures* writes_back { sem 𝓛 (lends_many T.row S.row S.Elements self.entry
+            self.old (spare_index self.old offset) result) }
+        ensures count { length result.now ≡ contiguous_window_from self.old offset size }
+        ensures not_empty { offset < window self.old → 0 < size → 0 < length result.now }
+        ensures value { result.now ≡ take (length result.now) (drop offset (spare self.old)) }
+        ensures each { (k : ℕ) (d : T) → offset ≤ k → k < offset + length result.now →
+            slice_index_or (spare self.old) k d ≡ slice_index_or result.now (k - offset) d }
+        ensures end { offset ≤ length (spare self.old) →
+            offset + length result.now ≤ length (spare self.old) }
+        ensures stored { result.now
+            ≡ take (length result.now) (drop (spare_index self.old offset) self.old.storage) }
+        ensures written { (ws : List T) → length ws ≡ contiguous_window_from self.old offset size →
+            WritesSpare self.old offset ws
+            (with_elements self.old (spare_index self.old offset) ws) }
+    {
+        let span = self.span(self.length, self.window(), offset, size);
+        self.storage
+            .part_mut(span.from, span.from + span.contiguous)
+    }
+
+    /// Lends the `size` elements before the read index, which are the last free ones if as many are
+    /// free: so those that were dequeued last, in the order in which they were queued. It isn't in
+    /// smoltcp.
+    ///
+    /// # Requires
+    ///
+    /// `size` is at most `capacity()`, and the elements are contiguous.
+    #[inline]
+    pub fn get_freed(&mut self, size: usize) -> &mut [T]
+        requires size { size ≤ capacity self.old }
+        requires contiguous { freed_index self.old size + size ≤ capacity self.old }
+        ensures* writes_back { sem 𝓛 (lends_many T.row S.row S.Elements self.entry
+            self.old (freed_index self.old size) result) }
+        ensures count { length result.now ≡ size }
+        ensures stored { result.now
+            ≡ take size (drop (freed_index self.old size) self.old.storage) }
+    {
+        let from = if size <= self.read_at {
+            self.read_at - size
+        } else {
+            self.capacity() - (size - self.read_at)
+        };
+        self.storage.part_mut(from, from + size)
+    }
+
+    /// Enqueues `count` elements, as they stand.
+    ///
+    /// There must be as many free ones, which `window` tells; smoltcp panics if there are not.
+    ///
+    /// # Requires
+    ///
+    /// `count` is at most `window()`.
+    pub fn enqueue_unallocated(&mut self, count: usize)
+        requires window { count ≤ window self.old }
+        ensures ring { self.new ≡ with_enqueued count self.old }
+        ensures enqueued { Enqueues self.old (take count (spare self.old)) self.new }
+        ensures of_spare { spare self.new ≡ drop count (spare self.old) }
+    {
+        // Called for its clauses alone: by them the sum below does not wrap.
+        let _capacity = self.capacity();
+        self.length += count;
+    }
+}
+
+/// Free elements that are copied in.
+impl<T: Copy, S: Elements<T>> Ring<T, S> {
+    /// Writes as many elements of `data` as there is room for to the free elements from the one at
+    /// `offset` on, and returns how many; 0 if `offset` is past the window. Nothing is enqueued.
+    pub fn write_unallocated(&mut self, offset: usize, data: &[T]) -> usize
+        ensures count { result ≡ min (length «data».now) (window self.old - offset) }
+        ensures ring { self.new
+            ≡ with_elements_wrapping self.old (spare_index self.old offset) (take result «data».now) }
+        ensures written { WritesSpare self.old offset (take result «data».now) self.new }
+        ensures same { (self.new.count ≡ self.old.count) × (capacity self.new ≡ capacity self.old) }
+    {
+        let Span {
+            from,
+            count,
+            contiguous,
+        } = self.span(self.length, self.window(), offset, data.len());
+        // The elements up to the storage's end.
+        self.storage
+            .part_mut(from, from + contiguous)
+            .copy_from_slice(&data[..contiguous]);
+        // The rest wraps to its beginning.
+        if contiguous < count {
+            self.storage
+                .part_mut(0, count - contiguous)
+                .copy_from_slice(&data[contiguous..count]);
+        }
+        count
+    }
+}

@@ -1,0 +1,18 @@
+//! The tests of `net_ring`, each through its public calls.
+//!
+//! They stand in a crate of their own, so that the library is proved once and its edits don't wait
+//! for them.
+#![tactic(auto)]
+
+#[cfg(test)]
+mod counted;
+#[cfg(test)]
+mod drops;
+#[cfg(test)]
+mod error;
+#[cfg(test)]
+mod managed;
+#[cfg(test)]
+mod ring_buffer;
+#[cfg(test)]
+mod text;

@@ -1,0 +1,166 @@
+//! Callers of a ring, proved from its contracts alone.
+ghost use Rattle.std.specs.Prelude.{◌≡◌, ◌≢◌, ◌<◌, ◌↔◌, ◌++◌, [], ◌∷◌, length, take, drop, min, ℕ};
+ghost use Rattle.std.specs.Prelude.{List, IsErr, OnOk, OnErr, IfOk, vec_len};
+ghost use Rattle.net_ring.specs.Ring.{window, queue, spare, contiguous_window};
+ghost use Rattle.net_ring.specs.Ring.{contiguous_queued, contiguous_window_from};
+ghost use Rattle.net_ring.specs.Ring.{contiguous_queued_from, from_start_if_empty};
+ghost use Rattle.net_ring.specs.Ring.{Enqueues, Dequeues};
+ghost use Rattle.net_ring.specs.Ring.{WritesSpare, WritesQueue};
+
+use net_ring::{Empty, Full, ManagedSlice, RingBuffer};
+use std::marker::Model;
+
+/// A byte is written to the part that `enqueue_many` lends.
+pub fn enqueue_byte(ring: &mut RingBuffer<'_, u8>, byte: u8)
+    requires { 0 < contiguous_window (from_start_if_empty ring.old) }
+    ensures parts { Enqueues (from_start_if_empty ring.old) (byte ∷ []) ring.new }
+    ensures queue { queue ring.new ≡ queue (from_start_if_empty ring.old) ++ (byte ∷ []) }
+{
+    ring.enqueue_many(1)[0] = byte;
+}
+
+/// A byte is written to the element that `enqueue_one` lends.
+pub fn enqueue_one_byte(ring: &mut RingBuffer<'_, u8>, byte: u8) -> Result<(), Full>
+    ensures full { IsErr result ↔ (window ring.old ≡ 0) }
+    ensures unchanged { OnErr result (ring.new ≡ ring.old) }
+    ensures parts { OnOk result (Enqueues ring.old (byte ∷ []) ring.new) }
+{
+    *ring.enqueue_one()? = byte;
+    Ok(())
+}
+
+/// A byte is written to a free element, and stands there.
+pub fn stage(ring: &mut RingBuffer<'_, u8>, offset: usize, byte: u8)
+    requires { 0 < contiguous_window_from ring.old offset 1 }
+    ensures { WritesSpare ring.old offset (byte ∷ []) ring.new }
+{
+    ring.get_unallocated(offset, 1)[0] = byte;
+}
+
+/// A byte of the queue is written over.
+pub fn patch(ring: &mut RingBuffer<'_, u8>, offset: usize, byte: u8)
+    requires { 0 < contiguous_queued_from ring.old offset 1 }
+    ensures { WritesQueue ring.old offset (byte ∷ []) ring.new }
+{
+    ring.get_allocated_mut(offset, 1)[0] = byte;
+}
+
+/// The first byte of the queue is dequeued, and zero is left in its place.
+pub fn dequeue_byte(ring: &mut RingBuffer<'_, u8>) -> u8
+    requires { 0 < contiguous_queued ring.old }
+    ensures parts { Dequeues ring.old 1 (0 ∷ []) ring.new }
+    ensures byte { take 1 (queue ring.old) ≡ result ∷ [] }
+{
+    let part = ring.dequeue_many(1);
+    let byte = part[0];
+    part[0] = 0;
+    byte
+}
+
+/// The same by `dequeue_one`.
+pub fn dequeue_one_byte(ring: &mut RingBuffer<'_, u8>) -> Result<u8, Empty>
+    ensures empty { IsErr result ↔ (ring.old.count ≡ 0) }
+    ensures unchanged { OnErr result (ring.new ≡ ring.old) }
+    ensures byte { IfOk result (λ byte. queue ring.old ≡ byte ∷ drop 1 (queue ring.old)) }
+    ensures parts { OnOk result (Dequeues ring.old 1 (0 ∷ []) ring.new) }
+{
+    let front = ring.dequeue_one()?;
+    let byte = *front;
+    *front = 0;
+    Ok(byte)
+}
+
+/// Bytes are written ahead, and enqueued after.
+pub fn write_and_enqueue(ring: &mut RingBuffer<'_, u8>, data: &[u8]) -> usize
+    ensures count { result ≡ min (length «data».now) (window ring.old) }
+    ensures queue { queue ring.new ≡ queue ring.old ++ take result «data».now }
+{
+    let count = ring.write_unallocated(0, data);
+    ring.enqueue_unallocated(count);
+    count
+}
+
+/// A closure writes and then returns `Err`: what it wrote stays, and nothing is enqueued.
+pub fn write_and_refuse(ring: &mut RingBuffer<'_, u8>, byte: u8)
+    ensures queue { queue ring.new ≡ queue ring.old }
+    ensures count { ring.new.count ≡ ring.old.count }
+    ensures spare { window ring.old ≢ 0 → WritesSpare ring.old 0 (byte ∷ []) ring.new }
+{
+    let _ = ring.enqueue_one_with(|free| -> Result<(), ()> {
+        *free = byte;
+        Err(())
+    });
+}
+
+/// A closure that may be called only on a slice that has an element.
+pub fn enqueue_first(ring: &mut RingBuffer<'_, u8>, byte: u8)
+    requires { 0 < contiguous_window (from_start_if_empty ring.old) }
+    ensures { queue ring.new ≡ queue (from_start_if_empty ring.old) ++ (byte ∷ []) }
+{
+    ring.enqueue_many_with(|part| {
+        part[0] = byte;
+        (1, ())
+    });
+}
+
+/// Two rings in one struct, seen as a pair of their queues.
+#[derive(Drop)]
+pub struct Duplex<'a> {
+    inbound: RingBuffer<'a, u8>,
+    outbound: RingBuffer<'a, u8>,
+}
+
+impl<'a> Model for Duplex<'a> {
+    ghost use Rattle.std.specs.Prelude.{ℕ, List};
+    ghost use Rattle.net_ring.specs.Ring.{queue};
+
+    ghost Value = { List ℕ × List ℕ };
+
+    ghost view = { λ duplex. (queue duplex.inbound, queue duplex.outbound) };
+}
+
+impl<'a> Duplex<'a> {
+    pub fn new(inbound: ManagedSlice<'a, u8>, outbound: ManagedSlice<'a, u8>) -> Self
+        ensures { result ≡ ([], []) }
+    {
+        Duplex {
+            inbound: RingBuffer::new(inbound),
+            outbound: RingBuffer::new(outbound),
+        }
+    }
+
+    pub fn send(&mut self, data: &[u8]) -> usize
+        ensures { self.new ≡ (self.old.0, self.old.1 ++ take result «data».now) }
+    {
+        self.outbound.enqueue_slice(data)
+    }
+
+    pub fn receive(&mut self, data: &[u8]) -> usize
+        ensures { self.new ≡ (self.old.0 ++ take result «data».now, self.old.1) }
+    {
+        self.inbound.enqueue_slice(data)
+    }
+
+    pub fn take(&mut self, data: &mut [u8]) -> usize
+        ensures left { self.new ≡ (drop result self.old.0, self.old.1) }
+        ensures given { take result «data».new ≡ take result self.old.0 }
+    {
+        self.inbound.dequeue_slice(data)
+    }
+}
+
+/// A ring over a slice, made and dropped here.
+pub fn room_of_slice(buffer: &mut [u8]) -> usize
+    ensures { result ≡ length buffer.old }
+{
+    let ring = RingBuffer::new(ManagedSlice::Borrowed(buffer));
+    ring.window()
+}
+
+/// A ring over a vector, made and dropped here.
+pub fn room_of_vector(vector: Vec<u8>) -> usize
+    ensures { result ≡ vec_len vector }
+{
+    let ring = RingBuffer::from(ManagedSlice::from(vector));
+    ring.window()
+}

@@ -1,5 +1,0 @@
-use Rattle.net_storage.proofs.AssemblerLaws.{runs_by_number}
-use Rattle.net_storage.proofs.assembler.laws.maximal_runs_by_number.Goals as goal
-
-pub returns : goal.returns
-returns c = runs_by_number

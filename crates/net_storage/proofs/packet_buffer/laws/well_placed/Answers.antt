@@ -1,7 +1,0 @@
-use Rattle.std.proofs.Common.{subst}
-use Rattle.net_storage.specs.Packets.{IsWellPlaced}
-use Rattle.net_storage.proofs.PacketSteps.{well_placed}
-use Rattle.net_storage.proofs.packet_buffer.laws.well_placed.Goals as goal
-
-pub returns : goal.returns
-returns g c = subst (λ q. IsWellPlaced q) c.queue.view_is (well_placed c.queue.inside.slots c.queue.inside.bytes c.queue.invariant)
