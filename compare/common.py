@@ -13,6 +13,8 @@ FILES = [
     "storage/mod.rs", "storage/assembler.rs", "storage/packet_buffer.rs", "storage/ring_buffer.rs",
     "phy/mod.rs", "phy/loopback.rs", "rand.rs", "time.rs",
 ]
+# The crates of the port's workspace that stand in folders here.
+STATIC_LIBRARIES = {"net_replay": ["port", "calls"], "net_perf": ["perf"]}
 
 
 def need():
@@ -41,7 +43,7 @@ def run(words, log, **options):
 
 
 def port():
-    """A workspace with the repository's crates and `net_replay`. What `rt` keeps in out/ is taken over once."""
+    """A workspace with the repository's crates, `net_replay` and `net_perf`. What `rt` keeps in out/ is taken over once."""
     workspace = OUT / "port"
     for crate in (REPOSITORY / "crates").iterdir():
         to = workspace / "crates" / crate.name
@@ -52,14 +54,16 @@ def port():
         for part in crate.iterdir():
             if part.name != "out" or not (to / "out").exists():
                 (shutil.copytree if part.is_dir() else shutil.copy2)(part, to / part.name)
-    sources = workspace / "crates" / "net_replay" / "src"
-    shutil.rmtree(sources, ignore_errors=True)
-    sources.mkdir(parents=True)
-    for file in [*(COMPARE / "port").iterdir(), *(COMPARE / "calls").iterdir()]:
-        shutil.copy2(file, sources / file.stem)
-    shutil.copy2(REPOSITORY / "HANDLES", workspace / "HANDLES")
     lines = (REPOSITORY / "crates.txt").read_text()
-    (workspace / "crates.txt").write_text(lines + "net_replay staticlib: net_storage net_base net_receiver\n")
+    for crate, folders in STATIC_LIBRARIES.items():
+        sources = workspace / "crates" / crate / "src"
+        shutil.rmtree(sources, ignore_errors=True)
+        sources.mkdir(parents=True)
+        for file in [file for folder in folders for file in (COMPARE / folder).iterdir()]:
+            shutil.copy2(file, sources / file.stem)
+        lines += f"{crate} staticlib: net_ring net_packets net_assembler net_storage net_base net_receiver\n"
+    shutil.copy2(REPOSITORY / "HANDLES", workspace / "HANDLES")
+    (workspace / "crates.txt").write_text(lines)
     return workspace / "crates"
 
 

@@ -2,7 +2,7 @@
 """SMOLTCP=path timing.py [--samples N] [--milliseconds N] [--only WORD] [--lines N] [--runs N] [--svg FILE]
 SMOLTCP=path timing.py --peers [--samples N] [--milliseconds N] [--only WORD]
 
-Times the workloads of crates/net_perf over the port and over smoltcp in turns, and whole runs of net_bench beside
+Times the workloads of `perf` over the port and over smoltcp in turns, and whole runs of net_bench beside
 a plain program over smoltcp. Prints tables in Markdown; --svg writes the plot. Status 1 where results differ.
 With --peers: the workloads over the port and over types of std in turns, and the memory of both.
 """

@@ -2,12 +2,15 @@
 
     python3 docs/gate_times.py > gate.md
 
-It looks at the processes of the prover every 3 seconds, so a check that is shorter may be missing, and the
-last seconds of each are. The output of `rt ci` goes to standard error. Linux alone.
+It looks at the provers among its own children every 2 seconds, so the last seconds of each check are missing
+from its row, and a check that is shorter may be missing altogether; what the whole gate took, LLVM and the
+runs of tests included, is counted by the system and stands below the table. Other provers of the machine
+aren't counted. The output of `rt ci` goes to standard error. Linux alone.
 """
 import collections
 import os
 import pathlib
+import resource
 import subprocess
 import sys
 import time
@@ -16,24 +19,44 @@ KINDS = ["proof", "tests", "edits"]
 SECOND = os.sysconf("SC_CLK_TCK")
 
 
-def look(seen):
-    """Notes how long each process of the prover has run, by its number."""
+def processes():
+    """Each process with its parent, and how long it has run, its children that ended included."""
+    found = {}
     for process in pathlib.Path("/proc").glob("[0-9]*"):
         try:
-            words = (process / "cmdline").read_bytes().decode().split("\0")
+            numbers = (process / "stat").read_text().rsplit(")", 1)[1].split()
+        except OSError:
+            continue
+        found[int(process.name)] = int(numbers[1]), sum(map(int, numbers[11:15])) / SECOND
+    return found
+
+
+def descends(process, found, ancestor):
+    """Whether a process was started by this one, or by what it started."""
+    while process in found and process != ancestor:
+        process = found[process][0]
+    return process == ancestor
+
+
+def look(seen, gate):
+    """Notes how long each prover of the gate has run, by its number."""
+    found = processes()
+    for number, (_, taken) in found.items():
+        folder = pathlib.Path("/proc") / str(number)
+        try:
+            words = (folder / "cmdline").read_bytes().decode().split("\0")
             if not words[0].endswith("/rattle") or "--crate-name" not in words:
                 continue
-            numbers = (process / "stat").read_text().rsplit(")", 1)[1].split()
-            is_edit = "rt-edit-" in os.readlink(process / "cwd")
-        except (OSError, IndexError):
+            is_edit = "rt-edit-" in os.readlink(folder / "cwd")
+        except OSError:
             continue
-        kind = "edits" if is_edit else "tests" if "--test" in words else "proof"
-        crate = words[words.index("--crate-name") + 1]
-        seen[process.name] = crate, kind, sum(map(int, numbers[11:15])) / SECOND
+        if descends(number, found, gate):
+            kind = "edits" if is_edit else "tests" if "--test" in words else "proof"
+            seen[number] = words[words.index("--crate-name") + 1], kind, taken
 
 
-def table(seen, seconds):
-    """The rows, the longest first, and the sum."""
+def table(seen):
+    """The rows, the longest first, and their sum."""
     spent = collections.Counter()
     for crate, kind, taken in seen.values():
         spent[crate, kind] += taken
@@ -42,7 +65,6 @@ def table(seen, seconds):
         print(f"| `{crate}` | " + " | ".join(f"{spent[crate, kind]:.0f}" for kind in KINDS) + " |")
     sums = [sum(taken for (_, it), taken in spent.items() if it == kind) for kind in KINDS]
     print("| all | " + " | ".join(f"{it:.0f}" for it in sums) + " |")
-    print(f"\nSeconds of processor time, {sum(sums) / 60:.0f} minutes in all; {seconds / 60:.0f} minutes by the clock.")
 
 
 def main():
@@ -51,9 +73,13 @@ def main():
     seen, begun = {}, time.monotonic()
     gate = subprocess.Popen(["rt", "ci"], cwd=pathlib.Path(__file__).resolve().parent.parent, stdout=sys.stderr)
     while gate.poll() is None:
-        look(seen)
-        time.sleep(3)
-    table(seen, time.monotonic() - begun)
+        look(seen, gate.pid)
+        time.sleep(2)
+    minutes = (time.monotonic() - begun) / 60
+    table(seen)
+    used = resource.getrusage(resource.RUSAGE_CHILDREN)
+    print("\nSeconds of processor time. The whole gate took ", end="")
+    print(f"{(used.ru_utime + used.ru_stime) / 60:.0f} minutes of it, and {minutes:.0f} by the clock.")
     sys.exit(gate.returncode)
 
 

@@ -40,6 +40,3 @@ pub use ranges::came;
 pub use refused::requests_for_a_list;
 pub use send_frame::send_bytes;
 pub use timer::Timer;
-
-#[cfg(test)]
-mod tests;

@@ -9,7 +9,7 @@ const MOST_REQUESTS: usize = 1_000_000;
 ///
 /// Each call of `run` begins anew, with the memory that it is given, and returns whether it succeeded.
 /// It has to fail exactly if a request was refused: `None` if a call fails where none was, or succeeds
-/// where one was.
+/// where one was. And it has to give all memory back: `None` if a call keeps some.
 ///
 /// # Requires
 ///
@@ -24,7 +24,7 @@ pub fn refuse_each<A: Allocator + Copy, F: FnMut(&Refusing<A>) -> bool>(
         let memory = Refusing::new(alloc, refused);
         let succeeded = run(&memory);
         let was_refused = memory.requests() > refused;
-        if succeeded == was_refused {
+        if succeeded == was_refused || memory.live() > 0 {
             return None;
         }
         if succeeded {

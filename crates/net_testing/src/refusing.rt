@@ -1,8 +1,8 @@
 use crate::requests::Requests;
 use std::alloc::{AllocError, Allocator, Global};
 
-/// An allocator that counts the requests for memory and their bytes, and refuses exactly one of
-/// them.
+/// An allocator that counts the requests for memory and their bytes, and what is given back, and
+/// refuses exactly one of the requests.
 ///
 /// Each growth of a list is a request too, and a list whose growth is refused stays as it was. A
 /// `&Refusing` is an allocator that is copied.
@@ -30,6 +30,18 @@ impl<A: Allocator> Refusing<A> {
     pub fn bytes(&self) -> usize {
         self.requests.bytes()
     }
+
+    /// How many bytes of the requests that weren't refused were not given back: 0 once all that was
+    /// made of this memory is dropped.
+    pub fn live(&self) -> usize {
+        self.requests.live()
+    }
+
+    /// The most bytes that weren't given back at once. While a list grows, its old room and its new
+    /// one both count.
+    pub fn most(&self) -> usize {
+        self.requests.most()
+    }
 }
 
 unsafe impl<A: Allocator> Allocator for Refusing<A> {
@@ -43,6 +55,7 @@ unsafe impl<A: Allocator> Allocator for Refusing<A> {
     }
 
     unsafe fn deallocate(&self, ptr: *mut u8, size: usize, align: usize) {
+        self.requests.gives_back(size);
         self.inner.deallocate(ptr, size, align);
     }
 }
@@ -55,6 +68,3 @@ impl<A: Allocator> Drop for Refusing<A> {
         } = self;
     }
 }
-
-#[cfg(test)]
-mod tests;

@@ -1,10 +1,13 @@
 use std::cell::Cell;
 
-/// The requests for memory so far, their bytes, and the number of the request to refuse.
+/// The requests for memory so far, their bytes, how many of these weren't given back, and the number
+/// of the request to refuse.
 #[derive(Drop)]
 pub struct Requests {
     made: Cell<usize>,
     asked: Cell<usize>,
+    live: Cell<usize>,
+    most: Cell<usize>,
     refused: usize,
 }
 
@@ -14,6 +17,8 @@ impl Requests {
         Requests {
             made: Cell::new(0),
             asked: Cell::new(0),
+            live: Cell::new(0),
+            most: Cell::new(0),
             refused,
         }
     }
@@ -28,11 +33,32 @@ impl Requests {
         self.asked.get()
     }
 
+    /// How many bytes of those that were granted weren't given back.
+    pub fn live(&self) -> usize {
+        self.live.get()
+    }
+
+    /// The most bytes that weren't given back at once.
+    pub fn most(&self) -> usize {
+        self.most.get()
+    }
+
     /// Counts one more, of so many bytes, and returns whether it is the one to refuse.
     pub fn refuses_next(&self, size: usize) -> bool {
         let number = self.made.get();
         self.made.set(number.saturating_add(1));
         self.asked.set(self.asked.get().saturating_add(size));
-        number == self.refused
+        if number == self.refused {
+            return true;
+        }
+        let live = self.live.get().saturating_add(size);
+        self.live.set(live);
+        self.most.set(self.most.get().max(live));
+        false
+    }
+
+    /// Counts that so many bytes are given back.
+    pub fn gives_back(&self, size: usize) {
+        self.live.set(self.live.get().saturating_sub(size));
     }
 }

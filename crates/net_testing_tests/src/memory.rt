@@ -1,5 +1,7 @@
-use super::*;
-use crate::refusals::refuse_each;
+//! Memory that is counted and refused.
+
+use net_testing::{NEVER, Refusing, refuse_each};
+use std::alloc::{AllocError, Global};
 
 /// Makes so many requests of `size` bytes each, of which the one of number `refused` is refused.
 /// Returns whether that one was, and no other.
@@ -43,6 +45,46 @@ fn a_list_keeps_its_bytes_where_it_can_not_grow(rt: HostRuntime) -> Result<(), A
     Ok(())
 }
 
+/// A list that grows asks for its new room before it gives its old one back, and gives all back when
+/// it is dropped.
+#[test]
+fn what_is_given_back_is_counted(rt: HostRuntime) {
+    let memory = Refusing::new(rt.alloc(), NEVER);
+    assert!(rt; grows_from_eight(&memory));
+    assert_eq!(rt; memory.live(), 0);
+    assert!(rt; keeps_a_block(&memory, 5));
+    assert_eq!(rt; memory.live(), 0);
+}
+
+/// Whether eight bytes are live while a list of eight is there, and more than both rooms never are.
+fn grows_from_eight(memory: &Refusing) -> bool {
+    let made: Result<Vec<u8, &Refusing>, AllocError> = Vec::from_slice(memory, b"abcdefgh");
+    let Ok(mut bytes) = made else {
+        return false;
+    };
+    let is_alone = memory.live() == 8 && memory.most() == 8;
+    if bytes.push(b'i').is_err() {
+        return false;
+    }
+    let room = memory.bytes().saturating_sub(8);
+    is_alone && room > 8 && memory.live() == room && memory.most() == room.saturating_add(8)
+}
+
+/// Whether so many bytes are live while a block of them is there, and the most that were stays.
+fn keeps_a_block(memory: &Refusing, size: usize) -> bool {
+    let most = memory.most();
+    let block: Result<Vec<u8, &Refusing>, AllocError> = Vec::with_capacity(memory, size);
+    block.is_ok() && memory.live() == size && memory.most() == most
+}
+
+/// A refused request is no memory that is live.
+#[test]
+fn refused_bytes_are_not_live(rt: HostRuntime) {
+    let memory = Refusing::new(rt.alloc(), 0);
+    assert!(rt; !keeps_a_block(&memory, 5) && memory.bytes() == 5);
+    assert!(rt; memory.live() == 0 && memory.most() == 0);
+}
+
 /// Whether a list of eight bytes is made and grows by one, and whether each was tried.
 fn makes_and_grows(memory: &Refusing) -> bool {
     let made: Result<Vec<u8, &Refusing>, AllocError> = Vec::from_slice(memory, b"abcdefgh");
@@ -66,4 +108,23 @@ fn each_request_of_a_run_is_refused_in_turn(rt: HostRuntime) {
         makes_and_grows(memory) || runs == 2
     });
     assert_eq!(rt; gives_up, None);
+}
+
+/// A block that is never given back is seen, though the run succeeds.
+#[test]
+fn memory_that_is_kept_is_seen(rt: HostRuntime) {
+    let kept = refuse_each(rt.alloc(), |memory| forgets_a_list(memory));
+    assert_eq!(rt; kept, None);
+}
+
+/// Makes a list that is never dropped, and returns whether it was made.
+fn forgets_a_list(memory: &Refusing) -> bool {
+    let made: Result<Vec<u8, &Refusing>, AllocError> = Vec::from_slice(memory, b"abcdefgh");
+    match made {
+        Ok(bytes) => {
+            std::mem::forget(bytes);
+            true
+        }
+        Err(AllocError) => false,
+    }
 }

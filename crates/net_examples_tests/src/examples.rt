@@ -1,11 +1,11 @@
 //! Examples as their users call them.
 
-use crate::{
+use net_base::phy::{Device, Loopback, Medium};
+use net_base::time::{Duration, Instant};
+use net_examples::{
     Counted, Outbox, Timer, Undamaged, ask, line_end, over_a_bad_link, pass_through, receive,
     requests_for_a_list, send_bytes, take_line,
 };
-use net_base::phy::{Device, Loopback, Medium};
-use net_base::time::{Duration, Instant};
 use net_receiver::Receiver;
 use net_ring::{ManagedSlice, RingBuffer};
 use net_stream::{Counts, Fates, Link, Rates};

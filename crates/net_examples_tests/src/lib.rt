@@ -1,0 +1,7 @@
+//! The tests of `net_examples`: each example as its users call it.
+//!
+//! They stand in a crate of their own, so that the examples are proved once.
+#![tactic(auto)]
+
+#[cfg(test)]
+mod examples;
