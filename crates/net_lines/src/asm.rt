@@ -13,8 +13,8 @@ use crate::fault::Fault;
 use crate::session::Session;
 use crate::words::Words;
 use crate::{text, words};
-use net_program::number;
 use net_assembler::Assembler;
+use net_program::number;
 use std::alloc::{AllocError, Allocator};
 use std::marker::Model;
 

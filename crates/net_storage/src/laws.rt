@@ -9,10 +9,11 @@ ghost use Rattle.net_ring.specs.Overwrite.{overwrite};
 ghost use Rattle.net_assembler.specs.Positions.{Positions, with_range, front, nothing};
 ghost use Rattle.net_storage.specs.Reassembly.{Reassembles, is_in_writes, newest_element};
 
-pub use net_assembler::laws::{front_after_remove_front, member_after_with_range, ranges_in_any_order};
-pub use net_ring::laws::element_after_overwrite;
-
 use net_assembler::assembler::laws::{front as front_is_least, members};
+pub use net_assembler::laws::{
+    front_after_remove_front, member_after_with_range, ranges_in_any_order,
+};
+pub use net_ring::laws::element_after_overwrite;
 
 /// A buffer that is written over wherever lists come, with the set of the positions that were: one
 /// more write and its range keep the two true to the writes, and below the front of the set no

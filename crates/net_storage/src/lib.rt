@@ -7,9 +7,8 @@
 
 pub mod laws;
 
-pub use net_assembler::assembler;
-pub use net_assembler::{Assembler, IterData, TooManyHolesError, Turns};
-pub use net_packets::packet_buffer;
-pub use net_packets::{PacketBuffer, PacketMetadata, Packets};
-pub use net_ring::ring_buffer;
-pub use net_ring::{Elements, Empty, Full, ManagedSlice, Resettable, Ring, RingBuffer};
+pub use net_assembler::{Assembler, IterData, TooManyHolesError, Turns, assembler};
+pub use net_packets::{PacketBuffer, PacketMetadata, Packets, packet_buffer};
+pub use net_ring::{
+    Elements, Empty, Full, ManagedSlice, Resettable, Ring, RingBuffer, ring_buffer,
+};

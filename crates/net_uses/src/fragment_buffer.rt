@@ -6,8 +6,8 @@ ghost use Rattle.net_assembler.specs.Positions.{nothing};
 ghost use Rattle.net_assembler.specs.Assembler.{MakesTooManyRuns};
 ghost use Rattle.net_uses.specs.Fragments.{with_fragment, IsComplete};
 
-use net_base::time::Instant;
 use net_assembler::{Assembler, assembler};
+use net_base::time::Instant;
 use net_ring::{Elements, ManagedSlice};
 use std::marker::Model;
 

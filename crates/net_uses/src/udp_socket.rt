@@ -12,8 +12,8 @@ ghost use Rattle.net_uses.specs.Datagrams.{CopiesFirst, TakesDatagram, GivesAtDa
 ghost use Rattle.net_uses.specs.Datagrams.{TakesFirstDatagram, Dispatches};
 
 use crate::endpoint::Endpoint;
-use net_packets::packet_buffer::laws;
 use net_packets::PacketBuffer;
+use net_packets::packet_buffer::laws;
 use net_ring::{Empty, Full, ring_buffer};
 use std::marker::Model;
 
