@@ -6,3 +6,6 @@ pub mod laws;
 
 pub use duration::Duration;
 pub use instant::Instant;
+
+/// The bytes of the longest text, that of the first moment.
+const LONGEST_TEXT: usize = 20;

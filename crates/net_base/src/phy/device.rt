@@ -1,5 +1,5 @@
 ghost use Rattle.std.specs.Prelude.{◌≡◌, ℕ, List, length, replicate};
-ghost use Rattle.std.specs.Prelude.{MatchOption, IfNone, IfOk, OnErr};
+ghost use Rattle.std.specs.Prelude.{MatchOption, IfNone, IfSome, IfOk, OnErr};
 ghost use Rattle.std.specs.Fn.{FnOnceReturnsAtMut, FnOnceTakesAtMut};
 ghost use Rattle.net_base.specs.declared.phy.device_capabilities.DeviceCapabilities.{DeviceCapabilities};
 
@@ -32,6 +32,10 @@ pub trait Device {
     /// Holds of a device whose `transmit` may return `None`. By default nothing is said of one.
     ghost is_busy: { Self → Type 0 } = { λ _. Unit {0} };
 
+    /// Holds of a device whose `transmit` may return a token. By default nothing is said of one. A
+    /// device with room of its own for frames says here that some is free.
+    ghost is_free: { Self → Type 0 } = { λ _. Unit {0} };
+
     /// A frame was sent: what the device was, the frame, what it is.
     ghost sent: { Self → List ℕ → Self → Type 0 };
 
@@ -56,12 +60,14 @@ pub trait Device {
         ensures { MatchOption result (is_idle self.old × idled self.old self.new)
             (λ tokens. taken self.old (Self.RxToken.bytes tokens.0) self.new) };
 
-    /// A token to send one frame with. Returns `None` only if `is_busy` holds of the device, as the
-    /// device states it. The device stays as it was in both cases.
+    /// A token to send one frame with. Returns `None` only if `is_busy` holds of the device, and a
+    /// token only if `is_free` does, as the device states them. The device stays as it was in both
+    /// cases.
     ///
     /// The timestamp is the moment of the call. Any moment is allowed.
     fn transmit(&mut self, timestamp: Instant) -> Option<Self::TxToken>
         ensures none { IfNone result (is_busy self.old) }
+        ensures some { IfSome result (λ _. is_free self.old) }
         ensures unchanged { self.new ≡ self.old };
 
     /// What the device can do.

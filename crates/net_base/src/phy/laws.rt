@@ -11,8 +11,9 @@ ghost use Rattle.net_base.specs.declared.phy.medium.Medium.TheVariants.{Ethernet
 
 use crate::phy::{
     Checksum, ChecksumCapabilities, DeviceCapabilities, IPV4_FRAGMENT_PAYLOAD_ALIGNMENT, Medium,
-    NonZeroU16, NonZeroUsize, PacketMeta, SegmentationCapabilities,
+    NonZeroU16, NonZeroUsize, PacketMeta, RxToken, SegmentationCapabilities, TxToken, loopback,
 };
+use std::alloc::Allocator;
 use std::hash::Hash;
 
 /// The payload of each IPv4 fragment but the last is a multiple of 8 bytes.
@@ -21,6 +22,19 @@ pub fn fragment_payload_alignment() -> usize
 {
     IPV4_FRAGMENT_PAYLOAD_ALIGNMENT
 }
+
+/// A frame of a loopback device has no metadata.
+pub fn loopback_metadata<A: Allocator + Copy>(frame: &loopback::RxToken<A>) -> PacketMeta
+    ensures { result ≡ no_metadata }
+{
+    frame.meta()
+}
+
+/// The tokens of a loopback device are plain.
+pub fn loopback_tokens<A: Allocator + Copy>(rx: &loopback::RxToken<A>, tx: &loopback::TxToken)
+    ensures received { ⟦<loopback::RxToken<A> as RxToken>⟧.is_plain rx.now }
+    ensures sent { ⟦<loopback::TxToken as TxToken>⟧.is_plain tx.now }
+{}
 
 /// Two packets' metadata are equal exactly if they are the same, and then they hash alike, by any
 /// hasher. What a hasher is fed is the identifier and the segment size.

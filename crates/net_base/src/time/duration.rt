@@ -1,9 +1,11 @@
 ghost use Rattle.std.specs.Prelude.{◌≡◌, ◌↔◌, IsTrue, Some, ◌+◌, ◌-◌, ◌*◌, ◌/◌, ◌%◌, ◌^◌, ◌<◌, ◌≤◌};
-ghost use Rattle.std.specs.Prelude.{min, SomeIff};
+ghost use Rattle.std.specs.Prelude.{min, SomeIff, IfOk};
+ghost use Rattle.std.specs.Fmt.InlineText.{inline_text};
 ghost use Rattle.std.specs.Duration.{as_nanos};
 ghost use Rattle.net_base.specs.Time.{IsLength, length_millis, length_text};
 
-use std::fmt;
+use crate::time::LONGEST_TEXT;
+use std::fmt::{self, InlineText, Write};
 use std::marker::Model;
 use std::ops::{
     Add, AddAssign, Div, DivAssign, Mul, MulAssign, Shl, ShlAssign, Shr, ShrAssign, Sub, SubAssign,
@@ -219,6 +221,17 @@ impl Duration {
     {
         Duration::from_micros(self.micros.saturating_mul(u64::from(rhs)))
     }
+
+    /// The text of the length, whatever the options.
+    fn text(&self) -> Result<InlineText<LONGEST_TEXT>, fmt::Error>
+        ensures { IfOk result (λ text. inline_text text ≡ length_text self.now) }
+    {
+        let secs = self.secs();
+        let millis = self.millis();
+        let mut text = InlineText::new();
+        write!(text, "{secs}.{millis:03}s")?;
+        Ok(text)
+    }
 }
 
 /// `{secs}.{millis}s`, the milliseconds filled on the left by the digit 0 to three places:
@@ -226,10 +239,11 @@ impl Duration {
 impl fmt::Display for Duration {
     ghost output = { λ d. Some (length_text d) };
 
+    ghost styled_output = { λ d _. Some (length_text d) };
+
     fn fmt<W: fmt::Write>(&self, f: &mut fmt::Formatter<W>) -> fmt::Result {
-        let secs = self.secs();
-        let millis = self.millis();
-        write!(f, "{secs}.{millis:03}s")
+        let text = self.text()?;
+        f.write_str(text.as_str())
     }
 }
 

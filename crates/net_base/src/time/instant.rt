@@ -1,11 +1,12 @@
 ghost use Rattle.std.specs.Prelude.{◌≡◌, ◌↔◌, ◌-◌, ◌^◌, IsTrue, Some, pos, ◌+ℤ◌, ◌-ℤ◌, ◌*ℤ◌};
 ghost use Rattle.std.specs.Prelude.{int_div};
-ghost use Rattle.std.specs.Prelude.{negsuc, SomeIff};
+ghost use Rattle.std.specs.Prelude.{negsuc, SomeIff, IfOk};
+ghost use Rattle.std.specs.Fmt.InlineText.{inline_text};
 ghost use Rattle.net_base.specs.Time.{IsMoment, moment_secs, moment_micros, moment_millis};
 ghost use Rattle.net_base.specs.Time.{moment_text, distance};
 
-use crate::time::Duration;
-use std::fmt;
+use crate::time::{Duration, LONGEST_TEXT};
+use std::fmt::{self, InlineText, Write};
 use std::marker::Model;
 use std::ops::{Add, AddAssign, Sub, SubAssign};
 
@@ -197,6 +198,17 @@ impl Instant {
             Instant::from_micros(i64::MIN)
         }
     }
+
+    /// The text of the moment, whatever the options.
+    fn text(&self) -> Result<InlineText<LONGEST_TEXT>, fmt::Error>
+        ensures { IfOk result (λ text. inline_text text ≡ moment_text self.now) }
+    {
+        let secs = self.secs();
+        let millis = self.millis();
+        let mut text = InlineText::new();
+        write!(text, "{secs}.{millis:0>3}s")?;
+        Ok(text)
+    }
 }
 
 /// `{secs}.{millis}s`, the milliseconds filled on the left by the digit 0 to three places. The
@@ -205,10 +217,11 @@ impl Instant {
 impl fmt::Display for Instant {
     ghost output = { λ i. Some (moment_text i) };
 
+    ghost styled_output = { λ i _. Some (moment_text i) };
+
     fn fmt<W: fmt::Write>(&self, f: &mut fmt::Formatter<W>) -> fmt::Result {
-        let secs = self.secs();
-        let millis = self.millis();
-        write!(f, "{secs}.{millis:0>3}s")
+        let text = self.text()?;
+        f.write_str(text.as_str())
     }
 }
 

@@ -3,9 +3,12 @@
 ghost use Rattle.std.specs.Prelude.{◌≡◌, ◌↔◌, ◌-◌, ◌^◌, ◌<◌, ◌<ℤ◌, pos, IsTrue, Some};
 ghost use Rattle.std.specs.Ordering.{MatchOrdering};
 ghost use Rattle.std.specs.Prelude.{◌+◌, ◌+ℤ◌, ◌-ℤ◌};
-ghost use Rattle.net_base.specs.Time.{distance, IsMoment, IsLength};
+ghost use Rattle.std.specs.Prelude.{ℕ};
+ghost use Rattle.std.specs.Fmt.{format_spec};
+ghost use Rattle.net_base.specs.Time.{distance, IsMoment, IsLength, moment_text, length_text};
 
 use crate::time::{Duration, Instant};
+use std::fmt::Display;
 
 /// The origin is 0 microseconds.
 pub fn instant_zero() -> Instant
@@ -117,4 +120,18 @@ pub fn duration_clone(duration: &Duration, clone: &Duration)
 /// The default length is zero.
 pub fn duration_default(duration: &Duration)
     ensures { ⟦<Duration as Default>⟧.is_default duration.now → duration.now ≡ 0 }
+{}
+
+/// No option changes the text of a moment.
+pub fn instant_text(instant: &Instant)
+    ensures { (fill align flags width precision : ℕ)
+        → ⟦<Instant as Display>⟧.styled_output instant.now (format_spec fill align flags width precision)
+        ≡ Some (moment_text instant.now) }
+{}
+
+/// No option changes the text of a length.
+pub fn duration_text(duration: &Duration)
+    ensures { (fill align flags width precision : ℕ)
+        → ⟦<Duration as Display>⟧.styled_output duration.now (format_spec fill align flags width precision)
+        ≡ Some (length_text duration.now) }
 {}
