@@ -8,7 +8,8 @@ PORT, NOISE = "#1f5fbf", "#b0b0b0"
 
 
 def svg(rows):
-    """A line for each row: the ratio to the original, with its middle half, over the original's own noise.
+    """A line for each row: the ratio to the original over placements, from the lowest to the highest, over the
+    original's by itself.
 
     What lies outside the ticks is drawn at the edge.
     """
@@ -22,9 +23,9 @@ def svg(rows):
         f'<rect width="{WIDTH}" height="{bottom + 40}" fill="#ffffff"/>',
         f'<text x="12" y="20" font-size="14">Time by the time of smoltcp (below 1: this library is faster)</text>',
         f'<circle cx="{LEFT + 6}" cy="38" r="4" fill="{PORT}"/>',
-        f'<text x="{LEFT + 16}" y="42">this library: median of neighbours, middle half</text>',
-        f'<rect x="{LEFT + 300}" y="33" width="14" height="10" fill="{NOISE}"/>',
-        f'<text x="{LEFT + 320}" y="42">smoltcp by itself, middle half</text>',
+        f'<text x="{LEFT + 16}" y="42">this library: median of placements, lowest to highest</text>',
+        f'<rect x="{LEFT + 320}" y="33" width="14" height="10" fill="{NOISE}"/>',
+        f'<text x="{LEFT + 340}" y="42">smoltcp by itself, lowest to highest</text>',
     ]
     for tick in TICKS:
         colour, width = ("#000000", 1.2) if tick == 1 else ("#dddddd", 1)

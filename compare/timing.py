@@ -1,10 +1,12 @@
 #!/usr/bin/env python3
-"""SMOLTCP=path timing.py [--samples N] [--milliseconds N] [--only WORD] [--lines N] [--runs N] [--svg FILE]
+"""SMOLTCP=path timing.py [--once] [--samples N] [--milliseconds N] [--only WORD] [--lines N] [--runs N] [--svg FILE]
 SMOLTCP=path timing.py --peers [--samples N] [--milliseconds N] [--only WORD]
 
-Times the workloads of `perf` over the port and over smoltcp in turns, and whole runs of net_bench beside
-a plain program over smoltcp. Prints tables in Markdown; --svg writes the plot. Status 1 where results differ.
-With --peers: the workloads over the port and over types of std in turns, and the memory of both.
+Times the workloads of `perf` over the port and over smoltcp in turns, each side linked once for each placement of
+its code, counts instructions and branches if valgrind is there, and times whole runs of net_bench beside a plain
+program over smoltcp. Prints tables in Markdown; --svg writes the plot. Status 1 if results differ.
+With --once: one placement. With --peers: the workloads over the port and over types of std in turns, and the memory
+of both.
 """
 import argparse
 import datetime
@@ -12,9 +14,11 @@ import math
 import os
 import platform
 import random
+import shutil
 import statistics
 import subprocess
 import sys
+import tempfile
 import time
 from pathlib import Path
 
@@ -26,14 +30,35 @@ import plot
 FLAGS = "-C target-cpu=x86-64-v2"
 
 
-def workloads(built, arguments):
+# Functions begin at multiples of 16 bytes, and a processor fetches code in blocks of 64.
+PLACEMENTS = [0, 16, 32, 48]
+# Where a side's code begins, before it is moved by a placement.
+TEXT = 0x400000
+SYSTEM = ["-lgcc_s", "-lutil", "-lrt", "-lpthread", "-lm", "-ldl", "-lc"]
+
+
+def placed(built, name, libraries, placements):
+    """A side as shared libraries, one for each placement of its code."""
+    paths = []
+    for pad in placements:
+        path = built / f"{name}_{pad}.so"
+        words = ["cc", "-shared", "-fuse-ld=bfd", "-o", path, "-Wl,-Bsymbolic", "-Wl,-u,side_workloads"]
+        words += [f"-Wl,-Ttext={TEXT + pad:#x}", built / f"lib{name}.a", *libraries, *SYSTEM]
+        common.run(words, f"link_{path.stem}")
+        paths.append(str(path))
+    return ":".join(paths)
+
+
+def driver(built, sides, arguments, *more):
+    """The driver's command."""
+    words = [built / "driver", *sides, "--samples", str(arguments.samples)]
+    words += ["--milliseconds", str(arguments.milliseconds), *more]
+    return words + (["--only", arguments.only] if arguments.only else [])
+
+
+def workloads(built, sides, arguments):
     """The driver's rows: group, name, and the numbers of its line; and what differs."""
-    words = [built / "driver", built / "libagain.so", "--samples", str(arguments.samples)]
-    words += ["--milliseconds", str(arguments.milliseconds)]
-    if arguments.only:
-        words += ["--only", arguments.only]
-    if arguments.peers:
-        words += ["--peers"]
+    words = driver(built, sides, arguments, *["--peers"] * arguments.peers)
     done = subprocess.run(words, stdout=subprocess.PIPE, text=True)
     lines = [line.split("\t") for line in done.stdout.splitlines()]
     differ = [line[1] for line in lines if line[0] == "DIFFER"]
@@ -43,22 +68,76 @@ def workloads(built, arguments):
     return rows, differ
 
 
+def counted(built, sides, arguments):
+    """Of each row: instructions and branches a call, of the port and of smoltcp. None without valgrind."""
+    if not shutil.which("valgrind"):
+        return None
+    with tempfile.TemporaryDirectory() as folder:
+        out = Path(folder) / "counts"
+        words = ["valgrind", "--tool=callgrind", "--branch-sim=yes", f"--callgrind-out-file={out}"]
+        words += ["--zero-before=count_begin", "--dump-before=count_end"]
+        words += driver(built, sides, arguments, "--count")
+        done = subprocess.run(words, stdout=subprocess.PIPE, stderr=subprocess.DEVNULL, text=True, check=True)
+        counts = {}
+        at = 0
+        for line in done.stdout.splitlines():
+            name, calls = line.split("\t")
+            totals = []
+            for _ in range(4):
+                at += 1
+                totals.append(total(Path(f"{out}.{at}")))
+            difference = lambda short, long: [(b - a) / int(calls) for a, b in zip(totals[short], totals[long])]
+            counts[name] = difference(0, 1) + difference(2, 3)
+        return counts
+
+
+def total(dump):
+    """The instructions and the branches, conditional and indirect, of a file of callgrind."""
+    lines = dump.read_text().splitlines()
+    events = next(line for line in lines if line.startswith("events:")).split()[1:]
+    numbers = next(line for line in lines if line.startswith(("totals:", "summary:"))).split()[1:]
+    known = dict(zip(events, map(int, numbers)))
+    return known["Ir"], known.get("Bc", 0) + known.get("Bi", 0)
+
+
 def mean(ratios):
     return math.exp(statistics.fmean(map(math.log, ratios)))
 
 
-def workload_tables(rows, other="Original", ratios=("Pairs", "Noise")):
-    ratios = " | ".join(ratios)
+def groups_of(rows, at):
+    """The mean of a column for each group of rows."""
     groups = {}
-    for group, _, _, _, pairs, _, _, noise, _, _ in rows:
-        groups.setdefault(group, []).append((pairs, noise))
-    print(f"| Group | {ratios} |\n|---|---:|---:|")
-    for group, both in groups.items():
-        pairs, noise = zip(*both)
-        print(f"| {group} | {mean(pairs):.2f} | {mean(noise):.2f} |")
-    print(f"\n| Row | {other}, ns | Here, ns | {ratios} |\n|---|---:|---:|---:|---:|")
-    for _, name, original, port, pairs, _, _, noise, _, _ in rows:
-        print(f"| {name} | {original:.2f} | {port:.2f} | {pairs:.2f} | {noise:.2f} |")
+    for row in rows:
+        groups.setdefault(row[0], []).append(row[at])
+    return {group: mean(column) for group, column in groups.items()}
+
+
+def workload_tables(rows, counts):
+    """Over placements: the median of the ratios, the lowest and the highest, and smoltcp by itself."""
+    print("| Group | Median | Lowest | Highest | smoltcp by itself |\n|---|---:|---:|---:|---:|")
+    columns = [groups_of(rows, at) for at in (4, 5, 6, 9)]
+    for group in columns[0]:
+        median, lowest, highest, itself = (column[group] for column in columns)
+        print(f"| {group} | {median:.2f} | {lowest:.2f} | {highest:.2f} | {itself:.2f} |")
+    print("\n| Row | Original, ns | Here, ns | Median | Lowest | Highest | smoltcp by itself "
+          "| Instructions, original | Here | Branches, original | Here |")
+    print("|---|---:|---:|---:|---:|---:|---:|---:|---:|---:|---:|")
+    for _, name, original, port, median, lowest, highest, _, _, itself in rows:
+        here, branches, there, other = counts[name] if counts else [None] * 4
+        number = lambda value: "not counted" if value is None else f"{value:.1f}"
+        print(f"| {name} | {original:.2f} | {port:.2f} | {median:.2f} | {lowest:.2f} | {highest:.2f} | {itself:.2f} "
+              f"| {number(there)} | {number(here)} | {number(other)} | {number(branches)} |")
+
+
+def peer_tables(rows):
+    for at, title in ((4, "Here by std"), (5, "smoltcp by std")):
+        print(f"| Group | {title} |\n|---|---:|")
+        for group, ratio in groups_of(rows, at).items():
+            print(f"| {group} | {ratio:.2f} |")
+        print()
+    print("| Row | Std, ns | Here, ns | Here by std | smoltcp by std |\n|---|---:|---:|---:|---:|")
+    for _, name, std, port, here, smoltcp in rows:
+        print(f"| {name} | {std:.2f} | {port:.2f} | {here:.2f} | {smoltcp:.2f} |")
 
 
 def memory_table(built):
@@ -138,8 +217,9 @@ def machine():
 
 def main():
     parser = argparse.ArgumentParser(description=__doc__, formatter_class=argparse.RawDescriptionHelpFormatter)
-    parser.add_argument("--samples", type=int, default=31)
-    parser.add_argument("--milliseconds", type=float, default=3)
+    parser.add_argument("--once", action="store_true")
+    parser.add_argument("--samples", type=int, default=15)
+    parser.add_argument("--milliseconds", type=float, default=2)
     parser.add_argument("--only")
     parser.add_argument("--lines", type=int, default=200_000)
     parser.add_argument("--runs", type=int, default=9)
@@ -149,16 +229,20 @@ def main():
     if arguments.peers:
         arguments.lines = 0
     smoltcp = common.need()
-    libraries = f"{common.static_library('net_perf')}:{common.allocator()}"
-    built = common.cargo("release", ["driver", "again", "plain"], smoltcp, PORT_LIBS=libraries, RUSTFLAGS=FLAGS)
+    libraries = [common.static_library("net_perf"), common.allocator()]
+    packages = ["driver", "side_original", "side_port", "plain"]
+    built = common.cargo("release", packages, smoltcp, PORT_LIBS=":".join(map(str, libraries)), RUSTFLAGS=FLAGS)
+    placements = PLACEMENTS[:1] if arguments.once or arguments.peers else PLACEMENTS
+    sides = [placed(built, "side_port", libraries, placements), placed(built, "side_original", [], placements)]
     bench = common.program("net_bench", ["ring", "1"]) if arguments.lines else None
-    print(f"{datetime.date.today()}; {machine()}; {arguments.samples} samples of {arguments.milliseconds:g} ms a row\n")
-    rows, differ = workloads(built, arguments)
+    print(f"{datetime.date.today()}; {machine()}; {len(placements)} placements of each side, "
+          f"{arguments.samples} samples of {arguments.milliseconds:g} ms a row and placement\n")
+    rows, differ = workloads(built, sides, arguments)
     if arguments.peers:
-        workload_tables(rows, "Std", ("Here by std", "smoltcp by std"))
+        peer_tables(rows)
         memory_table(built)
     else:
-        workload_tables(rows)
+        workload_tables(rows, counted(built, [path.split(":")[0] for path in sides], arguments))
         if arguments.svg:
             Path(arguments.svg).write_text(plot.svg(rows))
     if arguments.lines:

@@ -1,33 +1,34 @@
-//! Times the port, smoltcp, and smoltcp built a second time, in turns in one process; with `--peers` the port,
-//! a type of std, and smoltcp.
+//! Times the port and smoltcp over placements of their code, in turns in one process; with `--peers` the port,
+//! a type of std, and smoltcp; with `--count` runs each row for a counter of instructions.
 //!
-//! `driver AGAIN.so [--peers] [--samples N] [--milliseconds N] [--only WORD]`: a line of words, parted by tabs,
-//! for each row. Status 1 if a checksum, the storage or the sink differs.
-mod port;
+//! `driver PORT.so[:..] ORIGINAL.so[:..] [--peers | --count] [--samples N] [--milliseconds N] [--only WORD]`: a
+//! line of words, parted by tabs, for each row. Status 1 if a checksum, the storage or the sink differs.
 mod rows;
 
 use peers::PEERS;
-use port::PORT;
 use rows::Row;
 use std::ffi::{CString, c_char, c_int, c_void};
 use std::hint::black_box;
 use std::process::ExitCode;
 use std::time::Instant;
-use workloads::{COUNT, Memory, NAMES, ORIGINAL, Part, Workload};
+use workloads::{COUNT, Memory, NAMES, Part, Workload};
+
+/// The rounds of the two runs that are counted: what the longer one takes beyond the shorter is what is counted.
+const COUNTED: [u64; 2] = [40, 140];
 
 unsafe extern "C" {
     fn dlopen(path: *const c_char, flags: c_int) -> *mut c_void;
     fn dlsym(library: *mut c_void, name: *const c_char) -> *mut c_void;
 }
 
-/// The workloads of smoltcp's second build.
-fn again(path: &str) -> &'static [Workload; COUNT] {
+/// The workloads of a side, in one placement.
+fn side(path: &str) -> &'static [Workload; COUNT] {
     let path = CString::new(path).expect("a path");
     unsafe {
         let library = dlopen(path.as_ptr(), 2);
         assert!(!library.is_null(), "{path:?} can't be loaded");
-        let function = dlsym(library, c"again_workloads".as_ptr());
-        assert!(!function.is_null(), "{path:?} has no again_workloads");
+        let function = dlsym(library, c"side_workloads".as_ptr());
+        assert!(!function.is_null(), "{path:?} has no side_workloads");
         std::mem::transmute::<*mut c_void, extern "C" fn() -> &'static [Workload; COUNT]>(function)()
     }
 }
@@ -84,13 +85,12 @@ fn agree(buffers: &mut Buffers, one: Workload, other: Workload, both_store: bool
     })
 }
 
-/// The value that such a part of all is at most.
-fn quantile(all: &[f64], part: f64) -> f64 {
+/// The middle value.
+fn median(all: &[f64]) -> f64 {
     let mut sorted = all.to_vec();
     sorted.sort_by(f64::total_cmp);
-    let at = part * (sorted.len() - 1) as f64;
-    let (low, high) = (sorted[at.floor() as usize], sorted[at.ceil() as usize]);
-    low + (high - low) * at.fract()
+    let middle = sorted.len() / 2;
+    if sorted.len() % 2 == 1 { sorted[middle] } else { (sorted[middle - 1] + sorted[middle]) / 2.0 }
 }
 
 /// The rounds with which a run takes so long.
@@ -105,59 +105,128 @@ fn rounds_for(buffers: &mut Buffers, workload: Workload, nanoseconds: f64) -> u6
     }
 }
 
-/// Times a row and prints its line: the neighbour of both others is the second side.
-fn time(group: &str, name: &str, row: &Row, sides: [Workload; 3], samples: usize, nanoseconds: f64) {
+/// The times of all sides, in turns: forwards and backwards.
+fn times(row: &Row, sides: &[Workload], samples: usize, nanoseconds: f64) -> (Vec<Vec<f64>>, f64) {
     let mut buffers = Buffers::new(row);
-    let rounds = rounds_for(&mut buffers, sides[1], nanoseconds);
-    let mut times = [vec![], vec![], vec![]];
+    let rounds = rounds_for(&mut buffers, sides[sides.len() - 1], nanoseconds);
+    let mut times = vec![vec![]; sides.len()];
     for sample in 0..samples {
-        let turns = if sample % 2 == 0 { [0, 1, 2] } else { [2, 1, 0] };
-        for side in turns {
-            times[side].push(buffers.run(sides[side], rounds).0);
+        for turn in 0..sides.len() {
+            let at = if sample % 2 == 0 { turn } else { sides.len() - 1 - turn };
+            times[at].push(buffers.run(sides[at], rounds).0);
         }
     }
-    let ratios =
-        |side: usize| -> Vec<f64> { times[side].iter().zip(&times[1]).map(|(a, b)| a / b).collect() };
-    let call = |side: usize| quantile(&times[side], 0.5) / rounds as f64 / row.calls as f64;
-    let (pairs, noise) = (ratios(0), ratios(2));
-    let numbers = [call(1), call(0), quantile(&pairs, 0.5), quantile(&pairs, 0.25), quantile(&pairs, 0.75)];
-    let floor = [quantile(&noise, 0.5), quantile(&noise, 0.25), quantile(&noise, 0.75)];
-    let words: Vec<String> = numbers.iter().chain(&floor).map(|number| format!("{number:.4}")).collect();
+    (times, rounds as f64 * row.calls as f64)
+}
+
+/// The median, the lowest and the highest ratio of a pair of sides, of which each ratio is the median over the
+/// turns.
+fn ratios(pairs: impl Iterator<Item = (usize, usize)>, times: &[Vec<f64>]) -> [f64; 3] {
+    let ratio = |(a, b): (usize, usize)| {
+        median(&times[a].iter().zip(&times[b]).map(|(a, b)| a / b).collect::<Vec<f64>>())
+    };
+    let all: Vec<f64> = pairs.map(ratio).collect();
+    let least = all.iter().copied().fold(f64::INFINITY, f64::min);
+    [median(&all), least, all.iter().copied().fold(0.0, f64::max)]
+}
+
+fn print(group: &str, name: &str, numbers: &[f64]) {
+    let words: Vec<String> = numbers.iter().map(|number| format!("{number:.4}")).collect();
     println!("{group}\t{name}\t{}", words.join("\t"));
+}
+
+/// Times a row over all placements: nanoseconds a call of smoltcp and of the port, the ratios of port and smoltcp,
+/// and those of smoltcp's placements with one another.
+fn time(group: &str, row: &Row, ports: &[Workload], originals: &[Workload], samples: usize, nanoseconds: f64) {
+    let sides = [ports, originals].concat();
+    let (times, calls) = times(row, &sides, samples, nanoseconds);
+    let (first, all) = (ports.len(), sides.len());
+    let call = |sides: std::ops::Range<usize>| {
+        median(&sides.map(|at| median(&times[at])).collect::<Vec<f64>>()) / calls
+    };
+    let pairs = (0..first).flat_map(|port| (first..all).map(move |original| (port, original)));
+    let among = (first..all).flat_map(|one| (first..all).map(move |other| (one, other)));
+    let mut numbers = vec![call(first..all), call(0..first)];
+    numbers.extend(ratios(pairs, &times));
+    numbers.extend(ratios(among, &times));
+    print(group, &row.name, &numbers);
+}
+
+/// Times a row beside a type of std: nanoseconds a call of std and of the port, and the ratios of the port and of
+/// smoltcp to it.
+fn time_beside(group: &str, name: &str, row: &Row, sides: [Workload; 3], samples: usize, nanoseconds: f64) {
+    let (times, calls) = times(row, &sides, samples, nanoseconds);
+    let call = |at: usize| median(&times[at]) / calls;
+    let ratio = |at: usize| ratios(std::iter::once((at, 2)), &times)[0];
+    print(group, name, &[call(2), call(0), ratio(0), ratio(1)]);
+}
+
+/// What a counter begins at. It differs from the next function, so that the compiler keeps both.
+#[unsafe(no_mangle)]
+#[inline(never)]
+extern "C" fn count_begin() -> u32 {
+    black_box(1)
+}
+
+/// What a counter ends at.
+#[unsafe(no_mangle)]
+#[inline(never)]
+extern "C" fn count_end() -> u32 {
+    black_box(2)
+}
+
+/// Runs a row twice on each side between the two functions above.
+fn count(row: &Row, sides: [Workload; 2]) {
+    let mut buffers = Buffers::new(row);
+    for side in sides {
+        for rounds in COUNTED {
+            count_begin();
+            black_box(buffers.run(side, rounds));
+            count_end();
+        }
+    }
+    println!("{}\t{}", row.name, (COUNTED[1] - COUNTED[0]) * row.calls as u64);
 }
 
 fn main() -> ExitCode {
     let words: Vec<String> = std::env::args().collect();
     let flag = |name: &str| words.iter().position(|word| word == name).and_then(|at| words.get(at + 1));
+    let has = |name: &str| words.iter().any(|word| word == name);
     let number =
         |name: &str, default: f64| flag(name).map_or(default, |word| word.parse().expect("a number"));
-    let (samples, milliseconds) = (number("--samples", 31.0) as usize, number("--milliseconds", 3.0));
-    let again = again(words.get(1).expect("the path of smoltcp's second build"));
-    let peers = words.iter().any(|word| word == "--peers");
+    let (samples, nanoseconds) = (number("--samples", 15.0) as usize, number("--milliseconds", 2.0) * 1e6);
+    let sides = |at: usize| -> Vec<&'static [Workload; COUNT]> {
+        words.get(at).expect("the paths of a side").split(':').map(side).collect()
+    };
+    let (ports, originals) = (sides(1), sides(2));
     let mut status = ExitCode::SUCCESS;
     for row in rows::rows() {
         if flag("--only").is_some_and(|word| !row.name.contains(word)) {
             continue;
         }
-        let (workload, port, original) = (NAMES[row.workload], PORT[row.workload], ORIGINAL[row.workload]);
-        let comparisons: Vec<(String, String, [Workload; 3])> = if peers {
-            let peers = PEERS.iter().filter_map(|peer| Some((peer.name, peer.workload(workload)?)));
-            peers
-                .map(|(peer, side)| {
-                    (format!("{workload}: {peer}"), format!("{}: {peer}", row.name), [port, side, original])
-                })
-                .collect()
-        } else {
-            vec![(workload.to_string(), row.name.clone(), [port, original, again[row.workload]])]
+        let of = |sides: &[&'static [Workload; COUNT]]| -> Vec<Workload> {
+            sides.iter().map(|side| side[row.workload]).collect()
         };
-        for (group, name, sides) in comparisons {
-            let mut buffers = Buffers::new(&row);
-            if agree(&mut buffers, original, port, true) && agree(&mut buffers, sides[1], sides[2], !peers) {
-                time(&group, &name, &row, sides, samples, milliseconds * 1e6);
-            } else {
-                println!("DIFFER\t{name}");
-                status = ExitCode::FAILURE;
+        let (ports, originals, group) = (of(&ports), of(&originals), NAMES[row.workload]);
+        let mut buffers = Buffers::new(&row);
+        let others = ports.iter().chain(&originals);
+        if has("--count") {
+            count(&row, [ports[0], originals[0]]);
+        } else if !others.into_iter().all(|&side| agree(&mut buffers, originals[0], side, true)) {
+            println!("DIFFER\t{}", row.name);
+            status = ExitCode::FAILURE;
+        } else if has("--peers") {
+            for (peer, workload) in PEERS.iter().filter_map(|peer| Some((peer, peer.workload(group)?))) {
+                let (group, name) = (format!("{group}: {}", peer.name), format!("{}: {}", row.name, peer.name));
+                if agree(&mut buffers, workload, originals[0], false) {
+                    time_beside(&group, &name, &row, [ports[0], originals[0], workload], samples, nanoseconds);
+                } else {
+                    println!("DIFFER\t{name}");
+                    status = ExitCode::FAILURE;
+                }
             }
+        } else {
+            time(group, &row, &ports, &originals, samples, nanoseconds);
         }
     }
     status

@@ -4,6 +4,7 @@
 //! A line of words, parted by tabs, for each type: its name, how many bytes it holds, how many it refuses, how
 //! many bytes of memory it has, and how many C's allocator spends on them. Status 101 if the port doesn't hold
 //! and refuse what smoltcp does.
+#[path = "../../side_port/src/port.rs"]
 mod port;
 
 use peers::segments::Segments;

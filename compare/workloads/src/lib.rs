@@ -1,4 +1,4 @@
-//! The workloads of `crates/net_perf`, over smoltcp. Each makes its whole loop inside and returns a checksum.
+//! The workloads of `perf`, over smoltcp. Each makes its whole loop inside and returns a checksum.
 pub mod receiver;
 
 use original4::doors::Rand;
@@ -39,7 +39,7 @@ pub type Workload = extern "C" fn(&Memory) -> u64;
 /// How many workloads there are.
 pub const COUNT: usize = 12;
 
-/// Their names, `np_` of `crates/net_perf` left out.
+/// Their names, `np_` of `perf` left out.
 pub const NAMES: [&str; COUNT] = [
     "ring_slice", "ring_many", "ring_ahead", "ring_one", "packet", "asm_add", "asm_front", "stream",
     "stream_lent", "rand", "port", "loopback",

@@ -1,4 +1,4 @@
-//! The port's workloads: the functions of `crates/net_perf`.
+//! The port's workloads: the functions of `perf`.
 use workloads::{COUNT, Memory, Workload};
 
 unsafe extern "C" {

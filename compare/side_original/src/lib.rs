@@ -1,0 +1,8 @@
+//! The workloads over smoltcp, as a library that is linked for each placement.
+use workloads::{COUNT, ORIGINAL, Workload};
+
+/// The workloads in the order of their names.
+#[unsafe(no_mangle)]
+pub extern "C" fn side_workloads() -> &'static [Workload; COUNT] {
+    &ORIGINAL
+}
