@@ -16,7 +16,7 @@ use Rattle.net_receiver.specs.OneStream.{ReceivesFrom}
 use Rattle.net_stream.specs.Outgoing.{end_of}
 use Rattle.net_stream.specs.Links.{Carries}
 use Rattle.net_stream.specs.declared.counts.Counts.{Counts}
-use Rattle.net_stream.specs.declared.link.Link.{Link}
+use Rattle.net_stream.specs.LinkState.{LinkState}
 use Rattle.net_stream.specs.declared.error.LinkError.{LinkError}
 use Rattle.net_stream.specs.declared.error.LinkError.TheVariants.{GaveUp, OutOfMemory}
 use Rattle.net_stream.specs.declared.error.LinkError.TheVariants.{ReadFailed, WriteFailed}
@@ -47,7 +47,7 @@ HasPositions f taken = f + taken < 2 ^ 64 - 1
 
 -- the bytes that a reader gave are on their way, and those that the receiver handed out were
 -- appended to what a writer has; both are counted. If `more` is false the reader has no more
-pub record CopiesSoFar {A : Type 0} (f : ℕ) (link : Link A) (counts : Counts)
+pub record CopiesSoFar (f : ℕ) (link : LinkState) (counts : Counts)
     (old new had has : Option (List ℕ)) (more : Bool) : Type 0 where
   pub given : List ℕ
   pub consumed : Consumes old new given
@@ -76,7 +76,7 @@ pub record HandsOutPrefix (f : ℕ) (v : Stored) (had has : Option (List ℕ)) (
 
 -- what a round of a copy leaves as it was, or lets grow, `size` and `size'` being the lengths of the
 -- buffer that the reader's bytes come to, before and after
-pub record CopyRoundLeaves {A : Type 0} (old new : Link A) (size size' : ℕ) : Type 0 where
+pub record CopyRoundLeaves (old new : LinkState) (size size' : ℕ) : Type 0 where
   pub ahead : new.there.ahead ≡ []
   pub ahead_back : new.back.ahead ≡ []
   pub sender_capacity : new.sender.capacity ≡ old.sender.capacity

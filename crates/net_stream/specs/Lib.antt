@@ -9,6 +9,9 @@ pub mod Sending
 pub mod Progress
 pub mod Rounds
 pub mod Passing
+pub mod LinkState
 pub mod Links
 pub mod Stuck
 pub mod Copying
+pub mod CopyState
+pub mod Promises

@@ -4,6 +4,14 @@
 ghost use Rattle.net_stream.specs.Fates.{EachNextComes};
 ghost use Rattle.net_stream.specs.Stuck.{NeverStuck};
 
+mod bounds;
+mod ends;
+mod streams;
+
+pub use bounds::{fuel, late_frames, rounds_anyway, sent_frames};
+pub use ends::{all_come, delays, gives_up, gives_up_if_failed, rounds};
+pub use streams::{all, prefix};
+
 /// What follows where every frame and every acknowledgement comes: so do the next ones, however
 /// many, and no round is stuck.
 pub fn known_fates()

@@ -20,6 +20,7 @@ use net_base::time::{Duration, Instant};
 use net_receiver::{Receiver, laws};
 use net_storage::ManagedSlice;
 use std::alloc::{AllocError, Allocator};
+use std::marker::Model;
 
 /// The most held runs of a link's receiver: as many as an acknowledgement reports.
 const MOST_RUNS: usize = 32;
@@ -51,6 +52,29 @@ pub struct Link<'a, 'f, A: Allocator + Copy> {
     pub elapsed: Duration,
     /// What became of the frames so far, acknowledgements too.
     pub counts: FrameCounts,
+}
+
+impl<'a, 'f, A: Allocator + Copy> Model for Link<'a, 'f, A> {
+    ghost use Rattle.net_stream.specs.LinkState.{LinkState};
+
+    ghost use Rattle.std.specs.Coded.{codes};
+    ghost use Rattle.net_receiver.specs.Parts.{stored_code};
+
+    ghost Value = { LinkState };
+
+    ghost coded = { Prim.hlevel (codes, stored_code) };
+
+    ghost view = { λ l. record {
+      sender = l.sender;
+      receiver = l.receiver;
+      there = l.there;
+      back = l.back;
+      counts = l.counts;
+      payload = l.payload;
+      limit = l.limit;
+      flight = l.flight;
+      elapsed = l.elapsed;
+    } };
 }
 
 impl<'a, 'f, A: Allocator + Copy> Link<'a, 'f, A> {

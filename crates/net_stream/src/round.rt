@@ -5,7 +5,8 @@ ghost use Rattle.net_stream.specs.Reported.{count_outside};
 ghost use Rattle.net_stream.specs.Counting.{with_payload};
 ghost use Rattle.net_stream.specs.Sending.{SendsPrefix, SendsRound, at_least_one};
 ghost use Rattle.net_stream.specs.Rounds.{CountsBrokenRound};
-ghost use Rattle.net_stream.specs.Links.{Carries, Round, next_flight};
+ghost use Rattle.net_stream.specs.LinkState.{next_flight};
+ghost use Rattle.net_stream.specs.Links.{Carries, Round};
 
 use crate::arriving::send_ack;
 use crate::frame::frames_decode;

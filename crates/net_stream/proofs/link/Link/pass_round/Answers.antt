@@ -9,7 +9,7 @@ use Rattle.net_stream.specs.declared.counts.FrameCounts.{FrameCounts}
 use Rattle.net_stream.specs.Fates.{FatesSeen, fates_after, NextCome}
 use Rattle.net_stream.specs.Carrying.{PathSeen, IsUnderWay, ack_of}
 use Rattle.net_stream.specs.Sending.{at_least_one}
-use Rattle.net_stream.specs.Links.{next_flight}
+use Rattle.net_stream.specs.LinkState.{next_flight}
 use Rattle.net_stream.specs.Progress.{Reaches, HasRoom, after_ack_frames}
 use Rattle.net_stream.specs.Passing.{coming_of, late_of, receiver_after_all, acks_of}
 use Rattle.net_stream.proofs.Meeting.{brought_append, acks_append}
