@@ -14,3 +14,4 @@ pub mod Moved
 pub mod Meeting
 pub mod Stuck
 pub mod RoundCount
+pub mod Steps
