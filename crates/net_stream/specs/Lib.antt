@@ -12,6 +12,7 @@ pub mod Passing
 pub mod LinkState
 pub mod Links
 pub mod Stuck
-pub mod Copying
 pub mod CopyState
+pub mod Copying
+pub mod Turns
 pub mod Promises

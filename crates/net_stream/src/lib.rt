@@ -1,6 +1,7 @@
 //! A stream of bytes over a link that loses, repeats and reorders frames.
 #![tactic(auto)]
 
+mod copier;
 mod copying;
 mod counts;
 mod error;

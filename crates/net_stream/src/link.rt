@@ -2,10 +2,11 @@
 ghost use Rattle.std.specs.Prelude.{◌≡◌, ◌+◌, ◌≤◌, ◌<◌, ◌^◌, ◌-◌, ◌++◌, [], ℕ, List, length, min, max};
 ghost use Rattle.std.specs.Prelude.{take, drop, slice_index, slice_range};
 ghost use Rattle.net_storage.specs.Managed.{elements};
-ghost use Rattle.net_receiver.specs.Stored.{fresh_stored, stored_after_read};
-ghost use Rattle.net_stream.specs.Outgoing.{outgoing, room_of, with_written};
+ghost use Rattle.net_receiver.specs.Stored.{fresh_stored, stored_next, stored_after_read};
+ghost use Rattle.net_stream.specs.Outgoing.{outgoing, end_of, room_of, with_written};
 ghost use Rattle.net_stream.specs.Counting.{no_frames};
 ghost use Rattle.net_stream.specs.Links.{Carries};
+ghost use Rattle.net_stream.specs.CopyState.{is_written};
 
 mod acknowledge;
 mod deliver;
@@ -120,6 +121,15 @@ impl<'a, 'f, A: Allocator + Copy> Link<'a, 'f, A> {
     /// The moment that the clock shows.
     pub(crate) fn now(&self) -> Instant {
         Instant::ZERO.saturating_add(self.elapsed)
+    }
+
+    /// Whether all that was written to the sender was read off the receiver.
+    pub(crate) fn is_written(&self) -> bool
+        ensures value { result ≡ is_written self.now }
+        ensures fits { (end_of self.now.sender < 2 ^ 64)
+            × (stored_next self.now.receiver < 2 ^ 64) }
+    {
+        self.receiver.next() == self.sender.end() && self.receiver.queued() == 0
     }
 
     /// Lets time pass: the clock goes on by so much, up to 2^64 - 1 microseconds in all.
