@@ -12,5 +12,9 @@ pub mod Drawn
 pub mod Results
 pub mod Moved
 pub mod Meeting
+pub mod Steps
+pub mod Closed
+pub mod SentAll
+pub mod Passed
 pub mod Stuck
 pub mod RoundCount

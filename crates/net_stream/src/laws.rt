@@ -2,6 +2,7 @@
 //!
 //! Each function does nothing: its contract is the law.
 ghost use Rattle.net_stream.specs.Fates.{EachNextComes};
+ghost use Rattle.net_stream.specs.Links.{RoundPasses};
 ghost use Rattle.net_stream.specs.Stuck.{NeverStuck};
 
 mod bounds;
@@ -17,4 +18,9 @@ pub use streams::{all, prefix};
 pub fn known_fates()
     ensures next { EachNextComes }
     ensures stuck { NeverStuck }
+{}
+
+/// What a round leaves.
+pub fn rounds_pass()
+    ensures { RoundPasses }
 {}
