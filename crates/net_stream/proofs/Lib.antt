@@ -14,3 +14,5 @@ pub mod Moved
 pub mod Meeting
 pub mod Stuck
 pub mod RoundCount
+pub mod Steps
+pub mod Kept
