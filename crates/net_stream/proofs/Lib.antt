@@ -18,3 +18,5 @@ pub mod SentAll
 pub mod Passed
 pub mod Stuck
 pub mod RoundCount
+pub mod Steps
+pub mod Kept

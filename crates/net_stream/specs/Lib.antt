@@ -14,4 +14,5 @@ pub mod Links
 pub mod Stuck
 pub mod Copying
 pub mod CopyState
+pub mod Streams
 pub mod Promises

@@ -1,5 +1,34 @@
-//! What a copy writes.
+//! What becomes of the stream on a link, and what a copy writes.
 ghost use Rattle.net_stream.specs.Promises.{WritesPrefix, WritesAll};
+ghost use Rattle.net_stream.specs.Streams.{Known, RoundCarries, StopCarries};
+
+use crate::frame::frames_decode;
+use net_receiver::laws;
+use net_storage::assembler;
+
+/// What the laws of streams rest on.
+pub(crate) fn known()
+    ensures { Known }
+{
+    frames_decode();
+    assembler::laws::members();
+    assembler::laws::maximal_runs();
+    laws::says();
+    laws::receives();
+    laws::truthful();
+    laws::numbers();
+    laws::completion();
+    laws::reads();
+}
+
+/// Whatever becomes of its frames, after a round the stream is still on its way; so it is where a round
+/// stopped because it lacked memory.
+pub fn stays_on_its_way()
+    ensures round { RoundCarries }
+    ensures stop { StopCarries }
+{
+    known();
+}
 
 /// What is written is a prefix of what was read.
 pub fn prefix()
