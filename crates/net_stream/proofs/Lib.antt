@@ -18,5 +18,6 @@ pub mod SentAll
 pub mod Passed
 pub mod Stuck
 pub mod RoundCount
-pub mod Steps
 pub mod Kept
+pub mod Turns
+pub mod GivesUp
