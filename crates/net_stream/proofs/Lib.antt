@@ -16,3 +16,6 @@ pub mod Stuck
 pub mod RoundCount
 pub mod Steps
 pub mod Kept
+pub mod Turns
+pub mod Grown
+pub mod Prefix
