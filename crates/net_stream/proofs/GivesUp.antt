@@ -3,7 +3,7 @@ use Rattle.std.proofs.Common.{◌≡◌, ℕ, zero, suc, ◌+◌, ◌-◌, ◌�
 use Rattle.std.proofs.lemmas.Bool.{cases_lt}
 use Rattle.net_stream.specs.CopyState.{Setup, CopyState, Running, feed, pass, after}
 use Rattle.net_stream.specs.Promises.{BringsNothing, GivesUpAfter, NeverLater}
-use Rattle.net_stream.proofs.Turns.{fed_leaves, GoesOn, goes_on, gave_up_at, Still, Brought, Some, Nothing, brought}
+use Rattle.net_stream.proofs.GoesOn.{fed_leaves, GoesOn, goes_on, gave_up_at, Still, Brought, Some, Nothing, brought}
 
 module _ (s : Setup) (reads : List (List ℕ)) where
   -- after n turns of a copy that goes on, `stalled` is how many of the last rounds brought nothing on

@@ -20,4 +20,7 @@ pub mod Stuck
 pub mod RoundCount
 pub mod Kept
 pub mod Turns
+pub mod Grown
+pub mod Prefix
+pub mod GoesOn
 pub mod GivesUp

@@ -1,6 +1,7 @@
 //! What becomes of the stream on a link, and what a copy writes.
 ghost use Rattle.net_stream.specs.Promises.{WritesPrefix, WritesAll};
 ghost use Rattle.net_stream.specs.Streams.{Known, RoundCarries, StopCarries};
+ghost use Rattle.net_stream.specs.Streams.{ReadWrites, PassWrites, AllWritten};
 
 use crate::frame::frames_decode;
 use net_receiver::laws;
@@ -30,12 +31,26 @@ pub fn stays_on_its_way()
     known();
 }
 
+/// What the receiver gave out of the bytes that were read is what was written: so it stays over a read
+/// and over a round; and where all that was read is written, it is all of it.
+pub fn is_written()
+    ensures read { ReadWrites }
+    ensures pass { PassWrites }
+    ensures all { AllWritten }
+{
+    known();
+}
+
 /// What is written is a prefix of what was read.
 pub fn prefix()
     ensures { WritesPrefix }
-{}
+{
+    known();
+}
 
 /// When a copy is done, it has written all bytes before the input's end.
 pub fn all()
     ensures { WritesAll }
-{}
+{
+    known();
+}
