@@ -1,5 +1,5 @@
 -- Functions that are applied several times over.
-use Rattle.std.proofs.Common.{◌≡◌, ◌⊎◌, ◌&&◌, ℕ, zero, suc, ◌+◌, ◌-◌, ◌≤◌, ◌<◌, nat_lt, false, length, refl, sym, ap, ◌∙◌, arith, ⊎_elim}
+use Rattle.std.proofs.Common.{◌≡◌, ◌⊎◌, ◌&&◌, ℕ, zero, suc, ◌+◌, ◌-◌, ◌≤◌, ◌<◌, nat_lt, Bool, true, false, cond, length, refl, sym, ap, ◌∙◌, arith, ⊎_elim}
 use Rattle.std.proofs.lemmas.Bool.{cond-true, cond-false, and_from, and_left, and_right, lt-ltb, le-ltb}
 use Rattle.net_stream.specs.Sending.{stop_of}
 use Rattle.net_stream.specs.LinkState.{LinkState, times, Cursor, start, part, part_at, transmit}
@@ -34,3 +34,13 @@ pub all_sent : (s : LinkState) (c : Cursor) (n : ℕ) → c ≡ times n part (st
 all_sent s c n e few same =
     let there : part (times n part (start s)) ≡ times n part (start s) = sym (ap part e) ∙ same ∙ e in
     ap (λ d. d.link) (e ∙ sym (enough part (start s) n (length s.sender.queue) few there))
+
+-- the first step, and then the others
+pub times_front : {S : Type 0} (n : ℕ) (f : S → S) (s : S) → times (suc n) f s ≡ times n f (f s)
+times_front zero f s = refl
+times_front (suc n) f s = ap f (times_front n f s)
+
+-- what both arms of a test have, it has
+pub split : {A : Type 0} (P : A → Type 0) (b : Bool) (x y : A) → (b ≡ true → P x) → (b ≡ false → P y) → P (cond b x y)
+split P true x y f g = f refl
+split P false x y f g = g refl

@@ -15,4 +15,5 @@ pub mod Stuck
 pub mod CopyState
 pub mod Copying
 pub mod Turns
+pub mod Streams
 pub mod Promises

@@ -1,10 +1,11 @@
 -- A link as one thing: what is true of it, and what a round does to it.
 --     Carries f w link      the stream w, whose first byte has position f, is on its way
+--     RoundPasses      what a round leaves that begins with counts of 64 bits
 --     HasRoomFor link      the receiver's free window ends at or behind the sender's end
 --     Passes old new      what a round leaves
 --     Round old new      the same, and what it brings if its frames and acknowledgements all come
-use Rattle.std.specs.Prelude.{◌≡◌, ℕ, ◌+◌, ◌/◌, ◌<◌, ◌≤◌, min, max, List, [], ◌∷◌, ◌++◌, length}
-use Rattle.std.specs.Prelude.{Bool, false, if◌then◌else◌}
+use Rattle.std.specs.Prelude.{◌≡◌, ℕ, ◌+◌, ◌^◌, ◌<◌, ◌≤◌, List, [], ◌∷◌, ◌++◌, length}
+use Rattle.std.specs.Prelude.{false}
 use Rattle.net_receiver.specs.Stored.{stored_next}
 use Rattle.net_stream.specs.Reported.{count_outside, most_reported, is_full}
 use Rattle.net_stream.specs.Counting.{with_fates, SameButRefused, with_payload}
@@ -15,7 +16,7 @@ use Rattle.net_stream.specs.Sending.{SendsRound, at_least_one}
 use Rattle.net_stream.specs.Frames.{frames_from}
 use Rattle.net_stream.specs.Progress.{after_ack_frames, limit_of}
 use Rattle.net_stream.specs.Passing.{coming_of, receiver_after_all, acks_of, path_after}
-use Rattle.net_stream.specs.LinkState.{LinkState, next_flight}
+use Rattle.net_stream.specs.LinkState.{LinkState, next_flight, round}
 
 -- w was written to the sender, each frame brings nothing but parts of w, and each acknowledgement
 -- tells of bytes that the receiver has
@@ -48,6 +49,10 @@ pub record Passes (old new : LinkState) : Type 0 where
   pub limit : new.limit ≡ old.limit
   pub flight : new.flight
       ≡ next_flight old.limit old.flight (is_full new.sender.reported)
+
+-- so does each round, if the bytes counted so far fit 64 bits
+abbrev pub RoundPasses : Type 0
+RoundPasses = (s : LinkState) → s.counts.payload < 2 ^ 64 → Passes s (round s)
 
 -- the receiver's free window ends at or behind the sender's end
 abbrev pub HasRoomFor : LinkState → Type 0

@@ -2,6 +2,7 @@
 //!
 //! Each function does nothing: its contract is the law.
 ghost use Rattle.net_stream.specs.Fates.{EachNextComes};
+ghost use Rattle.net_stream.specs.Links.{RoundPasses};
 ghost use Rattle.net_stream.specs.Stuck.{NeverStuck};
 
 mod bounds;
@@ -10,11 +11,16 @@ mod streams;
 
 pub use bounds::{fuel, late_frames, rounds_anyway, sent_frames};
 pub use ends::{all_come, delays, gives_up, gives_up_if_failed, rounds};
-pub use streams::{all, prefix};
+pub use streams::{all, is_written, prefix, stays_on_its_way};
 
 /// What follows where every frame and every acknowledgement comes: so do the next ones, however
 /// many, and no round is stuck.
 pub fn known_fates()
     ensures next { EachNextComes }
     ensures stuck { NeverStuck }
+{}
+
+/// What a round leaves.
+pub fn rounds_pass()
+    ensures { RoundPasses }
 {}
