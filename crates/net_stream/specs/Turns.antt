@@ -51,7 +51,8 @@ pub record Feeds {A : Type 0} (chunk : ℕ) (old new : Copier A) (had has : Opti
     : Type 0 where
   pub reads : List (List ℕ)
   pub consumed : Consumes had has (concat reads)
-  pub taken : new.taken ≡ min (old.taken + length (concat reads)) (2 ^ 64 - 1)
+  pub taken : (n : ℕ) → old.taken ≡ min n (2 ^ 64 - 1)
+      → new.taken ≡ min (n + length (concat reads)) (2 ^ 64 - 1)
   pub bytes : new.bytes ≡ old.bytes
   pub step : (later : List (List ℕ)) (given written : List ℕ) → (ended ≡ ReadFailed → later ≡ [])
       → feed chunk (seen_copy old (reads ++ later) given written Running)
@@ -62,7 +63,8 @@ pub record Feeds {A : Type 0} (chunk : ℕ) (old new : Copier A) (had has : Opti
 pub record Passes {A : Type 0} (chunk : ℕ) (old new : Copier A) (had has : Option (List ℕ)) : Type 0 where
   pub written : List ℕ
   pub appended : Appends had has written
-  pub bytes : new.bytes ≡ min (old.bytes + length written) (2 ^ 64 - 1)
+  pub bytes : (n : ℕ) → old.bytes ≡ min n (2 ^ 64 - 1)
+      → new.bytes ≡ min (n + length written) (2 ^ 64 - 1)
   pub taken : new.taken ≡ old.taken
   pub more : new.more ≡ old.more
   pub step : (later : List (List ℕ)) (given before : List ℕ)
@@ -74,9 +76,11 @@ pub record Breaks {A : Type 0} (chunk : ℕ) (error : LinkError) (old new : Copi
     : Type 0 where
   pub link : LinkState
   pub written : List ℕ
-  pub part : EndsRound error chunk (seen_copy old [] [] [] Running) link written
+  pub part : (given before : List ℕ)
+      → EndsRound error chunk (seen_copy old [] given before Running) link written
   pub appended : Appends had has written
-  pub bytes : new.bytes ≡ min (old.bytes + length written) (2 ^ 64 - 1)
+  pub bytes : (n : ℕ) → old.bytes ≡ min n (2 ^ 64 - 1)
+      → new.bytes ≡ min (n + length written) (2 ^ 64 - 1)
   pub taken : new.taken ≡ old.taken
   pub rounds : new.rounds ≡ more old.rounds
   pub frames : new.link.counts ≡ link.counts

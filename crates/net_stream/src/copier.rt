@@ -1,6 +1,6 @@
 //! The turns of a copy: reading, passing a round, and writing.
 ghost use Rattle.std.specs.Prelude.{◌≡◌, ◌+◌, ◌&&◌, ◌||◌, ◌⊎◌, ◌*◌, ◌^◌, ◌-◌, ◌<◌, min, not, nat_lt, nat_eq};
-ghost use Rattle.std.specs.Prelude.{length, OnOk, OnErr, IfErr, if◌then◌else◌};
+ghost use Rattle.std.specs.Prelude.{length, true, OnOk, OnErr, IfErr, if◌then◌else◌};
 ghost use Rattle.net_receiver.specs.Stored.{stored_next};
 ghost use Rattle.net_stream.specs.Outgoing.{end_of};
 ghost use Rattle.net_stream.specs.declared.error.LinkError.TheVariants as errors;
@@ -10,6 +10,7 @@ ghost use Rattle.net_stream.specs.Turns.{Feeds, Passes, Breaks, Begins, counts_o
 
 use crate::counts::Counts;
 use crate::error::LinkError;
+use crate::laws;
 use crate::link::Link;
 use crate::timer::next_wait;
 use net_base::time::Duration;
@@ -61,11 +62,18 @@ impl<'a, 'f, A: Allocator + Copy> Copier<'a, 'f, A> {
         }
     }
 
+    /// The position of the first byte that isn't acknowledged.
+    fn base(&self) -> u64
+        ensures { result ≡ self.now.link.sender.base }
+    {
+        self.link.sender.base()
+    }
+
     /// Whether a round let bytes go, or wrote some.
     fn has_brought_on(&self, base: u64, count: usize) -> bool
         ensures { result ≡ (not (nat_eq self.now.link.sender.base base) || nat_lt 0 count) }
     {
-        self.link.sender.base() != base || count > 0
+        self.base() != base || count > 0
     }
 
     /// Whether it is time for a read into so much room: once all that was read is written.
@@ -112,7 +120,7 @@ impl<'a, 'f, A: Allocator + Copy> Copier<'a, 'f, A> {
             (W.contents writer.old) (W.contents writer.new)) }
         ensures chunk { length chunk.new ≡ length chunk.old }
     {
-        let base = self.link.sender.base();
+        let base = self.base();
         self.rounds = self.rounds.saturating_add(1);
         self.link.wait(self.wait);
         if self.link.pass_round().is_err() {
@@ -140,5 +148,33 @@ impl<'a, 'f, A: Allocator + Copy> Copier<'a, 'f, A> {
     {
         let written = self.link.is_written();
         !self.more && written
+    }
+
+    /// Makes turns until all is written, nothing comes on any more, or an error ends it.
+    pub(crate) fn run<R: Read, W: Write>(
+        &mut self,
+        rounds: u64,
+        chunk: &mut [u8],
+        reader: &mut R,
+        writer: &mut W,
+    ) -> Result<(), LinkError>
+        requires taken { self.old.taken ≡ 0 }
+        requires bytes { self.old.bytes ≡ 0 }
+        requires more { self.old.more ≡ true }
+        ensures { (s : Setup) → Begins s rounds (length chunk.old) self.old →
+            HasCopied s result (R.remaining reader.old) (R.remaining reader.new)
+            (W.contents writer.old) (W.contents writer.new) (counts_of self.new) }
+    {
+        laws::known();
+        'turns: loop {
+            self.feed(chunk, reader)?;
+            if self.is_done() {
+                return Ok(());
+            }
+            if self.stalled >= rounds {
+                return Err(LinkError::GaveUp);
+            }
+            self.pass(chunk, writer)?;
+        }
     }
 }

@@ -11,6 +11,7 @@ mod streams;
 
 pub use bounds::{fuel, late_frames, rounds_anyway, sent_frames};
 pub use ends::{all_come, delays, gives_up, gives_up_if_failed, rounds};
+pub(crate) use streams::known;
 pub use streams::{all, is_written, prefix, stays_on_its_way};
 
 /// What follows where every frame and every acknowledgement comes: so do the next ones, however
