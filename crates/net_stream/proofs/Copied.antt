@@ -1,24 +1,26 @@
 -- The steps of a copier are those of a copy.
-use Rattle.std.proofs.Common.{◌≡◌, ◌⊎◌, ◌&&◌, ◌||◌, ℕ, suc, ◌+◌, ◌-◌, ◌*◌, ◌≤◌, ◌<◌, ◌^◌, min, not, nat_lt, nat_le, nat_eq, cond, Bool, true, false, Option, Result, Ok, Err, OnOk, OnErr, IfErr, List, [], ◌∷◌, ◌++◌, length, take, drop, refl, sym, ap, subst, ◌∙◌, arith, inl, inr, append_assoc, length-take, length-append}
+use Rattle.std.proofs.Common.{◌≡◌, ◌⊎◌, ◌&&◌, ◌||◌, ℕ, suc, ◌+◌, ◌-◌, ◌*◌, ◌≤◌, ◌<◌, ◌^◌, min, not, nat_lt, nat_le, nat_eq, cond, Bool, true, false, Option, Result, Ok, Err, OnOk, OnErr, List, [], ◌∷◌, ◌++◌, length, take, drop, refl, sym, ap, subst, ◌∙◌, arith, inl, inr, ⊎_elim, append_assoc, length-take, length-append}
 use Rattle.std.specs.Result.{is_err}
-use Rattle.std.specs.Io.KnownBytes.{Consumes, Appends, IsAtEnd}
+use Rattle.std.specs.Prelude.{IsOk}
+use Rattle.std.specs.Io.KnownBytes.{Consumes, Appends, Keeps}
 use Rattle.std.proofs.lemmas.Bool.{both_ways, cond-true, cond-false, and_parts, ltb-true, le-ltb, lt-leb, le-leb}
 use Rattle.std.proofs.lemmas.Bool.Decides.{nat_tests}
 use Rattle.std.proofs.lemmas.List.{append-nil, take_all}
 use Rattle.std.proofs.Math.Seq.{take-append_seam}
-use Rattle.net_program.proofs.KnownBytes.{Appends-none, Appends-two, Consumes-none, Consumes-two, Keeps-same}
+use Rattle.net_program.proofs.KnownBytes.{Appends-none, Appends-two, Appends-kept, Consumes-none, Consumes-two, Keeps-same}
 use Rattle.net_receiver.specs.OneStream.{SegmentReadsNothing}
 use Rattle.net_stream.specs.declared.copier.Copier.{Copier}
 use Rattle.net_stream.specs.declared.counts.Counts.{Counts}
+use Rattle.net_program.specs.Writing.{FlushesAfter}
 use Rattle.net_stream.specs.declared.error.LinkError.{LinkError}
+use Rattle.net_stream.specs.declared.error.LinkError.TheVariants as errors
 use Rattle.net_stream.specs.LinkState.{LinkState, times, round}
-use Rattle.net_stream.specs.CopyState.{Setup, CopyState, Status, Running, Done, GaveUp, ReadFailed, begin, after, outcome, concat}
-use Rattle.net_stream.specs.CopyState.{is_written, room_for, rest_of, read_of, with_read, feed, decide, waited, brings, pass, while_running, turn}
-use Rattle.net_stream.specs.Counting.{more}
-use Rattle.net_stream.specs.Copying.{EndsRound, Copied, CopiedPart}
+use Rattle.net_stream.specs.CopyState.{Setup, CopyState, Status, Running, Done, GaveUp, ReadFailed, after, outcome, concat}
+use Rattle.net_stream.specs.CopyState.{is_written, room_for, rest_of, read_of, with_read, feed, decide, waited, pass, while_running, turn}
+use Rattle.net_stream.specs.Counting.{more, no_counts}
+use Rattle.net_stream.specs.Copying.{EndsRound, Copied, CopiedPart, HasCopied, HasNotBegun}
 use Rattle.net_stream.specs.Turns.{seen_copy, counts_of, Begins, Feeds, Passes, Breaks, CopiedSoFar}
 use Rattle.net_stream.proofs.Grown.{grown}
-use Rattle.net_stream.proofs.Kept.{split}
 use Rattle.net_stream.proofs.Turns.{feeds}
 
 -- a call that had no error
@@ -247,3 +249,83 @@ module _ {A : Type 0} (rounds chunk : ℕ) (old : Copier A) (had held : Option (
         appended = subst (λ (c : CopyState). Appends held keeps (c.written ++ p.written)) (sym state)
             (Appends-two held holds keeps so_far.written p.written (so_far.written ++ p.written) so_far.appended p.appended refl);
       }
+
+-- ---- by the result
+-- a read failed
+pub read_failed : {T : Type 0} (s : Setup) (r : Result T LinkError) (e : LinkError) (had has held holds : Option (List ℕ)) (counts : Counts) →
+    r ≡ Err e → e ≡ errors.ReadFailed → Copied s ReadFailed had has held holds counts → HasCopied s r had has held holds counts
+read_failed s r e had has held holds counts was is p = subst (λ x. HasCopied s x had has held holds counts) (sym (was ∙ ap Err is)) p
+
+-- an error ended a round
+pub broke_off : {T : Type 0} (s : Setup) (r : Result T LinkError) (e : LinkError) (had has held holds : Option (List ℕ)) (counts : Counts) → r ≡ Err e →
+    CopiedPart s e had has held holds counts → HasCopied s r had has held holds counts
+broke_off s r errors.OutOfMemory had has held holds counts was p = subst (λ x. HasCopied s x had has held holds counts) (sym was) p
+broke_off s r errors.WriteFailed had has held holds counts was p = subst (λ x. HasCopied s x had has held holds counts) (sym was) (inl p)
+broke_off s r errors.GaveUp had has held holds counts was p = absurd p.part
+broke_off s r errors.ReadFailed had has held holds counts was p = absurd p.part
+
+-- a flush changes nothing of what was written
+copied_kept : (s : Setup) (status : Status) (had has held holds keeps : Option (List ℕ)) (counts : Counts) → Keeps holds keeps →
+    Copied s status had has held holds counts → Copied s status had has held keeps counts
+copied_kept s status had has held holds keeps counts k p = record {
+  reads = p.reads;
+  turns = p.turns;
+  written = p.written;
+  ends = p.ends;
+  made = p.made;
+  consumed = p.consumed;
+  appended = Appends-kept held holds keeps p.written p.appended k;
+  at_end = p.at_end;
+}
+
+part_kept : (s : Setup) (error : LinkError) (had has held holds keeps : Option (List ℕ)) (counts : Counts) → Keeps holds keeps →
+    CopiedPart s error had has held holds counts → CopiedPart s error had has held keeps counts
+part_kept s error had has held holds keeps counts k p = record {
+  reads = p.reads;
+  turns = p.turns;
+  link = p.link;
+  written = p.written;
+  runs = p.runs;
+  made = p.made;
+  part = p.part;
+  counted = p.counted;
+  consumed = p.consumed;
+  appended = Appends-kept held holds keeps _ p.appended k;
+}
+
+kept : {T : Type 0} (s : Setup) (r : Result T LinkError) (had has held holds keeps : Option (List ℕ)) (counts : Counts) → Keeps holds keeps →
+    HasCopied s r had has held holds counts → HasCopied s r had has held keeps counts
+kept s (Ok t) had has held holds keeps counts k p = copied_kept s Done had has held holds keeps counts k p
+kept s (Err errors.GaveUp) had has held holds keeps counts k p = copied_kept s GaveUp had has held holds keeps counts k p
+kept s (Err errors.ReadFailed) had has held holds keeps counts k p = copied_kept s ReadFailed had has held holds keeps counts k p
+kept s (Err errors.OutOfMemory) had has held holds keeps counts k p = part_kept s errors.OutOfMemory had has held holds keeps counts k p
+kept s (Err errors.WriteFailed) had has held holds keeps counts k p =
+    ⊎_elim {C = CopiedPart s errors.WriteFailed had has held keeps counts ⊎ Copied s Done had has held keeps counts}
+    (λ (q : CopiedPart s errors.WriteFailed had has held holds counts). inl (part_kept s errors.WriteFailed had has held holds keeps counts k q))
+    (λ (q : Copied s Done had has held holds counts). inr (copied_kept s Done had has held holds keeps counts k q))
+    p
+
+was_done : {T : Type 0} (s : Setup) (r : Result T LinkError) (had has held holds : Option (List ℕ)) (counts : Counts) → IsOk r →
+    HasCopied s r had has held holds counts → Copied s Done had has held holds counts
+was_done s (Ok t) had has held holds counts ok p = p
+was_done s (Err e) had has held holds counts ok p = absurd (both_ways false refl ok)
+
+pub flushed : {T : Type 0} (s : Setup) (ended result : Result T LinkError) (had has held holds keeps : Option (List ℕ)) (counts : Counts) →
+    Keeps holds keeps → FlushesAfter errors.WriteFailed ended result → HasCopied s ended had has held holds counts → HasCopied s result had has held keeps counts
+flushed s ended result had has held holds keeps counts k flush p =
+    let q = kept s ended had has held holds keeps counts k p in
+    ⊎_elim {C = HasCopied s result had has held keeps counts}
+    (λ (e : result ≡ ended). subst (λ r. HasCopied s r had has held keeps counts) (sym e) q)
+    (λ (e : IsOk ended × (result ≡ Err errors.WriteFailed)). subst (λ r. HasCopied s r had has held keeps counts) (sym e.1)
+    (inr (was_done s ended had has held keeps counts e.0 q)))
+    flush
+
+-- a copy without memory
+pub not_begun : {T : Type 0} (result : Result T LinkError) (had held holds : Option (List ℕ)) (counts : Counts) →
+    Keeps held holds → FlushesAfter errors.WriteFailed (Err errors.OutOfMemory) result → counts ≡ no_counts → HasNotBegun result had had held holds counts
+not_begun result had held holds counts k flushed none = (
+  ⊎_elim {C = result ≡ Err errors.OutOfMemory} (λ e. e) (λ e. absurd (both_ways false refl e.0)) flushed,
+  Consumes-none had had (Keeps-same had),
+  Appends-none held holds k,
+  none,
+)

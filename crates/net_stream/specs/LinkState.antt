@@ -13,7 +13,7 @@
 use Rattle.std.specs.Prelude.{◌≡◌, ℕ, zero, suc, ◌+◌, ◌-◌, ◌/◌, ◌&&◌, ◌⊎◌, min, max, nat_lt}
 use Rattle.std.specs.Prelude.{Bool, if◌then◌else◌, List, [], ◌∷◌, ◌++◌, length, take, drop}
 use Rattle.net_receiver.specs.Stored.{Stored}
-use Rattle.net_stream.specs.Outgoing.{Outgoing, end_of, row_end}
+use Rattle.net_stream.specs.Outgoing.{Outgoing, row_end}
 use Rattle.net_stream.specs.Frames.{frame_of, segment_of}
 use Rattle.net_stream.specs.Reported.{most_reported, is_full}
 use Rattle.net_stream.specs.Fates.{next_fate, after_fate, comes}

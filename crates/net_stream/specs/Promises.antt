@@ -15,13 +15,13 @@
 --     EndsIfAllCome      over a link that loses and delays nothing it doesn't give up
 --     FewRounds, FewRoundsAnyway, FewFrames      bounds
 --     RoundKeeps, FewLate      how much is late after a round
-use Rattle.std.specs.Prelude.{◌≡◌, ℕ, suc, ◌+◌, ◌-◌, ◌*◌, ◌<◌, ◌≤◌, ◌^◌, ◌⊎◌, List, [], ◌∷◌, ◌++◌, length}
+use Rattle.std.specs.Prelude.{◌≡◌, ℕ, suc, ◌+◌, ◌-◌, ◌*◌, ◌<◌, ◌≤◌, ◌^◌, List, [], ◌∷◌, ◌++◌, length}
 use Rattle.std.specs.Io.{StartsWith}
 use Rattle.net_stream.specs.Fates.{FatesSeen, next_fate, fates_after, AllCome}
 use Rattle.net_stream.specs.declared.fate.Fate.TheVariants.{Lost}
 use Rattle.net_stream.specs.LinkState.{LinkState, transmit, late_frames, pass_frames, acknowledge_all, round}
 use Rattle.net_stream.specs.CopyState.{Setup, CopyState, Running, Done, GaveUp, feed, waited, while_running}
-use Rattle.net_stream.specs.CopyState.{after, copied, most_turns}
+use Rattle.net_stream.specs.CopyState.{after, copied}
 use Rattle.net_stream.specs.Stuck.{FatesFail}
 
 abbrev pub StartsFits : Setup → Type 0

@@ -1,20 +1,24 @@
 //! The turns of a copy: reading, passing a round, and writing.
-ghost use Rattle.std.specs.Prelude.{◌≡◌, ◌+◌, ◌&&◌, ◌||◌, ◌⊎◌, ◌*◌, ◌^◌, ◌-◌, ◌<◌, min, not, nat_lt, nat_eq};
+ghost use Rattle.std.specs.Prelude.{◌≡◌, ℕ, ◌+◌, ◌&&◌, ◌||◌, ◌⊎◌, ◌*◌, ◌^◌, ◌-◌, ◌<◌, min, not, nat_lt, nat_eq};
 ghost use Rattle.std.specs.Prelude.{length, true, OnOk, OnErr, IfErr, if◌then◌else◌};
+ghost use Rattle.net_storage.specs.Managed.{elements};
 ghost use Rattle.net_receiver.specs.Stored.{stored_next};
 ghost use Rattle.net_stream.specs.Outgoing.{end_of};
 ghost use Rattle.net_stream.specs.declared.error.LinkError.TheVariants as errors;
-ghost use Rattle.net_stream.specs.CopyState.{Setup, Running, ReadFailed, is_written};
+ghost use Rattle.net_stream.specs.CopyState.{Setup, setup_over, Running, ReadFailed, is_written};
 ghost use Rattle.net_stream.specs.Copying.{HasCopied};
 ghost use Rattle.net_stream.specs.Turns.{Feeds, Passes, Breaks, Begins, counts_of};
 
+use crate::copying::Config;
 use crate::counts::Counts;
 use crate::error::LinkError;
+use crate::fate::LinkFates;
 use crate::laws;
 use crate::link::Link;
-use crate::timer::next_wait;
+use crate::timer::{first_wait, next_wait};
 use net_base::time::Duration;
 use net_program::write_text;
+use net_storage::ManagedSlice;
 use std::alloc::Allocator;
 use std::io::{Read, Write};
 
@@ -49,6 +53,40 @@ fn stalled_after(stalled: u64, brought: bool) -> u64
 }
 
 impl<'a, 'f, A: Allocator + Copy> Copier<'a, 'f, A> {
+    /// A copy of which nothing was done.
+    pub(crate) fn new(
+        alloc: A,
+        config: Config,
+        fates: LinkFates<'f>,
+        to_send: ManagedSlice<'a, u8>,
+        to_receive: ManagedSlice<'a, u8>,
+    ) -> Self
+        ensures begins { (chunk : ℕ) → let s = setup_over config (length (elements to_send.entry))
+            (length (elements to_receive.entry)) chunk fates.entry.frames fates.entry.acks in
+            Begins s config.rounds chunk result }
+        ensures taken { result.taken ≡ 0 }
+        ensures bytes { result.bytes ≡ 0 }
+        ensures more { result.more ≡ true }
+    {
+        Copier {
+            link: Link::new(
+                alloc,
+                config.first,
+                config.payload,
+                config.flight,
+                to_send,
+                to_receive,
+                fates,
+            ),
+            more: true,
+            taken: 0,
+            bytes: 0,
+            rounds: 0,
+            stalled: 0,
+            wait: first_wait(),
+        }
+    }
+
     /// Returns what was counted so far.
     pub(crate) fn counts(&self) -> Counts
         ensures { result ≡ counts_of self.now }

@@ -14,10 +14,10 @@ mod reported;
 mod sender;
 mod timer;
 
-pub use copying::Config;
+pub use copying::{Config, CopyBuffers, copy, copy_over};
 pub use counts::{Counts, FrameCounts};
 pub use error::LinkError;
-pub use fate::{Fate, Fates, Rates};
+pub use fate::{Fate, Fates, LinkFates, Rates};
 pub use frame::{decode, distinct_frames, frames_decode, send_again, send_frame};
 pub use link::Link;
 pub use path::Path;

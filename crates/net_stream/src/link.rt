@@ -14,7 +14,7 @@ mod round;
 mod transmit;
 
 use crate::counts::FrameCounts;
-use crate::fate::Fates;
+use crate::fate::LinkFates;
 use crate::path::Path;
 use crate::sender::Sender;
 use net_base::time::{Duration, Instant};
@@ -80,9 +80,8 @@ impl<'a, 'f, A: Allocator + Copy> Model for Link<'a, 'f, A> {
 impl<'a, 'f, A: Allocator + Copy> Link<'a, 'f, A> {
     /// A link on which nothing is on its way. The stream's first byte has position `first`.
     ///
-    /// The sender's capacity is the length of `to_send`, and the receiver's that of `to_receive`.
-    /// Frames meet `fates`, and acknowledgements `ack_fates`. The first round may send as many frames
-    /// as any may: `limit`, of which 0 counts as 1.
+    /// The sender's capacity is the length of `to_send`, and the receiver's that of `to_receive`. The
+    /// first round may send as many frames as any may: `limit`, of which 0 counts as 1.
     pub fn new(
         alloc: A,
         first: u64,
@@ -90,26 +89,26 @@ impl<'a, 'f, A: Allocator + Copy> Link<'a, 'f, A> {
         limit: u32,
         to_send: ManagedSlice<'a, u8>,
         to_receive: ManagedSlice<'a, u8>,
-        fates: Fates<'f>,
-        ack_fates: Fates<'f>,
+        fates: LinkFates<'f>,
     ) -> Self
-        ensures sender { let n = length (elements to_send.entry) in
-            result.sender ≡ outgoing n first [] [] (first + n) }
-        ensures receiver { result.receiver
-            ≡ fresh_stored first (length (elements to_receive.entry)) }
-        ensures there { result.there ≡ record { ahead = []; late = []; fates = fates.entry } }
-        ensures back { result.back ≡ record { ahead = []; late = []; fates = ack_fates.entry } }
-        ensures payload { result.payload ≡ payload }
-        ensures flight { (result.limit ≡ max limit 1) × (result.flight ≡ max limit 1) }
-        ensures elapsed { result.elapsed ≡ 0 }
-        ensures counts { result.counts ≡ no_frames }
+        ensures state { let n = length (elements to_send.entry) in result ≡ record {
+          sender = outgoing n first [] [] (first + n);
+          receiver = fresh_stored first (length (elements to_receive.entry));
+          there = record { ahead = []; late = []; fates = fates.entry.frames };
+          back = record { ahead = []; late = []; fates = fates.entry.acks };
+          counts = no_frames;
+          payload = payload;
+          limit = max limit 1;
+          flight = max limit 1;
+          elapsed = 0;
+        } }
         ensures carries { Carries first [] result }
     {
         Link {
             sender: Sender::new_at(to_send, first),
             receiver: Receiver::new_at(to_receive, first),
-            there: Path::new(alloc, fates),
-            back: Path::new(alloc, ack_fates),
+            there: Path::new(alloc, fates.frames),
+            back: Path::new(alloc, fates.acks),
             payload,
             limit: limit.max(1),
             flight: limit.max(1),

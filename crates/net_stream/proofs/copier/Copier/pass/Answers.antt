@@ -15,7 +15,7 @@ returns-clause-ok g c =
     let chunk = length c.args.chunk.now in
     let bytes = take c.read-count.result c.read-count.new.into in
     let is : bytes ≡ take chunk u.receiver.queue = handed chunk c.read-count.result u.receiver.queue c.args.chunk.now c.read-count.new.into c.read-count.ensures.count
-        c.read-count.ensures.into in
+    c.read-count.ensures.into in
     let count = c.read-count.ensures.count in
     let size : length bytes ≡ c.read-count.result = ap length is ∙ length-take chunk u.receiver.queue ∙ sym count in
     let link : u ≡ round (record copy.link { elapsed = min (copy.link.elapsed + copy.wait) (2 ^ 64 - 1) }) =
@@ -47,9 +47,11 @@ returns-then-is_err-clause-err g c =
     record {
       link = c.pass_round.new.self;
       written = [];
-      part = λ given before.
-          (subst (λ (l : LinkState). StopsRound l c.pass_round.new.self) c.wait.ensures.state
-          (was_err _ c.pass_round.result (sym c.is_err.ensures.value ∙ c.if-is_err.true) c.pass_round.ensures.err), refl);
+      part = λ given before. (
+        subst (λ (l : LinkState). StopsRound l c.pass_round.new.self) c.wait.ensures.state
+            (was_err _ c.pass_round.result (sym c.is_err.ensures.value ∙ c.if-is_err.true) c.pass_round.ensures.err),
+        refl,
+      );
       appended = Appends-none had had (Keeps-same had);
       bytes = λ n e. omega (arith, e);
       taken = refl;
