@@ -12,5 +12,16 @@ pub mod Drawn
 pub mod Results
 pub mod Moved
 pub mod Meeting
+pub mod Steps
+pub mod Closed
+pub mod SentAll
+pub mod Passed
 pub mod Stuck
 pub mod RoundCount
+pub mod Kept
+pub mod Turns
+pub mod Grown
+pub mod Prefix
+pub mod GoesOn
+pub mod GivesUp
+pub mod Copied

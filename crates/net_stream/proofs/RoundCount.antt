@@ -9,7 +9,7 @@ use Rattle.net_receiver.specs.OneStream.{QueueIsOfStream}
 use Rattle.net_stream.specs.Outgoing.{end_of}
 use Rattle.net_stream.specs.Frames.{frame_of, FramesDecode}
 use Rattle.net_stream.specs.Reported.{most_reported, range_bytes}
-use Rattle.net_stream.specs.declared.link.Link.{Link}
+use Rattle.net_stream.specs.LinkState.{LinkState}
 use Rattle.net_stream.specs.Fates.{FatesSeen, next_fate, after_fate, comes, AllCome, NextCome}
 use Rattle.net_stream.specs.Progress.{after_ack_frames}
 use Rattle.net_stream.specs.Passing.{coming_of, acks_of}
@@ -30,7 +30,7 @@ pub more_still : (n n' b b' r r' f x x' : ℕ) → b' ≡ b → r' ≡ r → min
 more_still n n' b b' r r' f x x' same same_read more one few = omega arith
 
 -- no more bytes are let go or written than were taken
-pub few_so_far : {A : Type 0} → QueueIsOfStream → (f : ℕ) (w : List ℕ) (l l1 : Link A) (n fails taken : ℕ) → Carries f w l1 →
+pub few_so_far : QueueIsOfStream → (f : ℕ) (w : List ℕ) (l l1 : LinkState) (n fails taken : ℕ) → Carries f w l1 →
     l1.receiver.read ≡ l.receiver.read → end_of l.sender ≤ end_of l1.sender → length w ≡ taken →
     n ≤ (l.sender.base - f) + l.receiver.read + fails → n ≤ 2 * taken + fails
 few_so_far queue f w l l1 n fails taken carries same grows long few =
@@ -46,7 +46,7 @@ coming_all v (x ∷ xs) come =
     cond-true _ (x ∷ c) c come.0 ∙ ap (λ l. x ∷ l) (coming_all (after_fate v) xs come.1)
 
 -- the last acknowledgement comes, and the sender keeps what the receiver lacks
-base_meets : {A : Type 0} → FramesDecode → (old new : Link A) (p : Passes old new) → AllCome old.back.fates → new.sender.base ≤ stored_next new.receiver →
+base_meets : FramesDecode → (old new : LinkState) (p : Passes old new) → AllCome old.back.fates → new.sender.base ≤ stored_next new.receiver →
     stored_next new.receiver ≤ end_of old.sender → end_of old.sender < 2 ^ 64 → new.sender.base ≡ stored_next new.receiver
 base_meets trip old new p come behind within word =
     ap (λ v. v.base) is ∙ acked_last trip old.sender n xs earlier within (omega (arith, within, word)) (subst (λ v. v.base ≤ n) is behind)
@@ -78,7 +78,7 @@ never_fails frames acks v v' come come' stuck =
     stuck
 
 -- a round of a copy writes some
-pub round_at_once : {A : Type 0} → FramesDecode → QueueIsOfStream → (f : ℕ) (w : List ℕ) (old new last : Link A) (room : ℕ) (p : Passes old new) →
+pub round_at_once : FramesDecode → QueueIsOfStream → (f : ℕ) (w : List ℕ) (old new last : LinkState) (room : ℕ) (p : Passes old new) →
     RoundLeaves old new → BringsOnOrIsStuck old new → end_of old.sender < 2 ^ 64 → last ≡ record new { receiver = stored_after_read new.receiver room } →
     Carries f w old → Carries f w new →
     old.there.ahead ≡ [] → old.back.ahead ≡ [] → AllCome old.there.fates → AllCome old.back.fates → old.sender.base ≡ stored_next old.receiver →
@@ -129,7 +129,7 @@ round_at_once trip queue f w old new last room p keeps moves word handed carries
         (cases_lt 0 (length old.receiver.queue))
 
 -- no more bytes are written than were taken
-pub at_once_so_far : {A : Type 0} → QueueIsOfStream → (f : ℕ) (w : List ℕ) (l : Link A) (n read taken : ℕ) → Carries f w l → l.receiver.read ≡ read →
+pub at_once_so_far : QueueIsOfStream → (f : ℕ) (w : List ℕ) (l : LinkState) (n read taken : ℕ) → Carries f w l → l.receiver.read ≡ read →
     length w ≡ taken → n ≤ read → n ≤ taken
 at_once_so_far queue f w l n read taken carries same long few =
     let q = (queue_from queue f w l.receiver carries.receives).within in

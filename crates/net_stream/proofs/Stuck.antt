@@ -14,7 +14,7 @@ use Rattle.net_stream.specs.Outgoing.{Outgoing, sender_from, end_of, room_of}
 use Rattle.net_stream.specs.Frames.{Part, frame_of, frames_from, segment_of, FramesDecode}
 use Rattle.net_stream.specs.Reported.{count_outside, reports, most_reported, range_bytes, ranges_of}
 use Rattle.net_stream.specs.declared.counts.FrameCounts.{FrameCounts}
-use Rattle.net_stream.specs.declared.link.Link.{Link}
+use Rattle.net_stream.specs.LinkState.{LinkState}
 use Rattle.net_stream.specs.declared.fate.Fate.{Fate}
 use Rattle.net_stream.specs.declared.fate.Fate.TheVariants.{Delivered, Lost, Repeated, Late}
 use Rattle.net_stream.specs.Counting.{with_fate, with_fates, with_payload}
@@ -252,13 +252,13 @@ HasMissing n frames = FirstSays frames (λ p e. (p ≤ n) × (n < e) × (e < 2 ^
 
 -- the receiver lacked the first byte that the sender keeps, and the first frame, which has it, didn't come at once; or it had
 -- that byte, and no acknowledgement came at once
-abbrev Lacked : {A : Type 0} (old new : Link A) → Passes old new → Type 0
+abbrev Lacked : (old new : LinkState) → Passes old new → Type 0
 Lacked old new p =
     (HasMissing (stored_next old.receiver) p.sent.ahead × (0 < length p.sent.ahead) × (comes (next_fate old.there.fates) ≡ false))
     ⊎ ((old.sender.base < stored_next old.receiver) × (coming_of old.back.fates p.acks ≡ [])
     × All (Acks (stored_next old.receiver) (stored_next old.receiver)) p.acks)
 
-rounds_move : {A : Type 0} → FramesDecode → Numbers → InOrderReaches → QueueIsOfStream → (f : ℕ) (w : List ℕ) (old new : Link A) (p : Passes old new) →
+rounds_move : FramesDecode → Numbers → InOrderReaches → QueueIsOfStream → (f : ℕ) (w : List ℕ) (old new : LinkState) (p : Passes old new) →
     IsSound most_reported old.receiver → Carries f w old → end_of old.sender < 2 ^ 64 → old.there.ahead ≡ [] → old.back.ahead ≡ [] →
     0 < length old.sender.queue →
     stored_next old.receiver < limit_of old.receiver → stored_next new.receiver ≡ stored_next old.receiver → new.sender.base ≡ old.sender.base →
@@ -517,7 +517,7 @@ stuck_more follow (suc n) v v' u u' frames acks to one = (
   stuck_more follow n (fates_after to.0 v) (fates_after to.1 v') u u' frames acks to.3 one,
 )
 
-module _ {A : Type 0} (old new : Link A) (p : Passes old new) where
+module _ (old new : LinkState) (p : Passes old new) where
   acks_some : 0 < length p.acks
   acks_some = subst (λ l. 0 < length l) (sym p.acks_are)
       (let e = length-append (old.back.ahead ++ acks_of most_reported old.receiver p.came) (ack_of new.receiver ∷ []) in omega arith)
@@ -705,7 +705,7 @@ module _ {A : Type 0} (old new : Link A) (p : Passes old new) where
 
 -- ---- a round of a copy
 -- what comes late stays due while bytes are handed out and more are written
-pub due_kept : {A : Type 0} (l l1 : Link A) → l1.there.late ≡ l.there.late → l1.back.late ≡ l.back.late →
+pub due_kept : (l l1 : LinkState) → l1.there.late ≡ l.there.late → l1.back.late ≡ l.back.late →
     stored_next l1.receiver ≡ stored_next l.receiver → l1.sender.base ≡ l.sender.base → end_of l.sender ≤ end_of l1.sender → IsDue l → IsDue l1
 due_kept l l1 late late_back next base end due =
     let n = stored_next l.receiver in
@@ -717,7 +717,7 @@ due_kept l l1 late late_back next base end due =
     (λ k e j. (let low = j.0 in let high = j.1 in (omega (arith, low, base), le_trans high end))) h)))
     due
 
-pub step_moves : {A : Type 0} (f : ℕ) (w : List ℕ) (old new last : Link A) (room : ℕ) → RoundLeaves old new → BringsOnOrIsStuck old new →
+pub step_moves : (f : ℕ) (w : List ℕ) (old new last : LinkState) (room : ℕ) → RoundLeaves old new → BringsOnOrIsStuck old new →
     last ≡ record new { receiver = stored_after_read new.receiver room } →
     Carries f w old → old.there.ahead ≡ [] → old.back.ahead ≡ [] → 0 < length old.sender.queue → 0 < old.receiver.capacity → 0 < room →
     last.sender.base ≡ old.sender.base → last.receiver.read ≡ old.receiver.read → IsStuck old last
@@ -769,7 +769,7 @@ step_moves {A = A} f w old new last room keeps moves handed carries none none_ba
     next_read : stored_next r ≡ stored_next new.receiver
     next_read = (let left : length r.queue ≡ length new.receiver.queue - room = length-drop room new.receiver.queue in omega (arith, left, empty))
 
-    read_out : Link A
+    read_out : LinkState
     read_out = record new { receiver = r }
 
     lost : (FatesFail 1 one.frames one.acks old.there.fates old.back.fates × (min (losses old.counts + 1) (2 ^ 64 - 1) ≤ losses new.counts)) ⊎
@@ -785,18 +785,18 @@ step_moves {A = A} f w old new last room keeps moves handed carries none none_ba
 -- ---- rounds of a copy
 -- n rounds in a row were stuck, behind some frames and acknowledgements: each by a loss, or all but the last, and then what
 -- comes late is due
-abbrev pub StuckSoFar : {A : Type 0} → ℕ → FatesSeen → FatesSeen → Link A → Type 0
+abbrev pub StuckSoFar : ℕ → FatesSeen → FatesSeen → LinkState → Type 0
 StuckSoFar n v v' link =
     ((frames : ℕ) × (acks : ℕ) × AreStuckTo 1 n (fates_after frames v) (fates_after acks v') link.there.fates link.back.fates × (n ≤ losses link.counts))
     ⊎ ((frames : ℕ) × (acks : ℕ) × AreStuckTo 0 n (fates_after frames v) (fates_after acks v') link.there.fates link.back.fates × (n ≤ losses link.counts + 1)
     × IsDue link)
 
-pub stuck_none : {A : Type 0} (frames acks : ℕ) (v v' : FatesSeen) (l : Link A) → l.there.fates ≡ fates_after frames v → l.back.fates ≡ fates_after acks v' →
+pub stuck_none : (frames acks : ℕ) (v v' : FatesSeen) (l : LinkState) → l.there.fates ≡ fates_after frames v → l.back.fates ≡ fates_after acks v' →
     StuckSoFar 0 v v' l
 stuck_none frames acks v v' l left left_back = inl (frames, acks, (left, left_back), omega arith)
 
 -- reading and waiting change nothing of it
-pub stuck_kept : {A : Type 0} (n : ℕ) (v v' : FatesSeen) (l l1 : Link A) → l1.there ≡ l.there → l1.back ≡ l.back → l1.receiver ≡ l.receiver →
+pub stuck_kept : (n : ℕ) (v v' : FatesSeen) (l l1 : LinkState) → l1.there ≡ l.there → l1.back ≡ l.back → l1.receiver ≡ l.receiver →
     l1.sender.base ≡ l.sender.base → end_of l.sender ≤ end_of l1.sender → l1.counts ≡ l.counts → StuckSoFar n v v' l → StuckSoFar n v v' l1
 stuck_kept n v v' l l1 there back receiver base end counts so_far =
     ⊎_elim {C = StuckSoFar n v v' l1}
@@ -819,7 +819,7 @@ stuck_kept n v v' l l1 there back receiver base end counts so_far =
         (subst (λ t. AreStuckTo k n (fates_after frames v) (fates_after acks v') l.there.fates t.fates) (sym back) h)
 
 -- what is due comes in the next round, so that one more that is stuck follows a loss
-pub stuck_next : {A : Type 0} (n : ℕ) (v v' : FatesSeen) (old new : Link A) → n < 2 ^ 64 - 1 → StuckSoFar n v v' old → IsStuck old new →
+pub stuck_next : (n : ℕ) (v v' : FatesSeen) (old new : LinkState) → n < 2 ^ 64 - 1 → StuckSoFar n v v' old → IsStuck old new →
     StuckSoFar (suc n) v v' new
 stuck_next n v v' old new word so_far one =
     ⊎_elim {C = StuckSoFar (suc n) v v' new}
@@ -855,7 +855,7 @@ stuck_next n v v' old new word so_far one =
         (subst (λ x. AreStuckTo k (suc n) (fates_after frames v) (fates_after acks v') (fates_after one.frames old.there.fates) x) (sym one.left_back) h)
 
 -- how it stands at the end
-pub stuck_at_last : {A : Type 0} (n : ℕ) (v v' : FatesSeen) (l : Link A) (counts : FrameCounts) → counts ≡ l.counts → n ≤ failures l.counts →
+pub stuck_at_last : (n : ℕ) (v v' : FatesSeen) (l : LinkState) (counts : FrameCounts) → counts ≡ l.counts → n ≤ failures l.counts →
     FatesSoFar v v' l.there.fates l.back.fates l.counts → StuckSoFar n v v' l → AreStuckAtLast n v v' counts
 stuck_at_last n v v' l counts same failed fates so_far =
     ⊎_elim {C = AreStuckAtLast n v v' counts}
@@ -882,7 +882,7 @@ stuck_at_last n v v' l counts same failed fates so_far =
     }
 
 -- where all is written, a reader that may have more is asked, and gives something
-pub asked_again : {A : Type 0} → QueueIsOfStream → (f : ℕ) (w w1 : List ℕ) (l l1 : Link A) (room : ℕ) → Carries f w l → Carries f w1 l1 →
+pub asked_again : QueueIsOfStream → (f : ℕ) (w w1 : List ℕ) (l l1 : LinkState) (room : ℕ) → Carries f w l → Carries f w1 l1 →
     l1.receiver ≡ l.receiver → end_of l.sender ≤ end_of l1.sender →
     stored_next l1.receiver ≡ end_of l1.sender → length l1.receiver.queue ≡ 0 →
     (0 < room_of l.sender → 0 < room → stored_next l.receiver ≡ end_of l.sender → length l.receiver.queue ≡ 0 → end_of l.sender < end_of l1.sender) →

@@ -12,7 +12,7 @@ use Rattle.std.specs.Prelude.{◌≡◌, ◌⊎◌, ℕ, zero, suc, ◌+◌, ◌
 use Rattle.std.specs.Prelude.{false, List, [], ◌∷◌, length, Some}
 use Rattle.net_receiver.specs.Stored.{stored_next}
 use Rattle.net_stream.specs.declared.counts.FrameCounts.{FrameCounts}
-use Rattle.net_stream.specs.declared.link.Link.{Link}
+use Rattle.net_stream.specs.LinkState.{LinkState}
 use Rattle.net_stream.specs.declared.fate.Fate.{Fate}
 use Rattle.net_stream.specs.Outgoing.{end_of}
 use Rattle.net_stream.specs.Frames.{segment_of}
@@ -31,7 +31,7 @@ abbrev pub losses : FrameCounts → ℕ
 losses c = min c.lost (2 ^ 64 - 1)
 
 -- what a round leaves: nothing is on its way but what is late, and no number falls
-pub record RoundLeaves {A : Type 0} (old new : Link A) : Type 0 where
+pub record RoundLeaves (old new : LinkState) : Type 0 where
   pub ahead : new.there.ahead ≡ []
   pub ahead_back : new.back.ahead ≡ []
   pub end : end_of new.sender ≡ end_of old.sender
@@ -65,14 +65,14 @@ FirstSays frames P = (frame : List ℕ) × (rest : List (List ℕ)) × (pos : �
 
 -- what comes late brings the next round on: the first late frame has the byte that the receiver
 -- lacks, or the first late acknowledgement is of more than the sender knows of
-abbrev pub IsDue : {A : Type 0} → Link A → Type 0
+abbrev pub IsDue : LinkState → Type 0
 IsDue link =
     FirstSays link.there.late (λ p e. (p ≤ stored_next link.receiver)
     × (stored_next link.receiver < e) × (e < 2 ^ 64))
     ⊎ FirstSays link.back.late (λ p e. (link.sender.base < p) × (p ≤ end_of link.sender))
 
 -- a round that was stuck, and counted it: by a loss, or what came late brings the next one on
-pub record IsStuck {A : Type 0} (old new : Link A) : Type 0 where
+pub record IsStuck (old new : LinkState) : Type 0 where
   pub frames : ℕ
   pub acks : ℕ
   pub why : FatesFail 0 frames acks old.there.fates old.back.fates
@@ -107,7 +107,7 @@ pub record AreStuckAtLast (n : ℕ) (v v' : FatesSeen) (counts : FrameCounts) : 
 
 -- a round that began with nothing on its way but what is late, and brought neither the receiver nor
 -- the sender on, was stuck
-abbrev pub BringsOnOrIsStuck : {A : Type 0} → Link A → Link A → Type 0
+abbrev pub BringsOnOrIsStuck : LinkState → LinkState → Type 0
 BringsOnOrIsStuck old new = (f : ℕ) (w : List ℕ) → Carries f w old
     → old.there.ahead ≡ [] → old.back.ahead ≡ [] → 0 < length old.sender.queue
     → stored_next old.receiver < limit_of old.receiver

@@ -1,0 +1,141 @@
+-- What is promised of every copy: laws over the function of CopyState.antt alone. In each, s is the setup,
+-- reads what the reads give, and n a number of turns.
+--     StartsFits s      the position of the first byte fits 64 bits
+--     CanPass s c      the buffers have room for a byte, and not all positions are used up
+--     before_end reads      the bytes before the input's end
+--     WritesPrefix, WritesAll      what is written is a prefix of what was read, and all of it in the end
+--     Ends      a copy ends after so many turns as `copied` makes
+--     before_round s reads n      the link when round n + 1 begins
+--     BringsNothing s reads n      round n + 1 brings nothing on
+--     GivesUpAfter, NeverLater      it gives up after `rounds` rounds in a row that bring nothing on
+--     frames_sent l, acks_sent l      how many frames and acknowledgements a round sends
+--     Fails follow l      what fails in a round that brings nothing on
+--     GivesUpIfFailed      it gives up only if each of these rounds failed
+--     NoneLost v, NeverByDelays      delays and repeats alone never end it
+--     EndsIfAllCome      over a link that loses and delays nothing it doesn't give up
+--     FewRounds, FewRoundsAnyway, FewFrames      bounds
+--     RoundKeeps, FewLate      how much is late after a round
+use Rattle.std.specs.Prelude.{◌≡◌, ℕ, suc, ◌+◌, ◌-◌, ◌*◌, ◌<◌, ◌≤◌, ◌^◌, List, [], ◌∷◌, ◌++◌, length}
+use Rattle.std.specs.Io.{StartsWith}
+use Rattle.net_stream.specs.Fates.{FatesSeen, next_fate, fates_after, AllCome}
+use Rattle.net_stream.specs.declared.fate.Fate.TheVariants.{Lost}
+use Rattle.net_stream.specs.LinkState.{LinkState, transmit, late_frames, pass_frames, acknowledge_all, round}
+use Rattle.net_stream.specs.CopyState.{Setup, CopyState, Running, Done, GaveUp, feed, waited, while_running}
+use Rattle.net_stream.specs.CopyState.{after, copied}
+use Rattle.net_stream.specs.Stuck.{FatesFail}
+
+abbrev pub StartsFits : Setup → Type 0
+StartsFits s = s.first < 2 ^ 64
+
+-- the buffers have room for a byte, and of the positions of 64 bits some are left after the bytes that
+-- were read
+pub record CanPass (s : Setup) (c : CopyState) : Type 0 where
+  pub outgoing : 0 < s.outgoing
+  pub incoming : 0 < s.incoming
+  pub chunk : 0 < s.chunk
+  pub positions : s.first + length c.given < 2 ^ 64 - 1
+
+-- ---- what is written
+abbrev pub before_end : List (List ℕ) → List ℕ
+before_end [] = []
+before_end ([] ∷ reads) = []
+before_end ((x ∷ xs) ∷ reads) = (x ∷ xs) ++ before_end reads
+
+abbrev pub WritesPrefix : Type 0
+WritesPrefix = (s : Setup) (reads : List (List ℕ)) (n : ℕ) → StartsFits s →
+    StartsWith (before_end reads) (after s reads n).given
+    × StartsWith (after s reads n).given (after s reads n).written
+
+abbrev pub WritesAll : Type 0
+WritesAll = (s : Setup) (reads : List (List ℕ)) (n : ℕ) → StartsFits s →
+    (after s reads n).status ≡ Done → (after s reads n).written ≡ before_end reads
+
+-- ---- its end
+abbrev pub Ends : Type 0
+Ends = (s : Setup) (reads : List (List ℕ)) → StartsFits s → (copied s reads).status ≡ Running → ⊥
+
+abbrev pub before_round : Setup → List (List ℕ) → ℕ → LinkState
+before_round s reads n = waited (while_running (feed s.chunk) (after s reads n))
+
+-- no byte was acknowledged, and none was written
+abbrev pub BringsNothing : Setup → List (List ℕ) → ℕ → Type 0
+BringsNothing s reads n =
+    ((after s reads (suc n)).link.sender.base ≡ (after s reads n).link.sender.base)
+    × ((after s reads (suc n)).written ≡ (after s reads n).written)
+
+-- where turn n + 1 gives up, n rounds were made, and each of the last `rounds` of them brought nothing on
+abbrev pub GivesUpAfter : Type 0
+GivesUpAfter = (s : Setup) (reads : List (List ℕ)) (n : ℕ) →
+    (after s reads n).status ≡ Running → (after s reads (suc n)).status ≡ GaveUp →
+    (s.rounds ≤ n) × ((k : ℕ) → n ≤ k + s.rounds → k < n → BringsNothing s reads k)
+
+-- as long as a copy goes on, it never made more than `rounds` rounds in a row that brought nothing on
+abbrev pub NeverLater : Type 0
+NeverLater = (s : Setup) (reads : List (List ℕ)) (n : ℕ) →
+    (after s reads n).status ≡ Running → s.rounds < n →
+    ((k : ℕ) → n ≤ k + suc s.rounds → k < n → BringsNothing s reads k) → ⊥
+
+-- how many frames a round sends that begins with this link, and how many acknowledgements
+abbrev pub frames_sent : LinkState → ℕ
+frames_sent l = length (transmit l).there.ahead
+
+abbrev pub acks_sent : LinkState → ℕ
+acks_sent l = length (acknowledge_all (pass_frames (late_frames (transmit l)))).back.ahead
+
+-- of the frames of such a round the first doesn't come at once, or none of its acknowledgements does; and
+-- that frame or all of them are lost, if more such rounds follow
+abbrev pub Fails : ℕ → LinkState → Type 0
+Fails follow l = FatesFail follow (frames_sent l) (acks_sent l) l.there.fates l.back.fates
+
+abbrev pub GivesUpIfFailed : Type 0
+GivesUpIfFailed = (s : Setup) (reads : List (List ℕ)) (n : ℕ) → CanPass s (after s reads (suc n)) →
+    (after s reads n).status ≡ Running → (after s reads (suc n)).status ≡ GaveUp →
+    (k : ℕ) → n ≤ k + s.rounds → k < n → Fails (n - suc k) (before_round s reads k)
+
+-- no frame is lost that meets these fates
+abbrev pub NoneLost : FatesSeen → Type 0
+NoneLost v = (n : ℕ) → next_fate (fates_after n v) ≡ Lost → ⊥
+
+abbrev pub NeverByDelays : Type 0
+NeverByDelays = (s : Setup) (reads : List (List ℕ)) (n : ℕ) → CanPass s (after s reads n) →
+    NoneLost s.fates → NoneLost s.ack_fates → 1 < s.rounds →
+    (after s reads n).status ≡ GaveUp → ⊥
+
+abbrev pub EndsIfAllCome : Type 0
+EndsIfAllCome = (s : Setup) (reads : List (List ℕ)) (n : ℕ) → CanPass s (after s reads n) →
+    AllCome s.fates → AllCome s.ack_fates → 0 < s.rounds →
+    (after s reads n).status ≡ GaveUp → ⊥
+
+-- ---- bounds
+-- two rounds for each byte that was read, one for each frame or acknowledgement that was lost or late,
+-- and one
+abbrev pub FewRounds : Type 0
+FewRounds = (s : Setup) (reads : List (List ℕ)) (n : ℕ) → CanPass s (after s reads n) →
+    (after s reads n).rounds ≤ 2 * length (after s reads n).given
+    + (after s reads n).link.counts.lost + (after s reads n).link.counts.late + 1
+
+-- whatever the link does
+abbrev pub FewRoundsAnyway : Type 0
+FewRoundsAnyway = (s : Setup) (reads : List (List ℕ)) (n : ℕ) → StartsFits s →
+    (after s reads n).rounds ≤ (2 * length (after s reads n).given + 1) * s.rounds
+
+-- frames and acknowledgements
+abbrev pub FewFrames : Type 0
+FewFrames = (s : Setup) (reads : List (List ℕ)) (n : ℕ) →
+    (after s reads n).link.counts.sent
+    ≤ (after s reads n).rounds * (3 * (after s reads n).link.limit + 1)
+
+-- no frame waits on its way between rounds, and no more are late than one round sends
+pub record FewLate (l : LinkState) : Type 0 where
+  pub ahead : l.there.ahead ≡ []
+  pub ahead_back : l.back.ahead ≡ []
+  pub late : length l.there.late ≤ l.limit
+  pub late_back : length l.back.late ≤ 2 * l.limit + 1
+  pub flight : l.flight ≤ l.limit
+  pub some : 0 < l.limit
+
+abbrev pub RoundKeeps : Type 0
+RoundKeeps = (l : LinkState) → FewLate l → FewLate (round l)
+
+abbrev pub CopyKeeps : Type 0
+CopyKeeps = (s : Setup) (reads : List (List ℕ)) (n : ℕ) → FewLate (after s reads n).link
