@@ -202,6 +202,12 @@ no_bytes (x ∷ xs) e = absurd (omega arith)
 abbrev pub Still : CopyState → CopyState → Type 0
 Still c d = (d.link.sender.base ≡ c.link.sender.base) × (d.written ≡ c.written)
 
+pub still_from : (chunk : ℕ) (c : CopyState) → (round (waited c)).sender.base ≡ c.link.sender.base →
+    min chunk (length (round (waited c)).receiver.queue) ≡ 0 → Still c (pass chunk c)
+still_from chunk c same none =
+    let q = (round (waited c)).receiver.queue in
+    (same, ap (λ l. c.written ++ l) (no_bytes (take chunk q) (omega (arith, length-take chunk q))) ∙ append-nil c.written)
+
 pub data Brought (chunk : ℕ) (c : CopyState) : Type 0 where
   Some : (pass chunk c).stalled ≡ 0 → (Still c (pass chunk c) → ⊥) → Brought chunk c
   Nothing : (pass chunk c).stalled ≡ c.stalled + 1 → Still c (pass chunk c) → min chunk (length (round (waited c)).receiver.queue) ≡ 0 → Brought chunk c
@@ -225,7 +231,4 @@ brought chunk c = by (nat_eq m.sender.base c.link.sender.base) (nat_lt 0 n) refl
         let same = ap length still.1 in omega arith))
     by true false e k =
         let none : n ≡ 0 = (let l = ltb-false 0 n k in omega arith) in
-        Nothing (λ i. cond (not (e i) || k i) 0 (c.stalled + 1)) (
-          eqb-true m.sender.base c.link.sender.base e,
-          ap (λ l. c.written ++ l) (no_bytes (take chunk m.receiver.queue) (omega (arith, length-take chunk m.receiver.queue))) ∙ append-nil c.written,
-        ) none
+        Nothing (λ i. cond (not (e i) || k i) 0 (c.stalled + 1)) (still_from chunk c (eqb-true m.sender.base c.link.sender.base e) none) none

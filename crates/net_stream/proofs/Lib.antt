@@ -24,3 +24,4 @@ pub mod Grown
 pub mod Prefix
 pub mod GoesOn
 pub mod GivesUp
+pub mod StuckRounds

@@ -129,7 +129,7 @@ module _ (known : Known) (s : Setup) (reads : List (List ℕ)) where
             done = λ d. absurd (cc);
           }
 
-  fed_so_far : (c : CopyState) → c.status ≡ Running → SoFar c → SoFar (feed s.chunk c)
+  pub fed_so_far : (c : CopyState) → c.status ≡ Running → SoFar c → SoFar (feed s.chunk c)
   fed_so_far c on h = feeds SoFar s.chunk c (λ more room all. read_so_far c on more h) h
 
   decided_so_far : (c : CopyState) → c.status ≡ Running → SoFar c → SoFar (decide s.rounds c)

@@ -70,7 +70,7 @@ base_meets trip old new p come behind within word =
     is = p.acked ∙ ap (λ a. after_ack_frames old.sender (old.back.late ++ a)) acks
         ∙ ap (after_ack_frames old.sender) (sym (append_assoc old.back.late (old.back.ahead ++ sent_back) (frame_of n xs ∷ [])))
 
-never_fails : (frames acks : ℕ) (v v' : FatesSeen) → AllCome v → AllCome v' → FatesFail 0 frames acks v v' → ⊥
+pub never_fails : (frames acks : ℕ) (v v' : FatesSeen) → AllCome v → AllCome v' → FatesFail 0 frames acks v v' → ⊥
 never_fails frames acks v v' come come' stuck =
     ⊎_elim {C = ⊥}
     (λ (a : (0 < frames) × HasFailed 0 (next_fate v)). both_ways (comes (next_fate v)) a.1.0 (come_next v come).0)
@@ -79,7 +79,7 @@ never_fails frames acks v v' come come' stuck =
 
 -- a round of a copy writes some
 pub round_at_once : FramesDecode → QueueIsOfStream → (f : ℕ) (w : List ℕ) (old new last : LinkState) (room : ℕ) (p : Passes old new) →
-    RoundLeaves old new → BringsOnOrIsStuck old new → end_of old.sender < 2 ^ 64 → last ≡ record new { receiver = stored_after_read new.receiver room } →
+    RoundLeaves old new → BringsOnOrIsStuck (length p.sent.ahead) (length p.acks) old new → end_of old.sender < 2 ^ 64 → last ≡ record new { receiver = stored_after_read new.receiver room } →
     Carries f w old → Carries f w new →
     old.there.ahead ≡ [] → old.back.ahead ≡ [] → AllCome old.there.fates → AllCome old.back.fates → old.sender.base ≡ stored_next old.receiver →
     0 < old.receiver.capacity → 0 < room → (length old.receiver.queue ≡ 0 → 0 < length old.sender.queue) →
@@ -118,7 +118,7 @@ round_at_once trip queue f w old new last room p keeps moves word handed carries
         (λ (l : stored_next new.receiver ≤ stored_next old.receiver).
         let still : stored_next new.receiver ≡ stored_next old.receiver = omega (arith, l, grows) in
         let one = moves f w carries none none_back (kept empty) (omega (arith, empty, cap)) still (met ∙ still ∙ sym meet) in
-        absurd (never_fails one.frames one.acks old.there.fates old.back.fates come come_back one.why))
+        absurd (never_fails (length p.sent.ahead) (length p.acks) old.there.fates old.back.fates come come_back one.why))
         (cases_lt (stored_next old.receiver) (stored_next new.receiver))
 
     more : 0 < length new.receiver.queue
