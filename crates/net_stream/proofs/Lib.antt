@@ -25,3 +25,4 @@ pub mod Prefix
 pub mod GoesOn
 pub mod GivesUp
 pub mod StuckRounds
+pub mod Failed

@@ -166,7 +166,7 @@ module _ (known : KnownOfRounds) where
         abbrev new : LinkState
         new = round old
 
-        writes : Writes s.first e.given e
+        pub writes : Writes s.first e.given e
         writes = (fed_so_far known.known s reads c one.before was).writes
 
         within : QueueIsOf e.given e.link.receiver
@@ -241,6 +241,15 @@ module _ (known : KnownOfRounds) where
 
             some_room : 0 < e.link.receiver.capacity
             some_room = (let cap = fed.incoming in let room = can.incoming in omega arith)
+
+      -- the fates that a round of it begins with
+      pub drawn_before : (n : ℕ) → (after s reads n).status ≡ Running → (a : ℕ) × (b : ℕ)
+          × ((before_round s reads n).there.fates ≡ fates_after a s.fates) × ((before_round s reads n).back.fates ≡ fates_after b s.ack_fates)
+      drawn_before n on =
+          let c = after s reads n in
+          let h = fed_stays c (all_stays n) in
+          subst (λ d. (a : ℕ) × (b : ℕ) × (d.link.there.fates ≡ fates_after a s.fates) × (d.link.back.fates ≡ fates_after b s.ack_fates))
+          (sym (runs (feed s.chunk) c on)) (h.drawn.0, h.drawn_back.0, h.drawn.1, h.drawn_back.1)
 
       pub stuck_round : (n : ℕ) → CanPass s (after s reads (suc n)) → (after s reads (suc n)).status ≡ Running → BringsNothing s reads n →
           IsStuck (frames_sent (before_round s reads n)) (acks_sent (before_round s reads n)) (before_round s reads n) (after s reads (suc n)).link

@@ -107,12 +107,12 @@ EndsIfAllCome = (s : Setup) (reads : List (List ℕ)) (n : ℕ) → CanPass s (a
     (after s reads n).status ≡ GaveUp → ⊥
 
 -- ---- bounds
--- two rounds for each byte that was read, one for each frame or acknowledgement that was lost or late,
--- and one
+-- two rounds for each byte that was read, and one for each frame or acknowledgement that was lost or
+-- late
 abbrev pub FewRounds : Type 0
 FewRounds = (s : Setup) (reads : List (List ℕ)) (n : ℕ) → CanPass s (after s reads n) →
     (after s reads n).rounds ≤ 2 * length (after s reads n).given
-    + (after s reads n).link.counts.lost + (after s reads n).link.counts.late + 1
+    + (after s reads n).link.counts.lost + (after s reads n).link.counts.late
 
 -- whatever the link does
 abbrev pub FewRoundsAnyway : Type 0
