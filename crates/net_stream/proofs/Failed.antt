@@ -1,20 +1,19 @@
 -- What failed in the last rounds of a copy that gives up, and how many rounds a copy makes.
-use Rattle.std.proofs.Common.{◌≡◌, ◌⊎◌, ℕ, zero, suc, ◌+◌, ◌-◌, ◌*◌, ◌≤◌, ◌<◌, ◌^◌, min, true, false, List, length, refl, sym, ap, subst, ◌∙◌, arith, ⊎_elim, inl, inr}
+use Rattle.std.proofs.Common.{◌≡◌, ℕ, zero, suc, ◌+◌, ◌-◌, ◌≤◌, ◌<◌, ◌^◌, min, true, List, length, refl, sym, ap, subst, ◌∙◌, arith, ⊎_elim}
 use Rattle.std.proofs.lemmas.Bool.{both_ways, cases_lt}
 use Rattle.net_stream.specs.declared.fate.Fate.{Fate}
 use Rattle.net_stream.specs.declared.fate.Fate.TheVariants.{Delivered, Lost, Repeated, Late}
-use Rattle.net_stream.specs.Outgoing.{end_of}
-use Rattle.net_stream.specs.Fates.{FatesSeen, next_fate, fates_after, AllCome}
+use Rattle.net_stream.specs.Fates.{FatesSeen, next_fate, AllCome}
 use Rattle.net_stream.specs.LinkState.{LinkState, round}
-use Rattle.net_stream.specs.CopyState.{Setup, CopyState, Running, Done, GaveUp, feed, waited, pass, turn, after}
-use Rattle.net_stream.specs.Stuck.{failures, IsDue, IsStuck, HasFailed, AllFail, FatesFail, KnownOfRounds}
-use Rattle.net_stream.specs.Promises.{CanPass, BringsNothing, before_round, frames_sent, acks_sent, Fails, GivesUpIfFailed, NeverByDelays, EndsIfAllCome, FewRounds}
+use Rattle.net_stream.specs.CopyState.{Setup, CopyState, Running, GaveUp, feed, waited, pass, turn, after}
+use Rattle.net_stream.specs.Stuck.{failures, RoundLeaves, IsDue, IsStuck, HasFailed, AllFail, FatesFail, KnownOfRounds}
+use Rattle.net_stream.specs.Promises.{CanPass, before_round, frames_sent, acks_sent, Fails, GivesUpIfFailed, NeverByDelays, EndsIfAllCome, FewRounds}
 use Rattle.net_stream.proofs.Moved.{queue_from}
 use Rattle.net_stream.proofs.Stuck.{due_kept, stuck_weaker, all_after, round_failed}
 use Rattle.net_stream.proofs.RoundCount.{more_moved, more_still, never_fails}
 use Rattle.net_stream.proofs.Turns.{ended}
-use Rattle.net_stream.proofs.Prefix.{so_far}
-use Rattle.net_stream.proofs.GoesOn.{fed_leaves, Turned, Failed, Finished, Stopped, WentOn, turns, goes_on, GoesOn, Brought, Some, Nothing, brought, runs, running_or_not, still_from}
+use Rattle.net_stream.proofs.Prefix.{SoFar, so_far}
+use Rattle.net_stream.proofs.GoesOn.{fed_leaves, Turned, Failed, Finished, Stopped, WentOn, turns, goes_on, Still, Brought, Some, Nothing, brought, runs, running_or_not, still_from}
 use Rattle.net_stream.proofs.GivesUp.{gives_up_after}
 use Rattle.net_stream.proofs.StuckRounds.{all_stays, Stays, passes_before, runs_before, drawn_before, stuck_round, stuck_turn, leaves, sends, writes}
 
@@ -81,7 +80,7 @@ module _ (known : KnownOfRounds) where
       let k = m - 2 in
       let l = before_round s reads k in
       let failed = subst (λ follow. Fails follow l) (let e : m - suc k ≡ 1 = omega arith in e)
-          (gives_up_if_failed s reads m (passes_before known s reads (suc m) n early can) at.2 at.3 k (omega arith) (omega arith)) in
+      (gives_up_if_failed s reads m (passes_before known s reads (suc m) n early can) at.2 at.3 k (omega arith) (omega arith)) in
       let drawn = drawn_before known s reads k (runs_before known s reads k m (omega arith) at.2) in
       ⊎_elim {C = ⊥}
       (λ (a : (0 < frames_sent l) × HasFailed 1 (next_fate l.there.fates)). none drawn.0 (ap next_fate (sym drawn.2) ∙ is_lost (next_fate l.there.fates) a.1))
@@ -106,12 +105,74 @@ module _ (known : KnownOfRounds) where
   -- ---- how many rounds
   module _ (s : Setup) (reads : List (List ℕ)) where
     -- a round lets bytes go, writes some, or is counted as a failed one
-    Bounded : CopyState → Type 0
+    abbrev Bounded : CopyState → Type 0
     Bounded c = c.rounds ≤ (c.link.sender.base - s.first) + c.link.receiver.read + failures c.link.counts
 
+    fed_bounded : (c : CopyState) → Bounded c → Bounded (feed s.chunk c)
+    fed_bounded c h =
+        let f = fed_leaves s.chunk c in
+        let base = f.base in
+        let rounds = f.rounds in
+        let read = ap (λ r. r.read) f.receiver in
+        let counts = ap failures f.counts in
+        omega arith
+
+    passed_bounded : (e : CopyState) (frames acks : ℕ) → Bounded e → RoundLeaves (waited e) (round (waited e)) → s.first ≤ e.link.sender.base →
+        failures e.link.counts ≤ failures (round (waited e)).counts →
+        (Still e (pass s.chunk e) → min s.chunk (length (round (waited e)).receiver.queue) ≡ 0 → IsStuck frames acks (waited e) (pass s.chunk e).link) →
+        Brought s.chunk e → Bounded (pass s.chunk e)
+    passed_bounded e frames acks h keeps from grows stuck (Some none some) =
+        let m = round (waited e) in
+        let n = min s.chunk (length m.receiver.queue) in
+        let base = keeps.base in
+        let read = keeps.read in
+        let far : e.link.sender.base + e.link.receiver.read < m.sender.base + (m.receiver.read + n) =
+        ⊎_elim {C = e.link.sender.base + e.link.receiver.read < m.sender.base + (m.receiver.read + n)}
+        (λ (l : e.link.sender.base + e.link.receiver.read < m.sender.base + (m.receiver.read + n)). l)
+        (λ (l : m.sender.base + (m.receiver.read + n) ≤ e.link.sender.base + e.link.receiver.read).
+        absurd (some (still_from s.chunk e (omega arith) (omega arith))))
+        (cases_lt (e.link.sender.base + e.link.receiver.read) (m.sender.base + (m.receiver.read + n))) in
+        more_moved e.rounds (pass s.chunk e).rounds e.link.sender.base m.sender.base e.link.receiver.read (m.receiver.read + n) s.first
+        (failures e.link.counts) (failures m.counts) from base far grows (omega arith) h
+    passed_bounded e frames acks h keeps from grows stuck (Nothing more still empty) =
+        let m = round (waited e) in
+        let n = min s.chunk (length m.receiver.queue) in
+        let read = keeps.read in
+        more_still e.rounds (pass s.chunk e).rounds e.link.sender.base m.sender.base e.link.receiver.read (m.receiver.read + n) s.first
+        (failures e.link.counts) (failures m.counts) still.0 (omega arith) (stuck still empty).counted refl h
+
+    one_bounded : (c : CopyState) → SoFar known.known s reads c → Stays known s c.link → CanPass s (turn s.rounds s.chunk c) → Bounded c → Turned s.rounds s.chunk c →
+        Bounded (turn s.rounds s.chunk c)
+    one_bounded c was stays can h (Failed failed is) = subst Bounded (sym is) (fed_bounded c h)
+    one_bounded c was stays can h (Finished done is) = subst Bounded (sym is) (fed_bounded c h)
+    one_bounded c was stays can h (Stopped more many is) = subst Bounded (sym is) (fed_bounded c h)
+    one_bounded c was stays can h (WentOn fed more few is) =
+        let e = feed s.chunk c in
+        let one = goes_on s.rounds s.chunk c (ap (λ d. d.status) is ∙ fed) in
+        let old = waited e in
+        let passes = (sends known s reads c was stays can one).passes in
+        subst Bounded (sym is)
+        (passed_bounded e (frames_sent old) (acks_sent old) (fed_bounded c h) (leaves known s reads c was stays can one)
+        (writes known s reads c was stays can one).carries.way.sends.from (round_failed old (round old) passes)
+        (stuck_turn known s reads c was stays can one) (brought s.chunk e))
+
     bounded : (n : ℕ) → CanPass s (after s reads n) → Bounded (after s reads n)
-    bounded zero can = ?
-    bounded (suc n) can = ?
+    bounded zero can = omega arith
+    bounded (suc n) can =
+        let c = after s reads n in
+        let starts : s.first < 2 ^ 64 = (let left = can.positions in omega arith) in
+        let before : Bounded c = bounded n (passes_before known s reads n (suc n) (omega arith) can) in
+        ⊎_elim {C = Bounded (after s reads (suc n))}
+        (λ (on : c.status ≡ Running). one_bounded c (so_far known.known s reads starts n) (all_stays known s reads n) can before (turns s.rounds s.chunk c on))
+        (λ (over : c.status ≡ Running → ⊥). subst Bounded (sym (ended s.rounds s.chunk c over)) before)
+        (running_or_not c.status)
 
   pub few_rounds : FewRounds
-  few_rounds s reads n can = ?
+  few_rounds s reads n can =
+      let c = after s reads n in
+      let starts : s.first < 2 ^ 64 = (let left = can.positions in omega arith) in
+      let w = (so_far known.known s reads starts n).writes in
+      let end = w.carries.way.sends.end in
+      let read = (queue_from known.known.queue s.first c.given c.link.receiver w.carries.way.receives).within in
+      let few = bounded s reads n can in
+      omega arith

@@ -11,12 +11,12 @@ use Rattle.net_stream.proofs.Turns.{ended}
 
 -- ---- steps of a copy that goes on, and of one that has ended
 pub runs : (f : CopyState → CopyState) (c : CopyState) → c.status ≡ Running → while_running f c ≡ f c
-runs f c e = ap (λ (status : Status). elim status as (λ _. CopyState) [ | Running ↦ f c | Done ↦ c | GaveUp ↦ c | ReadFailed ↦ c ]) e
+runs f c e = ap (λ (status : Status). elim status as (λ _. CopyState) [ Running ↦ f c | Done ↦ c | GaveUp ↦ c | ReadFailed ↦ c ]) e
 
 pub rests : (f : CopyState → CopyState) (c : CopyState) → (c.status ≡ Running → ⊥) → while_running f c ≡ c
 rests f c over = by c.status refl
   where
-    by : (status : Status) → c.status ≡ status → elim status as (λ _. CopyState) [ | Running ↦ f c | Done ↦ c | GaveUp ↦ c | ReadFailed ↦ c ] ≡ c
+    by : (status : Status) → c.status ≡ status → elim status as (λ _. CopyState) [ Running ↦ f c | Done ↦ c | GaveUp ↦ c | ReadFailed ↦ c ] ≡ c
     by Running e = absurd (over e)
     by Done e = refl
     by GaveUp e = refl

@@ -10,7 +10,7 @@ use Rattle.net_receiver.specs.Rules.{Segment}
 use Rattle.net_receiver.specs.Stored.{Stored, IsSound, stored_next, stored_after, stored_after_read, domain}
 use Rattle.net_receiver.specs.OneStream.{FirstStays, NextGrows, SegmentReadsNothing, CapacityStays, QueueIsOfStream}
 use Rattle.net_receiver.specs.Retransmission.{Has, InOrderReaches}
-use Rattle.net_stream.specs.Outgoing.{Outgoing, sender_from, end_of, room_of}
+use Rattle.net_stream.specs.Outgoing.{Outgoing, sender_from, end_of}
 use Rattle.net_stream.specs.Frames.{Part, frame_of, frames_from, segment_of, FramesDecode}
 use Rattle.net_stream.specs.Reported.{count_outside, reports, most_reported, range_bytes, ranges_of}
 use Rattle.net_stream.specs.declared.counts.FrameCounts.{FrameCounts}
@@ -19,14 +19,14 @@ use Rattle.net_stream.specs.declared.fate.Fate.{Fate}
 use Rattle.net_stream.specs.declared.fate.Fate.TheVariants.{Delivered, Lost, Repeated, Late}
 use Rattle.net_stream.specs.Counting.{with_fate, with_fates, with_payload}
 use Rattle.net_stream.specs.Fates.{FatesSeen, next_fate, after_fate, fates_after, comes, comes_late, AllCome}
-use Rattle.net_stream.specs.Rounds.{CountsBrokenRound, FatesSoFar}
+use Rattle.net_stream.specs.Rounds.{CountsBrokenRound}
 use Rattle.net_stream.specs.Carrying.{ack_of, receiver_after}
 use Rattle.net_stream.specs.Sending.{at_least_one}
 use Rattle.net_stream.specs.Progress.{after_ack_frame, after_ack_frames, limit_of}
 use Rattle.net_stream.specs.Passing.{coming_of, late_of, receiver_after_all, ack_to, acks_of}
 use Rattle.net_stream.specs.Links.{Carries, Passes}
 use Rattle.net_stream.specs.Stuck.{failures, losses, RoundLeaves, BringsOnOrIsStuck, HasFailed, AllFail}
-use Rattle.net_stream.specs.Stuck.{FatesFail, FirstSays, IsDue, IsStuck, AreStuckTo, AreStuckAtLast}
+use Rattle.net_stream.specs.Stuck.{FatesFail, FirstSays, IsDue, IsStuck}
 use Rattle.net_stream.specs.Stuck.{NeverStuck}
 use Rattle.net_stream.proofs.Sent.{first_sent}
 use Rattle.net_stream.proofs.Reached.{come_next, missing, first_is, all_keep_end, acked_append}

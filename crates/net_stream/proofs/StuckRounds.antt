@@ -1,9 +1,9 @@
 -- What is true of a copy after each turn, and why a round of it brings nothing on.
-use Rattle.std.proofs.Common.{◌≡◌, ◌⊎◌, ◌&&◌, ℕ, zero, suc, ◌+◌, ◌-◌, ◌*◌, ◌≤◌, ◌<◌, ◌^◌, min, not, nat_eq, nat_lt, Bool, true, false, List, [], ◌∷◌, ◌++◌, length, take, Option, Some, None}
-use Rattle.std.proofs.Common.{refl, sym, ap, subst, ◌∙◌, arith, ⊎_elim, inl, inr, length-append, length-take}
-use Rattle.std.proofs.lemmas.Bool.{both_ways, cases_Bool, cases_lt, and_from, eq-eqb, lt-ltb}
+use Rattle.std.proofs.Common.{◌≡◌, ◌&&◌, ℕ, zero, suc, ◌+◌, ◌-◌, ◌≤◌, ◌<◌, ◌^◌, min, not, nat_eq, nat_lt, Bool, true, false, List, [], ◌∷◌, ◌++◌, length, take, Option, Some, None}
+use Rattle.std.proofs.Common.{refl, sym, ap, subst, ◌∙◌, arith, ⊎_elim, length-append, length-take}
+use Rattle.std.proofs.lemmas.Bool.{both_ways, cases_lt, and_from, eq-eqb, lt-ltb}
 use Rattle.net_receiver.specs.Rules.{Segment, Read}
-use Rattle.net_receiver.specs.Stored.{Stored, IsSound, stored_next, stored_after, stored_after_read}
+use Rattle.net_receiver.specs.Stored.{Stored, IsSound, stored_next, stored_after}
 use Rattle.net_receiver.specs.OneStream.{QueueIsOf}
 use Rattle.net_receiver.specs.Soundness.{SoundStays}
 use Rattle.net_stream.specs.declared.counts.FrameCounts.{FrameCounts}
@@ -16,22 +16,21 @@ use Rattle.net_stream.specs.Fates.{FatesSeen, next_fate, after_fate, fates_after
 use Rattle.net_stream.specs.Counting.{with_fate, with_fates, with_payload}
 use Rattle.net_stream.specs.Carrying.{receiver_after}
 use Rattle.net_stream.specs.Passing.{receiver_after_all}
-use Rattle.net_stream.specs.Links.{Passes}
 use Rattle.net_stream.specs.LinkState.{LinkState, round}
-use Rattle.net_stream.specs.CopyState.{Setup, CopyState, Status, Running, Done, GaveUp, ReadFailed, begin, is_written, room_for, feed, decide, waited, pass, while_running}
+use Rattle.net_stream.specs.CopyState.{Setup, CopyState, Running, ReadFailed, begin, is_written, room_for, feed, waited, pass}
 use Rattle.net_stream.specs.CopyState.{turn, after}
-use Rattle.net_stream.specs.Streams.{Known, Writes}
-use Rattle.net_stream.specs.Stuck.{RoundLeaves, BringsOnOrIsStuck, IsDue, IsStuck, KnownOfRounds}
+use Rattle.net_stream.specs.Streams.{Writes}
+use Rattle.net_stream.specs.Stuck.{RoundLeaves, IsStuck, KnownOfRounds}
 use Rattle.net_stream.specs.Promises.{CanPass, BringsNothing, before_round, frames_sent, acks_sent}
 use Rattle.net_stream.proofs.Drawn.{after_more}
 use Rattle.net_stream.proofs.Moved.{queue_from}
 use Rattle.net_stream.proofs.Reached.{first_is}
-use Rattle.net_stream.proofs.Stuck.{Numbers, round_keeps, round_moves, step_moves, due_kept, fates_left}
+use Rattle.net_stream.proofs.Stuck.{Numbers, round_keeps, round_moves, step_moves, fates_left}
 use Rattle.net_stream.proofs.Passed.{RoundSends, round_sends}
 use Rattle.net_stream.proofs.Kept.{split}
 use Rattle.net_stream.proofs.Turns.{decides, turned, all_turned}
 use Rattle.net_stream.proofs.Prefix.{SoFar, so_far, fed_so_far}
-use Rattle.net_stream.proofs.GoesOn.{Feeds, Waits, Fails, Ends, Gives, feeds, FedLeaves, fed_leaves, ends, asks, GoesOn, goes_on, Still, Brought, Some as Moved, Nothing, brought, runs}
+use Rattle.net_stream.proofs.GoesOn.{Feeds, Waits, Fails, Ends, Gives, feeds, fed_leaves, ends, asks, GoesOn, goes_on, Still, Brought, Some as Moved, Nothing, brought, runs}
 
 -- fates that are met change no count of bytes
 one_counts : (lot : Fate) (c : FrameCounts) → (with_fate lot c).payload ≡ c.payload
@@ -105,10 +104,14 @@ module _ (known : KnownOfRounds) where
           incoming = k.receiver_capacity ∙ h.incoming;
           sound = known.sound most_reported m.receiver (Read s.chunk) received;
           payload = omega arith;
-          drawn = (h.drawn.0 + length p.sent.ahead,
-            fates_left old m p ∙ ap (fates_after (length p.sent.ahead)) h.drawn.1 ∙ after_more h.drawn.0 (length p.sent.ahead) s.fates);
-          drawn_back = (h.drawn_back.0 + length p.acks,
-            ap (λ t. t.fates) p.left_back ∙ ap (fates_after (length p.acks)) h.drawn_back.1 ∙ after_more h.drawn_back.0 (length p.acks) s.ack_fates);
+          drawn = (
+            h.drawn.0 + length p.sent.ahead,
+            fates_left old m p ∙ ap (fates_after (length p.sent.ahead)) h.drawn.1 ∙ after_more h.drawn.0 (length p.sent.ahead) s.fates,
+          );
+          drawn_back = (
+            h.drawn_back.0 + length p.acks,
+            ap (λ t. t.fates) p.left_back ∙ ap (fates_after (length p.acks)) h.drawn_back.1 ∙ after_more h.drawn_back.0 (length p.acks) s.ack_fates,
+          );
         }
 
     module _ (reads : List (List ℕ)) where
