@@ -145,7 +145,7 @@ module _ (known : KnownOfRounds) where
         Bounded (turn s.rounds s.chunk c)
     one_bounded c was stays can h (Failed failed is) = subst Bounded (sym is) (fed_bounded c h)
     one_bounded c was stays can h (Finished done is) = subst Bounded (sym is) (fed_bounded c h)
-    one_bounded c was stays can h (Stopped more many is) = subst Bounded (sym is) (fed_bounded c h)
+    one_bounded c was stays can h (Stopped fed more many is) = subst Bounded (sym is) (fed_bounded c h)
     one_bounded c was stays can h (WentOn fed more few is) =
         let e = feed s.chunk c in
         let one = goes_on s.rounds s.chunk c (ap (λ d. d.status) is ∙ fed) in

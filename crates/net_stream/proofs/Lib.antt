@@ -26,3 +26,4 @@ pub mod GoesOn
 pub mod GivesUp
 pub mod StuckRounds
 pub mod Failed
+pub mod CountedTurns

@@ -30,7 +30,7 @@ use Rattle.net_stream.proofs.Passed.{RoundSends, round_sends}
 use Rattle.net_stream.proofs.Kept.{split}
 use Rattle.net_stream.proofs.Turns.{decides, turned, all_turned}
 use Rattle.net_stream.proofs.Prefix.{SoFar, so_far, fed_so_far}
-use Rattle.net_stream.proofs.GoesOn.{Feeds, Waits, Fails, Ends, Gives, feeds, fed_leaves, ends, asks, GoesOn, goes_on, Still, Brought, Some as Moved, Nothing, brought, runs}
+use Rattle.net_stream.proofs.GoesOn.{fed_leaves, asked, GoesOn, goes_on, Still, Brought, Some as Moved, Nothing, brought, runs}
 
 -- fates that are met change no count of bytes
 one_counts : (lot : Fate) (c : FrameCounts) → (with_fate lot c).payload ≡ c.payload
@@ -172,10 +172,10 @@ module _ (known : KnownOfRounds) where
         pub writes : Writes s.first e.given e
         writes = (fed_so_far known.known s reads c one.before was).writes
 
-        within : QueueIsOf e.given e.link.receiver
+        pub within : QueueIsOf e.given e.link.receiver
         within = queue_from known.known.queue s.first e.given e.link.receiver writes.carries.way.receives
 
-        fed : Stays e.link
+        pub fed : Stays e.link
         fed = fed_stays c stays
 
         pub sends : RoundSends old new
@@ -184,46 +184,22 @@ module _ (known : KnownOfRounds) where
         pub leaves : RoundLeaves old new
         leaves = round_keeps old new sends.passes numbers
 
-        left : s.first + length e.given < 2 ^ 64 - 1
+        pub left : s.first + length e.given < 2 ^ 64 - 1
         left = (let most = can.positions in let same = ap (λ d. length d.given) one.is in omega arith)
 
-        -- where nothing is to be sent, a read was made
-        kept : min s.chunk (length new.receiver.queue) ≡ 0 → length e.link.sender.queue ≡ 0 → ⊥
-        kept none empty =
-            let some = can.chunk in
-            let grows = leaves.grows in
-            let first = leaves.first in
-            let read = leaves.read in
+        -- where nothing is to be sent, something is to be written
+        pub kept : length e.link.sender.queue ≡ 0 → length e.link.receiver.queue ≡ 0 → ⊥
+        kept empty none =
             let behind = writes.carries.way.behind in
             let end = writes.carries.way.sends.end in
             let begins = first_is s.first e.given e.link.receiver writes.carries.way.receives in
             let few = within.within in
-            let none_left : length e.link.receiver.queue ≡ 0 = omega arith in
-            let reached : stored_next e.link.receiver ≡ end_of e.link.sender = omega arith in
-            let all : is_written e.link ≡ true = and_from (nat_eq (stored_next e.link.receiver) (end_of e.link.sender)) (nat_eq (length e.link.receiver.queue) 0)
-            (eq-eqb (stored_next e.link.receiver) (end_of e.link.sender) reached) (eq-eqb (length e.link.receiver.queue) 0 none_left) in
-            by (may e.more refl all) all (feeds s.chunk c)
-          where
-            may : (b : Bool) → e.more ≡ b → is_written e.link ≡ true → e.more ≡ true
-            may true is all = is
-            may false is all = absurd (both_ways (ends e) one.on (and_from (not e.more) (is_written e.link) (ap not is) all))
-
-            by : e.more ≡ true → is_written e.link ≡ true → Feeds s.chunk c → ⊥
-            by more all (Waits off is) =
-                let cap = fed.outgoing in
-                let room = can.outgoing in
-                let some = can.chunk in
-                let end = writes.carries.way.sends.end in
-                let most = left in
-                both_ways (asks s.chunk e) (ap (asks s.chunk) is ∙ off)
-                (and_from (e.more && nat_lt 0 (room_for s.chunk e.link)) (is_written e.link)
-                (and_from e.more (nat_lt 0 (room_for s.chunk e.link)) more (lt-ltb 0 (room_for s.chunk e.link) (omega arith))) all)
-            by more all (Fails is) = (let j : ReadFailed ≡ Running = sym (ap (λ d. d.status) is) ∙ one.fed in cc)
-            by more all (Ends rs is) = both_ways e.more (ap (λ d. d.more) is) more
-            by more all (Gives x xs rs some written is) =
-                let q = take (room_for s.chunk c.link) (x ∷ xs) in
-                let long : length e.link.sender.queue ≡ length (c.link.sender.queue ++ q) = ap (λ d. length d.link.sender.queue) is in
-                omega (arith, length-append c.link.sender.queue q, length-take (room_for s.chunk c.link) (x ∷ xs))
+            let most = left in
+            let cap = fed.outgoing in
+            let room = can.outgoing in
+            asked s.chunk c one.fed one.on can.chunk (omega arith) (omega arith)
+            (and_from (nat_eq (stored_next e.link.receiver) (end_of e.link.sender)) (nat_eq (length e.link.receiver.queue) 0)
+            (eq-eqb (stored_next e.link.receiver) (end_of e.link.sender) (omega arith)) (eq-eqb (length e.link.receiver.queue) 0 none))
 
         pub stuck_turn : Still e (pass s.chunk e) → min s.chunk (length new.receiver.queue) ≡ 0 →
             IsStuck (frames_sent old) (acks_sent old) old (pass s.chunk e).link
@@ -240,7 +216,12 @@ module _ (known : KnownOfRounds) where
           where
             some_kept : 0 < length e.link.sender.queue
             some_kept = ⊎_elim {C = 0 < length e.link.sender.queue} (λ (l : 0 < length e.link.sender.queue). l)
-                (λ (l : length e.link.sender.queue ≤ 0). absurd (kept none (omega arith))) (cases_lt 0 (length e.link.sender.queue))
+                (λ (l : length e.link.sender.queue ≤ 0).
+                absurd (kept (omega arith) (let some = can.chunk in
+                let grows = leaves.grows in
+                let first = leaves.first in
+                let read = leaves.read in
+                omega arith))) (cases_lt 0 (length e.link.sender.queue))
 
             some_room : 0 < e.link.receiver.capacity
             some_room = (let cap = fed.incoming in let room = can.incoming in omega arith)

@@ -13,15 +13,19 @@
 --     GivesUpIfFailed      it gives up only if each of these rounds failed
 --     NoneLost v, NeverByDelays      delays and repeats alone never end it
 --     EndsIfAllCome      over a link that loses and delays nothing it doesn't give up
+--     CountsRounds, CountsEachFate      what the counts of rounds and of frames are
+--     GivesUpCounted, EnoughFailed, Unfinished      what a copy that gives up counts
+--     EnoughRounds, RoundsAtOnce      bounds where it is done, and where nothing is lost or late
 --     FewRounds, FewRoundsAnyway, FewFrames      bounds
 --     RoundKeeps, FewLate      how much is late after a round
-use Rattle.std.specs.Prelude.{◌≡◌, ℕ, suc, ◌+◌, ◌-◌, ◌*◌, ◌<◌, ◌≤◌, ◌^◌, ◌⊎◌, List, [], ◌∷◌, ◌++◌, length}
+use Rattle.std.specs.Prelude.{◌≡◌, ℕ, suc, ◌+◌, ◌-◌, ◌*◌, ◌<◌, ◌≤◌, ◌^◌, ◌⊎◌, min, List, [], ◌∷◌, ◌++◌, length}
 use Rattle.std.specs.Io.{StartsWith}
 use Rattle.net_stream.specs.Fates.{FatesSeen, next_fate, fates_after, AllCome}
 use Rattle.net_stream.specs.declared.fate.Fate.TheVariants.{Lost}
 use Rattle.net_stream.specs.LinkState.{LinkState, transmit, late_frames, pass_frames, acknowledge_all, round}
 use Rattle.net_stream.specs.CopyState.{Setup, CopyState, Running, Done, GaveUp, feed, waited, while_running}
 use Rattle.net_stream.specs.CopyState.{after, copied, most_turns}
+use Rattle.net_stream.specs.Rounds.{CountsFates}
 use Rattle.net_stream.specs.Stuck.{FatesFail}
 
 abbrev pub StartsFits : Setup → Type 0
@@ -106,7 +110,48 @@ EndsIfAllCome = (s : Setup) (reads : List (List ℕ)) (n : ℕ) → CanPass s (a
     AllCome s.fates → AllCome s.ack_fates → 0 < s.rounds →
     (after s reads n).status ≡ GaveUp → ⊥
 
+-- ---- what is counted
+-- a copy that goes on makes a round in each turn, and counts as many as 64 bits go
+abbrev pub CountsRounds : Type 0
+CountsRounds = (s : Setup) (reads : List (List ℕ)) (n : ℕ) →
+    (after s reads n).status ≡ Running → (after s reads n).rounds ≡ min n (2 ^ 64 - 1)
+
+-- the counts of frames are those of their fates
+abbrev pub CountsEachFate : Type 0
+CountsEachFate = (s : Setup) (reads : List (List ℕ)) (n : ℕ) →
+    CountsFates s.fates s.ack_fates (after s reads n).link.counts
+
+-- a copy that gives up counts at least `rounds` rounds
+abbrev pub GivesUpCounted : Type 0
+GivesUpCounted = (s : Setup) (reads : List (List ℕ)) (n : ℕ) → s.rounds < 2 ^ 64 →
+    (after s reads n).status ≡ GaveUp → s.rounds ≤ (after s reads n).rounds
+
+-- at least as many frames and acknowledgements were then lost or late, and all but one lost
+abbrev pub EnoughFailed : Type 0
+EnoughFailed = (s : Setup) (reads : List (List ℕ)) (n : ℕ) → CanPass s (after s reads n) →
+    s.rounds < 2 ^ 64 → (after s reads n).status ≡ GaveUp →
+    (s.rounds ≤ (after s reads n).link.counts.lost + (after s reads n).link.counts.late)
+    × (s.rounds ≤ (after s reads n).link.counts.lost + 1)
+
+-- it hasn't written all that was read, if that was less than the sender has room for
+abbrev pub Unfinished : Type 0
+Unfinished = (s : Setup) (reads : List (List ℕ)) (n : ℕ) → CanPass s (after s reads n) →
+    (after s reads n).status ≡ GaveUp → length (after s reads n).given < s.outgoing →
+    length (after s reads n).written < length (after s reads n).given
+
 -- ---- bounds
+-- no more is read than so many bytes a round
+abbrev pub EnoughRounds : Type 0
+EnoughRounds = (s : Setup) (reads : List (List ℕ)) (n : ℕ) → StartsFits s →
+    (after s reads n).status ≡ Done →
+    length (after s reads n).given ≤ (after s reads n).rounds * s.chunk
+
+-- over a link that loses and delays nothing each round writes some
+abbrev pub RoundsAtOnce : Type 0
+RoundsAtOnce = (s : Setup) (reads : List (List ℕ)) (n : ℕ) → CanPass s (after s reads n) →
+    AllCome s.fates → AllCome s.ack_fates →
+    (after s reads n).rounds ≤ length (after s reads n).given
+
 -- two rounds for each byte that was read, and one for each frame or acknowledgement that was lost or
 -- late
 abbrev pub FewRounds : Type 0
