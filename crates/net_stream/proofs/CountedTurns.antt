@@ -4,10 +4,10 @@ use Rattle.std.proofs.lemmas.Bool.{both_ways, cases_lt, and_from, and_parts, eq-
 use Rattle.net_receiver.specs.Stored.{stored_next}
 use Rattle.net_stream.specs.Outgoing.{end_of}
 use Rattle.net_stream.specs.Fates.{AllCome}
-use Rattle.net_stream.specs.Rounds.{CountsFates, FatesSoFar, fates_only}
-use Rattle.net_stream.specs.LinkState.{LinkState, round}
+use Rattle.net_stream.specs.Rounds.{FatesSoFar, fates_only}
+use Rattle.net_stream.specs.LinkState.{round}
 use Rattle.net_stream.specs.CopyState.{Setup, CopyState, Status, Running, Done, GaveUp, ReadFailed, begin, is_written, room_for, feed, waited, pass, turn, after}
-use Rattle.net_stream.specs.Stuck.{failures, losses, IsDue, IsStuck, FatesFail, KnownOfRounds}
+use Rattle.net_stream.specs.Stuck.{failures, losses, IsDue, IsStuck, KnownOfRounds}
 use Rattle.net_stream.specs.Promises.{frames_sent, acks_sent, StartsFits, CanPass, CountsRounds, CountsEachFate, GivesUpCounted, EnoughFailed, Unfinished, EnoughRounds, RoundsAtOnce}
 use Rattle.net_stream.proofs.Drawn.{round_met, met_so_far}
 use Rattle.net_stream.proofs.Moved.{queue_from}
@@ -18,9 +18,9 @@ use Rattle.net_stream.proofs.Passed.{round_sends}
 use Rattle.net_stream.proofs.Kept.{round_carries}
 use Rattle.net_stream.proofs.Turns.{ended, decides, all_turned}
 use Rattle.net_stream.proofs.Prefix.{SoFar, so_far, fed_so_far}
-use Rattle.net_stream.proofs.GoesOn.{FedLeaves, Feeds, Waits, Fails, Ends, Gives, feeds, fed_leaves, ends, asked, Turned, Failed, Finished, Stopped, WentOn, turns, goes_on, GoesOn, Still, Brought, Some, Nothing, brought, running_or_not}
+use Rattle.net_stream.proofs.GoesOn.{FedLeaves, Feeds, Waits, Fails, Ends, Gives, feeds, fed_leaves, ends, asked, Turned, Failed, Finished, Stopped, WentOn, turns, goes_on, Still, Brought, Some, Nothing, brought, running_or_not}
 use Rattle.net_stream.proofs.GivesUp.{gives_up_after}
-use Rattle.net_stream.proofs.StuckRounds.{numbers, Stays, fed_stays, pass_stays, all_stays, passes_before, stuck_turn, leaves, sends, writes, kept, fed}
+use Rattle.net_stream.proofs.StuckRounds.{numbers, Stays, fed_stays, pass_stays, all_stays, passes_before, stuck_turn, leaves, sends, writes, left, kept, fed}
 
 -- what is true where a copy ends so, is true from then on
 at_end : (s : Setup) (reads : List (List ℕ)) (Q : CopyState → Type 0) (last : Status) → (last ≡ Running → ⊥) →
@@ -206,3 +206,128 @@ module _ (known : KnownOfRounds) where
             (λ (l : (min c.stalled (2 ^ 64 - 1) ≤ losses c.link.counts + 1) × IsDue c.link). let k = l.0 in omega arith)
             h.1,
       )) n gave can
+
+-- ---- enough rounds
+-- a read gives no more than so many bytes
+fed_few : (chunk : ℕ) (c : CopyState) → length (feed chunk c).given ≤ length c.given + chunk
+fed_few chunk c = by (feeds chunk c)
+  where
+    by : Feeds chunk c → length (feed chunk c).given ≤ length c.given + chunk
+    by (Waits off e) = (let same = ap (λ d. length d.given) e in omega arith)
+    by (Fails e) = (let same = ap (λ d. length d.given) e in omega arith)
+    by (Ends reads e) = (let same = ap (λ d. length d.given) e in omega arith)
+    by (Gives x xs reads more some all e) =
+        let q = take (room_for chunk c.link) (x ∷ xs) in
+        let same : length (feed chunk c).given ≡ length (c.given ++ q) = ap (λ d. length d.given) e in
+        omega (arith, length-append c.given q, length-take (room_for chunk c.link) (x ∷ xs))
+
+-- the last one gave none
+done_none : (rounds chunk : ℕ) (c : CopyState) → c.status ≡ Running → (turn rounds chunk c).status ≡ Done →
+    (length (turn rounds chunk c).given ≡ length c.given) × ((turn rounds chunk c).rounds ≡ c.rounds)
+done_none rounds chunk c on done = by (turns rounds chunk c on)
+  where
+    none : ends (feed chunk c) ≡ true → Feeds chunk c → length (feed chunk c).given ≡ length c.given
+    none over (Waits off e) = ap (λ d. length d.given) e
+    none over (Fails e) = ap (λ d. length d.given) e
+    none over (Ends reads e) = ap (λ d. length d.given) e
+    none over (Gives x xs reads more some all e) =
+        absurd (both_ways (not (feed chunk c).more) (ap not (ap (λ d. d.more) e ∙ more)) (and_parts (not (feed chunk c).more) (is_written (feed chunk c).link) over).0)
+
+    by : Turned rounds chunk c → (length (turn rounds chunk c).given ≡ length c.given) × ((turn rounds chunk c).rounds ≡ c.rounds)
+    by (Failed failed e) = (let j : ReadFailed ≡ Done = sym failed ∙ sym (ap (λ d. d.status) e) ∙ done in cc)
+    by (Finished over e) = (ap (λ d. length d.given) e ∙ none over (feeds chunk c), ap (λ d. d.rounds) e ∙ (fed_leaves chunk c).rounds)
+    by (Stopped fed more many e) = (let j : GaveUp ≡ Done = sym (ap (λ d. d.status) e) ∙ done in cc)
+    by (WentOn fed more few e) = (let j : Running ≡ Done = sym fed ∙ sym (ap (λ d. d.status) e) ∙ done in cc)
+
+module _ (known : KnownOfRounds) where
+  taken_few : (s : Setup) (reads : List (List ℕ)) → StartsFits s → (n : ℕ) → (after s reads n).status ≡ Running →
+      length (after s reads n).given ≤ (after s reads n).rounds * s.chunk
+  taken_few s reads fits zero on = omega arith
+  taken_few s reads fits (suc n) on =
+      let c = after s reads n in
+      let one = goes_on s.rounds s.chunk c on in
+      let w = (so_far known.known s reads fits (suc n)).writes.carries in
+      let end = w.way.sends.end in
+      let word = w.fits in
+      let given = ap (λ d. length d.given) one.is in
+      let more = fed_few s.chunk c in
+      more_taken (length c.given) (length (after s reads (suc n)).given) c.rounds (after s reads (suc n)).rounds s.chunk
+      (taken_few s reads fits n one.before) (omega arith) (omega arith) (ap (λ d. d.rounds) one.is ∙ ap (λ k. min (k + 1) (2 ^ 64 - 1)) (fed_leaves s.chunk c).rounds)
+
+  pub enough_rounds : EnoughRounds
+  enough_rounds s reads n fits = at_end s reads (λ c. length c.given ≤ c.rounds * s.chunk) Done (λ (e : Done ≡ Running). cc)
+      (λ m on done. (let last = done_none s.rounds s.chunk (after s reads m) on done in
+      subst (λ k. k ≤ (after s reads (suc m)).rounds * s.chunk) (sym last.0)
+      (subst (λ k. length (after s reads m).given ≤ k * s.chunk) (sym last.1) (taken_few s reads fits m on)))) n
+
+  -- ---- where all come at once
+  module _ (s : Setup) (reads : List (List ℕ)) (come : AllCome s.fates) (come_back : AllCome s.ack_fates) where
+    -- the sender keeps what the receiver lacks, and each round wrote some
+    abbrev AtOnce : CopyState → Type 0
+    AtOnce c = (c.link.sender.base ≡ stored_next c.link.receiver) × (c.rounds ≤ c.link.receiver.read)
+
+    fed_at_once : (c : CopyState) → AtOnce c → AtOnce (feed s.chunk c)
+    fed_at_once c h =
+        let f = fed_leaves s.chunk c in
+        let rounds = f.rounds in
+        let read = ap (λ r. r.read) f.receiver in
+        let few = h.1 in
+        (f.base ∙ h.0 ∙ sym (ap (λ r. r.first + r.read + length r.queue) f.receiver), omega arith)
+
+    one_at_once : (c : CopyState) → SoFar known.known s reads c → Stays known s c.link → CanPass s (turn s.rounds s.chunk c) → AtOnce c →
+        Turned s.rounds s.chunk c → AtOnce (turn s.rounds s.chunk c)
+    one_at_once c was stays can h (Failed failed is) = subst AtOnce (sym is) (fed_at_once c h)
+    one_at_once c was stays can h (Finished done is) = subst AtOnce (sym is) (fed_at_once c h)
+    one_at_once c was stays can h (Stopped fed more many is) = subst AtOnce (sym is) (fed_at_once c h)
+    one_at_once c was stays can h (WentOn on more few is) =
+        let e = feed s.chunk c in
+        let one = goes_on s.rounds s.chunk c (ap (λ d. d.status) is ∙ on) in
+        let old = waited e in
+        let new = round old in
+        let p = (sends known s reads c was stays can one).passes in
+        let u = fed known s reads c was stays can one in
+        let w = (writes known s reads c was stays can one).carries in
+        let end = w.way.sends.end in
+        let most = left known s reads c was stays can one in
+        let last = (pass s.chunk e).link in
+        let room = can.incoming in
+        let cap = u.incoming in
+        let moves = round_moves old new p known.known.decode (numbers known) known.order known.known.queue u.sound (omega arith) in
+        let was_few = (fed_at_once c h).1 in
+        let one_more = round_at_once known.known.decode known.known.queue s.first e.given old new last s.chunk p
+        (leaves known s reads c was stays can one) moves (omega arith) refl w.way
+        (round_carries known.known s.first e.given old (record { way = w.way; fits = w.fits })).way u.ahead u.ahead_back
+        (subst AllCome (sym u.drawn.1) (all_after u.drawn.0 s.fates come)) (subst AllCome (sym u.drawn_back.1) (all_after u.drawn_back.0 s.ack_fates come_back))
+        (fed_at_once c h).0 (omega arith) can.chunk
+        (λ none. some_kept e (λ empty. kept known s reads c was stays can one empty none)) in
+        let grows = one_more.1 in
+        subst AtOnce (sym is) (one_more.0, few_more e.rounds e.link.receiver.read last.receiver.read was_few grows)
+      where
+        some_kept : (e : CopyState) → (length e.link.sender.queue ≡ 0 → ⊥) → 0 < length e.link.sender.queue
+        some_kept e not_none = ⊎_elim {C = 0 < length e.link.sender.queue} (λ (l : 0 < length e.link.sender.queue). l)
+            (λ (l : length e.link.sender.queue ≤ 0). absurd (not_none (omega arith))) (cases_lt 0 (length e.link.sender.queue))
+
+        few_more : (n r r' : ℕ) → n ≤ r → r < r' → min (n + 1) (2 ^ 64 - 1) ≤ r'
+        few_more n r r' h l = omega arith
+
+    at_once : (n : ℕ) → CanPass s (after s reads n) → AtOnce (after s reads n)
+    at_once zero can = (omega arith, omega arith)
+    at_once (suc n) can =
+        let c = after s reads n in
+        let positions = can.positions in
+        let starts : s.first < 2 ^ 64 = omega arith in
+        let before = at_once n (passes_before known s reads n (suc n) (omega arith) can) in
+        ⊎_elim {C = AtOnce (after s reads (suc n))}
+        (λ (on : c.status ≡ Running). one_at_once c (so_far known.known s reads starts n) (all_stays known s reads n) can before (turns s.rounds s.chunk c on))
+        (λ (over : c.status ≡ Running → ⊥). subst AtOnce (sym (ended s.rounds s.chunk c over)) before)
+        (running_or_not c.status)
+
+  pub rounds_at_once : RoundsAtOnce
+  rounds_at_once s reads n can come come_back =
+      let c = after s reads n in
+      let positions = can.positions in
+      let starts : s.first < 2 ^ 64 = omega arith in
+      let few = (at_once s reads come come_back n can).1 in
+      let w = (so_far known.known s reads starts n).writes.carries in
+      let read = (queue_from known.known.queue s.first c.given c.link.receiver w.way.receives).within in
+      omega arith

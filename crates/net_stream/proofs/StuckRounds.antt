@@ -1,7 +1,7 @@
 -- What is true of a copy after each turn, and why a round of it brings nothing on.
-use Rattle.std.proofs.Common.{◌≡◌, ◌&&◌, ℕ, zero, suc, ◌+◌, ◌-◌, ◌≤◌, ◌<◌, ◌^◌, min, not, nat_eq, nat_lt, Bool, true, false, List, [], ◌∷◌, ◌++◌, length, take, Option, Some, None}
-use Rattle.std.proofs.Common.{refl, sym, ap, subst, ◌∙◌, arith, ⊎_elim, length-append, length-take}
-use Rattle.std.proofs.lemmas.Bool.{both_ways, cases_lt, and_from, eq-eqb, lt-ltb}
+use Rattle.std.proofs.Common.{◌≡◌, ℕ, zero, suc, ◌+◌, ◌-◌, ◌≤◌, ◌<◌, ◌^◌, min, nat_eq, nat_lt, List, [], ◌∷◌, length, Option, Some, None}
+use Rattle.std.proofs.Common.{refl, sym, ap, subst, ◌∙◌, arith, ⊎_elim}
+use Rattle.std.proofs.lemmas.Bool.{cases_lt, and_from, eq-eqb}
 use Rattle.net_receiver.specs.Rules.{Segment, Read}
 use Rattle.net_receiver.specs.Stored.{Stored, IsSound, stored_next, stored_after}
 use Rattle.net_receiver.specs.OneStream.{QueueIsOf}
@@ -17,7 +17,7 @@ use Rattle.net_stream.specs.Counting.{with_fate, with_fates, with_payload}
 use Rattle.net_stream.specs.Carrying.{receiver_after}
 use Rattle.net_stream.specs.Passing.{receiver_after_all}
 use Rattle.net_stream.specs.LinkState.{LinkState, round}
-use Rattle.net_stream.specs.CopyState.{Setup, CopyState, Running, ReadFailed, begin, is_written, room_for, feed, waited, pass}
+use Rattle.net_stream.specs.CopyState.{Setup, CopyState, Running, begin, feed, waited, pass}
 use Rattle.net_stream.specs.CopyState.{turn, after}
 use Rattle.net_stream.specs.Streams.{Writes}
 use Rattle.net_stream.specs.Stuck.{RoundLeaves, IsStuck, KnownOfRounds}

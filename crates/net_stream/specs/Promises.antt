@@ -18,13 +18,13 @@
 --     EnoughRounds, RoundsAtOnce      bounds where it is done, and where nothing is lost or late
 --     FewRounds, FewRoundsAnyway, FewFrames      bounds
 --     RoundKeeps, FewLate      how much is late after a round
-use Rattle.std.specs.Prelude.{◌≡◌, ℕ, suc, ◌+◌, ◌-◌, ◌*◌, ◌<◌, ◌≤◌, ◌^◌, ◌⊎◌, min, List, [], ◌∷◌, ◌++◌, length}
+use Rattle.std.specs.Prelude.{◌≡◌, ℕ, suc, ◌+◌, ◌-◌, ◌*◌, ◌<◌, ◌≤◌, ◌^◌, min, List, [], ◌∷◌, ◌++◌, length}
 use Rattle.std.specs.Io.{StartsWith}
 use Rattle.net_stream.specs.Fates.{FatesSeen, next_fate, fates_after, AllCome}
 use Rattle.net_stream.specs.declared.fate.Fate.TheVariants.{Lost}
 use Rattle.net_stream.specs.LinkState.{LinkState, transmit, late_frames, pass_frames, acknowledge_all, round}
 use Rattle.net_stream.specs.CopyState.{Setup, CopyState, Running, Done, GaveUp, feed, waited, while_running}
-use Rattle.net_stream.specs.CopyState.{after, copied, most_turns}
+use Rattle.net_stream.specs.CopyState.{after, copied}
 use Rattle.net_stream.specs.Rounds.{CountsFates}
 use Rattle.net_stream.specs.Stuck.{FatesFail}
 

@@ -10,7 +10,9 @@ mod ends;
 mod streams;
 
 pub use bounds::{fuel, late_frames, rounds_anyway, sent_frames};
-pub use ends::{all_come, delays, gives_up, gives_up_if_failed, rounds};
+pub use ends::{
+    all_come, counts, delays, enough_rounds, gives_up, gives_up_counted, gives_up_if_failed, rounds,
+};
 pub use streams::{all, is_written, prefix, stays_on_its_way};
 
 /// What follows where every frame and every acknowledgement comes: so do the next ones, however

@@ -1,5 +1,4 @@
 use Rattle.net_stream.proofs.Failed.{few_rounds}
-use Rattle.net_stream.proofs.CountedTurns.{counts_rounds}
 use Rattle.net_stream.proofs.laws.ends.rounds.Goals as goal
 
 pub returns : goal.returns
