@@ -19,3 +19,4 @@ pub mod Kept
 pub mod Turns
 pub mod Grown
 pub mod Prefix
+pub mod Sizes
