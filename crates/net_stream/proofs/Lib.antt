@@ -20,3 +20,4 @@ pub mod Turns
 pub mod Grown
 pub mod Prefix
 pub mod Sizes
+pub mod Fuel

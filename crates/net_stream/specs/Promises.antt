@@ -15,13 +15,14 @@
 --     EndsIfAllCome      over a link that loses and delays nothing it doesn't give up
 --     FewRounds, FewRoundsAnyway, FewFrames      bounds
 --     RoundKeeps, FewLate      how much is late after a round
+--     HasEnded c, Stays, CopiedIs      an ended copy stays as it is, so that it is what comes of it
 use Rattle.std.specs.Prelude.{◌≡◌, ℕ, suc, ◌+◌, ◌-◌, ◌*◌, ◌<◌, ◌≤◌, ◌^◌, ◌⊎◌, List, [], ◌∷◌, ◌++◌, length}
 use Rattle.std.specs.Io.{StartsWith}
 use Rattle.net_stream.specs.Fates.{FatesSeen, next_fate, fates_after, AllCome}
 use Rattle.net_stream.specs.declared.fate.Fate.TheVariants.{Lost}
 use Rattle.net_stream.specs.LinkState.{LinkState, transmit, late_frames, pass_frames, acknowledge_all, round}
 use Rattle.net_stream.specs.CopyState.{Setup, CopyState, Running, Done, GaveUp, feed, waited, while_running}
-use Rattle.net_stream.specs.CopyState.{after, copied, most_turns}
+use Rattle.net_stream.specs.CopyState.{after, outcome, copied}
 use Rattle.net_stream.specs.Stuck.{FatesFail}
 
 abbrev pub StartsFits : Setup → Type 0
@@ -139,3 +140,17 @@ RoundKeeps = (l : LinkState) → FewLate l → FewLate (round l)
 
 abbrev pub CopyKeeps : Type 0
 CopyKeeps = (s : Setup) (reads : List (List ℕ)) (n : ℕ) → FewLate (after s reads n).link
+
+-- ---- an ended copy
+abbrev pub HasEnded : CopyState → Type 0
+HasEnded c = c.status ≡ Running → ⊥
+
+-- it stays as it is
+abbrev pub Stays : Type 0
+Stays = (s : Setup) (reads : List (List ℕ)) (n k : ℕ) → HasEnded (after s reads n) →
+    after s reads (n + k) ≡ after s reads n
+
+-- what comes of a copy is what came of it when it had ended, after however many turns
+abbrev pub CopiedIs : Type 0
+CopiedIs = (s : Setup) (reads : List (List ℕ)) (n : ℕ) → StartsFits s → HasEnded (after s reads n) →
+    copied s reads ≡ outcome (after s reads n)

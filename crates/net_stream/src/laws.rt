@@ -8,7 +8,7 @@ mod bounds;
 mod ends;
 mod streams;
 
-pub use bounds::{fuel, late_frames, rounds_anyway, sent_frames};
+pub use bounds::{ended, fuel, late_frames, rounds_anyway, sent_frames};
 pub use ends::{all_come, delays, gives_up, gives_up_if_failed, rounds};
 pub use streams::{all, is_written, prefix, stays_on_its_way};
 
