@@ -21,3 +21,4 @@ pub mod Grown
 pub mod Prefix
 pub mod Sizes
 pub mod Fuel
+pub mod Filling

@@ -1,5 +1,6 @@
 //! What becomes of the stream on a link, and what a copy writes.
 ghost use Rattle.net_stream.specs.Promises.{WritesPrefix, WritesAll};
+ghost use Rattle.net_stream.specs.Promises.{SameBytes, AllAtOnce};
 ghost use Rattle.net_stream.specs.Streams.{Known, RoundCarries, StopCarries};
 ghost use Rattle.net_stream.specs.Streams.{ReadWrites, PassWrites, AllWritten};
 
@@ -51,6 +52,15 @@ pub fn prefix()
 /// When a copy is done, it has written all bytes before the input's end.
 pub fn all()
     ensures { WritesAll }
+{
+    known();
+}
+
+/// For a reader that fills what it is asked for, what comes of a copy depends on its bytes alone: it is
+/// what comes of one whose reader has all of them at once.
+pub fn filling_reads()
+    ensures same { SameBytes }
+    ensures at_once { AllAtOnce }
 {
     known();
 }
