@@ -22,3 +22,4 @@ pub mod Prefix
 pub mod Sizes
 pub mod Fuel
 pub mod Filling
+pub mod Worked

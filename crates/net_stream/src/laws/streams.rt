@@ -3,6 +3,7 @@ ghost use Rattle.net_stream.specs.Promises.{WritesPrefix, WritesAll};
 ghost use Rattle.net_stream.specs.Promises.{SameBytes, AllAtOnce};
 ghost use Rattle.net_stream.specs.Streams.{Known, RoundCarries, StopCarries};
 ghost use Rattle.net_stream.specs.Streams.{ReadWrites, PassWrites, AllWritten};
+ghost use Rattle.net_stream.specs.WorkedCopy.{WorkedCopy};
 
 use crate::frame::frames_decode;
 use net_receiver::laws;
@@ -63,4 +64,14 @@ pub fn filling_reads()
     ensures at_once { AllAtOnce }
 {
     known();
+}
+
+/// A copy computed in full: two bytes in frames of one byte, of which the first is lost once. It shows what
+/// the definitions mean.
+pub fn worked_copy()
+    ensures { WorkedCopy }
+{
+    laws::schedules();
+    laws::states();
+    laws::computed();
 }
