@@ -27,3 +27,7 @@ pub mod GivesUp
 pub mod StuckRounds
 pub mod Failed
 pub mod CountedTurns
+pub mod Sizes
+pub mod Fuel
+pub mod Filling
+pub mod Worked

@@ -16,3 +16,4 @@ pub mod Copying
 pub mod CopyState
 pub mod Streams
 pub mod Promises
+pub mod WorkedCopy
