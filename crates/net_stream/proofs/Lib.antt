@@ -31,3 +31,4 @@ pub mod Sizes
 pub mod Fuel
 pub mod Filling
 pub mod Worked
+pub mod Copied

@@ -12,8 +12,9 @@ pub mod Passing
 pub mod LinkState
 pub mod Links
 pub mod Stuck
-pub mod Copying
 pub mod CopyState
+pub mod Copying
+pub mod Turns
 pub mod Streams
 pub mod Promises
 pub mod WorkedCopy

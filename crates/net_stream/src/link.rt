@@ -1,17 +1,18 @@
 //! A link as one thing: a sender, a receiver, and the two directions between them.
 ghost use Rattle.std.specs.Prelude.{◌≡◌, ◌+◌, ◌≤◌, ◌<◌, ◌^◌, ◌-◌, ◌++◌, [], ℕ, List, length, min, max};
-ghost use Rattle.std.specs.Prelude.{take, drop, slice_index, slice_range, OnOk, OnErr};
+ghost use Rattle.std.specs.Prelude.{take, drop, slice_index, slice_range};
 ghost use Rattle.net_storage.specs.Managed.{elements};
-ghost use Rattle.net_receiver.specs.Stored.{fresh_stored, stored_after_read};
-ghost use Rattle.net_stream.specs.Outgoing.{outgoing, room_of, with_written};
-ghost use Rattle.net_stream.specs.Frames.{segment_of, FrameSays};
-ghost use Rattle.net_stream.specs.Counting.{no_frames, with_refusal};
-ghost use Rattle.net_stream.specs.Carrying.{receiver_after, with_ack, FrameTells};
-ghost use Rattle.net_stream.specs.Progress.{after_ack_frame};
-ghost use Rattle.net_stream.specs.Reported.{most_reported};
+ghost use Rattle.net_receiver.specs.Stored.{fresh_stored, stored_next, stored_after_read};
+ghost use Rattle.net_stream.specs.Outgoing.{outgoing, end_of, room_of, with_written};
+ghost use Rattle.net_stream.specs.Counting.{no_frames};
 ghost use Rattle.net_stream.specs.Links.{Carries};
+ghost use Rattle.net_stream.specs.CopyState.{is_written};
 
-use crate::arriving;
+mod acknowledge;
+mod deliver;
+mod round;
+mod transmit;
+
 use crate::counts::FrameCounts;
 use crate::fate::Fates;
 use crate::path::Path;
@@ -19,7 +20,7 @@ use crate::sender::Sender;
 use net_base::time::{Duration, Instant};
 use net_receiver::{Receiver, laws};
 use net_storage::ManagedSlice;
-use std::alloc::{AllocError, Allocator};
+use std::alloc::Allocator;
 use std::marker::Model;
 
 /// The most held runs of a link's receiver: as many as an acknowledgement reports.
@@ -56,7 +57,6 @@ pub struct Link<'a, 'f, A: Allocator + Copy> {
 
 impl<'a, 'f, A: Allocator + Copy> Model for Link<'a, 'f, A> {
     ghost use Rattle.net_stream.specs.LinkState.{LinkState};
-
     ghost use Rattle.std.specs.Coded.{codes};
     ghost use Rattle.net_receiver.specs.Parts.{stored_code};
 
@@ -123,6 +123,15 @@ impl<'a, 'f, A: Allocator + Copy> Link<'a, 'f, A> {
         Instant::ZERO.saturating_add(self.elapsed)
     }
 
+    /// Whether all that was written to the sender was read off the receiver.
+    pub(crate) fn is_written(&self) -> bool
+        ensures value { result ≡ is_written self.now }
+        ensures fits { (end_of self.now.sender < 2 ^ 64)
+            × (stored_next self.now.receiver < 2 ^ 64) }
+    {
+        self.receiver.next() == self.sender.end() && self.receiver.queued() == 0
+    }
+
     /// Lets time pass: the clock goes on by so much, up to 2^64 - 1 microseconds in all.
     pub fn wait(&mut self, time: Duration)
         ensures state { self.new
@@ -171,44 +180,5 @@ impl<'a, 'f, A: Allocator + Copy> Link<'a, 'f, A> {
         laws::reads();
         laws::queue(&self.receiver);
         self.receiver.read(into)
-    }
-
-    /// A frame comes to the receiver, which acknowledges all that it has: the first missing
-    /// position, and the first 32 held runs. A frame that is too short for a position does nothing,
-    /// nor does one whose positions go past 64 bits.
-    ///
-    /// A refusal of memory leaves no acknowledgement, and the receiver has what came.
-    pub fn arrive(&mut self, frame: &[u8]) -> Result<(), AllocError>
-        ensures ok { OnOk result (self.new ≡ record self.old {
-          receiver = receiver_after most_reported self.old.receiver (segment_of frame.now);
-          back = with_ack self.new.receiver (segment_of frame.now) self.old.back;
-          counts = with_refusal most_reported self.old.receiver (segment_of frame.now) self.old.counts;
-        }) }
-        ensures err { OnErr result (self.new ≡ record self.old {
-          receiver = receiver_after most_reported self.old.receiver (segment_of frame.now);
-          counts = with_refusal most_reported self.old.receiver (segment_of frame.now) self.old.counts;
-        }) }
-        ensures carries { (f : ℕ) (w : List ℕ) → FrameSays f w frame.now →
-            Carries f w self.old → Carries f w self.new }
-    {
-        let now = self.now();
-        arriving::arrive(
-            &mut self.receiver,
-            &mut self.back,
-            now,
-            frame,
-            &mut self.counts,
-        )
-    }
-
-    /// An acknowledgement comes to the sender. One that is too short for a position, or whose
-    /// position is below the sender's `base` or above its `end`, changes nothing.
-    pub fn acknowledge(&mut self, frame: &[u8])
-        ensures state { self.new
-            ≡ record self.old { sender = after_ack_frame self.old.sender (segment_of frame.now) } }
-        ensures carries { (f : ℕ) (w : List ℕ) → FrameTells self.old.receiver frame.now →
-            Carries f w self.old → Carries f w self.new }
-    {
-        arriving::acknowledge(&mut self.sender, frame)
     }
 }
