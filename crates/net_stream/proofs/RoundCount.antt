@@ -29,15 +29,6 @@ pub more_still : (n n' b b' r r' f x x' : ℕ) → b' ≡ b → r' ≡ r → min
     n' ≤ (b' - f) + r' + x'
 more_still n n' b b' r r' f x x' same same_read more one few = omega arith
 
--- no more bytes are let go or written than were taken
-pub few_so_far : QueueIsOfStream → (f : ℕ) (w : List ℕ) (l l1 : LinkState) (n fails taken : ℕ) → Carries f w l1 →
-    l1.receiver.read ≡ l.receiver.read → end_of l.sender ≤ end_of l1.sender → length w ≡ taken →
-    n ≤ (l.sender.base - f) + l.receiver.read + fails → n ≤ 2 * taken + fails
-few_so_far queue f w l l1 n fails taken carries same grows long few =
-    let q = (queue_from queue f w l1.receiver carries.receives).within in
-    let end = carries.sends.end in
-    omega (arith, q, end, same, grows, long, few)
-
 -- ---- where every frame comes at once
 coming_all : (v : FatesSeen) (frames : List (List ℕ)) → NextCome (length frames) v → coming_of v frames ≡ frames
 coming_all v [] come = refl
@@ -127,13 +118,6 @@ round_at_once trip queue f w old new last room p keeps moves word handed carries
         (λ (l : 0 < length old.receiver.queue). omega (arith, l, grows, first, read))
         (λ (l : length old.receiver.queue ≤ 0). let far = on (omega (arith, l)) in omega (arith, far, first, read))
         (cases_lt 0 (length old.receiver.queue))
-
--- no more bytes are written than were taken
-pub at_once_so_far : QueueIsOfStream → (f : ℕ) (w : List ℕ) (l : LinkState) (n read taken : ℕ) → Carries f w l → l.receiver.read ≡ read →
-    length w ≡ taken → n ≤ read → n ≤ taken
-at_once_so_far queue f w l n read taken carries same long few =
-    let q = (queue_from queue f w l.receiver carries.receives).within in
-    omega (arith, q, same, long, few)
 
 -- ---- at least
 -- a round takes no more than there is room for

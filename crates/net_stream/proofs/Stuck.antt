@@ -19,7 +19,6 @@ use Rattle.net_stream.specs.declared.fate.Fate.{Fate}
 use Rattle.net_stream.specs.declared.fate.Fate.TheVariants.{Delivered, Lost, Repeated, Late}
 use Rattle.net_stream.specs.Counting.{with_fate, with_fates, with_payload}
 use Rattle.net_stream.specs.Fates.{FatesSeen, next_fate, after_fate, fates_after, comes, comes_late, AllCome}
-use Rattle.net_stream.specs.Rounds.{CountsBrokenRound}
 use Rattle.net_stream.specs.Carrying.{ack_of, receiver_after}
 use Rattle.net_stream.specs.Sending.{at_least_one}
 use Rattle.net_stream.specs.Progress.{after_ack_frame, after_ack_frames, limit_of}
@@ -383,13 +382,6 @@ failed_fails Late c e = omega arith
 failed_all : (n : ℕ) (v : FatesSeen) (c : FrameCounts) → failures c ≤ failures (with_fates n v c)
 failed_all zero v c = omega arith
 failed_all (suc n) v c = le_trans (failed_met (next_fate v) c) (failed_all n (after_fate v) (with_fate (next_fate v) c))
-
--- also in a round that ends early
-pub part_failed : (v v' : FatesSeen) (old new : FrameCounts) → CountsBrokenRound v v' old new → failures old ≤ failures new
-part_failed v v' old new part =
-    let c = with_payload part.bytes old in
-    subst (λ n. failures old ≤ n) (sym (ap failures part.counted))
-    (le_trans (failed_all part.frames v c) (failed_all part.acks v' (with_fates part.frames v c)))
 
 failed_first : (n : ℕ) (v : FatesSeen) (c : FrameCounts) → 0 < n → comes (next_fate v) ≡ false → min (failures c + 1) (2 ^ 64 - 1) ≤ failures (with_fates n v c)
 failed_first zero v c some e = absurd (omega arith)
