@@ -10,7 +10,7 @@ use Rattle.std.proofs.lemmas.Bool.{both_ways, and_parts, leb-true, ltb-true}
 use Rattle.std.proofs.lemmas.Option.{slice_get_within}
 use Rattle.std.proofs.lemmas.List.{take_all, take-take, drop-drop}
 use Rattle.std.proofs.lemmas.List.Elements.{All-head, All-tail, All-take}
-use Rattle.net_storage.specs.Positions.{contains, IsMaximalRun, maximal_runs}
+use Rattle.net_assembler.specs.Positions.{contains, IsMaximalRun, maximal_runs}
 use Rattle.net_receiver.specs.Rules.{Segment}
 use Rattle.net_receiver.specs.Stored.{Stored, domain}
 use Rattle.net_receiver.specs.OneStream.{ReceivesFrom, Says}

@@ -12,8 +12,8 @@ use Rattle.std.proofs.lemmas.Bool.{false≢true, and_parts, cases_Bool, leb-true
 use Rattle.std.proofs.lemmas.List.{append-nil, take_all, drop-drop}
 use Rattle.std.proofs.lemmas.List.Sums.{sum_by-append}
 use Rattle.std.proofs.lemmas.List.Elements.{All-head, All-tail}
-use Rattle.net_storage.specs.Positions.{Positions, contains, lies_in, IsMaximalRun, maximal_runs}
-use Rattle.net_storage.specs.AssemblerLaws.{MembersOfList, MaximalRunsOfEverySet}
+use Rattle.net_assembler.specs.Positions.{Positions, contains, lies_in, IsMaximalRun, maximal_runs}
+use Rattle.net_assembler.specs.AssemblerLaws.{MembersOfList, MaximalRunsOfEverySet}
 use Rattle.net_receiver.specs.Stored.{HeldBytes, Stored, stored_next, domain}
 use Rattle.net_stream.specs.Frames.{frame_of, FramesDecode}
 use Rattle.net_stream.specs.Reported.{reports, count_outside, most_reported, range_bytes, range_to, range_from, first_range, with_more, ranges_of}

@@ -9,7 +9,7 @@ use Rattle.std.proofs.lemmas.Option.{slice_get_within, slice_get-get_or}
 use Rattle.std.specs.FinMap as fin
 use Rattle.std.proofs.lemmas.List.Elements.{All-head, All-tail}
 use Rattle.net_base.specs.Generator.{successor, random_word}
-use Rattle.net_storage.specs.declared.assembler.error.TooManyHolesError.{TooManyHolesError}
+use Rattle.net_assembler.specs.declared.assembler.error.TooManyHolesError.{TooManyHolesError}
 use Rattle.net_receiver.specs.declared.receiver.kept.Kept.{Kept}
 use Rattle.net_receiver.specs.KeptList.{piece, piece_byte_at}
 use Rattle.net_receiver.specs.Stored.{Stored, stored_next, IsSound}

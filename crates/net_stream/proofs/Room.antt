@@ -2,7 +2,7 @@
 use Rattle.std.proofs.Common.{◌≡◌, ℕ, ◌+◌, ◌-◌, ◌<◌, ◌≤◌, min, cond, nat_lt, List, [], ◌++◌, length, take, drop, sym, ap, ◌∙◌, arith, ⊎_elim, length-append}
 use Rattle.std.proofs.lemmas.Bool.{cases_lt, cond-true, cond-false, lt-ltb, le-ltb}
 use Rattle.std.proofs.lemmas.List.{append-nil, take-take, take-append-le, drop-append-le}
-use Rattle.net_storage.specs.Ring.{RingState, index_after, capacity, window, queue, spare, contiguous_window_from, WritesSpare, Enqueues}
+use Rattle.net_ring.specs.Ring.{RingState, index_after, capacity, window, queue, spare, contiguous_window_from, WritesSpare, Enqueues}
 use Rattle.net_stream.specs.Outgoing.{Outgoing, outgoing, end_of, room_of, room_in_row, next_cut, with_written, Sends}
 
 -- of m free elements behind n of a ring of c, read at r, those before the storage's end

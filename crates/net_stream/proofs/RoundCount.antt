@@ -3,7 +3,7 @@ use Rattle.std.proofs.Common.{◌≡◌, ℕ, zero, suc, ◌+◌, ◌-◌, ◌*�
 use Rattle.std.proofs.Common.{◌++◌, length, take, refl, sym, ap, subst, ◌∙◌, arith, ⊎_elim}
 use Rattle.std.proofs.Common.{append_assoc, length-drop}
 use Rattle.std.proofs.lemmas.Bool.{both_ways, cases_lt, cond-true}
-use Rattle.net_storage.specs.Positions.{maximal_runs}
+use Rattle.net_assembler.specs.Positions.{maximal_runs}
 use Rattle.net_receiver.specs.Stored.{stored_next, stored_after_read, domain}
 use Rattle.net_receiver.specs.OneStream.{QueueIsOfStream}
 use Rattle.net_stream.specs.Outgoing.{end_of}

@@ -4,7 +4,7 @@ use Rattle.std.proofs.Common.{get_or, drop-cons, length-take, suc, refl, sym, â—
 use Rattle.std.proofs.lemmas.Bool.{cases_Bool, cases_lt, cond-true, cond-false, and_parts, and_from, or_left, or_right, or_parts, or_from}
 use Rattle.std.proofs.lemmas.Bool.{or_cases, and_left, and_right, leb-true, ltb-true, le-leb, lt-ltb, le-ltb, lt-leb, both_ways}
 use Rattle.std.proofs.lemmas.List.{get_or-take}
-use Rattle.net_storage.specs.Positions.{lies_in}
+use Rattle.net_assembler.specs.Positions.{lies_in}
 use Rattle.net_stream.specs.Reported.{reports, count_from, next_start, greatest_end}
 
 -- ---- lists

@@ -5,7 +5,7 @@ use Rattle.std.proofs.Common.{All, Option, Some, None, refl, sym, ap, subst, ◌
 use Rattle.std.proofs.Common.{inl, inr, le_trans, length-append, length-take, length-drop}
 use Rattle.std.proofs.lemmas.Bool.{both_ways, cases_lt, cases_Bool, cond-true, cond-false, lt-ltb, le-leb, leb-true, and_parts, and_from}
 use Rattle.std.proofs.lemmas.List.Elements.{All-nil, All-cons, All-head, All-tail}
-use Rattle.net_storage.specs.Positions.{maximal_runs}
+use Rattle.net_assembler.specs.Positions.{maximal_runs}
 use Rattle.net_receiver.specs.Rules.{Segment}
 use Rattle.net_receiver.specs.Stored.{Stored, IsSound, stored_next, stored_after, stored_after_read, domain}
 use Rattle.net_receiver.specs.OneStream.{FirstStays, NextGrows, SegmentReadsNothing, CapacityStays, QueueIsOfStream}

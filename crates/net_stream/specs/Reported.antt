@@ -10,7 +10,7 @@
 use Rattle.std.specs.Prelude.{ℕ, zero, suc, ◌-◌, min, max, nat_lt, nat_eq, if◌then◌else◌}
 use Rattle.std.specs.Prelude.{Bool, not, List, [], ◌∷◌, length, Option, Some, None}
 use Rattle.std.specs.List.{list_any, count_by, range_with_len}
-use Rattle.net_storage.specs.Positions.{lies_in}
+use Rattle.net_assembler.specs.Positions.{lies_in}
 use Rattle.net_stream.specs.Frames.{frame_of, segment_of}
 
 -- whether a position lies in one of the ranges

@@ -7,7 +7,7 @@
 --     ReadWrites, PassWrites, AllWritten      laws: so it stays over a read and over a round, and where
 --         all is written, that is all that was read
 use Rattle.std.specs.Prelude.{◌≡◌, ℕ, ◌<◌, ◌^◌, true, List, take}
-use Rattle.net_storage.specs.AssemblerLaws.{MembersOfList, MaximalRunsOfEverySet}
+use Rattle.net_assembler.specs.AssemblerLaws.{MembersOfList, MaximalRunsOfEverySet}
 use Rattle.net_receiver.specs.OneStream.{SaysWhatIsThere, SaysOfLonger, FreshReceivesFrom}
 use Rattle.net_receiver.specs.OneStream.{ReceivesFromLonger, SegmentReceives, HeldIsOfStream}
 use Rattle.net_receiver.specs.OneStream.{QueueIsOfStream, NextGrows, SegmentReadsNothing}

@@ -1,7 +1,7 @@
 //! The turns of a copy: reading, passing a round, and writing.
 ghost use Rattle.std.specs.Prelude.{◌≡◌, ℕ, ◌+◌, ◌&&◌, ◌||◌, ◌⊎◌, ◌*◌, ◌^◌, ◌-◌, ◌<◌, min, not, nat_lt, nat_eq};
 ghost use Rattle.std.specs.Prelude.{length, true, OnOk, OnErr, IfErr, if◌then◌else◌};
-ghost use Rattle.net_storage.specs.Managed.{elements};
+ghost use Rattle.net_ring.specs.Managed.{elements};
 ghost use Rattle.net_receiver.specs.Stored.{stored_next};
 ghost use Rattle.net_stream.specs.Outgoing.{end_of};
 ghost use Rattle.net_stream.specs.declared.error.LinkError.TheVariants as errors;
@@ -18,7 +18,7 @@ use crate::link::Link;
 use crate::timer::{first_wait, next_wait};
 use net_base::time::Duration;
 use net_program::write_text;
-use net_storage::ManagedSlice;
+use net_ring::ManagedSlice;
 use std::alloc::Allocator;
 use std::io::{Read, Write};
 

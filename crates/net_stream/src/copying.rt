@@ -8,7 +8,7 @@ use crate::counts::Counts;
 use crate::error::LinkError;
 use crate::fate::LinkFates;
 use net_program::flush_after;
-use net_storage::ManagedSlice;
+use net_ring::ManagedSlice;
 use std::alloc::{AllocError, Allocator};
 use std::io::{Read, Write};
 

@@ -1,7 +1,7 @@
 //! A link as one thing: a sender, a receiver, and the two directions between them.
 ghost use Rattle.std.specs.Prelude.{◌≡◌, ◌+◌, ◌≤◌, ◌<◌, ◌^◌, ◌-◌, ◌++◌, [], ℕ, List, length, min, max};
 ghost use Rattle.std.specs.Prelude.{take, drop, slice_index, slice_range};
-ghost use Rattle.net_storage.specs.Managed.{elements};
+ghost use Rattle.net_ring.specs.Managed.{elements};
 ghost use Rattle.net_receiver.specs.Stored.{fresh_stored, stored_next, stored_after_read};
 ghost use Rattle.net_stream.specs.Outgoing.{outgoing, end_of, room_of, with_written};
 ghost use Rattle.net_stream.specs.Counting.{no_frames};
@@ -19,7 +19,7 @@ use crate::path::Path;
 use crate::sender::Sender;
 use net_base::time::{Duration, Instant};
 use net_receiver::{Receiver, laws};
-use net_storage::ManagedSlice;
+use net_ring::ManagedSlice;
 use std::alloc::Allocator;
 use std::marker::Model;
 

@@ -1,7 +1,7 @@
 //! The sender of a stream.
 ghost use Rattle.std.specs.Prelude.{◌≡◌, ◌+◌, ◌-◌, ◌<◌, ◌≤◌, ◌==◌, ◌^◌, ◌++◌, ℕ, List, []};
 ghost use Rattle.std.specs.Prelude.{length, take, drop, min, slice_index_or, IsTrue, IsFalse};
-ghost use Rattle.net_storage.specs.Managed.{elements};
+ghost use Rattle.net_ring.specs.Managed.{elements};
 ghost use Rattle.net_receiver.specs.OneStream.{Says};
 ghost use Rattle.net_stream.specs.Outgoing.{outgoing, end_of, room_of, row_end, with_written};
 ghost use Rattle.net_stream.specs.Outgoing.{room_in_row, after_ack, Sends};
@@ -12,8 +12,8 @@ ghost use Rattle.net_stream.specs.Sending.{spared_from, next_reported, stop_of};
 
 use crate::reported::Reported;
 use net_receiver::laws;
-use net_storage::ring_buffer::laws::overwritten;
-use net_storage::{ManagedSlice, RingBuffer};
+use net_ring::ring_buffer::laws::overwritten;
+use net_ring::{ManagedSlice, RingBuffer};
 use std::marker::Model;
 
 /// The sender of a stream: its queue has the bytes that were written and not yet acknowledged. It
@@ -39,7 +39,7 @@ pub fn queue_from_greatest()
 
 impl<'a> Model for Sender<'a> {
     ghost use Rattle.std.specs.Prelude.{◌+◌, ◌-◌, ◌<◌, ◌^◌, length};
-    ghost use Rattle.net_storage.specs.Ring.{queue, capacity};
+    ghost use Rattle.net_ring.specs.Ring.{queue, capacity};
     ghost use Rattle.net_stream.specs.Outgoing.{Outgoing, outgoing};
 
     ghost Value = { Outgoing };

@@ -6,8 +6,8 @@ ghost use Rattle.net_stream.specs.Streams.{ReadWrites, PassWrites, AllWritten};
 ghost use Rattle.net_stream.specs.WorkedCopy.{WorkedCopy};
 
 use crate::frame::frames_decode;
+use net_assembler::assembler;
 use net_receiver::laws;
-use net_storage::assembler;
 
 /// What the laws of streams rest on.
 pub(crate) fn known()

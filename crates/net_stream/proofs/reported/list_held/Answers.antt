@@ -1,6 +1,6 @@
 use Rattle.std.proofs.Common.{◌≡◌, ℕ, ◌+◌, ◌*◌, ◌++◌, ◌∙◌, All, take, sym, ap, subst, arith}
 use Rattle.std.specs.Int.{w64, to_be_bytes}
-use Rattle.net_storage.specs.Positions.{maximal_runs}
+use Rattle.net_assembler.specs.Positions.{maximal_runs}
 use Rattle.net_receiver.specs.Stored.{domain}
 use Rattle.net_stream.specs.Reported.{most_reported, range_bytes}
 use Rattle.net_stream.proofs.Carried.{All-push}

@@ -3,7 +3,7 @@ use Rattle.std.proofs.lemmas.List.{append-nil}
 use Rattle.std.proofs.Math.Seq.{drop-append_seam}
 use Rattle.std.specs.Fn.{FnOnceReturnsAtMut}
 use denote.MutBor.{at_last}
-use Rattle.net_storage.specs.Ring.{capacity, queue, spare, with_elements, spare_index}
+use Rattle.net_ring.specs.Ring.{capacity, queue, spare, with_elements, spare_index}
 use Rattle.net_stream.specs.Outgoing.{room_of, with_written, Sends}
 use Rattle.net_stream.proofs.Room.{lent_room, room_written, more_sent}
 use Rattle.net_stream.proofs.sender.Sender.send_with.Goals as goal
