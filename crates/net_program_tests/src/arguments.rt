@@ -47,6 +47,28 @@ fn gathers_all_words_or_none(rt: HostRuntime) -> Result<(), Fail> {
     Ok(())
 }
 
+/// Gathers so many words of one byte. Returns how many there are and how many bytes their list asked
+/// for, of places of 24 bytes, or `None` if it keeps some of its memory.
+fn gathers_many(alloc: Global, count: usize) -> Result<Option<(usize, usize)>, AllocError> {
+    let mut words = Vec::new(alloc);
+    for _ in 0..count {
+        words.push(String::from_str(alloc, "x")?)?;
+    }
+    let heap = Refusing::new(alloc, usize::MAX);
+    let gathered = gather(&heap, words.into_iter())?.len();
+    Ok((heap.live() == 0).then_some((gathered, heap.bytes())))
+}
+
+/// The list grows to 4, 8, 16, 32 and 64 places.
+#[test]
+fn a_list_of_words_grows_by_doubling(rt: HostRuntime) -> Result<(), Fail> {
+    let Some((count, bytes)) = gathers_many(rt.alloc(), 40)? else {
+        return Err(Fail::from(AllocError));
+    };
+    assert!(rt; count == 40 && bytes <= (4 + 8 + 16 + 32 + 64) * 64);
+    Ok(())
+}
+
 /// A command line of these words, of which the first is the program's name.
 #[derive(Drop)]
 struct CommandLine<'a>(&'a [&'a [u8]]);

@@ -273,8 +273,14 @@ fn sends_of_ten(alloc: Global, (ranges, payload, flight, frames, sum): &Round) -
     };
     let mut to_send = [0u8; 10];
     let setup = setup((&[], DELAYED), (&[], GONE), (18, *payload, *flight));
+    let mut to_receive = [0u8; 0];
     let to_send = ManagedSlice::Borrowed(&mut to_send);
-    let mut link = link_by(alloc, &setup, to_send, ManagedSlice::Borrowed(&mut []));
+    let mut link = link_by(
+        alloc,
+        &setup,
+        to_send,
+        ManagedSlice::Borrowed(&mut to_receive),
+    );
     let is_written = link.write(b"abcdefghijk") == 10;
     link.sender.acknowledge(20, Reported::new());
     let is_full = link.write(b"yz") == 2;
@@ -298,21 +304,27 @@ static LONG_FRAMES: [(u64, usize); 5] = [
     (262_119, 32),
 ];
 
+/// Whether a round of as many bytes as the storage has room for sends them so.
+fn sends_long_frames(alloc: Global, bytes: &[u8], to_send: &mut [u8]) -> bool {
+    let mut to_receive = [0u8; 0];
+    let setup = setup((&[], DELAYED), (&[], GONE), (7, 65_528, 4_096));
+    let to_send = ManagedSlice::Borrowed(to_send);
+    let mut link = link_by(
+        alloc,
+        &setup,
+        to_send,
+        ManagedSlice::Borrowed(&mut to_receive),
+    );
+    let is_written = link.write(bytes) == bytes.len();
+    let is_whole = link.sender.peek_at(7, bytes.len()) == bytes;
+    is_written && is_whole && sends(&mut link, &LONG_FRAMES) && link.counts.payload == 262_144
+}
+
 #[test]
 fn a_round_sends_all_in_long_frames(rt: HostRuntime) -> Result<(), AllocError> {
     let bytes = pattern(rt.alloc(), 262_144)?;
     let mut storage = pattern(rt.alloc(), 262_144)?;
-    let setup = setup((&[], DELAYED), (&[], GONE), (7, 65_528, 4_096));
-    let to_send = ManagedSlice::Borrowed(&mut storage);
-    let mut link = link_by(rt.alloc(), &setup, to_send, ManagedSlice::Borrowed(&mut []));
-    let is_written = link.write(&bytes) == 262_144
-        && link.sender.peek_at(7, 262_144) == bytes.as_slice();
-    let is_sent = sends(&mut link, &LONG_FRAMES);
-    assert_holds(
-        &rt,
-        is_written && is_sent && link.counts.payload == 262_144,
-        0,
-    );
+    assert_holds(&rt, sends_long_frames(rt.alloc(), &bytes, &mut storage), 0);
     Ok(())
 }
 
@@ -324,8 +336,14 @@ fn sends_of_seventy(alloc: Global, count: u64, frames: &[(u64, usize)]) -> bool 
     };
     let mut to_send = [0u8; 70];
     let setup = setup((&[], DELAYED), (&[], GONE), (0, 3, 100));
+    let mut to_receive = [0u8; 0];
     let to_send = ManagedSlice::Borrowed(&mut to_send);
-    let mut link = link_by(alloc, &setup, to_send, ManagedSlice::Borrowed(&mut []));
+    let mut link = link_by(
+        alloc,
+        &setup,
+        to_send,
+        ManagedSlice::Borrowed(&mut to_receive),
+    );
     let is_written = link.write(&[7; 70]) == 70;
     link.sender.acknowledge(0, Reported::of_bytes(&ranges));
     is_written
@@ -397,8 +415,14 @@ fn carried<A: Allocator + Copy>(link: &mut Link<'_, '_, A>) -> Option<u64> {
 fn leaves_a_prefix(memory: &Refusing) -> (bool, bool) {
     let mut to_send = [0u8; 9];
     let setup = setup((&[], GONE), (&[], GONE), (0, 2, 100));
+    let mut to_receive = [0u8; 0];
     let to_send = ManagedSlice::Borrowed(&mut to_send);
-    let mut link = link_by(memory, &setup, to_send, ManagedSlice::Borrowed(&mut []));
+    let mut link = link_by(
+        memory,
+        &setup,
+        to_send,
+        ManagedSlice::Borrowed(&mut to_receive),
+    );
     let is_written = link.write(b"abcdefghi") == 9;
     let has_passed = link.pass_round().is_ok();
     let sum = link.counts.payload;
