@@ -6,7 +6,6 @@
 
 mod arguments;
 mod ending;
-pub mod laws;
 mod numeral;
 mod writing;
 
