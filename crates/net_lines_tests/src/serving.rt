@@ -134,7 +134,7 @@ fn check(
 type Row<'a> = (&'a str, &'a [u8], Expected<'a>);
 
 /// Calls of each status but 2.
-const STATUSES: [Row<'static>; 13] = [
+static STATUSES: [Row<'static>; 13] = [
     ("ring 8", b"w 61\n", (b"took 1\n", 0, b"", 2, 1)),
     ("ring 8", b"", (b"", 0, b"", 1, 0)),
     ("asm 4", b"f\n", (b"front 0\n", 0, b"", 2, 1)),
@@ -207,7 +207,7 @@ fn check_no_words(rt: &impl Abort, alloc: Global) -> Result<(), Fail> {
 }
 
 /// Words that name no mode.
-const NO_MODES: [&'static str; 22] = [
+static NO_MODES: [&'static str; 22] = [
     "",
     "ring",
     "ring 65537",

@@ -69,6 +69,9 @@ fn a_list_of_words_grows_by_doubling(rt: HostRuntime) -> Result<(), Fail> {
     Ok(())
 }
 
+/// A word of more bytes than those of a command line here have.
+const LONG_WORD: &[u8] = b"a_word_of_more_than_twenty_bytes_which_says_nothing";
+
 /// A command line of these words, of which the first is the program's name.
 #[derive(Drop)]
 struct CommandLine<'a>(&'a [&'a [u8]]);
@@ -107,6 +110,19 @@ fn the_words_of_a_command_line_are_those_after_its_first(rt: HostRuntime) -> Res
         b"x".as_slice(),
     ];
     assert_words(&rt, &command_words(&(CommandLine(&line), rt.alloc())));
+    let long = [
+        b"program".as_slice(),
+        b"1",
+        b"2",
+        b"3",
+        b"4",
+        b"5",
+        b"6",
+        b"7",
+        LONG_WORD,
+    ];
+    let words = command_words(&(CommandLine(&long), rt.alloc()));
+    assert!(rt; words.len() == 8 && words[7].as_bytes() == LONG_WORD);
     let unreadable = [b"program".as_slice(), b"8".as_slice(), b"\xff".as_slice()];
     assert!(rt; command_words(&(CommandLine(&unreadable), rt.alloc())).is_empty());
     assert!(rt; command_words(&(CommandLine(&line[..1]), rt.alloc())).is_empty());

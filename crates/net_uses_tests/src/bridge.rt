@@ -79,7 +79,7 @@ fn one_passes(
 
 /// Frames of few bytes, of none, and of more than a number of 16 bits can say, each at a moment in
 /// microseconds.
-const LENGTHS: [(usize, i64); 9] = [
+static LENGTHS: [(usize, i64); 9] = [
     (0, 0),
     (1, 1),
     (2, i64::MIN),

@@ -258,14 +258,17 @@ fn each_request_for_memory_is_refused_in_turn(rt: HostRuntime) {
     }
 }
 
-/// Returns whether a frame of the greatest length is refused and its closure isn't called.
+/// Returns whether a frame of the greatest length is refused and its closure is let go, and not called.
 fn refuses_greatest(device: &mut Loopback) -> bool {
+    let drops = Cell::new(0);
+    let owned = Owned { drops: &drops };
     let mut ran = false;
     let token = device.transmit(Instant::ZERO).unwrap();
     let sent = device.send(token, usize::MAX, |_buffer| {
+        drop(owned);
         ran = true;
     });
-    sent.is_err() && !ran
+    sent.is_err() && !ran && drops.get() == 1
 }
 
 #[test]
