@@ -11,6 +11,5 @@ mod phy;
 mod rand;
 #[cfg(test)]
 mod time;
+#[cfg(test)]
 mod two_lists;
-
-pub use two_lists::{TwoLists, TwoListsRxToken, TwoListsTxToken};

@@ -41,4 +41,7 @@ pub fn shows<T: Display + Drop>(alloc: Global, value: T, text: &str) -> bool {
         && is_text(format!(in alloc; "{value:<+09}"), text)
         && is_text(format!(in alloc; "{value:7}"), text)
         && is_text(format!(in alloc; "{value:#.2}"), text)
+        && is_text(format!(in alloc; "{value:.3}"), text)
+        && is_text(format!(in alloc; "{value:12}"), text)
+        && is_text(format!(in alloc; "{value:#20}"), text)
 }

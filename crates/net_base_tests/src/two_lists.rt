@@ -9,16 +9,16 @@ use std::alloc::{AllocError, Allocator, Global};
 use std::collections::VecDeque;
 use std::marker::Model;
 
-#[cfg(test)]
 mod tests;
 
 /// A device of two lists: frames to come, and frames that were sent. It stores the moment at which
-/// it was last asked for a frame.
+/// it was last asked for a frame, and counts how often it was asked for room.
 #[derive(Drop)]
 pub struct TwoLists<A: Allocator + Copy = Global> {
     pub to_come: VecDeque<Vec<u8, A>, A>,
     pub sent: VecDeque<Vec<u8, A>, A>,
     pub asked_at: Instant,
+    pub rooms: usize,
 }
 
 impl<A: Allocator + Copy> Model for TwoLists<A> {
@@ -72,6 +72,7 @@ impl<A: Allocator + Copy> Device for TwoLists<A> {
     }
 
     fn transmit(&mut self, _timestamp: Instant) -> Option<TwoListsTxToken> {
+        self.rooms = self.rooms.saturating_add(1);
         Some(TwoListsTxToken)
     }
 

@@ -7,3 +7,4 @@ pub mod SameText
 pub mod StreamStates
 pub mod StreamOutcomes
 pub mod StreamRun
+pub mod Flushed

@@ -12,3 +12,4 @@ pub mod Words
 pub mod Kinds
 pub mod BenchReading
 pub mod ErrorText
+pub mod Serving

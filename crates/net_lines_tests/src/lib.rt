@@ -17,3 +17,5 @@ mod long_inputs;
 mod memory;
 #[cfg(test)]
 mod rows;
+#[cfg(test)]
+mod serving;

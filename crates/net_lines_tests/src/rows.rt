@@ -42,7 +42,7 @@ fn check_rows(rt: &impl Abort, alloc: Global, rows: &[Row<'_>]) -> Result<(), Fa
 }
 
 /// Rows of mode `ring`.
-const RING_ROWS: [Row<'static>; 12] = [
+static RING_ROWS: [Row<'static>; 12] = [
     (
         "ring 4",
         b"w 616263\nr 2\nw 646566\nr 9\nr 1\n",
@@ -93,7 +93,7 @@ fn answers_ring_lines(rt: HostRuntime) -> Result<(), Fail> {
 }
 
 /// Rows of mode `asm`.
-const ASM_ROWS: [Row<'static>; 8] = [
+static ASM_ROWS: [Row<'static>; 8] = [
     (
         "asm 4",
         b"a 100 10\na 50 10\na 40 30\np\n",
@@ -145,7 +145,7 @@ fn answers_asm_lines(rt: HostRuntime) -> Result<(), Fail> {
 }
 
 /// Rows of mode `stream` with one schedule.
-const STREAM_ROWS: [Row<'static>; 12] = [
+static STREAM_ROWS: [Row<'static>; 12] = [
     (
         "stream 16 4",
         b"s 0 68656c6c6f\nr 3\n?\n",
@@ -226,7 +226,7 @@ fn answers_stream_lines(rt: HostRuntime) -> Result<(), Fail> {
 }
 
 /// Rows of mode `stream` with two schedules.
-const SCHEDULE_ROWS: [Row<'static>; 12] = [
+static SCHEDULE_ROWS: [Row<'static>; 12] = [
     (
         "stream 16 4",
         b"s 0 61\ns 1 62\ns 2 63\n--\ns 2 63\ns 0 6162\n",
@@ -300,7 +300,7 @@ fn check_refused(rt: &impl Abort, alloc: Global, words: &str, lines: &[&[u8]]) -
 }
 
 /// Lines that are no command of mode `ring`.
-const NO_RING_LINES: [&'static [u8]; 14] = [
+static NO_RING_LINES: [&'static [u8]; 14] = [
     b"w 61\r\n",
     b"w  61\n",
     b" w 61\n",
@@ -318,10 +318,10 @@ const NO_RING_LINES: [&'static [u8]; 14] = [
 ];
 
 /// Lines that are no command of mode `asm`.
-const NO_ASM_LINES: [&'static [u8]; 5] = [b"a 1\n", b"a 1 2 3\n", b"x 1 2\n", b"f 1\n", b"w 61\n"];
+static NO_ASM_LINES: [&'static [u8]; 5] = [b"a 1\n", b"a 1 2 3\n", b"x 1 2\n", b"f 1\n", b"w 61\n"];
 
 /// Lines that are no command of mode `stream`.
-const NO_STREAM_LINES: [&'static [u8]; 8] = [
+static NO_STREAM_LINES: [&'static [u8]; 8] = [
     b"s 0\n",
     b"s 0 6\n",
     b"s 18446744073709551616 61\n",

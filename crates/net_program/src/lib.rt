@@ -6,6 +6,7 @@
 
 mod arguments;
 mod ending;
+pub mod laws;
 mod numeral;
 mod writing;
 

@@ -47,6 +47,31 @@ fn gathers_all_words_or_none(rt: HostRuntime) -> Result<(), Fail> {
     Ok(())
 }
 
+/// Gathers so many words of one byte. Returns how many there are and how many bytes their list asked
+/// for, of places of 24 bytes, or `None` if it keeps some of its memory.
+fn gathers_many(alloc: Global, count: usize) -> Result<Option<(usize, usize)>, AllocError> {
+    let mut words = Vec::new(alloc);
+    for _ in 0..count {
+        words.push(String::from_str(alloc, "x")?)?;
+    }
+    let heap = Refusing::new(alloc, usize::MAX);
+    let gathered = gather(&heap, words.into_iter())?.len();
+    Ok((heap.live() == 0).then_some((gathered, heap.bytes())))
+}
+
+/// The list grows to 4, 8, 16, 32 and 64 places.
+#[test]
+fn a_list_of_words_grows_by_doubling(rt: HostRuntime) -> Result<(), Fail> {
+    let Some((count, bytes)) = gathers_many(rt.alloc(), 40)? else {
+        return Err(Fail::from(AllocError));
+    };
+    assert!(rt; count == 40 && bytes <= (4 + 8 + 16 + 32 + 64) * 64);
+    Ok(())
+}
+
+/// A word of more bytes than those of a command line here have.
+const LONG_WORD: &[u8] = b"a_word_of_more_than_twenty_bytes_which_says_nothing";
+
 /// A command line of these words, of which the first is the program's name.
 #[derive(Drop)]
 struct CommandLine<'a>(&'a [&'a [u8]]);
@@ -85,6 +110,19 @@ fn the_words_of_a_command_line_are_those_after_its_first(rt: HostRuntime) -> Res
         b"x".as_slice(),
     ];
     assert_words(&rt, &command_words(&(CommandLine(&line), rt.alloc())));
+    let long = [
+        b"program".as_slice(),
+        b"1",
+        b"2",
+        b"3",
+        b"4",
+        b"5",
+        b"6",
+        b"7",
+        LONG_WORD,
+    ];
+    let words = command_words(&(CommandLine(&long), rt.alloc()));
+    assert!(rt; words.len() == 8 && words[7].as_bytes() == LONG_WORD);
     let unreadable = [b"program".as_slice(), b"8".as_slice(), b"\xff".as_slice()];
     assert!(rt; command_words(&(CommandLine(&unreadable), rt.alloc())).is_empty());
     assert!(rt; command_words(&(CommandLine(&line[..1]), rt.alloc())).is_empty());

@@ -68,6 +68,14 @@ fn a_failed_flush_takes_no_other_error_s_place(rt: HostRuntime) -> Result<(), Fa
     let other = Some(ErrorKind::Other);
     flush(&rt, rt.alloc(), None, Ok(()), Ok(()))?;
     flush(&rt, rt.alloc(), other, Ok(()), Err(7))?;
+    flush(&rt, rt.alloc(), Some(ErrorKind::BrokenPipe), Ok(()), Err(7))?;
+    flush(
+        &rt,
+        rt.alloc(),
+        Some(ErrorKind::Interrupted),
+        Ok(()),
+        Err(7),
+    )?;
     flush(&rt, rt.alloc(), None, Err(3), Err(3))?;
     flush(&rt, rt.alloc(), other, Err(3), Err(3))
 }

@@ -1,240 +1,271 @@
-//! Copies over links of known fates: what arrives, what is counted, and how each error ends.
+//! Copies over links: what arrives over any link, which storage is used for what, how each refusal ends
+//! one, and what they ask of memory.
 
-use crate::counted::{EACH_SECOND, EIGHTY};
-use net_stream::{Config, Counts, Fates, FrameCounts, Rates, copy, copy_over};
-use net_testing::{NEVER, Refusing, Sink, Source};
-use std::alloc::{Allocator, Global};
+use crate::assertions::assert_holds;
+use crate::calls::{PERFECT, Setup, Way, copy_by, copy_over_by};
+use crate::counted::pattern;
+use crate::counted::ways::{ALL, EACH_SECOND};
+use net_stream::{Config, Counts, LinkError, Rates};
+use net_testing::{NEVER, Refusing, Sink, Source, refuse_each};
+use std::alloc::{AllocError, Global};
 use std::io::ErrorKind;
-use std::test::Fail;
 
-/// A link that loses, repeats and delays nothing.
-const PERFECT: Rates = Rates {
-    lost: 0,
-    repeated: 0,
-    late: 0,
-};
-
-/// Config of a copy from this position on.
-fn config(first: u64, capacity: usize, payload: u32) -> Config {
-    Config {
-        first,
-        capacity,
-        payload,
-        flight: 4_096,
-        rounds: 100,
+/// A copy from this position on over these fates.
+fn setup(there: Way, back: Way, first: u64, capacity: usize, payload: u32) -> Setup {
+    Setup {
+        there,
+        back,
+        config: Config {
+            first,
+            capacity,
+            payload,
+            flight: 4_096,
+            rounds: 100,
+        },
     }
 }
 
-/// Copies text over a link that draws its fates, and returns the text of how it ended.
-fn ending<A: Allocator + Copy>(
-    alloc: Global,
-    heap: A,
-    config: Config,
-    fates: Fates<'_>,
-    ack_fates: Fates<'_>,
-    source: &mut Source<'_>,
-    sink: &mut Sink,
-    counts: &mut Counts,
-) -> Result<String, Fail> {
-    match copy(heap, config, fates, ack_fates, source, sink, counts) {
-        Ok(()) => Ok(String::from_str(alloc, "Ok")?),
-        Err(error) => Ok(format!(in alloc; "{error}")?),
+/// Sixty bytes.
+const TEXT: &[u8] = b"A text of some words, which comes over a link byte for byte.";
+
+/// Eighty bytes.
+const EIGHTY: &[u8] =
+    b"0123456789012345678901234567890123456789012345678901234567890123456789abcdefghij";
+
+/// Fates that are drawn at these rates.
+fn drawn(seed: u64, rates: &Rates) -> Way {
+    Way {
+        listed: &[],
+        seed,
+        rates: *rates,
     }
 }
 
-/// How a copy of this text ends over a link of these rates, and whether all of it has come.
-fn comes(
-    alloc: Global,
-    text: &[u8],
-    capacity: usize,
-    seed: u64,
-    rates: Rates,
-) -> Result<bool, Fail> {
-    let mut source = Source::new(text);
-    let mut sink = Sink::new(alloc)?;
-    let mut counts = Counts::new();
-    let text_of = ending(
-        alloc,
-        alloc,
-        config(7, capacity, 5),
-        Fates::new(&[], seed, rates),
-        Fates::new(&[], !seed, rates),
-        &mut source,
-        &mut sink,
-        &mut counts,
-    )?;
-    Ok(text_of.as_str() == "Ok" && sink.bytes.as_slice() == text)
+/// Whether a text comes over a link that draws its fates.
+fn comes(alloc: Global, rates: &Rates, capacity: usize, seed: u64) -> bool {
+    let setup = setup(drawn(seed, rates), drawn(!seed, rates), 7, capacity, 5);
+    let Ok(mut sink) = Sink::new(alloc) else {
+        return false;
+    };
+    let mut source = Source::new(TEXT);
+    let end = copy_by(alloc, &setup, &mut source, &mut sink, &mut Counts::new());
+    end == "Ok" && sink.bytes.as_slice() == TEXT
 }
 
-#[test]
-fn all_comes_whatever_becomes_of_the_frames(rt: HostRuntime) -> Result<(), Fail> {
-    let text = b"A text of some words, which comes over a link byte for byte.".as_slice();
-    let links = [
-        PERFECT,
-        Rates {
-            lost: 30,
-            repeated: 0,
-            late: 0,
-        },
-        Rates {
-            lost: 0,
-            repeated: 60,
-            late: 0,
-        },
-        Rates {
-            lost: 0,
-            repeated: 0,
-            late: 60,
-        },
-        Rates {
-            lost: 20,
-            repeated: 30,
-            late: 30,
-        },
-    ];
-    for rates in links {
+static LINKS: [Rates; 5] = [
+    PERFECT,
+    Rates {
+        lost: 30,
+        repeated: 0,
+        late: 0,
+    },
+    Rates {
+        lost: 0,
+        repeated: 60,
+        late: 0,
+    },
+    Rates {
+        lost: 0,
+        repeated: 0,
+        late: 60,
+    },
+    Rates {
+        lost: 20,
+        repeated: 30,
+        late: 30,
+    },
+];
+
+/// Whether a text comes over links of these seeds, with storage of one byte, of some and of many.
+fn comes_at_any_capacity(alloc: Global, rates: &Rates, seeds: u64) -> bool {
+    for seed in 0..seeds {
         for capacity in [1usize, 7, 4096] {
-            for seed in 0..51u64 {
-                assert!(rt;
-                    comes(rt.alloc(), text, capacity, seed, rates)?,
-                    "{capacity} {seed}"
-                );
+            if !comes(alloc, rates, capacity, seed) {
+                return false;
             }
         }
     }
-    Ok(())
+    true
+}
+
+#[test]
+fn all_comes_whatever_becomes_of_the_frames(rt: HostRuntime) {
+    for i in 0..LINKS.len() {
+        assert_holds(&rt, comes_at_any_capacity(rt.alloc(), &LINKS[i], 51), i);
+    }
+}
+
+/// Whether a copy of these bytes over storage of nine, two and four bytes takes 33 frames, 22 bytes of
+/// payload and five rounds.
+fn takes_five_rounds(alloc: Global, text: &[u8]) -> bool {
+    let setup = setup(ALL, ALL, 0, 0, 2);
+    let Ok(mut sink) = Sink::new(alloc) else {
+        return false;
+    };
+    let mut source = Source::new(text);
+    let mut counts = Counts::new();
+    let end = copy_over_by(
+        alloc,
+        &setup,
+        &mut [0; 9],
+        &mut [0; 2],
+        &mut [0; 4],
+        &mut source,
+        &mut sink,
+        &mut counts,
+    );
+    let took = (counts.frames.sent, counts.frames.payload, counts.rounds);
+    end == "Ok" && sink.bytes.as_slice() == text && took == (33, 22, 5)
 }
 
 /// A round reads as much as the third storage has room for, queues as much as the first, and the
 /// receiver takes as much as the second. The capacity of the config isn't read.
 #[test]
-fn each_lent_storage_has_its_own_use(rt: HostRuntime) -> Result<(), Fail> {
-    let text = b"abcdefghij".as_slice();
-    let mut outgoing = [0u8; 9];
-    let mut incoming = [0u8; 2];
-    let mut chunk = [0u8; 4];
-    let mut source = Source::new(text);
-    let mut sink = Sink::new(rt.alloc())?;
+fn each_lent_storage_has_its_own_use(rt: HostRuntime) {
+    assert_holds(&rt, takes_five_rounds(rt.alloc(), b"abcdefghij"), 0);
+}
+
+/// The request that is refused, the read and the write that fail, whether the flush does, the end and
+/// how many bytes of `abcdef` came.
+static REFUSALS: [(usize, usize, usize, bool, &'static str, u64); 12] = [
+    (0, NEVER, NEVER, false, "out of memory", 0),
+    (1, NEVER, NEVER, false, "out of memory", 0),
+    (2, NEVER, NEVER, false, "out of memory", 0),
+    (3, NEVER, NEVER, false, "out of memory", 0),
+    (4, NEVER, NEVER, false, "out of memory", 0),
+    (NEVER, 0, NEVER, false, "read failed", 0),
+    (NEVER, 1, NEVER, false, "read failed", 6),
+    (NEVER, NEVER, 0, false, "write failed", 0),
+    (NEVER, NEVER, 1, false, "write failed", 4),
+    (NEVER, 1, NEVER, true, "read failed", 6),
+    (NEVER, NEVER, NEVER, true, "write failed", 6),
+    (NEVER, NEVER, NEVER, false, "Ok", 6),
+];
+
+/// Whether a copy ends so, and gives back all its memory.
+fn ends_so(
+    alloc: Global,
+    (refused, read, write, is_unflushed, wanted, count): (usize, usize, usize, bool, &str, u64),
+) -> bool {
+    let heap = Refusing::new(alloc, refused);
+    let Ok(mut sink) = Sink::failing(alloc, 4, write, Some(ErrorKind::Other)) else {
+        return false;
+    };
+    if is_unflushed {
+        sink.flush_kind = Some(ErrorKind::Other);
+    }
+    let mut source = Source::failing(b"abcdef", usize::MAX, read, ErrorKind::Other);
     let mut counts = Counts::new();
-    let ended = copy_over(
-        rt.alloc(),
-        config(0, 0, 2),
-        Fates::new(&[], 1, PERFECT),
-        Fates::new(&[], 1, PERFECT),
-        &mut outgoing,
-        &mut incoming,
-        &mut chunk,
-        &mut source,
-        &mut sink,
-        &mut counts,
-    );
-    assert!(rt; ended.is_ok() && sink.bytes.as_slice() == text);
-    let counted = [counts.frames.sent, counts.frames.payload, counts.rounds];
-    assert_eq!(rt; counted, [33, 22, 5]);
-    Ok(())
+    let setup = setup(ALL, ALL, 0, 16, 2);
+    let end = copy_by(&heap, &setup, &mut source, &mut sink, &mut counts);
+    end == wanted && counts.bytes == count && is_prefix(&sink, b"abcdef", count) && heap.live() == 0
+}
+
+/// Whether a writer has so many bytes, which a text begins with.
+fn is_prefix(sink: &Sink, text: &[u8], count: u64) -> bool {
+    text.starts_with(&sink.bytes) && sink.bytes.len() as u64 == count
 }
 
 #[test]
-fn each_refusal_ends_a_copy(rt: HostRuntime) -> Result<(), Fail> {
-    // The request that is refused, the read, the write and the flush that fail, the end and how
-    // much came.
-    let other = Some(ErrorKind::Other);
-    let cases = [
-        (0, NEVER, NEVER, None, "out of memory", 0),
-        (1, NEVER, NEVER, None, "out of memory", 0),
-        (2, NEVER, NEVER, None, "out of memory", 0),
-        (3, NEVER, NEVER, None, "out of memory", 0),
-        (4, NEVER, NEVER, None, "out of memory", 0),
-        (NEVER, 0, NEVER, None, "read failed", 0),
-        (NEVER, 1, NEVER, None, "read failed", 6),
-        (NEVER, NEVER, 0, None, "write failed", 0),
-        (NEVER, NEVER, 1, None, "write failed", 4),
-        (NEVER, 1, NEVER, other, "read failed", 6),
-        (NEVER, NEVER, NEVER, other, "write failed", 6),
-        (NEVER, NEVER, NEVER, None, "Ok", 6),
-    ];
-    for (refused, read_fails, write_fails, flush_kind, end, count) in cases {
-        let heap = Refusing::new(rt.alloc(), refused);
-        let mut source = Source::new(b"abcdef");
-        source.failing_call = read_fails;
-        let mut sink = Sink::new(rt.alloc())?;
-        sink.failing_call = write_fails;
-        sink.kind = other;
-        sink.flush_kind = flush_kind;
-        sink.bytes_per_call = 4;
-        let mut counts = Counts::new();
-        let told = ending(
-            rt.alloc(),
-            &heap,
-            config(0, 16, 2),
-            Fates::new(&[], 1, PERFECT),
-            Fates::new(&[], 1, PERFECT),
-            &mut source,
-            &mut sink,
-            &mut counts,
-        )?;
-        assert_eq!(rt; told.as_str(), end, "{refused} {read_fails} {write_fails}");
-        assert_eq!(rt; sink.bytes.as_slice(), &b"abcdef"[..count]);
-        assert_eq!(rt; counts.bytes, count as u64);
+fn each_refusal_ends_a_copy(rt: HostRuntime) {
+    for i in 0..REFUSALS.len() {
+        assert_holds(&rt, ends_so(rt.alloc(), REFUSALS[i]), i);
     }
-    Ok(())
 }
 
 /// Whether all is counted that came before memory was refused, of a copy of which eight segments are
 /// refused in the first round, in which nothing is written: 80 bytes are sent in it, and 33 in the
 /// next. Each round waits for a round trip at least.
 fn are_kept(counts: &Counts, has_storage: bool) -> bool {
-    let FrameCounts {
-        payload,
-        refused,
-        ..
-    } = counts.frames;
+    let frames = &counts.frames;
     let is_counted = match counts.rounds {
         0 => !has_storage,
-        1 => payload <= 80 && refused <= 8,
-        2 => payload >= 80 && refused >= 8,
-        _ => payload >= 113 && refused >= 8,
+        1 => frames.payload <= 80 && frames.refused <= 8,
+        2 => frames.payload >= 80 && frames.refused >= 8,
+        _ => frames.payload >= 113 && frames.refused >= 8,
     };
     is_counted && counts.micros / 10_000 >= counts.rounds
 }
 
-#[test]
-fn each_refused_request_leaves_a_prefix(rt: HostRuntime) -> Result<(), Fail> {
-    let rates = Rates {
-        lost: 30,
-        repeated: 20,
-        late: 20,
+/// Copies eighty bytes of which each second is lost, in this memory. Returns how it ends, and whether
+/// what was written is a prefix, and all is counted.
+fn leaves_a_prefix(alloc: Global, memory: &Refusing) -> (&'static str, bool) {
+    let Ok(mut sink) = Sink::new(alloc) else {
+        return ("no writer", false);
     };
-    for refused in 0..10_000usize {
-        let heap = Refusing::new(rt.alloc(), refused);
-        let mut source = Source::new(EIGHTY);
-        let mut sink = Sink::new(rt.alloc())?;
-        let mut counts = Counts::new();
-        let told = ending(
+    let mut source = Source::new(EIGHTY);
+    let mut counts = Counts::new();
+    let setup = setup(EACH_SECOND, drawn(8, &LINKS[4]), 0, 4096, 1);
+    let end = copy_by(memory, &setup, &mut source, &mut sink, &mut counts);
+    let is_right = is_prefix(&sink, EIGHTY, counts.bytes)
+        && are_kept(&counts, memory.requests() > 3);
+    (end, is_right)
+}
+
+/// With each request refused in turn a prefix is written, and all memory is given back.
+#[test]
+fn each_refused_request_leaves_a_prefix(rt: HostRuntime) {
+    let mut is_always_right = true;
+    let alloc = rt.alloc();
+    let requests = refuse_each(alloc, |memory| {
+        let (end, is_right) = leaves_a_prefix(alloc, memory);
+        is_always_right = is_always_right && is_right;
+        end == "Ok"
+    });
+    assert_holds(&rt, is_always_right && requests > Some(100), 0);
+}
+
+/// Whether a copy of so many bytes, with so much capacity, asks for at most so many bytes of memory, and
+/// has at most so many at once.
+fn asks_for(alloc: Global, len: usize, capacity: usize, asked: usize, most: usize) -> bool {
+    let heap = Refusing::new(alloc, NEVER);
+    let (Ok(text), Ok(mut sink)) = (pattern(alloc, len), Sink::new(alloc)) else {
+        return false;
+    };
+    let mut counts = Counts::new();
+    let setup = setup(ALL, ALL, 0, capacity, 1_000);
+    let end = copy_by(
+        &heap,
+        &setup,
+        &mut Source::new(&text),
+        &mut sink,
+        &mut counts,
+    );
+    end == "Ok" && heap.bytes() <= asked && heap.most() <= most && heap.live() == 0
+}
+
+/// A copy asks for its three storages, for its frames, each with a header of 8 bytes, for its
+/// acknowledgements, and for the queues of both; each frame is there once, and is given back when it came.
+#[test]
+fn little_memory_is_asked_for(rt: HostRuntime) {
+    // One round, of a frame and two acknowledgements, of 8 bytes each.
+    assert_holds(&rt, asks_for(rt.alloc(), 6, 100_000, 302_000, 302_000), 0);
+    // 1,000 rounds of two frames and three acknowledgements.
+    let frames = 1_000 * (2 * 1_008 + 3 * 8);
+    assert_holds(
+        &rt,
+        asks_for(
             rt.alloc(),
-            &heap,
-            config(0, 4096, 1),
-            Fates::new(&EACH_SECOND, 7, rates),
-            Fates::new(&[], 8, rates),
-            &mut source,
-            &mut sink,
-            &mut counts,
-        )?;
-        assert!(rt;
-            told.as_str() == "out of memory" || sink.bytes.as_slice() == EIGHTY,
-            "{refused}"
-        );
-        assert_eq!(rt;
-            sink.bytes.as_slice(),
-            &EIGHTY[..sink.bytes.len().min(EIGHTY.len())]
-        );
-        assert_eq!(rt; sink.bytes.len() as u64, counts.bytes, "{refused}");
-        assert!(rt; are_kept(&counts, refused > 2), "{refused}");
-        if told.as_str() == "Ok" {
-            assert_eq!(rt; refused, heap.requests());
-            return Ok(());
-        }
-    }
-    assert!(rt; false, "no run had the memory that it asked for");
+            2_000_000,
+            2_000,
+            6_000 + frames + 10_000,
+            20_000,
+        ),
+        1,
+    );
+}
+
+/// Whether an error's text is this one.
+fn says(alloc: Global, error: LinkError, text: &str) -> Result<bool, AllocError> {
+    Ok(format!(in alloc; "{error}")?.as_str() == text)
+}
+
+#[test]
+fn errors_say_what_ended_a_copy(rt: HostRuntime) -> Result<(), AllocError> {
+    let gave_up = says(rt.alloc(), LinkError::GaveUp, "gave up")?;
+    let memory = says(rt.alloc(), LinkError::OutOfMemory, "out of memory")?;
+    let read = says(rt.alloc(), LinkError::ReadFailed, "read failed")?;
+    let write = says(rt.alloc(), LinkError::WriteFailed, "write failed")?;
+    assert_holds(&rt, gave_up && memory && read && write, 0);
     Ok(())
 }

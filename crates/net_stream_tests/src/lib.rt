@@ -5,10 +5,16 @@
 #![tactic(auto)]
 
 #[cfg(test)]
+mod assertions;
+#[cfg(test)]
+mod calls;
+#[cfg(test)]
 mod copying;
 #[cfg(test)]
 mod counted;
 #[cfg(test)]
-mod linked;
+mod frames;
 #[cfg(test)]
-mod sending;
+mod links;
+#[cfg(test)]
+mod sender;

@@ -14,3 +14,10 @@ pub fn endpoint_equality(x: &Endpoint, y: &Endpoint)
     ensures { IsTrue (⟦<Endpoint as PartialEq>⟧.eq x.now y.now)
         ↔ ((x.now.address ≡ y.now.address) × (x.now.port ≡ y.now.port)) }
 {}
+
+/// A clone of an endpoint is the same, and is never refused.
+pub fn endpoint_clone(endpoint: &Endpoint, clone: &Endpoint)
+    ensures same { ⟦<Endpoint as Clone>⟧.is_clone endpoint.now clone.now
+        → clone.now ≡ endpoint.now }
+    ensures never_refused { ⟦<Endpoint as Clone>⟧.is_infallible endpoint.now }
+{}

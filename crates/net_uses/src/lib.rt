@@ -12,7 +12,7 @@ mod inbox;
 mod udp_socket;
 
 pub use bridge::{forward, forward_lists, forward_one};
-pub use endpoint::{Endpoint, endpoint_equality};
+pub use endpoint::{Endpoint, endpoint_clone, endpoint_equality};
 pub use fragment_buffer::{FragmentBuffer, FragmentError, Fragments};
 pub use inbox::Inbox;
 pub use udp_socket::UdpSocket;

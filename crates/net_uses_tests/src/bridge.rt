@@ -79,7 +79,7 @@ fn one_passes(
 
 /// Frames of few bytes, of none, and of more than a number of 16 bits can say, each at a moment in
 /// microseconds.
-const LENGTHS: [(usize, i64); 9] = [
+static LENGTHS: [(usize, i64); 9] = [
     (0, 0),
     (1, 1),
     (2, i64::MIN),
@@ -135,12 +135,14 @@ fn many_frames_pass_at_once(rt: HostRuntime) -> Result<(), AllocError> {
     Ok(())
 }
 
-/// A loopback device that stores the moments at which it was last asked for a frame and for room.
+/// A loopback device that stores the moments at which it was last asked for a frame and for room, and
+/// counts how often it was asked for room.
 #[derive(Drop)]
 struct Noting {
     device: Loopback,
     asked_for_a_frame: Instant,
     asked_for_room: Instant,
+    rooms: usize,
 }
 
 impl Model for Noting {
@@ -169,6 +171,7 @@ impl Device for Noting {
 
     fn transmit(&mut self, timestamp: Instant) -> Option<loopback::TxToken> {
         self.asked_for_room = timestamp;
+        self.rooms = self.rooms.saturating_add(1);
         self.device.transmit(timestamp)
     }
 
@@ -192,6 +195,7 @@ fn without_frames(alloc: Global) -> Noting {
         device: Loopback::new(alloc, Medium::Ip),
         asked_for_a_frame: Instant::ZERO,
         asked_for_room: Instant::ZERO,
+        rooms: 0,
     }
 }
 
@@ -215,4 +219,25 @@ fn both_devices_are_asked_at_the_moment_that_was_given(rt: HostRuntime) {
             && are_asked_at(&mut from, &mut to, micros - micros % 7, true);
         assert_holds(&rt, asked, ("at", micros.unsigned_abs() as usize));
     }
+}
+
+/// Whether a frame passes, and the device that it goes to is asked for room once, and the other one never.
+fn asks_once(from: &mut Noting, to: &mut Noting) -> Result<bool, AllocError> {
+    let rooms = to.rooms;
+    let passed = sends(&mut from.device, Instant::ZERO, 9, 7)?
+        && forward_one(from, to, Instant::ZERO)?
+        && gives(&mut to.device, Instant::ZERO, 9, 7);
+    Ok(passed && to.rooms == rooms.saturating_add(1) && from.rooms == 0)
+}
+
+/// Each frame is sent by a token that was asked for, and no other token is: nor where none waits.
+#[test]
+fn room_is_asked_for_once_a_frame(rt: HostRuntime) -> Result<(), AllocError> {
+    let mut from = without_frames(rt.alloc());
+    let mut to = without_frames(rt.alloc());
+    assert_holds(&rt, asks_once(&mut from, &mut to)?, ("frame", 1));
+    assert_holds(&rt, asks_once(&mut from, &mut to)?, ("frame", 2));
+    let passed = forward_one(&mut from, &mut to, Instant::ZERO)?;
+    assert_holds(&rt, !passed && to.rooms == 3, ("no frame", to.rooms));
+    Ok(())
 }

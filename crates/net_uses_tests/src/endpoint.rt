@@ -2,7 +2,7 @@ use crate::assertions::assert_holds;
 use net_uses::Endpoint;
 
 /// Two endpoints, and whether they are equal.
-const PAIRS: [((u32, u16), (u32, u16), bool); 4] = [
+static PAIRS: [((u32, u16), (u32, u16), bool); 4] = [
     ((0x0a000001, 53), (0x0a000001, 53), true),
     ((0x0a000001, 53), (0x0a000001, 54), false),
     ((0x0a000001, 53), (0x0a000002, 53), false),

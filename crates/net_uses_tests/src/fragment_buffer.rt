@@ -35,7 +35,7 @@ fn does(packet: &mut Fragments<&mut [u8], 2>, step: &Step<'_>) -> bool {
 
 /// Three fragments come out of order, and one of them twice, with other bytes. The next packet never
 /// comes whole.
-const STEPS: [Step<'static>; 16] = [
+static STEPS: [Step<'static>; 16] = [
     Step::Adds(6, b"gh", None),
     Step::Adds(3, b"??", None),
     Step::Adds(6, b"too long", Some(FragmentError::TooLong)),

@@ -133,7 +133,7 @@ fn comes_in(socket: &mut UdpSocket<'_>, sizes: &[usize], refused: usize) -> bool
 }
 
 /// The sizes of datagrams that fill four slots or 16 bytes, and one for which there is no room then.
-const ROWS: [(&[usize], usize); 6] = [
+static ROWS: [(&[usize], usize); 6] = [
     (&[4, 4, 4, 4], 0),
     (&[16], 1),
     (&[5, 5, 5], 2),

@@ -104,8 +104,56 @@ fn comes_unmarked(device: &mut Loopback) -> bool {
 #[test]
 fn its_tokens_have_no_metadata(rt: HostRuntime) {
     let mut device = Loopback::new(rt.alloc(), Medium::Ip);
-    let sent = sends(&mut device, b"ab");
-    assert!(rt; sent && comes_unmarked(&mut device));
+    for frame in [
+        b"".as_slice(),
+        b"ab",
+        b"abc",
+        &[7; 60],
+        &[7; 1_514],
+        &[7; 70_000],
+    ] {
+        let sent = sends(&mut device, frame);
+        assert!(rt;
+            sent && comes_unmarked(&mut device),
+            "{} bytes",
+            frame.len()
+        );
+    }
+}
+
+/// Sends so many frames, each five bytes longer than the one before it. Returns whether there was memory
+/// for all.
+fn sends_many<A: Allocator + Copy>(device: &mut Loopback<A>, count: usize) -> bool {
+    let bytes = [7u8; 1_000];
+    for number in 0..count.min(200) {
+        if !sends(device, &bytes[..5 * number]) {
+            return false;
+        }
+    }
+    true
+}
+
+/// Whether so many frames are sent and queued by at most this many requests more than there are frames
+/// with bytes, with at most 128 bytes of the queue for each frame.
+fn asks_for_little(memory: &Refusing, count: usize, growths: usize) -> bool {
+    let mut device = Loopback::new(memory, Medium::Ip);
+    let is_sent = sends_many(&mut device, count);
+    let bytes = 5 * count * count / 2;
+    is_sent
+        && memory.requests() <= count.saturating_add(growths)
+        && memory.bytes() <= bytes.saturating_add(128 * count.saturating_add(4))
+        && memory.live() > 0
+}
+
+/// The queue has room for 4 frames, 8, 16, .., and all is given back with it, the queued frames' bytes
+/// too.
+#[test]
+fn a_queue_grows_by_doubling_and_gives_all_back(rt: HostRuntime) {
+    for (count, growths) in [(20usize, 4usize), (200, 7)] {
+        let memory = Refusing::new(rt.alloc(), usize::MAX);
+        assert!(rt; asks_for_little(&memory, count, growths), "{count} frames");
+        assert!(rt; memory.live() == 0, "{count} frames");
+    }
 }
 
 /// What a closure owns, to count how often one is called or let go.
@@ -210,14 +258,17 @@ fn each_request_for_memory_is_refused_in_turn(rt: HostRuntime) {
     }
 }
 
-/// Returns whether a frame of the greatest length is refused and its closure isn't called.
+/// Returns whether a frame of the greatest length is refused and its closure is let go, and not called.
 fn refuses_greatest(device: &mut Loopback) -> bool {
+    let drops = Cell::new(0);
+    let owned = Owned { drops: &drops };
     let mut ran = false;
     let token = device.transmit(Instant::ZERO).unwrap();
     let sent = device.send(token, usize::MAX, |_buffer| {
+        drop(owned);
         ran = true;
     });
-    sent.is_err() && !ran
+    sent.is_err() && !ran && drops.get() == 1
 }
 
 #[test]

@@ -24,6 +24,7 @@ fn without_frames<A: Allocator + Copy>(alloc: A) -> TwoLists<A> {
         to_come: VecDeque::new(alloc),
         sent: VecDeque::new(alloc),
         asked_at: Instant::ZERO,
+        rooms: 0,
     }
 }
 
@@ -38,11 +39,13 @@ fn put<A: Allocator + Copy>(
 }
 
 /// Returns whether the first frame comes back at so many microseconds, if one is there, and the
-/// device is asked then; two frames are sent then, of which it is the last one.
+/// device is asked then; two frames are sent then, of which it is the last one. The echo goes out by
+/// the token that came with the frame: the device is never asked for room.
 fn is_sent_back(device: &mut TwoLists, micros: i64, found: bool) -> bool {
     let moment = Instant::from_micros(micros);
     send_back(device, moment) == Ok(found)
         && device.asked_at == moment
+        && device.rooms == 0
         && device.to_come.is_empty()
         && device.sent.len() == 2
         && is_back(&device.sent, b"ab")

@@ -1,6 +1,9 @@
-//! Laws of packets that come in fragments. No function here does anything.
+//! Laws of packets that come in fragments, and of why a fragment is refused. No function here does
+//! anything.
+ghost use Rattle.std.specs.Prelude.{◌≡◌, ◌↔◌, IsTrue};
 ghost use Rattle.net_uses.specs.FragmentHistory.{LastFragmentStands, OldBytesAreGone};
 
+use crate::fragment_buffer::FragmentError;
 use net_assembler::assembler;
 use net_ring::ring_buffer;
 
@@ -13,3 +16,15 @@ pub fn the_last_fragment_stands()
     assembler::laws::members();
     ring_buffer::laws::overwritten::<u8>();
 }
+
+/// Two refusals are equal exactly if they are the same.
+pub fn fragment_error_equality(x: &FragmentError, y: &FragmentError)
+    ensures { IsTrue (⟦<FragmentError as PartialEq>⟧.eq x.now y.now) ↔ (x.now ≡ y.now) }
+{}
+
+/// A clone of a refusal is the same, and is never refused.
+pub fn fragment_error_clone(error: &FragmentError, clone: &FragmentError)
+    ensures same { ⟦<FragmentError as Clone>⟧.is_clone error.now clone.now
+        → clone.now ≡ error.now }
+    ensures never_refused { ⟦<FragmentError as Clone>⟧.is_infallible error.now }
+{}

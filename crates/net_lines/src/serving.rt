@@ -1,11 +1,13 @@
-//! The program, from its words and streams to its exit status.
+//! The program `net_bench`, from its words and streams to its exit status.
 ghost use Rattle.std.specs.Prelude.{◌≡◌, ◌↔◌, map, IfSome, OnOk, IfErr, None, true, string_bytes};
 ghost use Rattle.std.specs.Io.KnownBytes.{Appends, Keeps};
 ghost use Rattle.net_program.specs.declared.ending.Status.TheVariants.{Done, Failed, Misused};
 ghost use Rattle.net_lines.specs.Modes.{output, fault, mode_of, transcript_of};
-ghost use Rattle.net_bench.specs.Serving.{usage_line, error_line, status_of, FailsOnInput};
+ghost use Rattle.net_lines.specs.Serving.{usage_line, error_line, status_of, FailsOnInput};
 
-use net_lines::{BenchError, Mode, run};
+use crate::error::BenchError;
+use crate::mode::Mode;
+use crate::running::run;
 use net_program::{Ended, Status, flush_after};
 use std::alloc::Allocator;
 use std::io::{Read, Write};
@@ -75,6 +77,3 @@ fn ended_after<E: Write>(outcome: Result<(), BenchError>, errors: &mut E) -> End
         }
     }
 }
-
-#[cfg(test)]
-mod tests;

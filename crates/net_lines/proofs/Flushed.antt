@@ -14,7 +14,7 @@ use Rattle.net_lines.specs.declared.error.BenchError.{BenchError}
 use Rattle.net_lines.specs.declared.error.BenchError.TheVariants.{BadCommand, RangeTooLong, LineTooLong}
 use Rattle.net_lines.specs.declared.error.BenchError.TheVariants.{TooManySchedules, OutOfMemory}
 use Rattle.net_lines.specs.declared.error.BenchError.TheVariants.{ReadFailed, WriteFailed}
-use Rattle.net_bench.specs.Serving.{error_line, status_of, FailsOnInput}
+use Rattle.net_lines.specs.Serving.{error_line, status_of, FailsOnInput}
 
 abbrev is_done : Status → Bool
 is_done Done = true

@@ -1,5 +1,6 @@
 //! The statuses, what standard error says, and how often streams are called.
-use super::*;
+use net_lines::serve;
+use net_program::{Ended, Status};
 use net_testing::{NEVER, Refusing, Sink, Source};
 use std::alloc::{AllocError, Allocator, Global};
 use std::io::ErrorKind;
@@ -133,7 +134,7 @@ fn check(
 type Row<'a> = (&'a str, &'a [u8], Expected<'a>);
 
 /// Calls of each status but 2.
-const STATUSES: [Row<'static>; 13] = [
+static STATUSES: [Row<'static>; 13] = [
     ("ring 8", b"w 61\n", (b"took 1\n", 0, b"", 2, 1)),
     ("ring 8", b"", (b"", 0, b"", 1, 0)),
     ("asm 4", b"f\n", (b"front 0\n", 0, b"", 2, 1)),
@@ -206,7 +207,7 @@ fn check_no_words(rt: &impl Abort, alloc: Global) -> Result<(), Fail> {
 }
 
 /// Words that name no mode.
-const NO_MODES: [&'static str; 20] = [
+static NO_MODES: [&'static str; 22] = [
     "",
     "ring",
     "ring 65537",
@@ -227,6 +228,8 @@ const NO_MODES: [&'static str; 20] = [
     "stream 8 4 0 0",
     "stream 8 4 0 0 0",
     "stream 8 4 0 0 0 0",
+    "stream 8 4 0 0 0 0 0",
+    "ring 8 a word of more than a few bytes and_one_of_more_than_twenty_bytes",
 ];
 
 #[test]
@@ -252,6 +255,46 @@ fn says_which_stream_failed(rt: HostRuntime) -> Result<(), Fail> {
     Ok(())
 }
 
+/// Whether standard error says this line where that many lines ask for the front, and the next one for
+/// nothing.
+fn says_line(alloc: Global, lines: usize, told: &[u8]) -> Result<bool, Fail> {
+    let words = words_of(alloc, "asm 4")?;
+    let mut input = Vec::new(alloc);
+    for _ in 0..lines {
+        input.extend_from_slice(b"f\n")?;
+    }
+    input.extend_from_slice(b"x\n")?;
+    let mut errors = Sink::new(alloc)?;
+    let mut sink = Sink::new(alloc)?;
+    let _ended = serve(
+        alloc,
+        &words,
+        &mut Source::new(&input),
+        &mut sink,
+        &mut errors,
+    );
+    Ok(errors.bytes.as_slice() == told)
+}
+
+#[test]
+fn says_which_line_is_bad(rt: HostRuntime) -> Result<(), Fail> {
+    let rows: [(usize, &[u8]); 4] = [
+        (12, b"line 13: bad command\n"),
+        (98, b"line 99: bad command\n"),
+        (59_999, b"line 60000: bad command\n"),
+        (100_000, b"line 100001: bad command\n"),
+    ];
+    for (lines, told) in rows {
+        assert_count(
+            &rt,
+            says_line(rt.alloc(), lines, told)? as usize,
+            1,
+            ("line", lines),
+        );
+    }
+    Ok(())
+}
+
 #[test]
 fn says_which_line_is_too_long(rt: HostRuntime) -> Result<(), Fail> {
     let mut input = vec![in rt.alloc(); b'w'; 4102]?;
@@ -265,7 +308,7 @@ fn says_which_line_is_too_long(rt: HostRuntime) -> Result<(), Fail> {
 fn flushes_many_replies_once(rt: HostRuntime) -> Result<(), Fail> {
     let mut input = Vec::new(rt.alloc());
     let mut output = Vec::new(rt.alloc());
-    for _ in 0..700 {
+    for _ in 0..9_000 {
         input.extend_from_slice(b"r 0\n")?;
         output.extend_from_slice(b"read -\n")?;
     }

@@ -1,0 +1,296 @@
+"""A model of `copy`, written from docs/LINK.md alone: the rows of net_stream_tests.
+
+    python3 compare/copy_model.py > crates/net_stream_tests/src/counted/rows.rt
+    (cd crates/net_stream_tests && rt fmt)
+
+Each row is a copy over a link of known fates, and what the model counts of it.
+"""
+import collections
+import sys
+
+MOST_RUNS, SHORTEST, LONGEST, LAST = 32, 10_000, 1_000_000, 2**64 - 1
+D, L, R, T = "DELIVERED", "LOST", "REPEATED", "LATE"
+PERFECT, GONE, MIXED = (0, 0, 0), (100, 0, 0), (20, 30, 30)
+
+
+class Direction:
+    """One direction of the link: the fates of a list, then drawn ones; what is late; what became of its frames."""
+
+    def __init__(self, listed, rates, seed=1):
+        self.listed, self.state, self.rates = list(listed), seed, rates
+        self.late = []
+        self.sent = self.lost = self.repeated = self.came_late = 0
+
+    def fate(self):
+        if self.listed:
+            return self.listed.pop(0)
+        self.state = (self.state * 0xBB2EFCEC3C39611D + 0x7590EF39) % 2**64
+        word = self.state // 2 ** (29 - self.state // 2**61) % 2**32
+        lost, repeated, late = self.rates
+        if word % 100 < lost:
+            return L
+        if word // 100 % 100 < repeated:
+            return R
+        return T if word // 10_000 % 100 < late else D
+
+    def comes(self, frame):
+        """Whether a frame comes at once; one that comes late, or once more, is kept for the next round."""
+        fate = self.fate()
+        self.sent += 1
+        self.lost += fate == L
+        self.repeated += fate == R
+        self.came_late += fate == T
+        if fate in (R, T):
+            self.late.append(frame)
+        return fate in (D, R)
+
+    def take_late(self):
+        late, self.late = self.late, []
+        return late
+
+
+class Receiver:
+    """What was written, the first missing position, and the runs that are held beyond it."""
+
+    def __init__(self, first, capacity):
+        self.written = self.next = first
+        self.capacity, self.refused, self.runs = capacity, 0, []
+
+    def come(self, start, end):
+        start, end = max(start, self.next), min(end, self.written + self.capacity)
+        if start >= end:
+            return
+        met = [run for run in self.runs if run[0] <= end and start <= run[1]]
+        joined = (min([start] + [run[0] for run in met]), max([end] + [run[1] for run in met]))
+        runs = sorted([run for run in self.runs if run not in met] + [joined])
+        if start > self.next and len(runs) > MOST_RUNS:
+            self.refused += 1
+            return
+        if runs[0][0] == self.next:
+            self.next = runs.pop(0)[1]
+        self.runs = runs
+
+    def acknowledgement(self):
+        return self.next, self.runs[:MOST_RUNS]
+
+
+class Sender:
+    """The positions that are kept, the ranges that were reported, and where the buffer begins again."""
+
+    def __init__(self, first, capacity):
+        self.base = self.end = first
+        self.capacity, self.again, self.ranges = capacity, first + capacity, []
+
+    def room(self):
+        return min(self.capacity - (self.end - self.base), LAST - self.end)
+
+    def take(self, count):
+        if self.base == self.end:
+            self.again = self.base + self.capacity
+        self.end += count
+
+    def acknowledge(self, position, ranges):
+        if self.base <= position <= self.end:
+            self.base, self.ranges = position, ranges
+            if self.base >= self.again:
+                self.again += self.capacity
+
+    def frames(self, payload, flight):
+        """The frames of a round, each where it begins and ends."""
+        frames, place = [], self.base
+        while place < self.end and len(frames) < flight:
+            having = [end for start, end in self.ranges if start <= place < end]
+            if having:
+                place = having[0]
+                continue
+            if len(self.ranges) == MOST_RUNS and place > max(end for _, end in self.ranges):
+                break
+            ends = [place + payload, self.end] + [start for start, _ in self.ranges if start > place]
+            if place < self.again:
+                ends.append(self.again)
+            frames.append((place, min(ends)))
+            place = min(ends)
+        return frames
+
+
+def predicted(row):
+    """How a copy ends, how often it reads, and what it counts."""
+    there, back = Direction(*WAYS[row.there]), Direction(*WAYS[row.back])
+    sender, receiver = Sender(row.first, row.capacity), Receiver(row.first, row.capacity)
+    taken = written = carried = rounds = stuck = micros = reads = writes = 0
+    ended, filled, wait = False, True, SHORTEST
+    most = flight = max(row.flight, 1)
+    while True:
+        room = min(sender.room(), row.capacity)
+        if not ended and room and (receiver.written == sender.end or filled):
+            reads += 1
+            if reads - 1 == row.read[1]:
+                end = "read failed"
+                break
+            count = min(room, row.length - taken, row.read[0] or LAST)
+            ended, filled = count == 0, count == room
+            sender.take(count)
+            taken += count
+        if ended and receiver.written == sender.end:
+            end = "Ok"
+            break
+        if stuck >= row.rounds:
+            end = "gave up"
+            break
+        base, before = sender.base, receiver.written
+        frames, acks = sender.frames(max(row.payload, 1), flight), []
+        carried += sum(end - start for start, end in frames)
+        for frame in there.take_late():
+            receiver.come(*frame)
+            acks.append(receiver.acknowledgement())
+        for frame in frames:
+            if there.comes(frame):
+                receiver.come(*frame)
+                acks.append(receiver.acknowledgement())
+        acks.append(receiver.acknowledgement())
+        for ack in back.take_late():
+            sender.acknowledge(*ack)
+        for ack in acks:
+            if back.comes(ack):
+                sender.acknowledge(*ack)
+        full = len(sender.ranges) == MOST_RUNS
+        flight = min(most, max(flight // 2, MOST_RUNS) if full else flight + MOST_RUNS)
+        rounds += 1
+        micros += wait
+        fails = False
+        while receiver.written < receiver.next and not fails:
+            fails = writes == row.write[1]
+            writes += 1
+            if not fails:
+                count = min(receiver.next - receiver.written, row.write[0] or LAST)
+                receiver.written += count
+                written += count
+        if fails:
+            end = "write failed"
+            break
+        moved = receiver.written > before or sender.base > base
+        stuck = 0 if moved else stuck + 1
+        wait = SHORTEST if moved else min(2 * wait, LONGEST)
+    both = lambda name: getattr(there, name) + getattr(back, name)
+    counts = [taken, written, rounds, micros, both("sent"), carried, both("lost"), both("repeated"), both("came_late")]
+    return end, reads, counts + [receiver.refused]
+
+
+# The fates of one direction: a list, and the rates behind it.
+WAYS = {
+    "ALL": ([], PERFECT),
+    "NONE": ([], GONE),
+    "SOME": ([], MIXED),
+    "FIRST_LOST": ([L], PERFECT),
+    "SECOND_LOST": ([D, L, D], PERFECT),
+    "FIRST_AND_THIRD_LOST": ([L, D, L], PERFECT),
+    "FOUR_LOST": ([L] * 4, PERFECT),
+    "NINE_LOST": ([L] * 9, PERFECT),
+    "THIRTY_LOST": ([L] * 30, PERFECT),
+    "FIRST_LATE": ([T], PERFECT),
+    "LATE_AND_REPEATED": ([T, D, R], PERFECT),
+    "THREE_LATE_THEN_NONE": ([T, T, T], GONE),
+    "FOUR_LATE_THEN_NONE": ([T] * 4, GONE),
+    "REPEATED_THEN_NONE": ([R, L, L, L], GONE),
+    "SECOND_THEN_NONE": ([L, D], GONE),
+    "EACH_SECOND": ([L, D] * 40, PERFECT),
+    "EACH_SECOND_THEN_NONE": ([L, D] * 40, GONE),
+}
+Row = collections.namedtuple("Row", "about there back length first capacity payload flight rounds read write")
+PLAIN = Row("", "ALL", "ALL", 6, 0, 16, 2, 4096, 100, (None, None), (None, None))
+
+
+def rows():
+    row = lambda about="", **change: PLAIN._replace(about=about, **change)
+    eighty = dict(length=80, capacity=4096, payload=1)
+    # Frames that fail.
+    yield row("Three frames, an acknowledgement for each and one more.")
+    yield row("The second frame is lost, and it alone is sent again: the third was reported.", there="SECOND_LOST")
+    yield row("The first and the third are lost, and both are sent again.", there="FIRST_AND_THIRD_LOST")
+    yield row("One is late, and one comes twice.", there="LATE_AND_REPEATED")
+    yield row("All are late, and none that is sent after them comes: the late ones do.", there="THREE_LATE_THEN_NONE")
+    yield row("One comes twice, and none after it.", there="REPEATED_THEN_NONE")
+    yield row("Nothing comes.", there="NONE")
+    yield row(there="NONE", rounds=3)
+    yield row("A held run that was reported brings nothing on.", there="SECOND_THEN_NONE", rounds=5)
+    yield row("Of eighty frames each second is lost, and eight segments are refused; then nothing comes.",
+              there="EACH_SECOND_THEN_NONE", rounds=3, **eighty)
+    yield row("Waits double, and begin anew.", there="NINE_LOST")
+    yield row("They are a second at most.", there="THIRTY_LOST")
+    yield row("Each second one is lost: 32 runs are held and reported, and eight segments are refused.",
+              there="EACH_SECOND", **eighty)
+    yield row("It gives up after 101 rounds that brought nothing on.", there="NONE", rounds=101)
+    # Acknowledgements that fail.
+    yield row("All was written, and the reader has no more: no acknowledgement is waited for.", back="FOUR_LOST")
+    yield row(back="NONE")
+    yield row("The sender's queue is full, and the reader isn't asked.", back="NONE", capacity=6, rounds=5)
+    yield row("Late acknowledgements come in the next round, and a repeated one comes at once.",
+              back="FOUR_LATE_THEN_NONE", capacity=6, rounds=5)
+    yield row(back="REPEATED_THEN_NONE", capacity=6, rounds=5)
+    yield row("What is written brings a copy on, and so does what is let go.",
+              back="FOUR_LOST", length=8, capacity=6, rounds=1)
+    # Sizes and rates.
+    for capacity in (1, 7, 4096):
+        yield row(length=60, capacity=capacity, payload=5)
+    yield row(payload=0)
+    yield row(there="SOME", back="SOME", length=60, capacity=4096, payload=5)
+    yield row("Two frames a round, and one.", length=10, flight=2)
+    yield row(flight=0)
+    yield row("Three bytes a read.", length=10, read=(3, None))
+    yield row(there="FIRST_LOST", length=10, read=(3, None))
+    yield row("Nothing to copy takes no round, and so it is with no round allowed.", length=0)
+    yield row(length=0, rounds=0)
+    yield row(rounds=0)
+    yield row("No byte has room.", capacity=0)
+    yield row("Ten positions are left; the end isn't looked for once they are used up.", length=9, first=LAST - 10)
+    yield row(length=11, first=LAST - 10)
+    # Sizes that links are used at.
+    yield row(length=100_000, capacity=65_536, payload=1400)
+    yield row("One frame, late, and so is its acknowledgement.",
+              there="FIRST_LATE", back="FIRST_LATE", length=100_000, capacity=262_144, payload=100_000)
+    yield row("Frames of 65,536 bytes.", length=300_000, capacity=262_144, payload=65_528)
+    yield row("The receiver has room for as many bytes as the sender.", length=300_000, capacity=300_000, payload=65_528)
+    yield row("4,096 bytes a read, and the first frame is lost.",
+              there="FIRST_LOST", length=16_384, capacity=16_384, payload=1_000, read=(4_096, None))
+    yield row("Two thousand rounds.", length=2000, capacity=1)
+    # Reads and writes that fail: none is tried again.
+    six = dict(capacity=4096, payload=1)
+    for call in (0, 1, 2):
+        yield row(read=(3, call), write=(2, None), **six)
+    for call in (0, 1, 3, None):
+        yield row(read=(3, None), write=(2, call), **six)
+    yield row("A read fails while bytes are on their way.", there="SECOND_LOST", read=(None, 1), capacity=7)
+    yield row(there="EACH_SECOND", read=(None, 1), write=(40, None), **eighty)
+    for call in (1, 2):
+        yield row(there="EACH_SECOND", write=(40, call), **eighty)
+    yield row("Of a write of 5,000 bytes 4,500 are taken.", length=5_000, capacity=8_192, payload=5_000, write=(4_500, 1))
+
+
+def number(value):
+    return "NEVER" if value is None else f"{value:_}" if value < 2**63 else f"u64::MAX - {LAST - value}"
+
+
+def case(row):
+    """A row, in Rust."""
+    end, reads, counts = predicted(row)
+    config = ", ".join(map(number, (row.length, row.first, row.capacity, row.payload, row.flight, row.rounds)))
+    calls = row.read + row.write
+    calls = "TO_THE_END" if calls == (None,) * 4 else f"({', '.join(map(number, calls))})"
+    about = f"    // {row.about}\n" if row.about else ""
+    parts = [row.there, row.back, f"({config})", calls, f'("{end}", {reads})', f"[{', '.join(map(number, counts))}]"]
+    line = f"    Case({', '.join(parts)}),"
+    return about + (line if len(line) <= 100 else "    Case(\n" + "".join(f"        {it},\n" for it in parts) + "    ),")
+
+
+def main():
+    cases = [case(row) for row in rows()]
+    print("//! The rows that compare/copy_model.py writes.\n")
+    ways = ",\n    ".join(sorted(WAYS))
+    print("use crate::counted::ways::{\n    " + ways + ",\n};")
+    print("use crate::counted::{Case, TO_THE_END};\nuse net_testing::NEVER;\n")
+    print(f"/// Copies, and what is counted of each.\npub static CASES: [Case; {len(cases)}] = [")
+    print("\n".join(cases) + "\n];")
+
+
+if __name__ == "__main__":
+    sys.exit(main())

@@ -1,2 +1,0 @@
--- How a run ends once its writer was flushed.
-pub mod Flushed

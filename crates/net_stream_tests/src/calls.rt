@@ -1,0 +1,176 @@
+//! The calls of `net_stream` that take many values, and what lies in a link: tests reach them through
+//! these functions alone.
+
+use net_base::phy::RxToken;
+use net_base::time::Instant;
+use net_storage::ManagedSlice;
+use net_stream::{Config, Counts, Fate, Fates, Link, LinkError, Rates, copy, copy_over};
+use std::alloc::{AllocError, Allocator};
+use std::io::{Read, Write};
+
+/// A link that loses, repeats and delays nothing.
+pub const PERFECT: Rates = Rates {
+    lost: 0,
+    repeated: 0,
+    late: 0,
+};
+
+/// A link that loses everything.
+pub const GONE: Rates = Rates {
+    lost: 100,
+    repeated: 0,
+    late: 0,
+};
+
+/// A link over which everything is late.
+pub const DELAYED: Rates = Rates {
+    lost: 0,
+    repeated: 0,
+    late: 100,
+};
+
+/// What becomes of the frames of one direction: the fates of a list, and behind it those that a generator
+/// of this seed draws at these rates.
+#[derive(Clone, Copy, Drop)]
+pub struct Way {
+    pub listed: &'static [Fate],
+    pub seed: u64,
+    pub rates: Rates,
+}
+
+/// A copy: the fates of its frames and of its acknowledgements, and its config.
+#[derive(Clone, Copy, Drop)]
+pub struct Setup {
+    pub there: Way,
+    pub back: Way,
+    pub config: Config,
+}
+
+/// The moment at which everything is sent.
+pub fn start() -> Instant {
+    Instant::from_micros(0)
+}
+
+/// The fates of one direction.
+fn fates(way: &Way) -> Fates<'static> {
+    Fates::new(way.listed, way.seed, way.rates)
+}
+
+/// The name of how a copy ended.
+fn ending(ended: Result<(), LinkError>) -> &'static str {
+    match ended {
+        Ok(()) => "Ok",
+        Err(LinkError::GaveUp) => "gave up",
+        Err(LinkError::OutOfMemory) => "out of memory",
+        Err(LinkError::ReadFailed) => "read failed",
+        Err(LinkError::WriteFailed) => "write failed",
+    }
+}
+
+/// Copies, and returns the name of how it ended.
+pub fn copy_by<A: Allocator + Copy, R: Read, W: Write>(
+    alloc: A,
+    setup: &Setup,
+    reader: &mut R,
+    writer: &mut W,
+    counts: &mut Counts,
+) -> &'static str {
+    ending(copy(
+        alloc,
+        setup.config,
+        fates(&setup.there),
+        fates(&setup.back),
+        reader,
+        writer,
+        counts,
+    ))
+}
+
+/// Copies over storage of the sender, of the receiver and of a round, and returns the name of how it
+/// ended.
+pub fn copy_over_by<A: Allocator + Copy, R: Read, W: Write>(
+    alloc: A,
+    setup: &Setup,
+    outgoing: &mut [u8],
+    incoming: &mut [u8],
+    chunk: &mut [u8],
+    reader: &mut R,
+    writer: &mut W,
+    counts: &mut Counts,
+) -> &'static str {
+    ending(copy_over(
+        alloc,
+        setup.config,
+        fates(&setup.there),
+        fates(&setup.back),
+        outgoing,
+        incoming,
+        chunk,
+        reader,
+        writer,
+        counts,
+    ))
+}
+
+/// A link over storage of the sender and of the receiver. Of the config it takes the first position, the
+/// payload and the flight.
+pub fn link_by<'a, A: Allocator + Copy>(
+    alloc: A,
+    setup: &Setup,
+    to_send: ManagedSlice<'a, u8>,
+    to_receive: ManagedSlice<'a, u8>,
+) -> Link<'a, 'static, A> {
+    Link::new(
+        alloc,
+        setup.config.first,
+        setup.config.payload,
+        setup.config.flight,
+        to_send,
+        to_receive,
+        fates(&setup.there),
+        fates(&setup.back),
+    )
+}
+
+/// The next frame on its way to the receiver, which is taken.
+pub fn next_frame<A: Allocator + Copy>(
+    link: &mut Link<'_, '_, A>,
+) -> Option<net_base::phy::loopback::RxToken<A>> {
+    link.there.take(start())
+}
+
+/// The next late frame to the receiver, which is taken.
+pub fn next_late_frame<A: Allocator + Copy>(
+    link: &mut Link<'_, '_, A>,
+) -> Option<net_base::phy::loopback::RxToken<A>> {
+    link.there.take_late(start())
+}
+
+/// Whether the next late acknowledgement, which is taken, is of these bytes.
+pub fn is_next_late_ack<A: Allocator + Copy>(link: &mut Link<'_, '_, A>, bytes: &[u8]) -> bool {
+    match link.back.take_late(start()) {
+        Some(token) => token.frame() == bytes,
+        None => false,
+    }
+}
+
+/// Whether no acknowledgement is late.
+pub fn has_no_late_ack<A: Allocator + Copy>(link: &mut Link<'_, '_, A>) -> bool {
+    matches!(link.back.take_late(start()), None)
+}
+
+/// Puts a late frame to the receiver.
+pub fn put_late_frame<A: Allocator + Copy>(
+    link: &mut Link<'_, '_, A>,
+    frame: &[u8],
+) -> Result<(), AllocError> {
+    link.there.put_late(start(), frame)
+}
+
+/// Puts a late acknowledgement.
+pub fn put_late_ack<A: Allocator + Copy>(
+    link: &mut Link<'_, '_, A>,
+    frame: &[u8],
+) -> Result<(), AllocError> {
+    link.back.put_late(start(), frame)
+}

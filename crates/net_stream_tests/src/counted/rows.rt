@@ -1,0 +1,466 @@
+//! The rows that compare/copy_model.py writes.
+
+use crate::counted::ways::{
+    ALL, EACH_SECOND, EACH_SECOND_THEN_NONE, FIRST_AND_THIRD_LOST, FIRST_LATE, FIRST_LOST,
+    FOUR_LATE_THEN_NONE, FOUR_LOST, LATE_AND_REPEATED, NINE_LOST, NONE, REPEATED_THEN_NONE,
+    SECOND_LOST, SECOND_THEN_NONE, SOME, THIRTY_LOST, THREE_LATE_THEN_NONE,
+};
+use crate::counted::{Case, TO_THE_END};
+use net_testing::NEVER;
+
+/// Copies, and what is counted of each.
+pub static CASES: [Case; 53] = [
+    // Three frames, an acknowledgement for each and one more.
+    Case(
+        ALL,
+        ALL,
+        (6, 0, 16, 2, 4_096, 100),
+        TO_THE_END,
+        ("Ok", 2),
+        [6, 6, 1, 10_000, 7, 6, 0, 0, 0, 0],
+    ),
+    // The second frame is lost, and it alone is sent again: the third was reported.
+    Case(
+        SECOND_LOST,
+        ALL,
+        (6, 0, 16, 2, 4_096, 100),
+        TO_THE_END,
+        ("Ok", 2),
+        [6, 6, 2, 20_000, 9, 8, 1, 0, 0, 0],
+    ),
+    // The first and the third are lost, and both are sent again.
+    Case(
+        FIRST_AND_THIRD_LOST,
+        ALL,
+        (6, 0, 16, 2, 4_096, 100),
+        TO_THE_END,
+        ("Ok", 2),
+        [6, 6, 2, 30_000, 10, 10, 2, 0, 0, 0],
+    ),
+    // One is late, and one comes twice.
+    Case(
+        LATE_AND_REPEATED,
+        ALL,
+        (6, 0, 16, 2, 4_096, 100),
+        TO_THE_END,
+        ("Ok", 2),
+        [6, 6, 2, 30_000, 11, 8, 0, 1, 1, 0],
+    ),
+    // All are late, and none that is sent after them comes: the late ones do.
+    Case(
+        THREE_LATE_THEN_NONE,
+        ALL,
+        (6, 0, 16, 2, 4_096, 100),
+        TO_THE_END,
+        ("Ok", 2),
+        [6, 6, 2, 30_000, 11, 12, 3, 0, 3, 0],
+    ),
+    // One comes twice, and none after it.
+    Case(
+        REPEATED_THEN_NONE,
+        ALL,
+        (6, 0, 16, 2, 4_096, 100),
+        TO_THE_END,
+        ("gave up", 1),
+        [6, 2, 101, 94_280_000, 306, 406, 202, 1, 0, 0],
+    ),
+    // Nothing comes.
+    Case(
+        NONE,
+        ALL,
+        (6, 0, 16, 2, 4_096, 100),
+        TO_THE_END,
+        ("gave up", 1),
+        [6, 0, 100, 94_270_000, 400, 600, 300, 0, 0, 0],
+    ),
+    Case(
+        NONE,
+        ALL,
+        (6, 0, 16, 2, 4_096, 3),
+        TO_THE_END,
+        ("gave up", 1),
+        [6, 0, 3, 70_000, 12, 18, 9, 0, 0, 0],
+    ),
+    // A held run that was reported brings nothing on.
+    Case(
+        SECOND_THEN_NONE,
+        ALL,
+        (6, 0, 16, 2, 4_096, 5),
+        TO_THE_END,
+        ("gave up", 1),
+        [6, 0, 5, 310_000, 17, 22, 10, 0, 0, 0],
+    ),
+    // Of eighty frames each second is lost, and eight segments are refused; then nothing comes.
+    Case(
+        EACH_SECOND_THEN_NONE,
+        ALL,
+        (80, 0, 4_096, 1, 4_096, 3),
+        TO_THE_END,
+        ("gave up", 1),
+        [80, 0, 3, 70_000, 189, 146, 106, 0, 0, 8],
+    ),
+    // Waits double, and begin anew.
+    Case(
+        NINE_LOST,
+        ALL,
+        (6, 0, 16, 2, 4_096, 100),
+        TO_THE_END,
+        ("Ok", 2),
+        [6, 6, 4, 150_000, 19, 24, 9, 0, 0, 0],
+    ),
+    // They are a second at most.
+    Case(
+        THIRTY_LOST,
+        ALL,
+        (6, 0, 16, 2, 4_096, 100),
+        TO_THE_END,
+        ("Ok", 2),
+        [6, 6, 11, 5_270_000, 47, 66, 30, 0, 0, 0],
+    ),
+    // Each second one is lost: 32 runs are held and reported, and eight segments are refused.
+    Case(
+        EACH_SECOND,
+        ALL,
+        (80, 0, 4_096, 1, 4_096, 100),
+        TO_THE_END,
+        ("Ok", 2),
+        [80, 80, 3, 40_000, 219, 128, 40, 0, 0, 8],
+    ),
+    // It gives up after 101 rounds that brought nothing on.
+    Case(
+        NONE,
+        ALL,
+        (6, 0, 16, 2, 4_096, 101),
+        TO_THE_END,
+        ("gave up", 1),
+        [6, 0, 101, 95_270_000, 404, 606, 303, 0, 0, 0],
+    ),
+    // All was written, and the reader has no more: no acknowledgement is waited for.
+    Case(
+        ALL,
+        FOUR_LOST,
+        (6, 0, 16, 2, 4_096, 100),
+        TO_THE_END,
+        ("Ok", 2),
+        [6, 6, 1, 10_000, 7, 6, 4, 0, 0, 0],
+    ),
+    Case(
+        ALL,
+        NONE,
+        (6, 0, 16, 2, 4_096, 100),
+        TO_THE_END,
+        ("Ok", 2),
+        [6, 6, 1, 10_000, 7, 6, 4, 0, 0, 0],
+    ),
+    // The sender's queue is full, and the reader isn't asked.
+    Case(
+        ALL,
+        NONE,
+        (6, 0, 6, 2, 4_096, 5),
+        TO_THE_END,
+        ("gave up", 1),
+        [6, 6, 6, 320_000, 42, 36, 24, 0, 0, 0],
+    ),
+    // Late acknowledgements come in the next round, and a repeated one comes at once.
+    Case(
+        ALL,
+        FOUR_LATE_THEN_NONE,
+        (6, 0, 6, 2, 4_096, 5),
+        TO_THE_END,
+        ("Ok", 2),
+        [6, 6, 2, 20_000, 14, 12, 4, 0, 4, 0],
+    ),
+    Case(
+        ALL,
+        REPEATED_THEN_NONE,
+        (6, 0, 6, 2, 4_096, 5),
+        TO_THE_END,
+        ("Ok", 2),
+        [6, 6, 1, 10_000, 7, 6, 3, 1, 0, 0],
+    ),
+    // What is written brings a copy on, and so does what is let go.
+    Case(
+        ALL,
+        FOUR_LOST,
+        (8, 0, 6, 2, 4_096, 1),
+        TO_THE_END,
+        ("Ok", 3),
+        [8, 8, 3, 30_000, 17, 14, 4, 0, 0, 0],
+    ),
+    Case(
+        ALL,
+        ALL,
+        (60, 0, 1, 5, 4_096, 100),
+        TO_THE_END,
+        ("Ok", 61),
+        [60, 60, 60, 600_000, 180, 60, 0, 0, 0, 0],
+    ),
+    Case(
+        ALL,
+        ALL,
+        (60, 0, 7, 5, 4_096, 100),
+        TO_THE_END,
+        ("Ok", 10),
+        [60, 60, 9, 90_000, 43, 60, 0, 0, 0, 0],
+    ),
+    Case(
+        ALL,
+        ALL,
+        (60, 0, 4_096, 5, 4_096, 100),
+        TO_THE_END,
+        ("Ok", 2),
+        [60, 60, 1, 10_000, 25, 60, 0, 0, 0, 0],
+    ),
+    Case(
+        ALL,
+        ALL,
+        (6, 0, 16, 0, 4_096, 100),
+        TO_THE_END,
+        ("Ok", 2),
+        [6, 6, 1, 10_000, 13, 6, 0, 0, 0, 0],
+    ),
+    Case(
+        SOME,
+        SOME,
+        (60, 0, 4_096, 5, 4_096, 100),
+        TO_THE_END,
+        ("Ok", 2),
+        [60, 60, 3, 70_000, 35, 80, 6, 7, 7, 0],
+    ),
+    // Two frames a round, and one.
+    Case(
+        ALL,
+        ALL,
+        (10, 0, 16, 2, 2, 100),
+        TO_THE_END,
+        ("Ok", 2),
+        [10, 10, 3, 30_000, 13, 10, 0, 0, 0, 0],
+    ),
+    Case(
+        ALL,
+        ALL,
+        (6, 0, 16, 2, 0, 100),
+        TO_THE_END,
+        ("Ok", 2),
+        [6, 6, 3, 30_000, 9, 6, 0, 0, 0, 0],
+    ),
+    // Three bytes a read.
+    Case(
+        ALL,
+        ALL,
+        (10, 0, 16, 2, 4_096, 100),
+        (3, NEVER, NEVER, NEVER),
+        ("Ok", 5),
+        [10, 10, 4, 40_000, 18, 10, 0, 0, 0, 0],
+    ),
+    Case(
+        FIRST_LOST,
+        ALL,
+        (10, 0, 16, 2, 4_096, 100),
+        (3, NEVER, NEVER, NEVER),
+        ("Ok", 5),
+        [10, 10, 5, 60_000, 20, 12, 1, 0, 0, 0],
+    ),
+    // Nothing to copy takes no round, and so it is with no round allowed.
+    Case(
+        ALL,
+        ALL,
+        (0, 0, 16, 2, 4_096, 100),
+        TO_THE_END,
+        ("Ok", 1),
+        [0, 0, 0, 0, 0, 0, 0, 0, 0, 0],
+    ),
+    Case(
+        ALL,
+        ALL,
+        (0, 0, 16, 2, 4_096, 0),
+        TO_THE_END,
+        ("Ok", 1),
+        [0, 0, 0, 0, 0, 0, 0, 0, 0, 0],
+    ),
+    Case(
+        ALL,
+        ALL,
+        (6, 0, 16, 2, 4_096, 0),
+        TO_THE_END,
+        ("gave up", 1),
+        [6, 0, 0, 0, 0, 0, 0, 0, 0, 0],
+    ),
+    // No byte has room.
+    Case(
+        ALL,
+        ALL,
+        (6, 0, 0, 2, 4_096, 100),
+        TO_THE_END,
+        ("gave up", 0),
+        [0, 0, 100, 94_270_000, 100, 0, 0, 0, 0, 0],
+    ),
+    // Ten positions are left; the end isn't looked for once they are used up.
+    Case(
+        ALL,
+        ALL,
+        (9, u64::MAX - 10, 16, 2, 4_096, 100),
+        TO_THE_END,
+        ("Ok", 2),
+        [9, 9, 1, 10_000, 11, 9, 0, 0, 0, 0],
+    ),
+    Case(
+        ALL,
+        ALL,
+        (11, u64::MAX - 10, 16, 2, 4_096, 100),
+        TO_THE_END,
+        ("gave up", 1),
+        [10, 10, 101, 94_280_000, 111, 10, 0, 0, 0, 0],
+    ),
+    Case(
+        ALL,
+        ALL,
+        (100_000, 0, 65_536, 1_400, 4_096, 100),
+        TO_THE_END,
+        ("Ok", 3),
+        [100_000, 100_000, 2, 20_000, 146, 100_000, 0, 0, 0, 0],
+    ),
+    // One frame, late, and so is its acknowledgement.
+    Case(
+        FIRST_LATE,
+        FIRST_LATE,
+        (100_000, 0, 262_144, 100_000, 4_096, 100),
+        TO_THE_END,
+        ("Ok", 2),
+        [100_000, 100_000, 2, 30_000, 6, 200_000, 0, 0, 2, 0],
+    ),
+    // Frames of 65,536 bytes.
+    Case(
+        ALL,
+        ALL,
+        (300_000, 0, 262_144, 65_528, 4_096, 100),
+        TO_THE_END,
+        ("Ok", 3),
+        [300_000, 300_000, 2, 20_000, 14, 300_000, 0, 0, 0, 0],
+    ),
+    // The receiver has room for as many bytes as the sender.
+    Case(
+        ALL,
+        ALL,
+        (300_000, 0, 300_000, 65_528, 4_096, 100),
+        TO_THE_END,
+        ("Ok", 2),
+        [300_000, 300_000, 1, 10_000, 11, 300_000, 0, 0, 0, 0],
+    ),
+    // 4,096 bytes a read, and the first frame is lost.
+    Case(
+        FIRST_LOST,
+        ALL,
+        (16_384, 0, 16_384, 1_000, 4_096, 100),
+        (4_096, NEVER, NEVER, NEVER),
+        ("Ok", 5),
+        [16_384, 16_384, 5, 60_000, 46, 17_384, 1, 0, 0, 0],
+    ),
+    // Two thousand rounds.
+    Case(
+        ALL,
+        ALL,
+        (2_000, 0, 1, 2, 4_096, 100),
+        TO_THE_END,
+        ("Ok", 2001),
+        [2_000, 2_000, 2_000, 20_000_000, 6_000, 2_000, 0, 0, 0, 0],
+    ),
+    Case(
+        ALL,
+        ALL,
+        (6, 0, 4_096, 1, 4_096, 100),
+        (3, 0, 2, NEVER),
+        ("read failed", 1),
+        [0, 0, 0, 0, 0, 0, 0, 0, 0, 0],
+    ),
+    Case(
+        ALL,
+        ALL,
+        (6, 0, 4_096, 1, 4_096, 100),
+        (3, 1, 2, NEVER),
+        ("read failed", 2),
+        [3, 3, 1, 10_000, 7, 3, 0, 0, 0, 0],
+    ),
+    Case(
+        ALL,
+        ALL,
+        (6, 0, 4_096, 1, 4_096, 100),
+        (3, 2, 2, NEVER),
+        ("read failed", 3),
+        [6, 6, 2, 20_000, 14, 6, 0, 0, 0, 0],
+    ),
+    Case(
+        ALL,
+        ALL,
+        (6, 0, 4_096, 1, 4_096, 100),
+        (3, NEVER, 2, 0),
+        ("write failed", 1),
+        [3, 0, 1, 10_000, 7, 3, 0, 0, 0, 0],
+    ),
+    Case(
+        ALL,
+        ALL,
+        (6, 0, 4_096, 1, 4_096, 100),
+        (3, NEVER, 2, 1),
+        ("write failed", 1),
+        [3, 2, 1, 10_000, 7, 3, 0, 0, 0, 0],
+    ),
+    Case(
+        ALL,
+        ALL,
+        (6, 0, 4_096, 1, 4_096, 100),
+        (3, NEVER, 2, 3),
+        ("write failed", 2),
+        [6, 5, 2, 20_000, 14, 6, 0, 0, 0, 0],
+    ),
+    Case(
+        ALL,
+        ALL,
+        (6, 0, 4_096, 1, 4_096, 100),
+        (3, NEVER, 2, NEVER),
+        ("Ok", 3),
+        [6, 6, 2, 20_000, 14, 6, 0, 0, 0, 0],
+    ),
+    // A read fails while bytes are on their way.
+    Case(
+        SECOND_LOST,
+        ALL,
+        (6, 0, 7, 2, 4_096, 100),
+        (NEVER, 1, NEVER, NEVER),
+        ("read failed", 2),
+        [6, 6, 2, 20_000, 9, 8, 1, 0, 0, 0],
+    ),
+    Case(
+        EACH_SECOND,
+        ALL,
+        (80, 0, 4_096, 1, 4_096, 100),
+        (NEVER, 1, 40, NEVER),
+        ("read failed", 2),
+        [80, 80, 3, 40_000, 219, 128, 40, 0, 0, 8],
+    ),
+    Case(
+        EACH_SECOND,
+        ALL,
+        (80, 0, 4_096, 1, 4_096, 100),
+        (NEVER, NEVER, 40, 1),
+        ("write failed", 1),
+        [80, 40, 2, 30_000, 188, 113, 40, 0, 0, 8],
+    ),
+    Case(
+        EACH_SECOND,
+        ALL,
+        (80, 0, 4_096, 1, 4_096, 100),
+        (NEVER, NEVER, 40, 2),
+        ("write failed", 1),
+        [80, 65, 3, 40_000, 219, 128, 40, 0, 0, 8],
+    ),
+    // Of a write of 5,000 bytes 4,500 are taken.
+    Case(
+        ALL,
+        ALL,
+        (5_000, 0, 8_192, 5_000, 4_096, 100),
+        (NEVER, NEVER, 4_500, 1),
+        ("write failed", 1),
+        [5_000, 4_500, 1, 10_000, 3, 5_000, 0, 0, 0, 0],
+    ),
+];

@@ -1,0 +1,250 @@
+//! Frames and their fates, at known bytes.
+
+use crate::assertions::assert_holds;
+use crate::calls::{PERFECT, start};
+use crate::counted::pattern;
+use net_base::phy::{Device, Loopback, Medium, RxToken};
+use net_stream::{Counts, Fate, Fates, FrameCounts, Path, Rates, decode, send_again, send_frame};
+use net_testing::{Refusing, refuse_each};
+use std::alloc::{AllocError, Allocator, Global};
+
+/// Whether the next frame, which is taken, is of these bytes.
+fn gives<A: Allocator + Copy>(device: &mut Loopback<A>, bytes: &[u8]) -> bool {
+    match device.receive(start()) {
+        Some((token, _reply)) => token.frame() == bytes,
+        None => false,
+    }
+}
+
+/// Whether there is no frame.
+fn gives_none<A: Allocator + Copy>(device: &mut Loopback<A>) -> bool {
+    device.receive(start()).is_none()
+}
+
+/// Takes the next frame, and sends it again.
+fn sends_again<A: Allocator + Copy>(device: &mut Loopback<A>) -> bool {
+    match device.receive(start()) {
+        Some((token, _reply)) => send_again(device, start(), token.frame()).is_ok(),
+        None => false,
+    }
+}
+
+#[test]
+fn a_frame_is_its_position_and_its_payload(rt: HostRuntime) {
+    let mut device = Loopback::new(rt.alloc(), Medium::Ip);
+    let is_sent = send_frame(&mut device, start(), 0x0102_0304_0506_0708, &[9, 10]).is_ok()
+        && send_frame(&mut device, start(), u64::MAX, &[]).is_ok();
+    assert_holds(&rt, is_sent && sends_again(&mut device), 0);
+    assert_holds(&rt, gives(&mut device, &[255; 8]), 1);
+    assert_holds(&rt, gives(&mut device, &[1, 2, 3, 4, 5, 6, 7, 8, 9, 10]), 2);
+    assert_holds(&rt, gives_none(&mut device), 3);
+}
+
+/// The longest frame, of 65,536 bytes, has so many bytes of payload.
+const LONG: usize = 65_528;
+
+/// Whether a frame of position 256 and this payload comes, is sent again, and comes once more.
+fn is_sent_twice(alloc: Global, payload: &[u8], frame: &[u8]) -> bool {
+    let mut device = Loopback::new(alloc, Medium::Ip);
+    send_frame(&mut device, start(), 256, payload).is_ok()
+        && sends_again(&mut device)
+        && gives(&mut device, frame)
+}
+
+#[test]
+fn long_frames_are_sent_and_sent_again(rt: HostRuntime) -> Result<(), AllocError> {
+    let payload = pattern(rt.alloc(), LONG)?;
+    let mut frame = Vec::from_slice(rt.alloc(), &[0, 0, 0, 0, 0, 0, 1, 0])?;
+    frame.extend_from_slice(&payload)?;
+    assert_holds(&rt, is_sent_twice(rt.alloc(), &payload, &frame), 0);
+    Ok(())
+}
+
+/// Sends a frame, or these bytes again, in this memory; where it is refused no frame is there. Returns
+/// whether it was sent, and whether it is there exactly then.
+fn is_there_once_sent(memory: &Refusing, is_again: bool) -> (bool, bool) {
+    let mut device = Loopback::new(memory, Medium::Ip);
+    let is_sent = if is_again {
+        send_again(&mut device, start(), &[1, 2]).is_ok()
+    } else {
+        send_frame(&mut device, start(), 3, &[1]).is_ok()
+    };
+    (is_sent, gives_none(&mut device) != is_sent)
+}
+
+/// One request is for room in the queue, the other for the bytes.
+#[test]
+fn refused_memory_sends_no_frame(rt: HostRuntime) {
+    for is_again in [false, true] {
+        let mut is_always_there = true;
+        let requests = refuse_each(rt.alloc(), |memory| {
+            let (is_sent, is_there) = is_there_once_sent(memory, is_again);
+            is_always_there = is_always_there && is_there;
+            is_sent
+        });
+        assert_holds(&rt, is_always_there && requests == Some(2), 0);
+    }
+}
+
+/// Bytes, and the position and the length of the payload that they decode to, if they do.
+const DECODED: [(&[u8], Option<(u64, usize)>); 4] = [
+    (&[0, 0, 0, 0, 0, 0, 1], None),
+    (&[0, 0, 0, 0, 0, 0, 1, 2], Some((258, 0))),
+    (&[128, 0, 0, 0, 0, 0, 0, 0, 7, 8], Some((1 << 63, 2))),
+    (
+        &[255, 255, 255, 255, 255, 255, 255, 255, 9],
+        Some((u64::MAX, 1)),
+    ),
+];
+
+/// Whether bytes decode so, and the payload is what lies behind the position.
+fn decodes_so((bytes, wanted): &(&[u8], Option<(u64, usize)>)) -> bool {
+    match (decode(bytes), wanted) {
+        (Some((pos, payload)), Some((wanted, len))) => {
+            pos == *wanted && payload.len() == *len && bytes.ends_with(payload)
+        }
+        (None, None) => true,
+        _ => false,
+    }
+}
+
+#[test]
+fn eight_bytes_are_a_position(rt: HostRuntime) {
+    for i in 0..DECODED.len() {
+        assert_holds(&rt, decodes_so(&DECODED[i]), i);
+    }
+}
+
+/// The last two digits, the two before them, and the two before those decide the fate of a word.
+const WORDS: [(u32, Fate); 10] = [
+    (0, Fate::Lost),
+    (9, Fate::Lost),
+    (300_009, Fate::Lost),
+    (10, Fate::Repeated),
+    (1_910, Fate::Repeated),
+    (2_010, Fate::Late),
+    (292_010, Fate::Late),
+    (302_010, Fate::Delivered),
+    (1_292_099, Fate::Late),
+    (u32::MAX, Fate::Delivered),
+];
+
+const TEN_TWENTY_THIRTY: Rates = Rates {
+    lost: 10,
+    repeated: 20,
+    late: 30,
+};
+
+/// A fate, whether it comes at once, and whether it comes late.
+const COMINGS: [(Fate, bool, bool); 4] = [
+    (Fate::Delivered, true, false),
+    (Fate::Lost, false, false),
+    (Fate::Repeated, true, true),
+    (Fate::Late, false, true),
+];
+
+#[test]
+fn pairs_of_digits_decide_a_fate(rt: HostRuntime) {
+    for i in 0..WORDS.len() {
+        let (word, fate) = WORDS[i];
+        assert_holds(&rt, Fate::of_word(word, TEN_TWENTY_THIRTY) == fate, i);
+    }
+    for i in 0..COMINGS.len() {
+        let (fate, at_once, late) = COMINGS[i];
+        assert_holds(&rt, fate.comes() == at_once && fate.comes_late() == late, i);
+    }
+}
+
+/// The fates of a list, and then those of the random words 4064760752, 2284120977, 3992114710,
+/// 2692415085, 700514163 and 2995075556, as a second program finds them from state 7 on.
+const DRAWN: [Fate; 8] = [
+    Fate::Late,
+    Fate::Delivered,
+    Fate::Repeated,
+    Fate::Repeated,
+    Fate::Lost,
+    Fate::Delivered,
+    Fate::Delivered,
+    Fate::Late,
+];
+
+const EACH_QUARTER: Rates = Rates {
+    lost: 25,
+    repeated: 25,
+    late: 25,
+};
+
+#[test]
+fn fates_are_listed_and_then_drawn(rt: HostRuntime) {
+    let mut fates = Fates::new(&[Fate::Late, Fate::Delivered], 7, EACH_QUARTER);
+    for i in 0..DRAWN.len() {
+        assert_holds(&rt, fates.draw() == DRAWN[i], i);
+    }
+}
+
+/// Whether the next frame on its way, which is taken, is of these bytes.
+fn takes(path: &mut Path<'_, Global>, bytes: &[u8]) -> bool {
+    match path.take(start()) {
+        Some(token) => token.frame() == bytes,
+        None => false,
+    }
+}
+
+/// Whether the next late frame, which is taken, is of these bytes.
+fn takes_late(path: &mut Path<'_, Global>, bytes: &[u8]) -> bool {
+    match path.take_late(start()) {
+        Some(token) => token.frame() == bytes,
+        None => false,
+    }
+}
+
+/// Whether two frames are sent and two are put among the late ones.
+fn puts_four(path: &mut Path<'_, Global>, late: &[u8]) -> bool {
+    path.send(start(), 1, b"ab").is_ok()
+        && path.put_late(start(), late).is_ok()
+        && path.put_late(start(), b"z").is_ok()
+        && path.send(start(), 258, b"").is_ok()
+}
+
+/// Whether four frames are put, and taken in turns of the two lists.
+fn keeps_apart(path: &mut Path<'_, Global>, late: &[u8]) -> bool {
+    puts_four(path, late)
+        && takes_late(path, late)
+        && takes(path, &[0, 0, 0, 0, 0, 0, 0, 1, 97, 98])
+        && takes(path, &[0, 0, 0, 0, 0, 0, 1, 2])
+        && takes_late(path, b"z")
+        && path.take(start()).is_none()
+        && path.take_late(start()).is_none()
+}
+
+#[test]
+fn a_path_keeps_its_two_lists_apart(rt: HostRuntime) -> Result<(), AllocError> {
+    let late = pattern(rt.alloc(), 65_536)?;
+    let mut path = Path::new(rt.alloc(), Fates::new(&[Fate::Lost], 1, PERFECT));
+    assert_holds(&rt, keeps_apart(&mut path, &late), 0);
+    assert_holds(
+        &rt,
+        path.draw() == Fate::Lost && path.draw() == Fate::Delivered,
+        1,
+    );
+    Ok(())
+}
+
+#[test]
+fn fates_and_refusals_are_counted(rt: HostRuntime) {
+    let mut frames = FrameCounts::new();
+    frames.meet(Fate::Late);
+    frames.meet(Fate::Delivered);
+    frames.refuse_if(true);
+    frames.refuse_if(false);
+    assert_holds(
+        &rt,
+        frames.sent == 2 && frames.late == 1 && frames.refused == 1,
+        0,
+    );
+    let mut counts = Counts::new();
+    counts.taken = 8;
+    assert_holds(&rt, counts.sent_again() == 0, 1);
+    counts.frames.payload = 13;
+    assert_holds(&rt, counts.sent_again() == 5, 2);
+}

@@ -1,0 +1,165 @@
+//! What a sender has queued and lends, at known bytes.
+
+ghost use Rattle.std.specs.Prelude.{◌≤◌, length};
+
+use crate::assertions::assert_holds;
+use crate::counted::pattern;
+use net_storage::ManagedSlice;
+use net_stream::{Reported, Sender};
+use std::alloc::AllocError;
+
+/// A call of a sender, and what it gives.
+#[derive(Clone, Copy, Drop)]
+enum Step {
+    /// Writes these bytes: so many are taken.
+    Write(&'static [u8], usize),
+    /// Writes as many of these bytes as the room that it lends has place for, and counts so many fewer:
+    /// so many are queued.
+    SendWith(&'static [u8], usize, usize),
+    /// Lends these bytes from this position on, at most so many.
+    Peek(u64, usize, &'static [u8]),
+    /// Takes an acknowledgement of this position, which leaves this base and this end.
+    Acknowledge(u64, u64, u64),
+    /// Has so much free room.
+    Window(usize),
+}
+
+/// Writes as much of a text as there is room for, and returns how many bytes.
+fn put(room: &mut [u8], text: &[u8]) -> usize
+    ensures { result ≤ length room.old }
+{
+    let count = room.len().min(text.len());
+    room[..count].copy_from_slice(&text[..count]);
+    count
+}
+
+/// Whether so many bytes are queued of what is written into the room that is lent.
+fn sends(sender: &mut Sender<'_>, text: &[u8], uncounted: usize, wanted: usize) -> bool {
+    let (count, seven) = sender.send_with(|room| (put(room, text).saturating_sub(uncounted), 7u8));
+    count == wanted && seven == 7
+}
+
+/// Whether an acknowledgement leaves this base and this end, and as many bytes.
+fn is_acknowledged(sender: &mut Sender<'_>, next: u64, base: u64, end: u64) -> bool {
+    sender.acknowledge(next, Reported::new());
+    sender.base() == base
+        && sender.end() == end
+        && sender.len() as u64 == end.saturating_sub(base)
+        && sender.is_empty() == (base == end)
+}
+
+/// Whether a call gives what it should.
+fn does(sender: &mut Sender<'_>, step: &Step) -> bool {
+    match step {
+        Step::Write(bytes, count) => sender.write(bytes) == *count,
+        Step::SendWith(text, uncounted, count) => sends(sender, text, *uncounted, *count),
+        Step::Peek(pos, most, bytes) => sender.peek_at(*pos, *most) == *bytes,
+        Step::Acknowledge(next, base, end) => is_acknowledged(sender, *next, *base, *end),
+        Step::Window(window) => sender.window() == *window,
+    }
+}
+
+/// Calls of a sender of five bytes from position 10 on.
+const FROM_TEN: [Step; 24] = [
+    Step::Acknowledge(10, 10, 10),
+    Step::Window(5),
+    Step::Write(b"abcd", 4),
+    Step::Window(1),
+    Step::Peek(11, 2, b"bc"),
+    Step::Acknowledge(13, 13, 14),
+    // Only `e` has room before the storage's end, and `fg` stands at its beginning.
+    Step::Write(b"efg", 3),
+    Step::Peek(13, 100, b"de"),
+    Step::Peek(14, 100, b"e"),
+    Step::Peek(15, 100, b"fg"),
+    Step::Peek(16, 1, b"g"),
+    Step::Peek(17, 100, b""),
+    Step::Peek(12, 100, b""),
+    // Neither what lies below the base nor what lies above the end is acknowledged.
+    Step::Acknowledge(12, 13, 17),
+    Step::Acknowledge(18, 13, 17),
+    Step::Acknowledge(17, 17, 17),
+    // Empty, it begins at the storage's beginning.
+    Step::Write(b"hijklm", 5),
+    Step::Peek(17, 100, b"hijkl"),
+    Step::Acknowledge(19, 19, 22),
+    // One lends what stands before the storage's end, and the next one its beginning.
+    Step::Acknowledge(22, 22, 22),
+    Step::SendWith(b"abc", 0, 3),
+    Step::Acknowledge(24, 24, 25),
+    Step::SendWith(b"defg", 0, 2),
+    Step::Peek(24, 9, b"cde"),
+];
+
+/// Calls of a sender of nine bytes four positions below the last one.
+const AT_THE_END: [Step; 8] = [
+    Step::Window(4),
+    Step::SendWith(b"abcdefghi", 0, 4),
+    Step::SendWith(b"e", 0, 0),
+    Step::Write(b"e", 0),
+    Step::Peek(u64::MAX - 4, 9, b"abcd"),
+    Step::Acknowledge(u64::MAX - 1, u64::MAX - 1, u64::MAX),
+    Step::Acknowledge(u64::MAX, u64::MAX, u64::MAX),
+    Step::Window(0),
+];
+
+/// What isn't counted isn't queued.
+const UNCOUNTED: [Step; 4] = [
+    Step::SendWith(b"xy", 1, 1),
+    Step::Peek(0, 9, b"x"),
+    Step::SendWith(b"z", 0, 1),
+    Step::Peek(0, 9, b"xz"),
+];
+
+/// How many of the calls give what they should, up to the first that doesn't.
+fn all_of(steps: &[Step], storage: &mut [u8], first: u64) -> usize {
+    let mut sender = Sender::new_at(ManagedSlice::Borrowed(storage), first);
+    for i in 0..steps.len() {
+        if !does(&mut sender, &steps[i]) {
+            return i;
+        }
+    }
+    steps.len()
+}
+
+#[test]
+fn a_sender_lends_what_stands_in_a_row(rt: HostRuntime) {
+    let done = all_of(&FROM_TEN, &mut [0; 5], 10);
+    assert_holds(&rt, done == FROM_TEN.len(), done);
+}
+
+#[test]
+fn places_are_lent_as_far_as_positions_go(rt: HostRuntime) {
+    let done = all_of(&AT_THE_END, &mut [0; 9], u64::MAX - 4);
+    assert_holds(&rt, done == AT_THE_END.len(), done);
+    let done = all_of(&UNCOUNTED, &mut [0; 5], 0);
+    assert_holds(&rt, done == UNCOUNTED.len(), done);
+}
+
+/// The elements from `from` on and before `to`, as far as there are any.
+fn part(elements: &[u8], from: usize, to: usize) -> &[u8] {
+    let to = to.min(elements.len());
+    &elements[from.min(to)..to]
+}
+
+/// Whether a sender of as many bytes as these lends all, and again once some were acknowledged.
+fn lends_all(sender: &mut Sender<'_>, bytes: &[u8]) -> bool {
+    let is_full = sender.write(bytes) == bytes.len() && sender.window() == 0;
+    let is_lent = sender.peek_at(0, usize::MAX) == bytes
+        && sender.peek_at(1_000, 65_528) == part(bytes, 1_000, 66_528);
+    sender.acknowledge(200_000, Reported::new());
+    is_full
+        && is_lent
+        && sender.write(part(bytes, 0, 100_000)) == 100_000
+        && sender.peek_at(200_000, usize::MAX) == part(bytes, 200_000, 262_144)
+        && sender.peek_at(262_144, usize::MAX) == part(bytes, 0, 100_000)
+}
+
+#[test]
+fn a_large_sender_lends_all_in_a_row(rt: HostRuntime) -> Result<(), AllocError> {
+    let bytes = pattern(rt.alloc(), 262_144)?;
+    let mut storage = pattern(rt.alloc(), 262_144)?;
+    let mut sender = Sender::new(ManagedSlice::Borrowed(&mut storage));
+    assert_holds(&rt, lends_all(&mut sender, &bytes), 0);
+    Ok(())
+}
