@@ -13,14 +13,12 @@ use std::marker::Model;
 mod tests;
 
 /// A device of two lists: frames to come, and frames that were sent. It stores the moment at which
-/// it was last asked for a frame, and counts how often it was asked for one, and for a token.
+/// it was last asked for a frame.
 #[derive(Drop)]
 pub struct TwoLists<A: Allocator + Copy = Global> {
     pub to_come: VecDeque<Vec<u8, A>, A>,
     pub sent: VecDeque<Vec<u8, A>, A>,
     pub asked_at: Instant,
-    pub receives: usize,
-    pub transmits: usize,
 }
 
 impl<A: Allocator + Copy> Model for TwoLists<A> {
@@ -69,13 +67,11 @@ impl<A: Allocator + Copy> Device for TwoLists<A> {
 
     fn receive(&mut self, timestamp: Instant) -> Option<(TwoListsRxToken<A>, TwoListsTxToken)> {
         self.asked_at = timestamp;
-        self.receives = self.receives.saturating_add(1);
         let frame = self.to_come.pop_front()?;
         Some((TwoListsRxToken(frame), TwoListsTxToken))
     }
 
     fn transmit(&mut self, _timestamp: Instant) -> Option<TwoListsTxToken> {
-        self.transmits = self.transmits.saturating_add(1);
         Some(TwoListsTxToken)
     }
 
