@@ -24,6 +24,8 @@ impl<D: Device + Drop> Device for Counted<D> {
 
     ghost is_busy = { λ d. D.is_busy d.device };
 
+    ghost is_free = { λ d. D.is_free d.device };
+
     ghost sent = { λ old frame new. D.sent old.device frame new.device
         × (new.sent ≡ min (old.sent + 1) (2 ^ 64 - 1)) };
 

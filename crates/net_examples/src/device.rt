@@ -22,6 +22,8 @@ impl<D: Device + Drop> Device for Undamaged<D> {
 
     ghost is_busy = { λ d. D.is_busy d.device };
 
+    ghost is_free = { λ d. D.is_free d.device };
+
     ghost sent = { λ old frame new. D.sent old.device frame new.device };
 
     ghost lacks_memory = { λ d len. D.lacks_memory d.device len };

@@ -4,6 +4,8 @@
 mod conversation;
 mod counted;
 mod datagram;
+mod descriptor;
+mod descriptors;
 mod device;
 mod first_element;
 mod in_order;
@@ -24,6 +26,8 @@ mod timer;
 pub use conversation::ask;
 pub use counted::Counted;
 pub use datagram::pass_through;
+pub use descriptor::{Descriptor, FRAME_SIZE};
+pub use descriptors::{DescriptorRings, Frame, Slot, bounce, send_now};
 pub use device::Undamaged;
 pub use first_element::set_first;
 pub use in_order::{receive, receive_halves};

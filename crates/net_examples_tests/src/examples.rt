@@ -1,15 +1,16 @@
 //! Examples as their users call them.
 
-use net_base::phy::{Device, Loopback, Medium};
+use net_base::phy::{Device, Loopback, Medium, RxToken};
 use net_base::time::{Duration, Instant};
 use net_examples::{
-    Counted, Outbox, Timer, Undamaged, ask, line_end, over_a_bad_link, pass_through, receive,
-    requests_for_a_list, send_bytes, take_line,
+    Counted, Descriptor, DescriptorRings, FRAME_SIZE, Outbox, Timer, Undamaged, ask, bounce,
+    line_end, over_a_bad_link, pass_through, receive, requests_for_a_list, send_bytes, send_now,
+    take_line,
 };
 use net_receiver::Receiver;
 use net_ring::{ManagedSlice, RingBuffer};
 use net_stream::{Counts, Fates, Link, Rates};
-use net_uses::Endpoint;
+use net_uses::{Endpoint, forward_lists};
 use std::alloc::{AllocError, Global};
 
 #[test]
@@ -180,4 +181,86 @@ fn sends_zeros(device: &mut Counted<Loopback>, length: usize) -> Result<bool, Al
 #[test]
 fn a_list_takes_one_request(rt: HostRuntime) {
     assert_eq!(rt; requests_for_a_list(rt.alloc()), Some(1));
+}
+
+/// A frame comes: hardware puts it in, if it fits a descriptor and one is free.
+fn comes(device: &mut DescriptorRings<'_>, bytes: &[u8]) -> bool {
+    if bytes.len() > FRAME_SIZE {
+        return false;
+    }
+    let (descriptor, ()) = Descriptor::written(bytes.len(), |buffer| buffer.copy_from_slice(bytes));
+    device.received.enqueue_slice(&[descriptor]) == 1
+}
+
+/// Whether the next frame that hardware takes out is these bytes.
+fn goes(device: &mut DescriptorRings<'_>, bytes: &[u8]) -> bool {
+    match device.to_send.dequeue_one() {
+        Ok(descriptor) => descriptor.frame() == bytes,
+        Err(_empty) => false,
+    }
+}
+
+/// Whether a frame is sent back, exactly if this is so.
+fn bounces(device: &mut DescriptorRings<'_>, moved: bool) -> bool {
+    bounce(device, Instant::ZERO) == Ok(moved)
+}
+
+/// Two frames came, and there is one descriptor for replies.
+#[test]
+fn frames_are_sent_back_while_a_descriptor_is_free(rt: HostRuntime) {
+    let mut received = [Descriptor::EMPTY; 2];
+    let mut to_send = [Descriptor::EMPTY; 1];
+    let mut device = DescriptorRings {
+        received: RingBuffer::new(ManagedSlice::Borrowed(&mut received)),
+        to_send: RingBuffer::new(ManagedSlice::Borrowed(&mut to_send)),
+    };
+    let came = comes(&mut device, b"abc") && comes(&mut device, b"de");
+    assert!(rt; came && !comes(&mut device, b"f") && bounces(&mut device, true));
+    assert!(rt; bounces(&mut device, false) && goes(&mut device, b"abc"));
+    assert!(rt; bounces(&mut device, true) && goes(&mut device, b"de"));
+    assert!(rt; bounces(&mut device, false) && !goes(&mut device, b""));
+}
+
+/// Whether the bytes are sent as one frame.
+fn sends(device: &mut DescriptorRings<'_>, bytes: &[u8]) -> bool {
+    send_now(device, bytes, Instant::ZERO)
+}
+
+#[test]
+fn a_frame_is_sent_where_it_fits(rt: HostRuntime) {
+    let mut to_send = [Descriptor::EMPTY; 1];
+    let mut device = DescriptorRings {
+        received: RingBuffer::new(ManagedSlice::Borrowed(&mut [])),
+        to_send: RingBuffer::new(ManagedSlice::Borrowed(&mut to_send)),
+    };
+    assert!(rt; !sends(&mut device, &[7; 129]) && sends(&mut device, &[7; 128]));
+    assert!(rt; !sends(&mut device, b"") && goes(&mut device, &[7; 128]));
+    assert!(rt; sends(&mut device, b"") && goes(&mut device, b""));
+}
+
+/// Whether the next frame of the device is these bytes.
+fn is_next(device: &mut Loopback, bytes: &[u8]) -> bool {
+    match device.receive(Instant::ZERO) {
+        Some((frame, _token)) => frame.frame() == bytes,
+        None => false,
+    }
+}
+
+/// Whether so many frames pass on to the other device.
+fn passes(from: &mut DescriptorRings<'_>, to: &mut Loopback, count: usize) -> bool {
+    forward_lists(from, to, Instant::ZERO, 5) == Ok(count)
+}
+
+#[test]
+fn frames_pass_from_a_ring_of_descriptors(rt: HostRuntime) {
+    let mut received = [Descriptor::EMPTY; 2];
+    let mut to_send = [Descriptor::EMPTY; 1];
+    let mut device = DescriptorRings {
+        received: RingBuffer::new(ManagedSlice::Borrowed(&mut received)),
+        to_send: RingBuffer::new(ManagedSlice::Borrowed(&mut to_send)),
+    };
+    let mut other = Loopback::new(rt.alloc(), Medium::Ethernet);
+    let came = comes(&mut device, b"abc") && comes(&mut device, b"de");
+    assert!(rt; came && passes(&mut device, &mut other, 2));
+    assert!(rt; is_next(&mut other, b"abc") && is_next(&mut other, b"de"));
 }

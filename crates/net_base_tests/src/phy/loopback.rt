@@ -277,3 +277,59 @@ fn a_frame_beyond_all_memory_is_refused(rt: HostRuntime) {
     let refused = sends(&mut device, b"ab") && refuses_greatest(&mut device);
     assert!(rt; refused && next_is(&mut device, b"ab") && is_over(&mut device));
 }
+
+/// Sends a frame of so many bytes, and returns whether there was memory for it.
+fn sends_length<A: Allocator + Copy>(device: &mut Loopback<A>, length: usize) -> bool {
+    let token = device.transmit(Instant::ZERO).unwrap();
+    device.send(token, length, |buffer| buffer.fill(1)).is_ok()
+}
+
+/// Sends a frame beside one that waits, and returns how many bytes are asked for.
+fn asked_for(alloc: Global, length: usize) -> usize {
+    let memory = Refusing::new(alloc, usize::MAX);
+    let mut device = Loopback::new(&memory, Medium::Ip);
+    let sent = sends_length(&mut device, 1);
+    let before = memory.bytes();
+    if sent && sends_length(&mut device, length) {
+        memory.bytes().saturating_sub(before)
+    } else {
+        0
+    }
+}
+
+#[test]
+fn a_frame_asks_for_as_many_bytes_as_it_has(rt: HostRuntime) {
+    for length in [1, 2, 200, 300, 301, 1_514, 65_536, 1_000_000] {
+        assert!(rt;
+            asked_for(rt.alloc(), length) == length,
+            "at {length} bytes"
+        );
+    }
+}
+
+/// Takes one frame off and lets it go, and consumes another. Returns whether both were there.
+fn takes_two<A: Allocator + Copy>(device: &mut Loopback<A>, length: usize) -> bool {
+    let first = device.receive(Instant::ZERO).is_some();
+    first
+        && match device.receive(Instant::ZERO) {
+            Some((frame, _token)) => frame.consume(|bytes| bytes.len()) == length,
+            None => false,
+        }
+}
+
+/// Returns whether the bytes of two frames that were taken are given back, all but the queue's room.
+fn gives_back(alloc: Global, length: usize) -> bool {
+    let memory = Refusing::new(alloc, usize::MAX);
+    let mut device = Loopback::new(&memory, Medium::Ip);
+    let sent = sends_length(&mut device, length) && sends_length(&mut device, length);
+    let before = memory.live();
+    sent && takes_two(&mut device, length)
+        && before.saturating_sub(memory.live()) == length.saturating_mul(2)
+}
+
+#[test]
+fn a_frame_that_is_taken_gives_its_bytes_back(rt: HostRuntime) {
+    for length in [1, 3, 1_514, 70_000] {
+        assert!(rt; gives_back(rt.alloc(), length), "at {length} bytes");
+    }
+}

@@ -16,11 +16,8 @@ fn prints_each_fraction_and_each_size(rt: HostRuntime) -> Result<(), AllocError>
             "at {millis} milliseconds"
         );
     }
-    for millis in (1_100..=125_000u64).step_by(37) {
-        assert!(rt;
-            prints(rt.alloc(), millis * 1_000)?,
-            "at {millis} milliseconds"
-        );
+    for micros in (0..100_000_000u64).step_by(99_991) {
+        assert!(rt; prints(rt.alloc(), micros)?, "at {micros}");
     }
     for digits in 0..64u32 {
         let micros = u64::MAX >> digits;
