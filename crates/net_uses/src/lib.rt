@@ -1,4 +1,4 @@
-//! What stands on `net_storage` and `net_base`: a UDP socket, a buffer of fragments, a bridge, and
+//! What is built on `net_storage` and `net_base`: a UDP socket, a buffer of fragments, a bridge, and
 //! an inbox that shows its first datagram in place.
 //!
 //! Each is small and whole, and each is proved from the public contracts of those crates alone, as
