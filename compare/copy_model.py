@@ -118,17 +118,17 @@ def predicted(row):
     there, back = Direction(*WAYS[row.there]), Direction(*WAYS[row.back])
     sender, receiver = Sender(row.first, row.capacity), Receiver(row.first, row.capacity)
     taken = written = carried = rounds = stuck = micros = reads = writes = 0
-    ended, filled, wait = False, True, SHORTEST
+    ended, wait = False, SHORTEST
     most = flight = max(row.flight, 1)
     while True:
         room = min(sender.room(), row.capacity)
-        if not ended and room and (receiver.written == sender.end or filled):
+        if not ended and room and receiver.written == sender.end:
             reads += 1
             if reads - 1 == row.read[1]:
                 end = "read failed"
                 break
             count = min(room, row.length - taken, row.read[0] or LAST)
-            ended, filled = count == 0, count == room
+            ended = count == 0
             sender.take(count)
             taken += count
         if ended and receiver.written == sender.end:
@@ -238,6 +238,11 @@ def rows():
     yield row(flight=0)
     yield row("Three bytes a read.", length=10, read=(3, None))
     yield row(there="FIRST_LOST", length=10, read=(3, None))
+    yield row("A read fills its room; the next one is made only once all of it is written.",
+              there="FIRST_LOST", length=20, capacity=8)
+    yield row(there="SECOND_LOST", back="FOUR_LOST", length=40, capacity=16, payload=4)
+    yield row(there="SOME", back="SOME", length=3_000, capacity=256, payload=16)
+    yield row("So it is while the flight is used up.", length=40, payload=1, flight=4)
     yield row("Nothing to copy takes no round, and so it is with no round allowed.", length=0)
     yield row(length=0, rounds=0)
     yield row(rounds=0)

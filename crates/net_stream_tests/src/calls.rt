@@ -3,8 +3,10 @@
 
 use net_base::phy::RxToken;
 use net_base::time::Instant;
-use net_storage::ManagedSlice;
-use net_stream::{Config, Counts, Fate, Fates, Link, LinkError, Rates, copy, copy_over};
+use net_ring::ManagedSlice;
+use net_stream::{
+    Config, CopyBuffers, Counts, Fate, Fates, Link, LinkError, LinkFates, Rates, copy, copy_over,
+};
 use std::alloc::{AllocError, Allocator};
 use std::io::{Read, Write};
 
@@ -56,6 +58,14 @@ fn fates(way: &Way) -> Fates<'static> {
     Fates::new(way.listed, way.seed, way.rates)
 }
 
+/// The fates of both directions.
+fn link_fates(setup: &Setup) -> LinkFates<'static> {
+    LinkFates {
+        frames: fates(&setup.there),
+        acks: fates(&setup.back),
+    }
+}
+
 /// The name of how a copy ended.
 fn ending(ended: Result<(), LinkError>) -> &'static str {
     match ended {
@@ -78,22 +88,19 @@ pub fn copy_by<A: Allocator + Copy, R: Read, W: Write>(
     ending(copy(
         alloc,
         setup.config,
-        fates(&setup.there),
-        fates(&setup.back),
+        link_fates(setup),
         reader,
         writer,
         counts,
     ))
 }
 
-/// Copies over storage of the sender, of the receiver and of a round, and returns the name of how it
+/// Copies over buffers that are lent, and returns the name of how it
 /// ended.
 pub fn copy_over_by<A: Allocator + Copy, R: Read, W: Write>(
     alloc: A,
     setup: &Setup,
-    outgoing: &mut [u8],
-    incoming: &mut [u8],
-    chunk: &mut [u8],
+    buffers: CopyBuffers<'_>,
     reader: &mut R,
     writer: &mut W,
     counts: &mut Counts,
@@ -101,11 +108,8 @@ pub fn copy_over_by<A: Allocator + Copy, R: Read, W: Write>(
     ending(copy_over(
         alloc,
         setup.config,
-        fates(&setup.there),
-        fates(&setup.back),
-        outgoing,
-        incoming,
-        chunk,
+        link_fates(setup),
+        buffers,
         reader,
         writer,
         counts,
@@ -127,8 +131,7 @@ pub fn link_by<'a, A: Allocator + Copy>(
         setup.config.flight,
         to_send,
         to_receive,
-        fates(&setup.there),
-        fates(&setup.back),
+        link_fates(setup),
     )
 }
 

@@ -5,7 +5,7 @@ use crate::assertions::assert_holds;
 use crate::calls::{PERFECT, Setup, Way, copy_by, copy_over_by};
 use crate::counted::pattern;
 use crate::counted::ways::{ALL, EACH_SECOND};
-use net_stream::{Config, Counts, LinkError, Rates};
+use net_stream::{Config, CopyBuffers, Counts, LinkError, Rates};
 use net_testing::{NEVER, Refusing, Sink, Source, refuse_each};
 use std::alloc::{AllocError, Global};
 use std::io::ErrorKind;
@@ -107,9 +107,11 @@ fn takes_five_rounds(alloc: Global, text: &[u8]) -> bool {
     let end = copy_over_by(
         alloc,
         &setup,
-        &mut [0; 9],
-        &mut [0; 2],
-        &mut [0; 4],
+        CopyBuffers {
+            outgoing: &mut [0; 9],
+            incoming: &mut [0; 2],
+            chunk: &mut [0; 4],
+        },
         &mut source,
         &mut sink,
         &mut counts,
@@ -142,7 +144,8 @@ static REFUSALS: [(usize, usize, usize, bool, &'static str, u64); 12] = [
     (NEVER, NEVER, NEVER, false, "Ok", 6),
 ];
 
-/// Whether a copy ends so, and gives back all its memory.
+/// Whether a copy ends so, flushes once, also if memory for its buffers is refused, and gives back all its
+/// memory.
 fn ends_so(
     alloc: Global,
     (refused, read, write, is_unflushed, wanted, count): (usize, usize, usize, bool, &str, u64),
@@ -158,7 +161,11 @@ fn ends_so(
     let mut counts = Counts::new();
     let setup = setup(ALL, ALL, 0, 16, 2);
     let end = copy_by(&heap, &setup, &mut source, &mut sink, &mut counts);
-    end == wanted && counts.bytes == count && is_prefix(&sink, b"abcdef", count) && heap.live() == 0
+    end == wanted
+        && counts.bytes == count
+        && is_prefix(&sink, b"abcdef", count)
+        && sink.flushes == 1
+        && heap.live() == 0
 }
 
 /// Whether a writer has so many bytes, which a text begins with.

@@ -8,7 +8,7 @@ use crate::calls::{
 use crate::counted::pattern;
 use net_base::phy::RxToken;
 use net_base::time::Duration;
-use net_storage::ManagedSlice;
+use net_ring::ManagedSlice;
 use net_stream::{Config, Fate, FrameCounts, Link, Rates, Reported, decode};
 use net_testing::{Refusing, refuse_each};
 use std::alloc::{AllocError, Allocator, Global};

@@ -4,7 +4,7 @@ ghost use Rattle.std.specs.Prelude.{◌≤◌, length};
 
 use crate::assertions::assert_holds;
 use crate::counted::pattern;
-use net_storage::ManagedSlice;
+use net_ring::ManagedSlice;
 use net_stream::{Reported, Sender};
 use std::alloc::AllocError;
 

@@ -9,7 +9,7 @@ use crate::counted::{Case, TO_THE_END};
 use net_testing::NEVER;
 
 /// Copies, and what is counted of each.
-pub static CASES: [Case; 53] = [
+pub static CASES: [Case; 57] = [
     // Three frames, an acknowledgement for each and one more.
     Case(
         ALL,
@@ -260,6 +260,40 @@ pub static CASES: [Case; 53] = [
         (3, NEVER, NEVER, NEVER),
         ("Ok", 5),
         [10, 10, 5, 60_000, 20, 12, 1, 0, 0, 0],
+    ),
+    // A read fills its room; the next one is made only once all of it is written.
+    Case(
+        FIRST_LOST,
+        ALL,
+        (20, 0, 8, 2, 4_096, 100),
+        TO_THE_END,
+        ("Ok", 4),
+        [20, 20, 4, 50_000, 25, 22, 1, 0, 0, 0],
+    ),
+    Case(
+        SECOND_LOST,
+        FOUR_LOST,
+        (40, 0, 16, 4, 4_096, 100),
+        TO_THE_END,
+        ("Ok", 4),
+        [40, 40, 4, 40_000, 31, 56, 5, 0, 0, 0],
+    ),
+    Case(
+        SOME,
+        SOME,
+        (3_000, 0, 256, 16, 4_096, 100),
+        TO_THE_END,
+        ("Ok", 13),
+        [3_000, 3_000, 43, 630_000, 617, 4_536, 129, 137, 114, 0],
+    ),
+    // So it is while the flight is used up.
+    Case(
+        ALL,
+        ALL,
+        (40, 0, 16, 1, 4, 100),
+        TO_THE_END,
+        ("Ok", 4),
+        [40, 40, 10, 100_000, 90, 40, 0, 0, 0, 0],
     ),
     // Nothing to copy takes no round, and so it is with no round allowed.
     Case(
