@@ -45,7 +45,7 @@ met_more zero n v c = ap (λ j. with_fates j v c) (let e : n ≡ 0 + n = omega a
 met_more (suc m) n v c = met_more m n (after_fate v) (with_fate (next_fate v) c)
     ∙ ap (λ j. with_fates j v c) (let e : suc (m + n) ≡ suc m + n = omega arith in e)
 
-after_more : (m n : ℕ) (v : FatesSeen) → fates_after n (fates_after m v) ≡ fates_after (m + n) v
+pub after_more : (m n : ℕ) (v : FatesSeen) → fates_after n (fates_after m v) ≡ fates_after (m + n) v
 after_more zero n v = ap (λ j. fates_after j v) (let e : n ≡ 0 + n = omega arith in e)
 after_more (suc m) n v = after_more m n (after_fate v) ∙ ap (λ j. fates_after j v) (let e : suc (m + n) ≡ suc m + n = omega arith in e)
 

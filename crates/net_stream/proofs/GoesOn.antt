@@ -1,8 +1,9 @@
 -- What a turn does to a copy that goes on.
-use Rattle.std.proofs.Common.{◌≡◌, ◌⊎◌, ◌&&◌, ◌||◌, ℕ, ◌+◌, ◌≤◌, ◌<◌, min, not, nat_eq, nat_lt, nat_le, Bool, true, false, cond, List, [], ◌∷◌, ◌++◌, length, take}
+use Rattle.std.proofs.Common.{◌≡◌, ◌⊎◌, ◌&&◌, ◌||◌, ℕ, ◌+◌, ◌-◌, ◌^◌, ◌≤◌, ◌<◌, min, not, nat_eq, nat_lt, nat_le, Bool, true, false, cond, List, [], ◌∷◌, ◌++◌, length, take}
 use Rattle.std.proofs.Common.{refl, sym, ap, subst, ◌∙◌, arith, ⊎_elim, inl, inr, length-append, length-take}
-use Rattle.std.proofs.lemmas.Bool.{cases_Bool, cond-true, cond-false, and_parts, ltb-true, ltb-false, leb-true, leb-false, eqb-true, eqb-false}
+use Rattle.std.proofs.lemmas.Bool.{both_ways, cases_Bool, cond-true, cond-false, and_parts, and_from, lt-ltb, ltb-true, ltb-false, leb-true, leb-false, eqb-true, eqb-false}
 use Rattle.std.proofs.lemmas.List.{append-nil}
+use Rattle.net_receiver.specs.Stored.{stored_next}
 use Rattle.net_stream.specs.Outgoing.{end_of}
 use Rattle.net_stream.specs.LinkState.{LinkState, round}
 use Rattle.net_stream.specs.CopyState.{CopyState, Status, Running, Done, GaveUp, ReadFailed, is_written, with_read, read_of, room_for, feed, decide}
@@ -37,7 +38,7 @@ pub data Feeds (chunk : ℕ) (c : CopyState) : Type 0 where
   Waits : asks chunk c ≡ false → feed chunk c ≡ c → Feeds chunk c
   Fails : feed chunk c ≡ record c { status = ReadFailed } → Feeds chunk c
   Ends : (reads : List (List ℕ)) → feed chunk c ≡ record c { reads = reads; more = false } → Feeds chunk c
-  Gives : (x : ℕ) (xs : List ℕ) (reads : List (List ℕ)) → 0 < room_for chunk c.link → is_written c.link ≡ true →
+  Gives : (x : ℕ) (xs : List ℕ) (reads : List (List ℕ)) → c.more ≡ true → 0 < room_for chunk c.link → is_written c.link ≡ true →
       feed chunk c ≡ with_read (room_for chunk c.link) c (x ∷ xs) reads → Feeds chunk c
 
 pub feeds : (chunk : ℕ) (c : CopyState) → Feeds chunk c
@@ -53,7 +54,7 @@ feeds chunk c =
     by on ((x ∷ xs) ∷ reads) e =
         let both = and_parts (c.more && nat_lt 0 (room_for chunk c.link)) (is_written c.link) on in
         let some = and_parts c.more (nat_lt 0 (room_for chunk c.link)) both.0 in
-        Gives x xs reads (ltb-true 0 (room_for chunk c.link) some.1) both.1 e
+        Gives x xs reads some.0 (ltb-true 0 (room_for chunk c.link) some.1) both.1 e
 
 -- what it leaves as it was, or lets grow
 pub record FedLeaves (c e : CopyState) : Type 0 where
@@ -91,7 +92,7 @@ fed_leaves chunk c = by (feeds chunk c)
     by (Waits off e) = subst (FedLeaves c) (sym e) (leaves c refl refl refl refl refl)
     by (Fails e) = subst (FedLeaves c) (sym e) (leaves (record c { status = ReadFailed }) refl refl refl refl refl)
     by (Ends reads e) = subst (FedLeaves c) (sym e) (leaves (record c { reads = reads; more = false }) refl refl refl refl refl)
-    by (Gives x xs reads some all e) = subst (FedLeaves c) (sym e) (record {
+    by (Gives x xs reads more some all e) = subst (FedLeaves c) (sym e) (record {
       receiver = refl;
       there = refl;
       back = refl;
@@ -113,7 +114,7 @@ ends c = not c.more && is_written c.link
 pub data Turned (rounds chunk : ℕ) (c : CopyState) : Type 0 where
   Failed : (feed chunk c).status ≡ ReadFailed → turn rounds chunk c ≡ feed chunk c → Turned rounds chunk c
   Finished : ends (feed chunk c) ≡ true → turn rounds chunk c ≡ record (feed chunk c) { status = Done } → Turned rounds chunk c
-  Stopped : ends (feed chunk c) ≡ false → rounds ≤ (feed chunk c).stalled → turn rounds chunk c ≡ record (feed chunk c) { status = GaveUp } →
+  Stopped : (feed chunk c).status ≡ Running → ends (feed chunk c) ≡ false → rounds ≤ (feed chunk c).stalled → turn rounds chunk c ≡ record (feed chunk c) { status = GaveUp } →
       Turned rounds chunk c
   WentOn : (feed chunk c).status ≡ Running → ends (feed chunk c) ≡ false → (feed chunk c).stalled < rounds →
       turn rounds chunk c ≡ pass chunk (feed chunk c) → Turned rounds chunk c
@@ -125,7 +126,7 @@ fed_status chunk c on = by (feeds chunk c)
     by (Waits off e) = inl (ap (λ d. d.status) e ∙ on)
     by (Fails e) = inr (ap (λ d. d.status) e)
     by (Ends reads e) = inl (ap (λ d. d.status) e ∙ on)
-    by (Gives x xs reads some all e) = inl (ap (λ d. d.status) e ∙ on)
+    by (Gives x xs reads more some all e) = inl (ap (λ d. d.status) e ∙ on)
 
 pub turns : (rounds chunk : ℕ) (c : CopyState) → c.status ≡ Running → Turned rounds chunk c
 unfolding turn
@@ -142,7 +143,7 @@ turns rounds chunk c on =
     let is : decide rounds e ≡ cond (nat_le rounds e.stalled) g e = cond-false (ends e) (record e { status = Done }) (cond (nat_le rounds e.stalled) g e) more in
     ⊎_elim {C = Turned rounds chunk c}
     (λ (many : nat_le rounds e.stalled ≡ true).
-    Stopped more (leb-true rounds e.stalled many)
+    Stopped running more (leb-true rounds e.stalled many)
     (fed ∙ ap (while_running (pass chunk)) (runs (decide rounds) e running ∙ is ∙ cond-true (nat_le rounds e.stalled) g e many)
     ∙ rests (pass chunk) g (λ (k : GaveUp ≡ Running). cc)))
     (λ (few : nat_le rounds e.stalled ≡ false).
@@ -180,7 +181,7 @@ goes_on rounds chunk c running =
     by : c.status ≡ Running → Turned rounds chunk c → GoesOn rounds chunk c
     by on (Failed failed e) = (let j : ReadFailed ≡ Running = sym failed ∙ sym (ap (λ d. d.status) e) ∙ running in cc)
     by on (Finished done e) = (let j : Done ≡ Running = sym (ap (λ d. d.status) e) ∙ running in cc)
-    by on (Stopped more many e) = (let j : GaveUp ≡ Running = sym (ap (λ d. d.status) e) ∙ running in cc)
+    by on (Stopped fed more many e) = (let j : GaveUp ≡ Running = sym (ap (λ d. d.status) e) ∙ running in cc)
     by on (WentOn fed more few e) = record { before = on; fed = fed; on = more; few = few; is = e }
 
 -- and one that gives up had enough of them
@@ -190,7 +191,7 @@ gave_up_at rounds chunk c on gave = by (turns rounds chunk c on)
     by : Turned rounds chunk c → rounds ≤ c.stalled
     by (Failed failed e) = (let j : ReadFailed ≡ GaveUp = sym failed ∙ sym (ap (λ d. d.status) e) ∙ gave in cc)
     by (Finished done e) = (let j : Done ≡ GaveUp = sym (ap (λ d. d.status) e) ∙ gave in cc)
-    by (Stopped more many e) = subst (λ n. rounds ≤ n) (fed_leaves chunk c).stalled many
+    by (Stopped fed more many e) = subst (λ n. rounds ≤ n) (fed_leaves chunk c).stalled many
     by (WentOn fed more few e) = (let j : Running ≡ GaveUp = sym fed ∙ sym (ap (λ d. d.status) e) ∙ gave in cc)
 
 -- ---- what a round brings on
@@ -201,6 +202,12 @@ no_bytes (x ∷ xs) e = absurd (omega arith)
 -- neither an acknowledged byte nor a written one
 abbrev pub Still : CopyState → CopyState → Type 0
 Still c d = (d.link.sender.base ≡ c.link.sender.base) × (d.written ≡ c.written)
+
+pub still_from : (chunk : ℕ) (c : CopyState) → (round (waited c)).sender.base ≡ c.link.sender.base →
+    min chunk (length (round (waited c)).receiver.queue) ≡ 0 → Still c (pass chunk c)
+still_from chunk c same none =
+    let q = (round (waited c)).receiver.queue in
+    (same, ap (λ l. c.written ++ l) (no_bytes (take chunk q) (omega (arith, length-take chunk q))) ∙ append-nil c.written)
 
 pub data Brought (chunk : ℕ) (c : CopyState) : Type 0 where
   Some : (pass chunk c).stalled ≡ 0 → (Still c (pass chunk c) → ⊥) → Brought chunk c
@@ -225,7 +232,32 @@ brought chunk c = by (nat_eq m.sender.base c.link.sender.base) (nat_lt 0 n) refl
         let same = ap length still.1 in omega arith))
     by true false e k =
         let none : n ≡ 0 = (let l = ltb-false 0 n k in omega arith) in
-        Nothing (λ i. cond (not (e i) || k i) 0 (c.stalled + 1)) (
-          eqb-true m.sender.base c.link.sender.base e,
-          ap (λ l. c.written ++ l) (no_bytes (take chunk m.receiver.queue) (omega (arith, length-take chunk m.receiver.queue))) ∙ append-nil c.written,
-        ) none
+        Nothing (λ i. cond (not (e i) || k i) 0 (c.stalled + 1)) (still_from chunk c (eqb-true m.sender.base c.link.sender.base e) none) none
+
+-- where all that was read is written, a reader that may have more is asked, and gives something or has no more
+pub asked : (chunk : ℕ) (c : CopyState) → (feed chunk c).status ≡ Running → ends (feed chunk c) ≡ false → 0 < chunk →
+    length (feed chunk c).link.sender.queue < (feed chunk c).link.sender.capacity → end_of (feed chunk c).link.sender < 2 ^ 64 - 1 →
+    is_written (feed chunk c).link ≡ true → ⊥
+asked chunk c fed on some kept left all = by (may (feed chunk c).more refl) (feeds chunk c)
+  where
+    may : (b : Bool) → (feed chunk c).more ≡ b → (feed chunk c).more ≡ true
+    may true is = is
+    may false is = absurd (both_ways (ends (feed chunk c)) on (and_from (not (feed chunk c).more) (is_written (feed chunk c).link) (ap not is) all))
+
+    by : (feed chunk c).more ≡ true → Feeds chunk c → ⊥
+    by more (Waits off is) =
+        let l = (feed chunk c).link in
+        both_ways (asks chunk (feed chunk c)) (ap (asks chunk) is ∙ off)
+        (and_from ((feed chunk c).more && nat_lt 0 (room_for chunk l)) (is_written l)
+        (and_from (feed chunk c).more (nat_lt 0 (room_for chunk l)) more (lt-ltb 0 (room_for chunk l) (omega arith))) all)
+    by more (Fails is) = (let j : ReadFailed ≡ Running = sym (ap (λ d. d.status) is) ∙ fed in cc)
+    by more (Ends rs is) = both_ways (feed chunk c).more (ap (λ d. d.more) is) more
+    by more (Gives x xs rs may room written is) =
+        let q = take (room_for chunk c.link) (x ∷ xs) in
+        let long : end_of (feed chunk c).link.sender ≡ c.link.sender.base + length (c.link.sender.queue ++ q) = ap (λ d. end_of d.link.sender) is in
+        let r = ap (λ k. stored_next k) (fed_leaves chunk c).receiver in
+        let here = eqb-true (stored_next (feed chunk c).link.receiver) (end_of (feed chunk c).link.sender)
+        (and_parts (nat_eq (stored_next (feed chunk c).link.receiver) (end_of (feed chunk c).link.sender)) (nat_eq (length (feed chunk c).link.receiver.queue) 0) all).0 in
+        let before = eqb-true (stored_next c.link.receiver) (end_of c.link.sender)
+        (and_parts (nat_eq (stored_next c.link.receiver) (end_of c.link.sender)) (nat_eq (length c.link.receiver.queue) 0) written).0 in
+        omega (arith, length-append c.link.sender.queue q, length-take (room_for chunk c.link) (x ∷ xs))

@@ -24,4 +24,11 @@ pub mod Grown
 pub mod Prefix
 pub mod GoesOn
 pub mod GivesUp
+pub mod StuckRounds
+pub mod Failed
+pub mod CountedTurns
+pub mod Sizes
+pub mod Fuel
+pub mod Filling
+pub mod Worked
 pub mod Copied

@@ -1,5 +1,5 @@
 -- A round passes what it has to.
-use Rattle.std.proofs.Common.{◌≡◌, ℕ, List, [], ◌∷◌, ◌++◌, length, refl, sym, ap, subst, ◌∙◌, append_assoc}
+use Rattle.std.proofs.Common.{◌≡◌, ◌<◌, ◌^◌, ℕ, List, [], ◌∷◌, ◌++◌, length, refl, sym, ap, subst, ◌∙◌, append_assoc}
 use Rattle.net_stream.specs.declared.counts.FrameCounts.{FrameCounts}
 use Rattle.net_stream.specs.Reported.{most_reported, count_outside}
 use Rattle.net_stream.specs.Counting.{with_fates, with_payload, SameButRefused}
@@ -9,6 +9,7 @@ use Rattle.net_stream.specs.Passing.{coming_of, late_of, receiver_after_all, ack
 use Rattle.net_stream.specs.Fates.{fates_after}
 use Rattle.net_stream.specs.Links.{Passes, RoundPasses}
 use Rattle.net_stream.specs.LinkState.{LinkState, transmit, late_frames, pass_frames, acknowledge_all, late_acks, pass_acks, with_flight, round}
+use Rattle.net_stream.specs.Promises.{frames_sent, acks_sent}
 use Rattle.net_stream.proofs.Counted.{same_equal, same_met}
 use Rattle.net_stream.proofs.Meeting.{brought_append, acks_append}
 use Rattle.net_stream.proofs.Reached.{acked_append}
@@ -72,9 +73,15 @@ module _ (s : LinkState) (ahead : List (List ℕ)) (c0 c1 c2 : FrameCounts) wher
     flight = refl;
   }
 
-pub round_passes : RoundPasses
-unfolding round
-round_passes s fits =
+-- and these are the frames and acknowledgements that it sends
+pub record RoundSends (s z : LinkState) : Type 0 where
+  pub passes : Passes s z
+  pub frames : length passes.sent.ahead ≡ frames_sent s
+  pub acks : length passes.acks ≡ acks_sent s
+
+pub round_sends : (s : LinkState) → s.counts.payload < 2 ^ 64 → RoundSends s (round s)
+unfolding round passes_by
+round_sends s fits =
     let n = (sends_round s fits).0 in
     let sent = (sends_round s fits).1 in
     let t = transmit s in
@@ -95,6 +102,12 @@ round_passes s fits =
     let is_y : late_acks (acknowledge_all (pass_frames (late_frames t))) ≡ y' =
     ap (λ v. late_acks (acknowledge_all v)) is_v ∙ late_acked s.back.late x' refl in
     let is_z = ap pass_acks is_y ∙ acks_passed y'.back.ahead y' refl in
-    subst (λ z. Passes s (with_flight z)) (sym is_z)
-    (passes_by s ahead t.counts c1 c2 n (subst (SendsRound s.sender (at_least_one s.payload) (at_least_one s.flight) n s.there) path sent.sent)
-    sent.counted one.counted two.counted)
+    subst (λ z. RoundSends s (with_flight z)) (sym is_z) (record {
+      passes = passes_by s ahead t.counts c1 c2 n (subst (SendsRound s.sender (at_least_one s.payload) (at_least_one s.flight) n s.there) path sent.sent)
+          sent.counted one.counted two.counted;
+      frames = refl;
+      acks = sym (ap (λ v. length (acknowledge_all v).back.ahead) is_v);
+    })
+
+pub round_passes : RoundPasses
+round_passes s fits = (round_sends s fits).passes

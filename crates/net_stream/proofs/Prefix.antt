@@ -34,12 +34,12 @@ gives_next n g r q =
     ∙ sym (take-add r.read m g)
 
 -- a list that has bytes, before others
-before_more : (xs : List ℕ) (reads : List (List ℕ)) → 0 < length xs → before_end (xs ∷ reads) ≡ xs ++ before_end reads
+pub before_more : (xs : List ℕ) (reads : List (List ℕ)) → 0 < length xs → before_end (xs ∷ reads) ≡ xs ++ before_end reads
 before_more [] reads some = absurd (omega arith)
 before_more (x ∷ xs) reads some = refl
 
 -- a read takes nothing from the bytes to come but what it gives
-before_rest : (room : ℕ) (xs : List ℕ) (reads : List (List ℕ)) → 0 < length xs → take room xs ++ before_end (rest_of room xs reads) ≡ before_end (xs ∷ reads)
+pub before_rest : (room : ℕ) (xs : List ℕ) (reads : List (List ℕ)) → 0 < length xs → take room xs ++ before_end (rest_of room xs reads) ≡ before_end (xs ∷ reads)
 before_rest room xs reads some =
     split (λ l. take room xs ++ before_end l ≡ before_end (xs ∷ reads)) (nat_lt room (length xs)) (drop room xs ∷ reads) reads
     (λ e.
@@ -129,7 +129,7 @@ module _ (known : Known) (s : Setup) (reads : List (List ℕ)) where
             done = λ d. absurd (cc);
           }
 
-  fed_so_far : (c : CopyState) → c.status ≡ Running → SoFar c → SoFar (feed s.chunk c)
+  pub fed_so_far : (c : CopyState) → c.status ≡ Running → SoFar c → SoFar (feed s.chunk c)
   fed_so_far c on h = feeds SoFar s.chunk c (λ more room all. read_so_far c on more h) h
 
   decided_so_far : (c : CopyState) → c.status ≡ Running → SoFar c → SoFar (decide s.rounds c)

@@ -17,3 +17,4 @@ pub mod Copying
 pub mod Turns
 pub mod Streams
 pub mod Promises
+pub mod WorkedCopy

@@ -13,15 +13,22 @@
 --     GivesUpIfFailed      it gives up only if each of these rounds failed
 --     NoneLost v, NeverByDelays      delays and repeats alone never end it
 --     EndsIfAllCome      over a link that loses and delays nothing it doesn't give up
+--     CountsRounds, CountsEachFate      what the counts of rounds and of frames are
+--     GivesUpCounted, EnoughFailed, Unfinished      what a copy that gives up counts
+--     EnoughRounds, RoundsAtOnce      bounds where it is done, and where nothing is lost or late
 --     FewRounds, FewRoundsAnyway, FewFrames      bounds
 --     RoundKeeps, FewLate      how much is late after a round
-use Rattle.std.specs.Prelude.{◌≡◌, ℕ, suc, ◌+◌, ◌-◌, ◌*◌, ◌<◌, ◌≤◌, ◌^◌, List, [], ◌∷◌, ◌++◌, length}
+--     HasEnded c, Stays, CopiedIs      an ended copy stays as it is, so that it is what comes of it
+--     has_end reads, Fills s reads      the input's end comes, and each read before it fills its room
+--     SameBytes, AllAtOnce      then what comes of a copy depends on the bytes alone
+use Rattle.std.specs.Prelude.{Bool, true, false, ◌≡◌, ℕ, suc, ◌+◌, ◌-◌, ◌*◌, ◌<◌, ◌≤◌, ◌^◌, ◌⊎◌, min, List, [], ◌∷◌, ◌++◌, length}
 use Rattle.std.specs.Io.{StartsWith}
 use Rattle.net_stream.specs.Fates.{FatesSeen, next_fate, fates_after, AllCome}
 use Rattle.net_stream.specs.declared.fate.Fate.TheVariants.{Lost}
 use Rattle.net_stream.specs.LinkState.{LinkState, transmit, late_frames, pass_frames, acknowledge_all, round}
 use Rattle.net_stream.specs.CopyState.{Setup, CopyState, Running, Done, GaveUp, feed, waited, while_running}
-use Rattle.net_stream.specs.CopyState.{after, copied}
+use Rattle.net_stream.specs.CopyState.{is_written, room_for, after, outcome, copied}
+use Rattle.net_stream.specs.Rounds.{CountsFates}
 use Rattle.net_stream.specs.Stuck.{FatesFail}
 
 abbrev pub StartsFits : Setup → Type 0
@@ -106,13 +113,54 @@ EndsIfAllCome = (s : Setup) (reads : List (List ℕ)) (n : ℕ) → CanPass s (a
     AllCome s.fates → AllCome s.ack_fates → 0 < s.rounds →
     (after s reads n).status ≡ GaveUp → ⊥
 
+-- ---- what is counted
+-- a copy that goes on makes a round in each turn, and counts as many as 64 bits go
+abbrev pub CountsRounds : Type 0
+CountsRounds = (s : Setup) (reads : List (List ℕ)) (n : ℕ) →
+    (after s reads n).status ≡ Running → (after s reads n).rounds ≡ min n (2 ^ 64 - 1)
+
+-- the counts of frames are those of their fates
+abbrev pub CountsEachFate : Type 0
+CountsEachFate = (s : Setup) (reads : List (List ℕ)) (n : ℕ) →
+    CountsFates s.fates s.ack_fates (after s reads n).link.counts
+
+-- a copy that gives up counts at least `rounds` rounds
+abbrev pub GivesUpCounted : Type 0
+GivesUpCounted = (s : Setup) (reads : List (List ℕ)) (n : ℕ) → s.rounds < 2 ^ 64 →
+    (after s reads n).status ≡ GaveUp → s.rounds ≤ (after s reads n).rounds
+
+-- at least as many frames and acknowledgements were then lost or late, and all but one lost
+abbrev pub EnoughFailed : Type 0
+EnoughFailed = (s : Setup) (reads : List (List ℕ)) (n : ℕ) → CanPass s (after s reads n) →
+    s.rounds < 2 ^ 64 → (after s reads n).status ≡ GaveUp →
+    (s.rounds ≤ (after s reads n).link.counts.lost + (after s reads n).link.counts.late)
+    × (s.rounds ≤ (after s reads n).link.counts.lost + 1)
+
+-- it hasn't written all that was read, if that was less than the sender has room for
+abbrev pub Unfinished : Type 0
+Unfinished = (s : Setup) (reads : List (List ℕ)) (n : ℕ) → CanPass s (after s reads n) →
+    (after s reads n).status ≡ GaveUp → length (after s reads n).given < s.outgoing →
+    length (after s reads n).written < length (after s reads n).given
+
 -- ---- bounds
--- two rounds for each byte that was read, one for each frame or acknowledgement that was lost or late,
--- and one
+-- no more is read than so many bytes a round
+abbrev pub EnoughRounds : Type 0
+EnoughRounds = (s : Setup) (reads : List (List ℕ)) (n : ℕ) → StartsFits s →
+    (after s reads n).status ≡ Done →
+    length (after s reads n).given ≤ (after s reads n).rounds * s.chunk
+
+-- over a link that loses and delays nothing each round writes some
+abbrev pub RoundsAtOnce : Type 0
+RoundsAtOnce = (s : Setup) (reads : List (List ℕ)) (n : ℕ) → CanPass s (after s reads n) →
+    AllCome s.fates → AllCome s.ack_fates →
+    (after s reads n).rounds ≤ length (after s reads n).given
+
+-- two rounds for each byte that was read, and one for each frame or acknowledgement that was lost or
+-- late
 abbrev pub FewRounds : Type 0
 FewRounds = (s : Setup) (reads : List (List ℕ)) (n : ℕ) → CanPass s (after s reads n) →
     (after s reads n).rounds ≤ 2 * length (after s reads n).given
-    + (after s reads n).link.counts.lost + (after s reads n).link.counts.late + 1
+    + (after s reads n).link.counts.lost + (after s reads n).link.counts.late
 
 -- whatever the link does
 abbrev pub FewRoundsAnyway : Type 0
@@ -139,3 +187,51 @@ RoundKeeps = (l : LinkState) → FewLate l → FewLate (round l)
 
 abbrev pub CopyKeeps : Type 0
 CopyKeeps = (s : Setup) (reads : List (List ℕ)) (n : ℕ) → FewLate (after s reads n).link
+
+-- ---- an ended copy
+abbrev pub HasEnded : CopyState → Type 0
+HasEnded c = c.status ≡ Running → ⊥
+
+-- it stays as it is
+abbrev pub Stays : Type 0
+Stays = (s : Setup) (reads : List (List ℕ)) (n k : ℕ) → HasEnded (after s reads n) →
+    after s reads (n + k) ≡ after s reads n
+
+-- what comes of a copy is what came of it when it had ended, after however many turns
+abbrev pub CopiedIs : Type 0
+CopiedIs = (s : Setup) (reads : List (List ℕ)) (n : ℕ) → StartsFits s → HasEnded (after s reads n) →
+    copied s reads ≡ outcome (after s reads n)
+
+-- ---- readers that fill what they are asked for
+-- whether the input's end comes, and no read fails before it
+abbrev pub has_end : List (List ℕ) → Bool
+has_end [] = false
+has_end ([] ∷ reads) = true
+has_end ((x ∷ xs) ∷ reads) = has_end reads
+
+-- a copy asks its reader for bytes
+pub record Asks (chunk : ℕ) (c : CopyState) : Type 0 where
+  pub running : c.status ≡ Running
+  pub more : c.more ≡ true
+  pub room : 0 < room_for chunk c.link
+  pub written : is_written c.link ≡ true
+
+-- if it does, the reader has as many bytes as there is room for, or no bytes after these
+abbrev pub FillsAt : ℕ → CopyState → Type 0
+FillsAt chunk c = (xs : List ℕ) (rest : List (List ℕ)) → Asks chunk c → c.reads ≡ xs ∷ rest →
+    (room_for chunk c.link ≤ length xs) ⊎ (before_end rest ≡ [])
+
+-- each read fills its room, but for the last one before the input's end
+abbrev pub Fills : Setup → List (List ℕ) → Type 0
+Fills s reads = (n : ℕ) → FillsAt s.chunk (after s reads n)
+
+-- what comes of a copy then depends on the bytes alone, however the reads cut them
+abbrev pub SameBytes : Type 0
+SameBytes = (s : Setup) (reads others : List (List ℕ)) → StartsFits s → Fills s reads → Fills s others →
+    has_end reads ≡ has_end others → before_end reads ≡ before_end others →
+    copied s reads ≡ copied s others
+
+-- so it is what comes of a copy whose reader has all of them at once
+abbrev pub AllAtOnce : Type 0
+AllAtOnce = (s : Setup) (reads : List (List ℕ)) → StartsFits s → Fills s reads → has_end reads ≡ true →
+    copied s reads ≡ copied s (before_end reads ∷ [] ∷ [])

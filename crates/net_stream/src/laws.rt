@@ -9,10 +9,12 @@ mod bounds;
 mod ends;
 mod streams;
 
-pub use bounds::{fuel, late_frames, rounds_anyway, sent_frames};
-pub use ends::{all_come, delays, gives_up, gives_up_if_failed, rounds};
+pub use bounds::{ended, fuel, late_frames, rounds_anyway, sent_frames};
+pub use ends::{
+    all_come, counts, delays, enough_rounds, gives_up, gives_up_counted, gives_up_if_failed, rounds,
+};
 pub(crate) use streams::known;
-pub use streams::{all, is_written, prefix, stays_on_its_way};
+pub use streams::{all, filling_reads, is_written, prefix, stays_on_its_way, worked_copy};
 
 /// What follows where every frame and every acknowledgement comes: so do the next ones, however
 /// many, and no round is stuck.

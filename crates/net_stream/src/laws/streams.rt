@@ -1,7 +1,9 @@
 //! What becomes of the stream on a link, and what a copy writes.
 ghost use Rattle.net_stream.specs.Promises.{WritesPrefix, WritesAll};
+ghost use Rattle.net_stream.specs.Promises.{SameBytes, AllAtOnce};
 ghost use Rattle.net_stream.specs.Streams.{Known, RoundCarries, StopCarries};
 ghost use Rattle.net_stream.specs.Streams.{ReadWrites, PassWrites, AllWritten};
+ghost use Rattle.net_stream.specs.WorkedCopy.{WorkedCopy};
 
 use crate::frame::frames_decode;
 use net_receiver::laws;
@@ -53,4 +55,23 @@ pub fn all()
     ensures { WritesAll }
 {
     known();
+}
+
+/// For a reader that fills what it is asked for, what comes of a copy depends on its bytes alone: it is
+/// what comes of one whose reader has all of them at once.
+pub fn filling_reads()
+    ensures same { SameBytes }
+    ensures at_once { AllAtOnce }
+{
+    known();
+}
+
+/// A copy computed in full: two bytes in frames of one byte, of which the first is lost once. It shows what
+/// the definitions mean.
+pub fn worked_copy()
+    ensures { WorkedCopy }
+{
+    laws::schedules();
+    laws::states();
+    laws::computed();
 }
