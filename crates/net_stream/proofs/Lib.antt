@@ -27,6 +27,7 @@ pub mod GivesUp
 pub mod StuckRounds
 pub mod Failed
 pub mod CountedTurns
+pub mod Brings
 pub mod Sizes
 pub mod Fuel
 pub mod Filling

@@ -9,7 +9,7 @@ use Rattle.net_stream.specs.Passing.{coming_of, late_of, receiver_after_all, ack
 use Rattle.net_stream.specs.Fates.{fates_after}
 use Rattle.net_stream.specs.Links.{Passes, RoundPasses}
 use Rattle.net_stream.specs.LinkState.{LinkState, transmit, late_frames, pass_frames, acknowledge_all, late_acks, pass_acks, with_flight, round}
-use Rattle.net_stream.specs.Promises.{frames_sent, acks_sent}
+use Rattle.net_stream.specs.Promises.{acks_sent}
 use Rattle.net_stream.proofs.Counted.{same_equal, same_met}
 use Rattle.net_stream.proofs.Meeting.{brought_append, acks_append}
 use Rattle.net_stream.proofs.Reached.{acked_append}
@@ -76,7 +76,7 @@ module _ (s : LinkState) (ahead : List (List ℕ)) (c0 c1 c2 : FrameCounts) wher
 -- and these are the frames and acknowledgements that it sends
 pub record RoundSends (s z : LinkState) : Type 0 where
   pub passes : Passes s z
-  pub frames : length passes.sent.ahead ≡ frames_sent s
+  pub ahead : passes.sent.ahead ≡ (transmit s).there.ahead
   pub acks : length passes.acks ≡ acks_sent s
 
 pub round_sends : (s : LinkState) → s.counts.payload < 2 ^ 64 → RoundSends s (round s)
@@ -105,7 +105,7 @@ round_sends s fits =
     subst (λ z. RoundSends s (with_flight z)) (sym is_z) (record {
       passes = passes_by s ahead t.counts c1 c2 n (subst (SendsRound s.sender (at_least_one s.payload) (at_least_one s.flight) n s.there) path sent.sent)
           sent.counted one.counted two.counted;
-      frames = refl;
+      ahead = refl;
       acks = sym (ap (λ v. length (acknowledge_all v).back.ahead) is_v);
     })
 

@@ -43,7 +43,7 @@ says_ends f w pos (x ∷ xs) says =
     (cases_lt (pos + length xs) f)
 
 -- ---- one frame
-reach_cases : (P : ℕ → Type 0) (p pos n : ℕ) → (pos ≤ p → P (max p n)) → P p → P (cond (nat_le pos p) (max p n) p)
+pub reach_cases : (P : ℕ → Type 0) (p pos n : ℕ) → (pos ≤ p → P (max p n)) → P p → P (cond (nat_le pos p) (max p n) p)
 reach_cases P p pos n near far =
     ⊎_elim
     (λ (l : p < pos). subst P (sym (cond-false _ _ _ (lt-leb pos p l))) far)
@@ -125,7 +125,7 @@ no_gap most r ranges pos sound had marked =
     (cases_lt (stored_next r) pos)
 
 -- once the first frame has come, the others bring the receiver as far
-brought : (most : ℕ) (ranges : List (ℕ × ℕ)) (end : ℕ) (r : Stored) (m : ℕ) (frame : List ℕ) (frames : List (List ℕ)) → IsSound most r →
+pub brought : (most : ℕ) (ranges : List (ℕ × ℕ)) (end : ℕ) (r : Stored) (m : ℕ) (frame : List ℕ) (frames : List (List ℕ)) → IsSound most r →
     HasRanges r ranges → reach_one (stored_next r) (segment_of frame) ≤ m →
     Reaches ranges end (stored_next r) (frame ∷ frames) → Reaches ranges end m frames
 brought most ranges end r m frame frames sound had far reaches =

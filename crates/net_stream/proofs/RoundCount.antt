@@ -30,14 +30,14 @@ pub more_still : (n n' b b' r r' f x x' : ℕ) → b' ≡ b → r' ≡ r → min
 more_still n n' b b' r r' f x x' same same_read more one few = omega arith
 
 -- ---- where every frame comes at once
-coming_all : (v : FatesSeen) (frames : List (List ℕ)) → NextCome (length frames) v → coming_of v frames ≡ frames
+pub coming_all : (v : FatesSeen) (frames : List (List ℕ)) → NextCome (length frames) v → coming_of v frames ≡ frames
 coming_all v [] come = refl
 coming_all v (x ∷ xs) come =
     let c = coming_of (after_fate v) xs in
     cond-true _ (x ∷ c) c come.0 ∙ ap (λ l. x ∷ l) (coming_all (after_fate v) xs come.1)
 
 -- the last acknowledgement comes, and the sender keeps what the receiver lacks
-base_meets : FramesDecode → (old new : LinkState) (p : Passes old new) → AllCome old.back.fates → new.sender.base ≤ stored_next new.receiver →
+pub base_meets : FramesDecode → (old new : LinkState) (p : Passes old new) → NextCome (length p.acks) old.back.fates → new.sender.base ≤ stored_next new.receiver →
     stored_next new.receiver ≤ end_of old.sender → end_of old.sender < 2 ^ 64 → new.sender.base ≡ stored_next new.receiver
 base_meets trip old new p come behind within word =
     ap (λ v. v.base) is ∙ acked_last trip old.sender n xs earlier within (omega (arith, within, word)) (subst (λ v. v.base ≤ n) is behind)
@@ -55,7 +55,7 @@ base_meets trip old new p come behind within word =
     earlier = old.back.late ++ (old.back.ahead ++ sent_back)
 
     acks : coming_of old.back.fates p.acks ≡ (old.back.ahead ++ sent_back) ++ frame_of n xs ∷ []
-    acks = coming_all old.back.fates p.acks (next_come (length p.acks) old.back.fates come) ∙ p.acks_are
+    acks = coming_all old.back.fates p.acks come ∙ p.acks_are
 
     is : new.sender ≡ after_ack_frames old.sender (earlier ++ frame_of n xs ∷ [])
     is = p.acked ∙ ap (λ a. after_ack_frames old.sender (old.back.late ++ a)) acks
@@ -100,7 +100,7 @@ round_at_once trip queue f w old new last room p keeps moves word handed carries
         omega (arith, q, begin, end, end1)
 
     met : new.sender.base ≡ stored_next new.receiver
-    met = base_meets trip old new p come_back carries1.behind within word
+    met = base_meets trip old new p (next_come (length p.acks) old.back.fates come_back) carries1.behind within word
 
     on : length old.receiver.queue ≡ 0 → stored_next old.receiver < stored_next new.receiver
     on empty =

@@ -33,7 +33,7 @@ use Rattle.net_stream.proofs.Moved.{queue_from}
 use Rattle.net_stream.proofs.Meeting.{brought_append}
 
 -- ---- lists
-All-both : {X : Type 0} (P : X → Type 0) (xs ys : List X) → All P xs → All P ys → All P (xs ++ ys)
+pub All-both : {X : Type 0} (P : X → Type 0) (xs ys : List X) → All P xs → All P ys → All P (xs ++ ys)
 All-both P [] ys a b = b
 All-both P (x ∷ xs) ys a b = All-cons P x (xs ++ ys) (All-head P x xs a) (All-both P xs ys (All-tail P x xs a) b)
 
@@ -84,7 +84,7 @@ pub record Numbers : Type 0 where
   pub capacity : CapacityStays
 
 module _ (numbers : Numbers) where
-  arrived_grows : (N : ℕ) (r : Stored) (o : Option (ℕ × List ℕ)) → stored_next r ≤ stored_next (receiver_after N r o)
+  pub arrived_grows : (N : ℕ) (r : Stored) (o : Option (ℕ × List ℕ)) → stored_next r ≤ stored_next (receiver_after N r o)
   arrived_grows N r None = omega arith
   arrived_grows N r (Some (pos, xs)) = both (nat_lt (pos + length xs) (2 ^ 64))
     where
@@ -92,7 +92,7 @@ module _ (numbers : Numbers) where
       both true = numbers.next N r (Segment pos xs)
       both false = omega arith
 
-  arrived_limit : (N : ℕ) (r : Stored) (o : Option (ℕ × List ℕ)) → limit_of (receiver_after N r o) ≡ limit_of r
+  pub arrived_limit : (N : ℕ) (r : Stored) (o : Option (ℕ × List ℕ)) → limit_of (receiver_after N r o) ≡ limit_of r
   arrived_limit N r None = refl
   arrived_limit N r (Some (pos, xs)) = both (nat_lt (pos + length xs) (2 ^ 64))
     where
@@ -100,11 +100,11 @@ module _ (numbers : Numbers) where
       both true = λ i. numbers.first N r (Segment pos xs) i + numbers.read N r pos xs i + numbers.capacity N r (Segment pos xs) i
       both false = refl
 
-  brought_grows : (N : ℕ) (r : Stored) (frames : List (List ℕ)) → stored_next r ≤ stored_next (receiver_after_all N r frames)
+  pub brought_grows : (N : ℕ) (r : Stored) (frames : List (List ℕ)) → stored_next r ≤ stored_next (receiver_after_all N r frames)
   brought_grows N r [] = omega arith
   brought_grows N r (x ∷ xs) = le_trans (arrived_grows N r (segment_of x)) (brought_grows N (receiver_after N r (segment_of x)) xs)
 
-  brought_limit : (N : ℕ) (r : Stored) (frames : List (List ℕ)) → limit_of (receiver_after_all N r frames) ≡ limit_of r
+  pub brought_limit : (N : ℕ) (r : Stored) (frames : List (List ℕ)) → limit_of (receiver_after_all N r frames) ≡ limit_of r
   brought_limit N r [] = refl
   brought_limit N r (x ∷ xs) = brought_limit N (receiver_after N r (segment_of x)) xs ∙ arrived_limit N r (segment_of x)
 

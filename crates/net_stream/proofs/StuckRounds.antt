@@ -45,13 +45,13 @@ fates_count (suc n) v c = fates_count n (after_fate v) (with_fate (next_fate v) 
 
 -- frames that come leave a receiver sound
 module _ (stays : SoundStays) where
-  one_sound : (r : Stored) (o : Option (ℕ × List ℕ)) → IsSound most_reported r → IsSound most_reported (receiver_after most_reported r o)
+  pub one_sound : (r : Stored) (o : Option (ℕ × List ℕ)) → IsSound most_reported r → IsSound most_reported (receiver_after most_reported r o)
   one_sound r None h = h
   one_sound r (Some (pos, xs)) h =
       split (IsSound most_reported) (nat_lt (pos + length xs) (2 ^ 64)) (stored_after most_reported r (Segment pos xs)) r
       (λ _. stays most_reported r (Segment pos xs) h) (λ _. h)
 
-  all_sound : (r : Stored) (frames : List (List ℕ)) → IsSound most_reported r → IsSound most_reported (receiver_after_all most_reported r frames)
+  pub all_sound : (r : Stored) (frames : List (List ℕ)) → IsSound most_reported r → IsSound most_reported (receiver_after_all most_reported r frames)
   all_sound r [] h = h
   all_sound r (frame ∷ frames) h = all_sound (receiver_after most_reported r (segment_of frame)) frames (one_sound r (segment_of frame) h)
 
@@ -211,7 +211,7 @@ module _ (known : KnownOfRounds) where
             let moves = round_moves old new p known.known.decode numbers known.order known.known.queue fed.sound (omega arith) in
             let stuck = step_moves (length p.sent.ahead) (length p.acks) s.first e.given old new (pass s.chunk e).link s.chunk leaves moves refl writes.carries.way
             fed.ahead fed.ahead_back some_kept some_room can.chunk still.0 (omega arith) in
-            subst (λ n. IsStuck n (acks_sent old) old (pass s.chunk e).link) sends.frames
+            subst (λ n. IsStuck n (acks_sent old) old (pass s.chunk e).link) (ap length sends.ahead)
             (subst (λ n. IsStuck (length p.sent.ahead) n old (pass s.chunk e).link) sends.acks stuck)
           where
             some_kept : 0 < length e.link.sender.queue

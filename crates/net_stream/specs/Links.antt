@@ -4,9 +4,10 @@
 --     HasRoomFor link      the receiver's free window ends at or behind the sender's end
 --     Passes old new      what a round leaves
 --     Round old new      the same, and what it brings if its frames and acknowledgements all come
+--     RoundBrings      a law: that is what a round brings
 use Rattle.std.specs.Prelude.{◌≡◌, ℕ, ◌+◌, ◌^◌, ◌<◌, ◌≤◌, List, [], ◌∷◌, ◌++◌, length}
 use Rattle.std.specs.Prelude.{false}
-use Rattle.net_receiver.specs.Stored.{stored_next}
+use Rattle.net_receiver.specs.Stored.{IsSound, stored_next}
 use Rattle.net_stream.specs.Reported.{count_outside, most_reported, is_full}
 use Rattle.net_stream.specs.Counting.{with_fates, SameButRefused, with_payload}
 use Rattle.net_stream.specs.Outgoing.{end_of}
@@ -72,3 +73,8 @@ pub record Round (old new : LinkState) : Type 0 where
       → (stored_next new.receiver ≡ end_of old.sender) × (length new.sender.queue ≡ 0))
   pub all : length (frames_from old.sender.base passed.all.prefix.parts) < at_least_one old.flight
       → is_full old.sender.reported ≡ false → passed.n ≡ length old.sender.queue
+
+-- so is each round, if the bytes counted and the sender's positions fit 64 bits
+abbrev pub RoundBrings : Type 0
+RoundBrings = (s : LinkState) → s.counts.payload < 2 ^ 64 → IsSound most_reported s.receiver →
+    end_of s.sender < 2 ^ 64 → Round s (round s)

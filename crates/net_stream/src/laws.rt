@@ -11,7 +11,8 @@ mod streams;
 
 pub use bounds::{ended, fuel, late_frames, rounds_anyway, sent_frames};
 pub use ends::{
-    all_come, counts, delays, enough_rounds, gives_up, gives_up_counted, gives_up_if_failed, rounds,
+    all_come, counts, delays, enough_rounds, gives_up, gives_up_counted, gives_up_if_failed,
+    round_brings, rounds,
 };
 pub(crate) use streams::known;
 pub use streams::{all, filling_reads, is_written, prefix, stays_on_its_way, worked_copy};

@@ -3,6 +3,7 @@ ghost use Rattle.net_stream.specs.Promises.{GivesUpAfter, NeverLater, GivesUpIfF
 ghost use Rattle.net_stream.specs.Promises.{NeverByDelays, EndsIfAllCome, FewRounds};
 ghost use Rattle.net_stream.specs.Promises.{CountsRounds, CountsEachFate, GivesUpCounted, EnoughFailed};
 ghost use Rattle.net_stream.specs.Promises.{Unfinished, EnoughRounds, RoundsAtOnce};
+ghost use Rattle.net_stream.specs.Links.{RoundBrings};
 ghost use Rattle.net_stream.specs.Stuck.{KnownOfRounds};
 
 use super::streams;
@@ -78,6 +79,14 @@ pub fn gives_up_counted()
 pub fn enough_rounds()
     ensures least { EnoughRounds }
     ensures at_once { RoundsAtOnce }
+{
+    known_of_rounds();
+}
+
+/// What a round brings if all its frames and acknowledgements come, and the receiver's free window has
+/// room for all that the sender has queued: the receiver has all that was sent, and the queue is the rest.
+pub fn round_brings()
+    ensures { RoundBrings }
 {
     known_of_rounds();
 }
