@@ -105,11 +105,12 @@ module _ (known : Known) (s : Setup) (fits : StartsFits s) where
       let r = drop d.link.receiver.read c.given in
       let n = p.1.0 in
       let all : (c.written ++ q) ++ r ≡ c.given =
-      ap (λ (l : LinkState). (c.written ++ take s.chunk l.receiver.queue) ++ r) p.0 ∙ written_rest d s.first (pass_writes known s.first c.given s.chunk c h) in
-      (drop n q ++ r,
-      append_assoc c.written w (drop n q ++ r)
-      ∙ ap (λ l. c.written ++ l) (sym (append_assoc w (drop n q) r) ∙ ap (λ l. l ++ r) (ap (λ l. l ++ drop n q) p.1.2 ∙ take-append-drop n q))
-      ∙ sym (append_assoc c.written q r) ∙ all)
+      ap (λ (l : LinkState). (c.written ++ take s.chunk l.receiver.queue) ++ r) p.0 ∙ written_rest d s.first (pass_writes known s.first c.given s.chunk c h) in (
+        drop n q ++ r,
+        append_assoc c.written w (drop n q ++ r)
+            ∙ ap (λ l. c.written ++ l) (sym (append_assoc w (drop n q) r) ∙ ap (λ l. l ++ r) (ap (λ l. l ++ drop n q) p.1.2 ∙ take-append-drop n q))
+            ∙ sym (append_assoc c.written q r) ∙ all,
+      )
   part_rest errors.GaveUp c link w p h = absurd p
   part_rest errors.ReadFailed c link w p h = absurd p
 
