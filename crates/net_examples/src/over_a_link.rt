@@ -2,11 +2,11 @@ ghost use Rattle.std.specs.Prelude.{◌≡◌, ◌+◌, ◌-◌, ◌^◌, ◌<�
 ghost use Rattle.std.specs.Result.{is_ok};
 ghost use Rattle.net_stream.specs.Copying.{Copies, gave_up};
 
-use net_stream::{Config, Counts, Fates, LinkError, Rates, copy};
+use net_stream::{Config, Counts, Fates, LinkError, LinkFates, Rates, copy};
 use std::alloc::Allocator;
 use std::io::{Read, Write};
 
-/// Copies over a link that loses a fifth of its frames. It gives up only once a hundred frames or
+/// Copies over a link that loses a fifth of its frames. If it gives up, a hundred frames or
 /// acknowledgements were lost or came late, unless the reader gave 2^64 - 1 bytes.
 pub fn over_a_bad_link<A: Allocator + Copy, R: Read, W: Write>(
     alloc: A,
@@ -32,7 +32,9 @@ pub fn over_a_bad_link<A: Allocator + Copy, R: Read, W: Write>(
         flight: 4_096,
         rounds: 100,
     };
-    let fates = Fates::new(&[], 1, rates);
-    let ack_fates = Fates::new(&[], 2, rates);
-    copy(alloc, config, fates, ack_fates, reader, writer, counts)
+    let fates = LinkFates {
+        frames: Fates::new(&[], 1, rates),
+        acks: Fates::new(&[], 2, rates),
+    };
+    copy(alloc, config, fates, reader, writer, counts)
 }

@@ -9,7 +9,7 @@ use net_examples::{
 };
 use net_receiver::Receiver;
 use net_ring::{ManagedSlice, RingBuffer};
-use net_stream::{Counts, Fates, Link, Rates};
+use net_stream::{Counts, Fates, Link, LinkFates, Rates};
 use net_uses::{Endpoint, forward_lists};
 use std::alloc::{AllocError, Global};
 
@@ -99,8 +99,10 @@ fn reply_to(
         4,
         ManagedSlice::Borrowed(&mut kept),
         ManagedSlice::Borrowed(&mut came),
-        Fates::new(&[], 1, rates),
-        Fates::new(&[], 2, rates),
+        LinkFates {
+            frames: Fates::new(&[], 1, rates),
+            acks: Fates::new(&[], 2, rates),
+        },
     );
     let mut kept = [0u8; 4];
     let mut came = [0u8; 4];
@@ -111,8 +113,10 @@ fn reply_to(
         4,
         ManagedSlice::Borrowed(&mut kept),
         ManagedSlice::Borrowed(&mut came),
-        Fates::new(&[], 3, rates),
-        Fates::new(&[], 4, rates),
+        LinkFates {
+            frames: Fates::new(&[], 3, rates),
+            acks: Fates::new(&[], 4, rates),
+        },
     );
     let mut heard = [0u8; 16];
     ask(
