@@ -7,7 +7,7 @@ use Rattle.net_stream.specs.declared.fate.Fate.{Fate}
 use Rattle.net_stream.specs.declared.fate.Fate.TheVariants.{Delivered, Lost, Repeated, Late}
 use Rattle.net_stream.specs.Fates.{FatesSeen, next_fate, after_fate, fates_after}
 use Rattle.net_stream.specs.Counting.{with_fate, with_fates, SameButRefused, with_payload, no_frames}
-use Rattle.net_stream.specs.declared.link.Link.{Link}
+use Rattle.net_stream.specs.LinkState.{LinkState}
 use Rattle.net_stream.specs.Links.{Passes}
 use Rattle.net_stream.specs.Reported.{count_outside}
 use Rattle.net_stream.specs.Rounds.{CountsBrokenRound, fates_only, CountsFates, FatesSoFar}
@@ -45,7 +45,7 @@ met_more zero n v c = ap (λ j. with_fates j v c) (let e : n ≡ 0 + n = omega a
 met_more (suc m) n v c = met_more m n (after_fate v) (with_fate (next_fate v) c)
     ∙ ap (λ j. with_fates j v c) (let e : suc (m + n) ≡ suc m + n = omega arith in e)
 
-after_more : (m n : ℕ) (v : FatesSeen) → fates_after n (fates_after m v) ≡ fates_after (m + n) v
+pub after_more : (m n : ℕ) (v : FatesSeen) → fates_after n (fates_after m v) ≡ fates_after (m + n) v
 after_more zero n v = ap (λ j. fates_after j v) (let e : n ≡ 0 + n = omega arith in e)
 after_more (suc m) n v = after_more m n (after_fate v) ∙ ap (λ j. fates_after j v) (let e : suc (m + n) ≡ suc m + n = omega arith in e)
 
@@ -81,7 +81,7 @@ pub part_met : (v v' u u' : FatesSeen) (c d : FrameCounts) → CountsBrokenRound
 part_met v v' u u' c d part h =
     record { frames = h.frames + part.frames; acks = h.acks + part.acks; counted = more_met v v' u u' c d part.bytes part.frames part.acks part.counted h }
 
-pub round_met : {A : Type 0} (v v' : FatesSeen) (old new : Link A) → Passes old new → FatesSoFar v v' old.there.fates old.back.fates old.counts →
+pub round_met : (v v' : FatesSeen) (old new : LinkState) → Passes old new → FatesSoFar v v' old.there.fates old.back.fates old.counts →
     FatesSoFar v v' new.there.fates new.back.fates new.counts
 round_met v v' old new round h =
     let s = old.sender in

@@ -15,7 +15,7 @@ use Rattle.net_stream.specs.Outgoing.{end_of}
 use Rattle.net_stream.specs.Links.{Carries}
 use Rattle.net_stream.specs.Copying.{CopiesSoFar, HandsOut, HandsOutPrefix, Copies, gave_up}
 use Rattle.net_stream.specs.declared.counts.Counts.{Counts}
-use Rattle.net_stream.specs.declared.link.Link.{Link}
+use Rattle.net_stream.specs.LinkState.{LinkState}
 use Rattle.net_stream.specs.declared.error.LinkError.{LinkError}
 use Rattle.net_stream.specs.declared.error.LinkError.TheVariants.{WriteFailed}
 use Rattle.net_stream.proofs.Reached.{first_is}
@@ -84,9 +84,9 @@ handed_prefix f v held holds into into' count before after n queue e is counted 
     }
 
 -- ---- steps of what is on its way
-module _ {A : Type 0} (f : ℕ) (old held : Option (List ℕ)) where
+module _ (f : ℕ) (old held : Option (List ℕ)) where
   -- the reader gave some bytes
-  pub fed : QueueIsOfStream → (l m : Link A) (c d : Counts) (now next holds : Option (List ℕ)) (more more' : Bool) (bs : List ℕ) → Consumes now next bs →
+  pub fed : QueueIsOfStream → (l m : LinkState) (c d : Counts) (now next holds : Option (List ℕ)) (more more' : Bool) (bs : List ℕ) → Consumes now next bs →
       ((w : List ℕ) → Carries f w l → Carries f (w ++ bs) m) → m.receiver ≡ l.receiver →
       d.taken ≡ min (c.taken + length bs) (2 ^ 64 - 1) → d.bytes ≡ c.bytes → end_of l.sender + length bs < 2 ^ 64 → (more' ≡ false → IsAtEnd next) →
       CopiesSoFar f l c old now held holds more → CopiesSoFar f m d old next held holds more'
@@ -109,7 +109,7 @@ module _ {A : Type 0} (f : ℕ) (old held : Option (List ℕ)) where
       }
 
   -- the reader was asked, and gave nothing
-  pub asked : (l : Link A) (c : Counts) (now next holds : Option (List ℕ)) (more more' : Bool) → Consumes now next [] → (more' ≡ false → IsAtEnd next) →
+  pub asked : (l : LinkState) (c : Counts) (now next holds : Option (List ℕ)) (more more' : Bool) → Consumes now next [] → (more' ≡ false → IsAtEnd next) →
       CopiesSoFar f l c old now held holds more → CopiesSoFar f l c old next held holds more'
   asked l c now next holds more more' consumed ended moving =
       record {
@@ -123,7 +123,7 @@ module _ {A : Type 0} (f : ℕ) (old held : Option (List ℕ)) where
       }
 
   -- time or a round was passed
-  pub passed : (l m : Link A) (c d : Counts) (now holds : Option (List ℕ)) (more : Bool) → ((w : List ℕ) → Carries f w l → Carries f w m) →
+  pub passed : (l m : LinkState) (c d : Counts) (now holds : Option (List ℕ)) (more : Bool) → ((w : List ℕ) → Carries f w l → Carries f w m) →
       m.receiver.read ≡ l.receiver.read → d.taken ≡ c.taken → d.bytes ≡ c.bytes →
       CopiesSoFar f l c old now held holds more → CopiesSoFar f m d old now held holds more
   passed l m c d now holds more carries read taken bytes moving =
@@ -138,7 +138,7 @@ module _ {A : Type 0} (f : ℕ) (old held : Option (List ℕ)) where
       }
 
   -- the receiver handed out some bytes
-  pub handed : QueueIsOfStream → (l m : Link A) (c d : Counts) (now holds holds' : Option (List ℕ)) (more : Bool) →
+  pub handed : QueueIsOfStream → (l m : LinkState) (c d : Counts) (now holds holds' : Option (List ℕ)) (more : Bool) →
       ((w : List ℕ) → Carries f w l → Carries f w m) → HandsOut f l.receiver m.receiver holds holds' c.bytes d.bytes → d.taken ≡ c.taken →
       end_of m.sender < 2 ^ 64 →
       CopiesSoFar f l c old now held holds more → CopiesSoFar f m d old now held holds' more
@@ -165,7 +165,7 @@ module _ {A : Type 0} (f : ℕ) (old held : Option (List ℕ)) where
         ended = moving.ended;
       }
 
-  pub handed_less : (l : Link A) (c d : Counts) (now holds holds' : Option (List ℕ)) (more : Bool) →
+  pub handed_less : (l : LinkState) (c d : Counts) (now holds holds' : Option (List ℕ)) (more : Bool) →
       HandsOutPrefix f l.receiver holds holds' c.bytes d.bytes → d.taken ≡ c.taken → QueueIsOfStream → end_of l.sender < 2 ^ 64 →
       CopiesSoFar f l c old now held holds more → Copies old now held holds' d.taken d.bytes false
   handed_less l c d now holds holds' more h taken queue word moving =
@@ -190,7 +190,7 @@ module _ {A : Type 0} (f : ℕ) (old held : Option (List ℕ)) where
         whole = λ n. absurd (both_ways false refl n);
       }
 
-  pub so_far : QueueIsOfStream → (l : Link A) (c : Counts) (now holds : Option (List ℕ)) (more : Bool) → CopiesSoFar f l c old now held holds more →
+  pub so_far : QueueIsOfStream → (l : LinkState) (c : Counts) (now holds : Option (List ℕ)) (more : Bool) → CopiesSoFar f l c old now held holds more →
       Copies old now held holds c.taken c.bytes false
   so_far queue l c now holds more moving =
       let w = moving.given in
@@ -208,7 +208,7 @@ module _ {A : Type 0} (f : ℕ) (old held : Option (List ℕ)) where
         whole = λ n. absurd (both_ways false refl n);
       }
 
-  pub all_done : QueueIsOfStream → (l : Link A) (c : Counts) (now holds : Option (List ℕ)) (more : Bool) → more ≡ false →
+  pub all_done : QueueIsOfStream → (l : LinkState) (c : Counts) (now holds : Option (List ℕ)) (more : Bool) → more ≡ false →
       stored_next l.receiver ≡ end_of l.sender → length l.receiver.queue ≡ 0 → CopiesSoFar f l c old now held holds more →
       Copies old now held holds c.taken c.bytes true
   all_done queue l c now holds more none came handed_all moving =
@@ -230,7 +230,7 @@ module _ {A : Type 0} (f : ℕ) (old held : Option (List ℕ)) where
       }
 
   -- nothing was read or written yet
-  pub nothing_moved : (l : Link A) (c : Counts) → Carries f [] l → l.receiver.read ≡ 0 → c.taken ≡ 0 → c.bytes ≡ 0 → CopiesSoFar f l c old old held held true
+  pub nothing_moved : (l : LinkState) (c : Counts) → Carries f [] l → l.receiver.read ≡ 0 → c.taken ≡ 0 → c.bytes ≡ 0 → CopiesSoFar f l c old old held held true
   nothing_moved l c carries read taken bytes =
       record {
         given = [];

@@ -9,7 +9,7 @@ use Rattle.net_receiver.specs.OneStream.{QueueIsOfStream}
 use Rattle.net_stream.specs.Outgoing.{end_of}
 use Rattle.net_stream.specs.Frames.{frame_of, FramesDecode}
 use Rattle.net_stream.specs.Reported.{most_reported, range_bytes}
-use Rattle.net_stream.specs.declared.link.Link.{Link}
+use Rattle.net_stream.specs.LinkState.{LinkState}
 use Rattle.net_stream.specs.Fates.{FatesSeen, next_fate, after_fate, comes, AllCome, NextCome}
 use Rattle.net_stream.specs.Progress.{after_ack_frames}
 use Rattle.net_stream.specs.Passing.{coming_of, acks_of}
@@ -29,15 +29,6 @@ pub more_still : (n n' b b' r r' f x x' : ℕ) → b' ≡ b → r' ≡ r → min
     n' ≤ (b' - f) + r' + x'
 more_still n n' b b' r r' f x x' same same_read more one few = omega arith
 
--- no more bytes are let go or written than were taken
-pub few_so_far : {A : Type 0} → QueueIsOfStream → (f : ℕ) (w : List ℕ) (l l1 : Link A) (n fails taken : ℕ) → Carries f w l1 →
-    l1.receiver.read ≡ l.receiver.read → end_of l.sender ≤ end_of l1.sender → length w ≡ taken →
-    n ≤ (l.sender.base - f) + l.receiver.read + fails → n ≤ 2 * taken + fails
-few_so_far queue f w l l1 n fails taken carries same grows long few =
-    let q = (queue_from queue f w l1.receiver carries.receives).within in
-    let end = carries.sends.end in
-    omega (arith, q, end, same, grows, long, few)
-
 -- ---- where every frame comes at once
 coming_all : (v : FatesSeen) (frames : List (List ℕ)) → NextCome (length frames) v → coming_of v frames ≡ frames
 coming_all v [] come = refl
@@ -46,7 +37,7 @@ coming_all v (x ∷ xs) come =
     cond-true _ (x ∷ c) c come.0 ∙ ap (λ l. x ∷ l) (coming_all (after_fate v) xs come.1)
 
 -- the last acknowledgement comes, and the sender keeps what the receiver lacks
-base_meets : {A : Type 0} → FramesDecode → (old new : Link A) (p : Passes old new) → AllCome old.back.fates → new.sender.base ≤ stored_next new.receiver →
+base_meets : FramesDecode → (old new : LinkState) (p : Passes old new) → AllCome old.back.fates → new.sender.base ≤ stored_next new.receiver →
     stored_next new.receiver ≤ end_of old.sender → end_of old.sender < 2 ^ 64 → new.sender.base ≡ stored_next new.receiver
 base_meets trip old new p come behind within word =
     ap (λ v. v.base) is ∙ acked_last trip old.sender n xs earlier within (omega (arith, within, word)) (subst (λ v. v.base ≤ n) is behind)
@@ -70,7 +61,7 @@ base_meets trip old new p come behind within word =
     is = p.acked ∙ ap (λ a. after_ack_frames old.sender (old.back.late ++ a)) acks
         ∙ ap (after_ack_frames old.sender) (sym (append_assoc old.back.late (old.back.ahead ++ sent_back) (frame_of n xs ∷ [])))
 
-never_fails : (frames acks : ℕ) (v v' : FatesSeen) → AllCome v → AllCome v' → FatesFail 0 frames acks v v' → ⊥
+pub never_fails : (frames acks : ℕ) (v v' : FatesSeen) → AllCome v → AllCome v' → FatesFail 0 frames acks v v' → ⊥
 never_fails frames acks v v' come come' stuck =
     ⊎_elim {C = ⊥}
     (λ (a : (0 < frames) × HasFailed 0 (next_fate v)). both_ways (comes (next_fate v)) a.1.0 (come_next v come).0)
@@ -78,8 +69,8 @@ never_fails frames acks v v' come come' stuck =
     stuck
 
 -- a round of a copy writes some
-pub round_at_once : {A : Type 0} → FramesDecode → QueueIsOfStream → (f : ℕ) (w : List ℕ) (old new last : Link A) (room : ℕ) (p : Passes old new) →
-    RoundLeaves old new → BringsOnOrIsStuck old new → end_of old.sender < 2 ^ 64 → last ≡ record new { receiver = stored_after_read new.receiver room } →
+pub round_at_once : FramesDecode → QueueIsOfStream → (f : ℕ) (w : List ℕ) (old new last : LinkState) (room : ℕ) (p : Passes old new) →
+    RoundLeaves old new → BringsOnOrIsStuck (length p.sent.ahead) (length p.acks) old new → end_of old.sender < 2 ^ 64 → last ≡ record new { receiver = stored_after_read new.receiver room } →
     Carries f w old → Carries f w new →
     old.there.ahead ≡ [] → old.back.ahead ≡ [] → AllCome old.there.fates → AllCome old.back.fates → old.sender.base ≡ stored_next old.receiver →
     0 < old.receiver.capacity → 0 < room → (length old.receiver.queue ≡ 0 → 0 < length old.sender.queue) →
@@ -118,7 +109,7 @@ round_at_once trip queue f w old new last room p keeps moves word handed carries
         (λ (l : stored_next new.receiver ≤ stored_next old.receiver).
         let still : stored_next new.receiver ≡ stored_next old.receiver = omega (arith, l, grows) in
         let one = moves f w carries none none_back (kept empty) (omega (arith, empty, cap)) still (met ∙ still ∙ sym meet) in
-        absurd (never_fails one.frames one.acks old.there.fates old.back.fates come come_back one.why))
+        absurd (never_fails (length p.sent.ahead) (length p.acks) old.there.fates old.back.fates come come_back one.why))
         (cases_lt (stored_next old.receiver) (stored_next new.receiver))
 
     more : 0 < length new.receiver.queue
@@ -127,13 +118,6 @@ round_at_once trip queue f w old new last room p keeps moves word handed carries
         (λ (l : 0 < length old.receiver.queue). omega (arith, l, grows, first, read))
         (λ (l : length old.receiver.queue ≤ 0). let far = on (omega (arith, l)) in omega (arith, far, first, read))
         (cases_lt 0 (length old.receiver.queue))
-
--- no more bytes are written than were taken
-pub at_once_so_far : {A : Type 0} → QueueIsOfStream → (f : ℕ) (w : List ℕ) (l : Link A) (n read taken : ℕ) → Carries f w l → l.receiver.read ≡ read →
-    length w ≡ taken → n ≤ read → n ≤ taken
-at_once_so_far queue f w l n read taken carries same long few =
-    let q = (queue_from queue f w l.receiver carries.receives).within in
-    omega (arith, q, same, long, few)
 
 -- ---- at least
 -- a round takes no more than there is room for

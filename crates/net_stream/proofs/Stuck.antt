@@ -10,23 +10,22 @@ use Rattle.net_receiver.specs.Rules.{Segment}
 use Rattle.net_receiver.specs.Stored.{Stored, IsSound, stored_next, stored_after, stored_after_read, domain}
 use Rattle.net_receiver.specs.OneStream.{FirstStays, NextGrows, SegmentReadsNothing, CapacityStays, QueueIsOfStream}
 use Rattle.net_receiver.specs.Retransmission.{Has, InOrderReaches}
-use Rattle.net_stream.specs.Outgoing.{Outgoing, sender_from, end_of, room_of}
+use Rattle.net_stream.specs.Outgoing.{Outgoing, sender_from, end_of}
 use Rattle.net_stream.specs.Frames.{Part, frame_of, frames_from, segment_of, FramesDecode}
 use Rattle.net_stream.specs.Reported.{count_outside, reports, most_reported, range_bytes, ranges_of}
 use Rattle.net_stream.specs.declared.counts.FrameCounts.{FrameCounts}
-use Rattle.net_stream.specs.declared.link.Link.{Link}
+use Rattle.net_stream.specs.LinkState.{LinkState}
 use Rattle.net_stream.specs.declared.fate.Fate.{Fate}
 use Rattle.net_stream.specs.declared.fate.Fate.TheVariants.{Delivered, Lost, Repeated, Late}
 use Rattle.net_stream.specs.Counting.{with_fate, with_fates, with_payload}
 use Rattle.net_stream.specs.Fates.{FatesSeen, next_fate, after_fate, fates_after, comes, comes_late, AllCome}
-use Rattle.net_stream.specs.Rounds.{CountsBrokenRound, FatesSoFar}
 use Rattle.net_stream.specs.Carrying.{ack_of, receiver_after}
 use Rattle.net_stream.specs.Sending.{at_least_one}
 use Rattle.net_stream.specs.Progress.{after_ack_frame, after_ack_frames, limit_of}
 use Rattle.net_stream.specs.Passing.{coming_of, late_of, receiver_after_all, ack_to, acks_of}
 use Rattle.net_stream.specs.Links.{Carries, Passes}
 use Rattle.net_stream.specs.Stuck.{failures, losses, RoundLeaves, BringsOnOrIsStuck, HasFailed, AllFail}
-use Rattle.net_stream.specs.Stuck.{FatesFail, FirstSays, IsDue, IsStuck, AreStuckTo, AreStuckAtLast}
+use Rattle.net_stream.specs.Stuck.{FatesFail, FirstSays, IsDue, IsStuck}
 use Rattle.net_stream.specs.Stuck.{NeverStuck}
 use Rattle.net_stream.proofs.Sent.{first_sent}
 use Rattle.net_stream.proofs.Reached.{come_next, missing, first_is, all_keep_end, acked_append}
@@ -252,13 +251,13 @@ HasMissing n frames = FirstSays frames (λ p e. (p ≤ n) × (n < e) × (e < 2 ^
 
 -- the receiver lacked the first byte that the sender keeps, and the first frame, which has it, didn't come at once; or it had
 -- that byte, and no acknowledgement came at once
-abbrev Lacked : {A : Type 0} (old new : Link A) → Passes old new → Type 0
+abbrev Lacked : (old new : LinkState) → Passes old new → Type 0
 Lacked old new p =
     (HasMissing (stored_next old.receiver) p.sent.ahead × (0 < length p.sent.ahead) × (comes (next_fate old.there.fates) ≡ false))
     ⊎ ((old.sender.base < stored_next old.receiver) × (coming_of old.back.fates p.acks ≡ [])
     × All (Acks (stored_next old.receiver) (stored_next old.receiver)) p.acks)
 
-rounds_move : {A : Type 0} → FramesDecode → Numbers → InOrderReaches → QueueIsOfStream → (f : ℕ) (w : List ℕ) (old new : Link A) (p : Passes old new) →
+rounds_move : FramesDecode → Numbers → InOrderReaches → QueueIsOfStream → (f : ℕ) (w : List ℕ) (old new : LinkState) (p : Passes old new) →
     IsSound most_reported old.receiver → Carries f w old → end_of old.sender < 2 ^ 64 → old.there.ahead ≡ [] → old.back.ahead ≡ [] →
     0 < length old.sender.queue →
     stored_next old.receiver < limit_of old.receiver → stored_next new.receiver ≡ stored_next old.receiver → new.sender.base ≡ old.sender.base →
@@ -384,13 +383,6 @@ failed_all : (n : ℕ) (v : FatesSeen) (c : FrameCounts) → failures c ≤ fail
 failed_all zero v c = omega arith
 failed_all (suc n) v c = le_trans (failed_met (next_fate v) c) (failed_all n (after_fate v) (with_fate (next_fate v) c))
 
--- also in a round that ends early
-pub part_failed : (v v' : FatesSeen) (old new : FrameCounts) → CountsBrokenRound v v' old new → failures old ≤ failures new
-part_failed v v' old new part =
-    let c = with_payload part.bytes old in
-    subst (λ n. failures old ≤ n) (sym (ap failures part.counted))
-    (le_trans (failed_all part.frames v c) (failed_all part.acks v' (with_fates part.frames v c)))
-
 failed_first : (n : ℕ) (v : FatesSeen) (c : FrameCounts) → 0 < n → comes (next_fate v) ≡ false → min (failures c + 1) (2 ^ 64 - 1) ≤ failures (with_fates n v c)
 failed_first zero v c some e = absurd (omega arith)
 failed_first (suc n) v c some e = le_trans (failed_fails (next_fate v) c e) (failed_all n (after_fate v) (with_fate (next_fate v) c))
@@ -487,37 +479,14 @@ all_fail_weaker : (k j n : ℕ) (v : FatesSeen) → (0 < j → 0 < k) → AllFai
 all_fail_weaker k j zero v h all = tt
 all_fail_weaker k j (suc n) v h all = (failed_weaker k j (next_fate v) h all.0, all_fail_weaker k j n (after_fate v) h all.1)
 
-stuck_weaker : (k j frames acks : ℕ) (v v' : FatesSeen) → (0 < j → 0 < k) → FatesFail k frames acks v v' → FatesFail j frames acks v v'
+pub stuck_weaker : (k j frames acks : ℕ) (v v' : FatesSeen) → (0 < j → 0 < k) → FatesFail k frames acks v v' → FatesFail j frames acks v v'
 stuck_weaker k j frames acks v v' h stuck =
     ⊎_elim {C = FatesFail j frames acks v v'}
     (λ (a : (0 < frames) × HasFailed k (next_fate v)). inl (a.0, failed_weaker k j (next_fate v) h a.1))
     (λ (b : (0 < acks) × AllFail k acks v'). inr (b.0, all_fail_weaker k j acks v' h b.1))
     stuck
 
--- none need follow
-stuck_last : (n : ℕ) (v v' u u' : FatesSeen) → AreStuckTo 1 n v v' u u' → AreStuckTo 0 n v v' u u'
-stuck_last zero v v' u u' to = to
-stuck_last (suc n) v v' u u' to =
-    (to.0, to.1, stuck_weaker (1 + n) (0 + n) to.0 to.1 v v' (λ some. omega arith) to.2, stuck_last n (fates_after to.0 v) (fates_after to.1 v') u u' to.3)
-
--- one more round that was stuck
-stuck_more : (follow n : ℕ) (v v' u u' : FatesSeen) (frames acks : ℕ) → AreStuckTo 1 n v v' u u' → FatesFail follow frames acks u u' →
-    AreStuckTo follow (suc n) v v' (fates_after frames u) (fates_after acks u')
-stuck_more follow zero v v' u u' frames acks to one = (
-  frames,
-  acks,
-  subst (λ k. FatesFail k frames acks v v') (let e : follow ≡ follow + 0 = omega arith in e)
-      (subst (λ x. FatesFail follow frames acks x v') to.0 (subst (FatesFail follow frames acks u) to.1 one)),
-  (ap (fates_after frames) to.0, ap (fates_after acks) to.1),
-)
-stuck_more follow (suc n) v v' u u' frames acks to one = (
-  to.0,
-  to.1,
-  stuck_weaker (1 + n) (follow + suc n) to.0 to.1 v v' (λ some. omega arith) to.2,
-  stuck_more follow n (fates_after to.0 v) (fates_after to.1 v') u u' frames acks to.3 one,
-)
-
-module _ {A : Type 0} (old new : Link A) (p : Passes old new) where
+module _ (old new : LinkState) (p : Passes old new) where
   acks_some : 0 < length p.acks
   acks_some = subst (λ l. 0 < length l) (sym p.acks_are)
       (let e = length-append (old.back.ahead ++ acks_of most_reported old.receiver p.came) (ack_of new.receiver ∷ []) in omega arith)
@@ -565,7 +534,7 @@ module _ {A : Type 0} (old new : Link A) (p : Passes old new) where
       subst (λ n. losses old.counts ≤ n) (sym same_lost)
       (le_trans (lost_all (length p.sent.ahead) old.there.fates c) (lost_all (length p.acks) old.back.fates m))
 
-  fates_left : new.there.fates ≡ fates_after (length p.sent.ahead) old.there.fates
+  pub fates_left : new.there.fates ≡ fates_after (length p.sent.ahead) old.there.fates
   fates_left = ap (λ t. t.fates) p.left ∙ ap (λ t. fates_after (length p.sent.ahead) t.fates) p.all.prefix.sent
 
   late_left : new.there.late ≡ late_of old.there.fates p.sent.ahead
@@ -665,7 +634,7 @@ module _ {A : Type 0} (old new : Link A) (p : Passes old new) where
       first_lost (suc k) u some all = all.0
 
   pub round_moves : FramesDecode → Numbers → InOrderReaches → QueueIsOfStream → IsSound most_reported old.receiver → end_of old.sender < 2 ^ 64 →
-      BringsOnOrIsStuck old new
+      BringsOnOrIsStuck (length p.sent.ahead) (length p.acks) old new
   round_moves trip numbers order queue sound word f w carries none none_back some room still still_back =
       let c = with_payload (count_outside old.sender.reported old.sender.base p.n) old.counts in
       let m = with_fates (length p.sent.ahead) old.there.fates c in
@@ -678,10 +647,8 @@ module _ {A : Type 0} (old new : Link A) (p : Passes old new) where
       let first = first_is f w old.receiver carries.receives in
       let end = carries.sends.end in
       omega arith) in
-      ⊎_elim {C = IsStuck old new}
+      ⊎_elim {C = IsStuck (length p.sent.ahead) (length p.acks) old new}
       (λ (a : HasMissing n p.sent.ahead × (0 < length p.sent.ahead) × (comes (next_fate old.there.fates) ≡ false)). record {
-        frames = length p.sent.ahead;
-        acks = length p.acks;
         why = inl (a.1, (a.2, λ follow. absurd (omega arith)));
         left = fates_left;
         left_back = ap (λ t. t.fates) p.left_back;
@@ -690,8 +657,6 @@ module _ {A : Type 0} (old new : Link A) (p : Passes old new) where
         lost = frame_lost a.0 a.1 a.2 still;
       })
       (λ (b : (old.sender.base < n) × (coming_of old.back.fates p.acks ≡ []) × All (Acks n n) p.acks). record {
-        frames = length p.sent.ahead;
-        acks = length p.acks;
         why = inr (acks_some, all_fail 0 old.back.fates p.acks b.1 (λ follow. absurd (omega arith)));
         left = fates_left;
         left_back = ap (λ t. t.fates) p.left_back;
@@ -705,7 +670,7 @@ module _ {A : Type 0} (old new : Link A) (p : Passes old new) where
 
 -- ---- a round of a copy
 -- what comes late stays due while bytes are handed out and more are written
-pub due_kept : {A : Type 0} (l l1 : Link A) → l1.there.late ≡ l.there.late → l1.back.late ≡ l.back.late →
+pub due_kept : (l l1 : LinkState) → l1.there.late ≡ l.there.late → l1.back.late ≡ l.back.late →
     stored_next l1.receiver ≡ stored_next l.receiver → l1.sender.base ≡ l.sender.base → end_of l.sender ≤ end_of l1.sender → IsDue l → IsDue l1
 due_kept l l1 late late_back next base end due =
     let n = stored_next l.receiver in
@@ -717,14 +682,12 @@ due_kept l l1 late late_back next base end due =
     (λ k e j. (let low = j.0 in let high = j.1 in (omega (arith, low, base), le_trans high end))) h)))
     due
 
-pub step_moves : {A : Type 0} (f : ℕ) (w : List ℕ) (old new last : Link A) (room : ℕ) → RoundLeaves old new → BringsOnOrIsStuck old new →
+pub step_moves : (frames acks f : ℕ) (w : List ℕ) (old new last : LinkState) (room : ℕ) → RoundLeaves old new → BringsOnOrIsStuck frames acks old new →
     last ≡ record new { receiver = stored_after_read new.receiver room } →
     Carries f w old → old.there.ahead ≡ [] → old.back.ahead ≡ [] → 0 < length old.sender.queue → 0 < old.receiver.capacity → 0 < room →
-    last.sender.base ≡ old.sender.base → last.receiver.read ≡ old.receiver.read → IsStuck old last
-step_moves {A = A} f w old new last room keeps moves handed carries none none_back kept cap some still_base still_read =
-    subst (IsStuck old) (sym handed) (record {
-      frames = one.frames;
-      acks = one.acks;
+    last.sender.base ≡ old.sender.base → last.receiver.read ≡ old.receiver.read → IsStuck frames acks old last
+step_moves frames acks f w old new last room keeps moves handed carries none none_back kept cap some still_base still_read =
+    subst (IsStuck frames acks old) (sym handed) (record {
       why = one.why;
       left = one.left;
       left_back = one.left_back;
@@ -763,139 +726,24 @@ step_moves {A = A} f w old new last room keeps moves handed carries none none_ba
     room_left : stored_next old.receiver < limit_of old.receiver
     room_left = omega (arith, grow, empty, first, read, cap)
 
-    one : IsStuck old new
+    one : IsStuck frames acks old new
     one = moves f w carries none none_back kept room_left next_same still_base'
 
     next_read : stored_next r ≡ stored_next new.receiver
     next_read = (let left : length r.queue ≡ length new.receiver.queue - room = length-drop room new.receiver.queue in omega (arith, left, empty))
 
-    read_out : Link A
+    read_out : LinkState
     read_out = record new { receiver = r }
 
-    lost : (FatesFail 1 one.frames one.acks old.there.fates old.back.fates × (min (losses old.counts + 1) (2 ^ 64 - 1) ≤ losses new.counts)) ⊎
+    lost : (FatesFail 1 frames acks old.there.fates old.back.fates × (min (losses old.counts + 1) (2 ^ 64 - 1) ≤ losses new.counts)) ⊎
         (IsDue read_out × (losses old.counts ≤ losses new.counts))
     lost =
-        ⊎_elim {C = (FatesFail 1 one.frames one.acks old.there.fates old.back.fates × (min (losses old.counts + 1) (2 ^ 64 - 1) ≤ losses new.counts)) ⊎
+        ⊎_elim {C = (FatesFail 1 frames acks old.there.fates old.back.fates × (min (losses old.counts + 1) (2 ^ 64 - 1) ≤ losses new.counts)) ⊎
         (IsDue read_out × (losses old.counts ≤ losses new.counts))}
         inl
         (λ (d : IsDue new × (losses old.counts ≤ losses new.counts)). inr
         (due_kept new read_out refl refl next_read refl (le_refl (end_of new.sender)) d.0, d.1))
         one.lost
-
--- ---- rounds of a copy
--- n rounds in a row were stuck, behind some frames and acknowledgements: each by a loss, or all but the last, and then what
--- comes late is due
-abbrev pub StuckSoFar : {A : Type 0} → ℕ → FatesSeen → FatesSeen → Link A → Type 0
-StuckSoFar n v v' link =
-    ((frames : ℕ) × (acks : ℕ) × AreStuckTo 1 n (fates_after frames v) (fates_after acks v') link.there.fates link.back.fates × (n ≤ losses link.counts))
-    ⊎ ((frames : ℕ) × (acks : ℕ) × AreStuckTo 0 n (fates_after frames v) (fates_after acks v') link.there.fates link.back.fates × (n ≤ losses link.counts + 1)
-    × IsDue link)
-
-pub stuck_none : {A : Type 0} (frames acks : ℕ) (v v' : FatesSeen) (l : Link A) → l.there.fates ≡ fates_after frames v → l.back.fates ≡ fates_after acks v' →
-    StuckSoFar 0 v v' l
-stuck_none frames acks v v' l left left_back = inl (frames, acks, (left, left_back), omega arith)
-
--- reading and waiting change nothing of it
-pub stuck_kept : {A : Type 0} (n : ℕ) (v v' : FatesSeen) (l l1 : Link A) → l1.there ≡ l.there → l1.back ≡ l.back → l1.receiver ≡ l.receiver →
-    l1.sender.base ≡ l.sender.base → end_of l.sender ≤ end_of l1.sender → l1.counts ≡ l.counts → StuckSoFar n v v' l → StuckSoFar n v v' l1
-stuck_kept n v v' l l1 there back receiver base end counts so_far =
-    ⊎_elim {C = StuckSoFar n v v' l1}
-    (λ (h : (frames : ℕ) × (acks : ℕ) × AreStuckTo 1 n (fates_after frames v) (fates_after acks v') l.there.fates l.back.fates × (n ≤ losses l.counts)).
-    inl (h.0, h.1, to 1 h.0 h.1 h.2, subst (λ c. n ≤ losses c) (sym counts) h.3))
-    (λ (h : (frames : ℕ) × (acks : ℕ) × AreStuckTo 0 n (fates_after frames v) (fates_after acks v') l.there.fates l.back.fates
-    × (n ≤ losses l.counts + 1) × IsDue l).
-    inr (
-      h.0,
-      h.1,
-      to 0 h.0 h.1 h.2,
-      subst (λ c. n ≤ losses c + 1) (sym counts) h.3,
-      due_kept l l1 (ap (λ t. t.late) there) (ap (λ t. t.late) back) (ap stored_next receiver) base end h.4,
-    ))
-    so_far
-  where
-    to : (k frames acks : ℕ) → AreStuckTo k n (fates_after frames v) (fates_after acks v') l.there.fates l.back.fates →
-        AreStuckTo k n (fates_after frames v) (fates_after acks v') l1.there.fates l1.back.fates
-    to k frames acks h = subst (λ t. AreStuckTo k n (fates_after frames v) (fates_after acks v') t.fates l1.back.fates) (sym there)
-        (subst (λ t. AreStuckTo k n (fates_after frames v) (fates_after acks v') l.there.fates t.fates) (sym back) h)
-
--- what is due comes in the next round, so that one more that is stuck follows a loss
-pub stuck_next : {A : Type 0} (n : ℕ) (v v' : FatesSeen) (old new : Link A) → n < 2 ^ 64 - 1 → StuckSoFar n v v' old → IsStuck old new →
-    StuckSoFar (suc n) v v' new
-stuck_next n v v' old new word so_far one =
-    ⊎_elim {C = StuckSoFar (suc n) v v' new}
-    (λ (h : (frames : ℕ) × (acks : ℕ) × AreStuckTo 1 n (fates_after frames v) (fates_after acks v') old.there.fates old.back.fates × (n ≤ losses old.counts)).
-    ⊎_elim {C = StuckSoFar (suc n) v v' new}
-    (λ (e : FatesFail 1 one.frames one.acks old.there.fates old.back.fates × (min (losses old.counts + 1) (2 ^ 64 - 1) ≤ losses new.counts)).
-    let few = h.3 in
-    let more = e.1 in
-    inl (
-      h.0,
-      h.1,
-      to 1 h.0 h.1 (stuck_more 1 n (fates_after h.0 v) (fates_after h.1 v') old.there.fates old.back.fates one.frames one.acks h.2 e.0),
-      omega (arith, few, more, word),
-    ))
-    (λ (d : IsDue new × (losses old.counts ≤ losses new.counts)).
-    let few = h.3 in
-    let more = d.1 in
-    inr (
-      h.0,
-      h.1,
-      to 0 h.0 h.1 (stuck_more 0 n (fates_after h.0 v) (fates_after h.1 v') old.there.fates old.back.fates one.frames one.acks h.2 one.why),
-      omega (arith, few, more),
-      d.0,
-    ))
-    one.lost)
-    (λ (h : (frames : ℕ) × (acks : ℕ) × AreStuckTo 0 n (fates_after frames v) (fates_after acks v') old.there.fates old.back.fates × (n ≤ losses old.counts + 1)
-    × IsDue old). absurd (one.not_due h.4))
-    so_far
-  where
-    to : (k frames acks : ℕ) → AreStuckTo k (suc n) (fates_after frames v) (fates_after acks v') (fates_after one.frames old.there.fates)
-        (fates_after one.acks old.back.fates) → AreStuckTo k (suc n) (fates_after frames v) (fates_after acks v') new.there.fates new.back.fates
-    to k frames acks h = subst (λ x. AreStuckTo k (suc n) (fates_after frames v) (fates_after acks v') x new.back.fates) (sym one.left)
-        (subst (λ x. AreStuckTo k (suc n) (fates_after frames v) (fates_after acks v') (fates_after one.frames old.there.fates) x) (sym one.left_back) h)
-
--- how it stands at the end
-pub stuck_at_last : {A : Type 0} (n : ℕ) (v v' : FatesSeen) (l : Link A) (counts : FrameCounts) → counts ≡ l.counts → n ≤ failures l.counts →
-    FatesSoFar v v' l.there.fates l.back.fates l.counts → StuckSoFar n v v' l → AreStuckAtLast n v v' counts
-stuck_at_last n v v' l counts same failed fates so_far =
-    ⊎_elim {C = AreStuckAtLast n v v' counts}
-    (λ (h : (frames : ℕ) × (acks : ℕ) × AreStuckTo 1 n (fates_after frames v) (fates_after acks v') l.there.fates l.back.fates × (n ≤ losses l.counts)).
-    let few = h.3 in
-    stands h.0 h.1 (stuck_last n (fates_after h.0 v) (fates_after h.1 v') l.there.fates l.back.fates h.2) (omega (arith, few)))
-    (λ (h : (frames : ℕ) × (acks : ℕ) × AreStuckTo 0 n (fates_after frames v) (fates_after acks v') l.there.fates l.back.fates
-    × (n ≤ losses l.counts + 1) × IsDue l).
-    let few = h.3 in
-    stands h.0 h.1 h.2 (omega (arith, few)))
-    so_far
-  where
-    stands : (frames acks : ℕ) → AreStuckTo 0 n (fates_after frames v) (fates_after acks v') l.there.fates l.back.fates → n ≤ l.counts.lost + 1 →
-        AreStuckAtLast n v v' counts
-    stands frames acks to few = record {
-      frames = frames;
-      acks = acks;
-      last = l.there.fates;
-      last_back = l.back.fates;
-      rounds = to;
-      all = subst (FatesSoFar v v' l.there.fates l.back.fates) (sym same) fates;
-      failures = subst (λ c. n ≤ c.lost + c.late) (sym same) (omega (arith, failed));
-      lost = subst (λ c. n ≤ c.lost + 1) (sym same) few;
-    }
-
--- where all is written, a reader that may have more is asked, and gives something
-pub asked_again : {A : Type 0} → QueueIsOfStream → (f : ℕ) (w w1 : List ℕ) (l l1 : Link A) (room : ℕ) → Carries f w l → Carries f w1 l1 →
-    l1.receiver ≡ l.receiver → end_of l.sender ≤ end_of l1.sender →
-    stored_next l1.receiver ≡ end_of l1.sender → length l1.receiver.queue ≡ 0 →
-    (0 < room_of l.sender → 0 < room → stored_next l.receiver ≡ end_of l.sender → length l.receiver.queue ≡ 0 → end_of l.sender < end_of l1.sender) →
-    0 < room → length l.sender.queue < l.sender.capacity → end_of l1.sender < 2 ^ 64 - 1 → ⊥
-asked_again queue f w w1 l l1 room carries carries1 same grows next none fed some kept left =
-    let q = (queue_from queue f w l.receiver carries.receives).within in
-    let first = first_is f w l.receiver carries.receives in
-    let end = carries.sends.end in
-    let next' : stored_next l.receiver ≡ stored_next l1.receiver = sym (ap stored_next same) in
-    let none' : length l.receiver.queue ≡ 0 = ap (λ r. length r.queue) (sym same) ∙ none in
-    let is : stored_next l.receiver ≡ end_of l.sender = omega arith in
-    let one : end_of l.sender < end_of l1.sender = fed (omega arith) some is none' in
-    omega arith
 
 -- ---- known fates
 pub all_after : (n : ℕ) (v : FatesSeen) → AllCome v → AllCome (fates_after n v)

@@ -9,6 +9,12 @@ pub mod Sending
 pub mod Progress
 pub mod Rounds
 pub mod Passing
+pub mod LinkState
 pub mod Links
 pub mod Stuck
+pub mod CopyState
 pub mod Copying
+pub mod Turns
+pub mod Streams
+pub mod Promises
+pub mod WorkedCopy

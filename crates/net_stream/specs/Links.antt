@@ -1,11 +1,11 @@
 -- A link as one thing: what is true of it, and what a round does to it.
 --     Carries f w link      the stream w, whose first byte has position f, is on its way
+--     RoundPasses      what a round leaves that begins with counts of 64 bits
 --     HasRoomFor link      the receiver's free window ends at or behind the sender's end
---     next_flight limit flight full      how many frames the next round may send
 --     Passes old new      what a round leaves
 --     Round old new      the same, and what it brings if its frames and acknowledgements all come
-use Rattle.std.specs.Prelude.{◌≡◌, ℕ, ◌+◌, ◌/◌, ◌<◌, ◌≤◌, min, max, List, [], ◌∷◌, ◌++◌, length}
-use Rattle.std.specs.Prelude.{Bool, false, if◌then◌else◌}
+use Rattle.std.specs.Prelude.{◌≡◌, ℕ, ◌+◌, ◌^◌, ◌<◌, ◌≤◌, List, [], ◌∷◌, ◌++◌, length}
+use Rattle.std.specs.Prelude.{false}
 use Rattle.net_receiver.specs.Stored.{stored_next}
 use Rattle.net_stream.specs.Reported.{count_outside, most_reported, is_full}
 use Rattle.net_stream.specs.Counting.{with_fates, SameButRefused, with_payload}
@@ -16,23 +16,17 @@ use Rattle.net_stream.specs.Sending.{SendsRound, at_least_one}
 use Rattle.net_stream.specs.Frames.{frames_from}
 use Rattle.net_stream.specs.Progress.{after_ack_frames, limit_of}
 use Rattle.net_stream.specs.Passing.{coming_of, receiver_after_all, acks_of, path_after}
-use Rattle.net_stream.specs.declared.link.Link.{Link}
+use Rattle.net_stream.specs.LinkState.{LinkState, next_flight, round}
 
 -- w was written to the sender, each frame brings nothing but parts of w, and each acknowledgement
 -- tells of bytes that the receiver has
-abbrev pub Carries : {A : Type 0} → ℕ → List ℕ → Link A → Type 0
+abbrev pub Carries : ℕ → List ℕ → LinkState → Type 0
 Carries f w link = IsUnderWay f w link.sender link.receiver link.there link.back
-
--- how many frames a round may send after one that might send `flight`: half as many, but no fewer
--- than the most ranges of a report, if the report is full, and else so many more; at most `limit`
-abbrev pub next_flight : ℕ → ℕ → Bool → ℕ
-next_flight limit flight full =
-    min limit (if full then max most_reported (flight / 2) else flight + most_reported)
 
 -- a round: n of the sender's queued bytes are spared or sent, as many as its flight lets; the late
 -- frames come, and those of the others whose fates say so; the receiver acknowledges each of them, and
 -- once more at the end; and the late acknowledgements come, and those of the others whose fates say so
-pub record Passes {A : Type 0} (old new : Link A) : Type 0 where
+pub record Passes (old new : LinkState) : Type 0 where
   pub sent : PathSeen
   pub n : ℕ
   pub all : SendsRound old.sender (at_least_one old.payload) (at_least_one old.flight) n old.there sent
@@ -56,14 +50,18 @@ pub record Passes {A : Type 0} (old new : Link A) : Type 0 where
   pub flight : new.flight
       ≡ next_flight old.limit old.flight (is_full new.sender.reported)
 
+-- so does each round, if the bytes counted so far fit 64 bits
+abbrev pub RoundPasses : Type 0
+RoundPasses = (s : LinkState) → s.counts.payload < 2 ^ 64 → Passes s (round s)
+
 -- the receiver's free window ends at or behind the sender's end
-abbrev pub HasRoomFor : {A : Type 0} → Link A → Type 0
+abbrev pub HasRoomFor : LinkState → Type 0
 HasRoomFor link = end_of link.sender ≤ limit_of link.receiver
 
 -- a round; if all its frames and acknowledgements come, and the free window has room, it brings the
 -- receiver to the end of what was sent, and leaves the sender the rest: nothing, if all was sent,
 -- as it is if the flight isn't used up and the report isn't full
-pub record Round {A : Type 0} (old new : Link A) : Type 0 where
+pub record Round (old new : LinkState) : Type 0 where
   pub passed : Passes old new
   pub brings : (f : ℕ) (w : List ℕ) → Carries f w old → HasRoomFor old
       → NextCome (length passed.sent.ahead) old.there.fates

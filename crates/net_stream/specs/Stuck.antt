@@ -4,15 +4,17 @@
 --     RoundLeaves old new      what a round leaves as it was, or lets grow
 --     HasFailed follow fate, FatesFail follow frames acks v v'      what fails in a stuck round
 --     IsDue link      what comes late brings the next round on
---     IsStuck old new      a round in which a frame or an acknowledgement failed that had to come
---     BringsOnOrIsStuck old new      a round that brings nothing on was stuck
+--     IsStuck frames acks old new      a round in which a frame or an acknowledgement failed that had to
+--                                      come
+--     BringsOnOrIsStuck frames acks old new      a round that brings nothing on was stuck
+--     KnownOfRounds      what other laws say of frames and of receivers
 --     AreStuckAtLast n v v' counts      the last n rounds were stuck
 --     NeverStuck      no round is stuck over a link that loses and delays nothing
 use Rattle.std.specs.Prelude.{◌≡◌, ◌⊎◌, ℕ, zero, suc, ◌+◌, ◌-◌, ◌<◌, ◌≤◌, ◌^◌, min}
 use Rattle.std.specs.Prelude.{false, List, [], ◌∷◌, length, Some}
 use Rattle.net_receiver.specs.Stored.{stored_next}
 use Rattle.net_stream.specs.declared.counts.FrameCounts.{FrameCounts}
-use Rattle.net_stream.specs.declared.link.Link.{Link}
+use Rattle.net_stream.specs.LinkState.{LinkState}
 use Rattle.net_stream.specs.declared.fate.Fate.{Fate}
 use Rattle.net_stream.specs.Outgoing.{end_of}
 use Rattle.net_stream.specs.Frames.{segment_of}
@@ -20,7 +22,11 @@ use Rattle.net_stream.specs.Fates.{FatesSeen, next_fate, after_fate, fates_after
 use Rattle.net_stream.specs.Fates.{AllCome}
 use Rattle.net_stream.specs.Rounds.{FatesSoFar}
 use Rattle.net_stream.specs.Progress.{limit_of}
+use Rattle.net_receiver.specs.OneStream.{FirstStays, CapacityStays}
+use Rattle.net_receiver.specs.Retransmission.{InOrderReaches}
+use Rattle.net_receiver.specs.Soundness.{FreshIsSound, SoundStays}
 use Rattle.net_stream.specs.Links.{Carries}
+use Rattle.net_stream.specs.Streams.{Known}
 
 -- how many frames and acknowledgements didn't come at once, as far as 64 bits go
 abbrev pub failures : FrameCounts → ℕ
@@ -31,7 +37,7 @@ abbrev pub losses : FrameCounts → ℕ
 losses c = min c.lost (2 ^ 64 - 1)
 
 -- what a round leaves: nothing is on its way but what is late, and no number falls
-pub record RoundLeaves {A : Type 0} (old new : Link A) : Type 0 where
+pub record RoundLeaves (old new : LinkState) : Type 0 where
   pub ahead : new.there.ahead ≡ []
   pub ahead_back : new.back.ahead ≡ []
   pub end : end_of new.sender ≡ end_of old.sender
@@ -65,16 +71,15 @@ FirstSays frames P = (frame : List ℕ) × (rest : List (List ℕ)) × (pos : �
 
 -- what comes late brings the next round on: the first late frame has the byte that the receiver
 -- lacks, or the first late acknowledgement is of more than the sender knows of
-abbrev pub IsDue : {A : Type 0} → Link A → Type 0
+abbrev pub IsDue : LinkState → Type 0
 IsDue link =
     FirstSays link.there.late (λ p e. (p ≤ stored_next link.receiver)
     × (stored_next link.receiver < e) × (e < 2 ^ 64))
     ⊎ FirstSays link.back.late (λ p e. (link.sender.base < p) × (p ≤ end_of link.sender))
 
--- a round that was stuck, and counted it: by a loss, or what came late brings the next one on
-pub record IsStuck {A : Type 0} (old new : Link A) : Type 0 where
-  pub frames : ℕ
-  pub acks : ℕ
+-- a round of so many frames and acknowledgements that was stuck, and counted it: by a loss, or what
+-- came late brings the next one on
+pub record IsStuck (frames acks : ℕ) (old new : LinkState) : Type 0 where
   pub why : FatesFail 0 frames acks old.there.fates old.back.fates
   pub left : new.there.fates ≡ fates_after frames old.there.fates
   pub left_back : new.back.fates ≡ fates_after acks old.back.fates
@@ -107,14 +112,23 @@ pub record AreStuckAtLast (n : ℕ) (v v' : FatesSeen) (counts : FrameCounts) : 
 
 -- a round that began with nothing on its way but what is late, and brought neither the receiver nor
 -- the sender on, was stuck
-abbrev pub BringsOnOrIsStuck : {A : Type 0} → Link A → Link A → Type 0
-BringsOnOrIsStuck old new = (f : ℕ) (w : List ℕ) → Carries f w old
+abbrev pub BringsOnOrIsStuck : ℕ → ℕ → LinkState → LinkState → Type 0
+BringsOnOrIsStuck frames acks old new = (f : ℕ) (w : List ℕ) → Carries f w old
     → old.there.ahead ≡ [] → old.back.ahead ≡ [] → 0 < length old.sender.queue
     → stored_next old.receiver < limit_of old.receiver
     → stored_next new.receiver ≡ stored_next old.receiver → new.sender.base ≡ old.sender.base
-    → IsStuck old new
+    → IsStuck frames acks old new
 
 -- where every frame and every acknowledgement comes, no round is stuck
 abbrev pub NeverStuck : Type 0
 NeverStuck = (n : ℕ) (v v' : FatesSeen) (counts : FrameCounts) → AllCome v → AllCome v' → 0 < n
     → AreStuckAtLast n v v' counts → ⊥
+
+-- what other laws say of frames and of receivers
+pub record KnownOfRounds : Type 0 where
+  pub known : Known
+  pub first : FirstStays
+  pub capacity : CapacityStays
+  pub order : InOrderReaches
+  pub fresh : FreshIsSound
+  pub sound : SoundStays

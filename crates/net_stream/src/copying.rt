@@ -1,18 +1,12 @@
 //! From a reader over a link to a writer.
-ghost use Rattle.std.specs.Prelude.{◌≡◌, ◌≤◌, ◌<◌, ◌+◌, ◌*◌, length};
-ghost use Rattle.std.specs.Prelude.{true, false, OnOk, IfOk, IfErr};
-ghost use Rattle.std.specs.Result.{is_ok};
-ghost use Rattle.net_stream.specs.Fates.{AllCome};
-ghost use Rattle.net_stream.specs.Rounds.{CountsFates};
-ghost use Rattle.net_stream.specs.Stuck.{AreStuckAtLast};
-ghost use Rattle.net_stream.specs.Copying.{Copies, HasPositions, gave_up};
+ghost use Rattle.std.specs.Prelude.{◌≡◌, ◌⊎◌, length, IfOk};
+ghost use Rattle.net_stream.specs.CopyState.{setup_over, setup_of};
+ghost use Rattle.net_stream.specs.Copying.{HasCopied, HasNotBegun};
 
+use crate::copier::Copier;
 use crate::counts::Counts;
 use crate::error::LinkError;
-use crate::exchange::exchange;
-use crate::fate::Fates;
-use crate::laws;
-use crate::link::Link;
+use crate::fate::LinkFates;
 use net_program::flush_after;
 use net_storage::ManagedSlice;
 use std::alloc::{AllocError, Allocator};
@@ -36,140 +30,101 @@ pub struct Config {
     pub rounds: u64,
 }
 
-/// Puts what a link counted, and its time, beside what was counted of the copy over it.
-fn add_link<A: Allocator + Copy>(counts: &mut Counts, link: &Link<'_, '_, A>)
-    ensures { counts.new
-        ≡ record counts.old { frames = link.now.counts; micros = link.now.elapsed } }
-{
-    counts.frames = link.counts;
-    counts.micros = link.elapsed.total_micros();
+/// The buffers of a copy.
+#[derive(Drop)]
+pub struct CopyBuffers<'a> {
+    /// The sender's storage.
+    pub outgoing: &'a mut [u8],
+    /// The receiver's storage.
+    pub incoming: &'a mut [u8],
+    /// What the reader's bytes are read into, and the writer's are written from.
+    pub chunk: &'a mut [u8],
 }
 
-/// `copy` over storage that is lent: `outgoing` is the sender's, `incoming` the receiver's, and
-/// `chunk` is read into and written from. The capacity of the config isn't read.
+/// `copy` over buffers that are lent. The capacity of the config isn't read.
 pub fn copy_over<'a, 'f, A: Allocator + Copy, R: Read, W: Write>(
     alloc: A,
     config: Config,
-    fates: Fates<'f>,
-    ack_fates: Fates<'f>,
-    outgoing: &'a mut [u8],
-    incoming: &'a mut [u8],
-    chunk: &mut [u8],
+    fates: LinkFates<'f>,
+    buffers: CopyBuffers<'a>,
     reader: &mut R,
     writer: &mut W,
     counts: &mut Counts,
 ) -> Result<(), LinkError>
-    ensures copied { Copies (R.remaining reader.old) (R.remaining reader.new)
-        (W.contents writer.old) (W.contents writer.new)
-        counts.new.taken counts.new.bytes (is_ok result) }
-    ensures fates { CountsFates fates.entry ack_fates.entry counts.new.frames }
-    ensures gave_up { IfErr result (λ e. gave_up e ≡ true → config.rounds ≤ counts.new.rounds) }
-    ensures unfinished { IfErr result (λ e. gave_up e ≡ true
-        → 0 < length chunk.old → HasPositions config.first counts.new.taken
-        → counts.new.taken < length outgoing.old → counts.new.bytes < counts.new.taken) }
-    ensures stalls { IfErr result (λ e. gave_up e ≡ true → 0 < length outgoing.old
-        → 0 < length incoming.old → 0 < length chunk.old
-        → HasPositions config.first counts.new.taken
-        → AreStuckAtLast config.rounds fates.entry ack_fates.entry counts.new.frames) }
-    ensures most { 0 < length outgoing.old → 0 < length incoming.old → 0 < length chunk.old
-        → HasPositions config.first counts.new.taken
-        → counts.new.rounds
-        ≤ 2 * counts.new.taken + counts.new.frames.lost + counts.new.frames.late + 1 }
-    ensures least { OnOk result (counts.new.taken ≤ counts.new.rounds * length chunk.old) }
-    ensures at_once { OnOk result (AllCome fates.entry → AllCome ack_fates.entry
-        → 0 < length outgoing.old → 0 < length incoming.old → 0 < length chunk.old
-        → HasPositions config.first counts.new.taken
-        → counts.new.rounds ≤ counts.new.taken) }
+    ensures exact { HasCopied (setup_over config (length buffers.entry.outgoing.now)
+        (length buffers.entry.incoming.now) (length buffers.entry.chunk.now)
+        fates.entry.frames fates.entry.acks) result
+        (R.remaining reader.old) (R.remaining reader.new)
+        (W.contents writer.old) (W.contents writer.new) counts.new }
 {
-    *counts = Counts::new();
-    let mut link = Link::new(
+    let CopyBuffers {
+        outgoing,
+        incoming,
+        chunk,
+    } = buffers;
+    let mut copier = Copier::new(
         alloc,
-        config.first,
-        config.payload,
-        config.flight,
+        config,
+        fates,
         ManagedSlice::Borrowed(outgoing),
         ManagedSlice::Borrowed(incoming),
-        fates,
-        ack_fates,
     );
-    let ended = exchange(&mut link, config, chunk, reader, writer, counts);
-    add_link(counts, &link);
+    let ended = copier.run(config.rounds, chunk, reader, writer);
+    *counts = copier.counts();
     flush_after(ended, LinkError::WriteFailed, writer)
 }
 
-/// So many bytes of storage. It stands alone so that no proof below computes with the zeros.
-fn storage_of<A: Allocator + Copy>(alloc: A, len: usize) -> Result<Vec<u8, A>, AllocError>
-    ensures { IfOk result (λ storage. length storage.items ≡ len) }
-{
-    vec![in alloc; 0u8; len]
+/// The storage of a copy.
+#[derive(Drop)]
+struct Storage<A: Allocator + Copy> {
+    outgoing: Vec<u8, A>,
+    incoming: Vec<u8, A>,
+    chunk: Vec<u8, A>,
 }
 
-/// Copies all that the reader has to the writer, over a link whose frames meet `fates` and whose
-/// acknowledgements meet `ack_fates`.
+/// The storage of a copy, each of its three buffers so many bytes long.
+fn storage_of<A: Allocator + Copy>(alloc: A, len: usize) -> Result<Storage<A>, AllocError>
+    ensures { IfOk result (λ storage. (length storage.outgoing.items ≡ len)
+        × (length storage.incoming.items ≡ len) × (length storage.chunk.items ≡ len)) }
+{
+    Ok(Storage {
+        outgoing: vec![in alloc; 0u8; len]?,
+        incoming: vec![in alloc; 0u8; len]?,
+        chunk: vec![in alloc; 0u8; len]?,
+    })
+}
+
+/// Copies all that the reader has to the writer, over a link of these fates.
 ///
-/// Whatever becomes of them, what is written is a prefix of what was read, and all of it, to the
-/// reader's end, if the result is `Ok`. `counts` says how long both are, and what became of the
-/// frames. A copy gives up after so many rounds in a row that brought nothing on, and only if in
-/// each of these at least one frame or acknowledgement didn't come at once (`stalls`), and in each
-/// but the last one was lost (`losses`): never over a link that loses and delays nothing (`ends`).
-/// It takes at most `2 * taken + lost + late + 1` rounds (`most`). At the end the writer is flushed
+/// It reads into a buffer of the capacity once all that it read before is written, and passes rounds
+/// until all is written (docs/LINK.md). What comes of it depends on nothing but the config, the fates
+/// and what each read gives, and `exact` says it: the result, what is written, and all of `counts`.
+/// The module `laws` says what follows. A read or a write that fails ends the copy, and so does a
+/// refusal of memory; nothing is tried again. At the end, after an error too, the writer is flushed
 /// once; if all was written, a flush that fails is a failed write. A stream that uses all positions
 /// up to 2^64 - 2 gives up: the reader's end isn't looked for once none is left.
 pub fn copy<'f, A: Allocator + Copy, R: Read, W: Write>(
     alloc: A,
     config: Config,
-    fates: Fates<'f>,
-    ack_fates: Fates<'f>,
+    fates: LinkFates<'f>,
     reader: &mut R,
     writer: &mut W,
     counts: &mut Counts,
 ) -> Result<(), LinkError>
-    ensures copied { Copies (R.remaining reader.old) (R.remaining reader.new)
-        (W.contents writer.old) (W.contents writer.new)
-        counts.new.taken counts.new.bytes (is_ok result) }
-    ensures fates { CountsFates fates.entry ack_fates.entry counts.new.frames }
-    ensures gave_up { IfErr result (λ e. gave_up e ≡ true → config.rounds ≤ counts.new.rounds) }
-    ensures unfinished { IfErr result (λ e. gave_up e ≡ true
-        → HasPositions config.first counts.new.taken
-        → counts.new.taken < config.capacity → counts.new.bytes < counts.new.taken) }
-    ensures stalls { IfErr result (λ e. gave_up e ≡ true
-        → HasPositions config.first counts.new.taken → 0 < config.capacity
-        → AreStuckAtLast config.rounds fates.entry ack_fates.entry counts.new.frames) }
-    ensures losses { IfErr result (λ e. gave_up e ≡ true
-        → HasPositions config.first counts.new.taken → 0 < config.capacity
-        → config.rounds ≤ counts.new.frames.lost + 1) }
-    ensures ends { IfErr result (λ e. AllCome fates.entry → AllCome ack_fates.entry
-        → HasPositions config.first counts.new.taken → 0 < config.capacity
-        → 0 < config.rounds → gave_up e ≡ false) }
-    ensures most { HasPositions config.first counts.new.taken → 0 < config.capacity
-        → counts.new.rounds
-        ≤ 2 * counts.new.taken + counts.new.frames.lost + counts.new.frames.late + 1 }
-    ensures least { OnOk result (counts.new.taken ≤ counts.new.rounds * config.capacity) }
-    ensures at_once { OnOk result (AllCome fates.entry → AllCome ack_fates.entry
-        → HasPositions config.first counts.new.taken → 0 < config.capacity
-        → counts.new.rounds ≤ counts.new.taken) }
+    ensures exact { HasCopied (setup_of config fates.entry.frames fates.entry.acks) result
+        (R.remaining reader.old) (R.remaining reader.new)
+        (W.contents writer.old) (W.contents writer.new) counts.new
+        ⊎ HasNotBegun result (R.remaining reader.old) (R.remaining reader.new)
+        (W.contents writer.old) (W.contents writer.new) counts.new }
 {
-    laws::known_fates();
-    *counts = Counts::new();
-    let Ok(mut outgoing) = storage_of(alloc, config.capacity) else {
-        return Err(LinkError::OutOfMemory);
+    let Ok(mut storage) = storage_of(alloc, config.capacity) else {
+        *counts = Counts::new();
+        return flush_after(Err(LinkError::OutOfMemory), LinkError::WriteFailed, writer);
     };
-    let Ok(mut incoming) = storage_of(alloc, config.capacity) else {
-        return Err(LinkError::OutOfMemory);
+    let buffers = CopyBuffers {
+        outgoing: &mut storage.outgoing,
+        incoming: &mut storage.incoming,
+        chunk: &mut storage.chunk,
     };
-    let Ok(mut chunk) = storage_of(alloc, config.capacity) else {
-        return Err(LinkError::OutOfMemory);
-    };
-    copy_over(
-        alloc,
-        config,
-        fates,
-        ack_fates,
-        &mut outgoing,
-        &mut incoming,
-        &mut chunk,
-        reader,
-        writer,
-        counts,
-    )
+    copy_over(alloc, config, fates, buffers, reader, writer, counts)
 }

@@ -113,3 +113,12 @@ impl<'f> Fates<'f> {
         *first
     }
 }
+
+/// The fates of a link's frames, and those of its acknowledgements.
+#[derive(Drop)]
+pub struct LinkFates<'f> {
+    /// The fates of the frames.
+    pub frames: Fates<'f>,
+    /// The fates of the acknowledgements.
+    pub acks: Fates<'f>,
+}

@@ -2,11 +2,28 @@
 //!
 //! Each function does nothing: its contract is the law.
 ghost use Rattle.net_stream.specs.Fates.{EachNextComes};
+ghost use Rattle.net_stream.specs.Links.{RoundPasses};
 ghost use Rattle.net_stream.specs.Stuck.{NeverStuck};
+
+mod bounds;
+mod ends;
+mod streams;
+
+pub use bounds::{ended, fuel, late_frames, rounds_anyway, sent_frames};
+pub use ends::{
+    all_come, counts, delays, enough_rounds, gives_up, gives_up_counted, gives_up_if_failed, rounds,
+};
+pub(crate) use streams::known;
+pub use streams::{all, filling_reads, is_written, prefix, stays_on_its_way, worked_copy};
 
 /// What follows where every frame and every acknowledgement comes: so do the next ones, however
 /// many, and no round is stuck.
 pub fn known_fates()
     ensures next { EachNextComes }
     ensures stuck { NeverStuck }
+{}
+
+/// What a round leaves.
+pub fn rounds_pass()
+    ensures { RoundPasses }
 {}

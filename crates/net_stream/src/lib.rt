@@ -1,27 +1,23 @@
 //! A stream of bytes over a link that loses, repeats and reorders frames.
 #![tactic(auto)]
 
-mod arriving;
+mod copier;
 mod copying;
 mod counts;
 mod error;
-mod exchange;
 mod fate;
 mod frame;
 pub mod laws;
 mod link;
-mod passing;
 mod path;
 mod reported;
-mod round;
 mod sender;
-mod sending;
 mod timer;
 
-pub use copying::{Config, copy, copy_over};
+pub use copying::{Config, CopyBuffers, copy, copy_over};
 pub use counts::{Counts, FrameCounts};
 pub use error::LinkError;
-pub use fate::{Fate, Fates, Rates};
+pub use fate::{Fate, Fates, LinkFates, Rates};
 pub use frame::{decode, distinct_frames, frames_decode, send_again, send_frame};
 pub use link::Link;
 pub use path::Path;

@@ -1,25 +1,27 @@
 //! A link as one thing: a sender, a receiver, and the two directions between them.
 ghost use Rattle.std.specs.Prelude.{◌≡◌, ◌+◌, ◌≤◌, ◌<◌, ◌^◌, ◌-◌, ◌++◌, [], ℕ, List, length, min, max};
-ghost use Rattle.std.specs.Prelude.{take, drop, slice_index, slice_range, OnOk, OnErr};
+ghost use Rattle.std.specs.Prelude.{take, drop, slice_index, slice_range};
 ghost use Rattle.net_storage.specs.Managed.{elements};
-ghost use Rattle.net_receiver.specs.Stored.{fresh_stored, stored_after_read};
-ghost use Rattle.net_stream.specs.Outgoing.{outgoing, room_of, with_written};
-ghost use Rattle.net_stream.specs.Frames.{segment_of, FrameSays};
-ghost use Rattle.net_stream.specs.Counting.{no_frames, with_refusal};
-ghost use Rattle.net_stream.specs.Carrying.{receiver_after, with_ack, FrameTells};
-ghost use Rattle.net_stream.specs.Progress.{after_ack_frame};
-ghost use Rattle.net_stream.specs.Reported.{most_reported};
+ghost use Rattle.net_receiver.specs.Stored.{fresh_stored, stored_next, stored_after_read};
+ghost use Rattle.net_stream.specs.Outgoing.{outgoing, end_of, room_of, with_written};
+ghost use Rattle.net_stream.specs.Counting.{no_frames};
 ghost use Rattle.net_stream.specs.Links.{Carries};
+ghost use Rattle.net_stream.specs.CopyState.{is_written};
 
-use crate::arriving;
+mod acknowledge;
+mod deliver;
+mod round;
+mod transmit;
+
 use crate::counts::FrameCounts;
-use crate::fate::Fates;
+use crate::fate::LinkFates;
 use crate::path::Path;
 use crate::sender::Sender;
 use net_base::time::{Duration, Instant};
 use net_receiver::{Receiver, laws};
 use net_storage::ManagedSlice;
-use std::alloc::{AllocError, Allocator};
+use std::alloc::Allocator;
+use std::marker::Model;
 
 /// The most held runs of a link's receiver: as many as an acknowledgement reports.
 const MOST_RUNS: usize = 32;
@@ -53,12 +55,33 @@ pub struct Link<'a, 'f, A: Allocator + Copy> {
     pub counts: FrameCounts,
 }
 
+impl<'a, 'f, A: Allocator + Copy> Model for Link<'a, 'f, A> {
+    ghost use Rattle.net_stream.specs.LinkState.{LinkState};
+    ghost use Rattle.std.specs.Coded.{codes};
+    ghost use Rattle.net_receiver.specs.Parts.{stored_code};
+
+    ghost Value = { LinkState };
+
+    ghost coded = { Prim.hlevel (codes, stored_code) };
+
+    ghost view = { λ l. record {
+      sender = l.sender;
+      receiver = l.receiver;
+      there = l.there;
+      back = l.back;
+      counts = l.counts;
+      payload = l.payload;
+      limit = l.limit;
+      flight = l.flight;
+      elapsed = l.elapsed;
+    } };
+}
+
 impl<'a, 'f, A: Allocator + Copy> Link<'a, 'f, A> {
     /// A link on which nothing is on its way. The stream's first byte has position `first`.
     ///
-    /// The sender's capacity is the length of `to_send`, and the receiver's that of `to_receive`.
-    /// Frames meet `fates`, and acknowledgements `ack_fates`. The first round may send as many frames
-    /// as any may: `limit`, of which 0 counts as 1.
+    /// The sender's capacity is the length of `to_send`, and the receiver's that of `to_receive`. The
+    /// first round may send as many frames as any may: `limit`, of which 0 counts as 1.
     pub fn new(
         alloc: A,
         first: u64,
@@ -66,26 +89,26 @@ impl<'a, 'f, A: Allocator + Copy> Link<'a, 'f, A> {
         limit: u32,
         to_send: ManagedSlice<'a, u8>,
         to_receive: ManagedSlice<'a, u8>,
-        fates: Fates<'f>,
-        ack_fates: Fates<'f>,
+        fates: LinkFates<'f>,
     ) -> Self
-        ensures sender { let n = length (elements to_send.entry) in
-            result.sender ≡ outgoing n first [] [] (first + n) }
-        ensures receiver { result.receiver
-            ≡ fresh_stored first (length (elements to_receive.entry)) }
-        ensures there { result.there ≡ record { ahead = []; late = []; fates = fates.entry } }
-        ensures back { result.back ≡ record { ahead = []; late = []; fates = ack_fates.entry } }
-        ensures payload { result.payload ≡ payload }
-        ensures flight { (result.limit ≡ max limit 1) × (result.flight ≡ max limit 1) }
-        ensures elapsed { result.elapsed ≡ 0 }
-        ensures counts { result.counts ≡ no_frames }
+        ensures state { let n = length (elements to_send.entry) in result ≡ record {
+          sender = outgoing n first [] [] (first + n);
+          receiver = fresh_stored first (length (elements to_receive.entry));
+          there = record { ahead = []; late = []; fates = fates.entry.frames };
+          back = record { ahead = []; late = []; fates = fates.entry.acks };
+          counts = no_frames;
+          payload = payload;
+          limit = max limit 1;
+          flight = max limit 1;
+          elapsed = 0;
+        } }
         ensures carries { Carries first [] result }
     {
         Link {
             sender: Sender::new_at(to_send, first),
             receiver: Receiver::new_at(to_receive, first),
-            there: Path::new(alloc, fates),
-            back: Path::new(alloc, ack_fates),
+            there: Path::new(alloc, fates.frames),
+            back: Path::new(alloc, fates.acks),
             payload,
             limit: limit.max(1),
             flight: limit.max(1),
@@ -97,6 +120,15 @@ impl<'a, 'f, A: Allocator + Copy> Link<'a, 'f, A> {
     /// The moment that the clock shows.
     pub(crate) fn now(&self) -> Instant {
         Instant::ZERO.saturating_add(self.elapsed)
+    }
+
+    /// Whether all that was written to the sender was read off the receiver.
+    pub(crate) fn is_written(&self) -> bool
+        ensures value { result ≡ is_written self.now }
+        ensures fits { (end_of self.now.sender < 2 ^ 64)
+            × (stored_next self.now.receiver < 2 ^ 64) }
+    {
+        self.receiver.next() == self.sender.end() && self.receiver.queued() == 0
     }
 
     /// Lets time pass: the clock goes on by so much, up to 2^64 - 1 microseconds in all.
@@ -147,44 +179,5 @@ impl<'a, 'f, A: Allocator + Copy> Link<'a, 'f, A> {
         laws::reads();
         laws::queue(&self.receiver);
         self.receiver.read(into)
-    }
-
-    /// A frame comes to the receiver, which acknowledges all that it has: the first missing
-    /// position, and the first 32 held runs. A frame that is too short for a position does nothing,
-    /// nor does one whose positions go past 64 bits.
-    ///
-    /// A refusal of memory leaves no acknowledgement, and the receiver has what came.
-    pub fn arrive(&mut self, frame: &[u8]) -> Result<(), AllocError>
-        ensures ok { OnOk result (self.new ≡ record self.old {
-          receiver = receiver_after most_reported self.old.receiver (segment_of frame.now);
-          back = with_ack self.new.receiver (segment_of frame.now) self.old.back;
-          counts = with_refusal most_reported self.old.receiver (segment_of frame.now) self.old.counts;
-        }) }
-        ensures err { OnErr result (self.new ≡ record self.old {
-          receiver = receiver_after most_reported self.old.receiver (segment_of frame.now);
-          counts = with_refusal most_reported self.old.receiver (segment_of frame.now) self.old.counts;
-        }) }
-        ensures carries { (f : ℕ) (w : List ℕ) → FrameSays f w frame.now →
-            Carries f w self.old → Carries f w self.new }
-    {
-        let now = self.now();
-        arriving::arrive(
-            &mut self.receiver,
-            &mut self.back,
-            now,
-            frame,
-            &mut self.counts,
-        )
-    }
-
-    /// An acknowledgement comes to the sender. One that is too short for a position, or whose
-    /// position is below the sender's `base` or above its `end`, changes nothing.
-    pub fn acknowledge(&mut self, frame: &[u8])
-        ensures state { self.new
-            ≡ record self.old { sender = after_ack_frame self.old.sender (segment_of frame.now) } }
-        ensures carries { (f : ℕ) (w : List ℕ) → FrameTells self.old.receiver frame.now →
-            Carries f w self.old → Carries f w self.new }
-    {
-        arriving::acknowledge(&mut self.sender, frame)
     }
 }

@@ -194,6 +194,7 @@ impl<'a> Sender<'a> {
         ensures none { pos < end_of self.now → result ≡ 0
             → IsFalse (reports self.now.reported pos) }
         ensures within { pos ≤ end_of self.now → pos + result ≤ end_of self.now }
+        ensures fits { end_of self.now < 2 ^ 64 }
     {
         let left = self.end().saturating_sub(pos);
         self.reported.count_from(pos).min(left)

@@ -1,0 +1,331 @@
+-- The steps of a copier are those of a copy.
+use Rattle.std.proofs.Common.{◌≡◌, ◌⊎◌, ◌&&◌, ◌||◌, ℕ, suc, ◌+◌, ◌-◌, ◌*◌, ◌≤◌, ◌<◌, ◌^◌, min, not, nat_lt, nat_le, nat_eq, cond, Bool, true, false, Option, Result, Ok, Err, OnOk, OnErr, List, [], ◌∷◌, ◌++◌, length, take, drop, refl, sym, ap, subst, ◌∙◌, arith, inl, inr, ⊎_elim, append_assoc, length-take, length-append}
+use Rattle.std.specs.Result.{is_err}
+use Rattle.std.specs.Prelude.{IsOk}
+use Rattle.std.specs.Io.KnownBytes.{Consumes, Appends, Keeps}
+use Rattle.std.proofs.lemmas.Bool.{both_ways, cond-true, cond-false, and_parts, ltb-true, le-ltb, lt-leb, le-leb}
+use Rattle.std.proofs.lemmas.Bool.Decides.{nat_tests}
+use Rattle.std.proofs.lemmas.List.{append-nil, take_all}
+use Rattle.std.proofs.Math.Seq.{take-append_seam}
+use Rattle.net_program.proofs.KnownBytes.{Appends-none, Appends-two, Appends-kept, Consumes-none, Consumes-two, Keeps-same}
+use Rattle.net_receiver.specs.OneStream.{SegmentReadsNothing}
+use Rattle.net_stream.specs.declared.copier.Copier.{Copier}
+use Rattle.net_stream.specs.declared.counts.Counts.{Counts}
+use Rattle.net_program.specs.Writing.{FlushesAfter}
+use Rattle.net_stream.specs.declared.error.LinkError.{LinkError}
+use Rattle.net_stream.specs.declared.error.LinkError.TheVariants as errors
+use Rattle.net_stream.specs.LinkState.{LinkState, times, round}
+use Rattle.net_stream.specs.CopyState.{Setup, CopyState, Status, Running, Done, GaveUp, ReadFailed, after, outcome, concat}
+use Rattle.net_stream.specs.CopyState.{is_written, room_for, rest_of, read_of, with_read, feed, decide, waited, pass, while_running, turn}
+use Rattle.net_stream.specs.Counting.{more, no_counts}
+use Rattle.net_stream.specs.Copying.{EndsRound, Copied, CopiedPart, HasCopied, HasNotBegun}
+use Rattle.net_stream.specs.Turns.{seen_copy, counts_of, Begins, Feeds, Passes, Breaks, CopiedSoFar}
+use Rattle.net_stream.proofs.Grown.{grown}
+use Rattle.net_stream.proofs.Turns.{feeds}
+
+-- a call that had no error
+pub was_ok : {T E : Type 0} (P : Type 0) (r : Result T E) → is_err r ≡ false → OnOk r P → P
+was_ok P (Ok t) e p = p
+was_ok P (Err x) e p = absurd (both_ways true e refl)
+
+pub was_err : {T E : Type 0} (P : Type 0) (r : Result T E) → is_err r ≡ true → OnErr r P → P
+was_err P (Ok t) e p = absurd (both_ways false refl e)
+was_err P (Err x) e p = p
+
+-- a read is made
+pub fed : (chunk room : ℕ) (c : CopyState) (may : Bool) → room ≡ room_for chunk c.link →
+    may ≡ (c.more && nat_lt 0 room && is_written c.link) → may ≡ true → feed chunk c ≡ read_of room c c.reads
+fed chunk room c may at is on =
+    cond-true _ (read_of (room_for chunk c.link) c c.reads) c
+    (sym (ap (λ n. c.more && nat_lt 0 n && is_written c.link) at) ∙ sym is ∙ on)
+    ∙ ap (λ n. read_of n c c.reads) (sym at)
+
+pub unfed : (chunk room : ℕ) (c : CopyState) (may : Bool) → room ≡ room_for chunk c.link →
+    may ≡ (c.more && nat_lt 0 room && is_written c.link) → may ≡ false → feed chunk c ≡ c
+unfed chunk room c may at is on =
+    cond-false _ (read_of (room_for chunk c.link) c c.reads) c
+    (sym (ap (λ n. c.more && nat_lt 0 n && is_written c.link) at) ∙ sym is ∙ on)
+
+pub may_some : (more written : Bool) (room : ℕ) (may : Bool) → may ≡ (more && nat_lt 0 room && written) → may ≡ true → (more ≡ true) × (0 < room)
+may_some more written room may is on =
+    let both = and_parts more (nat_lt 0 room) (and_parts (more && nat_lt 0 room) written (sym is ∙ on)).0 in
+    (both.0, ltb-true 0 room both.1)
+
+-- a read gave no more than it had room for
+pub read_some : (room : ℕ) (c : CopyState) (xs : List ℕ) (reads : List (List ℕ)) → 0 < length xs → length xs ≤ room →
+    (read_of room c (xs ∷ reads) ≡ with_read room c xs reads) × (take room xs ≡ xs) × (rest_of room xs reads ≡ reads)
+read_some room c [] reads some few = absurd (omega arith)
+read_some room c (x ∷ xs) reads some few =
+    (refl, take_all room (x ∷ xs) few, cond-false _ (drop room (x ∷ xs) ∷ reads) reads (le-ltb room (length (x ∷ xs)) few))
+
+-- what a read of a receiver gives
+pub handed : (n count : ℕ) (queue into into' : List ℕ) → count ≡ min n (length queue) → into' ≡ take n queue ++ drop (length queue) into →
+    take count into' ≡ take n queue
+handed n count queue into into' is e =
+    let size : count ≡ length (take n queue) = omega (arith, length-take n queue) in
+    (λ i. take (size i) (e i)) ∙ take-append_seam (take n queue) (drop (length queue) into)
+
+-- a copy that is done has no more to read
+pub is_done : (more written : Bool) → (not more && written) ≡ true → more ≡ false
+is_done true written e = absurd (both_ways false refl e)
+is_done false written e = refl
+
+-- ---- how far a copy is
+abbrev pub far : LinkState → ℕ
+far l = l.sender.base + l.receiver.read
+
+-- a round brings it on, or is counted as one that doesn't
+pub brings_on : SegmentReadsNothing → (chunk : ℕ) (c : CopyState) →
+    (far c.link < far (pass chunk c).link) ⊎ ((far c.link ≤ far (pass chunk c).link) × ((pass chunk c).stalled ≡ c.stalled + 1))
+brings_on reads_nothing chunk c =
+    let s = round (waited c) in
+    let h = grown reads_nothing c.link.sender.base c.link.receiver.read (waited c) (record { base = omega arith; read = refl }) in
+    by s.sender.base (min chunk (length s.receiver.queue)) (not (nat_eq s.sender.base c.link.sender.base)) (nat_lt 0 (min chunk (length s.receiver.queue)))
+    refl refl h.base h.read
+  where
+    by : (base n : ℕ) (moved some : Bool) → not (nat_eq base c.link.sender.base) ≡ moved → nat_lt 0 n ≡ some → c.link.sender.base ≤ base → (round (waited c)).receiver.read ≡ c.link.receiver.read →
+        (far c.link < base + ((round (waited c)).receiver.read + n)) ⊎ ((far c.link ≤ base + ((round (waited c)).receiver.read + n)) × (cond (moved || some) 0 (c.stalled + 1) ≡ c.stalled + 1))
+    by base n true some m k b r = inl (grind (arith, nat_tests))
+    by base n false true m k b r = inl (let l = ltb-true 0 n k in omega arith)
+    by base n false false m k b r = inr (omega arith, refl)
+
+-- a read leaves it where it is
+pub fed_leaves : (chunk : ℕ) (c : CopyState) → (far (feed chunk c).link ≡ far c.link) × ((feed chunk c).stalled ≡ c.stalled)
+fed_leaves chunk c = feeds (λ d. (far d.link ≡ far c.link) × (d.stalled ≡ c.stalled)) chunk c (λ more room all. by c.reads) (refl, refl)
+  where
+    by : (reads : List (List ℕ)) → (far (read_of (room_for chunk c.link) c reads).link ≡ far c.link) × ((read_of (room_for chunk c.link) c reads).stalled ≡ c.stalled)
+    by [] = (refl, refl)
+    by ([] ∷ reads) = (refl, refl)
+    by ((x ∷ xs) ∷ reads) = (refl, refl)
+
+-- the measure of turns
+pub smaller : (rounds far far' stalled stalled' : ℕ) → rounds < 2 ^ 64 → far < 2 ^ 65 → stalled < rounds →
+    (far < far') ⊎ ((far ≤ far') × (stalled' ≡ stalled + 1)) →
+    (2 ^ 66 - far') * 2 ^ 64 + (rounds - stalled') < (2 ^ 66 - far) * 2 ^ 64 + (rounds - stalled)
+smaller rounds far far' stalled stalled' word below few (inl l) = omega arith
+smaller rounds far far' stalled stalled' word below few (inr h) = (let l = h.0 in let e = h.1 in omega arith)
+
+-- ---- a turn
+pub turn_by : (rounds chunk : ℕ) (s t u v : CopyState) → while_running (feed chunk) s ≡ t → while_running (decide rounds) t ≡ u → while_running (pass chunk) u ≡ v →
+    turn rounds chunk s ≡ v
+unfolding turn
+turn_by rounds chunk s t u v p q r =
+    ap (λ x. while_running (pass chunk) (while_running (decide rounds) x)) p ∙ ap (while_running (pass chunk)) q ∙ r
+
+pub goes_on : (rounds : ℕ) (c : CopyState) → (not c.more && is_written c.link) ≡ false → c.stalled < rounds → decide rounds c ≡ c
+goes_on rounds c on few =
+    cond-false (not c.more && is_written c.link) (record c { status = Done }) _ on ∙ cond-false (nat_le rounds c.stalled) (record c { status = GaveUp }) c (lt-leb rounds c.stalled few)
+
+pub is_over : (rounds : ℕ) (c : CopyState) → (not c.more && is_written c.link) ≡ true → decide rounds c ≡ record c { status = Done }
+is_over rounds c done = cond-true (not c.more && is_written c.link) (record c { status = Done }) _ done
+
+pub gives_up : (rounds : ℕ) (c : CopyState) → (not c.more && is_written c.link) ≡ false → rounds ≤ c.stalled → decide rounds c ≡ record c { status = GaveUp }
+gives_up rounds c on many =
+    cond-false (not c.more && is_written c.link) (record c { status = Done }) _ on ∙ cond-true (nat_le rounds c.stalled) (record c { status = GaveUp }) c (le-leb rounds c.stalled many)
+
+concat_both : (xs ys : List (List ℕ)) → concat (xs ++ ys) ≡ concat xs ++ concat ys
+concat_both [] ys = refl
+concat_both (x ∷ xs) ys = ap (λ l. x ++ l) (concat_both xs ys) ∙ sym (append_assoc x (concat xs) (concat ys))
+
+-- a count of both
+both_counted : (n : ℕ) (xs ys : List ℕ) → n ≡ min (length xs + length ys) (2 ^ 64 - 1) → n ≡ min (length (xs ++ ys)) (2 ^ 64 - 1)
+both_counted n xs ys is = omega (arith, is, length-append xs ys)
+
+module _ {A : Type 0} (rounds chunk : ℕ) (old : Copier A) (had held : Option (List ℕ)) where
+  pub none_yet : old.taken ≡ 0 → old.bytes ≡ 0 → old.more ≡ true → CopiedSoFar rounds chunk old old had had held held
+  none_yet taken bytes more = record {
+    turns = 0;
+    reads = [];
+    written = [];
+    consumed = Consumes-none had had (Keeps-same had);
+    appended = Appends-none held held (Keeps-same held);
+    taken = taken;
+    bytes = bytes;
+    state = λ later. refl;
+    end = λ e. absurd (both_ways old.more e more);
+  }
+
+  -- the turns so far, and one read more
+  fed_more : (a b : Copier A) (has next holds : Option (List ℕ)) (ended : Status) (so_far : CopiedSoFar rounds chunk old a had has held holds)
+      (f : Feeds chunk a b has next ended) (later : List (List ℕ)) → (ended ≡ ReadFailed → later ≡ []) →
+      while_running (feed chunk) (times so_far.turns (turn rounds chunk) (seen_copy old ((so_far.reads ++ f.reads) ++ later) [] [] Running))
+      ≡ seen_copy b later (concat (so_far.reads ++ f.reads)) so_far.written ended
+  fed_more a b has next holds ended so_far f later none =
+      ap (λ rs. while_running (feed chunk) (times so_far.turns (turn rounds chunk) (seen_copy old rs [] [] Running))) (append_assoc so_far.reads f.reads later)
+      ∙ ap (while_running (feed chunk)) (so_far.state (f.reads ++ later))
+      ∙ f.step later (concat so_far.reads) so_far.written none
+      ∙ ap (λ g. seen_copy b later g so_far.written ended) (sym (concat_both so_far.reads f.reads))
+
+  consumed_more : (a b : Copier A) (has next holds : Option (List ℕ)) (ended : Status) (so_far : CopiedSoFar rounds chunk old a had has held holds)
+      (f : Feeds chunk a b has next ended) → Consumes had next (concat (so_far.reads ++ f.reads))
+  consumed_more a b has next holds ended so_far f =
+      subst (Consumes had next) (sym (concat_both so_far.reads f.reads)) (Consumes-two had has next (concat so_far.reads) (concat f.reads) so_far.consumed f.consumed)
+
+  taken_more : (a b : Copier A) (has next holds : Option (List ℕ)) (ended : Status) (so_far : CopiedSoFar rounds chunk old a had has held holds)
+      (f : Feeds chunk a b has next ended) → b.taken ≡ min (length (concat (so_far.reads ++ f.reads))) (2 ^ 64 - 1)
+  taken_more a b has next holds ended so_far f =
+      both_counted b.taken (concat so_far.reads) (concat f.reads) (f.taken (length (concat so_far.reads)) so_far.taken)
+      ∙ ap (λ xs. min (length xs) (2 ^ 64 - 1)) (sym (concat_both so_far.reads f.reads))
+
+  -- one turn more
+  pub one_more : (a b d : Copier A) (has next holds keeps : Option (List ℕ)) → CopiedSoFar rounds chunk old a had has held holds →
+      Feeds chunk a b has next Running → (not b.more && is_written b.link) ≡ false → b.stalled < rounds →
+      Passes chunk b d holds keeps → CopiedSoFar rounds chunk old d had next held keeps
+  one_more a b d has next holds keeps so_far f on few p = record {
+    turns = suc so_far.turns;
+    reads = so_far.reads ++ f.reads;
+    written = so_far.written ++ p.written;
+    consumed = consumed_more a b has next holds Running so_far f;
+    appended = Appends-two held holds keeps so_far.written p.written (so_far.written ++ p.written) so_far.appended p.appended refl;
+    taken = p.taken ∙ taken_more a b has next holds Running so_far f;
+    bytes = both_counted d.bytes so_far.written p.written (p.bytes (length so_far.written) (f.bytes ∙ so_far.bytes));
+    state = λ later.
+        let g = concat (so_far.reads ++ f.reads) in
+        turn_by rounds chunk (times so_far.turns (turn rounds chunk) (seen_copy old ((so_far.reads ++ f.reads) ++ later) [] [] Running))
+        (seen_copy b later g so_far.written Running) (seen_copy b later g so_far.written Running) (seen_copy d later g (so_far.written ++ p.written) Running)
+        (fed_more a b has next holds Running so_far f later (λ e. cc)) (goes_on rounds (seen_copy b later g so_far.written Running) on few)
+        (p.step later g so_far.written);
+    end = λ e. f.end so_far.end (sym p.more ∙ e);
+  }
+
+  -- the last one, which ends so
+  pub last : (s : Setup) → Begins s rounds chunk old → (a b : Copier A) (has next holds : Option (List ℕ)) (fed status : Status) →
+      CopiedSoFar rounds chunk old a had has held holds → Feeds chunk a b has next fed →
+      ((given written : List ℕ) → while_running (decide rounds) (seen_copy b [] given written fed) ≡ seen_copy b [] given written status) →
+      ((given written : List ℕ) → while_running (pass chunk) (seen_copy b [] given written status) ≡ seen_copy b [] given written status) →
+      (status ≡ Done → b.more ≡ false) → Copied s status had next held holds (counts_of b)
+  last s begins a b has next holds fed status so_far f decided ended none =
+      let reads = so_far.reads ++ f.reads in
+      let g = concat reads in
+      let state : after s reads (suc so_far.turns) ≡ seen_copy b [] g so_far.written status =
+      (λ i. times (suc so_far.turns) (turn (begins.rounds_are i) (begins.chunk_is i)) (begins.state reads i))
+      ∙ turn_by rounds chunk (times so_far.turns (turn rounds chunk) (seen_copy old reads [] [] Running))
+      (seen_copy b [] g so_far.written fed) (seen_copy b [] g so_far.written status) (seen_copy b [] g so_far.written status)
+      (ap (λ rs. while_running (feed chunk) (times so_far.turns (turn rounds chunk) (seen_copy old rs [] [] Running))) (sym (append-nil reads))
+      ∙ fed_more a b has next holds fed so_far f [] (λ _. refl)) (decided g so_far.written) (ended g so_far.written) in
+      let bytes = f.bytes ∙ so_far.bytes in
+      record {
+        reads = reads;
+        turns = suc so_far.turns;
+        written = so_far.written;
+        ends = ap outcome state ∙ (λ i. record {
+          status = status;
+          written = so_far.written;
+          counts = record (counts_of b) { taken = sym (taken_more a b has next holds fed so_far f) i; bytes = sym bytes i };
+        });
+        made = ap (λ (c : CopyState). c.reads) state;
+        consumed = consumed_more a b has next holds fed so_far f;
+        appended = so_far.appended;
+        at_end = λ d. f.end so_far.end (none d);
+      }
+
+  -- the last one, which an error ended within its round
+  pub part_of : (s : Setup) → Begins s rounds chunk old → (error : LinkError) (a b d : Copier A) (has next holds keeps : Option (List ℕ)) →
+      CopiedSoFar rounds chunk old a had has held holds → Feeds chunk a b has next Running → (not b.more && is_written b.link) ≡ false → b.stalled < rounds →
+      Breaks chunk error b d holds keeps → CopiedPart s error had next held keeps (counts_of d)
+  part_of s begins error a b d has next holds keeps so_far f on few p =
+      let reads = so_far.reads ++ f.reads in
+      let g = concat reads in
+      let here = seen_copy b [] g so_far.written Running in
+      let state : while_running (decide s.rounds) (while_running (feed s.chunk) (after s reads so_far.turns)) ≡ here =
+      (λ i. while_running (decide (begins.rounds_are i)) (while_running (feed (begins.chunk_is i)) (times so_far.turns (turn (begins.rounds_are i) (begins.chunk_is i)) (begins.state reads i))))
+      ∙ ap (while_running (decide rounds)) (ap (λ rs. while_running (feed chunk) (times so_far.turns (turn rounds chunk) (seen_copy old rs [] [] Running))) (sym (append-nil reads))
+      ∙ fed_more a b has next holds Running so_far f [] (λ _. refl))
+      ∙ goes_on rounds here on few in
+      let taken = p.taken ∙ taken_more a b has next holds Running so_far f in
+      let bytes = both_counted d.bytes so_far.written p.written (p.bytes (length so_far.written) (f.bytes ∙ so_far.bytes)) in
+      record {
+        reads = reads;
+        turns = so_far.turns;
+        link = p.link;
+        written = p.written;
+        runs = ap (λ (c : CopyState). c.status) state;
+        made = ap (λ (c : CopyState). c.reads) state;
+        part = subst (λ (c : CopyState). EndsRound error s.chunk c p.link p.written) (sym state)
+            (subst (λ k. EndsRound error k here p.link p.written) (sym begins.chunk_is) (p.part g so_far.written));
+        counted = (λ i. record { taken = taken i; bytes = bytes i; rounds = p.rounds i; micros = p.micros i; frames = p.frames i })
+            ∙ ap (λ (c : CopyState). (outcome (record c { link = p.link; written = c.written ++ p.written; rounds = more c.rounds })).counts) (sym state);
+        consumed = consumed_more a b has next holds Running so_far f;
+        appended = subst (λ (c : CopyState). Appends held keeps (c.written ++ p.written)) (sym state)
+            (Appends-two held holds keeps so_far.written p.written (so_far.written ++ p.written) so_far.appended p.appended refl);
+      }
+
+-- ---- by the result
+-- a read failed
+pub read_failed : {T : Type 0} (s : Setup) (r : Result T LinkError) (e : LinkError) (had has held holds : Option (List ℕ)) (counts : Counts) →
+    r ≡ Err e → e ≡ errors.ReadFailed → Copied s ReadFailed had has held holds counts → HasCopied s r had has held holds counts
+read_failed s r e had has held holds counts was is p = subst (λ x. HasCopied s x had has held holds counts) (sym (was ∙ ap Err is)) p
+
+-- an error ended a round
+pub broke_off : {T : Type 0} (s : Setup) (r : Result T LinkError) (e : LinkError) (had has held holds : Option (List ℕ)) (counts : Counts) → r ≡ Err e →
+    CopiedPart s e had has held holds counts → HasCopied s r had has held holds counts
+broke_off s r errors.OutOfMemory had has held holds counts was p = subst (λ x. HasCopied s x had has held holds counts) (sym was) p
+broke_off s r errors.WriteFailed had has held holds counts was p = subst (λ x. HasCopied s x had has held holds counts) (sym was) (inl p)
+broke_off s r errors.GaveUp had has held holds counts was p = absurd p.part
+broke_off s r errors.ReadFailed had has held holds counts was p = absurd p.part
+
+-- a flush changes nothing of what was written
+copied_kept : (s : Setup) (status : Status) (had has held holds keeps : Option (List ℕ)) (counts : Counts) → Keeps holds keeps →
+    Copied s status had has held holds counts → Copied s status had has held keeps counts
+copied_kept s status had has held holds keeps counts k p = record {
+  reads = p.reads;
+  turns = p.turns;
+  written = p.written;
+  ends = p.ends;
+  made = p.made;
+  consumed = p.consumed;
+  appended = Appends-kept held holds keeps p.written p.appended k;
+  at_end = p.at_end;
+}
+
+part_kept : (s : Setup) (error : LinkError) (had has held holds keeps : Option (List ℕ)) (counts : Counts) → Keeps holds keeps →
+    CopiedPart s error had has held holds counts → CopiedPart s error had has held keeps counts
+part_kept s error had has held holds keeps counts k p = record {
+  reads = p.reads;
+  turns = p.turns;
+  link = p.link;
+  written = p.written;
+  runs = p.runs;
+  made = p.made;
+  part = p.part;
+  counted = p.counted;
+  consumed = p.consumed;
+  appended = Appends-kept held holds keeps _ p.appended k;
+}
+
+kept : {T : Type 0} (s : Setup) (r : Result T LinkError) (had has held holds keeps : Option (List ℕ)) (counts : Counts) → Keeps holds keeps →
+    HasCopied s r had has held holds counts → HasCopied s r had has held keeps counts
+kept s (Ok t) had has held holds keeps counts k p = copied_kept s Done had has held holds keeps counts k p
+kept s (Err errors.GaveUp) had has held holds keeps counts k p = copied_kept s GaveUp had has held holds keeps counts k p
+kept s (Err errors.ReadFailed) had has held holds keeps counts k p = copied_kept s ReadFailed had has held holds keeps counts k p
+kept s (Err errors.OutOfMemory) had has held holds keeps counts k p = part_kept s errors.OutOfMemory had has held holds keeps counts k p
+kept s (Err errors.WriteFailed) had has held holds keeps counts k p =
+    ⊎_elim {C = CopiedPart s errors.WriteFailed had has held keeps counts ⊎ Copied s Done had has held keeps counts}
+    (λ (q : CopiedPart s errors.WriteFailed had has held holds counts). inl (part_kept s errors.WriteFailed had has held holds keeps counts k q))
+    (λ (q : Copied s Done had has held holds counts). inr (copied_kept s Done had has held holds keeps counts k q))
+    p
+
+was_done : {T : Type 0} (s : Setup) (r : Result T LinkError) (had has held holds : Option (List ℕ)) (counts : Counts) → IsOk r →
+    HasCopied s r had has held holds counts → Copied s Done had has held holds counts
+was_done s (Ok t) had has held holds counts ok p = p
+was_done s (Err e) had has held holds counts ok p = absurd (both_ways false refl ok)
+
+pub flushed : {T : Type 0} (s : Setup) (ended result : Result T LinkError) (had has held holds keeps : Option (List ℕ)) (counts : Counts) →
+    Keeps holds keeps → FlushesAfter errors.WriteFailed ended result → HasCopied s ended had has held holds counts → HasCopied s result had has held keeps counts
+flushed s ended result had has held holds keeps counts k flush p =
+    let q = kept s ended had has held holds keeps counts k p in
+    ⊎_elim {C = HasCopied s result had has held keeps counts}
+    (λ (e : result ≡ ended). subst (λ r. HasCopied s r had has held keeps counts) (sym e) q)
+    (λ (e : IsOk ended × (result ≡ Err errors.WriteFailed)). subst (λ r. HasCopied s r had has held keeps counts) (sym e.1)
+    (inr (was_done s ended had has held keeps counts e.0 q)))
+    flush
+
+-- a copy without memory
+pub not_begun : {T : Type 0} (result : Result T LinkError) (had held holds : Option (List ℕ)) (counts : Counts) →
+    Keeps held holds → FlushesAfter errors.WriteFailed (Err errors.OutOfMemory) result → counts ≡ no_counts → HasNotBegun result had had held holds counts
+not_begun result had held holds counts k flushed none = (
+  ⊎_elim {C = result ≡ Err errors.OutOfMemory} (λ e. e) (λ e. absurd (both_ways false refl e.0)) flushed,
+  Consumes-none had had (Keeps-same had),
+  Appends-none held holds k,
+  none,
+)

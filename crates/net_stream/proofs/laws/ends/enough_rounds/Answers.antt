@@ -1,0 +1,8 @@
+use Rattle.net_stream.proofs.CountedTurns.{enough_rounds, rounds_at_once}
+use Rattle.net_stream.proofs.laws.ends.enough_rounds.Goals as goal
+
+pub returns-clause-least : goal.returns-clause-least
+returns-clause-least c = enough_rounds c.known_of_rounds.ensures
+
+pub returns-clause-at_once : goal.returns-clause-at_once
+returns-clause-at_once c = rounds_at_once c.known_of_rounds.ensures

@@ -1,0 +1,102 @@
+-- A copier as the state of a copy, and what its steps do to a reader and a writer.
+--     seen_copy c reads given written status      a copier, what its reads to come give, what they gave
+--         so far, and what was written
+--     counts_of c      its counts
+--     Begins s rounds chunk c      nothing was done
+--     Feeds chunk old new had has ended      a read, or none, and what it gave
+--     Passes chunk old new had has      a round, and what was written
+--     Breaks chunk error old new had has      a round that the error ended
+--     CopiedSoFar rounds chunk old new had has held holds      turns of a copy that goes on
+use Rattle.std.specs.Prelude.{◌≡◌, ℕ, ◌+◌, ◌-◌, ◌^◌, min, false, List, [], ◌++◌, length, Option}
+use Rattle.std.specs.Io.KnownBytes.{Appends, Consumes, IsAtEnd}
+use Rattle.net_stream.specs.Counting.{more}
+use Rattle.net_stream.specs.declared.counts.Counts.{Counts}
+use Rattle.net_stream.specs.declared.error.LinkError.{LinkError}
+use Rattle.net_stream.specs.declared.copier.Copier.{Copier}
+use Rattle.net_stream.specs.LinkState.{LinkState, times}
+use Rattle.net_stream.specs.CopyState.{Setup, CopyState, Status, Running, ReadFailed, begin, concat}
+use Rattle.net_stream.specs.CopyState.{feed, pass, turn}
+use Rattle.net_stream.specs.Copying.{EndsRound}
+
+abbrev pub seen_copy : {A : Type 0} → Copier A → List (List ℕ) → List ℕ → List ℕ → Status → CopyState
+seen_copy c reads given written status = record {
+  link = c.link;
+  reads = reads;
+  given = given;
+  more = c.more;
+  written = written;
+  rounds = c.rounds;
+  stalled = c.stalled;
+  wait = c.wait;
+  status = status;
+}
+
+abbrev pub counts_of : {A : Type 0} → Copier A → Counts
+counts_of c = record {
+  taken = c.taken;
+  bytes = c.bytes;
+  rounds = c.rounds;
+  micros = c.link.elapsed;
+  frames = c.link.counts;
+}
+
+-- nothing was done of a copy of this setup
+pub record Begins {A : Type 0} (s : Setup) (rounds chunk : ℕ) (c : Copier A) : Type 0 where
+  pub rounds_are : s.rounds ≡ rounds
+  pub chunk_is : s.chunk ≡ chunk
+  pub state : (reads : List (List ℕ)) → begin s reads ≡ seen_copy c reads [] [] Running
+
+-- a read, or none: whatever the later reads give, this is what `feed` says
+pub record Feeds {A : Type 0} (chunk : ℕ) (old new : Copier A) (had has : Option (List ℕ)) (ended : Status)
+    : Type 0 where
+  pub reads : List (List ℕ)
+  pub consumed : Consumes had has (concat reads)
+  pub taken : (n : ℕ) → old.taken ≡ min n (2 ^ 64 - 1)
+      → new.taken ≡ min (n + length (concat reads)) (2 ^ 64 - 1)
+  pub bytes : new.bytes ≡ old.bytes
+  pub step : (later : List (List ℕ)) (given written : List ℕ) → (ended ≡ ReadFailed → later ≡ [])
+      → feed chunk (seen_copy old (reads ++ later) given written Running)
+      ≡ seen_copy new later (given ++ concat reads) written ended
+  pub end : (old.more ≡ false → IsAtEnd had) → new.more ≡ false → IsAtEnd has
+
+-- a round, and what was written
+pub record Passes {A : Type 0} (chunk : ℕ) (old new : Copier A) (had has : Option (List ℕ)) : Type 0 where
+  pub written : List ℕ
+  pub appended : Appends had has written
+  pub bytes : (n : ℕ) → old.bytes ≡ min n (2 ^ 64 - 1)
+      → new.bytes ≡ min (n + length written) (2 ^ 64 - 1)
+  pub taken : new.taken ≡ old.taken
+  pub more : new.more ≡ old.more
+  pub step : (later : List (List ℕ)) (given before : List ℕ)
+      → pass chunk (seen_copy old later given before Running)
+      ≡ seen_copy new later given (before ++ written) Running
+
+-- a round that the error ended, and what of it was written
+pub record Breaks {A : Type 0} (chunk : ℕ) (error : LinkError) (old new : Copier A) (had has : Option (List ℕ))
+    : Type 0 where
+  pub link : LinkState
+  pub written : List ℕ
+  pub part : (given before : List ℕ)
+      → EndsRound error chunk (seen_copy old [] given before Running) link written
+  pub appended : Appends had has written
+  pub bytes : (n : ℕ) → old.bytes ≡ min n (2 ^ 64 - 1)
+      → new.bytes ≡ min (n + length written) (2 ^ 64 - 1)
+  pub taken : new.taken ≡ old.taken
+  pub rounds : new.rounds ≡ more old.rounds
+  pub frames : new.link.counts ≡ link.counts
+  pub micros : new.link.elapsed ≡ link.elapsed
+
+-- turns so far, whatever the later reads give
+pub record CopiedSoFar {A : Type 0} (rounds chunk : ℕ) (old new : Copier A) (had has held holds : Option (List ℕ))
+    : Type 0 where
+  pub turns : ℕ
+  pub reads : List (List ℕ)
+  pub written : List ℕ
+  pub consumed : Consumes had has (concat reads)
+  pub appended : Appends held holds written
+  pub taken : new.taken ≡ min (length (concat reads)) (2 ^ 64 - 1)
+  pub bytes : new.bytes ≡ min (length written) (2 ^ 64 - 1)
+  pub state : (later : List (List ℕ))
+      → times turns (turn rounds chunk) (seen_copy old (reads ++ later) [] [] Running)
+      ≡ seen_copy new later (concat reads) written Running
+  pub end : new.more ≡ false → IsAtEnd has
