@@ -1,14 +1,13 @@
 //! A bench for the storage types: lines come in, and a reply line goes out for each.
 #![tactic(auto)]
 
-mod serve;
-
+use net_bench_serve::serve;
 use net_program::command_words;
 use std::process::ExitCode;
 
 fn main(rt: HostRuntime) -> ExitCode {
     let words = command_words(&rt);
-    let ended = serve::serve(
+    let ended = serve(
         rt.alloc(),
         &words,
         &mut rt.stdin(),

@@ -1,20 +1,20 @@
 -- What comes of the words of a command line.
 --     config_of plan, rates_of plan      what a copy goes by
 --     fates_of plan, ack_fates_of plan      the fates of frames and of acknowledgements
+--     setup_for plan      all that a copy is given beside its reads
 --     status_of ended      the status after a copy
 --     CopiesOver plan old new had has said says ended      what came of a copy
 --     Helps had has said says ended      what came of a word that asks how the program is used
 --     ComesOf words asked old new had has said says ended      what came of words
 use Rattle.std.specs.Prelude.{◌≡◌, ◌⊎◌, ℕ, ◌-◌, ◌^◌, List, [], Option, Bool, true, false, Result, Ok, Err, codes}
-use Rattle.std.specs.Result.{is_ok}
 use Rattle.std.specs.Io.KnownBytes.{Appends, Keeps}
 use Rattle.net_program.specs.Writing.{AppendsPrefix}
 use Rattle.net_program.specs.declared.ending.Status.{Status}
 use Rattle.net_program.specs.declared.ending.Status.TheVariants.{Done, Failed, Misused, GaveUp as GaveItUp}
 use Rattle.net_program.specs.declared.ending.Ended.{Ended}
-use Rattle.net_stream.specs.Copying.{Copies}
+use Rattle.net_stream.specs.CopyState.{Setup, setup_of}
+use Rattle.net_stream.specs.Copying.{HasCopied, HasNotBegun}
 use Rattle.net_stream.specs.Fates.{FatesSeen}
-use Rattle.net_stream.specs.Rounds.{CountsFates}
 use Rattle.net_stream.specs.declared.copying.Config.{Config}
 use Rattle.net_stream.specs.declared.counts.Counts.{Counts}
 use Rattle.net_stream.specs.declared.error.LinkError.{LinkError}
@@ -60,17 +60,21 @@ status_of (Err OutOfMemory) = Failed
 status_of (Err ReadFailed) = Failed
 status_of (Err WriteFailed) = Failed
 
--- the bytes that a reader gave went to a writer over the link of the plan, all of them or a prefix up
--- to an error; and if standard error took all, the last that it says is the error, if there was one,
--- and the counts. Before that it says something only if the plan shows progress
+-- the link of a plan, and what a copy over it goes by
+abbrev pub setup_for : Plan → Setup
+setup_for plan = setup_of (config_of plan) (fates_of plan) (ack_fates_of plan)
+
+-- a copy over the link of the plan was made, or there was no memory to begin with; and if standard
+-- error took all, the last that it says is the error, if there was one, and the counts of that copy.
+-- Before that it says something only if the plan shows progress
 pub record CopiesOver (plan : Plan) (old new had has said says : Option (List ℕ))
     (ended : Ended) : Type 0 where
   pub outcome : Result (Unit {0}) LinkError
   pub counts : Counts
   pub cause : List ℕ
   pub shown : Option (List ℕ)
-  pub copied : Copies old new had has counts.taken counts.bytes (is_ok outcome)
-  pub fates : CountsFates (fates_of plan) (ack_fates_of plan) counts.frames
+  pub exact : HasCopied (setup_for plan) outcome old new had has counts
+      ⊎ HasNotBegun outcome old new had has counts
   pub status : ended.status ≡ status_of outcome
   pub quiet : plan.shows_progress ≡ false → Keeps said shown
   pub told : ended.is_told ≡ true → Appends shown says (summary outcome cause counts)

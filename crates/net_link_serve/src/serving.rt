@@ -12,7 +12,7 @@ use crate::summary::{write_summary, write_unwritten};
 use crate::usage::{usage_text, write_misuse};
 use crate::words::{Asked, Misuse, Plan, asked_of, numbers};
 use net_program::{Ended, Status, flush_after, write_text};
-use net_stream::{Config, Counts, Fates, LinkError, Rates, copy};
+use net_stream::{Config, Counts, Fates, LinkError, LinkFates, Rates, copy};
 use std::alloc::Allocator;
 use std::io;
 use std::io::{Read, Write};
@@ -129,18 +129,12 @@ fn copy_over_link<A: Allocator + Copy, R: Read, W: Write, E: Write>(
         (W.contents writer.old.stream) (W.contents writer.new.stream)
         (E.contents errors.old) (E.contents errors.new) result }
 {
-    let fates = Fates::new(&[], plan.seed, rates(plan));
-    let ack_fates = Fates::new(&[], !plan.seed, rates(plan));
+    let fates = LinkFates {
+        frames: Fates::new(&[], plan.seed, rates(plan)),
+        acks: Fates::new(&[], !plan.seed, rates(plan)),
+    };
     let mut counts = Counts::new();
-    let ended = copy(
-        alloc,
-        config(plan),
-        fates,
-        ack_fates,
-        reader,
-        writer,
-        &mut counts,
-    );
+    let ended = copy(alloc, config(plan), fates, reader, writer, &mut counts);
     let cause = cause_of(alloc, reader.error.or(writer.error));
     let told = write_summary(errors, &ended, cause.as_str(), &counts);
     Ended {

@@ -1,7 +1,7 @@
 use Rattle.std.proofs.Common.{sym, ◌∙◌}
 use Rattle.net_lines.specs.Modes.{transcript_of}
-use Rattle.net_bench.proofs.Flushed.{flushed_ok, flushed_err}
-use Rattle.net_bench.proofs.serve.serve.Goals as goal
+use Rattle.net_bench_serve.proofs.Flushed.{flushed_ok, flushed_err}
+use Rattle.net_bench_serve.proofs.serving.serve.Goals as goal
 
 pub returns-clause-ok : goal.returns-clause-ok
 returns-clause-ok g c = λ done.

@@ -6,7 +6,7 @@ use Rattle.std.proofs.Common.{⊎_elim}
 use Rattle.std.specs.Io.KnownBytes.{Appends, Keeps}
 use Rattle.net_program.specs.Writing.{AppendsPrefix, FlushesAfter}
 use Rattle.net_program.specs.declared.ending.Status.{Status}
-use Rattle.net_program.specs.declared.ending.Status.TheVariants.{Done, Failed, Misused}
+use Rattle.net_program.specs.declared.ending.Status.TheVariants.{Done, Failed, Misused, GaveUp}
 use Rattle.net_program.proofs.KnownBytes.{Appends-kept, StartsWith-all}
 use Rattle.net_lines.specs.Text.{lines_of}
 use Rattle.net_lines.specs.Transcript.{Transcript, ErrorOfInput}
@@ -14,12 +14,13 @@ use Rattle.net_lines.specs.declared.error.BenchError.{BenchError}
 use Rattle.net_lines.specs.declared.error.BenchError.TheVariants.{BadCommand, RangeTooLong, LineTooLong}
 use Rattle.net_lines.specs.declared.error.BenchError.TheVariants.{TooManySchedules, OutOfMemory}
 use Rattle.net_lines.specs.declared.error.BenchError.TheVariants.{ReadFailed, WriteFailed}
-use Rattle.net_bench.specs.Serving.{error_line, status_of, FailsOnInput}
+use Rattle.net_bench_serve.specs.Serving.{error_line, status_of, FailsOnInput}
 
 abbrev is_done : Status → Bool
 is_done Done = true
 is_done Failed = false
 is_done Misused = false
+is_done GaveUp = false
 
 -- an input without a fault, of which all was written
 abbrev pub Ran : Transcript → Option (List ℕ) → Option (List ℕ) → Option (List ℕ) → Type 0

@@ -1,5 +1,6 @@
 //! The statuses, what standard error says, and how often streams are called.
-use super::*;
+use net_bench_serve::serve;
+use net_program::{Ended, Status};
 use net_testing::{NEVER, Refusing, Sink, Source};
 use std::alloc::{AllocError, Allocator, Global};
 use std::io::ErrorKind;

@@ -3,7 +3,7 @@ ghost use Rattle.std.specs.Prelude.{◌≡◌, ◌↔◌, map, IfSome, OnOk, IfE
 ghost use Rattle.std.specs.Io.KnownBytes.{Appends, Keeps};
 ghost use Rattle.net_program.specs.declared.ending.Status.TheVariants.{Done, Failed, Misused};
 ghost use Rattle.net_lines.specs.Modes.{output, fault, mode_of, transcript_of};
-ghost use Rattle.net_bench.specs.Serving.{usage_line, error_line, status_of, FailsOnInput};
+ghost use Rattle.net_bench_serve.specs.Serving.{usage_line, error_line, status_of, FailsOnInput};
 
 use net_lines::{BenchError, Mode, run};
 use net_program::{Ended, Status, flush_after};
@@ -75,6 +75,3 @@ fn ended_after<E: Write>(outcome: Result<(), BenchError>, errors: &mut E) -> End
         }
     }
 }
-
-#[cfg(test)]
-mod tests;
