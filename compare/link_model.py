@@ -1,9 +1,11 @@
 """A model of net_link, written from docs/LINK.md alone, beside the program: statuses, outputs, lines of counts.
 
     python3 compare/link_model.py PROGRAM [--cases 1000] [--seed 1]
+    python3 compare/link_model.py --gives-up [--copies 40]
 
 PROGRAM is net_link, proved (`rt run` leaves it in crates/net_link/out). Each case draws the words and an
-input, which the program reads from a file, so that a read gives all that it has room for.
+input, which the program reads from a file, so that a read gives all that it has room for. With `--gives-up` no
+program is run: it prints how many copies give up, by LOSS, BYTES and the length of the input.
 """
 import argparse
 import random
@@ -11,8 +13,10 @@ import subprocess
 import sys
 import tempfile
 
-BUFFER, MOST_RUNS, MOST_FRAMES, ROUNDS = 262_144, 32, 4_096, 100
+BUFFER, MOST_RUNS, MOST_FRAMES, MOST_ROUNDS = 262_144, 32, 4_096, 100
 SHORTEST, LONGEST = 10_000, 1_000_000
+SHOWN_EACH, GAVE_UP = 256, 3
+LOSSES, LENGTHS, PAYLOADS = [80, 90, 95, 99], [2**16, 2**20, 2**24], [100, 1_460, 16_384]
 
 
 class Direction:
@@ -94,47 +98,55 @@ class Sender:
             if self.base >= self.again:
                 self.again += BUFFER
 
+    def is_full(self):
+        return len(self.ranges) == MOST_RUNS
+
     def frames(self, payload, flight):
-        """The frames of a round, each where it begins and ends."""
+        """The frames of a round, each where it begins and ends. Reported ranges rise and don't meet."""
         frames, place = [], self.base
-        while place < self.end and len(frames) < flight:
-            having = [end for start, end in self.ranges if start <= place < end]
-            if having:
-                place = having[0]
-                continue
-            if len(self.ranges) == MOST_RUNS and place > self.ranges[-1][1]:
-                break
-            ends = [place + payload, self.end] + [start for start, _ in self.ranges if start > place]
-            if place < self.again:
-                ends.append(self.again)
-            frames.append((place, min(ends)))
-            place = min(ends)
+        for start, end in [*self.ranges, (self.end, self.end)]:
+            is_last = self.is_full() and place == self.ranges[-1][1]
+            while place < min(start, self.end) and len(frames) < flight:
+                ends = [place + payload, start, self.end] + [self.again] * (place < self.again)
+                frames.append((place, min(ends)))
+                place = min(ends)
+                if is_last:
+                    return frames
+            if place < start:
+                return frames
+            place = end
         return frames
 
 
-def predicted(length, loss, seed, repeated, late, payload):
-    """The status, how many bytes are written, and the line of counts."""
-    rates = loss, repeated, late
-    there, back = Direction(seed, rates), Direction(2**64 - 1 - seed, rates)
-    sender, receiver = Sender(), Receiver()
-    taken = carried = rounds = stuck = micros = 0
-    ended, filled, flight, wait = False, True, MOST_FRAMES, SHORTEST
-    while True:
-        room = sender.room()
-        if not ended and room and (receiver.written == taken or filled):
-            count = min(room, length - taken)
-            ended, filled = count == 0, count == room
-            sender.read(count)
-            taken += count
-        if ended and receiver.written == taken:
-            status = 0
-            break
-        if stuck == ROUNDS:
-            status = 1
-            break
-        base, written = sender.base, receiver.written
-        frames, acks = sender.frames(payload, flight), []
-        carried += sum(end - start for start, end in frames)
+class Copy:
+    """A copy: what the words ask for, how far it is, and what it counts."""
+
+    def __init__(self, loss, seed, repeated, late, payload, rounds):
+        rates = loss, repeated, late
+        self.there, self.back = Direction(seed, rates), Direction(2**64 - 1 - seed, rates)
+        self.sender, self.receiver = Sender(), Receiver()
+        self.payload, self.most_rounds = payload, rounds
+        self.flight, self.wait = MOST_FRAMES, SHORTEST
+        self.taken = self.carried = self.rounds = self.stuck = self.micros = 0
+        self.ended = False
+
+    def is_written(self):
+        return self.receiver.written == self.taken
+
+    def read(self, give):
+        """A read, once all that was read is written: it gives no more than there is room for."""
+        room = self.sender.room()
+        if not self.ended and room and self.is_written():
+            count = give(room)
+            self.ended = count == 0
+            self.sender.read(count)
+            self.taken += count
+
+    def exchange(self):
+        """Frames go there, and acknowledgements back."""
+        there, back, sender, receiver = self.there, self.back, self.sender, self.receiver
+        frames, acks = sender.frames(self.payload, self.flight), []
+        self.carried += sum(end - start for start, end in frames)
         for frame in there.take_late():
             receiver.come(*frame)
             acks.append(receiver.acknowledgement())
@@ -148,21 +160,66 @@ def predicted(length, loss, seed, repeated, late, payload):
         for ack in acks:
             if back.comes(ack):
                 sender.take(*ack)
-        full = len(sender.ranges) == MOST_RUNS
-        flight = max(flight // 2, MOST_RUNS) if full else min(flight + 32, MOST_FRAMES)
-        receiver.written = receiver.next
-        rounds += 1
-        moved = receiver.written > written or sender.base > base
-        stuck = 0 if moved else stuck + 1
-        micros += wait
-        wait = SHORTEST if moved else min(2 * wait, LONGEST)
-    both = lambda name: getattr(there, name) + getattr(back, name)
-    line = (
-        f"{receiver.written} bytes, {both('sent')} frames, {both('lost')} lost, {both('repeated')} repeated, "
-        f"{both('came_late')} late, {receiver.refused} refused, {max(carried - taken, 0)} bytes sent again, "
-        f"{rounds} rounds, {receiver.written * 1_000_000 // max(micros, 1)} bytes a second\n"
-    )
-    return status, receiver.written, ("" if status == 0 else "gave up\n") + line
+
+    def make_round(self):
+        base, written = self.sender.base, self.receiver.written
+        self.exchange()
+        full = self.sender.is_full()
+        self.flight = max(self.flight // 2, MOST_RUNS) if full else min(self.flight + MOST_RUNS, MOST_FRAMES)
+        self.receiver.written = self.receiver.next
+        self.rounds += 1
+        self.micros += self.wait
+        moved = self.receiver.written > written or self.sender.base > base
+        self.stuck = 0 if moved else self.stuck + 1
+        self.wait = SHORTEST if moved else min(2 * self.wait, LONGEST)
+
+    def run(self, give, shown=None):
+        """The status. `give` makes a read, and each line that is shown on the way is put into `shown`."""
+        while True:
+            self.read(give)
+            if self.ended and self.is_written():
+                return 0
+            if self.stuck == self.most_rounds:
+                return GAVE_UP
+            self.make_round()
+            if shown is not None and self.rounds % SHOWN_EACH == 0:
+                shown.append(self.line())
+
+    def line(self):
+        both = lambda name: getattr(self.there, name) + getattr(self.back, name)
+        written = self.receiver.written
+        return (
+            f"{written} bytes, {both('sent')} frames, {both('lost')} lost, {both('repeated')} repeated, "
+            f"{both('came_late')} late, {self.receiver.refused} refused, {max(self.carried - self.taken, 0)} bytes sent again, "
+            f"{self.rounds} rounds, {written * 1_000_000 // max(self.micros, 1)} bytes a second\n"
+        )
+
+
+def of_file(length):
+    """Reads that give all that they have room for."""
+    left = length
+
+    def give(room):
+        nonlocal left
+        count = min(room, left)
+        left -= count
+        return count
+
+    return give
+
+
+def numbers(words):
+    """What the words ask for, with what words that are left out mean."""
+    half = words[0] // 2
+    return words + [half, half, 16_384, MOST_ROUNDS][len(words) - 2 :]
+
+
+def predicted(length, words, is_shown):
+    """The status, how many bytes are written, and what standard error says."""
+    copy, shown = Copy(*numbers(words)), []
+    status = copy.run(of_file(length), shown if is_shown else None)
+    error = "net_link: gave up\n" if status else ""
+    return status, copy.receiver.written, "".join(shown) + error + copy.line()
 
 
 def case(draw):
@@ -175,32 +232,58 @@ def case(draw):
         words += [draw.choice([0, 10, 50, 99]), draw.choice([0, 10, 50, 99])]
         if draw.random() < 0.8:
             words.append(payload)
+            if draw.random() < 0.5:
+                words.append(draw.choice([1, 2, 5, 100, 1_000]))
     return words, draw.randint(0, most)
+
+
+def run_cases(program, cases, draw):
+    """Runs the program and the model on the same words and inputs."""
+    ends, frames = {0: 0, GAVE_UP: 0}, 0
+    for _ in range(cases):
+        words, length = case(draw)
+        data, is_shown = draw.randbytes(length), draw.random() < 0.2
+        asked = ["--progress"] * is_shown + [str(word) for word in words]
+        status, written, said = predicted(length, words, is_shown)
+        with tempfile.TemporaryFile() as file:
+            file.write(data)
+            file.seek(0)
+            ended = subprocess.run([program, *asked], stdin=file, capture_output=True)
+        seen = ended.returncode, ended.stdout, ended.stderr.decode()
+        if seen != (status, data[:written], said):
+            raise SystemExit(f"net_link {' '.join(asked)} over {length} bytes: {said}, but {seen[0]}: {seen[2]}")
+        ends[status] += 1
+        frames += int(said.splitlines()[-1].split(" bytes, ")[1].split()[0])
+    print(f"{cases} cases, {frames} frames: {ends[0]} copies ended with 0 and {ends[GAVE_UP]} with {GAVE_UP}, all as predicted")
+
+
+def gives_up(copies):
+    """Prints how many copies give up, each with its number as SEED and nothing repeated or late."""
+    print("| LOSS | BYTES | " + " | ".join(f"{length // 1024:,} KiB" for length in LENGTHS) + " |")
+    print("|---:|---:|" + "---:|" * len(LENGTHS))
+    for loss in LOSSES:
+        for payload in PAYLOADS:
+            ends = [
+                sum(Copy(loss, seed, 0, 0, payload, MOST_ROUNDS).run(of_file(length)) == GAVE_UP for seed in range(copies))
+                for length in LENGTHS
+            ]
+            print(f"| {loss} | {payload:,} | " + " | ".join(f"{end} of {copies}" for end in ends) + " |", flush=True)
 
 
 def main():
     parser = argparse.ArgumentParser(description=__doc__, formatter_class=argparse.RawDescriptionHelpFormatter)
-    parser.add_argument("program")
+    parser.add_argument("program", nargs="?")
     parser.add_argument("--cases", type=int, default=1_000)
     parser.add_argument("--seed", type=int, default=1)
+    parser.add_argument("--gives-up", action="store_true")
+    parser.add_argument("--copies", type=int, default=40)
     options = parser.parse_args()
-    draw, statuses, frames = random.Random(options.seed), [0, 0], 0
-    for _ in range(options.cases):
-        words, length = case(draw)
-        data = draw.randbytes(length)
-        half = words[0] // 2
-        loss, seed, repeated, late, payload = words + [half, half, 16_384][len(words) - 2 :]
-        status, written, said = predicted(length, loss, seed, repeated, late, payload)
-        with tempfile.TemporaryFile() as file:
-            file.write(data)
-            file.seek(0)
-            ended = subprocess.run([options.program, *map(str, words)], stdin=file, capture_output=True)
-        seen = ended.returncode, ended.stdout, ended.stderr.decode()
-        if seen != (status, data[:written], said):
-            raise SystemExit(f"net_link {' '.join(map(str, words))} over {length} bytes: {said}, but {seen[0]}: {seen[2]}")
-        statuses[status] += 1
-        frames += int(said.split(" bytes, ")[1].split()[0])
-    print(f"{options.cases} cases, {frames} frames: {statuses[0]} copies ended with 0 and {statuses[1]} with 1, all as predicted")
+    if options.gives_up:
+        gives_up(options.copies)
+    elif options.program:
+        run_cases(options.program, options.cases, random.Random(options.seed))
+    else:
+        parser.error("name the program, or --gives-up")
 
 
 if __name__ == "__main__":

@@ -1,20 +1,17 @@
 //! Copies standard input to standard output over a link that loses, repeats and reorders frames.
 #![tactic(auto)]
 
-mod serve;
-mod summary;
-mod words;
-
+use net_link_serve::{Remembering, serve};
 use net_program::command_words;
 use std::process::ExitCode;
 
 fn main(rt: HostRuntime) -> ExitCode {
     let words = command_words(&rt);
-    let ended = serve::serve(
+    let ended = serve(
         rt.alloc(),
         &words,
-        &mut rt.stdin(),
-        &mut rt.stdout(),
+        &mut Remembering::new(rt.stdin()),
+        &mut Remembering::new(rt.stdout()),
         &mut rt.stderr(),
     );
     ended.exit_code()

@@ -14,6 +14,8 @@ pub enum Status {
     Failed,
     /// 2: the words of the command line ask for nothing, and standard error says which words do.
     Misused,
+    /// 3: the program gave up what it was asked for, and standard error says so.
+    GaveUp,
 }
 
 /// What is left to say of a program that ended.
@@ -35,6 +37,7 @@ impl Ended {
             Status::Done => ExitCode::from(0),
             Status::Failed => ExitCode::from(1),
             Status::Misused => ExitCode::from(2),
+            Status::GaveUp => ExitCode::from(3),
         }
     }
 }

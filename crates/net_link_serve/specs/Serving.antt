@@ -1,0 +1,111 @@
+-- What comes of the words of a command line.
+--     config_of plan, rates_of plan      what a copy goes by
+--     fates_of plan, ack_fates_of plan      the fates of frames and of acknowledgements
+--     setup_for plan      all that a copy is given beside its reads
+--     status_of ended      the status after a copy
+--     CopiesOver plan old new had has said says ended      what came of a copy
+--     Helps had has said says ended      what came of a word that asks how the program is used
+--     ComesOf words asked old new had has said says ended      what came of words
+use Rattle.std.specs.Prelude.{◌≡◌, ◌⊎◌, ℕ, ◌-◌, ◌^◌, List, [], Option, Bool, true, false, Result, Ok, Err, codes}
+use Rattle.std.specs.Io.KnownBytes.{Appends, Keeps}
+use Rattle.net_program.specs.Writing.{AppendsPrefix}
+use Rattle.net_program.specs.declared.ending.Status.{Status}
+use Rattle.net_program.specs.declared.ending.Status.TheVariants.{Done, Failed, Misused, GaveUp as GaveItUp}
+use Rattle.net_program.specs.declared.ending.Ended.{Ended}
+use Rattle.net_stream.specs.CopyState.{Setup, setup_of}
+use Rattle.net_stream.specs.Copying.{HasCopied, HasNotBegun}
+use Rattle.net_stream.specs.Fates.{FatesSeen}
+use Rattle.net_stream.specs.declared.copying.Config.{Config}
+use Rattle.net_stream.specs.declared.counts.Counts.{Counts}
+use Rattle.net_stream.specs.declared.error.LinkError.{LinkError}
+use Rattle.net_stream.specs.declared.error.LinkError.TheVariants.{GaveUp, OutOfMemory}
+use Rattle.net_stream.specs.declared.error.LinkError.TheVariants.{ReadFailed, WriteFailed}
+use Rattle.net_stream.specs.declared.fate.Rates.{Rates}
+use Rattle.net_link_serve.specs.declared.words.Plan.{Plan}
+use Rattle.net_link_serve.specs.declared.words.Asked.{Asked}
+use Rattle.net_link_serve.specs.declared.words.Asked.TheVariants.{Help, Copy}
+use Rattle.net_link_serve.specs.declared.words.Misuse.{Misuse}
+use Rattle.net_link_serve.specs.Words.{numbers}
+use Rattle.net_link_serve.specs.Summary.{summary, failed_line}
+use Rattle.net_link_serve.specs.Usage.{usage_text, misuse_lines}
+
+-- a stream from position 0 on, 262,144 bytes of storage at each end, frames of at most as many bytes
+-- of payload as the plan says, at most 4,096 of them in a round, and as many rounds in a row that bring
+-- nothing on, before the copy gives up, as the plan says
+abbrev pub config_of : Plan → Config
+config_of plan = record {
+  first = 0;
+  capacity = 262144;
+  payload = plan.payload;
+  flight = 4096;
+  rounds = plan.rounds;
+}
+
+abbrev pub rates_of : Plan → Rates
+rates_of plan = record { lost = plan.lost; repeated = plan.repeated; late = plan.late }
+
+-- the fates of frames are drawn from the seed
+abbrev pub fates_of : Plan → FatesSeen
+fates_of plan = record { listed = []; state = plan.seed; rates = rates_of plan }
+
+-- those of acknowledgements from its complement
+abbrev pub ack_fates_of : Plan → FatesSeen
+ack_fates_of plan =
+    record { listed = []; state = 2 ^ 64 - 1 - plan.seed; rates = rates_of plan }
+
+abbrev pub status_of : {T : Type 0} → Result T LinkError → Status
+status_of (Ok t) = Done
+status_of (Err GaveUp) = GaveItUp
+status_of (Err OutOfMemory) = Failed
+status_of (Err ReadFailed) = Failed
+status_of (Err WriteFailed) = Failed
+
+-- the link of a plan, and what a copy over it goes by
+abbrev pub setup_for : Plan → Setup
+setup_for plan = setup_of (config_of plan) (fates_of plan) (ack_fates_of plan)
+
+-- a copy over the link of the plan was made, or there was no memory to begin with; and if standard
+-- error took all, the last that it says is the error, if there was one, and the counts of that copy.
+-- Before that it says something only if the plan shows progress
+pub record CopiesOver (plan : Plan) (old new had has said says : Option (List ℕ))
+    (ended : Ended) : Type 0 where
+  pub outcome : Result (Unit {0}) LinkError
+  pub counts : Counts
+  pub cause : List ℕ
+  pub shown : Option (List ℕ)
+  pub exact : HasCopied (setup_for plan) outcome old new had has counts
+      ⊎ HasNotBegun outcome old new had has counts
+  pub status : ended.status ≡ status_of outcome
+  pub quiet : plan.shows_progress ≡ false → Keeps said shown
+  pub told : ended.is_told ≡ true → Appends shown says (summary outcome cause counts)
+
+-- a write failed, and standard error says so, with its cause, if it took that
+pub record FailsToWrite (said says : Option (List ℕ)) (ended : Ended) : Type 0 where
+  pub cause : List ℕ
+  pub status : ended.status ≡ Failed
+  pub told : ended.is_told ≡ true → Appends said says (failed_line (codes "write failed") cause)
+
+-- how the program is used was written, and standard error says nothing; or a prefix of it, and a write
+-- failed
+abbrev pub Helps : Option (List ℕ) → Option (List ℕ) → Option (List ℕ) → Option (List ℕ) → Ended →
+    Type 0
+Helps had has said says ended =
+    ((ended ≡ record { status = Done; is_told = true }) × Appends had has usage_text × Keeps said says)
+    ⊎ (AppendsPrefix had has usage_text × FailsToWrite said says ended)
+
+-- words that ask for nothing: nothing is read or written, and standard error says what is wrong with
+-- them, if it took that
+pub record Refuses (numbers : List (List ℕ)) (misuse : Misuse) (old new had has said says : Option (List ℕ))
+    (ended : Ended) : Type 0 where
+  pub unread : Keeps old new
+  pub unwritten : Keeps had has
+  pub status : ended.status ≡ Misused
+  pub told : ended.is_told ≡ true → Appends said says (misuse_lines numbers misuse)
+
+abbrev pub ComesOf : List (List ℕ) → Result Asked Misuse → Option (List ℕ) → Option (List ℕ) → Option (List ℕ) →
+    Option (List ℕ) → Option (List ℕ) → Option (List ℕ) → Ended → Type 0
+ComesOf words (Ok (Copy plan)) old new had has said says ended =
+    CopiesOver plan old new had has said says ended
+ComesOf words (Ok Help) old new had has said says ended = Keeps old new × Helps had has said says ended
+ComesOf words (Err misuse) old new had has said says ended =
+    Refuses (numbers words) misuse old new had has said says ended

@@ -1,0 +1,48 @@
+-- What standard error says of a copy.
+--     counts_text counts      the line of its counts, without its line feed
+--     failed_line what cause      a line that says what failed
+--     error_line ended cause      the line of its error, if there is one
+--     summary ended cause counts      both
+use Rattle.std.specs.Prelude.{ℕ, ◌*◌, ◌-◌, ◌/◌, ◌^◌, min, max, List, [], ◌++◌, Result, Ok, Err, codes, decimal}
+use Rattle.net_stream.specs.declared.counts.Counts.{Counts}
+use Rattle.net_stream.specs.declared.counts.FrameCounts.{FrameCounts}
+use Rattle.net_stream.specs.declared.error.LinkError.{LinkError}
+use Rattle.net_stream.specs.declared.error.LinkError.TheVariants.{GaveUp, OutOfMemory}
+use Rattle.net_stream.specs.declared.error.LinkError.TheVariants.{ReadFailed, WriteFailed}
+
+-- bytes written for each second of simulated time, rounded down; the bytes times a million, as far as
+-- 64 bits go, over the microseconds, of which none count as one
+abbrev pub bytes_a_second : Counts → ℕ
+bytes_a_second c = min (c.bytes * 1000000) (2 ^ 64 - 1) / max c.micros 1
+
+-- what frames carried beyond what was read
+abbrev pub bytes_sent_again : Counts → ℕ
+bytes_sent_again c = c.frames.payload - c.taken
+
+-- what became of frames
+abbrev pub frames_text : FrameCounts → List ℕ
+frames_text c =
+    decimal c.sent ++ codes " frames, " ++ decimal c.lost ++ codes " lost, "
+    ++ decimal c.repeated ++ codes " repeated, " ++ decimal c.late ++ codes " late, "
+    ++ decimal c.refused ++ codes " refused"
+
+abbrev pub counts_text : Counts → List ℕ
+counts_text c =
+    decimal c.bytes ++ codes " bytes, " ++ frames_text c.frames ++ codes ", "
+    ++ decimal (bytes_sent_again c) ++ codes " bytes sent again, "
+    ++ decimal c.rounds ++ codes " rounds, " ++ decimal (bytes_a_second c) ++ codes " bytes a second"
+
+-- a line that says what failed, with the text of its cause, if there is one
+abbrev pub failed_line : List ℕ → List ℕ → List ℕ
+failed_line what cause = codes "net_link: " ++ what ++ cause ++ codes "\n"
+
+-- the line of an error, if there is one
+abbrev pub error_line : {T : Type 0} → Result T LinkError → List ℕ → List ℕ
+error_line (Ok t) cause = []
+error_line (Err GaveUp) cause = failed_line (codes "gave up") []
+error_line (Err OutOfMemory) cause = failed_line (codes "out of memory") []
+error_line (Err ReadFailed) cause = failed_line (codes "read failed") cause
+error_line (Err WriteFailed) cause = failed_line (codes "write failed") cause
+
+abbrev pub summary : {T : Type 0} → Result T LinkError → List ℕ → Counts → List ℕ
+summary ended cause counts = error_line ended cause ++ counts_text counts ++ codes "\n"

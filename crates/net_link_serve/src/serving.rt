@@ -1,0 +1,174 @@
+//! The program, from its words and streams to its exit status.
+ghost use Rattle.std.specs.Prelude.{◌≡◌, ◌↔◌, IsErr, map, string_bytes, true};
+ghost use Rattle.std.specs.Io.KnownBytes.{Appends};
+ghost use Rattle.net_program.specs.declared.ending.Status.TheVariants.{Misused};
+ghost use Rattle.net_link_serve.specs.Words.{numbers, asked_of};
+ghost use Rattle.net_link_serve.specs.Usage.{misuse_lines};
+ghost use Rattle.net_link_serve.specs.Serving.{config_of, rates_of, status_of, CopiesOver, Helps, FailsToWrite};
+ghost use Rattle.net_link_serve.specs.Serving.{ComesOf};
+
+use crate::streams::Remembering;
+use crate::summary::{write_summary, write_unwritten};
+use crate::usage::{usage_text, write_misuse};
+use crate::words::{Asked, Misuse, Plan, asked_of, numbers};
+use net_program::{Ended, Status, flush_after, write_text};
+use net_stream::{Config, Counts, Fates, LinkError, LinkFates, Rates, copy};
+use std::alloc::Allocator;
+use std::io;
+use std::io::{Read, Write};
+
+/// The capacity of the sender and of the receiver, in bytes.
+const CAPACITY: usize = 262_144;
+
+/// The most frames that a round sends.
+const FLIGHT: u32 = 4_096;
+
+/// The config of a copy.
+fn config(plan: Plan) -> Config
+    ensures { result ≡ config_of plan }
+{
+    Config {
+        first: 0,
+        capacity: CAPACITY,
+        payload: plan.payload,
+        flight: FLIGHT,
+        rounds: plan.rounds,
+    }
+}
+
+/// The rates of a copy.
+fn rates(plan: Plan) -> Rates
+    ensures { result ≡ rates_of plan }
+{
+    Rates {
+        lost: plan.lost,
+        repeated: plan.repeated,
+        late: plan.late,
+    }
+}
+
+/// The status after a copy that ended so.
+fn status(ended: &Result<(), LinkError>) -> Status
+    ensures { result ≡ status_of ended.now }
+{
+    match ended {
+        Ok(()) => Status::Done,
+        Err(LinkError::GaveUp) => Status::GaveUp,
+        Err(_) => Status::Failed,
+    }
+}
+
+/// What a line says of why a call failed: nothing, if there was no error, or no memory for its text.
+fn cause_of<A: Allocator + Copy>(alloc: A, error: Option<io::Error>) -> String<A> {
+    let Some(error) = error else {
+        return String::new(alloc);
+    };
+    match format!(in alloc; ": {error}") {
+        Ok(cause) => cause,
+        Err(_) => String::new(alloc),
+    }
+}
+
+/// Says what is wrong with the words, and how the program is used.
+fn refuse<E: Write>(words: &[String], misuse: Misuse, errors: &mut E) -> Ended
+    ensures status { result.status ≡ Misused }
+    ensures told { result.is_told ≡ true → Appends (E.contents errors.old) (E.contents errors.new)
+        (misuse_lines (numbers (map string_bytes words.now)) misuse) }
+{
+    let told = write_misuse(errors, numbers(words), misuse);
+    Ended {
+        status: Status::Misused,
+        is_told: told.is_ok(),
+    }
+}
+
+/// Writes how the program is used.
+fn help<A: Allocator + Copy, W: Write, E: Write>(
+    alloc: A,
+    writer: &mut Remembering<W>,
+    errors: &mut E,
+) -> Ended
+    ensures { Helps (W.contents writer.old.stream) (W.contents writer.new.stream)
+        (E.contents errors.old) (E.contents errors.new) result }
+{
+    let written = write_text(writer, usage_text().as_bytes());
+    match flush_after(written, 0, writer) {
+        Ok(()) => Ended {
+            status: Status::Done,
+            is_told: true,
+        },
+        Err(_) => say_unwritten(alloc, writer.error, errors),
+    }
+}
+
+/// Says that a write failed, and why.
+fn say_unwritten<A: Allocator + Copy, E: Write>(
+    alloc: A,
+    error: Option<io::Error>,
+    errors: &mut E,
+) -> Ended
+    ensures { FailsToWrite (E.contents errors.old) (E.contents errors.new) result }
+{
+    let cause = cause_of(alloc, error);
+    let told = write_unwritten(errors, cause.as_str());
+    Ended {
+        status: Status::Failed,
+        is_told: told.is_ok(),
+    }
+}
+
+/// Makes the copy of a plan, and says how it ended.
+fn copy_over_link<A: Allocator + Copy, R: Read, W: Write, E: Write>(
+    alloc: A,
+    plan: Plan,
+    reader: &mut Remembering<R>,
+    writer: &mut Remembering<W>,
+    errors: &mut E,
+) -> Ended
+    ensures { CopiesOver plan (R.remaining reader.old.stream) (R.remaining reader.new.stream)
+        (W.contents writer.old.stream) (W.contents writer.new.stream)
+        (E.contents errors.old) (E.contents errors.new) result }
+{
+    let fates = LinkFates {
+        frames: Fates::new(&[], plan.seed, rates(plan)),
+        acks: Fates::new(&[], !plan.seed, rates(plan)),
+    };
+    let mut counts = Counts::new();
+    let ended = copy(alloc, config(plan), fates, reader, writer, &mut counts);
+    let cause = cause_of(alloc, reader.error.or(writer.error));
+    let told = write_summary(errors, &ended, cause.as_str(), &counts);
+    Ended {
+        status: status(&ended),
+        is_told: told.is_ok(),
+    }
+}
+
+/// Does what the words ask for, and returns how the program ends.
+///
+/// `--help` writes how the program is used to the writer: the status is `Done`, or `Failed` if it
+/// couldn't be written. For a copy the reader's bytes go to the writer over the link that the words
+/// ask for, what is written is a prefix of what was read, and a line of counts is written to `errors`,
+/// after a line that says the error, if there was one, and why a read or a write failed. The status is
+/// `Done` if all was written and flushed, `GaveUp` if the copy gave up, and `Failed` after another
+/// error. Words that ask for nothing are `Misused`: nothing is read, and nothing is written but what
+/// is wrong with them and how the program is used, to `errors`. Whether `errors` takes what there is
+/// to say changes nothing else.
+pub fn serve<A: Allocator + Copy, R: Read, W: Write, E: Write>(
+    alloc: A,
+    words: &[String],
+    reader: &mut Remembering<R>,
+    writer: &mut Remembering<W>,
+    errors: &mut E,
+) -> Ended
+    ensures usage { (result.status ≡ Misused) ↔ IsErr (asked_of (map string_bytes words.now)) }
+    ensures comes { ComesOf (map string_bytes words.now) (asked_of (map string_bytes words.now))
+        (R.remaining reader.old.stream) (R.remaining reader.new.stream)
+        (W.contents writer.old.stream) (W.contents writer.new.stream)
+        (E.contents errors.old) (E.contents errors.new) result }
+{
+    match asked_of(words) {
+        Ok(Asked::Help) => help(alloc, writer, errors),
+        Ok(Asked::Copy(plan)) => copy_over_link(alloc, plan, reader, writer, errors),
+        Err(misuse) => refuse(words, misuse, errors),
+    }
+}

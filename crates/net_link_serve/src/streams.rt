@@ -1,0 +1,70 @@
+//! Streams that remember why they failed.
+ghost use Rattle.std.specs.Prelude.{◌≡◌};
+
+use std::io;
+use std::io::{ErrorKind, Read, Write};
+
+/// A reader or a writer, and the error of its first call that failed. A write that took no byte counts
+/// as failed.
+#[derive(Drop)]
+pub struct Remembering<S> {
+    /// The reader or the writer.
+    pub stream: S,
+    /// The error, if a call failed.
+    pub error: Option<io::Error>,
+}
+
+impl<S> Remembering<S> {
+    /// Returns a stream of which no call has failed.
+    pub fn new(stream: S) -> Remembering<S>
+        ensures { result.stream ≡ stream }
+    {
+        Remembering {
+            stream,
+            error: None,
+        }
+    }
+
+    /// Remembers this error, if it is the first.
+    fn remember(&mut self, error: io::Error)
+        ensures { self.new.stream ≡ self.old.stream }
+    {
+        if self.error.is_none() {
+            self.error = Some(error);
+        }
+    }
+}
+
+impl<R: Read> Read for Remembering<R> {
+    ghost remaining = { λ reader. R.remaining reader.stream };
+
+    fn read(&mut self, buf: &mut [u8]) -> io::Result<usize> {
+        let result = self.stream.read(buf);
+        if let Err(error) = &result {
+            self.remember(*error);
+        }
+        result
+    }
+}
+
+impl<W: Write> Write for Remembering<W> {
+    ghost contents = { λ writer. W.contents writer.stream };
+
+    fn write(&mut self, buf: &[u8]) -> io::Result<usize> {
+        let result = self.stream.write(buf);
+        match &result {
+            Ok(0) => self.remember(io::Error::new(ErrorKind::WriteZero, "no byte was taken")),
+            Ok(_) => {}
+            Err(error) => self.remember(*error),
+        }
+        result
+    }
+
+    fn flush(&mut self) -> io::Result<()> {
+        let result = self.stream.flush();
+        if let Err(error) = &result {
+            self.remember(*error);
+        }
+        result
+    }
+}

@@ -1,0 +1,6 @@
+//! The tests of `net_link_serve`, over memory, with readers and writers that give and take little, and
+//! that fail.
+#![tactic(auto)]
+
+#[cfg(test)]
+mod serving;
