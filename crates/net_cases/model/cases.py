@@ -1,0 +1,69 @@
+#!/usr/bin/env python3
+"""cases.py [--check]
+
+Draws the cases of net_cases and writes them to ../stdin, with the replies that the models of this folder
+give to ../stdout. --check compares in place of writing. Each answer to each question of a model's rules
+must have a case: the questions are those of branches.py, and one that lacks a case is named, with status 1.
+"""
+import pathlib
+import sys
+
+sys.dont_write_bytecode = True
+import assembler
+import branches
+import drawing
+import modes
+import moments
+import packets
+import receiver
+import ring
+import small
+import texts
+import worked
+
+SEED = 54
+PARTS = [
+    ("rings of bytes", ring.draw, 7000),
+    ("rings of cells", small.draw_cells, 700),
+    ("storage", small.draw_storage, 700),
+    ("packet queues", packets.draw, 4500),
+    ("assemblers", assembler.draw, 5500),
+    ("receivers", receiver.draw, 4500),
+    ("sequence numbers", receiver.draw_numbers, 700),
+    ("generators", small.draw_generator, 1500),
+    ("moments and lengths", moments.draw, 3500),
+    ("texts of moments and lengths", moments.draw_texts, 900),
+    ("texts of errors", texts.draw, 400),
+    ("words and lines of modes", modes.draw, 2400),
+]
+
+
+def main():
+    cases = drawing.Cases()
+    cases.part("worked rows")
+    worked.add(cases)
+    for number, (name, draw, lines) in enumerate(PARTS):
+        cases.part(name)
+        draw(drawing.Random(SEED + number), cases, lines)
+    missing = branches.missing()
+    for line in missing:
+        print(line, file=sys.stderr)
+    here = pathlib.Path(__file__).resolve().parent.parent
+    same = True
+    for name, lines in (("stdin", cases.lines), ("stdout", cases.replies)):
+        text = "".join(line + "\n" for line in lines).encode()
+        if "--check" in sys.argv:
+            same = same and (here / name).read_bytes() == text
+        else:
+            (here / name).write_bytes(text)
+        print(f"{name}: {len(lines)} lines, {len(text)} bytes")
+    for name, count in cases.parts.items():
+        print(f"{count:6} {name}")
+    print(f"{len(branches.ALL)} questions, {sum(len(each.counts) for each in branches.ALL)} answers")
+    if not same:
+        print("the stored files are others", file=sys.stderr)
+    return 1 if missing or not same else 0
+
+
+if __name__ == "__main__":
+    sys.exit(main())

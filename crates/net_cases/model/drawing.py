@@ -1,0 +1,91 @@
+"""Numbers that follow from a seed, and how cases are drawn from them."""
+
+TOP = 2 ** 64 - 1
+
+
+class Random:
+    """The generator SplitMix64."""
+
+    def __init__(self, seed):
+        self.state, self.rounds = seed, {}
+
+    def word(self):
+        self.state = (self.state + 0x9e3779b97f4a7c15) & TOP
+        word = self.state
+        word = ((word ^ (word >> 30)) * 0xbf58476d1ce4e5b9) & TOP
+        word = ((word ^ (word >> 27)) * 0x94d049bb133111eb) & TOP
+        return word ^ (word >> 31)
+
+    def below(self, bound):
+        return self.word() % bound
+
+    def of(self, all_of_them):
+        return all_of_them[self.below(len(all_of_them))]
+
+    def one_in(self, count):
+        return self.below(count) == 0
+
+    def shuffled(self, all_of_them):
+        rest = list(all_of_them)
+        for at in range(len(rest) - 1, 0, -1):
+            other = self.below(at + 1)
+            rest[at], rest[other] = rest[other], rest[at]
+        return rest
+
+    def of_digits(self, most, use=None):
+        """A number of as many binary digits as are drawn first, from 0 to `most`. For one use each number
+        of digits is drawn once before one is drawn again."""
+        if not self.rounds.get((most, use)):
+            self.rounds[most, use] = self.shuffled(range(most + 1))
+        digits = self.rounds[most, use].pop()
+        return 0 if digits == 0 else (1 << (digits - 1)) + self.below(1 << (digits - 1))
+
+    def wide(self):
+        """A number of 64 bits, often at one where something ends."""
+        choice = self.below(8)
+        if choice == 0:
+            return TOP - self.below(4)
+        if choice == 1:
+            return ((1 << self.below(65)) - 2 + self.below(4)) & TOP
+        return self.of_digits(64)
+
+    def about(self, limits, most):
+        """A size: about one of the limits, or up to a little above them, or of any number of binary
+        digits up to `most`."""
+        choice = self.below(3)
+        if choice == 0:
+            return max(0, self.of(limits) - 1 + self.below(3))
+        if choice == 1:
+            return self.below(max(limits) + 2)
+        return self.of_digits(most)
+
+    def offset(self, limits, most):
+        """As `about`, at times far beyond."""
+        return TOP - self.below(3) if self.one_in(40) else self.about(limits, most)
+
+
+class Cases:
+    """The lines of the cases, in blocks that are parted by an empty line, with their replies."""
+
+    def __init__(self):
+        self.lines, self.replies, self.parts = [], [], {}
+
+    def part(self, name):
+        self.name = name
+        self.parts.setdefault(name, 0)
+
+    def begin(self, line, state=""):
+        """The first line of a block, whose reply is what can be seen then."""
+        if self.lines:
+            self.lines.append("")
+            self.replies.append("")
+        self.note(line, f"|{state}")
+
+    def add(self, name, numbers, reply, state=""):
+        """A call, with what it gives and what can be seen then."""
+        self.note(" ".join([name, *map(str, numbers)]), f"{reply}|{state}")
+
+    def note(self, line, reply):
+        self.lines.append(line)
+        self.replies.append(reply)
+        self.parts[self.name] += 1

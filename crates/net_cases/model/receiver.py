@@ -1,0 +1,417 @@
+"""Receivers of one stream, and sequence numbers. A receiver keeps the bytes of a window by their
+positions; what is contiguous from the first missing position is queued."""
+from assembler import front_of, shifted_down, with_range
+from branches import Count, Order, Size, Test
+from drawing import TOP
+from showing import (START, mix, pattern, show_bytes, show_digest, show_lent, show_many, show_runs, truth,
+                     truths)
+
+SIZES = (1, 4, 32)
+CAPACITY = Size("receiver: capacity", 12)
+FIRST = Size("receiver: first position", 64)
+NEAR_63 = Test("receiver: the stream passes position 2^63")
+NEAR_64 = Test("receiver: the stream comes within 2^12 of the last position")
+FITS = Order("receiver: end of a segment and last position")
+EMPTY = Test("receiver: a segment has no bytes")
+BEFORE = Order("receiver: start of a segment and first missing position")
+LATE = Order("receiver: end of a segment and first missing position")
+AHEAD = Order("receiver: start of a segment and end of the window")
+CUT = Order("receiver: end of a segment and end of the window")
+NONE = Test("receiver: no byte of a segment is kept")
+REFUSED = {most: Test(f"receiver of {most}: a segment is refused") for most in SIZES}
+OVER = Test("receiver: a segment makes one run too many, and is accepted")
+HELD = {most: Count(f"receiver of {most}: held runs", most) for most in SIZES}
+QUEUED = Order("receiver: bytes that joined the queue and bytes kept")
+FOLLOWS = Test("receiver: held bytes follow a segment into the queue")
+WRITES_OVER = Test("receiver: a segment writes other bytes over held ones")
+SACK = Count("receiver: runs that a segment lists", 3)
+WRAPS = Test("receiver: the queue goes round the storage's end")
+READ = Order("receiver: read, room and queue")
+READ_SIZE = Size("receiver: read gives", 11)
+PEEK = Order("receiver: peek, offset and queue")
+PEEK_SIZE = Size("receiver: peek finds", 7)
+PEEK_CUT = Test("receiver: peek is cut at the storage's end")
+PEEK_SLICE = Order("receiver: peek_slice, room and queue")
+WITH = Order("receiver: read_with, counted and lent", ("below", "equal"))
+SAME = Test("receiver: equals the other one")
+DIFFERS = {part: Test(f"receiver: {part} is all in which two receivers differ")
+           for part in ("the count read", "the queue", "the held runs")}
+COMMAND = Count("receiver: executes a command of kind", 2)
+LISTED = Count("receiver: commands of a list", 12)
+REPLIES = Size("receiver: replies in a list", 6)
+AGAIN = Test("receiver: a list of replies has some already")
+READ_COUNT = Order("receiver: count of a command and queue")
+SHOWN = {most: Size(f"receiver of {most}: runs of a reply", most.bit_length()) for most in SIZES}
+NUMBER_WRAPS = Test("sequence number: a sum goes round")
+POSITION = Test("sequence number: stands for a position")
+POSITION_SIDE = Order("sequence number: position and next")
+HALF = Order("sequence number: distance and 2^31")
+BEFORE_NUMBER = Test("sequence number: is before another")
+EQUAL_NUMBER = Test("sequence number: equals another")
+
+
+class Receiver:
+    def __init__(self, most, capacity, first):
+        self.most, self.capacity, self.first = most, capacity, first
+        self.read_count, self.queue, self.held, self.bytes = 0, bytearray(), [], {}
+
+    @property
+    def next(self):
+        return self.first + self.read_count + len(self.queue)
+
+    @property
+    def window(self):
+        return self.capacity - len(self.queue)
+
+    def held_runs(self):
+        return [(start + self.next, end + self.next) for start, end in self.held]
+
+    def segment(self, pos, data):
+        """What was kept, what joined the queue, and the held runs; None if it is refused."""
+        NEAR_63(self.first < 1 << 63 <= pos + len(data))
+        NEAR_64(pos + len(data) > TOP - 4096)
+        EMPTY(len(data) == 0)
+        end, limit = pos + len(data), self.next + self.window
+        BEFORE.least(pos, self.next)
+        LATE.least(end, self.next)
+        AHEAD.least(pos, limit)
+        CUT.least(end, limit)
+        start, end = max(pos, self.next), min(end, limit)
+        if NONE(start >= end):
+            return 0, 0, self.held_runs()
+        runs = with_range(self.held, start - self.next, end - self.next)
+        many = len(runs) > self.most
+        if start == self.next:
+            OVER(many)
+            many = False
+        if REFUSED[self.most](many):
+            return None
+        for at in range(start, end):
+            byte = data[at - pos]
+            if at in self.bytes:
+                WRITES_OVER(self.bytes[at] != byte)
+            self.bytes[at] = byte
+        front = front_of(runs)
+        self.held = shifted_down(runs, front) if front else runs
+        joined = [self.bytes.pop(self.next + at) for at in range(front)]
+        self.queue += bytes(joined)
+        QUEUED.least(front, end - start)
+        if front:
+            FOLLOWS(front > end - start)
+        HELD[self.most](len(self.held))
+        return end - start, front, self.held_runs()
+
+    def take(self, count):
+        self.read_count += count
+        del self.queue[:count]
+
+    def read(self, room):
+        count = READ_SIZE(READ.least(room, len(self.queue)))
+        data = bytes(self.queue[:count])
+        self.take(count)
+        return data
+
+    def row(self):
+        """How many queued bytes lie in a row in the storage, where the stream's byte number i, counted
+        from 0, has the index i modulo the capacity."""
+        if not self.capacity:
+            return 0
+        return min(len(self.queue), self.capacity - self.read_count % self.capacity)
+
+    def state(self):
+        return self.read_count, bytes(self.queue), self.held_runs()
+
+
+class Pair:
+    """Two receivers, with the replies to the calls of the first."""
+
+    def __init__(self, capacity, most, first):
+        CAPACITY(capacity)
+        FIRST(first)
+        self.most = most
+        self.now, self.other = (Receiver(most, capacity, first) for _ in range(2))
+        self.replies = []
+
+    def show(self):
+        now = self.now
+        runs, digest = now.held_runs(), show_digest(mix(START, now.queue))
+        return (f"{now.next - now.first} {len(now.queue)} {now.window} {show_runs(runs)} "
+                f"{self.listed(runs, 1)} {digest}")
+
+    def listed(self, runs, count):
+        """The first runs, counted from the stream's first position."""
+        first = self.now.first
+        shown = [f"{start - first}-{end - first}" for start, end in runs[:count]]
+        return " ".join(shown + ["-"] * (count - len(shown)))
+
+    def kept(self, result):
+        if result is None:
+            return "refused"
+        kept, queued, runs = result
+        SACK(min(3, len(runs)))
+        return f"{kept} {queued} {self.listed(runs, 3)}"
+
+    def segment(self, pos, size, seed):
+        FITS.least(pos + size, TOP)
+        if pos + size > TOP:
+            return "forbidden"
+        return self.kept(self.now.segment(pos, pattern(size, seed)))
+
+    def fits(self, pos, size):
+        return truth(pos + size <= TOP)
+
+    def read(self, size, seed):
+        into = pattern(size, seed)
+        data = self.now.read(size)
+        into[:len(data)] = data
+        return f"{len(data)} {show_bytes(into)}"
+
+    def read_with(self, size):
+        lent = self.now.queue[:self.now.row()]
+        WRAPS(len(lent) < len(self.now.queue))
+        count = WITH.least(min(size, len(lent)), len(lent))
+        shown = show_lent(lent)
+        self.now.take(count)
+        return f"{count} {shown}"
+
+    def peek(self, offset, size):
+        now = self.now
+        PEEK.least(offset, len(now.queue))
+        count = min(size, max(0, len(now.queue) - offset))
+        if count:
+            to_end = now.capacity - (now.read_count + offset) % now.capacity
+            PEEK_CUT(count > to_end)
+            count = min(count, to_end)
+        return show_bytes(now.queue[offset:offset + PEEK_SIZE(count)])
+
+    def as_slices(self):
+        row = self.now.row()
+        WRAPS(row < len(self.now.queue))
+        return f"{show_bytes(self.now.queue[:row])} {show_bytes(self.now.queue[row:])}"
+
+    def peek_slice(self, size, seed):
+        into = pattern(size, seed)
+        count = PEEK_SLICE.least(size, len(self.now.queue))
+        into[:count] = self.now.queue[:count]
+        return f"{count} {show_bytes(into)}"
+
+    def same_state(self):
+        (count, queue, held), (other, others, runs) = self.now.state(), self.other.state()
+        DIFFERS["the count read"](count != other and queue == others and held == runs)
+        DIFFERS["the queue"](queue != others and count == other and held == runs)
+        DIFFERS["the held runs"](held != runs and count == other and queue == others)
+        same = SAME(self.now.state() == self.other.state())
+        return truths(same, same)
+
+    def swap(self):
+        self.now, self.other = self.other, self.now
+        return "done"
+
+    def reply(self, kind, pos, size, seed):
+        """The reply to a command: as it is shown, and the numbers of its digest."""
+        now = self.now
+        if COMMAND(kind) == 0:
+            result = now.segment(pos, pattern(size, seed))
+            if result is None:
+                return "refused", [1]
+            kept, queued, runs = result
+            ends = [end for run in runs[:3] for end in run] + [0] * (3 - min(3, len(runs)))
+            return self.kept(result), [2, kept, queued, *ends]
+        if kind == 1:
+            READ_COUNT.least(pos, len(now.queue))
+            data = bytes(now.queue[:pos])
+            now.take(len(data))
+            return show_bytes(data), [3, len(data), *data]
+        runs = now.held_runs()
+        SHOWN[self.most](len(runs))
+        ends = [end for run in runs for end in run]
+        shown = f"{now.next - now.first} {len(now.queue)} {now.window} {show_runs(runs)}"
+        return shown, [4, now.next, len(now.queue), now.window, len(runs), *ends]
+
+    def execute(self, *command):
+        return self.reply(*command)[0]
+
+    def replay(self, *numbers):
+        commands = [numbers[at:at + 4] for at in range(0, len(numbers), 4)]
+        LISTED(len(commands))
+        AGAIN(bool(self.replies))
+        self.replies += [self.reply(*command)[1] for command in commands]
+        REPLIES(len(self.replies))
+        return show_many(len(self.replies), mix(START, [x for reply in self.replies for x in reply]))
+
+
+def position(random, now, step):
+    """A position about where something begins or ends, or any about the window, or any at all."""
+    choice = random.below(8)
+    limits = [now.first, now.next, now.next + now.window] + [end for run in now.held_runs() for end in run]
+    if choice < 3:
+        place = random.of(limits) - 1 + random.below(3)
+    elif choice == 7 and random.one_in(4):
+        place = random.wide()
+    else:
+        place = now.next + step * random.below(now.window // step + 2)
+    return min(TOP, max(0, place))
+
+
+def segment_of(random, now, step):
+    pos = position(random, now, step)
+    size = random.below(step) if random.below(4) else random.about([now.window, now.capacity], 11)
+    if random.one_in(6):
+        pos = min(TOP, now.next)
+    return [pos, size, random.below(40)]
+
+
+def command(random, now, step):
+    kind = random.of([0, 0, 0, 0, 1, 2])
+    if kind == 0:
+        pos, size, seed = segment_of(random, now, step)
+        return [0, pos, min(size, TOP - pos), seed]
+    if kind == 1:
+        return [1, random.wide() if random.one_in(5) else random.about([len(now.queue)], 8), 0, 0]
+    return [2, 0, 0, 0]
+
+
+SHOWING = ["peek", "peek", "as_slices", "peek_slice", "same_state", "same_state", "swap", "fits"]
+
+
+def call(random, now, step):
+    choice = random.below(20)
+    queue = len(now.queue)
+    if choice < 9:
+        return "segment", segment_of(random, now, step)
+    if choice in (9, 10, 11):
+        return "read", [random.about([queue], 11), random.below(40)]
+    if choice == 12:
+        return "read_with", [random.about([queue, now.row()], 8)]
+    if choice == 13:
+        return "execute", command(random, now, step)
+    if choice == 14:
+        count = random.below(13)
+        return "replay", [x for _ in range(count) for x in command(random, now, step)]
+    name = random.of(SHOWING)
+    if name == "peek":
+        return name, [random.offset([queue, now.row()], 8), random.about([queue], 11)]
+    if name == "peek_slice":
+        return name, [random.about([queue], 9), random.below(40)]
+    if name == "fits":
+        pos = random.wide()
+        return name, [pos, random.wide() if random.one_in(2) else (TOP - pos + random.below(3) - 1) & TOP]
+    return name, []
+
+
+def filled(random, cases, pair, step):
+    """Segments of which no two touch, one or a few more than are held, in one of three orders."""
+    count = min(pair.most + 1 + random.below(pair.most // 4 + 2), pair.now.window // step)
+    order = random.of(["rising", "falling", "any"])
+    numbers = list(range(count))
+    numbers = numbers[::-1] if order == "falling" else random.shuffled(numbers) if order == "any" else numbers
+    begin = pair.now.next + 1
+    for number in numbers:
+        pos, size, seed = begin + step * number, 1 + random.below(max(1, step - 2)), random.below(40)
+        if pos + size > TOP:
+            return
+        if random.one_in(4):
+            add(cases, pair, "execute", [0, pos, size, seed])
+        else:
+            add(cases, pair, "segment", [pos, size, seed])
+        if random.one_in(10):
+            add(cases, pair, "execute", [2, 0, 0, 0])
+
+
+def first_position(random):
+    choice = random.below(8)
+    if choice == 0:
+        return (1 << 63) - random.below(300)
+    if choice == 1:
+        return TOP - random.below(3000)
+    if choice == 2:
+        return (1 << 32) - random.below(300)
+    return random.of_digits(64, "first")
+
+
+def mirrored(random, cases, pair, step):
+    """Segments of one stream that both receivers take in different orders, and where they then agree."""
+    segments = [segment_of(random, pair.now, step) for _ in range(1 + random.below(5))]
+    for order in (segments, segments[::-1] if random.one_in(2) else segments[1:]):
+        for numbers in order:
+            add(cases, pair, "segment", numbers)
+        add(cases, pair, "swap", [])
+    for numbers in segments:
+        add(cases, pair, "segment", numbers)
+        if random.one_in(3):
+            add(cases, pair, "same_state", [])
+    add(cases, pair, "same_state", [])
+
+
+def add(cases, pair, name, numbers):
+    cases.add(name, numbers, getattr(pair, name)(*numbers), pair.show())
+
+
+def draw(random, cases, lines):
+    """So many lines of receivers of 1, 4 and 32 held runs and 0 to 4,095 bytes. A third is filled first."""
+    until = len(cases.lines) + lines
+    while len(cases.lines) < until:
+        most = random.of([1, 4, 4, 32, 32])
+        capacity = random.of_digits(12) if random.one_in(2) else random.below(120)
+        step = 3 + random.below(7) if random.below(3) else 3 + random.below(capacity // most + 1)
+        first = first_position(random)
+        if first + capacity > TOP and random.one_in(2):
+            first = TOP - capacity
+        pair = Pair(capacity, most, first)
+        cases.begin(f"receiver {capacity} {most} {first}", pair.show())
+        if random.one_in(3):
+            filled(random, cases, pair, step)
+        if random.one_in(4):
+            mirrored(random, cases, pair, step)
+        for _ in range(10 + random.below(30)):
+            add(cases, pair, *call(random, pair.now, step))
+
+
+def draw_numbers(random, cases, lines):
+    """So many lines of sequence numbers."""
+    until = len(cases.lines) + lines
+    word = 1 << 32
+    cases.begin("times")
+    while len(cases.lines) < until:
+        own = random.below(word) if random.one_in(2) else (random.of([0, 1 << 31]) - random.below(3)) % word
+        other = random.below(word)
+        if random.one_in(2):
+            other = (own + random.of([0, 1 << 31]) + random.below(5) - 2) % word
+        name = random.of(["at", "position", "position", "ahead_of", "is_before", "add", "eq"])
+        ahead = (own - other) % word
+        if name == "at":
+            numbers = [own, random.wide()]
+            NUMBER_WRAPS(own + numbers[1] % word >= word)
+            reply = str((own + numbers[1]) % word)
+        elif name == "position":
+            near = random.wide()
+            numbers = [own, other, near]
+            reply = position_of(own, other, near)
+        elif name == "ahead_of":
+            numbers, reply = [own, other], str(ahead)
+        elif name == "is_before":
+            numbers = [own, other]
+            behind = (other - own) % word
+            HALF.least(behind, word // 2)
+            reply = truth(BEFORE_NUMBER(0 < behind < word // 2))
+        elif name == "add":
+            numbers = [own, random.below(word)]
+            reply = str((own + numbers[1]) % word)
+        else:
+            numbers = [own, own if random.one_in(2) else other]
+            same = EQUAL_NUMBER(own == numbers[1])
+            reply = truths(same, not same, True)
+        cases.add(f"SequenceNumber::{name}", numbers, reply)
+
+
+def position_of(own, initial, near):
+    """The position nearest to `near` that has a number, if position 0 has the number `initial`: from
+    2^31 before it to 2^31 - 1 after it."""
+    base = (own - initial) % (1 << 32)
+    around = base + (near - base >> 32 << 32)
+    found = [pos for pos in (around - (1 << 32), around, around + (1 << 32))
+             if near - (1 << 31) <= pos < near + (1 << 31) and 0 <= pos <= TOP]
+    if not POSITION(bool(found)):
+        return "none"
+    POSITION_SIDE.least(found[0], near)
+    return str(found[0])

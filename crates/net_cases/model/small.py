@@ -1,0 +1,168 @@
+"""Rings of cells that can be reset, storage, and the generator of random words."""
+from branches import Order, Size, Test
+from drawing import TOP
+from ring import Ring
+from showing import START, mix, pattern, show_bytes, show_digest
+
+CELLS = Size("cells: capacity", 10)
+CELL_IN = Test("cells: enqueue_one has room")
+CELL_OUT = Test("cells: dequeue_one has an element")
+CELL_RESET = Test("cells: reset finds a queue")
+CELL_CLEARED = Test("cells: clear finds a queue")
+CELL_AT = Test("cells: reset finds the read index at the storage's beginning")
+STORAGE = Size("storage: length", 12)
+FROM_TO = Order("storage: part, from and to")
+TO_END = Order("storage: part, to and length")
+ITEM = Order("storage: item_mut, index and length", ("below", "equal", "above"))
+SEED = Size("generator: seed", 64, by=4)
+SHIFT = Size("generator: top three bits of a state", 3)
+DRAWN = Order("generator: draw and last reserved port")
+DRAWS = Size("generator: draws for a port", 2, 1)
+
+
+class Cells(Ring):
+    """A ring of numbers, of which each is its index at first. A reset doubles a number and adds 1."""
+
+    def __init__(self, capacity):
+        super().__init__(list(range(CELLS(capacity))))
+
+    def show(self):
+        digest = show_digest(mix(START, self.queue() + self.spare()))
+        return f"{self.count} {self.window} {digest}"
+
+    def exchange(self, index, value):
+        before = self.storage[index]
+        self.storage[index] = value
+        return str(before)
+
+    def enqueue_one(self, value):
+        if not CELL_IN(self.window > 0):
+            return "full"
+        self.count += 1
+        return self.exchange(self.index(self.count - 1), value)
+
+    def dequeue_one(self, value):
+        if not CELL_OUT(self.count > 0):
+            return "empty"
+        shown = self.exchange(self.at, value)
+        self.take(1)
+        return shown
+
+    def reset(self):
+        CELL_RESET(self.count > 0)
+        CELL_AT(self.at == 0)
+        self.at = self.count = 0
+        self.storage = [(2 * value + 1) & TOP for value in self.storage]
+        return "done"
+
+    def clear(self):
+        CELL_CLEARED(self.count > 0)
+        self.at = self.count = 0
+        return "done"
+
+
+def draw_cells(random, cases, lines):
+    until = len(cases.lines) + lines
+    while len(cases.lines) < until:
+        capacity = random.of_digits(10) if random.one_in(2) else random.below(12)
+        ring = Cells(capacity)
+        cases.begin(f"cells {capacity}", ring.show())
+        for _ in range(10 + random.below(40)):
+            name = random.of(["enqueue_one"] * 4 + ["dequeue_one"] * 4 + ["reset", "clear"])
+            numbers = [random.word()] if name.endswith("one") else []
+            cases.add(name, numbers, getattr(ring, name)(*numbers), ring.show())
+
+
+class Storage:
+    def __init__(self, count, seed):
+        self.data = pattern(STORAGE(count), seed)
+
+    def show(self):
+        return f"{len(self.data)} {len(self.data)} {show_digest(mix(START, self.data))}"
+
+    def lend(self, start, end, seed):
+        shown = show_bytes(self.data[start:end])
+        self.data[start:end] = pattern(end - start, seed)
+        return shown
+
+    def as_mut_slice(self, seed):
+        return self.lend(0, len(self.data), seed)
+
+    def allows(self, start, end):
+        FROM_TO.least(start, end)
+        TO_END.least(end, len(self.data))
+        return start <= end <= len(self.data)
+
+    def part(self, start, end):
+        return show_bytes(self.data[start:end]) if self.allows(start, end) else "forbidden"
+
+    def part_mut(self, start, end, seed):
+        return self.lend(start, end, seed) if self.allows(start, end) else "forbidden"
+
+    def item_mut(self, at, byte):
+        ITEM.least(at, len(self.data))
+        if at >= len(self.data):
+            return "forbidden"
+        before, self.data[at] = self.data[at], byte & 0xff
+        return show_bytes([before])
+
+
+def draw_storage(random, cases, lines):
+    until = len(cases.lines) + lines
+    while len(cases.lines) < until:
+        count, seed = random.of_digits(12), random.below(1000)
+        storage = Storage(count, seed)
+        cases.begin(f"storage {count} {seed}", storage.show())
+        for _ in range(5 + random.below(12)):
+            name = random.of(["as_mut_slice", "part", "part", "part_mut", "part_mut", "item_mut"])
+            start, end = (random.offset([count], 12) for _ in range(2))
+            if not random.one_in(4):
+                start, end = sorted((start % (count + 1), end % (count + 1)))
+            numbers = {"as_mut_slice": [random.below(1000)], "part": [start, end],
+                       "part_mut": [start, end, random.below(1000)],
+                       "item_mut": [start, random.below(256)]}[name]
+            cases.add(name, numbers, getattr(storage, name)(*numbers), storage.show())
+
+
+class Generator:
+    def __init__(self, seed):
+        self.state = SEED(seed)
+
+    def rand_u32(self):
+        self.state = (self.state * 0xbb2efcec3c39611d + 0x7590ef39) & TOP
+        return (self.state >> (29 - SHIFT(self.state >> 61))) & 0xffffffff
+
+    def rand_u16(self):
+        word = self.rand_u32()
+        return (word ^ (word >> 16)) & 0xffff
+
+    def rand_source_port(self):
+        draws = 1
+        while DRAWN.least(port := self.rand_u16(), 1024) == port:
+            draws += 1
+        DRAWS(draws)
+        return port
+
+
+def port_after(state):
+    """The draw of the state after this one, asked of no question."""
+    state = (state * 0xbb2efcec3c39611d + 0x7590ef39) & TOP
+    word = (state >> (29 - (state >> 61))) & 0xffffffff
+    return (word ^ (word >> 16)) & 0xffff
+
+
+def draw_generator(random, cases, lines):
+    """Generators of any seed, at times of one whose first draw is about the last reserved port."""
+    until = len(cases.lines) + lines
+    while len(cases.lines) < until:
+        seed = random.wide() if random.one_in(4) else random.of_digits(64, "seed")
+        close = random.one_in(6)
+        while close and not 1022 <= port_after(seed) <= 1026:
+            seed = random.word()
+        rand = Generator(seed)
+        cases.begin(f"rand {seed}")
+        for turn in range(3 + random.below(8)):
+            name = random.of(["rand_u32", "rand_u16", "rand_source_port"])
+            if close and turn == 0:
+                name = "rand_source_port"
+            cases.add(name, [], getattr(rand, name)())

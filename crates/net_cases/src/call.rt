@@ -1,0 +1,74 @@
+//! What a line asks for.
+use net_program::number;
+use std::alloc::{AllocError, Global};
+
+/// A call: its name, and the numbers after it. A number below zero stands as the sum of it and 2^64.
+#[derive(Drop)]
+pub struct Call<'a> {
+    pub name: &'a str,
+    pub numbers: Vec<u64>,
+}
+
+impl<'a> Call<'a> {
+    /// Returns the call that a line asks for: words parted by a space, of which all but the first
+    /// are numbers. `None` if one is not.
+    pub fn of_line(alloc: Global, line: &'a str) -> Result<Option<Call<'a>>, AllocError> {
+        let (name, mut rest) = first_word(line);
+        let mut numbers = Vec::new(alloc);
+        while let Some(words) = rest {
+            let (word, after) = first_word(words);
+            let Some(number) = signed(word) else {
+                return Ok(None);
+            };
+            numbers.push(number)?;
+            rest = after;
+        }
+        Ok(Some(Call { name, numbers }))
+    }
+
+    /// Returns the first four numbers, or 0 in place of those that the call doesn't have.
+    pub fn four(&self) -> [u64; 4] {
+        let numbers = self.numbers.as_slice();
+        [at(numbers, 0), at(numbers, 1), at(numbers, 2), at(numbers, 3)]
+    }
+}
+
+/// Returns the number at an index, or 0 if there is none.
+fn at(numbers: &[u64], index: usize) -> u64 {
+    match numbers.get(index) {
+        Some(number) => *number,
+        None => 0,
+    }
+}
+
+/// Returns the first word of a text, and what follows the space after it.
+pub fn first_word(text: &str) -> (&str, Option<&str>) {
+    match text.split_once(' ') {
+        Some((word, rest)) => (word, Some(rest)),
+        None => (text, None),
+    }
+}
+
+/// Returns the number that a word writes, with a sign or without one.
+fn signed(word: &str) -> Option<u64> {
+    match word.as_bytes() {
+        [b'-', digits @ ..] => number(digits).map(|size| size.wrapping_neg()),
+        digits => number(digits),
+    }
+}
+
+/// A call's name, how many numbers it has, and what it is.
+pub type Entry<T> = (&'static str, usize, T);
+
+/// As the number of a call's numbers: any.
+pub const ANY: usize = usize::MAX;
+
+/// Returns the entry of a table that has a call's name and as many numbers.
+pub fn find<T: Copy>(table: &[Entry<T>], call: &Call<'_>) -> Option<T> {
+    for (name, count, kind) in table {
+        if *name == call.name && (*count == ANY || *count == call.numbers.len()) {
+            return Some(*kind);
+        }
+    }
+    None
+}

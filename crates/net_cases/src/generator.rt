@@ -1,0 +1,44 @@
+//! The calls of the generator of random words.
+use crate::call::{Call, Entry, find};
+use crate::reply::Reply;
+use crate::subject::Subject;
+use net_base::rand::Rand;
+use std::alloc::{AllocError, Global};
+
+/// A call.
+#[derive(Clone, Copy)]
+enum Kind {
+    Word,
+    Draw,
+    SourcePort,
+}
+
+/// The calls.
+const CALLS: [Entry<Kind>; 3] = [
+    ("rand_u32", 0, Kind::Word),
+    ("rand_u16", 0, Kind::Draw),
+    ("rand_source_port", 0, Kind::SourcePort),
+];
+
+impl Subject for Rand {
+    fn answer(&mut self, _: Global, call: &Call<'_>) -> Result<Option<Reply>, AllocError> {
+        match find(&CALLS, call) {
+            Some(kind) => Ok(Some(Reply::new().number(draw(self, kind)))),
+            None => Ok(None),
+        }
+    }
+
+    /// Nothing can be seen of it.
+    fn show(&mut self, _: Global) -> Result<Reply, AllocError> {
+        Ok(Reply::new())
+    }
+}
+
+/// Returns what a call gives.
+fn draw(rand: &mut Rand, kind: Kind) -> u64 {
+    match kind {
+        Kind::Word => u64::from(rand.rand_u32()),
+        Kind::Draw => u64::from(rand.rand_u16()),
+        Kind::SourcePort => u64::from(rand.rand_source_port()),
+    }
+}

@@ -1,0 +1,50 @@
+//! Makes the calls that blocks of lines of standard input ask for, and writes what each of them gave.
+//!
+//! Blocks are parted by an empty line. The first line of a block makes what the calls of its other lines
+//! are made on, as `ring 4 7`; a line has a call's name and its numbers, and its reply is one line. The
+//! folder `model` draws the blocks and says what the replies are.
+#![tactic(auto)]
+
+mod assembler;
+mod blocks;
+mod bytes;
+mod call;
+mod cells;
+mod error;
+mod generator;
+mod packets;
+mod receiver;
+mod reply;
+mod ring;
+mod sequence_number;
+mod storage;
+mod subject;
+mod text;
+mod time;
+mod words;
+
+use blocks::answer_blocks;
+use error::CaseError;
+use std::alloc::Global;
+use std::io;
+use std::process::ExitCode;
+
+fn main(rt: HostRuntime) -> ExitCode {
+    match answer_input(&rt) {
+        Ok(()) => ExitCode::from(0),
+        Err(error) => {
+            let told = eprintln!(rt; "{error}");
+            ExitCode::from(if told.is_ok() { 1 } else { 3 })
+        }
+    }
+}
+
+/// Writes the replies to the blocks of standard input, up to the first line that asks for no call.
+fn answer_input(rt: &(impl Input + Print + Alloc<A = Global>)) -> Result<(), CaseError> {
+    let alloc = rt.alloc();
+    let input = io::read_to_string(alloc, rt.reader())?;
+    let mut replies = String::new(alloc);
+    let answered = answer_blocks(alloc, input.as_str(), &mut replies);
+    rt.print(replies.as_str())?;
+    answered
+}

@@ -1,0 +1,349 @@
+//! The calls of a receiver.
+ghost use Rattle.std.specs.Prelude.{All, IfOk, ◌≤◌};
+ghost use Rattle.net_receiver.specs.Commands.{CommandFits};
+
+use crate::bytes::{START, mix, mix_bytes, pattern};
+use crate::call::{ANY, Call, Entry, find};
+use crate::reply::{Part, Reply, allowed, many};
+use crate::subject::Subject;
+use net_receiver::{Command, Kept, Receiver, Reply as Given, execute, replay};
+use net_storage::{ManagedSlice, TooManyHolesError};
+use std::alloc::{AllocError, Global};
+use std::mem;
+
+/// Two receivers of one first position and capacity, and replies to commands of the first.
+#[derive(Drop)]
+pub struct Pair<const N: usize> {
+    now: Receiver<'static, N>,
+    other: Receiver<'static, N>,
+    first: u64,
+    replies: Vec<Given>,
+}
+
+/// A call with bytes: a number, and then a size and what the bytes stand for.
+#[derive(Clone, Copy)]
+enum Copying {
+    Segment,
+    Read,
+    PeekSlice,
+}
+
+/// The calls with bytes that come.
+const SEGMENTS: [Entry<Copying>; 1] = [("segment", 3, Copying::Segment)];
+
+/// The calls with bytes that are copied over.
+const READS: [Entry<Copying>; 2] = [
+    ("read", 2, Copying::Read),
+    ("peek_slice", 2, Copying::PeekSlice),
+];
+
+/// Any other call but those with commands.
+#[derive(Clone, Copy)]
+enum Kind {
+    ReadWith,
+    Peek,
+    AsSlices,
+    Fits,
+    SameState,
+    Swap,
+}
+
+/// The other calls; `swap` exchanges the two receivers.
+const CALLS: [Entry<Kind>; 6] = [
+    ("read_with", 1, Kind::ReadWith),
+    ("peek", 2, Kind::Peek),
+    ("as_slices", 0, Kind::AsSlices),
+    ("fits", 2, Kind::Fits),
+    ("same_state", 0, Kind::SameState),
+    ("swap", 0, Kind::Swap),
+];
+
+/// The call with one command.
+const EXECUTE: [Entry<()>; 1] = [("execute", 4, ())];
+
+/// The call with a list of commands, of four numbers each.
+const REPLAY: [Entry<()>; 1] = [("replay", ANY, ())];
+
+impl<const N: usize> Pair<N> {
+    /// Returns two receivers over so many bytes each, of a stream that begins at `first`.
+    pub fn new(alloc: Global, capacity: u64, first: u64) -> Result<Self, AllocError>
+        requires { 1 ≤ N }
+    {
+        let storage = pattern(alloc, capacity, 0)?;
+        let other = pattern(alloc, capacity, 0)?;
+        Ok(Pair {
+            now: Receiver::new_at(ManagedSlice::from(storage), first),
+            other: Receiver::new_at(ManagedSlice::from(other), first),
+            first,
+            replies: Vec::new(alloc),
+        })
+    }
+
+    /// Makes a call without bytes or commands.
+    fn make(&mut self, kind: Kind, one: u64, two: u64) -> Reply {
+        match kind {
+            Kind::ReadWith => read_with(&mut self.now, one as usize),
+            Kind::Peek => Reply::new().bytes(self.now.peek(one as usize, two as usize)),
+            Kind::AsSlices => as_slices(&self.now),
+            Kind::Fits => Reply::new().truth(Receiver::<N>::fits(one, two as usize)),
+            Kind::SameState => same_state(&self.now, &self.other),
+            Kind::Swap => {
+                mem::swap(&mut self.now, &mut self.other);
+                allowed(true)
+            }
+        }
+    }
+
+    /// Executes a list of commands, whose replies are appended to those before them.
+    fn replay(&mut self, alloc: Global, numbers: &[u64]) -> Result<Reply, AllocError> {
+        let commands = commands_of(alloc, numbers)?;
+        replay(alloc, &mut self.now, &commands, &mut self.replies)?;
+        let digest = mix_replies(START, &self.replies);
+        Ok(Reply::new().and(Part::Many(self.replies.len(), digest)))
+    }
+}
+
+impl<const N: usize> Subject for Pair<N> {
+    fn answer(&mut self, alloc: Global, call: &Call<'_>) -> Result<Option<Reply>, AllocError> {
+        let numbers = call.four();
+        let [one, two, three, _] = numbers;
+        if let Some(copying) = find(&SEGMENTS, call) {
+            let mut bytes = pattern(alloc, two, three)?;
+            return Ok(Some(make_copy(&mut self.now, self.first, copying, one, &mut bytes)));
+        }
+        if let Some(copying) = find(&READS, call) {
+            let mut bytes = pattern(alloc, one, two)?;
+            return Ok(Some(make_copy(&mut self.now, self.first, copying, 0, &mut bytes)));
+        }
+        if let Some(kind) = find(&CALLS, call) {
+            return Ok(Some(self.make(kind, one, two)));
+        }
+        if find(&EXECUTE, call).is_some() {
+            return Ok(Some(execute_one(alloc, &mut self.now, self.first, numbers)?));
+        }
+        if find(&REPLAY, call).is_some() {
+            return Ok(Some(self.replay(alloc, &call.numbers)?));
+        }
+        Ok(None)
+    }
+
+    /// The first missing position, how many bytes are queued and how many have room, the held runs, by their
+    /// number and digest, the first of them, and the digest of the queue. Positions but those of the digest
+    /// are counted from the stream's first one.
+    fn show(&mut self, _: Global) -> Result<Reply, AllocError> {
+        let reply = Reply::new()
+            .number(self.now.next().wrapping_sub(self.first))
+            .count(self.now.queued())
+            .count(self.now.window());
+        Ok(show_held(&self.now, self.first, reply).and(digest_of(&self.now)))
+    }
+}
+
+/// Returns the digest of a receiver's queue.
+fn digest_of<const N: usize>(receiver: &Receiver<'_, N>) -> Part {
+    let (first, second) = receiver.as_slices();
+    Part::Digest(mix_bytes(mix_bytes(START, first), second))
+}
+
+/// Returns a reply with the held runs behind it, by their number and digest, and with the first of them.
+fn show_held<const N: usize>(receiver: &Receiver<'_, N>, first: u64, reply: Reply) -> Reply {
+    let mut count: usize = 0;
+    let mut sum = START;
+    for (start, end) in receiver.held() {
+        count = count.saturating_add(1);
+        sum = mix(mix(sum, start), end);
+    }
+    show_run(receiver.held().next(), first, reply.and(Part::Many(count, sum)))
+}
+
+/// Returns a reply with a run behind it, counted from a first position, if there is one.
+fn show_run(run: Option<(u64, u64)>, first: u64, reply: Reply) -> Reply {
+    match run {
+        Some((start, end)) => {
+            reply.and(Part::Run(start.wrapping_sub(first), end.wrapping_sub(first)))
+        }
+        None => reply.and(Part::Word("-")),
+    }
+}
+
+/// Makes a call with bytes.
+fn make_copy<const N: usize>(
+    receiver: &mut Receiver<'_, N>,
+    first: u64,
+    copying: Copying,
+    pos: u64,
+    bytes: &mut [u8],
+) -> Reply {
+    match copying {
+        Copying::Segment => segment(receiver, first, pos, bytes),
+        Copying::Read => {
+            let count = receiver.read(bytes);
+            Reply::new().count(count).bytes(bytes)
+        }
+        Copying::PeekSlice => {
+            let count = receiver.peek_slice(bytes);
+            Reply::new().count(count).bytes(bytes)
+        }
+    }
+}
+
+fn segment<const N: usize>(
+    receiver: &mut Receiver<'_, N>,
+    first: u64,
+    pos: u64,
+    bytes: &[u8],
+) -> Reply {
+    if !Receiver::<N>::fits(pos, bytes.len()) {
+        return allowed(false);
+    }
+    show_segment(&receiver.segment(pos, bytes), first)
+}
+
+/// Returns a reply of what a segment gave. Positions are counted from the stream's first one.
+fn show_segment(given: &Result<Kept, TooManyHolesError>, first: u64) -> Reply {
+    match given {
+        Ok(kept) => show_kept(kept, first),
+        Err(TooManyHolesError) => Reply::word("refused"),
+    }
+}
+
+/// Returns a reply of what was kept of a segment.
+fn show_kept(given: &Kept, first: u64) -> Reply {
+    let mut reply = Reply::new().count(given.kept).count(given.queued);
+    for run in &given.sack {
+        reply = show_run(*run, first, reply);
+    }
+    reply
+}
+
+fn read_with<const N: usize>(receiver: &mut Receiver<'_, N>, size: usize) -> Reply {
+    let (counted, lent) = receiver.read_with(|bytes| (size.min(bytes.len()), many(bytes)));
+    Reply::new().count(counted).and(lent)
+}
+
+fn as_slices<const N: usize>(receiver: &Receiver<'_, N>) -> Reply {
+    let (first, second) = receiver.as_slices();
+    Reply::new().bytes(first).bytes(second)
+}
+
+fn same_state<const N: usize>(own: &Receiver<'_, N>, other: &Receiver<'_, N>) -> Reply {
+    Reply::new()
+        .truth(own.same_state(other))
+        .truth(other.same_state(own))
+}
+
+/// Returns the command of four numbers: 0, a position, a size and what bytes stand for; 1 and a count;
+/// or else `Show`. A segment that ends beyond the last position is `Show` too.
+fn command_of(alloc: Global, numbers: [u64; 4]) -> Result<Command, AllocError>
+    ensures { IfOk result CommandFits }
+{
+    let [kind, pos, size, seed] = numbers;
+    match kind {
+        0 => segment_of(pos, pattern(alloc, size, seed)),
+        1 => Ok(Command::Read(pos)),
+        _ => Ok(Command::Show),
+    }
+}
+
+/// Returns the command of a segment.
+fn segment_of(pos: u64, made: Result<Vec<u8>, AllocError>) -> Result<Command, AllocError>
+    ensures { IfOk result CommandFits }
+{
+    let bytes = made?;
+    if !Receiver::<4>::fits(pos, bytes.len()) {
+        return Ok(Command::Show);
+    }
+    Ok(Command::Segment { pos, bytes })
+}
+
+/// Returns the commands of numbers, four each.
+fn commands_of(alloc: Global, numbers: &[u64]) -> Result<Vec<Command>, AllocError>
+    ensures { IfOk result (λ commands. All CommandFits commands.items) }
+{
+    let mut commands = Vec::new(alloc);
+    let mut rest = numbers;
+    while let [kind, pos, size, seed, after @ ..] = rest {
+        let command = command_of(alloc, [*kind, *pos, *size, *seed])?;
+        commands.push(command)?;
+        rest = after;
+    }
+    Ok(commands)
+}
+
+/// Executes one command.
+fn execute_one<const N: usize>(
+    alloc: Global,
+    receiver: &mut Receiver<'_, N>,
+    first: u64,
+    numbers: [u64; 4],
+) -> Result<Reply, AllocError> {
+    let command = command_of(alloc, numbers)?;
+    Ok(show_reply(&execute(alloc, receiver, &command)?, first))
+}
+
+/// Returns the reply to a command, as a line shows it.
+fn show_reply(given: &Given, first: u64) -> Reply {
+    match given {
+        Given::Segment(segment) => show_segment(segment, first),
+        Given::Read(bytes) => Reply::new().bytes(bytes),
+        Given::Show {
+            next,
+            queued,
+            window,
+            held,
+        } => Reply::new()
+            .number(next.wrapping_sub(first))
+            .count(*queued)
+            .count(*window)
+            .and(Part::Many(held.len(), mix_runs(START, held))),
+    }
+}
+
+/// Returns the digest with more runs.
+fn mix_runs(sum: u64, runs: &[(u64, u64)]) -> u64 {
+    let mut sum = sum;
+    for &(start, end) in runs {
+        sum = mix(mix(sum, start), end);
+    }
+    sum
+}
+
+/// Returns the digest with more replies.
+fn mix_replies(sum: u64, replies: &[Given]) -> u64 {
+    let mut sum = sum;
+    for reply in replies {
+        sum = mix_reply(sum, reply);
+    }
+    sum
+}
+
+/// Returns the digest with what was kept of a segment.
+fn mix_kept(sum: u64, given: &Kept) -> u64 {
+    let mut sum = mix(mix(sum, given.kept as u64), given.queued as u64);
+    for run in &given.sack {
+        sum = match run {
+            Some((start, end)) => mix(mix(sum, *start), *end),
+            None => mix(sum, 0),
+        };
+    }
+    sum
+}
+
+/// Returns the digest with one more reply.
+fn mix_reply(sum: u64, reply: &Given) -> u64 {
+    match reply {
+        Given::Segment(Err(TooManyHolesError)) => mix(sum, 1),
+        Given::Segment(Ok(kept)) => mix_kept(mix(sum, 2), kept),
+        Given::Read(bytes) => mix_bytes(mix(mix(sum, 3), bytes.len() as u64), bytes),
+        Given::Show {
+            next,
+            queued,
+            window,
+            held,
+        } => {
+            let sum = mix(mix(sum, 4), *next);
+            let sum = mix(mix(sum, *queued as u64), *window as u64);
+            mix_runs(mix(sum, held.len() as u64), held)
+        }
+    }
+}
