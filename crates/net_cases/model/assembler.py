@@ -8,7 +8,7 @@ FITS = Order("assembler: end of a range and greatest number")
 NO_SIZE = Test("assembler: a range has no positions")
 RUNS = {most: Count(f"assembler of {most}: runs", most) for most in SIZES}
 REFUSED = {most: Test(f"assembler of {most}: a range is refused") for most in SIZES}
-JOINED = {most: Count(f"assembler of {most}: runs that a range joins", min(most, 5)) for most in SIZES}
+JOINED = {most: Count(f"assembler of {most}: runs that a range joins", min(most, 3)) for most in SIZES}
 PLACE = {most: Count(f"assembler of {most}: runs before a range that is added", most - 1)
          for most in SIZES}
 FRONT = Test("assembler: the front is there")

@@ -4,7 +4,7 @@ from drawing import TOP
 from showing import START, mix, show_digest, show_lent, truth, truths
 
 FIRST, LAST = -(1 << 63), (1 << 63) - 1
-MICROS = {name: Size(f"time: {name}, digits", digits)
+MICROS = {name: Size(f"time: {name}, digits", digits, by=4)
           for name, digits in (("a moment", 63), ("a length", 64))}
 NEGATIVE = Test("time: a moment lies before the origin")
 FRACTION = {name: Size(f"time: milliseconds beyond the seconds of {name}", 10)

@@ -12,7 +12,7 @@ FITS_ROW = Order("packets: size and bytes free in a row")
 FITS_REST = Order("packets: size and free bytes at the storage's beginning")
 ENOUGH_SLOTS = Order("packets: slots needed and free")
 GAP = Test("packets: is placed after a gap")
-GAP_SIZE = Size("packets: gap", 8, by=2)
+GAP_SIZE = Size("packets: gap", 8, by=4)
 RESTARTS = Test("packets: a queue with no bytes is read from the storage's beginning on, and was not")
 FIRST_GAP = Test("packets: the first packet has a gap")
 USED = Count("packets: slots used", 12)
@@ -22,7 +22,7 @@ ACCEPTED_SIZE = {name: Size(f"packets: {name} of a size", 11) for name in ACCEPT
 KEPT = Order("packets: enqueue_with_infallible, kept and lent", ("below", "equal"))
 GIVEN = {name: Test(f"packets: {name} has a packet")
          for name in ("peek", "take", "dequeue", "dequeue_with", "pop_slice")}
-GIVEN_SIZE = {name: Size(f"packets: {name} of a size", 10) for name in GIVEN}
+GIVEN_SIZE = {name: Size(f"packets: {name} of a size", 9, by=2) for name in GIVEN}
 TAKES = Test("packets: the closure of dequeue_with takes the packet")
 POPPED = Order("packets: pop_slice, room and packet")
 LAST = Test("packets: last_mut has a packet")

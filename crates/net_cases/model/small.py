@@ -4,7 +4,7 @@ from drawing import TOP
 from ring import Ring
 from showing import START, mix, pattern, show_bytes, show_digest
 
-CELLS = Size("cells: capacity", 10)
+CELLS = Size("cells: capacity", 10, by=2)
 CELL_IN = Test("cells: enqueue_one has room")
 CELL_OUT = Test("cells: dequeue_one has an element")
 CELL_RESET = Test("cells: reset finds a queue")

@@ -1,2 +1,368 @@
+"""Worked rows: calls with results that smoltcp's own tests and documentation expect, and lines of modes
+with their replies. A row that the model contradicts ends the script."""
+import assembler
+import modes
+import moments
+import packets
+import receiver
+import ring
+import small
+
+# Calls of a ring of so many bytes, each with how its reply begins: counts, and what is lent or refused.
+RINGS = [
+    (12, "enqueue_slice 12 1: 12; dequeue_slice 8 2: 8; enqueue_slice 4 3: 4; dequeue_slice 8 4: 8"),
+    (12, "enqueue_many 12 1: 12#; dequeue_many 6 2: 6:; enqueue_many 3 3: 3:; read_allocated 3 6 4: 6; "
+         "read_allocated 6 6 5: 3"),
+    (12, "enqueue_many 6 1: 6:; dequeue_many 6 2: 6:; write_unallocated 0 3 3: 3; write_unallocated 3 6 4: 6; "
+         "get_unallocated 3 3 5: 3:; write_unallocated 9 6 6: 3; get_unallocated 9 3 7: 3:"),
+    (12, "enqueue_many 8 1: 8:; enqueue_many 8 2: 4:"),
+    (12, "enqueue_slice 4 1: 4; enqueue_slice 8 2: 8; dequeue_many 4 3: 4:; get_allocated 4 8: 4:; "
+         "enqueue_slice 4 4: 4; get_allocated 4 8: 4:; get_allocated_mut 6 8 5: 2:; as_slices: 8:"),
+    (0, "get_unallocated 0 0 1: 0:; get_allocated 0 0: 0:; dequeue_allocated 0: done; enqueue_many 0 1: 0:; "
+        "enqueue_one 0: full"),
+    (8, "enqueue_many 2 1: 2:; enqueue_many 2 2: 2:; dequeue_many 4 3: 4:; enqueue_many 8 4: 8:; clear: done; "
+        "enqueue_many 4 5: 4:; dequeue_many 4 6: 4:; enqueue_many 8 7: 8:"),
+    (12, "enqueue_many_with 2 1: 2 12#; enqueue_many_with 2 2: 2 10#; enqueue_many_with 4 3: 4 8#; "
+         "dequeue_many 4 4: 4:; enqueue_many_with 4 5: 4 4#; enqueue_many_with 4 6: 4 4#; get_allocated 0 12: 8:; "
+         "get_allocated 8 4: 4:"),
+    (12, "get_unallocated 16 4 1: 0:; get_unallocated 0 4 2: 4:; enqueue_many 4 3: 4:; get_unallocated 4 8 4: 4:; "
+         "enqueue_many 8 5: 8:"),
+    (2, "enqueue_one_with 7 0: err; dequeue_one 0: empty; enqueue_one_with 7 1: ok 7"),
+    (2, "enqueue_one 97: 1:; enqueue_one 98: 1:; enqueue_one 99: full; dequeue_one 122: 1:61; get_unallocated 0 2 1: "
+        "1:7a; dequeue_one 98: 1:62; dequeue_one 99: empty"),
+    (2, "enqueue_one 97: 1:; enqueue_one 98: 1:; dequeue_one_with 122 0: err 97; dequeue_one 1: 1:7a; "
+        "dequeue_one_with 2 1: ok 98"),
+    (4, "get_unallocated 18446744073709551615 1 1: 0:; write_unallocated 18446744073709551615 1 1: 0; "
+        "enqueue_slice 3 1: 3; dequeue_many 2 2: 2:; get_unallocated 18446744073709551615 1 1: 0:; "
+        "get_allocated 18446744073709551615 18446744073709551615: 0:; "
+        "read_allocated 18446744073709551615 2 1: 0; get_allocated 0 18446744073709551615: 1:"),
+    (8, "enqueue_many 4 1: 4:; dequeue_many 4 2: 4:; write_unallocated 0 2 3: 2; enqueue_unallocated 2: done; "
+        "get_allocated 0 2: 2:; enqueue_unallocated 7: forbidden"),
+    (4, "enqueue_many_with 0 1: 0 4#; enqueue_slice 4 2: 4; dequeue_many_with 0 3: 0 4#; dequeue_slice 4 4: 4"),
+    (1, "dequeue_one_with 0 1: empty; enqueue_slice 2 1: 1; enqueue_one_with 0 1: full; dequeue_slice 1 2: 1"),
+]
+
+# The same of a packet queue of so many slots and bytes.
+PACKETS = [
+    (4, 16, "peek: empty; dequeue 1: empty; take 1: empty; pop_slice 0 1: empty; dequeue_with 1 1 1: empty; "
+            "push_slice 6 0 1: ok; enqueue 16 1 2: full; peek: 0 6:; dequeue 3: 0 6:; peek: empty"),
+    (4, 16, "enqueue 4 0 1: 4:; enqueue 8 0 2: 8:; dequeue 3: 0 4:; enqueue 8 0 4: full; reset: done; enqueue 15 0 5: 15#; "
+            "dequeue 6: 0 15#; enqueue 16 0 7: 16#; reset: done; enqueue 32 0 8: full; enqueue 1 0 9: 1:; "
+            "enqueue 1 0 10: 1:; enqueue 1 0 11: 1:; enqueue 1 0 12: 1:; enqueue 1 0 13: full; reset: done; "
+            "enqueue 6 0 14: 6:; reset: done; enqueue 16 0 15: 16#; reset: done; enqueue 12 0 16: 12#; "
+            "dequeue 17: 0 12#; enqueue 12 0 18: 12#; reset: done; enqueue 4 0 19: 4:; dequeue 20: 0 4:; "
+            "enqueue 5 0 21: 5:"),
+    (4, 16, "enqueue 6 0 1: 6:; enqueue 8 0 2: 8:; dequeue 3: 0 6:; enqueue 4 0 4: 4:; dequeue 5: 0 8:; peek: 0 4:; "
+            "dequeue 6: 0 4:"),
+    (4, 16, "enqueue 6 0 1: 6:; enqueue 8 0 2: 8:; dequeue 3: 0 6:; enqueue 4 0 4: 4:; dequeue 5: 0 8:; "
+            "dequeue_with 9 6 0: err 0 4#; peek: 9 4:; dequeue_with 1 7 1: ok 9 4#; peek: empty"),
+    (4, 16, "enqueue 12 0 1: 12#; enqueue 1 0 2: 1:; enqueue 1 0 3: 1:; enqueue 1 0 4: 1:; dequeue 5: 0 12#; "
+            "enqueue_with_infallible 5 1 0 6: full; enqueue 1 0 7: 1:"),
+    (4, 16, "enqueue 15 0 1: 15#; dequeue 2: 0 15#; enqueue_with_infallible 16 2 0 3: 2 16#; enqueue 0 0 4: 0:; "
+            "dequeue 5: 0 2:; dequeue 6: 0 0:"),
+    (2, 0, "enqueue 0 0 1: 0:; enqueue 1 0 2: full; enqueue 0 0 3: 0:; enqueue 0 0 4: full"),
+    (2, 4, "enqueue 2 0 1: 2:; enqueue 1 0 2: 1:; dequeue 3: 0 2:; enqueue 2 0 4: full"),
+    (1, 3, "enqueue 2 0 1: 2:; dequeue 2: 0 2:; enqueue_with_infallible 2 2 0 3: 2 2#"),
+    (4, 16, "push_slice 15 7 1: ok; push_slice 2 8 2: full; pop_slice 2 3: 7 2; peek: empty; push_slice 2 9 4: ok; "
+            "pop_slice 3 5: 9 2"),
+]
+
+# The same of an assembler of so many runs, and the runs then.
+ASSEMBLERS = [
+    (4, "add 4 8: ok; add 0 4: ok", [(0, 12)]),
+    (4, "add 4 8: ok; add 12 4: ok", [(4, 16)]),
+    (4, "add 4 8: ok; add 2 6: ok", [(2, 12)]),
+    (4, "add 4 8: ok; add 10 4: ok", [(4, 14)]),
+    (4, "add 4 8: ok; add 0 8: ok", [(0, 12)]),
+    (4, "add 4 8: ok; add 8 8: ok", [(4, 16)]),
+    (4, "add 4 8: ok; add 0 16: ok", [(0, 16)]),
+    (4, "add 4 8: ok; add 2 12: ok", [(2, 14)]),
+    (4, "add 10 10: ok; add 50 10: ok; add 15 40: ok", [(10, 60)]),
+    (4, "add 50 10: ok; add 10 10: ok; add 15 60: ok", [(10, 75)]),
+    (4, "add 0 1: ok; add 2 1: ok; add 1 1: ok", [(0, 3)]),
+    (4, "add 5 0: ok; add 18446744073709551615 0: ok", []),
+    (4, "FILL; add 1 3: refused; add_counted 1 3: refused; add_then_remove_front 1 3: refused; add 13 7: ok; "
+        "add 1 3: ok", [(1, 4), (10, 23), (30, 33), (40, 43)]),
+    (4, "FILL; add_counted 13 7: ok", [(10, 23), (30, 33), (40, 43)]),
+    (4, "add 0 2: ok; add 10 1: ok; add 20 1: ok; add 30 1: ok; add_then_remove_front 40 1: refused; "
+        "add_then_remove_front 40 0: front 2", [(8, 9), (18, 19), (28, 29)]),
+    (4, "FILL; add_then_remove_front 0 3: front 3", [(7, 10), (17, 20), (27, 30), (37, 40)]),
+    (4, "add 50 10: ok; add_then_remove_front 10 10: front 0", [(10, 20), (50, 60)]),
+    (4, "add 50 10: ok; add_then_remove_front 0 10: front 10", [(40, 50)]),
+    (4, "add 50 10: ok; add_then_remove_front 0 50: front 60", []),
+    (4, "add 0 4: ok; add_then_remove_front 0 0: front 4", []),
+    (4, "add 0 4: ok; add 8 4: ok; remove_front: front 4; remove_front: front 0", [(4, 8)]),
+    (4, "add 0 2: ok; add 3 1: ok; add 5 1: ok; add 7 1: ok; remove_front: front 2", [(1, 2), (3, 4), (5, 6)]),
+    (4, "remove_front: front 0", []),
+    (4, "add 2 6: ok; add 10 1: ok; add 13 2: ok; run_at 0: 2-8; run_at 1: 10-11; run_at 2: 13-15; run_at 3: none; "
+        "contains 1: 0; contains 2: 1; contains 7: 1; contains 8: 0; contains 14: 1; contains 15: 0",
+     [(2, 8), (10, 11), (13, 15)]),
+    (32, "FILL; add 1 3: refused; add_then_remove_front 1 3: refused; run_at 31: 320-323; "
+         "add_then_remove_front 0 3: front 3; run_at 0: 7-10; run_at 31: 317-320; remove_front: front 0; add 0 320: ok; "
+         "remove_front: front 320", []),
+    (4, "add 100 10: ok; add 50 10: ok; add 40 30: ok", [(40, 70), (100, 110)]),
+    (1, "add 18446744073709551613 2: ok; add 0 1: refused; add_then_remove_front 0 1: front 1; "
+        "fits 18446744073709551614 1: 1; fits 18446744073709551614 2: 0", [(18446744073709551612, 18446744073709551614)]),
+    (4, "add 4 8: ok; add 0 2: ok; clone: done; clear: done; eq: 0 1; add 0 1: ok; add 4 4: ok; add 8 4: ok; add 1 1: ok; "
+        "eq: 1 0", [(0, 2), (4, 12)]),
+    (4, "FILL; add_counted 13 7: ok; add_then_remove_front_counted 0 4: front 4; remove_front_counted: front 0; "
+        "add_then_remove_front_counted 0 6: front 19; text 65535: 1", [(7, 10), (17, 20)]),
+]
+
+# Texts of sets.
+SETS = [
+    ([], "[ ]"), ([(4, 12)], "[ (4) 8 ]"), ([(0, 2), (3, 4)], "[ 2 (1) 1 ]"),
+    ([(40, 70), (100, 110)], "[ (40) 30 (30) 10 ]"),
+    ([(2000000, 5000000), (9000000, 9000001)], "[ (2000000) 3000000 (4000000) 1 ]"),
+    ([(0, 2 ** 64 - 1)], "[ 18446744073709551615 ]"),
+]
+
+# The same of a receiver of so many bytes and four runs whose stream begins at a position.
+RECEIVERS = [
+    (16, 0, "segment 0 5 1: 5 5 - - -; read 3 2: 3; execute 2 0 0 0: 5 2 14 0#"),
+    (16, 0, "segment 2 2 1: 2 0 2-4; segment 3 2 2: 2 0 2-5; segment 0 2 3: 2 5 -; read 5 4: 5"),
+    (16, 0, "segment 0 2 1: 2 2; segment 0 3 2: 1 1; read 9 3: 3"),
+    (16, 0, "segment 2 2 1: 2 0 2-4; read 9 2: 0; segment 0 2 3: 2 4; read 9 4: 4; execute 2 0 0 0: 4 0 16 0#"),
+    (8, 0, "segment 4 2 1: 2 0 4-6; segment 3 3 2: 3 0 3-6; segment 5 5 3: 3 0 3-8; segment 0 4 4: 4 8 -; "
+           "segment 0 1 5: 0 0; read 8 6: 8"),
+    (64, 0, "segment 10 3 1: 3 0 10-13 -; segment 20 3 2: 3 0 10-13 20-23 -; segment 30 3 3: 3 0 10-13 20-23 30-33; "
+            "segment 40 3 4: 3 0 10-13 20-23 30-33; segment 50 1 5: refused; segment 13 1 6: 1 0 10-14 20-23 30-33; "
+            "segment 0 3 7: 3 3 10-14 20-23 30-33; execute 2 0 0 0: 3 3 61 4#"),
+    (64, 0, "segment 2 1 1: 1 0 2-3 -; segment 4 1 1: 1 0 2-3 4-5 -; segment 6 1 1: 1 0 2-3 4-5 6-7; "
+            "segment 8 1 1: 1 0 2-3 4-5 6-7; segment 10 1 1: refused; segment 62 1 1: refused; "
+            "segment 1 1 2: 1 0 1-3 4-5 6-7; segment 0 1 3: 1 3 4-5 6-7 8-9; segment 10 1 4: 1 0 4-5 6-7 8-9"),
+    (4, 0, "segment 0 5 1: 4 4 -; segment 4 1 2: 0 0 -; read 2 3: 2; segment 4 3 4: 2 2 -; read 4 5: 4; "
+           "segment 8 1 6: 1 0 8-9; segment 6 2 7: 2 3 -; read 9 8: 3"),
+    (0, 0, "segment 0 1 1: 0 0 -; read 1 2: 0; execute 2 0 0 0: 0 0 0 0#"),
+    (16, 0, "segment 18446744073709551614 1 1: 0 0 -; segment 18446744073709551614 2 1: forbidden"),
+    (8, 1000, "segment 998 4 1: 2 2 -; segment 1004 1 2: 1 0 4-5; segment 0 1 3: 0 0 4-5; read 9 4: 2"),
+    (8, 2 ** 64 - 2, "segment 18446744073709551614 1 1: 1 1 -; segment 18446744073709551615 0 2: 0 0 -; "
+                     "fits 18446744073709551615 1: 0; execute 2 0 0 0: 1 1 7 0#"),
+    (8, 0, "segment 0 6 1: 6 6; read 4 2: 4; segment 6 4 3: 4 4; peek 0 9: 4:; peek 4 9: 2:; peek 1 2: 2:; peek 6 1: 0:; "
+           "as_slices: 4:; peek_slice 5 4: 5; read_with 3: 3 4#; peek 0 9: 1:"),
+]
+
+# Numbers of 32 bits: own one, that of position 0, where the stream is, and the position that it has there.
+POSITIONS = [(1, 2 ** 32 - 2, 0, "3"), (1, 2 ** 32 - 2, 2 ** 32, str(2 ** 32 + 3)), (2 ** 32 - 3, 2 ** 32 - 2, 0, "none")]
+
+# Texts of moments and lengths.
+MOMENTS = [(74_000, "0.074s"), (5_674_000, "5.674s"), (5_000_000, "5.000s"), (-5_000, "0.0-5s"),
+           (-1_500_000, "-1.-500s"), (-2 ** 63, "-9223372036854.-775s"), (2 ** 64 - 1, "18446744073709.551s"),
+           (4_934_000, "4.934s")]
+
+# Calls on a generator of a seed.
+DRAWS = [(0, "rand_u16: 3; rand_u16: 1358"), (1, "rand_u16: 49741"), (0, "rand_source_port: 1358"),
+         (1, "rand_source_port: 49741"), (0, "rand_u32: 3; rand_u32: 4260165794"), (1, "rand_u32: 788327601")]
+
+# The words of a mode, its lines, and what is written, with how it ends.
+RUNS = [
+    ("ring 4",
+     "w 616263;r 2;w 646566;r 9;r 1;",
+     "took 3;read 6162;took 3;read 63646566;read -;= Ok"),
+    ("ring 4",
+     "w 616263;w 646566;r 9;",
+     "took 3;took 1;read 61626364;= Ok"),
+    ("ring 0",
+     "w 61;r 1;",
+     "took 0;read -;= Ok"),
+    ("ring 8",
+     "",
+     "= Ok"),
+    ("ring 65536",
+     "w 61;r 2;",
+     "took 1;read 61;= Ok"),
+    ("ring 12",
+     "w 6162636465666768696a6b6c;r 8;w 61626364;r 8;r 1;",
+     "took 12;read 6162636465666768;took 4;read 696a6b6c61626364;read -;= Ok"),
+    ("ring 8",
+     "w 4a4B;r 2;",
+     "took 2;read 4a4b;= Ok"),
+    ("ring 8",
+     "w -;r 0;r 18446744073709551615;",
+     "took 0;read -;read -;= Ok"),
+    ("ring 8",
+     "w 6162",
+     "took 2;= Ok"),
+    ("ring 8",
+     "w 61;x 1;w 62;",
+     "took 1;= line 2: bad command"),
+    ("ring 8",
+     "w 61;w 616",
+     "took 1;= line 2: bad command"),
+    ("ring 8",
+     "w 61;;r 1;",
+     "took 1;= line 2: bad command"),
+    ("asm 4",
+     "a 100 10;a 50 10;a 40 30;p;",
+     "ok;ok;ok;[ (40) 30 (30) 10 ];= Ok"),
+    ("asm 4",
+     "a 50 10;t 0 50;p;f;",
+     "ok;front 60;[ ];front 0;= Ok"),
+    ("asm 4",
+     "a 10 3;a 20 3;a 30 3;a 40 3;a 1 3;t 1 3;t 0 3;p;",
+     "ok;ok;ok;ok;refused too many holes;refused too many holes;front 3;[ (7) 3 (7) 3 (7) 3 (7) 3 ];= Ok"),
+    ("asm 4",
+     "a 0 2;a 10 1;a 20 1;a 30 1;t 40 1;t 40 0;p;",
+     "ok;ok;ok;ok;refused too many holes;front 2;[ (8) 1 (9) 1 (9) 1 ];= Ok"),
+    ("asm 4",
+     "a 18446744073709551615 0;a 18446744073709551614 1;p;t 0 18446744073709551615;p;a 18446744073709551615 1;",
+     "ok;ok;[ (18446744073709551614) 1 ];front 18446744073709551615;[ ];= line 6: range too long"),
+    ("asm 32",
+     "a 10 3;a 20 3;a 30 3;a 40 3;a 1 3;p",
+     "ok;ok;ok;ok;ok;[ (1) 3 (6) 3 (7) 3 (7) 3 (7) 3 ];= Ok"),
+    ("asm 4",
+     "f;a 18446744073709551616 1;",
+     "front 0;= line 2: bad command"),
+    ("asm 4",
+     "",
+     "= Ok"),
+    ("stream 16 4",
+     "s 0 68656c6c6f;r 3;?;",
+     "kept 5 queued 5 sack -;read 68656c;next 5 queued 2 window 14 held -;= Ok"),
+    ("stream 16 4",
+     "s 2 4141;s 3 4242;s 0 4343;r 5;",
+     "kept 2 queued 0 sack 2-4;kept 2 queued 0 sack 2-5;kept 2 queued 5 sack -;read 4343414242;= Ok"),
+    ("stream 16 4",
+     "s 0 6162;s 0 78787a;r 9;",
+     "kept 2 queued 2 sack -;kept 1 queued 1 sack -;read 61627a;= Ok"),
+    ("stream 64 4",
+     "s 10 010101;s 20 020202;s 30 030303;s 40 040404;s 50 01;s 13 01;s 0 616263;?;",
+     "kept 3 queued 0 sack 10-13;kept 3 queued 0 sack 10-13,20-23;kept 3 queued 0 sack 10-13,20-23,30-33;kept 3 queued 0 sack 10-13,20-23,30-33;refused too many holes;kept 1 queued 0 sack 10-14,20-23,30-33;kept 3 queued 3 sack 10-14,20-23,30-33;next 3 queued 3 window 61 held 10-14,20-23,30-33,40-43;= Ok"),
+    ("stream 4 4",
+     "s 0 6162636465;s 4 65;r 2;s 4 656667;r 4;s 8 6a;s 6 6869;r 9;",
+     "kept 4 queued 4 sack -;kept 0 queued 0 sack -;read 6162;kept 2 queued 2 sack -;read 63646566;kept 1 queued 0 sack 8-9;kept 2 queued 3 sack -;read 68696a;= Ok"),
+    ("stream 16 4",
+     "s 18446744073709551614 01;s 18446744073709551614 0102;",
+     "kept 0 queued 0 sack -;= line 2: range too long"),
+    ("stream 64 4",
+     "s 2 01;s 4 01;s 6 01;s 8 01;s 10 01;s 62 01;s 1 02;s 0 03;s 10 04;?;",
+     "kept 1 queued 0 sack 2-3;kept 1 queued 0 sack 2-3,4-5;kept 1 queued 0 sack 2-3,4-5,6-7;kept 1 queued 0 sack 2-3,4-5,6-7;refused too many holes;refused too many holes;kept 1 queued 0 sack 1-3,4-5,6-7;kept 1 queued 3 sack 4-5,6-7,8-9;kept 1 queued 0 sack 4-5,6-7,8-9;next 3 queued 3 window 61 held 4-5,6-7,8-9,10-11;= Ok"),
+    ("stream 8 4",
+     "s 4 6161;s 3 626262;s 5 6363636363;s 0 64646464;s 0 7a;r 8;",
+     "kept 2 queued 0 sack 4-6;kept 3 queued 0 sack 3-6;kept 3 queued 0 sack 3-8;kept 4 queued 8 sack -;kept 0 queued 0 sack -;read 6464646462636363;= Ok"),
+    ("stream 0 4",
+     "s 0 61;r 1;?;",
+     "kept 0 queued 0 sack -;read -;next 0 queued 0 window 0 held -;= Ok"),
+    ("stream 8 4 1000",
+     "s 998 61626364;?;s 1004 78;s 0 61;r 9;",
+     "kept 2 queued 2 sack -;next 1002 queued 2 window 6 held -;kept 1 queued 0 sack 1004-1005;kept 0 queued 0 sack 1004-1005;read 6364;= Ok"),
+    ("stream 8 4 18446744073709551614",
+     "s 18446744073709551614 61;?;s 18446744073709551615 -;s 18446744073709551615 62;",
+     "kept 1 queued 1 sack -;next 18446744073709551615 queued 1 window 7 held -;kept 0 queued 0 sack -;= line 4: range too long"),
+    ("stream 65536 32",
+     "s 1 61;s 3 61;s 5 61;s 7 61;s 9 61;",
+     "kept 1 queued 0 sack 1-2;kept 1 queued 0 sack 1-2,3-4;kept 1 queued 0 sack 1-2,3-4,5-6;kept 1 queued 0 sack 1-2,3-4,5-6;kept 1 queued 0 sack 1-2,3-4,5-6;= Ok"),
+    ("stream 16 4",
+     "s 0 61;s 1 62;s 2 63;--;s 2 63;s 0 6162;",
+     "kept 1 queued 1 sack -;kept 1 queued 1 sack -;kept 1 queued 1 sack -;kept 1 queued 0 sack 2-3;kept 2 queued 3 sack -;same;= Ok"),
+    ("stream 16 4",
+     "s 0 61;s 1 62;s 2 63;--;s 2 63;s 0 6162;--;",
+     "kept 1 queued 1 sack -;kept 1 queued 1 sack -;kept 1 queued 1 sack -;kept 1 queued 0 sack 2-3;kept 2 queued 3 sack -;= line 7: too many schedules"),
+    ("stream 16 4",
+     "s 0 6162;--;s 0 6163;",
+     "kept 2 queued 2 sack -;kept 2 queued 2 sack -;differs;= Ok"),
+    ("stream 16 4",
+     "s 0 61;r 1;--;s 0 61;",
+     "kept 1 queued 1 sack -;read 61;kept 1 queued 1 sack -;differs;= Ok"),
+    ("stream 16 4",
+     "s 2 41;--;s 2 42;",
+     "kept 1 queued 0 sack 2-3;kept 1 queued 0 sack 2-3;same;= Ok"),
+    ("stream 16 4",
+     "--;",
+     "same;= Ok"),
+    ("stream 16 4",
+     "--;q;",
+     "= line 2: bad command"),
+    ("stream 16 4",
+     "s 0 61;--;",
+     "kept 1 queued 1 sack -;differs;= Ok"),
+    ("stream 16 4",
+     "--;q;--;",
+     "= line 2: bad command"),
+    ("stream 16 4",
+     "--;--;q;",
+     "= line 2: too many schedules"),
+    ("stream 8 4 1000",
+     "s 1000 61;--;s 1000 61;",
+     "kept 1 queued 1 sack -;kept 1 queued 1 sack -;same;= Ok"),
+    ("stream 4 4",
+     "--;s 0 6162636465;",
+     "kept 4 queued 4 sack -;differs;= Ok"),
+]
+
+# Lines that are no line of a mode.
+NO_LINES = [
+    ("ring 8", ["w 61\r;", "w  61;", " w 61;", "w 61 ;", "w;", "w ;", "w 6;", "w 6g;", "w\t61;", "r 18446744073709551616;", "r 01;", "r +1;", "r -;", "r 1 2;"]),
+    ("asm 4", ["a 1;", "a 1 2 3;", "x 1 2;", "f 1;", "w 61;"]),
+    ("stream 8 4", ["s 0;", "s 0 6;", "s 18446744073709551616 61;", "s 18446744073709551615 616;", "r -;", "? ;", "---;", "a 0 1;"]),
+]
+
+
+def rows_of(text):
+    """The calls of a row, each with how its reply begins."""
+    for row in text.split("; "):
+        call, _, begins = row.partition(": ") if ": " in row else row.partition(":")
+        name, *numbers = call.split(" ")
+        yield name, [int(number) for number in numbers], begins.strip()
+
+
+def agree(name, found, begins):
+    if not str(found).startswith(begins):
+        raise SystemExit(f"worked row, {name}: expected {begins}, and the model gives {found}")
+
+
+def play(cases, first, subject, text, make):
+    cases.begin(first, subject.show() if hasattr(subject, "show") else "")
+    for name, numbers, begins in rows_of(text):
+        reply = make(name, numbers)
+        agree(f"{first}, {name} {numbers}", reply, begins)
+        cases.add(name, numbers, reply, subject.show() if hasattr(subject, "show") else "")
+
+
 def add(cases):
-    pass
+    for capacity, text in RINGS:
+        subject = ring.Bytes(capacity, 0)
+        play(cases, f"ring {capacity} 0", subject, text, subject.call)
+    for slots, count, text in PACKETS:
+        subject = packets.Packets(slots, count, 0)
+        play(cases, f"packets {slots} {count} 0", subject, text, subject.call)
+    for most, text, runs in ASSEMBLERS:
+        subject = assembler.Assembler(most)
+        fill = "; ".join(f"add {10 * number} 3: ok" for number in range(1, most + 1))
+        text = text.replace("FILL", fill)
+        play(cases, f"assembler {most}", subject, text, lambda name, numbers: getattr(subject, name)(*numbers))
+        agree(text, subject.runs, str(runs))
+    for capacity, first, text in RECEIVERS:
+        subject = receiver.Pair(capacity, 4, first)
+        play(cases, f"receiver {capacity} 4 {first}", subject, text,
+             lambda name, numbers: getattr(subject, name)(*numbers))
+    for seed, text in DRAWS:
+        subject = small.Generator(seed)
+        play(cases, f"rand {seed}", subject, text, lambda name, numbers: getattr(subject, name)())
+    add_values(cases)
+    add_lines(cases)
+
+
+def add_values(cases):
+    cases.begin("times")
+    for own, initial, near, pos in POSITIONS:
+        agree("position", receiver.position_of(own, initial, near), pos)
+        cases.add("SequenceNumber::position", [own, initial, near], pos)
+    for runs, text in SETS:
+        agree("text of a set", assembler.text_of(runs), text)
+    cases.begin("texts")
+    for micros, text in MOMENTS:
+        agree("text", moments.text_of(micros), text)
+        name = "Duration" if micros > moments.LAST else "Instant"
+        cases.add(name, [micros, 9], moments.text(micros, 9))
+
+
+def add_lines(cases):
+    cases.begin("words")
+    for words, lines, written in RUNS:
+        agree(lines, modes.run(words.split(" "), lines), written)
+        cases.note(f"run {words}:{lines}", written)
+    for words, all_lines in NO_LINES:
+        for line in all_lines:
+            agree(line, modes.run(words.split(" "), line), "= line 1: bad command")
+            cases.note(f"run {words}:{line}", "= line 1: bad command")

@@ -6,7 +6,7 @@ use crate::call::{Call, Entry, find};
 use crate::reply::{Part, Reply, allowed};
 use crate::subject::Subject;
 use crate::text::keeps_text;
-use net_storage::{Assembler, TooManyHolesError, Turns};
+use net_assembler::{Assembler, TooManyHolesError, Turns};
 use std::alloc::{AllocError, Global};
 
 /// An assembler, and a clone that was made of it.
@@ -30,7 +30,11 @@ const ADDING: [Entry<Adding>; 4] = [
     ("add", 2, Adding::Add),
     ("add_counted", 2, Adding::AddCounted),
     ("add_then_remove_front", 2, Adding::AddThenRemoveFront),
-    ("add_then_remove_front_counted", 2, Adding::AddThenRemoveFrontCounted),
+    (
+        "add_then_remove_front_counted",
+        2,
+        Adding::AddThenRemoveFrontCounted,
+    ),
 ];
 
 /// Any other call but those of text and clone.
@@ -81,7 +85,12 @@ impl<const N: usize> Pair<N> {
     }
 
     /// Makes a call of the whole.
-    fn make_whole(&mut self, alloc: Global, whole: Whole, width: usize) -> Result<Reply, AllocError> {
+    fn make_whole(
+        &mut self,
+        alloc: Global,
+        whole: Whole,
+        width: usize,
+    ) -> Result<Reply, AllocError> {
         match whole {
             Whole::Clone => {
                 self.kept = self.now.clone()?;
@@ -169,13 +178,13 @@ fn add<const N: usize>(
     }
     match adding {
         Adding::Add => show_added(assembler.add(offset, size)),
-        Adding::AddCounted => {
-            show_added(assembler.add_counted(offset, size, &mut used_turns()))
-        }
+        Adding::AddCounted => { show_added(assembler.add_counted(offset, size, &mut used_turns())) }
         Adding::AddThenRemoveFront => show_front(assembler.add_then_remove_front(offset, size)),
-        Adding::AddThenRemoveFrontCounted => show_front(
-            assembler.add_then_remove_front_counted(offset, size, &mut used_turns()),
-        ),
+        Adding::AddThenRemoveFrontCounted => show_front(assembler.add_then_remove_front_counted(
+            offset,
+            size,
+            &mut used_turns(),
+        )),
     }
 }
 
@@ -204,12 +213,7 @@ fn show_front(front: Result<usize, TooManyHolesError>) -> Reply {
 }
 
 /// Makes a call that adds nothing.
-fn make<const N: usize>(
-    assembler: &mut Assembler<N>,
-    kind: Kind,
-    one: usize,
-    two: usize,
-) -> Reply {
+fn make<const N: usize>(assembler: &mut Assembler<N>, kind: Kind, one: usize, two: usize) -> Reply {
     match kind {
         Kind::RemoveFront => Reply::word("front").count(assembler.remove_front()),
         Kind::RemoveFrontCounted => {

@@ -29,7 +29,12 @@ impl<'a> Call<'a> {
     /// Returns the first four numbers, or 0 in place of those that the call doesn't have.
     pub fn four(&self) -> [u64; 4] {
         let numbers = self.numbers.as_slice();
-        [at(numbers, 0), at(numbers, 1), at(numbers, 2), at(numbers, 3)]
+        [
+            at(numbers, 0),
+            at(numbers, 1),
+            at(numbers, 2),
+            at(numbers, 3),
+        ]
     }
 }
 

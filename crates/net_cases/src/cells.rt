@@ -5,7 +5,7 @@ use crate::bytes::{START, mix};
 use crate::call::{Call, Entry, find};
 use crate::reply::{Part, Reply, allowed};
 use crate::subject::Subject;
-use net_storage::{Empty, Full, Resettable, RingBuffer};
+use net_ring::{Empty, Full, Resettable, RingBuffer};
 use std::alloc::{AllocError, Global};
 
 /// A number that is reset to one more than its double.

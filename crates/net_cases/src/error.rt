@@ -1,8 +1,7 @@
 //! How the program fails.
 use std::alloc::AllocError;
 use std::error::Error;
-use std::fmt;
-use std::io;
+use std::{fmt, io};
 
 /// Why not every line has its reply.
 #[derive(Debug, Drop)]

@@ -5,7 +5,8 @@ use crate::bytes::{fill, low_word, pattern};
 use crate::call::{Call, Entry, find};
 use crate::reply::{Part, Reply, allowed, many, show_and_fill};
 use crate::subject::Subject;
-use net_storage::{Empty, Full, ManagedSlice, PacketBuffer, PacketMetadata};
+use net_packets::{PacketBuffer, PacketMetadata};
+use net_ring::{Empty, Full, ManagedSlice};
 use std::alloc::{AllocError, Global};
 
 /// A queue of packets of its own, whose headers are numbers.
@@ -52,10 +53,7 @@ pub fn packets(alloc: Global, slots: u64, bytes: u64, seed: u64) -> Result<Packe
         empty.push(PacketMetadata::<u32>::EMPTY)?;
     }
     let bytes = pattern(alloc, bytes, seed)?;
-    Ok(PacketBuffer::new(
-        ManagedSlice::from(empty),
-        ManagedSlice::from(bytes),
-    ))
+    Ok(PacketBuffer::new(ManagedSlice::from(empty), ManagedSlice::from(bytes)))
 }
 
 impl Subject for PacketBuffer<'static, u32> {
@@ -92,7 +90,12 @@ fn make(queue: &mut Packets, kind: Kind, [one, two, three, four]: [u64; 4]) -> R
     match kind {
         Kind::Place => place(queue, one as usize, low_word(two), three),
         Kind::Enqueue => enqueue(queue, one as usize, low_word(two), three),
-        Kind::EnqueueWith => enqueue_with(queue, (one as usize, two as usize), low_word(three), four),
+        Kind::EnqueueWith => enqueue_with(
+            queue,
+            (one as usize, two as usize),
+            low_word(three),
+            four,
+        ),
         Kind::LastMut => show_and_fill(queue.last_mut(), one),
         Kind::Peek => peek(queue),
         Kind::Take => take(queue, one),
@@ -210,7 +213,10 @@ fn dequeue_with(queue: &mut Packets, header: u32, seed: u64, takes: bool) -> Rep
 
 fn pop_slice(queue: &mut Packets, into: &mut [u8]) -> Reply {
     match queue.pop_slice(into) {
-        Ok((header, count)) => Reply::new().number(u64::from(header)).count(count).bytes(into),
+        Ok((header, count)) => Reply::new()
+            .number(u64::from(header))
+            .count(count)
+            .bytes(into),
         Err(Empty) => Reply::word("empty"),
     }
 }

@@ -6,8 +6,9 @@ use crate::bytes::{START, mix, mix_bytes, pattern};
 use crate::call::{ANY, Call, Entry, find};
 use crate::reply::{Part, Reply, allowed, many};
 use crate::subject::Subject;
+use net_assembler::TooManyHolesError;
 use net_receiver::{Command, Kept, Receiver, Reply as Given, execute, replay};
-use net_storage::{ManagedSlice, TooManyHolesError};
+use net_ring::ManagedSlice;
 use std::alloc::{AllocError, Global};
 use std::mem;
 
@@ -153,7 +154,11 @@ fn show_held<const N: usize>(receiver: &Receiver<'_, N>, first: u64, reply: Repl
         count = count.saturating_add(1);
         sum = mix(mix(sum, start), end);
     }
-    show_run(receiver.held().next(), first, reply.and(Part::Many(count, sum)))
+    show_run(
+        receiver.held().next(),
+        first,
+        reply.and(Part::Many(count, sum)),
+    )
 }
 
 /// Returns a reply with a run behind it, counted from a first position, if there is one.

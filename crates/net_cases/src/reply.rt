@@ -148,4 +148,3 @@ pub fn show_and_set(place: &mut u8, byte: u8) -> Reply {
 pub fn allowed(fits: bool) -> Reply {
     Reply::word(if fits { "done" } else { "forbidden" })
 }
-

@@ -5,7 +5,7 @@ use crate::bytes::{START, fill, low_byte, mix_bytes, pattern};
 use crate::call::{Call, Entry, find};
 use crate::reply::{Part, Reply, allowed, many, show_and_fill, show_and_set};
 use crate::subject::Subject;
-use net_storage::{Empty, Full, RingBuffer};
+use net_ring::{Empty, Full, RingBuffer};
 use std::alloc::{AllocError, Global};
 
 /// A ring of bytes of its own.
@@ -218,9 +218,7 @@ fn dequeue_many_with(ring: &mut Bytes, size: usize, seed: u64) -> Reply {
 /// Makes a call at an offset, or on the whole ring.
 fn make_look(ring: &mut Bytes, look: Look, offset: usize, size: usize, seed: u64) -> Reply {
     match look {
-        Look::ContiguousAllocated => {
-            Reply::new().count(ring.contiguous_allocated(offset, size))
-        }
+        Look::ContiguousAllocated => { Reply::new().count(ring.contiguous_allocated(offset, size)) }
         Look::GetAllocated => Reply::new().bytes(ring.get_allocated(offset, size)),
         Look::GetAllocatedMut => show_and_fill(ring.get_allocated_mut(offset, size), seed),
         Look::DequeueAllocated => dequeue_allocated(ring, offset),

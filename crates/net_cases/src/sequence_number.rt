@@ -28,7 +28,10 @@ const CALLS: [Entry<Kind>; 6] = [
 /// Makes a call, if it is one of a sequence number.
 pub fn answer(call: &Call<'_>) -> Option<Reply> {
     let [one, two, three, _] = call.four();
-    let (own, other) = (SequenceNumber::new(low_word(one)), SequenceNumber::new(low_word(two)));
+    let (own, other) = (
+        SequenceNumber::new(low_word(one)),
+        SequenceNumber::new(low_word(two)),
+    );
     match find(&CALLS, call)? {
         Kind::At => Some(show(SequenceNumber::at(own, two))),
         Kind::Position => Some(show_position(own.position(other, three))),

@@ -3,7 +3,7 @@ use crate::bytes::{START, low_byte, mix_bytes, pattern};
 use crate::call::{Call, Entry, find};
 use crate::reply::{Part, Reply, allowed, show_and_fill, show_and_set};
 use crate::subject::Subject;
-use net_storage::{Elements, ManagedSlice};
+use net_ring::{Elements, ManagedSlice};
 use std::alloc::{AllocError, Global};
 
 /// Storage of its own.

@@ -3,9 +3,10 @@ use crate::bytes::{START, mix_bytes};
 use crate::call::{Call, Entry, find};
 use crate::reply::{Part, Reply};
 use crate::subject::Subject;
+use net_assembler::TooManyHolesError;
 use net_base::time::{Duration, Instant};
 use net_lines::BenchError;
-use net_storage::{Empty, Full, TooManyHolesError};
+use net_ring::{Empty, Full};
 use std::alloc::{AllocError, Global};
 use std::fmt::Display;
 
@@ -106,18 +107,16 @@ fn show<T: Display>(alloc: Global, value: &T, width: usize) -> Result<Reply, All
 }
 
 /// Returns whether a value has its plain text under each of five options.
-pub fn keeps_text<T: Display>(
-    alloc: Global,
-    value: &T,
-    width: usize,
-) -> Result<bool, AllocError> {
+pub fn keeps_text<T: Display>(alloc: Global, value: &T, width: usize) -> Result<bool, AllocError> {
     let plain = value.to_string(alloc)?;
     let text = plain.as_str();
-    Ok(is_text(format!(in alloc; "{value:width$}"), text)
-        && is_text(format!(in alloc; "{value:>+width$}"), text)
-        && is_text(format!(in alloc; "{value:*^#width$}"), text)
-        && is_text(format!(in alloc; "{value:<0width$}"), text)
-        && is_text(format!(in alloc; "{value:.width$}"), text))
+    Ok(
+        is_text(format!(in alloc; "{value:width$}"), text)
+            && is_text(format!(in alloc; "{value:>+width$}"), text)
+            && is_text(format!(in alloc; "{value:*^#width$}"), text)
+            && is_text(format!(in alloc; "{value:<0width$}"), text)
+            && is_text(format!(in alloc; "{value:.width$}"), text),
+    )
 }
 
 /// Returns whether a text was made, and is this one.

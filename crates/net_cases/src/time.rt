@@ -17,8 +17,16 @@ pub struct Times;
 impl Subject for Times {
     fn answer(&mut self, _: Global, call: &Call<'_>) -> Result<Option<Reply>, AllocError> {
         let reply = instant::answer(call);
-        let reply = if reply.is_none() { duration::answer(call) } else { reply };
-        let reply = if reply.is_none() { sequence_number::answer(call) } else { reply };
+        let reply = if reply.is_none() {
+            duration::answer(call)
+        } else {
+            reply
+        };
+        let reply = if reply.is_none() {
+            sequence_number::answer(call)
+        } else {
+            reply
+        };
         Ok(reply)
     }
 

@@ -53,12 +53,7 @@ fn answer_run(alloc: Global, rest: &str, reply: &mut String) -> Result<bool, All
 }
 
 /// Executes lines in a mode.
-fn run_lines(
-    alloc: Global,
-    mode: Mode,
-    lines: &str,
-    reply: &mut String,
-) -> Result<(), AllocError> {
+fn run_lines(alloc: Global, mode: Mode, lines: &str, reply: &mut String) -> Result<(), AllocError> {
     let mut input = Vec::from_slice(alloc, lines.as_bytes())?;
     exchange(&mut input, b';', b'\n');
     let mut output: Vec<u8> = Vec::new(alloc);

@@ -67,7 +67,10 @@ enum Two {
 }
 
 /// The calls on two moments.
-const TWO: [Entry<Two>; 2] = [("Instant::since", 2, Two::Since), ("Instant::cmp", 2, Two::Cmp)];
+const TWO: [Entry<Two>; 2] = [
+    ("Instant::since", 2, Two::Since),
+    ("Instant::cmp", 2, Two::Cmp),
+];
 
 /// Makes a call, if it is one of a moment.
 pub fn answer(call: &Call<'_>) -> Option<Reply> {
