@@ -23,7 +23,7 @@ use Rattle.net_stream.proofs.GivesUp.{gives_up_after}
 use Rattle.net_stream.proofs.StuckRounds.{numbers, Stays, fed_stays, pass_stays, all_stays, passes_before, stuck_turn, leaves, sends, writes, left, kept, fed}
 
 -- what is true where a copy ends so, is true from then on
-at_end : (s : Setup) (reads : List (List ℕ)) (Q : CopyState → Type 0) (last : Status) → (last ≡ Running → ⊥) →
+pub at_end : (s : Setup) (reads : List (List ℕ)) (Q : CopyState → Type 0) (last : Status) → (last ≡ Running → ⊥) →
     ((n : ℕ) → (after s reads n).status ≡ Running → (after s reads (suc n)).status ≡ last → Q (after s reads (suc n))) →
     (n : ℕ) → (after s reads n).status ≡ last → Q (after s reads n)
 at_end s reads Q last over one zero is = absurd (over (sym is))
@@ -222,7 +222,7 @@ fed_few chunk c = by (feeds chunk c)
         omega (arith, length-append c.given q, length-take (room_for chunk c.link) (x ∷ xs))
 
 -- the last one gave none
-done_none : (rounds chunk : ℕ) (c : CopyState) → c.status ≡ Running → (turn rounds chunk c).status ≡ Done →
+pub done_none : (rounds chunk : ℕ) (c : CopyState) → c.status ≡ Running → (turn rounds chunk c).status ≡ Done →
     (length (turn rounds chunk c).given ≡ length c.given) × ((turn rounds chunk c).rounds ≡ c.rounds)
 done_none rounds chunk c on done = by (turns rounds chunk c on)
   where

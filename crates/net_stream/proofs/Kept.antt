@@ -46,7 +46,7 @@ module _ (known : Known) (f : ℕ) (w : List ℕ) where
   same_tests [] q = refl
   same_tests (k ∷ ks) q = λ i. unsigned_tied q k i || same_tests ks q i
 
-  held_within : (r : Stored) (p : ℕ) → ReceivesFrom f w r → contains (domain r.held) p ≡ true → p < f + length w
+  pub held_within : (r : Stored) (p : ℕ) → ReceivesFrom f w r → contains (domain r.held) p ≡ true → p < f + length w
   held_within r p h is = here (fin.get r.held p) refl
     where
       here : (o : Option ℕ) → fin.get r.held p ≡ o → p < f + length w

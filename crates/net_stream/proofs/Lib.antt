@@ -28,6 +28,7 @@ pub mod StuckRounds
 pub mod Failed
 pub mod CountedTurns
 pub mod Brings
+pub mod Exact
 pub mod Sizes
 pub mod Fuel
 pub mod Filling

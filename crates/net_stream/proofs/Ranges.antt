@@ -98,7 +98,7 @@ same_tests : (ks : List ℕ) (q : ℕ) → list_any (eq_by_cmp nat_cmp q) ks ≡
 same_tests [] q = refl
 same_tests (k ∷ ks) q = λ i. unsigned_tied q k i || same_tests ks q i
 
-contains_held : MembersOfList → (m : HeldBytes) (q : ℕ) → contains (domain m) q ≡ fin.contains_key m q
+pub contains_held : MembersOfList → (m : HeldBytes) (q : ℕ) → contains (domain m) q ≡ fin.contains_key m q
 contains_held members m q = members (fin.keys m) q ∙ sym (fin.contains_key-keys m q ∙ same_tests (fin.keys m) q)
 
 -- the runs that a receiver reports are of what it holds

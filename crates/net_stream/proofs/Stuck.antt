@@ -158,7 +158,7 @@ module _ (numbers : Numbers) where
       further n e l l1 m k a b c d h = omega arith
 
 -- ---- a sender never goes back
-base_grows : (s : Outgoing) (o : Option (ℕ × List ℕ)) → s.base ≤ (after_ack_frame s o).base
+pub base_grows : (s : Outgoing) (o : Option (ℕ × List ℕ)) → s.base ≤ (after_ack_frame s o).base
 base_grows s None = omega arith
 base_grows s (Some (n, xs)) =
     ⊎_elim {C = s.base ≤ (after_ack_frame s (Some (n, xs))).base}

@@ -15,6 +15,7 @@
 --     EndsIfAllCome      over a link that loses and delays nothing it doesn't give up
 --     CountsRounds, CountsEachFate      what the counts of rounds and of frames are
 --     GivesUpCounted, EnoughFailed, Unfinished      what a copy that gives up counts
+--     HasRoomAtOnce s, ExactRounds      the number of rounds where all comes at once
 --     EnoughRounds, RoundsAtOnce      bounds where it is done, and where nothing is lost or late
 --     FewRounds, FewRoundsAnyway, FewFrames      bounds
 --     RoundKeeps, FewLate      how much is late after a round
@@ -29,6 +30,7 @@ use Rattle.net_stream.specs.LinkState.{LinkState, transmit, late_frames, pass_fr
 use Rattle.net_stream.specs.CopyState.{Setup, CopyState, Running, Done, GaveUp, feed, waited, while_running}
 use Rattle.net_stream.specs.CopyState.{is_written, room_for, after, outcome, copied}
 use Rattle.net_stream.specs.Rounds.{CountsFates}
+use Rattle.net_stream.specs.Sending.{at_least_one}
 use Rattle.net_stream.specs.Stuck.{FatesFail}
 
 abbrev pub StartsFits : Setup → Type 0
@@ -148,6 +150,23 @@ abbrev pub EnoughRounds : Type 0
 EnoughRounds = (s : Setup) (reads : List (List ℕ)) (n : ℕ) → StartsFits s →
     (after s reads n).status ≡ Done →
     length (after s reads n).given ≤ (after s reads n).rounds * s.chunk
+
+-- the most bytes of a read, for which a round has room
+abbrev pub most_read : Setup → ℕ
+most_read s = min s.outgoing s.chunk
+
+pub record HasRoomAtOnce (s : Setup) : Type 0 where
+  pub some : 0 < most_read s
+  pub incoming : most_read s ≤ s.incoming
+  pub frames : most_read s ≤ at_least_one s.flight * at_least_one s.payload
+
+-- over such a link that loses and delays nothing, for a reader that gives all that there is room for, a
+-- copy makes as many rounds as such reads have the bytes
+abbrev pub ExactRounds : Type 0
+ExactRounds = (s : Setup) (bytes : List ℕ) (n : ℕ) → HasRoomAtOnce s →
+    s.first + length bytes < 2 ^ 64 - 1 → AllCome s.fates → AllCome s.ack_fates →
+    let c = after s (bytes ∷ [] ∷ []) n in c.status ≡ Done →
+    (length bytes ≤ c.rounds * most_read s) × (c.rounds * most_read s < length bytes + most_read s)
 
 -- over a link that loses and delays nothing each round writes some
 abbrev pub RoundsAtOnce : Type 0

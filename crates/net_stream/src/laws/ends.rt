@@ -2,7 +2,7 @@
 ghost use Rattle.net_stream.specs.Promises.{GivesUpAfter, NeverLater, GivesUpIfFailed};
 ghost use Rattle.net_stream.specs.Promises.{NeverByDelays, EndsIfAllCome, FewRounds};
 ghost use Rattle.net_stream.specs.Promises.{CountsRounds, CountsEachFate, GivesUpCounted, EnoughFailed};
-ghost use Rattle.net_stream.specs.Promises.{Unfinished, EnoughRounds, RoundsAtOnce};
+ghost use Rattle.net_stream.specs.Promises.{Unfinished, EnoughRounds, RoundsAtOnce, ExactRounds};
 ghost use Rattle.net_stream.specs.Links.{RoundBrings};
 ghost use Rattle.net_stream.specs.Stuck.{KnownOfRounds};
 
@@ -75,10 +75,12 @@ pub fn gives_up_counted()
 }
 
 /// A copy that is done read no more than a chunk a round; over a link that loses and delays nothing
-/// each round wrote some bytes.
+/// each round wrote some bytes. If a round has room for what a read gives, and each read fills its
+/// room, a copy makes as many rounds as reads (`exact`).
 pub fn enough_rounds()
     ensures least { EnoughRounds }
     ensures at_once { RoundsAtOnce }
+    ensures exact { ExactRounds }
 {
     known_of_rounds();
 }
