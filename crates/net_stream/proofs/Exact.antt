@@ -3,7 +3,7 @@ use Rattle.std.proofs.Common.{◌≡◌, ℕ, suc, ◌+◌, ◌-◌, ◌*◌, �
 use Rattle.std.proofs.lemmas.Bool.{both_ways, cond-true, and_from, le-leb, cases_lt, cond-false, eq-eqb, lt-ltb, le-ltb}
 use Rattle.std.proofs.lemmas.List.Elements.{All-head, All-tail}
 use Rattle.std.proofs.lemmas.List.{append-nil}
-use Rattle.net_storage.specs.Positions.{IsMaximalRun, maximal_runs}
+use Rattle.net_assembler.specs.Positions.{IsMaximalRun, maximal_runs}
 use Rattle.net_receiver.specs.Stored.{Stored, IsSound, stored_next, domain}
 use Rattle.net_receiver.specs.OneStream.{ReceivesFrom}
 use Rattle.net_stream.specs.Outgoing.{Outgoing, end_of, row_end, sender_from}
