@@ -1,5 +1,5 @@
 -- What a copy has written is a prefix of what it has read.
-use Rattle.std.proofs.Common.{◌≡◌, ◌⊎◌, ℕ, ◌+◌, ◌-◌, ◌≤◌, ◌<◌, ◌^◌, min, Bool, true, false, nat_lt, Option, Result, Ok, Err, List, [], ◌∷◌, ◌++◌, length, take, drop, refl, sym, ap, subst, ◌∙◌, arith, ⊎_elim, append_assoc, length-take, length-append}
+use Rattle.std.proofs.Common.{◌≡◌, ℕ, ◌-◌, ◌^◌, min, Bool, true, false, nat_lt, Option, Result, Ok, Err, List, [], ◌∷◌, ◌++◌, length, take, drop, refl, sym, ap, subst, ◌∙◌, arith, ⊎_elim, append_assoc, length-append}
 use Rattle.std.specs.Io.KnownBytes.{Appends, Consumes, IsAtEnd}
 use Rattle.std.specs.Result.{is_ok}
 use Rattle.std.proofs.lemmas.Bool.{both_ways, ltb-false}
@@ -7,14 +7,14 @@ use Rattle.std.proofs.lemmas.List.{append-nil, take-append-drop, take_all}
 use Rattle.net_stream.specs.declared.counts.Counts.{Counts}
 use Rattle.net_stream.specs.declared.error.LinkError.{LinkError}
 use Rattle.net_stream.specs.declared.error.LinkError.TheVariants as errors
-use Rattle.net_stream.specs.LinkState.{LinkState, round}
-use Rattle.net_stream.specs.CopyState.{Setup, CopyState, Status, Done, GaveUp, ReadFailed, Outcome, begin, after, concat, feed, decide, pass, rest_of, read_of, room_for, waited, while_running}
+use Rattle.net_stream.specs.LinkState.{LinkState}
+use Rattle.net_stream.specs.CopyState.{Setup, CopyState, Status, Done, GaveUp, ReadFailed, Outcome, begin, after, concat, feed, decide, pass, rest_of, read_of, room_for, while_running}
 use Rattle.net_stream.specs.Copying.{before_pass, EndsRound, Copied, CopiedPart, HasCopied, HasNotBegun, Copies}
 use Rattle.net_stream.specs.Promises.{StartsFits}
 use Rattle.net_stream.specs.Streams.{Known, Writes}
 use Rattle.net_stream.proofs.Kept.{split}
 use Rattle.net_stream.proofs.Turns.{while, feeds, decides, all_turned}
-use Rattle.net_stream.proofs.Prefix.{SoFar, so_far, fed_so_far, decided_so_far, passed_so_far, pass_writes, all_written, starts_with}
+use Rattle.net_stream.proofs.Prefix.{SoFar, so_far, fed_so_far, decided_so_far, pass_writes, all_written, starts_with}
 
 module _ (reads : List (List ℕ)) where
   -- what was read, and what later reads give

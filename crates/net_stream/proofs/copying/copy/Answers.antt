@@ -1,4 +1,4 @@
-use Rattle.std.proofs.Common.{◌≡◌, length, ap, subst, ◌∙◌, inl, inr}
+use Rattle.std.proofs.Common.{length, ap, subst, ◌∙◌, inl, inr}
 use Rattle.net_stream.specs.CopyState.{Setup, setup_over}
 use Rattle.net_stream.specs.Copying.{HasCopied}
 use Rattle.net_stream.proofs.Copied.{not_begun}

@@ -1,4 +1,4 @@
-use Rattle.std.proofs.Common.{rules, ◌≡◌, ◌≤◌, refl, sym, ap, subst, ◌∙◌, arith}
+use Rattle.std.proofs.Common.{rules, refl, sym, ap, subst, ◌∙◌, arith}
 use Rattle.net_stream.specs.LinkState.{LinkState, next_flight, late_frames, pass_frames, acknowledge_all, late_acks, pass_acks, with_flight, round, StopsRound}
 use Rattle.net_stream.specs.Links.{Carries}
 use Rattle.net_stream.proofs.Kept.{round_carries, stop_carries}
