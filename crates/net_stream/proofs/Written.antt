@@ -1,5 +1,5 @@
 -- What a copy has written is a prefix of what it has read.
-use Rattle.std.proofs.Common.{◌≡◌, ℕ, ◌-◌, ◌^◌, min, Bool, true, false, nat_lt, Option, Result, Ok, Err, List, [], ◌∷◌, ◌++◌, length, take, drop, refl, sym, ap, subst, ◌∙◌, arith, ⊎_elim, append_assoc, length-append}
+use Rattle.std.proofs.Common.{◌≡◌, ℕ, ◌-◌, ◌^◌, min, Bool, true, false, nat_lt, Option, Result, Ok, Err, List, [], ◌∷◌, ◌++◌, length, take, drop, refl, sym, ap, subst, ◌∙◌, arith, ⊎_elim, append_assoc, length-append, ◌<◌, ◌≤◌, ◌+◌, IfErr, ◌⊎◌}
 use Rattle.std.specs.Io.KnownBytes.{Appends, Consumes, IsAtEnd}
 use Rattle.std.specs.Result.{is_ok}
 use Rattle.std.proofs.lemmas.Bool.{both_ways, ltb-false}
@@ -8,9 +8,12 @@ use Rattle.net_stream.specs.declared.counts.Counts.{Counts}
 use Rattle.net_stream.specs.declared.error.LinkError.{LinkError}
 use Rattle.net_stream.specs.declared.error.LinkError.TheVariants as errors
 use Rattle.net_stream.specs.LinkState.{LinkState}
-use Rattle.net_stream.specs.CopyState.{Setup, CopyState, Status, Done, GaveUp, ReadFailed, Outcome, begin, after, concat, feed, decide, pass, rest_of, read_of, room_for, while_running}
-use Rattle.net_stream.specs.Copying.{before_pass, EndsRound, Copied, CopiedPart, HasCopied, HasNotBegun, Copies}
-use Rattle.net_stream.specs.Promises.{StartsFits}
+use Rattle.net_stream.specs.declared.copying.Config.{Config}
+use Rattle.net_stream.specs.Fates.{FatesSeen}
+use Rattle.net_stream.specs.CopyState.{setup_of, Setup, CopyState, Status, Done, GaveUp, ReadFailed, Outcome, begin, after, concat, feed, decide, pass, rest_of, read_of, room_for, while_running}
+use Rattle.net_stream.specs.Copying.{before_pass, EndsRound, Copied, CopiedPart, HasCopied, HasNotBegun, Copies, HasPositions, gave_up}
+use Rattle.net_stream.specs.declared.counts.FrameCounts.{FrameCounts}
+use Rattle.net_stream.specs.Promises.{StartsFits, EnoughFailed}
 use Rattle.net_stream.specs.Streams.{Known, Writes}
 use Rattle.net_stream.proofs.Kept.{split}
 use Rattle.net_stream.proofs.Turns.{while, feeds, decides, all_turned}
@@ -151,3 +154,32 @@ unbegun r had has held holds counts p = record {
   bytes = sym (ap (λ (n : Counts). n.bytes) p.3);
   whole = λ e. absurd (both_ways (is_ok r) (ap is_ok p.0) e);
 }
+
+-- a copy that gave up counted a failure for each of its last rounds
+abbrev Enough : ℕ → ℕ → ℕ → Counts → LinkError → Type 0
+Enough first cap rounds counts e = gave_up e ≡ true → HasPositions first counts.taken → 0 < cap →
+    (rounds ≤ counts.frames.lost + counts.frames.late) × (rounds ≤ counts.frames.lost + 1)
+
+module _ (law : EnoughFailed) (config : Config) (fates ack_fates : FatesSeen) (word : config.rounds < 2 ^ 64) where
+  enough_of : {T : Type 0} (r : Result T LinkError) (had has held holds : Option (List ℕ)) (counts : Counts) →
+      HasCopied (setup_of config fates ack_fates) r had has held holds counts → IfErr r (Enough config.first config.capacity config.rounds counts)
+  enough_of (Ok t) had has held holds counts p = tt
+  enough_of (Err errors.GaveUp) had has held holds counts p = λ _ left some.
+      let s = setup_of config fates ack_fates in
+      let c = after s p.reads p.turns in
+      let taken : min (length c.given) (2 ^ 64 - 1) ≡ counts.taken = ap (λ (o : Outcome). o.counts.taken) p.ends in
+      subst (λ (f : FrameCounts). (config.rounds ≤ f.lost + f.late) × (config.rounds ≤ f.lost + 1)) (ap (λ (o : Outcome). o.counts.frames) p.ends)
+      (law s p.reads p.turns (record { outgoing = some; incoming = some; chunk = some; positions = omega (arith, taken, left) }) word
+      (ap (λ (o : Outcome). o.status) p.ends))
+  enough_of (Err errors.ReadFailed) had has held holds counts p = λ e. absurd (both_ways false refl e)
+  enough_of (Err errors.OutOfMemory) had has held holds counts p = λ e. absurd (both_ways false refl e)
+  enough_of (Err errors.WriteFailed) had has held holds counts p = λ e. absurd (both_ways false refl e)
+
+  pub enough : {T : Type 0} (r : Result T LinkError) (had has held holds : Option (List ℕ)) (counts : Counts) →
+      HasCopied (setup_of config fates ack_fates) r had has held holds counts ⊎ HasNotBegun r had has held holds counts →
+      IfErr r (Enough config.first config.capacity config.rounds counts)
+  enough r had has held holds counts p = ⊎_elim {C = IfErr r (Enough config.first config.capacity config.rounds counts)}
+      (λ (q : HasCopied (setup_of config fates ack_fates) r had has held holds counts). enough_of r had has held holds counts q)
+      (λ (q : HasNotBegun r had has held holds counts). subst (λ k. IfErr k (Enough config.first config.capacity config.rounds counts)) (sym q.0)
+      (λ e. absurd (both_ways false refl e)))
+      p

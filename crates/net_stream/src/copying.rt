@@ -1,8 +1,8 @@
 //! From a reader over a link to a writer.
-ghost use Rattle.std.specs.Prelude.{◌≡◌, ◌⊎◌, length, IfOk};
+ghost use Rattle.std.specs.Prelude.{◌≡◌, ◌⊎◌, ◌+◌, ◌<◌, ◌≤◌, length, true, IfOk, IfErr};
 ghost use Rattle.std.specs.Result.{is_ok};
 ghost use Rattle.net_stream.specs.CopyState.{setup_over, setup_of};
-ghost use Rattle.net_stream.specs.Copying.{HasCopied, HasNotBegun, Copies};
+ghost use Rattle.net_stream.specs.Copying.{HasPositions, gave_up, HasCopied, HasNotBegun, Copies};
 
 use crate::copier::Copier;
 use crate::counts::Counts;
@@ -125,7 +125,12 @@ pub fn copy<'f, A: Allocator + Copy, R: Read, W: Write>(
     ensures copied { Copies (R.remaining reader.old) (R.remaining reader.new)
         (W.contents writer.old) (W.contents writer.new)
         counts.new.taken counts.new.bytes (is_ok result) }
+    ensures gave_up { IfErr result (λ e. gave_up e ≡ true
+        → HasPositions config.first counts.new.taken → 0 < config.capacity
+        → (config.rounds ≤ counts.new.frames.lost + counts.new.frames.late)
+        × (config.rounds ≤ counts.new.frames.lost + 1)) }
 {
+    laws::gives_up_counted();
     let Ok(mut storage) = storage_of(alloc, config.capacity) else {
         *counts = Counts::new();
         return flush_after(Err(LinkError::OutOfMemory), LinkError::WriteFailed, writer);

@@ -1,8 +1,8 @@
-use Rattle.std.proofs.Common.{length, ap, subst, ◌∙◌, inl, inr}
+use Rattle.std.proofs.Common.{length, ap, subst, ◌∙◌, arith, inl, inr}
 use Rattle.net_stream.specs.CopyState.{Setup, setup_over}
 use Rattle.net_stream.specs.Copying.{HasCopied}
 use Rattle.net_stream.proofs.Copied.{not_begun}
-use Rattle.net_stream.proofs.Written.{unbegun}
+use Rattle.net_stream.proofs.Written.{enough, unbegun}
 use Rattle.net_stream.proofs.copying.copy.Goals as goal
 
 pub returns-in_default-clause-exact : goal.returns-in_default-clause-exact
@@ -24,3 +24,13 @@ returns-clause-exact g c =
     (g.W.Write.contents c.args.writer.now) (g.W.Write.contents c.copy_over.new.writer) c.copy_over.new.counts)
     (λ i. setup_over c.args.config (outgoing i) (incoming i) (chunk i) c.args.fates.frames c.args.fates.acks)
     c.copy_over.ensures.exact)
+
+pub returns-clause-gave_up : goal.returns-clause-gave_up
+returns-clause-gave_up g c = enough c.gives_up_counted.ensures.failed c.args.config c.args.fates.frames c.args.fates.acks (omega arith) c.copy_over.result
+    (g.R.Read.remaining c.args.reader.now) (g.R.Read.remaining c.copy_over.new.reader) (g.W.Write.contents c.args.writer.now)
+    (g.W.Write.contents c.copy_over.new.writer) c.copy_over.new.counts (returns-clause-exact g c)
+
+pub returns-in_default-clause-gave_up : goal.returns-in_default-clause-gave_up
+returns-in_default-clause-gave_up g c = enough c.gives_up_counted.ensures.failed c.args.config c.args.fates.frames c.args.fates.acks (omega arith)
+    c.flush_after.result (g.R.Read.remaining c.args.reader.now) (g.R.Read.remaining c.args.reader.now) (g.W.Write.contents c.args.writer.now)
+    (g.W.Write.contents c.flush_after.new.writer) c.new.result (returns-in_default-clause-exact g c)
