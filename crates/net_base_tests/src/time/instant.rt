@@ -35,9 +35,9 @@ fn prints_each_fraction_and_each_size(rt: HostRuntime) -> Result<(), AllocError>
             "at {millis} milliseconds"
         );
     }
-    for micros in (0..100_000_000i64).step_by(99_991) {
+    for secs in -110..=110i64 {
+        let micros = secs.saturating_mul(1_003_000);
         assert!(rt; prints(rt.alloc(), micros)?, "at {micros}");
-        assert!(rt; prints(rt.alloc(), -micros)?, "at -{micros}");
     }
     for digits in 0..64u32 {
         let micros = i64::MAX >> digits;
