@@ -19,7 +19,7 @@ use Rattle.net_stream.specs.LinkState.{LinkState, round}
 use Rattle.net_stream.specs.Stuck.{KnownOfRounds}
 use Rattle.net_stream.proofs.Kept.{split, at_parts, round_carries}
 use Rattle.net_stream.proofs.Meeting.{brought_append}
-use Rattle.net_stream.proofs.Moved.{queue_from}
+use Rattle.net_stream.proofs.Queue.{queue_from}
 use Rattle.net_stream.proofs.Passed.{round_sends}
 use Rattle.net_stream.proofs.Reached.{says_ends, reach_cases, brought, no_gap, sent_reaches, first_is}
 use Rattle.net_stream.proofs.RoundCount.{coming_all, base_meets}

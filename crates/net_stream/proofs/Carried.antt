@@ -1,7 +1,7 @@
 -- What a stream on its way stays, step by step.
-use Rattle.std.proofs.Common.{◌≡◌, ℕ, ◌≤◌, ◌<◌, ◌^◌, ◌&&◌, nat_le, Bool, true, false, cond, Result}
-use Rattle.std.proofs.Common.{Ok, Err, OnOk, OnErr, List, [], ◌∷◌, ◌++◌, All, Option, Some, refl}
-use Rattle.std.proofs.Common.{sym, ap, subst, ◌∙◌, ⊎_elim, le_trans, arith}
+use Rattle.std.proofs.Common.{◌≡◌, ℕ, ◌≤◌, ◌<◌, ◌^◌, ◌&&◌, nat_le, Bool, true, false, cond}
+use Rattle.std.proofs.Common.{List, [], ◌∷◌, ◌++◌, All, Option, Some, refl}
+use Rattle.std.proofs.Common.{sym, ap, subst, ◌∙◌, le_trans, arith}
 use Rattle.std.proofs.lemmas.Bool.{both_ways}
 use Rattle.std.proofs.lemmas.List.Elements.{All-nil, All-cons, All-head, All-tail}
 use Rattle.net_receiver.specs.Stored.{Stored, stored_next}
@@ -11,7 +11,7 @@ use Rattle.net_stream.specs.Outgoing.{Outgoing, sender_from, Sends, after_ack, e
 use Rattle.net_stream.specs.Frames.{frame_of, segment_of, FramesDecode, FrameSays}
 use Rattle.net_stream.specs.Reported.{most_reported, ranges_of}
 use Rattle.net_stream.specs.Fates.{FatesSeen}
-use Rattle.net_stream.specs.Carrying.{PathSeen, IsUnderWay, HasRanges, FrameTells, MayComeLate}
+use Rattle.net_stream.specs.Carrying.{PathSeen, IsUnderWay, HasRanges, FrameTells}
 
 -- ---- lists
 pub All-push : {X : Type 0} (P : X → Type 0) (xs : List X) (y : X) → All P xs → P y → All P (xs ++ y ∷ [])
@@ -129,11 +129,6 @@ sent_says f w s r there there' back pos xs trip word is says c =
     (All-push (FrameSays f w) there.ahead (frame_of pos xs) all (encoded trip f w pos xs word says)))
     (subst (All (FrameSays f w)) (sym (ap (λ p. p.late) is))) c
 
--- whether a call returned Ok or not
-pub either : {T E : Type 0} {A B : Type 0} (P : Type 0) (r : Result T E) → OnOk r A → OnErr r B → (A → P) → (B → P) → P
-either P (Ok t) a b f h = f a
-either P (Err e) a b f h = h b
-
 -- ---- the sender took an acknowledgement
 no_further : (v : Outgoing) (n : ℕ) (ranges : List (ℕ × ℕ)) (limit : ℕ) → v.base ≤ limit → n ≤ limit → (after_ack v n ranges).base ≤ limit
 no_further v n ranges limit h k = both (nat_le v.base n && nat_le n (end_of v))
@@ -173,22 +168,6 @@ rest_of P x old left new is same all =
     let both = subst (All P) is all in
     (All-head P x left both, subst (All P) (sym same) (All-tail P x left both))
 
--- it met its fate, and may be among the late ones
-may_return : (P : List ℕ → Type 0) (frame : List ℕ) (old new : PathSeen) → P frame → MayComeLate frame old new →
-    (All P old.ahead → All P new.ahead) × (All P old.late → All P new.late)
-may_return P frame old new one again =
-    ⊎_elim {C = (All P old.ahead → All P new.ahead) × (All P old.late → All P new.late)}
-    (λ (e : new ≡ old). (subst (All P) (sym (ap (λ p. p.ahead) e)), subst (All P) (sym (ap (λ p. p.late) e))))
-    (λ (e : new ≡ record old { late = old.late ++ frame ∷ [] }). (
-      subst (All P) (sym (ap (λ p. p.ahead) e)),
-      λ all. subst (All P) (sym (ap (λ p. p.late) e)) (All-push P old.late frame all one),
-    ))
-    again
-
--- the first frame of a path, as the token tells it
-pub first_ahead : (t0 t1 : PathSeen) (x frame : List ℕ) → t0 ≡ record t1 { ahead = x ∷ t1.ahead } → frame ≡ x → t0 ≡ record t1 { ahead = frame ∷ t1.ahead }
-first_ahead t0 t1 x frame first is = first ∙ ap (λ y. record t1 { ahead = y ∷ t1.ahead }) (sym is)
-
 pub first_late : (t0 t1 : PathSeen) (x frame : List ℕ) → t0 ≡ record t1 { late = x ∷ t1.late } → frame ≡ x → t0 ≡ record t1 { late = frame ∷ t1.late }
 first_late t0 t1 x frame first is = first ∙ ap (λ y. record t1 { late = y ∷ t1.late }) (sym is)
 
@@ -200,38 +179,3 @@ before f w s r t0 t1 t2 back frame left first drawn c =
     let rest = rest_of (FrameSays f w) frame t0.ahead t1.ahead t2.ahead (ap (λ p. p.ahead) first) (ap (λ p. p.ahead) drawn) c.coming in
     let late : t0.late ≡ t2.late = ap (λ p. p.late) first ∙ sym (ap (λ p. p.late) drawn) in
     (rest.0, coming_are f w s r t0 t2 back (λ _ _. rest.1) (subst (All (FrameSays f w)) late) c)
-
--- of the frames: t0 had it first, t1 has it no more, t2 has drawn its fate, and t3 may have it among the late ones
-pub frame_met : (f : ℕ) (w : List ℕ) (s : Outgoing) (r u : Stored) (t0 t1 t2 t3 back back' : PathSeen) (frame : List ℕ) (left : FatesSeen) →
-    t0 ≡ record t1 { ahead = frame ∷ t1.ahead } → t2 ≡ record t1 { fates = left } → MayComeLate frame t2 t3 →
-    (FrameSays f w frame → IsUnderWay f w s r t2 back → IsUnderWay f w s u t2 back') → IsUnderWay f w s r t0 back → IsUnderWay f w s u t3 back'
-frame_met f w s r u t0 t1 t2 t3 back back' frame left first drawn again met c =
-    let here = before f w s r t0 t1 t2 back frame left first drawn c in
-    let back_there = may_return (FrameSays f w) frame t2 t3 here.0 again in
-    coming_are f w s u t2 t3 back' (λ _. back_there.0) back_there.1 (met here.0 here.1)
-
--- the same of the acknowledgements
-pub ack_met : (f : ℕ) (w : List ℕ) (s t : Outgoing) (r : Stored) (there b0 b1 b2 b3 : PathSeen) (frame : List ℕ) (left : FatesSeen) →
-    b0 ≡ record b1 { ahead = frame ∷ b1.ahead } → b2 ≡ record b1 { fates = left } → MayComeLate frame b2 b3 →
-    (FrameTells r frame → IsUnderWay f w s r there b2 → IsUnderWay f w t r there b2) → IsUnderWay f w s r there b0 → IsUnderWay f w t r there b3
-ack_met f w s t r there b0 b1 b2 b3 frame left first drawn again met c =
-    let rest = rest_of (FrameTells r) frame b0.ahead b1.ahead b2.ahead (ap (λ p. p.ahead) first) (ap (λ p. p.ahead) drawn) c.going_back in
-    let late : b0.late ≡ b2.late = ap (λ p. p.late) first ∙ sym (ap (λ p. p.late) drawn) in
-    let here = going_are f w s r there b0 b2 (λ _. rest.1) (subst (All (FrameTells r)) late) c in
-    let back_there = may_return (FrameTells r) frame b2 b3 rest.0 again in
-    going_are f w t r there b2 b3 back_there.0 back_there.1 (met rest.0 here)
-
--- a late frame was taken
-pub late_met : (f : ℕ) (w : List ℕ) (s : Outgoing) (r u : Stored) (t0 t1 back back' : PathSeen) (frame : List ℕ) →
-    t0 ≡ record t1 { late = frame ∷ t1.late } →
-    (FrameSays f w frame → IsUnderWay f w s r t1 back → IsUnderWay f w s u t1 back') → IsUnderWay f w s r t0 back → IsUnderWay f w s u t1 back'
-late_met f w s r u t0 t1 back back' frame first met c =
-    let rest = rest_of (FrameSays f w) frame t0.late t1.late t1.late (ap (λ p. p.late) first) refl c.late in
-    met rest.0 (coming_are f w s r t0 t1 back (λ _. subst (All (FrameSays f w)) (ap (λ p. p.ahead) first)) (λ _. rest.1) c)
-
-pub late_ack_met : (f : ℕ) (w : List ℕ) (s t : Outgoing) (r : Stored) (there b0 b1 : PathSeen) (frame : List ℕ) →
-    b0 ≡ record b1 { late = frame ∷ b1.late } →
-    (FrameTells r frame → IsUnderWay f w s r there b1 → IsUnderWay f w t r there b1) → IsUnderWay f w s r there b0 → IsUnderWay f w t r there b1
-late_ack_met f w s t r there b0 b1 frame first met c =
-    let rest = rest_of (FrameTells r) frame b0.late b1.late b1.late (ap (λ p. p.late) first) refl c.late_back in
-    met rest.0 (going_are f w s r there b0 b1 (subst (All (FrameTells r)) (ap (λ p. p.ahead) first)) (λ _. rest.1) c)

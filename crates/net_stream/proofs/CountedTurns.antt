@@ -10,7 +10,7 @@ use Rattle.net_stream.specs.CopyState.{Setup, CopyState, Status, Running, Done, 
 use Rattle.net_stream.specs.Stuck.{failures, losses, IsDue, IsStuck, KnownOfRounds}
 use Rattle.net_stream.specs.Promises.{frames_sent, acks_sent, StartsFits, CanPass, CountsRounds, CountsEachFate, GivesUpCounted, EnoughFailed, Unfinished, EnoughRounds, RoundsAtOnce}
 use Rattle.net_stream.proofs.Drawn.{round_met, met_so_far}
-use Rattle.net_stream.proofs.Moved.{queue_from}
+use Rattle.net_stream.proofs.Queue.{queue_from}
 use Rattle.net_stream.proofs.Reached.{first_is}
 use Rattle.net_stream.proofs.Stuck.{due_kept, all_after, round_moves}
 use Rattle.net_stream.proofs.RoundCount.{round_at_once, more_taken}

@@ -10,7 +10,7 @@ use Rattle.net_stream.specs.Counting.{with_fate, with_fates, SameButRefused, wit
 use Rattle.net_stream.specs.LinkState.{LinkState}
 use Rattle.net_stream.specs.Links.{Passes}
 use Rattle.net_stream.specs.Reported.{count_outside}
-use Rattle.net_stream.specs.Rounds.{CountsBrokenRound, fates_only, CountsFates, FatesSoFar}
+use Rattle.net_stream.specs.Rounds.{fates_only, CountsFates, FatesSoFar}
 
 -- ---- fates in another order are counted alike
 met_met : (a b : Fate) (c : FrameCounts) → with_fate a (with_fate b c) ≡ with_fate b (with_fate a c)
@@ -77,10 +77,6 @@ more_met v v' u u' c d bytes frames acks same h =
     ∙ ap (λ x. fates_only (with_fates acks u' x)) framed
     ∙ ap fates_only acked
 
-pub part_met : (v v' u u' : FatesSeen) (c d : FrameCounts) → CountsBrokenRound u u' c d → FatesSoFar v v' u u' c → CountsFates v v' d
-part_met v v' u u' c d part h =
-    record { frames = h.frames + part.frames; acks = h.acks + part.acks; counted = more_met v v' u u' c d part.bytes part.frames part.acks part.counted h }
-
 pub round_met : (v v' : FatesSeen) (old new : LinkState) → Passes old new → FatesSoFar v v' old.there.fates old.back.fates old.counts →
     FatesSoFar v v' new.there.fates new.back.fates new.counts
 round_met v v' old new round h =
@@ -98,9 +94,6 @@ round_met v v' old new round h =
 
 pub met_so_far : (v v' u u' : FatesSeen) (c : FrameCounts) → FatesSoFar v v' u u' c → CountsFates v v' c
 met_so_far v v' u u' c h = record { frames = h.frames; acks = h.acks; counted = h.counted }
-
-pub none_drawn : (v v' : FatesSeen) (c : FrameCounts) → c ≡ no_frames → FatesSoFar v v' v v' c
-none_drawn v v' c is = record { frames = 0; acks = 0; left = refl; left_back = refl; counted = ap fates_only is }
 
 -- ---- which end a call had
 pub was_ok : {T E : Type 0} (P : Type 0) (r : Result T E) → is_err r ≡ false → OnOk r P → P

@@ -8,7 +8,7 @@ use Rattle.net_stream.specs.LinkState.{LinkState, round}
 use Rattle.net_stream.specs.CopyState.{Setup, CopyState, Running, GaveUp, feed, waited, pass, turn, after}
 use Rattle.net_stream.specs.Stuck.{failures, RoundLeaves, IsDue, IsStuck, HasFailed, AllFail, FatesFail, KnownOfRounds}
 use Rattle.net_stream.specs.Promises.{CanPass, before_round, frames_sent, acks_sent, Fails, GivesUpIfFailed, NeverByDelays, EndsIfAllCome, FewRounds}
-use Rattle.net_stream.proofs.Moved.{queue_from}
+use Rattle.net_stream.proofs.Queue.{queue_from}
 use Rattle.net_stream.proofs.Stuck.{due_kept, stuck_weaker, all_after, round_failed}
 use Rattle.net_stream.proofs.RoundCount.{more_moved, more_still, never_fails}
 use Rattle.net_stream.proofs.Turns.{ended}

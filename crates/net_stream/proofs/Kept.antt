@@ -24,7 +24,7 @@ use Rattle.net_stream.specs.Sending.{stop_of, spared_from}
 use Rattle.net_stream.specs.Progress.{after_ack_frame}
 use Rattle.net_stream.specs.Passing.{with_late}
 use Rattle.net_stream.proofs.Carried.{All-push, All-map, took, coming_are, going_are, acked_back, sent_says, acked}
-use Rattle.net_stream.proofs.Moved.{queue_from}
+use Rattle.net_stream.proofs.Queue.{queue_from}
 use Rattle.net_stream.proofs.Parts.{lent_says}
 use Rattle.net_stream.proofs.Ranges.{IsWords, ack_tells}
 use Rattle.net_stream.proofs.Reached.{by_keeps_end, first_is}

@@ -5,12 +5,11 @@ pub mod Spared
 pub mod Carried
 pub mod Sent
 pub mod Ranges
-pub mod Arrived
 pub mod Reached
 pub mod Counted
 pub mod Drawn
 pub mod Results
-pub mod Moved
+pub mod Queue
 pub mod Meeting
 pub mod Steps
 pub mod Closed

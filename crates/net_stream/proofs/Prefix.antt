@@ -12,7 +12,7 @@ use Rattle.net_stream.specs.CopyState.{Setup, CopyState, Running, Done, begin, i
 use Rattle.net_stream.specs.Streams.{Known, CarriesWithin, Writes, ReadWrites, PassWrites, AllWritten}
 use Rattle.net_stream.specs.Promises.{StartsFits, before_end, WritesPrefix, WritesAll}
 use Rattle.net_stream.proofs.Carried.{begun, took, written}
-use Rattle.net_stream.proofs.Moved.{queue_from}
+use Rattle.net_stream.proofs.Queue.{queue_from}
 use Rattle.net_stream.proofs.Reached.{first_is}
 use Rattle.net_stream.proofs.Room.{more_sent}
 use Rattle.net_stream.proofs.Kept.{split, round_carries}

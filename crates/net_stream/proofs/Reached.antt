@@ -1,19 +1,17 @@
 -- How far frames and acknowledgements bring a receiver and a sender.
-use Rattle.std.proofs.Common.{◌≡◌, ℕ, zero, suc, ◌+◌, ◌-◌, ◌<◌, ◌≤◌, ◌^◌, ◌%◌, ◌/◌, max, min}
-use Rattle.std.proofs.Common.{nat_lt, nat_le, ◌&&◌, Bool, true, false, cond, Result, Ok, Err, IsOk}
-use Rattle.std.proofs.Common.{IfOk, List, [], ◌∷◌, ◌++◌, length, take, drop, get_or, All, Option}
+use Rattle.std.proofs.Common.{◌≡◌, ℕ, zero, suc, ◌+◌, ◌-◌, ◌<◌, ◌≤◌, ◌^◌, ◌%◌, ◌/◌, max}
+use Rattle.std.proofs.Common.{nat_lt, nat_le, ◌&&◌, Bool, true, false, cond}
+use Rattle.std.proofs.Common.{List, [], ◌∷◌, ◌++◌, length, drop, get_or, All, Option}
 use Rattle.std.proofs.Common.{Some, None, slice_get, refl, sym, ap, subst, ◌∙◌, arith, ⊎_elim, inl}
-use Rattle.std.proofs.Common.{inr, le_trans, length-append, length-take, length-drop}
-use Rattle.std.proofs.lemmas.Bool.{both_ways, cases_lt, cases_Bool, cond-true, cond-false, le-leb, lt-leb, le-ltb, leb-true, and_parts, false≢true}
+use Rattle.std.proofs.Common.{inr, le_trans, length-append, length-drop}
+use Rattle.std.proofs.lemmas.Bool.{both_ways, cases_lt, cases_Bool, cond-true, cond-false, le-leb, lt-leb, le-ltb, leb-true, and_parts}
 use Rattle.std.proofs.lemmas.Option.{slice_get_within, slice_get-get_or}
 use Rattle.std.specs.FinMap as fin
 use Rattle.std.proofs.lemmas.List.Elements.{All-head, All-tail}
 use Rattle.net_base.specs.Generator.{successor, random_word}
-use Rattle.net_assembler.specs.declared.assembler.error.TooManyHolesError.{TooManyHolesError}
-use Rattle.net_receiver.specs.declared.receiver.kept.Kept.{Kept}
 use Rattle.net_receiver.specs.KeptList.{piece, piece_byte_at}
 use Rattle.net_receiver.specs.Stored.{Stored, stored_next, IsSound}
-use Rattle.net_receiver.specs.OneStream.{ReceivesFrom, Says, window_part}
+use Rattle.net_receiver.specs.OneStream.{ReceivesFrom, Says}
 use Rattle.net_receiver.specs.Retransmission.{Has}
 use Rattle.net_stream.specs.Outgoing.{Outgoing, sender_from, after_ack, end_of}
 use Rattle.net_stream.specs.Frames.{Part, frame_of, frames_from, part_bytes, segment_of, FramesDecode}
@@ -22,9 +20,9 @@ use Rattle.net_stream.specs.Fates.{FatesSeen, next_of, after_of, next_fate, afte
 use Rattle.net_stream.specs.declared.fate.Fate.{Fate}
 use Rattle.net_stream.specs.declared.fate.Fate.TheVariants.{Delivered, Lost, Repeated, Late}
 use Rattle.net_stream.specs.declared.fate.Rates.{Rates}
-use Rattle.net_stream.specs.Carrying.{PathSeen, HasRanges, MayComeLate}
+use Rattle.net_stream.specs.Carrying.{HasRanges}
 use Rattle.net_stream.specs.Sending.{IsReportedIf, AreSparedIfReported}
-use Rattle.net_stream.specs.Progress.{reach_one, Reaches, after_ack_frame, after_ack_frames, limit_of, HasRoom}
+use Rattle.net_stream.specs.Progress.{reach_one, Reaches, after_ack_frame, after_ack_frames}
 
 -- ---- where a truthful segment ends
 pub says_ends : (f : ℕ) (w : List ℕ) (pos : ℕ) (xs : List ℕ) → Says f w pos xs → pos + length xs ≤ max pos (f + length w)
@@ -49,33 +47,6 @@ reach_cases P p pos n near far =
     (λ (l : p < pos). subst P (sym (cond-false _ _ _ (lt-leb pos p l))) far)
     (λ (l : pos ≤ p). subst P (sym (cond-true _ _ _ (le-leb pos p l))) (near l))
     (cases_lt p pos)
-
--- what a receiver keeps of a segment that it takes in order brings it to the segment's end
-ok_reaches : (v u : Stored) (pos : ℕ) (xs : List ℕ) (r : Result Kept TooManyHolesError) → IsOk r →
-    IfOk r (λ k. k.kept ≡ length (window_part v pos xs)) → IfOk r (λ k. stored_next u ≡ stored_next v + k.queued) → IfOk r (λ k. k.kept ≤ k.queued) →
-    pos ≤ stored_next v → pos + length xs ≤ limit_of v → pos + length xs ≤ stored_next u
-ok_reaches v u pos xs (Ok k) ok kept queued order h l =
-    let a : length (take (limit_of v - pos) xs) ≡ min (limit_of v - pos) (length xs) = length-take (limit_of v - pos) xs in
-    let b : length (window_part v pos xs) ≡ length (take (limit_of v - pos) xs) - (stored_next v - pos) =
-    length-drop (stored_next v - pos) (take (limit_of v - pos) xs) in
-    omega arith
-ok_reaches v u pos xs (Err e) ok kept queued order h l = absurd (false≢true ok)
-
-pub segment_reaches : (v u : Stored) (e pos : ℕ) (xs : List ℕ) (r : Result Kept TooManyHolesError) → (pos ≤ stored_next v → IsOk r) →
-    IfOk r (λ k. k.kept ≡ length (window_part v pos xs)) → IfOk r (λ k. stored_next u ≡ stored_next v + k.queued) →
-    (pos ≤ stored_next v → IfOk r (λ k. k.kept ≤ k.queued)) →
-    stored_next v ≤ stored_next u → pos + length xs ≤ max pos e → e ≤ limit_of v → reach_one (stored_next v) (Some (pos, xs)) ≤ stored_next u
-segment_reaches v u e pos xs r accepted kept queued order grows end room =
-    reach_cases (λ m. m ≤ stored_next u) (stored_next v) pos (pos + length xs)
-    (λ h. ⊎_elim {C = max (stored_next v) (pos + length xs) ≤ stored_next u}
-    (λ (l : limit_of v < pos + length xs). omega arith)
-    (λ (l : pos + length xs ≤ limit_of v). let far = ok_reaches v u pos xs r (accepted h) kept queued (order h) h l in omega arith)
-    (cases_lt (limit_of v) (pos + length xs)))
-    grows
-
--- a segment that ends past the words is none of the stream's
-pub no_word_reaches : (n e pos : ℕ) (xs : List ℕ) → e < 2 ^ 64 → 2 ^ 64 ≤ pos + length xs → pos + length xs ≤ max pos e → reach_one n (Some (pos, xs)) ≤ n
-no_word_reaches n e pos xs k past end = reach_cases (λ m. m ≤ n) n pos (pos + length xs) (λ h. omega arith) (omega arith)
 
 one_from : (p : ℕ) (o : Option (ℕ × List ℕ)) → p ≤ reach_one p o
 one_from p None = omega arith
@@ -191,50 +162,10 @@ come_one rates state (x ∷ xs) lost late all =
 pub come_next : (v : FatesSeen) → AllCome v → (comes (next_fate v) ≡ true) × AllCome (after_fate v)
 come_next v h = come_one v.rates v.state v.listed h.lost h.late h.listed
 
--- ---- one step
-pub returned : (frame : List ℕ) (old new : PathSeen) → MayComeLate frame old new → (new.ahead ≡ old.ahead) × (new.fates ≡ old.fates)
-returned frame old new again =
-    ⊎_elim {C = (new.ahead ≡ old.ahead) × (new.fates ≡ old.fates)}
-    (λ (e : new ≡ old). (ap (λ p. p.ahead) e, ap (λ p. p.fates) e))
-    (λ (e : new ≡ record old { late = old.late ++ frame ∷ [] }). (ap (λ p. p.ahead) e, ap (λ p. p.fates) e))
-    again
-
--- what a path is after the first of its frames met its fate
-step_of : (t0 t1 t2 t3 : PathSeen) (frame : List ℕ) (lot : Fate) → t0 ≡ record t1 { ahead = frame ∷ t1.ahead } → lot ≡ next_fate t1.fates →
-    t2 ≡ record t1 { fates = after_fate t1.fates } → MayComeLate frame t2 t3 → NextCome (length t0.ahead) t0.fates →
-    (comes lot ≡ true) × NextCome (length t3.ahead) t3.fates × (t0.ahead ≡ frame ∷ t3.ahead)
-step_of t0 t1 t2 t3 frame lot first is drawn again all =
-    let same = returned frame t2 t3 again in
-    let ahead : t0.ahead ≡ frame ∷ t3.ahead = ap (λ p. p.ahead) first ∙ ap (λ l. frame ∷ l) (sym (same.0 ∙ ap (λ p. p.ahead) drawn)) in
-    let size : length t0.ahead ≡ suc (length t3.ahead) = ap length ahead ∙ (let e : length (frame ∷ t3.ahead) ≡ suc (length t3.ahead) = omega arith in e) in
-    let both : NextCome (suc (length t3.ahead)) t1.fates = subst (λ n. NextCome n t1.fates) size
-    (subst (NextCome (length t0.ahead)) (ap (λ p. p.fates) first) all) in (
-      ap comes is ∙ both.0,
-      subst (NextCome (length t3.ahead)) (sym (same.1 ∙ ap (λ p. p.fates) drawn)) both.1,
-      ahead,
-    )
-
 -- if all come, so do the next ones
 pub next_come : (n : ℕ) (v : FatesSeen) → AllCome v → NextCome n v
 next_come zero v all = tt
 next_come (suc n) v all = (let both = come_next v all in (both.0, next_come n (after_fate v) both.1))
-
-pub frame_reaches : (most : ℕ) (ranges : List (ℕ × ℕ)) (r : Stored) (m : ℕ) (t0 t1 t2 t3 : PathSeen) (frame : List ℕ) (lot : Fate) → IsSound most r →
-    HasRanges r ranges →
-    t0 ≡ record t1 { ahead = frame ∷ t1.ahead } → lot ≡ next_fate t1.fates → t2 ≡ record t1 { fates = after_fate t1.fates } → MayComeLate frame t2 t3 →
-    (comes lot ≡ true → reach_one (stored_next r) (segment_of frame) ≤ m) → NextCome (length t0.ahead) t0.fates →
-    NextCome (length t3.ahead) t3.fates × ((end : ℕ) → Reaches ranges end (stored_next r) t0.ahead → Reaches ranges end m t3.ahead)
-frame_reaches most ranges r m t0 t1 t2 t3 frame lot sound had first is drawn again far all =
-    let step = step_of t0 t1 t2 t3 frame lot first is drawn again all in
-    (step.1, λ end reaches. brought most ranges end r m frame t3.ahead sound had (far step.0) (subst (Reaches ranges end (stored_next r)) step.2 reaches))
-
-pub ack_reaches : (s t : Outgoing) (t0 t1 t2 t3 : PathSeen) (frame : List ℕ) (lot : Fate) → t0 ≡ record t1 { ahead = frame ∷ t1.ahead } →
-    lot ≡ next_fate t1.fates → t2 ≡ record t1 { fates = after_fate t1.fates } → MayComeLate frame t2 t3 →
-    (comes lot ≡ true → t ≡ after_ack_frame s (segment_of frame)) → NextCome (length t0.ahead) t0.fates →
-    NextCome (length t3.ahead) t3.fates × (after_ack_frames s t0.ahead ≡ after_ack_frames t t3.ahead)
-ack_reaches s t t0 t1 t2 t3 frame lot first is drawn again took all =
-    let step = step_of t0 t1 t2 t3 frame lot first is drawn again all in
-    (step.1, ap (after_ack_frames s) step.2 ∙ ap (λ v. after_ack_frames v t3.ahead) (sym (took step.0)))
 
 -- ---- acknowledgements
 acked_keeps_end : (s : Outgoing) (n : ℕ) (ranges : List (ℕ × ℕ)) → end_of (after_ack s n ranges) ≡ end_of s
@@ -264,9 +195,6 @@ all_keep_end s (frame ∷ frames) = all_keep_end (after_ack_frame s (segment_of 
 pub acked_append : (s : Outgoing) (xs ys : List (List ℕ)) → after_ack_frames s (xs ++ ys) ≡ after_ack_frames (after_ack_frames s xs) ys
 acked_append s [] ys = refl
 acked_append s (x ∷ xs) ys = acked_append (after_ack_frame s (segment_of x)) xs ys
-
-pub room_same : (s : Outgoing) (v u : Stored) → limit_of u ≡ limit_of v → HasRoom s v → HasRoom s u
-room_same s v u e room = record { within = (let h = room.within in omega arith); fits = room.fits }
 
 pub first_is : (f : ℕ) (w : List ℕ) (r : Stored) → ReceivesFrom f w r → r.first ≡ f
 unfolding ReceivesFrom

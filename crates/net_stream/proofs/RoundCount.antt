@@ -16,7 +16,7 @@ use Rattle.net_stream.specs.Passing.{coming_of, acks_of}
 use Rattle.net_stream.specs.Links.{Carries, Passes}
 use Rattle.net_stream.specs.Stuck.{RoundLeaves, BringsOnOrIsStuck, HasFailed, AllFail, FatesFail}
 use Rattle.net_stream.proofs.Reached.{come_next, next_come, first_is}
-use Rattle.net_stream.proofs.Moved.{queue_from}
+use Rattle.net_stream.proofs.Queue.{queue_from}
 use Rattle.net_stream.proofs.Stuck.{acked_last, some_come}
 
 -- ---- at most

@@ -2,7 +2,7 @@
 use Rattle.std.proofs.Common.{cond, min, max, ◌≡◌, ℕ, ◌+◌, ◌-◌, ◌<◌, ◌≤◌, nat_lt, nat_le, true, false, List, [], ◌∷◌, length, take, drop}
 use Rattle.std.proofs.Common.{get_or, drop-cons, length-take, suc, refl, sym, ◌∙◌, ⊎_elim, arith}
 use Rattle.std.proofs.lemmas.Bool.{cases_Bool, cases_lt, cond-true, cond-false, and_parts, and_from, or_left, or_right, or_parts, or_from}
-use Rattle.std.proofs.lemmas.Bool.{or_cases, and_left, and_right, leb-true, ltb-true, le-leb, lt-ltb, le-ltb, lt-leb, both_ways}
+use Rattle.std.proofs.lemmas.Bool.{and_left, and_right, leb-true, ltb-true, le-leb, lt-ltb, le-ltb, lt-leb, both_ways}
 use Rattle.std.proofs.lemmas.List.{get_or-take}
 use Rattle.net_assembler.specs.Positions.{lies_in}
 use Rattle.net_stream.specs.Reported.{reports, count_from, next_start, greatest_end}
@@ -109,11 +109,3 @@ next_between (range ∷ ranges) p limit q none from to =
 pub end_from : (ranges : List (ℕ × ℕ)) (p : ℕ) → p ≤ greatest_end ranges p
 end_from [] p = omega arith
 end_from (range ∷ ranges) p = (let rest = end_from ranges (max p range.1) in omega arith)
-
-pub below_end : (ranges : List (ℕ × ℕ)) (p q : ℕ) → reports ranges q ≡ true → q < greatest_end ranges p
-below_end [] p q e = absurd (both_ways false refl e)
-below_end (range ∷ ranges) p q e =
-    ⊎_elim {C = q < greatest_end (range ∷ ranges) p}
-    (λ (here : lies_in q range ≡ true). (let high = (lies_within q range here).1 in let rest = end_from ranges (max p range.1) in omega arith))
-    (λ (more : reports ranges q ≡ true). below_end ranges (max p range.1) q more)
-    (or_cases (lies_in q range) (reports ranges q) e)

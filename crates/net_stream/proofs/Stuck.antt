@@ -26,10 +26,9 @@ use Rattle.net_stream.specs.Passing.{coming_of, late_of, receiver_after_all, ack
 use Rattle.net_stream.specs.Links.{Carries, Passes}
 use Rattle.net_stream.specs.Stuck.{failures, losses, RoundLeaves, BringsOnOrIsStuck, HasFailed, AllFail}
 use Rattle.net_stream.specs.Stuck.{FatesFail, FirstSays, IsDue, IsStuck}
-use Rattle.net_stream.specs.Stuck.{NeverStuck}
 use Rattle.net_stream.proofs.Sent.{first_sent}
 use Rattle.net_stream.proofs.Reached.{come_next, missing, first_is, all_keep_end, acked_append}
-use Rattle.net_stream.proofs.Moved.{queue_from}
+use Rattle.net_stream.proofs.Queue.{queue_from}
 use Rattle.net_stream.proofs.Meeting.{brought_append}
 
 -- ---- lists
@@ -753,14 +752,3 @@ all_after (suc n) v all = all_after n (after_fate v) (come_next v all).1
 pub some_come : (j k : ℕ) (u : FatesSeen) → 0 < k → AllFail j k u → comes (next_fate u) ≡ true → ⊥
 some_come j zero u some h e = absurd (omega arith)
 some_come j (suc k) u some h e = both_ways (comes (next_fate u)) h.0.0 e
-
-pub never_stuck : NeverStuck
-never_stuck zero v v' counts all all' some stuck = absurd (omega arith)
-never_stuck (suc n) v v' counts all all' some stuck =
-    let r = stuck.rounds in
-    let u = fates_after stuck.frames v in
-    let u' = fates_after stuck.acks v' in
-    ⊎_elim {C = ⊥}
-    (λ (a : (0 < r.0) × HasFailed (0 + n) (next_fate u)). both_ways (comes (next_fate u)) a.1.0 (come_next u (all_after stuck.frames v all)).0)
-    (λ (b : (0 < r.1) × AllFail (0 + n) r.1 u'). some_come (0 + n) r.1 u' b.0 b.1 (come_next u' (all_after stuck.acks v' all')).0)
-    r.2

@@ -23,7 +23,7 @@ use Rattle.net_stream.specs.Streams.{Writes}
 use Rattle.net_stream.specs.Stuck.{RoundLeaves, IsStuck, KnownOfRounds}
 use Rattle.net_stream.specs.Promises.{CanPass, BringsNothing, before_round, frames_sent, acks_sent}
 use Rattle.net_stream.proofs.Drawn.{after_more}
-use Rattle.net_stream.proofs.Moved.{queue_from}
+use Rattle.net_stream.proofs.Queue.{queue_from}
 use Rattle.net_stream.proofs.Reached.{first_is}
 use Rattle.net_stream.proofs.Stuck.{Numbers, round_keeps, round_moves, step_moves, fates_left}
 use Rattle.net_stream.proofs.Passed.{RoundSends, round_sends}

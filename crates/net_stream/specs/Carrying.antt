@@ -6,8 +6,7 @@
 --     FrameTells r frame      an acknowledgement tells nothing but what the receiver has
 --     ack_of r      the acknowledgement of a receiver
 --     receiver_after N r frame, with_ack r frame back      what a frame that comes leaves
---     MayComeLate frame old new      the frame was put among the late ones, or nothing changed
-use Rattle.std.specs.Prelude.{◌≡◌, ℕ, ◌+◌, ◌≤◌, ◌^◌, ◌⊎◌, nat_lt, if◌then◌else◌}
+use Rattle.std.specs.Prelude.{◌≡◌, ℕ, ◌+◌, ◌≤◌, ◌^◌, nat_lt, if◌then◌else◌}
 use Rattle.std.specs.Prelude.{IsTrue, Option, Some, None}
 use Rattle.std.specs.Prelude.{List, [], ◌∷◌, ◌++◌, length, take, All}
 use Rattle.net_assembler.specs.Positions.{maximal_runs}
@@ -69,7 +68,3 @@ pub record IsUnderWay (f : ℕ) (w : List ℕ) (s : Outgoing) (r : Stored)
   pub late_back : All (FrameTells r) back.late
   pub behind : s.base ≤ stored_next r
   pub reported : HasRanges r s.reported
-
--- the frame was put among the late ones, or nothing changed
-abbrev pub MayComeLate : List ℕ → PathSeen → PathSeen → Type 0
-MayComeLate frame old new = (new ≡ old) ⊎ (new ≡ record old { late = old.late ++ frame ∷ [] })

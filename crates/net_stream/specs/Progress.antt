@@ -3,11 +3,10 @@
 --     Reaches ranges end p frames      frames bring it to `end`, if it has the ranges too
 --     after_ack_frame s frame, after_ack_frames s frames      a sender once acknowledgements have come
 --     limit_of r      where the receiver's free window ends
---     HasRoom s r      the receiver's free window has room for all that the sender has queued
-use Rattle.std.specs.Prelude.{◌≡◌, ℕ, ◌+◌, ◌-◌, ◌<◌, ◌≤◌, ◌^◌, ◌⊎◌, max, nat_le, if◌then◌else◌}
+use Rattle.std.specs.Prelude.{◌≡◌, ℕ, ◌+◌, ◌-◌, ◌⊎◌, max, nat_le, if◌then◌else◌}
 use Rattle.std.specs.Prelude.{true, List, [], ◌∷◌, length, Option, Some, None}
 use Rattle.net_receiver.specs.Stored.{Stored}
-use Rattle.net_stream.specs.Outgoing.{Outgoing, end_of, after_ack}
+use Rattle.net_stream.specs.Outgoing.{Outgoing, after_ack}
 use Rattle.net_stream.specs.Frames.{segment_of}
 use Rattle.net_stream.specs.Reported.{most_reported, ranges_of}
 use Rattle.net_stream.specs.Sending.{IsReportedIf}
@@ -40,8 +39,3 @@ after_ack_frames s (frame ∷ frames) = after_ack_frames (after_ack_frame s (seg
 -- where a receiver's free window ends
 abbrev pub limit_of : Stored → ℕ
 limit_of r = r.first + r.read + r.capacity
-
--- there is room for all that the sender has queued, and its positions fit 64 bits
-pub record HasRoom (s : Outgoing) (r : Stored) : Type 0 where
-  pub within : end_of s ≤ limit_of r
-  pub fits : end_of s < 2 ^ 64

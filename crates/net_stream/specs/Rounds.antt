@@ -1,19 +1,10 @@
 -- What is counted of rounds.
---     CountsBrokenRound v v' old new      what a round counts that ends early
 --     CountsFates v v' counts      what is counted of the frames of rounds
 --     FatesSoFar v v' u u' counts      the same, with the fates u and u' left
 use Rattle.std.specs.Prelude.{◌≡◌, ℕ}
 use Rattle.net_stream.specs.Fates.{FatesSeen, fates_after}
-use Rattle.net_stream.specs.Counting.{with_fates, SameButRefused, with_payload, no_frames}
+use Rattle.net_stream.specs.Counting.{with_fates, no_frames}
 use Rattle.net_stream.specs.declared.counts.FrameCounts.{FrameCounts}
-
--- some bytes are counted, and the fates, the next of v and of v', of some frames and of some
--- acknowledgements
-pub record CountsBrokenRound (v v' : FatesSeen) (old new : FrameCounts) : Type 0 where
-  pub bytes : ℕ
-  pub frames : ℕ
-  pub acks : ℕ
-  pub counted : SameButRefused new (with_fates acks v' (with_fates frames v (with_payload bytes old)))
 
 -- how many frames were sent and met each fate, without the other counts
 abbrev pub fates_only : FrameCounts → FrameCounts

@@ -8,8 +8,6 @@
 --                                      come
 --     BringsOnOrIsStuck frames acks old new      a round that brings nothing on was stuck
 --     KnownOfRounds      what other laws say of frames and of receivers
---     AreStuckAtLast n v v' counts      the last n rounds were stuck
---     NeverStuck      no round is stuck over a link that loses and delays nothing
 use Rattle.std.specs.Prelude.{◌≡◌, ◌⊎◌, ℕ, zero, suc, ◌+◌, ◌-◌, ◌<◌, ◌≤◌, ◌^◌, min}
 use Rattle.std.specs.Prelude.{false, List, [], ◌∷◌, length, Some}
 use Rattle.net_receiver.specs.Stored.{stored_next}
@@ -19,8 +17,6 @@ use Rattle.net_stream.specs.declared.fate.Fate.{Fate}
 use Rattle.net_stream.specs.Outgoing.{end_of}
 use Rattle.net_stream.specs.Frames.{segment_of}
 use Rattle.net_stream.specs.Fates.{FatesSeen, next_fate, after_fate, fates_after, comes, comes_late}
-use Rattle.net_stream.specs.Fates.{AllCome}
-use Rattle.net_stream.specs.Rounds.{FatesSoFar}
 use Rattle.net_stream.specs.Progress.{limit_of}
 use Rattle.net_receiver.specs.OneStream.{FirstStays, CapacityStays}
 use Rattle.net_receiver.specs.Retransmission.{InOrderReaches}
@@ -89,27 +85,6 @@ pub record IsStuck (frames acks : ℕ) (old new : LinkState) : Type 0 where
       × (min (losses old.counts + 1) (2 ^ 64 - 1) ≤ losses new.counts))
       ⊎ (IsDue new × (losses old.counts ≤ losses new.counts))
 
--- n rounds in a row that were stuck, from the fates v and v' to u and u', and that so many more
--- stuck rounds follow
-abbrev pub AreStuckTo : ℕ → ℕ → FatesSeen → FatesSeen → FatesSeen → FatesSeen → Type 0
-AreStuckTo follow zero v v' u u' = (u ≡ v) × (u' ≡ v')
-AreStuckTo follow (suc n) v v' u u' = (frames : ℕ) × (acks : ℕ)
-    × FatesFail (follow + n) frames acks v v'
-    × AreStuckTo follow n (fates_after frames v) (fates_after acks v') u u'
-
--- the last n rounds were stuck, behind frames and acknowledgements that met the first fates of v and
--- of v'; all of them together were counted, so that at least n were lost or late, and at least n - 1
--- were lost
-pub record AreStuckAtLast (n : ℕ) (v v' : FatesSeen) (counts : FrameCounts) : Type 0 where
-  pub frames : ℕ
-  pub acks : ℕ
-  pub last : FatesSeen
-  pub last_back : FatesSeen
-  pub rounds : AreStuckTo 0 n (fates_after frames v) (fates_after acks v') last last_back
-  pub all : FatesSoFar v v' last last_back counts
-  pub failures : n ≤ counts.lost + counts.late
-  pub lost : n ≤ counts.lost + 1
-
 -- a round that began with nothing on its way but what is late, and brought neither the receiver nor
 -- the sender on, was stuck
 abbrev pub BringsOnOrIsStuck : ℕ → ℕ → LinkState → LinkState → Type 0
@@ -118,11 +93,6 @@ BringsOnOrIsStuck frames acks old new = (f : ℕ) (w : List ℕ) → Carries f w
     → stored_next old.receiver < limit_of old.receiver
     → stored_next new.receiver ≡ stored_next old.receiver → new.sender.base ≡ old.sender.base
     → IsStuck frames acks old new
-
--- where every frame and every acknowledgement comes, no round is stuck
-abbrev pub NeverStuck : Type 0
-NeverStuck = (n : ℕ) (v v' : FatesSeen) (counts : FrameCounts) → AllCome v → AllCome v' → 0 < n
-    → AreStuckAtLast n v v' counts → ⊥
 
 -- what other laws say of frames and of receivers
 pub record KnownOfRounds : Type 0 where

@@ -3,7 +3,6 @@
 //! Each function does nothing: its contract is the law.
 ghost use Rattle.net_stream.specs.Fates.{EachNextComes};
 ghost use Rattle.net_stream.specs.Links.{RoundPasses};
-ghost use Rattle.net_stream.specs.Stuck.{NeverStuck};
 
 mod bounds;
 mod ends;
@@ -17,11 +16,9 @@ pub use ends::{
 pub(crate) use streams::known;
 pub use streams::{all, filling_reads, is_written, prefix, stays_on_its_way, worked_copy};
 
-/// What follows where every frame and every acknowledgement comes: so do the next ones, however
-/// many, and no round is stuck.
+/// If every frame comes at once, so do the next ones, however many.
 pub fn known_fates()
-    ensures next { EachNextComes }
-    ensures stuck { NeverStuck }
+    ensures { EachNextComes }
 {}
 
 /// What a round leaves.
