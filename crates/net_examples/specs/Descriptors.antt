@@ -1,6 +1,6 @@
 -- The frames that wait in rings of descriptors.
 use Rattle.std.specs.Prelude.{ℕ, List, take, map}
-use Rattle.net_storage.specs.Ring.{RingState, queue}
+use Rattle.net_ring.specs.Ring.{RingState, queue}
 use Rattle.net_examples.specs.declared.descriptor.Descriptor.{Descriptor}
 
 -- the bytes of a descriptor that are its frame

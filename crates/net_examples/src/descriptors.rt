@@ -1,6 +1,6 @@
 ghost use Rattle.std.specs.Prelude.{◌≡◌, ◌≢◌, ◌≤◌, ◌<◌, ◌++◌, ◌∷◌, [], ◌⊎◌, ℕ, List, length};
 ghost use Rattle.std.specs.Prelude.{IsTrue, IsFalse, IsOk, Ok, true, false};
-ghost use Rattle.net_storage.specs.Ring.{queue, spare, window, capacity};
+ghost use Rattle.net_ring.specs.Ring.{queue, spare, window, capacity};
 ghost use Rattle.net_base.specs.Checksum.{no_checksums};
 ghost use Rattle.net_base.specs.DeviceCapabilities.{no_segmentation};
 ghost use Rattle.net_examples.specs.Descriptors.{frames, frame_of};
@@ -13,7 +13,7 @@ use net_base::phy::{
     SegmentationCapabilities, TxToken, echo_once,
 };
 use net_base::time::Instant;
-use net_storage::{Empty, RingBuffer};
+use net_ring::{Empty, RingBuffer};
 use std::alloc::AllocError;
 
 /// A device whose frames stand in two rings of descriptors, memory that it shares with hardware:
