@@ -8,7 +8,7 @@ FITS = Order("assembler: end of a range and greatest number")
 NO_SIZE = Test("assembler: a range has no positions")
 RUNS = {most: Count(f"assembler of {most}: runs", most) for most in SIZES}
 REFUSED = {most: Test(f"assembler of {most}: a range is refused") for most in SIZES}
-JOINED = {most: Count(f"assembler of {most}: runs that a range joins", min(most, 3)) for most in SIZES}
+JOINED = {most: Count(f"assembler of {most}: runs that a range joins", min(most, 2)) for most in SIZES}
 PLACE = {most: Count(f"assembler of {most}: runs before a range that is added", most - 1)
          for most in SIZES}
 FRONT = Test("assembler: the front is there")
@@ -22,7 +22,7 @@ CONTAINS = Test("assembler: contains a position")
 AT_START = Test("assembler: contains is asked at a run's first position")
 AT_END = Test("assembler: contains is asked at the position after a run")
 RUN_NONE = Order("assembler: run_at, number and runs")
-START_SIZE = Size("assembler: digits of a start", 63, by=4)
+START_SIZE = Size("assembler: digits of a start", 63, by=8)
 DATA_SIZE = Size("assembler: digits of a length", 63, by=4)
 HOLE = Test("assembler: the first run of a text has a hole before it")
 TEXT_RUNS = {most: Size(f"assembler of {most}: runs in a text under options", most.bit_length())

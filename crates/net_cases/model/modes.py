@@ -18,6 +18,15 @@ COMMANDS = {name: Test(f"run: a command {name}") for name in ("w", "r", "a", "t"
 REFUSED = {name: Test(f"run: {name} is refused") for name in ("a", "t", "s")}
 FAULT = {name: Test(f"run: ends with {name}") for name in (
     "bad command", "range too long", "line too long", "too many schedules", "no fault")}
+ROOM = Test("run: a write finds a full ring")
+RING = Size("run: capacity of a ring", 16, by=2)
+FULL = {most: Test(f"run: a range is refused by {most} runs") for most in (4, 32)}
+SHOWN = {most: Size(f"run: runs of a text of {most}", most.bit_length() - 1) for most in (4, 32)}
+OFFSET = Size("run: offset of a range", 64, by=8)
+FIRST = Size("run: first position of a stream", 64, by=4)
+SECOND = Size("run: first position of a second schedule", 63, by=8)
+HELD = {most: Size(f"run: held runs that a stream of {most} shows", most.bit_length() - 1) for most in (4, 32)}
+LETTERS = Size("run: digits of a word with an upper case letter", 5, 2)
 LAST_FEED = Test("run: the last line ends with a line feed")
 LINE = Order("run: a line and 4,096 bytes")
 HEX = {name: Test(f"run: {name}") for name in ("bytes are -", "an odd digit", "upper case", "no hex digit")}
@@ -81,7 +90,8 @@ def hex_bytes(word):
         raise Fault("bad command")
     if HEX["no hex digit"](any(digit not in "0123456789abcdefABCDEF" for digit in word)):
         raise Fault("bad command")
-    HEX["upper case"](any(digit in "ABCDEF" for digit in word))
+    if HEX["upper case"](any(digit in "ABCDEF" for digit in word)):
+        LETTERS(len(word))
     return bytes.fromhex(word)
 
 
@@ -102,12 +112,13 @@ def listed(runs):
 
 class RingMode:
     def __init__(self, _most, capacity, _first):
-        self.capacity, self.queue = capacity, b""
+        self.capacity, self.queue = RING(capacity), b""
 
     def line(self, words):
         if len(words) == 2 and words[0] == "w":
             data = hex_bytes(words[1])
             COMMANDS["w"](True)
+            ROOM(len(self.queue) == self.capacity)
             count = TOOK.least(len(data), self.capacity - len(self.queue))
             self.queue += data[:count]
             return f"took {count}"
@@ -131,6 +142,7 @@ class AsmMode:
             return self.remove()
         if words == ["p"]:
             COMMANDS["p"](True)
+            SHOWN[self.most](len(self.runs))
             return text_of(self.runs)
         raise Fault("bad command")
 
@@ -140,6 +152,8 @@ class AsmMode:
             raise Fault("range too long")
         runs = with_range(self.runs, offset, offset + size)
         refused = len(runs) > self.most and not (name == "t" and offset == 0)
+        FULL[self.most](refused)
+        OFFSET(offset)
         if REFUSED[name](refused):
             return "refused too many holes"
         self.runs = runs
@@ -153,7 +167,7 @@ class AsmMode:
 
 class StreamMode:
     def __init__(self, most, capacity, first):
-        self.numbers = (most, capacity, first)
+        self.numbers = (most, capacity, FIRST(first))
         self.schedules = [Receiver(*self.numbers)]
 
     def line(self, words):
@@ -167,12 +181,14 @@ class StreamMode:
             return f"read {shown(data)}"
         if words == ["?"]:
             COMMANDS["?"](True)
+            HELD[now.most](len(now.held))
             return (f"next {now.next} queued {len(now.queue)} window {now.window} "
                     f"held {listed(now.held_runs())}")
         if words == ["--"]:
             COMMANDS["--"](True)
             if len(self.schedules) == 2:
                 raise Fault("too many schedules")
+            SECOND(now.first)
             self.schedules.append(Receiver(*self.numbers))
             return None
         raise Fault("bad command")
@@ -296,6 +312,7 @@ def asm_line(random, session):
     if name in ("f", "p"):
         return name
     start = 0 if random.one_in(6) else random.below(12 * session.most)
+    start = random.of_digits(64) if random.one_in(20) else start
     return f"{name} {start} {random.wide() if random.one_in(60) else random.below(5)}"
 
 
@@ -331,13 +348,35 @@ def bad_line(random, line):
     return line[:at] + character + line[at + 1:]
 
 
+def filling(random, words):
+    """Lines that make one run after another, of which no two touch, and show them."""
+    most, lines = int(words[1] if words[0] == "asm" else words[2]), []
+    first = int(words[3]) if len(words) == 4 else 0
+    for number in range(1, 1 + random.below(most + 3)):
+        if words[0] == "asm":
+            lines.append(f"{random.of('aat')} {3 * number} {1 + random.below(2)}")
+        elif first + 2 * number < TOP:
+            lines.append(f"s {first + 2 * number} {random.below(256):02x}")
+        if random.one_in(12):
+            lines.append("p" if words[0] == "asm" else "?")
+    return lines
+
+
 def draw_run(random):
     words = mode_words(random)
     if words[0] != "asm" and random.below(4):
         words[1] = str(random.below(40))
+    if words[0] == "ring" and random.one_in(3):
+        words[1] = str(random.of_digits(16, "capacity"))
+    if words[0] == "stream" and random.one_in(4):
+        words[1:] = [str(80 + random.below(20)), words[2], str(random.of_digits(63, "first"))]
     named = (words[0], int(words[-1]) if words[0] == "asm" else int(words[2]) if words[0] == "stream" else 0,
              int(words[1]), int(words[3]) if len(words) == 4 else 0)
     session, lines = MODES[named[0]](*named[1:]), []
+    if words[0] != "ring" and random.one_in(4):
+        lines = filling(random, words)
+    for line in lines:
+        session.line(line.split(" "))
     for _ in range(random.of_digits(4 if words[-1] != "32" else 6)):
         line = LINES[named[0]](random, session)
         lines.append(bad_line(random, line) if random.one_in(40) else line)

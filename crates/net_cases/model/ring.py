@@ -33,7 +33,7 @@ AT_END = {name: Test(f"ring: {name} is cut at the storage's end") for name in OF
           if name not in ("write_unallocated", "read_allocated")}
 ROUND = {name: Test(f"ring: {name} goes round the storage's end")
          for name in ("write_unallocated", "read_allocated")}
-PART_SIZE = {name: Size(f"ring: {name} finds", 11, by=2) for name in OFFSET}
+PART_SIZE = {name: Size(f"ring: {name} finds", 9, by=2) for name in OFFSET}
 ALLOWED = {name: Order(f"ring: {name}, count and elements")
            for name in ("enqueue_unallocated", "dequeue_allocated")}
 CLEARED = Test("ring: clear finds a queue")
