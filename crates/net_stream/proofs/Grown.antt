@@ -1,5 +1,5 @@
 -- What a round never takes back.
-use Rattle.std.proofs.Common.{◌≡◌, ◌&&◌, ℕ, ◌+◌, ◌-◌, ◌^◌, ◌≤◌, nat_lt, nat_le, List, [], ◌∷◌, length, Option, Some, None, refl, ◌∙◌, arith}
+use Rattle.std.proofs.Common.{◌≡◌, ◌&&◌, ℕ, ◌+◌, ◌-◌, ◌^◌, ◌≤◌, nat_lt, nat_le, List, [], ◌∷◌, length, Option, Some, None, refl, sym, subst, ◌∙◌, arith, inl, inr}
 use Rattle.std.proofs.lemmas.Bool.{and_parts, leb-true}
 use Rattle.net_receiver.specs.Stored.{Stored}
 use Rattle.net_receiver.specs.OneStream.{SegmentReadsNothing}
@@ -11,9 +11,9 @@ use Rattle.net_stream.specs.Fates.{next_fate, comes}
 use Rattle.net_stream.specs.Carrying.{receiver_after}
 use Rattle.net_stream.specs.Sending.{stop_of, spared_from}
 use Rattle.net_stream.specs.Progress.{after_ack_frame}
-use Rattle.net_stream.specs.LinkState.{LinkState, Cursor, start, frame_len, send, part, part_at, transmit, come, late_frame_of, late_frame, late_frames}
+use Rattle.net_stream.specs.LinkState.{LinkState, times, Cursor, start, frame_len, send, part, part_at, transmit, take_in, come, late_frame_of, late_frame, late_frames}
 use Rattle.net_stream.specs.LinkState.{came, take_frame, pass_frame_of, pass_frame, pass_frames, acknowledge_all, acknowledge, late_ack_of, late_ack, late_acks}
-use Rattle.net_stream.specs.LinkState.{came_ack, take_ack, pass_ack_of, pass_ack, round}
+use Rattle.net_stream.specs.LinkState.{came_ack, take_ack, pass_ack_of, pass_ack, round, StopsLate, StopsFrame, StopsAck, StopsRound}
 use Rattle.net_stream.proofs.Steps.{keeps}
 use Rattle.net_stream.proofs.Kept.{split}
 
@@ -85,3 +85,54 @@ module _ (reads_nothing : SegmentReadsNothing) (from been : ℕ) where
       let told = keeps Grown late_ack (λ s. after_late_ack s s.back.late) (length v.back.late) v (record { base = passed.base; read = passed.read }) in
       let all = keeps Grown pass_ack (λ s. after_ack_of s s.back.ahead) (length x.back.ahead) x told in
       record { base = all.base; read = all.read }
+
+  -- so does a round that lacks memory
+  takes : (s : LinkState) (frame : List ℕ) → Grown s → Grown (take_in s frame)
+  takes s frame h = record { base = h.base; read = reads_none s.receiver (segment_of frame) ∙ h.read }
+
+  stop_late : (u v : LinkState) (frames : List (List ℕ)) → StopsLate u frames v → Grown u → Grown v
+  stop_late u v [] e h = absurd e
+  stop_late u v (frame ∷ rest) e h =
+      subst Grown (sym e) (takes (record u { there = record u.there { late = rest } }) frame (record { base = h.base; read = h.read }))
+
+  stop_frame : (u v : LinkState) (frames : List (List ℕ)) → StopsFrame u frames v → Grown u → Grown v
+  stop_frame u v [] e h = absurd e
+  stop_frame u v (frame ∷ rest) (inl e) h = subst Grown (sym e) (takes (take_frame u rest) frame (record { base = h.base; read = h.read }))
+  stop_frame u v (frame ∷ rest) (inr e) h =
+      subst Grown (sym e) (came_in (next_fate u.there.fates) (take_frame u rest) frame (record { base = h.base; read = h.read }))
+
+  stop_ack : (u v : LinkState) (frames : List (List ℕ)) → StopsAck u frames v → Grown u → Grown v
+  stop_ack u v [] e h = absurd e
+  stop_ack u v (frame ∷ rest) e h = subst Grown (sym e) (came_back (next_fate u.back.fates) (take_ack u rest) frame (record { base = h.base; read = h.read }))
+
+  pub stopped : (s v : LinkState) → StopsRound s v → Grown s → Grown v
+  stopped s v (inl (n, e)) h = subst Grown (sym e) (keeps (λ (c : Cursor). Grown c.link) part at_part n (start s) h)
+  stopped s v (inr (inl (n, e))) h =
+      let t = transmit s in
+      let sent = keeps (λ (c : Cursor). Grown c.link) part at_part (length s.sender.queue) (start s) h in
+      let u = times n late_frame t in
+      stop_late u v u.there.late e (keeps Grown late_frame (λ s. after_late s s.there.late) n t sent)
+  stopped s v (inr (inr (inl (n, e)))) h =
+      let t = transmit s in
+      let r = late_frames t in
+      let sent = keeps (λ (c : Cursor). Grown c.link) part at_part (length s.sender.queue) (start s) h in
+      let late = keeps Grown late_frame (λ s. after_late s s.there.late) (length t.there.late) t sent in
+      let u = times n pass_frame r in
+      stop_frame u v u.there.ahead e (keeps Grown pass_frame (λ s. after_frame s s.there.ahead) n r late)
+  stopped s v (inr (inr (inr (inl e)))) h =
+      let t = transmit s in
+      let r = late_frames t in
+      let sent = keeps (λ (c : Cursor). Grown c.link) part at_part (length s.sender.queue) (start s) h in
+      let late = keeps Grown late_frame (λ s. after_late s s.there.late) (length t.there.late) t sent in
+      subst Grown (sym e) (keeps Grown pass_frame (λ s. after_frame s s.there.ahead) (length r.there.ahead) r late)
+  stopped s v (inr (inr (inr (inr (n, e))))) h =
+      let t = transmit s in
+      let r = late_frames t in
+      let a = acknowledge_all (pass_frames r) in
+      let x = late_acks a in
+      let sent = keeps (λ (c : Cursor). Grown c.link) part at_part (length s.sender.queue) (start s) h in
+      let late = keeps Grown late_frame (λ s. after_late s s.there.late) (length t.there.late) t sent in
+      let passed = keeps Grown pass_frame (λ s. after_frame s s.there.ahead) (length r.there.ahead) r late in
+      let told = keeps Grown late_ack (λ s. after_late_ack s s.back.late) (length a.back.late) a (record { base = passed.base; read = passed.read }) in
+      let u = times n pass_ack x in
+      stop_ack u v u.back.ahead e (keeps Grown pass_ack (λ s. after_ack_of s s.back.ahead) n x told)

@@ -32,3 +32,4 @@ pub mod Fuel
 pub mod Filling
 pub mod Worked
 pub mod Copied
+pub mod Written

@@ -132,7 +132,7 @@ module _ (known : Known) (s : Setup) (reads : List (List ℕ)) where
   pub fed_so_far : (c : CopyState) → c.status ≡ Running → SoFar c → SoFar (feed s.chunk c)
   fed_so_far c on h = feeds SoFar s.chunk c (λ more room all. read_so_far c on more h) h
 
-  decided_so_far : (c : CopyState) → c.status ≡ Running → SoFar c → SoFar (decide s.rounds c)
+  pub decided_so_far : (c : CopyState) → c.status ≡ Running → SoFar c → SoFar (decide s.rounds c)
   decided_so_far c on h =
       let w : Writes s.first c.given c = h.writes in
       decides SoFar s.rounds c
@@ -140,7 +140,7 @@ module _ (known : Known) (s : Setup) (reads : List (List ℕ)) where
       (λ many. record { writes = record { carries = w.carries; written = w.written }; coming = h.coming; over = h.over; done = λ d. absurd (cc) })
       (λ few. h)
 
-  passed_so_far : (c : CopyState) → c.status ≡ Running → SoFar c → SoFar (pass s.chunk c)
+  pub passed_so_far : (c : CopyState) → c.status ≡ Running → SoFar c → SoFar (pass s.chunk c)
   passed_so_far c on h = record {
     writes = pass_writes known s.first c.given s.chunk c h.writes;
     coming = h.coming;
@@ -167,7 +167,7 @@ module _ (known : Known) (s : Setup) (reads : List (List ℕ)) where
   so_far fits n = all_turned SoFar s.rounds s.chunk fed_so_far decided_so_far passed_so_far n (begin s reads) (begun_so_far fits)
 
 -- so many first bytes
-starts_with : (xs ys zs : List ℕ) → ys ++ zs ≡ xs → StartsWith xs ys
+pub starts_with : (xs ys zs : List ℕ) → ys ++ zs ≡ xs → StartsWith xs ys
 starts_with xs ys zs e = ap (take (length ys)) (sym e) ∙ take-append_seam ys zs
 
 starts_take : (n : ℕ) (xs : List ℕ) → StartsWith xs (take n xs)

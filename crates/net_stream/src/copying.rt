@@ -1,12 +1,14 @@
 //! From a reader over a link to a writer.
 ghost use Rattle.std.specs.Prelude.{◌≡◌, ◌⊎◌, length, IfOk};
+ghost use Rattle.std.specs.Result.{is_ok};
 ghost use Rattle.net_stream.specs.CopyState.{setup_over, setup_of};
-ghost use Rattle.net_stream.specs.Copying.{HasCopied, HasNotBegun};
+ghost use Rattle.net_stream.specs.Copying.{HasCopied, HasNotBegun, Copies};
 
 use crate::copier::Copier;
 use crate::counts::Counts;
 use crate::error::LinkError;
 use crate::fate::LinkFates;
+use crate::laws;
 use net_program::flush_after;
 use net_storage::ManagedSlice;
 use std::alloc::{AllocError, Allocator};
@@ -56,7 +58,11 @@ pub fn copy_over<'a, 'f, A: Allocator + Copy, R: Read, W: Write>(
         fates.entry.frames fates.entry.acks) result
         (R.remaining reader.old) (R.remaining reader.new)
         (W.contents writer.old) (W.contents writer.new) counts.new }
+    ensures copied { Copies (R.remaining reader.old) (R.remaining reader.new)
+        (W.contents writer.old) (W.contents writer.new)
+        counts.new.taken counts.new.bytes (is_ok result) }
 {
+    laws::known();
     let CopyBuffers {
         outgoing,
         incoming,
@@ -116,6 +122,9 @@ pub fn copy<'f, A: Allocator + Copy, R: Read, W: Write>(
         (W.contents writer.old) (W.contents writer.new) counts.new
         ⊎ HasNotBegun result (R.remaining reader.old) (R.remaining reader.new)
         (W.contents writer.old) (W.contents writer.new) counts.new }
+    ensures copied { Copies (R.remaining reader.old) (R.remaining reader.new)
+        (W.contents writer.old) (W.contents writer.new)
+        counts.new.taken counts.new.bytes (is_ok result) }
 {
     let Ok(mut storage) = storage_of(alloc, config.capacity) else {
         *counts = Counts::new();

@@ -1,8 +1,10 @@
 //! A round.
-ghost use Rattle.std.specs.Prelude.{◌≡◌, OnOk, OnErr};
+ghost use Rattle.std.specs.Prelude.{◌≡◌, ℕ, List, OnOk, OnErr};
 ghost use Rattle.net_stream.specs.LinkState.{next_flight, round, StopsRound};
+ghost use Rattle.net_stream.specs.Links.{Carries};
 
 use super::Link;
+use crate::laws;
 use crate::reported::MOST_REPORTED;
 use std::alloc::{AllocError, Allocator};
 
@@ -29,7 +31,10 @@ impl<'a, 'f, A: Allocator + Copy> Link<'a, 'f, A> {
     pub fn pass_round(&mut self) -> Result<(), AllocError>
         ensures state { OnOk result (self.new ≡ round self.old) }
         ensures err { OnErr result (StopsRound self.old self.new) }
+        ensures carries { (f : ℕ) (w : List ℕ) → Carries f w self.old → Carries f w self.new }
+        ensures read { self.new.receiver.read ≡ self.old.receiver.read }
     {
+        laws::known();
         self.transmit()?;
         self.late_frames()?;
         self.pass_frames()?;

@@ -1,5 +1,5 @@
 //! Step 1 of a round: the sender's frames are put on their way.
-ghost use Rattle.std.specs.Prelude.{◌≡◌, ◌≤◌, ◌<◌, ℕ, OnOk, OnErr, IfOk};
+ghost use Rattle.std.specs.Prelude.{◌≡◌, ◌≤◌, ◌<◌, ◌^◌, ℕ, OnOk, OnErr, IfOk};
 ghost use Rattle.net_stream.specs.Outgoing.{end_of};
 ghost use Rattle.net_stream.specs.LinkState.{times, start, part, part_at, transmit};
 
@@ -43,6 +43,7 @@ impl<'a, 'f, A: Allocator + Copy> Link<'a, 'f, A> {
     pub(super) fn transmit(&mut self) -> Result<(), AllocError>
         ensures ok { OnOk result (self.new ≡ transmit self.old) }
         ensures err { OnErr result ((n : ℕ) × (self.new ≡ (times n part (start self.old)).link)) }
+        ensures fits { end_of self.old.sender < 2 ^ 64 }
     {
         let stop = self.sender.stop();
         let mut left = self.flight.max(1);

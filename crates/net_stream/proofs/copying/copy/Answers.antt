@@ -2,22 +2,25 @@ use Rattle.std.proofs.Common.{length, ap, subst, ◌∙◌, inl, inr}
 use Rattle.net_stream.specs.CopyState.{Setup, setup_over}
 use Rattle.net_stream.specs.Copying.{HasCopied}
 use Rattle.net_stream.proofs.Copied.{not_begun}
+use Rattle.net_stream.proofs.Written.{unbegun}
 use Rattle.net_stream.proofs.copying.copy.Goals as goal
 
-pub returns-in_default : goal.returns-in_default
-returns-in_default g c = record {
-  exact = inr (not_begun c.flush_after.result (g.R.Read.remaining c.args.reader.now) (g.W.Write.contents c.args.writer.now)
-      (g.W.Write.contents c.flush_after.new.writer) c.new.result c.flush_after.ensures.kept c.flush_after.ensures.ended c.new.ensures);
-}
+pub returns-in_default-clause-exact : goal.returns-in_default-clause-exact
+returns-in_default-clause-exact g c = inr (not_begun c.flush_after.result (g.R.Read.remaining c.args.reader.now) (g.W.Write.contents c.args.writer.now)
+    (g.W.Write.contents c.flush_after.new.writer) c.new.result c.flush_after.ensures.kept c.flush_after.ensures.ended c.new.ensures)
 
-pub returns : goal.returns
-returns g c =
+pub returns-in_default-clause-copied : goal.returns-in_default-clause-copied
+returns-in_default-clause-copied g c = unbegun c.flush_after.result (g.R.Read.remaining c.args.reader.now) (g.R.Read.remaining c.args.reader.now)
+    (g.W.Write.contents c.args.writer.now) (g.W.Write.contents c.flush_after.new.writer) c.new.result
+    (not_begun c.flush_after.result (g.R.Read.remaining c.args.reader.now) (g.W.Write.contents c.args.writer.now)
+    (g.W.Write.contents c.flush_after.new.writer) c.new.result c.flush_after.ensures.kept c.flush_after.ensures.ended c.new.ensures)
+
+pub returns-clause-exact : goal.returns-clause-exact
+returns-clause-exact g c =
     let outgoing = ap length c.deref_mut.ensures.value ∙ c.in-Ok.ensures.0 in
     let incoming = ap length c.deref_mut-2.ensures.value ∙ c.in-Ok.ensures.1 in
     let chunk = ap length c.deref_mut-3.ensures.value ∙ c.in-Ok.ensures.2 in
-    record {
-      exact = inl (subst (λ (s : Setup). HasCopied s c.copy_over.result (g.R.Read.remaining c.args.reader.now) (g.R.Read.remaining c.copy_over.new.reader)
-          (g.W.Write.contents c.args.writer.now) (g.W.Write.contents c.copy_over.new.writer) c.copy_over.new.counts)
-          (λ i. setup_over c.args.config (outgoing i) (incoming i) (chunk i) c.args.fates.frames c.args.fates.acks)
-          c.copy_over.ensures.exact);
-    }
+    inl (subst (λ (s : Setup). HasCopied s c.copy_over.result (g.R.Read.remaining c.args.reader.now) (g.R.Read.remaining c.copy_over.new.reader)
+    (g.W.Write.contents c.args.writer.now) (g.W.Write.contents c.copy_over.new.writer) c.copy_over.new.counts)
+    (λ i. setup_over c.args.config (outgoing i) (incoming i) (chunk i) c.args.fates.frames c.args.fates.acks)
+    c.copy_over.ensures.exact)

@@ -1,5 +1,8 @@
-use Rattle.std.proofs.Common.{ap, ◌∙◌}
-use Rattle.net_stream.specs.LinkState.{LinkState, next_flight, late_frames, pass_frames, acknowledge_all, late_acks, pass_acks, with_flight, round}
+use Rattle.std.proofs.Common.{rules, refl, sym, ap, subst, ◌∙◌, arith}
+use Rattle.net_stream.specs.LinkState.{LinkState, next_flight, late_frames, pass_frames, acknowledge_all, late_acks, pass_acks, with_flight, round, StopsRound}
+use Rattle.net_stream.specs.Links.{Carries}
+use Rattle.net_stream.proofs.Kept.{round_carries, stop_carries}
+use Rattle.net_stream.proofs.Grown.{grown, stopped}
 use Rattle.net_stream.proofs.link.Link.pass_round.Goals as goal
 
 pub returns-clause-state : goal.returns-clause-state
@@ -14,3 +17,73 @@ returns-clause-state g c =
     (λ i. record (c.self.view_is i) {
       flight = (flight ∙ ap (λ (l : LinkState). (with_flight l).flight) c.self.view_is) i;
     }) ∙ ap with_flight acked
+
+pub returns-clause-carries : goal.returns-clause-carries
+returns-clause-carries g c = λ f w h.
+    subst (Carries f w) (sym (returns-clause-state g c)) (round_carries c.known.ensures f w c.args.self.now (record { way = h; fits = c.transmit.ensures.fits })).way
+
+pub returns-clause-read : goal.returns-clause-read
+returns-clause-read g c =
+    let l = c.args.self.now in
+    ap (λ (m : LinkState). m.receiver.read) (returns-clause-state g c)
+    ∙ (grown c.known.ensures.reads_nothing l.sender.base l.receiver.read l (record { base = omega arith; read = refl })).read
+
+pub returns-in_err-transmit-clause-carries : goal.returns-in_err-transmit-clause-carries
+returns-in_err-transmit-clause-carries g c = λ f w h.
+    let l = c.args.self.now in
+    let stop : StopsRound l c.transmit.new.self = search rules in
+    (stop_carries c.known.ensures f w l c.transmit.new.self stop (record { way = h; fits = c.transmit.ensures.fits })).way
+
+pub returns-in_err-transmit-clause-read : goal.returns-in_err-transmit-clause-read
+returns-in_err-transmit-clause-read g c =
+    let l = c.args.self.now in
+    let stop : StopsRound l c.transmit.new.self = search rules in
+    (stopped c.known.ensures.reads_nothing l.sender.base l.receiver.read l c.transmit.new.self stop (record { base = omega arith; read = refl })).read
+
+pub returns-in_err-late_frames-clause-carries : goal.returns-in_err-late_frames-clause-carries
+returns-in_err-late_frames-clause-carries g c = λ f w h.
+    let l = c.args.self.now in
+    let stop : StopsRound l c.late_frames.new.self = search rules in
+    (stop_carries c.known.ensures f w l c.late_frames.new.self stop (record { way = h; fits = c.transmit.ensures.fits })).way
+
+pub returns-in_err-late_frames-clause-read : goal.returns-in_err-late_frames-clause-read
+returns-in_err-late_frames-clause-read g c =
+    let l = c.args.self.now in
+    let stop : StopsRound l c.late_frames.new.self = search rules in
+    (stopped c.known.ensures.reads_nothing l.sender.base l.receiver.read l c.late_frames.new.self stop (record { base = omega arith; read = refl })).read
+
+pub returns-in_err-pass_frames-clause-carries : goal.returns-in_err-pass_frames-clause-carries
+returns-in_err-pass_frames-clause-carries g c = λ f w h.
+    let l = c.args.self.now in
+    let stop : StopsRound l c.pass_frames.new.self = search rules in
+    (stop_carries c.known.ensures f w l c.pass_frames.new.self stop (record { way = h; fits = c.transmit.ensures.fits })).way
+
+pub returns-in_err-pass_frames-clause-read : goal.returns-in_err-pass_frames-clause-read
+returns-in_err-pass_frames-clause-read g c =
+    let l = c.args.self.now in
+    let stop : StopsRound l c.pass_frames.new.self = search rules in
+    (stopped c.known.ensures.reads_nothing l.sender.base l.receiver.read l c.pass_frames.new.self stop (record { base = omega arith; read = refl })).read
+
+pub returns-in_err-acknowledge_all-clause-carries : goal.returns-in_err-acknowledge_all-clause-carries
+returns-in_err-acknowledge_all-clause-carries g c = λ f w h.
+    let l = c.args.self.now in
+    let stop : StopsRound l c.acknowledge_all.new.self = search rules in
+    (stop_carries c.known.ensures f w l c.acknowledge_all.new.self stop (record { way = h; fits = c.transmit.ensures.fits })).way
+
+pub returns-in_err-acknowledge_all-clause-read : goal.returns-in_err-acknowledge_all-clause-read
+returns-in_err-acknowledge_all-clause-read g c =
+    let l = c.args.self.now in
+    let stop : StopsRound l c.acknowledge_all.new.self = search rules in
+    (stopped c.known.ensures.reads_nothing l.sender.base l.receiver.read l c.acknowledge_all.new.self stop (record { base = omega arith; read = refl })).read
+
+pub returns-in_err-pass_acks-clause-carries : goal.returns-in_err-pass_acks-clause-carries
+returns-in_err-pass_acks-clause-carries g c = λ f w h.
+    let l = c.args.self.now in
+    let stop : StopsRound l c.pass_acks.new.self = search rules in
+    (stop_carries c.known.ensures f w l c.pass_acks.new.self stop (record { way = h; fits = c.transmit.ensures.fits })).way
+
+pub returns-in_err-pass_acks-clause-read : goal.returns-in_err-pass_acks-clause-read
+returns-in_err-pass_acks-clause-read g c =
+    let l = c.args.self.now in
+    let stop : StopsRound l c.pass_acks.new.self = search rules in
+    (stopped c.known.ensures.reads_nothing l.sender.base l.receiver.read l c.pass_acks.new.self stop (record { base = omega arith; read = refl })).read
