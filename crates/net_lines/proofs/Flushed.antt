@@ -6,7 +6,7 @@ use Rattle.std.proofs.Common.{⊎_elim}
 use Rattle.std.specs.Io.KnownBytes.{Appends, Keeps}
 use Rattle.net_program.specs.Writing.{AppendsPrefix, FlushesAfter}
 use Rattle.net_program.specs.declared.ending.Status.{Status}
-use Rattle.net_program.specs.declared.ending.Status.TheVariants.{Done, Failed, Misused}
+use Rattle.net_program.specs.declared.ending.Status.TheVariants.{Done, Failed, Misused, GaveUp}
 use Rattle.net_program.proofs.KnownBytes.{Appends-kept, StartsWith-all}
 use Rattle.net_lines.specs.Text.{lines_of}
 use Rattle.net_lines.specs.Transcript.{Transcript, ErrorOfInput}
@@ -20,6 +20,7 @@ abbrev is_done : Status → Bool
 is_done Done = true
 is_done Failed = false
 is_done Misused = false
+is_done GaveUp = false
 
 -- an input without a fault, of which all was written
 abbrev pub Ran : Transcript → Option (List ℕ) → Option (List ℕ) → Option (List ℕ) → Type 0

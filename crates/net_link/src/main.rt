@@ -1,7 +1,7 @@
 //! Copies standard input to standard output over a link that loses, repeats and reorders frames.
 #![tactic(auto)]
 
-use net_link_serve::{Remembering, serve};
+use net_link_serve::{Messages, Remembering, serve};
 use net_program::command_words;
 use std::process::ExitCode;
 
@@ -12,7 +12,7 @@ fn main(rt: HostRuntime) -> ExitCode {
         &words,
         &mut Remembering::new(rt.stdin()),
         &mut Remembering::new(rt.stdout()),
-        &mut rt.stderr(),
+        &mut Messages::new(rt.stderr()),
     );
     ended.exit_code()
 }

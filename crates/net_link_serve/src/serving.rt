@@ -1,18 +1,19 @@
 //! The program, from its words and streams to its exit status.
-ghost use Rattle.std.specs.Prelude.{◌≡◌, ◌↔◌, IsErr, map, string_bytes, true};
-ghost use Rattle.std.specs.Io.KnownBytes.{Appends};
+ghost use Rattle.std.specs.Prelude.{◌≡◌, ◌↔◌, ◌⊎◌, IsErr, map, string_bytes, true, false};
+ghost use Rattle.std.specs.Io.KnownBytes.{Appends, Keeps};
+ghost use Rattle.net_stream.specs.Copying.{HasCopied, HasNotBegun};
 ghost use Rattle.net_program.specs.declared.ending.Status.TheVariants.{Misused};
 ghost use Rattle.net_link_serve.specs.Words.{numbers, asked_of};
 ghost use Rattle.net_link_serve.specs.Usage.{misuse_lines};
-ghost use Rattle.net_link_serve.specs.Serving.{config_of, rates_of, status_of, CopiesOver, Helps, FailsToWrite};
+ghost use Rattle.net_link_serve.specs.Serving.{config_of, rates_of, setup_for, status_of, CopiesOver, Helps, FailsToWrite};
 ghost use Rattle.net_link_serve.specs.Serving.{ComesOf};
 
-use crate::streams::Remembering;
+use crate::streams::{Messages, Remembering};
 use crate::summary::{write_summary, write_unwritten};
 use crate::usage::{usage_text, write_misuse};
 use crate::words::{Asked, Misuse, Plan, asked_of, numbers};
 use net_program::{Ended, Status, flush_after, write_text};
-use net_stream::{Config, Counts, Fates, LinkError, LinkFates, Rates, copy};
+use net_stream::{Config, Counts, Fates, LinkError, LinkFates, Rates, copy, copy_watched};
 use std::alloc::Allocator;
 use std::io;
 use std::io::{Read, Write};
@@ -117,26 +118,49 @@ fn say_unwritten<A: Allocator + Copy, E: Write>(
     }
 }
 
+/// Makes the copy of a plan, and tells its progress if the plan asks for that.
+fn carry<A: Allocator + Copy, R: Read, W: Write, E: Write>(
+    alloc: A,
+    plan: Plan,
+    reader: &mut Remembering<R>,
+    writer: &mut Remembering<W>,
+    errors: &mut Messages<E>,
+    counts: &mut Counts,
+) -> Result<(), LinkError>
+    ensures exact { HasCopied (setup_for plan) result
+        (R.remaining reader.old.stream) (R.remaining reader.new.stream)
+        (W.contents writer.old.stream) (W.contents writer.new.stream) counts.new
+        ⊎ HasNotBegun result (R.remaining reader.old.stream) (R.remaining reader.new.stream)
+        (W.contents writer.old.stream) (W.contents writer.new.stream) counts.new }
+    ensures quiet { plan.shows_progress ≡ false →
+        Keeps (E.contents errors.old.stream) (E.contents errors.new.stream) }
+{
+    let fates = LinkFates {
+        frames: Fates::new(&[], plan.seed, rates(plan)),
+        acks: Fates::new(&[], !plan.seed, rates(plan)),
+    };
+    if plan.shows_progress {
+        return copy_watched(alloc, config(plan), fates, errors, reader, writer, counts);
+    }
+    copy(alloc, config(plan), fates, reader, writer, counts)
+}
+
 /// Makes the copy of a plan, and says how it ended.
 fn copy_over_link<A: Allocator + Copy, R: Read, W: Write, E: Write>(
     alloc: A,
     plan: Plan,
     reader: &mut Remembering<R>,
     writer: &mut Remembering<W>,
-    errors: &mut E,
+    errors: &mut Messages<E>,
 ) -> Ended
     ensures { CopiesOver plan (R.remaining reader.old.stream) (R.remaining reader.new.stream)
         (W.contents writer.old.stream) (W.contents writer.new.stream)
-        (E.contents errors.old) (E.contents errors.new) result }
+        (E.contents errors.old.stream) (E.contents errors.new.stream) result }
 {
-    let fates = LinkFates {
-        frames: Fates::new(&[], plan.seed, rates(plan)),
-        acks: Fates::new(&[], !plan.seed, rates(plan)),
-    };
     let mut counts = Counts::new();
-    let ended = copy(alloc, config(plan), fates, reader, writer, &mut counts);
+    let ended = carry(alloc, plan, reader, writer, errors, &mut counts);
     let cause = cause_of(alloc, reader.error.or(writer.error));
-    let told = write_summary(errors, &ended, cause.as_str(), &counts);
+    let told = write_summary(&mut errors.stream, &ended, cause.as_str(), &counts);
     Ended {
         status: status(&ended),
         is_told: told.is_ok(),
@@ -148,7 +172,8 @@ fn copy_over_link<A: Allocator + Copy, R: Read, W: Write, E: Write>(
 /// `--help` writes how the program is used to the writer: the status is `Done`, or `Failed` if it
 /// couldn't be written. For a copy the reader's bytes go to the writer over the link that the words
 /// ask for, what is written is a prefix of what was read, and a line of counts is written to `errors`,
-/// after a line that says the error, if there was one, and why a read or a write failed. The status is
+/// after a line that says the error, if there was one, and why a read or a write failed; with
+/// `--progress` it is told the counts so far, too. The status is
 /// `Done` if all was written and flushed, `GaveUp` if the copy gave up, and `Failed` after another
 /// error. Words that ask for nothing are `Misused`: nothing is read, and nothing is written but what
 /// is wrong with them and how the program is used, to `errors`. Whether `errors` takes what there is
@@ -158,17 +183,17 @@ pub fn serve<A: Allocator + Copy, R: Read, W: Write, E: Write>(
     words: &[String],
     reader: &mut Remembering<R>,
     writer: &mut Remembering<W>,
-    errors: &mut E,
+    errors: &mut Messages<E>,
 ) -> Ended
     ensures usage { (result.status ≡ Misused) ↔ IsErr (asked_of (map string_bytes words.now)) }
     ensures comes { ComesOf (map string_bytes words.now) (asked_of (map string_bytes words.now))
         (R.remaining reader.old.stream) (R.remaining reader.new.stream)
         (W.contents writer.old.stream) (W.contents writer.new.stream)
-        (E.contents errors.old) (E.contents errors.new) result }
+        (E.contents errors.old.stream) (E.contents errors.new.stream) result }
 {
     match asked_of(words) {
-        Ok(Asked::Help) => help(alloc, writer, errors),
+        Ok(Asked::Help) => help(alloc, writer, &mut errors.stream),
         Ok(Asked::Copy(plan)) => copy_over_link(alloc, plan, reader, writer, errors),
-        Err(misuse) => refuse(words, misuse, errors),
+        Err(misuse) => refuse(words, misuse, &mut errors.stream),
     }
 }

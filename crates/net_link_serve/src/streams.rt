@@ -1,6 +1,8 @@
-//! Streams that remember why they failed.
+//! Streams that remember why they failed, and standard error, which is told of progress.
 ghost use Rattle.std.specs.Prelude.{◌≡◌};
 
+use crate::summary::write_counts;
+use net_stream::{Counts, Watch};
 use std::io;
 use std::io::{ErrorKind, Read, Write};
 
@@ -66,5 +68,32 @@ impl<W: Write> Write for Remembering<W> {
             self.remember(*error);
         }
         result
+    }
+}
+
+/// After how many rounds each the counts so far are told.
+const ROUNDS_EACH: u64 = 256;
+
+/// Standard error: it takes the program's messages, and the counts so far of a copy that it watches.
+#[derive(Drop)]
+pub struct Messages<E> {
+    /// What the messages are written to.
+    pub stream: E,
+}
+
+impl<E> Messages<E> {
+    /// Returns messages that are written to this stream.
+    pub fn new(stream: E) -> Messages<E>
+        ensures { result.stream ≡ stream }
+    {
+        Messages { stream }
+    }
+}
+
+impl<E: Write> Watch for Messages<E> {
+    fn round(&mut self, counts: &Counts) {
+        if counts.rounds % ROUNDS_EACH == 0 {
+            let _ = write_counts(&mut self.stream, counts);
+        }
     }
 }

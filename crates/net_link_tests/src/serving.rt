@@ -1,5 +1,5 @@
 //! What comes of copies. The counts are those that a second program finds, written from docs/LINK.md.
-use net_link_serve::{Remembering, serve};
+use net_link_serve::{Messages, Remembering, serve};
 use net_program::{Ended, Status};
 use net_testing::{NEVER, Refusing, Sink, Source};
 use std::alloc::{AllocError, Global};
@@ -377,12 +377,12 @@ fn check(rt: &impl Abort, alloc: Global, case: &Case) -> Result<(), Fail> {
     if !case.is_flushed {
         writer.stream.flush_kind = Some(kind);
     }
-    let mut errors = Sink::new(alloc)?;
+    let mut errors = Messages::new(Sink::new(alloc)?);
     let ended = serve(alloc, &words, &mut reader, &mut writer, &mut errors);
     let sink = &writer.stream;
     assert_ended(rt, ended, case.status, case.words);
     assert_prefix(rt, &sink.bytes, &input, case.written, case.words);
-    assert_bytes(rt, &errors.bytes, case.told.as_bytes(), case.words);
+    assert_bytes(rt, &errors.stream.bytes, case.told.as_bytes(), case.words);
     assert!(rt; sink.flushes == 1, "{}", case.words);
     Ok(())
 }
@@ -415,11 +415,11 @@ Time is simulated: the program waits for nothing but its input.
 fn check_misuse(rt: &impl Abort, alloc: Global, words: &[String], line: &str) -> Result<(), Fail> {
     let mut reader = Remembering::new(Source::new(b"some text"));
     let mut writer = Remembering::new(Sink::new(alloc)?);
-    let mut errors = Sink::new(alloc)?;
+    let mut errors = Messages::new(Sink::new(alloc)?);
     let ended = serve(alloc, words, &mut reader, &mut writer, &mut errors);
     let wanted = format!(in alloc; "net_link: {line}\n{USAGE}")?;
     assert_ended(rt, ended, Status::Misused, line);
-    assert_bytes(rt, &errors.bytes, wanted.as_bytes(), line);
+    assert_bytes(rt, &errors.stream.bytes, wanted.as_bytes(), line);
     let sink = &writer.stream;
     assert!(rt; reader.stream.calls == 0 && sink.calls == 0 && sink.flushes == 0);
     Ok(())
@@ -480,12 +480,12 @@ fn check_help(
     let words = words_of(alloc, line)?;
     let mut reader = Remembering::new(Source::new(b"some text"));
     let mut writer = Remembering::new(Sink::failing(alloc, 100, failing_call, None)?);
-    let mut errors = Sink::new(alloc)?;
+    let mut errors = Messages::new(Sink::new(alloc)?);
     let ended = serve(alloc, &words, &mut reader, &mut writer, &mut errors);
     let sink = &writer.stream;
     assert_ended(rt, ended, status, line);
     assert_prefix(rt, &sink.bytes, USAGE.as_bytes(), written, line);
-    assert_bytes(rt, &errors.bytes, told.as_bytes(), line);
+    assert_bytes(rt, &errors.stream.bytes, told.as_bytes(), line);
     assert!(rt; reader.stream.calls == 0 && sink.flushes == 1);
     Ok(())
 }
@@ -506,13 +506,13 @@ fn check_refused_memory(rt: &impl Abort, alloc: Global, refused: usize) -> Resul
     let words = words_of(alloc, "0 1")?;
     let mut reader = Remembering::new(Source::new(b"some text"));
     let mut writer = Remembering::new(Sink::new(alloc)?);
-    let mut errors = Sink::new(alloc)?;
+    let mut errors = Messages::new(Sink::new(alloc)?);
     let ended = serve(&heap, &words, &mut reader, &mut writer, &mut errors);
     assert_ended(rt, ended, Status::Failed, "refused");
     let told =
         b"net_link: out of memory\n0 bytes, 0 frames, 0 lost, 0 repeated, 0 late, 0 refused, \
         0 bytes sent again, 0 rounds, 0 bytes a second\n";
-    assert_bytes(rt, &errors.bytes, told, "refused");
+    assert_bytes(rt, &errors.stream.bytes, told, "refused");
     Ok(())
 }
 
@@ -529,10 +529,11 @@ fn check_untold(rt: &impl Abort, alloc: Global, line: &str, status: Status) -> R
     let words = words_of(alloc, line)?;
     let mut reader = Remembering::new(Source::new(b"some text"));
     let mut writer = Remembering::new(Sink::new(alloc)?);
-    let mut errors = Sink::failing(alloc, usize::MAX, 0, Some(ErrorKind::Other))?;
+    let sink = Sink::failing(alloc, usize::MAX, 0, Some(ErrorKind::Other))?;
+    let mut errors = Messages::new(sink);
     let ended = serve(alloc, &words, &mut reader, &mut writer, &mut errors);
     assert!(rt; ended.status == status && !ended.is_told, "{line}");
-    assert_bytes(rt, &errors.bytes, b"", line);
+    assert_bytes(rt, &errors.stream.bytes, b"", line);
     Ok(())
 }
 

@@ -16,6 +16,7 @@ use crate::fate::LinkFates;
 use crate::laws;
 use crate::link::Link;
 use crate::timer::{first_wait, next_wait};
+use crate::watch::Watch;
 use net_base::time::Duration;
 use net_program::write_text;
 use net_ring::ManagedSlice;
@@ -189,10 +190,11 @@ impl<'a, 'f, A: Allocator + Copy> Copier<'a, 'f, A> {
     }
 
     /// Makes turns until all is written, nothing comes on any more, or an error ends it.
-    pub(crate) fn run<R: Read, W: Write>(
+    pub(crate) fn run<T: Watch, R: Read, W: Write>(
         &mut self,
         rounds: u64,
         chunk: &mut [u8],
+        watch: &mut T,
         reader: &mut R,
         writer: &mut W,
     ) -> Result<(), LinkError>
@@ -213,6 +215,7 @@ impl<'a, 'f, A: Allocator + Copy> Copier<'a, 'f, A> {
                 return Err(LinkError::GaveUp);
             }
             self.pass(chunk, writer)?;
+            watch.round(&self.counts());
         }
     }
 }

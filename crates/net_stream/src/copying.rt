@@ -9,6 +9,7 @@ use crate::counts::Counts;
 use crate::error::LinkError;
 use crate::fate::LinkFates;
 use crate::laws;
+use crate::watch::{Nobody, Watch};
 use net_program::flush_after;
 use net_ring::ManagedSlice;
 use std::alloc::{AllocError, Allocator};
@@ -43,6 +44,45 @@ pub struct CopyBuffers<'a> {
     pub chunk: &'a mut [u8],
 }
 
+/// Makes the turns of a copy over buffers that are lent, and returns how it ended and what was counted.
+fn turns_over<'a, 'f, A: Allocator + Copy, T: Watch, R: Read, W: Write>(
+    alloc: A,
+    config: Config,
+    fates: LinkFates<'f>,
+    buffers: CopyBuffers<'a>,
+    watch: &mut T,
+    reader: &mut R,
+    writer: &mut W,
+) -> (Result<(), LinkError>, Counts)
+    ensures exact { HasCopied (setup_over config (length buffers.entry.outgoing.now)
+        (length buffers.entry.incoming.now) (length buffers.entry.chunk.now)
+        fates.entry.frames fates.entry.acks) result.0
+        (R.remaining reader.old) (R.remaining reader.new)
+        (W.contents writer.old) (W.contents writer.new) result.1 }
+    ensures copied { Copies (R.remaining reader.old) (R.remaining reader.new)
+        (W.contents writer.old) (W.contents writer.new)
+        result.1.taken result.1.bytes (is_ok result.0) }
+{
+    laws::known();
+    let CopyBuffers {
+        outgoing,
+        incoming,
+        chunk,
+    } = buffers;
+    let mut copier = Copier::new(
+        alloc,
+        config,
+        fates,
+        ManagedSlice::Borrowed(outgoing),
+        ManagedSlice::Borrowed(incoming),
+    );
+    let ended = copier.run(config.rounds, chunk, watch, reader, writer);
+    (
+        flush_after(ended, LinkError::WriteFailed, writer),
+        copier.counts(),
+    )
+}
+
 /// `copy` over buffers that are lent. The capacity of the config isn't read.
 pub fn copy_over<'a, 'f, A: Allocator + Copy, R: Read, W: Write>(
     alloc: A,
@@ -62,22 +102,9 @@ pub fn copy_over<'a, 'f, A: Allocator + Copy, R: Read, W: Write>(
         (W.contents writer.old) (W.contents writer.new)
         counts.new.taken counts.new.bytes (is_ok result) }
 {
-    laws::known();
-    let CopyBuffers {
-        outgoing,
-        incoming,
-        chunk,
-    } = buffers;
-    let mut copier = Copier::new(
-        alloc,
-        config,
-        fates,
-        ManagedSlice::Borrowed(outgoing),
-        ManagedSlice::Borrowed(incoming),
-    );
-    let ended = copier.run(config.rounds, chunk, reader, writer);
-    *counts = copier.counts();
-    flush_after(ended, LinkError::WriteFailed, writer)
+    let (ended, counted) = turns_over(alloc, config, fates, buffers, &mut Nobody, reader, writer);
+    *counts = counted;
+    ended
 }
 
 /// The storage of a copy.
@@ -130,6 +157,32 @@ pub fn copy<'f, A: Allocator + Copy, R: Read, W: Write>(
         → (config.rounds ≤ counts.new.frames.lost + counts.new.frames.late)
         × (config.rounds ≤ counts.new.frames.lost + 1)) }
 {
+    copy_watched(alloc, config, fates, &mut Nobody, reader, writer, counts)
+}
+
+/// `copy`, of which `watch` is told the counts after each round.
+pub fn copy_watched<'f, A: Allocator + Copy, T: Watch, R: Read, W: Write>(
+    alloc: A,
+    config: Config,
+    fates: LinkFates<'f>,
+    watch: &mut T,
+    reader: &mut R,
+    writer: &mut W,
+    counts: &mut Counts,
+) -> Result<(), LinkError>
+    ensures exact { HasCopied (setup_of config fates.entry.frames fates.entry.acks) result
+        (R.remaining reader.old) (R.remaining reader.new)
+        (W.contents writer.old) (W.contents writer.new) counts.new
+        ⊎ HasNotBegun result (R.remaining reader.old) (R.remaining reader.new)
+        (W.contents writer.old) (W.contents writer.new) counts.new }
+    ensures copied { Copies (R.remaining reader.old) (R.remaining reader.new)
+        (W.contents writer.old) (W.contents writer.new)
+        counts.new.taken counts.new.bytes (is_ok result) }
+    ensures gave_up { IfErr result (λ e. gave_up e ≡ true
+        → HasPositions config.first counts.new.taken → 0 < config.capacity
+        → (config.rounds ≤ counts.new.frames.lost + counts.new.frames.late)
+        × (config.rounds ≤ counts.new.frames.lost + 1)) }
+{
     laws::gives_up_counted();
     let Ok(mut storage) = storage_of(alloc, config.capacity) else {
         *counts = Counts::new();
@@ -140,5 +193,7 @@ pub fn copy<'f, A: Allocator + Copy, R: Read, W: Write>(
         incoming: &mut storage.incoming,
         chunk: &mut storage.chunk,
     };
-    copy_over(alloc, config, fates, buffers, reader, writer, counts)
+    let (ended, counted) = turns_over(alloc, config, fates, buffers, watch, reader, writer);
+    *counts = counted;
+    ended
 }

@@ -13,8 +13,9 @@ mod path;
 mod reported;
 mod sender;
 mod timer;
+mod watch;
 
-pub use copying::{Config, CopyBuffers, copy, copy_over};
+pub use copying::{Config, CopyBuffers, copy, copy_over, copy_watched};
 pub use counts::{Counts, FrameCounts};
 pub use error::LinkError;
 pub use fate::{Fate, Fates, LinkFates, Rates};
@@ -23,3 +24,4 @@ pub use link::Link;
 pub use path::Path;
 pub use reported::Reported;
 pub use sender::{Sender, queue_from_greatest};
+pub use watch::Watch;

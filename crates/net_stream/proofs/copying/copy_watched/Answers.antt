@@ -3,7 +3,7 @@ use Rattle.net_stream.specs.CopyState.{Setup, setup_over}
 use Rattle.net_stream.specs.Copying.{HasCopied}
 use Rattle.net_stream.proofs.Copied.{not_begun}
 use Rattle.net_stream.proofs.Written.{enough, unbegun}
-use Rattle.net_stream.proofs.copying.copy.Goals as goal
+use Rattle.net_stream.proofs.copying.copy_watched.Goals as goal
 
 pub returns-in_default-clause-exact : goal.returns-in_default-clause-exact
 returns-in_default-clause-exact g c = inr (not_begun c.flush_after.result (g.R.Read.remaining c.args.reader.now) (g.W.Write.contents c.args.writer.now)
@@ -20,15 +20,15 @@ returns-clause-exact g c =
     let outgoing = ap length c.deref_mut.ensures.value ∙ c.in-Ok.ensures.0 in
     let incoming = ap length c.deref_mut-2.ensures.value ∙ c.in-Ok.ensures.1 in
     let chunk = ap length c.deref_mut-3.ensures.value ∙ c.in-Ok.ensures.2 in
-    inl (subst (λ (s : Setup). HasCopied s c.copy_over.result (g.R.Read.remaining c.args.reader.now) (g.R.Read.remaining c.copy_over.new.reader)
-    (g.W.Write.contents c.args.writer.now) (g.W.Write.contents c.copy_over.new.writer) c.copy_over.new.counts)
+    inl (subst (λ (s : Setup). HasCopied s c.turns_over-ended.result.0 (g.R.Read.remaining c.args.reader.now) (g.R.Read.remaining c.turns_over-ended.new.reader)
+    (g.W.Write.contents c.args.writer.now) (g.W.Write.contents c.turns_over-ended.new.writer) c.turns_over-ended.result.1)
     (λ i. setup_over c.args.config (outgoing i) (incoming i) (chunk i) c.args.fates.frames c.args.fates.acks)
-    c.copy_over.ensures.exact)
+    c.turns_over-ended.ensures.exact)
 
 pub returns-clause-gave_up : goal.returns-clause-gave_up
-returns-clause-gave_up g c = enough c.gives_up_counted.ensures.failed c.args.config c.args.fates.frames c.args.fates.acks (omega arith) c.copy_over.result
-    (g.R.Read.remaining c.args.reader.now) (g.R.Read.remaining c.copy_over.new.reader) (g.W.Write.contents c.args.writer.now)
-    (g.W.Write.contents c.copy_over.new.writer) c.copy_over.new.counts (returns-clause-exact g c)
+returns-clause-gave_up g c = enough c.gives_up_counted.ensures.failed c.args.config c.args.fates.frames c.args.fates.acks (omega arith) c.turns_over-ended.result.0
+    (g.R.Read.remaining c.args.reader.now) (g.R.Read.remaining c.turns_over-ended.new.reader) (g.W.Write.contents c.args.writer.now)
+    (g.W.Write.contents c.turns_over-ended.new.writer) c.turns_over-ended.result.1 (returns-clause-exact g c)
 
 pub returns-in_default-clause-gave_up : goal.returns-in_default-clause-gave_up
 returns-in_default-clause-gave_up g c = enough c.gives_up_counted.ensures.failed c.args.config c.args.fates.frames c.args.fates.acks (omega arith)

@@ -4,7 +4,7 @@ use Rattle.net_stream.specs.CopyState.{setup_over}
 use Rattle.net_stream.specs.Copying.{HasCopied}
 use Rattle.net_stream.proofs.Copied.{flushed}
 use Rattle.net_stream.proofs.Written.{short}
-use Rattle.net_stream.proofs.copying.copy_over.Goals as goal
+use Rattle.net_stream.proofs.copying.turns_over.Goals as goal
 
 pub returns-clause-exact : goal.returns-clause-exact
 returns-clause-exact g c =

@@ -1,0 +1,16 @@
+//! Who watches a copy.
+use crate::counts::Counts;
+
+/// Is told how far a copy is.
+pub trait Watch {
+    /// Takes the counts so far: called after each round, once what it brought is written.
+    fn round(&mut self, counts: &Counts);
+}
+
+/// Nobody.
+#[derive(Drop)]
+pub(crate) struct Nobody;
+
+impl Watch for Nobody {
+    fn round(&mut self, _counts: &Counts) {}
+}
