@@ -26,7 +26,8 @@ GIVEN_SIZE = {name: Size(f"packets: {name} of a size", 9, by=2) for name in GIVE
 TAKES = Test("packets: the closure of dequeue_with takes the packet")
 POPPED = Order("packets: pop_slice, room and packet")
 LAST = Test("packets: last_mut has a packet")
-RESET = Test("packets: reset finds a packet")
+USED_SIZE = Size("packets: slots used, digits", 6)
+RESET = Size("packets: slots used at a reset, digits", 5)
 
 
 class Packets:
@@ -45,7 +46,7 @@ class Packets:
         return sum(2 if gap else 1 for _, _, gap in self.packets)
 
     def show(self):
-        used = USED(self.used())
+        used = USED(USED_SIZE(self.used()))
         facts = truths(not self.packets, used == self.slots)
         return f"{used} {self.slots} {self.held()} {self.capacity} {facts}"
 
@@ -185,7 +186,7 @@ class Packets:
         return f"{self.leave()} {count} {show_bytes(into)}"
 
     def reset(self):
-        RESET(bool(self.packets))
+        RESET(self.used())
         self.at, self.packets = 0, []
         return "done"
 
@@ -229,10 +230,14 @@ def draw(random, cases, lines):
         slots = random.of_digits(6) if random.one_in(2) else random.below(5)
         count, seed = random.of_digits(12), random.below(1000)
         usual = random.of([0, count // 8, count // 4, count // 3, count // 2])
+        many = random.one_in(6)
+        if many:
+            slots, count = 16 + random.below(48), max(64, count)
+            usual = count // 64
         queue = Packets(slots, count, seed)
         cases.begin(f"packets {slots} {count} {seed}", queue.show())
-        for _ in range(30 + random.below(50)):
-            fills = random.below(8) < 5
+        for turn in range(70 if many else 30 + random.below(50)):
+            fills = random.below(8) < (8 if many and turn < 50 else 5)
             name = random.of(COMING) if fills else random.of(LEAVING)
             if random.one_in(6):
                 name = random.of(["peek", "last_mut", "last_mut", "peek", "reset"])

@@ -27,7 +27,7 @@ WRITES_OVER = Test("receiver: a segment writes other bytes over held ones")
 SACK = Count("receiver: runs that a segment lists", 3)
 WRAPS = Test("receiver: the queue goes round the storage's end")
 READ = Order("receiver: read, room and queue")
-READ_SIZE = Size("receiver: read gives", 9)
+READ_SIZE = Size("receiver: read gives", 9, by=2)
 PEEK = Order("receiver: peek, offset and queue")
 PEEK_SIZE = Size("receiver: peek finds", 7, by=2)
 PEEK_CUT = Test("receiver: peek is cut at the storage's end")
@@ -36,6 +36,7 @@ WITH = Order("receiver: read_with, counted and lent", ("below", "equal"))
 SAME = Test("receiver: equals the other one")
 DIFFERS = {part: Test(f"receiver: {part} is all in which two receivers differ")
            for part in ("the count read", "the queue", "the held runs")}
+PAST_END = Test("receiver: two queues differ only past the storage's end")
 COMMAND = Count("receiver: executes a command of kind", 2)
 LISTED = Count("receiver: commands of a list", 12)
 REPLIES = Size("receiver: replies in a list", 6)
@@ -200,6 +201,9 @@ class Pair:
         DIFFERS["the count read"](count != other and queue == others and held == runs)
         DIFFERS["the queue"](queue != others and count == other and held == runs)
         DIFFERS["the held runs"](held != runs and count == other and queue == others)
+        row, rows = self.now.row(), self.other.row()
+        PAST_END(row == rows and len(queue) == len(others) and queue[:row] == others[:row]
+                 and queue != others)
         same = SAME(self.now.state() == self.other.state())
         return truths(same, same)
 
@@ -343,6 +347,25 @@ def mirrored(random, cases, pair, step):
     add(cases, pair, "same_state", [])
 
 
+def twins(random, cases, pair):
+    """Two fresh receivers that take and read as much, in queues that go round the storage's end; the
+    bytes after it may differ."""
+    now = pair.now
+    if now.capacity < 2 or now.first + 2 * now.capacity > TOP:
+        return
+    count = 2 + random.below(now.capacity - 1)
+    read = 1 + random.below(count - 1)
+    rest = [now.capacity - count, 1 + random.below(read)]
+    seeds = [random.below(40) for _ in range(4)]
+    for last in seeds[2:]:
+        add(cases, pair, "segment", [pair.now.first, count, seeds[0]])
+        add(cases, pair, "read", [read, 0])
+        add(cases, pair, "segment", [pair.now.next, rest[0], seeds[1]])
+        add(cases, pair, "segment", [pair.now.next, rest[1], last])
+        add(cases, pair, "swap", [])
+    add(cases, pair, "same_state", [])
+
+
 def add(cases, pair, name, numbers):
     cases.add(name, numbers, getattr(pair, name)(*numbers), pair.show())
 
@@ -359,6 +382,8 @@ def draw(random, cases, lines):
             first = TOP - capacity
         pair = Pair(capacity, most, first)
         cases.begin(f"receiver {capacity} {most} {first}", pair.show())
+        if random.one_in(5):
+            twins(random, cases, pair)
         if random.one_in(3):
             filled(random, cases, pair, step)
         if random.one_in(4):

@@ -1,6 +1,4 @@
 //! Blocks of lines.
-ghost use Rattle.std.specs.Prelude.{◌≤◌};
-
 use crate::assembler::Pair as Assemblers;
 use crate::call::Call;
 use crate::cells::cells;
@@ -19,10 +17,10 @@ use std::alloc::{AllocError, Global};
 /// Appends the replies to blocks of lines, which are parted by an empty line, up to the first line that
 /// asks for no call.
 pub fn answer_blocks(alloc: Global, text: &str, replies: &mut String) -> Result<(), CaseError> {
-    let mut parted = "";
-    for block in text.split("\n\n") {
-        replies.push_str(parted)?;
-        parted = "\n";
+    for (number, block) in text.split("\n\n").enumerate() {
+        if number > 0 {
+            replies.push_str("\n")?;
+        }
         let (first, lines) = block.split_once('\n').unwrap_or((block, ""));
         if !answer_block(alloc, first, lines, replies)? {
             return Err(no_call(alloc, first)?);
@@ -88,25 +86,20 @@ fn receive(
     replies: &mut String,
 ) -> Result<bool, CaseError> {
     match runs {
-        1 => stream::<1>(alloc, capacity, first, lines, replies),
-        4 => stream::<4>(alloc, capacity, first, lines, replies),
-        32 => stream::<32>(alloc, capacity, first, lines, replies),
+        1 => {
+            let mut pair = Receivers::<1>::new(alloc, capacity, first)?;
+            play(alloc, &mut pair, lines, replies)
+        }
+        4 => {
+            let mut pair = Receivers::<4>::new(alloc, capacity, first)?;
+            play(alloc, &mut pair, lines, replies)
+        }
+        32 => {
+            let mut pair = Receivers::<32>::new(alloc, capacity, first)?;
+            play(alloc, &mut pair, lines, replies)
+        }
         _ => Ok(false),
     }
-}
-
-/// The same for a given number of runs.
-fn stream<const N: usize>(
-    alloc: Global,
-    capacity: u64,
-    first: u64,
-    lines: &str,
-    replies: &mut String,
-) -> Result<bool, CaseError>
-    requires { 1 ≤ N }
-{
-    let mut pair = Receivers::<N>::new(alloc, capacity, first)?;
-    play(alloc, &mut pair, lines, replies)
 }
 
 /// Makes the calls of lines on a subject. Each reply is what the call gave, and what can be seen then.

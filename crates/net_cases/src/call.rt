@@ -13,15 +13,16 @@ impl<'a> Call<'a> {
     /// Returns the call that a line asks for: words parted by a space, of which all but the first
     /// are numbers. `None` if one is not.
     pub fn of_line(alloc: Global, line: &'a str) -> Result<Option<Call<'a>>, AllocError> {
-        let (name, mut rest) = first_word(line);
+        let (name, rest) = first_word(line);
         let mut numbers = Vec::new(alloc);
-        while let Some(words) = rest {
-            let (word, after) = first_word(words);
+        let Some(words) = rest else {
+            return Ok(Some(Call { name, numbers }));
+        };
+        for word in words.split(' ') {
             let Some(number) = signed(word) else {
                 return Ok(None);
             };
             numbers.push(number)?;
-            rest = after;
         }
         Ok(Some(Call { name, numbers }))
     }

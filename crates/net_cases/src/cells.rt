@@ -91,7 +91,7 @@ fn mix_cells(sum: u64, cells: &[Cell]) -> u64 {
 }
 
 /// Makes a call.
-fn make(cells: &mut Cells, kind: Kind, value: u64) -> Reply {
+fn make(cells: &mut RingBuffer<'static, Cell>, kind: Kind, value: u64) -> Reply {
     match kind {
         Kind::EnqueueOne => enqueue_one(cells, value),
         Kind::DequeueOne => dequeue_one(cells, value),

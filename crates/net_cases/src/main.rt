@@ -33,8 +33,9 @@ fn main(rt: HostRuntime) -> ExitCode {
     match answer_input(&rt) {
         Ok(()) => ExitCode::from(0),
         Err(error) => {
-            let told = eprintln!(rt; "{error}");
-            ExitCode::from(if told.is_ok() { 1 } else { 3 })
+            // Whether standard error takes it changes nothing.
+            let _told = eprintln!(rt; "{error}");
+            ExitCode::from(1)
         }
     }
 }

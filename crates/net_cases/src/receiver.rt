@@ -239,13 +239,12 @@ fn same_state<const N: usize>(own: &Receiver<'_, N>, other: &Receiver<'_, N>) ->
 
 /// Returns the command of four numbers: 0, a position, a size and what bytes stand for; 1 and a count;
 /// or else `Show`. A segment that ends beyond the last position is `Show` too.
-fn command_of(alloc: Global, numbers: [u64; 4]) -> Result<Command, AllocError>
+fn command_of(alloc: Global, numbers: &[u64]) -> Result<Command, AllocError>
     ensures { IfOk result CommandFits }
 {
-    let [kind, pos, size, seed] = numbers;
-    match kind {
-        0 => segment_of(pos, pattern(alloc, size, seed)),
-        1 => Ok(Command::Read(pos)),
+    match numbers {
+        [0, pos, size, seed] => segment_of(*pos, pattern(alloc, *size, *seed)),
+        [1, count, ..] => Ok(Command::Read(*count)),
         _ => Ok(Command::Show),
     }
 }
@@ -266,13 +265,19 @@ fn commands_of(alloc: Global, numbers: &[u64]) -> Result<Vec<Command>, AllocErro
     ensures { IfOk result (λ commands. All CommandFits commands.items) }
 {
     let mut commands = Vec::new(alloc);
-    let mut rest = numbers;
-    while let [kind, pos, size, seed, after @ ..] = rest {
-        let command = command_of(alloc, [*kind, *pos, *size, *seed])?;
+    for index in 0..numbers.len() / 4 {
+        let command = command_of(alloc, four_from(numbers, index))?;
         commands.push(command)?;
-        rest = after;
     }
     Ok(commands)
+}
+
+/// Returns the four numbers of an index, counted in fours.
+fn four_from(numbers: &[u64], index: usize) -> &[u64] {
+    match numbers.chunks(4).nth(index) {
+        Some(four) => four,
+        None => &[],
+    }
 }
 
 /// Executes one command.
@@ -282,7 +287,7 @@ fn execute_one<const N: usize>(
     first: u64,
     numbers: [u64; 4],
 ) -> Result<Reply, AllocError> {
-    let command = command_of(alloc, numbers)?;
+    let command = command_of(alloc, &numbers)?;
     Ok(show_reply(&execute(alloc, receiver, &command)?, first))
 }
 

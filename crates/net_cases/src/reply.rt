@@ -78,10 +78,10 @@ impl Reply {
 
     /// Appends the parts, parted by a space.
     pub fn append_to(&self, text: &mut String) -> Result<(), AllocError> {
-        let mut parted = "";
-        for part in self.parts.iter().take(self.count) {
-            text.push_str(parted)?;
-            parted = " ";
+        for (number, part) in self.parts.iter().take(self.count).enumerate() {
+            if number > 0 {
+                text.push_str(" ")?;
+            }
             append(*part, text)?;
         }
         Ok(())
