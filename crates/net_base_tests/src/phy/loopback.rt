@@ -138,10 +138,11 @@ fn sends_many<A: Allocator + Copy>(device: &mut Loopback<A>, count: usize) -> bo
 fn asks_for_little(memory: &Refusing, count: usize, growths: usize) -> bool {
     let mut device = Loopback::new(memory, Medium::Ip);
     let is_sent = sends_many(&mut device, count);
-    let bytes = 5 * count * count / 2;
+    let bytes = count.saturating_mul(count).saturating_mul(5) / 2;
+    let queue = count.saturating_add(4).saturating_mul(128);
     is_sent
         && memory.requests() <= count.saturating_add(growths)
-        && memory.bytes() <= bytes.saturating_add(128 * count.saturating_add(4))
+        && memory.bytes() <= bytes.saturating_add(queue)
         && memory.live() > 0
 }
 
