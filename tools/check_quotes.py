@@ -1,7 +1,7 @@
 #!/usr/bin/env python3
-"""Looks for what the pages quote in the sources.
+"""Looks for what the pages quote and name in the sources.
 
-The pages are README.md, docs/*.md and crates/*/CALLING.md. Of their blocks between ``` lines,
+The pages are README.md, CONTRIBUTING.md, docs/*.md and crates/*/CALLING.md. Of their blocks between ``` lines,
 
 - one marked `rust` has to stand, line by line, in one file crates/*/src/**/*.rt, which the prover checks. How
   far it is indented doesn't matter, nor does the attribute `#![tactic(auto)]`, which stands in each crate's
@@ -13,7 +13,14 @@ The pages are README.md, docs/*.md and crates/*/CALLING.md. Of their blocks betw
   standing for what `self` points to before a call and `S'` for that after it: it says how many clauses are
   quoted and how many retold, in other words or shortened.
 
-Says what does not stand in the sources, and ends with status 1 if there is anything.
+In prose, between backquotes,
+
+- each name has to be one of the sources (code, specs, proofs, edits, scripts), a file's or a folder's, or one of
+  ELSEWHERE: names of the kit, of Rust or of smoltcp that no source has, and parameters. A name that ends or begins
+  with an underscore is short for all that begin or end so;
+- a file with a number of lines behind it, as `specs/Frames.antt`, 24 lines, has to have so many.
+
+Says what is not in the sources, and ends with status 1 if there is anything.
 """
 
 import pathlib
@@ -21,6 +28,14 @@ import re
 import sys
 
 ROOT = pathlib.Path(__file__).resolve().parent.parent
+# Where names are looked for.
+SOURCES = ["crates/**/*", "compare/**/*", "tools/*", "crates.txt", "HANDLES", ".ci/run", "*", "docs/*"]
+ELSEWHERE = set("""
+    Gone FitsInMemory ManuallyDrop new_unchecked NonZero WouldBlock must_use non_exhaustive
+    pad_integral styled write_char plant tidy my_crate directory logic dac8208d650f15bf
+    CAUSE DATA END MODULE PATH
+""".split())
+NAME = re.compile(r"[A-Za-z_][A-Za-z0-9_]*")
 
 
 def dedented(lines):
@@ -130,6 +145,43 @@ def told(block):
         yield name, clauses
 
 
+def names_of_sources():
+    """Each name of the sources, and of their files and folders."""
+    known = set()
+    for path in (path for pattern in SOURCES for path in ROOT.glob(pattern)):
+        if "out" in path.parts or "__pycache__" in path.parts:
+            continue
+        known.update([path.name, path.stem])
+        if path.is_file() and path.suffix != ".md":
+            known.update(NAME.findall(path.read_text(errors="replace")))
+    return known | ELSEWHERE
+
+
+def is_named(name, known):
+    if name in known:
+        return True
+    if name.endswith("_"):
+        return any(it.startswith(name) for it in known)
+    return name.startswith("_") and any(it.endswith(name) for it in known)
+
+
+def spans(page):
+    """Each part of a page's prose between backquotes, with its line's number and what is behind it there."""
+    in_block = False
+    for number, line in enumerate(page.read_text().splitlines(), 1):
+        if line.strip().startswith("```"):
+            in_block = not in_block
+        elif not in_block:
+            for span in re.finditer(r"`([^`]+)`", line):
+                yield number, span.group(1), line[span.end() :]
+
+
+def has_lines(span, count):
+    """Whether a file that a page names has so many lines; true if there is no such file."""
+    found = [path for path in ROOT.glob(f"**/{span}") if path.is_file() and "out" not in path.parts]
+    return not found or any(len(path.read_text().splitlines()) == count for path in found)
+
+
 def main():
     crates = sorted(ROOT.glob("crates/*"))
     sources = [path.read_text().splitlines() for path in sorted(ROOT.glob("crates/*/src/**/*.rt"))]
@@ -168,6 +220,15 @@ def main():
                             miss(page, number, f"{name} has no clause {clause}")
                     quoted = len(names) == 1 and plain(says).rstrip(" }") in here.get(names[0], set())
                     counts["quoted" if quoted else "retold"] += 1
+    named = names_of_sources()
+    for page in [*pages, ROOT / "CONTRIBUTING.md"]:
+        for number, span, behind in spans(page):
+            for name in NAME.findall(span):
+                if not is_named(name, named):
+                    miss(page, number, f"no source has the name {name}")
+            lines = re.match(r",? (\d+) lines", behind)
+            if lines and not has_lines(span, int(lines.group(1))):
+                miss(page, number, f"{span} hasn't {lines.group(1)} lines")
     print(f"{counts['blocks']} quoted blocks stand in the sources")
     print(f"of the contracts that pages tell, {counts['quoted']} clauses are quoted and {counts['retold']} retold")
     print(f"{missing} things stand in no source")

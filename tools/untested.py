@@ -1,7 +1,7 @@
 #!/usr/bin/env python3
 """Lists the public functions and methods of the libraries that no test and no example names.
 
-    python3 docs/untested.py [CRATE ..]
+    python3 tools/untested.py [CRATE ..]
 
 Public are a `pub fn` that a user of the crate reaches by `pub mod` and `pub use`, each `pub fn` of a
 type that is reached so, and each method of a trait of ours, of the trait and of each of its types.

@@ -1,6 +1,6 @@
 """What the gate spends its time on: runs `rt ci` and prints the processor time of each of its checks.
 
-    python3 docs/gate_times.py > gate.md
+    python3 tools/gate_times.py > gate.md
 
 It looks at the provers among its own children every 2 seconds, so the last seconds of each check are missing
 from its row, and a check that is shorter may be missing altogether; what the whole gate took, LLVM and the

@@ -1,9 +1,9 @@
 #!/usr/bin/env python3
 """Compares the clause that each edit of must-fail/ is to be refused by with what refuses it.
 
-    python3 docs/edits.py [CRATE ..]             all edits, or those of some crates, by `rt must-fail`
-    python3 docs/edits.py --log FILE             all edits, by what `rt ci` printed into a file
-    python3 docs/edits.py --open CRATE EDIT      the goals that are open with this edit and not without
+    python3 tools/edits.py [CRATE ..]             all edits, or those of some crates, by `rt must-fail`
+    python3 tools/edits.py --log FILE             all edits, by what `rt ci` printed into a file
+    python3 tools/edits.py --open CRATE EDIT      the goals that are open with this edit and not without
 
 An edit has a line `clause: FUNCTION CLAUSE` beside those that `rt` reads: the function as `rt check
 --only` takes it, and the name of one of its `ensures`, or `ensures` where the contract has a single
