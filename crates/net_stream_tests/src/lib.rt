@@ -17,4 +17,6 @@ mod frames;
 #[cfg(test)]
 mod links;
 #[cfg(test)]
+mod order;
+#[cfg(test)]
 mod sender;
