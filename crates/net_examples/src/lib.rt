@@ -1,6 +1,7 @@
 //! The smallest users of the libraries, one for each kind. The pages of this repository quote them.
 #![tactic(auto)]
 
+mod acknowledgement;
 mod conversation;
 mod counted;
 mod datagram;
@@ -23,6 +24,7 @@ mod refused;
 mod send_frame;
 mod timer;
 
+pub use acknowledgement::acknowledge;
 pub use conversation::ask;
 pub use counted::Counted;
 pub use datagram::pass_through;

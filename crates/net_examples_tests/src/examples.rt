@@ -3,11 +3,11 @@
 use net_base::phy::{Device, Loopback, Medium, RxToken};
 use net_base::time::{Duration, Instant};
 use net_examples::{
-    Counted, Descriptor, DescriptorRings, FRAME_SIZE, Outbox, Timer, Undamaged, ask, bounce,
-    line_end, over_a_bad_link, pass_through, receive, requests_for_a_list, send_bytes, send_now,
-    take_line,
+    Counted, Descriptor, DescriptorRings, FRAME_SIZE, Outbox, Timer, Undamaged, acknowledge, ask,
+    bounce, line_end, over_a_bad_link, pass_through, receive, requests_for_a_list, send_bytes,
+    send_now, take_line,
 };
-use net_receiver::Receiver;
+use net_receiver::{Receiver, SequenceNumber};
 use net_ring::{ManagedSlice, RingBuffer};
 use net_stream::{Counts, Fates, Link, LinkFates, Rates};
 use net_uses::{Endpoint, forward_lists};
@@ -64,6 +64,23 @@ fn segments_are_read_in_order(rt: HostRuntime) {
     assert_eq!(rt; receive(&mut receiver, 5, b", world", &mut into), 0);
     assert_eq!(rt; receive(&mut receiver, 0, b"hello", &mut into), 12);
     assert!(rt; into.starts_with(b"hello, world"));
+}
+
+/// Whether a segment of this number is answered with this number and this window.
+fn answers(receiver: &mut Receiver<'_, 4>, number: u32, bytes: &[u8], wanted: (u32, u16)) -> bool {
+    let initial = SequenceNumber::new(0xffff_fffe);
+    let (number, window) = acknowledge(receiver, initial, SequenceNumber::new(number), bytes);
+    (number.get(), window) == wanted
+}
+
+/// The numbers wrap after two bytes.
+#[test]
+fn segments_are_acknowledged(rt: HostRuntime) {
+    let mut storage = [0u8; 8];
+    let mut receiver = Receiver::<4>::new(ManagedSlice::Borrowed(&mut storage));
+    assert!(rt; answers(&mut receiver, 1, b"defgh", (0xffff_fffe, 8)));
+    assert!(rt; answers(&mut receiver, 0xffff_fffe, b"abc", (6, 0)));
+    assert!(rt; answers(&mut receiver, 0xffff_fffe, b"abc", (6, 0)));
 }
 
 #[test]

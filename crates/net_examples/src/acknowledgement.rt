@@ -1,0 +1,32 @@
+ghost use Rattle.std.specs.Prelude.{◌≡◌, ℕ, ◌+◌, ◌-◌, ◌<◌, ◌^◌, List, length, min};
+ghost use Rattle.net_receiver.specs.OneStream.{ReceivesFrom, Says};
+ghost use Rattle.net_receiver.specs.SequenceNumbers.{number_at, IsNear};
+ghost use Rattle.net_receiver.specs.Stored.{stored_next};
+
+use net_receiver::{Receiver, SequenceNumber};
+
+/// A TCP segment comes, and is kept as far as the window goes. Returns what to send back: the number of
+/// the first missing byte, and how many bytes have room from there on, at most 65,535.
+///
+/// `initial` is the number of the stream's first byte, the one after the SYN's, and `number` that of the
+/// segment's.
+pub fn acknowledge(
+    receiver: &mut Receiver<'_, 4>,
+    initial: SequenceNumber,
+    number: SequenceNumber,
+    payload: &[u8],
+) -> (SequenceNumber, u16)
+    ensures number { result.0 ≡ number_at initial (stored_next receiver.new) }
+    ensures window { result.1 ≡ min 65535 (receiver.new.capacity - length receiver.new.queue) }
+    ensures receives { (x : List ℕ) (pos : ℕ) → pos + length payload.now < 2 ^ 64 →
+        IsNear (stored_next receiver.old) pos → number_at initial pos ≡ number →
+        ReceivesFrom 0 x receiver.old → Says 0 x pos payload.now → ReceivesFrom 0 x receiver.new }
+{
+    if let Some(pos) = number.position(initial, receiver.next()) {
+        if Receiver::<4>::fits(pos, payload.len()) {
+            let _kept = receiver.segment(pos, payload).is_ok();
+        }
+    }
+    let window = receiver.window().min(65_535) as u16;
+    (SequenceNumber::at(initial, receiver.next()), window)
+}
