@@ -3,7 +3,7 @@
 //! Each function does nothing: its contract is the law, for all sets, ranges and results. The laws
 //! of calls speak of whatever the contracts of these calls allow, so they hold of every body that
 //! meets them.
-ghost use Rattle.std.specs.Prelude.{◌≡◌};
+ghost use Rattle.std.specs.Prelude.{◌≡◌, IsTrue};
 ghost use Rattle.net_assembler.specs.Turns.{binary_digits};
 ghost use Rattle.net_assembler.specs.AssemblerLaws.{EqualSets, MembersOfNothing, MembersOfList};
 ghost use Rattle.net_assembler.specs.AssemblerLaws.{MembersWithRange, MembersShiftedDown};
@@ -15,6 +15,8 @@ ghost use Rattle.net_assembler.specs.AssemblerLaws.{EqualAssemblers, AddingAgain
 ghost use Rattle.net_assembler.specs.AssemblerLaws.{NothingHasNoRun, OneRunMore, AddingInBothOrders};
 ghost use Rattle.net_assembler.specs.AssemblerLaws.{AddingThenRemoving, RangeAtZeroIsNeverRefused};
 ghost use Rattle.net_assembler.specs.AssemblerLaws.{IteratesMaximalRuns, EnoughBinaryDigits};
+
+use super::{Assembler, TooManyHolesError};
 
 /// Two sets are equal exactly if they have the same members, and what the members are of the empty
 /// set, of the set of a list, of a set with a range, and of a set that was shifted down or up.
@@ -103,4 +105,17 @@ pub fn counting_binary_digits()
     ensures enough { EnoughBinaryDigits }
     ensures of_4 { binary_digits 4 ≡ 3 }
     ensures of_32 { binary_digits 32 ≡ 6 }
+{}
+
+/// A clone of an assembler is the same set, and is never refused.
+pub fn assembler_clone<const N: usize>(assembler: &Assembler<N>, clone: &Assembler<N>)
+    ensures same { ⟦<Assembler<N> as Clone>⟧.is_clone assembler.now clone.now
+        → clone.now ≡ assembler.now }
+    ensures never_refused { ⟦<Assembler<N> as Clone>⟧.is_infallible assembler.now }
+{}
+
+/// Two refusals are equal, and a clone of one is never refused.
+pub fn too_many_holes(x: &TooManyHolesError, y: &TooManyHolesError)
+    ensures equal { IsTrue (⟦<TooManyHolesError as PartialEq>⟧.eq x.now y.now) }
+    ensures never_refused { ⟦<TooManyHolesError as Clone>⟧.is_infallible x.now }
 {}
