@@ -195,7 +195,7 @@ impl<const N: usize> Assembler<N> {
     /// Adds a range as `add` does, and then removes the front as `remove_front` does.
     ///
     /// A range at 0 is never refused, since the run that it is part of is removed at once. TCP
-    /// stands on that: were the segment that it waits for refused, no other could complete the
+    /// depends on that: were the segment that it waits for refused, no other could complete the
     /// front, and the connection would stall. Elsewhere it is refused exactly if `add` is, and the
     /// set stays as it was then. With `size` 0 it can still remove a run.
     ///

@@ -2,7 +2,7 @@
 //! what follows from it at one position.
 //!
 //! Each function does nothing. Where a law of `assembler::laws` speaks of `with_range s o n` itself,
-//! a law here speaks of any set that is equal to it, as one that stands in a field is after a call.
+//! a law here speaks of any set that is equal to it, as one in a field is after a call.
 ghost use Rattle.std.specs.Prelude.{◌≡◌, ◌+◌, ◌||◌, ℕ, List};
 ghost use Rattle.std.specs.List.Sorted.{IsPermutation};
 ghost use Rattle.net_assembler.specs.Positions.{Positions, contains, with_range, lies_in, front};
@@ -29,7 +29,7 @@ pub fn front_after_remove_front()
 }
 
 /// Ranges that are added one after another leave the union, whatever their order: a position is
-/// present exactly if it was before or lies in one of the ranges, and ranges in another order, or any
+/// present exactly if it was before or is in one of the ranges, and ranges in another order, or any
 /// that have the same positions, leave the same set.
 pub fn ranges_in_any_order()
     ensures members { (s : Positions) (ranges : List (ℕ × ℕ)) (p : ℕ) →

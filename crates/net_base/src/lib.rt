@@ -1,4 +1,4 @@
-//! Time, network devices and random words: what a small TCP/IP stack stands on, beside its buffers.
+//! Time, network devices and random words: what a small TCP/IP stack needs besides its buffers.
 #![tactic(auto)]
 
 pub mod phy;

@@ -16,7 +16,7 @@ use net_base::time::Instant;
 use net_ring::{Empty, RingBuffer};
 use std::alloc::AllocError;
 
-/// A device whose frames stand in two rings of descriptors, memory that it shares with hardware:
+/// A device whose frames are in two rings of descriptors, memory that it shares with hardware:
 /// the frames that came, and those that are to be sent.
 #[derive(Drop)]
 pub struct DescriptorRings<'a> {

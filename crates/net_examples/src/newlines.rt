@@ -12,7 +12,7 @@ pub fn line_end(ring: &RingBuffer<'_, u8>) -> Option<usize>
     newline_in(first, second)
 }
 
-/// Returns the offset of the first newline in two parts, one behind the other.
+/// Returns the offset of the first newline in two parts, one after the other.
 fn newline_in(first: &[u8], second: &[u8]) -> Option<usize>
     requires { length first.now + length second.now < 2 ^ 64 }
     ensures { result ≡ position (λ byte. byte == 10) (first.now ++ second.now) }

@@ -18,7 +18,7 @@ pub fn push_packet(queue: &mut PacketBuffer<'_, u16>, header: u16, bytes: &[u8])
     Ok(())
 }
 
-/// Takes a packet off, if there is one, and overwrites its bytes where they stood.
+/// Takes a packet off, if there is one, and overwrites its bytes where they were.
 pub fn wipe_first(queue: &mut PacketBuffer<'_, u16>) -> Result<usize, Empty>
     ensures empty { IsErr result ↔ (contents queue.old ≡ []) }
     ensures taken { OnOk result (contents queue.new ≡ drop 1 (contents queue.old)) }

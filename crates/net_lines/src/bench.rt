@@ -21,7 +21,7 @@ const MAX_LINE: usize = 4096;
 /// How many bytes are asked for at once.
 const CHUNK: usize = 65536;
 
-/// Returns where the first line feed stands, if there is one.
+/// Returns the index of the first line feed, if there is one.
 fn feed_at(bytes: &[u8]) -> Option<usize>
     ensures { result ≡ position (λ b. b == 10) bytes.now }
 {
@@ -152,7 +152,7 @@ impl<A: Allocator + Copy, S: Session<A>> Bench<A, S> {
         Ok(())
     }
 
-    /// Executes the lines that these bytes end, stores what stands behind them, and gathers the
+    /// Executes the lines that these bytes end, stores what follows them, and gathers the
     /// replies.
     // Apart from `take`, which writes the replies out also where this fails.
     fn execute_ended<W: Write>(&mut self, bytes: &[u8], writer: &mut W) -> Result<(), BenchError>

@@ -95,7 +95,7 @@ impl<'a> RingSession<'a> {
     }
 
     /// The reply that shows so many bytes from the head of the queue, of the one part or the two in
-    /// which they lie in the storage.
+    /// which they are in the storage.
     fn shown<A: Allocator + Copy>(
         &self,
         buffers: &mut Buffers<A>,

@@ -7,7 +7,7 @@ use crate::buffers::Buffers;
 use crate::fault::Fault;
 use std::alloc::{AllocError, Allocator};
 
-/// The state of a mode, whose replies stand in memory of `A`.
+/// The state of a mode, whose replies are in memory of `A`.
 pub trait Session<A: Allocator + Copy> {
     /// What a line's words do to the state, and the reply, or the line's fault.
     ghost rules: { Rules Self };

@@ -29,7 +29,7 @@ pub fn bytes<A: Allocator + Copy>(
     }
 }
 
-/// Returns a text as it stands.
+/// Returns a text as it is.
 pub fn plain<A: Allocator + Copy>(
     buffers: &mut Buffers<A>,
     text: &str,
@@ -94,7 +94,7 @@ fn read_reply_bytes<A: Allocator + Copy>(
     Ok(reply)
 }
 
-/// Returns the reply that shows the bytes of two parts, the second behind the first. One request
+/// Returns the reply that shows the bytes of two parts, the second after the first. One request
 /// for memory is made at most; the text is zeroed, written, and then checked as UTF-8.
 pub fn read_reply<A: Allocator + Copy>(
     buffers: &mut Buffers<A>,

@@ -15,14 +15,14 @@ pub enum Words<'a> {
     More,
 }
 
-/// Returns where the first space stands, if there is one.
+/// Returns the index of the first space, if there is one.
 fn space_at(line: &[u8]) -> Option<usize>
     ensures { result ≡ position (λ b. b == 32) line.now }
 {
     line.iter().position(|b| *b == b' ')
 }
 
-/// Returns the first word of a line, and the rest behind the space that ends it.
+/// Returns the first word of a line, and the rest after the space that ends it.
 fn next_word(line: &[u8]) -> (&[u8], Option<&[u8]>)
     ensures { MatchOption result.1
         (words_of line.now ≡ result.0.now ∷ [])

@@ -124,7 +124,7 @@ impl Word {
         Ok(number)
     }
 
-    /// The number that stands at its place among the words; the one that it is otherwise, if it is
+    /// The number at its place among the words; the one that it is otherwise, if it is
     /// left out.
     ///
     /// # Requires

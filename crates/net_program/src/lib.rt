@@ -1,7 +1,7 @@
 //! What the programs here share: the words of a command line, the numbers that words write, writing
 //! a text whole, flushing, and how a program ends.
 //!
-//! Beside them stand the lemmas on what readers give and writers take that several crates cite.
+//! It also has the lemmas on what readers give and writers take that several crates cite.
 #![tactic(auto)]
 
 mod arguments;

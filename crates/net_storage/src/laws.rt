@@ -1,7 +1,7 @@
 //! Laws whose premises are what the contracts of calls say: an equation of what a call left, and
 //! what follows from it at one index or position.
 //!
-//! One speaks of a list that was written over and of a set of positions, and stands here. The others
+//! One speaks of a list that was written over and of a set of positions, so it is here. The others
 //! are those of `net_ring::laws` and `net_assembler::laws`.
 ghost use Rattle.std.specs.Prelude.{◌≡◌, ◌+◌, ◌<◌, ◌≤◌};
 ghost use Rattle.std.specs.Prelude.{ℕ, List, [], ◌∷◌, length, slice_index_or, IsTrue};

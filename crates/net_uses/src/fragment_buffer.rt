@@ -134,7 +134,7 @@ impl<B: Elements<u8>, const N: usize> Fragments<B, N> {
         Some(self.bytes.part(0, total))
     }
 
-    /// Whether `now` lies after the moment up to which the packet is waited for.
+    /// Whether `now` is after the moment up to which the packet is waited for.
     pub fn is_expired(&self, now: Instant) -> bool
         ensures { IsTrue result ↔ (self.now.expires_at <ℤ now) }
     {

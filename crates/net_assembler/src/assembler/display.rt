@@ -6,7 +6,7 @@ ghost use Rattle.net_assembler.specs.Assembler.{display_text};
 use crate::assembler::Assembler;
 use std::fmt;
 
-/// A hole, and the present data behind it, as sizes in positions.
+/// A hole, and the present data after it, as sizes in positions.
 #[derive(Drop)]
 struct Contig {
     hole_size: usize,
@@ -26,7 +26,7 @@ impl fmt::Display for Contig {
 }
 
 /// `[ `, then for each run the hole before it in parentheses, left out if it is 0, and the
-/// length of the run, each with a space behind it, then `]`. With no position it is `[ ]`.
+/// length of the run, each with a space after it, then `]`. With no position it is `[ ]`.
 impl<const N: usize> fmt::Display for Assembler<N> {
     ghost output = { λ s. Some (display_text s) };
 

@@ -15,7 +15,7 @@ use super::turns::Turns;
 
 /// Joins a range that isn't empty with the runs that it meets or touches.
 ///
-/// What most segments do is tested first and takes no loop: a range behind all runs, and one that
+/// What most segments do is tested first and takes no loop: a range after all runs, and one that
 /// only the last run meets.
 #[inline(always)]
 pub(crate) fn join_range(
@@ -34,7 +34,7 @@ pub(crate) fn join_range(
     ensures turns { let n = length pairs.old in
         TurnsWithin (2 * binary_digits n) n turns.old turns.new }
 {
-    // The range lies behind a hole behind all runs: it is a run of its own, and the last.
+    // The range is after a hole after all runs: it is a run of its own, and the last.
     let last = pairs[used - 1];
     if last.1 < start {
         if used == pairs.len() {
@@ -43,7 +43,7 @@ pub(crate) fn join_range(
         pairs[used] = (start, end);
         return Ok(used + 1);
     }
-    // The range starts in the last run, or right behind it: only that grows.
+    // The range starts in the last run, or right after it: only that grows.
     if last.0 <= start {
         pairs[used - 1] = (last.0, last.1.max(end));
         return Ok(used);
@@ -52,10 +52,10 @@ pub(crate) fn join_range(
     join_any(pairs, used, start, end, turns)
 }
 
-/// Joins a range that isn't empty, and doesn't lie behind the last run, with the runs that it meets
+/// Joins a range that isn't empty, and isn't after the last run, with the runs that it meets
 /// or touches.
 // Most segments don't come here. Were this code inline, with all its loops, the tests that they take
-// would lie far apart, and more of them across lines of the processor's cache of decoded code.
+// would be far apart, and more of them across lines of the processor's cache of decoded code.
 #[inline(never)]
 fn join_any(
     pairs: &mut [(usize, usize)],
@@ -74,12 +74,12 @@ fn join_any(
     ensures turns { let n = length pairs.old in
         TurnsWithin (2 * binary_digits n) n turns.old turns.new }
 {
-    // The range starts in the first run, or right behind it, as what fills one hole after another.
+    // The range starts in the first run, or right after it, as what fills one hole after another.
     if start <= pairs[0].1 {
         return Ok(grow_run(pairs, used, 0, start, end, turns));
     }
     let first = runs_ending_before(&pairs[..used], start, turns);
-    // The range lies in the hole before that run: it is a run of its own.
+    // The range is in the hole before that run: it is a run of its own.
     if end < pairs[first].0 {
         if used == pairs.len() {
             return Err(TooManyHolesError);
@@ -91,7 +91,7 @@ fn join_any(
 }
 
 /// Joins a range that isn't empty with the run at `first`, which it meets or touches, and with those
-/// behind that run that it meets or touches; it meets none before. Returns how many runs are left.
+/// after that run that it meets or touches; it meets none before. Returns how many runs are left.
 ///
 /// A range that meets no other takes no search.
 #[inline(always)]

@@ -41,7 +41,7 @@ pub fn front()
 {}
 
 /// The list of maximal runs has, for every set, exactly its maximal runs: each position of the
-/// set lies in exactly one of them, they rise with a hole between neighbours, and there are as many
+/// set is in exactly one of them, they rise with a hole between neighbours, and there are as many
 /// as the set has positions that begin a run.
 pub fn maximal_runs()
     ensures { MaximalRunsOfEverySet }

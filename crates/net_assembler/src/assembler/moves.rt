@@ -6,7 +6,7 @@ ghost use Rattle.net_assembler.specs.RunLists.{AreRuns, FitsFrom, runs_shifted_d
 use super::turns::Turns;
 
 /// Writes `entry` at `at`, and the used pairs from there on one index up.
-// Where a range is joined, most lie next to a run and need no loop: that code stays short.
+// Where a range is joined, most are next to a run and need no loop: that code stays short.
 #[inline(never)]
 pub(crate) fn insert_pair(
     pairs: &mut [(usize, usize)],
@@ -31,7 +31,7 @@ pub(crate) fn insert_pair(
     }
 }
 
-/// Takes out the pairs from `at` up to `from`, and moves those behind down.
+/// Takes out the pairs from `at` up to `from`, and moves the later ones down.
 #[inline(always)]
 pub(crate) fn remove_pairs(
     pairs: &mut [(usize, usize)],
@@ -82,7 +82,7 @@ pub(crate) fn prepend_pair(
     turns.count_move();
 }
 
-/// Takes out the pairs from 1 up to `from`, and moves those behind down, each counted `by` higher.
+/// Takes out the pairs from 1 up to `from`, and moves the later ones down, each counted `by` higher.
 #[inline(always)]
 pub(crate) fn shift_pairs_up(
     pairs: &mut [(usize, usize)],
@@ -110,7 +110,7 @@ pub(crate) fn shift_pairs_up(
     }
 }
 
-/// Takes out the pairs below `from`, and counts those behind from where the first of them starts.
+/// Takes out the pairs below `from`, and counts the others from where the first of them starts.
 #[inline(always)]
 pub(crate) fn shift_pairs_down(
     pairs: &mut [(usize, usize)],

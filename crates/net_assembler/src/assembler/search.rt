@@ -1,4 +1,4 @@
-//! Where a position lies among sorted runs.
+//! The place of a position among sorted runs.
 ghost use Rattle.std.specs.Prelude.{◌≡◌, ℕ, ◌+◌, ◌-◌, ◌<◌, ◌≤◌, ◌^◌, length};
 ghost use Rattle.net_assembler.specs.RunLists.{AreRuns, end_at, set_of_runs, start_at};
 ghost use Rattle.net_assembler.specs.Positions.{contains};
@@ -7,7 +7,7 @@ use super::turns::Turns;
 
 /// Returns how many runs end before `offset`, if the first does and the last doesn't.
 ///
-/// The second is tested by itself, and those behind it are halved.
+/// The second is tested by itself, and the later ones are halved.
 #[inline(always)]
 pub(crate) fn runs_ending_before(
     pairs: &[(usize, usize)],
@@ -29,7 +29,7 @@ pub(crate) fn runs_ending_before(
     if offset <= pairs[1].1 {
         return 1;
     }
-    // The first that doesn't end before it lies from `low` to `high`.
+    // The first that doesn't end before it has a number from `low` to `high`.
     let mut low = 2;
     let mut high = pairs.len() - 1;
     while low < high {
@@ -46,7 +46,7 @@ pub(crate) fn runs_ending_before(
 
 /// Returns how many runs start at or before `end`, but at least `from`.
 ///
-/// The run at `from` is tested by itself, and those behind it are halved.
+/// The run at `from` is tested by itself, and the later ones are halved.
 #[inline(always)]
 pub(crate) fn runs_starting_by(
     pairs: &[(usize, usize)],
@@ -64,11 +64,11 @@ pub(crate) fn runs_starting_by(
     ensures no_look_lost { turns.old.0 ≤ turns.new.0 }
     ensures moves { turns.new.1 ≡ turns.old.1 }
 {
-    // No run from `from` on starts by then: most data meets no run but the one that it lies next to.
+    // No run from `from` on starts by then: most data meets no run but the one next to it.
     if from == pairs.len() || end < pairs[from].0 {
         return from;
     }
-    // The first that starts behind it, if there is one, lies from `low` to `high - 1`.
+    // The first that starts after it, if there is one, has a number from `low` to `high - 1`.
     let mut low = from + 1;
     let mut high = pairs.len();
     while low < high {
@@ -84,7 +84,7 @@ pub(crate) fn runs_starting_by(
 }
 
 /// Returns whether `position` is present: whether the last run that starts at or before it, if
-/// there is one, ends behind it.
+/// there is one, ends after it.
 pub(crate) fn holds(pairs: &[(usize, usize)], position: usize) -> bool
     requires { AreRuns pairs.now }
     ensures { result ≡ contains (set_of_runs pairs.now) position }

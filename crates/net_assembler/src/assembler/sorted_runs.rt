@@ -21,7 +21,7 @@ use super::{IterData, TooManyHolesError};
 /// `hole` changes. The first `used` pairs of the array are the runs, and the others aren't read; with
 /// no run `hole` means nothing.
 ///
-/// The two numbers stand before the array: so close to where the value begins, instructions that
+/// The two numbers precede the array: so close to where the value begins, instructions that
 /// read them are short.
 #[derive(Debug, Clone, Copy)]
 pub(crate) struct SortedRuns<const N: usize> {
@@ -186,7 +186,7 @@ impl<const N: usize> SortedRuns<N> {
         ensures turns { TurnsWithin (binary_digits N) N turns.old turns.new }
         ensures waiting { runs (set_of self.new) ≡ runs (set_of self.old) → turns.new ≡ turns.old }
     {
-        // All runs lie behind a hole. The range itself is the front, and they wait on.
+        // All runs are after a hole. The range itself is the front, and they wait on.
         if size < self.hole {
             self.hole -= size;
             return size;

@@ -40,7 +40,7 @@ pub trait Device {
     ghost sent: { Self → List ℕ → Self → Type 0 };
 
     /// Holds of a device, and of a number of bytes, if `send` may be refused memory for a frame of
-    /// so many. By default nothing is said. A device whose frames lie in memory of its own says here
+    /// so many. By default nothing is said. A device whose frames are in memory of its own says here
     /// that it never is.
     ghost lacks_memory: { Self → ℕ → Type 0 } = { λ _ _. Unit {0} };
 

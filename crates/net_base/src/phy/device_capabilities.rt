@@ -63,7 +63,7 @@ impl DeviceCapabilities {
         self.has_ip_mtu() && ip_header_len <= self.ip_mtu()
     }
 
-    /// The bytes of the longest payload of an IPv4 fragment behind an IP header of so many bytes:
+    /// The bytes of the longest payload of an IPv4 fragment after an IP header of so many bytes:
     /// what is left of the longest IP packet, down to a multiple of 8.
     ///
     /// # Requires

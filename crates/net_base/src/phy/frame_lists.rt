@@ -2,7 +2,7 @@ ghost use Rattle.std.specs.Prelude.{◌≡◌, ◌∷◌, ◌++◌, [], ℕ, Lis
 
 use crate::phy::Device;
 
-/// A device whose frames stand in lists: those that come in are taken off the head of one, and
+/// A device whose frames are in lists: those that come in are taken off the head of one, and
 /// those that are sent go to the end of one, which may be the same.
 ///
 /// Each device that is one proves it by the three laws. What is known of frames that pass between

@@ -91,7 +91,7 @@ impl<A: Allocator + Copy> Device for Loopback<A> {
         }
     }
 
-    /// Puts a frame behind the others. The room in the queue and the bytes of the frame are taken
+    /// Puts a frame after the others. The room in the queue and the bytes of the frame are taken
     /// before `f` is called.
     fn send<R, F: FnOnce(&mut [u8]) -> R + Drop>(
         &mut self,

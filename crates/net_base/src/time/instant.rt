@@ -11,7 +11,7 @@ use std::marker::Model;
 use std::ops::{Add, AddAssign, Sub, SubAssign};
 
 /// A moment, in microseconds since an origin of the user's own, such as the start of the system. A
-/// moment below zero lies before the origin. It serves wherever a caller says what time it is: in
+/// moment below zero is before the origin. It serves wherever a caller says what time it is: in
 /// timeouts, and for a device that is polled.
 ///
 /// Contracts see the microseconds, a whole number from -2^63 to 2^63 - 1. Quotients are cut towards

@@ -11,7 +11,7 @@ use net_receiver::{Kept, Reply};
 use std::alloc::{AllocError, Allocator};
 use std::fmt;
 
-/// Runs behind another, a comma before each.
+/// Runs after another, a comma before each.
 #[derive(Drop)]
 struct NextRuns<'a>(&'a [(u64, u64)]);
 

@@ -38,7 +38,7 @@ impl<'a, const N: usize> Receiver<'a, N> {
         count
     }
 
-    /// Lends bytes of the queue that stand in a row, from its byte `offset` on: `size`, or as many as
+    /// Lends bytes of the queue that are contiguous, from its byte `offset` on: `size`, or as many as
     /// there are up to the end of the queue or of the storage. None are lent only if `size` is 0 or
     /// the queue has no byte `offset`.
     ///

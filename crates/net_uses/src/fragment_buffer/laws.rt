@@ -8,7 +8,7 @@ use net_assembler::assembler;
 use net_ring::ring_buffer;
 
 /// After any accepted fragments, in any order and however they overlap, the byte at each position
-/// that came is that of the last fragment there, whatever stood in the buffer before.
+/// that came is that of the last fragment there, whatever was in the buffer before.
 pub fn the_last_fragment_stands()
     ensures each { LastFragmentStands }
     ensures old_bytes { OldBytesAreGone }
