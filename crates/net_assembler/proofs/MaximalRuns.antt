@@ -164,7 +164,7 @@ in_maximal_runs s q h =
     (has-filter (begins_run s) (positions s) r.start r.begins
     (sym (contains-positions s r.start) ∙ r.member)) r.low r.high
 
--- in rising runs a position lies in at most one
+-- in rising runs a position is in at most one
 count-lies_in : (low : ℕ) (rs : List (ℕ × ℕ)) (q : ℕ) → IsRising low rs → count_by (lies_in q) rs ≡ cond (in_runs rs q) 1 0
 count-lies_in low [] q h = refl
 count-lies_in low (r ∷ rs) q h =
@@ -206,7 +206,7 @@ same_tests true b f g = sym (f refl)
 same_tests false true f g = g refl
 same_tests false false f g = refl
 
--- a position that lies in one of a set's maximal runs is in the set
+-- a position that is in one of a set's maximal runs is in the set
 member : (s : Positions) (q : ℕ) (rs : List (ℕ × ℕ)) → All (IsMaximalRun s) rs → in_runs rs q ≡ true → contains s q ≡ true
 member s q [] all h = absurd (false≢true h)
 member s q (r ∷ rs) all h =

@@ -103,7 +103,7 @@ rising-drop low [] (suc n) m h above = tt
 rising-drop low (r ∷ rs) zero m h above = (above 0 (omega arith) (omega arith), h.1, h.2)
 rising-drop low (r ∷ rs) (suc n) m h above = rising-drop (r.1 + 1) rs n m h.2 (λ k b d. above (suc k) (omega arith) (omega arith))
 
--- what stands behind the run `from` starts at or above it
+-- what is after the run `from` starts at or above it
 pub rising_behind : (xs : List (ℕ × ℕ)) (used from : ℕ) → AreRuns (take used xs) → from < used → used ≤ length xs →
     IsRising (start_at xs from) (drop from (take used xs))
 rising_behind xs used from h l m =
@@ -249,7 +249,7 @@ refused_run xs used i start end h l n m before behind =
 pub shifted_down_runs : (xs ys : List (ℕ × ℕ)) (m : ℕ) → IsRising (m + 1) xs → ys ≡ runs_shifted_down m xs → AreRuns ys
 shifted_down_runs xs ys m h e = subst (IsRising 0) (sym e) (rising-runs_shifted_down m 0 (m + 1) xs (omega arith) h)
 
--- what is left behind a range at 0 that ends at top once it is joined with the first n runs, and removed
+-- what is left after a range at 0 that ends at top once it is joined with the first n runs, and removed
 abbrev pub Completed : List (ℕ × ℕ) → ℕ → ℕ → ℕ → Type 0
 Completed rs n size top = let all = with_range (set_of_runs rs) 0 size in
     (top ≡ front all) × (set_of_runs (runs_shifted_down top (drop n rs)) ≡ shift_down all top)
@@ -328,7 +328,7 @@ extended_run xs used start end hi h some l m low from high =
     (λ k a. let p = apart 0 cs k i h a (omega arith) in omega arith)
     (omega arith) (omega arith) (λ k a b. absurd (omega arith)) (omega arith) high
 
--- the entry k, which a loop that counts lower has not reached, lies above
+-- the entry k, which a loop that counts lower has not reached, is above
 pub above_at : (xs ys : List (ℕ × ℕ)) (used from by k : ℕ) → from ≤ k → k < used → used ≤ length ys →
     IsRising by (drop from (take used ys)) → drop k xs ≡ drop k ys →
     (by ≤ (get_or xs k (0, 0)).0) × (by ≤ (get_or xs k (0, 0)).1)
@@ -372,7 +372,7 @@ pub not_before : (low : ℕ) (rs : List (ℕ × ℕ)) (q : ℕ) → IsRising low
 not_before low [] q h first = refl
 not_before low (r ∷ rs) q h first = not_in_runs r.0 (r ∷ rs) q (omega arith, h.1, h.2) (first (omega arith))
 
--- a position at or behind the start of the run n, and before that of the next
+-- a position at or after the start of the run n, and before that of the next
 pub in_run_at : (low : ℕ) (rs : List (ℕ × ℕ)) (n q : ℕ) → IsRising low rs → n < length rs → start_at rs n ≤ q →
     ((k : ℕ) → n < k → k < length rs → q < start_at rs k) →
     in_runs rs q ≡ nat_lt q (end_at rs n)

@@ -1,4 +1,4 @@
--- Rising lists of runs, and the sets of positions that they stand for.
+-- Rising lists of runs, and the sets of positions that they represent.
 use Rattle.std.proofs.Common.{◌≡◌, ℕ, zero, suc, ◌+◌, ◌-◌, ◌<◌, ◌≤◌, max, min, Bool, true, false, cond, ◌&&◌, ◌||◌}
 use Rattle.std.proofs.Common.{List, [], ◌∷◌, ◌++◌, map, filter, length, nat_le, nat_lt, nat_eq, refl, sym, ap, subst}
 use Rattle.std.proofs.Common.{◌∙◌, arith}
@@ -100,7 +100,7 @@ positions-set_of_runs : (rs : List (ℕ × ℕ)) → IsRising 0 rs → positions
 unfolding set_of_runs
 positions-set_of_runs rs h = positions-set_of_list (run_positions rs) (rises-run_positions 0 rs h)
 
--- the maximal runs of the set that rising runs stand for are these runs
+-- the maximal runs of the set that rising runs represent are these runs
 pub maximal_runs-set_of_runs : (rs : List (ℕ × ℕ)) → IsRising 0 rs → maximal_runs (set_of_runs rs) ≡ rs
 unfolding maximal_runs run_starts
 maximal_runs-set_of_runs rs h =
@@ -111,7 +111,7 @@ maximal_runs-set_of_runs rs h =
 pub runs-set_of_runs : (rs : List (ℕ × ℕ)) → IsRising 0 rs → runs (set_of_runs rs) ≡ length rs
 runs-set_of_runs rs h = runs-maximal_runs (set_of_runs rs) ∙ ap length (maximal_runs-set_of_runs rs h)
 
--- two rising lists of runs that stand for one set are equal
+-- two rising lists of runs that represent one set are equal
 pub set_of_runs_injective : (rs ts : List (ℕ × ℕ)) → IsRising 0 rs → IsRising 0 ts → set_of_runs rs ≡ set_of_runs ts → rs ≡ ts
 set_of_runs_injective rs ts h g e = sym (maximal_runs-set_of_runs rs h) ∙ ap maximal_runs e ∙ maximal_runs-set_of_runs ts g
 

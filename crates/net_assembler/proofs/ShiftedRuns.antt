@@ -1,4 +1,4 @@
--- Runs that are counted from where the first of them starts, and the sets that they stand for.
+-- Runs that are counted from where the first of them starts, and the sets that they represent.
 use Rattle.std.proofs.Common.{◌≡◌, ℕ, zero, suc, ◌+◌, ◌-◌, ◌<◌, ◌≤◌, ◌^◌, max, min, false, ◌&&◌}
 use Rattle.std.proofs.Common.{◌||◌, List, [], ◌∷◌, ◌++◌, length, take, drop, set, get_or, nat_le, nat_lt, refl, sym}
 use Rattle.std.proofs.Common.{ap, subst, ◌∙◌, arith}

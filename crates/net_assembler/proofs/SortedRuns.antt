@@ -193,7 +193,7 @@ module _ {n : ℕ} (h : SortedRuns n) (s : HasSoundPairs h) (o k : ℕ) (none : 
       let start : o + 0 ≡ o = omega arith in
       ap (runs_shifted_up o) (one some) ∙ (λ i. (start i, o + k) ∷ []) ∙ sym alone
 
--- pairs that are runs with a range that starts at or behind the first
+-- pairs that are runs with a range that starts at or after the first
 module _ {n : ℕ} (h : SortedRuns n) (s : HasSoundPairs h) (xs : List (ℕ × ℕ)) (o k : ℕ) (some : 0 < h.used)
     (from : h.hole ≤ o) (l : 0 < k) where
   pub joined_sound : (m : ℕ) → m ≤ length xs → length xs ≡ n → o + k < 2 ^ 64 →

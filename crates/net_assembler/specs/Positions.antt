@@ -3,7 +3,7 @@
 --     RangeFits o n, with_range s o n      a range, and a set with one
 --     runs s, maximal_runs s, IsMaximalRun s run, AreMaximalRuns s list      how many maximal runs there
 --         are, and which
---     lies_in p run      whether p lies in a run
+--     lies_in p run      whether p is in a run
 --     first_missing s p, front s, IsFirstMissing s p n      the first missing position, and the front
 --     shift_down s m, shift_up s n, runs_shifted_up n rs      sets and runs, counted anew
 --     are_same s t      whether two sets are one
@@ -86,11 +86,11 @@ pub record IsMaximalRun (s : Positions) (run : ℕ × ℕ) : Type 0 where
   pub ended : IsFalse (contains s run.1)
   pub begun : 0 < run.0 → IsFalse (contains s (run.0 - 1))
 
--- whether p lies in a run
+-- whether p is in a run
 abbrev pub lies_in : ℕ → ℕ × ℕ → Bool
 lies_in p run = nat_le run.0 p && nat_lt p run.1
 
--- the list of the maximal runs of s: each is one, each position of s lies in exactly one, they rise
+-- the list of the maximal runs of s: each is one, each position of s is in exactly one, they rise
 -- with a hole between neighbours, and there are as many as s has maximal runs
 pub record AreMaximalRuns (s : Positions) (list : List (ℕ × ℕ)) : Type 0 where
   pub maximal : All (IsMaximalRun s) list

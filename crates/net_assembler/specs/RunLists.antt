@@ -1,10 +1,10 @@
--- Lists of runs (start, end), end not included, and the sets of positions that they stand for.
+-- Lists of runs (start, end), end not included, and the sets of positions that they represent.
 --     AreRuns rs      runs that rise, with a hole between neighbours
 --     run_positions rs, set_of_runs rs      their positions, as a list and as a set
 --     runs_with_range rs lo hi, JoinsRange rs old new start end result      runs with a range
 --     runs_shifted_down m rs, StartsAtZero rs, FitsFrom n rs      how runs are counted
---     pairs_of h, runs_of h, set_of h, HasSoundPairs h      what the fields of an assembler stand for
---     contig_text c      a hole and the data behind it, as text
+--     pairs_of h, runs_of h, set_of h, HasSoundPairs h      what the fields of an assembler represent
+--     contig_text c      a hole and the data after it, as text
 use Rattle.std.specs.Prelude.{◌≡◌, ℕ, ◌+◌, ◌-◌, ◌<◌, ◌≤◌, ◌^◌, List, [], ◌∷◌, ◌++◌, length, take, map}
 use Rattle.std.specs.Prelude.{flat_map, get_or, cond, nat_lt, min, max, Result, MatchResult}
 use Rattle.std.specs.Fmt.{decimal}
@@ -89,6 +89,6 @@ pub record HasSoundPairs {n : ℕ} (h : SortedRuns n) : Type 0 where
   pub first : StartsAtZero (pairs_of h)
   pub fits : FitsFrom h.hole (pairs_of h)
 
--- a hole in parentheses, if there is one, and the data behind it
+-- a hole in parentheses, if there is one, and the data after it
 abbrev pub contig_text : Contig → List ℕ
 contig_text c = hole_text c.hole_size ++ decimal c.data_size

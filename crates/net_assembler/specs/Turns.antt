@@ -1,12 +1,12 @@
 -- Counts of loop turns, and how many binary digits a number has.
---     number c      the number that a count stands for
+--     number c      the number that a count represents
 --     binary_digits n      how many binary digits n has
 --     TurnsWithin looks moves old new      counts that rise by at most so many
 use Rattle.std.specs.Prelude.{ℕ, ◌+◌, ◌≤◌, length}
 use Rattle.std.specs.Int.Digits.{digits_of}
 use Rattle.net_assembler.specs.declared.assembler.turns.Count.{Count, Zero, Next'}
 
--- the number that a count stands for
+-- the number that a count represents
 abbrev pub number : Count → ℕ
 number Zero = 0
 number (Next' shape below) = number below + 1

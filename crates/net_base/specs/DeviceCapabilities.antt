@@ -10,7 +10,7 @@ use Rattle.net_base.specs.declared.phy.medium.Medium.TheVariants.{Ethernet, Ip}
 use Rattle.net_base.specs.declared.phy.segmentation_capabilities.SegmentationCapabilities.{SegmentationCapabilities}
 use Rattle.net_base.specs.declared.phy.device_capabilities.DeviceCapabilities.{DeviceCapabilities}
 
--- the header that stands before an IP packet
+-- the header that is before an IP packet
 abbrev pub header_len : Medium → ℕ
 header_len Ethernet = 14
 header_len Ip = 0

@@ -73,7 +73,7 @@ unflushed all (Some input) left old new (Ok done) is_ok h = record {
   appended = h.1;
 }
 
--- what is left of a run and a flush behind it
+-- what is left of a run and a flush after it
 module _ (all : Transcript) (before left old mid new : Option (List ℕ)) where
   flushed : (r r' : Result (Unit {0}) BenchError) → Keeps mid new → FlushesAfter WriteFailed r r' →
       Ends all before left old mid r → Ends all before left old new r'

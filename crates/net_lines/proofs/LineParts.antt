@@ -22,7 +22,7 @@ found-nowhere n m h = grind (arith, nat_tests)
 is-feed : (b : ℕ) → (b == 10) ≡ true → b ≡ 10
 is-feed b h = grind (arith, nat_tests)
 
--- the first line feed, and what stands before it
+-- the first line feed, and what is before it
 pub feed-found : (bytes : List ℕ) (at : ℕ) → Some at ≡ position (λ b. b == 10) bytes →
     (at < length bytes) × (bytes ≡ take at bytes ++ (10 ∷ drop (at + 1) bytes)) × HasNoFeed (take at bytes)
 feed-found bytes at h =
@@ -114,7 +114,7 @@ last_part-append [] y = refl
 last_part-append (x ∷ []) y = refl
 last_part-append (x ∷ z ∷ xs) y = last_part-append (z ∷ xs) y
 
--- what stands behind the last line feed
+-- what is after the last line feed
 pub unended-from_parts : (text : List ℕ) (lines : List (List ℕ)) (line : List ℕ) → HasNoFeed line →
     parts_of text ≡ lines ++ parts_of line → unended_line text ≡ line
 unended-from_parts text lines line none e =

@@ -357,7 +357,7 @@ ErrorOfInput-from rules closing state input left old new OutOfMemory z h = (h.0,
 ErrorOfInput-from rules closing state input left old new WriteFailed z h = h.1
 ErrorOfInput-from rules closing state input left old new ReadFailed z h = absurd h
 
--- where a reader stands before the first line
+-- where a reader is before the first line
 abbrev pub at_first : {S : Type 0} → S → Reading S
 at_first session = record { number = 1; state = session; line = [] }
 

@@ -1,4 +1,4 @@
--- What receivers store in mode stream stands for the states of schedules, line by line.
+-- What receivers store in mode stream represents the states of schedules, line by line.
 use Rattle.std.proofs.Common.{◌≡◌, ℕ, [], ◌∷◌, cond, true, false, Option, Some, None, Ok, Err, refl, sym, ◌∙◌, ap, subst}
 use Rattle.net_receiver.specs.Rules.{CommandSeen, Segment, Read, Show, Verdict, KeepsNone, Refuses, Keeps, state_after}
 use Rattle.net_receiver.specs.Schedule.{Setting, State, queue_bytes, by_kept, kept_after, kept_reply}
@@ -13,7 +13,7 @@ use Rattle.net_lines.specs.StreamStored.{of_stored}
 use Rattle.net_lines.specs.declared.fault.Fault.TheVariants as faults
 use Rattle.net_lines.proofs.SameText.{AlikeAfter, TreatsAlike, same_transcript}
 
--- what is stored stands for a state, in this setting
+-- what is stored represents a state, in this setting
 record Stands (w : Setting) (v : Stored) (s : State) : Type 0 where
   setting : setting w.most_runs v ≡ w
   state : StandsFor v s

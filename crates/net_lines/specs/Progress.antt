@@ -1,7 +1,7 @@
 -- How the bytes of an input lead from line to line as they come: for the contracts of the calls that
 -- `run` makes.
---     HasNoFeed line      no line feed stands in it
---     Reading S      where a reader of lines stands
+--     HasNoFeed line      no line feed is in it
+--     Reading S      where a reader of lines is
 --     Advances rules bytes old new text      where these bytes lead
 --     Outlet, outlet contents pending      what a writer has, and the replies that are pending
 --     Gathers old new text      a text came to the replies that are pending
@@ -19,11 +19,11 @@ use Rattle.net_lines.specs.declared.error.BenchError.TheVariants.{LineTooLong, T
 use Rattle.net_lines.specs.declared.error.BenchError.TheVariants.{OutOfMemory, ReadFailed}
 use Rattle.net_lines.specs.declared.error.BenchError.TheVariants.{WriteFailed}
 
--- no line feed stands in it
+-- no line feed is in it
 abbrev pub HasNoFeed : List ℕ → Type 0
 HasNoFeed line = All (λ b. (b == 10) ≡ false) line
 
--- where a reader of lines stands, in a mode with such states
+-- where a reader of lines is, in a mode with such states
 pub record Reading (S : Type 0) : Type 0 where
   -- the number of the next line
   pub number : ℕ
@@ -31,7 +31,7 @@ pub record Reading (S : Type 0) : Type 0 where
   -- the beginning of the next line that came so far
   pub line : List ℕ
 
--- from where a reader of lines stands, these bytes lead to where it stands then, and to this text:
+-- from where a reader of lines is, these bytes lead to where it is then, and to this text:
 -- whatever comes after them
 pub record Advances {S : Type 0} (rules : Rules S) (bytes : List ℕ) (old new : Reading S)
     (text : List ℕ) : Type 0 where

@@ -2,7 +2,7 @@
 --     StreamCommand, stream_command words      what a line says, if its words are a line of the mode
 --     runs_text runs, reply_text reply      runs, and a reply, as text
 --     Outcome, comparison a b      what is compared of two schedules, and the line that says it
---     Scheduling S, of_states      what stands for a schedule: here a kept list and a count read
+--     Scheduling S, of_states      what represents a schedule: here a kept list and a count read
 --     Schedules S, first_schedule scheduling setting      the one or two schedules of an input
 --     stream_rules scheduling, stream_closing scheduling schedules      the rules of the mode, and what
 --         is written after the last line
@@ -56,11 +56,11 @@ end_fits Show = true
 
 -- ---- replies
 
--- a run of positions: the first, and the first behind it
+-- a run of positions: the first, and the first after it
 abbrev pub run_text : ℕ × ℕ → List ℕ
 run_text run = decimal run.0 ++ codes "-" ++ decimal run.1
 
--- a run behind another
+-- a run after another
 abbrev pub next_run_text : ℕ × ℕ → List ℕ
 next_run_text run = codes "," ++ run_text run
 
@@ -115,7 +115,7 @@ comparison a b = if same_outcome a b then codes "same\n" else codes "differs\n"
 
 -- ---- rules
 
--- what stands for a schedule: how one begins, and the way of keeping what its segments bring
+-- what represents a schedule: how one begins, and the way of keeping what its segments bring
 pub record Scheduling (S : Type 0) : Type 0 where
   pub begun : Setting → S
   pub keeping : Setting → Keeping S

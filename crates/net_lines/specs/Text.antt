@@ -1,6 +1,6 @@
 -- The text of the bench: lines, words, numbers and hex words.
 --     lines_of input      its lines
---     ended_lines text, unended_line text      its lines up to the last line feed, and what is behind it
+--     ended_lines text, unended_line text      its lines up to the last line feed, and what is after it
 --     next_number n      the number of the line after line n
 --     words_of line      its words
 --     hex_bytes word, hex_text bytes      the bytes that a word writes, and bytes as a reply shows them
@@ -11,7 +11,7 @@ use Rattle.std.specs.List.{slice_split}
 use Rattle.std.specs.Result.{result_ok}
 use Rattle.hex.specs.Hex.{decode_of, encode_lower}
 
--- what stands between the line feeds of a text, and after the last of them
+-- what is between the line feeds of a text, and after the last of them
 abbrev pub parts_of : List ℕ → List (List ℕ)
 parts_of text = slice_split (λ b. b == 10) text
 
@@ -38,11 +38,11 @@ last_part [] = []
 last_part (part ∷ []) = part
 last_part (part ∷ next ∷ parts) = last_part (next ∷ parts)
 
--- the bytes behind the last line feed of the text, which begin a line
+-- the bytes after the last line feed of the text, which begin a line
 abbrev pub unended_line : List ℕ → List ℕ
 unended_line text = last_part (parts_of text)
 
--- the lines whose line feed stands in the text
+-- the lines whose line feed is in the text
 abbrev pub ended_lines : List ℕ → List (List ℕ)
 ended_lines text = without_last (parts_of text)
 

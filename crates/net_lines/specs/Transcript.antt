@@ -23,7 +23,7 @@ use Rattle.net_lines.specs.declared.error.BenchError.TheVariants.{WriteFailed}
 abbrev pub Rules : Type 0 → Type 0
 Rules S = S → List (List ℕ) → Result (S × List ℕ) Fault
 
--- what a line does: one of more than 4,096 bytes is too long, whatever stands in it
+-- what a line does: one of more than 4,096 bytes is too long, whatever is in it
 abbrev pub line_step : {S : Type 0} → Rules S → S → List ℕ → Result (S × List ℕ) Fault
 line_step rules state line =
     if nat_lt 4096 (length line) then Err faults.LineTooLong else rules state (words_of line)
@@ -99,7 +99,7 @@ ErrorOfLines all lines old new ReadFailed = ⊥
 -- before and after
 abbrev pub ErrorOfInput : Transcript → List ℕ → Option (List ℕ) → Option (List ℕ) →
     Option (List ℕ) → BenchError → Type 0
--- the replies of all lines whose line feed stands in what the reads gave were written, none of
+-- the replies of all lines whose line feed is in what the reads gave were written, none of
 -- these lines has a fault, and what came of the next line isn't too long
 ErrorOfInput all input left old new ReadFailed =
     (given : List ℕ) × Consumes (Some input) left given × (all.fault (ended_lines given) ≡ None)

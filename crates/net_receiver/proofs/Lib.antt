@@ -1,4 +1,4 @@
--- The lemmas behind the theorems.
+-- The lemmas of the theorems.
 pub mod Search
 pub mod Covering
 pub mod Maps

@@ -1,9 +1,9 @@
--- Where the queued bytes stand in the storage, and how many of them are contiguous.
+-- Where the queued bytes are in the storage, and how many of them are contiguous.
 --     index_of v i      the index of the stream's byte number i
 --     contiguous_count v      how many bytes of the queue are contiguous, from the first one on
 --     contiguous_count_from v o n      how many are, of at most n bytes of the queue from byte o on
 --     first_part v, second_part v      the queue's two parts, each of them contiguous
---     IsReadAt g i      the ring g is read where the stream's byte number i stands
+--     IsReadAt g i      the ring g is read where the stream's byte number i is
 use Rattle.std.specs.Prelude.{◌≡◌, ℕ, ◌+◌, ◌-◌, ◌<◌, ◌%◌, min, List, length, take, drop}
 use Rattle.net_ring.specs.Ring.{RingState}
 use Rattle.net_receiver.specs.Stored.{Stored}
@@ -13,11 +13,11 @@ use Rattle.net_receiver.specs.Stored.{Stored}
 abbrev pub index_of : Stored → ℕ → ℕ
 index_of v i = i % v.capacity
 
--- how many bytes of the queue stand in a row, from the first one on
+-- how many bytes of the queue are contiguous, from the first one on
 abbrev pub contiguous_count : Stored → ℕ
 contiguous_count v = min (length v.queue) (v.capacity - index_of v v.read)
 
--- of at most n bytes of the queue from byte o on, how many stand in a row; none if o is past the
+-- of at most n bytes of the queue from byte o on, how many are contiguous; none if o is past the
 -- queue
 abbrev pub contiguous_count_from : Stored → ℕ → ℕ → ℕ
 contiguous_count_from v o n = min n (min (length v.queue - o) (v.capacity - index_of v (v.read + o)))

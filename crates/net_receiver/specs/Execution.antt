@@ -1,11 +1,11 @@
 -- The statements on schedules that the calls' contracts name.
 --     ExecutedPrefix cs complete      how many of the commands were executed
 --     Executes N v u cs rs complete      what cs leave stored, and their replies
---     ExecutesFor N v u cs rs complete s      what cs did to a receiver that stood for s
---     items_after old new      what was pushed behind old
+--     ExecutesFor N v u cs rs complete s      what cs did to a receiver that represented s
+--     items_after old new      what was pushed after old
 --     AreAlike f s g t      what `same_state` finds alike of two states
 --     Converges v u same, TellsStates v u same      when `same_state` finds two receivers the same
---     FreshStands, EverySchedule, TellsNext, TellsHeld, TellsFresh      laws on what a receiver stands for
+--     FreshStands, EverySchedule, TellsNext, TellsHeld, TellsFresh      laws on what a receiver represents
 use Rattle.std.specs.Prelude.{◌≡◌, ◌↔◌, ℕ, ◌-◌, ◌≤◌, Bool, true, List, ◌++◌, length, take}
 use Rattle.std.specs.Prelude.{drop, All, slice_range}
 use Rattle.net_assembler.specs.Positions.{maximal_runs}
@@ -16,7 +16,7 @@ use Rattle.net_receiver.specs.Schedule.{Agrees, Follows, EndsBy, IsAccepted}
 use Rattle.net_receiver.specs.Stored.{Stored, domain, stored_next, fresh_stored, setting}
 use Rattle.net_receiver.specs.Stored.{stored_after_all, stored_replies, StandsFor}
 
--- what was pushed behind old
+-- what was pushed after old
 abbrev pub items_after : {A : Type 0} → List A → List A → List A
 items_after old new = drop (length old) new
 
@@ -50,7 +50,7 @@ pub record ExecutesFor (most_runs : ℕ) (v u : Stored) (cs : List CommandSeen) 
   pub recovers : complete → Follows (setting most_runs v) s (next v.first s.kept) cs →
       EndsBy (next v.first (kept_after_all (setting most_runs v) s cs).kept) cs
 
--- two receivers that stand for kept lists which agree with one byte list and cover the same
+-- two receivers that represent kept lists which agree with one byte list and cover the same
 -- positions, with as much read, are found the same
 abbrev pub Converges : Stored → Stored → Bool → Type 0
 Converges v u same = (x : List ℕ) (s t : State) → StandsFor v s → StandsFor u t →
@@ -65,23 +65,23 @@ AreAlike f s g t =
     × (queue_bytes f s ≡ queue_bytes g t)
     × (maximal_runs (held_positions f s.kept) ≡ maximal_runs (held_positions g t.kept))
 
--- the test is true exactly if the states that two receivers stand for are alike
+-- the test is true exactly if the states that two receivers represent are alike
 abbrev pub TellsStates : Stored → Stored → Bool → Type 0
 TellsStates v u same = (s t : State) → StandsFor v s → StandsFor u t →
     (same ≡ true) ↔ AreAlike v.first s u.first t
 
--- a fresh receiver stands for the state in which nothing was kept or read
+-- a fresh receiver represents the state in which nothing was kept or read
 abbrev pub FreshStands : Type 0
 FreshStands = (first capacity : ℕ) → StandsFor (fresh_stored first capacity) fresh_state
 
--- what is stored goes on standing for a schedule's state, and the replies are the same, over every
+-- what is stored goes on representing a schedule's state, and the replies are the same, over every
 -- list of commands
 abbrev pub EverySchedule : Type 0
 EverySchedule = (most_runs : ℕ) (v : Stored) (s : State) → StandsFor v s → (cs : List CommandSeen) →
     StandsFor (stored_after_all most_runs v cs) (kept_after_all (setting most_runs v) s cs)
     × (stored_replies most_runs v cs ≡ kept_replies (setting most_runs v) s cs)
 
--- the first missing position of a receiver is that of the state it stands for
+-- the first missing position of a receiver is that of the state it represents
 abbrev pub TellsNext : Type 0
 TellsNext = (v : Stored) (s : State) → StandsFor v s → stored_next v ≡ next v.first s.kept
 
@@ -89,6 +89,6 @@ TellsNext = (v : Stored) (s : State) → StandsFor v s → stored_next v ≡ nex
 abbrev pub TellsHeld : Type 0
 TellsHeld = (v : Stored) (s : State) → StandsFor v s → domain v.held ≡ held_positions v.first s.kept
 
--- what a fresh receiver stores stands for the fresh state
+-- what a fresh receiver stores represents the fresh state
 abbrev pub TellsFresh : Type 0
 TellsFresh = (first : ℕ) (v : Stored) → v ≡ fresh_stored first v.capacity → StandsFor v fresh_state

@@ -69,7 +69,7 @@ runs_of_sack (Some run ∷ entries) = run ∷ runs_of_sack entries
 runs_of_sack (None ∷ entries) = runs_of_sack entries
 
 -- three entries, of which the first ones are maximal runs of held positions, which rise with a hole
--- between neighbours; each held position lies in one of them, or three are listed and it lies
+-- between neighbours; each held position is in one of them, or three are listed and it is
 -- above
 pub record ListsRuns (held : Positions) (sack : List (Option (ℕ × ℕ))) : Type 0 where
   pub entries : sack ≡ first_three (runs_of_sack sack)

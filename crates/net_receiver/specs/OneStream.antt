@@ -2,7 +2,7 @@
 --     Says f x pos xs      the bytes xs at pos are what the stream x, which begins at f, has there
 --     AllSay f x cs      each segment of the commands says what x has
 --     ReceivesFrom f x v      the receiver v took nothing but parts of x
---     QueueIsOf x v      the queue is what x has behind the bytes that were read
+--     QueueIsOf x v      the queue is what x has after the bytes that were read
 --     window_part v pos xs      the bytes of a segment that the free window of v takes
 -- The others are laws: what makes these, what follows from them, and what commands leave.
 -- `Says`, `AllSay` and `ReceivesFrom` are not unfolded by a caller's proofs, which find them by the
@@ -24,7 +24,7 @@ IsTruthful f x (Segment pos xs) = PieceAgrees f x (piece pos xs)
 IsTruthful f x (Read count) = Unit {0}
 IsTruthful f x Show = Unit {0}
 
--- a receiver stands for a state whose kept list agrees with x
+-- a receiver represents a state whose kept list agrees with x
 pub record Receives (x : List ℕ) (v : Stored) : Type 0 where
   pub state : State
   pub stands : StandsFor v state
@@ -42,7 +42,7 @@ AllSay f x cs = All (IsTruthful f x) cs
 unfoldable pub ReceivesFrom : ℕ → List ℕ → Stored → Type 0
 ReceivesFrom f x v = (v.first ≡ f) × Receives x v
 
--- the queue is what x has behind the bytes that were read, so those bytes and then the queue are
+-- the queue is what x has after the bytes that were read, so those bytes and then the queue are
 -- the prefix of x that ends at the first missing position
 pub record QueueIsOf (x : List ℕ) (v : Stored) : Type 0 where
   pub within : v.read + length v.queue ≤ length x
@@ -82,7 +82,7 @@ ReadSays = (f : ℕ) (x : List ℕ) (count : ℕ) (cs : List CommandSeen) →
 abbrev pub ShowSays : Type 0
 ShowSays = (f : ℕ) (x : List ℕ) (cs : List CommandSeen) → AllSay f x cs → AllSay f x (Show ∷ cs)
 
--- commands behind others
+-- commands after others
 abbrev pub BothSay : Type 0
 BothSay = (f : ℕ) (x : List ℕ) (cs ds : List CommandSeen) →
     AllSay f x cs → AllSay f x ds → AllSay f x (cs ++ ds)
@@ -97,7 +97,7 @@ abbrev pub FreshReceivesFrom : Type 0
 FreshReceivesFrom = (f : ℕ) (x : List ℕ) (v : Stored) →
     v ≡ fresh_stored f v.capacity → ReceivesFrom f x v
 
--- a receiver that stands for a kept list which agrees with x
+-- a receiver that represents a kept list which agrees with x
 abbrev pub AgreeingReceives : Type 0
 AgreeingReceives = (f : ℕ) (x : List ℕ) (v : Stored) (s : State) →
     v.first ≡ f → StandsFor v s → Agrees f s.kept x → ReceivesFrom f x v

@@ -1,6 +1,6 @@
 -- Segments that come again, and segments that together cover a range.
 --     IsHeld v pos xs      what the free window would take of a segment is held already
---     Has v p      the position p lies below the first missing one, or is held
+--     Has v p      the position p is below the first missing one, or is held
 --     Brings cs p      a segment of cs contains the position p
 -- The others are laws.
 use Rattle.std.specs.Prelude.{◌≡◌, ◌⊎◌, ℕ, ◌+◌, ◌≤◌, ◌<◌, min, List, [], ◌∷◌, length, Some}
@@ -30,7 +30,7 @@ SecondCopy = (most_runs : ℕ) (v : Stored) (pos : ℕ) (xs : List ℕ) → IsSo
     stored_after most_runs u (Segment pos xs) ≡ u
 
 -- ---- segments that cover a range
--- a position lies below the first missing one, so that it was read or is queued, or is held
+-- a position is below the first missing one, so that it was read or is queued, or is held
 abbrev pub Has : Stored → ℕ → Type 0
 Has v p = (p < stored_next v) ⊎ IsTrue (fin.contains_key v.held p)
 

@@ -17,7 +17,7 @@ pub record KeepsOrRefuses (v : Stored) (xs : List ℕ) (u : Stored)
   pub read : u.read ≡ v.read
 
 -- one that begins at or below the first missing position: it is accepted, and the queue then goes
--- on with xs, and with what was held behind it
+-- on with xs, and with what was held after it
 pub record JoinsQueue (v : Stored) (xs : List ℕ) (u : Stored)
     (r : Result Kept TooManyHolesError) : Type 0 where
   pub accepted : IsOk r

@@ -1,8 +1,8 @@
--- Sequence numbers of 32 bits, and the positions that they stand for.
+-- Sequence numbers of 32 bits, and the positions that they represent.
 --     number_at i pos      the number of a position, where position 0 has the number i
 --     ahead_of a b      how far the number b is ahead of a, going round at 2^32
 --     ComesBefore a b      b is ahead of a by 1 to 2^31 - 1
---     IsNear next pos      pos lies at most 2^31 before next, or less than 2^31 after it
+--     IsNear next pos      pos is at most 2^31 before next, or less than 2^31 after it
 -- The others are laws.
 use Rattle.std.specs.Prelude.{◌≡◌, ◌≢◌, ◌↔◌, ◌⊎◌, ℕ, ◌+◌, ◌-◌, ◌<◌, ◌≤◌, ◌%◌, ◌^◌}
 

@@ -5,7 +5,7 @@ use Rattle.std.proofs.lemmas.List.{take-append-le}
 use Rattle.std.proofs.Math.Seq.{take-append-add}
 use Rattle.net_lines.proofs.ring.RingSession.shown.Goals as goal
 
--- the first n of two lists, one behind the other
+-- the first n of two lists, one after the other
 first_of_both : (xs ys : List ℕ) (n m : ℕ) → m ≡ min n (length xs) →
     take m xs ++ take (n - m) ys ≡ take n (xs ++ ys)
 first_of_both xs ys n m is =
