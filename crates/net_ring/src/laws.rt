@@ -1,13 +1,13 @@
-//! A law whose premise is what the contracts of calls say: an equation of what a call left, and
-//! what follows from it at one index.
+//! A law whose premise is what the contracts of calls say, an equation of what a call left, and laws
+//! of refusals.
 //!
-//! The function does nothing. Where a law of `ring_buffer::laws` speaks of `overwrite xs i ws`
-//! itself, this one speaks of any list that is equal to it, as one that stands in a field is after a
-//! call.
+//! No function here does anything. A law of `ring_buffer::laws` speaks of `overwrite xs i ws` itself;
+//! `element_after_overwrite` speaks of any list that is equal to it, as one in a field is after a call.
 ghost use Rattle.std.specs.Prelude.{◌≡◌, ◌+◌, ◌-◌, ◌<◌, ◌≤◌, ◌&&◌, nat_le, nat_lt};
-ghost use Rattle.std.specs.Prelude.{ℕ, List, length, slice_index_or, if◌then◌else◌};
+ghost use Rattle.std.specs.Prelude.{ℕ, List, length, slice_index_or, if◌then◌else◌, IsTrue};
 ghost use Rattle.net_ring.specs.Overwrite.{overwrite};
 
+use crate::error::{Empty, Full};
 use crate::ring_buffer::laws::overwritten;
 
 /// A list that was written over has, at an index, the element that was written there, or the old
@@ -28,3 +28,15 @@ pub fn element_after_overwrite<T>()
 {
     overwritten::<T>();
 }
+
+/// Two refusals of an enqueue are equal, and a clone of one is never refused.
+pub fn full(x: &Full, y: &Full)
+    ensures equal { IsTrue (⟦<Full as PartialEq>⟧.eq x.now y.now) }
+    ensures never_refused { ⟦<Full as Clone>⟧.is_infallible x.now }
+{}
+
+/// Two refusals of a dequeue are equal, and a clone of one is never refused.
+pub fn empty(x: &Empty, y: &Empty)
+    ensures equal { IsTrue (⟦<Empty as PartialEq>⟧.eq x.now y.now) }
+    ensures never_refused { ⟦<Empty as Clone>⟧.is_infallible x.now }
+{}
