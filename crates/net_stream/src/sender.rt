@@ -3,12 +3,11 @@ ghost use Rattle.std.specs.Prelude.{◌≡◌, ◌+◌, ◌-◌, ◌<◌, ◌≤
 ghost use Rattle.std.specs.Prelude.{length, take, drop, min, slice_index_or, IsTrue, IsFalse};
 ghost use Rattle.net_ring.specs.Managed.{elements};
 ghost use Rattle.net_receiver.specs.OneStream.{Says};
-ghost use Rattle.net_stream.specs.Outgoing.{outgoing, end_of, room_of, row_end, with_written};
-ghost use Rattle.net_stream.specs.Outgoing.{room_in_row, after_ack, Sends};
-ghost use Rattle.net_stream.specs.Outgoing.{QueueFromGreatest};
-ghost use Rattle.net_stream.specs.Outgoing.{TakesFreeBytes, CountsFreeBytes, CalledOnRoom};
-ghost use Rattle.net_stream.specs.Reported.{reports, is_full};
-ghost use Rattle.net_stream.specs.Sending.{spared_from, next_reported, stop_of};
+ghost use Rattle.net_copies.specs.Outgoing.{outgoing, end_of, room_of, row_end, with_written};
+ghost use Rattle.net_copies.specs.Outgoing.{room_in_row, after_ack, Sends};
+ghost use Rattle.net_stream.specs.FreeBytes.{TakesFreeBytes, CountsFreeBytes, CalledOnRoom};
+ghost use Rattle.net_copies.specs.Reported.{reports, is_full};
+ghost use Rattle.net_copies.specs.Sending.{spared_from, next_reported, stop_of};
 
 use crate::reported::Reported;
 use net_receiver::laws;
@@ -31,16 +30,10 @@ pub struct Sender<'a> {
     reported: Reported,
 }
 
-/// After several acknowledgements a sender's queue begins at the greatest of where it began and of
-/// their positions, those above its end left out, whatever their order.
-pub fn queue_from_greatest()
-    ensures { QueueFromGreatest }
-{}
-
 impl<'a> Model for Sender<'a> {
     ghost use Rattle.std.specs.Prelude.{◌+◌, ◌-◌, ◌<◌, ◌^◌, length};
     ghost use Rattle.net_ring.specs.Ring.{queue, capacity};
-    ghost use Rattle.net_stream.specs.Outgoing.{Outgoing, outgoing};
+    ghost use Rattle.net_copies.specs.Outgoing.{Outgoing, outgoing};
 
     ghost Value = { Outgoing };
 

@@ -1,5 +1,5 @@
 use Rattle.std.proofs.Common.{◌≡◌, length, suc, refl, ap, ◌∙◌, arith}
-use Rattle.net_stream.specs.LinkState.{times, late_ack}
+use Rattle.net_copies.specs.LinkState.{times, late_ack}
 use Rattle.net_stream.proofs.link.Link.late_acks.Goals as goal
 
 pub late-init : goal.late-init

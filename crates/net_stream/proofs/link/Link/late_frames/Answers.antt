@@ -1,5 +1,5 @@
 use Rattle.std.proofs.Common.{◌≡◌, length, suc, refl, ap, subst, ◌∙◌, arith}
-use Rattle.net_stream.specs.LinkState.{times, late_frame, StopsLate}
+use Rattle.net_copies.specs.LinkState.{times, late_frame, StopsLate}
 use Rattle.net_stream.proofs.Results.{OnErr-always}
 use Rattle.net_stream.proofs.link.Link.late_frames.Goals as goal
 

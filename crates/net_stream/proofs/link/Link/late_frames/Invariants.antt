@@ -1,5 +1,5 @@
 use Rattle.std.proofs.Common.{◌≡◌, ℕ, ◌+◌, length}
-use Rattle.net_stream.specs.LinkState.{times, late_frame}
+use Rattle.net_copies.specs.LinkState.{times, late_frame}
 use Rattle.net_stream.proofs.link.Link.late_frames.Given as goal
 
 abbrev pub invariant-late : goal.invariant-late

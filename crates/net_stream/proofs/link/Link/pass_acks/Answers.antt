@@ -1,5 +1,5 @@
 use Rattle.std.proofs.Common.{◌≡◌, length, suc, refl, ap, subst, ◌∙◌, arith}
-use Rattle.net_stream.specs.LinkState.{times, pass_ack, StopsAck}
+use Rattle.net_copies.specs.LinkState.{times, pass_ack, StopsAck}
 use Rattle.net_stream.proofs.Results.{OnErr-always}
 use Rattle.net_stream.proofs.link.Link.pass_acks.Goals as goal
 

@@ -1,5 +1,5 @@
 use Rattle.std.proofs.Common.{◌≡◌, ℕ, ◌+◌, length}
-use Rattle.net_stream.specs.LinkState.{times, pass_frame}
+use Rattle.net_copies.specs.LinkState.{times, pass_frame}
 use Rattle.net_stream.proofs.link.Link.pass_frames.Given as goal
 
 abbrev pub invariant-frames : goal.invariant-frames

@@ -1,8 +1,8 @@
 use Rattle.std.proofs.Common.{rules, refl, sym, ap, subst, ◌∙◌, arith}
-use Rattle.net_stream.specs.LinkState.{LinkState, next_flight, late_frames, pass_frames, acknowledge_all, late_acks, pass_acks, with_flight, round, StopsRound}
-use Rattle.net_stream.specs.Links.{Carries}
-use Rattle.net_stream.proofs.Kept.{round_carries, stop_carries}
-use Rattle.net_stream.proofs.Grown.{grown, stopped}
+use Rattle.net_copies.specs.LinkState.{LinkState, next_flight, late_frames, pass_frames, acknowledge_all, late_acks, pass_acks, with_flight, round, StopsRound}
+use Rattle.net_copies.specs.Links.{Carries}
+use Rattle.net_copies.proofs.Kept.{round_carries, stop_carries}
+use Rattle.net_copies.proofs.Grown.{grown, stopped}
 use Rattle.net_stream.proofs.link.Link.pass_round.Goals as goal
 
 pub returns-clause-state : goal.returns-clause-state

@@ -1,8 +1,8 @@
 use Rattle.std.proofs.Common.{◌≡◌, ◌∙◌, ap, arith}
-use Rattle.net_stream.specs.Outgoing.{end_of}
-use Rattle.net_stream.specs.Sending.{next_reported}
-use Rattle.net_stream.specs.Reported.{next_start}
-use Rattle.net_stream.proofs.Spared.{next_above, next_between}
+use Rattle.net_copies.specs.Outgoing.{end_of}
+use Rattle.net_copies.specs.Sending.{next_reported}
+use Rattle.net_copies.specs.Reported.{next_start}
+use Rattle.net_copies.proofs.Spared.{next_above, next_between}
 use Rattle.net_stream.proofs.sender.Sender.next_reported.Goals as goal
 
 pub returns-clause-value : goal.returns-clause-value

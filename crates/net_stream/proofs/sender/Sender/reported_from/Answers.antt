@@ -1,6 +1,6 @@
 use Rattle.std.proofs.Common.{◌≡◌, ◌∙◌, ap, arith}
-use Rattle.net_stream.specs.Reported.{count_from}
-use Rattle.net_stream.proofs.Spared.{count_inside, count_none}
+use Rattle.net_copies.specs.Reported.{count_from}
+use Rattle.net_copies.proofs.Spared.{count_inside, count_none}
 use Rattle.net_stream.proofs.sender.Sender.reported_from.Goals as goal
 
 pub returns-clause-inside : goal.returns-clause-inside
