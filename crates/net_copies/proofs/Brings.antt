@@ -11,7 +11,7 @@ use Rattle.net_copies.specs.Frames.{segment_of, FrameSays}
 use Rattle.net_copies.specs.Reported.{most_reported}
 use Rattle.net_copies.specs.Fates.{NextCome}
 use Rattle.net_copies.specs.Carrying.{HasRanges, receiver_after}
-use Rattle.net_copies.specs.Sending.{at_least_one}
+use Rattle.net_copies.specs.Outgoing.{at_least_one}
 use Rattle.net_copies.specs.Progress.{reach_one, Reaches, limit_of}
 use Rattle.net_copies.specs.Passing.{receiver_after_all}
 use Rattle.net_copies.specs.Links.{Carries, HasRoomFor, Passes, RoundBrings}

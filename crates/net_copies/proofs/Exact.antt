@@ -10,10 +10,12 @@ use Rattle.net_copies.specs.Outgoing.{Outgoing, end_of, row_end, sender_from}
 use Rattle.net_copies.specs.Frames.{Part, frames_from, part_bytes, frame_of, FramesDecode}
 use Rattle.net_copies.specs.Reported.{reports, count_from, next_start, greatest_end, is_full, most_reported, range_bytes, ranges_of}
 use Rattle.net_copies.specs.Carrying.{PathSeen, ack_of}
-use Rattle.net_copies.specs.Sending.{AreSparedIfReported, HasSize, part_end, stop_of, HaveEnds, SendsRound, at_least_one}
+use Rattle.net_copies.specs.Sending.{AreSparedIfReported, HasSize, part_end, HaveEnds, SendsRound}
+use Rattle.net_copies.specs.Outgoing.{stop_of, at_least_one}
 use Rattle.net_copies.specs.Fates.{AllCome}
 use Rattle.net_copies.specs.Passing.{acks_of}
-use Rattle.net_copies.specs.Progress.{after_ack_frame, after_ack_frames}
+use Rattle.net_copies.specs.Outgoing.{after_ack_frame}
+use Rattle.net_copies.specs.Progress.{after_ack_frames}
 use Rattle.net_copies.specs.LinkState.{LinkState, round, next_flight}
 use Rattle.net_copies.specs.Links.{HasRoomFor}
 use Rattle.net_copies.specs.Streams.{CarriesWithin, Writes}

@@ -9,8 +9,8 @@ use Rattle.net_copies.specs.Frames.{segment_of}
 use Rattle.net_copies.specs.Reported.{most_reported, ranges_of}
 use Rattle.net_copies.specs.Fates.{next_fate, comes}
 use Rattle.net_copies.specs.Carrying.{receiver_after}
-use Rattle.net_copies.specs.Sending.{stop_of, spared_from}
-use Rattle.net_copies.specs.Progress.{after_ack_frame}
+use Rattle.net_copies.specs.Outgoing.{stop_of, spared_from}
+use Rattle.net_copies.specs.Outgoing.{after_ack_frame}
 use Rattle.net_copies.specs.LinkState.{LinkState, times, Cursor, start, frame_len, send, part, part_at, transmit, take_in, come, late_frame_of, late_frame, late_frames}
 use Rattle.net_copies.specs.LinkState.{came, take_frame, pass_frame_of, pass_frame, pass_frames, acknowledge_all, acknowledge, late_ack_of, late_ack, late_acks}
 use Rattle.net_copies.specs.LinkState.{came_ack, take_ack, pass_ack_of, pass_ack, round, StopsLate, StopsFrame, StopsAck, StopsRound}

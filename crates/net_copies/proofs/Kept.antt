@@ -20,9 +20,9 @@ use Rattle.net_copies.specs.Frames.{segment_of, FrameSays}
 use Rattle.net_copies.specs.Reported.{most_reported, ranges_of}
 use Rattle.net_copies.specs.Fates.{next_fate, comes, comes_late}
 use Rattle.net_copies.specs.Carrying.{PathSeen, IsUnderWay, FrameTells, ack_of, receiver_after, with_ack}
-use Rattle.net_copies.specs.Sending.{stop_of, spared_from}
-use Rattle.net_copies.specs.Progress.{after_ack_frame}
-use Rattle.net_copies.specs.Passing.{with_late}
+use Rattle.net_copies.specs.Outgoing.{stop_of, spared_from}
+use Rattle.net_copies.specs.Outgoing.{after_ack_frame}
+use Rattle.net_copies.specs.Carrying.{with_late}
 use Rattle.net_copies.proofs.Carried.{All-push, All-map, took, coming_are, going_are, acked_back, sent_says, acked}
 use Rattle.net_copies.proofs.Queue.{queue_from}
 use Rattle.net_copies.proofs.Parts.{lent_says}

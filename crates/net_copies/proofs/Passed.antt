@@ -4,7 +4,8 @@ use Rattle.net_copies.specs.declared.counts.FrameCounts.{FrameCounts}
 use Rattle.net_copies.specs.Reported.{most_reported, count_outside}
 use Rattle.net_copies.specs.Counting.{with_fates, with_payload, SameButRefused}
 use Rattle.net_copies.specs.Carrying.{PathSeen, ack_of}
-use Rattle.net_copies.specs.Sending.{at_least_one, SendsRound}
+use Rattle.net_copies.specs.Outgoing.{at_least_one}
+use Rattle.net_copies.specs.Sending.{SendsRound}
 use Rattle.net_copies.specs.Passing.{coming_of, late_of, receiver_after_all, acks_of}
 use Rattle.net_copies.specs.Fates.{fates_after}
 use Rattle.net_copies.specs.Links.{Passes, RoundPasses}

@@ -22,7 +22,8 @@ use Rattle.net_copies.specs.declared.fate.Fate.TheVariants.{Delivered, Lost, Rep
 use Rattle.net_copies.specs.declared.fate.Rates.{Rates}
 use Rattle.net_copies.specs.Carrying.{HasRanges}
 use Rattle.net_copies.specs.Sending.{IsReportedIf, AreSparedIfReported}
-use Rattle.net_copies.specs.Progress.{reach_one, Reaches, after_ack_frame, after_ack_frames}
+use Rattle.net_copies.specs.Progress.{reach_one, Reaches, after_ack_frames}
+use Rattle.net_copies.specs.Outgoing.{after_ack_frame}
 
 -- ---- where a truthful segment ends
 pub says_ends : (f : ℕ) (w : List ℕ) (pos : ℕ) (xs : List ℕ) → Says f w pos xs → pos + length xs ≤ max pos (f + length w)

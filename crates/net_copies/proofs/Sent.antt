@@ -10,8 +10,10 @@ use Rattle.net_copies.specs.Outgoing.{Outgoing, end_of, row_end}
 use Rattle.net_copies.specs.Frames.{Part, frame_of, frames_from, part_bytes}
 use Rattle.net_copies.specs.Reported.{reports, greatest_end, is_full}
 use Rattle.net_copies.specs.Carrying.{PathSeen}
-use Rattle.net_copies.specs.Sending.{IsReportedIf, AreSparedIfReported, HasSize, spared_from, next_reported}
-use Rattle.net_copies.specs.Sending.{part_end, stop_of, HaveEnds, SendsPart, SendsPrefix, SendsRound}
+use Rattle.net_copies.specs.Sending.{IsReportedIf, AreSparedIfReported, HasSize}
+use Rattle.net_copies.specs.Outgoing.{spared_from, next_reported}
+use Rattle.net_copies.specs.Sending.{part_end, HaveEnds, SendsPart, SendsPrefix, SendsRound}
+use Rattle.net_copies.specs.Outgoing.{stop_of}
 use Rattle.net_copies.proofs.Carried.{All-push}
 use Rattle.net_copies.proofs.Spared.{end_from}
 

@@ -3,7 +3,8 @@ use Rattle.std.proofs.Common.{◌≡◌, ◌⊎◌, ℕ, zero, suc, ◌+◌, ◌
 use Rattle.std.proofs.lemmas.Bool.{both_ways, cases_lt, lt-ltb, ltb-true}
 use Rattle.net_copies.specs.Outgoing.{Outgoing, end_of, row_end}
 use Rattle.net_copies.specs.Reported.{count_outside}
-use Rattle.net_copies.specs.Sending.{at_least_one, stop_of, spared_from, next_reported, IsReportedIf, SendsRound}
+use Rattle.net_copies.specs.Outgoing.{at_least_one, stop_of, spared_from, next_reported}
+use Rattle.net_copies.specs.Sending.{IsReportedIf, SendsRound}
 use Rattle.net_copies.proofs.Spared.{count_inside, count_none, next_above, next_between}
 use Rattle.net_copies.specs.Counting.{with_payload}
 use Rattle.net_copies.proofs.Ranges.{count_marked, counted_more, counted_none}

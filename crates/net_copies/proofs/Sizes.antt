@@ -12,8 +12,8 @@ use Rattle.net_copies.specs.Reported.{most_reported}
 use Rattle.net_copies.specs.Fates.{next_fate, comes, comes_late}
 use Rattle.net_copies.specs.Counting.{more, with_fate, with_refusal, is_refused}
 use Rattle.net_copies.specs.Carrying.{PathSeen, ack_of, receiver_after, with_ack}
-use Rattle.net_copies.specs.Sending.{stop_of, spared_from, at_least_one}
-use Rattle.net_copies.specs.Passing.{with_late}
+use Rattle.net_copies.specs.Outgoing.{stop_of, spared_from, at_least_one}
+use Rattle.net_copies.specs.Carrying.{with_late}
 use Rattle.net_copies.specs.LinkState.{LinkState, times, Cursor, start, frame_len, send, part, part_at, transmit, come, late_frame_of, late_frame, late_frames}
 use Rattle.net_copies.specs.LinkState.{came, take_frame, pass_frame_of, pass_frame, pass_frames, acknowledge_all, acknowledge, late_ack_of, late_ack, late_acks}
 use Rattle.net_copies.specs.LinkState.{came_ack, take_ack, pass_ack_of, pass_ack, round}

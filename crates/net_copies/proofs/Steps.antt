@@ -1,7 +1,7 @@
 -- Functions that are applied several times over.
 use Rattle.std.proofs.Common.{◌≡◌, ◌⊎◌, ◌&&◌, ℕ, zero, suc, ◌+◌, ◌-◌, ◌≤◌, ◌<◌, nat_lt, Bool, true, false, cond, length, refl, sym, ap, ◌∙◌, arith, ⊎_elim}
 use Rattle.std.proofs.lemmas.Bool.{cond-true, cond-false, and_from, and_left, and_right, lt-ltb, le-ltb}
-use Rattle.net_copies.specs.Sending.{stop_of}
+use Rattle.net_copies.specs.Outgoing.{stop_of}
 use Rattle.net_copies.specs.LinkState.{LinkState, times, Cursor, start, part, part_at, transmit}
 
 -- once a step changes nothing, no more of them do

@@ -20,8 +20,9 @@ use Rattle.net_copies.specs.declared.fate.Fate.TheVariants.{Delivered, Lost, Rep
 use Rattle.net_copies.specs.Counting.{with_fate, with_fates, with_payload}
 use Rattle.net_copies.specs.Fates.{FatesSeen, next_fate, after_fate, fates_after, comes, comes_late, AllCome}
 use Rattle.net_copies.specs.Carrying.{ack_of, receiver_after}
-use Rattle.net_copies.specs.Sending.{at_least_one}
-use Rattle.net_copies.specs.Progress.{after_ack_frame, after_ack_frames, limit_of}
+use Rattle.net_copies.specs.Outgoing.{at_least_one}
+use Rattle.net_copies.specs.Outgoing.{after_ack_frame}
+use Rattle.net_copies.specs.Progress.{after_ack_frames, limit_of}
 use Rattle.net_copies.specs.Passing.{coming_of, late_of, receiver_after_all, ack_to, acks_of}
 use Rattle.net_copies.specs.Links.{Carries, Passes}
 use Rattle.net_copies.specs.Stuck.{failures, losses, RoundLeaves, BringsOnOrIsStuck, HasFailed, AllFail}

@@ -5,6 +5,7 @@
 --     HasRanges r ranges      the receiver has each position of the ranges
 --     FrameTells r frame      an acknowledgement tells nothing but what the receiver has
 --     ack_of r      the acknowledgement of a receiver
+--     with_late fate frame path      the path once this frame met its fate
 --     receiver_after N r frame, with_ack r frame back      what a frame that comes leaves
 use Rattle.std.specs.Prelude.{◌≡◌, ℕ, ◌+◌, ◌≤◌, ◌^◌, nat_lt, if◌then◌else◌}
 use Rattle.std.specs.Prelude.{IsTrue, Option, Some, None}
@@ -17,13 +18,19 @@ use Rattle.net_receiver.specs.Retransmission.{Has}
 use Rattle.net_copies.specs.Outgoing.{Outgoing, Sends}
 use Rattle.net_copies.specs.Frames.{frame_of, segment_of, FrameSays}
 use Rattle.net_copies.specs.Reported.{reports, most_reported, range_bytes, ranges_of}
-use Rattle.net_copies.specs.Fates.{FatesSeen}
+use Rattle.net_copies.specs.Fates.{FatesSeen, comes_late}
+use Rattle.net_copies.specs.declared.fate.Fate.{Fate}
 
 -- a path of a link
 pub record PathSeen : Type 0 where
   pub ahead : List (List ℕ)
   pub late : List (List ℕ)
   pub fates : FatesSeen
+
+-- the path once a frame, which was taken off it, met its fate
+abbrev pub with_late : Fate → List ℕ → PathSeen → PathSeen
+with_late fate frame path =
+    if comes_late fate then record path { late = path.late ++ frame ∷ [] } else path
 
 -- the receiver has each position of the ranges
 abbrev pub HasRanges : Stored → List (ℕ × ℕ) → Type 0

@@ -1,7 +1,7 @@
 -- The definitions that the contracts cite.
-pub mod Outgoing
 pub mod Frames
 pub mod Reported
+pub mod Outgoing
 pub mod Fates
 pub mod Counting
 pub mod Carrying

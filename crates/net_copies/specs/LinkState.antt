@@ -19,9 +19,9 @@ use Rattle.net_copies.specs.Reported.{most_reported, is_full}
 use Rattle.net_copies.specs.Fates.{next_fate, after_fate, comes}
 use Rattle.net_copies.specs.Counting.{with_fate, with_payload, with_refusal}
 use Rattle.net_copies.specs.Carrying.{PathSeen, ack_of, receiver_after, with_ack}
-use Rattle.net_copies.specs.Sending.{at_least_one, spared_from, next_reported, stop_of}
-use Rattle.net_copies.specs.Progress.{after_ack_frame}
-use Rattle.net_copies.specs.Passing.{with_late}
+use Rattle.net_copies.specs.Outgoing.{at_least_one, spared_from, next_reported, stop_of}
+use Rattle.net_copies.specs.Outgoing.{after_ack_frame}
+use Rattle.net_copies.specs.Carrying.{with_late}
 use Rattle.net_copies.specs.declared.counts.FrameCounts.{FrameCounts}
 use Rattle.net_copies.specs.declared.fate.Fate.{Fate}
 

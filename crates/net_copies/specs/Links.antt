@@ -13,7 +13,8 @@ use Rattle.net_copies.specs.Counting.{with_fates, SameButRefused, with_payload}
 use Rattle.net_copies.specs.Outgoing.{end_of}
 use Rattle.net_copies.specs.Fates.{NextCome}
 use Rattle.net_copies.specs.Carrying.{PathSeen, IsUnderWay, ack_of}
-use Rattle.net_copies.specs.Sending.{SendsRound, at_least_one}
+use Rattle.net_copies.specs.Sending.{SendsRound}
+use Rattle.net_copies.specs.Outgoing.{at_least_one}
 use Rattle.net_copies.specs.Frames.{frames_from}
 use Rattle.net_copies.specs.Progress.{after_ack_frames, limit_of}
 use Rattle.net_copies.specs.Passing.{coming_of, receiver_after_all, acks_of, path_after}

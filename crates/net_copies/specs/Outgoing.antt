@@ -8,11 +8,18 @@
 --     after_ack v n ranges      the sender once all below position n was acknowledged, and these ranges
 --         were reported
 --     after_acks v acks      the sender once several acknowledgements came
+--     after_ack_frame v frame      the same, of a frame
+--     at_least_one n      a number of which 0 counts as 1
+--     spared_from v p, next_reported v p      how many bytes from position p on are reported, and where the
+--         next ones are
+--     stop_of v      the position at and above which no frame begins
 --     with_written v xs      the sender once these bytes were written
 --     QueueFromGreatest      a law on several acknowledgements
 --     Sends f w v      w was written to a sender, its first byte at position f
 use Rattle.std.specs.Prelude.{◌≡◌, ℕ, ◌+◌, ◌-◌, ◌≤◌, ◌^◌, ◌&&◌, nat_lt, nat_le, nat_eq, min, max}
-use Rattle.std.specs.Prelude.{if◌then◌else◌, List, [], ◌∷◌, ◌++◌, length, take, drop}
+use Rattle.std.specs.Prelude.{if◌then◌else◌, List, [], ◌∷◌, ◌++◌, length, take, drop, Option, Some, None}
+use Rattle.net_copies.specs.Frames.{segment_of}
+use Rattle.net_copies.specs.Reported.{count_from, next_start, greatest_end, is_full, most_reported, ranges_of}
 
 -- what a sender is seen as: a byte of position `cut` stands at the storage's beginning, and one
 -- before it stands at an index less by `cut` minus its position than the storage's length
@@ -64,6 +71,30 @@ sender_from v n ranges = outgoing v.capacity n (drop (n - v.base) v.queue) range
 abbrev pub after_ack : Outgoing → ℕ → List (ℕ × ℕ) → Outgoing
 after_ack v n ranges =
     if nat_le v.base n && nat_le n (end_of v) then sender_from v n ranges else v
+
+-- ---- a frame has come, and a frame is sent
+-- a sender once an acknowledgement has come: one too short for a position changes nothing
+abbrev pub after_ack_frame : Outgoing → Option (ℕ × List ℕ) → Outgoing
+after_ack_frame s None = s
+after_ack_frame s (Some (n, xs)) = after_ack s n (ranges_of most_reported xs)
+
+-- a number of which 0 counts as 1
+abbrev pub at_least_one : ℕ → ℕ
+at_least_one n = max n 1
+
+-- how many bytes from position p on are spared
+abbrev pub spared_from : Outgoing → ℕ → ℕ
+spared_from s p = min (count_from s.reported p) (end_of s - p)
+
+-- the first position above p that begins a reported range, or the end if there is none before it
+abbrev pub next_reported : Outgoing → ℕ → ℕ
+next_reported s p = next_start s.reported p (end_of s)
+
+-- no part begins here or above: at the end, or, if the ranges are as many as can be reported, above
+-- the greatest end of them
+abbrev pub stop_of : Outgoing → ℕ
+stop_of s =
+    if is_full s.reported then min (end_of s) (greatest_end s.reported s.base + 1) else end_of s
 
 -- ---- several acknowledgements, each of a position and of ranges
 -- the sender once they came, one after another

@@ -3,14 +3,12 @@
 --                                               come at once, and those that come late
 --     receiver_after_all N r frames      what a receiver stores once frames have come, one after another
 --     acks_of N r frames      its acknowledgements of them
---     with_late fate frame path      the path once this frame met its fate
 --     path_after path      what is left of a path whose frames have all met their fates
 use Rattle.std.specs.Prelude.{ℕ, ◌+◌, ◌^◌, nat_lt, if◌then◌else◌}
 use Rattle.std.specs.Prelude.{List, [], ◌∷◌, ◌++◌, length, Option, Some, None}
 use Rattle.net_receiver.specs.Stored.{Stored}
 use Rattle.net_copies.specs.Frames.{segment_of}
 use Rattle.net_copies.specs.Fates.{FatesSeen, next_fate, after_fate, fates_after, comes, comes_late}
-use Rattle.net_copies.specs.declared.fate.Fate.{Fate}
 use Rattle.net_copies.specs.Carrying.{PathSeen, ack_of, receiver_after}
 
 -- the frames that come at once, of frames that meet the next fates of v
@@ -26,11 +24,6 @@ late_of v [] = []
 late_of v (frame ∷ frames) =
     if comes_late (next_fate v) then frame ∷ late_of (after_fate v) frames
     else late_of (after_fate v) frames
-
--- the path once a frame, which was taken off it, met its fate
-abbrev pub with_late : Fate → List ℕ → PathSeen → PathSeen
-with_late fate frame path =
-    if comes_late fate then record path { late = path.late ++ frame ∷ [] } else path
 
 -- what a receiver stores once frames have come, one after another
 abbrev pub receiver_after_all : ℕ → Stored → List (List ℕ) → Stored

@@ -1,14 +1,13 @@
 -- How far frames and acknowledgements bring a receiver and a sender, once they have come.
 --     reach_one p frame      how far a receiver comes at least that has all before p
 --     Reaches ranges end p frames      frames bring it to `end`, if it has the ranges too
---     after_ack_frame s frame, after_ack_frames s frames      a sender once acknowledgements have come
+--     after_ack_frames s frames      a sender once acknowledgements have come
 --     limit_of r      where the receiver's free window ends
 use Rattle.std.specs.Prelude.{◌≡◌, ℕ, ◌+◌, ◌-◌, ◌⊎◌, max, nat_le, if◌then◌else◌}
 use Rattle.std.specs.Prelude.{true, List, [], ◌∷◌, length, Option, Some, None}
 use Rattle.net_receiver.specs.Stored.{Stored}
-use Rattle.net_copies.specs.Outgoing.{Outgoing, after_ack}
+use Rattle.net_copies.specs.Outgoing.{Outgoing, after_ack_frame}
 use Rattle.net_copies.specs.Frames.{segment_of}
-use Rattle.net_copies.specs.Reported.{most_reported, ranges_of}
 use Rattle.net_copies.specs.Sending.{IsReportedIf}
 
 -- a frame that begins past p brings nothing that counts
@@ -26,12 +25,7 @@ Reaches ranges end p (frame ∷ frames) =
     × IsReportedIf ranges p (pos - p) true
     × Reaches ranges end (max p (pos + length xs)) frames)
 
--- a sender once an acknowledgement has come: one too short for a position changes nothing
-abbrev pub after_ack_frame : Outgoing → Option (ℕ × List ℕ) → Outgoing
-after_ack_frame s None = s
-after_ack_frame s (Some (n, xs)) = after_ack s n (ranges_of most_reported xs)
-
--- the same of several acknowledgements, one after another
+-- a sender once several acknowledgements have come, one after another
 abbrev pub after_ack_frames : Outgoing → List (List ℕ) → Outgoing
 after_ack_frames s [] = s
 after_ack_frames s (frame ∷ frames) = after_ack_frames (after_ack_frame s (segment_of frame)) frames

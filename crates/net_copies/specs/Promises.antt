@@ -30,7 +30,7 @@ use Rattle.net_copies.specs.LinkState.{LinkState, transmit, late_frames, pass_fr
 use Rattle.net_copies.specs.CopyState.{Setup, CopyState, Running, Done, GaveUp, feed, waited, while_running}
 use Rattle.net_copies.specs.CopyState.{is_written, room_for, after, outcome, copied}
 use Rattle.net_copies.specs.Rounds.{CountsFates}
-use Rattle.net_copies.specs.Sending.{at_least_one}
+use Rattle.net_copies.specs.Outgoing.{at_least_one}
 use Rattle.net_copies.specs.Stuck.{FatesFail}
 
 abbrev pub StartsFits : Setup → Type 0

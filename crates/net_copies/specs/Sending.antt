@@ -2,8 +2,6 @@
 --     SendsFrames p parts old new      frames of the parts, from position p on, were put on their way
 --     IsReportedIf ranges p n spared, AreSparedIfReported ranges p parts      exactly what was
 --         reported is spared
---     at_least_one n      a number of which 0 counts as 1
---     stop_of s      the position at and above which no part begins
 --     part_end s most p      where the part ends that begins at position p
 --     HaveEnds s most p parts      each of the parts, from position p on, ends there
 --     SendsPart s most p n k old new      n bytes from position p on were spared or sent, in k frames
@@ -13,9 +11,9 @@
 use Rattle.std.specs.Prelude.{◌≡◌, ℕ, ◌+◌, ◌-◌, ◌<◌, ◌≤◌, ◌⊎◌, min, max, if◌then◌else◌}
 use Rattle.std.specs.Prelude.{Bool, false}
 use Rattle.std.specs.Prelude.{List, [], ◌∷◌, ◌++◌, length, take, drop, All}
-use Rattle.net_copies.specs.Outgoing.{Outgoing, end_of, row_end}
+use Rattle.net_copies.specs.Outgoing.{Outgoing, end_of, row_end, spared_from, next_reported, stop_of}
 use Rattle.net_copies.specs.Frames.{Part, frames_from, part_bytes}
-use Rattle.net_copies.specs.Reported.{reports, count_from, next_start, greatest_end, is_full}
+use Rattle.net_copies.specs.Reported.{reports}
 use Rattle.net_copies.specs.Carrying.{PathSeen}
 
 -- the frames of these parts were put behind those on their way
@@ -37,30 +35,12 @@ AreSparedIfReported ranges p ((spared, xs) ∷ parts) =
 abbrev pub HasSize : ℕ → Part → Type 0
 HasSize most part = (0 < length part.1) × (part.0 ≡ false → length part.1 ≤ most)
 
--- a number of which 0 counts as 1
-abbrev pub at_least_one : ℕ → ℕ
-at_least_one n = max n 1
-
--- how many bytes from position p on are spared
-abbrev pub spared_from : Outgoing → ℕ → ℕ
-spared_from s p = min (count_from s.reported p) (end_of s - p)
-
--- the first position above p that begins a reported range, or the end if there is none before it
-abbrev pub next_reported : Outgoing → ℕ → ℕ
-next_reported s p = next_start s.reported p (end_of s)
-
 -- where the part ends that begins at position p: with the first reported range that has p; if none
 -- has it, a frame is as long as its size, the next reported range and the storage's end allow
 abbrev pub part_end : Outgoing → ℕ → ℕ → ℕ
 part_end s most p =
     if reports s.reported p then p + spared_from s p
     else min (p + most) (min (next_reported s p) (row_end s p))
-
--- no part begins here or above: at the end, or, if the ranges are as many as can be reported, above
--- the greatest end of them
-abbrev pub stop_of : Outgoing → ℕ
-stop_of s =
-    if is_full s.reported then min (end_of s) (greatest_end s.reported s.base + 1) else end_of s
 
 -- parts that follow one another from position p on begin below that position, and end where they
 -- have to

@@ -1,3 +1,3 @@
 -- The lemmas behind the contracts.
-pub mod Results
+pub mod Loops
 pub mod Copied
