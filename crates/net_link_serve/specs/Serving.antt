@@ -15,12 +15,12 @@ use Rattle.net_program.specs.declared.ending.Ended.{Ended}
 use Rattle.net_stream.specs.CopyState.{Setup, setup_of}
 use Rattle.net_stream.specs.Copying.{HasCopied, HasNotBegun}
 use Rattle.net_stream.specs.Fates.{FatesSeen}
-use Rattle.net_stream.specs.declared.copying.Config.{Config}
-use Rattle.net_stream.specs.declared.counts.Counts.{Counts}
-use Rattle.net_stream.specs.declared.error.LinkError.{LinkError}
-use Rattle.net_stream.specs.declared.error.LinkError.TheVariants.{GaveUp, OutOfMemory}
-use Rattle.net_stream.specs.declared.error.LinkError.TheVariants.{ReadFailed, WriteFailed}
-use Rattle.net_stream.specs.declared.fate.Rates.{Rates}
+use Rattle.net_copies.specs.declared.config.Config.{Config}
+use Rattle.net_copies.specs.declared.counts.Counts.{Counts}
+use Rattle.net_copies.specs.declared.error.LinkError.{LinkError}
+use Rattle.net_copies.specs.declared.error.LinkError.TheVariants.{GaveUp, OutOfMemory}
+use Rattle.net_copies.specs.declared.error.LinkError.TheVariants.{ReadFailed, WriteFailed}
+use Rattle.net_copies.specs.declared.fate.Rates.{Rates}
 use Rattle.net_link_serve.specs.declared.words.Plan.{Plan}
 use Rattle.net_link_serve.specs.declared.words.Asked.{Asked}
 use Rattle.net_link_serve.specs.declared.words.Asked.TheVariants.{Help, Copy}

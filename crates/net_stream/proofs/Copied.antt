@@ -10,18 +10,18 @@ use Rattle.std.proofs.Math.Seq.{take-append_seam}
 use Rattle.net_program.proofs.KnownBytes.{Appends-none, Appends-two, Appends-kept, Consumes-none, Consumes-two, Keeps-same}
 use Rattle.net_receiver.specs.OneStream.{SegmentReadsNothing}
 use Rattle.net_stream.specs.declared.copier.Copier.{Copier}
-use Rattle.net_stream.specs.declared.counts.Counts.{Counts}
+use Rattle.net_copies.specs.declared.counts.Counts.{Counts}
 use Rattle.net_program.specs.Writing.{FlushesAfter}
-use Rattle.net_stream.specs.declared.error.LinkError.{LinkError}
-use Rattle.net_stream.specs.declared.error.LinkError.TheVariants as errors
-use Rattle.net_stream.specs.LinkState.{LinkState, times, round}
-use Rattle.net_stream.specs.CopyState.{Setup, CopyState, Status, Running, Done, GaveUp, ReadFailed, after, outcome, concat}
-use Rattle.net_stream.specs.CopyState.{is_written, room_for, rest_of, read_of, with_read, feed, decide, waited, pass, while_running, turn}
-use Rattle.net_stream.specs.Counting.{more, no_counts}
-use Rattle.net_stream.specs.Copying.{EndsRound, Copied, CopiedPart, HasCopied, HasNotBegun}
+use Rattle.net_copies.specs.declared.error.LinkError.{LinkError}
+use Rattle.net_copies.specs.declared.error.LinkError.TheVariants as errors
+use Rattle.net_copies.specs.LinkState.{LinkState, times, round}
+use Rattle.net_copies.specs.CopyState.{Setup, CopyState, Status, Running, Done, GaveUp, ReadFailed, after, outcome, concat}
+use Rattle.net_copies.specs.CopyState.{is_written, room_for, rest_of, read_of, with_read, feed, decide, waited, pass, while_running, turn}
+use Rattle.net_copies.specs.Counting.{more, no_counts}
+use Rattle.net_copies.specs.Copying.{EndsRound, Copied, CopiedPart, HasCopied, HasNotBegun}
 use Rattle.net_stream.specs.Turns.{seen_copy, counts_of, Begins, Feeds, Passes, Breaks, CopiedSoFar}
-use Rattle.net_stream.proofs.Grown.{grown}
-use Rattle.net_stream.proofs.Turns.{feeds}
+use Rattle.net_copies.proofs.Grown.{grown}
+use Rattle.net_copies.proofs.Turns.{feeds}
 
 -- a call that had no error
 pub was_ok : {T E : Type 0} (P : Type 0) (r : Result T E) → is_err r ≡ false → OnOk r P → P

@@ -9,14 +9,14 @@
 --     CopiedSoFar rounds chunk old new had has held holds      turns of a copy that goes on
 use Rattle.std.specs.Prelude.{◌≡◌, ℕ, ◌+◌, ◌-◌, ◌^◌, min, false, List, [], ◌++◌, length, Option}
 use Rattle.std.specs.Io.KnownBytes.{Appends, Consumes, IsAtEnd}
-use Rattle.net_stream.specs.Counting.{more}
-use Rattle.net_stream.specs.declared.counts.Counts.{Counts}
-use Rattle.net_stream.specs.declared.error.LinkError.{LinkError}
+use Rattle.net_copies.specs.Counting.{more}
+use Rattle.net_copies.specs.declared.counts.Counts.{Counts}
+use Rattle.net_copies.specs.declared.error.LinkError.{LinkError}
 use Rattle.net_stream.specs.declared.copier.Copier.{Copier}
-use Rattle.net_stream.specs.LinkState.{LinkState, times}
-use Rattle.net_stream.specs.CopyState.{Setup, CopyState, Status, Running, ReadFailed, begin, concat}
-use Rattle.net_stream.specs.CopyState.{feed, pass, turn}
-use Rattle.net_stream.specs.Copying.{EndsRound}
+use Rattle.net_copies.specs.LinkState.{LinkState, times}
+use Rattle.net_copies.specs.CopyState.{Setup, CopyState, Status, Running, ReadFailed, begin, concat}
+use Rattle.net_copies.specs.CopyState.{feed, pass, turn}
+use Rattle.net_copies.specs.Copying.{EndsRound}
 
 abbrev pub seen_copy : {A : Type 0} → Copier A → List (List ℕ) → List ℕ → List ℕ → Status → CopyState
 seen_copy c reads given written status = record {

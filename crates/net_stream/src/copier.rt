@@ -3,21 +3,18 @@ ghost use Rattle.std.specs.Prelude.{◌≡◌, ℕ, ◌+◌, ◌&&◌, ◌||◌,
 ghost use Rattle.std.specs.Prelude.{length, true, OnOk, OnErr, IfErr, if◌then◌else◌};
 ghost use Rattle.net_ring.specs.Managed.{elements};
 ghost use Rattle.net_receiver.specs.Stored.{stored_next};
-ghost use Rattle.net_stream.specs.Outgoing.{end_of};
-ghost use Rattle.net_stream.specs.declared.error.LinkError.TheVariants as errors;
-ghost use Rattle.net_stream.specs.CopyState.{Setup, setup_over, Running, ReadFailed, is_written};
-ghost use Rattle.net_stream.specs.Copying.{HasCopied};
+ghost use Rattle.net_copies.specs.Outgoing.{end_of};
+ghost use Rattle.net_copies.specs.declared.error.LinkError.TheVariants as errors;
+ghost use Rattle.net_copies.specs.CopyState.{Setup, setup_over, Running, ReadFailed, is_written};
+ghost use Rattle.net_copies.specs.Copying.{HasCopied};
 ghost use Rattle.net_stream.specs.Turns.{Feeds, Passes, Breaks, Begins, counts_of};
 
-use crate::copying::Config;
-use crate::counts::Counts;
-use crate::error::LinkError;
-use crate::fate::LinkFates;
-use crate::laws;
+use crate::fates::LinkFates;
 use crate::link::Link;
 use crate::timer::{first_wait, next_wait};
 use crate::watch::Watch;
 use net_base::time::Duration;
+use net_copies::{Config, Counts, LinkError, laws};
 use net_program::write_text;
 use net_ring::ManagedSlice;
 use std::alloc::Allocator;

@@ -1,13 +1,13 @@
 //! A stream of bytes over a link that loses, repeats and reorders frames.
+//!
+//! What a link and a copy are as functions, and what follows of them, is in `net_copies`; this crate
+//! passes it on, and has the code, each call of which is proved to be a part of these functions.
 #![tactic(auto)]
 
 mod copier;
 mod copying;
-mod counts;
-mod error;
-mod fate;
+mod fates;
 mod frame;
-pub mod laws;
 mod link;
 mod path;
 mod reported;
@@ -15,13 +15,13 @@ mod sender;
 mod timer;
 mod watch;
 
-pub use copying::{Config, CopyBuffers, copy, copy_over, copy_watched};
-pub use counts::{Counts, FrameCounts};
-pub use error::LinkError;
-pub use fate::{Fate, Fates, LinkFates, Rates};
-pub use frame::{decode, distinct_frames, frames_decode, send_again, send_frame};
+pub use copying::{CopyBuffers, copy, copy_over, copy_watched};
+pub use fates::{Fates, LinkFates};
+pub use frame::{decode, send_again, send_frame};
 pub use link::Link;
+pub use net_copies::laws::{distinct_frames, frames_decode, queue_from_greatest};
+pub use net_copies::{Config, Counts, Fate, FrameCounts, LinkError, Rates, laws};
 pub use path::Path;
 pub use reported::Reported;
-pub use sender::{Sender, queue_from_greatest};
+pub use sender::Sender;
 pub use watch::Watch;

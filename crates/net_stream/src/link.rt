@@ -3,18 +3,18 @@ ghost use Rattle.std.specs.Prelude.{◌≡◌, ◌+◌, ◌≤◌, ◌<◌, ◌^
 ghost use Rattle.std.specs.Prelude.{take, drop, slice_index, slice_range};
 ghost use Rattle.net_ring.specs.Managed.{elements};
 ghost use Rattle.net_receiver.specs.Stored.{fresh_stored, stored_next, stored_after_read};
-ghost use Rattle.net_stream.specs.Outgoing.{outgoing, end_of, room_of, with_written};
-ghost use Rattle.net_stream.specs.Counting.{no_frames};
-ghost use Rattle.net_stream.specs.Links.{Carries};
-ghost use Rattle.net_stream.specs.CopyState.{is_written};
+ghost use Rattle.net_copies.specs.Outgoing.{outgoing, end_of, room_of, with_written};
+ghost use Rattle.net_copies.specs.Counting.{no_frames};
+ghost use Rattle.net_copies.specs.Links.{Carries};
+ghost use Rattle.net_copies.specs.CopyState.{is_written};
 
 mod acknowledge;
 mod deliver;
 mod round;
 mod transmit;
 
-use crate::counts::FrameCounts;
-use crate::fate::LinkFates;
+use net_copies::FrameCounts;
+use crate::fates::LinkFates;
 use crate::path::Path;
 use crate::sender::Sender;
 use net_base::time::{Duration, Instant};
@@ -56,7 +56,7 @@ pub struct Link<'a, 'f, A: Allocator + Copy> {
 }
 
 impl<'a, 'f, A: Allocator + Copy> Model for Link<'a, 'f, A> {
-    ghost use Rattle.net_stream.specs.LinkState.{LinkState};
+    ghost use Rattle.net_copies.specs.LinkState.{LinkState};
     ghost use Rattle.std.specs.Coded.{codes};
     ghost use Rattle.net_receiver.specs.Parts.{stored_code};
 

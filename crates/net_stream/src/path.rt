@@ -1,10 +1,11 @@
 //! A path of a link.
 ghost use Rattle.std.specs.Prelude.{◌≡◌, ◌+◌, ◌<◌, ◌^◌, ◌++◌, ◌∷◌, [], length};
 ghost use Rattle.std.specs.Prelude.{MatchOption, OnOk, OnErr};
-ghost use Rattle.net_stream.specs.Frames.{frame_of};
-ghost use Rattle.net_stream.specs.Fates.{next_fate, after_fate};
+ghost use Rattle.net_copies.specs.Frames.{frame_of};
+ghost use Rattle.net_copies.specs.Fates.{next_fate, after_fate};
 
-use crate::fate::{Fate, Fates};
+use crate::fates::Fates;
+use net_copies::Fate;
 use crate::frame::{send_again, send_frame};
 use net_base::phy::loopback::RxToken;
 use net_base::phy::{Device, Loopback, Medium};
@@ -25,7 +26,7 @@ pub struct Path<'f, A: Allocator + Copy> {
 }
 
 impl<'f, A: Allocator + Copy> Model for Path<'f, A> {
-    ghost use Rattle.net_stream.specs.Carrying.{PathSeen};
+    ghost use Rattle.net_copies.specs.Carrying.{PathSeen};
 
     ghost Value = { PathSeen };
 

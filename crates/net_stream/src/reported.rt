@@ -4,8 +4,8 @@ ghost use Rattle.std.specs.Prelude.{All, MatchOption, None, Some, min, nat_lt, i
 ghost use Rattle.std.specs.Int.{w64, to_be_bytes};
 ghost use Rattle.net_assembler.specs.Positions.{maximal_runs};
 ghost use Rattle.net_receiver.specs.Stored.{domain};
-ghost use Rattle.net_stream.specs.Reported.{count_from, next_start, greatest_end, is_full};
-ghost use Rattle.net_stream.specs.Reported.{most_reported, range_bytes, first_range, ranges_of};
+ghost use Rattle.net_copies.specs.Reported.{count_from, next_start, greatest_end, is_full};
+ghost use Rattle.net_copies.specs.Reported.{most_reported, range_bytes, first_range, ranges_of};
 
 use crate::frame::decode;
 use net_receiver::Receiver;

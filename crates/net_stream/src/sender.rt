@@ -1,14 +1,13 @@
 //! The sender of a stream.
 ghost use Rattle.std.specs.Prelude.{◌≡◌, ◌+◌, ◌-◌, ◌<◌, ◌≤◌, ◌==◌, ◌^◌, ◌++◌, ℕ, List, []};
-ghost use Rattle.std.specs.Prelude.{length, take, drop, min, slice_index_or, IsTrue, IsFalse};
+ghost use Rattle.std.specs.Prelude.{length, take, drop, min, slice_index_or};
 ghost use Rattle.net_ring.specs.Managed.{elements};
 ghost use Rattle.net_receiver.specs.OneStream.{Says};
-ghost use Rattle.net_stream.specs.Outgoing.{outgoing, end_of, room_of, row_end, with_written};
-ghost use Rattle.net_stream.specs.Outgoing.{room_in_row, after_ack, Sends};
-ghost use Rattle.net_stream.specs.Outgoing.{QueueFromGreatest};
-ghost use Rattle.net_stream.specs.Outgoing.{TakesFreeBytes, CountsFreeBytes, CalledOnRoom};
-ghost use Rattle.net_stream.specs.Reported.{reports, is_full};
-ghost use Rattle.net_stream.specs.Sending.{spared_from, next_reported, stop_of};
+ghost use Rattle.net_copies.specs.Outgoing.{outgoing, end_of, room_of, row_end, with_written};
+ghost use Rattle.net_copies.specs.Outgoing.{room_in_row, after_ack, Sends};
+ghost use Rattle.net_stream.specs.FreeBytes.{TakesFreeBytes, CountsFreeBytes, CalledOnRoom};
+ghost use Rattle.net_copies.specs.Reported.{is_full};
+ghost use Rattle.net_copies.specs.Outgoing.{spared_from, next_reported, stop_of};
 
 use crate::reported::Reported;
 use net_receiver::laws;
@@ -31,16 +30,10 @@ pub struct Sender<'a> {
     reported: Reported,
 }
 
-/// After several acknowledgements a sender's queue begins at the greatest of where it began and of
-/// their positions, those above its end left out, whatever their order.
-pub fn queue_from_greatest()
-    ensures { QueueFromGreatest }
-{}
-
 impl<'a> Model for Sender<'a> {
     ghost use Rattle.std.specs.Prelude.{◌+◌, ◌-◌, ◌<◌, ◌^◌, length};
     ghost use Rattle.net_ring.specs.Ring.{queue, capacity};
-    ghost use Rattle.net_stream.specs.Outgoing.{Outgoing, outgoing};
+    ghost use Rattle.net_copies.specs.Outgoing.{Outgoing, outgoing};
 
     ghost Value = { Outgoing };
 
@@ -189,10 +182,6 @@ impl<'a> Sender<'a> {
     /// range that has `pos`: 0 if none has, or `pos` is at or past the end.
     pub(crate) fn reported_from(&self, pos: u64) -> u64
         ensures value { result ≡ spared_from self.now pos }
-        ensures inside { (q : ℕ) → pos ≤ q → q < pos + result
-            → IsTrue (reports self.now.reported q) }
-        ensures none { pos < end_of self.now → result ≡ 0
-            → IsFalse (reports self.now.reported pos) }
         ensures within { pos ≤ end_of self.now → pos + result ≤ end_of self.now }
         ensures fits { end_of self.now < 2 ^ 64 }
     {
@@ -205,8 +194,6 @@ impl<'a> Sender<'a> {
     pub(crate) fn next_reported(&self, pos: u64) -> u64
         ensures value { result ≡ next_reported self.now pos }
         ensures above { pos < end_of self.now → pos < result }
-        ensures between { IsFalse (reports self.now.reported pos) →
-            (q : ℕ) → pos ≤ q → q < result → IsFalse (reports self.now.reported q) }
     {
         self.reported.next_start(pos, self.end())
     }

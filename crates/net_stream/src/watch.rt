@@ -1,5 +1,5 @@
 //! Who watches a copy.
-use crate::counts::Counts;
+use net_copies::Counts;
 
 /// Is told how far a copy is.
 pub trait Watch {

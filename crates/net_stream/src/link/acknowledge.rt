@@ -1,10 +1,10 @@
 //! Step 5 of a round: acknowledgements come to the sender.
 ghost use Rattle.std.specs.Prelude.{◌≡◌, ◌+◌, ℕ, length, true, false, OnOk, OnErr, IfOk};
-ghost use Rattle.net_stream.specs.LinkState.{times, acknowledge, came_ack, meet_ack};
-ghost use Rattle.net_stream.specs.LinkState.{late_ack, late_acks, pass_ack, pass_acks, StopsAck};
+ghost use Rattle.net_copies.specs.LinkState.{times, acknowledge, came_ack, meet_ack};
+ghost use Rattle.net_copies.specs.LinkState.{late_ack, late_acks, pass_ack, pass_acks, StopsAck};
 
 use super::Link;
-use crate::fate::Fate;
+use net_copies::Fate;
 use crate::frame::decode;
 use crate::reported::Reported;
 use net_base::phy::RxToken;

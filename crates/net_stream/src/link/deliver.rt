@@ -1,11 +1,11 @@
 //! Steps 2 and 3 of a round: frames come to the receiver, which acknowledges what it has.
 ghost use Rattle.std.specs.Prelude.{◌≡◌, ◌+◌, ℕ, length, true, false, OnOk, OnErr, IfOk, ◌⊎◌};
-ghost use Rattle.net_stream.specs.LinkState.{times, take_in, come, came, meet, acknowledge_all};
-ghost use Rattle.net_stream.specs.LinkState.{late_frame, late_frames, pass_frame, pass_frames};
-ghost use Rattle.net_stream.specs.LinkState.{StopsLate, StopsFrame};
+ghost use Rattle.net_copies.specs.LinkState.{times, take_in, come, came, meet, acknowledge_all};
+ghost use Rattle.net_copies.specs.LinkState.{late_frame, late_frames, pass_frame, pass_frames};
+ghost use Rattle.net_copies.specs.LinkState.{StopsLate, StopsFrame};
 
 use super::{Link, MOST_RUNS};
-use crate::fate::Fate;
+use net_copies::Fate;
 use crate::frame::decode;
 use crate::reported::{REPORT_LEN, list_held};
 use net_base::phy::RxToken;

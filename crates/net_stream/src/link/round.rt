@@ -1,10 +1,10 @@
 //! A round.
 ghost use Rattle.std.specs.Prelude.{◌≡◌, ℕ, List, OnOk, OnErr};
-ghost use Rattle.net_stream.specs.LinkState.{next_flight, round, StopsRound};
-ghost use Rattle.net_stream.specs.Links.{Carries};
+ghost use Rattle.net_copies.specs.LinkState.{next_flight, round, StopsRound};
+ghost use Rattle.net_copies.specs.Links.{Carries};
 
 use super::Link;
-use crate::laws;
+use net_copies::laws;
 use crate::reported::MOST_REPORTED;
 use std::alloc::{AllocError, Allocator};
 

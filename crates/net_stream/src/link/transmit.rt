@@ -1,7 +1,7 @@
 //! Step 1 of a round: the sender's frames are put on their way.
 ghost use Rattle.std.specs.Prelude.{◌≡◌, ◌≤◌, ◌<◌, ◌^◌, ℕ, OnOk, OnErr, IfOk};
-ghost use Rattle.net_stream.specs.Outgoing.{end_of};
-ghost use Rattle.net_stream.specs.LinkState.{times, start, part, part_at, transmit};
+ghost use Rattle.net_copies.specs.Outgoing.{end_of};
+ghost use Rattle.net_copies.specs.LinkState.{times, start, part, part_at, transmit};
 
 use super::Link;
 use std::alloc::{AllocError, Allocator};

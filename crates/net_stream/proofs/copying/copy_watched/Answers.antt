@@ -1,8 +1,8 @@
 use Rattle.std.proofs.Common.{length, ap, subst, ◌∙◌, arith, inl, inr}
-use Rattle.net_stream.specs.CopyState.{Setup, setup_over}
-use Rattle.net_stream.specs.Copying.{HasCopied}
+use Rattle.net_copies.specs.CopyState.{Setup, setup_over}
+use Rattle.net_copies.specs.Copying.{HasCopied}
 use Rattle.net_stream.proofs.Copied.{not_begun}
-use Rattle.net_stream.proofs.Written.{enough, unbegun}
+use Rattle.net_copies.proofs.Written.{enough, unbegun}
 use Rattle.net_stream.proofs.copying.copy_watched.Goals as goal
 
 pub returns-in_default-clause-exact : goal.returns-in_default-clause-exact

@@ -1,9 +1,9 @@
 use Rattle.std.proofs.Common.{length, sym, subst, arith}
-use Rattle.net_stream.specs.declared.counts.Counts.{Counts}
-use Rattle.net_stream.specs.CopyState.{setup_over}
-use Rattle.net_stream.specs.Copying.{HasCopied}
+use Rattle.net_copies.specs.declared.counts.Counts.{Counts}
+use Rattle.net_copies.specs.CopyState.{setup_over}
+use Rattle.net_copies.specs.Copying.{HasCopied}
 use Rattle.net_stream.proofs.Copied.{flushed}
-use Rattle.net_stream.proofs.Written.{short}
+use Rattle.net_copies.proofs.Written.{short}
 use Rattle.net_stream.proofs.copying.turns_over.Goals as goal
 
 pub returns-clause-exact : goal.returns-clause-exact

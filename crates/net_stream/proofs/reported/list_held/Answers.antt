@@ -2,9 +2,9 @@ use Rattle.std.proofs.Common.{◌≡◌, ℕ, ◌+◌, ◌*◌, ◌++◌, ◌∙
 use Rattle.std.specs.Int.{w64, to_be_bytes}
 use Rattle.net_assembler.specs.Positions.{maximal_runs}
 use Rattle.net_receiver.specs.Stored.{domain}
-use Rattle.net_stream.specs.Reported.{most_reported, range_bytes}
-use Rattle.net_stream.proofs.Carried.{All-push}
-use Rattle.net_stream.proofs.Ranges.{IsWords, listed_push, take_same, rest_is, take_next}
+use Rattle.net_copies.specs.Reported.{most_reported, range_bytes}
+use Rattle.net_copies.proofs.Carried.{All-push}
+use Rattle.net_copies.proofs.Ranges.{IsWords, listed_push, take_same, rest_is, take_next}
 use Rattle.net_stream.proofs.reported.list_held.Goals as goal
 
 pub returns-in_default-clause-listed : goal.returns-in_default-clause-listed

@@ -1,7 +1,7 @@
 use Rattle.std.proofs.Common.{◌≡◌, ◌*◌, ◌<◌, ◌^◌, length, take, drop, All}
 use Rattle.net_assembler.specs.Positions.{maximal_runs}
 use Rattle.net_receiver.specs.Stored.{domain}
-use Rattle.net_stream.specs.Reported.{range_bytes}
+use Rattle.net_copies.specs.Reported.{range_bytes}
 use Rattle.net_stream.proofs.reported.list_held.Given as goal
 
 -- the runs so far are listed, and the others are left

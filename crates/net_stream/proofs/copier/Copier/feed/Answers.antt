@@ -3,9 +3,9 @@ use Rattle.std.specs.Io.KnownBytes.{Consumes}
 use Rattle.std.proofs.lemmas.Bool.{both_ways}
 use Rattle.std.proofs.lemmas.List.{take_all, append-nil}
 use Rattle.net_program.proofs.KnownBytes.{Consumes-none, Keeps-same}
-use Rattle.net_stream.specs.Outgoing.{room_of, with_written}
+use Rattle.net_copies.specs.Outgoing.{room_of, with_written}
 use Rattle.net_stream.specs.declared.copier.Copier.{Copier}
-use Rattle.net_stream.specs.CopyState.{Running, ReadFailed, room_for, feed}
+use Rattle.net_copies.specs.CopyState.{Running, ReadFailed, room_for, feed}
 use Rattle.net_stream.specs.Turns.{seen_copy}
 use Rattle.net_stream.proofs.Copied.{fed, unfed, may_some, read_some}
 use Rattle.net_stream.proofs.copier.Copier.feed.Goals as goal

@@ -1,9 +1,9 @@
 use Rattle.std.proofs.Common.{◌≡◌, ◌+◌, ◌-◌, ◌*◌, ◌^◌, ◌<◌, ◌++◌, ◌||◌, [], min, cond, not, nat_eq, nat_lt, ℕ, List, length, take, refl, sym, ap, subst, ◌∙◌, arith, length-take}
 use Rattle.std.specs.Io.KnownBytes.{Appends}
 use Rattle.net_program.proofs.KnownBytes.{Appends-none, Keeps-same}
-use Rattle.net_stream.specs.Counting.{round_trip_time, longest_wait}
-use Rattle.net_stream.specs.LinkState.{LinkState, round, StopsRound}
-use Rattle.net_stream.specs.CopyState.{Running, hand_out}
+use Rattle.net_copies.specs.Counting.{round_trip_time, longest_wait}
+use Rattle.net_copies.specs.LinkState.{LinkState, round, StopsRound}
+use Rattle.net_copies.specs.CopyState.{Running, hand_out}
 use Rattle.net_stream.specs.Turns.{seen_copy}
 use Rattle.net_stream.proofs.Copied.{handed, was_ok, was_err}
 use Rattle.net_stream.proofs.copier.Copier.pass.Goals as goal

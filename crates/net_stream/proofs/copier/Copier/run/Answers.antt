@@ -1,6 +1,6 @@
 use Rattle.std.proofs.Common.{◌≡◌, ◌<◌, ◌≤◌, ◌⊎◌, ◌+◌, ◌++◌, [], length, Err, refl, sym, ap, subst, ◌∙◌, arith}
 use Rattle.std.proofs.lemmas.Result.{err_from_is_err_and}
-use Rattle.net_stream.specs.CopyState.{CopyState, Running, Done, GaveUp, ReadFailed}
+use Rattle.net_copies.specs.CopyState.{CopyState, Running, Done, GaveUp, ReadFailed}
 use Rattle.net_stream.specs.Turns.{seen_copy, Feeds, Passes, Breaks}
 use Rattle.net_stream.proofs.Copied.{none_yet, one_more, last, part_of, read_failed, broke_off, is_over, gives_up, is_done, far, brings_on, fed_leaves, smaller}
 use Rattle.net_stream.proofs.copier.Copier.run.Goals as goal

@@ -1,5 +1,5 @@
 use Rattle.std.proofs.Common.{ap, []}
-use Rattle.net_stream.proofs.Carried.{begun}
+use Rattle.net_copies.proofs.Carried.{begun}
 use Rattle.net_stream.proofs.link.Link.new.Goals as goal
 
 pub returns-clause-carries : goal.returns-clause-carries

@@ -1,29 +1,17 @@
-use Rattle.std.proofs.Common.{◌≡◌, length, suc, refl, ap, subst, ◌∙◌, arith}
-use Rattle.net_stream.specs.LinkState.{times, pass_frame, StopsFrame}
-use Rattle.net_stream.proofs.Results.{OnErr-always}
+use Rattle.std.proofs.Common.{subst}
+use Rattle.net_copies.specs.LinkState.{StopsFrame}
+use Rattle.net_stream.proofs.Loops.{none_yet, one_more, all_done, OnErr-always}
 use Rattle.net_stream.proofs.link.Link.pass_frames.Goals as goal
 
 pub frames-init : goal.frames-init
-frames-init g c = record { so_far = (0, refl, omega arith) }
+frames-init g c = none_yet _ _ _
 
 pub frames-preserved : goal.frames-preserved
-frames-preserved g c =
-    let so_far = c.frames.invariant.so_far in
-    let left = so_far.2 in
-    let less = c.in_ok-pass_frame.ensures.some c.if-not-branch.false in
-    record { so_far = (suc so_far.0, c.in_ok-pass_frame.ensures.ok ∙ ap pass_frame so_far.1, omega arith) }
+frames-preserved g c = one_more _ _ _ _ _ c.frames.invariant (c.in_ok-pass_frame.ensures.some c.if-not-branch.false) c.in_ok-pass_frame.ensures.ok
 
 pub returns-then-not-branch-clause-ok : goal.returns-then-not-branch-clause-ok
-returns-then-not-branch-clause-ok g c =
-    let so_far = c.frames.invariant.so_far in
-    let left = so_far.2 in
-    let none = c.in_ok-pass_frame.ensures.none c.if-not-branch.true in
-    let empty = none.1 in
-    let all : so_far.0 ≡ length c.args.self.now.there.ahead = omega arith in
-    none.0 ∙ so_far.1 ∙ ap (λ n. times n pass_frame c.args.self.now) all
+returns-then-not-branch-clause-ok g c = all_done _ _ _ _ _ c.frames.invariant (c.in_ok-pass_frame.ensures.none c.if-not-branch.true)
 
 pub returns-in_err-pass_frame-clause-err : goal.returns-in_err-pass_frame-clause-err
-returns-in_err-pass_frame-clause-err g c =
-    let so_far = c.frames.invariant.so_far in
-    OnErr-always c.from_residual.result
-    (so_far.0, subst (λ u. StopsFrame u u.there.ahead c.pass_frame.new.self) so_far.1 c.in_err-pass_frame.ensures.err)
+returns-in_err-pass_frame-clause-err g c = OnErr-always c.from_residual.result
+    (c.frames.invariant.steps, subst (λ u. StopsFrame u u.there.ahead c.pass_frame.new.self) c.frames.invariant.is c.in_err-pass_frame.ensures.err)

@@ -1,11 +1,10 @@
-use Rattle.std.proofs.Common.{◌≡◌, ℕ, ◌+◌, length}
-use Rattle.net_stream.specs.LinkState.{times, pass_frame}
+use Rattle.std.proofs.Common.{length}
+use Rattle.net_copies.specs.LinkState.{pass_frame}
+use Rattle.net_stream.proofs.Loops.{SoFar}
 use Rattle.net_stream.proofs.link.Link.pass_frames.Given as goal
 
 abbrev pub invariant-frames : goal.invariant-frames
-invariant-frames g l = record {
-  so_far : (n : ℕ) × (l.self ≡ times n pass_frame l.fn.self) × (n + length l.self.there.ahead ≡ length l.fn.self.there.ahead);
-}
+invariant-frames g l = SoFar pass_frame (λ s. length s.there.ahead) l.fn.self l.self
 
 abbrev pub decreases-frames : goal.decreases-frames
 decreases-frames g l = length l.self.there.ahead

@@ -1,9 +1,19 @@
-use Rattle.std.proofs.Common.{rules, refl, sym, ap, subst, ◌∙◌, arith}
-use Rattle.net_stream.specs.LinkState.{LinkState, next_flight, late_frames, pass_frames, acknowledge_all, late_acks, pass_acks, with_flight, round, StopsRound}
-use Rattle.net_stream.specs.Links.{Carries}
-use Rattle.net_stream.proofs.Kept.{round_carries, stop_carries}
-use Rattle.net_stream.proofs.Grown.{grown, stopped}
+use Rattle.std.proofs.Common.{◌≡◌, ◌<◌, ◌^◌, ℕ, List, rules, refl, sym, ap, subst, ◌∙◌, arith}
+use Rattle.net_copies.specs.Outgoing.{end_of}
+use Rattle.net_copies.specs.Streams.{Known}
+use Rattle.net_copies.specs.LinkState.{LinkState, next_flight, late_frames, pass_frames, acknowledge_all, late_acks, pass_acks, with_flight, round, StopsRound}
+use Rattle.net_copies.specs.Links.{Carries}
+use Rattle.net_copies.proofs.Kept.{round_carries, stop_carries}
+use Rattle.net_copies.proofs.Grown.{grown, stopped}
 use Rattle.net_stream.proofs.link.Link.pass_round.Goals as goal
+
+-- what a round that lacked memory leaves
+stop_keeps : Known → (l m : LinkState) → end_of l.sender < 2 ^ 64 → StopsRound l m →
+    ((f : ℕ) (w : List ℕ) → Carries f w l → Carries f w m) × (m.receiver.read ≡ l.receiver.read)
+stop_keeps known l m fits stop = (
+  λ f w h. (stop_carries known f w l m stop (record { way = h; fits = fits })).way,
+  (stopped known.reads_nothing l.sender.base l.receiver.read l m stop (record { base = omega arith; read = refl })).read,
+)
 
 pub returns-clause-state : goal.returns-clause-state
 unfolding round
@@ -29,61 +39,31 @@ returns-clause-read g c =
     ∙ (grown c.known.ensures.reads_nothing l.sender.base l.receiver.read l (record { base = omega arith; read = refl })).read
 
 pub returns-in_err-transmit-clause-carries : goal.returns-in_err-transmit-clause-carries
-returns-in_err-transmit-clause-carries g c = λ f w h.
-    let l = c.args.self.now in
-    let stop : StopsRound l c.transmit.new.self = search rules in
-    (stop_carries c.known.ensures f w l c.transmit.new.self stop (record { way = h; fits = c.transmit.ensures.fits })).way
+returns-in_err-transmit-clause-carries g c = (stop_keeps c.known.ensures c.args.self.now c.transmit.new.self c.transmit.ensures.fits (search rules)).0
 
 pub returns-in_err-transmit-clause-read : goal.returns-in_err-transmit-clause-read
-returns-in_err-transmit-clause-read g c =
-    let l = c.args.self.now in
-    let stop : StopsRound l c.transmit.new.self = search rules in
-    (stopped c.known.ensures.reads_nothing l.sender.base l.receiver.read l c.transmit.new.self stop (record { base = omega arith; read = refl })).read
+returns-in_err-transmit-clause-read g c = (stop_keeps c.known.ensures c.args.self.now c.transmit.new.self c.transmit.ensures.fits (search rules)).1
 
 pub returns-in_err-late_frames-clause-carries : goal.returns-in_err-late_frames-clause-carries
-returns-in_err-late_frames-clause-carries g c = λ f w h.
-    let l = c.args.self.now in
-    let stop : StopsRound l c.late_frames.new.self = search rules in
-    (stop_carries c.known.ensures f w l c.late_frames.new.self stop (record { way = h; fits = c.transmit.ensures.fits })).way
+returns-in_err-late_frames-clause-carries g c = (stop_keeps c.known.ensures c.args.self.now c.late_frames.new.self c.transmit.ensures.fits (search rules)).0
 
 pub returns-in_err-late_frames-clause-read : goal.returns-in_err-late_frames-clause-read
-returns-in_err-late_frames-clause-read g c =
-    let l = c.args.self.now in
-    let stop : StopsRound l c.late_frames.new.self = search rules in
-    (stopped c.known.ensures.reads_nothing l.sender.base l.receiver.read l c.late_frames.new.self stop (record { base = omega arith; read = refl })).read
+returns-in_err-late_frames-clause-read g c = (stop_keeps c.known.ensures c.args.self.now c.late_frames.new.self c.transmit.ensures.fits (search rules)).1
 
 pub returns-in_err-pass_frames-clause-carries : goal.returns-in_err-pass_frames-clause-carries
-returns-in_err-pass_frames-clause-carries g c = λ f w h.
-    let l = c.args.self.now in
-    let stop : StopsRound l c.pass_frames.new.self = search rules in
-    (stop_carries c.known.ensures f w l c.pass_frames.new.self stop (record { way = h; fits = c.transmit.ensures.fits })).way
+returns-in_err-pass_frames-clause-carries g c = (stop_keeps c.known.ensures c.args.self.now c.pass_frames.new.self c.transmit.ensures.fits (search rules)).0
 
 pub returns-in_err-pass_frames-clause-read : goal.returns-in_err-pass_frames-clause-read
-returns-in_err-pass_frames-clause-read g c =
-    let l = c.args.self.now in
-    let stop : StopsRound l c.pass_frames.new.self = search rules in
-    (stopped c.known.ensures.reads_nothing l.sender.base l.receiver.read l c.pass_frames.new.self stop (record { base = omega arith; read = refl })).read
+returns-in_err-pass_frames-clause-read g c = (stop_keeps c.known.ensures c.args.self.now c.pass_frames.new.self c.transmit.ensures.fits (search rules)).1
 
 pub returns-in_err-acknowledge_all-clause-carries : goal.returns-in_err-acknowledge_all-clause-carries
-returns-in_err-acknowledge_all-clause-carries g c = λ f w h.
-    let l = c.args.self.now in
-    let stop : StopsRound l c.acknowledge_all.new.self = search rules in
-    (stop_carries c.known.ensures f w l c.acknowledge_all.new.self stop (record { way = h; fits = c.transmit.ensures.fits })).way
+returns-in_err-acknowledge_all-clause-carries g c = (stop_keeps c.known.ensures c.args.self.now c.acknowledge_all.new.self c.transmit.ensures.fits (search rules)).0
 
 pub returns-in_err-acknowledge_all-clause-read : goal.returns-in_err-acknowledge_all-clause-read
-returns-in_err-acknowledge_all-clause-read g c =
-    let l = c.args.self.now in
-    let stop : StopsRound l c.acknowledge_all.new.self = search rules in
-    (stopped c.known.ensures.reads_nothing l.sender.base l.receiver.read l c.acknowledge_all.new.self stop (record { base = omega arith; read = refl })).read
+returns-in_err-acknowledge_all-clause-read g c = (stop_keeps c.known.ensures c.args.self.now c.acknowledge_all.new.self c.transmit.ensures.fits (search rules)).1
 
 pub returns-in_err-pass_acks-clause-carries : goal.returns-in_err-pass_acks-clause-carries
-returns-in_err-pass_acks-clause-carries g c = λ f w h.
-    let l = c.args.self.now in
-    let stop : StopsRound l c.pass_acks.new.self = search rules in
-    (stop_carries c.known.ensures f w l c.pass_acks.new.self stop (record { way = h; fits = c.transmit.ensures.fits })).way
+returns-in_err-pass_acks-clause-carries g c = (stop_keeps c.known.ensures c.args.self.now c.pass_acks.new.self c.transmit.ensures.fits (search rules)).0
 
 pub returns-in_err-pass_acks-clause-read : goal.returns-in_err-pass_acks-clause-read
-returns-in_err-pass_acks-clause-read g c =
-    let l = c.args.self.now in
-    let stop : StopsRound l c.pass_acks.new.self = search rules in
-    (stopped c.known.ensures.reads_nothing l.sender.base l.receiver.read l c.pass_acks.new.self stop (record { base = omega arith; read = refl })).read
+returns-in_err-pass_acks-clause-read g c = (stop_keeps c.known.ensures c.args.self.now c.pass_acks.new.self c.transmit.ensures.fits (search rules)).1

@@ -1,9 +1,9 @@
 use Rattle.std.proofs.Common.{◌≡◌, ◌≤◌, ◌+◌, length, take, slice_range, sym, subst, arith}
 use Rattle.net_receiver.specs.Stored.{stored_next}
 use Rattle.net_receiver.specs.Retransmission.{Has}
-use Rattle.net_stream.specs.LinkState.{LinkState}
-use Rattle.net_stream.specs.Links.{Carries}
-use Rattle.net_stream.proofs.Carried.{took}
+use Rattle.net_copies.specs.LinkState.{LinkState}
+use Rattle.net_copies.specs.Links.{Carries}
+use Rattle.net_copies.proofs.Carried.{took}
 use Rattle.net_stream.proofs.link.Link.read.Goals as goal
 
 pub returns-clause-carries : goal.returns-clause-carries

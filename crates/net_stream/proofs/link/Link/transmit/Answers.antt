@@ -1,8 +1,8 @@
 use Rattle.std.proofs.Common.{◌≡◌, suc, length, sym, ap, ◌∙◌, arith, inl, inr}
-use Rattle.net_stream.specs.Outgoing.{end_of}
-use Rattle.net_stream.specs.Sending.{stop_of}
-use Rattle.net_stream.specs.LinkState.{LinkState, Cursor, part}
-use Rattle.net_stream.proofs.Steps.{goes_on, stops, all_sent}
+use Rattle.net_copies.specs.Outgoing.{end_of}
+use Rattle.net_copies.specs.Outgoing.{stop_of}
+use Rattle.net_copies.specs.LinkState.{LinkState, Cursor, part}
+use Rattle.net_copies.proofs.Steps.{goes_on, stops, all_sent}
 use Rattle.net_stream.proofs.link.Link.transmit.Goals as goal
 
 pub parts-preserved : goal.parts-preserved

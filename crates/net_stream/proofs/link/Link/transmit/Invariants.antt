@@ -1,6 +1,6 @@
 use Rattle.std.proofs.Common.{◌≡◌, ℕ, ◌≤◌, ◌-◌, ◌+◌}
-use Rattle.net_stream.specs.Outgoing.{end_of}
-use Rattle.net_stream.specs.LinkState.{times, start, part}
+use Rattle.net_copies.specs.Outgoing.{end_of}
+use Rattle.net_copies.specs.LinkState.{times, start, part}
 use Rattle.net_stream.proofs.link.Link.transmit.Given as goal
 
 abbrev pub invariant-parts : goal.invariant-parts

@@ -1,7 +1,7 @@
 use Rattle.std.proofs.Common.{◌++◌, take, ap, sym, subst, ◌∙◌, take-add}
-use Rattle.net_stream.specs.Carrying.{IsUnderWay}
-use Rattle.net_stream.specs.Links.{Carries}
-use Rattle.net_stream.proofs.Carried.{written}
+use Rattle.net_copies.specs.Carrying.{IsUnderWay}
+use Rattle.net_copies.specs.Links.{Carries}
+use Rattle.net_copies.proofs.Carried.{written}
 use Rattle.net_stream.proofs.link.Link.write.Goals as goal
 
 pub returns-clause-carries : goal.returns-clause-carries

@@ -1,5 +1,5 @@
 use Rattle.std.proofs.Common.{◌≡◌, take, drop}
-use Rattle.net_stream.specs.Reported.{count_from}
+use Rattle.net_copies.specs.Reported.{count_from}
 use Rattle.net_stream.proofs.reported.Reported.count_from.Given as goal
 
 -- none of the ranges so far has the position

@@ -1,6 +1,6 @@
 use Rattle.std.proofs.Common.{◌+◌, ◌∙◌, sym, ap, arith, take, drop}
-use Rattle.net_stream.specs.Reported.{next_start}
-use Rattle.net_stream.proofs.Spared.{rest_of_first}
+use Rattle.net_copies.specs.Reported.{next_start}
+use Rattle.net_copies.proofs.Spared.{rest_of_first}
 use Rattle.net_stream.proofs.reported.Reported.next_start.Goals as goal
 
 pub loop-i-preserved : goal.loop-i-preserved

@@ -1,7 +1,7 @@
 use Rattle.std.proofs.Common.{◌≡◌, ℕ, List, ◌+◌, ◌-◌, ◌++◌, ◌∷◌, [], ◌∙◌, length, sym, ap, arith, append_assoc, length-append}
 use Rattle.std.proofs.lemmas.List.{append-nil}
-use Rattle.net_stream.specs.Reported.{most_reported, ranges_of}
-use Rattle.net_stream.proofs.Ranges.{ranges_stop, ranges_none, ranges_more}
+use Rattle.net_copies.specs.Reported.{most_reported, ranges_of}
+use Rattle.net_copies.proofs.Ranges.{ranges_stop, ranges_none, ranges_more}
 use Rattle.net_stream.proofs.reported.Reported.of_bytes.Goals as goal
 
 pub returns-in_default : goal.returns-in_default

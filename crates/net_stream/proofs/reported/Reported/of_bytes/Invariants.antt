@@ -1,5 +1,5 @@
 use Rattle.std.proofs.Common.{◌≡◌, ◌-◌, ◌++◌, length}
-use Rattle.net_stream.specs.Reported.{most_reported, ranges_of}
+use Rattle.net_copies.specs.Reported.{most_reported, ranges_of}
 use Rattle.net_stream.proofs.reported.Reported.of_bytes.Given as goal
 
 -- the ranges so far, and those that the rest lists

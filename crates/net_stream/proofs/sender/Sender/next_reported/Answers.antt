@@ -1,8 +1,8 @@
 use Rattle.std.proofs.Common.{◌≡◌, ◌∙◌, ap, arith}
-use Rattle.net_stream.specs.Outgoing.{end_of}
-use Rattle.net_stream.specs.Sending.{next_reported}
-use Rattle.net_stream.specs.Reported.{next_start}
-use Rattle.net_stream.proofs.Spared.{next_above, next_between}
+use Rattle.net_copies.specs.Outgoing.{end_of}
+use Rattle.net_copies.specs.Outgoing.{next_reported}
+use Rattle.net_copies.specs.Reported.{next_start}
+use Rattle.net_copies.proofs.Spared.{next_above}
 use Rattle.net_stream.proofs.sender.Sender.next_reported.Goals as goal
 
 pub returns-clause-value : goal.returns-clause-value
@@ -15,8 +15,3 @@ returns-clause-above c = λ below.
     let is : c.next_start.result ≡ next_reported c.args.self.now c.args.pos = returns-clause-value c in
     let more = next_above c.args.self.now.reported c.args.pos (end_of c.args.self.now) below in
     omega arith
-
-pub returns-clause-between : goal.returns-clause-between
-returns-clause-between c = λ none q from to.
-    let is : c.next_start.result ≡ next_reported c.args.self.now c.args.pos = returns-clause-value c in
-    next_between c.args.self.now.reported c.args.pos (end_of c.args.self.now) q none from (omega arith)

@@ -4,8 +4,8 @@ use Rattle.std.proofs.Math.Seq.{drop-append_seam}
 use Rattle.std.specs.Fn.{FnOnceReturnsAtMut}
 use denote.MutBor.{at_last}
 use Rattle.net_ring.specs.Ring.{capacity, queue, spare, with_elements, spare_index}
-use Rattle.net_stream.specs.Outgoing.{room_of, with_written, Sends}
-use Rattle.net_stream.proofs.Room.{lent_room, room_written, more_sent}
+use Rattle.net_copies.specs.Outgoing.{room_of, with_written, Sends}
+use Rattle.net_copies.proofs.Room.{lent_room, room_written, more_sent}
 use Rattle.net_stream.proofs.sender.Sender.send_with.Goals as goal
 
 pub f-answer-requires : goal.f-answer-requires

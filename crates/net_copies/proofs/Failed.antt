@@ -1,0 +1,178 @@
+-- What failed in the last rounds of a copy that gives up, and how many rounds a copy makes.
+use Rattle.std.proofs.Common.{◌≡◌, ℕ, zero, suc, ◌+◌, ◌-◌, ◌≤◌, ◌<◌, ◌^◌, min, true, List, length, refl, sym, ap, subst, ◌∙◌, arith, ⊎_elim}
+use Rattle.std.proofs.lemmas.Bool.{both_ways, cases_lt}
+use Rattle.net_copies.specs.declared.fate.Fate.{Fate}
+use Rattle.net_copies.specs.declared.fate.Fate.TheVariants.{Delivered, Lost, Repeated, Late}
+use Rattle.net_copies.specs.Fates.{FatesSeen, next_fate, AllCome}
+use Rattle.net_copies.specs.LinkState.{LinkState, round}
+use Rattle.net_copies.specs.CopyState.{Setup, CopyState, Running, GaveUp, feed, waited, pass, turn, after}
+use Rattle.net_copies.specs.Stuck.{failures, RoundLeaves, IsDue, IsStuck, HasFailed, AllFail, FatesFail, KnownOfRounds}
+use Rattle.net_copies.specs.Promises.{CanPass, before_round, frames_sent, acks_sent, Fails, GivesUpIfFailed, NeverByDelays, EndsIfAllCome, FewRounds}
+use Rattle.net_copies.proofs.Queue.{queue_from}
+use Rattle.net_copies.proofs.Stuck.{due_kept, stuck_weaker, all_after, round_failed}
+use Rattle.net_copies.proofs.RoundCount.{more_moved, more_still, never_fails}
+use Rattle.net_copies.proofs.Turns.{ended}
+use Rattle.net_copies.proofs.Prefix.{SoFar, so_far}
+use Rattle.net_copies.proofs.GoesOn.{fed_leaves, Turned, Failed, Finished, Stopped, WentOn, turns, goes_on, Still, Brought, Some, Nothing, brought, runs, running_or_not, still_from}
+use Rattle.net_copies.proofs.GivesUp.{gives_up_after}
+use Rattle.net_copies.proofs.StuckRounds.{all_stays, Stays, passes_before, runs_before, drawn_before, stuck_round, stuck_turn, leaves, sends, writes}
+
+-- the turn with which a copy gives up
+gave_up_once : (s : Setup) (reads : List (List ℕ)) (n : ℕ) → (after s reads n).status ≡ GaveUp →
+    (m : ℕ) × (m < n) × ((after s reads m).status ≡ Running) × ((after s reads (suc m)).status ≡ GaveUp)
+gave_up_once s reads zero gave = (let j : Running ≡ GaveUp = gave in cc)
+gave_up_once s reads (suc n) gave =
+    let here = gave_up_once s reads n in
+    ⊎_elim {C = (m : ℕ) × (m < suc n) × ((after s reads m).status ≡ Running) × ((after s reads (suc m)).status ≡ GaveUp)}
+    (λ (on : (after s reads n).status ≡ Running). (n, omega arith, on, gave))
+    (λ (over : (after s reads n).status ≡ Running → ⊥).
+    let before = here (sym (ap (λ c. c.status) (ended s.rounds s.chunk (after s reads n) over)) ∙ gave) in
+    let few = before.1 in
+    (before.0, omega arith, before.2, before.3))
+    (running_or_not (after s reads n).status)
+
+is_lost : (lot : Fate) → HasFailed 1 lot → lot ≡ Lost
+is_lost Delivered h = absurd (both_ways true h.0 refl)
+is_lost Lost h = refl
+is_lost Repeated h = absurd (both_ways true h.0 refl)
+is_lost Late h = absurd (both_ways true (h.1 (omega arith)) refl)
+
+first_fails : (follow n : ℕ) (v : FatesSeen) → 0 < n → AllFail follow n v → HasFailed follow (next_fate v)
+first_fails follow zero v some all = absurd (omega arith)
+first_fails follow (suc n) v some all = all.0
+
+module _ (known : KnownOfRounds) where
+  -- ---- what failed
+  pub gives_up_if_failed : GivesUpIfFailed
+  gives_up_if_failed s reads n can on gave k far below =
+      ⊎_elim {C = Fails (n - suc k) l}
+      (λ (more : suc k < n).
+      ⊎_elim {C = Fails (n - suc k) l}
+      (λ (lost : FatesFail 1 (frames_sent l) (acks_sent l) l.there.fates l.back.fates × _).
+      stuck_weaker 1 (n - suc k) (frames_sent l) (acks_sent l) l.there.fates l.back.fates (λ _. omega arith) lost.0)
+      (λ (due : IsDue (after s reads (suc k)).link × _). absurd ((stuck (suc k) (omega arith) more).not_due (still_due (suc k) (omega arith) due.0)))
+      (stuck k far below).lost)
+      (λ (last : n ≤ suc k). subst (λ follow. Fails follow l) (let e : 0 ≡ n - suc k = omega arith in e) (stuck k far below).why)
+      (cases_lt (suc k) n)
+    where
+      l : LinkState
+      l = before_round s reads k
+
+      stuck : (j : ℕ) → n ≤ j + s.rounds → j < n →
+          IsStuck (frames_sent (before_round s reads j)) (acks_sent (before_round s reads j)) (before_round s reads j) (after s reads (suc j)).link
+      stuck j far few = stuck_round known s reads j (passes_before known s reads (suc j) (suc n) (omega arith) can)
+          (runs_before known s reads (suc j) n (omega arith) on) ((gives_up_after s reads n on gave).1 j far few)
+
+      still_due : (j : ℕ) → j ≤ n → IsDue (after s reads j).link → IsDue (before_round s reads j)
+      still_due j few due =
+          let c = after s reads j in
+          let f = fed_leaves s.chunk c in
+          subst (λ d. IsDue (waited d)) (sym (runs (feed s.chunk) c (runs_before known s reads j n few on)))
+          (due_kept c.link (waited (feed s.chunk c)) (ap (λ p. p.late) f.there) (ap (λ p. p.late) f.back)
+          (ap (λ r. r.first + r.read + length r.queue) f.receiver) f.base f.end due)
+
+  pub never_by_delays : NeverByDelays
+  never_by_delays s reads n can none none_back many gave =
+      let at = gave_up_once s reads n gave in
+      let m = at.0 in
+      let early = at.1 in
+      let enough = (gives_up_after s reads m at.2 at.3).0 in
+      let k = m - 2 in
+      let l = before_round s reads k in
+      let failed = subst (λ follow. Fails follow l) (let e : m - suc k ≡ 1 = omega arith in e)
+      (gives_up_if_failed s reads m (passes_before known s reads (suc m) n early can) at.2 at.3 k (omega arith) (omega arith)) in
+      let drawn = drawn_before known s reads k (runs_before known s reads k m (omega arith) at.2) in
+      ⊎_elim {C = ⊥}
+      (λ (a : (0 < frames_sent l) × HasFailed 1 (next_fate l.there.fates)). none drawn.0 (ap next_fate (sym drawn.2) ∙ is_lost (next_fate l.there.fates) a.1))
+      (λ (b : (0 < acks_sent l) × AllFail 1 (acks_sent l) l.back.fates).
+      none_back drawn.1 (ap next_fate (sym drawn.3) ∙ is_lost (next_fate l.back.fates) (first_fails 1 (acks_sent l) l.back.fates b.0 b.1)))
+      failed
+
+  pub ends_if_all_come : EndsIfAllCome
+  ends_if_all_come s reads n can come come_back some gave =
+      let at = gave_up_once s reads n gave in
+      let m = at.0 in
+      let early = at.1 in
+      let enough = (gives_up_after s reads m at.2 at.3).0 in
+      let k = m - 1 in
+      let l = before_round s reads k in
+      let failed = gives_up_if_failed s reads m (passes_before known s reads (suc m) n early can) at.2 at.3 k (omega arith) (omega arith) in
+      let drawn = drawn_before known s reads k (runs_before known s reads k m (omega arith) at.2) in
+      never_fails (frames_sent l) (acks_sent l) l.there.fates l.back.fates (subst AllCome (sym drawn.2) (all_after drawn.0 s.fates come))
+      (subst AllCome (sym drawn.3) (all_after drawn.1 s.ack_fates come_back))
+      (stuck_weaker (m - suc k) 0 (frames_sent l) (acks_sent l) l.there.fates l.back.fates (λ follow. absurd (omega arith)) failed)
+
+  -- ---- how many rounds
+  module _ (s : Setup) (reads : List (List ℕ)) where
+    -- a round lets bytes go, writes some, or is counted as a failed one
+    abbrev Bounded : CopyState → Type 0
+    Bounded c = c.rounds ≤ (c.link.sender.base - s.first) + c.link.receiver.read + failures c.link.counts
+
+    fed_bounded : (c : CopyState) → Bounded c → Bounded (feed s.chunk c)
+    fed_bounded c h =
+        let f = fed_leaves s.chunk c in
+        let base = f.base in
+        let rounds = f.rounds in
+        let read = ap (λ r. r.read) f.receiver in
+        let counts = ap failures f.counts in
+        omega arith
+
+    passed_bounded : (e : CopyState) (frames acks : ℕ) → Bounded e → RoundLeaves (waited e) (round (waited e)) → s.first ≤ e.link.sender.base →
+        failures e.link.counts ≤ failures (round (waited e)).counts →
+        (Still e (pass s.chunk e) → min s.chunk (length (round (waited e)).receiver.queue) ≡ 0 → IsStuck frames acks (waited e) (pass s.chunk e).link) →
+        Brought s.chunk e → Bounded (pass s.chunk e)
+    passed_bounded e frames acks h keeps from grows stuck (Some none some) =
+        let m = round (waited e) in
+        let n = min s.chunk (length m.receiver.queue) in
+        let base = keeps.base in
+        let read = keeps.read in
+        let far : e.link.sender.base + e.link.receiver.read < m.sender.base + (m.receiver.read + n) =
+        ⊎_elim {C = e.link.sender.base + e.link.receiver.read < m.sender.base + (m.receiver.read + n)}
+        (λ (l : e.link.sender.base + e.link.receiver.read < m.sender.base + (m.receiver.read + n)). l)
+        (λ (l : m.sender.base + (m.receiver.read + n) ≤ e.link.sender.base + e.link.receiver.read).
+        absurd (some (still_from s.chunk e (omega arith) (omega arith))))
+        (cases_lt (e.link.sender.base + e.link.receiver.read) (m.sender.base + (m.receiver.read + n))) in
+        more_moved e.rounds (pass s.chunk e).rounds e.link.sender.base m.sender.base e.link.receiver.read (m.receiver.read + n) s.first
+        (failures e.link.counts) (failures m.counts) from base far grows (omega arith) h
+    passed_bounded e frames acks h keeps from grows stuck (Nothing more still empty) =
+        let m = round (waited e) in
+        let n = min s.chunk (length m.receiver.queue) in
+        let read = keeps.read in
+        more_still e.rounds (pass s.chunk e).rounds e.link.sender.base m.sender.base e.link.receiver.read (m.receiver.read + n) s.first
+        (failures e.link.counts) (failures m.counts) still.0 (omega arith) (stuck still empty).counted refl h
+
+    one_bounded : (c : CopyState) → SoFar known.known s reads c → Stays known s c.link → CanPass s (turn s.rounds s.chunk c) → Bounded c → Turned s.rounds s.chunk c →
+        Bounded (turn s.rounds s.chunk c)
+    one_bounded c was stays can h (Failed failed is) = subst Bounded (sym is) (fed_bounded c h)
+    one_bounded c was stays can h (Finished done is) = subst Bounded (sym is) (fed_bounded c h)
+    one_bounded c was stays can h (Stopped fed more many is) = subst Bounded (sym is) (fed_bounded c h)
+    one_bounded c was stays can h (WentOn fed more few is) =
+        let e = feed s.chunk c in
+        let one = goes_on s.rounds s.chunk c (ap (λ d. d.status) is ∙ fed) in
+        let old = waited e in
+        let passes = (sends known s reads c was stays can one).passes in
+        subst Bounded (sym is)
+        (passed_bounded e (frames_sent old) (acks_sent old) (fed_bounded c h) (leaves known s reads c was stays can one)
+        (writes known s reads c was stays can one).carries.way.sends.from (round_failed old (round old) passes)
+        (stuck_turn known s reads c was stays can one) (brought s.chunk e))
+
+    bounded : (n : ℕ) → CanPass s (after s reads n) → Bounded (after s reads n)
+    bounded zero can = omega arith
+    bounded (suc n) can =
+        let c = after s reads n in
+        let starts : s.first < 2 ^ 64 = (let left = can.positions in omega arith) in
+        let before : Bounded c = bounded n (passes_before known s reads n (suc n) (omega arith) can) in
+        ⊎_elim {C = Bounded (after s reads (suc n))}
+        (λ (on : c.status ≡ Running). one_bounded c (so_far known.known s reads starts n) (all_stays known s reads n) can before (turns s.rounds s.chunk c on))
+        (λ (over : c.status ≡ Running → ⊥). subst Bounded (sym (ended s.rounds s.chunk c over)) before)
+        (running_or_not c.status)
+
+  pub few_rounds : FewRounds
+  few_rounds s reads n can =
+      let c = after s reads n in
+      let starts : s.first < 2 ^ 64 = (let left = can.positions in omega arith) in
+      let w = (so_far known.known s reads starts n).writes in
+      let end = w.carries.way.sends.end in
+      let read = (queue_from known.known.queue s.first c.given c.link.receiver w.carries.way.receives).within in
+      let few = bounded s reads n can in
+      omega arith

@@ -1,0 +1,165 @@
+-- How many turns and rounds a copy makes at most, and what comes of it.
+use Rattle.std.proofs.Common.{◌≡◌, ◌⊎◌, ◌||◌, ℕ, zero, suc, ◌+◌, ◌-◌, ◌*◌, ◌≤◌, ◌<◌, min, not, nat_eq, nat_lt, Bool, true, false, cond, List, [], ◌∷◌, length, refl, sym, ap, arith, ⊎_elim, inl, inr, length-append, mul-le-mul_right}
+use Rattle.std.proofs.lemmas.Bool.{cases_lt, ltb-true}
+use Rattle.std.proofs.lemmas.Bool.Decides.{nat_tests}
+use Rattle.std.proofs.Math.Nat.{add-mul}
+use Rattle.net_receiver.specs.OneStream.{SegmentReadsNothing}
+use Rattle.net_copies.specs.LinkState.{round}
+use Rattle.net_copies.specs.CopyState.{Setup, CopyState, Running, begin, read_of, room_for, feed, decide, waited, pass, while_running, turn, after, outcome, concat, most_turns}
+use Rattle.net_copies.specs.Streams.{Known}
+use Rattle.net_copies.specs.Promises.{StartsFits, before_end, FewRoundsAnyway, Ends, Stays, CopiedIs}
+use Rattle.net_copies.proofs.Steps.{stays, enough}
+use Rattle.net_copies.proofs.Turns.{while, feeds, decides, ended}
+use Rattle.net_copies.proofs.Grown.{grown}
+use Rattle.net_copies.proofs.Prefix.{so_far, queue_of}
+
+-- one round more: it brings bytes on, x' in place of x, or is one more of at most r that don't
+one_more : (r x x' t t' : ℕ) → t < r → ((x < x') × (t' ≡ 0)) ⊎ ((x ≤ x') × (t' ≡ t + 1)) → (x * r + t + 1 ≤ x' * r + t') × (t' ≤ r)
+one_more r x x' t t' few (inl (more, none)) =
+    let one : (x + 1) * r ≤ x' * r = mul-le-mul_right r (omega arith) in
+    let is : (x + 1) * r ≡ x * r + 1 * r = add-mul x 1 r in
+    (omega arith, omega arith)
+one_more r x x' t t' few (inr (same, more)) = (let one : x * r ≤ x' * r = mul-le-mul_right r same in (omega arith, omega arith))
+
+module _ (reads_nothing : SegmentReadsNothing) (s : Setup) where
+  -- how many bytes were acknowledged, and how many were written
+  abbrev pub far : CopyState → ℕ
+  far c = c.link.sender.base + c.link.receiver.read - s.first
+
+  -- no more turns were made, and no more rounds, than bytes were brought on, `rounds` times, and rounds in a row that brought nothing on
+  pub record Counted (n : ℕ) (c : CopyState) : Type 0 where
+    pub low : s.first ≤ c.link.sender.base
+    pub turns : c.status ≡ Running → n ≤ far c * s.rounds + c.stalled
+    pub rounds : c.rounds ≤ far c * s.rounds + c.stalled
+    pub few : c.stalled ≤ s.rounds
+
+  fed : (n : ℕ) (c : CopyState) → c.status ≡ Running → Counted n c → Counted n (feed s.chunk c)
+  fed n c on h = feeds (Counted n) s.chunk c (λ more room all. by c.reads) h
+    where
+      by : (reads : List (List ℕ)) → Counted n (read_of (room_for s.chunk c.link) c reads)
+      by [] = record { low = h.low; turns = λ r. absurd (cc); rounds = h.rounds; few = h.few }
+      by ([] ∷ reads) = record { low = h.low; turns = h.turns; rounds = h.rounds; few = h.few }
+      by ((x ∷ xs) ∷ reads) = record { low = h.low; turns = h.turns; rounds = h.rounds; few = h.few }
+
+  abbrev Decided : ℕ → CopyState → Type 0
+  Decided n c = Counted n c × (c.status ≡ Running → c.stalled < s.rounds)
+
+  decided : (n : ℕ) (c : CopyState) → Counted n c → Decided n (decide s.rounds c)
+  decided n c h =
+      decides (Decided n) s.rounds c (λ none all. (record { low = h.low; turns = λ r. absurd (cc); rounds = h.rounds; few = h.few }, λ r. absurd (cc)))
+      (λ many. (record { low = h.low; turns = λ r. absurd (cc); rounds = h.rounds; few = h.few }, λ r. absurd (cc))) (λ few. (h, λ r. few))
+
+  -- a round brings bytes on, or is counted as one that doesn't
+  pub brings_on : (c : CopyState) → s.first ≤ c.link.sender.base →
+      (s.first ≤ (pass s.chunk c).link.sender.base) × (((far c < far (pass s.chunk c)) × ((pass s.chunk c).stalled ≡ 0)) ⊎ ((far c ≤ far (pass s.chunk c)) × ((pass s.chunk c).stalled ≡ c.stalled + 1)))
+  brings_on c low =
+      let h = grown reads_nothing c.link.sender.base c.link.receiver.read (waited c) (record { base = omega arith; read = refl }) in
+      let b = h.base in
+      let m = round (waited c) in (
+        omega arith,
+        by m.sender.base m.receiver.read (min s.chunk (length m.receiver.queue)) (not (nat_eq m.sender.base c.link.sender.base))
+            (nat_lt 0 (min s.chunk (length m.receiver.queue))) refl refl b h.read,
+      )
+    where
+      by : (base read k : ℕ) (moved some : Bool) → not (nat_eq base c.link.sender.base) ≡ moved → nat_lt 0 k ≡ some → c.link.sender.base ≤ base → read ≡ c.link.receiver.read →
+          ((far c < base + (read + k) - s.first) × (cond (moved || some) 0 (c.stalled + 1) ≡ 0)) ⊎ ((far c ≤ base + (read + k) - s.first) × (cond (moved || some) 0 (c.stalled + 1) ≡ c.stalled + 1))
+      by base read k true some m e b r = inl (grind (arith, nat_tests), refl)
+      by base read k false true m e b r = inl ((let l = ltb-true 0 k e in omega arith), refl)
+      by base read k false false m e b r = inr (omega arith, refl)
+
+  passed : (n : ℕ) (c : CopyState) → c.status ≡ Running → Decided n c → Counted (suc n) (pass s.chunk c)
+  passed n c on h =
+      let one = h.0 in
+      let step = brings_on c one.low in
+      let grows = one_more s.rounds (far c) (far (pass s.chunk c)) c.stalled (pass s.chunk c).stalled (h.1 on) step.1 in
+      let more = grows.0 in
+      let turns = one.turns on in
+      let rounds = one.rounds in
+      record { low = step.0; turns = λ r. omega arith; rounds = omega arith; few = grows.1 }
+
+  pub counted : (reads : List (List ℕ)) (n : ℕ) → Counted n (after s reads n)
+  unfolding turn
+  counted reads zero = record { low = omega arith; turns = λ r. omega arith; rounds = omega arith; few = omega arith }
+  counted reads (suc n) =
+      let c = after s reads n in
+      let d = while_running (feed s.chunk) c in
+      let e = while_running (decide s.rounds) d in
+      let h = counted reads n in
+      let one : Counted n d = while (Counted n) (feed s.chunk) c (λ r. fed n c r h) (λ _. h) in
+      let two : Decided n e = while (Decided n) (decide s.rounds) d (λ _. decided n d one) (λ o. (one, λ r. absurd (o r))) in
+      while (Counted (suc n)) (pass s.chunk) e (λ r. passed n e r two)
+      (λ o. (let h = two.0 in record { low = h.low; turns = λ r. absurd (o r); rounds = h.rounds; few = h.few }))
+
+-- so many at most, of r each
+few_of : (r x t m : ℕ) → x ≤ 2 * m → t ≤ r → x * r + t ≤ (2 * m + 1) * r
+few_of r x t m few less =
+    let one : x * r ≤ 2 * m * r = mul-le-mul_right r few in
+    let is : (2 * m + 1) * r ≡ 2 * m * r + 1 * r = add-mul (2 * m) 1 r in
+    omega arith
+
+-- the bytes before the end are no more than all
+before_few : (reads : List (List ℕ)) → length (before_end reads) ≤ length (concat reads)
+before_few [] = omega arith
+before_few ([] ∷ reads) = omega arith
+before_few ((x ∷ xs) ∷ reads) =
+    let few = before_few reads in
+    let one = length-append (x ∷ xs) (before_end reads) in
+    let all = length-append (x ∷ xs) (concat reads) in
+    omega arith
+
+module _ (known : Known) (s : Setup) (reads : List (List ℕ)) (fits : StartsFits s) (n : ℕ) where
+  few_far : far known.reads_nothing s (after s reads n) ≤ 2 * length (after s reads n).given
+  few_far =
+      let c = after s reads n in
+      let h = (so_far known s reads fits n).writes.carries in
+      let q = (queue_of known s.first c.given c.link h).within in
+      let end = h.way.sends.end in
+      let from = h.way.sends.from in
+      omega arith
+
+  few_given : length (after s reads n).given ≤ length (concat reads)
+  few_given = by (after s reads n).more refl
+    where
+      by : (b : Bool) → (after s reads n).more ≡ b → length (after s reads n).given ≤ length (concat reads)
+      by true e =
+          let c = after s reads n in
+          let few = before_few reads in
+          let all = ap (λ (l : List ℕ). length l) ((so_far known s reads fits n).coming e) in
+          let both = length-append c.given (before_end c.reads) in
+          omega arith
+      by false e =
+          let few = before_few reads in
+          let all = ap (λ (l : List ℕ). length l) ((so_far known s reads fits n).over e) in
+          omega arith
+
+pub few_rounds_anyway : Known → FewRoundsAnyway
+few_rounds_anyway known s reads n fits =
+    let c = after s reads n in
+    let h = counted known.reads_nothing s reads n in
+    let rounds = h.rounds in
+    let few = few_of s.rounds (far known.reads_nothing s c) c.stalled (length c.given) (few_far known s reads fits n) h.few in
+    omega arith
+
+pub ends : Known → Ends
+ends known s reads fits on =
+    let n = most_turns s reads in
+    let c = after s reads n in
+    let h = counted known.reads_nothing s reads n in
+    let far_few = few_far known s reads fits n in
+    let given = few_given known s reads fits n in
+    let turns = h.turns on in
+    let few = few_of s.rounds (far known.reads_nothing s c) c.stalled (length (concat reads)) (omega arith) h.few in
+    omega arith
+
+-- ---- an ended copy
+pub stays_so : Stays
+stays_so s reads n k over = stays (turn s.rounds s.chunk) (begin s reads) n k (ended s.rounds s.chunk (after s reads n) over)
+
+pub copied_is : Known → CopiedIs
+copied_is known s reads n fits over =
+    let f = turn s.rounds s.chunk in
+    let m = most_turns s reads in
+    ap outcome (⊎_elim {C = after s reads m ≡ after s reads n}
+    (λ (l : m < n). sym (enough f (begin s reads) m n (omega arith) (ended s.rounds s.chunk (after s reads m) (ends known s reads fits))))
+    (λ (l : n ≤ m). enough f (begin s reads) n m l (ended s.rounds s.chunk (after s reads n) over))
+    (cases_lt m n))

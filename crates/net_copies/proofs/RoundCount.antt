@@ -1,0 +1,134 @@
+-- How many rounds a copy takes.
+use Rattle.std.proofs.Common.{◌≡◌, ℕ, zero, suc, ◌+◌, ◌-◌, ◌*◌, ◌<◌, ◌≤◌, ◌^◌, min, List, [], ◌∷◌}
+use Rattle.std.proofs.Common.{◌++◌, length, take, refl, sym, ap, subst, ◌∙◌, arith, ⊎_elim}
+use Rattle.std.proofs.Common.{append_assoc, length-drop}
+use Rattle.std.proofs.lemmas.Bool.{both_ways, cases_lt, cond-true}
+use Rattle.net_assembler.specs.Positions.{maximal_runs}
+use Rattle.net_receiver.specs.Stored.{stored_next, stored_after_read, domain}
+use Rattle.net_receiver.specs.OneStream.{QueueIsOfStream}
+use Rattle.net_copies.specs.Outgoing.{end_of}
+use Rattle.net_copies.specs.Frames.{frame_of, FramesDecode}
+use Rattle.net_copies.specs.Reported.{most_reported, range_bytes}
+use Rattle.net_copies.specs.LinkState.{LinkState}
+use Rattle.net_copies.specs.Fates.{FatesSeen, next_fate, after_fate, comes, AllCome, NextCome}
+use Rattle.net_copies.specs.Progress.{after_ack_frames}
+use Rattle.net_copies.specs.Passing.{coming_of, acks_of}
+use Rattle.net_copies.specs.Links.{Carries, Passes}
+use Rattle.net_copies.specs.Stuck.{RoundLeaves, BringsOnOrIsStuck, HasFailed, AllFail, FatesFail}
+use Rattle.net_copies.proofs.Reached.{come_next, next_come, first_is}
+use Rattle.net_copies.proofs.Queue.{queue_from}
+use Rattle.net_copies.proofs.Stuck.{acked_last, some_come}
+
+-- ---- at most
+-- a round lets bytes go or writes some
+pub more_moved : (n n' b b' r r' f x x' : ℕ) → f ≤ b → b ≤ b' → b + r < b' + r' → x ≤ x' → n' ≤ n + 1 → n ≤ (b - f) + r + x → n' ≤ (b' - f) + r' + x'
+more_moved n n' b b' r r' f x x' from on far more one few = omega arith
+
+-- or it fails
+pub more_still : (n n' b b' r r' f x x' : ℕ) → b' ≡ b → r' ≡ r → min (x + 1) (2 ^ 64 - 1) ≤ x' → n' ≡ min (n + 1) (2 ^ 64 - 1) → n ≤ (b - f) + r + x →
+    n' ≤ (b' - f) + r' + x'
+more_still n n' b b' r r' f x x' same same_read more one few = omega arith
+
+-- ---- where every frame comes at once
+pub coming_all : (v : FatesSeen) (frames : List (List ℕ)) → NextCome (length frames) v → coming_of v frames ≡ frames
+coming_all v [] come = refl
+coming_all v (x ∷ xs) come =
+    let c = coming_of (after_fate v) xs in
+    cond-true _ (x ∷ c) c come.0 ∙ ap (λ l. x ∷ l) (coming_all (after_fate v) xs come.1)
+
+-- the last acknowledgement comes, and the sender keeps what the receiver lacks
+pub base_meets : FramesDecode → (old new : LinkState) (p : Passes old new) → NextCome (length p.acks) old.back.fates → new.sender.base ≤ stored_next new.receiver →
+    stored_next new.receiver ≤ end_of old.sender → end_of old.sender < 2 ^ 64 → new.sender.base ≡ stored_next new.receiver
+base_meets trip old new p come behind within word =
+    ap (λ v. v.base) is ∙ acked_last trip old.sender n xs earlier within (omega (arith, within, word)) (subst (λ v. v.base ≤ n) is behind)
+  where
+    n : ℕ
+    n = stored_next new.receiver
+
+    xs : List ℕ
+    xs = range_bytes (take most_reported (maximal_runs (domain new.receiver.held)))
+
+    sent_back : List (List ℕ)
+    sent_back = acks_of most_reported old.receiver p.came
+
+    earlier : List (List ℕ)
+    earlier = old.back.late ++ (old.back.ahead ++ sent_back)
+
+    acks : coming_of old.back.fates p.acks ≡ (old.back.ahead ++ sent_back) ++ frame_of n xs ∷ []
+    acks = coming_all old.back.fates p.acks come ∙ p.acks_are
+
+    is : new.sender ≡ after_ack_frames old.sender (earlier ++ frame_of n xs ∷ [])
+    is = p.acked ∙ ap (λ a. after_ack_frames old.sender (old.back.late ++ a)) acks
+        ∙ ap (after_ack_frames old.sender) (sym (append_assoc old.back.late (old.back.ahead ++ sent_back) (frame_of n xs ∷ [])))
+
+pub never_fails : (frames acks : ℕ) (v v' : FatesSeen) → AllCome v → AllCome v' → FatesFail 0 frames acks v v' → ⊥
+never_fails frames acks v v' come come' stuck =
+    ⊎_elim {C = ⊥}
+    (λ (a : (0 < frames) × HasFailed 0 (next_fate v)). both_ways (comes (next_fate v)) a.1.0 (come_next v come).0)
+    (λ (b : (0 < acks) × AllFail 0 acks v'). some_come 0 acks v' b.0 b.1 (come_next v' come').0)
+    stuck
+
+-- a round of a copy writes some
+pub round_at_once : FramesDecode → QueueIsOfStream → (f : ℕ) (w : List ℕ) (old new last : LinkState) (room : ℕ) (p : Passes old new) →
+    RoundLeaves old new → BringsOnOrIsStuck (length p.sent.ahead) (length p.acks) old new → end_of old.sender < 2 ^ 64 → last ≡ record new { receiver = stored_after_read new.receiver room } →
+    Carries f w old → Carries f w new →
+    old.there.ahead ≡ [] → old.back.ahead ≡ [] → AllCome old.there.fates → AllCome old.back.fates → old.sender.base ≡ stored_next old.receiver →
+    0 < old.receiver.capacity → 0 < room → (length old.receiver.queue ≡ 0 → 0 < length old.sender.queue) →
+    (last.sender.base ≡ stored_next last.receiver) × (old.receiver.read < last.receiver.read)
+round_at_once trip queue f w old new last room p keeps moves word handed carries carries1 none none_back come come_back meet cap some kept =
+    subst (λ l. (l.sender.base ≡ stored_next l.receiver) × (old.receiver.read < l.receiver.read)) (sym handed)
+    (met ∙ sym next_read, omega (arith, more, read, some))
+  where
+    read : new.receiver.read ≡ old.receiver.read
+    read = keeps.read
+
+    first : new.receiver.first ≡ old.receiver.first
+    first = keeps.first
+
+    grows : stored_next old.receiver ≤ stored_next new.receiver
+    grows = keeps.grows
+
+    next_read : stored_next (stored_after_read new.receiver room) ≡ stored_next new.receiver
+    next_read = (let left = length-drop room new.receiver.queue in omega (arith, left))
+
+    within : stored_next new.receiver ≤ end_of old.sender
+    within =
+        let q = (queue_from queue f w new.receiver carries1.receives).within in
+        let begin = first_is f w new.receiver carries1.receives in
+        let end = carries1.sends.end in
+        let end1 = keeps.end in
+        omega (arith, q, begin, end, end1)
+
+    met : new.sender.base ≡ stored_next new.receiver
+    met = base_meets trip old new p (next_come (length p.acks) old.back.fates come_back) carries1.behind within word
+
+    on : length old.receiver.queue ≡ 0 → stored_next old.receiver < stored_next new.receiver
+    on empty =
+        ⊎_elim {C = stored_next old.receiver < stored_next new.receiver}
+        (λ (l : stored_next old.receiver < stored_next new.receiver). l)
+        (λ (l : stored_next new.receiver ≤ stored_next old.receiver).
+        let still : stored_next new.receiver ≡ stored_next old.receiver = omega (arith, l, grows) in
+        let one = moves f w carries none none_back (kept empty) (omega (arith, empty, cap)) still (met ∙ still ∙ sym meet) in
+        absurd (never_fails (length p.sent.ahead) (length p.acks) old.there.fates old.back.fates come come_back one.why))
+        (cases_lt (stored_next old.receiver) (stored_next new.receiver))
+
+    more : 0 < length new.receiver.queue
+    more =
+        ⊎_elim {C = 0 < length new.receiver.queue}
+        (λ (l : 0 < length old.receiver.queue). omega (arith, l, grows, first, read))
+        (λ (l : length old.receiver.queue ≤ 0). let far = on (omega (arith, l)) in omega (arith, far, first, read))
+        (cases_lt 0 (length old.receiver.queue))
+
+-- ---- at least
+-- a round takes no more than there is room for
+pub more_taken : (t t' n n' k : ℕ) → t ≤ n * k → t' ≤ t + k → t' < 2 ^ 64 → n' ≡ min (n + 1) (2 ^ 64 - 1) → t' ≤ n' * k
+more_taken t t' n n' zero all more word is = omega arith
+more_taken t t' n n' (suc k) all more word is =
+    ⊎_elim {C = t' ≤ n' * suc k}
+    (λ (l : n < 2 ^ 64 - 1).
+    let one : n' ≡ n + 1 = omega arith in
+    subst (λ j. t' ≤ j * suc k) (sym one) (omega arith))
+    (λ (l : 2 ^ 64 - 1 ≤ n).
+    let one : n' ≡ 2 ^ 64 - 1 = omega arith in
+    subst (λ j. t' ≤ j * suc k) (sym one) (omega arith))
+    (cases_lt n (2 ^ 64 - 1))

@@ -1,0 +1,19 @@
+-- The definitions that the contracts cite.
+pub mod Frames
+pub mod Reported
+pub mod Outgoing
+pub mod Fates
+pub mod Counting
+pub mod Carrying
+pub mod Sending
+pub mod Progress
+pub mod Rounds
+pub mod Passing
+pub mod LinkState
+pub mod Links
+pub mod Stuck
+pub mod CopyState
+pub mod Copying
+pub mod Streams
+pub mod Promises
+pub mod WorkedCopy

@@ -1,0 +1,256 @@
+-- What is promised of every copy: laws over the function of CopyState.antt alone. In each, s is the setup,
+-- reads what the reads give, and n a number of turns.
+--     StartsFits s      the position of the first byte fits 64 bits
+--     CanPass s c      the buffers have room for a byte, and not all positions are used up
+--     before_end reads      the bytes before the input's end
+--     WritesPrefix, WritesAll      what is written is a prefix of what was read, and all of it in the end
+--     Ends      a copy ends after so many turns as `copied` makes
+--     before_round s reads n      the link when round n + 1 begins
+--     BringsNothing s reads n      round n + 1 brings nothing on
+--     GivesUpAfter, NeverLater      it gives up after `rounds` rounds in a row that bring nothing on
+--     frames_sent l, acks_sent l      how many frames and acknowledgements a round sends
+--     Fails follow l      what fails in a round that brings nothing on
+--     GivesUpIfFailed      it gives up only if each of these rounds failed
+--     NoneLost v, NeverByDelays      delays and repeats alone never end it
+--     EndsIfAllCome      over a link that loses and delays nothing it doesn't give up
+--     CountsRounds, CountsEachFate      what the counts of rounds and of frames are
+--     GivesUpCounted, EnoughFailed, Unfinished      what a copy that gives up counts
+--     HasRoomAtOnce s, ExactRounds      the number of rounds where all comes at once
+--     EnoughRounds, RoundsAtOnce      bounds where it is done, and where nothing is lost or late
+--     FewRounds, FewRoundsAnyway, FewFrames      bounds
+--     RoundKeeps, FewLate      how much is late after a round
+--     HasEnded c, Stays, CopiedIs      an ended copy stays as it is, so that it is what comes of it
+--     has_end reads, Fills s reads      the input's end comes, and each read before it fills its room
+--     SameBytes, AllAtOnce      then what comes of a copy depends on the bytes alone
+use Rattle.std.specs.Prelude.{Bool, true, false, ◌≡◌, ℕ, suc, ◌+◌, ◌-◌, ◌*◌, ◌<◌, ◌≤◌, ◌^◌, ◌⊎◌, min, List, [], ◌∷◌, ◌++◌, length}
+use Rattle.std.specs.Io.{StartsWith}
+use Rattle.net_copies.specs.Fates.{FatesSeen, next_fate, fates_after, AllCome}
+use Rattle.net_copies.specs.declared.fate.Fate.TheVariants.{Lost}
+use Rattle.net_copies.specs.LinkState.{LinkState, transmit, late_frames, pass_frames, acknowledge_all, round}
+use Rattle.net_copies.specs.CopyState.{Setup, CopyState, Running, Done, GaveUp, feed, waited, while_running}
+use Rattle.net_copies.specs.CopyState.{is_written, room_for, after, outcome, copied}
+use Rattle.net_copies.specs.Rounds.{CountsFates}
+use Rattle.net_copies.specs.Outgoing.{at_least_one}
+use Rattle.net_copies.specs.Stuck.{FatesFail}
+
+abbrev pub StartsFits : Setup → Type 0
+StartsFits s = s.first < 2 ^ 64
+
+-- the buffers have room for a byte, and of the positions of 64 bits some are left after the bytes that
+-- were read
+pub record CanPass (s : Setup) (c : CopyState) : Type 0 where
+  pub outgoing : 0 < s.outgoing
+  pub incoming : 0 < s.incoming
+  pub chunk : 0 < s.chunk
+  pub positions : s.first + length c.given < 2 ^ 64 - 1
+
+-- ---- what is written
+abbrev pub before_end : List (List ℕ) → List ℕ
+before_end [] = []
+before_end ([] ∷ reads) = []
+before_end ((x ∷ xs) ∷ reads) = (x ∷ xs) ++ before_end reads
+
+abbrev pub WritesPrefix : Type 0
+WritesPrefix = (s : Setup) (reads : List (List ℕ)) (n : ℕ) → StartsFits s →
+    StartsWith (before_end reads) (after s reads n).given
+    × StartsWith (after s reads n).given (after s reads n).written
+
+abbrev pub WritesAll : Type 0
+WritesAll = (s : Setup) (reads : List (List ℕ)) (n : ℕ) → StartsFits s →
+    (after s reads n).status ≡ Done → (after s reads n).written ≡ before_end reads
+
+-- ---- its end
+abbrev pub Ends : Type 0
+Ends = (s : Setup) (reads : List (List ℕ)) → StartsFits s → (copied s reads).status ≡ Running → ⊥
+
+abbrev pub before_round : Setup → List (List ℕ) → ℕ → LinkState
+before_round s reads n = waited (while_running (feed s.chunk) (after s reads n))
+
+-- no byte was acknowledged, and none was written
+abbrev pub BringsNothing : Setup → List (List ℕ) → ℕ → Type 0
+BringsNothing s reads n =
+    ((after s reads (suc n)).link.sender.base ≡ (after s reads n).link.sender.base)
+    × ((after s reads (suc n)).written ≡ (after s reads n).written)
+
+-- where turn n + 1 gives up, n rounds were made, and each of the last `rounds` of them brought nothing on
+abbrev pub GivesUpAfter : Type 0
+GivesUpAfter = (s : Setup) (reads : List (List ℕ)) (n : ℕ) →
+    (after s reads n).status ≡ Running → (after s reads (suc n)).status ≡ GaveUp →
+    (s.rounds ≤ n) × ((k : ℕ) → n ≤ k + s.rounds → k < n → BringsNothing s reads k)
+
+-- as long as a copy goes on, it never made more than `rounds` rounds in a row that brought nothing on
+abbrev pub NeverLater : Type 0
+NeverLater = (s : Setup) (reads : List (List ℕ)) (n : ℕ) →
+    (after s reads n).status ≡ Running → s.rounds < n →
+    ((k : ℕ) → n ≤ k + suc s.rounds → k < n → BringsNothing s reads k) → ⊥
+
+-- how many frames a round sends that begins with this link, and how many acknowledgements
+abbrev pub frames_sent : LinkState → ℕ
+frames_sent l = length (transmit l).there.ahead
+
+abbrev pub acks_sent : LinkState → ℕ
+acks_sent l = length (acknowledge_all (pass_frames (late_frames (transmit l)))).back.ahead
+
+-- of the frames of such a round the first doesn't come at once, or none of its acknowledgements does; and
+-- that frame or all of them are lost, if more such rounds follow
+abbrev pub Fails : ℕ → LinkState → Type 0
+Fails follow l = FatesFail follow (frames_sent l) (acks_sent l) l.there.fates l.back.fates
+
+abbrev pub GivesUpIfFailed : Type 0
+GivesUpIfFailed = (s : Setup) (reads : List (List ℕ)) (n : ℕ) → CanPass s (after s reads (suc n)) →
+    (after s reads n).status ≡ Running → (after s reads (suc n)).status ≡ GaveUp →
+    (k : ℕ) → n ≤ k + s.rounds → k < n → Fails (n - suc k) (before_round s reads k)
+
+-- no frame is lost that meets these fates
+abbrev pub NoneLost : FatesSeen → Type 0
+NoneLost v = (n : ℕ) → next_fate (fates_after n v) ≡ Lost → ⊥
+
+abbrev pub NeverByDelays : Type 0
+NeverByDelays = (s : Setup) (reads : List (List ℕ)) (n : ℕ) → CanPass s (after s reads n) →
+    NoneLost s.fates → NoneLost s.ack_fates → 1 < s.rounds →
+    (after s reads n).status ≡ GaveUp → ⊥
+
+abbrev pub EndsIfAllCome : Type 0
+EndsIfAllCome = (s : Setup) (reads : List (List ℕ)) (n : ℕ) → CanPass s (after s reads n) →
+    AllCome s.fates → AllCome s.ack_fates → 0 < s.rounds →
+    (after s reads n).status ≡ GaveUp → ⊥
+
+-- ---- what is counted
+-- a copy that goes on makes a round in each turn, and counts as many as 64 bits go
+abbrev pub CountsRounds : Type 0
+CountsRounds = (s : Setup) (reads : List (List ℕ)) (n : ℕ) →
+    (after s reads n).status ≡ Running → (after s reads n).rounds ≡ min n (2 ^ 64 - 1)
+
+-- the counts of frames are those of their fates
+abbrev pub CountsEachFate : Type 0
+CountsEachFate = (s : Setup) (reads : List (List ℕ)) (n : ℕ) →
+    CountsFates s.fates s.ack_fates (after s reads n).link.counts
+
+-- a copy that gives up counts at least `rounds` rounds
+abbrev pub GivesUpCounted : Type 0
+GivesUpCounted = (s : Setup) (reads : List (List ℕ)) (n : ℕ) → s.rounds < 2 ^ 64 →
+    (after s reads n).status ≡ GaveUp → s.rounds ≤ (after s reads n).rounds
+
+-- at least as many frames and acknowledgements were then lost or late, and all but one lost
+abbrev pub EnoughFailed : Type 0
+EnoughFailed = (s : Setup) (reads : List (List ℕ)) (n : ℕ) → CanPass s (after s reads n) →
+    s.rounds < 2 ^ 64 → (after s reads n).status ≡ GaveUp →
+    (s.rounds ≤ (after s reads n).link.counts.lost + (after s reads n).link.counts.late)
+    × (s.rounds ≤ (after s reads n).link.counts.lost + 1)
+
+-- it hasn't written all that was read, if that was less than the sender has room for
+abbrev pub Unfinished : Type 0
+Unfinished = (s : Setup) (reads : List (List ℕ)) (n : ℕ) → CanPass s (after s reads n) →
+    (after s reads n).status ≡ GaveUp → length (after s reads n).given < s.outgoing →
+    length (after s reads n).written < length (after s reads n).given
+
+-- ---- bounds
+-- no more is read than so many bytes a round
+abbrev pub EnoughRounds : Type 0
+EnoughRounds = (s : Setup) (reads : List (List ℕ)) (n : ℕ) → StartsFits s →
+    (after s reads n).status ≡ Done →
+    length (after s reads n).given ≤ (after s reads n).rounds * s.chunk
+
+-- the most bytes of a read, for which a round has room
+abbrev pub most_read : Setup → ℕ
+most_read s = min s.outgoing s.chunk
+
+pub record HasRoomAtOnce (s : Setup) : Type 0 where
+  pub some : 0 < most_read s
+  pub incoming : most_read s ≤ s.incoming
+  pub frames : most_read s ≤ at_least_one s.flight * at_least_one s.payload
+
+-- over such a link that loses and delays nothing, for a reader that gives all that there is room for, a
+-- copy makes as many rounds as such reads have the bytes
+abbrev pub ExactRounds : Type 0
+ExactRounds = (s : Setup) (bytes : List ℕ) (n : ℕ) → HasRoomAtOnce s →
+    s.first + length bytes < 2 ^ 64 - 1 → AllCome s.fates → AllCome s.ack_fates →
+    let c = after s (bytes ∷ [] ∷ []) n in c.status ≡ Done →
+    (length bytes ≤ c.rounds * most_read s) × (c.rounds * most_read s < length bytes + most_read s)
+
+-- over a link that loses and delays nothing each round writes some
+abbrev pub RoundsAtOnce : Type 0
+RoundsAtOnce = (s : Setup) (reads : List (List ℕ)) (n : ℕ) → CanPass s (after s reads n) →
+    AllCome s.fates → AllCome s.ack_fates →
+    (after s reads n).rounds ≤ length (after s reads n).given
+
+-- two rounds for each byte that was read, and one for each frame or acknowledgement that was lost or
+-- late
+abbrev pub FewRounds : Type 0
+FewRounds = (s : Setup) (reads : List (List ℕ)) (n : ℕ) → CanPass s (after s reads n) →
+    (after s reads n).rounds ≤ 2 * length (after s reads n).given
+    + (after s reads n).link.counts.lost + (after s reads n).link.counts.late
+
+-- whatever the link does
+abbrev pub FewRoundsAnyway : Type 0
+FewRoundsAnyway = (s : Setup) (reads : List (List ℕ)) (n : ℕ) → StartsFits s →
+    (after s reads n).rounds ≤ (2 * length (after s reads n).given + 1) * s.rounds
+
+-- frames and acknowledgements
+abbrev pub FewFrames : Type 0
+FewFrames = (s : Setup) (reads : List (List ℕ)) (n : ℕ) →
+    (after s reads n).link.counts.sent
+    ≤ (after s reads n).rounds * (3 * (after s reads n).link.limit + 1)
+
+-- no frame waits on its way between rounds, and no more are late than one round sends
+pub record FewLate (l : LinkState) : Type 0 where
+  pub ahead : l.there.ahead ≡ []
+  pub ahead_back : l.back.ahead ≡ []
+  pub late : length l.there.late ≤ l.limit
+  pub late_back : length l.back.late ≤ 2 * l.limit + 1
+  pub flight : l.flight ≤ l.limit
+  pub some : 0 < l.limit
+
+abbrev pub RoundKeeps : Type 0
+RoundKeeps = (l : LinkState) → FewLate l → FewLate (round l)
+
+abbrev pub CopyKeeps : Type 0
+CopyKeeps = (s : Setup) (reads : List (List ℕ)) (n : ℕ) → FewLate (after s reads n).link
+
+-- ---- an ended copy
+abbrev pub HasEnded : CopyState → Type 0
+HasEnded c = c.status ≡ Running → ⊥
+
+-- it stays as it is
+abbrev pub Stays : Type 0
+Stays = (s : Setup) (reads : List (List ℕ)) (n k : ℕ) → HasEnded (after s reads n) →
+    after s reads (n + k) ≡ after s reads n
+
+-- what comes of a copy is what came of it when it had ended, after however many turns
+abbrev pub CopiedIs : Type 0
+CopiedIs = (s : Setup) (reads : List (List ℕ)) (n : ℕ) → StartsFits s → HasEnded (after s reads n) →
+    copied s reads ≡ outcome (after s reads n)
+
+-- ---- readers that fill what they are asked for
+-- whether the input's end comes, and no read fails before it
+abbrev pub has_end : List (List ℕ) → Bool
+has_end [] = false
+has_end ([] ∷ reads) = true
+has_end ((x ∷ xs) ∷ reads) = has_end reads
+
+-- a copy asks its reader for bytes
+pub record Asks (chunk : ℕ) (c : CopyState) : Type 0 where
+  pub running : c.status ≡ Running
+  pub more : c.more ≡ true
+  pub room : 0 < room_for chunk c.link
+  pub written : is_written c.link ≡ true
+
+-- if it does, the reader has as many bytes as there is room for, or no bytes after these
+abbrev pub FillsAt : ℕ → CopyState → Type 0
+FillsAt chunk c = (xs : List ℕ) (rest : List (List ℕ)) → Asks chunk c → c.reads ≡ xs ∷ rest →
+    (room_for chunk c.link ≤ length xs) ⊎ (before_end rest ≡ [])
+
+-- each read fills its room, but for the last one before the input's end
+abbrev pub Fills : Setup → List (List ℕ) → Type 0
+Fills s reads = (n : ℕ) → FillsAt s.chunk (after s reads n)
+
+-- what comes of a copy then depends on the bytes alone, however the reads cut them
+abbrev pub SameBytes : Type 0
+SameBytes = (s : Setup) (reads others : List (List ℕ)) → StartsFits s → Fills s reads → Fills s others →
+    has_end reads ≡ has_end others → before_end reads ≡ before_end others →
+    copied s reads ≡ copied s others
+
+-- so it is what comes of a copy whose reader has all of them at once
+abbrev pub AllAtOnce : Type 0
+AllAtOnce = (s : Setup) (reads : List (List ℕ)) → StartsFits s → Fills s reads → has_end reads ≡ true →
+    copied s reads ≡ copied s (before_end reads ∷ [] ∷ [])

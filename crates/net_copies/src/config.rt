@@ -1,0 +1,19 @@
+//! What a copy goes by.
+
+/// What a copy goes by.
+#[derive(Debug, Clone, Copy, PartialEq, Eq, Drop)]
+pub struct Config {
+    /// The position of the stream's first byte.
+    pub first: u64,
+    /// The capacity of the sender and of the receiver, in bytes. With 0 a copy gives up.
+    pub capacity: usize,
+    /// The most bytes of a frame's payload; 0 counts as 1.
+    pub payload: u32,
+    /// The most frames that a round sends, new or again; 0 counts as 1. A copy takes memory for at
+    /// most so many frames on their way and as many late ones, and for at most twice as many
+    /// acknowledgements and one more, on their way and late each.
+    pub flight: u32,
+    /// After how many rounds in a row in which nothing was written and nothing let go a copy gives
+    /// up: with 0 before the first.
+    pub rounds: u64,
+}

@@ -1,0 +1,14 @@
+//! Links that lose, repeat and reorder frames, and copies over them, as functions of what reads give and
+//! of the fates of frames; and what follows. No code here sends a frame.
+#![tactic(auto)]
+
+mod config;
+mod counts;
+mod error;
+mod fate;
+pub mod laws;
+
+pub use config::Config;
+pub use counts::{Counts, FrameCounts};
+pub use error::LinkError;
+pub use fate::{Fate, Rates};
