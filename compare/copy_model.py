@@ -8,109 +8,9 @@ Each row is a copy over a link of known fates, and what the model counts of it.
 import collections
 import sys
 
-MOST_RUNS, SHORTEST, LONGEST, LAST = 32, 10_000, 1_000_000, 2**64 - 1
-D, L, R, T = "DELIVERED", "LOST", "REPEATED", "LATE"
+from link_parts import LAST, LONGEST, MOST_RUNS, SHORTEST, Direction, Receiver, Sender, D, L, R, T
+
 PERFECT, GONE, MIXED = (0, 0, 0), (100, 0, 0), (20, 30, 30)
-
-
-class Direction:
-    """One direction of the link: the fates of a list, then drawn ones; what is late; what became of its frames."""
-
-    def __init__(self, listed, rates, seed=1):
-        self.listed, self.state, self.rates = list(listed), seed, rates
-        self.late = []
-        self.sent = self.lost = self.repeated = self.came_late = 0
-
-    def fate(self):
-        if self.listed:
-            return self.listed.pop(0)
-        self.state = (self.state * 0xBB2EFCEC3C39611D + 0x7590EF39) % 2**64
-        word = self.state // 2 ** (29 - self.state // 2**61) % 2**32
-        lost, repeated, late = self.rates
-        if word % 100 < lost:
-            return L
-        if word // 100 % 100 < repeated:
-            return R
-        return T if word // 10_000 % 100 < late else D
-
-    def comes(self, frame):
-        """Whether a frame comes at once; one that comes late, or once more, is kept for the next round."""
-        fate = self.fate()
-        self.sent += 1
-        self.lost += fate == L
-        self.repeated += fate == R
-        self.came_late += fate == T
-        if fate in (R, T):
-            self.late.append(frame)
-        return fate in (D, R)
-
-    def take_late(self):
-        late, self.late = self.late, []
-        return late
-
-
-class Receiver:
-    """What was written, the first missing position, and the runs that are held beyond it."""
-
-    def __init__(self, first, capacity):
-        self.written = self.next = first
-        self.capacity, self.refused, self.runs = capacity, 0, []
-
-    def come(self, start, end):
-        start, end = max(start, self.next), min(end, self.written + self.capacity)
-        if start >= end:
-            return
-        met = [run for run in self.runs if run[0] <= end and start <= run[1]]
-        joined = (min([start] + [run[0] for run in met]), max([end] + [run[1] for run in met]))
-        runs = sorted([run for run in self.runs if run not in met] + [joined])
-        if start > self.next and len(runs) > MOST_RUNS:
-            self.refused += 1
-            return
-        if runs[0][0] == self.next:
-            self.next = runs.pop(0)[1]
-        self.runs = runs
-
-    def acknowledgement(self):
-        return self.next, self.runs[:MOST_RUNS]
-
-
-class Sender:
-    """The positions that are kept, the ranges that were reported, and where the buffer begins again."""
-
-    def __init__(self, first, capacity):
-        self.base = self.end = first
-        self.capacity, self.again, self.ranges = capacity, first + capacity, []
-
-    def room(self):
-        return min(self.capacity - (self.end - self.base), LAST - self.end)
-
-    def take(self, count):
-        if self.base == self.end:
-            self.again = self.base + self.capacity
-        self.end += count
-
-    def acknowledge(self, position, ranges):
-        if self.base <= position <= self.end:
-            self.base, self.ranges = position, ranges
-            if self.base >= self.again:
-                self.again += self.capacity
-
-    def frames(self, payload, flight):
-        """The frames of a round, each where it begins and ends."""
-        frames, place = [], self.base
-        while place < self.end and len(frames) < flight:
-            having = [end for start, end in self.ranges if start <= place < end]
-            if having:
-                place = having[0]
-                continue
-            if len(self.ranges) == MOST_RUNS and place > max(end for _, end in self.ranges):
-                break
-            ends = [place + payload, self.end] + [start for start, _ in self.ranges if start > place]
-            if place < self.again:
-                ends.append(self.again)
-            frames.append((place, min(ends)))
-            place = min(ends)
-        return frames
 
 
 def predicted(row):
@@ -153,7 +53,7 @@ def predicted(row):
         for ack in acks:
             if back.comes(ack):
                 sender.acknowledge(*ack)
-        full = len(sender.ranges) == MOST_RUNS
+        full = sender.is_full()
         flight = min(most, max(flight // 2, MOST_RUNS) if full else flight + MOST_RUNS)
         rounds += 1
         micros += wait

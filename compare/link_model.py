@@ -13,109 +13,11 @@ import subprocess
 import sys
 import tempfile
 
-BUFFER, MOST_RUNS, MOST_FRAMES, MOST_ROUNDS = 262_144, 32, 4_096, 100
-SHORTEST, LONGEST = 10_000, 1_000_000
+from link_parts import LONGEST, MOST_RUNS, SHORTEST, Direction, Receiver, Sender
+
+BUFFER, MOST_FRAMES, MOST_ROUNDS = 262_144, 4_096, 100
 SHOWN_EACH, GAVE_UP = 256, 3
 LOSSES, LENGTHS, PAYLOADS = [80, 90, 95, 99], [2**16, 2**20, 2**24], [100, 1_460, 16_384]
-
-
-class Direction:
-    """One direction of the link: its generator, what is late, and what became of its frames."""
-
-    def __init__(self, seed, rates):
-        self.state, self.rates = seed, rates
-        self.late = []
-        self.sent = self.lost = self.repeated = self.came_late = 0
-
-    def comes(self, frame):
-        """Whether a frame comes at once; one that comes late, or once more, is kept for the next round."""
-        self.state = (self.state * 0xBB2EFCEC3C39611D + 0x7590EF39) % 2**64
-        word = self.state // 2 ** (29 - self.state // 2**61) % 2**32
-        lost, repeated, late = self.rates
-        self.sent += 1
-        if word % 100 < lost:
-            self.lost += 1
-            return False
-        if word // 100 % 100 < repeated:
-            self.repeated += 1
-            self.late.append(frame)
-            return True
-        if word // 10_000 % 100 < late:
-            self.came_late += 1
-            self.late.append(frame)
-            return False
-        return True
-
-    def take_late(self):
-        late, self.late = self.late, []
-        return late
-
-
-class Receiver:
-    """What was written, the first missing position, and the runs that are held beyond it."""
-
-    def __init__(self):
-        self.written = self.next = self.refused = 0
-        self.runs = []
-
-    def come(self, start, end):
-        start, end = max(start, self.next), min(end, self.written + BUFFER)
-        if start >= end:
-            return
-        met = [run for run in self.runs if run[0] <= end and start <= run[1]]
-        joined = (min([start] + [run[0] for run in met]), max([end] + [run[1] for run in met]))
-        runs = sorted([run for run in self.runs if run not in met] + [joined])
-        if start > self.next and len(runs) > MOST_RUNS:
-            self.refused += 1
-            return
-        if runs[0][0] == self.next:
-            self.next = runs.pop(0)[1]
-        self.runs = runs
-
-    def acknowledgement(self):
-        return self.next, self.runs[:MOST_RUNS]
-
-
-class Sender:
-    """The positions that are kept, the ranges that were reported, and where the buffer begins again."""
-
-    def __init__(self):
-        self.base = self.end = 0
-        self.again = BUFFER
-        self.ranges = []
-
-    def room(self):
-        return BUFFER - (self.end - self.base)
-
-    def read(self, count):
-        if self.base == self.end:
-            self.again = self.base + BUFFER
-        self.end += count
-
-    def take(self, position, ranges):
-        if self.base <= position <= self.end:
-            self.base, self.ranges = position, ranges
-            if self.base >= self.again:
-                self.again += BUFFER
-
-    def is_full(self):
-        return len(self.ranges) == MOST_RUNS
-
-    def frames(self, payload, flight):
-        """The frames of a round, each where it begins and ends. Reported ranges rise and don't meet."""
-        frames, place = [], self.base
-        for start, end in [*self.ranges, (self.end, self.end)]:
-            is_last = self.is_full() and place == self.ranges[-1][1]
-            while place < min(start, self.end) and len(frames) < flight:
-                ends = [place + payload, start, self.end] + [self.again] * (place < self.again)
-                frames.append((place, min(ends)))
-                place = min(ends)
-                if is_last:
-                    return frames
-            if place < start:
-                return frames
-            place = end
-        return frames
 
 
 class Copy:
@@ -123,8 +25,8 @@ class Copy:
 
     def __init__(self, loss, seed, repeated, late, payload, rounds):
         rates = loss, repeated, late
-        self.there, self.back = Direction(seed, rates), Direction(2**64 - 1 - seed, rates)
-        self.sender, self.receiver = Sender(), Receiver()
+        self.there, self.back = Direction([], rates, seed), Direction([], rates, 2**64 - 1 - seed)
+        self.sender, self.receiver = Sender(0, BUFFER), Receiver(0, BUFFER)
         self.payload, self.most_rounds = payload, rounds
         self.flight, self.wait = MOST_FRAMES, SHORTEST
         self.taken = self.carried = self.rounds = self.stuck = self.micros = 0
@@ -139,7 +41,7 @@ class Copy:
         if not self.ended and room and self.is_written():
             count = give(room)
             self.ended = count == 0
-            self.sender.read(count)
+            self.sender.take(count)
             self.taken += count
 
     def exchange(self):
@@ -156,10 +58,10 @@ class Copy:
                 acks.append(receiver.acknowledgement())
         acks.append(receiver.acknowledgement())
         for ack in back.take_late():
-            sender.take(*ack)
+            sender.acknowledge(*ack)
         for ack in acks:
             if back.comes(ack):
-                sender.take(*ack)
+                sender.acknowledge(*ack)
 
     def make_round(self):
         base, written = self.sender.base, self.receiver.written

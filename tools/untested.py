@@ -9,7 +9,8 @@ Left out are modules `laws`, other functions whose body is empty or calls nothin
 std, most of whose methods are called by an operator or written by a derive, and traits of ours that no
 library implements: their users write the methods, and the library calls them.
 
-Tests and examples are the crates *_tests, net_examples, and the files tests.rt. Named there is
+Tests and examples are the crates *_tests, net_examples, net_cases, whose rows are run, and the files tests.rt.
+Named there is
 - a function where it is called in a file that brings it in by `use`, or by a path that ends in it;
 - an associated function where `Type::name` stands, with the type or an alias of it;
 - a method where `.name` stands behind something of its type: a parameter, a field, a `let` of a
@@ -38,7 +39,7 @@ def source(file):
 
 def is_test(file):
     crate = file.relative_to(CRATES).parts[0]
-    return crate.endswith("_tests") or crate == "net_examples" or file.name == "tests.rt"
+    return crate.endswith("_tests") or crate in ("net_examples", "net_cases") or file.name == "tests.rt"
 
 
 def closing(text, at, step=1):

@@ -10,6 +10,4 @@ mod phy;
 #[cfg(test)]
 mod rand;
 #[cfg(test)]
-mod time;
-#[cfg(test)]
 mod two_lists;

@@ -23,16 +23,16 @@ import worked
 
 SEED = 54
 PARTS = [
-    ("rings of bytes", ring.draw, 6700),
+    ("rings of bytes", ring.draw, 6000),
     ("rings of cells", small.draw_cells, 700),
     ("storage", small.draw_storage, 700),
     ("packet queues", packets.draw, 4500),
     ("assemblers", assembler.draw, 5200),
     ("receivers", receiver.draw, 4500),
     ("sequence numbers", receiver.draw_numbers, 700),
-    ("generators", small.draw_generator, 1500),
+    ("generators", small.draw_generator, 1400),
     ("moments and lengths", moments.draw, 3300),
-    ("texts of moments and lengths", moments.draw_texts, 900),
+    ("texts of moments and lengths", moments.draw_texts, 700),
     ("texts of errors", texts.draw, 400),
     ("words and lines of modes", modes.draw, 2100),
 ]

@@ -392,6 +392,27 @@ def draw(random, cases, lines):
             add(cases, pair, *call(random, pair.now, step))
 
 
+def number_reply(name, numbers):
+    """What a call of a sequence number gives."""
+    word = 1 << 32
+    own, other = numbers[0], numbers[1]
+    if name == "at":
+        NUMBER_WRAPS(own + other % word >= word)
+        return str((own + other) % word)
+    if name == "position":
+        return position_of(*numbers)
+    if name == "ahead_of":
+        return str((own - other) % word)
+    if name == "is_before":
+        behind = (other - own) % word
+        HALF.least(behind, word // 2)
+        return truth(BEFORE_NUMBER(0 < behind < word // 2))
+    if name == "add":
+        return str((own + other) % word)
+    same = EQUAL_NUMBER(own == other)
+    return truths(same, not same, True)
+
+
 def draw_numbers(random, cases, lines):
     """So many lines of sequence numbers."""
     until = len(cases.lines) + lines
@@ -403,30 +424,16 @@ def draw_numbers(random, cases, lines):
         if random.one_in(2):
             other = (own + random.of([0, 1 << 31]) + random.below(5) - 2) % word
         name = random.of(["at", "position", "position", "ahead_of", "is_before", "add", "eq"])
-        ahead = (own - other) % word
+        numbers = [own, other]
         if name == "at":
             numbers = [own, random.wide()]
-            NUMBER_WRAPS(own + numbers[1] % word >= word)
-            reply = str((own + numbers[1]) % word)
         elif name == "position":
-            near = random.wide()
-            numbers = [own, other, near]
-            reply = position_of(own, other, near)
-        elif name == "ahead_of":
-            numbers, reply = [own, other], str(ahead)
-        elif name == "is_before":
-            numbers = [own, other]
-            behind = (other - own) % word
-            HALF.least(behind, word // 2)
-            reply = truth(BEFORE_NUMBER(0 < behind < word // 2))
+            numbers = [own, other, random.wide()]
         elif name == "add":
             numbers = [own, random.below(word)]
-            reply = str((own + numbers[1]) % word)
-        else:
+        elif name == "eq":
             numbers = [own, own if random.one_in(2) else other]
-            same = EQUAL_NUMBER(own == numbers[1])
-            reply = truths(same, not same, True)
-        cases.add(f"SequenceNumber::{name}", numbers, reply)
+        cases.add(f"SequenceNumber::{name}", numbers, number_reply(name, numbers))
 
 
 def position_of(own, initial, near):

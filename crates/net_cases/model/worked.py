@@ -38,6 +38,7 @@ RINGS = [
         "read_allocated 18446744073709551615 2 1: 0; get_allocated 0 18446744073709551615: 1:"),
     (8, "enqueue_many 4 1: 4:; dequeue_many 4 2: 4:; write_unallocated 0 2 3: 2; enqueue_unallocated 2: done; "
         "get_allocated 0 2: 2:; enqueue_unallocated 7: forbidden"),
+    (8, "enqueue_many 4 1: 4:; dequeue_many 4 2: 4:; write_unallocated 0 2 3: 2; enqueue_many 2 4: 2:"),
     (4, "enqueue_many_with 0 1: 0 4#; enqueue_slice 4 2: 4; dequeue_many_with 0 3: 0 4#; dequeue_slice 4 4: 4"),
     (1, "dequeue_one_with 0 1: empty; enqueue_slice 2 1: 1; enqueue_one_with 0 1: full; dequeue_slice 1 2: 1"),
 ]
@@ -60,6 +61,9 @@ PACKETS = [
             "enqueue_with_infallible 5 1 0 6: full; enqueue 1 0 7: 1:"),
     (4, 16, "enqueue 15 0 1: 15#; dequeue 2: 0 15#; enqueue_with_infallible 16 2 0 3: 2 16#; enqueue 0 0 4: 0:; "
             "dequeue 5: 0 2:; dequeue 6: 0 0:"),
+    (4, 16, "enqueue 10 0 1: 10#; enqueue 4 0 2: 4:; dequeue 3: 0 10#; enqueue_with_infallible 5 0 0 4: 0 5#; "
+            "dequeue 5: 0 4:; peek: 0 0:; dequeue 6: 0 0:; peek: empty"),
+    (2, 4, "place 2 5 1: 2:; take 2: 5 2:; peek: empty; dequeue 3: empty; take 4: empty; pop_slice 0 5: empty"),
     (2, 0, "enqueue 0 0 1: 0:; enqueue 1 0 2: full; enqueue 0 0 3: 0:; enqueue 0 0 4: full"),
     (2, 4, "enqueue 2 0 1: 2:; enqueue 1 0 2: 1:; dequeue 3: 0 2:; enqueue 2 0 4: full"),
     (1, 3, "enqueue 2 0 1: 2:; dequeue 2: 0 2:; enqueue_with_infallible 2 2 0 3: 2 2#"),
@@ -109,12 +113,22 @@ ASSEMBLERS = [
         "add_then_remove_front_counted 0 6: front 19; text 65535: 1", [(7, 10), (17, 20)]),
 ]
 
+# Ranges below 64 that touch, overlap, repeat and fill gaps.
+RANGES = [
+    (20, 1), (25, 8), (3, 1), (52, 5), (6, 3), (37, 0), (58, 5), (13, 0), (5, 3), (26, 1), (15, 1), (35, 3), (3, 6),
+    (7, 2), (40, 8), (37, 0), (36, 6), (25, 0), (14, 0), (35, 1), (18, 3), (9, 5), (7, 6), (19, 5), (52, 8), (11, 1),
+    (37, 6), (40, 2), (23, 1), (35, 12), (4, 6), (3, 6), (13, 4), (43, 5), (27, 3), (29, 6), (59, 4), (23, 2), (15, 1),
+    (44, 2), (5, 6), (19, 5), (31, 3), (46, 4), (18, 6), (4, 1), (32, 3), (10, 3),
+]
+
 # Texts of sets.
 SETS = [
     ([], "[ ]"), ([(4, 12)], "[ (4) 8 ]"), ([(0, 2), (3, 4)], "[ 2 (1) 1 ]"),
     ([(40, 70), (100, 110)], "[ (40) 30 (30) 10 ]"),
     ([(2000000, 5000000), (9000000, 9000001)], "[ (2000000) 3000000 (4000000) 1 ]"),
     ([(0, 2 ** 64 - 1)], "[ 18446744073709551615 ]"),
+    *(([((hole + data) * number + hole, (hole + data) * (number + 1)) for number in range(32)],
+       f"[ {f'({hole}) {data} ' * 32}]") for hole, data in ((7, 3), (7 * 10 ** 16, 5 * 10 ** 17))),
 ]
 
 # The same of a receiver of so many bytes and four runs whose stream begins at a position.
@@ -142,8 +156,77 @@ RECEIVERS = [
            "as_slices: 4:; peek_slice 5 4: 5; read_with 3: 3 4#; peek 0 9: 1:"),
 ]
 
+# Two receivers of 16 bytes that take segments, and whether they are then equal.
+PAIRS = [
+    ("", "", "1 1"), ("segment 0 1 1; segment 0 2 1", "segment 0 2 1", "1 1"), ("segment 0 2 1", "segment 0 2 2", "0 0"),
+    ("segment 2 1 1", "segment 2 1 2", "1 1"), ("segment 0 1 1; segment 3 1 2", "segment 0 1 1", "0 0"),
+    ("segment 0 1 1; segment 3 1 1; segment 4 1 2", "segment 3 2 3; segment 0 1 1", "1 1"),
+    ("segment 0 2 1; read 1 2", "segment 0 1 1", "0 0"),
+]
+
 # Numbers of 32 bits: own one, that of position 0, where the stream is, and the position that it has there.
 POSITIONS = [(1, 2 ** 32 - 2, 0, "3"), (1, 2 ** 32 - 2, 2 ** 32, str(2 ** 32 + 3)), (2 ** 32 - 3, 2 ** 32 - 2, 0, "none")]
+
+# Calls of sequence numbers on either side of where they go round.
+NUMBERS = [("at", [2 ** 32 - 2, 3], "1"), ("add", [2 ** 32 - 2, 3], "1"), ("eq", [2 ** 32 - 2, 1], "0 1 1"),
+           ("eq", [2 ** 32 - 3, 2 ** 32 - 3], "1 0 1"), ("ahead_of", [1, 2 ** 32 - 2], "3"),
+           ("is_before", [2 ** 32 - 2, 1], "1"), ("is_before", [1, 2 ** 32 - 2], "0")]
+
+# Calls on moments and on lengths: the table of the model, the call, its numbers, and how its reply begins.
+LEAST, MOST, LONGEST = -2 ** 63, 2 ** 63 - 1, 2 ** 64 - 1
+TIMES = [
+    ("Duration", moments.LENGTHS, [
+        ("from_millis", [4_934], "4934000 "), ("add", [1, 2], "3 "), ("sub", [3, 3], "0 "), ("can_sub", [0, 1_000], "0"),
+        ("can_add", [LONGEST, 1], "0"), ("default", [], "0 "), ("ZERO", [], "0 "), ("MAX", [], f"{LONGEST} "),
+        ("cmp", [0, LONGEST], "less 0 1"), ("cmp", [LONGEST, LONGEST], "equal 1 1"),
+        ("add_assign", [4_000, 6_000], "10000 "), ("sub_assign", [10_000, 3_000], "7000 "),
+        ("fits_secs", [18_446_744_073_709], "1"), ("fits_secs", [18_446_744_073_710], "0"),
+        ("fits_millis", [18_446_744_073_709_551], "1"), ("fits_millis", [18_446_744_073_709_552], "0"),
+        ("from_secs", [18_446_744_073_709], "18446744073709000000 "),
+        ("checked_add", [7, 5], "12 "), ("checked_sub", [7, 5], "2 "), ("checked_sub", [5, 7], "none"),
+        ("saturating_sub", [5, 7], "0 "), ("saturating_add", [5, 7], "12 "), ("checked_sub", [5, 5], "0 "),
+        ("checked_add", [LONGEST, 0], f"{LONGEST} "), ("checked_add", [LONGEST, 1], "none"),
+        ("saturating_add", [LONGEST, 1], f"{LONGEST} "), ("checked_sub", [LONGEST, 1], f"{LONGEST - 1} "),
+        ("saturating_sub", [LONGEST, 1], f"{LONGEST - 1} "), ("checked_add", [1, LONGEST], "none"),
+        ("saturating_add", [1, LONGEST], f"{LONGEST} "), ("checked_sub", [1, LONGEST], "none"),
+        ("saturating_sub", [1, LONGEST], "0 ")]),
+    ("Duration", moments.FACTORS, [
+        ("div", [53_000, 4], "13250 "), ("mul", [13_000, 22], "286000 "), ("can_mul", [LONGEST, 1], "1"),
+        ("can_mul", [LONGEST, 2], "0"), ("mul_assign", [7_000, 6], "42000 "), ("div_assign", [42_000, 2], "21000 "),
+        ("checked_mul", [53, 4], "212 "), ("checked_mul", [53, 0], "0 "), ("checked_mul", [LONGEST, 1], f"{LONGEST} "),
+        ("checked_mul", [LONGEST, 2], "none"), ("saturating_mul", [LONGEST, 2], f"{LONGEST} "),
+        ("checked_mul", [1 << 32, 4_294_967_295], f"{(1 << 32) * 4_294_967_295} "),
+        ("checked_mul", [(1 << 32) + 2, 4_294_967_295], "none"),
+        ("saturating_mul", [(1 << 32) + 2, 4_294_967_295], f"{LONGEST} "), ("checked_div", [53, 4], "13 "),
+        ("checked_div", [53, 0], "none"), ("checked_div", [LONGEST, 2], f"{LONGEST // 2} "),
+        ("checked_div", [1 << 32, 4_294_967_295], "1 "), ("checked_div", [(1 << 32) + 2, 4_294_967_295], "1 ")]),
+    ("Duration", moments.SHIFTS, [
+        ("shl", [LONGEST, 1], "18446744073709551614 "), ("shr", [LONGEST, 63], "1 "),
+        ("shl_assign", [21_000, 2], "84000 "), ("shr_assign", [84_000, 1], "42000 ")]),
+    ("Duration", moments.CORES, [
+        ("fits_core", [18_446_744_073_709, 551_615_999], "1"), ("fits_core", [18_446_744_073_709, 551_616_000], "0"),
+        ("from_core", [18_446_744_073_709, 551_615_999], f"{LONGEST} "), ("from_core", [1, 999], "1000000 "),
+        ("from_core", [4, 934_000_000], "4934000 "), ("into_core", [4_934_000], "4 934000000")]),
+    ("Instant", moments.MOMENTS, [
+        ("from_millis", [5_674], "5674000 "), ("from_millis_const", [-5], "-5000 "),
+        ("from_millis_const", [-1_500], "-1500000 "), ("fits_millis", [-5], "1"), ("fits_secs", [-9_223_372_036_854], "1"),
+        ("fits_secs", [-9_223_372_036_855], "0"), ("from_secs", [-3], "-3000000 "), ("ZERO", [], "0 "),
+        ("from_micros", [LEAST], f"{LEAST} "), ("from_micros_const", [MOST], f"{MOST} "), ("cmp", [0, MOST], "less 0 1"),
+        ("cmp", [-1_000, 0], "less 0 1"), ("cmp", [1_000_000, 1_000_000], "equal 1 1"),
+        ("since", [MOST, LEAST], f"{LONGEST} "), ("since", [LEAST, MOST], f"{LONGEST} ")]),
+    ("Instant", moments.MOVES, [
+        ("can_add", [LEAST, LONGEST], "1"), ("add", [LEAST, LONGEST], f"{MOST} "), ("can_sub", [MOST, LONGEST], "1"),
+        ("sub", [MOST, LONGEST], f"{LEAST} "), ("can_sub", [LEAST, 1], "0"), ("can_add", [0, LONGEST], "0"),
+        ("sub", [7_000, 5_000], "2000 "), ("add_assign", [4_000, 6_000], "10000 "),
+        ("sub_assign", [10_000, 11_000], "-1000 "), ("checked_add", [5, 7], "12 "), ("checked_sub", [5, 7], "-2 "),
+        ("checked_add", [-5, 7], "2 "), ("checked_sub", [-5, 7], "-12 "), ("checked_add", [MOST, 1], "none"),
+        ("saturating_add", [MOST, 1], f"{MOST} "), ("checked_sub", [MOST, 1], f"{MOST - 1} "),
+        ("checked_add", [LEAST, 1], f"{LEAST + 1} "), ("checked_sub", [LEAST, 1], "none"),
+        ("saturating_sub", [LEAST, 1], f"{LEAST} "), ("checked_add", [MOST, LONGEST], "none"),
+        ("checked_sub", [MOST, LONGEST], f"{LEAST} "), ("checked_add", [LEAST, LONGEST], f"{MOST} "),
+        ("saturating_sub", [LEAST, LONGEST], f"{LEAST} "), ("checked_sub", [0, LONGEST], "none"),
+        ("saturating_sub", [0, LONGEST], f"{LEAST} "), ("saturating_add", [0, LONGEST], f"{MOST} ")]),
+]
 
 # Texts of moments and lengths.
 MOMENTS = [(74_000, "0.074s"), (5_674_000, "5.674s"), (5_000_000, "5.000s"), (-5_000, "0.0-5s"),
@@ -152,6 +235,7 @@ MOMENTS = [(74_000, "0.074s"), (5_674_000, "5.674s"), (5_000_000, "5.000s"), (-5
 
 # Calls on a generator of a seed.
 DRAWS = [(0, "rand_u16: 3; rand_u16: 1358"), (1, "rand_u16: 49741"), (0, "rand_source_port: 1358"),
+         (0, "rand_u16: 3; rand_u32: 4260165794"), (0, "rand_source_port: 1358; rand_u32:"),
          (1, "rand_source_port: 49741"), (0, "rand_u32: 3; rand_u32: 4260165794"), (1, "rand_u32: 788327601")]
 
 # The words of a mode, its lines, and what is written, with how it ends.
@@ -332,10 +416,14 @@ def add(cases):
         text = text.replace("FILL", fill)
         play(cases, f"assembler {most}", subject, text, lambda name, numbers: getattr(subject, name)(*numbers))
         agree(text, subject.runs, str(runs))
+    add_ranges(cases)
+    add_shown(cases)
     for capacity, first, text in RECEIVERS:
         subject = receiver.Pair(capacity, 4, first)
         play(cases, f"receiver {capacity} 4 {first}", subject, text,
              lambda name, numbers: getattr(subject, name)(*numbers))
+    add_schedules(cases)
+    add_pairs(cases)
     for seed, text in DRAWS:
         subject = small.Generator(seed)
         play(cases, f"rand {seed}", subject, text, lambda name, numbers: getattr(subject, name)())
@@ -343,8 +431,88 @@ def add(cases):
     add_lines(cases)
 
 
+def add_ranges(cases):
+    """The ranges, one after another, by both calls and in assemblers of three sizes."""
+    for most in (1, 4, 32):
+        for name in ("add", "add_then_remove_front"):
+            subject = assembler.Assembler(most)
+            cases.begin(f"assembler {most}", subject.show())
+            for numbers in RANGES:
+                assembler.add(cases, subject, name, numbers)
+
+
+def add_shown(cases):
+    """Sets whose texts are long, or made under each width, or of numbers of each length."""
+    for runs, _ in SETS[-2:]:
+        play_all(cases, 32, [("add", [start, end - start]) for start, end in runs])
+    play_all(cases, 100, [("add", [5 * number + 3, 2]) for number in range(40)])
+    play_all(cases, 4, [("add", [5 * number + 3, 2]) for number in range(3)]
+             + [("text", [width]) for width in (*range(300), 65535)])
+    numbers = [10 ** power for power in range(1, 20)] + [2 ** power for power in range(63)]
+    play_all(cases, 1, [call for number in numbers
+                        for call in (("add", [number, 1]), ("clear", []), ("add", [7, number]), ("clear", []))])
+
+
+def play_all(cases, most, calls):
+    """Calls of an assembler of so many runs."""
+    subject = assembler.Assembler(most)
+    cases.begin(f"assembler {most}", subject.show())
+    for name, numbers in calls:
+        assembler.add(cases, subject, name, numbers)
+
+
+def add_schedules(cases):
+    """The rows of receivers of segments and reads alone, by one call of `replay`."""
+    kinds = {"segment": 0, "read": 1, "execute": 2}
+    for capacity, first, text in RECEIVERS:
+        calls = list(rows_of(text))
+        if any(name not in kinds or begins == "forbidden" for name, _, begins in calls):
+            continue
+        commands = [([0, *numbers] if name == "segment" else [kinds[name], numbers[0], 0, 0])
+                    for name, numbers, _ in calls]
+        subject = receiver.Pair(capacity, 4, first)
+        cases.begin(f"receiver {capacity} 4 {first}", subject.show())
+        for part in (commands[:2], commands[2:]):
+            receiver.add(cases, subject, "replay", [number for command in part for number in command])
+    hold_and_send(cases, 64, range(0, 64, 7), False)
+    hold_and_send(cases, 16, range(0, 48, 7), True)
+
+
+def hold_and_send(cases, capacity, starts, reads):
+    """Four held runs of a byte, and then a stream in pieces of seven bytes."""
+    subject = receiver.Pair(capacity, 4, 0)
+    cases.begin(f"receiver {capacity} 4 0", subject.show())
+    for pos in (1, 3, 5, 7):
+        receiver.add(cases, subject, "segment", [pos, 1, pos])
+    for start in starts:
+        receiver.add(cases, subject, "segment", [start, min(7, starts.stop - start), start])
+        if reads:
+            receiver.add(cases, subject, "read", [7, 0])
+    agree("a stream in pieces", subject.now.next, str(starts.stop))
+
+
+def add_pairs(cases):
+    for one, other, same in PAIRS:
+        subject = receiver.Pair(16, 4, 0)
+        cases.begin("receiver 16 4 0", subject.show())
+        for text in (one, other):
+            for name, numbers, _ in rows_of(text) if text else []:
+                receiver.add(cases, subject, name, numbers)
+            receiver.add(cases, subject, "swap", [])
+        agree(f"{one}, {other}", subject.same_state(), same)
+        receiver.add(cases, subject, "same_state", [])
+
+
 def add_values(cases):
     cases.begin("times")
+    for name, numbers, reply in NUMBERS:
+        agree(name, receiver.number_reply(name, numbers), reply)
+        cases.add(f"SequenceNumber::{name}", numbers, receiver.number_reply(name, numbers))
+    for of_type, table, calls in TIMES:
+        for name, numbers, begins in calls:
+            reply = table[name](*numbers)
+            agree(f"{of_type}::{name} {numbers}", reply, begins)
+            cases.add(f"{of_type}::{name}", numbers, reply)
     for own, initial, near, pos in POSITIONS:
         agree("position", receiver.position_of(own, initial, near), pos)
         cases.add("SequenceNumber::position", [own, initial, near], pos)
@@ -355,6 +523,9 @@ def add_values(cases):
         agree("text", moments.text_of(micros), text)
         name = "Duration" if micros > moments.LAST else "Instant"
         cases.add(name, [micros, 9], moments.text(micros, 9))
+    for millis in range(1_000):
+        cases.add("Duration", [millis * 1_000, 12], moments.text(millis * 1_000, 12))
+        cases.add("Instant", [-millis * 1_000, 30], moments.text(-millis * 1_000, 30))
 
 
 def add_lines(cases):

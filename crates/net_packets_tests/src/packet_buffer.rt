@@ -1,210 +1,47 @@
-//! Tables of calls with their results, and headers that are dropped.
-mod steps;
-
+//! What rows of calls and replies don't say: storage that is lent, closures that mustn't run, and headers that
+//! are dropped.
 use crate::counted::Counted;
 use net_packets::{PacketBuffer, PacketMetadata};
-use net_ring::ManagedSlice;
+use net_ring::{Empty, Full, ManagedSlice};
 use std::cell::Cell;
 use std::test::Fail;
-use steps::{Step, first_difference};
 
-/// Returns the index of the first step that goes otherwise than expected, if there is one, from a
-/// queue with 4 slots, 16 bytes and no packets on.
-fn difference_from_empty(steps: &[Step<'_>]) -> Option<usize> {
+/// Returns whether bytes go in, and come out as they were.
+fn goes_in_and_out(queue: &mut PacketBuffer<'_, u8>, text: &[u8; 6]) -> bool {
+    let mut out = [0u8; 6];
+    queue.push_slice(7, text).is_ok() && queue.pop_slice(&mut out) == Ok((7, 6)) && out == *text
+}
+
+/// Returns whether `enqueue_with_infallible` of so many bytes is refused and its closure isn't called.
+fn refuses_closure(queue: &mut PacketBuffer<'_, u8>, size: usize) -> bool {
+    let called = Cell::new(false);
+    let result = queue.enqueue_with_infallible(size, 0, |_| {
+        called.set(true);
+        0
+    });
+    result == Err(Full) && !called.get()
+}
+
+/// Returns whether `dequeue_with` is refused and its closure isn't called.
+fn hands_nothing(queue: &mut PacketBuffer<'_, u8>) -> bool {
+    let called = Cell::new(false);
+    let result = queue.dequeue_with(|_, _| -> Result<(), ()> {
+        called.set(true);
+        Ok(())
+    });
+    result == Err(Empty) && !called.get()
+}
+
+#[test]
+fn refusals_run_no_closure(rt: HostRuntime) {
     let mut slots = [PacketMetadata::<u8>::EMPTY; 4];
     let mut bytes = [0u8; 16];
     let mut queue = PacketBuffer::<u8>::new(
         ManagedSlice::Borrowed(&mut slots),
         ManagedSlice::Borrowed(&mut bytes),
     );
-    first_difference(&mut queue, steps)
-}
-
-#[test]
-fn bytes_come_out_as_they_were_written(rt: HostRuntime) -> Result<(), Fail> {
-    let steps = [
-        Step::NoPackets,
-        Step::Write(0, b"abcdef"),
-        Step::Refused(16),
-        Step::Slots(1),
-        Step::Peek(0, b"abcdef"),
-        Step::Read(0, b"abcdef"),
-        Step::NoPackets,
-    ];
-    assert_eq!(rt; difference_from_empty(&steps), None);
-    Ok(())
-}
-
-#[test]
-fn sizes_that_fit_and_sizes_that_do_not(rt: HostRuntime) -> Result<(), Fail> {
-    let steps = [
-        Step::Capacities(4, 16),
-        Step::Fits(4),
-        Step::Fits(8),
-        Step::Off(4),
-        Step::Refused(8),
-        Step::Slots(1),
-        Step::Reset,
-        Step::Fits(15),
-        Step::Off(15),
-        Step::Fits(16),
-        Step::Reset,
-        Step::Refused(32),
-        Step::Fits(1),
-        Step::Fits(1),
-        Step::Fits(1),
-        Step::Fits(1),
-        Step::IsEmptyIsFull(false, true),
-        Step::Refused(1),
-        Step::Reset,
-        Step::Fits(6),
-        Step::Reset,
-        Step::IsEmptyIsFull(true, false),
-        Step::Fits(16),
-        Step::Reset,
-        Step::Fits(12),
-        Step::Off(12),
-        Step::Fits(12),
-        Step::Reset,
-        Step::Fits(4),
-        Step::Off(4),
-        Step::Fits(5),
-    ];
-    assert_eq!(rt; difference_from_empty(&steps), None);
-    Ok(())
-}
-
-#[test]
-fn a_gap_goes_before_its_packet(rt: HostRuntime) -> Result<(), Fail> {
-    let steps = [
-        Step::Fits(6),
-        Step::Fits(8),
-        Step::Off(6),
-        Step::Write(0, b"abcd"),
-        Step::Slots(3),
-        Step::Bytes(14),
-        Step::Off(8),
-        Step::Slots(2),
-        Step::Bytes(6),
-        Step::Peek(0, b"abcd"),
-        Step::Slots(1),
-        Step::Bytes(4),
-        Step::Read(0, b"abcd"),
-        Step::Slots(0),
-    ];
-    assert_eq!(rt; difference_from_empty(&steps), None);
-    Ok(())
-}
-
-#[test]
-fn a_refused_packet_stays_and_its_gap_goes(rt: HostRuntime) -> Result<(), Fail> {
-    let steps = [
-        Step::Fits(6),
-        Step::Fits(8),
-        Step::Off(6),
-        Step::Write(0, b"abcd"),
-        Step::Slots(3),
-        Step::Off(8),
-        Step::Return(0, b'a'),
-        Step::Slots(1),
-        Step::ReadWith(b"abcd"),
-        Step::Slots(0),
-    ];
-    assert_eq!(rt; difference_from_empty(&steps), None);
-    Ok(())
-}
-
-#[test]
-fn what_a_refusing_closure_wrote_stays(rt: HostRuntime) -> Result<(), Fail> {
-    let steps = [
-        Step::Write(7, b"ab"),
-        Step::Return(9, b'x'),
-        Step::Peek(9, b"xb"),
-        Step::Slots(1),
-        Step::Bytes(2),
-        Step::Read(9, b"xb"),
-    ];
-    assert_eq!(rt; difference_from_empty(&steps), None);
-    Ok(())
-}
-
-#[test]
-fn a_full_queue_runs_no_closure_and_stays(rt: HostRuntime) -> Result<(), Fail> {
-    let steps = [
-        Step::Fits(12),
-        Step::Fits(1),
-        Step::Fits(1),
-        Step::Fits(1),
-        Step::Off(12),
-        Step::RefusedWith(5),
-        Step::Slots(3),
-        Step::Bytes(3),
-        Step::Fits(1),
-    ];
-    assert_eq!(rt; difference_from_empty(&steps), None);
-    Ok(())
-}
-
-#[test]
-fn a_closure_keeps_fewer_bytes_than_were_placed(rt: HostRuntime) -> Result<(), Fail> {
-    let steps = [
-        Step::Fits(15),
-        Step::Off(15),
-        Step::WriteWith(16, 2),
-        Step::Fits(0),
-        Step::Off(2),
-        Step::Off(0),
-    ];
-    assert_eq!(rt; difference_from_empty(&steps), None);
-    Ok(())
-}
-
-#[test]
-fn packets_of_no_bytes_are_held(rt: HostRuntime) -> Result<(), Fail> {
-    let steps = [
-        Step::Fits(10),
-        Step::Fits(4),
-        Step::Off(10),
-        Step::WriteWith(5, 0),
-        Step::Slots(3),
-        Step::Bytes(6),
-        Step::Off(4),
-        Step::Peek(0, b""),
-        Step::Slots(1),
-        Step::Bytes(0),
-        Step::Off(0),
-        Step::NoPackets,
-    ];
-    assert_eq!(rt; difference_from_empty(&steps), None);
-    Ok(())
-}
-
-#[test]
-fn a_queue_without_bytes_holds_packets_of_none(rt: HostRuntime) -> Result<(), Fail> {
-    let mut slots = [PacketMetadata::<u8>::EMPTY; 2];
-    let mut bytes = [0u8; 0];
-    let mut queue = PacketBuffer::<u8>::new(
-        ManagedSlice::Borrowed(&mut slots),
-        ManagedSlice::Borrowed(&mut bytes),
-    );
-    let steps = [
-        Step::Fits(0),
-        Step::Refused(1),
-        Step::Fits(0),
-        Step::Refused(0),
-    ];
-    assert_eq!(rt; first_difference(&mut queue, &steps), None);
-    Ok(())
-}
-
-#[test]
-fn the_two_steps_put_and_take(rt: HostRuntime) -> Result<(), Fail> {
-    let slots = [PacketMetadata::<u8>::EMPTY; 2].to_vec(rt.alloc())?;
-    let bytes = [0u8; 4].to_vec(rt.alloc())?;
-    let mut queue = PacketBuffer::<u8>::new(ManagedSlice::Owned(slots), ManagedSlice::Owned(bytes));
-    let steps = [Step::Place(5, b"ab"), Step::Take(5, b"ab"), Step::NoPackets];
-    assert_eq!(rt; first_difference(&mut queue, &steps), None);
-    Ok(())
+    assert!(rt; hands_nothing(&mut queue) && refuses_closure(&mut queue, 17));
+    assert!(rt; goes_in_and_out(&mut queue, b"abcdef") && hands_nothing(&mut queue));
 }
 
 /// Returns whether `place` refuses a packet of so many bytes.
@@ -298,19 +135,5 @@ fn each_header_is_dropped(rt: HostRuntime) -> Result<(), Fail> {
     let drops = Cell::new(0u32);
     assert!(rt; headers_come_and_go(&drops));
     assert_eq!(rt; drops.get(), 14);
-    Ok(())
-}
-
-#[test]
-fn slices_go_in_and_come_out(rt: HostRuntime) -> Result<(), Fail> {
-    let steps = [
-        Step::Push(7, b"abcdefghijklmno", true),
-        Step::Push(8, b"de", false),
-        Step::Pop(7, 2, b"ab"),
-        Step::NoPackets,
-        Step::Push(9, b"fg", true),
-        Step::Pop(9, 2, b"fg\0"),
-    ];
-    assert_eq!(rt; difference_from_empty(&steps), None);
     Ok(())
 }

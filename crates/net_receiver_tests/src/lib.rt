@@ -10,5 +10,3 @@ mod assertions;
 mod receiver;
 #[cfg(test)]
 mod schedule;
-#[cfg(test)]
-mod sequence_number;

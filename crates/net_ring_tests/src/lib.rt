@@ -9,10 +9,6 @@ mod counted;
 #[cfg(test)]
 mod drops;
 #[cfg(test)]
-mod error;
-#[cfg(test)]
 mod managed;
 #[cfg(test)]
 mod ring_buffer;
-#[cfg(test)]
-mod text;

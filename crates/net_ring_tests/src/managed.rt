@@ -1,6 +1,5 @@
-//! Both forms of storage, at a concrete type.
+//! Storage that is lent, at a concrete type. Rows of `net_cases` show storage that is owned.
 use net_ring::{Elements, ManagedSlice};
-use std::test::Fail;
 
 /// Turns the elements of a storage round, and returns whether they are as many as these, and then
 /// these.
@@ -45,11 +44,4 @@ fn lent_storage_shows_its_elements(rt: HostRuntime) {
     let mut buffer = [1u8, 2, 3];
     let mut lent = ManagedSlice::from(buffer.as_mut_slice());
     assert!(rt; turns_into(&mut lent, &[3, 2, 1]) && shows_and_writes_parts(&mut lent));
-}
-
-#[test]
-fn owned_storage_shows_its_elements(rt: HostRuntime) -> Result<(), Fail> {
-    let mut owned = ManagedSlice::from([1u8, 2, 3].to_vec(rt.alloc())?);
-    assert!(rt; turns_into(&mut owned, &[3, 2, 1]) && shows_and_writes_parts(&mut owned));
-    Ok(())
 }

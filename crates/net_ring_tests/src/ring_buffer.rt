@@ -1,149 +1,77 @@
-//! Worked values as tables, each public call at a concrete type, and refusals that call no closure.
+//! What rows of calls and replies don't say: storage that is lent, elements without a size, closures that
+//! mustn't run, and callers that are proved from contracts alone.
 ghost use Rattle.std.specs.Prelude.{◌≡◌};
 
 mod callers;
-mod steps;
 
 use callers::{
     Duplex, dequeue_one_byte, enqueue_one_byte, room_of_slice, room_of_vector, write_and_enqueue,
     write_and_refuse,
 };
-use net_ring::{Empty, ManagedSlice, Resettable, Ring, RingBuffer};
-use std::process::Abort;
+use net_ring::{Empty, Full, ManagedSlice, RingBuffer};
+use std::cell::Cell;
 use std::test::Fail;
-use steps::{Step, run};
 
-/// Runs the steps over an empty ring of elements that are lent.
-fn run_over(rt: &impl Abort, elements: &mut [u8], steps: &[Step<'_>]) -> Result<(), Fail> {
-    run(rt, &mut RingBuffer::from(elements), steps)
-}
-
-#[test]
-fn slices_wrap_at_the_end(rt: HostRuntime) -> Result<(), Fail> {
-    let steps = [
-        Step::IsEmpty(true),
-        Step::EnqueueSlice(b"abcdefghijkl", 12),
-        Step::IsFull(true),
-        Step::DequeueSlice(8, b"abcdefgh"),
-        Step::Len(4),
-        Step::EnqueueSlice(b"abcd", 4),
-        Step::DequeueSlice(8, b"ijklabcd"),
-        Step::Len(0),
-    ];
-    run_over(&rt, &mut [0; 12], &steps)
-}
-
-#[test]
-fn reading_the_queue_wraps_at_the_end(rt: HostRuntime) -> Result<(), Fail> {
-    let steps = [
-        Step::EnqueueMany(12, 12, b"abcdefghijkl"),
-        Step::DequeueMany(6, 6),
-        Step::EnqueueMany(3, 3, b"mno"),
-        Step::ReadAllocated(3, 6, b"jklmno"),
-        Step::ReadAllocated(6, 3, b"mno\0\0\0"),
-        Step::Len(9),
-    ];
-    run_over(&rt, &mut [0; 12], &steps)
-}
-
-#[test]
-fn writing_free_elements_wraps_at_the_end(rt: HostRuntime) -> Result<(), Fail> {
-    let steps = [
-        Step::EnqueueMany(6, 6, b""),
-        Step::DequeueMany(6, 6),
-        Step::WriteUnallocated(0, b"ghi", 3),
-        Step::WriteUnallocated(3, b"jklmno", 6),
-        Step::GetUnallocated(3, 3, b"jkl"),
-        Step::WriteUnallocated(9, b"pqrstu", 3),
-        Step::GetUnallocated(9, 3, b"pqr"),
-        Step::Len(0),
-    ];
-    run_over(&rt, &mut [0; 12], &steps)
+/// Returns whether a ring of twelve elements lends eight, then four, and then none.
+fn lends_eight_and_four(ring: &mut RingBuffer<'_, u8>) -> bool {
+    let first = ring.enqueue_many(8).len() == 8;
+    let second = ring.enqueue_many(8).len() == 4;
+    first && second && ring.enqueue_many(8).is_empty()
 }
 
 #[test]
 fn lent_and_owned_storage_are_alike(rt: HostRuntime) -> Result<(), Fail> {
-    let steps = [
-        Step::EnqueueMany(8, 8, b""),
-        Step::EnqueueMany(8, 4, b""),
-        Step::Len(12),
-    ];
-    run_over(&rt, &mut [0; 12], &steps)?;
     let vector = [0u8; 12].to_vec(rt.alloc())?;
-    run(&rt, &mut RingBuffer::from(vector), &steps)?;
+    assert!(rt; lends_eight_and_four(&mut RingBuffer::from(vector)));
     let storage = ManagedSlice::from([0u8; 12].to_vec(rt.alloc())?);
-    run(&rt, &mut RingBuffer::from(storage), &steps)?;
-    run(&rt, &mut RingBuffer::from(&mut [0u8; 12]), &steps)
+    assert!(rt; lends_eight_and_four(&mut RingBuffer::from(storage)));
+    assert!(rt; lends_eight_and_four(&mut RingBuffer::from(&mut [0u8; 12])));
+    assert!(rt; lends_eight_and_four(&mut RingBuffer::from([0u8; 12].as_mut_slice())));
+    Ok(())
+}
+
+/// Returns whether the head of a ring is these elements.
+fn heads(ring: &RingBuffer<'_, u8>, shown: &[u8]) -> bool {
+    *ring.head() == *shown
+}
+
+/// Enqueues the elements alone and dequeues them, and returns whether they are then lent by `get_freed`.
+fn frees(ring: &mut RingBuffer<'_, u8>, data: &[u8]) -> bool {
+    ring.clear();
+    let count = ring.enqueue_slice(data);
+    ring.dequeue_allocated(count);
+    count == data.len() && *ring.get_freed(count) == *data
+}
+
+/// Takes so many elements off, and returns whether there were as many in a row.
+fn takes_off(ring: &mut RingBuffer<'_, u8>, count: usize) -> bool {
+    ring.dequeue_many(count).len() == count
+}
+
+/// Returns whether the head of a ring of four is its oldest element, whatever `restart` does. One element is
+/// left, at the storage's beginning.
+fn keeps_its_head(ring: &mut RingBuffer<'_, u8>) -> bool {
+    let none = heads(ring, b"") && ring.enqueue_slice(b"abcd") == 4;
+    let third = takes_off(ring, 2) && heads(ring, b"c");
+    ring.restart();
+    let same = heads(ring, b"c") && ring.enqueue_slice(b"e") == 1;
+    none && third && same && takes_off(ring, 2) && heads(ring, b"e")
+}
+
+/// Returns whether a ring of four, once that element is off, is read from the storage's beginning on behind
+/// `restart` alone.
+fn restarts(ring: &mut RingBuffer<'_, u8>) -> bool {
+    let apart = takes_off(ring, 1) && ring.contiguous_window() == 3;
+    ring.restart();
+    apart && ring.contiguous_window() == 4
 }
 
 #[test]
-fn the_queue_is_shown_up_to_the_end(rt: HostRuntime) -> Result<(), Fail> {
-    let steps = [
-        Step::EnqueueSlice(b"abcd", 4),
-        Step::EnqueueSlice(b"efghijkl", 8),
-        Step::DequeueMany(4, 4),
-        Step::GetAllocated(4, 8, b"ijkl"),
-        Step::AsSlices(b"efghijkl", b""),
-        Step::EnqueueSlice(b"abcd", 4),
-        Step::GetAllocated(4, 8, b"ijkl"),
-        Step::FillAllocated(6, 8, 2, b"xyz"),
-        Step::GetAllocated(4, 8, b"ijxy"),
-        Step::AsSlices(b"efghijxy", b"abcd"),
-    ];
-    run_over(&rt, &mut [0; 12], &steps)
-}
-
-#[test]
-fn a_ring_over_an_empty_slice(rt: HostRuntime) -> Result<(), Fail> {
-    let steps = [
-        Step::GetUnallocated(0, 0, b""),
-        Step::GetAllocated(0, 0, b""),
-        Step::DequeueAllocated(0),
-        Step::EnqueueMany(0, 0, b""),
-        Step::EnqueueOne(None, 0),
-        Step::ContiguousWindow(0),
-        Step::Capacity(0),
-    ];
-    run_over(&rt, &mut [], &steps)
-}
-
-#[test]
-fn an_empty_ring_starts_again(rt: HostRuntime) -> Result<(), Fail> {
-    let steps = [
-        Step::EnqueueMany(2, 2, b""),
-        Step::EnqueueMany(2, 2, b""),
-        Step::DequeueMany(4, 4),
-        Step::EnqueueMany(8, 8, b""),
-        Step::Clear,
-        Step::EnqueueMany(4, 4, b""),
-        Step::DequeueMany(4, 4),
-        Step::ContiguousWindow(4),
-        Step::EnqueueMany(8, 8, b""),
-    ];
-    run_over(&rt, &mut [0; 8], &steps)
-}
-
-#[test]
-fn the_head_is_shown_and_what_left_is_lent_again(rt: HostRuntime) -> Result<(), Fail> {
-    let steps = [
-        Step::Head(b""),
-        Step::EnqueueSlice(b"abcd", 4),
-        Step::DequeueMany(2, 2),
-        Step::Head(b"c"),
-        Step::Restart,
-        Step::EnqueueSlice(b"e", 1),
-        Step::GetAllocated(0, 4, b"cd"),
-        Step::DequeueMany(2, 2),
-        Step::Head(b"e"),
-        Step::DequeueMany(1, 1),
-        Step::ContiguousWindow(3),
-        Step::Restart,
-        Step::ContiguousWindow(4),
-        Step::GetFreed(b"xyz"),
-        Step::GetFreed(b"vxyz"),
-        Step::GetFreed(b""),
-    ];
-    run_over(&rt, &mut [0; 4], &steps)
+fn the_head_is_shown_and_what_left_is_lent_again(rt: HostRuntime) {
+    let mut buffer = [0u8; 4];
+    let mut ring = RingBuffer::from(&mut buffer);
+    assert!(rt; keeps_its_head(&mut ring) && restarts(&mut ring));
+    assert!(rt; frees(&mut ring, b"xyz") && frees(&mut ring, b"vxyz") && frees(&mut ring, b""));
 }
 
 /// Returns whether `enqueue_many` of five elements that have no size enqueues so many.
@@ -181,169 +109,32 @@ fn zero_sized_elements(rt: HostRuntime) {
     assert!(rt; has_units(&ring, 3, 0));
 }
 
-#[test]
-fn closures_count_what_they_enqueue(rt: HostRuntime) -> Result<(), Fail> {
-    let steps = [
-        Step::EnqueueManyWith(b"ab", 2, 12),
-        Step::EnqueueManyWith(b"cdXX", 2, 10),
-        Step::EnqueueManyWith(b"efgh", 4, 8),
-        Step::DequeueShown(4, b"abcd"),
-        Step::EnqueueManyWith(b"ijkl", 4, 4),
-        Step::EnqueueManyWith(b"abcd", 4, 4),
-        Step::GetAllocated(0, 12, b"efghijkl"),
-        Step::GetAllocated(8, 4, b"abcd"),
-    ];
-    run_over(&rt, &mut [0; 12], &steps)
+/// Returns whether `enqueue_one_with` is refused and its closure isn't called.
+fn refuses_next(ring: &mut RingBuffer<'_, u8>) -> bool {
+    let called = Cell::new(false);
+    let result = ring.enqueue_one_with(|_| {
+        called.set(true);
+        Result::<(), ()>::Ok(())
+    });
+    result == Err(Full) && !called.get()
+}
+
+/// Returns whether `dequeue_one_with` is refused and its closure isn't called.
+fn refuses_first(ring: &mut RingBuffer<'_, u8>) -> bool {
+    let called = Cell::new(false);
+    let result = ring.dequeue_one_with(|_| {
+        called.set(true);
+        Result::<(), ()>::Ok(())
+    });
+    result == Err(Empty) && !called.get()
 }
 
 #[test]
-fn free_elements_keep_what_was_written_ahead(rt: HostRuntime) -> Result<(), Fail> {
-    let steps = [
-        Step::GetUnallocated(16, 4, b""),
-        Step::FillUnallocated(0, 4, 4, b"abcd"),
-        Step::EnqueueAsIs(4, b"abcd"),
-        Step::FillUnallocated(4, 8, 4, b"ijkl"),
-        Step::EnqueueAsIs(8, b"....ijkl"),
-    ];
-    run_over(&rt, &mut [b'.'; 12], &steps)
-}
-
-#[test]
-fn what_a_refusing_closure_wrote_stays_free(rt: HostRuntime) -> Result<(), Fail> {
-    let steps = [
-        Step::EnqueueOneWith(Some(0), 7, false),
-        Step::Len(0),
-        Step::GetUnallocated(0, 1, &[7]),
-        Step::DequeueOne(None, 0),
-        Step::EnqueueOneWith(Some(7), 7, true),
-        Step::Len(1),
-    ];
-    run_over(&rt, &mut [0; 2], &steps)
-}
-
-#[test]
-fn what_a_refusing_closure_wrote_stays_queued(rt: HostRuntime) -> Result<(), Fail> {
-    let steps = [
-        Step::EnqueueSlice(b"ab", 2),
-        Step::DequeueOneWith(Some(b'a'), b'z', false),
-        Step::Len(2),
-        Step::DequeueSlice(2, b"zb"),
-        Step::EnqueueSlice(b"c", 1),
-        Step::DequeueOneWith(Some(b'c'), b'c', true),
-        Step::Len(0),
-    ];
-    run_over(&rt, &mut [0; 2], &steps)
-}
-
-#[test]
-fn offsets_past_the_end_find_nothing(rt: HostRuntime) -> Result<(), Fail> {
-    let far = 18446744073709551615;
-    let steps = [
-        Step::GetUnallocated(far, 1, b""),
-        Step::WriteUnallocated(far, b"a", 0),
-        Step::EnqueueSlice(b"abc", 3),
-        Step::DequeueMany(2, 2),
-        Step::GetUnallocated(far, 1, b""),
-        Step::WriteUnallocated(far, b"a", 0),
-        Step::GetAllocated(far, far, b""),
-        Step::FillAllocated(far, far, 0, b"a"),
-        Step::ReadAllocated(far, 0, b"\0\0"),
-        Step::GetAllocated(0, far, b"c"),
-    ];
-    run_over(&rt, &mut [0; 4], &steps)
-}
-
-#[test]
-fn bytes_written_ahead_are_enqueued(rt: HostRuntime) -> Result<(), Fail> {
-    let steps = [
-        Step::EnqueueMany(4, 4, b""),
-        Step::DequeueMany(4, 4),
-        Step::WriteUnallocated(0, b"xy", 2),
-        Step::EnqueueUnallocated(2),
-        Step::GetAllocated(0, 2, b"xy"),
-        Step::ContiguousWindow(2),
-    ];
-    run_over(&rt, &mut [0; 8], &steps)
-}
-
-#[test]
-fn enqueuing_moves_the_read_index_of_an_empty_ring(rt: HostRuntime) -> Result<(), Fail> {
-    let steps = [
-        Step::EnqueueMany(4, 4, b""),
-        Step::DequeueMany(4, 4),
-        Step::WriteUnallocated(0, b"xy", 2),
-        Step::EnqueueAsIs(2, b"\0\0"),
-    ];
-    run_over(&rt, &mut [0; 8], &steps)
-}
-
-#[test]
-fn single_elements_are_lent(rt: HostRuntime) -> Result<(), Fail> {
-    let steps = [
-        Step::EnqueueOne(Some(b'.'), b'a'),
-        Step::EnqueueOne(Some(b'.'), b'b'),
-        Step::EnqueueOne(None, b'c'),
-        Step::Window(0),
-        Step::DequeueOne(Some(b'a'), b'z'),
-        Step::GetUnallocated(0, 2, b"z"),
-        Step::DequeueOne(Some(b'b'), b'b'),
-        Step::DequeueOne(None, b'c'),
-    ];
-    run_over(&rt, &mut [b'.'; 2], &steps)
-}
-
-#[derive(Clone, Copy, PartialEq, Eq)]
-struct Slot(u8);
-
-impl Resettable for Slot {
-    ghost IsReset = { λ old new. new.0 ≡ 0 };
-
-    fn reset(&mut self) {
-        self.0 = 0;
-    }
-}
-
-/// Enqueues an element, and returns whether there was room.
-fn enqueues_slot(ring: &mut RingBuffer<'_, Slot>) -> bool {
-    ring.enqueue_one().is_ok()
-}
-
-/// Returns whether a ring's queue is empty, and three free elements are 0.
-fn is_reset(ring: &mut RingBuffer<'_, Slot>) -> bool {
-    ring.is_empty() && *ring.get_unallocated(0, 3) == *[Slot(0); 3].as_slice()
-}
-
-#[test]
-fn every_element_is_reset(rt: HostRuntime) {
-    let mut buffer = [Slot(5); 3];
+fn refusals_run_no_closure(rt: HostRuntime) {
+    let mut buffer = [0u8; 1];
     let mut ring = RingBuffer::from(&mut buffer);
-    let enqueued = enqueues_slot(&mut ring);
-    ring.reset();
-    assert!(rt; enqueued && is_reset(&mut ring));
-}
-
-#[test]
-fn a_closure_may_count_nothing(rt: HostRuntime) -> Result<(), Fail> {
-    let steps = [
-        Step::EnqueueManyWith(b"ab", 0, 4),
-        Step::Len(0),
-        Step::GetUnallocated(0, 2, b"ab"),
-        Step::EnqueueSlice(b"abcd", 4),
-        Step::DequeueManyWith(b"x", 0, 4),
-        Step::DequeueSlice(4, b"xbcd"),
-    ];
-    run_over(&rt, &mut [0; 4], &steps)
-}
-
-#[test]
-fn refusals_run_no_closure(rt: HostRuntime) -> Result<(), Fail> {
-    let steps = [
-        Step::DequeueOneWith(None, 0, true),
-        Step::EnqueueSlice(b"ab", 1),
-        Step::EnqueueOneWith(None, 0, true),
-        Step::DequeueSlice(1, b"a"),
-    ];
-    run_over(&rt, &mut [0; 1], &steps)
+    assert!(rt; refuses_first(&mut ring) && ring.enqueue_slice(b"ab") == 1);
+    assert!(rt; refuses_next(&mut ring) && gives_byte(&mut ring, Ok(b'a')));
 }
 
 /// Returns whether a caller enqueues a byte.
@@ -356,18 +147,26 @@ fn gives_byte(ring: &mut RingBuffer<'_, u8>, wanted: Result<u8, Empty>) -> bool 
     dequeue_one_byte(ring) == wanted
 }
 
+/// Returns whether the first free element is this one.
+fn shows_free(ring: &mut RingBuffer<'_, u8>, byte: u8) -> bool {
+    ring.get_unallocated(0, 1).first() == Some(&byte)
+}
+
+/// Returns whether the queue is three bytes, which are taken off.
+fn gives_three(ring: &mut RingBuffer<'_, u8>, bytes: &[u8; 4]) -> bool {
+    let mut out = [0u8; 4];
+    ring.dequeue_slice(&mut out) == 3 && out == *bytes
+}
+
 #[test]
-fn callers_write_and_read_back(rt: HostRuntime) -> Result<(), Fail> {
+fn callers_write_and_read_back(rt: HostRuntime) {
     let mut buffer = [0; 4];
     let mut ring = RingBuffer::from(&mut buffer);
     assert!(rt; takes_byte(&mut ring, b'a') && takes_byte(&mut ring, b'b'));
     write_and_refuse(&mut ring, b'c');
-    run(&rt, &mut ring, &[Step::GetUnallocated(0, 1, b"c")])?;
-    let written = write_and_enqueue(&mut ring, b"def") == 2;
+    let written = shows_free(&mut ring, b'c') && write_and_enqueue(&mut ring, b"def") == 2;
     assert!(rt; written && !takes_byte(&mut ring, b'g') && gives_byte(&mut ring, Ok(b'a')));
-    run(&rt, &mut ring, &[Step::DequeueSlice(3, b"bde\0")])?;
-    assert!(rt; gives_byte(&mut ring, Err(Empty)));
-    Ok(())
+    assert!(rt; gives_three(&mut ring, b"bde\0") && gives_byte(&mut ring, Err(Empty)));
 }
 
 /// Returns whether so many bytes are taken into zeros, which become these.
