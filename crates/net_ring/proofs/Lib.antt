@@ -6,3 +6,4 @@ pub mod RingParts
 pub mod RingOrder
 pub mod ResetFacts
 mod OneField
+pub mod LastElement

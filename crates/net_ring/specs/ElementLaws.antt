@@ -48,3 +48,9 @@ module _ {T : Type 0} where
       → elements (with_item s i w) ≡ overwrite (elements s) i (w ∷ [])
   item_written (Borrowed s) i w = item_written-list s.now i w
   item_written (Owned v) i w = item_written-list v.items i w
+
+  -- the same, as a list of which one element is set
+  pub item_set : (s : ManagedSlice T) (i : ℕ) (w : T)
+      → elements (with_item s i w) ≡ slice_set (elements s) i w
+  item_set (Borrowed s) i w = refl
+  item_set (Owned v) i w = refl

@@ -1,6 +1,6 @@
 //! Storage that is lent or owned.
 ghost use Rattle.std.specs.Prelude.{◌≡◌, ◌≤◌, ◌<◌, ◌-◌, length, take, drop, ◌∷◌, [], ℕ, List};
-ghost use Rattle.std.specs.Prelude.{slice_set, slice_index_or};
+ghost use Rattle.std.specs.Prelude.{slice_set, slice_get, slice_index_or, Some};
 ghost use Rattle.std.specs.Borrow.{sem, Lends, Array};
 ghost use Rattle.net_ring.specs.Overwrite.{overwrite};
 ghost use Rattle.net_ring.specs.WholeLends.{lends_lent, lends_owned};
@@ -53,6 +53,15 @@ pub trait Elements<T> {
             (with_item self.old at)) }
         ensures value { result.now ≡ slice_index_or (elements self.old) at result.now };
 
+    /// Shows the element at the index `at`.
+    ///
+    /// # Requires
+    ///
+    /// `at` is below `count()`.
+    fn item(&self, at: usize) -> &T
+        requires count { at < length (elements self.now) }
+        ensures { slice_get (elements self.now) at ≡ Some result.now };
+
     // The elements after a list was written over a part.
     ghost part_written: { (s : Self) (i : ℕ) (ws : List T) →
         elements (with_part s i ws) ≡ overwrite (elements s) i ws };
@@ -60,6 +69,10 @@ pub trait Elements<T> {
     // The elements after one was replaced.
     ghost item_written: { (s : Self) (i : ℕ) (w : T) →
         elements (with_item s i w) ≡ overwrite (elements s) i (w ∷ []) };
+
+    // The same, as a list of which one element is set.
+    ghost item_set: { (s : Self) (i : ℕ) (w : T) →
+        elements (with_item s i w) ≡ slice_set (elements s) i w };
 }
 
 impl<'a, T> Elements<T> for &'a mut [T] {
@@ -89,13 +102,21 @@ impl<'a, T> Elements<T> for &'a mut [T] {
         &mut self[at]
     }
 
+    fn item(&self, at: usize) -> &T {
+        let slice = &**self;
+        &slice[at]
+    }
+
     ghost part_written = { λ s i ws. refl };
 
     ghost item_written = { λ s i w. item_written-list s.now i w };
+
+    ghost item_set = { λ s i w. refl };
 }
 
 impl<T> Elements<T> for Vec<T> {
     ghost use Rattle.std.specs.Vec.{with_items_from, with_item};
+    ghost use Rattle.std.specs.Prelude.{refl};
     ghost use Rattle.net_ring.specs.ElementLaws.{vec-part_written, item_written-list};
 
     ghost elements = { λ v. v.items };
@@ -120,9 +141,15 @@ impl<T> Elements<T> for Vec<T> {
         self.index_mut(at)
     }
 
+    fn item(&self, at: usize) -> &T {
+        &self.as_slice()[at]
+    }
+
     ghost part_written = { vec-part_written };
 
     ghost item_written = { λ s i w. item_written-list s.items i w };
+
+    ghost item_set = { λ s i w. refl };
 }
 
 /// Storage of a ring or of a packet queue: lent as a slice, or owned as a vector. So the same code
@@ -137,7 +164,7 @@ pub enum ManagedSlice<'a, T> {
 
 impl<'a, T> Elements<T> for ManagedSlice<'a, T> {
     ghost use Rattle.net_ring.specs.Managed.{elements, with_part, with_item};
-    ghost use Rattle.net_ring.specs.ElementLaws.{part_written, item_written};
+    ghost use Rattle.net_ring.specs.ElementLaws.{part_written, item_written, item_set};
 
     ghost elements = { elements };
 
@@ -173,9 +200,18 @@ impl<'a, T> Elements<T> for ManagedSlice<'a, T> {
         }
     }
 
+    fn item(&self, at: usize) -> &T {
+        match self {
+            ManagedSlice::Borrowed(slice) => slice.item(at),
+            ManagedSlice::Owned(vec) => vec.item(at),
+        }
+    }
+
     ghost part_written = { part_written };
 
     ghost item_written = { item_written };
+
+    ghost item_set = { item_set };
 }
 
 impl<'a, T> From<&'a mut [T]> for ManagedSlice<'a, T> {

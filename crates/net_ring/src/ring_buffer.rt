@@ -11,6 +11,7 @@ use crate::resettable::Resettable;
 use std::marker::{Model, PhantomData};
 
 mod allocated;
+mod ends;
 pub mod laws;
 mod many;
 mod one;
@@ -194,6 +195,7 @@ impl<T, S: Elements<T>> Ring<T, S> {
     pub fn is_empty(&self) -> bool
         ensures count { result ≡ (self.now.count == 0) }
         ensures none_queued { IsTrue result ↔ (queue self.now ≡ []) }
+        ensures sum { self.now.count + window self.now ≡ capacity self.now }
     {
         self.len() == 0
     }
@@ -203,6 +205,7 @@ impl<T, S: Elements<T>> Ring<T, S> {
     pub fn is_full(&self) -> bool
         ensures room { result ≡ (window self.now == 0) }
         ensures none_spare { IsTrue result ↔ (spare self.now ≡ []) }
+        ensures sum { self.now.count + window self.now ≡ capacity self.now }
     {
         // `window() == 0` says the same; this tells the compiler that a ring with room for one more
         // doesn't have the largest length there is, so that one more can't make it 0.

@@ -4,7 +4,7 @@ ghost use Rattle.std.specs.Prelude.{ℕ, List, slice_get, slice_index_or};
 ghost use Rattle.std.specs.Borrow.{sem};
 ghost use Rattle.net_ring.specs.Ring.{ring, queue, queue_index, contiguous_queued_from, with_elements};
 ghost use Rattle.net_ring.specs.Ring.{contiguous_queued, contiguous_queue};
-ghost use Rattle.net_ring.specs.Ring.{with_dequeued, Dequeues, WritesQueue};
+ghost use Rattle.net_ring.specs.Ring.{window, with_dequeued, Dequeues, WritesQueue};
 
 use super::{Ring, Span};
 use crate::managed::Elements;
@@ -125,6 +125,7 @@ impl<T, S: Elements<T>> Ring<T, S> {
         requires len { count ≤ self.old.count }
         ensures ring { self.new ≡ with_dequeued count self.old }
         ensures dequeued { Dequeues self.old count (take count (queue self.old)) self.new }
+        ensures room { window self.new ≡ window self.old + count }
     {
         let next = self.storage_index(count);
         self.read_at = next;

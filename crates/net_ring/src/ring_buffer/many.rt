@@ -2,7 +2,7 @@
 ghost use Rattle.std.specs.Prelude.{◌≡◌, ◌≢◌, ◌<◌, ◌-◌, ◌+◌, length, take, drop, min, List};
 ghost use Rattle.std.specs.Borrow.{sem};
 ghost use Rattle.std.specs.Fn.{FnOnceTakesAtMut};
-ghost use Rattle.net_ring.specs.Ring.{window, queue, spare, write_at, contiguous_window};
+ghost use Rattle.net_ring.specs.Ring.{capacity, window, queue, spare, write_at, contiguous_window};
 ghost use Rattle.net_ring.specs.Ring.{contiguous_queued, contiguous_spare, contiguous_queue};
 ghost use Rattle.net_ring.specs.Ring.{with_elements, with_enqueued, with_dequeued, from_start_if_empty};
 ghost use Rattle.net_ring.specs.Ring.{Enqueues, Dequeues};
@@ -54,6 +54,12 @@ impl<T, S: Elements<T>> Ring<T, S> {
         ensures enqueued { let g = from_start_if_empty self.old in let k = min size (contiguous_window g) in
             (ws : List T) → length ws ≡ k → Enqueues g ws
             (with_elements (with_enqueued k g) (write_at g) ws) }
+        ensures room { let g = from_start_if_empty self.old in let k = min size (contiguous_window g) in
+            (ws : List T) → window (with_elements (with_enqueued k g) (write_at g) ws) + k
+            ≡ window self.old }
+        ensures capacity { let g = from_start_if_empty self.old in let k = min size (contiguous_window g) in
+            (ws : List T) → capacity (with_elements (with_enqueued k g) (write_at g) ws)
+            ≡ capacity self.old }
     {
         self.restart();
         let count = size.min(self.contiguous_window());

@@ -1,8 +1,8 @@
 //! One element at a time.
-ghost use Rattle.std.specs.Prelude.{◌≡◌, ◌≢◌, ◌↔◌, drop, [], ◌∷◌, IsErr, OnErr, IfOk};
+ghost use Rattle.std.specs.Prelude.{◌≡◌, ◌≢◌, ◌↔◌, ◌+◌, drop, [], ◌∷◌, IsErr, OnErr, IfOk};
 ghost use Rattle.std.specs.Borrow.{sem};
 ghost use Rattle.net_ring.specs.Ring.{window, queue, spare, write_at, with_elements, with_enqueued};
-ghost use Rattle.net_ring.specs.Ring.{with_dequeued, Enqueues, Dequeues};
+ghost use Rattle.net_ring.specs.Ring.{with_dequeued, capacity, Enqueues, Dequeues};
 ghost use Rattle.net_ring.specs.RingCalls.{TakesFirstOf, CalledOnNext, CalledOnFirst};
 
 use super::Ring;
@@ -52,6 +52,10 @@ impl<T, S: Elements<T>> Ring<T, S> {
         ensures value { IfOk result (λ r. spare self.old ≡ r.now ∷ drop 1 (spare self.old)) }
         ensures enqueued { window self.old ≢ 0 → (w : T) → Enqueues self.old (w ∷ [])
             (with_elements (with_enqueued 1 self.old) (write_at self.old) (w ∷ [])) }
+        ensures room { window self.old ≢ 0 → (w : T) → window (with_elements
+            (with_enqueued 1 self.old) (write_at self.old) (w ∷ [])) + 1 ≡ window self.old }
+        ensures capacity { window self.old ≢ 0 → (w : T) → capacity (with_elements
+            (with_enqueued 1 self.old) (write_at self.old) (w ∷ [])) ≡ capacity self.old }
     {
         if self.is_full() {
             return Err(Full);
@@ -69,6 +73,10 @@ impl<T, S: Elements<T>> Ring<T, S> {
         ensures value { spare self.old ≡ result.now ∷ drop 1 (spare self.old) }
         ensures enqueued { (w : T) → Enqueues self.old (w ∷ [])
             (with_elements (with_enqueued 1 self.old) (write_at self.old) (w ∷ [])) }
+        ensures room { (w : T) → window (with_elements
+            (with_enqueued 1 self.old) (write_at self.old) (w ∷ [])) + 1 ≡ window self.old }
+        ensures capacity { (w : T) → capacity (with_elements
+            (with_enqueued 1 self.old) (write_at self.old) (w ∷ [])) ≡ capacity self.old }
     {
         let at = self.storage_index(self.length);
         self.length += 1;

@@ -1,11 +1,13 @@
-use Rattle.std.proofs.Common.{◌≡◌, ◌∙◌, refl, ap, min, arith}
-use Rattle.net_ring.specs.Ring.{from_start_if_empty, contiguous_window, storage_index}
-use Rattle.net_ring.proofs.RingFacts.{well, left_in, shown_next, enqueued_law, contiguous_restarted_some}
+use Rattle.std.proofs.Common.{◌≡◌, ◌∙◌, refl, ap, length, min, arith}
+use Rattle.net_ring.specs.Ring.{from_start_if_empty, contiguous_window, storage_index, write_at}
+use Rattle.net_ring.proofs.RingFacts.{well, left_in, shown_next, enqueued_law, contiguous_restarted_some, restarted_is}
+use Rattle.net_ring.proofs.Rotations.{length-overwrite}
 use Rattle.net_ring.proofs.ring_buffer.Ring.enqueue_many.Goals as goal
 
 pub returns : goal.returns
 returns g c =
     let old = from_start_if_empty c.args.self.now in
+    let same = restarted_is c.args.self.now in
     let is = c.self.view_is ∙ c.restart.ensures.ring in
     let k = c.min-count.result in
     let room : c.contiguous_window.result ≡ contiguous_window old = c.contiguous_window.ensures.count ∙ ap contiguous_window is in
@@ -20,5 +22,7 @@ returns g c =
         value = lent.1;
         stored = lent.2;
         enqueued = enqueued_law _ (well _ _ is c.self.invariant) _ (omega arith);
+        room = λ w. (let long = length-overwrite old.storage (write_at old) w in let counts = same.1 in let size = ap length same.2 in omega (arith, long, counts, size));
+        capacity = λ w. length-overwrite old.storage (write_at old) w ∙ ap length same.2;
       },
     )

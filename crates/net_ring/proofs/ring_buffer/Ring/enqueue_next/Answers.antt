@@ -1,6 +1,7 @@
 use Rattle.std.proofs.Common.{◌∷◌, [], ◌∙◌, refl, ap, slice_index_or, arith}
 use Rattle.net_ring.specs.Ring.{write_at}
 use Rattle.net_ring.proofs.RingFacts.{well, left_in, spare_head, enqueued_one}
+use Rattle.net_ring.proofs.Rotations.{length-overwrite}
 use Rattle.net_ring.proofs.ring_buffer.Ring.enqueue_next.Goals as goal
 
 pub returns : goal.returns
@@ -19,5 +20,7 @@ returns g c =
         writes_back = tt;
         value = spare_head _ (well _ _ is c.self.invariant) x here c.requires;
         enqueued = λ w. enqueued_one _ (well _ _ is c.self.invariant) w c.requires;
+        room = λ w. omega (arith, length-overwrite old.storage (write_at old) (w ∷ []), c.requires);
+        capacity = λ w. length-overwrite old.storage (write_at old) (w ∷ []);
       },
     )

@@ -1,0 +1,72 @@
+//! Single elements: the first and the last of the queue, and the one at an index.
+ghost use Rattle.std.specs.Prelude.{◌≡◌, ◌↔◌, ◌+◌, ◌-◌, ◌∷◌, ◌++◌, [], length, slice_get};
+ghost use Rattle.std.specs.Prelude.{IsErr, IsNone, OnErr, OnOk, IfSome, option_copied};
+ghost use Rattle.net_ring.specs.Ring.{ring, capacity, window, queue, spare, write_at, with_elements};
+ghost use Rattle.net_ring.specs.Ring.{with_enqueued};
+
+use super::Ring;
+use crate::error::Full;
+use crate::managed::Elements;
+
+/// One element of the queue is shown. smoltcp has no such calls; std's `VecDeque` has them.
+impl<T, S: Elements<T>> Ring<T, S> {
+    /// Shows the element at an index of the queue, of which 0 is the first one; `None` if the queue
+    /// ends before it.
+    pub fn get(&self, index: usize) -> Option<&T>
+        ensures { option_copied result ≡ slice_get (queue self.now) index }
+    {
+        self.get_allocated(index, 1).first()
+    }
+
+    /// Shows the first element of the queue, the next one to be dequeued; `None` if it is empty.
+    pub fn front(&self) -> Option<&T>
+        ensures { option_copied result ≡ slice_get (queue self.now) 0 }
+    {
+        self.head().first()
+    }
+
+    /// Shows the last element of the queue, the one that was enqueued last; `None` if it is empty.
+    pub fn back(&self) -> Option<&T>
+        ensures { option_copied result ≡ slice_get (queue self.now) (length (queue self.now) - 1) }
+    {
+        self.get(self.len().saturating_sub(1))
+    }
+}
+
+/// One element is enqueued by value.
+impl<T: Drop, S: Elements<T>> Ring<T, S> {
+    /// Enqueues an element, in place of the next free one.
+    ///
+    /// A full ring returns `Full`, stays as it is and drops the element. smoltcp has no such call.
+    pub fn push_one(&mut self, element: T) -> Result<(), Full>
+        ensures full { IsErr result ↔ (window self.old ≡ 0) }
+        ensures unchanged { OnErr result (self.new ≡ self.old) }
+        ensures queue { OnOk result (queue self.new ≡ queue self.old ++ element ∷ []) }
+        ensures room { OnOk result (window self.new + 1 ≡ window self.old) }
+        ensures capacity { capacity self.new ≡ capacity self.old }
+        ensures ring { OnOk result (self.new ≡ with_elements (with_enqueued 1 self.old)
+            (write_at self.old) (element ∷ [])) }
+    {
+        *self.enqueue_one()? = element;
+        Ok(())
+    }
+}
+
+/// The last element is copied out.
+impl<T: Copy, S: Elements<T>> Ring<T, S> {
+    /// Takes the last element of the queue off, and returns it; `None` if it is empty. The storage
+    /// stays as it is, so the element is the next free one.
+    ///
+    /// smoltcp has no such call; std's `VecDeque` has it.
+    pub fn pop_back(&mut self) -> Option<T>
+        ensures none { IsNone result ↔ (self.old.count ≡ 0) }
+        ensures queue { IfSome result (λ x. queue self.old ≡ queue self.new ++ x ∷ []) }
+        ensures spare { IfSome result (λ x. spare self.new ≡ x ∷ spare self.old) }
+        ensures room { IfSome result (λ x. window self.new ≡ window self.old + 1) }
+        ensures ring { self.new ≡ ring self.old.storage self.old.read_at (self.old.count - 1) }
+    {
+        let last = *self.back()?;
+        self.length -= 1;
+        Some(last)
+    }
+}
