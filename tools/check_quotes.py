@@ -18,7 +18,8 @@ In prose, between backquotes,
 - each name has to be one of the sources (code, specs, proofs, edits, scripts), a file's or a folder's, or one of
   ELSEWHERE: names of the kit, of Rust or of smoltcp that no source has, and parameters. A name that ends or begins
   with an underscore is short for all that begin or end so;
-- a file with a number of lines behind it, as `specs/Frames.antt`, 24 lines, has to have so many.
+- a path has to be a file's, from the top, from `crates` or from a crate's folder on;
+- a file with a number of lines after it, as `specs/Frames.antt`, 24 lines, has to have so many.
 
 Says what is not in the sources, and ends with status 1 if there is anything.
 """
@@ -176,6 +177,14 @@ def spans(page):
                 yield number, span.group(1), line[span.end() :]
 
 
+def is_there(page, span):
+    """Whether a span is no path of a file, or has a parameter, or names one from the top, from `crates` or from a crate on."""
+    if not re.fullmatch(r"[\w./]+/[\w.]+\.(antt|rt|py|md|rs|edit|svg)", span) or re.search(r"\b[A-Z]{4}", span):
+        return True
+    places = [ROOT, ROOT / "crates", page.parent, *page.parent.glob("*"), *ROOT.glob("crates/*")]
+    return any((place / span).is_file() for place in places)
+
+
 def has_lines(span, count):
     """Whether a file that a page names has so many lines; true if there is no such file."""
     found = [path for path in ROOT.glob(f"**/{span}") if path.is_file() and "out" not in path.parts]
@@ -226,6 +235,8 @@ def main():
             for name in NAME.findall(span):
                 if not is_named(name, named):
                     miss(page, number, f"no source has the name {name}")
+            if not is_there(page, span):
+                miss(page, number, f"there is no file {span}")
             lines = re.match(r",? (\d+) lines", behind)
             if lines and not has_lines(span, int(lines.group(1))):
                 miss(page, number, f"{span} hasn't {lines.group(1)} lines")
