@@ -17,8 +17,7 @@
 --     QueueFromGreatest      a law on several acknowledgements
 --     Sends f w v      w was written to a sender, its first byte at position f
 use Rattle.std.specs.Prelude.{◌≡◌, ℕ, ◌+◌, ◌-◌, ◌≤◌, ◌^◌, ◌&&◌, nat_lt, nat_le, nat_eq, min, max}
-use Rattle.std.specs.Prelude.{if◌then◌else◌, List, [], ◌∷◌, ◌++◌, length, take, drop, Option, Some, None}
-use Rattle.net_copies.specs.Frames.{segment_of}
+use Rattle.std.specs.Prelude.{if◌then◌else◌, List, [], ◌∷◌, ◌++◌, length, drop, Option, Some, None}
 use Rattle.net_copies.specs.Reported.{count_from, next_start, greatest_end, is_full, most_reported, ranges_of}
 
 -- what a sender is seen as: a byte of position `cut` stands at the storage's beginning, and one

@@ -8,7 +8,7 @@
 --     SendsPrefix s most flight n old new      so were the first n bytes of the queue, in at most
 --                                            `flight` frames
 --     SendsRound s most flight n old new      and no frame more could be sent
-use Rattle.std.specs.Prelude.{◌≡◌, ℕ, ◌+◌, ◌-◌, ◌<◌, ◌≤◌, ◌⊎◌, min, max, if◌then◌else◌}
+use Rattle.std.specs.Prelude.{◌≡◌, ℕ, ◌+◌, ◌-◌, ◌<◌, ◌≤◌, ◌⊎◌, min, if◌then◌else◌}
 use Rattle.std.specs.Prelude.{Bool, false}
 use Rattle.std.specs.Prelude.{List, [], ◌∷◌, ◌++◌, length, take, drop, All}
 use Rattle.net_copies.specs.Outgoing.{Outgoing, end_of, row_end, spared_from, next_reported, stop_of}
