@@ -71,6 +71,15 @@ PACKETS = [
             "pop_slice 3 5: 9 2"),
 ]
 
+# The same of long packets, by each call, with long gaps.
+LONG_PACKETS = [
+    (4, 4096, "push_slice 3000 7 1: ok; push_slice 600 8 2: ok; pop_slice 3000 3: 7 3000; push_slice 2500 9 4: ok; "
+              "pop_slice 1000 5: 8 600; peek: 9 2500#; take 6: 9 2500#; enqueue 3000 1 7: 3000#; dequeue 8: 1 3000#; "
+              "enqueue_with_infallible 4000 3500 2 9: 3500 4000#; dequeue_with 1 2 1: ok 2 3500#"),
+    (3, 4096, "place 3000 1 1: 3000#; place 600 2 2: 600#; take 3: 1 3000#; place 2000 3 4: 2000#; place 1 4 5: full; "
+              "dequeue 6: 2 600#; pop_slice 2000 7: 3 2000"),
+]
+
 # The same of an assembler of so many runs, and the runs then.
 ASSEMBLERS = [
     (4, "add 4 8: ok; add 0 4: ok", [(0, 12)]),
@@ -429,6 +438,9 @@ def add(cases):
         play(cases, f"rand {seed}", subject, text, lambda name, numbers: getattr(subject, name)())
     add_values(cases)
     add_lines(cases)
+    for slots, count, text in LONG_PACKETS:
+        subject = packets.Packets(slots, count, 0)
+        play(cases, f"packets {slots} {count} 0", subject, text, subject.call)
 
 
 def add_ranges(cases):

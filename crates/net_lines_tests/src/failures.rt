@@ -88,7 +88,7 @@ fn writes_each_reply_before_the_next_read(rt: HostRuntime) -> Result<(), Fail> {
 type Script = (&'static str, &'static [u8], &'static [u8], [usize; 3]);
 
 /// A script for each mode.
-const SCRIPTS: [Script; 3] = [
+static SCRIPTS: [Script; 3] = [
     (
         "ring 8",
         b"w 6162\nr 1\nr 9",
@@ -263,7 +263,7 @@ fn each_write_fails_in_turn(rt: HostRuntime) -> Result<(), Fail> {
 
 /// A line of so many bytes that no line feed ends, by reads of so many bytes of which one fails:
 /// how `run` ends, and after how many reads.
-const LONG_LINES: [(usize, usize, usize, &str, usize); 8] = [
+static LONG_LINES: [(usize, usize, usize, &str, usize); 8] = [
     (4096, 65536, 1, "read failed", 2),
     (4097, 65536, 1, "line 1: line too long", 1),
     (4096, 1000, 5, "read failed", 6),

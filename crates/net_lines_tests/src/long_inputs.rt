@@ -116,7 +116,7 @@ fn check_repeated(
 type Script<'a> = (&'a str, &'a [u8], &'a [u8]);
 
 /// Lines that leave their mode as they found it.
-const SCRIPTS: [Script<'static>; 3] = [
+static SCRIPTS: [Script<'static>; 3] = [
     (
         "ring 5",
         b"w 616263\nr 2\nw 646566\nr 9\n",

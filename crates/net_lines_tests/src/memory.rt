@@ -78,7 +78,7 @@ fn check_refusals(
 
 /// Mode `ring`. The buffers of a line's bytes and of a reply's text grow only for what is longer
 /// than before.
-const RING: [Part<'static>; 7] = [
+static RING: [Part<'static>; 7] = [
     (b"", b"", 3),
     (b"w 6162\n", b"took 2\n", 2),
     (b"w -\n", b"took 0\n", 0),
@@ -89,7 +89,7 @@ const RING: [Part<'static>; 7] = [
 ];
 
 /// Mode `asm`.
-const ASM: [Part<'static>; 6] = [
+static ASM: [Part<'static>; 6] = [
     (b"", b"", 2),
     (b"a 2 3\n", b"ok\n", 1),
     (b"t 0 1\n", b"front 1\n", 1),
@@ -100,7 +100,7 @@ const ASM: [Part<'static>; 6] = [
 
 /// Mode `stream`. The runs that are shown are asked for, if there are any. The second schedule asks
 /// for its storage, and the line that compares two schedules asks for nothing.
-const STREAM: [Part<'static>; 12] = [
+static STREAM: [Part<'static>; 12] = [
     (b"", b"", 3),
     (b"s 2 6162\n", b"kept 2 queued 0 sack 2-4\n", 2),
     (b"?\n", b"next 0 queued 0 window 8 held 2-4\n", 2),
@@ -116,7 +116,7 @@ const STREAM: [Part<'static>; 12] = [
 ];
 
 /// Mode `stream`, with two schedules that end apart.
-const DIFFERING: [Part<'static>; 4] = [
+static DIFFERING: [Part<'static>; 4] = [
     (b"", b"", 3),
     (b"s 1000 61\n", b"kept 1 queued 1 sack -\n", 2),
     (b"--", b"", 1),
