@@ -20,7 +20,6 @@ mod outbox;
 mod over_a_link;
 mod packets;
 mod ranges;
-mod refused;
 mod send_frame;
 mod timer;
 
@@ -43,6 +42,5 @@ pub use outbox::Outbox;
 pub use over_a_link::over_a_bad_link;
 pub use packets::{push_packet, wipe_first};
 pub use ranges::came;
-pub use refused::requests_for_a_list;
 pub use send_frame::send_bytes;
 pub use timer::Timer;

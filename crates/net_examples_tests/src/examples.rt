@@ -4,8 +4,7 @@ use net_base::phy::{Device, Loopback, Medium, RxToken};
 use net_base::time::{Duration, Instant};
 use net_examples::{
     Counted, Descriptor, DescriptorRings, FRAME_SIZE, Outbox, Timer, Undamaged, acknowledge, ask,
-    bounce, line_end, over_a_bad_link, pass_through, receive, requests_for_a_list, send_bytes,
-    send_now, take_line,
+    bounce, line_end, over_a_bad_link, pass_through, receive, send_bytes, send_now, take_line,
 };
 use net_receiver::{Receiver, SequenceNumber};
 use net_ring::{ManagedSlice, RingBuffer};
@@ -197,11 +196,6 @@ fn sends_zeros(device: &mut Counted<Loopback>, length: usize) -> Result<bool, Al
         return Ok(false);
     };
     device.send(token, length, |_buffer| true)
-}
-
-#[test]
-fn a_list_takes_one_request(rt: HostRuntime) {
-    assert_eq!(rt; requests_for_a_list(rt.alloc()), Some(1));
 }
 
 /// A frame comes: hardware puts it in, if it fits a descriptor and one is free.

@@ -5,3 +5,5 @@
 
 #[cfg(test)]
 mod examples;
+#[cfg(test)]
+mod refused;

@@ -8,3 +8,8 @@ pub fn requests_for_a_list(alloc: Global) -> Option<usize> {
         bytes.is_ok()
     })
 }
+
+#[test]
+fn a_list_takes_one_request(rt: HostRuntime) {
+    assert_eq!(rt; requests_for_a_list(rt.alloc()), Some(1));
+}
