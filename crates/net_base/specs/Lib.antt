@@ -1,6 +1,7 @@
 pub mod Checksum
 pub mod Device
 pub mod DeviceCapabilities
+pub mod Earliest
 pub mod Generator
 pub mod Loopback
 pub mod PacketMeta

@@ -4,7 +4,7 @@
 //! a linear congruential state of 64 bits, whose random word is the state shifted right by an amount
 //! that its top three bits choose, after the family of generators PCG of M. E. O'Neill.
 
-ghost use Rattle.std.specs.Prelude.{◌≡◌, ℕ};
+ghost use Rattle.std.specs.Prelude.{◌≡◌, ◌<◌, ◌*◌, ◌/◌, ◌^◌, ℕ};
 ghost use Rattle.net_base.specs.Generator.{successor, random_word, draw, IsPort};
 
 use std::marker::Model;
@@ -65,6 +65,19 @@ impl Rand {
     {
         let n = self.rand_u32();
         ((n ^ (n >> 16)) & 0xffff) as u16
+    }
+
+    /// Goes on to the next state, and returns a number below `bound`: the part of `bound` that its
+    /// random word is of 2^32, rounded down; 0 if `bound` is 0. Each number below `bound` stands for
+    /// as many words as each other, or for one more. smoltcp has no such call.
+    pub fn below(&mut self, bound: u32) -> u32
+        ensures state { self.new ≡ successor self.old }
+        ensures value { result ≡ random_word self.new * bound / 2 ^ 32 }
+        ensures below { 0 < bound → result < bound }
+        ensures none { bound ≡ 0 → result ≡ 0 }
+    {
+        let word = u64::from(self.rand_u32());
+        (word * u64::from(bound) >> 32) as u32
     }
 
     /// Draws 16 bits until a draw is above 1024, returns that draw, and stays at its state.

@@ -3,9 +3,11 @@
 mod duration;
 mod instant;
 pub mod laws;
+mod optional;
 
 pub use duration::Duration;
 pub use instant::Instant;
+pub use optional::{earlier, earliest};
 
 /// The bytes of the longest text, that of the first moment.
 const LONGEST_TEXT: usize = 20;

@@ -3,7 +3,8 @@
 ghost use Rattle.std.specs.Prelude.{◌≡◌, ◌↔◌, ◌-◌, ◌^◌, ◌<◌, ◌<ℤ◌, pos, IsTrue, Some};
 ghost use Rattle.std.specs.Ordering.{MatchOrdering};
 ghost use Rattle.std.specs.Prelude.{◌+◌, ◌+ℤ◌, ◌-ℤ◌};
-ghost use Rattle.std.specs.Prelude.{ℕ};
+ghost use Rattle.std.specs.Prelude.{ℕ, ℤ, List, Option};
+ghost use Rattle.net_base.specs.Earliest.{earliest_of, IsEarliest};
 ghost use Rattle.std.specs.Fmt.{format_spec};
 ghost use Rattle.net_base.specs.Time.{distance, IsMoment, IsLength, moment_text, length_text};
 
@@ -134,4 +135,11 @@ pub fn duration_text(duration: &Duration)
     ensures { (fill align flags width precision : ℕ)
         → ⟦<Duration as Display>⟧.styled_output duration.now (format_spec fill align flags width precision)
         ≡ Some (length_text duration.now) }
+{}
+
+/// A fold with `earlier`, from `None` on, finds the earliest of the moments that a list's elements
+/// have.
+pub fn earliest_of_each<T>()
+    ensures { (f : T → Option ℤ) (xs : List T) (t : Option ℤ) → t ≡ earliest_of f xs →
+        IsEarliest f xs t }
 {}

@@ -1,0 +1,35 @@
+//! The earliest of several moments, some of which may be missing.
+ghost use Rattle.std.specs.Prelude.{◌≡◌};
+ghost use Rattle.net_base.specs.Earliest.{earlier_of, earliest_of, IsEarliest};
+
+use crate::time::Instant;
+
+/// Returns the earlier of two moments. One that is missing is later than each that is there, so the
+/// answer is `None` only if both are. It serves as the step of a fold over whatever has a moment;
+/// `laws::earliest_of_each` says what such a fold finds.
+pub fn earlier(first: Option<Instant>, second: Option<Instant>) -> Option<Instant>
+    ensures { result ≡ earlier_of first second }
+{
+    match (first, second) {
+        (Some(x), Some(y)) => Some(if y < x { y } else { x }),
+        (None, other) => other,
+        (some, None) => some,
+    }
+}
+
+/// Returns the earliest of the moments that are there, or `None` if none is: when to poll what has
+/// several timers, each of which may be off.
+pub fn earliest(moments: &[Option<Instant>]) -> Option<Instant>
+    ensures { IsEarliest (λ t. t) moments.now result }
+{
+    fold_earlier(moments)
+}
+
+/// The earliest of the moments, as a fold.
+fn fold_earlier(moments: &[Option<Instant>]) -> Option<Instant>
+    ensures { result ≡ earliest_of (λ t. t) moments.now }
+{
+    moments
+        .iter()
+        .fold(None, |first, moment| earlier(first, *moment))
+}
