@@ -9,6 +9,8 @@ mod counted;
 #[cfg(test)]
 mod drops;
 #[cfg(test)]
+mod ends;
+#[cfg(test)]
 mod managed;
 #[cfg(test)]
 mod ring_buffer;

@@ -1,0 +1,58 @@
+//! Single elements of a ring of three that wraps, and a ring that makes room for a newer element.
+use net_ring::{Elements, Full, RingBuffer};
+
+/// Queues the elements 1, 2 and 3 so that the last two stand at the storage's beginning, and returns
+/// whether each was taken.
+fn fills(ring: &mut RingBuffer<'_, u8>) -> bool {
+    let taken = ring.enqueue_slice(&[0, 0]) == 2;
+    ring.dequeue_allocated(ring.len());
+    taken && pushes(ring, 1) && pushes(ring, 2) && pushes(ring, 3)
+}
+
+/// Whether a ring takes an element.
+fn pushes(ring: &mut RingBuffer<'_, u8>, element: u8) -> bool {
+    ring.push_one(element).is_ok()
+}
+
+/// Whether the first and the last element of the queue are these.
+fn has_ends(ring: &RingBuffer<'_, u8>, front: Option<u8>, back: Option<u8>) -> bool {
+    ring.front().copied() == front && ring.back().copied() == back
+}
+
+/// Whether the element at an index of the queue is this.
+fn has_at(ring: &RingBuffer<'_, u8>, index: usize, element: Option<u8>) -> bool {
+    ring.get(index).copied() == element
+}
+
+#[test]
+fn an_empty_ring_has_no_ends(rt: HostRuntime) {
+    let mut elements = [7u8; 3];
+    let mut ring = RingBuffer::from(&mut elements);
+    assert!(rt; has_ends(&ring, None, None) && has_at(&ring, 0, None));
+    assert!(rt; ring.pop_back().is_none());
+}
+
+#[test]
+fn elements_by_their_index(rt: HostRuntime) {
+    let mut elements = [7u8; 3];
+    let mut ring = RingBuffer::from(&mut elements);
+    assert!(rt; fills(&mut ring) && has_ends(&ring, Some(1), Some(3)));
+    assert!(rt; has_at(&ring, 1, Some(2)) && has_at(&ring, 2, Some(3)) && has_at(&ring, 3, None));
+}
+
+#[test]
+fn the_last_element_leaves(rt: HostRuntime) {
+    let mut elements = [7u8; 3];
+    let mut ring = RingBuffer::from(&mut elements);
+    assert!(rt; fills(&mut ring) && ring.push_one(4) == Err(Full));
+    assert!(rt; ring.pop_back() == Some(3) && has_ends(&ring, Some(1), Some(2)));
+    assert!(rt; pushes(&mut ring, 5) && has_ends(&ring, Some(1), Some(5)));
+}
+
+#[test]
+fn an_item_of_storage(rt: HostRuntime) {
+    let mut elements = [1u8, 2];
+    let mut slice = elements.as_mut_slice();
+    *slice.item_mut(1) = 3;
+    assert!(rt; *slice.item(0) == 1 && *slice.item(1) == 3);
+}
