@@ -6,6 +6,8 @@
 #![tactic(auto)]
 
 #[cfg(test)]
+mod least;
+#[cfg(test)]
 mod phy;
 #[cfg(test)]
 mod rand;
