@@ -29,12 +29,24 @@ pub enum FragmentError {
 ///
 /// Contracts see the bytes of the storage, the set of the positions that came, the packet's size,
 /// once it is known, and the moment up to which the packet is waited for.
-#[derive(Drop)]
 pub struct Fragments<B: Elements<u8>, const N: usize> {
     bytes: B,
     present: Assembler<N>,
     total: Option<usize>,
     expires_at: Instant,
+}
+
+/// Written by hand: with a derived one a `FragmentBuffer` could not be a local.
+impl<B: Elements<u8> + Drop, const N: usize> Drop for Fragments<B, N> {
+    fn drop(self) {
+        let Fragments {
+            bytes,
+            present: _,
+            total: _,
+            expires_at: _,
+        } = self;
+        drop(bytes);
+    }
 }
 
 /// A packet that comes in fragments, over lent or owned bytes.

@@ -14,4 +14,6 @@ mod fragment_buffer;
 #[cfg(test)]
 mod inbox;
 #[cfg(test)]
+mod locals;
+#[cfg(test)]
 mod udp_socket;
