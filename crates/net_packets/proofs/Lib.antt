@@ -8,3 +8,4 @@ mod ResultParts
 mod SaidFacts
 mod WalkedQueue
 mod PassedNumber
+pub mod PacketCount

@@ -1,5 +1,6 @@
 //! A queue of packets, each with a header, over storage that is lent or owned.
 ghost use Rattle.std.specs.Prelude.{◌≡◌, ◌≤◌, ◌<◌, ◌^◌, ◌-◌, ◌==◌, ◌↔◌, [], IsTrue, length};
+ghost use Rattle.std.specs.Prelude.{filter, is_some};
 ghost use Rattle.net_ring.specs.Ring.{capacity, window, contiguous_window, from_start_if_empty};
 ghost use Rattle.net_packets.specs.Packets.{IsWellPlaced, bytes_used, slots_used, no_packets};
 ghost use Rattle.net_packets.specs.Packets.{byte_ring, placement, only_last, without_gap, first_gap};
@@ -120,6 +121,18 @@ impl<H, M: Elements<PacketMetadata<H>>, B: Elements<u8>> Packets<H, M, B> {
         self.slots.len()
     }
 
+    /// Returns how many packets the queue has. It goes over the slots, one by one, to leave the gaps
+    /// out. smoltcp has no such call.
+    pub fn len(&self) -> usize
+        ensures contents { result ≡ length (contents self.now) }
+        ensures packets { result ≡ length self.now.packets }
+    {
+        // Called for its clauses alone: by them the sum below does not wrap.
+        let _used = self.slots.len();
+        let (first, second) = self.slots.as_slices();
+        count_packets(first) + count_packets(second)
+    }
+
     /// Empties the queue. The bytes of the storage stay as they are, and it is not promised when
     /// the headers are dropped.
     ///
@@ -212,6 +225,14 @@ fn gap_for(size: usize, contiguous: usize, window: usize) -> Option<usize>
     } else {
         None
     }
+}
+
+/// Returns how many of the slots are of packets, and of no gaps.
+fn count_packets<H>(slots: &[PacketMetadata<H>]) -> usize
+    ensures count { result ≡ length (filter (λ m. is_some m.header) slots.now) }
+    ensures within { result ≤ length slots.now }
+{
+    slots.iter().filter(|slot| slot.header.is_some()).count()
 }
 
 /// Returns how many slots a packet after a gap of `gap` bytes uses.

@@ -9,4 +9,6 @@ mod counted;
 #[cfg(test)]
 mod drops;
 #[cfg(test)]
+mod lengths;
+#[cfg(test)]
 mod packet_buffer;

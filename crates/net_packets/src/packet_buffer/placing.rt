@@ -32,6 +32,8 @@ impl<H: Drop, M: Elements<PacketMetadata<H>>, B: Elements<u8>> Packets<H, M, B> 
         ensures full { IsErr result ↔ (placement self.old size ≡ None) }
         ensures placed { self.new ≡ with_packet_if_room self.old size header }
         ensures size { OnOk result (first_size (only_last self.new.packets) ≡ size) }
+        ensures capacity { (self.new.slot_count ≡ self.old.slot_count)
+            × (length self.new.storage ≡ length self.old.storage) }
     {
         let Some(gap) = self.placement(size) else {
             return Err(Full);
@@ -48,6 +50,8 @@ impl<H: Drop, M: Elements<PacketMetadata<H>>, B: Elements<u8>> Packets<H, M, B> 
             → contents (with_last_bytes self.old ws) ≡ with_bytes_in_last_entry ws (contents self.old) }
         ensures value { result.now ≡ last_bytes self.old }
         ensures size { length result.now ≡ first_size (only_last self.old.packets) }
+        ensures capacity { (ws : List ℕ) → length (with_last_bytes self.old ws).storage
+            ≡ length self.old.storage }
     {
         let size = self.last_size();
         self.last_part_mut(size)

@@ -238,10 +238,11 @@ module _ (G : Given) {M : Type 1} {𝓤 : Ura M} (𝓛 : Logic 𝓤) (𝓜 : Mod
         ‵ (lasts (place.ended G.H G.N G.B G.slots G.slots_by G.bytes G.bytes_by G.drops_by) (to_place p).0.0 (to_place p).0.3 ws)
         ⊛ raw (fact 𝓤 (OnOk r (Accepts k ws.0))) ⊛ raw (fact 𝓤 (OnOk r (contents ws.0 ≡ contents x ++ ((h, last_bytes ws.0) ∷ [])))) ⊛
         raw (fact 𝓤 (OnErr r (ws.0 ≡ x)))
-        ⊛ raw (fact 𝓤 (IsErr r ↔ (placement x k ≡ None))) ⊛ raw (fact 𝓤 (ws.0 ≡ y)) ⊛ raw (fact 𝓤 (OnOk r (first_size (last-of ws.0.packets) ≡ k)))))))
+        ⊛ raw (fact 𝓤 (IsErr r ↔ (placement x k ≡ None))) ⊛ raw (fact 𝓤 (ws.0 ≡ y)) ⊛ raw (fact 𝓤 (OnOk r (first_size (last-of ws.0.packets) ≡ k)))
+        ⊛ raw (fact 𝓤 ((ws.0.slot_count ≡ x.slot_count) × (length ws.0.storage ≡ length x.storage)))))))
         (id⊢ 𝓤 (Place.post (to_place p) v)) $
         await ! tt $ pick ! (λ r. split ! $ split ! $ move ! (2 ∷ []) $ pick ! (λ ws. split3 ! $ move ! (1 ∷ []) $ heard ! _ (λ accepts. move ! (1 ∷ []) $
-        split3 ! $ heard ! _ (λ stands. heard ! _ (λ unchanged. split3 ! $ heard ! _ (λ full. heard ! _ (λ is_y. heard ! _ (λ is_sized. fsplit ! $ fsplit ! $
+        split3 ! $ heard ! _ (λ stands. heard ! _ (λ unchanged. split3 ! $ heard ! _ (λ full. heard ! _ (λ is_y. split ! $ heard ! _ (λ is_sized. heard ! _ (λ _. fsplit ! $ fsplit ! $
         rewrite ! 0 (λ (m : Q G). ‵ (fres p.2 ((Self G).coded.code m))) is_y refl $ move ! (3 ∷ []) $ split ! $
         -- [the token; the other tokens; the loan's last value; its borrow; nothing; the answer; the way back]
         move ! (0 ∷ 2 ∷ 6 ∷ []) $ use3 𝓛 (later (‵ (mine y) ⊛ ‵ (flft κs.0 qs.0))) (comes_inside 𝓛 κs.0 (Self G) qs.0 self p y) $ await ! tt $ split ! $
@@ -297,7 +298,7 @@ module _ (G : Given) {M : Type 1} {𝓤 : Ura M} (𝓛 : Logic 𝓤) (𝓜 : Mod
               sets ! (agg ! (no_more !)) refl (tt, tt) $
               sets ! (agg ! (and_then ! (lit ! tt) (and_then ! (get ! refl) (no_more !)))) refl (tt, (record { fits = lit< tt }, (tt, tt))) $
               returns_within ! Post refl (look_at ! 0 refl) $ free_all ! refl $ keep ! (0 ∷ 2 ∷ 3 ∷ []) $ by ! (refuses none)))
-        ])))))))))))
+        ]))))))))))))
 
   module _ (z : (walk_of 𝓛 (ended G) (stayed G) all_clauses).Ghost) where
     abbrev Rs : List RattleType
