@@ -1,0 +1,42 @@
+ghost use Rattle.std.specs.Prelude.{◌≡◌, ◌<◌, length, slice_get, slice_set, Some};
+
+use net_ring::Elements;
+
+/// The last sample of each sensor, in any storage.
+pub struct Samples<S: Elements<u16> + Drop> {
+    samples: S,
+}
+
+/// Written by hand: with a derived one, samples in a `ManagedSlice` could not be a local.
+impl<S: Elements<u16> + Drop> Drop for Samples<S> {
+    fn drop(self) {
+        let Samples { samples } = self;
+        drop(samples);
+    }
+}
+
+impl<S: Elements<u16> + Drop> Samples<S> {
+    /// The samples that the storage has.
+    pub fn new(samples: S) -> Self
+        ensures { result.samples ≡ samples }
+    {
+        Samples { samples }
+    }
+
+    /// Notes a sample of a sensor.
+    pub fn note(&mut self, sensor: usize, sample: u16)
+        requires { sensor < length (S.elements self.old.samples) }
+        ensures { S.elements self.new.samples
+            ≡ slice_set (S.elements self.old.samples) sensor sample }
+    {
+        *self.samples.item_mut(sensor) = sample;
+    }
+
+    /// Returns the last sample of a sensor.
+    pub fn last(&self, sensor: usize) -> u16
+        requires { sensor < length (S.elements self.now.samples) }
+        ensures { slice_get (S.elements self.now.samples) sensor ≡ Some result }
+    {
+        *self.samples.item(sensor)
+    }
+}
