@@ -20,6 +20,7 @@ mod outbox;
 mod over_a_link;
 mod packets;
 mod ranges;
+mod samples;
 mod send_frame;
 mod timer;
 
@@ -42,5 +43,6 @@ pub use outbox::Outbox;
 pub use over_a_link::over_a_bad_link;
 pub use packets::{push_packet, wipe_first};
 pub use ranges::came;
+pub use samples::Samples;
 pub use send_frame::send_bytes;
 pub use timer::Timer;

@@ -4,10 +4,11 @@ use net_ring::Elements;
 
 /// The last sample of each sensor, in any storage.
 pub struct Samples<S: Elements<u16> + Drop> {
-    samples: S,
+    /// One for each sensor.
+    pub samples: S,
 }
 
-/// Written by hand: with a derived one, samples in a `ManagedSlice` could not be a local.
+/// Written by hand: with a derived one, `Samples` over a `ManagedSlice` could not be a local.
 impl<S: Elements<u16> + Drop> Drop for Samples<S> {
     fn drop(self) {
         let Samples { samples } = self;

@@ -3,8 +3,9 @@
 use net_base::phy::{Device, Loopback, Medium, RxToken};
 use net_base::time::{Duration, Instant};
 use net_examples::{
-    Counted, Descriptor, DescriptorRings, FRAME_SIZE, Outbox, Timer, Undamaged, acknowledge, ask,
-    bounce, line_end, over_a_bad_link, pass_through, receive, send_bytes, send_now, take_line,
+    Counted, Descriptor, DescriptorRings, FRAME_SIZE, Outbox, Samples, Timer, Undamaged,
+    acknowledge, ask, bounce, line_end, over_a_bad_link, pass_through, receive, send_bytes,
+    send_now, take_line,
 };
 use net_receiver::{Receiver, SequenceNumber};
 use net_ring::{ManagedSlice, RingBuffer};
@@ -53,6 +54,33 @@ fn a_datagram_passes(rt: HostRuntime) {
     assert!(rt; pass_through(from, b"hello", &mut into) == Some(4));
     assert_eq!(rt; &into, b"hell");
     assert!(rt; pass_through(from, &[0; 65], &mut into).is_none());
+}
+
+/// Whether samples that are lent are noted, each in its place.
+fn notes_lent_samples() -> bool {
+    let mut storage = [0u16; 3];
+    let mut samples = Samples::new(ManagedSlice::Borrowed(&mut storage));
+    samples.note(1, 7);
+    samples.note(2, 9);
+    samples.last(0) == 0 && samples.last(1) == 7 && samples.last(2) == 9
+}
+
+/// The same of owned ones.
+fn notes_owned_samples(storage: Vec<u16>) -> bool {
+    if storage.len() != 3 {
+        return false;
+    }
+    let mut samples = Samples::new(ManagedSlice::Owned(storage));
+    samples.note(1, 7);
+    samples.note(2, 9);
+    samples.last(0) == 0 && samples.last(1) == 7 && samples.last(2) == 9
+}
+
+#[test]
+fn samples_are_noted(rt: HostRuntime) -> Result<(), AllocError> {
+    assert!(rt; notes_lent_samples());
+    assert!(rt; notes_owned_samples(vec![in rt.alloc(); 0; 3]?));
+    Ok(())
 }
 
 #[test]
