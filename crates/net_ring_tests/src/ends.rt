@@ -54,5 +54,5 @@ fn an_item_of_storage(rt: HostRuntime) {
     let mut elements = [1u8, 2];
     let mut slice = elements.as_mut_slice();
     *slice.item_mut(1) = 3;
-    assert!(rt; *slice.item(0) == 1 && *slice.item(1) == 3);
+    assert!(rt; slice.count() == 2 && *slice.item(0) == 1 && *slice.item(1) == 3);
 }

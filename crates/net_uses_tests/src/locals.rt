@@ -4,6 +4,7 @@ use net_base::time::Instant;
 use net_packets::{PacketBuffer, PacketMetadata};
 use net_ring::{ManagedSlice, RingBuffer};
 use net_uses::{Endpoint, FragmentBuffer, Inbox, UdpSocket};
+use std::alloc::{AllocError, Global};
 use std::test::Fail;
 
 /// The slots of a queue of datagrams.
@@ -33,18 +34,42 @@ fn inbox_is_empty(slots: Slots<'_>, bytes: ManagedSlice<'_, u8>) -> bool {
     inbox.first().is_err()
 }
 
-/// Whether a socket over two lent queues takes a datagram to send.
+/// Whether a socket takes a datagram to send, over storage of two queues.
 fn socket_sends(
-    slots: &mut [[PacketMetadata<Endpoint>; 1]; 2],
-    bytes: &mut [[u8; 2]; 2],
+    slots_in: Slots<'_>,
+    bytes_in: ManagedSlice<'_, u8>,
+    slots_out: Slots<'_>,
+    bytes_out: ManagedSlice<'_, u8>,
 ) -> bool {
-    let [first_slots, second_slots] = slots;
-    let [first_bytes, second_bytes] = bytes;
-    let mut socket = UdpSocket::new(
-        PacketBuffer::new(first_slots.into(), first_bytes.into()),
-        PacketBuffer::new(second_slots.into(), second_bytes.into()),
-    );
+    let inbound = PacketBuffer::new(slots_in, bytes_in);
+    let outbound = PacketBuffer::new(slots_out, bytes_out);
+    let mut socket = UdpSocket::new(inbound, outbound);
     socket.send_slice(b"hi", ENDPOINT).is_ok()
+}
+
+/// Whether a socket over lent storage takes a datagram to send.
+fn lent_socket_sends() -> bool {
+    let mut slots_in = [PacketMetadata::<Endpoint>::EMPTY; 1];
+    let mut slots_out = [PacketMetadata::<Endpoint>::EMPTY; 1];
+    let mut bytes_in = [0u8; 2];
+    let mut bytes_out = [0u8; 2];
+    socket_sends(
+        ManagedSlice::Borrowed(&mut slots_in),
+        ManagedSlice::Borrowed(&mut bytes_in),
+        ManagedSlice::Borrowed(&mut slots_out),
+        ManagedSlice::Borrowed(&mut bytes_out),
+    )
+}
+
+/// A slot, on the heap.
+fn owned_slots(alloc: Global) -> Result<Slots<'static>, AllocError> {
+    let slots = vec![in alloc; PacketMetadata::<Endpoint>::EMPTY; 1]?;
+    Ok(ManagedSlice::Owned(slots))
+}
+
+/// Two bytes, on the heap.
+fn owned_bytes(alloc: Global) -> Result<ManagedSlice<'static, u8>, AllocError> {
+    Ok(ManagedSlice::Owned([0u8; 2].to_vec(alloc)?))
 }
 
 /// Whether a packet over lent bytes comes whole.
@@ -73,10 +98,7 @@ fn locals_over_lent_storage(rt: HostRuntime) {
     assert_holds(&rt, takes, ("queue", 0));
     let is_empty = inbox_is_empty((&mut slots).into(), (&mut bytes).into());
     assert_holds(&rt, is_empty, ("inbox", 0));
-    let mut both_slots = [[PacketMetadata::<Endpoint>::EMPTY; 1]; 2];
-    let mut both_bytes = [[0u8; 2]; 2];
-    let sends = socket_sends(&mut both_slots, &mut both_bytes);
-    assert_holds(&rt, sends, ("socket", 0));
+    assert_holds(&rt, lent_socket_sends(), ("socket", 0));
 }
 
 #[test]
@@ -88,7 +110,21 @@ fn a_packet_over_owned_storage(rt: HostRuntime) -> Result<(), Fail> {
 
 #[test]
 fn a_ring_over_owned_storage(rt: HostRuntime) -> Result<(), Fail> {
-    let takes = ring_takes([0u8; 2].to_vec(rt.alloc())?.into());
+    let takes = ring_takes(owned_bytes(rt.alloc())?);
     assert_holds(&rt, takes, ("ring", 0));
+    Ok(())
+}
+
+#[test]
+fn a_queue_over_owned_storage(rt: HostRuntime) -> Result<(), Fail> {
+    let takes = queue_takes(owned_slots(rt.alloc())?, owned_bytes(rt.alloc())?);
+    assert_holds(&rt, takes, ("queue", 0));
+    Ok(())
+}
+
+#[test]
+fn an_inbox_over_owned_storage(rt: HostRuntime) -> Result<(), Fail> {
+    let is_empty = inbox_is_empty(owned_slots(rt.alloc())?, owned_bytes(rt.alloc())?);
+    assert_holds(&rt, is_empty, ("inbox", 0));
     Ok(())
 }
