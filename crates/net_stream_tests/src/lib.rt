@@ -18,3 +18,5 @@ mod frames;
 mod links;
 #[cfg(test)]
 mod sender;
+#[cfg(test)]
+mod watched;
