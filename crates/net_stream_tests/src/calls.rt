@@ -5,7 +5,8 @@ use net_base::phy::RxToken;
 use net_base::time::Instant;
 use net_ring::ManagedSlice;
 use net_stream::{
-    Config, CopyBuffers, Counts, Fate, Fates, Link, LinkError, LinkFates, Rates, copy, copy_over,
+    Config, CopyBuffers, Counts, Fate, Fates, Link, LinkError, LinkFates, Rates, Watch, copy,
+    copy_over, copy_watched,
 };
 use std::alloc::{AllocError, Allocator};
 use std::io::{Read, Write};
@@ -89,6 +90,26 @@ pub fn copy_by<A: Allocator + Copy, R: Read, W: Write>(
         alloc,
         setup.config,
         link_fates(setup),
+        reader,
+        writer,
+        counts,
+    ))
+}
+
+/// Copies, tells who watches, and returns the name of how it ended.
+pub fn copy_watched_by<A: Allocator + Copy, T: Watch, R: Read, W: Write>(
+    alloc: A,
+    setup: &Setup,
+    watch: &mut T,
+    reader: &mut R,
+    writer: &mut W,
+    counts: &mut Counts,
+) -> &'static str {
+    ending(copy_watched(
+        alloc,
+        setup.config,
+        link_fates(setup),
+        watch,
         reader,
         writer,
         counts,

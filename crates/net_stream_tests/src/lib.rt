@@ -20,3 +20,5 @@ mod links;
 mod order;
 #[cfg(test)]
 mod sender;
+#[cfg(test)]
+mod watched;

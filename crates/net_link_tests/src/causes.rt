@@ -1,0 +1,195 @@
+//! What standard error says of streams that fail in two ways, of causes that are long, or for which there is
+//! no memory, and what memory `serve` asks for.
+use net_link_serve::{Messages, Remembering, serve};
+use net_program::{Ended, Status};
+use net_testing::{NEVER, Refusing, Sink, Source};
+use std::alloc::{AllocError, Allocator, Global};
+use std::io;
+use std::io::{ErrorKind, Read};
+use std::process::Abort;
+
+/// Stops the test unless this holds, and says the number of its row.
+fn assert_holds(rt: &impl Abort, fact: bool, row: usize) {
+    assert!(rt; fact, "row {row}");
+}
+
+/// The words of a line.
+fn words_of(alloc: Global, line: &str) -> Result<Vec<String>, AllocError> {
+    let mut words = Vec::new(alloc);
+    for word in line.split(' ') {
+        words.push(String::from_str(alloc, word)?)?;
+    }
+    Ok(words)
+}
+
+/// The words; the number of the read that fails, and its kind; the number of the write that fails, and its
+/// kind, or none if it takes no byte; the kind of flushes that fail; the status, and what standard error
+/// says.
+type Failure = (
+    &'static str,
+    (usize, ErrorKind),
+    (usize, Option<ErrorKind>),
+    Option<ErrorKind>,
+    Status,
+    &'static str,
+);
+
+/// Nine bytes in three frames, of four bytes at most: the cause is that of the first call that failed.
+static FAILURES: [Failure; 7] = [
+    (
+        "0 1 0 0 4",
+        (0, ErrorKind::PermissionDenied),
+        (NEVER, None),
+        Some(ErrorKind::BrokenPipe),
+        Status::Failed,
+        "net_link: read failed: permission denied\n\
+            0 bytes, 0 frames, 0 lost, 0 repeated, 0 late, \
+            0 refused, 0 bytes sent again, 0 rounds, 0 bytes a second\n",
+    ),
+    (
+        "0 1 0 0 4",
+        (1, ErrorKind::NotFound),
+        (NEVER, None),
+        Some(ErrorKind::BrokenPipe),
+        Status::Failed,
+        "net_link: read failed: entity not found\n\
+            9 bytes, 7 frames, 0 lost, 0 repeated, 0 late, \
+            0 refused, 0 bytes sent again, 1 rounds, 900 bytes a second\n",
+    ),
+    (
+        "0 1 0 0 4",
+        (NEVER, ErrorKind::Other),
+        (0, Some(ErrorKind::TimedOut)),
+        Some(ErrorKind::BrokenPipe),
+        Status::Failed,
+        "net_link: write failed: timed out\n\
+            0 bytes, 7 frames, 0 lost, 0 repeated, 0 late, \
+            0 refused, 0 bytes sent again, 1 rounds, 0 bytes a second\n",
+    ),
+    (
+        "0 1 0 0 4",
+        (NEVER, ErrorKind::Other),
+        (0, None),
+        Some(ErrorKind::BrokenPipe),
+        Status::Failed,
+        "net_link: write failed: no byte was taken\n\
+            0 bytes, 7 frames, 0 lost, 0 repeated, 0 late, \
+            0 refused, 0 bytes sent again, 1 rounds, 0 bytes a second\n",
+    ),
+    (
+        "0 1 0 0 4",
+        (NEVER, ErrorKind::Other),
+        (NEVER, None),
+        Some(ErrorKind::BrokenPipe),
+        Status::Failed,
+        "net_link: write failed: broken pipe\n\
+            9 bytes, 7 frames, 0 lost, 0 repeated, 0 late, \
+            0 refused, 0 bytes sent again, 1 rounds, 900 bytes a second\n",
+    ),
+    // No call failed but the flush after it gave up, which says nothing more.
+    (
+        "99 0",
+        (NEVER, ErrorKind::Other),
+        (NEVER, None),
+        Some(ErrorKind::BrokenPipe),
+        Status::GaveUp,
+        "net_link: gave up\n\
+            0 bytes, 200 frames, 200 lost, 0 repeated, 0 late, \
+            0 refused, 891 bytes sent again, 100 rounds, 0 bytes a second\n",
+    ),
+    (
+        "--help",
+        (NEVER, ErrorKind::Other),
+        (NEVER, None),
+        Some(ErrorKind::BrokenPipe),
+        Status::Failed,
+        "net_link: write failed: broken pipe\n",
+    ),
+];
+
+/// Whether the program ends so, and standard error took what there was to say, and has it.
+fn is_so(ended: Ended, status: Status, errors: &Messages<Sink>, told: &str) -> bool {
+    ended
+        == Ended {
+            status,
+            is_told: true,
+        }
+        && errors.stream.bytes.as_slice() == told.as_bytes()
+}
+
+/// Whether a failure is told so.
+fn fails_so(
+    alloc: Global,
+    (line, read, write, flush, status, told): &Failure,
+) -> Result<bool, AllocError> {
+    let words = words_of(alloc, line)?;
+    let mut reader = Remembering::new(Source::failing(b"some text", NEVER, read.0, read.1));
+    let mut writer = Remembering::new(Sink::failing(alloc, NEVER, write.0, write.1)?);
+    writer.stream.flush_kind = *flush;
+    let mut errors = Messages::new(Sink::new(alloc)?);
+    let ended = serve(alloc, &words, &mut reader, &mut writer, &mut errors);
+    Ok(is_so(ended, *status, &errors, told) && writer.stream.flushes == 1)
+}
+
+#[test]
+fn the_first_failure_is_the_cause(rt: HostRuntime) -> Result<(), AllocError> {
+    for i in 0..FAILURES.len() {
+        let is_right = fails_so(rt.alloc(), &FAILURES[i])?;
+        assert_holds(&rt, is_right, i);
+    }
+    Ok(())
+}
+
+/// A reader that always fails, with as long a text as an error keeps.
+#[derive(Drop)]
+struct Wordy;
+
+impl Read for Wordy {
+    fn read(&mut self, _buf: &mut [u8]) -> io::Result<usize> {
+        Err(io::Error::new(
+            ErrorKind::Other,
+            "the text of this cause has 79 bytes, and is shown as it is, up to its last word",
+        ))
+    }
+}
+
+const WORDY: &str = "net_link: read failed: \
+    the text of this cause has 79 bytes, and is shown as it is, up to its last word\n\
+    0 bytes, 0 frames, 0 lost, 0 repeated, 0 late, \
+    0 refused, 0 bytes sent again, 0 rounds, 0 bytes a second\n";
+
+const NO_CAUSE: &str = "net_link: read failed\n\
+    0 bytes, 0 frames, 0 lost, 0 repeated, 0 late, \
+    0 refused, 0 bytes sent again, 0 rounds, 0 bytes a second\n";
+
+/// Whether a read that fails at once is told so in this memory.
+fn fails_at_once<A: Allocator + Copy>(
+    alloc: Global,
+    memory: A,
+    told: &str,
+) -> Result<bool, AllocError> {
+    let words = words_of(alloc, "0 1")?;
+    let mut reader = Remembering::new(Wordy);
+    let mut writer = Remembering::new(Sink::new(alloc)?);
+    let mut errors = Messages::new(Sink::new(alloc)?);
+    let ended = serve(memory, &words, &mut reader, &mut writer, &mut errors);
+    Ok(is_so(ended, Status::Failed, &errors, told))
+}
+
+/// Whether a read that fails at once is told so where the request of this number is refused: three are
+/// those of the buffers, each of 262,144 bytes, and the others are for the text of the cause, of less than
+/// 1,000 bytes in all. All memory is given back.
+fn tells(alloc: Global, refused: usize, told: &str) -> Result<bool, AllocError> {
+    let memory = Refusing::new(alloc, refused);
+    let is_told = fails_at_once(alloc, &memory, told)?;
+    Ok(is_told && memory.bytes() < 3 * 262_144 + 1_000 && memory.live() == 0)
+}
+
+#[test]
+fn a_cause_is_told_if_there_is_memory_for_it(rt: HostRuntime) -> Result<(), AllocError> {
+    let all = tells(rt.alloc(), NEVER, WORDY)?;
+    assert_holds(&rt, all, 0);
+    let none = tells(rt.alloc(), 3, NO_CAUSE)?;
+    assert_holds(&rt, none, 1);
+    Ok(())
+}
