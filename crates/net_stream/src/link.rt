@@ -13,11 +13,11 @@ mod deliver;
 mod round;
 mod transmit;
 
-use net_copies::FrameCounts;
 use crate::fates::LinkFates;
 use crate::path::Path;
 use crate::sender::Sender;
 use net_base::time::{Duration, Instant};
+use net_copies::FrameCounts;
 use net_receiver::{Receiver, laws};
 use net_ring::ManagedSlice;
 use std::alloc::Allocator;

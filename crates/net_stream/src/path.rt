@@ -5,11 +5,11 @@ ghost use Rattle.net_copies.specs.Frames.{frame_of};
 ghost use Rattle.net_copies.specs.Fates.{next_fate, after_fate};
 
 use crate::fates::Fates;
-use net_copies::Fate;
 use crate::frame::{send_again, send_frame};
 use net_base::phy::loopback::RxToken;
 use net_base::phy::{Device, Loopback, Medium};
 use net_base::time::Instant;
+use net_copies::Fate;
 use std::alloc::{AllocError, Allocator};
 use std::marker::Model;
 

@@ -4,10 +4,10 @@ ghost use Rattle.net_copies.specs.LinkState.{times, acknowledge, came_ack, meet_
 ghost use Rattle.net_copies.specs.LinkState.{late_ack, late_acks, pass_ack, pass_acks, StopsAck};
 
 use super::Link;
-use net_copies::Fate;
 use crate::frame::decode;
 use crate::reported::Reported;
 use net_base::phy::RxToken;
+use net_copies::Fate;
 use std::alloc::{AllocError, Allocator};
 
 impl<'a, 'f, A: Allocator + Copy> Link<'a, 'f, A> {

@@ -5,10 +5,10 @@ ghost use Rattle.net_copies.specs.LinkState.{late_frame, late_frames, pass_frame
 ghost use Rattle.net_copies.specs.LinkState.{StopsLate, StopsFrame};
 
 use super::{Link, MOST_RUNS};
-use net_copies::Fate;
 use crate::frame::decode;
 use crate::reported::{REPORT_LEN, list_held};
 use net_base::phy::RxToken;
+use net_copies::Fate;
 use net_receiver::Receiver;
 use std::alloc::{AllocError, Allocator};
 

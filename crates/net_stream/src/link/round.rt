@@ -4,8 +4,8 @@ ghost use Rattle.net_copies.specs.LinkState.{next_flight, round, StopsRound};
 ghost use Rattle.net_copies.specs.Links.{Carries};
 
 use super::Link;
-use net_copies::laws;
 use crate::reported::MOST_REPORTED;
+use net_copies::laws;
 use std::alloc::{AllocError, Allocator};
 
 /// How many frames the next round may send: half as many if the report is full, but at least as many
