@@ -9,12 +9,12 @@ use std::io::{ErrorKind, Read};
 use std::process::Abort;
 
 /// Stops the test unless this holds, and says the number of its row.
-fn assert_holds(rt: &impl Abort, fact: bool, row: usize) {
+pub fn assert_holds(rt: &impl Abort, fact: bool, row: usize) {
     assert!(rt; fact, "row {row}");
 }
 
 /// The words of a line.
-fn words_of(alloc: Global, line: &str) -> Result<Vec<String>, AllocError> {
+pub fn words_of(alloc: Global, line: &str) -> Result<Vec<String>, AllocError> {
     let mut words = Vec::new(alloc);
     for word in line.split(' ') {
         words.push(String::from_str(alloc, word)?)?;
@@ -35,7 +35,7 @@ type Failure = (
 );
 
 /// Nine bytes in three frames, of four bytes at most: the cause is that of the first call that failed.
-static FAILURES: [Failure; 7] = [
+static FAILURES: [Failure; 10] = [
     (
         "0 1 0 0 4",
         (0, ErrorKind::PermissionDenied),
@@ -86,6 +86,37 @@ static FAILURES: [Failure; 7] = [
             9 bytes, 7 frames, 0 lost, 0 repeated, 0 late, \
             0 refused, 0 bytes sent again, 1 rounds, 900 bytes a second\n",
     ),
+    // A call that would block isn't made again.
+    (
+        "0 1 0 0 4",
+        (1, ErrorKind::WouldBlock),
+        (NEVER, None),
+        None,
+        Status::Failed,
+        "net_link: read failed: operation would block\n\
+            9 bytes, 7 frames, 0 lost, 0 repeated, 0 late, \
+            0 refused, 0 bytes sent again, 1 rounds, 900 bytes a second\n",
+    ),
+    (
+        "0 1 0 0 4",
+        (NEVER, ErrorKind::Other),
+        (0, Some(ErrorKind::WouldBlock)),
+        None,
+        Status::Failed,
+        "net_link: write failed: operation would block\n\
+            0 bytes, 7 frames, 0 lost, 0 repeated, 0 late, \
+            0 refused, 0 bytes sent again, 1 rounds, 0 bytes a second\n",
+    ),
+    (
+        "0 1 0 0 4",
+        (NEVER, ErrorKind::Other),
+        (NEVER, None),
+        Some(ErrorKind::WouldBlock),
+        Status::Failed,
+        "net_link: write failed: operation would block\n\
+            9 bytes, 7 frames, 0 lost, 0 repeated, 0 late, \
+            0 refused, 0 bytes sent again, 1 rounds, 900 bytes a second\n",
+    ),
     // No call failed but the flush after it gave up, which says nothing more.
     (
         "99 0",
@@ -108,7 +139,7 @@ static FAILURES: [Failure; 7] = [
 ];
 
 /// Whether the program ends so, and standard error took what there was to say, and has it.
-fn is_so(ended: Ended, status: Status, errors: &Messages<Sink>, told: &str) -> bool {
+pub fn is_so(ended: Ended, status: Status, errors: &Messages<Sink>, told: &str) -> bool {
     ended
         == Ended {
             status,

@@ -1,0 +1,128 @@
+//! How often a copy reads, writes and flushes, and what it says on the way. The counts are those that a second
+//! program finds, written from docs/LINK.md.
+use crate::causes::{assert_holds, is_so, words_of};
+use net_link_serve::{Messages, Remembering, serve};
+use net_program::Status;
+use net_testing::{NEVER, Sink, Source};
+use std::alloc::{AllocError, Global};
+use std::io::ErrorKind;
+
+/// A copy, and what comes of it.
+struct Row {
+    /// The words of the command line.
+    words: &'static str,
+    /// How many bytes the input has, and how many of them a read gives at most.
+    input: (usize, usize),
+    /// How many calls of standard error are before the one that fails.
+    told_calls: usize,
+    /// How many reads, writes and flushes there are.
+    calls: (usize, usize, usize),
+    /// The status.
+    status: Status,
+    /// What standard error says.
+    told: &'static str,
+}
+
+static ROWS: [Row; 5] = [
+    // A read that fills the room, and a write of all of it.
+    Row {
+        words: "0 1 0 0 65536",
+        input: (262_144, usize::MAX),
+        told_calls: NEVER,
+        calls: (2, 1, 1),
+        status: Status::Done,
+        told: "262144 bytes, 9 frames, 0 lost, 0 repeated, 0 late, \
+            0 refused, 0 bytes sent again, 1 rounds, 26214400 bytes a second\n",
+    },
+    Row {
+        words: "0 1 0 0 16384 18446744073709551615",
+        input: (9, usize::MAX),
+        told_calls: NEVER,
+        calls: (2, 1, 1),
+        status: Status::Done,
+        told: "9 bytes, 3 frames, 0 lost, 0 repeated, 0 late, \
+            0 refused, 0 bytes sent again, 1 rounds, 900 bytes a second\n",
+    },
+    // Nothing comes, so the input's end isn't read.
+    Row {
+        words: "99 0",
+        input: (9, usize::MAX),
+        told_calls: NEVER,
+        calls: (1, 0, 1),
+        status: Status::GaveUp,
+        told: "net_link: gave up\n\
+            0 bytes, 200 frames, 200 lost, 0 repeated, 0 late, \
+            0 refused, 891 bytes sent again, 100 rounds, 0 bytes a second\n",
+    },
+    // The counts are shown nine times on the way.
+    Row {
+        words: "--progress 99 0 0 0 1 3000",
+        input: (15, 1),
+        told_calls: NEVER,
+        calls: (16, 15, 1),
+        status: Status::Done,
+        told: "1 bytes, 525 frames, 523 lost, 0 repeated, 0 late, \
+            0 refused, 266 bytes sent again, 256 rounds, 0 bytes a second\n\
+            2 bytes, 1215 frames, 1210 lost, 0 repeated, 0 late, \
+            0 refused, 698 bytes sent again, 512 rounds, 0 bytes a second\n\
+            2 bytes, 1727 frames, 1719 lost, 0 repeated, 0 late, \
+            0 refused, 954 bytes sent again, 768 rounds, 0 bytes a second\n\
+            4 bytes, 2364 frames, 2348 lost, 0 repeated, 0 late, \
+            0 refused, 1330 bytes sent again, 1024 rounds, 0 bytes a second\n\
+            5 bytes, 2894 frames, 2876 lost, 0 repeated, 0 late, \
+            0 refused, 1602 bytes sent again, 1280 rounds, 0 bytes a second\n\
+            6 bytes, 3445 frames, 3424 lost, 0 repeated, 0 late, \
+            0 refused, 1895 bytes sent again, 1536 rounds, 0 bytes a second\n\
+            8 bytes, 3978 frames, 3952 lost, 0 repeated, 0 late, \
+            0 refused, 2168 bytes sent again, 1792 rounds, 0 bytes a second\n\
+            10 bytes, 4800 frames, 4767 lost, 0 repeated, 0 late, \
+            0 refused, 2727 bytes sent again, 2048 rounds, 0 bytes a second\n\
+            12 bytes, 5393 frames, 5353 lost, 0 repeated, 0 late, \
+            0 refused, 3059 bytes sent again, 2304 rounds, 0 bytes a second\n\
+            15 bytes, 6107 frames, 6058 lost, 0 repeated, 0 late, \
+            0 refused, 3517 bytes sent again, 2552 rounds, 0 bytes a second\n",
+    },
+    // The line of the first 256 rounds isn't taken, and those after it are.
+    Row {
+        words: "--progress 99 0 0 0 3 600",
+        input: (9, usize::MAX),
+        told_calls: 0,
+        calls: (2, 2, 1),
+        status: Status::Done,
+        told: "3 bytes, 1446 frames, 1441 lost, 0 repeated, 0 late, \
+            0 refused, 2787 bytes sent again, 512 rounds, 0 bytes a second\n\
+            9 bytes, 1527 frames, 1521 lost, 0 repeated, 0 late, \
+            0 refused, 2907 bytes sent again, 552 rounds, 0 bytes a second\n",
+    },
+];
+
+/// As many bytes as an input has at most.
+static INPUT: [u8; 262_144] = [b'x'; 262_144];
+
+/// Whether a copy goes as a row says.
+fn goes_so(alloc: Global, row: &Row) -> Result<bool, AllocError> {
+    let words = words_of(alloc, row.words)?;
+    let (len, per_call) = row.input;
+    let (input, _) = INPUT.split_at(len.min(INPUT.len()));
+    let mut reader = Remembering::new(Source::failing(input, per_call, NEVER, ErrorKind::Other));
+    let mut writer = Remembering::new(Sink::new(alloc)?);
+    let mut errors = Messages::new(Sink::failing(
+        alloc,
+        usize::MAX,
+        row.told_calls,
+        Some(ErrorKind::Other),
+    )?);
+    let ended = serve(alloc, &words, &mut reader, &mut writer, &mut errors);
+    let sink = &writer.stream;
+    let calls = (reader.stream.calls, sink.calls, sink.flushes);
+    Ok(calls == row.calls && is_so(ended, row.status, &errors, row.told))
+}
+
+#[test]
+fn a_copy_makes_no_call_too_many(rt: HostRuntime) -> Result<(), AllocError> {
+    for i in 0..ROWS.len() {
+        let is_right = goes_so(rt.alloc(), &ROWS[i])?;
+        assert_holds(&rt, is_right, i);
+    }
+    Ok(())
+}
