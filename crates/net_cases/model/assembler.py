@@ -1,7 +1,7 @@
 """Assemblers: sets of positions in at most N runs."""
 from branches import Count, Order, Size, Test
 from drawing import TOP
-from showing import START, mix, show_digest, show_runs, truth, truths
+from showing import START, mix, show_digest, truth, truths
 
 SIZES = (1, 4, 32, 100)
 FITS = Order("assembler: end of a range and greatest number")
@@ -66,11 +66,10 @@ class Assembler:
 
     def show(self):
         count = RUNS[self.most](len(self.runs))
-        digest = mix(START, [end for run in self.runs for end in run])
+        digest = mix(START, 2 * [end for run in self.runs for end in run])
         digest = mix(digest, text_of(self.runs).encode())
         first = "".join(f" {start}-{end}" for start, end in self.runs[:2][::-1])
-        return (f"{front_of(self.runs)} {truth(count == 0)} {show_runs(self.runs)}{first} "
-                f"{show_digest(digest)}")
+        return f"{front_of(self.runs)} {truth(count == 0)} {count}{first} {show_digest(digest)}"
 
     def adding(self, name, offset, size, completes):
         """The runs with a range, or the word of why there are none."""

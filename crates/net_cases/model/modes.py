@@ -21,11 +21,11 @@ FAULT = {name: Test(f"run: ends with {name}") for name in (
 ROOM = Test("run: a write finds a full ring")
 RING = Size("run: capacity of a ring", 16, by=2)
 FULL = {most: Test(f"run: a range is refused by {most} runs") for most in (4, 32)}
-SHOWN = {most: Size(f"run: runs of a text of {most}", most.bit_length() - 1) for most in (4, 32)}
+BEFORE = {(verb, most): Count(f"run: runs of {most} before a line {verb}", most)
+          for verb in ("a", "t", "f", "p", "s", "r", "?") for most in (4, 32)}
 OFFSET = Size("run: offset of a range", 64, by=8)
 FIRST = Size("run: first position of a stream", 64, by=4)
 SECOND = Size("run: first position of a second schedule", 63, by=8)
-HELD = {most: Size(f"run: held runs that a stream of {most} shows", most.bit_length() - 1) for most in (4, 32)}
 LETTERS = Size("run: digits of a word with an upper case letter", 5, 2)
 LAST_FEED = Test("run: the last line ends with a line feed")
 LINE = Order("run: a line and 4,096 bytes")
@@ -139,15 +139,17 @@ class AsmMode:
             return self.add(words[0], *map(number_or_fault, words[1:]))
         if words == ["f"]:
             COMMANDS["f"](True)
+            BEFORE["f", self.most](len(self.runs))
             return self.remove()
         if words == ["p"]:
             COMMANDS["p"](True)
-            SHOWN[self.most](len(self.runs))
+            BEFORE["p", self.most](len(self.runs))
             return text_of(self.runs)
         raise Fault("bad command")
 
     def add(self, name, offset, size):
         COMMANDS[name](True)
+        BEFORE[name, self.most](len(self.runs))
         if offset + size > TOP:
             raise Fault("range too long")
         runs = with_range(self.runs, offset, offset + size)
@@ -176,12 +178,13 @@ class StreamMode:
             return self.segment(now, number_or_fault(words[1]), hex_bytes(words[2]))
         if len(words) == 2 and words[0] == "r":
             count = min(number_or_fault(words[1]), len(now.queue))
+            BEFORE["r", now.most](len(now.held))
             data = bytes(now.queue[:count])
             now.take(count)
             return f"read {shown(data)}"
         if words == ["?"]:
             COMMANDS["?"](True)
-            HELD[now.most](len(now.held))
+            BEFORE["?", now.most](len(now.held))
             return (f"next {now.next} queued {len(now.queue)} window {now.window} "
                     f"held {listed(now.held_runs())}")
         if words == ["--"]:
@@ -195,6 +198,7 @@ class StreamMode:
 
     def segment(self, now, pos, data):
         COMMANDS["s"](True)
+        BEFORE["s", now.most](len(now.held))
         if pos + len(data) > TOP:
             raise Fault("range too long")
         result = now.segment(pos, data)
@@ -391,10 +395,23 @@ def draw_run(random):
     return words, text if not text.endswith("\r") else text + ";"
 
 
+def each_count(most):
+    """Lines that make one run after another up to one that is refused, with the other lines of the mode
+    before each."""
+    for name in ("a", "t"):
+        lines = [line for number in range(1, most + 2) for line in ("p", "f", f"{name} {3 * number} 1")]
+        yield f"asm {most}", lines
+    yield f"stream 100 {most}", [line for number in range(1, most + 2) for line in ("?", "r 1", f"s {2 * number} 61")]
+
+
 def draw(random, cases, lines):
     """So many lines of numbers, of words of modes, and of inputs that are run."""
     until = len(cases.lines) + lines
     cases.begin("words")
+    for most in (4, 32):
+        for words, all_lines in each_count(most):
+            text = ";".join(all_lines)
+            cases.note(f"run {words}:{text}", run(words.split(" "), text))
     while len(cases.lines) < until:
         choice = random.below(3)
         if choice == 0:

@@ -135,9 +135,10 @@ class Pair:
 
     def show(self):
         now = self.now
-        runs, digest = now.held_runs(), show_digest(mix(START, now.queue))
-        return (f"{now.next - now.first} {len(now.queue)} {now.window} {show_runs(runs)} "
-                f"{self.listed(runs, 1)} {digest}")
+        runs = now.held_runs()
+        digest = mix(mix(START, [end for run in runs for end in run]), now.queue)
+        return (f"{now.next - now.first} {len(now.queue)} {now.window} {len(runs)} "
+                f"{self.listed(runs, 1)} {show_digest(digest)}")
 
     def listed(self, runs, count):
         """The first runs, counted from the stream's first position."""

@@ -538,6 +538,9 @@ def add_values(cases):
     for millis in range(1_000):
         cases.add("Duration", [millis * 1_000, 12], moments.text(millis * 1_000, 12))
         cases.add("Instant", [-millis * 1_000, 30], moments.text(-millis * 1_000, 30))
+    for secs in range(100):
+        cases.add("Duration", [secs * 1_010_000, 3], moments.text(secs * 1_010_000, 3))
+        cases.add("Instant", [secs * 1_010_000, 20], moments.text(secs * 1_010_000, 20))
 
 
 def add_lines(cases):

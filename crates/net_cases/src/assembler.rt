@@ -117,15 +117,16 @@ impl<const N: usize> Subject for Pair<N> {
         Ok(None)
     }
 
-    /// The front; whether the assembler is empty; its runs, by their number and digest; the first three of
-    /// them by their numbers; and the digest of all by their numbers and of the text.
+    /// The front; whether the assembler is empty; how many runs it has; the first two of them, the second
+    /// in front; and the digest of all runs, of all by their numbers, and of the text.
     fn show(&mut self, alloc: Global) -> Result<Reply, AllocError> {
         let text = self.now.to_string(alloc)?;
-        let digest = mix_bytes(mix_by_number(&self.now), text.as_bytes());
+        let (count, sum) = all_runs(&self.now);
+        let digest = mix_bytes(mix_by_number(sum, &self.now), text.as_bytes());
         let reply = Reply::new()
             .count(self.now.peek_front())
             .truth(self.now.is_empty())
-            .and(all_runs(&self.now));
+            .count(count);
         let reply = show_run(&self.now, 0, show_run(&self.now, 1, reply));
         Ok(reply.and(Part::Digest(digest)))
     }
@@ -140,19 +141,19 @@ fn show_run<const N: usize>(assembler: &Assembler<N>, number: usize, reply: Repl
 }
 
 /// Returns how many runs there are, and their digest, one after another.
-fn all_runs<const N: usize>(assembler: &Assembler<N>) -> Part {
+fn all_runs<const N: usize>(assembler: &Assembler<N>) -> (usize, u64) {
     let mut count: usize = 0;
     let mut sum = START;
     for (start, end) in assembler.iter_data() {
         count = count.saturating_add(1);
         sum = mix(mix(sum, start as u64), end as u64);
     }
-    Part::Many(count, sum)
+    (count, sum)
 }
 
-/// Returns the digest of all runs, by their numbers.
-fn mix_by_number<const N: usize>(assembler: &Assembler<N>) -> u64 {
-    let mut sum = START;
+/// Returns the digest with all runs, by their numbers.
+fn mix_by_number<const N: usize>(sum: u64, assembler: &Assembler<N>) -> u64 {
+    let mut sum = sum;
     for number in 0..N {
         if let Some((start, end)) = assembler.run_at(number) {
             sum = mix(mix(sum, start as u64), end as u64);

@@ -128,37 +128,36 @@ impl<const N: usize> Subject for Pair<N> {
         Ok(None)
     }
 
-    /// The first missing position, how many bytes are queued and how many have room, the held runs, by their
-    /// number and digest, the first of them, and the digest of the queue. Positions but those of the digest
-    /// are counted from the stream's first one.
+    /// The first missing position, how many bytes are queued and how many have room, how many runs are held,
+    /// the first of them, and the digest of all and of the queue. Positions but those of the digest are
+    /// counted from the stream's first one.
     fn show(&mut self, _: Global) -> Result<Reply, AllocError> {
+        let (held, sum) = all_held(&self.now);
         let reply = Reply::new()
             .number(self.now.next().wrapping_sub(self.first))
             .count(self.now.queued())
-            .count(self.now.window());
-        Ok(show_held(&self.now, self.first, reply).and(digest_of(&self.now)))
+            .count(self.now.window())
+            .count(held);
+        let reply = show_run(self.now.held().next(), self.first, reply);
+        Ok(reply.and(Part::Digest(mix_queue(sum, &self.now))))
     }
 }
 
-/// Returns the digest of a receiver's queue.
-fn digest_of<const N: usize>(receiver: &Receiver<'_, N>) -> Part {
+/// Returns the digest with a receiver's queue.
+fn mix_queue<const N: usize>(sum: u64, receiver: &Receiver<'_, N>) -> u64 {
     let (first, second) = receiver.as_slices();
-    Part::Digest(mix_bytes(mix_bytes(START, first), second))
+    mix_bytes(mix_bytes(sum, first), second)
 }
 
-/// Returns a reply with the held runs behind it, by their number and digest, and with the first of them.
-fn show_held<const N: usize>(receiver: &Receiver<'_, N>, first: u64, reply: Reply) -> Reply {
+/// Returns how many runs are held, and their digest.
+fn all_held<const N: usize>(receiver: &Receiver<'_, N>) -> (usize, u64) {
     let mut count: usize = 0;
     let mut sum = START;
     for (start, end) in receiver.held() {
         count = count.saturating_add(1);
         sum = mix(mix(sum, start), end);
     }
-    show_run(
-        receiver.held().next(),
-        first,
-        reply.and(Part::Many(count, sum)),
-    )
+    (count, sum)
 }
 
 /// Returns a reply with a run behind it, counted from a first position, if there is one.
