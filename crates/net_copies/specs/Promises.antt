@@ -19,7 +19,8 @@
 --     EnoughRounds, RoundsAtOnce      bounds where it is done, and where nothing is lost or late
 --     FewRounds, FewRoundsAnyway, FewFrames      bounds
 --     RoundKeeps, FewLate      how much is late after a round
---     HasEnded c, Stays, CopiedIs      an ended copy stays as it is, so that it is what comes of it
+--     HasEnded c, Stays, FinalIs, CopiedIs      an ended copy stays as it is, so that it is what comes of it
+--     EndsInOneTurn      it ended in the turn after those in which it went on
 --     has_end reads, Fills s reads      the input's end comes, and each read before it fills its room
 --     SameBytes, AllAtOnce      then what comes of a copy depends on the bytes alone
 use Rattle.std.specs.Prelude.{Bool, true, false, ◌≡◌, ℕ, suc, ◌+◌, ◌-◌, ◌*◌, ◌<◌, ◌≤◌, ◌^◌, ◌⊎◌, min, List, [], ◌∷◌, ◌++◌, length}
@@ -28,7 +29,7 @@ use Rattle.net_copies.specs.Fates.{FatesSeen, next_fate, fates_after, AllCome}
 use Rattle.net_copies.specs.declared.fate.Fate.TheVariants.{Lost}
 use Rattle.net_copies.specs.LinkState.{LinkState, transmit, late_frames, pass_frames, acknowledge_all, round}
 use Rattle.net_copies.specs.CopyState.{Setup, CopyState, Running, Done, GaveUp, feed, waited, while_running}
-use Rattle.net_copies.specs.CopyState.{is_written, room_for, after, outcome, copied}
+use Rattle.net_copies.specs.CopyState.{is_written, room_for, after, outcome, final, copied}
 use Rattle.net_copies.specs.Rounds.{CountsFates}
 use Rattle.net_copies.specs.Outgoing.{at_least_one}
 use Rattle.net_copies.specs.Stuck.{FatesFail}
@@ -216,7 +217,17 @@ abbrev pub Stays : Type 0
 Stays = (s : Setup) (reads : List (List ℕ)) (n k : ℕ) → HasEnded (after s reads n) →
     after s reads (n + k) ≡ after s reads n
 
--- what comes of a copy is what came of it when it had ended, after however many turns
+-- so that the final copy is the one that had ended, after however many turns
+abbrev pub FinalIs : Type 0
+FinalIs = (s : Setup) (reads : List (List ℕ)) (n : ℕ) → StartsFits s → HasEnded (after s reads n) →
+    final s reads ≡ after s reads n
+
+-- it ended in turn k + 1, before which it went on
+abbrev pub EndsInOneTurn : Type 0
+EndsInOneTurn = (s : Setup) (reads : List (List ℕ)) (n : ℕ) → HasEnded (after s reads n) →
+    (k : ℕ) × (k < n) × ((after s reads k).status ≡ Running) × (after s reads (suc k) ≡ after s reads n)
+
+-- what comes of a copy is what came of it when it had ended
 abbrev pub CopiedIs : Type 0
 CopiedIs = (s : Setup) (reads : List (List ℕ)) (n : ℕ) → StartsFits s → HasEnded (after s reads n) →
     copied s reads ≡ outcome (after s reads n)
