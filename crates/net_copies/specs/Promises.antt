@@ -13,6 +13,7 @@
 --     GivesUpIfFailed      it gives up only if each of these rounds failed
 --     NoneLost v, NeverByDelays      delays and repeats alone never end it
 --     EndsIfAllCome      over a link that loses and delays nothing it doesn't give up
+--     has_end reads, DoneIfAllCome      it is done, if the input's end comes
 --     CountsRounds, CountsEachFate      what the counts of rounds and of frames are
 --     GivesUpCounted, EnoughFailed, Unfinished      what a copy that gives up counts
 --     HasRoomAtOnce s, ExactRounds      the number of rounds where all comes at once
@@ -21,7 +22,7 @@
 --     RoundKeeps, FewLate      how much is late after a round
 --     HasEnded c, Stays, FinalIs, CopiedIs      an ended copy stays as it is, so that it is what comes of it
 --     EndsInOneTurn      it ended in the turn after those in which it went on
---     has_end reads, Fills s reads      the input's end comes, and each read before it fills its room
+--     Fills s reads      each read fills its room, but for the last one before the input's end
 --     SameBytes, AllAtOnce      then what comes of a copy depends on the bytes alone
 use Rattle.std.specs.Prelude.{Bool, true, false, ◌≡◌, ℕ, suc, ◌+◌, ◌-◌, ◌*◌, ◌<◌, ◌≤◌, ◌^◌, ◌⊎◌, min, List, [], ◌∷◌, ◌++◌, length}
 use Rattle.std.specs.Io.{StartsWith}
@@ -115,6 +116,18 @@ abbrev pub EndsIfAllCome : Type 0
 EndsIfAllCome = (s : Setup) (reads : List (List ℕ)) (n : ℕ) → CanPass s (after s reads n) →
     AllCome s.fates → AllCome s.ack_fates → 0 < s.rounds →
     (after s reads n).status ≡ GaveUp → ⊥
+
+-- whether the input's end comes, and no read fails before it
+abbrev pub has_end : List (List ℕ) → Bool
+has_end [] = false
+has_end ([] ∷ reads) = true
+has_end ((x ∷ xs) ∷ reads) = has_end reads
+
+-- so it is done, if the input's end comes
+abbrev pub DoneIfAllCome : Type 0
+DoneIfAllCome = (s : Setup) (reads : List (List ℕ)) → CanPass s (final s reads) →
+    AllCome s.fates → AllCome s.ack_fates → 0 < s.rounds → has_end reads ≡ true →
+    (copied s reads).status ≡ Done
 
 -- ---- what is counted
 -- a copy that goes on makes a round in each turn, and counts as many as 64 bits go
@@ -233,12 +246,6 @@ CopiedIs = (s : Setup) (reads : List (List ℕ)) (n : ℕ) → StartsFits s → 
     copied s reads ≡ outcome (after s reads n)
 
 -- ---- readers that fill what they are asked for
--- whether the input's end comes, and no read fails before it
-abbrev pub has_end : List (List ℕ) → Bool
-has_end [] = false
-has_end ([] ∷ reads) = true
-has_end ((x ∷ xs) ∷ reads) = has_end reads
-
 -- a copy asks its reader for bytes
 pub record Asks (chunk : ℕ) (c : CopyState) : Type 0 where
   pub running : c.status ≡ Running
