@@ -4,9 +4,9 @@ use Rattle.std.proofs.lemmas.Bool.{and_parts, both_ways, ltb-true}
 use Rattle.std.proofs.lemmas.List.{append-nil, take-append-le}
 use Rattle.std.proofs.Math.Seq.{drop-append_seam}
 use Rattle.net_copies.specs.Outgoing.{with_written}
-use Rattle.net_copies.specs.CopyState.{Setup, CopyState, Status, Running, Done, GaveUp, ReadFailed, begin, is_written, rest_of, room_for, read_of, with_read, feed, decide, pass, while_running, turn, after, outcome, most_turns}
+use Rattle.net_copies.specs.CopyState.{Setup, CopyState, Status, Running, Done, GaveUp, ReadFailed, begin, is_written, rest_of, room_for, read_of, with_read, feed, decide, pass, while_running, turn, after, outcome, most_turns, copied}
 use Rattle.net_copies.specs.Streams.{Known}
-use Rattle.net_copies.specs.Promises.{before_end, has_end, FillsAt, Fills, SameBytes, AllAtOnce}
+use Rattle.net_copies.specs.Promises.{before_end, EndsIfAllCome, has_end, DoneIfAllCome, FillsAt, Fills, SameBytes, AllAtOnce}
 use Rattle.net_copies.proofs.Kept.{split}
 use Rattle.net_copies.proofs.Turns.{feeds, decides, all_turned}
 use Rattle.net_copies.proofs.Prefix.{before_more, before_rest}
@@ -177,3 +177,31 @@ pub all_at_once : Known → AllAtOnce
 all_at_once known s reads fits fills end =
     let one = one_end (before_end reads) in
     same_bytes known s reads (before_end reads ∷ [] ∷ []) fits fills (one_fills s (before_end reads)) (end ∙ sym one.0) (sym one.1)
+
+-- ---- the input's end
+-- where the reads to come have an end, none fails
+abbrev EndComes : CopyState → Type 0
+EndComes c = (c.more ≡ true → has_end c.reads ≡ true) × (c.status ≡ ReadFailed → ⊥)
+
+end_read : (chunk : ℕ) (c : CopyState) → EndComes c → EndComes (feed chunk c)
+end_read chunk c h = feeds EndComes chunk c (λ more room all. by c.reads (h.0 more)) h
+  where
+    by : (reads : List (List ℕ)) → has_end reads ≡ true → EndComes (read_of (room_for chunk c.link) c reads)
+    by [] e = absurd (both_ways false refl e)
+    by ([] ∷ reads) e = (λ m. absurd (both_ways false refl m), h.1)
+    by ((x ∷ xs) ∷ reads) e = (λ m. end_stays (room_for chunk c.link) (x ∷ xs) reads (omega arith) ∙ e, h.1)
+
+end_comes : (s : Setup) (reads : List (List ℕ)) (n : ℕ) → has_end reads ≡ true → EndComes (after s reads n)
+end_comes s reads n e =
+    all_turned EndComes s.rounds s.chunk (λ c on h. end_read s.chunk c h)
+    (λ c on h. decides EndComes s.rounds c (λ none all. (h.0, λ f. absurd (cc))) (λ many. (h.0, λ f. absurd (cc))) (λ few. h))
+    (λ c on h. h) n (begin s reads) (λ _. e, λ f. absurd (cc))
+
+pub done_if_all_come : Known → EndsIfAllCome → DoneIfAllCome
+done_if_all_come known never s reads can come come_back some e = by (copied s reads).status refl
+  where
+    by : (st : Status) → (copied s reads).status ≡ st → (copied s reads).status ≡ Done
+    by Running is = absurd (let p = can.positions in ends known s reads (omega arith) is)
+    by Done is = is
+    by GaveUp is = absurd (never s reads (most_turns s reads) can come come_back some is)
+    by ReadFailed is = absurd ((end_comes s reads (most_turns s reads) e).1 is)

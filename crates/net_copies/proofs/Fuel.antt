@@ -5,9 +5,9 @@ use Rattle.std.proofs.lemmas.Bool.Decides.{nat_tests}
 use Rattle.std.proofs.Math.Nat.{add-mul}
 use Rattle.net_receiver.specs.OneStream.{SegmentReadsNothing}
 use Rattle.net_copies.specs.LinkState.{round}
-use Rattle.net_copies.specs.CopyState.{Setup, CopyState, Running, begin, read_of, room_for, feed, decide, waited, pass, while_running, turn, after, outcome, concat, most_turns}
+use Rattle.net_copies.specs.CopyState.{Setup, CopyState, Status, Running, Done, GaveUp, ReadFailed, begin, read_of, room_for, feed, decide, waited, pass, while_running, turn, after, outcome, concat, most_turns}
 use Rattle.net_copies.specs.Streams.{Known}
-use Rattle.net_copies.specs.Promises.{StartsFits, before_end, FewRoundsAnyway, Ends, Stays, CopiedIs}
+use Rattle.net_copies.specs.Promises.{StartsFits, before_end, FewRoundsAnyway, Ends, HasEnded, Stays, FinalIs, CopiedIs, EndsInOneTurn}
 use Rattle.net_copies.proofs.Steps.{stays, enough}
 use Rattle.net_copies.proofs.Turns.{while, feeds, decides, ended}
 use Rattle.net_copies.proofs.Grown.{grown}
@@ -155,11 +155,32 @@ ends known s reads fits on =
 pub stays_so : Stays
 stays_so s reads n k over = stays (turn s.rounds s.chunk) (begin s reads) n k (ended s.rounds s.chunk (after s reads n) over)
 
-pub copied_is : Known → CopiedIs
-copied_is known s reads n fits over =
+pub final_is : Known → FinalIs
+final_is known s reads n fits over =
     let f = turn s.rounds s.chunk in
     let m = most_turns s reads in
-    ap outcome (⊎_elim {C = after s reads m ≡ after s reads n}
+    ⊎_elim {C = after s reads m ≡ after s reads n}
     (λ (l : m < n). sym (enough f (begin s reads) m n (omega arith) (ended s.rounds s.chunk (after s reads m) (ends known s reads fits))))
     (λ (l : n ≤ m). enough f (begin s reads) n m l (ended s.rounds s.chunk (after s reads n) over))
-    (cases_lt m n))
+    (cases_lt m n)
+
+pub copied_is : Known → CopiedIs
+copied_is known s reads n fits over = ap outcome (final_is known s reads n fits over)
+
+pub ends_in_one_turn : EndsInOneTurn
+ends_in_one_turn s reads zero over = absurd (over refl)
+ends_in_one_turn s reads (suc n) over = by (after s reads n).status refl
+  where
+    ended_before : HasEnded (after s reads n) →
+        (k : ℕ) × (k < suc n) × ((after s reads k).status ≡ Running) × (after s reads (suc k) ≡ after s reads (suc n))
+    ended_before before =
+        let h = ends_in_one_turn s reads n before in
+        let few = h.1.0 in
+        (h.0, (let l : h.0 < suc n = omega arith in l), h.1.1.0, h.1.1.1 ∙ sym (ended s.rounds s.chunk (after s reads n) before))
+
+    by : (st : Status) → (after s reads n).status ≡ st →
+        (k : ℕ) × (k < suc n) × ((after s reads k).status ≡ Running) × (after s reads (suc k) ≡ after s reads (suc n))
+    by Running e = (n, (let l : n < suc n = omega arith in l), e, refl)
+    by Done e = ended_before (λ r. absurd (cc))
+    by GaveUp e = ended_before (λ r. absurd (cc))
+    by ReadFailed e = ended_before (λ r. absurd (cc))

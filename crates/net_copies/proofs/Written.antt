@@ -10,7 +10,7 @@ use Rattle.net_copies.specs.declared.error.LinkError.TheVariants as errors
 use Rattle.net_copies.specs.LinkState.{LinkState}
 use Rattle.net_copies.specs.declared.config.Config.{Config}
 use Rattle.net_copies.specs.Fates.{FatesSeen}
-use Rattle.net_copies.specs.CopyState.{setup_of, Setup, CopyState, Status, Done, GaveUp, ReadFailed, Outcome, begin, after, concat, feed, decide, pass, rest_of, read_of, room_for, while_running}
+use Rattle.net_copies.specs.CopyState.{setup_of, Setup, CopyState, Status, Done, GaveUp, ReadFailed, Outcome, begin, after, most_turns, final, concat, feed, decide, pass, rest_of, read_of, room_for, while_running}
 use Rattle.net_copies.specs.Copying.{before_pass, EndsRound, Copied, CopiedPart, HasCopied, HasNotBegun, Copies, HasPositions, gave_up}
 use Rattle.net_copies.specs.declared.counts.FrameCounts.{FrameCounts}
 use Rattle.net_copies.specs.Promises.{StartsFits, EnoughFailed}
@@ -85,10 +85,11 @@ module _ (known : Known) (s : Setup) (fits : StartsFits s) where
   copied_short : (status : Status) (had has held holds : Option (List ℕ)) (counts : Counts) (done : Bool) → (done ≡ true → status ≡ Done) →
       Copied s status had has held holds counts → Copies had has held holds counts.taken counts.bytes done
   copied_short status had has held holds counts done is p =
-      let c = after s p.reads p.turns in
-      let h = so_far known s p.reads fits p.turns in
+      let n = most_turns s p.reads in
+      let c = final s p.reads in
+      let h = so_far known s p.reads fits n in
       let written : p.written ≡ c.written ++ [] = sym (ap (λ (o : Outcome). o.written) p.ends) ∙ sym (append-nil c.written) in
-      in_short c p.reads [] (drop c.link.receiver.read c.given) had has held holds counts.taken counts.bytes done h (all_given p.reads s p.turns) p.made p.consumed
+      in_short c p.reads [] (drop c.link.receiver.read c.given) had has held holds counts.taken counts.bytes done h (all_given p.reads s n) p.made p.consumed
       (subst (Appends held holds) written p.appended)
       (ap (λ l. l ++ drop c.link.receiver.read c.given) (append-nil c.written) ∙ written_rest c s.first h.writes)
       (sym (ap (λ (o : Outcome). o.counts.taken) p.ends))
@@ -166,10 +167,10 @@ module _ (law : EnoughFailed) (config : Config) (fates ack_fates : FatesSeen) (w
   enough_of (Ok t) had has held holds counts p = tt
   enough_of (Err errors.GaveUp) had has held holds counts p = λ _ left some.
       let s = setup_of config fates ack_fates in
-      let c = after s p.reads p.turns in
+      let c = final s p.reads in
       let taken : min (length c.given) (2 ^ 64 - 1) ≡ counts.taken = ap (λ (o : Outcome). o.counts.taken) p.ends in
       subst (λ (f : FrameCounts). (config.rounds ≤ f.lost + f.late) × (config.rounds ≤ f.lost + 1)) (ap (λ (o : Outcome). o.counts.frames) p.ends)
-      (law s p.reads p.turns (record { outgoing = some; incoming = some; chunk = some; positions = omega (arith, taken, left) }) word
+      (law s p.reads (most_turns s p.reads) (record { outgoing = some; incoming = some; chunk = some; positions = omega (arith, taken, left) }) word
       (ap (λ (o : Outcome). o.status) p.ends))
   enough_of (Err errors.ReadFailed) had has held holds counts p = λ e. absurd (both_ways false refl e)
   enough_of (Err errors.OutOfMemory) had has held holds counts p = λ e. absurd (both_ways false refl e)

@@ -9,7 +9,7 @@
 --     turn rounds chunk c      these three; nothing once the copy has ended
 --     after s reads n      the copy after n turns
 --     Outcome, outcome c      what comes of it
---     copied s reads      what comes of a copy
+--     final s reads, copied s reads      the copy once it has ended, and what comes of it
 use Rattle.std.specs.Prelude.{ℕ, suc, ◌+◌, ◌*◌, ◌-◌, ◌^◌, ◌&&◌, ◌||◌, not, min, max, nat_lt, nat_le, nat_eq}
 use Rattle.std.specs.Prelude.{if◌then◌else◌, Bool, true, false}
 use Rattle.std.specs.Prelude.{List, [], ◌∷◌, ◌++◌, length, take, drop, flat_map}
@@ -206,5 +206,9 @@ concat lists = flat_map (λ xs. xs) lists
 abbrev pub most_turns : Setup → List (List ℕ) → ℕ
 most_turns s reads = suc ((2 * length (concat reads) + 1) * s.rounds)
 
+-- the copy once it has ended
+abbrev pub final : Setup → List (List ℕ) → CopyState
+final s reads = after s reads (most_turns s reads)
+
 abbrev pub copied : Setup → List (List ℕ) → Outcome
-copied s reads = outcome (after s reads (most_turns s reads))
+copied s reads = outcome (final s reads)

@@ -17,21 +17,19 @@ use Rattle.net_copies.specs.Counting.{more, no_counts}
 use Rattle.net_copies.specs.LinkState.{LinkState, round, StopsRound}
 use Rattle.net_copies.specs.CopyState as status
 use Rattle.net_copies.specs.CopyState.{Setup, CopyState, Status, Running, Done, concat, after, outcome}
-use Rattle.net_copies.specs.CopyState.{feed, decide, waited, while_running}
+use Rattle.net_copies.specs.CopyState.{feed, decide, waited, while_running, final, copied}
 use Rattle.net_copies.specs.declared.error.LinkError.{LinkError}
 use Rattle.net_copies.specs.declared.error.LinkError.TheVariants.{GaveUp, OutOfMemory}
 use Rattle.net_copies.specs.declared.error.LinkError.TheVariants.{ReadFailed, WriteFailed}
 
 -- ---- exactly
--- a copy that has ended so: in the state after so many turns of the reads that were made
+-- a copy that has ended so: it is what comes of the reads that were made, and those are all
 pub record Copied (s : Setup) (status : Status) (had has held holds : Option (List ℕ)) (counts : Counts)
     : Type 0 where
   pub reads : List (List ℕ)
-  pub turns : ℕ
   pub written : List ℕ
-  pub ends : outcome (after s reads turns)
-      ≡ record { status = status; written = written; counts = counts }
-  pub made : (after s reads turns).reads ≡ []
+  pub ends : copied s reads ≡ record { status = status; written = written; counts = counts }
+  pub made : (final s reads).reads ≡ []
   pub consumed : Consumes had has (concat reads)
   pub appended : Appends held holds written
   pub at_end : status ≡ Done → IsAtEnd has

@@ -13,14 +13,16 @@
 --     GivesUpIfFailed      it gives up only if each of these rounds failed
 --     NoneLost v, NeverByDelays      delays and repeats alone never end it
 --     EndsIfAllCome      over a link that loses and delays nothing it doesn't give up
+--     has_end reads, DoneIfAllCome      it is done, if the input's end comes
 --     CountsRounds, CountsEachFate      what the counts of rounds and of frames are
 --     GivesUpCounted, EnoughFailed, Unfinished      what a copy that gives up counts
 --     HasRoomAtOnce s, ExactRounds      the number of rounds where all comes at once
 --     EnoughRounds, RoundsAtOnce      bounds where it is done, and where nothing is lost or late
 --     FewRounds, FewRoundsAnyway, FewFrames      bounds
 --     RoundKeeps, FewLate      how much is late after a round
---     HasEnded c, Stays, CopiedIs      an ended copy stays as it is, so that it is what comes of it
---     has_end reads, Fills s reads      the input's end comes, and each read before it fills its room
+--     HasEnded c, Stays, FinalIs, CopiedIs      an ended copy stays as it is, so that it is what comes of it
+--     EndsInOneTurn      it ended in the turn after those in which it went on
+--     Fills s reads      each read fills its room, but for the last one before the input's end
 --     SameBytes, AllAtOnce      then what comes of a copy depends on the bytes alone
 use Rattle.std.specs.Prelude.{Bool, true, false, ◌≡◌, ℕ, suc, ◌+◌, ◌-◌, ◌*◌, ◌<◌, ◌≤◌, ◌^◌, ◌⊎◌, min, List, [], ◌∷◌, ◌++◌, length}
 use Rattle.std.specs.Io.{StartsWith}
@@ -28,7 +30,7 @@ use Rattle.net_copies.specs.Fates.{FatesSeen, next_fate, fates_after, AllCome}
 use Rattle.net_copies.specs.declared.fate.Fate.TheVariants.{Lost}
 use Rattle.net_copies.specs.LinkState.{LinkState, transmit, late_frames, pass_frames, acknowledge_all, round}
 use Rattle.net_copies.specs.CopyState.{Setup, CopyState, Running, Done, GaveUp, feed, waited, while_running}
-use Rattle.net_copies.specs.CopyState.{is_written, room_for, after, outcome, copied}
+use Rattle.net_copies.specs.CopyState.{is_written, room_for, after, outcome, final, copied}
 use Rattle.net_copies.specs.Rounds.{CountsFates}
 use Rattle.net_copies.specs.Outgoing.{at_least_one}
 use Rattle.net_copies.specs.Stuck.{FatesFail}
@@ -114,6 +116,18 @@ abbrev pub EndsIfAllCome : Type 0
 EndsIfAllCome = (s : Setup) (reads : List (List ℕ)) (n : ℕ) → CanPass s (after s reads n) →
     AllCome s.fates → AllCome s.ack_fates → 0 < s.rounds →
     (after s reads n).status ≡ GaveUp → ⊥
+
+-- whether the input's end comes, and no read fails before it
+abbrev pub has_end : List (List ℕ) → Bool
+has_end [] = false
+has_end ([] ∷ reads) = true
+has_end ((x ∷ xs) ∷ reads) = has_end reads
+
+-- so it is done, if the input's end comes
+abbrev pub DoneIfAllCome : Type 0
+DoneIfAllCome = (s : Setup) (reads : List (List ℕ)) → CanPass s (final s reads) →
+    AllCome s.fates → AllCome s.ack_fates → 0 < s.rounds → has_end reads ≡ true →
+    (copied s reads).status ≡ Done
 
 -- ---- what is counted
 -- a copy that goes on makes a round in each turn, and counts as many as 64 bits go
@@ -216,18 +230,22 @@ abbrev pub Stays : Type 0
 Stays = (s : Setup) (reads : List (List ℕ)) (n k : ℕ) → HasEnded (after s reads n) →
     after s reads (n + k) ≡ after s reads n
 
--- what comes of a copy is what came of it when it had ended, after however many turns
+-- so that the final copy is the one that had ended, after however many turns
+abbrev pub FinalIs : Type 0
+FinalIs = (s : Setup) (reads : List (List ℕ)) (n : ℕ) → StartsFits s → HasEnded (after s reads n) →
+    final s reads ≡ after s reads n
+
+-- it ended in turn k + 1, before which it went on
+abbrev pub EndsInOneTurn : Type 0
+EndsInOneTurn = (s : Setup) (reads : List (List ℕ)) (n : ℕ) → HasEnded (after s reads n) →
+    (k : ℕ) × (k < n) × ((after s reads k).status ≡ Running) × (after s reads (suc k) ≡ after s reads n)
+
+-- what comes of a copy is what came of it when it had ended
 abbrev pub CopiedIs : Type 0
 CopiedIs = (s : Setup) (reads : List (List ℕ)) (n : ℕ) → StartsFits s → HasEnded (after s reads n) →
     copied s reads ≡ outcome (after s reads n)
 
 -- ---- readers that fill what they are asked for
--- whether the input's end comes, and no read fails before it
-abbrev pub has_end : List (List ℕ) → Bool
-has_end [] = false
-has_end ([] ∷ reads) = true
-has_end ((x ∷ xs) ∷ reads) = has_end reads
-
 -- a copy asks its reader for bytes
 pub record Asks (chunk : ℕ) (c : CopyState) : Type 0 where
   pub running : c.status ≡ Running

@@ -15,9 +15,10 @@ use Rattle.net_program.specs.Writing.{FlushesAfter}
 use Rattle.net_copies.specs.declared.error.LinkError.{LinkError}
 use Rattle.net_copies.specs.declared.error.LinkError.TheVariants as errors
 use Rattle.net_copies.specs.LinkState.{LinkState, times, round}
-use Rattle.net_copies.specs.CopyState.{Setup, CopyState, Status, Running, Done, GaveUp, ReadFailed, after, outcome, concat}
+use Rattle.net_copies.specs.CopyState.{Setup, CopyState, Status, Running, Done, GaveUp, ReadFailed, after, final, outcome, concat}
 use Rattle.net_copies.specs.CopyState.{is_written, room_for, rest_of, read_of, with_read, feed, decide, waited, pass, while_running, turn}
 use Rattle.net_copies.specs.Counting.{more, no_counts}
+use Rattle.net_copies.specs.Promises.{FinalIs}
 use Rattle.net_copies.specs.Copying.{EndsRound, Copied, CopiedPart, HasCopied, HasNotBegun}
 use Rattle.net_stream.specs.Turns.{seen_copy, counts_of, Begins, Feeds, Passes, Breaks, CopiedSoFar}
 use Rattle.net_copies.proofs.Grown.{grown}
@@ -189,12 +190,12 @@ module _ {A : Type 0} (rounds chunk : ℕ) (old : Copier A) (had held : Option (
   }
 
   -- the last one, which ends so
-  pub last : (s : Setup) → Begins s rounds chunk old → (a b : Copier A) (has next holds : Option (List ℕ)) (fed status : Status) →
+  pub last : FinalIs → (s : Setup) → Begins s rounds chunk old → (a b : Copier A) (has next holds : Option (List ℕ)) (fed status : Status) →
       CopiedSoFar rounds chunk old a had has held holds → Feeds chunk a b has next fed →
       ((given written : List ℕ) → while_running (decide rounds) (seen_copy b [] given written fed) ≡ seen_copy b [] given written status) →
       ((given written : List ℕ) → while_running (pass chunk) (seen_copy b [] given written status) ≡ seen_copy b [] given written status) →
-      (status ≡ Done → b.more ≡ false) → Copied s status had next held holds (counts_of b)
-  last s begins a b has next holds fed status so_far f decided ended none =
+      (status ≡ Running → ⊥) → (status ≡ Done → b.more ≡ false) → Copied s status had next held holds (counts_of b)
+  last law s begins a b has next holds fed status so_far f decided ended over none =
       let reads = so_far.reads ++ f.reads in
       let g = concat reads in
       let state : after s reads (suc so_far.turns) ≡ seen_copy b [] g so_far.written status =
@@ -203,17 +204,18 @@ module _ {A : Type 0} (rounds chunk : ℕ) (old : Copier A) (had held : Option (
       (seen_copy b [] g so_far.written fed) (seen_copy b [] g so_far.written status) (seen_copy b [] g so_far.written status)
       (ap (λ rs. while_running (feed chunk) (times so_far.turns (turn rounds chunk) (seen_copy old rs [] [] Running))) (sym (append-nil reads))
       ∙ fed_more a b has next holds fed so_far f [] (λ _. refl)) (decided g so_far.written) (ended g so_far.written) in
+      let is : final s reads ≡ seen_copy b [] g so_far.written status =
+      law s reads (suc so_far.turns) begins.first_fits (λ r. over (sym (ap (λ (c : CopyState). c.status) state) ∙ r)) ∙ state in
       let bytes = f.bytes ∙ so_far.bytes in
       record {
         reads = reads;
-        turns = suc so_far.turns;
         written = so_far.written;
-        ends = ap outcome state ∙ (λ i. record {
+        ends = ap outcome is ∙ (λ i. record {
           status = status;
           written = so_far.written;
           counts = record (counts_of b) { taken = sym (taken_more a b has next holds fed so_far f) i; bytes = sym bytes i };
         });
-        made = ap (λ (c : CopyState). c.reads) state;
+        made = ap (λ (c : CopyState). c.reads) is;
         consumed = consumed_more a b has next holds fed so_far f;
         appended = so_far.appended;
         at_end = λ d. f.end so_far.end (none d);
@@ -269,7 +271,6 @@ copied_kept : (s : Setup) (status : Status) (had has held holds keeps : Option (
     Copied s status had has held holds counts → Copied s status had has held keeps counts
 copied_kept s status had has held holds keeps counts k p = record {
   reads = p.reads;
-  turns = p.turns;
   written = p.written;
   ends = p.ends;
   made = p.made;

@@ -2,12 +2,12 @@
 --     seen_copy c reads given written status      a copier, what its reads to come give, what they gave
 --         so far, and what was written
 --     counts_of c      its counts
---     Begins s rounds chunk c      nothing was done
+--     Begins s rounds chunk c, IsFresh c      nothing was done
 --     Feeds chunk old new had has ended      a read, or none, and what it gave
 --     Passes chunk old new had has      a round, and what was written
 --     Breaks chunk error old new had has      a round that the error ended
 --     CopiedSoFar rounds chunk old new had has held holds      turns of a copy that goes on
-use Rattle.std.specs.Prelude.{◌≡◌, ℕ, ◌+◌, ◌-◌, ◌^◌, min, false, List, [], ◌++◌, length, Option}
+use Rattle.std.specs.Prelude.{◌≡◌, ℕ, ◌+◌, ◌-◌, ◌^◌, min, true, false, List, [], ◌++◌, length, Option}
 use Rattle.std.specs.Io.KnownBytes.{Appends, Consumes, IsAtEnd}
 use Rattle.net_copies.specs.Counting.{more}
 use Rattle.net_copies.specs.declared.counts.Counts.{Counts}
@@ -17,6 +17,7 @@ use Rattle.net_copies.specs.LinkState.{LinkState, times}
 use Rattle.net_copies.specs.CopyState.{Setup, CopyState, Status, Running, ReadFailed, begin, concat}
 use Rattle.net_copies.specs.CopyState.{feed, pass, turn}
 use Rattle.net_copies.specs.Copying.{EndsRound}
+use Rattle.net_copies.specs.Promises.{StartsFits}
 
 abbrev pub seen_copy : {A : Type 0} → Copier A → List (List ℕ) → List ℕ → List ℕ → Status → CopyState
 seen_copy c reads given written status = record {
@@ -42,9 +43,16 @@ counts_of c = record {
 
 -- nothing was done of a copy of this setup
 pub record Begins {A : Type 0} (s : Setup) (rounds chunk : ℕ) (c : Copier A) : Type 0 where
+  pub first_fits : StartsFits s
   pub rounds_are : s.rounds ≡ rounds
   pub chunk_is : s.chunk ≡ chunk
   pub state : (reads : List (List ℕ)) → begin s reads ≡ seen_copy c reads [] [] Running
+
+-- nothing was read or written, and the reader may have more
+pub record IsFresh {A : Type 0} (c : Copier A) : Type 0 where
+  pub taken : c.taken ≡ 0
+  pub bytes : c.bytes ≡ 0
+  pub more : c.more ≡ true
 
 -- a read, or none: whatever the later reads give, this is what `feed` says
 pub record Feeds {A : Type 0} (chunk : ℕ) (old new : Copier A) (had has : Option (List ℕ)) (ended : Status)

@@ -1,13 +1,13 @@
 //! The turns of a copy: reading, passing a round, and writing.
 ghost use Rattle.std.specs.Prelude.{◌≡◌, ℕ, ◌+◌, ◌&&◌, ◌||◌, ◌⊎◌, ◌*◌, ◌^◌, ◌-◌, ◌<◌, min, not, nat_lt, nat_eq};
-ghost use Rattle.std.specs.Prelude.{length, true, OnOk, OnErr, IfErr, if◌then◌else◌};
+ghost use Rattle.std.specs.Prelude.{length, OnOk, OnErr, IfErr, if◌then◌else◌};
 ghost use Rattle.net_ring.specs.Managed.{elements};
 ghost use Rattle.net_receiver.specs.Stored.{stored_next};
 ghost use Rattle.net_copies.specs.Outgoing.{end_of};
 ghost use Rattle.net_copies.specs.declared.error.LinkError.TheVariants as errors;
 ghost use Rattle.net_copies.specs.CopyState.{Setup, setup_over, Running, ReadFailed, is_written};
 ghost use Rattle.net_copies.specs.Copying.{HasCopied};
-ghost use Rattle.net_stream.specs.Turns.{Feeds, Passes, Breaks, Begins, counts_of};
+ghost use Rattle.net_stream.specs.Turns.{Feeds, Passes, Breaks, Begins, IsFresh, counts_of};
 
 use crate::fates::LinkFates;
 use crate::link::Link;
@@ -62,9 +62,7 @@ impl<'a, 'f, A: Allocator + Copy> Copier<'a, 'f, A> {
         ensures begins { (chunk : ℕ) → let s = setup_over config (length (elements to_send.entry))
             (length (elements to_receive.entry)) chunk fates.entry.frames fates.entry.acks in
             Begins s config.rounds chunk result }
-        ensures taken { result.taken ≡ 0 }
-        ensures bytes { result.bytes ≡ 0 }
-        ensures more { result.more ≡ true }
+        ensures fresh { IsFresh result }
     {
         Copier {
             link: Link::new(
@@ -98,18 +96,11 @@ impl<'a, 'f, A: Allocator + Copy> Copier<'a, 'f, A> {
         }
     }
 
-    /// The position of the first byte that isn't acknowledged.
-    fn base(&self) -> u64
-        ensures { result ≡ self.now.link.sender.base }
-    {
-        self.link.sender.base()
-    }
-
     /// Whether a round let bytes go, or wrote some.
     fn has_brought_on(&self, base: u64, count: usize) -> bool
         ensures { result ≡ (not (nat_eq self.now.link.sender.base base) || nat_lt 0 count) }
     {
-        self.base() != base || count > 0
+        self.link.sender.base() != base || count > 0
     }
 
     /// Whether it is time for a read into so much room: once all that was read is written.
@@ -156,7 +147,7 @@ impl<'a, 'f, A: Allocator + Copy> Copier<'a, 'f, A> {
             (W.contents writer.old) (W.contents writer.new)) }
         ensures chunk { length chunk.new ≡ length chunk.old }
     {
-        let base = self.base();
+        let base = self.link.sender.base();
         self.rounds = self.rounds.saturating_add(1);
         self.link.wait(self.wait);
         if self.link.pass_round().is_err() {
@@ -195,14 +186,13 @@ impl<'a, 'f, A: Allocator + Copy> Copier<'a, 'f, A> {
         reader: &mut R,
         writer: &mut W,
     ) -> Result<(), LinkError>
-        requires taken { self.old.taken ≡ 0 }
-        requires bytes { self.old.bytes ≡ 0 }
-        requires more { self.old.more ≡ true }
+        requires { IsFresh self.old }
         ensures { (s : Setup) → Begins s rounds (length chunk.old) self.old →
             HasCopied s result (R.remaining reader.old) (R.remaining reader.new)
             (W.contents writer.old) (W.contents writer.new) (counts_of self.new) }
     {
         laws::known();
+        laws::ended();
         'turns: loop {
             self.feed(chunk, reader)?;
             if self.is_done() {

@@ -1,6 +1,6 @@
 //! How many turns, rounds and frames a copy makes, and how many frames are late.
 ghost use Rattle.net_copies.specs.Promises.{Ends, FewRoundsAnyway, FewFrames, RoundKeeps, CopyKeeps};
-ghost use Rattle.net_copies.specs.Promises.{Stays, CopiedIs};
+ghost use Rattle.net_copies.specs.Promises.{Stays, FinalIs, CopiedIs, EndsInOneTurn};
 
 use super::streams::known;
 
@@ -11,10 +11,13 @@ pub fn fuel()
     known();
 }
 
-/// A copy that has ended stays as it is, so that what comes of it is what it was then.
+/// A copy that has ended stays as it is, so that what comes of it is what it was then. It ended in one
+/// turn, before which it went on.
 pub fn ended()
     ensures stays { Stays }
+    ensures last { FinalIs }
     ensures copied { CopiedIs }
+    ensures turn { EndsInOneTurn }
 {
     known();
 }

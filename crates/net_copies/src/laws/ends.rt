@@ -1,6 +1,6 @@
 //! When a copy gives up.
 ghost use Rattle.net_copies.specs.Promises.{GivesUpAfter, NeverLater, GivesUpIfFailed};
-ghost use Rattle.net_copies.specs.Promises.{NeverByDelays, EndsIfAllCome, FewRounds};
+ghost use Rattle.net_copies.specs.Promises.{NeverByDelays, EndsIfAllCome, DoneIfAllCome, FewRounds};
 ghost use Rattle.net_copies.specs.Promises.{CountsRounds, CountsEachFate, GivesUpCounted, EnoughFailed};
 ghost use Rattle.net_copies.specs.Promises.{Unfinished, EnoughRounds, RoundsAtOnce, ExactRounds};
 ghost use Rattle.net_copies.specs.Links.{RoundBrings};
@@ -40,9 +40,10 @@ pub fn delays()
     known_of_rounds();
 }
 
-/// Over a link that loses and delays nothing a copy doesn't give up.
+/// Over a link that loses and delays nothing a copy doesn't give up: it is done, if the input's end comes.
 pub fn all_come()
-    ensures { EndsIfAllCome }
+    ensures never { EndsIfAllCome }
+    ensures done { DoneIfAllCome }
 {
     known_of_rounds();
 }

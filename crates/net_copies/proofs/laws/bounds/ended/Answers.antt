@@ -1,4 +1,4 @@
-use Rattle.net_copies.proofs.Fuel.{stays_so, copied_is}
+use Rattle.net_copies.proofs.Fuel.{stays_so, final_is, copied_is, ends_in_one_turn}
 use Rattle.net_copies.proofs.laws.bounds.ended.Goals as goal
 
 pub returns-clause-stays : goal.returns-clause-stays
@@ -6,3 +6,9 @@ returns-clause-stays c = stays_so
 
 pub returns-clause-copied : goal.returns-clause-copied
 returns-clause-copied c = copied_is c.known.ensures
+
+pub returns-clause-last : goal.returns-clause-last
+returns-clause-last c = final_is c.known.ensures
+
+pub returns-clause-turn : goal.returns-clause-turn
+returns-clause-turn c = ends_in_one_turn

@@ -22,7 +22,7 @@ returns-clause-ok g c =
     was_ok _ c.pass_round.result (sym c.is_err.ensures.value ∙ c.if-is_err.false) c.pass_round.ensures.state ∙ ap round c.wait.ensures.state in
     let brought : (not (nat_eq u.sender.base copy.link.sender.base) || nat_lt 0 (min chunk (length u.receiver.queue))) ≡ c.has_brought_on-brought.result =
     sym (c.has_brought_on-brought.ensures
-    ∙ (λ i. not (nat_eq (ap (λ (l : LinkState). l.sender.base) c.read-count.ensures.state i) (c.base-base.ensures i)) || nat_lt 0 (count i))) in
+    ∙ (λ i. not (nat_eq (ap (λ (l : LinkState). l.sender.base) c.read-count.ensures.state i) (c.base-base.ensures.value i)) || nat_lt 0 (count i))) in
     let counted = c.saturating_add-self-in-Ok.ensures in
     record {
       written = bytes;

@@ -58,9 +58,9 @@ returns-then-is_done g c = λ s begins.
     let next = g.R.Read.remaining c.feed.new.reader in
     let done = sym c.is_done.ensures.value ∙ c.if-is_done.true in
     last c.args.rounds (length c.args.chunk.now) c.args.self.now (g.R.Read.remaining c.args.reader.now)
-    (g.W.Write.contents c.args.writer.now) s begins a b has next (g.W.Write.contents c.turns.writer) Running Done i.so_far
+    (g.W.Write.contents c.args.writer.now) c.ended.ensures.last s begins a b has next (g.W.Write.contents c.turns.writer) Running Done i.so_far
     (subst (λ k. Feeds k a b has next Running) i.chunk c.in_ok-feed.ensures.ok)
-    (λ given written. is_over c.args.rounds (seen_copy b [] given written Running) done) (λ given written. refl) (λ e. is_done b.more _ done)
+    (λ given written. is_over c.args.rounds (seen_copy b [] given written Running) done) (λ given written. refl) (λ e. absurd (cc)) (λ e. is_done b.more _ done)
 
 pub returns-then-self-rounds : goal.returns-then-self-rounds
 returns-then-self-rounds g c = λ s begins.
@@ -70,10 +70,10 @@ returns-then-self-rounds g c = λ s begins.
     let has = g.R.Read.remaining c.turns.reader in
     let next = g.R.Read.remaining c.feed.new.reader in
     last c.args.rounds (length c.args.chunk.now) c.args.self.now (g.R.Read.remaining c.args.reader.now)
-    (g.W.Write.contents c.args.writer.now) s begins a b has next (g.W.Write.contents c.turns.writer) Running GaveUp i.so_far
+    (g.W.Write.contents c.args.writer.now) c.ended.ensures.last s begins a b has next (g.W.Write.contents c.turns.writer) Running GaveUp i.so_far
     (subst (λ k. Feeds k a b has next Running) i.chunk c.in_ok-feed.ensures.ok)
     (λ given written. gives_up c.args.rounds (seen_copy b [] given written Running) (sym c.is_done.ensures.value ∙ c.if-is_done.false) (omega arith))
-    (λ given written. refl) (λ e. absurd (cc))
+    (λ given written. refl) (λ e. absurd (cc)) (λ e. absurd (cc))
 
 pub returns-in_err-feed : goal.returns-in_err-feed
 returns-in_err-feed g c = λ s begins.
@@ -86,8 +86,8 @@ returns-in_err-feed g c = λ s begins.
     read_failed s c.from_residual.result c.in_err-feed.field-0.0 (g.R.Read.remaining c.args.reader.now) next (g.W.Write.contents c.args.writer.now) (g.W.Write.contents c.turns.writer) _
     (p.1 ∙ ap Err p.2) c.in_err-feed.ensures.kind
     (last c.args.rounds (length c.args.chunk.now) c.args.self.now (g.R.Read.remaining c.args.reader.now)
-    (g.W.Write.contents c.args.writer.now) s begins a b has next (g.W.Write.contents c.turns.writer) ReadFailed ReadFailed i.so_far
-    (subst (λ k. Feeds k a b has next ReadFailed) i.chunk c.in_err-feed.ensures.err) (λ given written. refl) (λ given written. refl) (λ e. absurd (cc)))
+    (g.W.Write.contents c.args.writer.now) c.ended.ensures.last s begins a b has next (g.W.Write.contents c.turns.writer) ReadFailed ReadFailed i.so_far
+    (subst (λ k. Feeds k a b has next ReadFailed) i.chunk c.in_err-feed.ensures.err) (λ given written. refl) (λ given written. refl) (λ e. absurd (cc)) (λ e. absurd (cc)))
 
 pub returns-in_err-pass : goal.returns-in_err-pass
 returns-in_err-pass g c = λ s begins.
