@@ -1,7 +1,8 @@
 -- Elements of a list that was written over.
 use Rattle.std.proofs.Common.{◌≡◌, ℕ, zero, suc, ◌+◌, ◌-◌, ◌<◌, ◌≤◌, ◌&&◌, List, [], ◌∷◌, ◌++◌}
 use Rattle.std.proofs.Common.{length, take, drop, get_or, refl, ap, ◌∙◌, arith, if◌then◌else◌}
-use Rattle.std.proofs.Common.{nat_le, nat_lt}
+use Rattle.std.proofs.Common.{nat_le, nat_lt, ◌≢◌, Some}
+use Rattle.std.specs.Prelude.{slice_get, slice_set}
 use Rattle.std.proofs.lemmas.List.{get_or-take, get_or-drop, get_or_append_left, get_or-append_right, length-take-le, length-take, take-append-drop, take_all}
 use Rattle.std.proofs.lemmas.Bool.Decides.{nat_tests}
 use Rattle.net_ring.specs.Overwrite.{overwrite, OverwritesAt}
@@ -48,3 +49,16 @@ module _ {X : Type 0} where
   overwrite-same xs i n =
       ap (λ (l : List X). take (length xs) (take i xs ++ l)) (take_and_rest (drop i xs) n)
       ∙ ap (take (length xs)) (take-append-drop i xs) ∙ take_all (length xs) xs (omega arith)
+
+  -- ---- one element that was set
+  pub slice_get-set_same : (xs : List X) (i : ℕ) (x : X) → i < length xs → slice_get (slice_set xs i x) i ≡ Some x
+  slice_get-set_same [] i x h = absurd (omega arith)
+  slice_get-set_same (y ∷ ys) zero x h = refl
+  slice_get-set_same (y ∷ ys) (suc i) x h = slice_get-set_same ys i x (omega arith)
+
+  pub slice_get-set_other : (xs : List X) (i k : ℕ) (x : X) → k ≢ i → slice_get (slice_set xs i x) k ≡ slice_get xs k
+  slice_get-set_other [] i k x ne = refl
+  slice_get-set_other (y ∷ ys) zero zero x ne = absurd (ne refl)
+  slice_get-set_other (y ∷ ys) zero (suc k) x ne = refl
+  slice_get-set_other (y ∷ ys) (suc i) zero x ne = refl
+  slice_get-set_other (y ∷ ys) (suc i) (suc k) x ne = slice_get-set_other ys i k x (λ e. ne (ap suc e))

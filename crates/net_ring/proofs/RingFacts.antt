@@ -298,6 +298,14 @@ module _ {T : Type 0} where
         let still : with_elements g p [] ≡ g = ap (λ b. ring b g.read_at g.count) (overwrite_none g.storage p) in
         subst (WritesQueue g i []) (sym still) (sym (overwrite_none (queue g) i), refl, refl)
 
+    -- a write over the last spare elements, which are those before the read index
+    pub freed_law : (k : ℕ) → freed_index g k + k ≤ capacity g → (ws : List T) → length ws ≡ k → k ≤ window g
+        → WritesSpare g (window g - k) ws (with_elements g (freed_index g k) ws)
+    freed_law k fits ws long room =
+        let at : capacity g - k ≡ g.count + (window g - k) = omega (arith, room, wf.1) in
+        spare_law (window g - k) (freed_index g k) ws (omega (arith, long, room)) (omega (arith, long, fits))
+        (subst (λ (j : ℕ). IsStorageIndex (capacity g) g.read_at j (freed_index g k)) at (storage_index_is g (capacity g - k)))
+
     pub spare_part_law : (i n : ℕ) (ws : List T) → length ws ≡ contiguous_window_from g i n → WritesSpare g i ws (with_elements g (spare_index g i) ws)
     spare_part_law i n ws e = elim (cases_lt (window g) i) [
       | inr h ↦ spare_law i (spare_index g i) ws (omega (arith, h, e)) (omega (arith, e, spare_index_le i)) (spare_at i h)

@@ -2,9 +2,11 @@
 //! of refusals.
 //!
 //! No function here does anything. A law of `ring_buffer::laws` speaks of `overwrite xs i ws` itself;
-//! `element_after_overwrite` speaks of any list that is equal to it, as one in a field is after a call.
+//! `element_after_overwrite` and `element_set` speak of any list that is equal to it, as one in a
+//! field is after a call.
 ghost use Rattle.std.specs.Prelude.{◌≡◌, ◌+◌, ◌-◌, ◌<◌, ◌≤◌, ◌&&◌, nat_le, nat_lt};
 ghost use Rattle.std.specs.Prelude.{ℕ, List, length, slice_index_or, if◌then◌else◌, IsTrue};
+ghost use Rattle.std.specs.Prelude.{◌≢◌, ◌∷◌, [], slice_get, slice_set, Some};
 ghost use Rattle.net_ring.specs.Overwrite.{overwrite};
 
 use crate::error::{Empty, Full};
@@ -28,6 +30,17 @@ pub fn element_after_overwrite<T>()
 {
     overwritten::<T>();
 }
+
+/// A list of which one element was written over is the list with that element set: the element is
+/// there, and the others are as they were.
+pub fn element_set<T>()
+    ensures set { (xs ys : List T) (i : ℕ) (x : T) → ys ≡ overwrite xs i (x ∷ []) →
+        ys ≡ slice_set xs i x }
+    ensures there { (xs ys : List T) (i : ℕ) (x : T) → ys ≡ overwrite xs i (x ∷ []) →
+        i < length xs → slice_get ys i ≡ Some x }
+    ensures others { (xs ys : List T) (i k : ℕ) (x : T) → ys ≡ overwrite xs i (x ∷ []) →
+        k ≢ i → slice_get ys k ≡ slice_get xs k }
+{}
 
 /// Two refusals of an enqueue are equal, and a clone of one is never refused.
 pub fn full(x: &Full, y: &Full)

@@ -13,7 +13,7 @@ use net_assembler::assembler::laws::{front as front_is_least, members};
 pub use net_assembler::laws::{
     front_after_remove_front, member_after_with_range, ranges_in_any_order,
 };
-pub use net_ring::laws::element_after_overwrite;
+pub use net_ring::laws::{element_after_overwrite, element_set};
 
 /// A buffer that is written over wherever lists come, with the set of the positions that were: one
 /// more write and its range keep the two true to the writes, and below the front of the set no

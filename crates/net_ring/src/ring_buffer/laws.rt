@@ -1,5 +1,6 @@
 //! Laws of rings and of their storage, over the definitions alone: the functions do nothing.
-ghost use Rattle.std.specs.Prelude.{◌≡◌, ◌+◌, ◌++◌, List, length, take, drop, ℕ};
+ghost use Rattle.std.specs.Prelude.{◌≡◌, ◌+◌, ◌++◌, ◌∷◌, [], List, length, take, drop, ℕ};
+ghost use Rattle.std.specs.Prelude.{slice_set};
 ghost use Rattle.net_ring.specs.Managed.{elements, with_part};
 ghost use Rattle.net_ring.specs.Overwrite.{overwrite, OverwritesAt};
 ghost use Rattle.net_ring.specs.Ring.{RingState, ring, capacity, window, queue, spare, from_start_if_empty};
@@ -46,10 +47,11 @@ pub fn storage_is_what_was_written<T>(storage: &ManagedSlice<'_, T>)
 {}
 
 /// A list that was written over has as many elements as before; at each index it has the element
-/// that was written there, and the old one if none was; and if a part of it was written over itself
-/// it is as it was.
+/// that was written there, and the old one if none was; if a part of it was written over itself it
+/// is as it was; and one element that is written over is that element set.
 pub fn overwritten<T>()
     ensures count { (xs ws : List T) (i : ℕ) → length (overwrite xs i ws) ≡ length xs }
     ensures element { (xs ws : List T) (i k : ℕ) (x : T) → OverwritesAt xs i ws k x }
     ensures same { (xs : List T) (i n : ℕ) → overwrite xs i (take n (drop i xs)) ≡ xs }
+    ensures one { (xs : List T) (i : ℕ) (x : T) → overwrite xs i (x ∷ []) ≡ slice_set xs i x }
 {}

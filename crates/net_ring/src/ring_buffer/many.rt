@@ -104,6 +104,12 @@ impl<T, S: Elements<T>> Ring<T, S> {
         ensures dequeued { let k = min size (contiguous_queued self.old) in
             (ws : List T) → length ws ≡ k → Dequeues self.old k ws
             (with_elements (with_dequeued k self.old) self.old.read_at ws) }
+        ensures room { let k = min size (contiguous_queued self.old) in
+            (ws : List T) → window (with_elements (with_dequeued k self.old) self.old.read_at ws)
+            ≡ window self.old + k }
+        ensures capacity { let k = min size (contiguous_queued self.old) in
+            (ws : List T) → capacity (with_elements (with_dequeued k self.old) self.old.read_at ws)
+            ≡ capacity self.old }
     {
         let from = self.read_at;
         let count = size.min(self.length.min(self.capacity() - from));

@@ -1,5 +1,6 @@
 //! One element at a time.
 ghost use Rattle.std.specs.Prelude.{◌≡◌, ◌≢◌, ◌↔◌, ◌+◌, drop, [], ◌∷◌, IsErr, OnErr, IfOk};
+ghost use Rattle.std.specs.Prelude.{is_ok, if◌then◌else◌};
 ghost use Rattle.std.specs.Borrow.{sem};
 ghost use Rattle.net_ring.specs.Ring.{window, queue, spare, write_at, with_elements, with_enqueued};
 ghost use Rattle.net_ring.specs.Ring.{with_dequeued, capacity, Enqueues, Dequeues};
@@ -30,6 +31,9 @@ impl<T, S: Elements<T>> Ring<T, S> {
         ensures full { IsErr result ↔ (window self.old ≡ 0) }
         ensures unchanged { OnErr result (self.new ≡ self.old) }
         ensures called { IfOk result (λ answer. CalledOnNext F.FnOnce f self.old answer self.new) }
+        ensures room { IfOk result (λ answer.
+            window self.new + (if is_ok answer then 1 else 0) ≡ window self.old) }
+        ensures capacity { capacity self.new ≡ capacity self.old }
     {
         if self.is_full() {
             return Err(Full);
@@ -100,6 +104,9 @@ impl<T, S: Elements<T>> Ring<T, S> {
         ensures empty { IsErr result ↔ (self.old.count ≡ 0) }
         ensures unchanged { OnErr result (self.new ≡ self.old) }
         ensures called { IfOk result (λ answer. CalledOnFirst F.FnOnce f self.old answer self.new) }
+        ensures room { IfOk result (λ answer.
+            window self.new ≡ window self.old + (if is_ok answer then 1 else 0)) }
+        ensures capacity { capacity self.new ≡ capacity self.old }
     {
         if self.is_empty() {
             return Err(Empty);
@@ -124,6 +131,10 @@ impl<T, S: Elements<T>> Ring<T, S> {
         ensures value { IfOk result (λ r. queue self.old ≡ r.now ∷ drop 1 (queue self.old)) }
         ensures dequeued { self.old.count ≢ 0 → (w : T) → Dequeues self.old 1 (w ∷ [])
             (with_elements (with_dequeued 1 self.old) self.old.read_at (w ∷ [])) }
+        ensures room { self.old.count ≢ 0 → (w : T) → window (with_elements
+            (with_dequeued 1 self.old) self.old.read_at (w ∷ [])) ≡ window self.old + 1 }
+        ensures capacity { self.old.count ≢ 0 → (w : T) → capacity (with_elements
+            (with_dequeued 1 self.old) self.old.read_at (w ∷ [])) ≡ capacity self.old }
     {
         if self.is_empty() {
             return Err(Empty);
@@ -141,6 +152,10 @@ impl<T, S: Elements<T>> Ring<T, S> {
         ensures value { queue self.old ≡ result.now ∷ drop 1 (queue self.old) }
         ensures dequeued { (w : T) → Dequeues self.old 1 (w ∷ [])
             (with_elements (with_dequeued 1 self.old) self.old.read_at (w ∷ [])) }
+        ensures room { (w : T) → window (with_elements
+            (with_dequeued 1 self.old) self.old.read_at (w ∷ [])) ≡ window self.old + 1 }
+        ensures capacity { (w : T) → capacity (with_elements
+            (with_dequeued 1 self.old) self.old.read_at (w ∷ [])) ≡ capacity self.old }
     {
         let at = self.read_at;
         self.read_at = self.next_index(1);

@@ -67,6 +67,9 @@ impl<T, S: Elements<T>> Ring<T, S> {
         ensures count { length result.now ≡ size }
         ensures stored { result.now
             ≡ take size (drop (freed_index self.old size) self.old.storage) }
+        ensures written { (ws : List T) → length ws ≡ size → size ≤ window self.old →
+            WritesSpare self.old (window self.old - size) ws
+            (with_elements self.old (freed_index self.old size) ws) }
     {
         let from = if size <= self.read_at {
             self.read_at - size

@@ -1,10 +1,12 @@
 use Rattle.std.proofs.Common.{◌≡◌, ◌∷◌, [], ◌∙◌, refl, ap, slice_index_or, arith}
 use Rattle.net_ring.specs.Ring.{storage_index}
 use Rattle.net_ring.proofs.RingFacts.{well, left_off, queue_head, dequeued_one}
+use Rattle.net_ring.proofs.Rotations.{length-overwrite}
 use Rattle.net_ring.proofs.ring_buffer.Ring.dequeue_first.Goals as goal
 
 pub returns : goal.returns
 returns g c =
+    let old = c.args.self.now in
     let is = c.self.view_is in
     let next : c.next_index-self-inside.result ≡ storage_index c.args.self.now 1 = omega (arith, ap (λ o. storage_index o 1) is) in
     let x = c.item_mut.result.now in
@@ -18,5 +20,7 @@ returns g c =
         writes_back = tt;
         value = queue_head _ (well _ _ is c.self.invariant) x here c.requires;
         dequeued = λ w. dequeued_one _ (well _ _ is c.self.invariant) w c.requires;
+        room = λ w. omega (arith, length-overwrite old.storage old.read_at (w ∷ []), c.requires, (well _ _ is c.self.invariant).1);
+        capacity = λ w. length-overwrite old.storage old.read_at (w ∷ []);
       },
     )

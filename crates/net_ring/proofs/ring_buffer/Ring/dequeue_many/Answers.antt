@@ -1,6 +1,7 @@
 use Rattle.std.proofs.Common.{◌≡◌, ◌-◌, ◌∙◌, refl, ap, min, arith}
 use Rattle.net_ring.specs.Ring.{contiguous_queued, storage_index}
 use Rattle.net_ring.proofs.RingFacts.{well, left_off, shown_head, dequeued_law, contiguous_head_some}
+use Rattle.net_ring.proofs.Rotations.{length-overwrite}
 use Rattle.net_ring.proofs.ring_buffer.Ring.dequeue_many.Goals as goal
 
 pub returns : goal.returns
@@ -21,5 +22,7 @@ returns g c =
         value = lent.1;
         stored = lent.2;
         dequeued = dequeued_law _ (well _ _ is c.self.invariant) _ (omega arith);
+        room = λ w. (let long = length-overwrite old.storage old.read_at w in omega (arith, long, (well _ _ is c.self.invariant).1));
+        capacity = λ w. length-overwrite old.storage old.read_at w;
       },
     )

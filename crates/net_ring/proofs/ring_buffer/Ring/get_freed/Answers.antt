@@ -1,6 +1,6 @@
 use Rattle.std.proofs.Common.{◌≡◌, ◌∙◌, ◌-◌, refl, ap, arith}
 use Rattle.net_ring.specs.Ring.{freed_index}
-use Rattle.net_ring.proofs.RingFacts.{left_at, shown_freed, freed_before, freed_round}
+use Rattle.net_ring.proofs.RingFacts.{well, left_at, shown_freed, freed_before, freed_round, freed_law}
 use Rattle.net_ring.proofs.ring_buffer.Ring.get_freed.Goals as goal
 use Rattle.net_ring.proofs.ring_buffer.Ring.get_freed.Goals.{then-size-self, else-size-self}
 
@@ -17,5 +17,10 @@ returns g c =
     ] in
     let lent = shown_freed _ _ is c.self.invariant k from _ c.requires.size c.requires.contiguous at (omega arith) _ c.part_mut.ensures.value in (
       (refl, λ w. left_at _ _ is c.self.invariant _ _ at _ w (g.met.S.Elements.part_written c.self.inside.storage from w)),
-      record { writes_back = tt; count = lent.0; stored = lent.1 },
+      record {
+        writes_back = tt;
+        count = lent.0;
+        stored = lent.1;
+        written = λ ws long room. freed_law old (well _ _ is c.self.invariant) k c.requires.contiguous ws long room;
+      },
     )
