@@ -34,7 +34,7 @@ SOURCES = ["crates/**/*", "compare/**/*", "tools/*", "crates.txt", "HANDLES", ".
 ELSEWHERE = set("""
     Gone FitsInMemory ManuallyDrop new_unchecked NonZero WouldBlock must_use non_exhaustive
     pad_integral styled write_char plant tidy my_crate directory logic dac8208d650f15bf
-    CAUSE DATA END MODULE PATH poll_at start_lib BUILD bazel
+    CAUSE DATA END MODULE PATH dev null poll_at start_lib BUILD bazel
 """.split())
 NAME = re.compile(r"[A-Za-z_][A-Za-z0-9_]*")
 
