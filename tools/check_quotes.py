@@ -19,7 +19,8 @@ In prose, between backquotes,
   ELSEWHERE: names of the kit, of Rust or of smoltcp that no source has, and parameters. A name that ends or begins
   with an underscore is short for all that begin or end so;
 - a path has to be a file's, from the top, from `crates` or from a crate's folder on;
-- a file with a number of lines after it, as `specs/Frames.antt`, 24 lines, has to have so many.
+- a file with a number of lines after it, such as `specs/Frames.antt`, 24 lines, has to have so many;
+- each name after the word "clause" has to be that of a clause of some function.
 
 Says what is not in the sources, and ends with status 1 if there is anything.
 """
@@ -34,7 +35,7 @@ SOURCES = ["crates/**/*", "compare/**/*", "tools/*", "crates.txt", "HANDLES", ".
 ELSEWHERE = set("""
     Gone FitsInMemory ManuallyDrop new_unchecked NonZero WouldBlock must_use non_exhaustive
     pad_integral styled write_char plant tidy my_crate directory logic dac8208d650f15bf
-    CAUSE DATA END MODULE PATH poll_at start_lib BUILD bazel
+    CAUSE DATA END MODULE PATH dev null poll_at start_lib BUILD bazel
 """.split())
 NAME = re.compile(r"[A-Za-z_][A-Za-z0-9_]*")
 
@@ -177,6 +178,14 @@ def spans(page):
                 yield number, span.group(1), line[span.end() :]
 
 
+def clauses_named(page):
+    """Each name between backquotes after the word `clause` or `clauses`, with its line's number."""
+    text = page.read_text()
+    for found in re.finditer(r"[Cc]lauses?\s+((?:`\w+`(?:,\s+|\s+and\s+)?)+)", text):
+        for name in re.findall(r"`(\w+)`", found.group(1)):
+            yield text.count("\n", 0, found.start()) + 1, name
+
+
 def is_there(page, span):
     """Whether a span is no path of a file, or has a parameter, or names one from the top, from `crates` or from a crate on."""
     if not re.fullmatch(r"[\w./]+/[\w.]+\.(antt|rt|py|md|rs|edit|svg)", span) or re.search(r"\b[A-Z]{4}", span):
@@ -230,7 +239,11 @@ def main():
                     quoted = len(names) == 1 and plain(says).rstrip(" }") in here.get(names[0], set())
                     counts["quoted" if quoted else "retold"] += 1
     named = names_of_sources()
+    all_clauses = {clause for here in known.values() for clauses in here.values() for clause in clauses}
     for page in [*pages, ROOT / "CONTRIBUTING.md"]:
+        for number, name in clauses_named(page):
+            if name not in all_clauses:
+                miss(page, number, f"no function has a clause {name}")
         for number, span, behind in spans(page):
             for name in NAME.findall(span):
                 if not is_named(name, named):
