@@ -15,11 +15,11 @@ PERFECT, GONE, MIXED = (0, 0, 0), (100, 0, 0), (20, 30, 30)
 
 def predicted(row):
     """How a copy ends, how often it reads, and what it counts."""
-    there, back = Direction(*WAYS[row.there]), Direction(*WAYS[row.back])
+    forward, reverse = Direction(*WAYS[row.forward]), Direction(*WAYS[row.reverse])
     sender, receiver = Sender(row.first, row.capacity), Receiver(row.first, row.capacity)
-    taken = written = carried = rounds = stuck = micros = reads = writes = 0
+    bytes_read = written = carried = rounds = stuck = micros = reads = writes = 0
     ended, wait = False, SHORTEST
-    most = flight = max(row.flight, 1)
+    most = burst = max(row.max_burst, 1)
     while True:
         room = min(sender.room(), row.capacity)
         if not ended and room and receiver.written == sender.end:
@@ -27,34 +27,34 @@ def predicted(row):
             if reads - 1 == row.read[1]:
                 end = "read failed"
                 break
-            count = min(room, row.length - taken, row.read[0] or LAST)
+            count = min(room, row.length - bytes_read, row.read[0] or LAST)
             ended = count == 0
             sender.take(count)
-            taken += count
+            bytes_read += count
         if ended and receiver.written == sender.end:
             end = "Ok"
             break
         if stuck >= row.rounds:
             end = "gave up"
             break
-        base, before = sender.base, receiver.written
-        frames, acks = sender.frames(max(row.payload, 1), flight), []
+        head, before = sender.first_unacknowledged, receiver.written
+        frames, acks = sender.frames(max(row.payload, 1), burst), []
         carried += sum(end - start for start, end in frames)
-        for frame in there.take_late():
+        for frame in forward.take_delayed():
             receiver.come(*frame)
             acks.append(receiver.acknowledgement())
         for frame in frames:
-            if there.comes(frame):
+            if forward.comes(frame):
                 receiver.come(*frame)
                 acks.append(receiver.acknowledgement())
         acks.append(receiver.acknowledgement())
-        for ack in back.take_late():
+        for ack in reverse.take_delayed():
             sender.acknowledge(*ack)
         for ack in acks:
-            if back.comes(ack):
+            if reverse.comes(ack):
                 sender.acknowledge(*ack)
         full = sender.is_full()
-        flight = min(most, max(flight // 2, MOST_RUNS) if full else flight + MOST_RUNS)
+        burst = min(most, max(burst // 2, MOST_RUNS) if full else burst + MOST_RUNS)
         rounds += 1
         micros += wait
         fails = False
@@ -68,15 +68,15 @@ def predicted(row):
         if fails:
             end = "write failed"
             break
-        moved = receiver.written > before or sender.base > base
+        moved = receiver.written > before or sender.first_unacknowledged > head
         stuck = 0 if moved else stuck + 1
         wait = SHORTEST if moved else min(2 * wait, LONGEST)
-    both = lambda name: getattr(there, name) + getattr(back, name)
-    counts = [taken, written, rounds, micros, both("sent"), carried, both("lost"), both("repeated"), both("came_late")]
+    both = lambda name: getattr(forward, name) + getattr(reverse, name)
+    counts = [bytes_read, written, rounds, micros, both("sent"), carried, both("lost"), both("duplicated"), both("came_delayed")]
     return end, reads, counts + [receiver.refused]
 
 
-# The fates of one direction: a list, and the rates behind it.
+# The fates of one direction: a list, and the rates after it.
 WAYS = {
     "ALL": ([], PERFECT),
     "NONE": ([], GONE),
@@ -87,16 +87,16 @@ WAYS = {
     "FOUR_LOST": ([L] * 4, PERFECT),
     "NINE_LOST": ([L] * 9, PERFECT),
     "THIRTY_LOST": ([L] * 30, PERFECT),
-    "FIRST_LATE": ([T], PERFECT),
-    "LATE_AND_REPEATED": ([T, D, R], PERFECT),
-    "THREE_LATE_THEN_NONE": ([T, T, T], GONE),
-    "FOUR_LATE_THEN_NONE": ([T] * 4, GONE),
-    "REPEATED_THEN_NONE": ([R, L, L, L], GONE),
+    "FIRST_DELAYED": ([T], PERFECT),
+    "DELAYED_AND_DUPLICATED": ([T, D, R], PERFECT),
+    "THREE_DELAYED_THEN_NONE": ([T, T, T], GONE),
+    "FOUR_DELAYED_THEN_NONE": ([T] * 4, GONE),
+    "DUPLICATED_THEN_NONE": ([R, L, L, L], GONE),
     "SECOND_THEN_NONE": ([L, D], GONE),
     "EACH_SECOND": ([L, D] * 40, PERFECT),
     "EACH_SECOND_THEN_NONE": ([L, D] * 40, GONE),
 }
-Row = collections.namedtuple("Row", "about there back length first capacity payload flight rounds read write")
+Row = collections.namedtuple("Row", "about forward reverse length first capacity payload max_burst rounds read write")
 PLAIN = Row("", "ALL", "ALL", 6, 0, 16, 2, 4096, 100, (None, None), (None, None))
 
 
@@ -105,44 +105,44 @@ def rows():
     eighty = dict(length=80, capacity=4096, payload=1)
     # Frames that fail.
     yield row("Three frames, an acknowledgement for each and one more.")
-    yield row("The second frame is lost, and it alone is sent again: the third was reported.", there="SECOND_LOST")
-    yield row("The first and the third are lost, and both are sent again.", there="FIRST_AND_THIRD_LOST")
-    yield row("One is late, and one comes twice.", there="LATE_AND_REPEATED")
-    yield row("All are late, and none that is sent after them comes: the late ones do.", there="THREE_LATE_THEN_NONE")
-    yield row("One comes twice, and none after it.", there="REPEATED_THEN_NONE")
-    yield row("Nothing comes.", there="NONE")
-    yield row(there="NONE", rounds=3)
-    yield row("A held run that was reported brings nothing on.", there="SECOND_THEN_NONE", rounds=5)
+    yield row("The second frame is lost, and it alone is sent again: the third is in a SACK block.", forward="SECOND_LOST")
+    yield row("The first and the third are lost, and both are sent again.", forward="FIRST_AND_THIRD_LOST")
+    yield row("One is delayed, and one comes twice.", forward="DELAYED_AND_DUPLICATED")
+    yield row("All are delayed, and none that is sent after them comes: the delayed ones do.", forward="THREE_DELAYED_THEN_NONE")
+    yield row("One comes twice, and none after it.", forward="DUPLICATED_THEN_NONE")
+    yield row("Nothing comes.", forward="NONE")
+    yield row(forward="NONE", rounds=3)
+    yield row("A SACK block makes no progress.", forward="SECOND_THEN_NONE", rounds=5)
     yield row("Of eighty frames each second is lost, and eight segments are refused; then nothing comes.",
-              there="EACH_SECOND_THEN_NONE", rounds=3, **eighty)
-    yield row("Waits double, and begin anew.", there="NINE_LOST")
-    yield row("They are a second at most.", there="THIRTY_LOST")
-    yield row("Each second one is lost: 32 runs are held and reported, and eight segments are refused.",
-              there="EACH_SECOND", **eighty)
-    yield row("It gives up after 101 rounds that brought nothing on.", there="NONE", rounds=101)
+              forward="EACH_SECOND_THEN_NONE", rounds=3, **eighty)
+    yield row("Waits double, and begin anew.", forward="NINE_LOST")
+    yield row("They are a second at most.", forward="THIRTY_LOST")
+    yield row("Each second one is lost: 32 runs are held, each a SACK block, and eight segments are refused.",
+              forward="EACH_SECOND", **eighty)
+    yield row("It gives up after 101 rounds without progress.", forward="NONE", rounds=101)
     # Acknowledgements that fail.
-    yield row("All was written, and the reader has no more: no acknowledgement is waited for.", back="FOUR_LOST")
-    yield row(back="NONE")
-    yield row("The sender's queue is full, and the reader isn't asked.", back="NONE", capacity=6, rounds=5)
-    yield row("Late acknowledgements come in the next round, and a repeated one comes at once.",
-              back="FOUR_LATE_THEN_NONE", capacity=6, rounds=5)
-    yield row(back="REPEATED_THEN_NONE", capacity=6, rounds=5)
-    yield row("What is written brings a copy on, and so does what is let go.",
-              back="FOUR_LOST", length=8, capacity=6, rounds=1)
+    yield row("All was written, and the reader has no more: no acknowledgement is waited for.", reverse="FOUR_LOST")
+    yield row(reverse="NONE")
+    yield row("The sender's queue is full, and the reader isn't asked.", reverse="NONE", capacity=6, rounds=5)
+    yield row("Delayed acknowledgements come in the next round, and a duplicated one comes at once.",
+              reverse="FOUR_DELAYED_THEN_NONE", capacity=6, rounds=5)
+    yield row(reverse="DUPLICATED_THEN_NONE", capacity=6, rounds=5)
+    yield row("What is written is progress, and so is what is acknowledged.",
+              reverse="FOUR_LOST", length=8, capacity=6, rounds=1)
     # Sizes and rates.
     for capacity in (1, 7, 4096):
         yield row(length=60, capacity=capacity, payload=5)
     yield row(payload=0)
-    yield row(there="SOME", back="SOME", length=60, capacity=4096, payload=5)
-    yield row("Two frames a round, and one.", length=10, flight=2)
-    yield row(flight=0)
+    yield row(forward="SOME", reverse="SOME", length=60, capacity=4096, payload=5)
+    yield row("Two frames a round, and one.", length=10, max_burst=2)
+    yield row(max_burst=0)
     yield row("Three bytes a read.", length=10, read=(3, None))
-    yield row(there="FIRST_LOST", length=10, read=(3, None))
+    yield row(forward="FIRST_LOST", length=10, read=(3, None))
     yield row("A read fills its room; the next one is made only once all of it is written.",
-              there="FIRST_LOST", length=20, capacity=8)
-    yield row(there="SECOND_LOST", back="FOUR_LOST", length=40, capacity=16, payload=4)
-    yield row(there="SOME", back="SOME", length=3_000, capacity=256, payload=16)
-    yield row("So it is while the flight is used up.", length=40, payload=1, flight=4)
+              forward="FIRST_LOST", length=20, capacity=8)
+    yield row(forward="SECOND_LOST", reverse="FOUR_LOST", length=40, capacity=16, payload=4)
+    yield row(forward="SOME", reverse="SOME", length=3_000, capacity=256, payload=16)
+    yield row("So it is while the burst is used up.", length=40, payload=1, max_burst=4)
     yield row("Nothing to copy takes no round, and so it is with no round allowed.", length=0)
     yield row(length=0, rounds=0)
     yield row(rounds=0)
@@ -151,12 +151,12 @@ def rows():
     yield row(length=11, first=LAST - 10)
     # Sizes that links are used at.
     yield row(length=100_000, capacity=65_536, payload=1400)
-    yield row("One frame, late, and so is its acknowledgement.",
-              there="FIRST_LATE", back="FIRST_LATE", length=100_000, capacity=262_144, payload=100_000)
+    yield row("One frame, delayed, and so is its acknowledgement.",
+              forward="FIRST_DELAYED", reverse="FIRST_DELAYED", length=100_000, capacity=262_144, payload=100_000)
     yield row("Frames of 65,536 bytes.", length=300_000, capacity=262_144, payload=65_528)
     yield row("The receiver has room for as many bytes as the sender.", length=300_000, capacity=300_000, payload=65_528)
     yield row("4,096 bytes a read, and the first frame is lost.",
-              there="FIRST_LOST", length=16_384, capacity=16_384, payload=1_000, read=(4_096, None))
+              forward="FIRST_LOST", length=16_384, capacity=16_384, payload=1_000, read=(4_096, None))
     yield row("Two thousand rounds.", length=2000, capacity=1)
     # Reads and writes that fail: none is tried again.
     six = dict(capacity=4096, payload=1)
@@ -164,10 +164,10 @@ def rows():
         yield row(read=(3, call), write=(2, None), **six)
     for call in (0, 1, 3, None):
         yield row(read=(3, None), write=(2, call), **six)
-    yield row("A read fails while bytes are on their way.", there="SECOND_LOST", read=(None, 1), capacity=7)
-    yield row(there="EACH_SECOND", read=(None, 1), write=(40, None), **eighty)
+    yield row("A read fails while bytes are in flight.", forward="SECOND_LOST", read=(None, 1), capacity=7)
+    yield row(forward="EACH_SECOND", read=(None, 1), write=(40, None), **eighty)
     for call in (1, 2):
-        yield row(there="EACH_SECOND", write=(40, call), **eighty)
+        yield row(forward="EACH_SECOND", write=(40, call), **eighty)
     yield row("Of a write of 5,000 bytes 4,500 are taken.", length=5_000, capacity=8_192, payload=5_000, write=(4_500, 1))
 
 
@@ -178,11 +178,11 @@ def number(value):
 def case(row):
     """A row, in Rust."""
     end, reads, counts = predicted(row)
-    config = ", ".join(map(number, (row.length, row.first, row.capacity, row.payload, row.flight, row.rounds)))
+    config = ", ".join(map(number, (row.length, row.first, row.capacity, row.payload, row.max_burst, row.rounds)))
     calls = row.read + row.write
     calls = "TO_THE_END" if calls == (None,) * 4 else f"({', '.join(map(number, calls))})"
     about = f"    // {row.about}\n" if row.about else ""
-    parts = [row.there, row.back, f"({config})", calls, f'("{end}", {reads})', f"[{', '.join(map(number, counts))}]"]
+    parts = [row.forward, row.reverse, f"({config})", calls, f'("{end}", {reads})', f"[{', '.join(map(number, counts))}]"]
     line = f"    Case({', '.join(parts)}),"
     return about + (line if len(line) <= 100 else "    Case(\n" + "".join(f"        {it},\n" for it in parts) + "    ),")
 

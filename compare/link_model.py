@@ -15,7 +15,7 @@ import tempfile
 
 from link_parts import LONGEST, MOST_RUNS, SHORTEST, Direction, Receiver, Sender
 
-BUFFER, MOST_FRAMES, MOST_ROUNDS = 262_144, 4_096, 100
+BUFFER, MAX_BURST, MOST_ROUNDS = 262_144, 4_096, 100
 SHOWN_EACH, GAVE_UP = 256, 3
 LOSSES, LENGTHS, PAYLOADS = [80, 90, 95, 99], [2**16, 2**20, 2**24], [100, 1_460, 16_384]
 
@@ -23,17 +23,17 @@ LOSSES, LENGTHS, PAYLOADS = [80, 90, 95, 99], [2**16, 2**20, 2**24], [100, 1_460
 class Copy:
     """A copy: what the words ask for, how far it is, and what it counts."""
 
-    def __init__(self, loss, seed, repeated, late, payload, rounds):
-        rates = loss, repeated, late
-        self.there, self.back = Direction([], rates, seed), Direction([], rates, 2**64 - 1 - seed)
+    def __init__(self, loss, seed, duplicated, delayed, payload, rounds):
+        rates = loss, duplicated, delayed
+        self.forward, self.reverse = Direction([], rates, seed), Direction([], rates, 2**64 - 1 - seed)
         self.sender, self.receiver = Sender(0, BUFFER), Receiver(0, BUFFER)
         self.payload, self.most_rounds = payload, rounds
-        self.flight, self.wait = MOST_FRAMES, SHORTEST
-        self.taken = self.carried = self.rounds = self.stuck = self.micros = 0
+        self.burst, self.wait = MAX_BURST, SHORTEST
+        self.bytes_read = self.carried = self.rounds = self.stuck = self.micros = 0
         self.ended = False
 
     def is_written(self):
-        return self.receiver.written == self.taken
+        return self.receiver.written == self.bytes_read
 
     def read(self, give):
         """A read, once all that was read is written: it gives no more than there is room for."""
@@ -42,36 +42,36 @@ class Copy:
             count = give(room)
             self.ended = count == 0
             self.sender.take(count)
-            self.taken += count
+            self.bytes_read += count
 
     def exchange(self):
-        """Frames go there, and acknowledgements back."""
-        there, back, sender, receiver = self.there, self.back, self.sender, self.receiver
-        frames, acks = sender.frames(self.payload, self.flight), []
+        """Frames go on the forward path, and acknowledgements on the reverse one."""
+        forward, reverse, sender, receiver = self.forward, self.reverse, self.sender, self.receiver
+        frames, acks = sender.frames(self.payload, self.burst), []
         self.carried += sum(end - start for start, end in frames)
-        for frame in there.take_late():
+        for frame in forward.take_delayed():
             receiver.come(*frame)
             acks.append(receiver.acknowledgement())
         for frame in frames:
-            if there.comes(frame):
+            if forward.comes(frame):
                 receiver.come(*frame)
                 acks.append(receiver.acknowledgement())
         acks.append(receiver.acknowledgement())
-        for ack in back.take_late():
+        for ack in reverse.take_delayed():
             sender.acknowledge(*ack)
         for ack in acks:
-            if back.comes(ack):
+            if reverse.comes(ack):
                 sender.acknowledge(*ack)
 
     def make_round(self):
-        base, written = self.sender.base, self.receiver.written
+        head, written = self.sender.first_unacknowledged, self.receiver.written
         self.exchange()
         full = self.sender.is_full()
-        self.flight = max(self.flight // 2, MOST_RUNS) if full else min(self.flight + MOST_RUNS, MOST_FRAMES)
+        self.burst = max(self.burst // 2, MOST_RUNS) if full else min(self.burst + MOST_RUNS, MAX_BURST)
         self.receiver.written = self.receiver.next
         self.rounds += 1
         self.micros += self.wait
-        moved = self.receiver.written > written or self.sender.base > base
+        moved = self.receiver.written > written or self.sender.first_unacknowledged > head
         self.stuck = 0 if moved else self.stuck + 1
         self.wait = SHORTEST if moved else min(2 * self.wait, LONGEST)
 
@@ -88,11 +88,11 @@ class Copy:
                 shown.append(self.line())
 
     def line(self):
-        both = lambda name: getattr(self.there, name) + getattr(self.back, name)
+        both = lambda name: getattr(self.forward, name) + getattr(self.reverse, name)
         written = self.receiver.written
         return (
-            f"{written} bytes, {both('sent')} frames, {both('lost')} lost, {both('repeated')} repeated, "
-            f"{both('came_late')} late, {self.receiver.refused} refused, {max(self.carried - self.taken, 0)} bytes sent again, "
+            f"{written} bytes, {both('sent')} frames, {both('lost')} lost, {both('duplicated')} duplicated, "
+            f"{both('came_delayed')} delayed, {self.receiver.refused} refused, {max(self.carried - self.bytes_read, 0)} bytes sent again, "
             f"{self.rounds} rounds, {written * 1_000_000 // max(self.micros, 1)} bytes a second\n"
         )
 
@@ -160,7 +160,7 @@ def run_cases(program, cases, draw):
 
 
 def gives_up(copies):
-    """Prints how many copies give up, each with its number as SEED and nothing repeated or late."""
+    """Prints how many copies give up, each with its number as SEED and nothing duplicated or delayed."""
     print("| LOSS | BYTES | " + " | ".join(f"{length // 1024:,} KiB" for length in LENGTHS) + " |")
     print("|---:|---:|" + "---:|" * len(LENGTHS))
     for loss in LOSSES:

@@ -3,43 +3,43 @@ of net_link share.
 """
 
 MOST_RUNS, SHORTEST, LONGEST, LAST = 32, 10_000, 1_000_000, 2**64 - 1
-D, L, R, T = "DELIVERED", "LOST", "REPEATED", "LATE"
+D, L, R, T = "DELIVERED", "LOST", "DUPLICATED", "DELAYED"
 
 
 class Direction:
-    """One direction of the link: the fates of a list, then drawn ones; what is late; what became of its frames."""
+    """One direction of the link: the fates of a list, then drawn ones; what is delayed; what became of its frames."""
 
     def __init__(self, listed, rates, seed=1):
         self.listed, self.state, self.rates = list(listed), seed, rates
-        self.late = []
-        self.sent = self.lost = self.repeated = self.came_late = 0
+        self.delayed = []
+        self.sent = self.lost = self.duplicated = self.came_delayed = 0
 
     def fate(self):
         if self.listed:
             return self.listed.pop(0)
         self.state = (self.state * 0xBB2EFCEC3C39611D + 0x7590EF39) % 2**64
         word = self.state // 2 ** (29 - self.state // 2**61) % 2**32
-        lost, repeated, late = self.rates
+        lost, duplicated, delayed = self.rates
         if word % 100 < lost:
             return L
-        if word // 100 % 100 < repeated:
+        if word // 100 % 100 < duplicated:
             return R
-        return T if word // 10_000 % 100 < late else D
+        return T if word // 10_000 % 100 < delayed else D
 
     def comes(self, frame):
-        """Whether a frame comes at once; one that comes late, or once more, is kept for the next round."""
+        """Whether a frame comes at once; one that is delayed, or comes once more, is kept for the next round."""
         fate = self.fate()
         self.sent += 1
         self.lost += fate == L
-        self.repeated += fate == R
-        self.came_late += fate == T
+        self.duplicated += fate == R
+        self.came_delayed += fate == T
         if fate in (R, T):
-            self.late.append(frame)
+            self.delayed.append(frame)
         return fate in (D, R)
 
-    def take_late(self):
-        late, self.late = self.late, []
-        return late
+    def take_delayed(self):
+        delayed, self.delayed = self.delayed, []
+        return delayed
 
 
 class Receiver:
@@ -68,35 +68,35 @@ class Receiver:
 
 
 class Sender:
-    """The positions that are kept, the ranges that were reported, and where the buffer begins again."""
+    """The positions that are kept, the SACK blocks, and where the buffer begins again."""
 
     def __init__(self, first, capacity):
-        self.base = self.end = first
+        self.first_unacknowledged = self.end = first
         self.capacity, self.again, self.ranges = capacity, first + capacity, []
 
     def room(self):
-        return min(self.capacity - (self.end - self.base), LAST - self.end)
+        return min(self.capacity - (self.end - self.first_unacknowledged), LAST - self.end)
 
     def take(self, count):
-        if self.base == self.end:
-            self.again = self.base + self.capacity
+        if self.first_unacknowledged == self.end:
+            self.again = self.first_unacknowledged + self.capacity
         self.end += count
 
     def acknowledge(self, position, ranges):
-        if self.base <= position <= self.end:
-            self.base, self.ranges = position, ranges
-            if self.base >= self.again:
+        if self.first_unacknowledged <= position <= self.end:
+            self.first_unacknowledged, self.ranges = position, ranges
+            if self.first_unacknowledged >= self.again:
                 self.again += self.capacity
 
     def is_full(self):
         return len(self.ranges) == MOST_RUNS
 
-    def frames(self, payload, flight):
-        """The frames of a round, each where it begins and ends. Reported ranges rise and don't meet."""
-        frames, place = [], self.base
+    def frames(self, payload, burst):
+        """The frames of a round, each where it begins and ends. SACK blocks rise and don't meet."""
+        frames, place = [], self.first_unacknowledged
         for start, end in [*self.ranges, (self.end, self.end)]:
             is_last = self.is_full() and place == self.ranges[-1][1]
-            while place < min(start, self.end) and len(frames) < flight:
+            while place < min(start, self.end) and len(frames) < burst:
                 ends = [place + payload, start, self.end] + [self.again] * (place < self.again)
                 frames.append((place, min(ends)))
                 place = min(ends)

@@ -16,7 +16,7 @@ import time
 LOSSES = [0, 5, 10, 15, 20, 25, 30, 35, 40, 45, 50]
 PAYLOADS = [1, 16, 128, 1_460, 16_384]
 COUNTS = re.compile(
-    r"(\d+) bytes, (\d+) frames, (\d+) lost, (\d+) repeated, (\d+) late, (\d+) refused, "
+    r"(\d+) bytes, (\d+) frames, (\d+) lost, (\d+) duplicated, (\d+) delayed, (\d+) refused, "
     r"(\d+) bytes sent again, (\d+) rounds, (\d+) bytes a second"
 )
 WIDTH, HEIGHT, LEFT, BOTTOM, TOP, RIGHT = 640, 360, 60, 50, 50, 20
@@ -78,16 +78,16 @@ def by_payload(words, source, target):
 
 def by_loss(words, source, target):
     """Runs the program once for each loss, and returns how much was sent again for each byte."""
-    print("| Lost of 100 | Seconds | MB a second | Frames | Lost | Repeated | Late | Refused | Bytes sent again "
+    print("| Lost of 100 | Seconds | MB a second | Frames | Lost | Duplicated | Delayed | Refused | Bytes sent again "
           "| Rounds | Bytes a second of simulated time |")
     print("|---:|---:|---:|---:|---:|---:|---:|---:|---:|---:|---:|")
     points = []
     for loss in LOSSES:
         seconds, counts = run(words.program, (loss, words.seed), source, target)
-        sent, frames, lost, repeated, late, refused, again, rounds, rate = counts
+        sent, frames, lost, duplicated, delayed, refused, again, rounds, rate = counts
         points.append((loss, again / max(sent, 1)))
-        print(f"| {loss} | {seconds:.2f} | {sent / seconds / 1e6:,.0f} | {frames:,} | {lost:,} | {repeated:,} "
-              f"| {late:,} | {refused:,} | {again:,} | {rounds:,} | {rate:,} |")
+        print(f"| {loss} | {seconds:.2f} | {sent / seconds / 1e6:,.0f} | {frames:,} | {lost:,} | {duplicated:,} "
+              f"| {delayed:,} | {refused:,} | {again:,} | {rounds:,} | {rate:,} |")
     return points
 
 

@@ -129,7 +129,7 @@ impl<'a, A: Assembler> Receiver<'a, A> {
         count
     }
 
-    /// The bytes in a row at the front of the queue.
+    /// The contiguous bytes at the front of the queue.
     #[inline]
     pub fn peek(&self) -> &[u8] {
         self.ring.get_allocated(0, self.ring.len())

@@ -29,10 +29,10 @@ module _ {n : ℕ} (h : SortedRuns n) (s : HasSoundPairs h) where
   length-pairs_of = length-take-le h.used h.pairs within
 
   pub length-runs_of : length (runs_of h) ≡ h.used
-  length-runs_of = length-up h.hole (pairs_of h) ∙ length-pairs_of
+  length-runs_of = length-up h.first_start (pairs_of h) ∙ length-pairs_of
 
   pub are_runs : AreRuns (runs_of h)
-  are_runs = runs-up h.hole (pairs_of h) s.runs
+  are_runs = runs-up h.first_start (pairs_of h) s.runs
 
   pub runs-set_of : runs (set_of h) ≡ h.used
   runs-set_of = runs-set_of_runs (runs_of h) are_runs ∙ length-runs_of
@@ -66,40 +66,40 @@ module _ {n : ℕ} (h : SortedRuns n) (s : HasSoundPairs h) where
       let p = apart 0 (pairs_of h) i k s.runs l (omega (arith, length-pairs_of)) in
       omega (arith, p, start_of k m, end_of i (omega arith))
 
-  pub pair_fits : (k : ℕ) → k < h.used → h.hole + end_at h.pairs k < 2 ^ 64
+  pub pair_fits : (k : ℕ) → k < h.used → h.first_start + end_at h.pairs k < 2 ^ 64
   pair_fits k l =
-      let p = fits-at h.hole (pairs_of h) k s.fits (omega (arith, length-pairs_of)) in
+      let p = fits-at h.first_start (pairs_of h) k s.fits (omega (arith, length-pairs_of)) in
       omega (arith, p, end_of k l)
 
   pub first_pair : 0 < h.used → start_at h.pairs 0 ≡ 0
   first_pair l = sym (start_of 0 l) ∙ first_at (pairs_of h) s.first
 
   pub run_at : (k : ℕ) → k < h.used →
-      get_or (runs_of h) k (0, 0) ≡ (h.hole + start_at h.pairs k, h.hole + end_at h.pairs k)
+      get_or (runs_of h) k (0, 0) ≡ (h.first_start + start_at h.pairs k, h.first_start + end_at h.pairs k)
   run_at k l =
-      get_or-up h.hole (pairs_of h) k (omega (arith, length-pairs_of))
-      ∙ (λ i. (h.hole + start_of k l i, h.hole + end_of k l i))
+      get_or-up h.first_start (pairs_of h) k (omega (arith, length-pairs_of))
+      ∙ (λ i. (h.first_start + start_of k l i, h.first_start + end_of k l i))
 
-  pub run_start : 0 < h.used → start_at (runs_of h) 0 ≡ h.hole
-  run_start l = start-up h.hole (pairs_of h) (omega (arith, length-pairs_of)) s.first
+  pub run_start : 0 < h.used → start_at (runs_of h) 0 ≡ h.first_start
+  run_start l = start-up h.first_start (pairs_of h) (omega (arith, length-pairs_of)) s.first
 
   -- a run at 0
   pub front_held : 0 < front (set_of h) →
-      (0 < h.used) × (h.hole ≡ 0) × (end_at h.pairs 0 ≡ front (set_of h))
+      (0 < h.used) × (h.first_start ≡ 0) × (end_at h.pairs 0 ≡ front (set_of h))
   front_held l =
       let f = front_of_first (runs_of h) (omega (arith, front-set_of)) in
       let some : 0 < h.used = omega (arith, f.0, length-runs_of) in
       let begins = run_start some in
-      let ends = end-up h.hole (pairs_of h) (omega (arith, length-pairs_of)) in
+      let ends = end-up h.first_start (pairs_of h) (omega (arith, length-pairs_of)) in
       let last = end_of 0 some in
       (some, omega (arith, f.1), omega (arith, f.1, f.2, front-set_of))
 
   -- what is left of the pairs, counted lower
-  pub dropped : (k m top : ℕ) → top ≡ h.hole + m →
+  pub dropped : (k m top : ℕ) → top ≡ h.first_start + m →
       runs_shifted_down m (drop k (pairs_of h)) ≡ runs_shifted_down top (drop k (runs_of h))
   dropped k m top e =
-      sym (down-up h.hole m (drop k (pairs_of h)))
-      ∙ (λ i. runs_shifted_down (sym e i) (sym (drop-up h.hole k (pairs_of h)) i))
+      sym (down-up h.first_start m (drop k (pairs_of h)))
+      ∙ (λ i. runs_shifted_down (sym e i) (sym (drop-up h.first_start k (pairs_of h)) i))
 
 -- equal sets are held alike
 module _ {n : ℕ} (h g : SortedRuns n) (s : HasSoundPairs h) (t : HasSoundPairs g) where
@@ -109,13 +109,13 @@ module _ {n : ℕ} (h g : SortedRuns n) (s : HasSoundPairs h) (t : HasSoundPairs
   pub same_number : set_of h ≡ set_of g → h.used ≡ g.used
   same_number e = sym (length-runs_of h s) ∙ ap length (same_runs e) ∙ length-runs_of g t
 
-  pub same_hole : 0 < h.used → set_of h ≡ set_of g → h.hole ≡ g.hole
-  same_hole l e =
+  pub same_first_start : 0 < h.used → set_of h ≡ set_of g → h.first_start ≡ g.first_start
+  same_first_start l e =
       sym (run_start h s l) ∙ ap (λ rs. start_at rs 0) (same_runs e)
       ∙ run_start g t (omega (arith, same_number e))
 
   pub same_pairs : 0 < h.used → set_of h ≡ set_of g → pairs_of h ≡ pairs_of g
-  same_pairs l e = up-injective h.hole g.hole (pairs_of h) (pairs_of g) (same_hole l e) (same_runs e)
+  same_pairs l e = up-injective h.first_start g.first_start (pairs_of h) (pairs_of g) (same_first_start l e) (same_runs e)
 
 -- a range that was added, and one that wasn't
 module _ {n : ℕ} (h g : SortedRuns n) (s : HasSoundPairs h) (o k : ℕ) (l : 0 < k) where
@@ -179,7 +179,7 @@ module _ {n : ℕ} (h : SortedRuns n) (s : HasSoundPairs h) (o k : ℕ) (none : 
   one some = take_more_set h.pairs 0 (0, k) (omega (arith, s.capacity))
 
   pub first_sound : 0 < n → o + k < 2 ^ 64 →
-      HasSoundPairs {n = n} record { pairs = set h.pairs 0 (0, k); used = 1; hole = o }
+      HasSoundPairs {n = n} record { pairs = set h.pairs 0 (0, k); used = 1; first_start = o }
   first_sound some fits = record {
     room = some;
     capacity = length-set h.pairs 0 (0, k) ∙ s.capacity;
@@ -195,73 +195,73 @@ module _ {n : ℕ} (h : SortedRuns n) (s : HasSoundPairs h) (o k : ℕ) (none : 
 
 -- pairs that are runs with a range that starts at or after the first
 module _ {n : ℕ} (h : SortedRuns n) (s : HasSoundPairs h) (xs : List (ℕ × ℕ)) (o k : ℕ) (some : 0 < h.used)
-    (from : h.hole ≤ o) (l : 0 < k) where
+    (from : h.first_start ≤ o) (l : 0 < k) where
   pub joined_sound : (m : ℕ) → m ≤ length xs → length xs ≡ n → o + k < 2 ^ 64 →
-      take m xs ≡ runs_with_range (pairs_of h) (o - h.hole) (o - h.hole + k) →
-      HasSoundPairs {n = n} record { pairs = xs; used = m; hole = h.hole }
+      take m xs ≡ runs_with_range (pairs_of h) (o - h.first_start) (o - h.first_start + k) →
+      HasSoundPairs {n = n} record { pairs = xs; used = m; first_start = h.first_start }
   joined_sound m room capacity fits e =
-      let lo = o - h.hole in
+      let lo = o - h.first_start in
       record {
         room = omega arith;
         capacity = capacity;
         runs = subst AreRuns (sym e) (rising-runs_with_range 0 (pairs_of h) lo (lo + k) s.runs (omega arith) (omega arith));
         first = subst StartsAtZero (sym e)
             (first-runs_with_range (pairs_of h) lo (lo + k) s.first (λ z. absurd (omega (arith, length-pairs_of h s))));
-        fits = subst (FitsFrom h.hole) (sym e) (fits-runs_with_range h.hole (pairs_of h) lo (lo + k) s.fits (omega arith));
+        fits = subst (FitsFrom h.first_start) (sym e) (fits-runs_with_range h.first_start (pairs_of h) lo (lo + k) s.fits (omega arith));
       }
 
-  shown : runs_shifted_up h.hole (runs_with_range (pairs_of h) (o - h.hole) (o - h.hole + k))
+  shown : runs_shifted_up h.first_start (runs_with_range (pairs_of h) (o - h.first_start) (o - h.first_start + k))
       ≡ runs_with_range (runs_of h) o (o + k)
   shown =
-      let start : h.hole + (o - h.hole) ≡ o = omega arith in
-      let end : h.hole + (o - h.hole + k) ≡ o + k = omega arith in
-      up-runs_with_range h.hole (pairs_of h) (o - h.hole) (o - h.hole + k)
+      let start : h.first_start + (o - h.first_start) ≡ o = omega arith in
+      let end : h.first_start + (o - h.first_start + k) ≡ o + k = omega arith in
+      up-runs_with_range h.first_start (pairs_of h) (o - h.first_start) (o - h.first_start + k)
       ∙ (λ i. runs_with_range (runs_of h) (start i) (end i))
 
-  pub joined_runs : (m : ℕ) → take m xs ≡ runs_with_range (pairs_of h) (o - h.hole) (o - h.hole + k) →
-      runs_shifted_up h.hole (take m xs) ≡ runs_with_range (runs_of h) o (o + k)
-  joined_runs m e = ap (runs_shifted_up h.hole) e ∙ shown
+  pub joined_runs : (m : ℕ) → take m xs ≡ runs_with_range (pairs_of h) (o - h.first_start) (o - h.first_start + k) →
+      runs_shifted_up h.first_start (take m xs) ≡ runs_with_range (runs_of h) o (o + k)
+  joined_runs m e = ap (runs_shifted_up h.first_start) e ∙ shown
 
   pub joined_length : length (runs_with_range (runs_of h) o (o + k))
-      ≡ length (runs_with_range (pairs_of h) (o - h.hole) (o - h.hole + k))
-  joined_length = ap length (sym shown) ∙ length-up h.hole (runs_with_range (pairs_of h) (o - h.hole) (o - h.hole + k))
+      ≡ length (runs_with_range (pairs_of h) (o - h.first_start) (o - h.first_start + k))
+  joined_length = ap length (sym shown) ∙ length-up h.first_start (runs_with_range (pairs_of h) (o - h.first_start) (o - h.first_start + k))
 
 -- pairs that are runs with a range that starts before the first
-module _ {n : ℕ} (h : SortedRuns n) (s : HasSoundPairs h) (xs : List (ℕ × ℕ)) (o k : ℕ) (before : o ≤ h.hole) (l : 0 < k) where
+module _ {n : ℕ} (h : SortedRuns n) (s : HasSoundPairs h) (xs : List (ℕ × ℕ)) (o k : ℕ) (before : o ≤ h.first_start) (l : 0 < k) where
   pub preceded_sound : (m : ℕ) → m ≤ length xs → length xs ≡ n → o + k < 2 ^ 64 →
-      take m xs ≡ runs_with_range (runs_shifted_up (h.hole - o) (pairs_of h)) 0 k →
-      HasSoundPairs {n = n} record { pairs = xs; used = m; hole = o }
+      take m xs ≡ runs_with_range (runs_shifted_up (h.first_start - o) (pairs_of h)) 0 k →
+      HasSoundPairs {n = n} record { pairs = xs; used = m; first_start = o }
   preceded_sound m room capacity fits e =
-      let ups = runs_shifted_up (h.hole - o) (pairs_of h) in
+      let ups = runs_shifted_up (h.first_start - o) (pairs_of h) in
       record {
         room = omega arith;
         capacity = capacity;
         runs = subst AreRuns (sym e)
-            (rising-runs_with_range 0 ups 0 k (runs-up (h.hole - o) (pairs_of h) s.runs) (omega arith) l);
+            (rising-runs_with_range 0 ups 0 k (runs-up (h.first_start - o) (pairs_of h) s.runs) (omega arith) l);
         first = subst StartsAtZero (sym e) (zero-runs_with_range ups 0 k refl);
         fits = subst (FitsFrom o) (sym e)
-            (fits-runs_with_range o ups 0 k (fits-up o (h.hole - o) h.hole (pairs_of h) (omega arith) s.fits) fits);
+            (fits-runs_with_range o ups 0 k (fits-up o (h.first_start - o) h.first_start (pairs_of h) (omega arith) s.fits) fits);
       }
 
-  seen : runs_shifted_up o (runs_with_range (runs_shifted_up (h.hole - o) (pairs_of h)) 0 k)
+  seen : runs_shifted_up o (runs_with_range (runs_shifted_up (h.first_start - o) (pairs_of h)) 0 k)
       ≡ runs_with_range (runs_of h) o (o + k)
   seen =
       let start : o + 0 ≡ o = omega arith in
-      let ups = runs_shifted_up (h.hole - o) (pairs_of h) in
+      let ups = runs_shifted_up (h.first_start - o) (pairs_of h) in
       up-runs_with_range o ups 0 k
-      ∙ (λ i. runs_with_range (up-up o (h.hole - o) h.hole (pairs_of h) (omega arith) i) (start i) (o + k))
+      ∙ (λ i. runs_with_range (up-up o (h.first_start - o) h.first_start (pairs_of h) (omega arith) i) (start i) (o + k))
 
-  pub preceded_runs : (m : ℕ) → take m xs ≡ runs_with_range (runs_shifted_up (h.hole - o) (pairs_of h)) 0 k →
+  pub preceded_runs : (m : ℕ) → take m xs ≡ runs_with_range (runs_shifted_up (h.first_start - o) (pairs_of h)) 0 k →
       runs_shifted_up o (take m xs) ≡ runs_with_range (runs_of h) o (o + k)
   preceded_runs m e = ap (runs_shifted_up o) e ∙ seen
 
   pub preceded_length : length (runs_with_range (runs_of h) o (o + k))
-      ≡ length (runs_with_range (runs_shifted_up (h.hole - o) (pairs_of h)) 0 k)
+      ≡ length (runs_with_range (runs_shifted_up (h.first_start - o) (pairs_of h)) 0 k)
   preceded_length =
-      ap length (sym seen) ∙ length-up o (runs_with_range (runs_shifted_up (h.hole - o) (pairs_of h)) 0 k)
+      ap length (sym seen) ∙ length-up o (runs_with_range (runs_shifted_up (h.first_start - o) (pairs_of h)) 0 k)
 
 -- data that comes next, and reaches no run
-pub next_alone : {n : ℕ} (h : SortedRuns n) → HasSoundPairs h → (k : ℕ) → (0 < h.used → k < h.hole) →
+pub next_alone : {n : ℕ} (h : SortedRuns n) → HasSoundPairs h → (k : ℕ) → (0 < h.used → k < h.first_start) →
     Completed (runs_of h) 0 k k
 next_alone h s k gap =
     let count = length-runs_of h s in
@@ -269,7 +269,7 @@ next_alone h s k gap =
     either (cases_lt 0 k)
     (λ l.
     completed_at (runs_of h) 0 k k (are_runs h s) l (omega arith) (λ i a. absurd (omega arith))
-    (λ i a b. let g = gap (omega arith) in omega (arith, start_at-up h.hole (pairs_of h) i (omega arith))) refl)
+    (λ i a b. let g = gap (omega arith) in omega (arith, start_at-up h.first_start (pairs_of h) i (omega arith))) refl)
     (λ l.
     let none : k ≡ 0 = omega arith in
     let same = with_range-none (set_of h) 0 k none in
@@ -292,4 +292,4 @@ added_accepted n s o k (Err e) t a few =
 pub added_more : (n : ℕ) (s : Positions) (o k : ℕ) (r : Result (Unit {0}) TooManyHolesError)
     (t : Positions) → Adds n s o k r t → runs t ≤ runs s + 1
 added_more n s o k (Ok u) t a = let all = ap runs a.ok in let more = one_run_more s o k in omega arith
-added_more n s o k (Err e) t a = let same = ap runs a.err in omega arith
+added_more n s o k (Err e) t a = let same = ap runs a.unchanged in omega arith

@@ -20,7 +20,7 @@ use Rattle.net_assembler.specs.Turns.{binary_digits}
 pub record Adds (most_runs : ℕ) (old : Positions) (offset size : ℕ)
     (result : Result (Unit {0}) TooManyHolesError) (new : Positions) : Type 0 where
   pub ok : OnOk result (new ≡ with_range old offset size)
-  pub err : OnErr result (new ≡ old)
+  pub unchanged : OnErr result (new ≡ old)
   pub refused : IsErr result ↔ MakesTooManyRuns most_runs old offset size
   pub bound : runs new ≤ most_runs
 

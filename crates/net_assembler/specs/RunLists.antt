@@ -75,7 +75,7 @@ pairs_of h = take h.used h.pairs
 
 -- the runs of an assembler
 abbrev pub runs_of : {n : ℕ} → SortedRuns n → List (ℕ × ℕ)
-runs_of h = runs_shifted_up h.hole (pairs_of h)
+runs_of h = runs_shifted_up h.first_start (pairs_of h)
 
 -- and their set
 abbrev pub set_of : {n : ℕ} → SortedRuns n → Positions
@@ -87,7 +87,7 @@ pub record HasSoundPairs {n : ℕ} (h : SortedRuns n) : Type 0 where
   pub capacity : length h.pairs ≡ n
   pub runs : AreRuns (pairs_of h)
   pub first : StartsAtZero (pairs_of h)
-  pub fits : FitsFrom h.hole (pairs_of h)
+  pub fits : FitsFrom h.first_start (pairs_of h)
 
 -- a hole in parentheses, if there is one, and the data after it
 abbrev pub contig_text : Contig → List ℕ

@@ -123,7 +123,7 @@ impl<const N: usize> Assembler<N> {
     pub fn add(&mut self, offset: usize, size: usize) -> Result<(), TooManyHolesError>
         requires { RangeFits offset size }
         ensures ok { OnOk result (self.new ≡ with_range self.old offset size) }
-        ensures err { OnErr result (self.new ≡ self.old) }
+        ensures unchanged { OnErr result (self.new ≡ self.old) }
         ensures refused { IsErr result ↔ MakesTooManyRuns N self.old offset size }
         ensures accepted { runs self.old < N → IsOk result }
         ensures more { runs self.new ≤ runs self.old + 1 }
@@ -150,7 +150,7 @@ impl<const N: usize> Assembler<N> {
     ) -> Result<(), TooManyHolesError>
         requires { RangeFits offset size }
         ensures ok { OnOk result (self.new ≡ with_range self.old offset size) }
-        ensures err { OnErr result (self.new ≡ self.old) }
+        ensures unchanged { OnErr result (self.new ≡ self.old) }
         ensures refused { IsErr result ↔ MakesTooManyRuns N self.old offset size }
         ensures accepted { runs self.old < N → IsOk result }
         ensures more { runs self.new ≤ runs self.old + 1 }

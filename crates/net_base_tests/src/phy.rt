@@ -22,7 +22,7 @@ pub fn send_bytes<A: Allocator + Copy>(
 ) -> Result<(), AllocError>
     ensures ok { OnOk result
         (device.new ≡ record device.old { frames = device.old.frames ++ bytes.now ∷ [] }) }
-    ensures err { OnErr result (device.new ≡ device.old) }
+    ensures unchanged { OnErr result (device.new ≡ device.old) }
 {
     let token = device.transmit(Instant::ZERO).unwrap();
     device.send(token, bytes.len(), |buffer| buffer.copy_from_slice(bytes))

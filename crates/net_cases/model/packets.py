@@ -8,7 +8,7 @@ BYTES = Size("packets: bytes", 12)
 EMPTY = Test("packets: is empty at a call")
 FULL = Test("packets: is full at a call")
 NO_BYTES = Test("packets: holds packets, and no bytes")
-FITS_ROW = Order("packets: size and bytes free in a row")
+FITS_CONTIGUOUS = Order("packets: size and contiguous free bytes")
 FITS_REST = Order("packets: size and free bytes at the storage's beginning")
 ENOUGH_SLOTS = Order("packets: slots needed and free")
 GAP = Test("packets: is placed after a gap")
@@ -79,7 +79,7 @@ class Packets:
         window = self.capacity - held
         begin = (self.at + held) % self.capacity if held else 0
         row = min(window, self.capacity - begin)
-        if FITS_ROW.least(size, row) == size:
+        if FITS_CONTIGUOUS.least(size, row) == size:
             gap = 0
         elif FITS_REST.least(size, window - row) == size:
             gap = row

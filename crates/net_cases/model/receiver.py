@@ -44,7 +44,7 @@ AGAIN = Test("receiver: a list of replies has some already")
 READ_COUNT = Order("receiver: count of a command and queue")
 SHOWN = {most: Size(f"receiver of {most}: runs of a reply", most.bit_length()) for most in SIZES}
 NUMBER_WRAPS = Test("sequence number: a sum goes round")
-POSITION = Test("sequence number: stands for a position")
+POSITION = Test("sequence number: represents a position")
 POSITION_SIDE = Order("sequence number: position and next")
 HALF = Order("sequence number: distance and 2^31")
 BEFORE_NUMBER = Test("sequence number: is before another")
@@ -112,8 +112,8 @@ class Receiver:
         self.take(count)
         return data
 
-    def row(self):
-        """How many queued bytes lie in a row in the storage, where the stream's byte number i, counted
+    def contiguous_queued(self):
+        """How many queued bytes are contiguous in the storage, where the stream's byte number i, counted
         from 0, has the index i modulo the capacity."""
         if not self.capacity:
             return 0
@@ -169,7 +169,7 @@ class Pair:
         return f"{len(data)} {show_bytes(into)}"
 
     def read_with(self, size):
-        lent = self.now.queue[:self.now.row()]
+        lent = self.now.queue[:self.now.contiguous_queued()]
         WRAPS(len(lent) < len(self.now.queue))
         count = WITH.least(min(size, len(lent)), len(lent))
         shown = show_lent(lent)
@@ -187,7 +187,7 @@ class Pair:
         return show_bytes(now.queue[offset:offset + PEEK_SIZE(count)])
 
     def as_slices(self):
-        row = self.now.row()
+        row = self.now.contiguous_queued()
         WRAPS(row < len(self.now.queue))
         return f"{show_bytes(self.now.queue[:row])} {show_bytes(self.now.queue[row:])}"
 
@@ -202,7 +202,7 @@ class Pair:
         DIFFERS["the count read"](count != other and queue == others and held == runs)
         DIFFERS["the queue"](queue != others and count == other and held == runs)
         DIFFERS["the held runs"](held != runs and count == other and queue == others)
-        row, rows = self.now.row(), self.other.row()
+        row, rows = self.now.contiguous_queued(), self.other.contiguous_queued()
         PAST_END(row == rows and len(queue) == len(others) and queue[:row] == others[:row]
                  and queue != others)
         same = SAME(self.now.state() == self.other.state())
@@ -287,7 +287,7 @@ def call(random, now, step):
     if choice in (9, 10, 11):
         return "read", [random.about([queue], 11), random.below(40)]
     if choice == 12:
-        return "read_with", [random.about([queue, now.row()], 8)]
+        return "read_with", [random.about([queue, now.contiguous_queued()], 8)]
     if choice == 13:
         return "execute", command(random, now, step)
     if choice == 14:
@@ -295,7 +295,7 @@ def call(random, now, step):
         return "replay", [x for _ in range(count) for x in command(random, now, step)]
     name = random.of(SHOWING)
     if name == "peek":
-        return name, [random.offset([queue, now.row()], 8), random.about([queue], 11)]
+        return name, [random.offset([queue, now.contiguous_queued()], 8), random.about([queue], 11)]
     if name == "peek_slice":
         return name, [random.about([queue], 9), random.below(40)]
     if name == "fits":

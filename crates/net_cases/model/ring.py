@@ -56,11 +56,11 @@ class Ring:
     def index(self, offset):
         return (self.at + offset) % self.capacity if self.capacity else 0
 
-    def row(self):
-        """How many free elements lie in a row from the first one on."""
+    def contiguous_window(self):
+        """How many free elements are contiguous, from the first one on."""
         return min(self.window, self.capacity - self.index(self.count))
 
-    def queued_row(self):
+    def contiguous_queued(self):
         return min(self.count, self.capacity - self.at)
 
     def part(self, offset, count):
@@ -79,7 +79,7 @@ class Ring:
     def spare(self):
         return self.see(self.part(self.count, self.window))
 
-    def restart(self):
+    def rewind_if_empty(self):
         if self.count == 0:
             self.at = 0
 
@@ -97,7 +97,7 @@ class Bytes(Ring):
     def show(self):
         digest = show_digest(mix(START, self.queue() + self.spare()))
         facts = truths(self.count == 0, self.window == 0)
-        return f"{self.count} {self.window} {self.row()} {self.capacity} {facts} {digest}"
+        return f"{self.count} {self.window} {self.contiguous_window()} {self.capacity} {facts} {digest}"
 
     def call(self, name, numbers):
         EMPTY(self.count == 0)
@@ -119,7 +119,7 @@ class Bytes(Ring):
     def begin(self):
         if self.count == 0:
             RESTARTS(self.at != 0)
-        self.restart()
+        self.rewind_if_empty()
 
     def enqueue_one(self, byte):
         if not ONE_IN(self.window > 0):
@@ -154,20 +154,20 @@ class Bytes(Ring):
 
     def enqueue_many(self, size, seed):
         self.begin()
-        count = MANY_IN_SIZE(MANY_IN.least(size, self.row()))
+        count = MANY_IN_SIZE(MANY_IN.least(size, self.contiguous_window()))
         shown = self.lend(self.part(self.count, count), seed)
         self.count += count
         return shown
 
     def dequeue_many(self, size, seed):
-        count = MANY_OUT_SIZE(MANY_OUT.least(size, self.queued_row()))
+        count = MANY_OUT_SIZE(MANY_OUT.least(size, self.contiguous_queued()))
         shown = self.lend(self.part(0, count), seed)
         self.take(count)
         return shown
 
     def enqueue_many_with(self, size, seed):
         self.begin()
-        part = self.part(self.count, WITH_IN_SIZE(self.row()))
+        part = self.part(self.count, WITH_IN_SIZE(self.contiguous_window()))
         lent = show_lent(self.see(part))
         self.write(part, pattern(len(part), seed))
         count = WITH_IN.least(min(size, len(part)), len(part))
@@ -175,7 +175,7 @@ class Bytes(Ring):
         return f"{count} {lent}"
 
     def dequeue_many_with(self, size, seed):
-        part = self.part(0, WITH_OUT_SIZE(self.queued_row()))
+        part = self.part(0, WITH_OUT_SIZE(self.contiguous_queued()))
         lent = show_lent(self.see(part))
         self.write(part, pattern(len(part), seed))
         count = WITH_OUT.least(min(size, len(part)), len(part))
@@ -185,7 +185,7 @@ class Bytes(Ring):
     def enqueue_slice(self, size, seed):
         self.begin()
         count = SLICE_IN_SIZE(SLICE_IN.least(size, self.window))
-        SLICE_IN_WRAPS(count > self.row())
+        SLICE_IN_WRAPS(count > self.contiguous_window())
         self.write(self.part(self.count, count), pattern(size, seed))
         self.count += count
         return str(count)
@@ -193,7 +193,7 @@ class Bytes(Ring):
     def dequeue_slice(self, size, seed):
         into = pattern(size, seed)
         count = SLICE_OUT_SIZE(SLICE_OUT.least(size, self.count))
-        SLICE_OUT_WRAPS(count > self.queued_row())
+        SLICE_OUT_WRAPS(count > self.contiguous_queued())
         into[:count] = bytes(self.see(self.part(0, count)))
         self.take(count)
         return f"{count} {show_bytes(into)}"
@@ -205,7 +205,7 @@ class Bytes(Ring):
         return CUT[name].least(size, max(0, available - offset))
 
     def found(self, name, offset, size):
-        """The indices of those that lie in a row."""
+        """The indices of those that are contiguous."""
         count = self.elements(name, offset, size)
         if count == 0:
             PART_SIZE[name](0)
@@ -262,7 +262,7 @@ class Bytes(Ring):
         return "done"
 
     def as_slices(self):
-        first = self.queued_row()
+        first = self.contiguous_queued()
         queue = self.queue()
         return f"{show_bytes(queue[:first])} {show_bytes(queue[first:])}"
 
@@ -287,7 +287,7 @@ COPIES = ("enqueue_slice", "dequeue_slice", "write_unallocated", "read_allocated
 
 def number(random, ring, name, kind):
     """A number of a call: a byte, whether a closure keeps, a seed, an offset, a count or a size."""
-    limits = [ring.count, ring.window, ring.row(), ring.queued_row(), ring.capacity]
+    limits = [ring.count, ring.window, ring.contiguous_window(), ring.contiguous_queued(), ring.capacity]
     digits = 13 if name in COPIES else 14
     if kind == "b":
         return random.below(256)

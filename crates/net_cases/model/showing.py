@@ -1,4 +1,4 @@
-"""Bytes that a number stands for, and how replies show bytes, runs and facts."""
+"""Bytes that a number represents, and how replies show bytes, runs and facts."""
 
 TOP = 2 ** 64 - 1
 START = 0xcbf29ce484222325

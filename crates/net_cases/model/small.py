@@ -13,7 +13,7 @@ CELL_AT = Test("cells: reset finds the read index at the storage's beginning")
 STORAGE = Size("storage: length", 12)
 FROM_TO = Order("storage: part, from and to")
 TO_END = Order("storage: part, to and length")
-ITEM = Order("storage: item_mut, index and length", ("below", "equal", "above"))
+ITEM = Order("storage: element_mut, index and length", ("below", "equal", "above"))
 SEED = Size("generator: seed", 64, by=4)
 SHIFT = Size("generator: top three bits of a state", 3)
 DRAWN = Order("generator: draw and last reserved port")
@@ -99,7 +99,7 @@ class Storage:
     def part_mut(self, start, end, seed):
         return self.lend(start, end, seed) if self.allows(start, end) else "forbidden"
 
-    def item_mut(self, at, byte):
+    def element_mut(self, at, byte):
         ITEM.least(at, len(self.data))
         if at >= len(self.data):
             return "forbidden"
@@ -114,13 +114,13 @@ def draw_storage(random, cases, lines):
         storage = Storage(count, seed)
         cases.begin(f"storage {count} {seed}", storage.show())
         for _ in range(5 + random.below(12)):
-            name = random.of(["as_mut_slice", "part", "part", "part_mut", "part_mut", "item_mut"])
+            name = random.of(["as_mut_slice", "part", "part", "part_mut", "part_mut", "element_mut"])
             start, end = (random.offset([count], 12) for _ in range(2))
             if not random.one_in(4):
                 start, end = sorted((start % (count + 1), end % (count + 1)))
             numbers = {"as_mut_slice": [random.below(1000)], "part": [start, end],
                        "part_mut": [start, end, random.below(1000)],
-                       "item_mut": [start, random.below(256)]}[name]
+                       "element_mut": [start, random.below(256)]}[name]
             cases.add(name, numbers, getattr(storage, name)(*numbers), storage.show())
 
 

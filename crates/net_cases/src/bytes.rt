@@ -1,4 +1,4 @@
-//! Bytes that a number stands for, and digests.
+//! Bytes that a number represents, and digests.
 use std::alloc::{AllocError, Global};
 
 /// The digest of nothing.
@@ -18,7 +18,7 @@ pub fn mix_bytes(sum: u64, bytes: &[u8]) -> u64 {
     sum
 }
 
-/// Writes over bytes those that a number stands for.
+/// Writes over bytes those that a number represents.
 pub fn fill(bytes: &mut [u8], seed: u64) {
     let mut state = seed;
     for byte in bytes.iter_mut() {
@@ -29,7 +29,7 @@ pub fn fill(bytes: &mut [u8], seed: u64) {
     }
 }
 
-/// Returns so many of the bytes that a number stands for.
+/// Returns so many of the bytes that a number represents.
 pub fn pattern(alloc: Global, count: u64, seed: u64) -> Result<Vec<u8>, AllocError> {
     let mut bytes = vec![in alloc; 0u8; count as usize]?;
     fill(&mut bytes, seed);

@@ -1,8 +1,9 @@
 //! What a line asks for.
-use net_program::number;
+use net_cli::number;
 use std::alloc::{AllocError, Global};
 
-/// A call: its name, and the numbers after it. A number below zero stands as the sum of it and 2^64.
+/// A call: its name, and the numbers after it. A number below zero is written for the sum of it and
+/// 2^64.
 #[derive(Drop)]
 pub struct Call<'a> {
     pub name: &'a str,

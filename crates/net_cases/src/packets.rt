@@ -46,7 +46,7 @@ const PUSH: [Entry<()>; 1] = [("push_slice", 3, ())];
 const POP: [Entry<()>; 1] = [("pop_slice", 2, ())];
 
 /// Returns a queue with no packets, so many slots, and so many bytes, which are those that the third
-/// number stands for.
+/// number represents.
 pub fn packets(alloc: Global, slots: u64, bytes: u64, seed: u64) -> Result<Packets, AllocError> {
     let mut empty = Vec::new(alloc);
     for _ in 0..slots {
@@ -170,7 +170,7 @@ fn peek(queue: &mut Packets) -> Reply {
 fn take(queue: &mut Packets, seed: u64) -> Reply {
     match queue.take() {
         Ok((header, size)) => {
-            let bytes = queue.freed_mut(size);
+            let bytes = queue.last_dequeued_mut(size);
             let reply = show_packet(header, bytes);
             fill(bytes, seed);
             reply

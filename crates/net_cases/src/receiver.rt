@@ -21,7 +21,7 @@ pub struct Pair<const N: usize> {
     replies: Vec<Given>,
 }
 
-/// A call with bytes: a number, and then a size and what the bytes stand for.
+/// A call with bytes: a number, and then a size and what the bytes represent.
 #[derive(Clone, Copy)]
 enum Copying {
     Segment,
@@ -236,8 +236,8 @@ fn same_state<const N: usize>(own: &Receiver<'_, N>, other: &Receiver<'_, N>) ->
         .truth(other.same_state(own))
 }
 
-/// Returns the command of four numbers: 0, a position, a size and what bytes stand for; 1 and a count;
-/// or else `Show`. A segment that ends beyond the last position is `Show` too.
+/// Returns the command of four numbers: 0, a position, a size and what bytes represent; 1 and a
+/// count; or else `Show`. A segment that ends beyond the last position is `Show` too.
 fn command_of(alloc: Global, numbers: &[u64]) -> Result<Command, AllocError>
     ensures { IfOk result CommandFits }
 {

@@ -130,7 +130,7 @@ pub fn many(bytes: &[u8]) -> Part {
     Part::Many(bytes.len(), mix_bytes(START, bytes))
 }
 
-/// Returns a reply of bytes that are lent, and writes over them those that a number stands for.
+/// Returns a reply of bytes that are lent, and writes over them those that a number represents.
 pub fn show_and_fill(lent: &mut [u8], seed: u64) -> Reply {
     let reply = Reply::new().bytes(lent);
     fill(lent, seed);

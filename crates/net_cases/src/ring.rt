@@ -64,7 +64,7 @@ const LOOKS: [Entry<Look>; 9] = [
 ];
 
 /// A call that copies, at an offset that is 0 for the first two. Its last two numbers are a size and what
-/// the copied bytes, or those that are copied over, stand for.
+/// the copied bytes, or those that are copied over, represent.
 #[derive(Clone, Copy)]
 enum Copying {
     EnqueueSlice,
@@ -85,7 +85,7 @@ const AT_OFFSETS: [Entry<Copying>; 2] = [
     ("read_allocated", 3, Copying::ReadAllocated),
 ];
 
-/// Returns an empty ring over so many bytes, which are those that the second number stands for.
+/// Returns an empty ring over so many bytes, which are those that the second number represents.
 pub fn ring(alloc: Global, capacity: u64, seed: u64) -> Result<Bytes, AllocError> {
     Ok(RingBuffer::from(pattern(alloc, capacity, seed)?))
 }
@@ -110,8 +110,8 @@ impl Subject for RingBuffer<'static, u8> {
         Ok(None)
     }
 
-    /// How many elements are queued, free and free in a row; the capacity; whether the ring is empty and
-    /// full; and the digest of its queue and then its free elements.
+    /// How many elements are queued, free, and free and contiguous; the capacity; whether the ring
+    /// is empty and full; and the digest of its queue and then its free elements.
     fn show(&mut self, _: Global) -> Result<Reply, AllocError> {
         let digest = digest_of(self);
         let reply = Reply::new()

@@ -3,11 +3,11 @@ use crate::bytes::{START, low_byte, mix_bytes, pattern};
 use crate::call::{Call, Entry, find};
 use crate::reply::{Part, Reply, allowed, show_and_fill, show_and_set};
 use crate::subject::Subject;
-use net_ring::{Elements, ManagedSlice};
+use net_ring::{ManagedSlice, Storage};
 use std::alloc::{AllocError, Global};
 
 /// Storage of its own.
-type Storage = ManagedSlice<'static, u8>;
+type OwnedStorage = ManagedSlice<'static, u8>;
 
 /// A call.
 #[derive(Clone, Copy)]
@@ -15,7 +15,7 @@ enum Kind {
     AsMutSlice,
     Part,
     PartMut,
-    ItemMut,
+    ElementMut,
 }
 
 /// The calls.
@@ -23,11 +23,11 @@ const CALLS: [Entry<Kind>; 4] = [
     ("as_mut_slice", 1, Kind::AsMutSlice),
     ("part", 2, Kind::Part),
     ("part_mut", 3, Kind::PartMut),
-    ("item_mut", 2, Kind::ItemMut),
+    ("element_mut", 2, Kind::ElementMut),
 ];
 
-/// Returns storage of so many bytes, which are those that the second number stands for.
-pub fn storage(alloc: Global, count: u64, seed: u64) -> Result<Storage, AllocError> {
+/// Returns storage of so many bytes, which are those that the second number represents.
+pub fn storage(alloc: Global, count: u64, seed: u64) -> Result<OwnedStorage, AllocError> {
     Ok(ManagedSlice::from(pattern(alloc, count, seed)?))
 }
 
@@ -49,32 +49,32 @@ impl Subject for ManagedSlice<'static, u8> {
 }
 
 /// Makes a call.
-fn make(storage: &mut Storage, kind: Kind, one: u64, two: u64, three: u64) -> Reply {
+fn make(storage: &mut OwnedStorage, kind: Kind, one: u64, two: u64, three: u64) -> Reply {
     match kind {
         Kind::AsMutSlice => show_and_fill(storage.as_mut_slice(), one),
         Kind::Part => part(storage, one as usize, two as usize),
         Kind::PartMut => part_mut(storage, one as usize, two as usize, three),
-        Kind::ItemMut => item_mut(storage, one as usize, low_byte(two)),
+        Kind::ElementMut => element_mut(storage, one as usize, low_byte(two)),
     }
 }
 
-fn part(storage: &Storage, from: usize, to: usize) -> Reply {
+fn part(storage: &OwnedStorage, from: usize, to: usize) -> Reply {
     if from > to || to > storage.count() {
         return allowed(false);
     }
     Reply::new().bytes(storage.part(from, to))
 }
 
-fn part_mut(storage: &mut Storage, from: usize, to: usize, seed: u64) -> Reply {
+fn part_mut(storage: &mut OwnedStorage, from: usize, to: usize, seed: u64) -> Reply {
     if from > to || to > storage.count() {
         return allowed(false);
     }
     show_and_fill(storage.part_mut(from, to), seed)
 }
 
-fn item_mut(storage: &mut Storage, at: usize, byte: u8) -> Reply {
+fn element_mut(storage: &mut OwnedStorage, at: usize, byte: u8) -> Reply {
     if at >= storage.count() {
         return allowed(false);
     }
-    show_and_set(storage.item_mut(at), byte)
+    show_and_set(storage.element_mut(at), byte)
 }

@@ -1,7 +1,7 @@
-//! Numbers, words that name modes of `net_lines`, and lines that are executed in one.
+//! Numbers, words that name modes of `net_script`, and lines that are executed in one.
 use crate::call::first_word;
-use net_lines::{Mode, run};
-use net_program::number;
+use net_cli::number;
+use net_script::{Mode, run};
 use std::alloc::{AllocError, Global};
 
 /// Answers a line that begins with `number`, `mode` or `run`; returns whether it is one.
@@ -65,7 +65,7 @@ fn run_lines(alloc: Global, mode: Mode, lines: &str, reply: &mut String) -> Resu
     }
 }
 
-/// Writes one byte wherever another one stands.
+/// Writes one byte wherever another one is.
 fn exchange(bytes: &mut [u8], from: u8, to: u8) {
     for byte in bytes.iter_mut() {
         if *byte == from {
@@ -82,7 +82,7 @@ fn show_lines(bytes: &[u8], reply: &mut String) -> Result<(), AllocError> {
     Ok(())
 }
 
-/// Returns the character that stands for a byte.
+/// Returns the character that represents a byte.
 fn character(byte: u8) -> char {
     match byte {
         b'\n' => ';',

@@ -2,12 +2,12 @@
 use Rattle.std.proofs.Common.{◌≡◌, ◌&&◌, ℕ, zero, suc, ◌+◌, ◌^◌, nat_lt, Bool, true, false, cond}
 use Rattle.std.proofs.Common.{List, length, Option, Some, None, refl, sym, ap, ◌∙◌, arith}
 use Rattle.net_receiver.specs.Rules.{Segment}
-use Rattle.net_receiver.specs.Stored.{Stored, stored_reply}
+use Rattle.net_receiver.specs.ReceiverState.{ReceiverState, receiver_reply}
 use Rattle.net_copies.specs.declared.counts.FrameCounts.{FrameCounts}
 use Rattle.net_copies.specs.declared.fate.Fate.{Fate}
-use Rattle.net_copies.specs.declared.fate.Fate.TheVariants.{Delivered, Lost, Repeated, Late}
-use Rattle.net_copies.specs.Fates.{FatesSeen, next_fate, after_fate}
-use Rattle.net_copies.specs.Counting.{more, with_fate, with_fates, SameButRefused, is_refused, with_refusal}
+use Rattle.net_copies.specs.declared.fate.Fate.TheVariants.{Delivered, Lost, Duplicated, Delayed}
+use Rattle.net_copies.specs.Fates.{FatesState, next_fate, after_fate}
+use Rattle.net_copies.specs.Counts.{more, with_fate, with_fates, SameButRefused, is_refused, with_refusal}
 
 pub same_equal : (c d : FrameCounts) → c ≡ d → SameButRefused c d
 same_equal c d e = λ i. record (e i) { refused = 0 }
@@ -16,27 +16,27 @@ same_equal c d e = λ i. record (e i) { refused = 0 }
 same_one : (lot : Fate) (c d : FrameCounts) → SameButRefused c d → SameButRefused (with_fate lot c) (with_fate lot d)
 same_one Delivered c d same = ap (with_fate Delivered) same
 same_one Lost c d same = ap (with_fate Lost) same
-same_one Repeated c d same = ap (with_fate Repeated) same
-same_one Late c d same = ap (with_fate Late) same
+same_one Duplicated c d same = ap (with_fate Duplicated) same
+same_one Delayed c d same = ap (with_fate Delayed) same
 
-pub same_met : (n : ℕ) (v : FatesSeen) (c d : FrameCounts) → SameButRefused c d → SameButRefused (with_fates n v c) (with_fates n v d)
+pub same_met : (n : ℕ) (v : FatesState) (c d : FrameCounts) → SameButRefused c d → SameButRefused (with_fates n v c) (with_fates n v d)
 same_met zero v c d same = same
 same_met (suc n) v c d same = same_met n (after_fate v) (with_fate (next_fate v) c) (with_fate (next_fate v) d) (same_one (next_fate v) c d same)
 
 -- a frame that comes changes no other count
-refusing_is : (most : ℕ) (r : Stored) (o : Option (ℕ × List ℕ)) (c : FrameCounts) → SameButRefused (with_refusal most r o c) c
+refusing_is : (most : ℕ) (r : ReceiverState) (o : Option (ℕ × List ℕ)) (c : FrameCounts) → SameButRefused (with_refusal most r o c) c
 refusing_is most r None c = refl
-refusing_is most r (Some (pos, xs)) c = both (nat_lt (pos + length xs) (2 ^ 64) && is_refused (stored_reply most r (Segment pos xs)))
+refusing_is most r (Some (pos, xs)) c = both (nat_lt (pos + length xs) (2 ^ 64) && is_refused (receiver_reply most r (Segment pos xs)))
   where
     both : (b : Bool) → SameButRefused (cond b (record c { refused = more c.refused }) c) c
     both true = refl
     both false = refl
 
-pub same_refusing : (most : ℕ) (r : Stored) (o : Option (ℕ × List ℕ)) (c d : FrameCounts) → d ≡ with_refusal most r o c → SameButRefused d c
+pub same_refusing : (most : ℕ) (r : ReceiverState) (o : Option (ℕ × List ℕ)) (c d : FrameCounts) → d ≡ with_refusal most r o c → SameButRefused d c
 same_refusing most r o c d is = same_equal d (with_refusal most r o c) is ∙ refusing_is most r o c
 
 -- so are the frames that are left
-pub met_left : (v v' : FatesSeen) (c c' : FrameCounts) (m n : ℕ) → m ≡ n + 1 → v' ≡ after_fate v → SameButRefused c' (with_fate (next_fate v) c) →
+pub met_left : (v v' : FatesState) (c c' : FrameCounts) (m n : ℕ) → m ≡ n + 1 → v' ≡ after_fate v → SameButRefused c' (with_fate (next_fate v) c) →
     SameButRefused (with_fates n v' c') (with_fates m v c)
 met_left v v' c c' m n is left same =
     let k : m ≡ suc n = omega arith in

@@ -1,10 +1,10 @@
 -- What is counted of a copy's rounds and frames, turn by turn.
 use Rattle.std.proofs.Common.{◌≡◌, ◌⊎◌, ℕ, zero, suc, ◌+◌, ◌-◌, ◌*◌, ◌≤◌, ◌<◌, ◌^◌, min, nat_eq, not, true, false, List, ◌∷◌, ◌++◌, length, take, refl, sym, ap, subst, ◌∙◌, arith, ⊎_elim, inl, inr, length-append, length-take}
 use Rattle.std.proofs.lemmas.Bool.{both_ways, cases_lt, and_from, and_parts, eq-eqb}
-use Rattle.net_receiver.specs.Stored.{stored_next}
-use Rattle.net_copies.specs.Outgoing.{end_of}
+use Rattle.net_receiver.specs.ReceiverState.{next_position}
+use Rattle.net_copies.specs.SenderState.{end_of}
 use Rattle.net_copies.specs.Fates.{AllCome}
-use Rattle.net_copies.specs.Rounds.{FatesSoFar, fates_only}
+use Rattle.net_copies.specs.FateCounts.{FatesSoFar, fates_only}
 use Rattle.net_copies.specs.LinkState.{round}
 use Rattle.net_copies.specs.CopyState.{Setup, CopyState, Status, Running, Done, GaveUp, ReadFailed, begin, is_written, room_for, feed, waited, pass, turn, after}
 use Rattle.net_copies.specs.Stuck.{failures, losses, IsDue, IsStuck, KnownOfRounds}
@@ -15,7 +15,7 @@ use Rattle.net_copies.proofs.Reached.{first_is}
 use Rattle.net_copies.proofs.Stuck.{due_kept, all_after, round_moves}
 use Rattle.net_copies.proofs.RoundCount.{round_at_once, more_taken}
 use Rattle.net_copies.proofs.Passed.{round_sends}
-use Rattle.net_copies.proofs.Kept.{round_carries}
+use Rattle.net_copies.proofs.Kept.{round_keeps_invariant}
 use Rattle.net_copies.proofs.Turns.{ended, decides, all_turned}
 use Rattle.net_copies.proofs.Prefix.{SoFar, so_far, fed_so_far}
 use Rattle.net_copies.proofs.GoesOn.{FedLeaves, Feeds, Waits, Fails, Ends, Gives, feeds, fed_leaves, ends, asked, Turned, Failed, Finished, Stopped, WentOn, turns, goes_on, Still, Brought, Some, Nothing, brought, running_or_not}
@@ -103,14 +103,14 @@ module _ (known : KnownOfRounds) where
           (λ (l : length (after s reads (suc n)).given ≤ length (after s reads (suc n)).written).
           let all : d.link.receiver.read ≡ length d.given = omega (arith, length-take d.link.receiver.read d.given) in
           absurd (asked s.chunk c stop.fed stop.on can.chunk (omega arith) (omega arith)
-          (and_from (nat_eq (stored_next d.link.receiver) (end_of d.link.sender)) (nat_eq (length d.link.receiver.queue) 0)
-          (eq-eqb (stored_next d.link.receiver) (end_of d.link.sender) (omega arith)) (eq-eqb (length d.link.receiver.queue) 0 (omega arith)))))
+          (and_from (nat_eq (next_position d.link.receiver) (end_of d.link.sender)) (nat_eq (length d.link.receiver.queue) 0)
+          (eq-eqb (next_position d.link.receiver) (end_of d.link.sender) (omega arith)) (eq-eqb (length d.link.receiver.queue) 0 (omega arith)))))
           (cases_lt (length (after s reads (suc n)).written) (length (after s reads (suc n)).given))
 
   -- ---- the fates of frames
   module _ (s : Setup) where
     abbrev Met : CopyState → Type 0
-    Met c = Stays known s c.link × FatesSoFar s.fates s.ack_fates c.link.there.fates c.link.back.fates c.link.counts
+    Met c = Stays known s c.link × FatesSoFar s.fates s.ack_fates c.link.forward.fates c.link.reverse.fates c.link.counts
 
     fed_met : (c : CopyState) → Met c → Met (feed s.chunk c)
     fed_met c h =
@@ -119,8 +119,8 @@ module _ (known : KnownOfRounds) where
           record {
             frames = h.1.frames;
             acks = h.1.acks;
-            left = ap (λ p. p.fates) f.there ∙ h.1.left;
-            left_back = ap (λ p. p.fates) f.back ∙ h.1.left_back;
+            left = ap (λ p. p.fates) f.forward ∙ h.1.left;
+            left_reverse = ap (λ p. p.fates) f.reverse ∙ h.1.left_reverse;
             counted = ap fates_only f.counts ∙ h.1.counted;
           },
         )
@@ -129,22 +129,22 @@ module _ (known : KnownOfRounds) where
     pass_met c h =
         let old = waited c in
         let m = round_met s.fates s.ack_fates old (round old) (round_sends old h.0.payload).passes
-        (record { frames = h.1.frames; acks = h.1.acks; left = h.1.left; left_back = h.1.left_back; counted = h.1.counted }) in (
+        (record { frames = h.1.frames; acks = h.1.acks; left = h.1.left; left_reverse = h.1.left_reverse; counted = h.1.counted }) in (
           pass_stays known s c h.0,
-          record { frames = m.frames; acks = m.acks; left = m.left; left_back = m.left_back; counted = m.counted },
+          record { frames = m.frames; acks = m.acks; left = m.left; left_reverse = m.left_reverse; counted = m.counted },
         )
 
   pub counts_each_fate : CountsEachFate
   counts_each_fate s reads n =
-      met_so_far s.fates s.ack_fates (after s reads n).link.there.fates (after s reads n).link.back.fates (after s reads n).link.counts
+      met_so_far s.fates s.ack_fates (after s reads n).link.forward.fates (after s reads n).link.reverse.fates (after s reads n).link.counts
       (all_turned (Met s) s.rounds s.chunk (λ c _. fed_met s c)
       (λ c _ h. decides (Met s) s.rounds c (λ _ _. h) (λ _. h) (λ _. h)) (λ c _. pass_met s c) n (begin s reads)
-      (all_stays known s reads 0, record { frames = 0; acks = 0; left = refl; left_back = refl; counted = refl })).1
+      (all_stays known s reads 0, record { frames = 0; acks = 0; left = refl; left_reverse = refl; counted = refl })).1
 
   -- ---- failures
   module _ (s : Setup) (reads : List (List ℕ)) where
-    -- the rounds in a row that brought nothing on are counted as failures: each by a loss, or all but the last, and then
-    -- what comes late is due
+    -- the rounds in a row without progress are counted as failures: each by a loss, or all but the last, and then what
+    -- is delayed is due
     abbrev Lacks : CopyState → Type 0
     Lacks c = (min c.stalled (2 ^ 64 - 1) ≤ failures c.link.counts)
         × ((min c.stalled (2 ^ 64 - 1) ≤ losses c.link.counts) ⊎ ((min c.stalled (2 ^ 64 - 1) ≤ losses c.link.counts + 1) × IsDue c.link))
@@ -171,8 +171,8 @@ module _ (known : KnownOfRounds) where
               (λ (a : IsDue (pass s.chunk e).link × (losses (waited e).counts ≤ losses (pass s.chunk e).link.counts)). inr (let b = a.1 in omega arith, a.0))
               one.lost)
               (λ (l : (min c.stalled (2 ^ 64 - 1) ≤ losses c.link.counts + 1) × IsDue c.link).
-              absurd (one.not_due (due_kept c.link (waited e) (ap (λ p. p.late) f.there) (ap (λ p. p.late) f.back)
-              (ap (λ r. r.first + r.read + length r.queue) f.receiver) f.base f.end l.1)))
+              absurd (one.not_due (due_kept c.link (waited e) (ap (λ p. p.delayed) f.forward) (ap (λ p. p.delayed) f.reverse)
+              (ap (λ r. r.first + r.read + length r.queue) f.receiver) f.first_unacknowledged f.end l.1)))
               h.1,
         )
 
@@ -190,14 +190,14 @@ module _ (known : KnownOfRounds) where
 
   pub enough_failed : EnoughFailed
   enough_failed s reads n can few gave = at_end s reads
-      (λ c. CanPass s c → (s.rounds ≤ c.link.counts.lost + c.link.counts.late) × (s.rounds ≤ c.link.counts.lost + 1)) GaveUp gave_up_no_longer_runs
+      (λ c. CanPass s c → (s.rounds ≤ c.link.counts.lost + c.link.counts.delayed) × (s.rounds ≤ c.link.counts.lost + 1)) GaveUp gave_up_no_longer_runs
       (λ m on gave can.
       let c = after s reads m in
       let stop = stops s.rounds s.chunk c on gave in
       let h = lacks s reads m (passes_before known s reads m (suc m) (omega arith) can) on in
       let counts = ap (λ x. x.link.counts) stop.is ∙ (fed_leaves s.chunk c).counts in
       let lost = ap (λ x. x.lost) counts in
-      let late = ap (λ x. x.late) counts in
+      let delayed = ap (λ x. x.delayed) counts in
       let many = stop.many in
       let low = h.0 in (
         omega arith,
@@ -261,10 +261,10 @@ module _ (known : KnownOfRounds) where
       (subst (λ k. length (after s reads m).given ≤ k * s.chunk) (sym last.1) (taken_few s reads fits m on)))) n
 
   -- ---- where all come at once
-  module _ (s : Setup) (reads : List (List ℕ)) (come : AllCome s.fates) (come_back : AllCome s.ack_fates) where
+  module _ (s : Setup) (reads : List (List ℕ)) (come : AllCome s.fates) (come_reverse : AllCome s.ack_fates) where
     -- the sender keeps what the receiver lacks, and each round wrote some
     abbrev AtOnce : CopyState → Type 0
-    AtOnce c = (c.link.sender.base ≡ stored_next c.link.receiver) × (c.rounds ≤ c.link.receiver.read)
+    AtOnce c = (c.link.sender.first_unacknowledged ≡ next_position c.link.receiver) × (c.rounds ≤ c.link.receiver.read)
 
     fed_at_once : (c : CopyState) → AtOnce c → AtOnce (feed s.chunk c)
     fed_at_once c h =
@@ -272,7 +272,7 @@ module _ (known : KnownOfRounds) where
         let rounds = f.rounds in
         let read = ap (λ r. r.read) f.receiver in
         let few = h.1 in
-        (f.base ∙ h.0 ∙ sym (ap (λ r. r.first + r.read + length r.queue) f.receiver), omega arith)
+        (f.first_unacknowledged ∙ h.0 ∙ sym (ap (λ r. r.first + r.read + length r.queue) f.receiver), omega arith)
 
     one_at_once : (c : CopyState) → SoFar known.known s reads c → Stays known s c.link → CanPass s (turn s.rounds s.chunk c) → AtOnce c →
         Turned s.rounds s.chunk c → AtOnce (turn s.rounds s.chunk c)
@@ -296,8 +296,8 @@ module _ (known : KnownOfRounds) where
         let was_few = (fed_at_once c h).1 in
         let one_more = round_at_once known.known.decode known.known.queue s.first e.given old new last s.chunk p
         (leaves known s reads c was stays can one) moves (omega arith) refl w.way
-        (round_carries known.known s.first e.given old (record { way = w.way; fits = w.fits })).way u.ahead u.ahead_back
-        (subst AllCome (sym u.drawn.1) (all_after u.drawn.0 s.fates come)) (subst AllCome (sym u.drawn_back.1) (all_after u.drawn_back.0 s.ack_fates come_back))
+        (round_keeps_invariant known.known s.first e.given old (record { way = w.way; fits = w.fits })).way u.in_flight u.in_flight_reverse
+        (subst AllCome (sym u.drawn.1) (all_after u.drawn.0 s.fates come)) (subst AllCome (sym u.drawn_reverse.1) (all_after u.drawn_reverse.0 s.ack_fates come_reverse))
         (fed_at_once c h).0 (omega arith) can.chunk
         (λ none. some_kept e (λ empty. kept known s reads c was stays can one empty none)) in
         let grows = one_more.1 in
@@ -323,11 +323,11 @@ module _ (known : KnownOfRounds) where
         (running_or_not c.status)
 
   pub rounds_at_once : RoundsAtOnce
-  rounds_at_once s reads n can come come_back =
+  rounds_at_once s reads n can come come_reverse =
       let c = after s reads n in
       let positions = can.positions in
       let starts : s.first < 2 ^ 64 = omega arith in
-      let few = (at_once s reads come come_back n can).1 in
+      let few = (at_once s reads come come_reverse n can).1 in
       let w = (so_far known.known s reads starts n).writes.carries in
       let read = (queue_from known.known.queue s.first c.given c.link.receiver w.way.receives).within in
       omega arith

@@ -4,48 +4,48 @@ use Rattle.std.specs.Result.{is_err}
 use Rattle.std.proofs.lemmas.Bool.{both_ways}
 use Rattle.net_copies.specs.declared.counts.FrameCounts.{FrameCounts}
 use Rattle.net_copies.specs.declared.fate.Fate.{Fate}
-use Rattle.net_copies.specs.declared.fate.Fate.TheVariants.{Delivered, Lost, Repeated, Late}
-use Rattle.net_copies.specs.Fates.{FatesSeen, next_fate, after_fate, fates_after}
-use Rattle.net_copies.specs.Counting.{with_fate, with_fates, SameButRefused, with_payload, no_frames}
+use Rattle.net_copies.specs.declared.fate.Fate.TheVariants.{Delivered, Lost, Duplicated, Delayed}
+use Rattle.net_copies.specs.Fates.{FatesState, next_fate, after_fate, fates_after}
+use Rattle.net_copies.specs.Counts.{with_fate, with_fates, SameButRefused, with_payload, no_frames}
 use Rattle.net_copies.specs.LinkState.{LinkState}
-use Rattle.net_copies.specs.Links.{Passes}
-use Rattle.net_copies.specs.Reported.{count_outside}
-use Rattle.net_copies.specs.Rounds.{fates_only, CountsFates, FatesSoFar}
+use Rattle.net_copies.specs.Round.{Passes}
+use Rattle.net_copies.specs.SackBlocks.{count_outside}
+use Rattle.net_copies.specs.FateCounts.{fates_only, CountsFates, FatesSoFar}
 
 -- ---- fates in another order are counted alike
 met_met : (a b : Fate) (c : FrameCounts) → with_fate a (with_fate b c) ≡ with_fate b (with_fate a c)
 met_met Delivered Delivered c = refl
 met_met Delivered Lost c = refl
-met_met Delivered Repeated c = refl
-met_met Delivered Late c = refl
+met_met Delivered Duplicated c = refl
+met_met Delivered Delayed c = refl
 met_met Lost Delivered c = refl
 met_met Lost Lost c = refl
-met_met Lost Repeated c = refl
-met_met Lost Late c = refl
-met_met Repeated Delivered c = refl
-met_met Repeated Lost c = refl
-met_met Repeated Repeated c = refl
-met_met Repeated Late c = refl
-met_met Late Delivered c = refl
-met_met Late Lost c = refl
-met_met Late Repeated c = refl
-met_met Late Late c = refl
+met_met Lost Duplicated c = refl
+met_met Lost Delayed c = refl
+met_met Duplicated Delivered c = refl
+met_met Duplicated Lost c = refl
+met_met Duplicated Duplicated c = refl
+met_met Duplicated Delayed c = refl
+met_met Delayed Delivered c = refl
+met_met Delayed Lost c = refl
+met_met Delayed Duplicated c = refl
+met_met Delayed Delayed c = refl
 
-met_past : (n : ℕ) (v : FatesSeen) (a : Fate) (c : FrameCounts) → with_fate a (with_fates n v c) ≡ with_fates n v (with_fate a c)
+met_past : (n : ℕ) (v : FatesState) (a : Fate) (c : FrameCounts) → with_fate a (with_fates n v c) ≡ with_fates n v (with_fate a c)
 met_past zero v a c = refl
 met_past (suc n) v a c = met_past n (after_fate v) a (with_fate (next_fate v) c) ∙ ap (with_fates n (after_fate v)) (met_met a (next_fate v) c)
 
-all_past : (m n : ℕ) (v u : FatesSeen) (c : FrameCounts) → with_fates m v (with_fates n u c) ≡ with_fates n u (with_fates m v c)
+all_past : (m n : ℕ) (v u : FatesState) (c : FrameCounts) → with_fates m v (with_fates n u c) ≡ with_fates n u (with_fates m v c)
 all_past zero n v u c = refl
 all_past (suc m) n v u c = ap (with_fates m (after_fate v)) (met_past n u (next_fate v) c) ∙ all_past m n (after_fate v) u (with_fate (next_fate v) c)
 
--- ---- and so are those of one direction, one behind the other
-met_more : (m n : ℕ) (v : FatesSeen) (c : FrameCounts) → with_fates n (fates_after m v) (with_fates m v c) ≡ with_fates (m + n) v c
+-- ---- and so are those of one direction, one after the other
+met_more : (m n : ℕ) (v : FatesState) (c : FrameCounts) → with_fates n (fates_after m v) (with_fates m v c) ≡ with_fates (m + n) v c
 met_more zero n v c = ap (λ j. with_fates j v c) (let e : n ≡ 0 + n = omega arith in e)
 met_more (suc m) n v c = met_more m n (after_fate v) (with_fate (next_fate v) c)
     ∙ ap (λ j. with_fates j v c) (let e : suc (m + n) ≡ suc m + n = omega arith in e)
 
-pub after_more : (m n : ℕ) (v : FatesSeen) → fates_after n (fates_after m v) ≡ fates_after (m + n) v
+pub after_more : (m n : ℕ) (v : FatesState) → fates_after n (fates_after m v) ≡ fates_after (m + n) v
 after_more zero n v = ap (λ j. fates_after j v) (let e : n ≡ 0 + n = omega arith in e)
 after_more (suc m) n v = after_more m n (after_fate v) ∙ ap (λ j. fates_after j v) (let e : suc (m + n) ≡ suc m + n = omega arith in e)
 
@@ -53,46 +53,46 @@ after_more (suc m) n v = after_more m n (after_fate v) ∙ ap (λ j. fates_after
 same_fate : (lot : Fate) (c d : FrameCounts) → fates_only c ≡ fates_only d → fates_only (with_fate lot c) ≡ fates_only (with_fate lot d)
 same_fate Delivered c d same = ap (with_fate Delivered) same
 same_fate Lost c d same = ap (with_fate Lost) same
-same_fate Repeated c d same = ap (with_fate Repeated) same
-same_fate Late c d same = ap (with_fate Late) same
+same_fate Duplicated c d same = ap (with_fate Duplicated) same
+same_fate Delayed c d same = ap (with_fate Delayed) same
 
-same_fates : (n : ℕ) (v : FatesSeen) (c d : FrameCounts) → fates_only c ≡ fates_only d → fates_only (with_fates n v c) ≡ fates_only (with_fates n v d)
+same_fates : (n : ℕ) (v : FatesState) (c d : FrameCounts) → fates_only c ≡ fates_only d → fates_only (with_fates n v c) ≡ fates_only (with_fates n v d)
 same_fates zero v c d same = same
 same_fates (suc n) v c d same = same_fates n (after_fate v) (with_fate (next_fate v) c) (with_fate (next_fate v) d) (same_fate (next_fate v) c d same)
 
 -- ---- one round more
-more_met : (v v' u u' : FatesSeen) (c d : FrameCounts) (bytes frames acks : ℕ) →
+more_met : (v v' u u' : FatesState) (c d : FrameCounts) (bytes frames acks : ℕ) →
     SameButRefused d (with_fates acks u' (with_fates frames u (with_payload bytes c))) → (h : FatesSoFar v v' u u' c) →
     fates_only d ≡ fates_only (with_fates (h.acks + acks) v' (with_fates (h.frames + frames) v no_frames))
 more_met v v' u u' c d bytes frames acks same h =
     let before = with_fates h.frames v no_frames in
     let both = with_fates h.acks v' before in
-    let there = with_fates (h.frames + frames) v no_frames in
-    let framed : with_fates frames u both ≡ with_fates h.acks v' there =
+    let reached = with_fates (h.frames + frames) v no_frames in
+    let framed : with_fates frames u both ≡ with_fates h.acks v' forward =
     all_past frames h.acks u v' before ∙ ap (with_fates h.acks v') (ap (λ w. with_fates frames w before) h.left ∙ met_more h.frames frames v no_frames) in
-    let acked : with_fates acks u' (with_fates h.acks v' there) ≡ with_fates (h.acks + acks) v' there =
-    ap (λ w. with_fates acks w (with_fates h.acks v' there)) h.left_back ∙ met_more h.acks acks v' there in
+    let acked : with_fates acks u' (with_fates h.acks v' reached) ≡ with_fates (h.acks + acks) v' forward =
+    ap (λ w. with_fates acks w (with_fates h.acks v' reached)) h.left_reverse ∙ met_more h.acks acks v' reached in
     ap fates_only same
     ∙ same_fates acks u' (with_fates frames u (with_payload bytes c)) (with_fates frames u both) (same_fates frames u (with_payload bytes c) both h.counted)
     ∙ ap (λ x. fates_only (with_fates acks u' x)) framed
     ∙ ap fates_only acked
 
-pub round_met : (v v' : FatesSeen) (old new : LinkState) → Passes old new → FatesSoFar v v' old.there.fates old.back.fates old.counts →
-    FatesSoFar v v' new.there.fates new.back.fates new.counts
+pub round_met : (v v' : FatesState) (old new : LinkState) → Passes old new → FatesSoFar v v' old.forward.fates old.reverse.fates old.counts →
+    FatesSoFar v v' new.forward.fates new.reverse.fates new.counts
 round_met v v' old new round h =
     let s = old.sender in
-    let frames = length round.sent.ahead in
+    let frames = length round.sent.in_flight in
     let acks = length round.acks in
     record {
       frames = h.frames + frames;
       acks = h.acks + acks;
       left = ap (λ p. p.fates) round.left ∙ ap (λ p. fates_after frames p.fates) round.all.prefix.sent ∙ ap (fates_after frames) h.left
           ∙ after_more h.frames frames v;
-      left_back = ap (λ p. p.fates) round.left_back ∙ ap (fates_after acks) h.left_back ∙ after_more h.acks acks v';
-      counted = more_met v v' old.there.fates old.back.fates old.counts new.counts (count_outside s.reported s.base round.n) frames acks round.counted h;
+      left_reverse = ap (λ p. p.fates) round.left_reverse ∙ ap (fates_after acks) h.left_reverse ∙ after_more h.acks acks v';
+      counted = more_met v v' old.forward.fates old.reverse.fates old.counts new.counts (count_outside s.sack_blocks s.first_unacknowledged round.n) frames acks round.counted h;
     }
 
-pub met_so_far : (v v' u u' : FatesSeen) (c : FrameCounts) → FatesSoFar v v' u u' c → CountsFates v v' c
+pub met_so_far : (v v' u u' : FatesState) (c : FrameCounts) → FatesSoFar v v' u u' c → CountsFates v v' c
 met_so_far v v' u u' c h = record { frames = h.frames; acks = h.acks; counted = h.counted }
 
 -- ---- which end a call had

@@ -1,53 +1,53 @@
--- How many rounds a copy makes where nothing is lost or late, and a round has room for what a read gives.
+-- How many rounds a copy makes where nothing is lost or delayed, and a round has room for what a read gives.
 use Rattle.std.proofs.Common.{◌≡◌, ℕ, suc, ◌+◌, ◌-◌, ◌*◌, ◌≤◌, ◌<◌, min, cond, nat_lt, true, false, List, [], ◌∷◌, ◌++◌, length, take, All, refl, sym, ap, subst, ◌∙◌, arith, ⊎_elim, length-append, length-take, nat_le, ◌^◌, ◌&&◌, Some, append_assoc, length-drop, drop, zero, le_trans, nat_eq}
 use Rattle.std.proofs.lemmas.Bool.{both_ways, cond-true, and_from, le-leb, cases_lt, cond-false, eq-eqb, lt-ltb, le-ltb}
 use Rattle.std.proofs.lemmas.List.Elements.{All-head, All-tail}
 use Rattle.std.proofs.lemmas.List.{append-nil}
 use Rattle.net_assembler.specs.Positions.{IsMaximalRun, maximal_runs}
-use Rattle.net_receiver.specs.Stored.{Stored, IsSound, stored_next, domain}
+use Rattle.net_receiver.specs.ReceiverState.{ReceiverState, IsSound, next_position, domain}
 use Rattle.net_receiver.specs.OneStream.{ReceivesFrom}
-use Rattle.net_copies.specs.Outgoing.{Outgoing, end_of, row_end, sender_from}
+use Rattle.net_copies.specs.SenderState.{SenderState, end_of, row_end, sender_from}
 use Rattle.net_copies.specs.Frames.{Part, frames_from, part_bytes, frame_of, FramesDecode}
-use Rattle.net_copies.specs.Reported.{reports, count_from, next_start, greatest_end, is_full, most_reported, range_bytes, ranges_of}
-use Rattle.net_copies.specs.Carrying.{PathSeen, ack_of}
-use Rattle.net_copies.specs.Sending.{AreSparedIfReported, HasSize, part_end, HaveEnds, SendsRound}
-use Rattle.net_copies.specs.Outgoing.{stop_of, at_least_one}
+use Rattle.net_copies.specs.SackBlocks.{is_sacked, count_from, next_start, greatest_end, is_full, most_sack_blocks, block_bytes, blocks_of}
+use Rattle.net_copies.specs.PathState.{PathState, ack_of}
+use Rattle.net_copies.specs.Transmission.{AreSparedIfSacked, HasSize, part_end, HaveEnds, SendsRound}
+use Rattle.net_copies.specs.SenderState.{stop_of, at_least_one}
 use Rattle.net_copies.specs.Fates.{AllCome}
-use Rattle.net_copies.specs.Passing.{acks_of}
-use Rattle.net_copies.specs.Outgoing.{after_ack_frame}
-use Rattle.net_copies.specs.Progress.{after_ack_frames}
-use Rattle.net_copies.specs.LinkState.{LinkState, round, next_flight}
-use Rattle.net_copies.specs.Links.{HasRoomFor}
-use Rattle.net_copies.specs.Streams.{CarriesWithin, Writes}
+use Rattle.net_copies.specs.Arrivals.{acks_of}
+use Rattle.net_copies.specs.SenderState.{after_ack_frame}
+use Rattle.net_copies.specs.Reach.{after_ack_frames}
+use Rattle.net_copies.specs.LinkState.{LinkState, round, next_burst}
+use Rattle.net_copies.specs.Round.{HasRoomFor}
+use Rattle.net_copies.specs.Streams.{LinkInvariantFits, Writes}
 use Rattle.net_copies.specs.Stuck.{KnownOfRounds}
 use Rattle.net_copies.specs.CopyState.{Setup, CopyState, Running, Done, is_written, room_for, with_read, read_of, feed, waited, pass, turn, after}
 use Rattle.net_copies.specs.Promises.{before_end, most_read, HasRoomAtOnce, ExactRounds}
-use Rattle.net_copies.proofs.Brings.{round_brings}
+use Rattle.net_copies.proofs.Delivers.{round_delivers}
 use Rattle.net_copies.proofs.Passed.{round_sends}
 use Rattle.net_copies.proofs.CountedTurns.{at_end, done_none}
 use Rattle.net_copies.proofs.GoesOn.{asks, ends, GoesOn, goes_on}
 use Rattle.net_copies.proofs.Prefix.{SoFar, so_far, fed_so_far}
 use Rattle.net_copies.proofs.Reached.{next_come, acked_append, all_keep_end}
-use Rattle.net_copies.proofs.Stuck.{round_keeps, all_after, base_grows}
+use Rattle.net_copies.proofs.Stuck.{round_keeps, all_after, head_grows}
 use Rattle.net_copies.proofs.StuckRounds.{numbers, all_sound, Stays, all_stays, fed_stays}
-use Rattle.net_copies.proofs.Kept.{split, held_within, round_carries}
+use Rattle.net_copies.proofs.Kept.{split, held_within, round_keeps_invariant}
 use Rattle.net_copies.proofs.Ranges.{contains_held, ranges_stop}
 use Rattle.net_copies.proofs.RoundCount.{coming_all}
 
-module _ (v : Outgoing) (most : ℕ) (none : v.reported ≡ []) (far : end_of v ≤ v.cut) where
+module _ (v : SenderState) (most : ℕ) (none : v.sack_blocks ≡ []) (far : end_of v ≤ v.wraps_at) where
   part_is : (p : ℕ) → part_end v most p ≡ min (p + most) (end_of v)
   part_is p =
-      let row : row_end v p ≡ end_of v = split (λ n. n ≡ end_of v) (nat_lt p v.cut) (min v.cut (end_of v)) (end_of v) (λ _. omega arith) (λ _. refl) in
-      (λ i. cond (reports (none i) p) (p + min (count_from (none i) p) (end_of v - p)) (min (p + most) (min (next_start (none i) p (end_of v)) (row_end v p))))
+      let row : row_end v p ≡ end_of v = split (λ n. n ≡ end_of v) (nat_lt p v.wraps_at) (min v.wraps_at (end_of v)) (end_of v) (λ _. omega arith) (λ _. refl) in
+      (λ i. cond (is_sacked (none i) p) (p + min (count_from (none i) p) (end_of v - p)) (min (p + most) (min (next_start (none i) p (end_of v)) (row_end v p))))
       ∙ (let e : min (p + most) (min (end_of v) (row_end v p)) ≡ min (p + most) (end_of v) = omega arith in e)
 
   -- each frame but the last is as long as a payload
-  parts_far : (p : ℕ) (parts : List Part) → All (HasSize most) parts → AreSparedIfReported v.reported p parts → HaveEnds v most p parts →
+  parts_far : (p : ℕ) (parts : List Part) → All (HasSize most) parts → AreSparedIfSacked v.sack_blocks p parts → HaveEnds v most p parts →
       min (end_of v) (p + length (frames_from p parts) * most) ≤ p + length (part_bytes parts)
   parts_far p [] sizes marked have = omega arith
   parts_far p ((true, xs) ∷ parts) sizes marked have =
       let size = (All-head (HasSize most) (true, xs) parts sizes).0 in
-      absurd (both_ways (reports v.reported p) (ap (λ r. reports r p) none) (marked.0 p (omega arith) (omega arith)))
+      absurd (both_ways (is_sacked v.sack_blocks p) (ap (λ r. is_sacked r p) none) (marked.0 p (omega arith) (omega arith)))
   parts_far p ((false, xs) ∷ parts) sizes marked have =
       let end = have.1 ∙ part_is p in
       let rest = parts_far (p + length xs) parts (All-tail (HasSize most) (false, xs) parts sizes) marked.1 have.2 in
@@ -58,23 +58,23 @@ module _ (v : Outgoing) (most : ℕ) (none : v.reported ≡ []) (far : end_of v 
       further e p x n b l end rest long = omega arith
 
   -- so that enough frames send all
-  pub all_parts : (flight n : ℕ) (old new : PathSeen) → SendsRound v most flight n old new → length v.queue ≤ flight * most → n ≡ length v.queue
-  all_parts flight n old new sent few =
+  pub all_parts : (burst n : ℕ) (old new : PathState) → SendsRound v most burst n old new → length v.queue ≤ burst * most → n ≡ length v.queue
+  all_parts burst n old new sent few =
       let within = sent.prefix.within in
       ⊎_elim {C = n ≡ length v.queue}
-      (λ (l : stop_of v ≤ v.base + n).
-      let stop : stop_of v ≡ end_of v = (λ i. cond (is_full (none i)) (min (end_of v) (greatest_end (none i) v.base + 1)) (end_of v)) in
+      (λ (l : stop_of v ≤ v.first_unacknowledged + n).
+      let stop : stop_of v ≡ end_of v = (λ i. cond (is_full (none i)) (min (end_of v) (greatest_end (none i) v.first_unacknowledged + 1)) (end_of v)) in
       omega arith)
-      (λ (l : length (frames_from v.base sent.prefix.parts) ≡ flight).
-      let reach = parts_far v.base sent.prefix.parts sent.prefix.sizes sent.prefix.marked sent.prefix.ends in
+      (λ (l : length (frames_from v.first_unacknowledged sent.prefix.parts) ≡ burst).
+      let reach = parts_far v.first_unacknowledged sent.prefix.parts sent.prefix.sizes sent.prefix.marked sent.prefix.ends in
       let size : length (part_bytes sent.prefix.parts) ≡ n = ap length sent.prefix.all ∙ (let e : length (take n v.queue) ≡ n = omega (arith, length-take n v.queue) in e) in
-      let enough : min (end_of v) (v.base + flight * most) ≤ v.base + n =
-      subst (λ k. min (end_of v) (v.base + k * most) ≤ v.base + n) l (subst (λ k. min (end_of v) (v.base + length (frames_from v.base sent.prefix.parts) * most) ≤ v.base + k) size reach) in
+      let enough : min (end_of v) (v.first_unacknowledged + burst * most) ≤ v.first_unacknowledged + n =
+      subst (λ k. min (end_of v) (v.first_unacknowledged + k * most) ≤ v.first_unacknowledged + n) l (subst (λ k. min (end_of v) (v.first_unacknowledged + length (frames_from v.first_unacknowledged sent.prefix.parts) * most) ≤ v.first_unacknowledged + k) size reach) in
       omega arith)
       sent.stop
 
 -- a receiver that has all of the stream holds nothing
-no_runs : (known : KnownOfRounds) (f : ℕ) (w : List ℕ) (r : Stored) → IsSound most_reported r → ReceivesFrom f w r → stored_next r ≡ f + length w →
+no_runs : (known : KnownOfRounds) (f : ℕ) (w : List ℕ) (r : ReceiverState) → IsSound most_sack_blocks r → ReceivesFrom f w r → next_position r ≡ f + length w →
     maximal_runs (domain r.held) ≡ []
 no_runs known f w r sound from all = by (maximal_runs (domain r.held)) (known.known.maximal (domain r.held)).maximal
   where
@@ -88,75 +88,75 @@ no_runs known f w r sound from all = by (maximal_runs (domain r.held)) (known.kn
         let high = held_within known.known f w r run.0 from held in
         absurd (omega arith)
 
--- what the last acknowledgement reports, the sender has
-last_reports : FramesDecode → (s : Outgoing) (n : ℕ) (xs : List ℕ) (prefix : List (List ℕ)) → n ≤ end_of s → n < 2 ^ 64 →
-    (after_ack_frames s (prefix ++ frame_of n xs ∷ [])).base ≤ n → (after_ack_frames s (prefix ++ frame_of n xs ∷ [])).reported ≡ ranges_of most_reported xs
-last_reports trip s n xs prefix within word below =
+-- the sender has the SACK blocks of the last acknowledgement
+last_sacked : FramesDecode → (s : SenderState) (n : ℕ) (xs : List ℕ) (prefix : List (List ℕ)) → n ≤ end_of s → n < 2 ^ 64 →
+    (after_ack_frames s (prefix ++ frame_of n xs ∷ [])).first_unacknowledged ≤ n → (after_ack_frames s (prefix ++ frame_of n xs ∷ [])).sack_blocks ≡ blocks_of most_sack_blocks xs
+last_sacked trip s n xs prefix within word below =
     let t = after_ack_frames s prefix in
     let end : end_of t ≡ end_of s = all_keep_end s prefix in
     let is : after_ack_frames s (prefix ++ frame_of n xs ∷ []) ≡ after_ack_frame t (Some (n, xs)) =
     acked_append s prefix (frame_of n xs ∷ []) ∙ ap (after_ack_frame t) (trip n xs word) in
-    let same : (after_ack_frames s (prefix ++ frame_of n xs ∷ [])).base ≡ (after_ack_frame t (Some (n, xs))).base = ap (λ v. v.base) is in
-    let grows : t.base ≤ (after_ack_frame t (Some (n, xs))).base = base_grows t (Some (n, xs)) in
-    let low : t.base ≤ n = omega (arith, same, grows, below) in
+    let same : (after_ack_frames s (prefix ++ frame_of n xs ∷ [])).first_unacknowledged ≡ (after_ack_frame t (Some (n, xs))).first_unacknowledged = ap (λ v. v.first_unacknowledged) is in
+    let grows : t.first_unacknowledged ≤ (after_ack_frame t (Some (n, xs))).first_unacknowledged = head_grows t (Some (n, xs)) in
+    let low : t.first_unacknowledged ≤ n = omega (arith, same, grows, below) in
     let high : n ≤ end_of t = omega (arith, end, within) in
-    ap (λ v. v.reported) (is ∙ cond-true (nat_le t.base n && nat_le n (end_of t)) (sender_from t n (ranges_of most_reported xs)) t
-    (and_from (nat_le t.base n) (nat_le n (end_of t)) (le-leb t.base n low) (le-leb n (end_of t) high)))
+    ap (λ v. v.sack_blocks) (is ∙ cond-true (nat_le t.first_unacknowledged n && nat_le n (end_of t)) (sender_from t n (blocks_of most_sack_blocks xs)) t
+    (and_from (nat_le t.first_unacknowledged n) (nat_le n (end_of t)) (le-leb t.first_unacknowledged n low) (le-leb n (end_of t) high)))
 
 -- a round that has room for all
-pub record BringsAll (l m : LinkState) : Type 0 where
-  pub next : stored_next m.receiver ≡ end_of l.sender
+pub record DeliversAll (l m : LinkState) : Type 0 where
+  pub next : next_position m.receiver ≡ end_of l.sender
   pub queue : length m.sender.queue ≡ 0
-  pub base : m.sender.base ≡ stored_next m.receiver
-  pub reported : m.sender.reported ≡ []
+  pub first_unacknowledged : m.sender.first_unacknowledged ≡ next_position m.receiver
+  pub sack_blocks : m.sender.sack_blocks ≡ []
 
-pub brings_all : KnownOfRounds → (f : ℕ) (w : List ℕ) (l : LinkState) → l.counts.payload < 2 ^ 64 → IsSound most_reported l.receiver →
-    IsSound most_reported (round l).receiver → CarriesWithin f w l →
-    l.sender.reported ≡ [] → end_of l.sender ≤ l.sender.cut → length l.sender.queue ≤ at_least_one l.flight * at_least_one l.payload → HasRoomFor l →
-    AllCome l.there.fates → AllCome l.back.fates → BringsAll l (round l)
-brings_all known f w l counted sound sound_after h none far few room come come_back =
+pub delivers_all : KnownOfRounds → (f : ℕ) (w : List ℕ) (l : LinkState) → l.counts.payload < 2 ^ 64 → IsSound most_sack_blocks l.receiver →
+    IsSound most_sack_blocks (round l).receiver → LinkInvariantFits f w l →
+    l.sender.sack_blocks ≡ [] → end_of l.sender ≤ l.sender.wraps_at → length l.sender.queue ≤ at_least_one l.burst * at_least_one l.payload → HasRoomFor l →
+    AllCome l.forward.fates → AllCome l.reverse.fates → DeliversAll l (round l)
+delivers_all known f w l counted sound sound_after h none far few room come come_reverse =
     let m = round l in
-    let one = round_brings known l counted sound h.fits in
+    let one = round_delivers known l counted sound h.fits in
     let p = one.passed in
-    let come_acks = next_come (length p.acks) l.back.fates come_back in
-    let all = all_parts l.sender (at_least_one l.payload) none far (at_least_one l.flight) p.n l.there p.sent p.all few in
-    let brought = one.brings f w h.way room (next_come (length p.sent.ahead) l.there.fates come) come_acks in
+    let come_acks = next_come (length p.acks) l.reverse.fates come_reverse in
+    let all = all_parts l.sender (at_least_one l.payload) none far (at_least_one l.burst) p.n l.forward p.sent p.all few in
+    let brought = one.delivers f w h.way room (next_come (length p.sent.in_flight) l.forward.fates come) come_acks in
     let both = brought.2 all in
     let reached = both.0 in
-    let base = brought.1 in
+    let head = brought.1 in
     let fits = h.fits in
     let end = h.way.sends.end in
-    let after = round_carries known.known f w l h in
-    let earlier = l.back.late ++ (l.back.ahead ++ acks_of most_reported l.receiver p.came) in
+    let after = round_keeps_invariant known.known f w l h in
+    let earlier = l.reverse.delayed ++ (l.reverse.in_flight ++ acks_of most_sack_blocks l.receiver p.came) in
     let runs = no_runs known f w m.receiver sound_after after.way.receives (omega arith) in
     let is : m.sender ≡ after_ack_frames l.sender (earlier ++ ack_of m.receiver ∷ []) =
-    p.acked ∙ ap (λ a. after_ack_frames l.sender (l.back.late ++ a)) (coming_all l.back.fates p.acks come_acks ∙ p.acks_are)
-    ∙ ap (after_ack_frames l.sender) (sym (append_assoc l.back.late (l.back.ahead ++ acks_of most_reported l.receiver p.came) (ack_of m.receiver ∷ []))) in
-    let xs = range_bytes (take most_reported (maximal_runs (domain m.receiver.held))) in
+    p.acked ∙ ap (λ a. after_ack_frames l.sender (l.reverse.delayed ++ a)) (coming_all l.reverse.fates p.acks come_acks ∙ p.acks_are)
+    ∙ ap (after_ack_frames l.sender) (sym (append_assoc l.reverse.delayed (l.reverse.in_flight ++ acks_of most_sack_blocks l.receiver p.came) (ack_of m.receiver ∷ []))) in
+    let xs = block_bytes (take most_sack_blocks (maximal_runs (domain m.receiver.held))) in
     record {
       next = reached;
       queue = both.1;
-      base = base;
-      reported = ap (λ v. v.reported) is
-          ∙ last_reports known.known.decode l.sender (stored_next m.receiver) xs earlier (omega arith) (omega arith)
-          (subst (λ v. v.base ≤ stored_next m.receiver) is (omega arith))
-          ∙ ap (λ k. ranges_of most_reported (range_bytes (take most_reported k))) runs ∙ ranges_stop most_reported [] refl;
+      first_unacknowledged = head;
+      sack_blocks = ap (λ v. v.sack_blocks) is
+          ∙ last_sacked known.known.decode l.sender (next_position m.receiver) xs earlier (omega arith) (omega arith)
+          (subst (λ v. v.first_unacknowledged ≤ next_position m.receiver) is (omega arith))
+          ∙ ap (λ k. blocks_of most_sack_blocks (block_bytes (take most_sack_blocks k))) runs ∙ ranges_stop most_sack_blocks [] refl;
     }
 
 -- ---- turns
 module _ (known : KnownOfRounds) (s : Setup) (bytes : List ℕ) (has : HasRoomAtOnce s) (fits : s.first + length bytes < 2 ^ 64 - 1) (come : AllCome s.fates)
-    (come_back : AllCome s.ack_fates) where
+    (come_reverse : AllCome s.ack_fates) where
   abbrev reads : List (List ℕ)
   reads = bytes ∷ [] ∷ []
 
   -- all that was read is written, in as many rounds as it takes
   record Ready (c : CopyState) : Type 0 where
     queue : length c.link.sender.queue ≡ 0
-    reported : c.link.sender.reported ≡ []
+    sack_blocks : c.link.sender.sack_blocks ≡ []
     empty : length c.link.receiver.queue ≡ 0
-    base : c.link.sender.base ≡ stored_next c.link.receiver
-    flight : c.link.flight ≡ at_least_one s.flight
-    limit : c.link.limit ≡ at_least_one s.flight
+    head : c.link.sender.first_unacknowledged ≡ next_position c.link.receiver
+    burst : c.link.burst ≡ at_least_one s.max_burst
+    max_burst : c.link.max_burst ≡ at_least_one s.max_burst
     payload : c.link.payload ≡ s.payload
     more : c.more ≡ true
     rest : List ℕ
@@ -174,11 +174,11 @@ module _ (known : KnownOfRounds) (s : Setup) (bytes : List ℕ) (has : HasRoomAt
       let cap = stays.outgoing in
       let some = has.some in
       let queue = h.queue in
-      let base = h.base in
+      let head = h.first_unacknowledged in
       let all = h.all in
       let end = was.writes.carries.way.sends.end in
-      let written : is_written c.link ≡ true = and_from (nat_eq (stored_next c.link.receiver) (end_of c.link.sender)) (nat_eq (length c.link.receiver.queue) 0)
-      (eq-eqb (stored_next c.link.receiver) (end_of c.link.sender) (omega arith)) (eq-eqb (length c.link.receiver.queue) 0 h.empty) in
+      let written : is_written c.link ≡ true = and_from (nat_eq (next_position c.link.receiver) (end_of c.link.sender)) (nat_eq (length c.link.receiver.queue) 0)
+      (eq-eqb (next_position c.link.receiver) (end_of c.link.sender) (omega arith)) (eq-eqb (length c.link.receiver.queue) 0 h.empty) in
       cond-true (asks s.chunk c) (read_of (room_for s.chunk c.link) c c.reads) c
       (and_from (c.more && nat_lt 0 (room_for s.chunk c.link)) (is_written c.link)
       (and_from c.more (nat_lt 0 (room_for s.chunk c.link)) h.more (lt-ltb 0 (room_for s.chunk c.link) (omega arith))) written)
@@ -187,9 +187,9 @@ module _ (known : KnownOfRounds) (s : Setup) (bytes : List ℕ) (has : HasRoomAt
   is_all_written : (c : CopyState) → SoFar known.known s reads c → Ready c → is_written c.link ≡ true
   is_all_written c was h =
       let queue = h.queue in
-      let base = h.base in
-      and_from (nat_eq (stored_next c.link.receiver) (end_of c.link.sender)) (nat_eq (length c.link.receiver.queue) 0)
-      (eq-eqb (stored_next c.link.receiver) (end_of c.link.sender) (omega arith)) (eq-eqb (length c.link.receiver.queue) 0 h.empty)
+      let head = h.first_unacknowledged in
+      and_from (nat_eq (next_position c.link.receiver) (end_of c.link.sender)) (nat_eq (length c.link.receiver.queue) 0)
+      (eq-eqb (next_position c.link.receiver) (end_of c.link.sender) (omega arith)) (eq-eqb (length c.link.receiver.queue) 0 h.empty)
 
   le_times : (r k : ℕ) → 0 < k → r ≤ r * k
   le_times r zero some = absurd (omega arith)
@@ -211,7 +211,7 @@ module _ (known : KnownOfRounds) (s : Setup) (bytes : List ℕ) (has : HasRoomAt
       let cap = before.outgoing in
       let in_cap = stays.incoming in
       let no_queue = h.queue in
-      let from = h.base in
+      let from = h.first_unacknowledged in
       let none_held = h.empty in
       let end = w.carries.way.sends.end in
       let has_some = has.some in
@@ -223,34 +223,34 @@ module _ (known : KnownOfRounds) (s : Setup) (bytes : List ℕ) (has : HasRoomAt
       let queue_is : length l.sender.queue ≡ length taken = omega (arith, length-append c.link.sender.queue taken) in
       let few_taken : length taken ≤ k = omega arith in
       let some_taken : 0 < length taken = omega arith in
-      let cut_is : l.sender.cut ≡ c.link.sender.base + c.link.sender.capacity =
-      cond-true (nat_eq (length c.link.sender.queue) 0) (c.link.sender.base + c.link.sender.capacity) c.link.sender.cut (eq-eqb (length c.link.sender.queue) 0 no_queue) in
-      let frames_are : at_least_one l.flight * at_least_one l.payload ≡ at_least_one s.flight * at_least_one s.payload =
-      (λ i. at_least_one (h.flight i) * at_least_one (h.payload i))
-      ∙ ap (λ f. f * at_least_one s.payload) (let same : at_least_one (at_least_one s.flight) ≡ at_least_one s.flight = omega arith in same) in
+      let wrap_is : l.sender.wraps_at ≡ c.link.sender.first_unacknowledged + c.link.sender.capacity =
+      cond-true (nat_eq (length c.link.sender.queue) 0) (c.link.sender.first_unacknowledged + c.link.sender.capacity) c.link.sender.wraps_at (eq-eqb (length c.link.sender.queue) 0 no_queue) in
+      let frames_are : at_least_one l.burst * at_least_one l.payload ≡ at_least_one s.max_burst * at_least_one s.payload =
+      (λ i. at_least_one (h.burst i) * at_least_one (h.payload i))
+      ∙ ap (λ f. f * at_least_one s.payload) (let same : at_least_one (at_least_one s.max_burst) ≡ at_least_one s.max_burst = omega arith in same) in
       let frames = has.frames in
-      let few : length l.sender.queue ≤ at_least_one l.flight * at_least_one l.payload =
+      let few : length l.sender.queue ≤ at_least_one l.burst * at_least_one l.payload =
       subst (λ f. length l.sender.queue ≤ f) (sym frames_are) (le_trans (omega (arith, queue_is, few_taken)) frames) in
       let p = (round_sends l stays.payload).passes in
       let keeps = round_keeps l m p (numbers known) in
-      let one = brings_all known s.first e.given l stays.payload stays.sound
-      (subst (IsSound most_reported) (sym p.received) (all_sound known.sound l.receiver p.came stays.sound))
-      (record { way = w.carries.way; fits = w.carries.fits }) h.reported (omega (arith, cut_is, queue_is, few_taken, cap)) few
+      let one = delivers_all known s.first e.given l stays.payload stays.sound
+      (subst (IsSound most_sack_blocks) (sym p.received) (all_sound known.sound l.receiver p.came stays.sound))
+      (record { way = w.carries.way; fits = w.carries.fits }) h.sack_blocks (omega (arith, wrap_is, queue_is, few_taken, cap)) few
       (omega (arith, queue_is, few_taken, from, none_held, within, in_cap))
-      (subst AllCome (sym stays.drawn.1) (all_after stays.drawn.0 s.fates come)) (subst AllCome (sym stays.drawn_back.1) (all_after stays.drawn_back.0 s.ack_fates come_back)) in
+      (subst AllCome (sym stays.drawn.1) (all_after stays.drawn.0 s.fates come)) (subst AllCome (sym stays.drawn_reverse.1) (all_after stays.drawn_reverse.0 s.ack_fates come_reverse)) in
       let next = one.next in
-      let met = one.base in
+      let met = one.first_unacknowledged in
       let first = keeps.first in
       let read = keeps.read in
       let size : length m.receiver.queue ≡ length taken = omega (arith, next, first, read, queue_is, from, none_held) in
       let left = length-drop s.chunk m.receiver.queue in
       let word : c.rounds < 2 ^ 64 - 1 = (let r = le_times c.rounds k has_some in omega (arith, r, exact, all, some, fits)) in
       let rounds_is : (pass s.chunk e).rounds ≡ c.rounds + 1 = omega arith in
-      let flight_is : next_flight l.limit l.flight (is_full m.sender.reported) ≡ at_least_one s.flight =
-      (λ i. next_flight (h.limit i) (h.flight i) (is_full (one.reported i))) ∙ (let same : min (at_least_one s.flight) (at_least_one s.flight + most_reported) ≡ at_least_one s.flight = omega arith in same) in
+      let burst_is : next_burst l.max_burst l.burst (is_full m.sender.sack_blocks) ≡ at_least_one s.max_burst =
+      (λ i. next_burst (h.max_burst i) (h.burst i) (is_full (one.sack_blocks i))) ∙ (let same : min (at_least_one s.max_burst) (at_least_one s.max_burst + most_sack_blocks) ≡ at_least_one s.max_burst = omega arith in same) in
       let made = λ (rest' : List ℕ) (last' : List (List ℕ)) (coming : e.reads ≡ rest' ∷ last') (all' : length e.given + length rest' ≡ length bytes)
       (exact' : 0 < length rest' → (last' ≡ [] ∷ []) × ((pass s.chunk e).rounds * k ≤ length e.given)).
-      made_ready (pass s.chunk e) one.queue one.reported (omega (arith, left, size, few_taken)) (omega (arith, met, left)) (p.flight ∙ flight_is) (p.limit ∙ h.limit)
+      made_ready (pass s.chunk e) one.queue one.sack_blocks (omega (arith, left, size, few_taken)) (omega (arith, met, left)) (p.burst ∙ burst_is) (p.max_burst ∙ h.max_burst)
       (p.payload ∙ h.payload) h.more rest' last' coming all' (subst (λ r. length e.given ≤ r * k) (sym rounds_is) (omega (arith, given_is, few_taken, low)))
       (subst (λ r. r * k < length e.given + k) (sym rounds_is) (omega (arith, given_is, some_taken, exact))) exact' in
       ⊎_elim {C = Ready (pass s.chunk e)}
@@ -261,18 +261,18 @@ module _ (known : KnownOfRounds) (s : Setup) (bytes : List ℕ) (has : HasRoomAt
       (omega (arith, given_is, taken_is, all)) (λ none. absurd (omega arith)))
       (cases_lt room (length rest))
     where
-      made_ready : (c : CopyState) → length c.link.sender.queue ≡ 0 → c.link.sender.reported ≡ [] → length c.link.receiver.queue ≡ 0 →
-          c.link.sender.base ≡ stored_next c.link.receiver → c.link.flight ≡ at_least_one s.flight → c.link.limit ≡ at_least_one s.flight →
+      made_ready : (c : CopyState) → length c.link.sender.queue ≡ 0 → c.link.sender.sack_blocks ≡ [] → length c.link.receiver.queue ≡ 0 →
+          c.link.sender.first_unacknowledged ≡ next_position c.link.receiver → c.link.burst ≡ at_least_one s.max_burst → c.link.max_burst ≡ at_least_one s.max_burst →
           c.link.payload ≡ s.payload → c.more ≡ true → (rest : List ℕ) (last : List (List ℕ)) → c.reads ≡ rest ∷ last → length c.given + length rest ≡ length bytes →
           length c.given ≤ c.rounds * most_read s → c.rounds * most_read s < length c.given + most_read s →
           (0 < length rest → (last ≡ [] ∷ []) × (c.rounds * most_read s ≤ length c.given)) → Ready c
       made_ready c a b d e f g i j rest last l m n o p = record {
         queue = a;
-        reported = b;
+        sack_blocks = b;
         empty = d;
-        base = e;
-        flight = f;
-        limit = g;
+        first_unacknowledged = e;
+        burst = f;
+        max_burst = g;
         payload = i;
         more = j;
         rest = rest;
@@ -300,11 +300,11 @@ module _ (known : KnownOfRounds) (s : Setup) (bytes : List ℕ) (has : HasRoomAt
   ready : (n : ℕ) → (after s reads n).status ≡ Running → Ready (after s reads n)
   ready zero on = record {
     queue = refl;
-    reported = refl;
+    sack_blocks = refl;
     empty = refl;
-    base = (let e : s.first ≡ s.first + 0 + 0 = omega arith in e);
-    flight = refl;
-    limit = refl;
+    first_unacknowledged = (let e : s.first ≡ s.first + 0 + 0 = omega arith in e);
+    burst = refl;
+    max_burst = refl;
     payload = refl;
     more = refl;
     rest = bytes;
@@ -321,11 +321,11 @@ module _ (known : KnownOfRounds) (s : Setup) (bytes : List ℕ) (has : HasRoomAt
       one_ready c (so_far known.known s reads (omega arith) n) (all_stays known s reads n) (ready n one.before) one
 
 pub exact_rounds : KnownOfRounds → ExactRounds
-exact_rounds known s bytes n has fits come come_back done =
+exact_rounds known s bytes n has fits come come_reverse done =
     at_end s (bytes ∷ [] ∷ []) (λ c. (length bytes ≤ c.rounds * most_read s) × (c.rounds * most_read s < length bytes + most_read s)) Done (λ (e : Done ≡ Running). cc)
     (λ m on is.
     let reads = bytes ∷ [] ∷ [] in
-    let h = ready known s bytes has fits come come_back m on in
+    let h = ready known s bytes has fits come come_reverse m on in
     let same = done_none s.rounds s.chunk (after s reads m) on is in
     let was = so_far known.known s reads (omega arith) (suc m) in
     let given : length (after s reads (suc m)).given ≡ length bytes = ap length (was.over (was.done is).0) ∙ before_is bytes in

@@ -2,8 +2,8 @@
 use Rattle.std.proofs.Common.{◌≡◌, ℕ, zero, suc, ◌+◌, ◌-◌, ◌≤◌, ◌<◌, ◌^◌, min, true, List, length, refl, sym, ap, subst, ◌∙◌, arith, ⊎_elim}
 use Rattle.std.proofs.lemmas.Bool.{both_ways, cases_lt}
 use Rattle.net_copies.specs.declared.fate.Fate.{Fate}
-use Rattle.net_copies.specs.declared.fate.Fate.TheVariants.{Delivered, Lost, Repeated, Late}
-use Rattle.net_copies.specs.Fates.{FatesSeen, next_fate, AllCome}
+use Rattle.net_copies.specs.declared.fate.Fate.TheVariants.{Delivered, Lost, Duplicated, Delayed}
+use Rattle.net_copies.specs.Fates.{FatesState, next_fate, AllCome}
 use Rattle.net_copies.specs.LinkState.{LinkState, round}
 use Rattle.net_copies.specs.CopyState.{Setup, CopyState, Running, GaveUp, feed, waited, pass, turn, after}
 use Rattle.net_copies.specs.Stuck.{failures, RoundLeaves, IsDue, IsStuck, HasFailed, AllFail, FatesFail, KnownOfRounds}
@@ -34,10 +34,10 @@ gave_up_once s reads (suc n) gave =
 is_lost : (lot : Fate) → HasFailed 1 lot → lot ≡ Lost
 is_lost Delivered h = absurd (both_ways true h.0 refl)
 is_lost Lost h = refl
-is_lost Repeated h = absurd (both_ways true h.0 refl)
-is_lost Late h = absurd (both_ways true (h.1 (omega arith)) refl)
+is_lost Duplicated h = absurd (both_ways true h.0 refl)
+is_lost Delayed h = absurd (both_ways true (h.1 (omega arith)) refl)
 
-first_fails : (follow n : ℕ) (v : FatesSeen) → 0 < n → AllFail follow n v → HasFailed follow (next_fate v)
+first_fails : (follow n : ℕ) (v : FatesState) → 0 < n → AllFail follow n v → HasFailed follow (next_fate v)
 first_fails follow zero v some all = absurd (omega arith)
 first_fails follow (suc n) v some all = all.0
 
@@ -48,8 +48,8 @@ module _ (known : KnownOfRounds) where
       ⊎_elim {C = Fails (n - suc k) l}
       (λ (more : suc k < n).
       ⊎_elim {C = Fails (n - suc k) l}
-      (λ (lost : FatesFail 1 (frames_sent l) (acks_sent l) l.there.fates l.back.fates × _).
-      stuck_weaker 1 (n - suc k) (frames_sent l) (acks_sent l) l.there.fates l.back.fates (λ _. omega arith) lost.0)
+      (λ (lost : FatesFail 1 (frames_sent l) (acks_sent l) l.forward.fates l.reverse.fates × _).
+      stuck_weaker 1 (n - suc k) (frames_sent l) (acks_sent l) l.forward.fates l.reverse.fates (λ _. omega arith) lost.0)
       (λ (due : IsDue (after s reads (suc k)).link × _). absurd ((stuck (suc k) (omega arith) more).not_due (still_due (suc k) (omega arith) due.0)))
       (stuck k far below).lost)
       (λ (last : n ≤ suc k). subst (λ follow. Fails follow l) (let e : 0 ≡ n - suc k = omega arith in e) (stuck k far below).why)
@@ -68,11 +68,11 @@ module _ (known : KnownOfRounds) where
           let c = after s reads j in
           let f = fed_leaves s.chunk c in
           subst (λ d. IsDue (waited d)) (sym (runs (feed s.chunk) c (runs_before known s reads j n few on)))
-          (due_kept c.link (waited (feed s.chunk c)) (ap (λ p. p.late) f.there) (ap (λ p. p.late) f.back)
-          (ap (λ r. r.first + r.read + length r.queue) f.receiver) f.base f.end due)
+          (due_kept c.link (waited (feed s.chunk c)) (ap (λ p. p.delayed) f.forward) (ap (λ p. p.delayed) f.reverse)
+          (ap (λ r. r.first + r.read + length r.queue) f.receiver) f.first_unacknowledged f.end due)
 
   pub never_by_delays : NeverByDelays
-  never_by_delays s reads n can none none_back many gave =
+  never_by_delays s reads n can none none_reverse many gave =
       let at = gave_up_once s reads n gave in
       let m = at.0 in
       let early = at.1 in
@@ -83,13 +83,13 @@ module _ (known : KnownOfRounds) where
       (gives_up_if_failed s reads m (passes_before known s reads (suc m) n early can) at.2 at.3 k (omega arith) (omega arith)) in
       let drawn = drawn_before known s reads k (runs_before known s reads k m (omega arith) at.2) in
       ⊎_elim {C = ⊥}
-      (λ (a : (0 < frames_sent l) × HasFailed 1 (next_fate l.there.fates)). none drawn.0 (ap next_fate (sym drawn.2) ∙ is_lost (next_fate l.there.fates) a.1))
-      (λ (b : (0 < acks_sent l) × AllFail 1 (acks_sent l) l.back.fates).
-      none_back drawn.1 (ap next_fate (sym drawn.3) ∙ is_lost (next_fate l.back.fates) (first_fails 1 (acks_sent l) l.back.fates b.0 b.1)))
+      (λ (a : (0 < frames_sent l) × HasFailed 1 (next_fate l.forward.fates)). none drawn.0 (ap next_fate (sym drawn.2) ∙ is_lost (next_fate l.forward.fates) a.1))
+      (λ (b : (0 < acks_sent l) × AllFail 1 (acks_sent l) l.reverse.fates).
+      none_reverse drawn.1 (ap next_fate (sym drawn.3) ∙ is_lost (next_fate l.reverse.fates) (first_fails 1 (acks_sent l) l.reverse.fates b.0 b.1)))
       failed
 
   pub ends_if_all_come : EndsIfAllCome
-  ends_if_all_come s reads n can come come_back some gave =
+  ends_if_all_come s reads n can come come_reverse some gave =
       let at = gave_up_once s reads n gave in
       let m = at.0 in
       let early = at.1 in
@@ -98,47 +98,47 @@ module _ (known : KnownOfRounds) where
       let l = before_round s reads k in
       let failed = gives_up_if_failed s reads m (passes_before known s reads (suc m) n early can) at.2 at.3 k (omega arith) (omega arith) in
       let drawn = drawn_before known s reads k (runs_before known s reads k m (omega arith) at.2) in
-      never_fails (frames_sent l) (acks_sent l) l.there.fates l.back.fates (subst AllCome (sym drawn.2) (all_after drawn.0 s.fates come))
-      (subst AllCome (sym drawn.3) (all_after drawn.1 s.ack_fates come_back))
-      (stuck_weaker (m - suc k) 0 (frames_sent l) (acks_sent l) l.there.fates l.back.fates (λ follow. absurd (omega arith)) failed)
+      never_fails (frames_sent l) (acks_sent l) l.forward.fates l.reverse.fates (subst AllCome (sym drawn.2) (all_after drawn.0 s.fates come))
+      (subst AllCome (sym drawn.3) (all_after drawn.1 s.ack_fates come_reverse))
+      (stuck_weaker (m - suc k) 0 (frames_sent l) (acks_sent l) l.forward.fates l.reverse.fates (λ follow. absurd (omega arith)) failed)
 
   -- ---- how many rounds
   module _ (s : Setup) (reads : List (List ℕ)) where
-    -- a round lets bytes go, writes some, or is counted as a failed one
+    -- in a round bytes are acknowledged or written, or it is counted as a failed one
     abbrev Bounded : CopyState → Type 0
-    Bounded c = c.rounds ≤ (c.link.sender.base - s.first) + c.link.receiver.read + failures c.link.counts
+    Bounded c = c.rounds ≤ (c.link.sender.first_unacknowledged - s.first) + c.link.receiver.read + failures c.link.counts
 
     fed_bounded : (c : CopyState) → Bounded c → Bounded (feed s.chunk c)
     fed_bounded c h =
         let f = fed_leaves s.chunk c in
-        let base = f.base in
+        let head = f.first_unacknowledged in
         let rounds = f.rounds in
         let read = ap (λ r. r.read) f.receiver in
         let counts = ap failures f.counts in
         omega arith
 
-    passed_bounded : (e : CopyState) (frames acks : ℕ) → Bounded e → RoundLeaves (waited e) (round (waited e)) → s.first ≤ e.link.sender.base →
+    passed_bounded : (e : CopyState) (frames acks : ℕ) → Bounded e → RoundLeaves (waited e) (round (waited e)) → s.first ≤ e.link.sender.first_unacknowledged →
         failures e.link.counts ≤ failures (round (waited e)).counts →
         (Still e (pass s.chunk e) → min s.chunk (length (round (waited e)).receiver.queue) ≡ 0 → IsStuck frames acks (waited e) (pass s.chunk e).link) →
         Brought s.chunk e → Bounded (pass s.chunk e)
     passed_bounded e frames acks h keeps from grows stuck (Some none some) =
         let m = round (waited e) in
         let n = min s.chunk (length m.receiver.queue) in
-        let base = keeps.base in
+        let head = keeps.first_unacknowledged in
         let read = keeps.read in
-        let far : e.link.sender.base + e.link.receiver.read < m.sender.base + (m.receiver.read + n) =
-        ⊎_elim {C = e.link.sender.base + e.link.receiver.read < m.sender.base + (m.receiver.read + n)}
-        (λ (l : e.link.sender.base + e.link.receiver.read < m.sender.base + (m.receiver.read + n)). l)
-        (λ (l : m.sender.base + (m.receiver.read + n) ≤ e.link.sender.base + e.link.receiver.read).
+        let far : e.link.sender.first_unacknowledged + e.link.receiver.read < m.sender.first_unacknowledged + (m.receiver.read + n) =
+        ⊎_elim {C = e.link.sender.first_unacknowledged + e.link.receiver.read < m.sender.first_unacknowledged + (m.receiver.read + n)}
+        (λ (l : e.link.sender.first_unacknowledged + e.link.receiver.read < m.sender.first_unacknowledged + (m.receiver.read + n)). l)
+        (λ (l : m.sender.first_unacknowledged + (m.receiver.read + n) ≤ e.link.sender.first_unacknowledged + e.link.receiver.read).
         absurd (some (still_from s.chunk e (omega arith) (omega arith))))
-        (cases_lt (e.link.sender.base + e.link.receiver.read) (m.sender.base + (m.receiver.read + n))) in
-        more_moved e.rounds (pass s.chunk e).rounds e.link.sender.base m.sender.base e.link.receiver.read (m.receiver.read + n) s.first
-        (failures e.link.counts) (failures m.counts) from base far grows (omega arith) h
+        (cases_lt (e.link.sender.first_unacknowledged + e.link.receiver.read) (m.sender.first_unacknowledged + (m.receiver.read + n))) in
+        more_moved e.rounds (pass s.chunk e).rounds e.link.sender.first_unacknowledged m.sender.first_unacknowledged e.link.receiver.read (m.receiver.read + n) s.first
+        (failures e.link.counts) (failures m.counts) from head far grows (omega arith) h
     passed_bounded e frames acks h keeps from grows stuck (Nothing more still empty) =
         let m = round (waited e) in
         let n = min s.chunk (length m.receiver.queue) in
         let read = keeps.read in
-        more_still e.rounds (pass s.chunk e).rounds e.link.sender.base m.sender.base e.link.receiver.read (m.receiver.read + n) s.first
+        more_still e.rounds (pass s.chunk e).rounds e.link.sender.first_unacknowledged m.sender.first_unacknowledged e.link.receiver.read (m.receiver.read + n) s.first
         (failures e.link.counts) (failures m.counts) still.0 (omega arith) (stuck still empty).counted refl h
 
     one_bounded : (c : CopyState) → SoFar known.known s reads c → Stays known s c.link → CanPass s (turn s.rounds s.chunk c) → Bounded c → Turned s.rounds s.chunk c →

@@ -3,7 +3,7 @@ use Rattle.std.proofs.Common.{◌≡◌, ◌⊎◌, ◌&&◌, ℕ, zero, suc, �
 use Rattle.std.proofs.lemmas.Bool.{and_parts, both_ways, ltb-true}
 use Rattle.std.proofs.lemmas.List.{append-nil, take-append-le}
 use Rattle.std.proofs.Math.Seq.{drop-append_seam}
-use Rattle.net_copies.specs.Outgoing.{with_written}
+use Rattle.net_copies.specs.SenderState.{with_written}
 use Rattle.net_copies.specs.CopyState.{Setup, CopyState, Status, Running, Done, GaveUp, ReadFailed, begin, is_written, rest_of, room_for, read_of, with_read, feed, decide, pass, while_running, turn, after, outcome, most_turns, copied}
 use Rattle.net_copies.specs.Streams.{Known}
 use Rattle.net_copies.specs.Promises.{before_end, EndsIfAllCome, has_end, DoneIfAllCome, FillsAt, Fills, SameBytes, AllAtOnce}
@@ -198,10 +198,10 @@ end_comes s reads n e =
     (λ c on h. h) n (begin s reads) (λ _. e, λ f. absurd (cc))
 
 pub done_if_all_come : Known → EndsIfAllCome → DoneIfAllCome
-done_if_all_come known never s reads can come come_back some e = by (copied s reads).status refl
+done_if_all_come known never s reads can come come_reverse some e = by (copied s reads).status refl
   where
     by : (st : Status) → (copied s reads).status ≡ st → (copied s reads).status ≡ Done
     by Running is = absurd (let p = can.positions in ends known s reads (omega arith) is)
     by Done is = is
-    by GaveUp is = absurd (never s reads (most_turns s reads) can come come_back some is)
+    by GaveUp is = absurd (never s reads (most_turns s reads) can come come_reverse some is)
     by ReadFailed is = absurd ((end_comes s reads (most_turns s reads) e).1 is)

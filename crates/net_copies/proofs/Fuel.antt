@@ -13,7 +13,7 @@ use Rattle.net_copies.proofs.Turns.{while, feeds, decides, ended}
 use Rattle.net_copies.proofs.Grown.{grown}
 use Rattle.net_copies.proofs.Prefix.{so_far, queue_of}
 
--- one round more: it brings bytes on, x' in place of x, or is one more of at most r that don't
+-- one round more: it makes progress, x' in place of x, or is one more of at most r that don't
 one_more : (r x x' t t' : ℕ) → t < r → ((x < x') × (t' ≡ 0)) ⊎ ((x ≤ x') × (t' ≡ t + 1)) → (x * r + t + 1 ≤ x' * r + t') × (t' ≤ r)
 one_more r x x' t t' few (inl (more, none)) =
     let one : (x + 1) * r ≤ x' * r = mul-le-mul_right r (omega arith) in
@@ -24,11 +24,12 @@ one_more r x x' t t' few (inr (same, more)) = (let one : x * r ≤ x' * r = mul-
 module _ (reads_nothing : SegmentReadsNothing) (s : Setup) where
   -- how many bytes were acknowledged, and how many were written
   abbrev pub far : CopyState → ℕ
-  far c = c.link.sender.base + c.link.receiver.read - s.first
+  far c = c.link.sender.first_unacknowledged + c.link.receiver.read - s.first
 
-  -- no more turns were made, and no more rounds, than bytes were brought on, `rounds` times, and rounds in a row that brought nothing on
+  -- no more turns were made, and no more rounds, than bytes were acknowledged or written, `rounds` times, and rounds
+  -- in a row without progress
   pub record Counted (n : ℕ) (c : CopyState) : Type 0 where
-    pub low : s.first ≤ c.link.sender.base
+    pub low : s.first ≤ c.link.sender.first_unacknowledged
     pub turns : c.status ≡ Running → n ≤ far c * s.rounds + c.stalled
     pub rounds : c.rounds ≤ far c * s.rounds + c.stalled
     pub few : c.stalled ≤ s.rounds
@@ -49,28 +50,28 @@ module _ (reads_nothing : SegmentReadsNothing) (s : Setup) where
       decides (Decided n) s.rounds c (λ none all. (record { low = h.low; turns = λ r. absurd (cc); rounds = h.rounds; few = h.few }, λ r. absurd (cc)))
       (λ many. (record { low = h.low; turns = λ r. absurd (cc); rounds = h.rounds; few = h.few }, λ r. absurd (cc))) (λ few. (h, λ r. few))
 
-  -- a round brings bytes on, or is counted as one that doesn't
-  pub brings_on : (c : CopyState) → s.first ≤ c.link.sender.base →
-      (s.first ≤ (pass s.chunk c).link.sender.base) × (((far c < far (pass s.chunk c)) × ((pass s.chunk c).stalled ≡ 0)) ⊎ ((far c ≤ far (pass s.chunk c)) × ((pass s.chunk c).stalled ≡ c.stalled + 1)))
-  brings_on c low =
-      let h = grown reads_nothing c.link.sender.base c.link.receiver.read (waited c) (record { base = omega arith; read = refl }) in
-      let b = h.base in
+  -- a round makes progress, or is counted as one that doesn't
+  pub progresses : (c : CopyState) → s.first ≤ c.link.sender.first_unacknowledged →
+      (s.first ≤ (pass s.chunk c).link.sender.first_unacknowledged) × (((far c < far (pass s.chunk c)) × ((pass s.chunk c).stalled ≡ 0)) ⊎ ((far c ≤ far (pass s.chunk c)) × ((pass s.chunk c).stalled ≡ c.stalled + 1)))
+  progresses c low =
+      let h = grown reads_nothing c.link.sender.first_unacknowledged c.link.receiver.read (waited c) (record { first_unacknowledged = omega arith; read = refl }) in
+      let b = h.first_unacknowledged in
       let m = round (waited c) in (
         omega arith,
-        by m.sender.base m.receiver.read (min s.chunk (length m.receiver.queue)) (not (nat_eq m.sender.base c.link.sender.base))
+        by m.sender.first_unacknowledged m.receiver.read (min s.chunk (length m.receiver.queue)) (not (nat_eq m.sender.first_unacknowledged c.link.sender.first_unacknowledged))
             (nat_lt 0 (min s.chunk (length m.receiver.queue))) refl refl b h.read,
       )
     where
-      by : (base read k : ℕ) (moved some : Bool) → not (nat_eq base c.link.sender.base) ≡ moved → nat_lt 0 k ≡ some → c.link.sender.base ≤ base → read ≡ c.link.receiver.read →
-          ((far c < base + (read + k) - s.first) × (cond (moved || some) 0 (c.stalled + 1) ≡ 0)) ⊎ ((far c ≤ base + (read + k) - s.first) × (cond (moved || some) 0 (c.stalled + 1) ≡ c.stalled + 1))
-      by base read k true some m e b r = inl (grind (arith, nat_tests), refl)
-      by base read k false true m e b r = inl ((let l = ltb-true 0 k e in omega arith), refl)
-      by base read k false false m e b r = inr (omega arith, refl)
+      by : (head read k : ℕ) (moved some : Bool) → not (nat_eq head c.link.sender.first_unacknowledged) ≡ moved → nat_lt 0 k ≡ some → c.link.sender.first_unacknowledged ≤ head → read ≡ c.link.receiver.read →
+          ((far c < head + (read + k) - s.first) × (cond (moved || some) 0 (c.stalled + 1) ≡ 0)) ⊎ ((far c ≤ head + (read + k) - s.first) × (cond (moved || some) 0 (c.stalled + 1) ≡ c.stalled + 1))
+      by head read k true some m e b r = inl (grind (arith, nat_tests), refl)
+      by head read k false true m e b r = inl ((let l = ltb-true 0 k e in omega arith), refl)
+      by head read k false false m e b r = inr (omega arith, refl)
 
   passed : (n : ℕ) (c : CopyState) → c.status ≡ Running → Decided n c → Counted (suc n) (pass s.chunk c)
   passed n c on h =
       let one = h.0 in
-      let step = brings_on c one.low in
+      let step = progresses c one.low in
       let grows = one_more s.rounds (far c) (far (pass s.chunk c)) c.stalled (pass s.chunk c).stalled (h.1 on) step.1 in
       let more = grows.0 in
       let turns = one.turns on in

@@ -2,16 +2,16 @@
 use Rattle.std.proofs.Common.{◌≡◌, ℕ, zero, suc, ◌+◌, ◌-◌, ◌≤◌, ◌<◌, List, sym, ap, subst, ◌∙◌, arith, ⊎_elim}
 use Rattle.std.proofs.lemmas.Bool.{cases_lt}
 use Rattle.net_copies.specs.CopyState.{Setup, CopyState, Running, feed, pass, after}
-use Rattle.net_copies.specs.Promises.{BringsNothing, GivesUpAfter, NeverLater}
+use Rattle.net_copies.specs.Promises.{MakesNoProgress, GivesUpAfter, NeverLater}
 use Rattle.net_copies.proofs.GoesOn.{fed_leaves, GoesOn, goes_on, gave_up_at, Still, Brought, Some, Nothing, brought}
 
 module _ (s : Setup) (reads : List (List ℕ)) where
-  -- after n turns of a copy that goes on, `stalled` is how many of the last rounds brought nothing on
+  -- after n turns of a copy that goes on, `stalled` is how many of the last rounds made no progress
   record Counted (n : ℕ) : Type 0 where
     few : (after s reads n).stalled ≤ n
     within : (after s reads n).stalled ≤ s.rounds
-    still : (k : ℕ) → n ≤ k + (after s reads n).stalled → k < n → BringsNothing s reads k
-    all : (j : ℕ) → ((k : ℕ) → n ≤ k + j → k < n → BringsNothing s reads k) → j ≤ n → j ≤ (after s reads n).stalled
+    still : (k : ℕ) → n ≤ k + (after s reads n).stalled → k < n → MakesNoProgress s reads k
+    all : (j : ℕ) → ((k : ℕ) → n ≤ k + j → k < n → MakesNoProgress s reads k) → j ≤ n → j ≤ (after s reads n).stalled
 
   one_more : (n : ℕ) → GoesOn s.rounds s.chunk (after s reads n) → Counted n → Counted (suc n)
   one_more n one before = by (brought s.chunk e)
@@ -26,15 +26,15 @@ module _ (s : Setup) (reads : List (List ℕ)) where
       fed = (fed_leaves s.chunk c).stalled
 
       -- what the round leaves, after the read
-      nothing : Still e (pass s.chunk e) → BringsNothing s reads n
+      nothing : Still e (pass s.chunk e) → MakesNoProgress s reads n
       nothing h = (
-        ap (λ d. d.link.sender.base) one.is ∙ h.0 ∙ (fed_leaves s.chunk c).base,
+        ap (λ d. d.link.sender.first_unacknowledged) one.is ∙ h.0 ∙ (fed_leaves s.chunk c).first_unacknowledged,
         ap (λ d. d.written) one.is ∙ h.1 ∙ (fed_leaves s.chunk c).written,
       )
 
-      still : BringsNothing s reads n → Still e (pass s.chunk e)
+      still : MakesNoProgress s reads n → Still e (pass s.chunk e)
       still h = (
-        sym (ap (λ d. d.link.sender.base) one.is) ∙ h.0 ∙ sym (fed_leaves s.chunk c).base,
+        sym (ap (λ d. d.link.sender.first_unacknowledged) one.is) ∙ h.0 ∙ sym (fed_leaves s.chunk c).first_unacknowledged,
         sym (ap (λ d. d.written) one.is) ∙ h.1 ∙ sym (fed_leaves s.chunk c).written,
       )
 
@@ -63,9 +63,9 @@ module _ (s : Setup) (reads : List (List ℕ)) where
             few = omega arith;
             within = omega arith;
             still = λ k far below.
-                ⊎_elim {C = BringsNothing s reads k}
+                ⊎_elim {C = MakesNoProgress s reads k}
                 (λ (l : k < n). before.still k (omega arith) l)
-                (λ (l : n ≤ k). subst (BringsNothing s reads) (let is : n ≡ k = omega arith in is) (nothing none))
+                (λ (l : n ≤ k). subst (MakesNoProgress s reads) (let is : n ≡ k = omega arith in is) (nothing none))
                 (cases_lt k n);
             all = λ j h few.
                 let rest = before.all (j - 1) (λ k far below. h k (omega arith) (omega arith)) (omega arith) in

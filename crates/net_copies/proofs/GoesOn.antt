@@ -3,8 +3,8 @@ use Rattle.std.proofs.Common.{◌≡◌, ◌⊎◌, ◌&&◌, ◌||◌, ℕ, ◌
 use Rattle.std.proofs.Common.{refl, sym, ap, subst, ◌∙◌, arith, ⊎_elim, inl, inr, length-append, length-take}
 use Rattle.std.proofs.lemmas.Bool.{both_ways, cases_Bool, cond-true, cond-false, and_parts, and_from, lt-ltb, ltb-true, ltb-false, leb-true, leb-false, eqb-true, eqb-false}
 use Rattle.std.proofs.lemmas.List.{append-nil}
-use Rattle.net_receiver.specs.Stored.{stored_next}
-use Rattle.net_copies.specs.Outgoing.{end_of}
+use Rattle.net_receiver.specs.ReceiverState.{next_position}
+use Rattle.net_copies.specs.SenderState.{end_of}
 use Rattle.net_copies.specs.LinkState.{LinkState, round}
 use Rattle.net_copies.specs.CopyState.{CopyState, Status, Running, Done, GaveUp, ReadFailed, is_written, with_read, read_of, room_for, feed, decide}
 use Rattle.net_copies.specs.CopyState.{waited, pass, while_running, turn}
@@ -59,10 +59,10 @@ feeds chunk c =
 -- what it leaves as it was, or lets grow
 pub record FedLeaves (c e : CopyState) : Type 0 where
   pub receiver : e.link.receiver ≡ c.link.receiver
-  pub there : e.link.there ≡ c.link.there
-  pub back : e.link.back ≡ c.link.back
+  pub forward : e.link.forward ≡ c.link.forward
+  pub reverse : e.link.reverse ≡ c.link.reverse
   pub counts : e.link.counts ≡ c.link.counts
-  pub base : e.link.sender.base ≡ c.link.sender.base
+  pub first_unacknowledged : e.link.sender.first_unacknowledged ≡ c.link.sender.first_unacknowledged
   pub capacity : e.link.sender.capacity ≡ c.link.sender.capacity
   pub end : end_of c.link.sender ≤ end_of e.link.sender
   pub given : length c.given ≤ length e.given
@@ -76,10 +76,10 @@ fed_leaves chunk c = by (feeds chunk c)
     leaves : (e : CopyState) → e.link ≡ c.link → e.given ≡ c.given → e.written ≡ c.written → e.rounds ≡ c.rounds → e.stalled ≡ c.stalled → FedLeaves c e
     leaves e link given written rounds stalled = record {
       receiver = ap (λ l. l.receiver) link;
-      there = ap (λ l. l.there) link;
-      back = ap (λ l. l.back) link;
+      forward = ap (λ l. l.forward) link;
+      reverse = ap (λ l. l.reverse) link;
       counts = ap (λ l. l.counts) link;
-      base = ap (λ l. l.sender.base) link;
+      first_unacknowledged = ap (λ l. l.sender.first_unacknowledged) link;
       capacity = ap (λ l. l.sender.capacity) link;
       end = (let same = ap (λ l. end_of l.sender) link in omega arith);
       given = (let same = ap length given in omega arith);
@@ -94,10 +94,10 @@ fed_leaves chunk c = by (feeds chunk c)
     by (Ends reads e) = subst (FedLeaves c) (sym e) (leaves (record c { reads = reads; more = false }) refl refl refl refl refl)
     by (Gives x xs reads more some all e) = subst (FedLeaves c) (sym e) (record {
       receiver = refl;
-      there = refl;
-      back = refl;
+      forward = refl;
+      reverse = refl;
       counts = refl;
-      base = refl;
+      first_unacknowledged = refl;
       capacity = refl;
       end = (let long = length-append c.link.sender.queue (take (room_for chunk c.link) (x ∷ xs)) in omega arith);
       given = (let long = length-append c.given (take (room_for chunk c.link) (x ∷ xs)) in omega arith);
@@ -194,16 +194,16 @@ gave_up_at rounds chunk c on gave = by (turns rounds chunk c on)
     by (Stopped fed more many e) = subst (λ n. rounds ≤ n) (fed_leaves chunk c).stalled many
     by (WentOn fed more few e) = (let j : Running ≡ GaveUp = sym fed ∙ sym (ap (λ d. d.status) e) ∙ gave in cc)
 
--- ---- what a round brings on
+-- ---- the progress of a round
 no_bytes : {X : Type 0} (xs : List X) → length xs ≡ 0 → xs ≡ []
 no_bytes [] e = refl
 no_bytes (x ∷ xs) e = absurd (omega arith)
 
 -- neither an acknowledged byte nor a written one
 abbrev pub Still : CopyState → CopyState → Type 0
-Still c d = (d.link.sender.base ≡ c.link.sender.base) × (d.written ≡ c.written)
+Still c d = (d.link.sender.first_unacknowledged ≡ c.link.sender.first_unacknowledged) × (d.written ≡ c.written)
 
-pub still_from : (chunk : ℕ) (c : CopyState) → (round (waited c)).sender.base ≡ c.link.sender.base →
+pub still_from : (chunk : ℕ) (c : CopyState) → (round (waited c)).sender.first_unacknowledged ≡ c.link.sender.first_unacknowledged →
     min chunk (length (round (waited c)).receiver.queue) ≡ 0 → Still c (pass chunk c)
 still_from chunk c same none =
     let q = (round (waited c)).receiver.queue in
@@ -214,7 +214,7 @@ pub data Brought (chunk : ℕ) (c : CopyState) : Type 0 where
   Nothing : (pass chunk c).stalled ≡ c.stalled + 1 → Still c (pass chunk c) → min chunk (length (round (waited c)).receiver.queue) ≡ 0 → Brought chunk c
 
 pub brought : (chunk : ℕ) (c : CopyState) → Brought chunk c
-brought chunk c = by (nat_eq m.sender.base c.link.sender.base) (nat_lt 0 n) refl refl
+brought chunk c = by (nat_eq m.sender.first_unacknowledged c.link.sender.first_unacknowledged) (nat_lt 0 n) refl refl
   where
     m : LinkState
     m = round (waited c)
@@ -222,9 +222,9 @@ brought chunk c = by (nat_eq m.sender.base c.link.sender.base) (nat_lt 0 n) refl
     n : ℕ
     n = min chunk (length m.receiver.queue)
 
-    by : (same some : Bool) → nat_eq m.sender.base c.link.sender.base ≡ same → nat_lt 0 n ≡ some → Brought chunk c
+    by : (same some : Bool) → nat_eq m.sender.first_unacknowledged c.link.sender.first_unacknowledged ≡ same → nat_lt 0 n ≡ some → Brought chunk c
     by false some e k = Some (λ i. cond (not (e i) || k i) 0 (c.stalled + 1))
-        (λ still. eqb-false m.sender.base c.link.sender.base e still.0)
+        (λ still. eqb-false m.sender.first_unacknowledged c.link.sender.first_unacknowledged e still.0)
     by true true e k = Some (λ i. cond (not (e i) || k i) 0 (c.stalled + 1))
         (λ still. (let l = ltb-true 0 n k in
         let long = length-append c.written (take chunk m.receiver.queue) in
@@ -232,7 +232,7 @@ brought chunk c = by (nat_eq m.sender.base c.link.sender.base) (nat_lt 0 n) refl
         let same = ap length still.1 in omega arith))
     by true false e k =
         let none : n ≡ 0 = (let l = ltb-false 0 n k in omega arith) in
-        Nothing (λ i. cond (not (e i) || k i) 0 (c.stalled + 1)) (still_from chunk c (eqb-true m.sender.base c.link.sender.base e) none) none
+        Nothing (λ i. cond (not (e i) || k i) 0 (c.stalled + 1)) (still_from chunk c (eqb-true m.sender.first_unacknowledged c.link.sender.first_unacknowledged e) none) none
 
 -- where all that was read is written, a reader that may have more is asked, and gives something or has no more
 pub asked : (chunk : ℕ) (c : CopyState) → (feed chunk c).status ≡ Running → ends (feed chunk c) ≡ false → 0 < chunk →
@@ -254,10 +254,10 @@ asked chunk c fed on some kept left all = by (may (feed chunk c).more refl) (fee
     by more (Ends rs is) = both_ways (feed chunk c).more (ap (λ d. d.more) is) more
     by more (Gives x xs rs may room written is) =
         let q = take (room_for chunk c.link) (x ∷ xs) in
-        let long : end_of (feed chunk c).link.sender ≡ c.link.sender.base + length (c.link.sender.queue ++ q) = ap (λ d. end_of d.link.sender) is in
-        let r = ap (λ k. stored_next k) (fed_leaves chunk c).receiver in
-        let here = eqb-true (stored_next (feed chunk c).link.receiver) (end_of (feed chunk c).link.sender)
-        (and_parts (nat_eq (stored_next (feed chunk c).link.receiver) (end_of (feed chunk c).link.sender)) (nat_eq (length (feed chunk c).link.receiver.queue) 0) all).0 in
-        let before = eqb-true (stored_next c.link.receiver) (end_of c.link.sender)
-        (and_parts (nat_eq (stored_next c.link.receiver) (end_of c.link.sender)) (nat_eq (length c.link.receiver.queue) 0) written).0 in
+        let long : end_of (feed chunk c).link.sender ≡ c.link.sender.first_unacknowledged + length (c.link.sender.queue ++ q) = ap (λ d. end_of d.link.sender) is in
+        let r = ap (λ k. next_position k) (fed_leaves chunk c).receiver in
+        let here = eqb-true (next_position (feed chunk c).link.receiver) (end_of (feed chunk c).link.sender)
+        (and_parts (nat_eq (next_position (feed chunk c).link.receiver) (end_of (feed chunk c).link.sender)) (nat_eq (length (feed chunk c).link.receiver.queue) 0) all).0 in
+        let before = eqb-true (next_position c.link.receiver) (end_of c.link.sender)
+        (and_parts (nat_eq (next_position c.link.receiver) (end_of c.link.sender)) (nat_eq (length c.link.receiver.queue) 0) written).0 in
         omega (arith, length-append c.link.sender.queue q, length-take (room_for chunk c.link) (x ∷ xs))

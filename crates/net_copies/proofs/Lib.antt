@@ -2,7 +2,7 @@
 pub mod Parts
 pub mod Room
 pub mod Spared
-pub mod Carried
+pub mod Invariant
 pub mod Sent
 pub mod Ranges
 pub mod Reached
@@ -25,7 +25,7 @@ pub mod GivesUp
 pub mod StuckRounds
 pub mod Failed
 pub mod CountedTurns
-pub mod Brings
+pub mod Delivers
 pub mod Exact
 pub mod Sizes
 pub mod Fuel

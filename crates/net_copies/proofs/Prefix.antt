@@ -4,18 +4,18 @@ use Rattle.std.specs.Io.{StartsWith}
 use Rattle.std.proofs.lemmas.Bool.{and_parts, both_ways, cases_lt, eqb-true, ltb-true, ltb-false}
 use Rattle.std.proofs.lemmas.List.{take_all, take-take, take-append-le, take-append-drop, append-nil}
 use Rattle.std.proofs.Math.Seq.{take-append_seam}
-use Rattle.net_receiver.specs.Stored.{Stored, fresh_stored, stored_next, stored_after_read}
+use Rattle.net_receiver.specs.ReceiverState.{ReceiverState, fresh_receiver, next_position, receiver_after_read}
 use Rattle.net_receiver.specs.OneStream.{QueueIsOf}
-use Rattle.net_copies.specs.Outgoing.{end_of, with_written}
+use Rattle.net_copies.specs.SenderState.{end_of, with_written}
 use Rattle.net_copies.specs.LinkState.{LinkState, round}
 use Rattle.net_copies.specs.CopyState.{Setup, CopyState, Running, Done, begin, is_written, rest_of, read_of, room_for, feed, decide, waited, pass, after}
-use Rattle.net_copies.specs.Streams.{Known, CarriesWithin, Writes, ReadWrites, PassWrites, AllWritten}
+use Rattle.net_copies.specs.Streams.{Known, LinkInvariantFits, Writes, ReadWrites, PassWrites, AllWritten}
 use Rattle.net_copies.specs.Promises.{StartsFits, before_end, WritesPrefix, WritesAll}
-use Rattle.net_copies.proofs.Carried.{begun, took, written}
+use Rattle.net_copies.proofs.Invariant.{begun, took, written}
 use Rattle.net_copies.proofs.Queue.{queue_from}
 use Rattle.net_copies.proofs.Reached.{first_is}
 use Rattle.net_copies.proofs.Room.{more_sent}
-use Rattle.net_copies.proofs.Kept.{split, round_carries}
+use Rattle.net_copies.proofs.Kept.{split, round_keeps_invariant}
 use Rattle.net_copies.proofs.Grown.{grown}
 use Rattle.net_copies.proofs.Turns.{feeds, decides, all_turned}
 
@@ -27,7 +27,7 @@ take_min n xs =
     (cases_lt n (length xs))
 
 -- what a receiver gives out comes next
-gives_next : (n : ℕ) (g : List ℕ) (r : Stored) → QueueIsOf g r → take r.read g ++ take n r.queue ≡ take (r.read + min n (length r.queue)) g
+gives_next : (n : ℕ) (g : List ℕ) (r : ReceiverState) → QueueIsOf g r → take r.read g ++ take n r.queue ≡ take (r.read + min n (length r.queue)) g
 gives_next n g r q =
     let m = min n (length r.queue) in
     ap (λ l. take r.read g ++ l) (take_min n r.queue ∙ ap (take m) q.queue ∙ take-take m (length r.queue) (drop r.read g) (omega arith))
@@ -50,7 +50,7 @@ before_rest room xs reads some =
     (λ e. (let all = ltb-false room (length xs) e in ap (λ l. l ++ before_end reads) (take_all room xs all) ∙ sym (before_more xs reads some)))
 
 module _ (known : Known) where
-  pub queue_of : (f : ℕ) (g : List ℕ) (l : LinkState) → CarriesWithin f g l → QueueIsOf g l.receiver
+  pub queue_of : (f : ℕ) (g : List ℕ) (l : LinkState) → LinkInvariantFits f g l → QueueIsOf g l.receiver
   queue_of f g l h = queue_from known.queue f g l.receiver h.way.receives
 
   -- a read gave bytes, no more than there was room for
@@ -66,7 +66,7 @@ module _ (known : Known) where
       let long = length-append s.queue ys in
       record {
         carries = record {
-          way = written known.says_longer known.longer f g ys s (with_written s ys) c.link.receiver c.link.there c.link.back refl refl (more_sent f g s ys) h.carries.way;
+          way = written known.says_longer known.longer f g ys s (with_written s ys) c.link.receiver c.link.forward c.link.reverse refl refl (more_sent f g s ys) h.carries.way;
           fits = omega arith;
         };
         written = h.written ∙ sym (take-append-le c.link.receiver.read g ys (omega arith));
@@ -76,12 +76,12 @@ module _ (known : Known) where
   pub pass_writes : PassWrites
   pass_writes f g chunk c h =
       let s = round (waited c) in
-      let k = round_carries known f g (waited c) (record { way = h.carries.way; fits = h.carries.fits }) in
-      let same = (grown known.reads_nothing c.link.sender.base c.link.receiver.read (waited c) (record { base = omega arith; read = refl })).read in
+      let k = round_keeps_invariant known f g (waited c) (record { way = h.carries.way; fits = h.carries.fits }) in
+      let same = (grown known.reads_nothing c.link.sender.first_unacknowledged c.link.receiver.read (waited c) (record { first_unacknowledged = omega arith; read = refl })).read in
       let q = queue_of f g s k in
       record {
         carries = record {
-          way = took f g s.sender s.receiver (stored_after_read s.receiver chunk) s.there s.back (known.read_receives f chunk g s.receiver)
+          way = took f g s.sender s.receiver (receiver_after_read s.receiver chunk) s.forward s.reverse (known.read_receives f chunk g s.receiver)
               (let e = known.read_next s.receiver chunk in omega arith) (λ p has. (known.read_has s.receiver chunk p).1 has) k.way;
           fits = k.fits;
         };
@@ -92,8 +92,8 @@ module _ (known : Known) where
 pub all_written : AllWritten
 all_written f g c is h =
     let s = c.link in
-    let both = and_parts (nat_eq (stored_next s.receiver) (end_of s.sender)) (nat_eq (length s.receiver.queue) 0) is in
-    let reached = eqb-true (stored_next s.receiver) (end_of s.sender) both.0 in
+    let both = and_parts (nat_eq (next_position s.receiver) (end_of s.sender)) (nat_eq (length s.receiver.queue) 0) is in
+    let reached = eqb-true (next_position s.receiver) (end_of s.sender) both.0 in
     let none = eqb-true (length s.receiver.queue) 0 both.1 in
     let end = h.carries.way.sends.end in
     let first = first_is f g s.receiver h.carries.way.receives in
@@ -152,8 +152,8 @@ module _ (known : Known) (s : Setup) (reads : List (List ℕ)) where
   begun_so_far fits = record {
     writes = record {
       carries = record {
-        way = begun s.first (begin s reads).link.sender (begin s reads).link.receiver (begin s reads).link.there (begin s reads).link.back
-            (record { from = omega arith; end = omega arith; queue = sym (ap (λ k. drop {A = ℕ} k []) (let z : s.first - s.first ≡ 0 = omega arith in z)) }) refl refl (known.fresh s.first [] (fresh_stored s.first s.incoming) refl) refl refl refl refl refl;
+        way = begun s.first (begin s reads).link.sender (begin s reads).link.receiver (begin s reads).link.forward (begin s reads).link.reverse
+            (record { from = omega arith; end = omega arith; queue = sym (ap (λ k. drop {A = ℕ} k []) (let z : s.first - s.first ≡ 0 = omega arith in z)) }) refl refl (known.fresh s.first [] (fresh_receiver s.first s.incoming) refl) refl refl refl refl refl;
         fits = omega arith;
       };
       written = refl;

@@ -1,4 +1,4 @@
--- Ranges that are reported: how bytes list them, and what a receiver tells of what it holds.
+-- SACK blocks: how bytes list them, and what a receiver tells of what it holds.
 use Rattle.std.proofs.Common.{Bool, not, cond, min, ◌≡◌, ◌||◌, ℕ, zero, suc, ◌+◌, ◌-◌, ◌<◌, ◌≤◌}
 use Rattle.std.proofs.Common.{◌^◌, nat_lt, nat_le, nat_eq, true, false, List, [], ◌∷◌, ◌++◌, length}
 use Rattle.std.proofs.Common.{take, drop, All, Some, None, ⊎_elim, inr, refl, sym, ap, subst, ◌∙◌}
@@ -14,60 +14,61 @@ use Rattle.std.proofs.lemmas.List.Sums.{sum_by-append}
 use Rattle.std.proofs.lemmas.List.Elements.{All-head, All-tail}
 use Rattle.net_assembler.specs.Positions.{Positions, contains, lies_in, IsMaximalRun, maximal_runs}
 use Rattle.net_assembler.specs.AssemblerLaws.{MembersOfList, MaximalRunsOfEverySet}
-use Rattle.net_receiver.specs.Stored.{HeldBytes, Stored, stored_next, domain}
+use Rattle.net_receiver.specs.ReceiverState.{HeldBytes, ReceiverState, next_position, domain}
 use Rattle.net_copies.specs.Frames.{frame_of, FramesDecode}
-use Rattle.net_copies.specs.Reported.{reports, count_outside, most_reported, range_bytes, range_to, range_from, first_range, with_more, ranges_of}
-use Rattle.net_copies.specs.Carrying.{HasRanges, FrameTells, ack_of}
-use Rattle.net_copies.specs.Sending.{IsReportedIf}
-use Rattle.net_copies.specs.Counting.{with_payload}
+use Rattle.net_copies.specs.SackBlocks.{is_sacked, count_outside, most_sack_blocks, block_bytes, block_to, block_from, first_block, with_more, blocks_of}
+use Rattle.net_copies.specs.PathState.{ack_of}
+use Rattle.net_copies.specs.LinkInvariant.{HasAllOf, AckMatches}
+use Rattle.net_copies.specs.Transmission.{IsSackedIf}
+use Rattle.net_copies.specs.Counts.{with_payload}
 use Rattle.net_copies.specs.declared.counts.FrameCounts.{FrameCounts}
-use Rattle.net_copies.proofs.Carried.{same_parts}
+use Rattle.net_copies.proofs.Invariant.{same_parts}
 
 -- ---- what bytes list
 -- bytes with no whole range list none
-pub ranges_stop : (n : ℕ) (xs : List ℕ) → first_range xs ≡ None → ranges_of n xs ≡ []
-unfolding ranges_of
+pub ranges_stop : (n : ℕ) (xs : List ℕ) → first_block xs ≡ None → blocks_of n xs ≡ []
+unfolding blocks_of
 ranges_stop zero xs e = refl
-ranges_stop (suc n) xs e = ap (with_more (ranges_of n)) e
+ranges_stop (suc n) xs e = ap (with_more (blocks_of n)) e
 
 -- of no range none is read
-pub ranges_none : (n : ℕ) (xs : List ℕ) → n ≡ 0 → ranges_of n xs ≡ []
-unfolding ranges_of
+pub ranges_none : (n : ℕ) (xs : List ℕ) → n ≡ 0 → blocks_of n xs ≡ []
+unfolding blocks_of
 ranges_none zero xs e = refl
 ranges_none (suc n) xs e = absurd (omega arith)
 
--- the first range, and then those of the bytes behind it
-pub ranges_more : (n m : ℕ) (xs : List ℕ) (start end : ℕ) (rest : List ℕ) → n ≡ m + 1 → first_range xs ≡ Some (start, end, rest) →
-    ranges_of n xs ≡ (start, end) ∷ ranges_of m rest
-unfolding ranges_of
-ranges_more n m xs start end rest e is = (let k : n ≡ suc m = omega arith in ap (λ j. ranges_of j xs) k ∙ ap (with_more (ranges_of m)) is)
+-- the first range, and then those of the bytes after it
+pub ranges_more : (n m : ℕ) (xs : List ℕ) (start end : ℕ) (rest : List ℕ) → n ≡ m + 1 → first_block xs ≡ Some (start, end, rest) →
+    blocks_of n xs ≡ (start, end) ∷ blocks_of m rest
+unfolding blocks_of
+ranges_more n m xs start end rest e is = (let k : n ≡ suc m = omega arith in ap (λ j. blocks_of j xs) k ∙ ap (with_more (blocks_of m)) is)
 
 -- both numbers of a range fit 8 bytes
 abbrev pub IsWords : ℕ × ℕ → Type 0
 IsWords range = (range.0 < 2 ^ 64) × (range.1 < 2 ^ 64)
 
 -- reading finds the ranges that were listed
-ranges_listed : FramesDecode → (n : ℕ) (rs : List (ℕ × ℕ)) → All IsWords rs → length rs ≤ n → ranges_of n (range_bytes rs) ≡ rs
+ranges_listed : FramesDecode → (n : ℕ) (rs : List (ℕ × ℕ)) → All IsWords rs → length rs ≤ n → blocks_of n (block_bytes rs) ≡ rs
 ranges_listed trip n [] words h = ranges_stop n [] refl
 ranges_listed trip zero (x ∷ rs) words h = absurd (omega arith)
 ranges_listed trip (suc n) (x ∷ rs) words h =
     let w = All-head IsWords x rs words in
-    let first : first_range (range_bytes (x ∷ rs)) ≡ Some (x.0, x.1, range_bytes rs) =
-    ap range_from (trip x.0 (frame_of x.1 (range_bytes rs)) w.0) ∙ ap (range_to x.0) (trip x.1 (range_bytes rs) w.1) in
-    ranges_more (suc n) n (range_bytes (x ∷ rs)) x.0 x.1 (range_bytes rs) (omega arith) first
+    let first : first_block (block_bytes (x ∷ rs)) ≡ Some (x.0, x.1, block_bytes rs) =
+    ap block_from (trip x.0 (frame_of x.1 (block_bytes rs)) w.0) ∙ ap (block_to x.0) (trip x.1 (block_bytes rs) w.1) in
+    ranges_more (suc n) n (block_bytes (x ∷ rs)) x.0 x.1 (block_bytes rs) (omega arith) first
     ∙ ap (λ l. (x.0, x.1) ∷ l) (ranges_listed trip n rs (All-tail IsWords x rs words) (omega arith))
 
 -- one range more is its two words more
-pub listed_push : (rs : List (ℕ × ℕ)) (start end : ℕ) → (range_bytes rs ++ to_be_bytes w64 start) ++ to_be_bytes w64 end ≡ range_bytes (rs ++ (start, end) ∷ [])
+pub listed_push : (rs : List (ℕ × ℕ)) (start end : ℕ) → (block_bytes rs ++ to_be_bytes w64 start) ++ to_be_bytes w64 end ≡ block_bytes (rs ++ (start, end) ∷ [])
 listed_push [] start end = ap (λ l. to_be_bytes w64 start ++ l) (sym (append-nil (to_be_bytes w64 end)))
 listed_push (r ∷ rs) start end =
     let a = to_be_bytes w64 r.0 in
     let b = to_be_bytes w64 r.1 in
     let s = to_be_bytes w64 start in
     let e = to_be_bytes w64 end in
-    append_assoc (a ++ (b ++ range_bytes rs)) s e
-    ∙ append_assoc a (b ++ range_bytes rs) (s ++ e)
-    ∙ ap (λ l. a ++ l) (append_assoc b (range_bytes rs) (s ++ e) ∙ ap (λ l. b ++ l) (sym (append_assoc (range_bytes rs) s e) ∙ listed_push rs start end))
+    append_assoc (a ++ (b ++ block_bytes rs)) s e
+    ∙ append_assoc a (b ++ block_bytes rs) (s ++ e)
+    ∙ ap (λ l. a ++ l) (append_assoc b (block_bytes rs) (s ++ e) ∙ ap (λ l. b ++ l) (sym (append_assoc (block_bytes rs) s e) ∙ listed_push rs start end))
 
 -- ---- a list that is left
 pub take_same : {X : Type 0} (n m : ℕ) (xs : List X) → drop n xs ≡ [] → n ≤ m → take n xs ≡ take m xs
@@ -101,24 +102,24 @@ same_tests (k ∷ ks) q = λ i. unsigned_tied q k i || same_tests ks q i
 pub contains_held : MembersOfList → (m : HeldBytes) (q : ℕ) → contains (domain m) q ≡ fin.contains_key m q
 contains_held members m q = members (fin.keys m) q ∙ sym (fin.contains_key-keys m q ∙ same_tests (fin.keys m) q)
 
--- the runs that a receiver reports are of what it holds
-has_runs : MembersOfList → MaximalRunsOfEverySet → (r : Stored) (n : ℕ) → HasRanges r (take n (maximal_runs (domain r.held)))
+-- the SACK blocks of a receiver are of what it holds
+has_runs : MembersOfList → MaximalRunsOfEverySet → (r : ReceiverState) (n : ℕ) → HasAllOf r (take n (maximal_runs (domain r.held)))
 has_runs members maximal r n = λ p h.
     inr (sym (contains_held members r.held p) ∙ in_run (domain r.held) p n (maximal_runs (domain r.held)) (maximal (domain r.held)).maximal h)
 
 -- so its acknowledgement tells nothing else
-pub ack_tells : FramesDecode → MembersOfList → MaximalRunsOfEverySet → (r : Stored) → stored_next r < 2 ^ 64 →
-    length (take most_reported (maximal_runs (domain r.held))) ≤ most_reported →
-    All IsWords (take most_reported (maximal_runs (domain r.held))) → FrameTells r (ack_of r)
+pub ack_tells : FramesDecode → MembersOfList → MaximalRunsOfEverySet → (r : ReceiverState) → next_position r < 2 ^ 64 →
+    length (take most_sack_blocks (maximal_runs (domain r.held))) ≤ most_sack_blocks →
+    All IsWords (take most_sack_blocks (maximal_runs (domain r.held))) → AckMatches r (ack_of r)
 ack_tells trip members maximal r word few words = λ n xs at.
-    let rs = take most_reported (maximal_runs (domain r.held)) in
-    let e = same_parts (stored_next r) n (range_bytes rs) xs (sym (trip (stored_next r) (range_bytes rs) word) ∙ at) in (
-      subst (λ k. k ≤ stored_next r) e.0 (omega arith),
-      subst (λ ys. HasRanges r (ranges_of most_reported ys)) e.1
-          (subst (HasRanges r) (sym (ranges_listed trip most_reported rs words few)) (has_runs members maximal r most_reported)),
+    let rs = take most_sack_blocks (maximal_runs (domain r.held)) in
+    let e = same_parts (next_position r) n (block_bytes rs) xs (sym (trip (next_position r) (block_bytes rs) word) ∙ at) in (
+      subst (λ k. k ≤ next_position r) e.0 (omega arith),
+      subst (λ ys. HasAllOf r (blocks_of most_sack_blocks ys)) e.1
+          (subst (HasAllOf r) (sym (ranges_listed trip most_sack_blocks rs words few)) (has_runs members maximal r most_sack_blocks)),
     )
 
--- ---- how many positions were not reported
+-- ---- how many positions are in no SACK block
 range_both : (a k n : ℕ) → range_with_len a (k + n) ≡ range_with_len a k ++ range_with_len (a + k) n
 range_both a zero n = (λ i. range_with_len ((let e : a ≡ a + 0 = omega arith in e) i) ((let e : 0 + n ≡ n = omega arith in e) i))
 range_both a (suc k) n =
@@ -133,26 +134,26 @@ count_cons : (p : ℕ → Bool) (x : ℕ) (xs : List ℕ) → count_by p (x ∷ 
 count_cons p x xs = sum_by-append (λ y. cond (p y) 1 0) (x ∷ []) xs ∙ ap
     (λ n. n + count_by p xs) (let e : 0 + cond (p x) 1 0 ≡ cond (p x) 1 0 = omega arith in e)
 
--- of positions that are marked all or none were reported
-pub count_marked : (ranges : List (ℕ × ℕ)) (a n : ℕ) (spared : Bool) → IsReportedIf ranges a n spared → count_outside ranges a n ≡ cond spared 0 n
+-- of positions that are marked all or none are in the ranges
+pub count_marked : (ranges : List (ℕ × ℕ)) (a n : ℕ) (spared : Bool) → IsSackedIf ranges a n spared → count_outside ranges a n ≡ cond spared 0 n
 count_marked ranges a zero true marked = refl
 count_marked ranges a zero false marked = refl
 count_marked ranges a (suc n) true marked =
-    let one : reports ranges a ≡ true = marked a (omega arith) (omega arith) in
+    let one : is_sacked ranges a ≡ true = marked a (omega arith) (omega arith) in
     let rest = count_marked ranges (a + 1) n true (λ q from to. marked q (omega arith) (omega arith)) in
-    count_cons (λ q. not (reports ranges q)) a (range_with_len (a + 1) n) ∙ ap (λ b. cond (not b) 1 0 + count_outside ranges (a + 1) n) one
+    count_cons (λ q. not (is_sacked ranges q)) a (range_with_len (a + 1) n) ∙ ap (λ b. cond (not b) 1 0 + count_outside ranges (a + 1) n) one
     ∙ (let e : 0 + count_outside ranges (a + 1) n ≡ 0 = omega (arith, rest) in e)
 count_marked ranges a (suc n) false marked =
-    let one : reports ranges a ≡ false = marked a (omega arith) (omega arith) in
+    let one : is_sacked ranges a ≡ false = marked a (omega arith) (omega arith) in
     let rest = count_marked ranges (a + 1) n false (λ q from to. marked q (omega arith) (omega arith)) in
-    count_cons (λ q. not (reports ranges q)) a (range_with_len (a + 1) n) ∙ ap (λ b. cond (not b) 1 0 + count_outside ranges (a + 1) n) one
+    count_cons (λ q. not (is_sacked ranges q)) a (range_with_len (a + 1) n) ∙ ap (λ b. cond (not b) 1 0 + count_outside ranges (a + 1) n) one
     ∙ (let e : 1 + count_outside ranges (a + 1) n ≡ suc n = omega (arith, rest) in e)
 
 -- what was counted of a part is counted of the parts so far
 pub counted_more : (ranges : List (ℕ × ℕ)) (b pos n : ℕ) (c0 c1 c2 : FrameCounts) → b ≤ pos → c1 ≡ with_payload (count_outside ranges b (pos - b)) c0 →
     c2 ≡ with_payload (count_outside ranges pos n) c1 → c2 ≡ with_payload (count_outside ranges b (pos + n - b)) c0
 counted_more ranges b pos n c0 c1 c2 from so_far more =
-    let both = count_both (λ q. not (reports ranges q)) b (pos - b) n in
+    let both = count_both (λ q. not (is_sacked ranges q)) b (pos - b) n in
     let here : b + (pos - b) ≡ pos = omega arith in
     let size : (pos - b) + n ≡ pos + n - b = omega arith in
     let all : count_outside ranges b (pos + n - b) ≡ count_outside ranges b (pos - b) + count_outside ranges pos n =

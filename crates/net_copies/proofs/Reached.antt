@@ -10,24 +10,24 @@ use Rattle.std.specs.FinMap as fin
 use Rattle.std.proofs.lemmas.List.Elements.{All-head, All-tail}
 use Rattle.net_base.specs.Generator.{successor, random_word}
 use Rattle.net_receiver.specs.KeptList.{piece, piece_byte_at}
-use Rattle.net_receiver.specs.Stored.{Stored, stored_next, IsSound}
-use Rattle.net_receiver.specs.OneStream.{ReceivesFrom, Says}
-use Rattle.net_receiver.specs.Retransmission.{Has}
-use Rattle.net_copies.specs.Outgoing.{Outgoing, sender_from, after_ack, end_of}
+use Rattle.net_receiver.specs.ReceiverState.{ReceiverState, next_position, IsSound}
+use Rattle.net_receiver.specs.OneStream.{ReceivesFrom, MatchesStream}
+use Rattle.net_receiver.specs.Retransmission.{HasByteAt}
+use Rattle.net_copies.specs.SenderState.{SenderState, sender_from, after_ack, end_of}
 use Rattle.net_copies.specs.Frames.{Part, frame_of, frames_from, part_bytes, segment_of, FramesDecode}
-use Rattle.net_copies.specs.Reported.{reports, most_reported, ranges_of}
-use Rattle.net_copies.specs.Fates.{FatesSeen, next_of, after_of, next_fate, after_fate, comes, AllCome, NextCome}
+use Rattle.net_copies.specs.SackBlocks.{is_sacked, most_sack_blocks, blocks_of}
+use Rattle.net_copies.specs.Fates.{FatesState, next_of, after_of, next_fate, after_fate, comes, AllCome, NextCome}
 use Rattle.net_copies.specs.declared.fate.Fate.{Fate}
-use Rattle.net_copies.specs.declared.fate.Fate.TheVariants.{Delivered, Lost, Repeated, Late}
+use Rattle.net_copies.specs.declared.fate.Fate.TheVariants.{Delivered, Lost, Duplicated, Delayed}
 use Rattle.net_copies.specs.declared.fate.Rates.{Rates}
-use Rattle.net_copies.specs.Carrying.{HasRanges}
-use Rattle.net_copies.specs.Sending.{IsReportedIf, AreSparedIfReported}
-use Rattle.net_copies.specs.Progress.{reach_one, Reaches, after_ack_frames}
-use Rattle.net_copies.specs.Outgoing.{after_ack_frame}
+use Rattle.net_copies.specs.LinkInvariant.{HasAllOf}
+use Rattle.net_copies.specs.Transmission.{IsSackedIf, AreSparedIfSacked}
+use Rattle.net_copies.specs.Reach.{reach_one, Reaches, after_ack_frames}
+use Rattle.net_copies.specs.SenderState.{after_ack_frame}
 
 -- ---- where a truthful segment ends
-pub says_ends : (f : ℕ) (w : List ℕ) (pos : ℕ) (xs : List ℕ) → Says f w pos xs → pos + length xs ≤ max pos (f + length w)
-unfolding Says
+pub says_ends : (f : ℕ) (w : List ℕ) (pos : ℕ) (xs : List ℕ) → MatchesStream f w pos xs → pos + length xs ≤ max pos (f + length w)
+unfolding MatchesStream
 says_ends f w pos [] says = omega arith
 says_ends f w pos (x ∷ xs) says =
     ⊎_elim
@@ -56,7 +56,7 @@ one_from p (Some (pos, xs)) = reach_cases (λ m. p ≤ m) p pos (pos + length xs
 -- ---- lists of frames
 -- the first frame counts
 abbrev FirstCounts : List (ℕ × ℕ) → ℕ → ℕ → List ℕ → List (List ℕ) → Type 0
-FirstCounts ranges end p frame frames = (pos : ℕ) × (xs : List ℕ) × (segment_of frame ≡ Some (pos, xs)) × IsReportedIf ranges p (pos - p) true
+FirstCounts ranges end p frame frames = (pos : ℕ) × (xs : List ℕ) × (segment_of frame ≡ Some (pos, xs)) × IsSackedIf ranges p (pos - p) true
     × Reaches ranges end (max p (pos + length xs)) frames
 
 -- whoever has more comes as far
@@ -80,45 +80,45 @@ reaches_behind ranges end p [] frames r = r
 reaches_behind ranges end p (x ∷ old) frames r = inl (reaches_behind ranges end p old frames r)
 
 -- a receiver's first missing position is not one that it has
-pub missing : (most : ℕ) (r : Stored) → IsSound most r → Has r (stored_next r) → ⊥
+pub missing : (most : ℕ) (r : ReceiverState) → IsSound most r → HasByteAt r (next_position r) → ⊥
 missing most r sound h =
     ⊎_elim {C = ⊥}
-    (λ (l : stored_next r < stored_next r). omega arith)
-    (λ (k : fin.contains_key r.held (stored_next r) ≡ true). (let l = sound.above (stored_next r) k in omega arith))
+    (λ (l : next_position r < next_position r). omega arith)
+    (λ (k : fin.contains_key r.held (next_position r) ≡ true). (let l = sound.above (next_position r) k in omega arith))
     h
 
 -- a receiver that has all up to a position is not below it
-pub no_gap : (most : ℕ) (r : Stored) (ranges : List (ℕ × ℕ)) (pos : ℕ) → IsSound most r → HasRanges r ranges →
-    IsReportedIf ranges (stored_next r) (pos - stored_next r) true → pos ≤ stored_next r
+pub no_gap : (most : ℕ) (r : ReceiverState) (ranges : List (ℕ × ℕ)) (pos : ℕ) → IsSound most r → HasAllOf r ranges →
+    IsSackedIf ranges (next_position r) (pos - next_position r) true → pos ≤ next_position r
 no_gap most r ranges pos sound had marked =
-    ⊎_elim {C = pos ≤ stored_next r}
-    (λ (l : stored_next r < pos). absurd (missing most r sound (had (stored_next r) (marked (stored_next r) (omega arith) (omega arith)))))
-    (λ (l : pos ≤ stored_next r). l)
-    (cases_lt (stored_next r) pos)
+    ⊎_elim {C = pos ≤ next_position r}
+    (λ (l : next_position r < pos). absurd (missing most r sound (had (next_position r) (marked (next_position r) (omega arith) (omega arith)))))
+    (λ (l : pos ≤ next_position r). l)
+    (cases_lt (next_position r) pos)
 
 -- once the first frame has come, the others bring the receiver as far
-pub brought : (most : ℕ) (ranges : List (ℕ × ℕ)) (end : ℕ) (r : Stored) (m : ℕ) (frame : List ℕ) (frames : List (List ℕ)) → IsSound most r →
-    HasRanges r ranges → reach_one (stored_next r) (segment_of frame) ≤ m →
-    Reaches ranges end (stored_next r) (frame ∷ frames) → Reaches ranges end m frames
+pub brought : (most : ℕ) (ranges : List (ℕ × ℕ)) (end : ℕ) (r : ReceiverState) (m : ℕ) (frame : List ℕ) (frames : List (List ℕ)) → IsSound most r →
+    HasAllOf r ranges → reach_one (next_position r) (segment_of frame) ≤ m →
+    Reaches ranges end (next_position r) (frame ∷ frames) → Reaches ranges end m frames
 brought most ranges end r m frame frames sound had far reaches =
     ⊎_elim {C = Reaches ranges end m frames}
-    (λ (k : Reaches ranges end (stored_next r) frames). reaches_mono ranges end (stored_next r) m frames
-    (le_trans (one_from (stored_next r) (segment_of frame)) far) k)
-    (λ (k : FirstCounts ranges end (stored_next r) frame frames).
-    let near : k.0 ≤ stored_next r = no_gap most r ranges k.0 sound had k.3 in
-    let at : reach_one (stored_next r) (Some (k.0, k.1)) ≤ m = subst (λ o. reach_one (stored_next r) o ≤ m) k.2 far in
-    let one : max (stored_next r) (k.0 + length k.1) ≤ m = subst (λ j. j ≤ m) (cond-true _ _ _ (le-leb k.0 (stored_next r) near)) at in
-    reaches_mono ranges end (max (stored_next r) (k.0 + length k.1)) m frames one k.4)
+    (λ (k : Reaches ranges end (next_position r) frames). reaches_mono ranges end (next_position r) m frames
+    (le_trans (one_from (next_position r) (segment_of frame)) far) k)
+    (λ (k : FirstCounts ranges end (next_position r) frame frames).
+    let near : k.0 ≤ next_position r = no_gap most r ranges k.0 sound had k.3 in
+    let at : reach_one (next_position r) (Some (k.0, k.1)) ≤ m = subst (λ o. reach_one (next_position r) o ≤ m) k.2 far in
+    let one : max (next_position r) (k.0 + length k.1) ≤ m = subst (λ j. j ≤ m) (cond-true _ _ _ (le-leb k.0 (next_position r) near)) at in
+    reaches_mono ranges end (max (next_position r) (k.0 + length k.1)) m frames one k.4)
     reaches
 
 -- the frames of parts that follow one another bring a receiver to their end
 reaches_parts : FramesDecode → (ranges : List (ℕ × ℕ)) (end b p : ℕ) (parts : List Part) → end ≡ b + length (part_bytes parts) → end < 2 ^ 64 →
-    AreSparedIfReported ranges b parts → ((q : ℕ) → p ≤ q → q < b → reports ranges q ≡ true) → Reaches ranges end p (frames_from b parts)
+    AreSparedIfSacked ranges b parts → ((q : ℕ) → p ≤ q → q < b → is_sacked ranges q ≡ true) → Reaches ranges end p (frames_from b parts)
 reaches_parts trip ranges end b p [] is random_word marked gap = λ q from to. gap q from (omega arith)
 reaches_parts trip ranges end b p ((true, xs) ∷ parts) is random_word marked gap =
     let both : length (xs ++ part_bytes parts) ≡ length xs + length (part_bytes parts) = length-append xs (part_bytes parts) in
     reaches_parts trip ranges end (b + length xs) p parts (omega arith) random_word marked.1
-    (λ q from to. ⊎_elim {C = reports ranges q ≡ true} (λ (l : q < b). gap q from l) (λ (l : b ≤ q). marked.0 q l to) (cases_lt q b))
+    (λ q from to. ⊎_elim {C = is_sacked ranges q ≡ true} (λ (l : q < b). gap q from l) (λ (l : b ≤ q). marked.0 q l to) (cases_lt q b))
 reaches_parts trip ranges end b p ((false, xs) ∷ parts) is random_word marked gap =
     let both : length (xs ++ part_bytes parts) ≡ length xs + length (part_bytes parts) = length-append xs (part_bytes parts) in
     let at : segment_of (frame_of b xs) ≡ Some (b, xs) = trip b xs (omega arith) in
@@ -133,7 +133,7 @@ reaches_parts trip ranges end b p ((false, xs) ∷ parts) is random_word marked 
 
 pub sent_reaches : FramesDecode → (ranges : List (ℕ × ℕ)) (p b : ℕ) (q : List ℕ) (parts : List Part) (old new : List (List ℕ)) →
     new ≡ old ++ frames_from b parts → part_bytes parts ≡ q →
-    AreSparedIfReported ranges b parts → b + length q < 2 ^ 64 → b ≤ p → Reaches ranges (b + length q) p new
+    AreSparedIfSacked ranges b parts → b + length q < 2 ^ 64 → b ≤ p → Reaches ranges (b + length q) p new
 sent_reaches trip ranges p b q parts old new is all marked random_word h =
     let long : length (part_bytes parts) ≡ length q = ap length all in
     subst (Reaches ranges (b + length q) p) (sym is)
@@ -141,7 +141,7 @@ sent_reaches trip ranges p b q parts old new is all marked random_word h =
     (reaches_parts trip ranges (b + length q) b p parts (omega arith) random_word marked (λ k from to. absurd (omega arith))))
 
 -- ---- fates
-drawn_comes : (t u v : Bool) → t ≡ false → v ≡ false → comes (cond t Lost (cond u Repeated (cond v Late Delivered))) ≡ true
+drawn_comes : (t u v : Bool) → t ≡ false → v ≡ false → comes (cond t Lost (cond u Duplicated (cond v Delayed Delivered))) ≡ true
 drawn_comes true u v e k = absurd (both_ways true e refl)
 drawn_comes false true v e k = refl
 drawn_comes false false true e k = absurd (both_ways true k refl)
@@ -150,53 +150,53 @@ drawn_comes false false false e k = refl
 not_below : (n m : ℕ) → m ≡ 0 → nat_lt n m ≡ false
 not_below n m e = le-ltb n m (omega arith)
 
-come_one : (rates : Rates) (state : ℕ) (listed : List Fate) → rates.lost ≡ 0 → rates.late ≡ 0 → All (λ y. comes y ≡ true) listed →
+come_one : (rates : Rates) (state : ℕ) (listed : List Fate) → rates.lost ≡ 0 → rates.delayed ≡ 0 → All (λ y. comes y ≡ true) listed →
     (comes (next_of rates state listed) ≡ true) × AllCome (after_of rates state listed)
-come_one rates state [] lost late all = (
-  drawn_comes (nat_lt (random_word (successor state) % 100) rates.lost) (nat_lt (random_word (successor state) / 100 % 100) rates.repeated)
-      (nat_lt (random_word (successor state) / 10000 % 100) rates.late) (not_below _ _ lost) (not_below _ _ late),
-  record { listed = all; lost = lost; late = late },
+come_one rates state [] lost delayed all = (
+  drawn_comes (nat_lt (random_word (successor state) % 100) rates.lost) (nat_lt (random_word (successor state) / 100 % 100) rates.duplicated)
+      (nat_lt (random_word (successor state) / 10000 % 100) rates.delayed) (not_below _ _ lost) (not_below _ _ delayed),
+  record { listed = all; lost = lost; delayed = delayed },
 )
-come_one rates state (x ∷ xs) lost late all =
-    (All-head (λ y. comes y ≡ true) x xs all, record { listed = All-tail (λ y. comes y ≡ true) x xs all; lost = lost; late = late })
+come_one rates state (x ∷ xs) lost delayed all =
+    (All-head (λ y. comes y ≡ true) x xs all, record { listed = All-tail (λ y. comes y ≡ true) x xs all; lost = lost; delayed = delayed })
 
-pub come_next : (v : FatesSeen) → AllCome v → (comes (next_fate v) ≡ true) × AllCome (after_fate v)
-come_next v h = come_one v.rates v.state v.listed h.lost h.late h.listed
+pub come_next : (v : FatesState) → AllCome v → (comes (next_fate v) ≡ true) × AllCome (after_fate v)
+come_next v h = come_one v.rates v.state v.listed h.lost h.delayed h.listed
 
 -- if all come, so do the next ones
-pub next_come : (n : ℕ) (v : FatesSeen) → AllCome v → NextCome n v
+pub next_come : (n : ℕ) (v : FatesState) → AllCome v → NextCome n v
 next_come zero v all = tt
 next_come (suc n) v all = (let both = come_next v all in (both.0, next_come n (after_fate v) both.1))
 
 -- ---- acknowledgements
-acked_keeps_end : (s : Outgoing) (n : ℕ) (ranges : List (ℕ × ℕ)) → end_of (after_ack s n ranges) ≡ end_of s
+acked_keeps_end : (s : SenderState) (n : ℕ) (ranges : List (ℕ × ℕ)) → end_of (after_ack s n ranges) ≡ end_of s
 acked_keeps_end s n ranges =
     ⊎_elim
-    (λ (e : (nat_le s.base n && nat_le n (end_of s)) ≡ true).
+    (λ (e : (nat_le s.first_unacknowledged n && nat_le n (end_of s)) ≡ true).
     ap end_of (cond-true _ (sender_from s n ranges) s e) ∙ kept_end e)
-    (λ (e : (nat_le s.base n && nat_le n (end_of s)) ≡ false). ap end_of (cond-false _ (sender_from s n ranges) s e))
-    (cases_Bool (nat_le s.base n && nat_le n (end_of s)))
+    (λ (e : (nat_le s.first_unacknowledged n && nat_le n (end_of s)) ≡ false). ap end_of (cond-false _ (sender_from s n ranges) s e))
+    (cases_Bool (nat_le s.first_unacknowledged n && nat_le n (end_of s)))
   where
-    kept_end : (nat_le s.base n && nat_le n (end_of s)) ≡ true → n + length (drop (n - s.base) s.queue) ≡ end_of s
+    kept_end : (nat_le s.first_unacknowledged n && nat_le n (end_of s)) ≡ true → n + length (drop (n - s.first_unacknowledged) s.queue) ≡ end_of s
     kept_end e =
-        let both = and_parts (nat_le s.base n) (nat_le n (end_of s)) e in
-        let low = leb-true s.base n both.0 in
+        let both = and_parts (nat_le s.first_unacknowledged n) (nat_le n (end_of s)) e in
+        let low = leb-true s.first_unacknowledged n both.0 in
         let high = leb-true n (end_of s) both.1 in
-        let long : length (drop (n - s.base) s.queue) ≡ length s.queue - (n - s.base) = length-drop (n - s.base) s.queue in
+        let long : length (drop (n - s.first_unacknowledged) s.queue) ≡ length s.queue - (n - s.first_unacknowledged) = length-drop (n - s.first_unacknowledged) s.queue in
         omega arith
 
-pub by_keeps_end : (s : Outgoing) (o : Option (ℕ × List ℕ)) → end_of (after_ack_frame s o) ≡ end_of s
+pub by_keeps_end : (s : SenderState) (o : Option (ℕ × List ℕ)) → end_of (after_ack_frame s o) ≡ end_of s
 by_keeps_end s None = refl
-by_keeps_end s (Some (n, xs)) = acked_keeps_end s n (ranges_of most_reported xs)
+by_keeps_end s (Some (n, xs)) = acked_keeps_end s n (blocks_of most_sack_blocks xs)
 
-pub all_keep_end : (s : Outgoing) (frames : List (List ℕ)) → end_of (after_ack_frames s frames) ≡ end_of s
+pub all_keep_end : (s : SenderState) (frames : List (List ℕ)) → end_of (after_ack_frames s frames) ≡ end_of s
 all_keep_end s [] = refl
 all_keep_end s (frame ∷ frames) = all_keep_end (after_ack_frame s (segment_of frame)) frames ∙ by_keeps_end s (segment_of frame)
 
-pub acked_append : (s : Outgoing) (xs ys : List (List ℕ)) → after_ack_frames s (xs ++ ys) ≡ after_ack_frames (after_ack_frames s xs) ys
+pub acked_append : (s : SenderState) (xs ys : List (List ℕ)) → after_ack_frames s (xs ++ ys) ≡ after_ack_frames (after_ack_frames s xs) ys
 acked_append s [] ys = refl
 acked_append s (x ∷ xs) ys = acked_append (after_ack_frame s (segment_of x)) xs ys
 
-pub first_is : (f : ℕ) (w : List ℕ) (r : Stored) → ReceivesFrom f w r → r.first ≡ f
+pub first_is : (f : ℕ) (w : List ℕ) (r : ReceiverState) → ReceivesFrom f w r → r.first ≡ f
 unfolding ReceivesFrom
 first_is f w r h = h.0

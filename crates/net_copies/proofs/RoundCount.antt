@@ -4,23 +4,24 @@ use Rattle.std.proofs.Common.{◌++◌, length, take, refl, sym, ap, subst, ◌�
 use Rattle.std.proofs.Common.{append_assoc, length-drop}
 use Rattle.std.proofs.lemmas.Bool.{both_ways, cases_lt, cond-true}
 use Rattle.net_assembler.specs.Positions.{maximal_runs}
-use Rattle.net_receiver.specs.Stored.{stored_next, stored_after_read, domain}
+use Rattle.net_receiver.specs.ReceiverState.{next_position, receiver_after_read, domain}
 use Rattle.net_receiver.specs.OneStream.{QueueIsOfStream}
-use Rattle.net_copies.specs.Outgoing.{end_of}
+use Rattle.net_copies.specs.SenderState.{end_of}
 use Rattle.net_copies.specs.Frames.{frame_of, FramesDecode}
-use Rattle.net_copies.specs.Reported.{most_reported, range_bytes}
+use Rattle.net_copies.specs.SackBlocks.{most_sack_blocks, block_bytes}
 use Rattle.net_copies.specs.LinkState.{LinkState}
-use Rattle.net_copies.specs.Fates.{FatesSeen, next_fate, after_fate, comes, AllCome, NextCome}
-use Rattle.net_copies.specs.Progress.{after_ack_frames}
-use Rattle.net_copies.specs.Passing.{coming_of, acks_of}
-use Rattle.net_copies.specs.Links.{Carries, Passes}
-use Rattle.net_copies.specs.Stuck.{RoundLeaves, BringsOnOrIsStuck, HasFailed, AllFail, FatesFail}
+use Rattle.net_copies.specs.Fates.{FatesState, next_fate, after_fate, comes, AllCome, NextCome}
+use Rattle.net_copies.specs.Reach.{after_ack_frames}
+use Rattle.net_copies.specs.Arrivals.{coming_of, acks_of}
+use Rattle.net_copies.specs.Round.{Passes}
+use Rattle.net_copies.specs.LinkInvariant.{LinkInvariant}
+use Rattle.net_copies.specs.Stuck.{RoundLeaves, ProgressesOrIsStuck, HasFailed, AllFail, FatesFail}
 use Rattle.net_copies.proofs.Reached.{come_next, next_come, first_is}
 use Rattle.net_copies.proofs.Queue.{queue_from}
 use Rattle.net_copies.proofs.Stuck.{acked_last, some_come}
 
 -- ---- at most
--- a round lets bytes go or writes some
+-- in a round bytes are acknowledged or written
 pub more_moved : (n n' b b' r r' f x x' : ℕ) → f ≤ b → b ≤ b' → b + r < b' + r' → x ≤ x' → n' ≤ n + 1 → n ≤ (b - f) + r + x → n' ≤ (b' - f) + r' + x'
 more_moved n n' b b' r r' f x x' from on far more one few = omega arith
 
@@ -30,38 +31,38 @@ pub more_still : (n n' b b' r r' f x x' : ℕ) → b' ≡ b → r' ≡ r → min
 more_still n n' b b' r r' f x x' same same_read more one few = omega arith
 
 -- ---- where every frame comes at once
-pub coming_all : (v : FatesSeen) (frames : List (List ℕ)) → NextCome (length frames) v → coming_of v frames ≡ frames
+pub coming_all : (v : FatesState) (frames : List (List ℕ)) → NextCome (length frames) v → coming_of v frames ≡ frames
 coming_all v [] come = refl
 coming_all v (x ∷ xs) come =
     let c = coming_of (after_fate v) xs in
     cond-true _ (x ∷ c) c come.0 ∙ ap (λ l. x ∷ l) (coming_all (after_fate v) xs come.1)
 
 -- the last acknowledgement comes, and the sender keeps what the receiver lacks
-pub base_meets : FramesDecode → (old new : LinkState) (p : Passes old new) → NextCome (length p.acks) old.back.fates → new.sender.base ≤ stored_next new.receiver →
-    stored_next new.receiver ≤ end_of old.sender → end_of old.sender < 2 ^ 64 → new.sender.base ≡ stored_next new.receiver
-base_meets trip old new p come behind within word =
-    ap (λ v. v.base) is ∙ acked_last trip old.sender n xs earlier within (omega (arith, within, word)) (subst (λ v. v.base ≤ n) is behind)
+pub head_meets : FramesDecode → (old new : LinkState) (p : Passes old new) → NextCome (length p.acks) old.reverse.fates → new.sender.first_unacknowledged ≤ next_position new.receiver →
+    next_position new.receiver ≤ end_of old.sender → end_of old.sender < 2 ^ 64 → new.sender.first_unacknowledged ≡ next_position new.receiver
+head_meets trip old new p come behind within word =
+    ap (λ v. v.first_unacknowledged) is ∙ acked_last trip old.sender n xs earlier within (omega (arith, within, word)) (subst (λ v. v.first_unacknowledged ≤ n) is behind)
   where
     n : ℕ
-    n = stored_next new.receiver
+    n = next_position new.receiver
 
     xs : List ℕ
-    xs = range_bytes (take most_reported (maximal_runs (domain new.receiver.held)))
+    xs = block_bytes (take most_sack_blocks (maximal_runs (domain new.receiver.held)))
 
-    sent_back : List (List ℕ)
-    sent_back = acks_of most_reported old.receiver p.came
+    sent_reverse : List (List ℕ)
+    sent_reverse = acks_of most_sack_blocks old.receiver p.came
 
     earlier : List (List ℕ)
-    earlier = old.back.late ++ (old.back.ahead ++ sent_back)
+    earlier = old.reverse.delayed ++ (old.reverse.in_flight ++ sent_reverse)
 
-    acks : coming_of old.back.fates p.acks ≡ (old.back.ahead ++ sent_back) ++ frame_of n xs ∷ []
-    acks = coming_all old.back.fates p.acks come ∙ p.acks_are
+    acks : coming_of old.reverse.fates p.acks ≡ (old.reverse.in_flight ++ sent_reverse) ++ frame_of n xs ∷ []
+    acks = coming_all old.reverse.fates p.acks come ∙ p.acks_are
 
     is : new.sender ≡ after_ack_frames old.sender (earlier ++ frame_of n xs ∷ [])
-    is = p.acked ∙ ap (λ a. after_ack_frames old.sender (old.back.late ++ a)) acks
-        ∙ ap (after_ack_frames old.sender) (sym (append_assoc old.back.late (old.back.ahead ++ sent_back) (frame_of n xs ∷ [])))
+    is = p.acked ∙ ap (λ a. after_ack_frames old.sender (old.reverse.delayed ++ a)) acks
+        ∙ ap (after_ack_frames old.sender) (sym (append_assoc old.reverse.delayed (old.reverse.in_flight ++ sent_reverse) (frame_of n xs ∷ [])))
 
-pub never_fails : (frames acks : ℕ) (v v' : FatesSeen) → AllCome v → AllCome v' → FatesFail 0 frames acks v v' → ⊥
+pub never_fails : (frames acks : ℕ) (v v' : FatesState) → AllCome v → AllCome v' → FatesFail 0 frames acks v v' → ⊥
 never_fails frames acks v v' come come' stuck =
     ⊎_elim {C = ⊥}
     (λ (a : (0 < frames) × HasFailed 0 (next_fate v)). both_ways (comes (next_fate v)) a.1.0 (come_next v come).0)
@@ -70,13 +71,13 @@ never_fails frames acks v v' come come' stuck =
 
 -- a round of a copy writes some
 pub round_at_once : FramesDecode → QueueIsOfStream → (f : ℕ) (w : List ℕ) (old new last : LinkState) (room : ℕ) (p : Passes old new) →
-    RoundLeaves old new → BringsOnOrIsStuck (length p.sent.ahead) (length p.acks) old new → end_of old.sender < 2 ^ 64 → last ≡ record new { receiver = stored_after_read new.receiver room } →
-    Carries f w old → Carries f w new →
-    old.there.ahead ≡ [] → old.back.ahead ≡ [] → AllCome old.there.fates → AllCome old.back.fates → old.sender.base ≡ stored_next old.receiver →
+    RoundLeaves old new → ProgressesOrIsStuck (length p.sent.in_flight) (length p.acks) old new → end_of old.sender < 2 ^ 64 → last ≡ record new { receiver = receiver_after_read new.receiver room } →
+    LinkInvariant f w old → LinkInvariant f w new →
+    old.forward.in_flight ≡ [] → old.reverse.in_flight ≡ [] → AllCome old.forward.fates → AllCome old.reverse.fates → old.sender.first_unacknowledged ≡ next_position old.receiver →
     0 < old.receiver.capacity → 0 < room → (length old.receiver.queue ≡ 0 → 0 < length old.sender.queue) →
-    (last.sender.base ≡ stored_next last.receiver) × (old.receiver.read < last.receiver.read)
-round_at_once trip queue f w old new last room p keeps moves word handed carries carries1 none none_back come come_back meet cap some kept =
-    subst (λ l. (l.sender.base ≡ stored_next l.receiver) × (old.receiver.read < l.receiver.read)) (sym handed)
+    (last.sender.first_unacknowledged ≡ next_position last.receiver) × (old.receiver.read < last.receiver.read)
+round_at_once trip queue f w old new last room p keeps moves word handed carries carries1 none none_reverse come come_reverse meet cap some kept =
+    subst (λ l. (l.sender.first_unacknowledged ≡ next_position l.receiver) × (old.receiver.read < l.receiver.read)) (sym handed)
     (met ∙ sym next_read, omega (arith, more, read, some))
   where
     read : new.receiver.read ≡ old.receiver.read
@@ -85,13 +86,13 @@ round_at_once trip queue f w old new last room p keeps moves word handed carries
     first : new.receiver.first ≡ old.receiver.first
     first = keeps.first
 
-    grows : stored_next old.receiver ≤ stored_next new.receiver
+    grows : next_position old.receiver ≤ next_position new.receiver
     grows = keeps.grows
 
-    next_read : stored_next (stored_after_read new.receiver room) ≡ stored_next new.receiver
+    next_read : next_position (receiver_after_read new.receiver room) ≡ next_position new.receiver
     next_read = (let left = length-drop room new.receiver.queue in omega (arith, left))
 
-    within : stored_next new.receiver ≤ end_of old.sender
+    within : next_position new.receiver ≤ end_of old.sender
     within =
         let q = (queue_from queue f w new.receiver carries1.receives).within in
         let begin = first_is f w new.receiver carries1.receives in
@@ -99,18 +100,18 @@ round_at_once trip queue f w old new last room p keeps moves word handed carries
         let end1 = keeps.end in
         omega (arith, q, begin, end, end1)
 
-    met : new.sender.base ≡ stored_next new.receiver
-    met = base_meets trip old new p (next_come (length p.acks) old.back.fates come_back) carries1.behind within word
+    met : new.sender.first_unacknowledged ≡ next_position new.receiver
+    met = head_meets trip old new p (next_come (length p.acks) old.reverse.fates come_reverse) carries1.behind within word
 
-    on : length old.receiver.queue ≡ 0 → stored_next old.receiver < stored_next new.receiver
+    on : length old.receiver.queue ≡ 0 → next_position old.receiver < next_position new.receiver
     on empty =
-        ⊎_elim {C = stored_next old.receiver < stored_next new.receiver}
-        (λ (l : stored_next old.receiver < stored_next new.receiver). l)
-        (λ (l : stored_next new.receiver ≤ stored_next old.receiver).
-        let still : stored_next new.receiver ≡ stored_next old.receiver = omega (arith, l, grows) in
-        let one = moves f w carries none none_back (kept empty) (omega (arith, empty, cap)) still (met ∙ still ∙ sym meet) in
-        absurd (never_fails (length p.sent.ahead) (length p.acks) old.there.fates old.back.fates come come_back one.why))
-        (cases_lt (stored_next old.receiver) (stored_next new.receiver))
+        ⊎_elim {C = next_position old.receiver < next_position new.receiver}
+        (λ (l : next_position old.receiver < next_position new.receiver). l)
+        (λ (l : next_position new.receiver ≤ next_position old.receiver).
+        let still : next_position new.receiver ≡ next_position old.receiver = omega (arith, l, grows) in
+        let one = moves f w carries none none_reverse (kept empty) (omega (arith, empty, cap)) still (met ∙ still ∙ sym meet) in
+        absurd (never_fails (length p.sent.in_flight) (length p.acks) old.forward.fates old.reverse.fates come come_reverse one.why))
+        (cases_lt (next_position old.receiver) (next_position new.receiver))
 
     more : 0 < length new.receiver.queue
     more =

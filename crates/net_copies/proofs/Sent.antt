@@ -6,29 +6,29 @@ use Rattle.std.proofs.lemmas.Bool.{both_ways, cases_lt, cond-true, cond-false, l
 use Rattle.std.proofs.lemmas.List.{append-nil, take-take}
 use Rattle.std.proofs.Math.Seq.{take-append_seam}
 use Rattle.std.proofs.lemmas.List.Elements.{All-nil, All-head}
-use Rattle.net_copies.specs.Outgoing.{Outgoing, end_of, row_end}
+use Rattle.net_copies.specs.SenderState.{SenderState, end_of, row_end}
 use Rattle.net_copies.specs.Frames.{Part, frame_of, frames_from, part_bytes}
-use Rattle.net_copies.specs.Reported.{reports, greatest_end, is_full}
-use Rattle.net_copies.specs.Carrying.{PathSeen}
-use Rattle.net_copies.specs.Sending.{IsReportedIf, AreSparedIfReported, HasSize}
-use Rattle.net_copies.specs.Outgoing.{spared_from, next_reported}
-use Rattle.net_copies.specs.Sending.{part_end, HaveEnds, SendsPart, SendsPrefix, SendsRound}
-use Rattle.net_copies.specs.Outgoing.{stop_of}
-use Rattle.net_copies.proofs.Carried.{All-push}
+use Rattle.net_copies.specs.SackBlocks.{is_sacked, greatest_end, is_full}
+use Rattle.net_copies.specs.PathState.{PathState}
+use Rattle.net_copies.specs.Transmission.{IsSackedIf, AreSparedIfSacked, HasSize}
+use Rattle.net_copies.specs.SenderState.{spared_from, next_block}
+use Rattle.net_copies.specs.Transmission.{part_end, HaveEnds, SendsPart, SendsPrefix, SendsRound}
+use Rattle.net_copies.specs.SenderState.{stop_of}
+use Rattle.net_copies.proofs.Invariant.{All-push}
 use Rattle.net_copies.proofs.Spared.{end_from}
 
 -- ---- where parts end
-pub row_above : (s : Outgoing) (p : ℕ) → p < end_of s → p < row_end s p
+pub row_above : (s : SenderState) (p : ℕ) → p < end_of s → p < row_end s p
 row_above s p kept =
     ⊎_elim {C = p < row_end s p}
-    (λ (l : p < s.cut). (let e = cond-true (nat_lt p s.cut) (min s.cut (end_of s)) (end_of s) (lt-ltb p s.cut l) in omega arith))
-    (λ (l : s.cut ≤ p). (let e = cond-false (nat_lt p s.cut) (min s.cut (end_of s)) (end_of s) (le-ltb p s.cut l) in omega arith))
-    (cases_lt p s.cut)
+    (λ (l : p < s.wraps_at). (let e = cond-true (nat_lt p s.wraps_at) (min s.wraps_at (end_of s)) (end_of s) (lt-ltb p s.wraps_at l) in omega arith))
+    (λ (l : s.wraps_at ≤ p). (let e = cond-false (nat_lt p s.wraps_at) (min s.wraps_at (end_of s)) (end_of s) (le-ltb p s.wraps_at l) in omega arith))
+    (cases_lt p s.wraps_at)
 
-pub stop_within : (s : Outgoing) → stop_of s ≤ end_of s
-stop_within s = both (is_full s.reported)
+pub stop_within : (s : SenderState) → stop_of s ≤ end_of s
+stop_within s = both (is_full s.sack_blocks)
   where
-    both : (t : Bool) → cond t (min (end_of s) (greatest_end s.reported s.base + 1)) (end_of s) ≤ end_of s
+    both : (t : Bool) → cond t (min (end_of s) (greatest_end s.sack_blocks s.first_unacknowledged + 1)) (end_of s) ≤ end_of s
     both true = omega arith
     both false = omega arith
 
@@ -48,13 +48,13 @@ frames_push b p ((false, y) ∷ parts) spared xs e =
     ap (λ l. frame_of b y ∷ l) (frames_push (b + length y) p parts spared xs (omega arith))
 
 marked_push : (ranges : List (ℕ × ℕ)) (b p : ℕ) (parts : List Part) (spared : Bool) (xs : List ℕ) → p ≡ b + length (part_bytes parts) →
-    AreSparedIfReported ranges b parts → IsReportedIf ranges p (length xs) spared → AreSparedIfReported ranges b (parts ++ (spared, xs) ∷ [])
-marked_push ranges b p [] spared xs e all one = (subst (λ n. IsReportedIf ranges n (length xs) spared) (let h : p ≡ b = omega arith in h) one, tt)
+    AreSparedIfSacked ranges b parts → IsSackedIf ranges p (length xs) spared → AreSparedIfSacked ranges b (parts ++ (spared, xs) ∷ [])
+marked_push ranges b p [] spared xs e all one = (subst (λ n. IsSackedIf ranges n (length xs) spared) (let h : p ≡ b = omega arith in h) one, tt)
 marked_push ranges b p ((t, y) ∷ parts) spared xs e all one =
     let long : length (y ++ part_bytes parts) ≡ length y + length (part_bytes parts) = length-append y (part_bytes parts) in
     (all.0, marked_push ranges (b + length y) p parts spared xs (omega arith) all.1 one)
 
-ends_push : (s : Outgoing) (most b p : ℕ) (parts : List Part) (spared : Bool) (xs : List ℕ) → p ≡ b + length (part_bytes parts) →
+ends_push : (s : SenderState) (most b p : ℕ) (parts : List Part) (spared : Bool) (xs : List ℕ) → p ≡ b + length (part_bytes parts) →
     HaveEnds s most b parts → p < stop_of s → p + length xs ≡ part_end s most p → HaveEnds s most b (parts ++ (spared, xs) ∷ [])
 ends_push s most b p [] spared xs e all below end =
     let h : p ≡ b = omega arith in
@@ -68,52 +68,52 @@ count_one p true xs = refl
 count_one p false xs = refl
 
 -- ---- one call
--- bytes that were reported need no frame
-pub spared_part : (s : Outgoing) (most pos n : ℕ) (t : PathSeen) → 0 < n → pos + n ≤ end_of s → n ≡ spared_from s pos →
-    IsReportedIf s.reported pos n true → SendsPart s most pos n 0 t t
+-- bytes of a SACK block need no frame
+pub spared_part : (s : SenderState) (most pos n : ℕ) (t : PathState) → 0 < n → pos + n ≤ end_of s → n ≡ spared_from s pos →
+    IsSackedIf s.sack_blocks pos n true → SendsPart s most pos n 0 t t
 spared_part s most pos n t some within is marked =
-    let here : reports s.reported pos ≡ true = marked pos (omega arith) (omega arith) in
+    let here : is_sacked s.sack_blocks pos ≡ true = marked pos (omega arith) (omega arith) in
     record {
       some = some;
       within = within;
       spared = true;
       short = λ e. absurd (both_ways true e refl);
       marked = marked;
-      ends = ap (λ k. pos + k) is ∙ sym (cond-true (reports s.reported pos) (pos + spared_from s pos)
-          (min (pos + most) (min (next_reported s pos) (row_end s pos))) here);
+      ends = ap (λ k. pos + k) is ∙ sym (cond-true (is_sacked s.sack_blocks pos) (pos + spared_from s pos)
+          (min (pos + most) (min (next_block s pos) (row_end s pos))) here);
       frames = refl;
-      sent = λ i. record { ahead = sym (append-nil t.ahead) i; late = t.late; fates = t.fates };
+      sent = λ i. record { in_flight = sym (append-nil t.in_flight) i; delayed = t.delayed; fates = t.fates };
     }
 
 -- a frame of others was sent
-pub sent_part : (s : Outgoing) (most pos : ℕ) (t0 t1 : PathSeen) (xs : List ℕ) → pos < end_of s → 0 < most →
-    pos < next_reported s pos → reports s.reported pos ≡ false →
-    length xs ≡ min (min most (next_reported s pos - pos)) (row_end s pos - pos) → pos + length xs ≤ end_of s → IsReportedIf s.reported pos (length xs) false →
-    xs ≡ take (length xs) (drop (pos - s.base) s.queue) → t1 ≡ record t0 { ahead = t0.ahead ++ frame_of pos xs ∷ [] } → SendsPart s most pos (length xs) 1 t0 t1
+pub sent_part : (s : SenderState) (most pos : ℕ) (t0 t1 : PathState) (xs : List ℕ) → pos < end_of s → 0 < most →
+    pos < next_block s pos → is_sacked s.sack_blocks pos ≡ false →
+    length xs ≡ min (min most (next_block s pos - pos)) (row_end s pos - pos) → pos + length xs ≤ end_of s → IsSackedIf s.sack_blocks pos (length xs) false →
+    xs ≡ take (length xs) (drop (pos - s.first_unacknowledged) s.queue) → t1 ≡ record t0 { in_flight = t0.in_flight ++ frame_of pos xs ∷ [] } → SendsPart s most pos (length xs) 1 t0 t1
 sent_part s most pos t0 t1 xs kept more next here size within marked is sent =
     let row = row_above s pos kept in
-    let end : pos + length xs ≡ min (pos + most) (min (next_reported s pos) (row_end s pos)) = omega arith in
+    let end : pos + length xs ≡ min (pos + most) (min (next_block s pos) (row_end s pos)) = omega arith in
     record {
       some = omega arith;
       within = within;
       spared = false;
       short = λ _. omega arith;
       marked = marked;
-      ends = end ∙ sym (cond-false (reports s.reported pos) (pos + spared_from s pos) (min (pos + most) (min (next_reported s pos) (row_end s pos))) here);
+      ends = end ∙ sym (cond-false (is_sacked s.sack_blocks pos) (pos + spared_from s pos) (min (pos + most) (min (next_block s pos) (row_end s pos))) here);
       frames = refl;
-      sent = sent ∙ ap (λ ys. record t0 { ahead = t0.ahead ++ frame_of pos ys ∷ [] }) is;
+      sent = sent ∙ ap (λ ys. record t0 { in_flight = t0.in_flight ++ frame_of pos ys ∷ [] }) is;
     }
 
 -- ---- several calls
 -- parts so far, of which so many frames are left
-pub record SentSoFar (s : Outgoing) (most flight left n : ℕ) (old new : PathSeen) : Type 0 where
-  pub prefix : SendsPrefix s most flight n old new
-  pub left_are : length (frames_from s.base prefix.parts) + left ≡ flight
+pub record SentSoFar (s : SenderState) (most burst left n : ℕ) (old new : PathState) : Type 0 where
+  pub prefix : SendsPrefix s most burst n old new
+  pub left_are : length (frames_from s.first_unacknowledged prefix.parts) + left ≡ burst
 
 -- nothing was sent yet
-pub none_sent : (s : Outgoing) (most flight pos : ℕ) (t : PathSeen) → pos ≡ s.base → SentSoFar s most flight flight (pos - s.base) t t
-none_sent s most flight pos t e =
-    let none : pos - s.base ≡ 0 = omega arith in
+pub none_sent : (s : SenderState) (most burst pos : ℕ) (t : PathState) → pos ≡ s.first_unacknowledged → SentSoFar s most burst burst (pos - s.first_unacknowledged) t t
+none_sent s most burst pos t e =
+    let none : pos - s.first_unacknowledged ≡ 0 = omega arith in
     record {
       prefix = record {
         parts = [];
@@ -123,18 +123,18 @@ none_sent s most flight pos t e =
         marked = tt;
         ends = tt;
         few = omega arith;
-        sent = λ i. record { ahead = sym (append-nil t.ahead) i; late = t.late; fates = t.fates };
+        sent = λ i. record { in_flight = sym (append-nil t.in_flight) i; delayed = t.delayed; fates = t.fates };
       };
       left_are = omega arith;
     }
 
 -- what was sent of a part is sent of the first bytes too
-pub sent_more : (s : Outgoing) (most flight left pos n k left' : ℕ) (t0 t1 t2 : PathSeen) →
-    SentSoFar s most flight left (pos - s.base) t0 t1 → SendsPart s most pos n k t1 t2 →
-    s.base ≤ pos → pos < stop_of s → 0 < left → left' ≡ left - k → SentSoFar s most flight left' (pos + n - s.base) t0 t2
-sent_more s most flight left pos n k left' t0 t1 t2 so_far part from below some_left left_is =
+pub sent_more : (s : SenderState) (most burst left pos n k left' : ℕ) (t0 t1 t2 : PathState) →
+    SentSoFar s most burst left (pos - s.first_unacknowledged) t0 t1 → SendsPart s most pos n k t1 t2 →
+    s.first_unacknowledged ≤ pos → pos < stop_of s → 0 < left → left' ≡ left - k → SentSoFar s most burst left' (pos + n - s.first_unacknowledged) t0 t2
+sent_more s most burst left pos n k left' t0 t1 t2 so_far part from below some_left left_is =
     let prefix = so_far.prefix in
-    let b = s.base in
+    let b = s.first_unacknowledged in
     let q = s.queue in
     let xs = take n (drop (pos - b) q) in
     let few = part.within in
@@ -146,9 +146,9 @@ sent_more s most flight left pos n k left' t0 t1 t2 so_far part from below some_
     let place : (pos - b) + n ≡ pos + n - b = omega arith in
     let at : pos ≡ b + length (part_bytes prefix.parts) = omega arith in
     let last = frames_from pos ((part.spared, xs) ∷ []) in
-    let ahead : t1.ahead ++ last ≡ t0.ahead ++ frames_from b (prefix.parts ++ (part.spared, xs) ∷ []) =
-    ap (λ p. p.ahead ++ last) prefix.sent ∙ append_assoc t0.ahead (frames_from b prefix.parts) last
-    ∙ ap (λ l. t0.ahead ++ l) (sym (frames_push b pos prefix.parts part.spared xs at)) in
+    let in_flight : t1.in_flight ++ last ≡ t0.in_flight ++ frames_from b (prefix.parts ++ (part.spared, xs) ∷ []) =
+    ap (λ p. p.in_flight ++ last) prefix.sent ∙ append_assoc t0.in_flight (frames_from b prefix.parts) last
+    ∙ ap (λ l. t0.in_flight ++ l) (sym (frames_push b pos prefix.parts part.spared xs at)) in
     let one : k ≤ 1 = at_most_one part.spared k part.frames in
     let more = length-append (frames_from b prefix.parts) last in
     let here = count_one pos part.spared xs in
@@ -164,11 +164,11 @@ sent_more s most flight left pos n k left' t0 t1 t2 so_far part from below some_
         all = joined_push prefix.parts part.spared xs ∙ ap (λ l. l ++ xs) prefix.all ∙ sym (take-add (pos - b) n q) ∙ ap (λ j. take j q) place;
         sizes = All-push (HasSize most) prefix.parts (part.spared, xs) prefix.sizes
             (subst (λ j. 0 < j) (sym size) some, λ e. subst (λ j. j ≤ most) (sym size) (part.short e));
-        marked = marked_push s.reported b pos prefix.parts part.spared xs at prefix.marked
-            (subst (λ j. IsReportedIf s.reported pos j part.spared) (sym size) part.marked);
+        marked = marked_push s.sack_blocks b pos prefix.parts part.spared xs at prefix.marked
+            (subst (λ j. IsSackedIf s.sack_blocks pos j part.spared) (sym size) part.marked);
         ends = ends_push s most b pos prefix.parts part.spared xs at prefix.ends below (ap (λ j. pos + j) size ∙ part.ends);
         few = omega arith;
-        sent = part.sent ∙ (λ i. record { ahead = ahead i; late = (ap (λ p. p.late) prefix.sent) i; fates = (ap (λ p. p.fates) prefix.sent) i });
+        sent = part.sent ∙ (λ i. record { in_flight = in_flight i; delayed = (ap (λ p. p.delayed) prefix.sent) i; fates = (ap (λ p. p.fates) prefix.sent) i });
       };
       left_are = omega arith;
     }
@@ -178,66 +178,66 @@ sent_more s most flight left pos n k left' t0 t1 t2 so_far part from below some_
     at_most_one false j e = omega arith
 
 -- nothing more could be sent
-pub round_sent : (s : Outgoing) (most flight left pos : ℕ) (t0 t1 : PathSeen) →
-    SentSoFar s most flight left (pos - s.base) t0 t1 → s.base ≤ pos → (stop_of s ≤ pos) ⊎ (left ≡ 0) → SendsRound s most flight (pos - s.base) t0 t1
-round_sent s most flight left pos t0 t1 so_far from stopped =
+pub round_sent : (s : SenderState) (most burst left pos : ℕ) (t0 t1 : PathState) →
+    SentSoFar s most burst left (pos - s.first_unacknowledged) t0 t1 → s.first_unacknowledged ≤ pos → (stop_of s ≤ pos) ⊎ (left ≡ 0) → SendsRound s most burst (pos - s.first_unacknowledged) t0 t1
+round_sent s most burst left pos t0 t1 so_far from stopped =
     let total = so_far.left_are in
     let parts = so_far.prefix.parts in
     record {
       prefix = so_far.prefix;
-      stop = ⊎_elim {C = (stop_of s ≤ s.base + (pos - s.base)) ⊎ (length (frames_from s.base parts) ≡ flight)}
+      stop = ⊎_elim {C = (stop_of s ≤ s.first_unacknowledged + (pos - s.first_unacknowledged)) ⊎ (length (frames_from s.first_unacknowledged parts) ≡ burst)}
           (λ (l : stop_of s ≤ pos). inl (omega arith))
           (λ (l : left ≡ 0). inr (omega arith))
           stopped;
     }
 
 -- ---- what a round sent
--- all that is kept, if more frames could be sent and the ranges are fewer than can be reported
-pub all_sent : (s : Outgoing) (most flight n : ℕ) (old new : PathSeen) → (round : SendsRound s most flight n old new) →
-    length (frames_from s.base round.prefix.parts) < flight → is_full s.reported ≡ false → n ≡ length s.queue
-all_sent s most flight n old new round few room =
+-- all that is kept, if more frames could be sent and there are fewer SACK blocks than there can be
+pub all_sent : (s : SenderState) (most burst n : ℕ) (old new : PathState) → (round : SendsRound s most burst n old new) →
+    length (frames_from s.first_unacknowledged round.prefix.parts) < burst → is_full s.sack_blocks ≡ false → n ≡ length s.queue
+all_sent s most burst n old new round few room =
     let within = round.prefix.within in
-    let end : stop_of s ≡ end_of s = cond-false (is_full s.reported) (min (end_of s) (greatest_end s.reported s.base + 1)) (end_of s) room in
+    let end : stop_of s ≡ end_of s = cond-false (is_full s.sack_blocks) (min (end_of s) (greatest_end s.sack_blocks s.first_unacknowledged + 1)) (end_of s) room in
     ⊎_elim {C = n ≡ length s.queue}
-    (λ (l : stop_of s ≤ s.base + n). omega arith)
-    (λ (l : length (frames_from s.base round.prefix.parts) ≡ flight). absurd (omega arith))
+    (λ (l : stop_of s ≤ s.first_unacknowledged + n). omega arith)
+    (λ (l : length (frames_from s.first_unacknowledged round.prefix.parts) ≡ burst). absurd (omega arith))
     round.stop
 
-stop_above : (s : Outgoing) → 0 < length s.queue → s.base < stop_of s
-stop_above s some = (let from = end_from s.reported s.base in both (is_full s.reported))
+stop_above : (s : SenderState) → 0 < length s.queue → s.first_unacknowledged < stop_of s
+stop_above s some = (let from = end_from s.sack_blocks s.first_unacknowledged in both (is_full s.sack_blocks))
   where
-    both : (t : Bool) → s.base < cond t (min (end_of s) (greatest_end s.reported s.base + 1)) (end_of s)
-    both true = (let from = end_from s.reported s.base in omega arith)
+    both : (t : Bool) → s.first_unacknowledged < cond t (min (end_of s) (greatest_end s.sack_blocks s.first_unacknowledged + 1)) (end_of s)
+    both true = (let from = end_from s.sack_blocks s.first_unacknowledged in omega arith)
     both false = omega arith
 
--- the first frame is of the first byte that is kept, if that wasn't reported
-abbrev pub FirstSent : Outgoing → ℕ → List Part → Type 0
+-- the first frame is of the first byte that is kept, if that is in no SACK block
+abbrev pub FirstSent : SenderState → ℕ → List Part → Type 0
 FirstSent s most parts = (xs : List ℕ) × (rest : List Part) × (parts ≡ (false, xs) ∷ rest) × (0 < length xs) × (length xs ≤ most)
     × (xs ≡ take (length xs) s.queue)
 
-pub first_sent : (s : Outgoing) (most flight n : ℕ) (old new : PathSeen) → (round : SendsRound s most flight n old new) →
-    0 < flight → 0 < length s.queue → reports s.reported s.base ≡ false → FirstSent s most round.prefix.parts
-first_sent s most flight n old new round left some none =
+pub first_sent : (s : SenderState) (most burst n : ℕ) (old new : PathState) → (round : SendsRound s most burst n old new) →
+    0 < burst → 0 < length s.queue → is_sacked s.sack_blocks s.first_unacknowledged ≡ false → FirstSent s most round.prefix.parts
+first_sent s most burst n old new round left some none =
     let prefix = round.prefix in
     first_of prefix.parts prefix.all prefix.sizes prefix.marked
     (⊎_elim {C = prefix.parts ≡ [] → ⊥}
-    (λ (l : stop_of s ≤ s.base + n) (e : prefix.parts ≡ []).
+    (λ (l : stop_of s ≤ s.first_unacknowledged + n) (e : prefix.parts ≡ []).
     let within = prefix.within in
     let begins = stop_above s some in
     let size : length (take n s.queue) ≡ 0 = sym (ap length prefix.all) ∙ ap (λ l. length (part_bytes l)) e in
     omega (arith, length-take n s.queue))
-    (λ (l : length (frames_from s.base prefix.parts) ≡ flight) (e : prefix.parts ≡ []).
-    let zero_frames : length (frames_from s.base prefix.parts) ≡ 0 = ap (λ l. length (frames_from s.base l)) e in
+    (λ (l : length (frames_from s.first_unacknowledged prefix.parts) ≡ burst) (e : prefix.parts ≡ []).
+    let zero_frames : length (frames_from s.first_unacknowledged prefix.parts) ≡ 0 = ap (λ l. length (frames_from s.first_unacknowledged l)) e in
     omega arith)
     round.stop)
   where
     first_of : (parts : List Part) → part_bytes parts ≡ take n s.queue → All (HasSize most) parts →
-        AreSparedIfReported s.reported s.base parts → (parts ≡ [] → ⊥) → FirstSent s most parts
+        AreSparedIfSacked s.sack_blocks s.first_unacknowledged parts → (parts ≡ [] → ⊥) → FirstSent s most parts
     first_of [] all sizes marked some_part = absurd (some_part refl)
     first_of ((true, xs) ∷ parts) all sizes marked some_part =
         let size = All-head (HasSize most) (true, xs) parts sizes in
         let more = size.0 in
-        absurd (both_ways (reports s.reported s.base) none (marked.0 s.base (omega arith) (omega arith)))
+        absurd (both_ways (is_sacked s.sack_blocks s.first_unacknowledged) none (marked.0 s.first_unacknowledged (omega arith) (omega arith)))
     first_of ((false, xs) ∷ parts) all sizes marked some_part =
         let size = All-head (HasSize most) (false, xs) parts sizes in
         let long : length (xs ++ part_bytes parts) ≡ length (take n s.queue) = ap length all in

@@ -1,7 +1,7 @@
 -- Functions that are applied several times over.
 use Rattle.std.proofs.Common.{◌≡◌, ◌⊎◌, ◌&&◌, ℕ, zero, suc, ◌+◌, ◌-◌, ◌≤◌, ◌<◌, nat_lt, Bool, true, false, cond, length, refl, sym, ap, ◌∙◌, arith, ⊎_elim}
 use Rattle.std.proofs.lemmas.Bool.{cond-true, cond-false, and_from, and_left, and_right, lt-ltb, le-ltb}
-use Rattle.net_copies.specs.Outgoing.{stop_of}
+use Rattle.net_copies.specs.SenderState.{stop_of}
 use Rattle.net_copies.specs.LinkState.{LinkState, times, Cursor, start, part, part_at, transmit}
 
 -- once a step changes nothing, no more of them do
@@ -32,8 +32,8 @@ stops c end = cond-false _ (part_at c) c (⊎_elim {C = (nat_lt c.pos (stop_of c
 -- where nothing more is sent, all is sent
 pub all_sent : (s : LinkState) (c : Cursor) (n : ℕ) → c ≡ times n part (start s) → n ≤ length s.sender.queue → part c ≡ c → c.link ≡ transmit s
 all_sent s c n e few same =
-    let there : part (times n part (start s)) ≡ times n part (start s) = sym (ap part e) ∙ same ∙ e in
-    ap (λ d. d.link) (e ∙ sym (enough part (start s) n (length s.sender.queue) few there))
+    let reached : part (times n part (start s)) ≡ times n part (start s) = sym (ap part e) ∙ same ∙ e in
+    ap (λ d. d.link) (e ∙ sym (enough part (start s) n (length s.sender.queue) few reached))
 
 -- the first step, and then the others
 pub times_front : {S : Type 0} (n : ℕ) (f : S → S) (s : S) → times (suc n) f s ≡ times n f (f s)

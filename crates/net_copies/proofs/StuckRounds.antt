@@ -1,27 +1,27 @@
--- What is true of a copy after each turn, and why a round of it brings nothing on.
+-- What is true of a copy after each turn, and why a round of it makes no progress.
 use Rattle.std.proofs.Common.{◌≡◌, ℕ, zero, suc, ◌+◌, ◌-◌, ◌≤◌, ◌<◌, ◌^◌, min, nat_eq, nat_lt, List, [], ◌∷◌, length, Option, Some, None}
 use Rattle.std.proofs.Common.{refl, sym, ap, subst, ◌∙◌, arith, ⊎_elim}
 use Rattle.std.proofs.lemmas.Bool.{cases_lt, and_from, eq-eqb}
 use Rattle.net_receiver.specs.Rules.{Segment, Read}
-use Rattle.net_receiver.specs.Stored.{Stored, IsSound, stored_next, stored_after}
+use Rattle.net_receiver.specs.ReceiverState.{ReceiverState, IsSound, next_position, receiver_after_command}
 use Rattle.net_receiver.specs.OneStream.{QueueIsOf}
 use Rattle.net_receiver.specs.Soundness.{SoundStays}
 use Rattle.net_copies.specs.declared.counts.FrameCounts.{FrameCounts}
 use Rattle.net_copies.specs.declared.fate.Fate.{Fate}
-use Rattle.net_copies.specs.declared.fate.Fate.TheVariants.{Delivered, Lost, Repeated, Late}
-use Rattle.net_copies.specs.Outgoing.{end_of}
+use Rattle.net_copies.specs.declared.fate.Fate.TheVariants.{Delivered, Lost, Duplicated, Delayed}
+use Rattle.net_copies.specs.SenderState.{end_of}
 use Rattle.net_copies.specs.Frames.{segment_of}
-use Rattle.net_copies.specs.Reported.{most_reported, count_outside}
-use Rattle.net_copies.specs.Fates.{FatesSeen, next_fate, after_fate, fates_after}
-use Rattle.net_copies.specs.Counting.{with_fate, with_fates, with_payload}
-use Rattle.net_copies.specs.Carrying.{receiver_after}
-use Rattle.net_copies.specs.Passing.{receiver_after_all}
+use Rattle.net_copies.specs.SackBlocks.{most_sack_blocks, count_outside}
+use Rattle.net_copies.specs.Fates.{FatesState, next_fate, after_fate, fates_after}
+use Rattle.net_copies.specs.Counts.{with_fate, with_fates, with_payload}
+use Rattle.net_copies.specs.PathState.{receiver_after}
+use Rattle.net_copies.specs.Arrivals.{receiver_after_all}
 use Rattle.net_copies.specs.LinkState.{LinkState, round}
 use Rattle.net_copies.specs.CopyState.{Setup, CopyState, Running, begin, feed, waited, pass}
 use Rattle.net_copies.specs.CopyState.{turn, after}
 use Rattle.net_copies.specs.Streams.{Writes}
 use Rattle.net_copies.specs.Stuck.{RoundLeaves, IsStuck, KnownOfRounds}
-use Rattle.net_copies.specs.Promises.{CanPass, BringsNothing, before_round, frames_sent, acks_sent}
+use Rattle.net_copies.specs.Promises.{CanPass, MakesNoProgress, before_round, frames_sent, acks_sent}
 use Rattle.net_copies.proofs.Drawn.{after_more}
 use Rattle.net_copies.proofs.Queue.{queue_from}
 use Rattle.net_copies.proofs.Reached.{first_is}
@@ -36,24 +36,24 @@ use Rattle.net_copies.proofs.GoesOn.{fed_leaves, asked, GoesOn, goes_on, Still, 
 one_counts : (lot : Fate) (c : FrameCounts) → (with_fate lot c).payload ≡ c.payload
 one_counts Delivered c = refl
 one_counts Lost c = refl
-one_counts Repeated c = refl
-one_counts Late c = refl
+one_counts Duplicated c = refl
+one_counts Delayed c = refl
 
-fates_count : (n : ℕ) (v : FatesSeen) (c : FrameCounts) → (with_fates n v c).payload ≡ c.payload
+fates_count : (n : ℕ) (v : FatesState) (c : FrameCounts) → (with_fates n v c).payload ≡ c.payload
 fates_count zero v c = refl
 fates_count (suc n) v c = fates_count n (after_fate v) (with_fate (next_fate v) c) ∙ one_counts (next_fate v) c
 
 -- frames that come leave a receiver sound
 module _ (stays : SoundStays) where
-  pub one_sound : (r : Stored) (o : Option (ℕ × List ℕ)) → IsSound most_reported r → IsSound most_reported (receiver_after most_reported r o)
+  pub one_sound : (r : ReceiverState) (o : Option (ℕ × List ℕ)) → IsSound most_sack_blocks r → IsSound most_sack_blocks (receiver_after most_sack_blocks r o)
   one_sound r None h = h
   one_sound r (Some (pos, xs)) h =
-      split (IsSound most_reported) (nat_lt (pos + length xs) (2 ^ 64)) (stored_after most_reported r (Segment pos xs)) r
-      (λ _. stays most_reported r (Segment pos xs) h) (λ _. h)
+      split (IsSound most_sack_blocks) (nat_lt (pos + length xs) (2 ^ 64)) (receiver_after_command most_sack_blocks r (Segment pos xs)) r
+      (λ _. stays most_sack_blocks r (Segment pos xs) h) (λ _. h)
 
-  pub all_sound : (r : Stored) (frames : List (List ℕ)) → IsSound most_reported r → IsSound most_reported (receiver_after_all most_reported r frames)
+  pub all_sound : (r : ReceiverState) (frames : List (List ℕ)) → IsSound most_sack_blocks r → IsSound most_sack_blocks (receiver_after_all most_sack_blocks r frames)
   all_sound r [] h = h
-  all_sound r (frame ∷ frames) h = all_sound (receiver_after most_reported r (segment_of frame)) frames (one_sound r (segment_of frame) h)
+  all_sound r (frame ∷ frames) h = all_sound (receiver_after most_sack_blocks r (segment_of frame)) frames (one_sound r (segment_of frame) h)
 
 module _ (known : KnownOfRounds) where
   pub numbers : Numbers
@@ -62,27 +62,27 @@ module _ (known : KnownOfRounds) where
   module _ (s : Setup) where
     -- what is true of the link after each turn
     pub record Stays (l : LinkState) : Type 0 where
-      pub ahead : l.there.ahead ≡ []
-      pub ahead_back : l.back.ahead ≡ []
+      pub in_flight : l.forward.in_flight ≡ []
+      pub in_flight_reverse : l.reverse.in_flight ≡ []
       pub outgoing : l.sender.capacity ≡ s.outgoing
       pub incoming : l.receiver.capacity ≡ s.incoming
-      pub sound : IsSound most_reported l.receiver
+      pub sound : IsSound most_sack_blocks l.receiver
       pub payload : l.counts.payload < 2 ^ 64
-      pub drawn : (n : ℕ) × (l.there.fates ≡ fates_after n s.fates)
-      pub drawn_back : (n : ℕ) × (l.back.fates ≡ fates_after n s.ack_fates)
+      pub drawn : (n : ℕ) × (l.forward.fates ≡ fates_after n s.fates)
+      pub drawn_reverse : (n : ℕ) × (l.reverse.fates ≡ fates_after n s.ack_fates)
 
     pub fed_stays : (c : CopyState) → Stays c.link → Stays (feed s.chunk c).link
     fed_stays c h =
         let f = fed_leaves s.chunk c in
         record {
-          ahead = ap (λ p. p.ahead) f.there ∙ h.ahead;
-          ahead_back = ap (λ p. p.ahead) f.back ∙ h.ahead_back;
+          in_flight = ap (λ p. p.in_flight) f.forward ∙ h.in_flight;
+          in_flight_reverse = ap (λ p. p.in_flight) f.reverse ∙ h.in_flight_reverse;
           outgoing = f.capacity ∙ h.outgoing;
           incoming = ap (λ r. r.capacity) f.receiver ∙ h.incoming;
-          sound = subst (IsSound most_reported) (sym f.receiver) h.sound;
+          sound = subst (IsSound most_sack_blocks) (sym f.receiver) h.sound;
           payload = subst (λ c. c.payload < 2 ^ 64) (sym f.counts) h.payload;
-          drawn = (h.drawn.0, ap (λ p. p.fates) f.there ∙ h.drawn.1);
-          drawn_back = (h.drawn_back.0, ap (λ p. p.fates) f.back ∙ h.drawn_back.1);
+          drawn = (h.drawn.0, ap (λ p. p.fates) f.forward ∙ h.drawn.1);
+          drawn_reverse = (h.drawn_reverse.0, ap (λ p. p.fates) f.reverse ∙ h.drawn_reverse.1);
         }
 
     pub pass_stays : (c : CopyState) → Stays c.link → Stays (pass s.chunk c).link
@@ -91,26 +91,26 @@ module _ (known : KnownOfRounds) where
         let m = round old in
         let p = (round_sends old h.payload).passes in
         let k = round_keeps old m p numbers in
-        let counted : m.counts.payload ≡ min (old.counts.payload + count_outside old.sender.reported old.sender.base p.n) (2 ^ 64 - 1) =
+        let counted : m.counts.payload ≡ min (old.counts.payload + count_outside old.sender.sack_blocks old.sender.first_unacknowledged p.n) (2 ^ 64 - 1) =
         ap (λ c. c.payload) p.counted
-        ∙ fates_count (length p.acks) old.back.fates (with_fates (length p.sent.ahead) old.there.fates
-        (with_payload (count_outside old.sender.reported old.sender.base p.n) old.counts))
-        ∙ fates_count (length p.sent.ahead) old.there.fates (with_payload (count_outside old.sender.reported old.sender.base p.n) old.counts) in
-        let received : IsSound most_reported m.receiver = subst (IsSound most_reported) (sym p.received) (all_sound known.sound old.receiver p.came h.sound) in
+        ∙ fates_count (length p.acks) old.reverse.fates (with_fates (length p.sent.in_flight) old.forward.fates
+        (with_payload (count_outside old.sender.sack_blocks old.sender.first_unacknowledged p.n) old.counts))
+        ∙ fates_count (length p.sent.in_flight) old.forward.fates (with_payload (count_outside old.sender.sack_blocks old.sender.first_unacknowledged p.n) old.counts) in
+        let received : IsSound most_sack_blocks m.receiver = subst (IsSound most_sack_blocks) (sym p.received) (all_sound known.sound old.receiver p.came h.sound) in
         record {
-          ahead = k.ahead;
-          ahead_back = k.ahead_back;
+          in_flight = k.in_flight;
+          in_flight_reverse = k.in_flight_reverse;
           outgoing = k.sender_capacity ∙ h.outgoing;
           incoming = k.receiver_capacity ∙ h.incoming;
-          sound = known.sound most_reported m.receiver (Read s.chunk) received;
+          sound = known.sound most_sack_blocks m.receiver (Read s.chunk) received;
           payload = omega arith;
           drawn = (
-            h.drawn.0 + length p.sent.ahead,
-            fates_left old m p ∙ ap (fates_after (length p.sent.ahead)) h.drawn.1 ∙ after_more h.drawn.0 (length p.sent.ahead) s.fates,
+            h.drawn.0 + length p.sent.in_flight,
+            fates_left old m p ∙ ap (fates_after (length p.sent.in_flight)) h.drawn.1 ∙ after_more h.drawn.0 (length p.sent.in_flight) s.fates,
           );
-          drawn_back = (
-            h.drawn_back.0 + length p.acks,
-            ap (λ t. t.fates) p.left_back ∙ ap (fates_after (length p.acks)) h.drawn_back.1 ∙ after_more h.drawn_back.0 (length p.acks) s.ack_fates,
+          drawn_reverse = (
+            h.drawn_reverse.0 + length p.acks,
+            ap (λ t. t.fates) p.left_reverse ∙ ap (fates_after (length p.acks)) h.drawn_reverse.1 ∙ after_more h.drawn_reverse.0 (length p.acks) s.ack_fates,
           );
         }
 
@@ -119,14 +119,14 @@ module _ (known : KnownOfRounds) where
       all_stays n = all_turned (λ (c : CopyState). Stays c.link) s.rounds s.chunk (λ c _. fed_stays c)
           (λ c _ h. decides (λ (d : CopyState). Stays d.link) s.rounds c (λ _ _. h) (λ _. h) (λ _. h)) (λ c _. pass_stays c) n (begin s reads)
           (record {
-            ahead = refl;
-            ahead_back = refl;
+            in_flight = refl;
+            in_flight_reverse = refl;
             outgoing = refl;
             incoming = refl;
-            sound = known.fresh most_reported s.first s.incoming;
+            sound = known.fresh most_sack_blocks s.first s.incoming;
             payload = omega arith;
             drawn = (0, refl);
-            drawn_back = (0, refl);
+            drawn_reverse = (0, refl);
           })
 
       -- ---- turns before others
@@ -157,7 +157,7 @@ module _ (known : KnownOfRounds) where
           (λ (l : suc n ≤ j). ap (λ k. (after s reads k).status) (let k : j ≡ suc n = omega arith in k) ∙ on)
           (cases_lt j (suc n))
 
-      -- ---- a round that brings nothing on
+      -- ---- a round that makes no progress
       module _ (c : CopyState) (was : SoFar known.known s reads c) (stays : Stays c.link) (can : CanPass s (turn s.rounds s.chunk c))
           (one : GoesOn s.rounds s.chunk c) where
         abbrev e : CopyState
@@ -198,8 +198,8 @@ module _ (known : KnownOfRounds) where
             let cap = fed.outgoing in
             let room = can.outgoing in
             asked s.chunk c one.fed one.on can.chunk (omega arith) (omega arith)
-            (and_from (nat_eq (stored_next e.link.receiver) (end_of e.link.sender)) (nat_eq (length e.link.receiver.queue) 0)
-            (eq-eqb (stored_next e.link.receiver) (end_of e.link.sender) (omega arith)) (eq-eqb (length e.link.receiver.queue) 0 none))
+            (and_from (nat_eq (next_position e.link.receiver) (end_of e.link.sender)) (nat_eq (length e.link.receiver.queue) 0)
+            (eq-eqb (next_position e.link.receiver) (end_of e.link.sender) (omega arith)) (eq-eqb (length e.link.receiver.queue) 0 none))
 
         pub stuck_turn : Still e (pass s.chunk e) → min s.chunk (length new.receiver.queue) ≡ 0 →
             IsStuck (frames_sent old) (acks_sent old) old (pass s.chunk e).link
@@ -209,10 +209,10 @@ module _ (known : KnownOfRounds) where
             let end = writes.carries.way.sends.end in
             let most = left in
             let moves = round_moves old new p known.known.decode numbers known.order known.known.queue fed.sound (omega arith) in
-            let stuck = step_moves (length p.sent.ahead) (length p.acks) s.first e.given old new (pass s.chunk e).link s.chunk leaves moves refl writes.carries.way
-            fed.ahead fed.ahead_back some_kept some_room can.chunk still.0 (omega arith) in
-            subst (λ n. IsStuck n (acks_sent old) old (pass s.chunk e).link) (ap length sends.ahead)
-            (subst (λ n. IsStuck (length p.sent.ahead) n old (pass s.chunk e).link) sends.acks stuck)
+            let stuck = step_moves (length p.sent.in_flight) (length p.acks) s.first e.given old new (pass s.chunk e).link s.chunk leaves moves refl writes.carries.way
+            fed.in_flight fed.in_flight_reverse some_kept some_room can.chunk still.0 (omega arith) in
+            subst (λ n. IsStuck n (acks_sent old) old (pass s.chunk e).link) (ap length sends.in_flight)
+            (subst (λ n. IsStuck (length p.sent.in_flight) n old (pass s.chunk e).link) sends.acks stuck)
           where
             some_kept : 0 < length e.link.sender.queue
             some_kept = ⊎_elim {C = 0 < length e.link.sender.queue} (λ (l : 0 < length e.link.sender.queue). l)
@@ -228,14 +228,14 @@ module _ (known : KnownOfRounds) where
 
       -- the fates that a round of it begins with
       pub drawn_before : (n : ℕ) → (after s reads n).status ≡ Running → (a : ℕ) × (b : ℕ)
-          × ((before_round s reads n).there.fates ≡ fates_after a s.fates) × ((before_round s reads n).back.fates ≡ fates_after b s.ack_fates)
+          × ((before_round s reads n).forward.fates ≡ fates_after a s.fates) × ((before_round s reads n).reverse.fates ≡ fates_after b s.ack_fates)
       drawn_before n on =
           let c = after s reads n in
           let h = fed_stays c (all_stays n) in
-          subst (λ d. (a : ℕ) × (b : ℕ) × (d.link.there.fates ≡ fates_after a s.fates) × (d.link.back.fates ≡ fates_after b s.ack_fates))
-          (sym (runs (feed s.chunk) c on)) (h.drawn.0, h.drawn_back.0, h.drawn.1, h.drawn_back.1)
+          subst (λ d. (a : ℕ) × (b : ℕ) × (d.link.forward.fates ≡ fates_after a s.fates) × (d.link.reverse.fates ≡ fates_after b s.ack_fates))
+          (sym (runs (feed s.chunk) c on)) (h.drawn.0, h.drawn_reverse.0, h.drawn.1, h.drawn_reverse.1)
 
-      pub stuck_round : (n : ℕ) → CanPass s (after s reads (suc n)) → (after s reads (suc n)).status ≡ Running → BringsNothing s reads n →
+      pub stuck_round : (n : ℕ) → CanPass s (after s reads (suc n)) → (after s reads (suc n)).status ≡ Running → MakesNoProgress s reads n →
           IsStuck (frames_sent (before_round s reads n)) (acks_sent (before_round s reads n)) (before_round s reads n) (after s reads (suc n)).link
       stuck_round n can on nothing =
           let c = after s reads n in
@@ -248,11 +248,11 @@ module _ (known : KnownOfRounds) where
           (subst (λ x. IsStuck (frames_sent (waited d)) (acks_sent (waited d)) (waited d) x.link) (sym one.is) stuck)
         where
           by : (c : CopyState) → SoFar known.known s reads c → Stays c.link → CanPass s (turn s.rounds s.chunk c) → (one : GoesOn s.rounds s.chunk c) →
-              ((turn s.rounds s.chunk c).link.sender.base ≡ c.link.sender.base) × ((turn s.rounds s.chunk c).written ≡ c.written) →
+              ((turn s.rounds s.chunk c).link.sender.first_unacknowledged ≡ c.link.sender.first_unacknowledged) × ((turn s.rounds s.chunk c).written ≡ c.written) →
               Brought s.chunk (feed s.chunk c) →
               IsStuck (frames_sent (waited (feed s.chunk c))) (acks_sent (waited (feed s.chunk c))) (waited (feed s.chunk c)) (pass s.chunk (feed s.chunk c)).link
           by c was stays can one nothing (Moved none some) = absurd (some (
-            sym (ap (λ d. d.link.sender.base) one.is) ∙ nothing.0 ∙ sym (fed_leaves s.chunk c).base,
+            sym (ap (λ d. d.link.sender.first_unacknowledged) one.is) ∙ nothing.0 ∙ sym (fed_leaves s.chunk c).first_unacknowledged,
             sym (ap (λ d. d.written) one.is) ∙ nothing.1 ∙ sym (fed_leaves s.chunk c).written,
           ))
           by c was stays can one nothing (Nothing more still empty) = stuck_turn c was stays can one still empty

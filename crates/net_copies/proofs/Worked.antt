@@ -3,19 +3,19 @@ use Rattle.std.proofs.Common.{◌≡◌, ℕ, ◌-◌, nat_lt, cond, true, false
 use Rattle.net_assembler.specs.Positions.{runs, with_range, maximal_runs}
 use Rattle.net_receiver.specs.KeptList.{Piece, piece, piece_within, byte_at, bytes, next, held_positions}
 use Rattle.net_receiver.specs.Rules.{Segment, SegmentReply, Refuses, Keeps, verdict, verdict_of_piece, state_after, segment_result}
-use Rattle.net_receiver.specs.Schedule.{Setting, State, fresh_state, by_kept}
-use Rattle.net_receiver.specs.Stored.{HeldBytes, Stored, StandsFor, domain, stored_after, fresh_stored, by_stored, stored_with_piece}
-use Rattle.net_receiver.specs.Execution.{FreshStands, EverySchedule, TellsHeld}
+use Rattle.net_receiver.specs.Schedule.{Setting, KeptState, fresh_kept, kept_ops}
+use Rattle.net_receiver.specs.ReceiverState.{HeldBytes, ReceiverState, Refines, domain, receiver_after_command, fresh_receiver, receiver_ops, receiver_with_piece}
+use Rattle.net_receiver.specs.Execution.{FreshRefines, EverySchedule, TellsHeld}
 use Rattle.net_receiver.specs.WorkedExample.{NextComputed, HeldComputed, RunsComputed}
 use Rattle.net_copies.specs.declared.counts.FrameCounts.{FrameCounts}
 use Rattle.net_copies.specs.declared.fate.Fate.{Fate}
 use Rattle.net_copies.specs.declared.fate.Fate.TheVariants.{Delivered, Lost}
-use Rattle.net_copies.specs.Outgoing.{Outgoing, outgoing}
+use Rattle.net_copies.specs.SenderState.{SenderState, sender_state}
 use Rattle.net_copies.specs.Frames.{frame_of}
-use Rattle.net_copies.specs.Reported.{range_bytes, ranges_of}
-use Rattle.net_copies.specs.Counting.{is_refused, with_refusal}
-use Rattle.net_copies.specs.Carrying.{PathSeen, ack_of}
-use Rattle.net_copies.specs.LinkState.{LinkState, times, transmit, late_frames, pass_frames, acknowledge_all, late_acks, pass_acks, with_flight, round}
+use Rattle.net_copies.specs.SackBlocks.{block_bytes, blocks_of}
+use Rattle.net_copies.specs.Counts.{is_refused, with_refusal}
+use Rattle.net_copies.specs.PathState.{PathState, ack_of}
+use Rattle.net_copies.specs.LinkState.{LinkState, times, transmit, delayed_frames, pass_frames, acknowledge_all, delayed_acks, pass_acks, with_burst, round}
 use Rattle.net_copies.specs.CopyState.{CopyState, begin, hand_out, turn, outcome, Running, Done}
 use Rattle.net_copies.specs.WorkedCopy.{worked_setup, listed, WorkedCopy}
 use Rattle.net_copies.proofs.Steps.{enough}
@@ -24,8 +24,8 @@ use Rattle.net_copies.proofs.Steps.{enough}
 abbrev w : Setting
 w = record { first = 0; capacity = 4; most_runs = 32 }
 
-abbrev r0 : Stored
-r0 = fresh_stored 0 4
+abbrev r0 : ReceiverState
+r0 = fresh_receiver 0 4
 
 abbrev b : Piece
 b = piece 1 (98 ∷ [])
@@ -33,15 +33,15 @@ b = piece 1 (98 ∷ [])
 abbrev a : Piece
 a = piece 0 (97 ∷ [])
 
-abbrev kept : List Piece → State
+abbrev kept : List Piece → KeptState
 kept k = record { kept = k; read = 0 }
 
-abbrev stored : HeldBytes → List ℕ → Stored
-stored held queue = record { first = 0; capacity = 4; read = 0; queue = queue; held = held }
+abbrev receiver_of : HeldBytes → List ℕ → ReceiverState
+receiver_of held queue = record { first = 0; capacity = 4; read = 0; queue = queue; held = held }
 
 -- what laws of receivers say
 pub record Laws : Type 0 where
-  pub fresh : FreshStands
+  pub fresh : FreshRefines
   pub every : EverySchedule
   pub tells : TellsHeld
   pub next : NextComputed
@@ -49,8 +49,8 @@ pub record Laws : Type 0 where
   pub runs : RunsComputed
 
 module _ (laws : Laws) where
-  stands0 : StandsFor r0 fresh_state
-  stands0 = laws.fresh 0 4
+  refines0 : Refines r0 fresh_kept
+  refines0 = laws.fresh 0 4
 
   next0 : next 0 [] ≡ 0
   next0 = laws.next 0 []
@@ -64,70 +64,70 @@ module _ (laws : Laws) where
   few : runs (with_range (held_positions 0 []) 1 1) ≡ 1
   few = laws.runs 0 [] 1 1
 
-  b_is_kept : verdict by_stored 32 r0 b ≡ Keeps b
-  b_is_kept = ap (λ s. cond (nat_lt 32 (runs (with_range s 1 1))) Refuses (Keeps b)) (laws.tells r0 fresh_state stands0)
+  b_is_kept : verdict receiver_ops 32 r0 b ≡ Keeps b
+  b_is_kept = ap (λ s. cond (nat_lt 32 (runs (with_range s 1 1))) Refuses (Keeps b)) (laws.tells r0 fresh_kept refines0)
       ∙ ap (λ n. cond (nat_lt 32 n) Refuses (Keeps b)) few
 
-  b_in_list : verdict (by_kept w) 32 fresh_state b ≡ Keeps b
+  b_in_list : verdict (kept_ops w) 32 fresh_kept b ≡ Keeps b
   b_in_list = (λ i. verdict_of_piece (next0 i) 32 (held_positions 0 []) (piece_within (next0 i) 4 b))
       ∙ ap (λ n. cond (nat_lt 32 n) Refuses (Keeps b)) few
 
-  a_in_list : verdict (by_kept w) 32 (kept (b ∷ [])) a ≡ Keeps a
+  a_in_list : verdict (kept_ops w) 32 (kept (b ∷ [])) a ≡ Keeps a
   a_in_list = λ i. verdict_of_piece (next1 i) 32 (held_positions 0 (b ∷ [])) (piece_within (next1 i) 4 a)
 
   -- what is held once `b` came
   abbrev h1 : HeldBytes
-  h1 = (stored_with_piece r0 b).held
+  h1 = (receiver_with_piece r0 b).held
 
-  stands_b : StandsFor (stored_with_piece r0 b) (kept (b ∷ []))
-  stands_b =
-      subst (λ r. StandsFor r (kept (b ∷ []))) (ap (state_after by_stored r0) b_is_kept)
-      (subst (StandsFor (stored_after 32 r0 (Segment 1 (98 ∷ [])))) (ap (state_after (by_kept w) fresh_state) b_in_list)
-      (laws.every 32 r0 fresh_state stands0 (Segment 1 (98 ∷ []) ∷ [])).0)
+  refines_b : Refines (receiver_with_piece r0 b) (kept (b ∷ []))
+  refines_b =
+      subst (λ r. Refines r (kept (b ∷ []))) (ap (state_after receiver_ops r0) b_is_kept)
+      (subst (Refines (receiver_after_command 32 r0 (Segment 1 (98 ∷ [])))) (ap (state_after (kept_ops w) fresh_kept) b_in_list)
+      (laws.every 32 r0 fresh_kept refines0 (Segment 1 (98 ∷ []) ∷ [])).0)
 
-  b_came : stored_after 32 r0 (Segment 1 (98 ∷ [])) ≡ stored h1 []
-  b_came = ap (state_after by_stored r0) b_is_kept
-      ∙ (λ i. stored h1 ((stands_b.queue ∙ (λ j. bytes (b ∷ []) 0 (next1 j - 0))) i))
+  b_came : receiver_after_command 32 r0 (Segment 1 (98 ∷ [])) ≡ receiver_of h1 []
+  b_came = ap (state_after receiver_ops r0) b_is_kept
+      ∙ (λ i. receiver_of h1 ((refines_b.queue ∙ (λ j. bytes (b ∷ []) 0 (next1 j - 0))) i))
 
-  stands1 : StandsFor (stored h1 []) (kept (b ∷ []))
-  stands1 = subst (λ r. StandsFor r (kept (b ∷ []))) (sym (ap (state_after by_stored r0) b_is_kept) ∙ b_came) stands_b
+  refines1 : Refines (receiver_of h1 []) (kept (b ∷ []))
+  refines1 = subst (λ r. Refines r (kept (b ∷ []))) (sym (ap (state_after receiver_ops r0) b_is_kept) ∙ b_came) refines_b
 
   runs1 : maximal_runs (domain h1) ≡ (1, 2) ∷ []
-  runs1 = ap maximal_runs (laws.tells (stored h1 []) (kept (b ∷ [])) stands1) ∙ laws.held 0 (b ∷ [])
+  runs1 = ap maximal_runs (laws.tells (receiver_of h1 []) (kept (b ∷ [])) refines1) ∙ laws.held 0 (b ∷ [])
 
   -- and once `a` came
   abbrev h2 : HeldBytes
-  h2 = (stored_with_piece (stored h1 []) a).held
+  h2 = (receiver_with_piece (receiver_of h1 []) a).held
 
-  stands_a : StandsFor (stored_after 32 (stored h1 []) (Segment 0 (97 ∷ []))) (kept (b ∷ a ∷ []))
-  stands_a =
-      subst (StandsFor (stored_after 32 (stored h1 []) (Segment 0 (97 ∷ [])))) (ap (state_after (by_kept w) (kept (b ∷ []))) a_in_list)
-      (laws.every 32 (stored h1 []) (kept (b ∷ [])) stands1 (Segment 0 (97 ∷ []) ∷ [])).0
+  refines_a : Refines (receiver_after_command 32 (receiver_of h1 []) (Segment 0 (97 ∷ []))) (kept (b ∷ a ∷ []))
+  refines_a =
+      subst (Refines (receiver_after_command 32 (receiver_of h1 []) (Segment 0 (97 ∷ [])))) (ap (state_after (kept_ops w) (kept (b ∷ []))) a_in_list)
+      (laws.every 32 (receiver_of h1 []) (kept (b ∷ [])) refines1 (Segment 0 (97 ∷ []) ∷ [])).0
 
   two_bytes : bytes (b ∷ a ∷ []) 0 2 ≡ 97 ∷ 98 ∷ []
   unfolding byte_at
   two_bytes = refl
 
-  a_came : stored_after 32 (stored h1 []) (Segment 0 (97 ∷ [])) ≡ stored h2 (97 ∷ 98 ∷ [])
-  a_came = λ i. stored h2 ((stands_a.queue ∙ (λ j. bytes (b ∷ a ∷ []) 0 (next2 j - 0)) ∙ two_bytes) i)
+  a_came : receiver_after_command 32 (receiver_of h1 []) (Segment 0 (97 ∷ [])) ≡ receiver_of h2 (97 ∷ 98 ∷ [])
+  a_came = λ i. receiver_of h2 ((refines_a.queue ∙ (λ j. bytes (b ∷ a ∷ []) 0 (next2 j - 0)) ∙ two_bytes) i)
 
   runs2 : maximal_runs (domain h2) ≡ []
-  runs2 = ap maximal_runs (laws.tells _ (kept (b ∷ a ∷ [])) stands_a) ∙ laws.held 0 (b ∷ a ∷ [])
+  runs2 = ap maximal_runs (laws.tells _ (kept (b ∷ a ∷ [])) refines_a) ∙ laws.held 0 (b ∷ a ∷ [])
 
   -- ---- the link
-  abbrev path : List (List ℕ) → List Fate → PathSeen
-  path ahead list = record { ahead = ahead; late = []; fates = listed list }
+  abbrev path : List (List ℕ) → List Fate → PathState
+  path in_flight list = record { in_flight = in_flight; delayed = []; fates = listed list }
 
   abbrev counts : ℕ → ℕ → ℕ → FrameCounts
-  counts sent payload lost = record { sent = sent; payload = payload; lost = lost; repeated = 0; late = 0; refused = 0 }
+  counts sent payload lost = record { sent = sent; payload = payload; lost = lost; duplicated = 0; delayed = 0; refused = 0 }
 
-  abbrev link : Outgoing → Stored → PathSeen → PathSeen → FrameCounts → ℕ → LinkState
-  link s r there back c elapsed =
-      record { sender = s; receiver = r; there = there; back = back; counts = c; payload = 1; limit = 8; flight = 8; elapsed = elapsed }
+  abbrev link : SenderState → ReceiverState → PathState → PathState → FrameCounts → ℕ → LinkState
+  link s r forward reverse c elapsed =
+      record { sender = s; receiver = r; forward = forward; reverse = reverse; counts = c; payload = 1; max_burst = 8; burst = 8; elapsed = elapsed }
 
   -- the first round: `a` is lost
-  abbrev sender1 : List (ℕ × ℕ) → Outgoing
-  sender1 ranges = outgoing 4 0 (97 ∷ 98 ∷ []) ranges 4
+  abbrev sender1 : List (ℕ × ℕ) → SenderState
+  sender1 ranges = sender_state 4 0 (97 ∷ 98 ∷ []) ranges 4
 
   abbrev four : List Fate
   four = Delivered ∷ Delivered ∷ Delivered ∷ Delivered ∷ []
@@ -138,54 +138,54 @@ module _ (laws : Laws) where
   abbrev begun1 : LinkState
   begun1 = link (sender1 []) r0 (path [] (Lost ∷ two)) (path [] four) (counts 0 0 0) 10000
 
-  abbrev passed1 : Stored → FrameCounts → LinkState
+  abbrev passed1 : ReceiverState → FrameCounts → LinkState
   passed1 r c = link (sender1 []) r (path [] (Delivered ∷ [])) (path (ack_of r ∷ []) four) c 10000
 
   none_refused : with_refusal 32 r0 (Some (1, 98 ∷ [])) (counts 2 2 1) ≡ counts 2 2 1
-  none_refused = ap (λ x. cond (is_refused (SegmentReply (segment_result by_stored r0 x))) (record (counts 2 2 1) { refused = 1 }) (counts 2 2 1)) b_is_kept
+  none_refused = ap (λ x. cond (is_refused (SegmentReply (segment_result receiver_ops r0 x))) (record (counts 2 2 1) { refused = 1 }) (counts 2 2 1)) b_is_kept
 
-  frames1 : pass_frames (late_frames (transmit begun1)) ≡ passed1 (stored h1 []) (counts 2 2 1)
+  frames1 : pass_frames (delayed_frames (transmit begun1)) ≡ passed1 (receiver_of h1 []) (counts 2 2 1)
   frames1 = λ i. passed1 (b_came i) (none_refused i)
 
   abbrev told1 : List (ℕ × ℕ) → LinkState
   told1 ranges =
-      let ack = frame_of 0 (range_bytes (take 32 ranges)) in
-      link (sender1 []) (stored h1 []) (path [] (Delivered ∷ [])) (path (ack ∷ ack ∷ []) four) (counts 2 2 1) 10000
+      let ack = frame_of 0 (block_bytes (take 32 ranges)) in
+      link (sender1 []) (receiver_of h1 []) (path [] (Delivered ∷ [])) (path (ack ∷ ack ∷ []) four) (counts 2 2 1) 10000
 
-  acks1 : acknowledge_all (passed1 (stored h1 []) (counts 2 2 1)) ≡ told1 ((1, 2) ∷ [])
+  acks1 : acknowledge_all (passed1 (receiver_of h1 []) (counts 2 2 1)) ≡ told1 ((1, 2) ∷ [])
   acks1 = ap told1 runs1
 
   abbrev ended1 : LinkState
-  ended1 = link (sender1 ((1, 2) ∷ [])) (stored h1 []) (path [] (Delivered ∷ [])) (path [] two) (counts 4 2 1) 10000
+  ended1 = link (sender1 ((1, 2) ∷ [])) (receiver_of h1 []) (path [] (Delivered ∷ [])) (path [] two) (counts 4 2 1) 10000
 
   round1 : round begun1 ≡ ended1
-  unfolding round ranges_of
-  round1 = ap (λ s. with_flight (pass_acks (late_acks (acknowledge_all s)))) frames1 ∙ ap (λ s. with_flight (pass_acks (late_acks s))) acks1
+  unfolding round blocks_of
+  round1 = ap (λ s. with_burst (pass_acks (delayed_acks (acknowledge_all s)))) frames1 ∙ ap (λ s. with_burst (pass_acks (delayed_acks s))) acks1
 
   -- the second: `a` comes
   abbrev begun2 : LinkState
   begun2 = record ended1 { elapsed = 30000 }
 
-  abbrev passed2 : Stored → LinkState
+  abbrev passed2 : ReceiverState → LinkState
   passed2 r = link (sender1 ((1, 2) ∷ [])) r (path [] []) (path (ack_of r ∷ []) two) (counts 5 3 1) 30000
 
-  frames2 : pass_frames (late_frames (transmit begun2)) ≡ passed2 (stored h2 (97 ∷ 98 ∷ []))
+  frames2 : pass_frames (delayed_frames (transmit begun2)) ≡ passed2 (receiver_of h2 (97 ∷ 98 ∷ []))
   frames2 = ap passed2 a_came
 
   abbrev told2 : List (ℕ × ℕ) → LinkState
   told2 ranges =
-      let ack = frame_of 2 (range_bytes (take 32 ranges)) in
-      link (sender1 ((1, 2) ∷ [])) (stored h2 (97 ∷ 98 ∷ [])) (path [] []) (path (ack ∷ ack ∷ []) two) (counts 5 3 1) 30000
+      let ack = frame_of 2 (block_bytes (take 32 ranges)) in
+      link (sender1 ((1, 2) ∷ [])) (receiver_of h2 (97 ∷ 98 ∷ [])) (path [] []) (path (ack ∷ ack ∷ []) two) (counts 5 3 1) 30000
 
-  acks2 : acknowledge_all (passed2 (stored h2 (97 ∷ 98 ∷ []))) ≡ told2 []
+  acks2 : acknowledge_all (passed2 (receiver_of h2 (97 ∷ 98 ∷ []))) ≡ told2 []
   acks2 = ap told2 runs2
 
   abbrev ended2 : LinkState
-  ended2 = link (outgoing 4 2 [] [] 4) (stored h2 (97 ∷ 98 ∷ [])) (path [] []) (path [] []) (counts 7 3 1) 30000
+  ended2 = link (sender_state 4 2 [] [] 4) (receiver_of h2 (97 ∷ 98 ∷ [])) (path [] []) (path [] []) (counts 7 3 1) 30000
 
   round2 : round begun2 ≡ ended2
-  unfolding round ranges_of
-  round2 = ap (λ s. with_flight (pass_acks (late_acks (acknowledge_all s)))) frames2 ∙ ap (λ s. with_flight (pass_acks (late_acks s))) acks2
+  unfolding round blocks_of
+  round2 = ap (λ s. with_burst (pass_acks (delayed_acks (acknowledge_all s)))) frames2 ∙ ap (λ s. with_burst (pass_acks (delayed_acks s))) acks2
 
   -- ---- the copy
   abbrev step : CopyState → CopyState
@@ -215,7 +215,7 @@ module _ (laws : Laws) where
   turn1 = ap (hand_out 4 (after_read (record begun1 { elapsed = 0 }) [] 0 0 10000)) round1
 
   abbrev state2 : CopyState
-  state2 = after_read (record ended2 { receiver = record (stored h2 []) { read = 2 } }) (97 ∷ 98 ∷ []) 2 0 10000
+  state2 = after_read (record ended2 { receiver = record (receiver_of h2 []) { read = 2 } }) (97 ∷ 98 ∷ []) 2 0 10000
 
   turn2 : step state1 ≡ state2
   unfolding turn

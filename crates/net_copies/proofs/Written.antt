@@ -9,9 +9,9 @@ use Rattle.net_copies.specs.declared.error.LinkError.{LinkError}
 use Rattle.net_copies.specs.declared.error.LinkError.TheVariants as errors
 use Rattle.net_copies.specs.LinkState.{LinkState}
 use Rattle.net_copies.specs.declared.config.Config.{Config}
-use Rattle.net_copies.specs.Fates.{FatesSeen}
+use Rattle.net_copies.specs.Fates.{FatesState}
 use Rattle.net_copies.specs.CopyState.{setup_of, Setup, CopyState, Status, Done, GaveUp, ReadFailed, Outcome, begin, after, most_turns, final, concat, feed, decide, pass, rest_of, read_of, room_for, while_running}
-use Rattle.net_copies.specs.Copying.{before_pass, EndsRound, Copied, CopiedPart, HasCopied, HasNotBegun, Copies, HasPositions, gave_up}
+use Rattle.net_copies.specs.CopyResult.{before_pass, EndsRound, Copied, CopiedPart, HasCopied, HasNotBegun, Copies, HasPositions, gave_up}
 use Rattle.net_copies.specs.declared.counts.FrameCounts.{FrameCounts}
 use Rattle.net_copies.specs.Promises.{StartsFits, EnoughFailed}
 use Rattle.net_copies.specs.Streams.{Known, Writes}
@@ -56,11 +56,11 @@ module _ (reads : List (List ℕ)) where
 
 module _ (known : Known) (s : Setup) (fits : StartsFits s) where
   -- what a writer has is a prefix of what a reader gave, and both are counted
-  in_short : (c : CopyState) (reads : List (List ℕ)) (more rest : List ℕ) (had has held holds : Option (List ℕ)) (taken bytes : ℕ) (done : Bool) →
+  in_short : (c : CopyState) (reads : List (List ℕ)) (more rest : List ℕ) (had has held holds : Option (List ℕ)) (bytes_read bytes_written : ℕ) (done : Bool) →
       SoFar known s reads c → Given reads c → c.reads ≡ [] → Consumes had has (concat reads) → Appends held holds (c.written ++ more) →
-      (c.written ++ more) ++ rest ≡ c.given → taken ≡ min (length c.given) (2 ^ 64 - 1) → bytes ≡ min (length (c.written ++ more)) (2 ^ 64 - 1) →
-      (done ≡ true → (c.written ++ more ≡ c.given) × IsAtEnd has) → Copies had has held holds taken bytes done
-  in_short c reads more rest had has held holds taken bytes done h g none consumed appended prefix is_taken is_bytes whole =
+      (c.written ++ more) ++ rest ≡ c.given → bytes_read ≡ min (length c.given) (2 ^ 64 - 1) → bytes_written ≡ min (length (c.written ++ more)) (2 ^ 64 - 1) →
+      (done ≡ true → (c.written ++ more ≡ c.given) × IsAtEnd has) → Copies had has held holds bytes_read bytes_written done
+  in_short c reads more rest had has held holds bytes_read bytes_written done h g none consumed appended prefix read_are written_are whole =
       let all = all_read reads c g none in
       let word = h.writes.carries.fits in
       let end = h.writes.carries.way.sends.end in
@@ -73,8 +73,8 @@ module _ (known : Known) (s : Setup) (fits : StartsFits s) where
         consumed = consumed;
         appended = appended;
         prefix = starts_with (concat reads) (c.written ++ more) rest (prefix ∙ all);
-        taken = omega (arith, word, end, given, is_taken);
-        bytes = omega (arith, word, end, long, both, is_bytes);
+        bytes_read = omega (arith, word, end, given, read_are);
+        bytes_written = omega (arith, word, end, long, both, written_are);
         whole = λ e. ((whole e).0 ∙ all, (whole e).1);
       }
 
@@ -83,17 +83,17 @@ module _ (known : Known) (s : Setup) (fits : StartsFits s) where
   written_rest c f w = ap (λ l. l ++ drop c.link.receiver.read c.given) w.written ∙ take-append-drop c.link.receiver.read c.given
 
   copied_short : (status : Status) (had has held holds : Option (List ℕ)) (counts : Counts) (done : Bool) → (done ≡ true → status ≡ Done) →
-      Copied s status had has held holds counts → Copies had has held holds counts.taken counts.bytes done
+      Copied s status had has held holds counts → Copies had has held holds counts.bytes_read counts.bytes_written done
   copied_short status had has held holds counts done is p =
       let n = most_turns s p.reads in
       let c = final s p.reads in
       let h = so_far known s p.reads fits n in
       let written : p.written ≡ c.written ++ [] = sym (ap (λ (o : Outcome). o.written) p.ends) ∙ sym (append-nil c.written) in
-      in_short c p.reads [] (drop c.link.receiver.read c.given) had has held holds counts.taken counts.bytes done h (all_given p.reads s n) p.made p.consumed
+      in_short c p.reads [] (drop c.link.receiver.read c.given) had has held holds counts.bytes_read counts.bytes_written done h (all_given p.reads s n) p.made p.consumed
       (subst (Appends held holds) written p.appended)
       (ap (λ l. l ++ drop c.link.receiver.read c.given) (append-nil c.written) ∙ written_rest c s.first h.writes)
-      (sym (ap (λ (o : Outcome). o.counts.taken) p.ends))
-      (sym (ap (λ (o : Outcome). o.counts.bytes) p.ends) ∙ ap (λ l. min (length l) (2 ^ 64 - 1)) (sym (append-nil c.written)))
+      (sym (ap (λ (o : Outcome). o.counts.bytes_read) p.ends))
+      (sym (ap (λ (o : Outcome). o.counts.bytes_written) p.ends) ∙ ap (λ l. min (length l) (2 ^ 64 - 1)) (sym (append-nil c.written)))
       (λ e. (let d = is e in let over = h.done (ap (λ (o : Outcome). o.status) p.ends ∙ d) in
       (append-nil c.written ∙ all_written s.first c.given c over.1 h.writes, p.at_end d)))
 
@@ -119,7 +119,7 @@ module _ (known : Known) (s : Setup) (fits : StartsFits s) where
   part_rest errors.ReadFailed c link w p h = absurd p
 
   part_short : (error : LinkError) (had has held holds : Option (List ℕ)) (counts : Counts) → CopiedPart s error had has held holds counts →
-      Copies had has held holds counts.taken counts.bytes false
+      Copies had has held holds counts.bytes_read counts.bytes_written false
   part_short error had has held holds counts p =
       let c = after s p.reads p.turns in
       let d = while_running (feed s.chunk) c in
@@ -128,49 +128,49 @@ module _ (known : Known) (s : Setup) (fits : StartsFits s) where
       let one : SoFar known s p.reads d = while (SoFar known s p.reads) (feed s.chunk) c (λ on. fed_so_far known s p.reads c on zero) (λ _. zero) in
       let two : SoFar known s p.reads e = while (SoFar known s p.reads) (decide s.rounds) d (λ on. decided_so_far known s p.reads d on one) (λ _. one) in
       let rest = part_rest error e p.link p.written p.part two.writes in
-      in_short e p.reads p.written rest.0 had has held holds counts.taken counts.bytes false two (given_before p.reads s p.turns) p.made p.consumed p.appended rest.1
-      (ap (λ (n : Counts). n.taken) p.counted) (ap (λ (n : Counts). n.bytes) p.counted) (λ t. absurd (both_ways false refl t))
+      in_short e p.reads p.written rest.0 had has held holds counts.bytes_read counts.bytes_written false two (given_before p.reads s p.turns) p.made p.consumed p.appended rest.1
+      (ap (λ (n : Counts). n.bytes_read) p.counted) (ap (λ (n : Counts). n.bytes_written) p.counted) (λ t. absurd (both_ways false refl t))
 
   pub short : {T : Type 0} (r : Result T LinkError) (had has held holds : Option (List ℕ)) (counts : Counts) → HasCopied s r had has held holds counts →
-      Copies had has held holds counts.taken counts.bytes (is_ok r)
+      Copies had has held holds counts.bytes_read counts.bytes_written (is_ok r)
   short (Ok t) had has held holds counts p = copied_short Done had has held holds counts true (λ _. refl) p
   short (Err errors.GaveUp) had has held holds counts p = copied_short GaveUp had has held holds counts false (λ e. absurd (both_ways false refl e)) p
   short (Err errors.ReadFailed) had has held holds counts p = copied_short ReadFailed had has held holds counts false (λ e. absurd (both_ways false refl e)) p
   short (Err errors.OutOfMemory) had has held holds counts p = part_short errors.OutOfMemory had has held holds counts p
-  short (Err errors.WriteFailed) had has held holds counts p = ⊎_elim {C = Copies had has held holds counts.taken counts.bytes false}
+  short (Err errors.WriteFailed) had has held holds counts p = ⊎_elim {C = Copies had has held holds counts.bytes_read counts.bytes_written false}
       (λ (q : CopiedPart s errors.WriteFailed had has held holds counts). part_short errors.WriteFailed had has held holds counts q)
       (λ (q : Copied s Done had has held holds counts). copied_short Done had has held holds counts false (λ e. absurd (both_ways false refl e)) q)
       p
 
 -- a copy that had no memory
 pub unbegun : {T : Type 0} (r : Result T LinkError) (had has held holds : Option (List ℕ)) (counts : Counts) → HasNotBegun r had has held holds counts →
-    Copies had has held holds counts.taken counts.bytes (is_ok r)
+    Copies had has held holds counts.bytes_read counts.bytes_written (is_ok r)
 unbegun r had has held holds counts p = record {
   given = [];
   written = [];
   consumed = p.1;
   appended = p.2;
   prefix = refl;
-  taken = sym (ap (λ (n : Counts). n.taken) p.3);
-  bytes = sym (ap (λ (n : Counts). n.bytes) p.3);
+  bytes_read = sym (ap (λ (n : Counts). n.bytes_read) p.3);
+  bytes_written = sym (ap (λ (n : Counts). n.bytes_written) p.3);
   whole = λ e. absurd (both_ways (is_ok r) (ap is_ok p.0) e);
 }
 
 -- a copy that gave up counted a failure for each of its last rounds
 abbrev Enough : ℕ → ℕ → ℕ → Counts → LinkError → Type 0
-Enough first cap rounds counts e = gave_up e ≡ true → HasPositions first counts.taken → 0 < cap →
-    (rounds ≤ counts.frames.lost + counts.frames.late) × (rounds ≤ counts.frames.lost + 1)
+Enough first cap rounds counts e = gave_up e ≡ true → HasPositions first counts.bytes_read → 0 < cap →
+    (rounds ≤ counts.frames.lost + counts.frames.delayed) × (rounds ≤ counts.frames.lost + 1)
 
-module _ (law : EnoughFailed) (config : Config) (fates ack_fates : FatesSeen) (word : config.rounds < 2 ^ 64) where
+module _ (law : EnoughFailed) (config : Config) (fates ack_fates : FatesState) (word : config.rounds < 2 ^ 64) where
   enough_of : {T : Type 0} (r : Result T LinkError) (had has held holds : Option (List ℕ)) (counts : Counts) →
       HasCopied (setup_of config fates ack_fates) r had has held holds counts → IfErr r (Enough config.first config.capacity config.rounds counts)
   enough_of (Ok t) had has held holds counts p = tt
   enough_of (Err errors.GaveUp) had has held holds counts p = λ _ left some.
       let s = setup_of config fates ack_fates in
       let c = final s p.reads in
-      let taken : min (length c.given) (2 ^ 64 - 1) ≡ counts.taken = ap (λ (o : Outcome). o.counts.taken) p.ends in
-      subst (λ (f : FrameCounts). (config.rounds ≤ f.lost + f.late) × (config.rounds ≤ f.lost + 1)) (ap (λ (o : Outcome). o.counts.frames) p.ends)
-      (law s p.reads (most_turns s p.reads) (record { outgoing = some; incoming = some; chunk = some; positions = omega (arith, taken, left) }) word
+      let bytes_read : min (length c.given) (2 ^ 64 - 1) ≡ counts.bytes_read = ap (λ (o : Outcome). o.counts.bytes_read) p.ends in
+      subst (λ (f : FrameCounts). (config.rounds ≤ f.lost + f.delayed) × (config.rounds ≤ f.lost + 1)) (ap (λ (o : Outcome). o.counts.frames) p.ends)
+      (law s p.reads (most_turns s p.reads) (record { outgoing = some; incoming = some; chunk = some; positions = omega (arith, bytes_read, left) }) word
       (ap (λ (o : Outcome). o.status) p.ends))
   enough_of (Err errors.ReadFailed) had has held holds counts p = λ e. absurd (both_ways false refl e)
   enough_of (Err errors.OutOfMemory) had has held holds counts p = λ e. absurd (both_ways false refl e)

@@ -13,34 +13,34 @@
 use Rattle.std.specs.Prelude.{ℕ, suc, ◌+◌, ◌*◌, ◌-◌, ◌^◌, ◌&&◌, ◌||◌, not, min, max, nat_lt, nat_le, nat_eq}
 use Rattle.std.specs.Prelude.{if◌then◌else◌, Bool, true, false}
 use Rattle.std.specs.Prelude.{List, [], ◌∷◌, ◌++◌, length, take, drop, flat_map}
-use Rattle.net_receiver.specs.Stored.{stored_next, fresh_stored, stored_after_read}
-use Rattle.net_copies.specs.Outgoing.{outgoing, end_of, room_of, with_written}
-use Rattle.net_copies.specs.Fates.{FatesSeen}
-use Rattle.net_copies.specs.Counting.{more, no_frames, round_trip_time, longest_wait}
+use Rattle.net_receiver.specs.ReceiverState.{next_position, fresh_receiver, receiver_after_read}
+use Rattle.net_copies.specs.SenderState.{sender_state, end_of, room_of, with_written}
+use Rattle.net_copies.specs.Fates.{FatesState}
+use Rattle.net_copies.specs.Counts.{more, no_frames, round_trip_time, longest_wait}
 use Rattle.net_copies.specs.declared.counts.Counts.{Counts}
 use Rattle.net_copies.specs.declared.config.Config.{Config}
 use Rattle.net_copies.specs.LinkState.{LinkState, times, round}
 
 -- the position of the stream's first byte; the most bytes of a frame's payload and the most frames
--- of a round; after how many rounds in a row that bring nothing on the copy gives up; the capacities of
--- the sender and of the receiver, and the most bytes that are read or written at once; and the fates
+-- of a round; after how many rounds in a row without progress the copy gives up; the capacities of the
+-- sender and of the receiver, and the most bytes that are read or written at once; and the fates
 pub record Setup : Type 0 where
   pub first : ℕ
   pub payload : ℕ
-  pub flight : ℕ
+  pub max_burst : ℕ
   pub rounds : ℕ
   pub outgoing : ℕ
   pub incoming : ℕ
   pub chunk : ℕ
-  pub fates : FatesSeen
-  pub ack_fates : FatesSeen
+  pub fates : FatesState
+  pub ack_fates : FatesState
 
 -- over buffers of these lengths
-abbrev pub setup_over : Config → ℕ → ℕ → ℕ → FatesSeen → FatesSeen → Setup
+abbrev pub setup_over : Config → ℕ → ℕ → ℕ → FatesState → FatesState → Setup
 setup_over config to_send to_receive chunk fates ack_fates = record {
   first = config.first;
   payload = config.payload;
-  flight = config.flight;
+  max_burst = config.max_burst;
   rounds = config.rounds;
   outgoing = to_send;
   incoming = to_receive;
@@ -50,11 +50,11 @@ setup_over config to_send to_receive chunk fates ack_fates = record {
 }
 
 -- over three buffers of the config's capacity
-abbrev pub setup_of : Config → FatesSeen → FatesSeen → Setup
+abbrev pub setup_of : Config → FatesState → FatesState → Setup
 setup_of config fates ack_fates =
     setup_over config config.capacity config.capacity config.capacity fates ack_fates
 
--- a copy goes on, or has ended: all is written, nothing came on any more, or a read failed
+-- a copy goes on, or has ended: all is written, it made no progress any more, or a read failed
 pub data Status : Type 0 where
   Running : Status
   Done : Status
@@ -63,7 +63,7 @@ pub data Status : Type 0 where
 
 -- the link; what the reads to come give, with no bytes at the input's end, and after them one that
 -- fails; what the reads gave so far, and whether there may be more; what was written; the rounds, how many
--- in a row brought nothing on, and how long the next one waits
+-- in a row made no progress, and how long the next one waits
 pub record CopyState : Type 0 where
   pub link : LinkState
   pub reads : List (List ℕ)
@@ -79,14 +79,14 @@ pub record CopyState : Type 0 where
 abbrev pub begin : Setup → List (List ℕ) → CopyState
 begin s reads = record {
   link = record {
-    sender = outgoing s.outgoing s.first [] [] (s.first + s.outgoing);
-    receiver = fresh_stored s.first s.incoming;
-    there = record { ahead = []; late = []; fates = s.fates };
-    back = record { ahead = []; late = []; fates = s.ack_fates };
+    sender = sender_state s.outgoing s.first [] [] (s.first + s.outgoing);
+    receiver = fresh_receiver s.first s.incoming;
+    forward = record { in_flight = []; delayed = []; fates = s.fates };
+    reverse = record { in_flight = []; delayed = []; fates = s.ack_fates };
     counts = no_frames;
     payload = s.payload;
-    limit = max s.flight 1;
-    flight = max s.flight 1;
+    max_burst = max s.max_burst 1;
+    burst = max s.max_burst 1;
     elapsed = 0;
   };
   reads = reads;
@@ -101,7 +101,7 @@ begin s reads = record {
 
 -- all that was read is written
 abbrev pub is_written : LinkState → Bool
-is_written l = nat_eq (stored_next l.receiver) (end_of l.sender) && nat_eq (length l.receiver.queue) 0
+is_written l = nat_eq (next_position l.receiver) (end_of l.sender) && nat_eq (length l.receiver.queue) 0
 
 -- ---- a turn
 -- what is left of the reads: a read gives no more than it has room for, and the next one the rest
@@ -138,20 +138,20 @@ decide rounds c =
     else if nat_le rounds c.stalled then record c { status = GaveUp }
     else c
 
--- whether a round that led from the link l to m brought something on: bytes were acknowledged, or there
+-- whether a round that led from the link l to m made progress: bytes were acknowledged, or there
 -- are some to write
-abbrev pub brings : ℕ → LinkState → LinkState → Bool
-brings chunk l m = not (nat_eq m.sender.base l.sender.base) || nat_lt 0 (min chunk (length m.receiver.queue))
+abbrev pub makes_progress : ℕ → LinkState → LinkState → Bool
+makes_progress chunk l m = not (nat_eq m.sender.first_unacknowledged l.sender.first_unacknowledged) || nat_lt 0 (min chunk (length m.receiver.queue))
 
 -- from the state `c` a round led to the link m: what the receiver has is written, and the next wait is
--- as long as what was brought on says
+-- as long as the progress of the round says
 abbrev pub hand_out : ℕ → CopyState → LinkState → CopyState
 hand_out chunk c m = record c {
-  link = record m { receiver = stored_after_read m.receiver chunk };
+  link = record m { receiver = receiver_after_read m.receiver chunk };
   written = c.written ++ take chunk m.receiver.queue;
   rounds = more c.rounds;
-  stalled = if brings chunk c.link m then 0 else c.stalled + 1;
-  wait = if brings chunk c.link m then round_trip_time else min (c.wait * 2) longest_wait;
+  stalled = if makes_progress chunk c.link m then 0 else c.stalled + 1;
+  wait = if makes_progress chunk c.link m then round_trip_time else min (c.wait * 2) longest_wait;
 }
 
 -- the link once the wait is over
@@ -189,8 +189,8 @@ outcome c = record {
   status = c.status;
   written = c.written;
   counts = record {
-    taken = min (length c.given) (2 ^ 64 - 1);
-    bytes = min (length c.written) (2 ^ 64 - 1);
+    bytes_read = min (length c.given) (2 ^ 64 - 1);
+    bytes_written = min (length c.written) (2 ^ 64 - 1);
     rounds = c.rounds;
     micros = c.link.elapsed;
     frames = c.link.counts;
@@ -201,7 +201,7 @@ outcome c = record {
 abbrev pub concat : List (List ℕ) → List ℕ
 concat lists = flat_map (λ xs. xs) lists
 
--- no more turns than this are made: each byte that is read is brought on twice, once at the writer and
+-- no more turns than this are made: each byte that is read makes for progress twice, once at the writer and
 -- once at the sender, with fewer than so many rounds before that, and the last turn makes no round
 abbrev pub most_turns : Setup → List (List ℕ) → ℕ
 most_turns s reads = suc ((2 * length (concat reads) + 1) * s.rounds)

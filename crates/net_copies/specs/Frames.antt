@@ -4,12 +4,12 @@
 --     Part      some bytes, and whether they are spared: then no frame has them
 --     frames_from p parts      the frames of parts that follow one another from position p on
 --     part_bytes parts      the bytes of parts
---     FrameSays f w frame      the frame brings nothing but what the stream w has
+--     FrameMatches f w frame      the frame brings nothing but what the stream w has
 --     FramesDecode, DistinctFrames      laws of frames
 use Rattle.std.specs.Prelude.{◌≡◌, ℕ, ◌+◌, ◌<◌, ◌^◌, if◌then◌else◌, nat_lt, Bool, true, false}
 use Rattle.std.specs.Prelude.{List, [], ◌∷◌, ◌++◌, length, take, drop, Option, Some, None}
 use Rattle.std.specs.Int.{w64, to_be_bytes, from_be_bytes}
-use Rattle.net_receiver.specs.OneStream.{Says}
+use Rattle.net_receiver.specs.OneStream.{MatchesStream}
 
 -- a position and its bytes as a frame
 abbrev pub frame_of : ℕ → List ℕ → List ℕ
@@ -40,11 +40,11 @@ frames_from p [] = []
 frames_from p ((true, xs) ∷ parts) = frames_from (p + length xs) parts
 frames_from p ((false, xs) ∷ parts) = frame_of p xs ∷ frames_from (p + length xs) parts
 
--- the bytes of parts, one behind the other
+-- the bytes of parts, one after the other
 abbrev pub part_bytes : List Part → List ℕ
 part_bytes [] = []
 part_bytes ((spared, xs) ∷ parts) = xs ++ part_bytes parts
 
 -- the frame brings nothing but what the stream w has, whose first byte has position f
-abbrev pub FrameSays : ℕ → List ℕ → List ℕ → Type 0
-FrameSays f w frame = (pos : ℕ) (xs : List ℕ) → segment_of frame ≡ Some (pos, xs) → Says f w pos xs
+abbrev pub FrameMatches : ℕ → List ℕ → List ℕ → Type 0
+FrameMatches f w frame = (pos : ℕ) (xs : List ℕ) → segment_of frame ≡ Some (pos, xs) → MatchesStream f w pos xs

@@ -6,33 +6,33 @@
 --     WritesPrefix, WritesAll      what is written is a prefix of what was read, and all of it in the end
 --     Ends      a copy ends after so many turns as `copied` makes
 --     before_round s reads n      the link when round n + 1 begins
---     BringsNothing s reads n      round n + 1 brings nothing on
---     GivesUpAfter, NeverLater      it gives up after `rounds` rounds in a row that bring nothing on
+--     MakesNoProgress s reads n      round n + 1 makes no progress
+--     GivesUpAfter, NeverLater      it gives up after `rounds` rounds in a row without progress
 --     frames_sent l, acks_sent l      how many frames and acknowledgements a round sends
---     Fails follow l      what fails in a round that brings nothing on
+--     Fails follow l      what fails in a round that makes no progress
 --     GivesUpIfFailed      it gives up only if each of these rounds failed
---     NoneLost v, NeverByDelays      delays and repeats alone never end it
+--     NoneLost v, NeverByDelays      delays and duplicates alone never end it
 --     EndsIfAllCome      over a link that loses and delays nothing it doesn't give up
 --     has_end reads, DoneIfAllCome      it is done, if the input's end comes
 --     CountsRounds, CountsEachFate      what the counts of rounds and of frames are
 --     GivesUpCounted, EnoughFailed, Unfinished      what a copy that gives up counts
 --     HasRoomAtOnce s, ExactRounds      the number of rounds where all comes at once
---     EnoughRounds, RoundsAtOnce      bounds where it is done, and where nothing is lost or late
+--     EnoughRounds, RoundsAtOnce      bounds where it is done, and where nothing is lost or delayed
 --     FewRounds, FewRoundsAnyway, FewFrames      bounds
---     RoundKeeps, FewLate      how much is late after a round
+--     RoundDelaysFew, FewDelayed      how much is delayed after a round
 --     HasEnded c, Stays, FinalIs, CopiedIs      an ended copy stays as it is, so that it is what comes of it
 --     EndsInOneTurn      it ended in the turn after those in which it went on
 --     Fills s reads      each read fills its room, but for the last one before the input's end
 --     SameBytes, AllAtOnce      then what comes of a copy depends on the bytes alone
 use Rattle.std.specs.Prelude.{Bool, true, false, ◌≡◌, ℕ, suc, ◌+◌, ◌-◌, ◌*◌, ◌<◌, ◌≤◌, ◌^◌, ◌⊎◌, min, List, [], ◌∷◌, ◌++◌, length}
 use Rattle.std.specs.Io.{StartsWith}
-use Rattle.net_copies.specs.Fates.{FatesSeen, next_fate, fates_after, AllCome}
+use Rattle.net_copies.specs.Fates.{FatesState, next_fate, fates_after, AllCome}
 use Rattle.net_copies.specs.declared.fate.Fate.TheVariants.{Lost}
-use Rattle.net_copies.specs.LinkState.{LinkState, transmit, late_frames, pass_frames, acknowledge_all, round}
+use Rattle.net_copies.specs.LinkState.{LinkState, transmit, delayed_frames, pass_frames, acknowledge_all, round}
 use Rattle.net_copies.specs.CopyState.{Setup, CopyState, Running, Done, GaveUp, feed, waited, while_running}
 use Rattle.net_copies.specs.CopyState.{is_written, room_for, after, outcome, final, copied}
-use Rattle.net_copies.specs.Rounds.{CountsFates}
-use Rattle.net_copies.specs.Outgoing.{at_least_one}
+use Rattle.net_copies.specs.FateCounts.{CountsFates}
+use Rattle.net_copies.specs.SenderState.{at_least_one}
 use Rattle.net_copies.specs.Stuck.{FatesFail}
 
 abbrev pub StartsFits : Setup → Type 0
@@ -69,34 +69,34 @@ abbrev pub before_round : Setup → List (List ℕ) → ℕ → LinkState
 before_round s reads n = waited (while_running (feed s.chunk) (after s reads n))
 
 -- no byte was acknowledged, and none was written
-abbrev pub BringsNothing : Setup → List (List ℕ) → ℕ → Type 0
-BringsNothing s reads n =
-    ((after s reads (suc n)).link.sender.base ≡ (after s reads n).link.sender.base)
+abbrev pub MakesNoProgress : Setup → List (List ℕ) → ℕ → Type 0
+MakesNoProgress s reads n =
+    ((after s reads (suc n)).link.sender.first_unacknowledged ≡ (after s reads n).link.sender.first_unacknowledged)
     × ((after s reads (suc n)).written ≡ (after s reads n).written)
 
--- where turn n + 1 gives up, n rounds were made, and each of the last `rounds` of them brought nothing on
+-- where turn n + 1 gives up, n rounds were made, and each of the last `rounds` of them made no progress
 abbrev pub GivesUpAfter : Type 0
 GivesUpAfter = (s : Setup) (reads : List (List ℕ)) (n : ℕ) →
     (after s reads n).status ≡ Running → (after s reads (suc n)).status ≡ GaveUp →
-    (s.rounds ≤ n) × ((k : ℕ) → n ≤ k + s.rounds → k < n → BringsNothing s reads k)
+    (s.rounds ≤ n) × ((k : ℕ) → n ≤ k + s.rounds → k < n → MakesNoProgress s reads k)
 
--- as long as a copy goes on, it never made more than `rounds` rounds in a row that brought nothing on
+-- as long as a copy goes on, it never made more than `rounds` rounds in a row without progress
 abbrev pub NeverLater : Type 0
 NeverLater = (s : Setup) (reads : List (List ℕ)) (n : ℕ) →
     (after s reads n).status ≡ Running → s.rounds < n →
-    ((k : ℕ) → n ≤ k + suc s.rounds → k < n → BringsNothing s reads k) → ⊥
+    ((k : ℕ) → n ≤ k + suc s.rounds → k < n → MakesNoProgress s reads k) → ⊥
 
 -- how many frames a round sends that begins with this link, and how many acknowledgements
 abbrev pub frames_sent : LinkState → ℕ
-frames_sent l = length (transmit l).there.ahead
+frames_sent l = length (transmit l).forward.in_flight
 
 abbrev pub acks_sent : LinkState → ℕ
-acks_sent l = length (acknowledge_all (pass_frames (late_frames (transmit l)))).back.ahead
+acks_sent l = length (acknowledge_all (pass_frames (delayed_frames (transmit l)))).reverse.in_flight
 
 -- of the frames of such a round the first doesn't come at once, or none of its acknowledgements does; and
 -- that frame or all of them are lost, if more such rounds follow
 abbrev pub Fails : ℕ → LinkState → Type 0
-Fails follow l = FatesFail follow (frames_sent l) (acks_sent l) l.there.fates l.back.fates
+Fails follow l = FatesFail follow (frames_sent l) (acks_sent l) l.forward.fates l.reverse.fates
 
 abbrev pub GivesUpIfFailed : Type 0
 GivesUpIfFailed = (s : Setup) (reads : List (List ℕ)) (n : ℕ) → CanPass s (after s reads (suc n)) →
@@ -104,7 +104,7 @@ GivesUpIfFailed = (s : Setup) (reads : List (List ℕ)) (n : ℕ) → CanPass s 
     (k : ℕ) → n ≤ k + s.rounds → k < n → Fails (n - suc k) (before_round s reads k)
 
 -- no frame is lost that meets these fates
-abbrev pub NoneLost : FatesSeen → Type 0
+abbrev pub NoneLost : FatesState → Type 0
 NoneLost v = (n : ℕ) → next_fate (fates_after n v) ≡ Lost → ⊥
 
 abbrev pub NeverByDelays : Type 0
@@ -145,11 +145,11 @@ abbrev pub GivesUpCounted : Type 0
 GivesUpCounted = (s : Setup) (reads : List (List ℕ)) (n : ℕ) → s.rounds < 2 ^ 64 →
     (after s reads n).status ≡ GaveUp → s.rounds ≤ (after s reads n).rounds
 
--- at least as many frames and acknowledgements were then lost or late, and all but one lost
+-- at least as many frames and acknowledgements were then lost or delayed, and all but one lost
 abbrev pub EnoughFailed : Type 0
 EnoughFailed = (s : Setup) (reads : List (List ℕ)) (n : ℕ) → CanPass s (after s reads n) →
     s.rounds < 2 ^ 64 → (after s reads n).status ≡ GaveUp →
-    (s.rounds ≤ (after s reads n).link.counts.lost + (after s reads n).link.counts.late)
+    (s.rounds ≤ (after s reads n).link.counts.lost + (after s reads n).link.counts.delayed)
     × (s.rounds ≤ (after s reads n).link.counts.lost + 1)
 
 -- it hasn't written all that was read, if that was less than the sender has room for
@@ -172,7 +172,7 @@ most_read s = min s.outgoing s.chunk
 pub record HasRoomAtOnce (s : Setup) : Type 0 where
   pub some : 0 < most_read s
   pub incoming : most_read s ≤ s.incoming
-  pub frames : most_read s ≤ at_least_one s.flight * at_least_one s.payload
+  pub frames : most_read s ≤ at_least_one s.max_burst * at_least_one s.payload
 
 -- over such a link that loses and delays nothing, for a reader that gives all that there is room for, a
 -- copy makes as many rounds as such reads have the bytes
@@ -189,11 +189,11 @@ RoundsAtOnce = (s : Setup) (reads : List (List ℕ)) (n : ℕ) → CanPass s (af
     (after s reads n).rounds ≤ length (after s reads n).given
 
 -- two rounds for each byte that was read, and one for each frame or acknowledgement that was lost or
--- late
+-- delayed
 abbrev pub FewRounds : Type 0
 FewRounds = (s : Setup) (reads : List (List ℕ)) (n : ℕ) → CanPass s (after s reads n) →
     (after s reads n).rounds ≤ 2 * length (after s reads n).given
-    + (after s reads n).link.counts.lost + (after s reads n).link.counts.late
+    + (after s reads n).link.counts.lost + (after s reads n).link.counts.delayed
 
 -- whatever the link does
 abbrev pub FewRoundsAnyway : Type 0
@@ -204,22 +204,22 @@ FewRoundsAnyway = (s : Setup) (reads : List (List ℕ)) (n : ℕ) → StartsFits
 abbrev pub FewFrames : Type 0
 FewFrames = (s : Setup) (reads : List (List ℕ)) (n : ℕ) →
     (after s reads n).link.counts.sent
-    ≤ (after s reads n).rounds * (3 * (after s reads n).link.limit + 1)
+    ≤ (after s reads n).rounds * (3 * (after s reads n).link.max_burst + 1)
 
--- no frame waits on its way between rounds, and no more are late than one round sends
-pub record FewLate (l : LinkState) : Type 0 where
-  pub ahead : l.there.ahead ≡ []
-  pub ahead_back : l.back.ahead ≡ []
-  pub late : length l.there.late ≤ l.limit
-  pub late_back : length l.back.late ≤ 2 * l.limit + 1
-  pub flight : l.flight ≤ l.limit
-  pub some : 0 < l.limit
+-- no frame is in flight between rounds, and no more are delayed than one round sends
+pub record FewDelayed (l : LinkState) : Type 0 where
+  pub in_flight : l.forward.in_flight ≡ []
+  pub in_flight_reverse : l.reverse.in_flight ≡ []
+  pub delayed : length l.forward.delayed ≤ l.max_burst
+  pub delayed_reverse : length l.reverse.delayed ≤ 2 * l.max_burst + 1
+  pub burst : l.burst ≤ l.max_burst
+  pub some : 0 < l.max_burst
 
-abbrev pub RoundKeeps : Type 0
-RoundKeeps = (l : LinkState) → FewLate l → FewLate (round l)
+abbrev pub RoundDelaysFew : Type 0
+RoundDelaysFew = (l : LinkState) → FewDelayed l → FewDelayed (round l)
 
-abbrev pub CopyKeeps : Type 0
-CopyKeeps = (s : Setup) (reads : List (List ℕ)) (n : ℕ) → FewLate (after s reads n).link
+abbrev pub CopyDelaysFew : Type 0
+CopyDelaysFew = (s : Setup) (reads : List (List ℕ)) (n : ℕ) → FewDelayed (after s reads n).link
 
 -- ---- an ended copy
 abbrev pub HasEnded : CopyState → Type 0

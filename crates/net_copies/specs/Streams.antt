@@ -1,21 +1,20 @@
 -- What follows of the stream on a link, from the functions alone.
 --     Known      what other laws say of frames, of held runs and of receivers
---     CarriesWithin f w l      the stream w, whose first byte has position f, is on its way, and its
---         positions fit 64 bits
---     RoundCarries, StopCarries      laws: over a round it stays so, and where a round lacked memory
+--     LinkInvariantFits f w l      the invariant of a link, whose positions fit 64 bits
+--     RoundKeepsInvariant, StopKeepsInvariant      laws: a round keeps it, and so does one that lacked memory
 --     Writes f g c      of the bytes g that were read, those that the receiver gave out are written
 --     ReadWrites, PassWrites, AllWritten      laws: so it stays over a read and over a round, and where
 --         all is written, that is all that was read
 use Rattle.std.specs.Prelude.{◌≡◌, ℕ, ◌<◌, ◌^◌, true, List, take}
 use Rattle.net_assembler.specs.AssemblerLaws.{MembersOfList, MaximalRunsOfEverySet}
-use Rattle.net_receiver.specs.OneStream.{SaysWhatIsThere, SaysOfLonger, FreshReceivesFrom}
+use Rattle.net_receiver.specs.OneStream.{MatchesWhatIsThere, MatchesLonger, FreshReceivesFrom}
 use Rattle.net_receiver.specs.OneStream.{ReceivesFromLonger, SegmentReceives, HeldIsOfStream}
 use Rattle.net_receiver.specs.OneStream.{QueueIsOfStream, NextGrows, SegmentReadsNothing}
-use Rattle.net_receiver.specs.Reading.{ReadReceives, ReadLeavesNext, ReadLeavesHas}
-use Rattle.net_receiver.specs.Retransmission.{HasStays}
-use Rattle.net_copies.specs.Outgoing.{end_of}
+use Rattle.net_receiver.specs.ReadLaws.{ReadReceives, ReadLeavesNext, ReadLeavesBytes}
+use Rattle.net_receiver.specs.Retransmission.{HasByteStays}
+use Rattle.net_copies.specs.SenderState.{end_of}
 use Rattle.net_copies.specs.Frames.{FramesDecode}
-use Rattle.net_copies.specs.Links.{Carries}
+use Rattle.net_copies.specs.LinkInvariant.{LinkInvariant}
 use Rattle.net_copies.specs.LinkState.{LinkState, round, StopsRound}
 use Rattle.net_copies.specs.CopyState.{CopyState, room_for, with_read, pass, is_written}
 
@@ -24,8 +23,8 @@ pub record Known : Type 0 where
   pub decode : FramesDecode
   pub members : MembersOfList
   pub maximal : MaximalRunsOfEverySet
-  pub says : SaysWhatIsThere
-  pub says_longer : SaysOfLonger
+  pub says : MatchesWhatIsThere
+  pub says_longer : MatchesLonger
   pub fresh : FreshReceivesFrom
   pub longer : ReceivesFromLonger
   pub segment : SegmentReceives
@@ -33,27 +32,27 @@ pub record Known : Type 0 where
   pub queue : QueueIsOfStream
   pub next : NextGrows
   pub reads_nothing : SegmentReadsNothing
-  pub has : HasStays
+  pub has : HasByteStays
   pub read_receives : ReadReceives
   pub read_next : ReadLeavesNext
-  pub read_has : ReadLeavesHas
+  pub read_has : ReadLeavesBytes
 
 -- ---- a round
-pub record CarriesWithin (f : ℕ) (w : List ℕ) (l : LinkState) : Type 0 where
-  pub way : Carries f w l
+pub record LinkInvariantFits (f : ℕ) (w : List ℕ) (l : LinkState) : Type 0 where
+  pub way : LinkInvariant f w l
   pub fits : end_of l.sender < 2 ^ 64
 
-abbrev pub RoundCarries : Type 0
-RoundCarries = (f : ℕ) (w : List ℕ) (l : LinkState) → CarriesWithin f w l → CarriesWithin f w (round l)
+abbrev pub RoundKeepsInvariant : Type 0
+RoundKeepsInvariant = (f : ℕ) (w : List ℕ) (l : LinkState) → LinkInvariantFits f w l → LinkInvariantFits f w (round l)
 
-abbrev pub StopCarries : Type 0
-StopCarries = (f : ℕ) (w : List ℕ) (l m : LinkState) → StopsRound l m →
-    CarriesWithin f w l → CarriesWithin f w m
+abbrev pub StopKeepsInvariant : Type 0
+StopKeepsInvariant = (f : ℕ) (w : List ℕ) (l m : LinkState) → StopsRound l m →
+    LinkInvariantFits f w l → LinkInvariantFits f w m
 
 -- ---- a turn
 -- what was written is what the receiver gave out of the bytes that were read
 pub record Writes (f : ℕ) (g : List ℕ) (c : CopyState) : Type 0 where
-  pub carries : CarriesWithin f g c.link
+  pub carries : LinkInvariantFits f g c.link
   pub written : c.written ≡ take c.link.receiver.read g
 
 abbrev pub ReadWrites : Type 0

@@ -1,97 +1,97 @@
--- Rounds that bring nothing on.
+-- Rounds that make no progress.
 --     failures counts, losses counts      how many frames and acknowledgements didn't come at once,
 --                                         and how many were lost
 --     RoundLeaves old new      what a round leaves as it was, or lets grow
 --     HasFailed follow fate, FatesFail follow frames acks v v'      what fails in a stuck round
---     IsDue link      what comes late brings the next round on
+--     IsDue link      what is delayed makes for progress in the next round
 --     IsStuck frames acks old new      a round in which a frame or an acknowledgement failed that had to
 --                                      come
---     BringsOnOrIsStuck frames acks old new      a round that brings nothing on was stuck
+--     ProgressesOrIsStuck frames acks old new      a round that makes no progress was stuck
 --     KnownOfRounds      what other laws say of frames and of receivers
 use Rattle.std.specs.Prelude.{◌≡◌, ◌⊎◌, ℕ, zero, suc, ◌+◌, ◌-◌, ◌<◌, ◌≤◌, ◌^◌, min}
 use Rattle.std.specs.Prelude.{false, List, [], ◌∷◌, length, Some}
-use Rattle.net_receiver.specs.Stored.{stored_next}
+use Rattle.net_receiver.specs.ReceiverState.{next_position}
 use Rattle.net_copies.specs.declared.counts.FrameCounts.{FrameCounts}
 use Rattle.net_copies.specs.LinkState.{LinkState}
 use Rattle.net_copies.specs.declared.fate.Fate.{Fate}
-use Rattle.net_copies.specs.Outgoing.{end_of}
+use Rattle.net_copies.specs.SenderState.{end_of}
 use Rattle.net_copies.specs.Frames.{segment_of}
-use Rattle.net_copies.specs.Fates.{FatesSeen, next_fate, after_fate, fates_after, comes, comes_late}
-use Rattle.net_copies.specs.Progress.{limit_of}
+use Rattle.net_copies.specs.Fates.{FatesState, next_fate, after_fate, fates_after, comes, comes_delayed}
+use Rattle.net_copies.specs.Reach.{limit_of}
 use Rattle.net_receiver.specs.OneStream.{FirstStays, CapacityStays}
 use Rattle.net_receiver.specs.Retransmission.{InOrderReaches}
 use Rattle.net_receiver.specs.Soundness.{FreshIsSound, SoundStays}
-use Rattle.net_copies.specs.Links.{Carries}
+use Rattle.net_copies.specs.LinkInvariant.{LinkInvariant}
 use Rattle.net_copies.specs.Streams.{Known}
 
 -- how many frames and acknowledgements didn't come at once, as far as 64 bits go
 abbrev pub failures : FrameCounts → ℕ
-failures c = min c.lost (2 ^ 64 - 1) + min c.late (2 ^ 64 - 1)
+failures c = min c.lost (2 ^ 64 - 1) + min c.delayed (2 ^ 64 - 1)
 
 -- how many of them were lost
 abbrev pub losses : FrameCounts → ℕ
 losses c = min c.lost (2 ^ 64 - 1)
 
--- what a round leaves: nothing is on its way but what is late, and no number falls
+-- what a round leaves: nothing is in flight, and no number falls
 pub record RoundLeaves (old new : LinkState) : Type 0 where
-  pub ahead : new.there.ahead ≡ []
-  pub ahead_back : new.back.ahead ≡ []
+  pub in_flight : new.forward.in_flight ≡ []
+  pub in_flight_reverse : new.reverse.in_flight ≡ []
   pub end : end_of new.sender ≡ end_of old.sender
-  pub base : old.sender.base ≤ new.sender.base
+  pub first_unacknowledged : old.sender.first_unacknowledged ≤ new.sender.first_unacknowledged
   pub sender_capacity : new.sender.capacity ≡ old.sender.capacity
   pub first : new.receiver.first ≡ old.receiver.first
   pub read : new.receiver.read ≡ old.receiver.read
   pub receiver_capacity : new.receiver.capacity ≡ old.receiver.capacity
-  pub grows : stored_next old.receiver ≤ stored_next new.receiver
+  pub grows : next_position old.receiver ≤ next_position new.receiver
 
 -- the fate of a frame in a stuck round that so many stuck rounds follow: it doesn't come at once, and
--- doesn't come late either if any follows, so that it is lost
+-- isn't delayed either if any follows, so that it is lost
 abbrev pub HasFailed : ℕ → Fate → Type 0
-HasFailed follow fate = (comes fate ≡ false) × (0 < follow → comes_late fate ≡ false)
+HasFailed follow fate = (comes fate ≡ false) × (0 < follow → comes_delayed fate ≡ false)
 
 -- so fails each of the next n frames
-abbrev pub AllFail : ℕ → ℕ → FatesSeen → Type 0
+abbrev pub AllFail : ℕ → ℕ → FatesState → Type 0
 AllFail follow zero v = Unit {0}
 AllFail follow (suc n) v = HasFailed follow (next_fate v) × AllFail follow n (after_fate v)
 
 -- in a round that so many stuck rounds follow: of its frames, which meet the next fates of v, the
 -- first fails, or of its acknowledgements, which meet those of v', each does
-abbrev pub FatesFail : ℕ → ℕ → ℕ → FatesSeen → FatesSeen → Type 0
+abbrev pub FatesFail : ℕ → ℕ → ℕ → FatesState → FatesState → Type 0
 FatesFail follow frames acks v v' =
     ((0 < frames) × HasFailed follow (next_fate v)) ⊎ ((0 < acks) × AllFail follow acks v')
 
--- the first of some frames says a position and bytes of which P is true: where they begin and end
-abbrev pub FirstSays : List (List ℕ) → (ℕ → ℕ → Type 0) → Type 0
-FirstSays frames P = (frame : List ℕ) × (rest : List (List ℕ)) × (pos : ℕ) × (xs : List ℕ)
+-- the first of some frames has a position and bytes of which P is true: where they begin and end
+abbrev pub FirstMatches : List (List ℕ) → (ℕ → ℕ → Type 0) → Type 0
+FirstMatches frames P = (frame : List ℕ) × (rest : List (List ℕ)) × (pos : ℕ) × (xs : List ℕ)
     × (frames ≡ frame ∷ rest) × (segment_of frame ≡ Some (pos, xs)) × P pos (pos + length xs)
 
--- what comes late brings the next round on: the first late frame has the byte that the receiver
--- lacks, or the first late acknowledgement is of more than the sender knows of
+-- what is delayed makes for progress in the next round: the first delayed frame has the byte that the
+-- receiver lacks, or the first delayed acknowledgement is of more than the sender knows of
 abbrev pub IsDue : LinkState → Type 0
 IsDue link =
-    FirstSays link.there.late (λ p e. (p ≤ stored_next link.receiver)
-    × (stored_next link.receiver < e) × (e < 2 ^ 64))
-    ⊎ FirstSays link.back.late (λ p e. (link.sender.base < p) × (p ≤ end_of link.sender))
+    FirstMatches link.forward.delayed (λ p e. (p ≤ next_position link.receiver)
+    × (next_position link.receiver < e) × (e < 2 ^ 64))
+    ⊎ FirstMatches link.reverse.delayed (λ p e. (link.sender.first_unacknowledged < p) × (p ≤ end_of link.sender))
 
--- a round of so many frames and acknowledgements that was stuck, and counted it: by a loss, or what
--- came late brings the next one on
+-- a round of so many frames and acknowledgements that was stuck, and counted it: by a loss, or what was
+-- delayed makes for progress in the next one
 pub record IsStuck (frames acks : ℕ) (old new : LinkState) : Type 0 where
-  pub why : FatesFail 0 frames acks old.there.fates old.back.fates
-  pub left : new.there.fates ≡ fates_after frames old.there.fates
-  pub left_back : new.back.fates ≡ fates_after acks old.back.fates
+  pub why : FatesFail 0 frames acks old.forward.fates old.reverse.fates
+  pub left : new.forward.fates ≡ fates_after frames old.forward.fates
+  pub left_reverse : new.reverse.fates ≡ fates_after acks old.reverse.fates
   pub counted : min (failures old.counts + 1) (2 ^ 64 - 1) ≤ failures new.counts
   pub not_due : IsDue old → ⊥
-  pub lost : (FatesFail 1 frames acks old.there.fates old.back.fates
+  pub lost : (FatesFail 1 frames acks old.forward.fates old.reverse.fates
       × (min (losses old.counts + 1) (2 ^ 64 - 1) ≤ losses new.counts))
       ⊎ (IsDue new × (losses old.counts ≤ losses new.counts))
 
--- a round that began with nothing on its way but what is late, and brought neither the receiver nor
--- the sender on, was stuck
-abbrev pub BringsOnOrIsStuck : ℕ → ℕ → LinkState → LinkState → Type 0
-BringsOnOrIsStuck frames acks old new = (f : ℕ) (w : List ℕ) → Carries f w old
-    → old.there.ahead ≡ [] → old.back.ahead ≡ [] → 0 < length old.sender.queue
-    → stored_next old.receiver < limit_of old.receiver
-    → stored_next new.receiver ≡ stored_next old.receiver → new.sender.base ≡ old.sender.base
+-- a round that began with nothing to come but what is delayed, and in which neither the receiver nor the
+-- sender made progress, was stuck
+abbrev pub ProgressesOrIsStuck : ℕ → ℕ → LinkState → LinkState → Type 0
+ProgressesOrIsStuck frames acks old new = (f : ℕ) (w : List ℕ) → LinkInvariant f w old
+    → old.forward.in_flight ≡ [] → old.reverse.in_flight ≡ [] → 0 < length old.sender.queue
+    → next_position old.receiver < limit_of old.receiver
+    → next_position new.receiver ≡ next_position old.receiver → new.sender.first_unacknowledged ≡ old.sender.first_unacknowledged
     → IsStuck frames acks old new
 
 -- what other laws say of frames and of receivers

@@ -1,4 +1,4 @@
-//! What a copy goes by.
+//! The config of a copy.
 
 /// What a copy goes by.
 #[derive(Debug, Clone, Copy, PartialEq, Eq, Drop)]
@@ -10,10 +10,10 @@ pub struct Config {
     /// The most bytes of a frame's payload; 0 counts as 1.
     pub payload: u32,
     /// The most frames that a round sends, new or again; 0 counts as 1. A copy takes memory for at
-    /// most so many frames on their way and as many late ones, and for at most twice as many
-    /// acknowledgements and one more, on their way and late each.
-    pub flight: u32,
-    /// After how many rounds in a row in which nothing was written and nothing let go a copy gives
-    /// up: with 0 before the first.
+    /// most so many frames in flight and as many delayed ones, and for at most twice as many
+    /// acknowledgements and one more, in flight and delayed each.
+    pub max_burst: u32,
+    /// After how many rounds in a row in which nothing was written and nothing acknowledged a copy
+    /// gives up: with 0 before the first.
     pub rounds: u64,
 }

@@ -1,6 +1,6 @@
-//! What is counted of a copy, and of the frames of a link.
+//! The counts of a copy, and of the frames of a link.
 ghost use Rattle.std.specs.Prelude.{◌≡◌, ◌-◌, if◌then◌else◌};
-ghost use Rattle.net_copies.specs.Counting.{more, with_fate, no_frames, no_counts};
+ghost use Rattle.net_copies.specs.Counts.{more, with_fate, no_frames, no_counts};
 
 use crate::fate::Fate;
 
@@ -13,16 +13,16 @@ pub struct FrameCounts {
     pub payload: u64,
     /// How many frames were lost.
     pub lost: u64,
-    /// How many frames were repeated.
-    pub repeated: u64,
-    /// How many frames came only in the next round.
-    pub late: u64,
+    /// How many frames were duplicated.
+    pub duplicated: u64,
+    /// How many frames were delayed: they came only in the next round.
+    pub delayed: u64,
     /// How many segments the receiver refused.
     pub refused: u64,
 }
 
 impl FrameCounts {
-    /// No frame is counted yet.
+    /// Returns counts of no frame.
     pub fn new() -> FrameCounts
         ensures { result ≡ no_frames }
     {
@@ -30,8 +30,8 @@ impl FrameCounts {
             sent: 0,
             payload: 0,
             lost: 0,
-            repeated: 0,
-            late: 0,
+            duplicated: 0,
+            delayed: 0,
             refused: 0,
         }
     }
@@ -44,8 +44,8 @@ impl FrameCounts {
         match fate {
             Fate::Delivered => {}
             Fate::Lost => self.lost = self.lost.saturating_add(1),
-            Fate::Repeated => self.repeated = self.repeated.saturating_add(1),
-            Fate::Late => self.late = self.late.saturating_add(1),
+            Fate::Duplicated => self.duplicated = self.duplicated.saturating_add(1),
+            Fate::Delayed => self.delayed = self.delayed.saturating_add(1),
         }
     }
 
@@ -64,9 +64,9 @@ impl FrameCounts {
 #[derive(Debug, Clone, Copy, PartialEq, Eq, Drop)]
 pub struct Counts {
     /// How many bytes the reader gave.
-    pub taken: u64,
+    pub bytes_read: u64,
     /// How many bytes the writer took.
-    pub bytes: u64,
+    pub bytes_written: u64,
     /// How many rounds were begun.
     pub rounds: u64,
     /// How many microseconds the rounds took, in simulated time.
@@ -76,13 +76,13 @@ pub struct Counts {
 }
 
 impl Counts {
-    /// Nothing is counted yet.
+    /// Returns counts of nothing.
     pub fn new() -> Counts
         ensures { result ≡ no_counts }
     {
         Counts {
-            taken: 0,
-            bytes: 0,
+            bytes_read: 0,
+            bytes_written: 0,
             rounds: 0,
             micros: 0,
             frames: FrameCounts::new(),
@@ -92,8 +92,8 @@ impl Counts {
     /// Returns how many bytes were sent more than once: what frames carried beyond what the reader
     /// gave.
     pub fn sent_again(&self) -> u64
-        ensures { result ≡ self.now.frames.payload - self.now.taken }
+        ensures { result ≡ self.now.frames.payload - self.now.bytes_read }
     {
-        self.frames.payload.saturating_sub(self.taken)
+        self.frames.payload.saturating_sub(self.bytes_read)
     }
 }

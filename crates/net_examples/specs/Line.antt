@@ -2,11 +2,11 @@
 use Rattle.std.specs.Prelude.{List, ℕ}
 use Rattle.std.specs.Borrow.{MutBor, Fml, Lends, RattleType, Array, u8}
 use Rattle.net_ring.specs.Ring.{with_elements, spare_index}
-use Rattle.net_ring.specs.declared.managed.Elements.{Ghosts}
+use Rattle.net_ring.specs.declared.managed.Storage.{Ghosts}
 use Rattle.net_examples.specs.declared.line.Line.{Line}
 use Rattle.net_examples.specs.contracts.line.Line.{the_row}
 
--- the line with the last bytes behind r written over its free bytes from the one at i on
+-- the line with the last bytes after r written over its free bytes from the one at i on
 abbrev pub lends_free : (S : RattleType) (g : Ghosts S.Denot ℕ)
     → MutBor (Line S.Denot) → ℕ → MutBor (List ℕ) → Fml
 lends_free S g s i r = Lends (the_row S g) (Array u8 0) s r

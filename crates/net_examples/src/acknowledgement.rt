@@ -1,7 +1,7 @@
 ghost use Rattle.std.specs.Prelude.{◌≡◌, ℕ, ◌+◌, ◌-◌, ◌<◌, ◌^◌, List, length, min};
-ghost use Rattle.net_receiver.specs.OneStream.{ReceivesFrom, Says};
+ghost use Rattle.net_receiver.specs.OneStream.{ReceivesFrom, MatchesStream};
 ghost use Rattle.net_receiver.specs.SequenceNumbers.{number_at, IsNear};
-ghost use Rattle.net_receiver.specs.Stored.{stored_next};
+ghost use Rattle.net_receiver.specs.ReceiverState.{next_position};
 
 use net_receiver::{Receiver, SequenceNumber};
 
@@ -16,11 +16,12 @@ pub fn acknowledge(
     number: SequenceNumber,
     payload: &[u8],
 ) -> (SequenceNumber, u16)
-    ensures number { result.0 ≡ number_at initial (stored_next receiver.new) }
+    ensures number { result.0 ≡ number_at initial (next_position receiver.new) }
     ensures window { result.1 ≡ min 65535 (receiver.new.capacity - length receiver.new.queue) }
     ensures receives { (x : List ℕ) (pos : ℕ) → pos + length payload.now < 2 ^ 64 →
-        IsNear (stored_next receiver.old) pos → number_at initial pos ≡ number →
-        ReceivesFrom 0 x receiver.old → Says 0 x pos payload.now → ReceivesFrom 0 x receiver.new }
+        IsNear (next_position receiver.old) pos → number_at initial pos ≡ number →
+        ReceivesFrom 0 x receiver.old → MatchesStream 0 x pos payload.now →
+        ReceivesFrom 0 x receiver.new }
 {
     if let Some(pos) = number.position(initial, receiver.next()) {
         if Receiver::<4>::fits(pos, payload.len()) {

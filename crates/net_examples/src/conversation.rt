@@ -1,5 +1,5 @@
 ghost use Rattle.std.specs.Prelude.{◌≡◌, ◌≤◌, [], ℕ, List, length, take, IfOk, IfSome};
-ghost use Rattle.net_stream.specs.Links.{Carries};
+ghost use Rattle.net_stream.specs.LinkInvariant.{LinkInvariant};
 ghost use Rattle.net_examples.specs.Conversation.{AgreeBelow};
 
 use net_base::time::Duration;
@@ -20,8 +20,8 @@ pub fn ask<A: Allocator + Copy>(
     at_client: &mut [u8],
     rounds: u32,
 ) -> Result<Option<usize>, AllocError>
-    requires to_server { Carries 0 [] to_server.old × (to_server.old.receiver.read ≡ 0) }
-    requires to_client { Carries 0 [] to_client.old × (to_client.old.receiver.read ≡ 0) }
+    requires to_server { LinkInvariant 0 [] to_server.old × (to_server.old.receiver.read ≡ 0) }
+    requires to_client { LinkInvariant 0 [] to_client.old × (to_client.old.receiver.read ≡ 0) }
     ensures request { IfOk result (λ came. IfSome came
         (λ _. AgreeBelow (length request.now) at_server.new request.now)) }
     ensures reply { IfOk result (λ came. IfSome came
@@ -42,7 +42,7 @@ fn deliver<A: Allocator + Copy>(
     into: &mut [u8],
     rounds: u32,
 ) -> Result<usize, AllocError>
-    requires fresh { Carries 0 [] link.old × (link.old.receiver.read ≡ 0) }
+    requires fresh { LinkInvariant 0 [] link.old × (link.old.receiver.read ≡ 0) }
     ensures came { IfOk result
         (λ count. (count ≤ length text.now) × AgreeBelow count into.new text.now) }
 {
@@ -59,8 +59,8 @@ fn deliver<A: Allocator + Copy>(
 /// Writes more of a text, of which `from` bytes were written. Returns how many are then.
 fn write_more<A: Allocator + Copy>(link: &mut Link<'_, '_, A>, text: &[u8], from: usize) -> usize
     requires { from ≤ length text.now }
-    ensures carries { Carries 0 (take from text.now) link.old →
-        Carries 0 (take result text.now) link.new }
+    ensures carries { LinkInvariant 0 (take from text.now) link.old →
+        LinkInvariant 0 (take result text.now) link.new }
     ensures within { (from ≤ result) × (result ≤ length text.now) }
     ensures read { link.new.receiver.read ≡ link.old.receiver.read }
 {
@@ -69,7 +69,7 @@ fn write_more<A: Allocator + Copy>(link: &mut Link<'_, '_, A>, text: &[u8], from
 
 /// A round, and the time that it takes.
 fn pass<A: Allocator + Copy>(link: &mut Link<'_, '_, A>) -> Result<(), AllocError>
-    ensures carries { (w : List ℕ) → Carries 0 w link.old → Carries 0 w link.new }
+    ensures carries { (w : List ℕ) → LinkInvariant 0 w link.old → LinkInvariant 0 w link.new }
     ensures read { link.new.receiver.read ≡ link.old.receiver.read }
 {
     link.pass_round()?;
@@ -80,10 +80,10 @@ fn pass<A: Allocator + Copy>(link: &mut Link<'_, '_, A>) -> Result<(), AllocErro
 /// Reads more into a buffer, into which `from` bytes were read. Returns how many were then.
 fn read_more<A: Allocator + Copy>(link: &mut Link<'_, '_, A>, into: &mut [u8], from: usize) -> usize
     requires { (from ≤ length into.old) × (link.old.receiver.read ≡ from) }
-    ensures carries { (w : List ℕ) → Carries 0 w link.old → Carries 0 w link.new }
-    ensures prefix { (n : ℕ) (text : List ℕ) → Carries 0 (take n text) link.old →
+    ensures carries { (w : List ℕ) → LinkInvariant 0 w link.old → LinkInvariant 0 w link.new }
+    ensures prefix { (n : ℕ) (text : List ℕ) → LinkInvariant 0 (take n text) link.old →
         AgreeBelow from into.old text → AgreeBelow result into.new text }
-    ensures written { (w : List ℕ) → Carries 0 w link.old → result ≤ length w }
+    ensures written { (w : List ℕ) → LinkInvariant 0 w link.old → result ≤ length w }
     ensures within { (result ≤ length into.new) × (length into.new ≡ length into.old) }
     ensures read { link.new.receiver.read ≡ result }
 {

@@ -3,7 +3,7 @@ ghost use Rattle.std.specs.Prelude.{IsSome};
 
 use net_packets::{PacketBuffer, PacketMetadata};
 use net_ring::{Empty, ManagedSlice};
-use net_uses::{Endpoint, UdpSocket};
+use net_sockets::{Endpoint, UdpSocket};
 
 /// A datagram comes in at a socket over arrays, and is received: as much of it as `into` has room
 /// for. `None` exactly if it has more than the 64 bytes that the socket has room for.
@@ -11,7 +11,7 @@ pub fn pass_through(from: Endpoint, bytes: &[u8], into: &mut [u8]) -> Option<usi
     ensures room { IsSome result ↔ (length bytes.now ≤ 64) }
     ensures count { IfSome result (λ n. n ≡ min (length bytes.now) (length into.old)) }
     ensures copied { IfSome result (λ n. into.new ≡ take n bytes.now ++ drop n into.old) }
-    ensures none { IfNone result (into.new ≡ into.old) }
+    ensures unchanged { IfNone result (into.new ≡ into.old) }
 {
     let mut slots_in = [PacketMetadata::<Endpoint>::EMPTY; 4];
     let mut bytes_in = [0u8; 64];

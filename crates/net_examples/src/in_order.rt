@@ -1,14 +1,15 @@
 ghost use Rattle.std.specs.Prelude.{◌≡◌, ℕ, ◌+◌, List, take, slice_range};
-ghost use Rattle.net_receiver.specs.OneStream.{ReceivesFrom, Says};
+ghost use Rattle.net_receiver.specs.OneStream.{ReceivesFrom, MatchesStream};
 
 use net_receiver::{Receiver, laws};
 use net_ring::ManagedSlice;
 
 /// A segment comes, and bytes are read: they are the stream's, from those read before on.
 pub fn receive(receiver: &mut Receiver<'_, 4>, pos: u64, payload: &[u8], into: &mut [u8]) -> usize
-    ensures receives { (x : List ℕ) → ReceivesFrom 0 x receiver.old → Says 0 x pos payload.now →
-        ReceivesFrom 0 x receiver.new }
-    ensures bytes { (x : List ℕ) → ReceivesFrom 0 x receiver.old → Says 0 x pos payload.now →
+    ensures receives { (x : List ℕ) → ReceivesFrom 0 x receiver.old →
+        MatchesStream 0 x pos payload.now → ReceivesFrom 0 x receiver.new }
+    ensures bytes { (x : List ℕ) → ReceivesFrom 0 x receiver.old →
+        MatchesStream 0 x pos payload.now →
         take result into.new ≡ slice_range x receiver.old.read (receiver.old.read + result) }
 {
     if Receiver::<4>::fits(pos, payload.len()) {
@@ -21,7 +22,7 @@ pub fn receive(receiver: &mut Receiver<'_, 4>, pos: u64, payload: &[u8], into: &
 pub fn receive_halves<'a>(storage: &'a mut [u8], stream: &[u8]) -> Receiver<'a, 4>
     ensures { ReceivesFrom 0 stream.now result }
 {
-    laws::says();
+    laws::matches_stream();
     let mut receiver = Receiver::new(ManagedSlice::Borrowed(storage));
     let half = stream.len() / 2;
     let _held = receiver.segment(half as u64, &stream[half..]).is_ok();

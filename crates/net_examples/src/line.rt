@@ -3,20 +3,20 @@ ghost use Rattle.std.specs.Borrow.{sem};
 ghost use Rattle.net_ring.specs.Ring.{contiguous_window_from, spare_index, with_elements};
 ghost use Rattle.net_ring.specs.Ring.{WritesSpare};
 
-use net_ring::{Elements, Ring};
+use net_ring::{RingOver, Storage};
 
 /// A line of bytes, over any storage.
 #[derive(Drop)]
-pub struct Line<S: Elements<u8>> {
-    pub ring: Ring<u8, S>,
+pub struct Line<S: Storage<u8>> {
+    pub ring: RingOver<u8, S>,
 }
 
-impl<S: Elements<u8>> Line<S> {
+impl<S: Storage<u8>> Line<S> {
     ghost use Rattle.net_examples.specs.Line.{lends_free};
 
     /// Lends contiguous free bytes from the one at `offset` on.
     pub fn free(&mut self, offset: usize, size: usize) -> &mut [u8]
-        ensures* writes_back { sem 𝓛 (lends_free S.row S.Elements self.entry offset result) }
+        ensures* writes_back { sem 𝓛 (lends_free S.row S.Storage self.entry offset result) }
         ensures count { length result.now ≡ contiguous_window_from self.old.ring offset size }
         ensures written { (ws : List ℕ)
             → length ws ≡ contiguous_window_from self.old.ring offset size

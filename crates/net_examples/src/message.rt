@@ -7,7 +7,7 @@ use net_ring::RingBuffer;
 pub fn send(ring: &mut RingBuffer<'_, u8>, message: &[u8]) -> bool
     ensures room { IsTrue result ↔ (length message.now ≤ window ring.old) }
     ensures sent { IsTrue result → queue ring.new ≡ queue ring.old ++ message.now }
-    ensures refused { IsFalse result → ring.new ≡ ring.old }
+    ensures unchanged { IsFalse result → ring.new ≡ ring.old }
 {
     if message.len() > ring.window() {
         return false;

@@ -13,7 +13,7 @@ pub fn byte_at(ring: &RingBuffer<'_, u8>, at: usize) -> Option<u8>
 /// Writes a byte at an offset of the spare part, if an element is there, and returns whether one is.
 pub fn stage(ring: &mut RingBuffer<'_, u8>, offset: usize, byte: u8) -> bool
     ensures staged { IsTrue result → WritesSpare ring.old offset (byte ∷ []) ring.new }
-    ensures refused { IsFalse result → ring.new ≡ ring.old }
+    ensures unchanged { IsFalse result → ring.new ≡ ring.old }
     ensures room { offset < window ring.old → IsTrue result }
 {
     if ring.contiguous_unallocated(offset, 1) == 0 {

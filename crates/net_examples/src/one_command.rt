@@ -1,6 +1,6 @@
 ghost use Rattle.std.specs.Prelude.{◌≡◌, IfOk};
-ghost use Rattle.net_receiver.specs.Commands.{command_seen, reply_seen, CommandFits};
-ghost use Rattle.net_receiver.specs.Stored.{stored_after, stored_reply};
+ghost use Rattle.net_receiver.specs.Commands.{command_value, reply_value, CommandFits};
+ghost use Rattle.net_receiver.specs.ReceiverState.{receiver_after_command, receiver_reply};
 
 use net_receiver::{Command, Receiver, Reply, replay};
 use std::alloc::{AllocError, Global};
@@ -13,9 +13,9 @@ pub fn execute_by_list<const N: usize>(
 ) -> Result<Reply, AllocError>
     requires { CommandFits command }
     ensures state { IfOk result
-        (λ _. receiver.new ≡ stored_after N receiver.old (command_seen command)) }
+        (λ _. receiver.new ≡ receiver_after_command N receiver.old (command_value command)) }
     ensures reply { IfOk result (λ reply.
-        reply_seen reply ≡ stored_reply N receiver.old (command_seen command)) }
+        reply_value reply ≡ receiver_reply N receiver.old (command_value command)) }
 {
     let mut replies = Vec::new(alloc);
     let commands = [command];

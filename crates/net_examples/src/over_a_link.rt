@@ -1,13 +1,13 @@
 ghost use Rattle.std.specs.Prelude.{◌≡◌, ◌+◌, ◌-◌, ◌^◌, ◌<◌, ◌≤◌, true, IfErr};
 ghost use Rattle.std.specs.Result.{is_ok};
-ghost use Rattle.net_stream.specs.Copying.{Copies, gave_up};
+ghost use Rattle.net_stream.specs.CopyResult.{Copies, gave_up};
 
 use net_stream::{Config, Counts, Fates, LinkError, LinkFates, Rates, copy};
 use std::alloc::Allocator;
 use std::io::{Read, Write};
 
 /// Copies over a link that loses a fifth of its frames. If it gives up, a hundred frames or
-/// acknowledgements were lost or came late, unless the reader gave 2^64 - 1 bytes.
+/// acknowledgements were lost or delayed, unless the reader gave 2^64 - 1 bytes.
 pub fn over_a_bad_link<A: Allocator + Copy, R: Read, W: Write>(
     alloc: A,
     reader: &mut R,
@@ -16,20 +16,20 @@ pub fn over_a_bad_link<A: Allocator + Copy, R: Read, W: Write>(
 ) -> Result<(), LinkError>
     ensures copied { Copies (R.remaining reader.old) (R.remaining reader.new)
         (W.contents writer.old) (W.contents writer.new)
-        counts.new.taken counts.new.bytes (is_ok result) }
-    ensures gave_up { IfErr result (λ e. gave_up e ≡ true → counts.new.taken < 2 ^ 64 - 1
-        → 100 ≤ counts.new.frames.lost + counts.new.frames.late) }
+        counts.new.bytes_read counts.new.bytes_written (is_ok result) }
+    ensures gave_up { IfErr result (λ e. gave_up e ≡ true → counts.new.bytes_read < 2 ^ 64 - 1
+        → 100 ≤ counts.new.frames.lost + counts.new.frames.delayed) }
 {
     let rates = Rates {
         lost: 20,
-        repeated: 0,
-        late: 0,
+        duplicated: 0,
+        delayed: 0,
     };
     let config = Config {
         first: 0,
         capacity: 65_536,
         payload: 1_400,
-        flight: 4_096,
+        max_burst: 4_096,
         rounds: 100,
     };
     let fates = LinkFates {

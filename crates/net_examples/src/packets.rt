@@ -25,7 +25,7 @@ pub fn wipe_first(queue: &mut PacketBuffer<'_, u16>) -> Result<usize, Empty>
     ensures unchanged { OnErr result (queue.new ≡ queue.old) }
 {
     let (_header, size) = queue.take()?;
-    let bytes = queue.freed_mut(size);
+    let bytes = queue.last_dequeued_mut(size);
     bytes.fill(0);
     Ok(bytes.len())
 }

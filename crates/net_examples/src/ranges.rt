@@ -15,7 +15,7 @@ pub fn came<const N: usize>(
     ensures refused { IsErr result ↔ MakesTooManyRuns N assembler.old offset size }
     ensures ok { OnOk result (assembler.new ≡ with_range assembler.old offset size) }
     ensures front { IfOk result (λ count. count ≡ front assembler.new) }
-    ensures err { OnErr result (assembler.new ≡ assembler.old) }
+    ensures unchanged { OnErr result (assembler.new ≡ assembler.old) }
 {
     assembler.add(offset, size)?;
     Ok(assembler.peek_front())

@@ -1,22 +1,22 @@
 ghost use Rattle.std.specs.Prelude.{◌≡◌, ◌<◌, length, slice_get, slice_set, Some};
 
-use net_ring::Elements;
+use net_ring::Storage;
 
 /// The last sample of each sensor, in any storage.
-pub struct Samples<S: Elements<u16> + Drop> {
+pub struct Samples<S: Storage<u16> + Drop> {
     /// One for each sensor.
     pub samples: S,
 }
 
 /// Written by hand: with a derived one, `Samples` over a `ManagedSlice` could not be a local.
-impl<S: Elements<u16> + Drop> Drop for Samples<S> {
+impl<S: Storage<u16> + Drop> Drop for Samples<S> {
     fn drop(self) {
         let Samples { samples } = self;
         drop(samples);
     }
 }
 
-impl<S: Elements<u16> + Drop> Samples<S> {
+impl<S: Storage<u16> + Drop> Samples<S> {
     /// The samples that the storage has.
     pub fn new(samples: S) -> Self
         ensures { result.samples ≡ samples }
@@ -30,7 +30,7 @@ impl<S: Elements<u16> + Drop> Samples<S> {
         ensures { S.elements self.new.samples
             ≡ slice_set (S.elements self.old.samples) sensor sample }
     {
-        *self.samples.item_mut(sensor) = sample;
+        *self.samples.element_mut(sensor) = sample;
     }
 
     /// Returns the last sample of a sensor.
@@ -38,6 +38,6 @@ impl<S: Elements<u16> + Drop> Samples<S> {
         requires { sensor < length (S.elements self.now.samples) }
         ensures { slice_get (S.elements self.now.samples) sensor ≡ Some result }
     {
-        *self.samples.item(sensor)
+        *self.samples.element(sensor)
     }
 }

@@ -9,8 +9,8 @@ use net_examples::{
 };
 use net_receiver::{Receiver, SequenceNumber};
 use net_ring::{ManagedSlice, RingBuffer};
+use net_sockets::{Endpoint, forward_lists};
 use net_stream::{Counts, Fates, Link, LinkFates, Rates};
-use net_uses::{Endpoint, forward_lists};
 use std::alloc::{AllocError, Global};
 
 #[test]
@@ -131,8 +131,8 @@ fn reply_to(
 ) -> Result<Option<usize>, AllocError> {
     let rates = Rates {
         lost: 33,
-        repeated: 0,
-        late: 0,
+        duplicated: 0,
+        delayed: 0,
     };
     let mut kept = [0u8; 4];
     let mut came = [0u8; 4];

@@ -1,6 +1,6 @@
 //! The tests of `net_examples`: each example as its users call it.
 //!
-//! They stand in a crate of their own, so that the examples are proved once.
+//! They are in a crate of their own, so that the examples are proved once.
 #![tactic(auto)]
 
 #[cfg(test)]

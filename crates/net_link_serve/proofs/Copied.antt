@@ -3,8 +3,8 @@ use Rattle.std.proofs.Common.{◌≡◌, ◌<◌, ℕ, List, Bool, true, Option,
 use Rattle.std.proofs.Common.{sym, ◌∙◌, true≢false}
 use Rattle.std.specs.Result.{is_ok}
 use Rattle.std.specs.Io.KnownBytes.{Appends, Keeps}
-use Rattle.net_program.specs.Writing.{AppendsPrefix}
-use Rattle.net_program.proofs.KnownBytes.{Appends-kept, AppendsPrefix-take, StartsWith-all}
+use Rattle.net_io.specs.Writer.{AppendsPrefix}
+use Rattle.net_io.proofs.KnownBytes.{Appends-kept, AppendsPrefix-take, StartsWith-all}
 
 pub if_told : {T E : Type 0} {told : Bool} (P : Type 0) (r : Result T E) → told ≡ is_ok r → OnOk r P →
     told ≡ true → P

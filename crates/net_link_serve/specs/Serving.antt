@@ -8,13 +8,13 @@
 --     ComesOf words asked old new had has said says ended      what came of words
 use Rattle.std.specs.Prelude.{◌≡◌, ◌⊎◌, ℕ, ◌-◌, ◌^◌, List, [], Option, Bool, true, false, Result, Ok, Err, codes}
 use Rattle.std.specs.Io.KnownBytes.{Appends, Keeps}
-use Rattle.net_program.specs.Writing.{AppendsPrefix}
-use Rattle.net_program.specs.declared.ending.Status.{Status}
-use Rattle.net_program.specs.declared.ending.Status.TheVariants.{Done, Failed, Misused, GaveUp as GaveItUp}
-use Rattle.net_program.specs.declared.ending.Ended.{Ended}
+use Rattle.net_io.specs.Writer.{AppendsPrefix}
+use Rattle.net_cli.specs.declared.status.Status.{Status}
+use Rattle.net_cli.specs.declared.status.Status.TheVariants.{Done, Failed, Misused, GaveUp as GaveItUp}
+use Rattle.net_cli.specs.declared.status.Ended.{Ended}
 use Rattle.net_stream.specs.CopyState.{Setup, setup_of}
-use Rattle.net_stream.specs.Copying.{HasCopied, HasNotBegun}
-use Rattle.net_stream.specs.Fates.{FatesSeen}
+use Rattle.net_stream.specs.CopyResult.{HasCopied, HasNotBegun}
+use Rattle.net_stream.specs.Fates.{FatesState}
 use Rattle.net_copies.specs.declared.config.Config.{Config}
 use Rattle.net_copies.specs.declared.counts.Counts.{Counts}
 use Rattle.net_copies.specs.declared.error.LinkError.{LinkError}
@@ -30,26 +30,26 @@ use Rattle.net_link_serve.specs.Summary.{summary, failed_line}
 use Rattle.net_link_serve.specs.Usage.{usage_text, misuse_lines}
 
 -- a stream from position 0 on, 262,144 bytes of storage at each end, frames of at most as many bytes
--- of payload as the plan says, at most 4,096 of them in a round, and as many rounds in a row that bring
--- nothing on, before the copy gives up, as the plan says
+-- of payload as the plan says, at most 4,096 of them in a round, and as many rounds in a row without
+-- progress, before the copy gives up, as the plan says
 abbrev pub config_of : Plan → Config
 config_of plan = record {
   first = 0;
   capacity = 262144;
   payload = plan.payload;
-  flight = 4096;
+  max_burst = 4096;
   rounds = plan.rounds;
 }
 
 abbrev pub rates_of : Plan → Rates
-rates_of plan = record { lost = plan.lost; repeated = plan.repeated; late = plan.late }
+rates_of plan = record { lost = plan.lost; duplicated = plan.duplicated; delayed = plan.delayed }
 
 -- the fates of frames are drawn from the seed
-abbrev pub fates_of : Plan → FatesSeen
+abbrev pub fates_of : Plan → FatesState
 fates_of plan = record { listed = []; state = plan.seed; rates = rates_of plan }
 
 -- those of acknowledgements from its complement
-abbrev pub ack_fates_of : Plan → FatesSeen
+abbrev pub ack_fates_of : Plan → FatesState
 ack_fates_of plan =
     record { listed = []; state = 2 ^ 64 - 1 - plan.seed; rates = rates_of plan }
 

@@ -13,22 +13,22 @@ use Rattle.net_copies.specs.declared.error.LinkError.TheVariants.{ReadFailed, Wr
 -- bytes written for each second of simulated time, rounded down; the bytes times a million, as far as
 -- 64 bits go, over the microseconds, of which none count as one
 abbrev pub bytes_a_second : Counts → ℕ
-bytes_a_second c = min (c.bytes * 1000000) (2 ^ 64 - 1) / max c.micros 1
+bytes_a_second c = min (c.bytes_written * 1000000) (2 ^ 64 - 1) / max c.micros 1
 
 -- what frames carried beyond what was read
 abbrev pub bytes_sent_again : Counts → ℕ
-bytes_sent_again c = c.frames.payload - c.taken
+bytes_sent_again c = c.frames.payload - c.bytes_read
 
 -- what became of frames
 abbrev pub frames_text : FrameCounts → List ℕ
 frames_text c =
     decimal c.sent ++ codes " frames, " ++ decimal c.lost ++ codes " lost, "
-    ++ decimal c.repeated ++ codes " repeated, " ++ decimal c.late ++ codes " late, "
+    ++ decimal c.duplicated ++ codes " duplicated, " ++ decimal c.delayed ++ codes " delayed, "
     ++ decimal c.refused ++ codes " refused"
 
 abbrev pub counts_text : Counts → List ℕ
 counts_text c =
-    decimal c.bytes ++ codes " bytes, " ++ frames_text c.frames ++ codes ", "
+    decimal c.bytes_written ++ codes " bytes, " ++ frames_text c.frames ++ codes ", "
     ++ decimal (bytes_sent_again c) ++ codes " bytes sent again, "
     ++ decimal c.rounds ++ codes " rounds, " ++ decimal (bytes_a_second c) ++ codes " bytes a second"
 

@@ -9,23 +9,23 @@ use Rattle.std.specs.List.{list_all}
 use Rattle.std.specs.Char.{is_ascii_graphic}
 use Rattle.net_link_serve.specs.Words.{place}
 use Rattle.net_link_serve.specs.declared.words.Word.{Word}
-use Rattle.net_link_serve.specs.declared.words.Word.TheVariants.{Loss, Seed, Repeated, Late, Bytes, Rounds}
+use Rattle.net_link_serve.specs.declared.words.Word.TheVariants.{Loss, Seed, Duplicated, Delayed, Bytes, Rounds}
 use Rattle.net_link_serve.specs.declared.words.Misuse.{Misuse}
 use Rattle.net_link_serve.specs.declared.words.Misuse.TheVariants.{Count, Wrong}
 
 -- how the program is used: the words, and of each what it is and what it is if it is left out
 abbrev pub usage_text : List ℕ
 usage_text =
-    codes "usage: net_link [--progress] LOSS SEED [REPEATED LATE [BYTES [ROUNDS]]]\n"
+    codes "usage: net_link [--progress] LOSS SEED [DUPLICATED DELAYED [BYTES [ROUNDS]]]\n"
     ++ codes "       net_link --help\n"
-    ++ codes "Copies standard input to standard output over a link that loses, repeats and delays frames.\n"
+    ++ codes "Copies standard input to standard output over a link that loses, duplicates and delays frames.\n"
     ++ codes "Time is simulated: the program waits for nothing but its input.\n"
     ++ codes "  LOSS        frames lost, of 100: 0 to 99\n"
     ++ codes "  SEED        where the fates are drawn from: 0 to 18446744073709551615\n"
-    ++ codes "  REPEATED    frames that come twice, of 100 not lost: 0 to 99; else half of LOSS\n"
-    ++ codes "  LATE        frames that come late, of 100 neither: 0 to 99; else half of LOSS\n"
+    ++ codes "  DUPLICATED  frames that come twice, of 100 not lost: 0 to 99; else half of LOSS\n"
+    ++ codes "  DELAYED     frames that are delayed, of 100 neither: 0 to 99; else half of LOSS\n"
     ++ codes "  BYTES       the most bytes of a frame's payload: 1 to 65536; else 16384\n"
-    ++ codes "  ROUNDS      gives up after so many rounds in a row that bring nothing on:\n"
+    ++ codes "  ROUNDS      gives up after so many rounds in a row without progress:\n"
     ++ codes "              1 to 18446744073709551615; else 100\n"
     ++ codes "  --progress  shows the counts so far on standard error after each 256 rounds\n"
 
@@ -33,8 +33,8 @@ usage_text =
 abbrev pub range_text : Word → List ℕ
 range_text Loss = codes "LOSS is 0 to 99"
 range_text Seed = codes "SEED is 0 to 18446744073709551615"
-range_text Repeated = codes "REPEATED is 0 to 99"
-range_text Late = codes "LATE is 0 to 99"
+range_text Duplicated = codes "DUPLICATED is 0 to 99"
+range_text Delayed = codes "DELAYED is 0 to 99"
 range_text Bytes = codes "BYTES is 1 to 65536"
 range_text Rounds = codes "ROUNDS is 1 to 18446744073709551615"
 

@@ -1,4 +1,4 @@
--- The words of a command line: [--progress] LOSS SEED [REPEATED LATE [BYTES [ROUNDS]]], or --help.
+-- The words of a command line: [--progress] LOSS SEED [DUPLICATED DELAYED [BYTES [ROUNDS]]], or --help.
 --     least word, most word      the numbers that a word may be, from the least to the greatest
 --     place word      how many numbers come before it
 --     number_in word text      the number that a text writes, if it is one of these
@@ -10,9 +10,9 @@
 use Rattle.std.specs.Prelude.{ℕ, ◌/◌, ◌-◌, ◌^◌, ◌||◌, ◌==◌, nat_lt, if◌then◌else◌, Bool, true, false}
 use Rattle.std.specs.Prelude.{List, [], ◌∷◌, length, drop, slice_get, codes, bytes_eq}
 use Rattle.std.specs.Prelude.{Option, Some, None, Result, Ok, Err}
-use Rattle.net_program.specs.Numeral.{number_of}
+use Rattle.net_cli.specs.Numeral.{number_of}
 use Rattle.net_link_serve.specs.declared.words.Word.{Word}
-use Rattle.net_link_serve.specs.declared.words.Word.TheVariants.{Loss, Seed, Repeated, Late, Bytes, Rounds}
+use Rattle.net_link_serve.specs.declared.words.Word.TheVariants.{Loss, Seed, Duplicated, Delayed, Bytes, Rounds}
 use Rattle.net_link_serve.specs.declared.words.Plan.{Plan}
 use Rattle.net_link_serve.specs.declared.words.Asked.{Asked}
 use Rattle.net_link_serve.specs.declared.words.Asked.TheVariants.{Help, Copy}
@@ -28,24 +28,24 @@ abbrev pub ◌>>=◌ : {A B : Type 0} → Result A Misuse → (A → Result B Mi
 abbrev pub least : Word → ℕ
 least Loss = 0
 least Seed = 0
-least Repeated = 0
-least Late = 0
+least Duplicated = 0
+least Delayed = 0
 least Bytes = 1
 least Rounds = 1
 
 abbrev pub most : Word → ℕ
 most Loss = 99
 most Seed = 2 ^ 64 - 1
-most Repeated = 99
-most Late = 99
+most Duplicated = 99
+most Delayed = 99
 most Bytes = 65536
 most Rounds = 2 ^ 64 - 1
 
 abbrev pub place : Word → ℕ
 place Loss = 0
 place Seed = 1
-place Repeated = 2
-place Late = 3
+place Duplicated = 2
+place Delayed = 3
 place Bytes = 4
 place Rounds = 5
 
@@ -64,21 +64,21 @@ if_there word otherwise (Some text) = number_in word text
 abbrev pub number_at : Word → ℕ → List (List ℕ) → Result ℕ Misuse
 number_at word otherwise words = if_there word otherwise (slice_get words (place word))
 
--- half as many frames as are lost are repeated, and as many late; a frame has at most 16,384 bytes of
+-- half as many frames as are lost are duplicated, and as many delayed; a frame has at most 16,384 bytes of
 -- payload; and the copy gives up after 100 rounds, if no words say otherwise
 abbrev pub numbers_of : Bool → List (List ℕ) → Result Plan Misuse
 numbers_of shows_progress words = do
   lost ← number_at Loss 0 words
   seed ← number_at Seed 0 words
-  repeated ← number_at Repeated (lost / 2) words
-  late ← number_at Late (lost / 2) words
+  duplicated ← number_at Duplicated (lost / 2) words
+  delayed ← number_at Delayed (lost / 2) words
   payload ← number_at Bytes 16384 words
   rounds ← number_at Rounds 100 words
   Ok (record {
     lost = lost;
     seed = seed;
-    repeated = repeated;
-    late = late;
+    duplicated = duplicated;
+    delayed = delayed;
     payload = payload;
     rounds = rounds;
     shows_progress = shows_progress;

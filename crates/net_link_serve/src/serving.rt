@@ -1,8 +1,8 @@
-//! The program, from its words and streams to its exit status.
+//! `serve`, which is the program from its words and streams to its exit status.
 ghost use Rattle.std.specs.Prelude.{◌≡◌, ◌↔◌, ◌⊎◌, IsErr, map, string_bytes, true, false};
 ghost use Rattle.std.specs.Io.KnownBytes.{Appends, Keeps};
-ghost use Rattle.net_stream.specs.Copying.{HasCopied, HasNotBegun};
-ghost use Rattle.net_program.specs.declared.ending.Status.TheVariants.{Misused};
+ghost use Rattle.net_stream.specs.CopyResult.{HasCopied, HasNotBegun};
+ghost use Rattle.net_cli.specs.declared.status.Status.TheVariants.{Misused};
 ghost use Rattle.net_link_serve.specs.Words.{numbers, asked_of};
 ghost use Rattle.net_link_serve.specs.Usage.{misuse_lines};
 ghost use Rattle.net_link_serve.specs.Serving.{config_of, rates_of, setup_for, status_of, CopiesOver, Helps, FailsToWrite};
@@ -12,7 +12,8 @@ use crate::streams::{Messages, Remembering};
 use crate::summary::{write_summary, write_unwritten};
 use crate::usage::{usage_text, write_misuse};
 use crate::words::{Asked, Misuse, Plan, asked_of, numbers};
-use net_program::{Ended, Status, flush_after, write_text};
+use net_cli::{Ended, Status};
+use net_io::{flush_after, write_text};
 use net_stream::{Config, Counts, Fates, LinkError, LinkFates, Rates, copy, copy_watched};
 use std::alloc::Allocator;
 use std::io;
@@ -22,9 +23,9 @@ use std::io::{Read, Write};
 const CAPACITY: usize = 262_144;
 
 /// The most frames that a round sends.
-const FLIGHT: u32 = 4_096;
+const MAX_BURST: u32 = 4_096;
 
-/// The config of a copy.
+/// Returns the config of a copy.
 fn config(plan: Plan) -> Config
     ensures { result ≡ config_of plan }
 {
@@ -32,23 +33,23 @@ fn config(plan: Plan) -> Config
         first: 0,
         capacity: CAPACITY,
         payload: plan.payload,
-        flight: FLIGHT,
+        max_burst: MAX_BURST,
         rounds: plan.rounds,
     }
 }
 
-/// The rates of a copy.
+/// Returns the rates of a copy.
 fn rates(plan: Plan) -> Rates
     ensures { result ≡ rates_of plan }
 {
     Rates {
         lost: plan.lost,
-        repeated: plan.repeated,
-        late: plan.late,
+        duplicated: plan.duplicated,
+        delayed: plan.delayed,
     }
 }
 
-/// The status after a copy that ended so.
+/// Returns the status after a copy that ended so.
 fn status(ended: &Result<(), LinkError>) -> Status
     ensures { result ≡ status_of ended.now }
 {
@@ -59,7 +60,8 @@ fn status(ended: &Result<(), LinkError>) -> Status
     }
 }
 
-/// What a line says of why a call failed: nothing, if there was no error, or no memory for its text.
+/// Returns what a line says of why a call failed: nothing, if there was no error, or no memory for its
+/// text.
 fn cause_of<A: Allocator + Copy>(alloc: A, error: Option<io::Error>) -> String<A> {
     let Some(error) = error else {
         return String::new(alloc);

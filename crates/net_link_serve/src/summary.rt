@@ -1,4 +1,4 @@
-//! What standard error says of a copy.
+//! The lines that standard error has of a copy.
 ghost use Rattle.std.specs.Prelude.{◌≡◌, ◌++◌, OnOk, Some, codes};
 ghost use Rattle.std.specs.Io.KnownBytes.{Appends};
 ghost use Rattle.net_link_serve.specs.Summary.{bytes_a_second, frames_text, counts_text, summary};
@@ -8,11 +8,11 @@ use net_stream::{Counts, FrameCounts, LinkError};
 use std::io::Write;
 use std::{fmt, io};
 
-/// How many bytes a second of simulated time came, rounded down.
+/// Returns how many bytes a second of simulated time came, rounded down.
 fn bytes_a_second(counts: &Counts) -> u64
     ensures { result ≡ bytes_a_second counts.now }
 {
-    counts.bytes.saturating_mul(1_000_000) / counts.micros.max(1)
+    counts.bytes_written.saturating_mul(1_000_000) / counts.micros.max(1)
 }
 
 /// What became of frames, as a part of a line.
@@ -26,14 +26,14 @@ impl fmt::Display for FramesText {
         let FrameCounts {
             sent,
             lost,
-            repeated,
-            late,
+            duplicated,
+            delayed,
             refused,
             ..
         } = self.0;
         write!(
             f,
-            "{sent} frames, {lost} lost, {repeated} repeated, {late} late, {refused} refused"
+            "{sent} frames, {lost} lost, {duplicated} duplicated, {delayed} delayed, {refused} refused"
         )
     }
 }
@@ -46,13 +46,17 @@ impl fmt::Display for CountsText {
     ghost output = { λ text. Some (counts_text text.0) };
 
     fn fmt<W: fmt::Write>(&self, f: &mut fmt::Formatter<W>) -> fmt::Result {
-        let Counts { bytes, rounds, .. } = self.0;
+        let Counts {
+            bytes_written,
+            rounds,
+            ..
+        } = self.0;
         let frames = FramesText(self.0.frames);
         let sent_again = self.0.sent_again();
         let speed = bytes_a_second(&self.0);
         write!(
             f,
-            "{bytes} bytes, {frames}, {sent_again} bytes sent again, {rounds} rounds, \
+            "{bytes_written} bytes, {frames}, {sent_again} bytes sent again, {rounds} rounds, \
              {speed} bytes a second"
         )
     }

@@ -1,4 +1,4 @@
-//! What the program says of its words.
+//! How the program is used, and what is wrong with its words, as text.
 ghost use Rattle.std.specs.Prelude.{◌≡◌, OnOk, map, string_bytes};
 ghost use Rattle.std.specs.List.{list_all};
 ghost use Rattle.std.specs.Char.{is_ascii_graphic};
@@ -10,16 +10,16 @@ use std::io;
 use std::io::Write;
 
 /// How the program is used: its words, and of each what it is and what it is if it is left out.
-const USAGE: &str = "usage: net_link [--progress] LOSS SEED [REPEATED LATE [BYTES [ROUNDS]]]
+const USAGE: &str = "usage: net_link [--progress] LOSS SEED [DUPLICATED DELAYED [BYTES [ROUNDS]]]
        net_link --help
-Copies standard input to standard output over a link that loses, repeats and delays frames.
+Copies standard input to standard output over a link that loses, duplicates and delays frames.
 Time is simulated: the program waits for nothing but its input.
   LOSS        frames lost, of 100: 0 to 99
   SEED        where the fates are drawn from: 0 to 18446744073709551615
-  REPEATED    frames that come twice, of 100 not lost: 0 to 99; else half of LOSS
-  LATE        frames that come late, of 100 neither: 0 to 99; else half of LOSS
+  DUPLICATED  frames that come twice, of 100 not lost: 0 to 99; else half of LOSS
+  DELAYED     frames that are delayed, of 100 neither: 0 to 99; else half of LOSS
   BYTES       the most bytes of a frame's payload: 1 to 65536; else 16384
-  ROUNDS      gives up after so many rounds in a row that bring nothing on:
+  ROUNDS      gives up after so many rounds in a row without progress:
               1 to 18446744073709551615; else 100
   --progress  shows the counts so far on standard error after each 256 rounds
 ";
@@ -31,21 +31,21 @@ pub fn usage_text() -> &'static str
     USAGE
 }
 
-/// Whether each byte is one of `!` to `~`.
+/// Returns whether each byte is one of `!` to `~`.
 fn is_graphic(bytes: &[u8]) -> bool
     ensures { result ≡ list_all is_ascii_graphic bytes.now }
 {
     bytes.iter().all(|byte| byte.is_ascii_graphic())
 }
 
-/// Whether a text has 1 to 40 bytes, each of them `!` to `~`.
+/// Returns whether a text has 1 to 40 bytes, each of them `!` to `~`.
 fn is_plain(text: &str) -> bool
     ensures { result ≡ is_plain text.now }
 {
     !text.is_empty() && text.len() <= 40 && is_graphic(text.as_bytes())
 }
 
-/// The text at the place of a word.
+/// Returns the text at the place of a word.
 fn text_at(numbers: &[String], word: Word) -> &str
     ensures { result.now ≡ text_at (map string_bytes numbers.now) word }
 {

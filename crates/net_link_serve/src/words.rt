@@ -1,10 +1,10 @@
-//! The words of a command line.
+//! The words of a command line, and what they ask for.
 ghost use Rattle.std.specs.Prelude.{◌≡◌, ◌≤◌, Some, IfOk, map, string_bytes};
 ghost use Rattle.net_link_serve.specs.Words.{least, most, place, number_in, number_at, plan_of};
 ghost use Rattle.net_link_serve.specs.Words.{begins_with, numbers, asked_of};
 ghost use Rattle.net_link_serve.specs.Usage.{range_text};
 
-use net_program::number;
+use net_cli::number;
 
 /// A number that the program is asked for by a word.
 #[derive(Clone, Copy, Drop)]
@@ -14,12 +14,12 @@ pub enum Word {
     /// Where the fates are drawn from.
     Seed,
     /// Of a hundred frames that are not lost, how many come twice.
-    Repeated,
-    /// Of a hundred frames that are neither, how many come late.
-    Late,
+    Duplicated,
+    /// Of a hundred frames that are neither, how many are delayed.
+    Delayed,
     /// The most bytes of a frame's payload.
     Bytes,
-    /// After how many rounds in a row that bring nothing on the copy gives up.
+    /// After how many rounds in a row without progress the copy gives up.
     Rounds,
 }
 
@@ -31,12 +31,12 @@ pub struct Plan {
     /// Where the fates are drawn from.
     pub seed: u64,
     /// Of a hundred frames that are not lost, how many come twice.
-    pub repeated: u32,
-    /// Of a hundred frames that are neither, how many come late.
-    pub late: u32,
+    pub duplicated: u32,
+    /// Of a hundred frames that are neither, how many are delayed.
+    pub delayed: u32,
     /// The most bytes of a frame's payload.
     pub payload: u32,
-    /// After how many rounds in a row that bring nothing on the copy gives up.
+    /// After how many rounds in a row without progress the copy gives up.
     pub rounds: u64,
     /// Whether the counts are shown on the way.
     pub shows_progress: bool,
@@ -61,56 +61,56 @@ pub enum Misuse {
 }
 
 impl Word {
-    /// The least number that it may be.
+    /// Returns the least number that it may be.
     fn least(self) -> u64
         ensures { result ≡ least self }
     {
         match self {
             Word::Bytes | Word::Rounds => 1,
-            Word::Loss | Word::Seed | Word::Repeated | Word::Late => 0,
+            Word::Loss | Word::Seed | Word::Duplicated | Word::Delayed => 0,
         }
     }
 
-    /// The greatest number that it may be.
+    /// Returns the greatest number that it may be.
     fn most(self) -> u64
         ensures { result ≡ most self }
     {
         match self {
-            Word::Loss | Word::Repeated | Word::Late => 99,
+            Word::Loss | Word::Duplicated | Word::Delayed => 99,
             Word::Bytes => 65_536,
             Word::Seed | Word::Rounds => u64::MAX,
         }
     }
 
-    /// Which numbers it may be, as text.
+    /// Returns which numbers it may be, as text.
     pub fn range(self) -> &'static str
         ensures { result.now ≡ range_text self }
     {
         match self {
             Word::Loss => "LOSS is 0 to 99",
             Word::Seed => "SEED is 0 to 18446744073709551615",
-            Word::Repeated => "REPEATED is 0 to 99",
-            Word::Late => "LATE is 0 to 99",
+            Word::Duplicated => "DUPLICATED is 0 to 99",
+            Word::Delayed => "DELAYED is 0 to 99",
             Word::Bytes => "BYTES is 1 to 65536",
             Word::Rounds => "ROUNDS is 1 to 18446744073709551615",
         }
     }
 
-    /// How many numbers come before it.
+    /// Returns how many numbers come before it.
     pub fn place(self) -> usize
         ensures { result ≡ place self }
     {
         match self {
             Word::Loss => 0,
             Word::Seed => 1,
-            Word::Repeated => 2,
-            Word::Late => 3,
+            Word::Duplicated => 2,
+            Word::Delayed => 3,
             Word::Bytes => 4,
             Word::Rounds => 5,
         }
     }
 
-    /// The number that a text writes, if it is one that this word may be.
+    /// Returns the number that a text writes, if it is one that this word may be.
     fn number_in(self, text: &str) -> Result<u64, Misuse>
         ensures number { result ≡ number_in self text.now }
         ensures range { IfOk result (λ n. n ≤ most self) }
@@ -124,7 +124,7 @@ impl Word {
         Ok(number)
     }
 
-    /// The number at its place among the words; the one that it is otherwise, if it is
+    /// Returns the number at its place among the words; the one that it is otherwise, if it is
     /// left out.
     ///
     /// # Requires
@@ -142,7 +142,7 @@ impl Word {
     }
 }
 
-/// The copy that these numbers ask for, as words.
+/// Returns the copy that these numbers ask for, as words.
 fn plan_of(words: &[String], shows_progress: bool) -> Result<Plan, Misuse>
     ensures { result ≡ plan_of shows_progress (map string_bytes words.now) }
 {
@@ -151,22 +151,22 @@ fn plan_of(words: &[String], shows_progress: bool) -> Result<Plan, Misuse>
     }
     let lost = Word::Loss.number_at(words, 0)?;
     let seed = Word::Seed.number_at(words, 0)?;
-    let repeated = Word::Repeated.number_at(words, lost / 2)?;
-    let late = Word::Late.number_at(words, lost / 2)?;
+    let duplicated = Word::Duplicated.number_at(words, lost / 2)?;
+    let delayed = Word::Delayed.number_at(words, lost / 2)?;
     let payload = Word::Bytes.number_at(words, 16_384)?;
     let rounds = Word::Rounds.number_at(words, 100)?;
     Ok(Plan {
         lost: lost as u32,
         seed,
-        repeated: repeated as u32,
-        late: late as u32,
+        duplicated: duplicated as u32,
+        delayed: delayed as u32,
         payload: payload as u32,
         rounds,
         shows_progress,
     })
 }
 
-/// Whether the first of some words is this one.
+/// Returns whether the first of some words is this one.
 fn begins_with(words: &[String], word: &str) -> bool
     ensures { result ≡ begins_with (map string_bytes words.now) word.now }
 {
@@ -176,7 +176,7 @@ fn begins_with(words: &[String], word: &str) -> bool
     }
 }
 
-/// The numbers among the words: those after `--progress`, if that is the first, or all.
+/// Returns the numbers among the words: those after `--progress`, if that is the first, or all.
 pub fn numbers(words: &[String]) -> &[String]
     ensures { map string_bytes result.now ≡ numbers (map string_bytes words.now) }
 {
@@ -187,7 +187,7 @@ pub fn numbers(words: &[String]) -> &[String]
 }
 
 /// Returns what these words ask for: `--help`, whatever follows, or a copy, by `LOSS SEED`, `LOSS
-/// SEED REPEATED LATE`, `LOSS SEED REPEATED LATE BYTES` or `LOSS SEED REPEATED LATE BYTES ROUNDS`,
+/// SEED DUPLICATED DELAYED`, `LOSS SEED DUPLICATED DELAYED BYTES` or `LOSS SEED DUPLICATED DELAYED BYTES ROUNDS`,
 /// alone or after `--progress`. Else it returns what is wrong with them.
 pub fn asked_of(words: &[String]) -> Result<Asked, Misuse>
     ensures { result ≡ asked_of (map string_bytes words.now) }

@@ -1,8 +1,8 @@
 //! How often a copy reads, writes and flushes, and what it says on the way. The counts are those that a second
 //! program finds, written from docs/LINK.md.
 use crate::causes::{assert_holds, is_so, words_of};
+use net_cli::Status;
 use net_link_serve::{Messages, Remembering, serve};
-use net_program::Status;
 use net_testing::{NEVER, Sink, Source};
 use std::alloc::{AllocError, Global};
 use std::io::ErrorKind;
@@ -31,7 +31,7 @@ static ROWS: [Row; 5] = [
         told_calls: NEVER,
         calls: (2, 1, 1),
         status: Status::Done,
-        told: "262144 bytes, 9 frames, 0 lost, 0 repeated, 0 late, \
+        told: "262144 bytes, 9 frames, 0 lost, 0 duplicated, 0 delayed, \
             0 refused, 0 bytes sent again, 1 rounds, 26214400 bytes a second\n",
     },
     Row {
@@ -40,7 +40,7 @@ static ROWS: [Row; 5] = [
         told_calls: NEVER,
         calls: (2, 1, 1),
         status: Status::Done,
-        told: "9 bytes, 3 frames, 0 lost, 0 repeated, 0 late, \
+        told: "9 bytes, 3 frames, 0 lost, 0 duplicated, 0 delayed, \
             0 refused, 0 bytes sent again, 1 rounds, 900 bytes a second\n",
     },
     // Nothing comes, so the input's end isn't read.
@@ -51,7 +51,7 @@ static ROWS: [Row; 5] = [
         calls: (1, 0, 1),
         status: Status::GaveUp,
         told: "net_link: gave up\n\
-            0 bytes, 200 frames, 200 lost, 0 repeated, 0 late, \
+            0 bytes, 200 frames, 200 lost, 0 duplicated, 0 delayed, \
             0 refused, 891 bytes sent again, 100 rounds, 0 bytes a second\n",
     },
     // The counts are shown nine times on the way.
@@ -61,25 +61,25 @@ static ROWS: [Row; 5] = [
         told_calls: NEVER,
         calls: (16, 15, 1),
         status: Status::Done,
-        told: "1 bytes, 525 frames, 523 lost, 0 repeated, 0 late, \
+        told: "1 bytes, 525 frames, 523 lost, 0 duplicated, 0 delayed, \
             0 refused, 266 bytes sent again, 256 rounds, 0 bytes a second\n\
-            2 bytes, 1215 frames, 1210 lost, 0 repeated, 0 late, \
+            2 bytes, 1215 frames, 1210 lost, 0 duplicated, 0 delayed, \
             0 refused, 698 bytes sent again, 512 rounds, 0 bytes a second\n\
-            2 bytes, 1727 frames, 1719 lost, 0 repeated, 0 late, \
+            2 bytes, 1727 frames, 1719 lost, 0 duplicated, 0 delayed, \
             0 refused, 954 bytes sent again, 768 rounds, 0 bytes a second\n\
-            4 bytes, 2364 frames, 2348 lost, 0 repeated, 0 late, \
+            4 bytes, 2364 frames, 2348 lost, 0 duplicated, 0 delayed, \
             0 refused, 1330 bytes sent again, 1024 rounds, 0 bytes a second\n\
-            5 bytes, 2894 frames, 2876 lost, 0 repeated, 0 late, \
+            5 bytes, 2894 frames, 2876 lost, 0 duplicated, 0 delayed, \
             0 refused, 1602 bytes sent again, 1280 rounds, 0 bytes a second\n\
-            6 bytes, 3445 frames, 3424 lost, 0 repeated, 0 late, \
+            6 bytes, 3445 frames, 3424 lost, 0 duplicated, 0 delayed, \
             0 refused, 1895 bytes sent again, 1536 rounds, 0 bytes a second\n\
-            8 bytes, 3978 frames, 3952 lost, 0 repeated, 0 late, \
+            8 bytes, 3978 frames, 3952 lost, 0 duplicated, 0 delayed, \
             0 refused, 2168 bytes sent again, 1792 rounds, 0 bytes a second\n\
-            10 bytes, 4800 frames, 4767 lost, 0 repeated, 0 late, \
+            10 bytes, 4800 frames, 4767 lost, 0 duplicated, 0 delayed, \
             0 refused, 2727 bytes sent again, 2048 rounds, 0 bytes a second\n\
-            12 bytes, 5393 frames, 5353 lost, 0 repeated, 0 late, \
+            12 bytes, 5393 frames, 5353 lost, 0 duplicated, 0 delayed, \
             0 refused, 3059 bytes sent again, 2304 rounds, 0 bytes a second\n\
-            15 bytes, 6107 frames, 6058 lost, 0 repeated, 0 late, \
+            15 bytes, 6107 frames, 6058 lost, 0 duplicated, 0 delayed, \
             0 refused, 3517 bytes sent again, 2552 rounds, 0 bytes a second\n",
     },
     // The line of the first 256 rounds isn't taken, and those after it are.
@@ -89,9 +89,9 @@ static ROWS: [Row; 5] = [
         told_calls: 0,
         calls: (2, 2, 1),
         status: Status::Done,
-        told: "3 bytes, 1446 frames, 1441 lost, 0 repeated, 0 late, \
+        told: "3 bytes, 1446 frames, 1441 lost, 0 duplicated, 0 delayed, \
             0 refused, 2787 bytes sent again, 512 rounds, 0 bytes a second\n\
-            9 bytes, 1527 frames, 1521 lost, 0 repeated, 0 late, \
+            9 bytes, 1527 frames, 1521 lost, 0 duplicated, 0 delayed, \
             0 refused, 2907 bytes sent again, 552 rounds, 0 bytes a second\n",
     },
 ];

@@ -1,7 +1,7 @@
 //! What standard error says of streams that fail in two ways, of causes that are long, or for which there is
 //! no memory, and what memory `serve` asks for.
+use net_cli::{Ended, Status};
 use net_link_serve::{Messages, Remembering, serve};
-use net_program::{Ended, Status};
 use net_testing::{NEVER, Refusing, Sink, Source};
 use std::alloc::{AllocError, Allocator, Global};
 use std::io;
@@ -43,7 +43,7 @@ static FAILURES: [Failure; 10] = [
         Some(ErrorKind::BrokenPipe),
         Status::Failed,
         "net_link: read failed: permission denied\n\
-            0 bytes, 0 frames, 0 lost, 0 repeated, 0 late, \
+            0 bytes, 0 frames, 0 lost, 0 duplicated, 0 delayed, \
             0 refused, 0 bytes sent again, 0 rounds, 0 bytes a second\n",
     ),
     (
@@ -53,7 +53,7 @@ static FAILURES: [Failure; 10] = [
         Some(ErrorKind::BrokenPipe),
         Status::Failed,
         "net_link: read failed: entity not found\n\
-            9 bytes, 7 frames, 0 lost, 0 repeated, 0 late, \
+            9 bytes, 7 frames, 0 lost, 0 duplicated, 0 delayed, \
             0 refused, 0 bytes sent again, 1 rounds, 900 bytes a second\n",
     ),
     (
@@ -63,7 +63,7 @@ static FAILURES: [Failure; 10] = [
         Some(ErrorKind::BrokenPipe),
         Status::Failed,
         "net_link: write failed: timed out\n\
-            0 bytes, 7 frames, 0 lost, 0 repeated, 0 late, \
+            0 bytes, 7 frames, 0 lost, 0 duplicated, 0 delayed, \
             0 refused, 0 bytes sent again, 1 rounds, 0 bytes a second\n",
     ),
     (
@@ -73,7 +73,7 @@ static FAILURES: [Failure; 10] = [
         Some(ErrorKind::BrokenPipe),
         Status::Failed,
         "net_link: write failed: no byte was taken\n\
-            0 bytes, 7 frames, 0 lost, 0 repeated, 0 late, \
+            0 bytes, 7 frames, 0 lost, 0 duplicated, 0 delayed, \
             0 refused, 0 bytes sent again, 1 rounds, 0 bytes a second\n",
     ),
     (
@@ -83,7 +83,7 @@ static FAILURES: [Failure; 10] = [
         Some(ErrorKind::BrokenPipe),
         Status::Failed,
         "net_link: write failed: broken pipe\n\
-            9 bytes, 7 frames, 0 lost, 0 repeated, 0 late, \
+            9 bytes, 7 frames, 0 lost, 0 duplicated, 0 delayed, \
             0 refused, 0 bytes sent again, 1 rounds, 900 bytes a second\n",
     ),
     // A call that would block isn't made again.
@@ -94,7 +94,7 @@ static FAILURES: [Failure; 10] = [
         None,
         Status::Failed,
         "net_link: read failed: operation would block\n\
-            9 bytes, 7 frames, 0 lost, 0 repeated, 0 late, \
+            9 bytes, 7 frames, 0 lost, 0 duplicated, 0 delayed, \
             0 refused, 0 bytes sent again, 1 rounds, 900 bytes a second\n",
     ),
     (
@@ -104,7 +104,7 @@ static FAILURES: [Failure; 10] = [
         None,
         Status::Failed,
         "net_link: write failed: operation would block\n\
-            0 bytes, 7 frames, 0 lost, 0 repeated, 0 late, \
+            0 bytes, 7 frames, 0 lost, 0 duplicated, 0 delayed, \
             0 refused, 0 bytes sent again, 1 rounds, 0 bytes a second\n",
     ),
     (
@@ -114,7 +114,7 @@ static FAILURES: [Failure; 10] = [
         Some(ErrorKind::WouldBlock),
         Status::Failed,
         "net_link: write failed: operation would block\n\
-            9 bytes, 7 frames, 0 lost, 0 repeated, 0 late, \
+            9 bytes, 7 frames, 0 lost, 0 duplicated, 0 delayed, \
             0 refused, 0 bytes sent again, 1 rounds, 900 bytes a second\n",
     ),
     // No call failed but the flush after it gave up, which says nothing more.
@@ -125,7 +125,7 @@ static FAILURES: [Failure; 10] = [
         Some(ErrorKind::BrokenPipe),
         Status::GaveUp,
         "net_link: gave up\n\
-            0 bytes, 200 frames, 200 lost, 0 repeated, 0 late, \
+            0 bytes, 200 frames, 200 lost, 0 duplicated, 0 delayed, \
             0 refused, 891 bytes sent again, 100 rounds, 0 bytes a second\n",
     ),
     (
@@ -186,11 +186,11 @@ impl Read for Wordy {
 
 const WORDY: &str = "net_link: read failed: \
     the text of this cause has 79 bytes, and is shown as it is, up to its last word\n\
-    0 bytes, 0 frames, 0 lost, 0 repeated, 0 late, \
+    0 bytes, 0 frames, 0 lost, 0 duplicated, 0 delayed, \
     0 refused, 0 bytes sent again, 0 rounds, 0 bytes a second\n";
 
 const NO_CAUSE: &str = "net_link: read failed\n\
-    0 bytes, 0 frames, 0 lost, 0 repeated, 0 late, \
+    0 bytes, 0 frames, 0 lost, 0 duplicated, 0 delayed, \
     0 refused, 0 bytes sent again, 0 rounds, 0 bytes a second\n";
 
 /// Whether a read that fails at once is told so in this memory.

@@ -1,6 +1,6 @@
 //! What comes of copies. The counts are those that a second program finds, written from docs/LINK.md.
+use net_cli::{Ended, Status};
 use net_link_serve::{Messages, Remembering, serve};
-use net_program::{Ended, Status};
 use net_testing::{NEVER, Refusing, Sink, Source};
 use std::alloc::{AllocError, Global};
 use std::io::ErrorKind;
@@ -37,7 +37,7 @@ const CASES: [Case; 25] = [
         is_flushed: true,
         status: Status::Done,
         written: 9,
-        told: "9 bytes, 3 frames, 0 lost, 0 repeated, 0 late, \
+        told: "9 bytes, 3 frames, 0 lost, 0 duplicated, 0 delayed, \
             0 refused, 0 bytes sent again, 1 rounds, 900 bytes a second\n",
     },
     Case {
@@ -48,7 +48,7 @@ const CASES: [Case; 25] = [
         is_flushed: true,
         status: Status::Done,
         written: 9,
-        told: "9 bytes, 3 frames, 0 lost, 0 repeated, 0 late, \
+        told: "9 bytes, 3 frames, 0 lost, 0 duplicated, 0 delayed, \
             0 refused, 0 bytes sent again, 1 rounds, 900 bytes a second\n",
     },
     Case {
@@ -59,10 +59,10 @@ const CASES: [Case; 25] = [
         is_flushed: true,
         status: Status::Done,
         written: 0,
-        told: "0 bytes, 0 frames, 0 lost, 0 repeated, 0 late, \
+        told: "0 bytes, 0 frames, 0 lost, 0 duplicated, 0 delayed, \
             0 refused, 0 bytes sent again, 0 rounds, 0 bytes a second\n",
     },
-    // The capacity, the payload and the flight.
+    // The capacity, the payload and the burst.
     Case {
         words: "0 1 0 0 65536",
         input: 100_000,
@@ -71,7 +71,7 @@ const CASES: [Case; 25] = [
         is_flushed: true,
         status: Status::Done,
         written: 100_000,
-        told: "100000 bytes, 5 frames, 0 lost, 0 repeated, 0 late, \
+        told: "100000 bytes, 5 frames, 0 lost, 0 duplicated, 0 delayed, \
             0 refused, 0 bytes sent again, 1 rounds, 10000000 bytes a second\n",
     },
     Case {
@@ -82,7 +82,7 @@ const CASES: [Case; 25] = [
         is_flushed: true,
         status: Status::Done,
         written: 300_000,
-        told: "300000 bytes, 40 frames, 0 lost, 0 repeated, 0 late, \
+        told: "300000 bytes, 40 frames, 0 lost, 0 duplicated, 0 delayed, \
             0 refused, 0 bytes sent again, 2 rounds, 15000000 bytes a second\n",
     },
     Case {
@@ -93,7 +93,7 @@ const CASES: [Case; 25] = [
         is_flushed: true,
         status: Status::Done,
         written: 100_000,
-        told: "100000 bytes, 11 frames, 0 lost, 0 repeated, 0 late, \
+        told: "100000 bytes, 11 frames, 0 lost, 0 duplicated, 0 delayed, \
             0 refused, 0 bytes sent again, 1 rounds, 10000000 bytes a second\n",
     },
     Case {
@@ -104,7 +104,7 @@ const CASES: [Case; 25] = [
         is_flushed: true,
         status: Status::Done,
         written: 20_000,
-        told: "20000 bytes, 20003 frames, 0 lost, 0 repeated, 0 late, \
+        told: "20000 bytes, 20003 frames, 0 lost, 0 duplicated, 0 delayed, \
             0 refused, 0 bytes sent again, 3 rounds, 666666 bytes a second\n",
     },
     Case {
@@ -115,7 +115,7 @@ const CASES: [Case; 25] = [
         is_flushed: true,
         status: Status::Done,
         written: 300_000,
-        told: "300000 bytes, 304 frames, 0 lost, 0 repeated, 0 late, \
+        told: "300000 bytes, 304 frames, 0 lost, 0 duplicated, 0 delayed, \
             0 refused, 0 bytes sent again, 2 rounds, 15000000 bytes a second\n",
     },
     Case {
@@ -126,7 +126,7 @@ const CASES: [Case; 25] = [
         is_flushed: true,
         status: Status::Done,
         written: 5000,
-        told: "5000 bytes, 10002 frames, 0 lost, 0 repeated, 0 late, \
+        told: "5000 bytes, 10002 frames, 0 lost, 0 duplicated, 0 delayed, \
             0 refused, 0 bytes sent again, 2 rounds, 250000 bytes a second\n",
     },
     // Each fate, in both directions.
@@ -138,7 +138,7 @@ const CASES: [Case; 25] = [
         is_flushed: true,
         status: Status::Done,
         written: 8187,
-        told: "8187 bytes, 3 frames, 2 lost, 1 repeated, 0 late, \
+        told: "8187 bytes, 3 frames, 2 lost, 1 duplicated, 0 delayed, \
             0 refused, 0 bytes sent again, 1 rounds, 818700 bytes a second\n",
     },
     Case {
@@ -149,7 +149,7 @@ const CASES: [Case; 25] = [
         is_flushed: true,
         status: Status::Done,
         written: 8187,
-        told: "8187 bytes, 213 frames, 38 lost, 19 repeated, 17 late, \
+        told: "8187 bytes, 213 frames, 38 lost, 19 duplicated, 17 delayed, \
             0 refused, 2774 bytes sent again, 3 rounds, 272900 bytes a second\n",
     },
     Case {
@@ -160,7 +160,7 @@ const CASES: [Case; 25] = [
         is_flushed: true,
         status: Status::Done,
         written: 8187,
-        told: "8187 bytes, 255 frames, 45 lost, 11 repeated, 54 late, \
+        told: "8187 bytes, 255 frames, 45 lost, 11 duplicated, 54 delayed, \
             0 refused, 4087 bytes sent again, 24 rounds, 20992 bytes a second\n",
     },
     Case {
@@ -171,7 +171,7 @@ const CASES: [Case; 25] = [
         is_flushed: true,
         status: Status::Done,
         written: 500,
-        told: "500 bytes, 4424 frames, 2663 lost, 719 repeated, 521 late, \
+        told: "500 bytes, 4424 frames, 2663 lost, 719 duplicated, 521 delayed, \
             772 refused, 2349 bytes sent again, 22 rounds, 925 bytes a second\n",
     },
     // It reads once all that it read is written.
@@ -183,7 +183,7 @@ const CASES: [Case; 25] = [
         is_flushed: true,
         status: Status::Done,
         written: 300_000,
-        told: "300000 bytes, 123 frames, 61 lost, 0 repeated, 0 late, \
+        told: "300000 bytes, 123 frames, 61 lost, 0 duplicated, 0 delayed, \
             0 refused, 294912 bytes sent again, 12 rounds, 714285 bytes a second\n",
     },
     Case {
@@ -194,7 +194,7 @@ const CASES: [Case; 25] = [
         is_flushed: true,
         status: Status::Done,
         written: 300_000,
-        told: "300000 bytes, 11370 frames, 3403 lost, 852 repeated, 715 late, \
+        told: "300000 bytes, 11370 frames, 3403 lost, 852 duplicated, 715 delayed, \
             1376 refused, 337200 bytes sent again, 74 rounds, 280373 bytes a second\n",
     },
     // A read fails.
@@ -207,7 +207,7 @@ const CASES: [Case; 25] = [
         status: Status::Failed,
         written: 3000,
         told: "net_link: read failed: operation interrupted\n\
-            3000 bytes, 85 frames, 19 lost, 8 repeated, 7 late, \
+            3000 bytes, 85 frames, 19 lost, 8 duplicated, 7 delayed, \
             0 refused, 1200 bytes sent again, 8 rounds, 33333 bytes a second\n",
     },
     Case {
@@ -219,7 +219,7 @@ const CASES: [Case; 25] = [
         status: Status::Failed,
         written: 0,
         told: "net_link: read failed: operation interrupted\n\
-            0 bytes, 0 frames, 0 lost, 0 repeated, 0 late, \
+            0 bytes, 0 frames, 0 lost, 0 duplicated, 0 delayed, \
             0 refused, 0 bytes sent again, 0 rounds, 0 bytes a second\n",
     },
     // A write fails.
@@ -232,7 +232,7 @@ const CASES: [Case; 25] = [
         status: Status::Failed,
         written: 2300,
         told: "net_link: write failed: operation interrupted\n\
-            2300 bytes, 201 frames, 38 lost, 19 repeated, 17 late, \
+            2300 bytes, 201 frames, 38 lost, 19 duplicated, 17 delayed, \
             0 refused, 2387 bytes sent again, 2 rounds, 115000 bytes a second\n",
     },
     // The flush fails.
@@ -245,7 +245,7 @@ const CASES: [Case; 25] = [
         status: Status::Failed,
         written: 8187,
         told: "net_link: write failed: operation interrupted\n\
-            8187 bytes, 213 frames, 38 lost, 19 repeated, 17 late, \
+            8187 bytes, 213 frames, 38 lost, 19 duplicated, 17 delayed, \
             0 refused, 2774 bytes sent again, 3 rounds, 272900 bytes a second\n",
     },
     // Too little comes.
@@ -258,7 +258,7 @@ const CASES: [Case; 25] = [
         status: Status::GaveUp,
         written: 0,
         told: "net_link: gave up\n\
-            0 bytes, 200 frames, 200 lost, 0 repeated, 0 late, \
+            0 bytes, 200 frames, 200 lost, 0 duplicated, 0 delayed, \
             0 refused, 891 bytes sent again, 100 rounds, 0 bytes a second\n",
     },
     Case {
@@ -270,7 +270,7 @@ const CASES: [Case; 25] = [
         status: Status::GaveUp,
         written: 3,
         told: "net_link: gave up\n\
-            3 bytes, 798 frames, 795 lost, 0 repeated, 0 late, \
+            3 bytes, 798 frames, 795 lost, 0 duplicated, 0 delayed, \
             0 refused, 1707 bytes sent again, 224 rounds, 0 bytes a second\n",
     },
     Case {
@@ -282,7 +282,7 @@ const CASES: [Case; 25] = [
         status: Status::GaveUp,
         written: 3,
         told: "net_link: gave up\n\
-            3 bytes, 1170 frames, 1166 lost, 0 repeated, 0 late, \
+            3 bytes, 1170 frames, 1166 lost, 0 duplicated, 0 delayed, \
             0 refused, 2373 bytes sent again, 374 rounds, 0 bytes a second\n",
     },
     Case {
@@ -294,7 +294,7 @@ const CASES: [Case; 25] = [
         status: Status::GaveUp,
         written: 0,
         told: "net_link: gave up\n\
-            0 bytes, 5 frames, 4 lost, 0 repeated, 0 late, \
+            0 bytes, 5 frames, 4 lost, 0 duplicated, 0 delayed, \
             0 refused, 0 bytes sent again, 1 rounds, 0 bytes a second\n",
     },
     // The counts are shown on the way.
@@ -306,11 +306,11 @@ const CASES: [Case; 25] = [
         is_flushed: true,
         status: Status::Done,
         written: 9,
-        told: "3 bytes, 894 frames, 891 lost, 0 repeated, 0 late, \
+        told: "3 bytes, 894 frames, 891 lost, 0 duplicated, 0 delayed, \
             0 refused, 1899 bytes sent again, 256 rounds, 0 bytes a second\n\
-            3 bytes, 1446 frames, 1441 lost, 0 repeated, 0 late, \
+            3 bytes, 1446 frames, 1441 lost, 0 duplicated, 0 delayed, \
             0 refused, 2787 bytes sent again, 512 rounds, 0 bytes a second\n\
-            9 bytes, 1527 frames, 1521 lost, 0 repeated, 0 late, \
+            9 bytes, 1527 frames, 1521 lost, 0 duplicated, 0 delayed, \
             0 refused, 2907 bytes sent again, 552 rounds, 0 bytes a second\n",
     },
     Case {
@@ -321,7 +321,7 @@ const CASES: [Case; 25] = [
         is_flushed: true,
         status: Status::Done,
         written: 8187,
-        told: "8187 bytes, 213 frames, 38 lost, 19 repeated, 17 late, \
+        told: "8187 bytes, 213 frames, 38 lost, 19 duplicated, 17 delayed, \
             0 refused, 2774 bytes sent again, 3 rounds, 272900 bytes a second\n",
     },
 ];
@@ -396,16 +396,16 @@ fn copies_over_the_link_that_words_ask_for(rt: HostRuntime) -> Result<(), Fail> 
 }
 
 /// How the program is used, as docs/LINK.md says it.
-const USAGE: &str = "usage: net_link [--progress] LOSS SEED [REPEATED LATE [BYTES [ROUNDS]]]
+const USAGE: &str = "usage: net_link [--progress] LOSS SEED [DUPLICATED DELAYED [BYTES [ROUNDS]]]
        net_link --help
-Copies standard input to standard output over a link that loses, repeats and delays frames.
+Copies standard input to standard output over a link that loses, duplicates and delays frames.
 Time is simulated: the program waits for nothing but its input.
   LOSS        frames lost, of 100: 0 to 99
   SEED        where the fates are drawn from: 0 to 18446744073709551615
-  REPEATED    frames that come twice, of 100 not lost: 0 to 99; else half of LOSS
-  LATE        frames that come late, of 100 neither: 0 to 99; else half of LOSS
+  DUPLICATED  frames that come twice, of 100 not lost: 0 to 99; else half of LOSS
+  DELAYED     frames that are delayed, of 100 neither: 0 to 99; else half of LOSS
   BYTES       the most bytes of a frame's payload: 1 to 65536; else 16384
-  ROUNDS      gives up after so many rounds in a row that bring nothing on:
+  ROUNDS      gives up after so many rounds in a row without progress:
               1 to 18446744073709551615; else 100
   --progress  shows the counts so far on standard error after each 256 rounds
 ";
@@ -443,8 +443,8 @@ fn names_the_first_wrong_word(rt: HostRuntime) -> Result<(), Fail> {
             "0 18446744073709551616",
             "SEED is 0 to 18446744073709551615, not 18446744073709551616",
         ),
-        ("0 1 100 0", "REPEATED is 0 to 99, not 100"),
-        ("0 1 0 100", "LATE is 0 to 99, not 100"),
+        ("0 1 100 0", "DUPLICATED is 0 to 99, not 100"),
+        ("0 1 0 100", "DELAYED is 0 to 99, not 100"),
         ("0 1 0 0 0", "BYTES is 1 to 65536, not 0"),
         ("0 1 0 0 65537", "BYTES is 1 to 65536, not 65537"),
         ("0 1 0 0 1 0", "ROUNDS is 1 to 18446744073709551615, not 0"),
@@ -510,7 +510,7 @@ fn check_refused_memory(rt: &impl Abort, alloc: Global, refused: usize) -> Resul
     let ended = serve(&heap, &words, &mut reader, &mut writer, &mut errors);
     assert_ended(rt, ended, Status::Failed, "refused");
     let told =
-        b"net_link: out of memory\n0 bytes, 0 frames, 0 lost, 0 repeated, 0 late, 0 refused, \
+        b"net_link: out of memory\n0 bytes, 0 frames, 0 lost, 0 duplicated, 0 delayed, 0 refused, \
         0 bytes sent again, 0 rounds, 0 bytes a second\n";
     assert_bytes(rt, &errors.stream.bytes, told, "refused");
     Ok(())

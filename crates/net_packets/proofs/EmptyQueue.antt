@@ -4,12 +4,12 @@ use Rattle.std.proofs.lemmas.Bool.{le-leb, lt-leb, cond-true, cond-false}
 use Rattle.std.specs.Prelude.{Option}
 use Rattle.std.specs.declared.option.Option.TheVariants.{Some, None}
 use Rattle.net_ring.specs.Ring.{ring, contiguous_window}
-use Rattle.net_packets.specs.Packets.{Packet, PacketQueue, placement, gap_for, if_slots}
+use Rattle.net_packets.specs.Packets.{Packet, PacketsState, placement, gap_for, if_slots}
 use Rattle.net_packets.specs.PacketHistory.{contents}
 use Rattle.net_ring.proofs.RingFacts.{storage_index-zero}
 use Rattle.net_packets.proofs.PacketRuns.{contents_none}
 
--- the whole storage of an empty ring is free in a row
+-- all free bytes of an empty ring are contiguous
 contiguous_all : (storage : List ℕ) → contiguous_window (ring storage 0 0) ≡ length storage
 contiguous_all storage =
     let at = storage_index-zero (ring storage 0 0) (inl refl, omega arith) in
@@ -37,19 +37,19 @@ module _ {H : Type 0} where
       ap₂ if_slots (omega arith) (ap₂ (gap_for size) all (omega arith))
   placement_is slots storage read_at (p ∷ ps) size none = absurd (omega (arith, none))
 
-  placement_empty : (q : PacketQueue H) (size : ℕ) → contents q ≡ [] →
+  placement_empty : (q : PacketsState H) (size : ℕ) → contents q ≡ [] →
       placement q size ≡ if_slots q.slot_count (gap_for size (length q.storage) (length q.storage))
   placement_empty q size none = placement_is q.slot_count q.storage q.read_at q.packets size ((contents_none q).0 none)
 
-  pub empty_taken : (q : PacketQueue H) (size : ℕ) → contents q ≡ [] → 0 < q.slot_count → size ≤ length q.storage → placement q size ≡ Some 0
+  pub empty_taken : (q : PacketsState H) (size : ℕ) → contents q ≡ [] → 0 < q.slot_count → size ≤ length q.storage → placement q size ≡ Some 0
   empty_taken q size none slot le =
       placement_empty q size none ∙ ap (if_slots q.slot_count) (gap_taken size (length q.storage) le)
       ∙ cond-true _ _ _ (le-leb 1 q.slot_count slot)
 
-  pub empty_no_slot : (q : PacketQueue H) (size : ℕ) → contents q ≡ [] → q.slot_count ≡ 0 → placement q size ≡ None
+  pub empty_no_slot : (q : PacketsState H) (size : ℕ) → contents q ≡ [] → q.slot_count ≡ 0 → placement q size ≡ None
   empty_no_slot q size none slot =
       let free : ℕ → Option ℕ = λ n. if_slots n (gap_for size (length q.storage) (length q.storage)) in
       placement_empty q size none ∙ ap free slot ∙ no_slots (gap_for size (length q.storage) (length q.storage))
 
-  pub empty_too_long : (q : PacketQueue H) (size : ℕ) → contents q ≡ [] → length q.storage < size → placement q size ≡ None
+  pub empty_too_long : (q : PacketsState H) (size : ℕ) → contents q ≡ [] → length q.storage < size → placement q size ≡ None
   empty_too_long q size none long = placement_empty q size none ∙ ap (if_slots q.slot_count) (gap_refused size (length q.storage) long)

@@ -9,7 +9,7 @@ use Rattle.std.specs.declared.option.Option.TheVariants.{Some, None}
 use Rattle.net_ring.specs.Ring.{RingState, index_after, capacity, window, queue, write_at, IsWellFormed, Enqueues}
 use Rattle.net_ring.specs.Ring.{with_enqueued, with_dequeued, with_elements}
 use Rattle.net_packets.specs.Packets.{Packet, packet, bytes_used, slots_used, slots_for, IsPlaced, ArePlaced, gap_for, if_slots}
-use Rattle.net_packets.specs.PacketSlots.{slot, gap_slot, packet_slots, packets_in, StandFor}
+use Rattle.net_packets.specs.PacketSlots.{slot, gap_slot, packet_slots, packets_in, Represents}
 use Rattle.net_packets.specs.declared.packet_metadata.PacketMetadata.{PacketMetadata}
 use Rattle.net_ring.proofs.Rotations.{length-queue, length-overwrite}
 
@@ -203,7 +203,7 @@ module _ {H : Type 0} where
       let k : 0 + p.gap + p.size ≡ p.size + 0 = omega (arith, z) in
       placed_from c r p.size 0 ps wf (omega (arith, le)) (subst (λ (j : ℕ). ArePlaced c r j ps) k a.1)
 
-  module _ (m : RingState (PacketMetadata H)) (b : RingState ℕ) (ps : List (Packet H)) (h : StandFor m b ps) where
+  module _ (m : RingState (PacketMetadata H)) (b : RingState ℕ) (ps : List (Packet H)) (h : Represents m b ps) where
     pub count_is : m.count ≡ slots_used ps
     count_is = sym (length-queue m h.0) ∙ ap length h.2 ∙ length-slots ps
 
@@ -212,7 +212,7 @@ module _ {H : Type 0} where
   empty_go n (x ∷ xs) e = let p = slots_pos (x ∷ xs) in ne_eqb n 0 (λ z. absurd (omega (arith, p, e, z)))
       ∙ sym (ne_eqb (length (x ∷ xs)) 0 (λ z. absurd (omega (arith, z))))
 
-  pub empty_is : (m : RingState (PacketMetadata H)) (b : RingState ℕ) (ps : List (Packet H)) → StandFor m b ps → (m.count == 0) ≡ (length ps == 0)
+  pub empty_is : (m : RingState (PacketMetadata H)) (b : RingState ℕ) (ps : List (Packet H)) → Represents m b ps → (m.count == 0) ≡ (length ps == 0)
   empty_is m b ps h = empty_go m.count ps (count_is m b ps h)
 
   -- ---- a slot more

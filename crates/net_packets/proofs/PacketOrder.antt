@@ -11,19 +11,19 @@ use Rattle.net_ring.specs.Overwrite.{overwrite}
 use Rattle.net_ring.specs.Ring.{RingState, ring, index_after, capacity, window, queue, spare}
 use Rattle.net_ring.specs.Ring.{storage_index, IsWellFormed, from_start_if_empty, with_enqueued}
 use Rattle.net_ring.specs.Ring.{with_elements}
-use Rattle.net_packets.specs.Packets.{Packet, PacketQueue, packet, bytes_used, slots_used}
+use Rattle.net_packets.specs.Packets.{Packet, PacketsState, packet, bytes_used, slots_used}
 use Rattle.net_packets.specs.Packets.{byte_ring, ArePlaced, placement, with_packet_if_room}
 use Rattle.net_packets.specs.Packets.{with_last_bytes, with_last_size, first_gap, first_size}
 use Rattle.net_packets.specs.Packets.{without_first_gap, without_gap, IsFirstSized, IsFirst}
 use Rattle.net_packets.specs.Packets.{with_first_header, with_first_bytes, without_first}
 use Rattle.net_packets.specs.Packets.{without_first_and_gap, IsWellPlaced}
-use Rattle.net_packets.specs.PacketSlots.{slot, packet_slots, packets_in, StandFor, packet_queue}
+use Rattle.net_packets.specs.PacketSlots.{slot, packet_slots, packets_in, Represents, packets_state}
 use Rattle.net_packets.specs.PacketHistory.{contents_of, contents}
 use Rattle.net_packets.specs.declared.packet_metadata.PacketMetadata.{PacketMetadata}
 use Rattle.net_ring.proofs.Rotations.{length-overwrite, length-queue, length-spare}
 use Rattle.net_ring.proofs.Rotations.{with_enqueued_parts, with_dequeued_parts, take_sum, cut}
 use Rattle.net_ring.proofs.Rotations.{overwrite_at, storage_index_is}
-use Rattle.net_ring.proofs.RingFacts.{written_wf, spare_law, queue_law, queue_value, restarted_is, read_index_is}
+use Rattle.net_ring.proofs.RingFacts.{written_wf, spare_law, queue_law, queue_value, rewound_is, read_index_is}
 use Rattle.net_packets.proofs.PacketFacts.{bytes_append, length-slots, place_wf}
 use Rattle.net_packets.proofs.PacketSteps.{viewed, here, wfg, count_g, byte_room, put_is, cut_is, same, closed}
 
@@ -62,7 +62,7 @@ filled_queue g wf gap k ws room fits le =
     t.0 ∙ ap₂ ◌++◌ w.0 (ap (take (gap + k)) w.1 ∙ take_over (spare g) ws gap k (omega (arith, room, s)) le)
 
 module _ {H : Type 0} where
-  abbrev mk : ℕ → List ℕ → ℕ → List (Packet H) → PacketQueue H
+  abbrev mk : ℕ → List ℕ → ℕ → List (Packet H) → PacketsState H
   mk n st r ps = record { slot_count = n; storage = st; read_at = r; packets = ps }
 
   pub contents_append : (ps : List (Packet H)) (p : Packet H) (bs x ws : List ℕ) → length bs ≡ bytes_used ps → length x ≡ p.gap
@@ -82,7 +82,7 @@ module _ {H : Type 0} where
       ∙ ap (λ c. (o.header, take o.size (drop o.gap bs)) ∷ c) (contents_append ps p (drop (o.gap + o.size) bs) x ws (omega (arith, n, m)) l)
 
   -- ---- the rings of a queue
-  module _ (q : PacketQueue H) (ok : IsWellPlaced q) where
+  module _ (q : PacketsState H) (ok : IsWellPlaced q) where
     abbrev fill : List (PacketMetadata H)
     fill = replicate (q.slot_count - slots_used q.packets) (slot 0 None)
 
@@ -103,14 +103,14 @@ module _ {H : Type 0} where
     queue_is = ap (take (slots_used q.packets)) (append-nil (packet_slots q.packets ++ fill))
         ∙ take_at (packet_slots q.packets) fill (slots_used q.packets) (length-slots q.packets)
 
-    pub holds : StandFor m b q.packets
+    pub holds : Represents m b q.packets
     holds = ((inl refl, omega (arith, long, ok.2)), ok.0, queue_is, refl, ok.1)
 
-    pub is_queue : packet_queue m b ≡ q
+    pub is_queue : packets_state m b ≡ q
     is_queue = viewed m b q.packets holds ∙ ap (λ (n : ℕ). mk n q.storage q.read_at q.packets) long
 
   -- ---- a packet comes last
-  module _ (m : RingState (PacketMetadata H)) (b : RingState ℕ) (h : StandFor m b (packets_in 0 (queue m))) (gap s : ℕ) (e : placement (packet_queue m b) s
+  module _ (m : RingState (PacketMetadata H)) (b : RingState ℕ) (h : Represents m b (packets_in 0 (queue m))) (gap s : ℕ) (e : placement (packets_state m b) s
       ≡ Some gap) (hd : H) (k : ℕ) (le : k ≤ s) (ws : List ℕ) (long : length ws ≡ s) where
     abbrev kept : List (Packet H)
     kept = packets_in 0 (queue m)
@@ -122,7 +122,7 @@ module _ {H : Type 0} where
     at = storage_index g (g.count + gap)
 
     accepted_go : contents (mk (capacity m) (overwrite g.storage at ws) g.read_at (kept ++ (packet hd k gap ∷ [])))
-        ≡ contents (packet_queue m b) ++ ((hd, take k ws) ∷ [])
+        ≡ contents (packets_state m b) ++ ((hd, take k ws) ∷ [])
     unfolding contents
     accepted_go =
         let fits = here m b h gap s e in
@@ -138,26 +138,26 @@ module _ {H : Type 0} where
         ap (λ (i : ℕ). contents_of (kept ++ (packet hd k gap ∷ [])) (queue (ring (overwrite g.storage at ws) g.read_at i))) n
         ∙ ap (contents_of (kept ++ (packet hd k gap ∷ []))) filled
         ∙ contents_append kept (packet hd k gap) (queue g) (take gap (spare g)) (take k ws) (omega (arith, q, counts)) skip
-        ∙ ap₂ (λ (bs one : List ℕ). contents_of kept bs ++ ((hd, one) ∷ [])) (restarted_is b).0 (take-take k k ws (omega arith))
+        ∙ ap₂ (λ (bs one : List ℕ). contents_of kept bs ++ ((hd, one) ∷ [])) (rewound_is b).0 (take-take k k ws (omega arith))
         ∙ ap (λ (o : RingState ℕ). contents_of kept (queue o) ++ ((hd, take k ws) ∷ [])) (sym (same m b h gap s e))
 
-  module _ (q : PacketQueue H) (ok : IsWellPlaced q) (s : ℕ) (hd : H) (ws : List ℕ) (some : placement q s ≢ None) (long : length ws ≡ s) where
-    module _ (m : RingState (PacketMetadata H)) (b : RingState ℕ) (h : StandFor m b (packets_in 0 (queue m))) (is : packet_queue m b ≡ q) where
-      gap_is : (n : ℕ) × (placement (packet_queue m b) s ≡ Some n)
-      gap_is = some_of (placement (packet_queue m b) s) (subst (λ (o : PacketQueue H). placement o s ≢ None) (sym is) some)
+  module _ (q : PacketsState H) (ok : IsWellPlaced q) (s : ℕ) (hd : H) (ws : List ℕ) (some : placement q s ≢ None) (long : length ws ≡ s) where
+    module _ (m : RingState (PacketMetadata H)) (b : RingState ℕ) (h : Represents m b (packets_in 0 (queue m))) (is : packets_state m b ≡ q) where
+      gap_is : (n : ℕ) × (placement (packets_state m b) s ≡ Some n)
+      gap_is = some_of (placement (packets_state m b) s) (subst (λ (o : PacketsState H). placement o s ≢ None) (sym is) some)
 
       put_go : contents (with_last_bytes (with_packet_if_room q s hd) ws) ≡ contents q ++ ((hd, ws) ∷ [])
       put_go =
           let gap = gap_is.0 in let e = gap_is.1 in
           let all : take s ws ≡ ws = take_all s ws (omega (arith, long)) in
-          subst (λ (o : PacketQueue H). contents (with_last_bytes (with_packet_if_room o s hd) ws) ≡ contents o ++ ((hd, ws) ∷ [])) is
+          subst (λ (o : PacketsState H). contents (with_last_bytes (with_packet_if_room o s hd) ws) ≡ contents o ++ ((hd, ws) ∷ [])) is
           (sym (ap contents (put_is m b h gap s e hd ws)) ∙ accepted_go m b h gap s e hd s (omega arith) ws long
-          ∙ ap (λ (l : List ℕ). contents (packet_queue m b) ++ ((hd, l) ∷ [])) all)
+          ∙ ap (λ (l : List ℕ). contents (packets_state m b) ++ ((hd, l) ∷ [])) all)
 
       cut_go : (k : ℕ) → k ≤ s → contents (with_last_size k (with_last_bytes (with_packet_if_room q s hd) ws)) ≡ contents q ++ ((hd, take k ws) ∷ [])
       cut_go k le =
           let gap = gap_is.0 in let e = gap_is.1 in
-          subst (λ (o : PacketQueue H). contents (with_last_size k (with_last_bytes (with_packet_if_room o s hd) ws)) ≡ contents o ++ ((hd, take k ws) ∷ [])) is
+          subst (λ (o : PacketsState H). contents (with_last_size k (with_last_bytes (with_packet_if_room o s hd) ws)) ≡ contents o ++ ((hd, take k ws) ∷ [])) is
           (sym (ap contents (cut_is m b h gap s e hd k ws)) ∙ accepted_go m b h gap s e hd k le ws long)
 
     pub accepted : contents (with_last_bytes (with_packet_if_room q s hd) ws) ≡ contents q ++ ((hd, ws) ∷ [])
@@ -298,7 +298,7 @@ module _ {H : Type 0} where
       ∙ ap (drop p.size) (w.0 ∙ ap (λ (l : List ℕ). overwrite l 0 ws) sk.0) ∙ (over_head (drop p.gap (queue c)) ws p.size (omega (arith, n, q)) long).1)
       ∙ sym (contents_rest p.header p.size ps (drop p.gap (queue c))) ∙ ap (drop 1) (contents_skip p.header p.size p.gap ps (queue c))
 
-  module _ (q : PacketQueue H) (ok : IsWellPlaced q) where
+  module _ (q : PacketsState H) (ok : IsWellPlaced q) where
     pub gap_dropped : contents (without_gap q) ≡ contents q
     unfolding contents
     gap_dropped = skipped_go q.storage q.read_at q.packets ok.0

@@ -11,19 +11,19 @@ use Rattle.std.specs.Prelude.{set}
 use Rattle.std.specs.declared.option.Option.TheVariants.{Some, None}
 use Rattle.net_ring.specs.Overwrite.{overwrite}
 use Rattle.net_ring.specs.Ring.{index_after, queue, storage_index}
-use Rattle.net_packets.specs.Packets.{Packet, PacketQueue, no_packets, packet, bytes_used}
+use Rattle.net_packets.specs.Packets.{Packet, PacketsState, no_packets, packet, bytes_used}
 use Rattle.net_packets.specs.Packets.{slots_used, byte_ring, ArePlaced, placement, with_packet}
 use Rattle.net_packets.specs.Packets.{with_packet_if, with_packet_if_room, only_last, last_index}
 use Rattle.net_packets.specs.Packets.{last_bytes, with_last_bytes, with_last_size, with_first_size}
 use Rattle.net_packets.specs.Packets.{first_gap, first_size, without_first_gap, without_gap}
 use Rattle.net_packets.specs.Packets.{with_first_header, with_first_bytes, without_first}
-use Rattle.net_packets.specs.Packets.{without_first_and_gap, after_hand_out, freed_bytes_index}
-use Rattle.net_packets.specs.Packets.{freed_bytes, AreFreed, with_bytes, first_bytes, IsFirst}
+use Rattle.net_packets.specs.Packets.{without_first_and_gap, after_hand_out, last_dequeued_bytes_index}
+use Rattle.net_packets.specs.Packets.{last_dequeued_bytes, AreLastDequeued, with_bytes, first_bytes, IsFirst}
 use Rattle.net_packets.specs.Packets.{IsFirstSized, IsWellPlaced}
 use Rattle.net_ring.specs.Log.{Log, empty_log}
 use Rattle.net_packets.specs.PacketHistory.{contents_of, contents, QueueCall, Reset, Place}
 use Rattle.net_packets.specs.PacketHistory.{WriteLast, Enqueue, EnqueueWith, Peek, DequeueErr}
-use Rattle.net_packets.specs.PacketHistory.{DequeueOk, Take, WriteFreed, Dequeue, Makes, MakesAll}
+use Rattle.net_packets.specs.PacketHistory.{DequeueOk, Take, WriteLastDequeued, Dequeue, Makes, MakesAll}
 use Rattle.net_packets.specs.PacketHistory.{with_bytes_in_last_entry, log_after, log_after_all}
 use Rattle.net_packets.specs.PacketHistory.{history}
 use Rattle.net_ring.proofs.Overwrites.{overwrite-same}
@@ -53,11 +53,11 @@ ends_in (x ∷ (o ∷ xs)) some =
     (x ∷ rest.0, rest.1, ap (λ l. x ∷ l) rest.2)
 
 module _ {H : Type 0} where
-  abbrev mk : ℕ → List ℕ → ℕ → List (Packet H) → PacketQueue H
+  abbrev mk : ℕ → List ℕ → ℕ → List (Packet H) → PacketsState H
   mk n st r ps = record { slot_count = n; storage = st; read_at = r; packets = ps }
 
   -- ---- each step leaves the packets well placed
-  with_bytes_well : (q : PacketQueue H) → IsWellPlaced q → (p : ℕ) (ws : List ℕ) → IsWellPlaced (with_bytes q p ws)
+  with_bytes_well : (q : PacketsState H) → IsWellPlaced q → (p : ℕ) (ws : List ℕ) → IsWellPlaced (with_bytes q p ws)
   with_bytes_well q ok p ws =
       subst (λ (n : ℕ). (((q.read_at ≡ 0) ⊎ (q.read_at < n)) × (bytes_used q.packets ≤ n)) × ArePlaced n q.read_at 0 q.packets
       × (slots_used q.packets ≤ q.slot_count)) (sym (length-overwrite q.storage p ws)) ok
@@ -81,7 +81,7 @@ module _ {H : Type 0} where
   headed_go n st r [] hd ok = (ok, refl)
   headed_go n st r (p ∷ ps) hd ok = (ok, refl)
 
-  module _ (q : PacketQueue H) (ok : IsWellPlaced q) where
+  module _ (q : PacketsState H) (ok : IsWellPlaced q) where
     skipped_well : IsWellPlaced (without_gap q)
     skipped_well = skipped_go q.slot_count q.storage q.read_at q.packets ok
 
@@ -105,8 +105,8 @@ module _ {H : Type 0} where
           let m = order.m q ok in let b = order.b q ok in
           let is = order.is_queue q ok in
           let h = closed m b q.packets (order.holds q ok) in
-          subst (λ (o : PacketQueue H). IsWellPlaced (with_packet o gap k hd)) is
-          (push_well m b h gap s (ap (λ (o : PacketQueue H). placement o s) is ∙ e) hd k le)
+          subst (λ (o : PacketsState H). IsWellPlaced (with_packet o gap k hd)) is
+          (push_well m b h gap s (ap (λ (o : PacketsState H). placement o s) is ∙ e) hd k le)
 
       placed_is : with_packet_if_room q s hd ≡ with_packet q gap s hd
       placed_is = ap (λ o. with_packet_if q o s hd) e
@@ -129,7 +129,7 @@ module _ {H : Type 0} where
           subst IsWellPlaced (cut_is s hd g.0 g.1 k ws)
           (with_bytes_well (with_packet q g.0 k hd) (pushed_well s hd g.0 g.1 k le) (last_index (with_packet q g.0 s hd)) ws)
 
-  keeps : (call : QueueCall H) (q r : PacketQueue H) → IsWellPlaced q → Makes call q r → IsWellPlaced r
+  keeps : (call : QueueCall H) (q r : PacketsState H) → IsWellPlaced q → Makes call q r → IsWellPlaced r
   keeps Reset q r ok is = subst IsWellPlaced (sym is) ((inl refl, omega arith), tt, omega arith)
   keeps (Place hd ws) q r ok does = subst IsWellPlaced (sym does.1) (placed_well q ok (length ws) hd does.0)
   keeps (WriteLast ws) q r ok does = subst IsWellPlaced (sym does.2) (with_bytes_well q ok (last_index q) ws)
@@ -141,12 +141,12 @@ module _ {H : Type 0} where
   keeps (DequeueErr hd ws) q r ok does = subst IsWellPlaced (sym does.2) (written_headed q ok hd ws).0
   keeps (DequeueOk hd ws after written) q r ok does = subst IsWellPlaced (sym does.2) (written_off q ok after written)
   keeps (Take hd ws) q r ok does = subst IsWellPlaced (sym does.1) (taken_well q ok)
-  keeps (WriteFreed ws) q r ok does = subst IsWellPlaced (sym does.1) (with_bytes_well q ok (freed_bytes_index q (length ws)) ws)
+  keeps (WriteLastDequeued ws) q r ok does = subst IsWellPlaced (sym does.1) (with_bytes_well q ok (last_dequeued_bytes_index q (length ws)) ws)
   keeps (Dequeue hd ws written) q r ok does = subst IsWellPlaced (sym does.2)
       (with_bytes_well (without_first_and_gap q) (taken_well q ok) (without_gap q).read_at written)
 
   -- ---- what a step makes of the contents
-  placed_contents : (q : PacketQueue H) → IsWellPlaced q → (hd : H) (ws : List ℕ) → placement q (length ws) ≢ None
+  placed_contents : (q : PacketsState H) → IsWellPlaced q → (hd : H) (ws : List ℕ) → placement q (length ws) ≢ None
       → ws ≡ last_bytes (with_packet_if_room q (length ws) hd)
       → contents (with_packet_if_room q (length ws) hd) ≡ contents q ++ ((hd, ws) ∷ [])
   placed_contents q ok hd ws some is =
@@ -190,7 +190,7 @@ module _ {H : Type 0} where
         ap (contents_of q.packets) (w ∙ over) ∙ contents_append ps p a x ws c1.3 c2.3 ∙ ap (λ (l : List ℕ). contents_of ps a ++ ((p.header, l) ∷ [])) full,
       )
 
-  last_contents : (q : PacketQueue H) → IsWellPlaced q → (ws : List ℕ) → q.packets ≢ [] → length ws ≡ first_size (only_last q.packets)
+  last_contents : (q : PacketsState H) → IsWellPlaced q → (ws : List ℕ) → q.packets ≢ [] → length ws ≡ first_size (only_last q.packets)
       → (before : List (H × List ℕ)) × (hd : H) × (old : List ℕ) × (contents q ≡ before ++ ((hd, old) ∷ []))
       × (contents (with_last_bytes q ws) ≡ before ++ ((hd, ws) ∷ []))
   last_contents q ok ws some long =
@@ -199,17 +199,17 @@ module _ {H : Type 0} where
       let l = last_go q.slot_count q.storage q.read_at end.0 end.1 ws (subst IsWellPlaced is ok) (long ∙ ap (λ ps. first_size (only_last ps)) end.2) in
       (l.0, end.1.header, l.1, ap contents is ∙ l.2, ap (λ o. contents (with_last_bytes o ws)) is ∙ l.3)
 
-  pub freed_contents : (q : PacketQueue H) → IsWellPlaced q → (ws : List ℕ) → AreFreed q (length ws)
-      → contents (with_bytes q (freed_bytes_index q (length ws)) ws) ≡ contents q
+  pub last_dequeued_contents : (q : PacketsState H) → IsWellPlaced q → (ws : List ℕ) → AreLastDequeued q (length ws)
+      → contents (with_bytes q (last_dequeued_bytes_index q (length ws)) ws) ≡ contents q
   unfolding contents
-  freed_contents q ok ws f =
+  last_dequeued_contents q ok ws f =
       let c = byte_ring q in
       let s = length ws in
       let i : ℕ = length q.storage - bytes_used q.packets - s in
       let z : length q.storage - s ≡ c.count + i = omega (arith, f.0, ok.0.1) in
       let at = ap (storage_index c) z in
-      let w = spare_law c ok.0 i (freed_bytes_index q s) ws (omega (arith, f.0)) f.1
-      (subst (λ (j : ℕ). IsStorageIndex (length q.storage) q.read_at j (freed_bytes_index q s)) z (storage_index_is c (length q.storage - s))) in
+      let w = spare_law c ok.0 i (last_dequeued_bytes_index q s) ws (omega (arith, f.0)) f.1
+      (subst (λ (j : ℕ). IsStorageIndex (length q.storage) q.read_at j (last_dequeued_bytes_index q s)) z (storage_index_is c (length q.storage - s))) in
       ap (contents_of q.packets) w.0
 
   close_size : (ps : List (Packet H)) → first_size (without_first_gap ps) ≡ first_size ps
@@ -222,27 +222,27 @@ module _ {H : Type 0} where
   rest_bytes (p ∷ ps) = omega arith
 
   off_go : (n : ℕ) (st : List ℕ) (r : ℕ) (ps : List (Packet H)) → IsWellPlaced (mk n st r ps) → first_gap ps ≡ 0 → let o =
-      without_first (mk n st r ps) in (freed_bytes_index o (first_size ps) ≡ r) × AreFreed o (first_size ps)
+      without_first (mk n st r ps) in (last_dequeued_bytes_index o (first_size ps) ≡ r) × AreLastDequeued o (first_size ps)
   off_go n st r ps ok z =
       let c = length st in
       let s = first_size ps in
       let rest = rest_bytes ps in
       let f = head_fits c r ps ok.0.0 ok.0.1 ok.1 z in
       let back : s + (c - s) ≡ c = omega (arith, f.1) in
-      let round : freed_bytes_index (without_first (mk n st r ps)) s ≡ r =
+      let round : last_dequeued_bytes_index (without_first (mk n st r ps)) s ≡ r =
       place_place c r s (c - s) ok.0.0 (omega (arith, f.1)) ∙ ap (index_after c r) back ∙ (elim (place_cases c r c) [
         | inl h ↦ absurd (omega (arith, h.0))
         | inr h ↦ omega (arith, h.1, f.1)
       ]) in
       (round, (omega (arith, rest, ok.0.1), omega (arith, round, f.1)))
 
-  pub off_contents : (q : PacketQueue H) → IsWellPlaced q → (ws : List ℕ) → length ws ≡ first_size q.packets
+  pub off_contents : (q : PacketsState H) → IsWellPlaced q → (ws : List ℕ) → length ws ≡ first_size q.packets
       → contents (with_bytes (without_first_and_gap q) (without_gap q).read_at ws) ≡ contents (without_first_and_gap q)
   off_contents q ok ws long =
       let f = off_go q.slot_count q.storage (without_gap q).read_at (without_first_gap q.packets) (skipped_well q ok) (close_gap q.packets) in
       let size : first_size (without_first_gap q.packets) ≡ length ws = close_size q.packets ∙ sym long in
-      ap (λ (p : ℕ). contents (with_bytes (without_first_and_gap q) p ws)) (sym f.0 ∙ ap (freed_bytes_index (without_first_and_gap q)) size)
-      ∙ freed_contents (without_first_and_gap q) (taken_well q ok) ws (subst (λ (s : ℕ). AreFreed (without_first_and_gap q) s) size f.1)
+      ap (λ (p : ℕ). contents (with_bytes (without_first_and_gap q) p ws)) (sym f.0 ∙ ap (last_dequeued_bytes_index (without_first_and_gap q)) size)
+      ∙ last_dequeued_contents (without_first_and_gap q) (taken_well q ok) ws (subst (λ (s : ℕ). AreLastDequeued (without_first_and_gap q) s) size f.1)
 
   -- ---- laws that users call for
   last_entry : (ps : List (H × List ℕ)) (hd : H) (old ws : List ℕ) → with_bytes_in_last_entry ws (ps ++ ((hd, old) ∷ [])) ≡ ps ++ ((hd, ws) ∷ [])
@@ -255,16 +255,16 @@ module _ {H : Type 0} where
   length-contents_of [] bs = refl
   length-contents_of (p ∷ ps) bs = ap suc (length-contents_of ps (drop (p.gap + p.size) bs))
 
-  pub contents_count : (q : PacketQueue H) → length (contents q) ≡ length q.packets
+  pub contents_count : (q : PacketsState H) → length (contents q) ≡ length q.packets
   unfolding contents
   contents_count q = length-contents_of q.packets (queue (byte_ring q))
 
-  pub contents_none : (q : PacketQueue H) → (contents q ≡ []) ↔ (length q.packets ≡ 0)
+  pub contents_none : (q : PacketsState H) → (contents q ≡ []) ↔ (length q.packets ≡ 0)
   contents_none q =
       let n = contents_count q in
       (λ e. sym n ∙ ap length e, λ z. nil_from_length (contents q) (n ∙ z))
 
-  pub placed_stands : (q : PacketQueue H) → IsWellPlaced q → (s : ℕ) (hd : H) → placement q s ≢ None
+  pub placed_stands : (q : PacketsState H) → IsWellPlaced q → (s : ℕ) (hd : H) → placement q s ≢ None
       → contents (with_packet_if_room q s hd) ≡ contents q ++ ((hd, last_bytes (with_packet_if_room q s hd)) ∷ [])
   placed_stands q ok s hd some =
       let g = some_of (placement q s) some in
@@ -275,7 +275,7 @@ module _ {H : Type 0} where
       let at = ap (index_after (length o.storage) o.read_at) z in
       let long = length-drop (last_index o) o.storage in
       let size : first_size (only_last o.packets) ≡ s =
-      ap (λ (p : PacketQueue H). first_size (only_last p.packets)) (placed_is q ok s hd g.0 g.1)
+      ap (λ (p : PacketsState H). first_size (only_last p.packets)) (placed_is q ok s hd g.0 g.1)
       ∙ ap first_size (last_append q.packets (packet hd s g.0)) in
       let n : length (last_bytes o) ≡ s =
       length-take-le (first_size (only_last o.packets)) (drop (last_index o) o.storage) (omega (arith, at, f.1, long)) ∙ size in
@@ -283,60 +283,60 @@ module _ {H : Type 0} where
       ∙ placed_contents q ok hd (last_bytes o) (subst (λ (m : ℕ). placement q m ≢ None) (sym n) some)
       (ap (λ (m : ℕ). last_bytes (with_packet_if_room q m hd)) (sym n))
 
-  pub last_is_written : (q : PacketQueue H) → IsWellPlaced q → (ws : List ℕ) → q.packets ≢ []
+  pub last_is_written : (q : PacketsState H) → IsWellPlaced q → (ws : List ℕ) → q.packets ≢ []
       → length ws ≡ first_size (only_last q.packets) → contents (with_last_bytes q ws) ≡ with_bytes_in_last_entry ws (contents q)
   last_is_written q ok ws some long =
       let l = last_contents q ok ws some long in
       l.4 ∙ sym (last_entry l.0 l.1 l.2 ws) ∙ ap (with_bytes_in_last_entry ws) (sym l.3)
 
   -- what was taken off stands before the read index
-  taken_bytes : (q : PacketQueue H) → IsWellPlaced q → (s : ℕ) → s ≡ first_size q.packets
-      → (freed_bytes (without_first_and_gap q) s ≡ first_bytes (without_gap q)) × (length (freed_bytes (without_first_and_gap q) s) ≡ s)
+  taken_bytes : (q : PacketsState H) → IsWellPlaced q → (s : ℕ) → s ≡ first_size q.packets
+      → (last_dequeued_bytes (without_first_and_gap q) s ≡ first_bytes (without_gap q)) × (length (last_dequeued_bytes (without_first_and_gap q) s) ≡ s)
   taken_bytes q ok s is =
       let f = off_go q.slot_count q.storage (without_gap q).read_at (without_first_gap q.packets) (skipped_well q ok) (close_gap q.packets) in
       let size : first_size (without_first_gap q.packets) ≡ s = close_size q.packets ∙ sym is in
-      let fits = subst (λ (n : ℕ). AreFreed (without_first_and_gap q) n) size f.1 in
-      let at : freed_bytes_index (without_first_and_gap q) s ≡ (without_gap q).read_at = sym (ap (freed_bytes_index (without_first_and_gap q)) size) ∙ f.0 in
-      let long = length-drop (freed_bytes_index (without_first_and_gap q) s) q.storage in (
+      let fits = subst (λ (n : ℕ). AreLastDequeued (without_first_and_gap q) n) size f.1 in
+      let at : last_dequeued_bytes_index (without_first_and_gap q) s ≡ (without_gap q).read_at = sym (ap (last_dequeued_bytes_index (without_first_and_gap q)) size) ∙ f.0 in
+      let long = length-drop (last_dequeued_bytes_index (without_first_and_gap q) s) q.storage in (
         ap₂ (λ (p n : ℕ). take n (drop p q.storage)) at (sym size),
-        length-take-le s (drop (freed_bytes_index (without_first_and_gap q) s) q.storage) (omega (arith, long, fits.1)),
+        length-take-le s (drop (last_dequeued_bytes_index (without_first_and_gap q) s) q.storage) (omega (arith, long, fits.1)),
       )
 
-  pub taken_contents : (q : PacketQueue H) → IsWellPlaced q → (hd : H) (s : ℕ) → IsFirstSized q.packets hd s
-      → contents q ≡ (hd, freed_bytes (without_first_and_gap q) s) ∷ contents (without_first_and_gap q)
+  pub taken_contents : (q : PacketsState H) → IsWellPlaced q → (hd : H) (s : ℕ) → IsFirstSized q.packets hd s
+      → contents q ≡ (hd, last_dequeued_bytes (without_first_and_gap q) s) ∷ contents (without_first_and_gap q)
   taken_contents q ok hd s first =
       let t = taken_bytes q ok s (sym (ap first_size first)) in
       let sized = subst (λ (n : ℕ). IsFirstSized q.packets hd n) (sym t.1) first in
-      order.shown q ok hd (freed_bytes (without_first_and_gap q) s) (sized, t.0)
-      ∙ ap (λ l. (hd, freed_bytes (without_first_and_gap q) s) ∷ l) (sym (order.left q ok))
+      order.shown q ok hd (last_dequeued_bytes (without_first_and_gap q) s) (sized, t.0)
+      ∙ ap (λ l. (hd, last_dequeued_bytes (without_first_and_gap q) s) ∷ l) (sym (order.left q ok))
 
   -- what stands before the read index is written over itself
-  pub freed_stay : (q : PacketQueue H) (s : ℕ) (ws : List ℕ) → ws ≡ freed_bytes q s → with_bytes q (freed_bytes_index q s) ws ≡ q
-  freed_stay q s ws is = ap (with_bytes q (freed_bytes_index q s)) is
-      ∙ ap (λ (st : List ℕ). mk q.slot_count st q.read_at q.packets) (overwrite-same q.storage (freed_bytes_index q s) s)
+  pub last_dequeued_stay : (q : PacketsState H) (s : ℕ) (ws : List ℕ) → ws ≡ last_dequeued_bytes q s → with_bytes q (last_dequeued_bytes_index q s) ws ≡ q
+  last_dequeued_stay q s ws is = ap (with_bytes q (last_dequeued_bytes_index q s)) is
+      ∙ ap (λ (st : List ℕ). mk q.slot_count st q.read_at q.packets) (overwrite-same q.storage (last_dequeued_bytes_index q s) s)
 
-  pub peeked_contents : (q : PacketQueue H) → IsWellPlaced q → contents (without_first_and_gap (without_gap q)) ≡ drop 1 (contents q)
+  pub peeked_contents : (q : PacketsState H) → IsWellPlaced q → contents (without_first_and_gap (without_gap q)) ≡ drop 1 (contents q)
   peeked_contents q ok = order.left (without_gap q) (skipped_well q ok) ∙ ap (drop 1) (order.gap_dropped q ok)
 
   still_go : (ps : List (Packet H)) → length (without_first_gap ps) ≡ length ps
   still_go [] = refl
   still_go (p ∷ ps) = refl
 
-  pub still_there : (q : PacketQueue H) → length (without_gap q).packets ≡ length q.packets
+  pub still_there : (q : PacketsState H) → length (without_gap q).packets ≡ length q.packets
   still_there q = still_go q.packets
 
   some_first : (ps : List (Packet H)) (hd : H) (n : ℕ) → IsFirstSized ps hd n → ps ≢ []
   some_first [] hd n e z = let k = ap length e in omega (arith, k)
   some_first (p ∷ ps) hd n e z = let k = ap length z in omega (arith, k)
 
-  pub kept_contents : (q : PacketQueue H) → IsWellPlaced q → (hd : H) (ws : List ℕ) (gone : Bool) → IsFirst q hd ws
+  pub kept_contents : (q : PacketsState H) → IsWellPlaced q → (hd : H) (ws : List ℕ) (gone : Bool) → IsFirst q hd ws
       → contents (after_hand_out gone q hd ws) ≡ (if gone then drop 1 (contents q) else contents q)
   kept_contents q ok hd ws true f = order.left_with q ok hd ws (sym (ap first_size f.0))
   kept_contents q ok hd ws false f = order.refused q ok hd ws (some_first q.packets hd (length ws) f.0) (sym (ap first_size f.0))
       ∙ sym (order.shown q ok hd ws f)
 
   -- ---- what clauses of the calls say
-  pub is_empty_none : (q : PacketQueue H) (b : Bool) → b ≡ (length q.packets == 0) → (b ≡ true) ↔ (contents q ≡ [])
+  pub is_empty_none : (q : PacketsState H) (b : Bool) → b ≡ (length q.packets == 0) → (b ≡ true) ↔ (contents q ≡ [])
   is_empty_none q b is =
       let n = contents_none q in (
         λ t. n.1 (eqb-true (length q.packets) 0 (sym is ∙ t)),
@@ -347,7 +347,7 @@ module _ {H : Type 0} where
   unfolding contents
   no_contents slots storage = refl
 
-  pub none_of : {P : Type 0} (q : PacketQueue H) → P ↔ (length q.packets ≡ 0) → P ↔ (contents q ≡ [])
+  pub none_of : {P : Type 0} (q : PacketsState H) → P ↔ (length q.packets ≡ 0) → P ↔ (contents q ≡ [])
   none_of q e =
       let n = contents_none q in
       (λ h. n.1 (e.0 h), λ h. e.1 (n.0 h))
@@ -358,13 +358,13 @@ module _ {H : Type 0} where
   last_any n st r [] ws ok long = refl
   last_any n st r (p ∷ ps) ws ok long = last_is_written (mk n st r (p ∷ ps)) ok ws (λ e. let k = ap length e in absurd (omega (arith, k))) long
 
-  pub last_shown : (q : PacketQueue H) → IsWellPlaced q → (ws : List ℕ) → length ws ≡ first_size (only_last q.packets)
+  pub last_shown : (q : PacketsState H) → IsWellPlaced q → (ws : List ℕ) → length ws ≡ first_size (only_last q.packets)
       → contents (with_last_bytes q ws) ≡ with_bytes_in_last_entry ws (contents q)
   last_shown q ok ws long = last_any q.slot_count q.storage q.read_at q.packets ws ok long
 
   -- a packet that was placed
-  module _ (q : PacketQueue H) (ok : IsWellPlaced q) (s : ℕ) (hd : H) (gap : ℕ) (e : placement q s
-      ≡ Some gap) (n : PacketQueue H) (is : n ≡ with_packet_if_room q s hd) where
+  module _ (q : PacketsState H) (ok : IsWellPlaced q) (s : ℕ) (hd : H) (gap : ℕ) (e : placement q s
+      ≡ Some gap) (n : PacketsState H) (is : n ≡ with_packet_if_room q s hd) where
     room : placement q s ≢ None
     room z = absurd (none-some _ (sym z ∙ e))
 
@@ -375,19 +375,19 @@ module _ {H : Type 0} where
     stands_as = ap contents is ∙ placed_stands q ok s hd room ∙ ap (λ o. contents q ++ ((hd, last_bytes o) ∷ [])) (sym is)
 
   -- the first packet, which was taken off
-  pub taken_as : (q : PacketQueue H) → IsWellPlaced q → (hd : H) (s : ℕ) → IsFirstSized q.packets hd s → (n : PacketQueue H)
-      → n ≡ without_first_and_gap q → contents q ≡ (hd, freed_bytes n s) ∷ contents n
-  taken_as q ok hd s first n is = taken_contents q ok hd s first ∙ ap (λ o. (hd, freed_bytes o s) ∷ contents o) (sym is)
+  pub taken_as : (q : PacketsState H) → IsWellPlaced q → (hd : H) (s : ℕ) → IsFirstSized q.packets hd s → (n : PacketsState H)
+      → n ≡ without_first_and_gap q → contents q ≡ (hd, last_dequeued_bytes n s) ∷ contents n
+  taken_as q ok hd s first n is = taken_contents q ok hd s first ∙ ap (λ o. (hd, last_dequeued_bytes o s) ∷ contents o) (sym is)
 
-  pub left_as : (q : PacketQueue H) → IsWellPlaced q → (n : PacketQueue H) → n ≡ without_first_and_gap q → contents n ≡ drop 1 (contents q)
+  pub left_as : (q : PacketsState H) → IsWellPlaced q → (n : PacketsState H) → n ≡ without_first_and_gap q → contents n ≡ drop 1 (contents q)
   left_as q ok n is = ap contents is ∙ order.left q ok
 
-  pub freed_unseen : (q : PacketQueue H) → IsWellPlaced q → (s : ℕ) → AreFreed q s → (ws : List ℕ) → length ws ≡ s
-      → contents (with_bytes q (freed_bytes_index q s) ws) ≡ contents q
-  freed_unseen q ok s free ws long =
-      ap (λ (n : ℕ). contents (with_bytes q (freed_bytes_index q n) ws)) (sym long) ∙ freed_contents q ok ws (subst (λ (n : ℕ). AreFreed q n) (sym long) free)
+  pub last_dequeued_unseen : (q : PacketsState H) → IsWellPlaced q → (s : ℕ) → AreLastDequeued q s → (ws : List ℕ) → length ws ≡ s
+      → contents (with_bytes q (last_dequeued_bytes_index q s) ws) ≡ contents q
+  last_dequeued_unseen q ok s free ws long =
+      ap (λ (n : ℕ). contents (with_bytes q (last_dequeued_bytes_index q n) ws)) (sym long) ∙ last_dequeued_contents q ok ws (subst (λ (n : ℕ). AreLastDequeued q n) (sym long) free)
 
-  pub handed_contents : (q : PacketQueue H) → IsWellPlaced q → (hd : H) (ws : List ℕ) (new : H) (news : List ℕ) (gone : Bool)
+  pub handed_contents : (q : PacketsState H) → IsWellPlaced q → (hd : H) (ws : List ℕ) (new : H) (news : List ℕ) (gone : Bool)
       → IsFirst q hd ws → length news ≡ length ws
       → contents (after_hand_out gone q new news) ≡ (if gone then drop 1 (contents q) else ((new, news) ∷ drop 1 (contents q)))
   handed_contents q ok hd ws new news true f long = order.left_with q ok new news (long ∙ sym (ap first_size f.0))
@@ -395,14 +395,14 @@ module _ {H : Type 0} where
 
   -- ---- the log of a run
   -- the packets that left, followed by those that are queued, are those that came
-  abbrev InTurn : Log (H × List ℕ) → PacketQueue H → Type 0
+  abbrev InTurn : Log (H × List ℕ) → PacketsState H → Type 0
   InTurn log q = log.left ++ contents q ≡ log.accepted
 
-  more : (log : Log (H × List ℕ)) (q r : PacketQueue H) (p : H × List ℕ) → InTurn log q → contents r ≡ contents q ++ (p ∷ [])
+  more : (log : Log (H × List ℕ)) (q r : PacketsState H) (p : H × List ℕ) → InTurn log q → contents r ≡ contents q ++ (p ∷ [])
       → log.left ++ contents r ≡ log.accepted ++ (p ∷ [])
   more log q r p turn is = ap (λ l. log.left ++ l) is ∙ sym (append_assoc log.left (contents q) (p ∷ [])) ∙ ap (λ l. l ++ (p ∷ [])) turn
 
-  off : (log : Log (H × List ℕ)) (q r : PacketQueue H) (p : H × List ℕ) → InTurn log q → contents q ≡ p ∷ drop 1 (contents q)
+  off : (log : Log (H × List ℕ)) (q r : PacketsState H) (p : H × List ℕ) → InTurn log q → contents q ≡ p ∷ drop 1 (contents q)
       → contents r ≡ drop 1 (contents q) → (log.left ++ (p ∷ [])) ++ contents r ≡ log.accepted
   off log q r p turn first is = append_assoc log.left (p ∷ []) (contents r) ∙ ap (λ l. log.left ++ (p ∷ l)) is ∙ ap (λ l. log.left ++ l) (sym first) ∙ turn
 
@@ -410,7 +410,7 @@ module _ {H : Type 0} where
   first_entry [] bs some = absurd (some refl)
   first_entry (p ∷ ps) bs some = (_, refl)
 
-  anew : (log : Log (H × List ℕ)) (q r : PacketQueue H) (p : H × List ℕ) → InTurn log q → q.packets ≢ []
+  anew : (log : Log (H × List ℕ)) (q r : PacketsState H) (p : H × List ℕ) → InTurn log q → q.packets ≢ []
       → contents r ≡ p ∷ drop 1 (contents q) → log.left ++ contents r ≡ set log.accepted (length log.left) p
   unfolding contents
   anew log q r p turn some is =
@@ -418,14 +418,14 @@ module _ {H : Type 0} where
       ap (λ l. log.left ++ l) is ∙ sym (set-append_seam log.left f.0 (drop 1 (contents q)) p)
       ∙ ap (λ l. set (log.left ++ l) (length log.left) p) (sym f.1) ∙ ap (λ l. set l (length log.left) p) turn
 
-  again : (log : Log (H × List ℕ)) (q r : PacketQueue H) (ws : List ℕ) (before : List (H × List ℕ)) (hd : H) (old : List ℕ)
+  again : (log : Log (H × List ℕ)) (q r : PacketsState H) (ws : List ℕ) (before : List (H × List ℕ)) (hd : H) (old : List ℕ)
       → InTurn log q → contents q ≡ before ++ ((hd, old) ∷ []) → contents r ≡ before ++ ((hd, ws) ∷ []) →
       log.left ++ contents r ≡ with_bytes_in_last_entry ws log.accepted
   again log q r ws before hd old turn was is =
       ap (λ l. log.left ++ l) is ∙ sym (append_assoc log.left before ((hd, ws) ∷ [])) ∙ sym (last_entry (log.left ++ before) hd old ws)
       ∙ ap (with_bytes_in_last_entry ws) (append_assoc log.left before ((hd, old) ∷ []) ∙ ap (λ l. log.left ++ l) (sym was) ∙ turn)
 
-  call_turn : (call : QueueCall H) (log : Log (H × List ℕ)) (q r : PacketQueue H) → IsWellPlaced q →
+  call_turn : (call : QueueCall H) (log : Log (H × List ℕ)) (q r : PacketsState H) → IsWellPlaced q →
       Makes call q r → InTurn log q → InTurn (log_after call log) r
   unfolding contents
   call_turn Reset log q r ok is turn = ap (λ o. log.left ++ contents o) is ∙ append-nil log.left
@@ -443,18 +443,18 @@ module _ {H : Type 0} where
       let size = ap first_size does.0.0 in
       off log q r (hd, ws) turn (order.shown q ok hd ws does.0) (ap contents does.2 ∙ order.left_with q ok after written (does.1 ∙ sym size))
   call_turn (Take hd ws) log q r ok does turn = off log q r (hd, ws) turn (order.shown q ok hd ws does.0) (ap contents does.1 ∙ order.left q ok)
-  call_turn (WriteFreed ws) log q r ok does turn = ap (λ l. log.left ++ l) (ap contents does.1 ∙ freed_contents q ok ws does.0) ∙ turn
+  call_turn (WriteLastDequeued ws) log q r ok does turn = ap (λ l. log.left ++ l) (ap contents does.1 ∙ last_dequeued_contents q ok ws does.0) ∙ turn
   call_turn (Dequeue hd ws written) log q r ok does turn =
       let size = ap first_size does.0.0 in
       off log q r (hd, ws) turn (order.shown q ok hd ws does.0) (ap contents does.2 ∙ off_contents q ok written (does.1 ∙ sym size) ∙ order.left q ok)
 
-  calls_turn : (calls : List (QueueCall H)) (log : Log (H × List ℕ)) (q r : PacketQueue H) → IsWellPlaced q → MakesAll calls q r
+  calls_turn : (calls : List (QueueCall H)) (log : Log (H × List ℕ)) (q r : PacketsState H) → IsWellPlaced q → MakesAll calls q r
       → InTurn log q → InTurn (log_after_all calls log) r
   calls_turn [] log q r ok run turn = ap (λ o. log.left ++ contents o) run ∙ turn
   calls_turn (call ∷ calls) log q r ok run turn =
       calls_turn calls (log_after call log) run.0 r (keeps call q run.0 ok run.1) run.2 (call_turn call log q run.0 ok run.1 turn)
 
-  pub in_turn : (slots : ℕ) (storage : List ℕ) (calls : List (QueueCall H)) (r : PacketQueue H)
+  pub in_turn : (slots : ℕ) (storage : List ℕ) (calls : List (QueueCall H)) (r : PacketsState H)
       → MakesAll calls (no_packets slots storage) r → InTurn (history calls) r
   unfolding contents
   in_turn slots storage calls r run =

@@ -9,52 +9,52 @@ use Rattle.std.specs.Prelude.{true, Option}
 use Rattle.std.specs.List.{slice_get}
 use Rattle.std.specs.declared.option.Option.TheVariants.{Some, None}
 use Rattle.net_ring.specs.Overwrite.{overwrite}
-use Rattle.net_ring.specs.Ring.{RingState, ring, index_after, freed_index, rotation, capacity}
+use Rattle.net_ring.specs.Ring.{RingState, ring, index_after, last_dequeued_index, rotation, capacity}
 use Rattle.net_ring.specs.Ring.{window, queue, storage_index, IsWellFormed, from_start_if_empty}
 use Rattle.net_ring.specs.Ring.{with_enqueued, with_dequeued, with_elements, contiguous_window}
 use Rattle.net_ring.specs.Ring.{contiguous_queued, queue_index, contiguous_queued_from}
 use Rattle.net_ring.specs.Ring.{spare_index, contiguous_window_from}
-use Rattle.net_packets.specs.Packets.{Packet, PacketQueue, packet, bytes_used, slots_used}
+use Rattle.net_packets.specs.Packets.{Packet, PacketsState, packet, bytes_used, slots_used}
 use Rattle.net_packets.specs.Packets.{slots_for, byte_ring, IsPlaced, ArePlaced, gap_for, placement}
 use Rattle.net_packets.specs.Packets.{with_packet, with_packet_if_room, with_packet_if, only_last}
 use Rattle.net_packets.specs.Packets.{before_last, last_index, last_bytes, with_last_bytes}
 use Rattle.net_packets.specs.Packets.{with_last_size, with_first_size, IsRoom, first_gap}
 use Rattle.net_packets.specs.Packets.{first_size, without_first_gap, without_gap, IsFirstSized}
 use Rattle.net_packets.specs.Packets.{first_bytes, IsFirst, with_first_header, with_first_bytes}
-use Rattle.net_packets.specs.Packets.{without_first, freed_bytes_index, AreFreed, IsWellPlaced, with_bytes}
-use Rattle.net_packets.specs.PacketSlots.{slot, gap_slot, packet_slots, packets_in, StandFor, packet_queue}
+use Rattle.net_packets.specs.Packets.{without_first, last_dequeued_bytes_index, AreLastDequeued, IsWellPlaced, with_bytes}
+use Rattle.net_packets.specs.PacketSlots.{slot, gap_slot, packet_slots, packets_in, Represents, packets_state}
 use Rattle.net_packets.specs.declared.packet_metadata.PacketMetadata.{PacketMetadata}
 use Rattle.net_ring.proofs.Rotations.{length-overwrite, length-queue, with_dequeued_parts, part-rotation, cut, overwrite_at, read_at_le}
-use Rattle.net_ring.proofs.RingFacts.{read_index_is, restart_cases, restart_wf}
+use Rattle.net_ring.proofs.RingFacts.{read_index_is, rewind_cases, rewind_wf}
 use Rattle.net_packets.proofs.PacketFacts.{round, slots_append, slots_of_append, bytes_append}
 use Rattle.net_packets.proofs.PacketFacts.{placed_append, placed_anew, placed_here, placed_skip}
 use Rattle.net_packets.proofs.PacketFacts.{placed_pop, slots_some, count_is, place_zero, place_le_in}
 use Rattle.net_packets.proofs.PacketFacts.{place_wf, gap_slot_one, gap_slot_none, place_cases}
 
 module _ (b : RingState ℕ) where
-  pub restart_count : (from_start_if_empty b).count ≡ b.count
-  restart_count = elim (restart_cases b) [ inl h ↦ ap (λ o. o.count) h.1 ∙ sym h.0 | inr h ↦ ap (λ o. o.count) h.1 ]
+  pub rewind_count : (from_start_if_empty b).count ≡ b.count
+  rewind_count = elim (rewind_cases b) [ inl h ↦ ap (λ o. o.count) h.1 ∙ sym h.0 | inr h ↦ ap (λ o. o.count) h.1 ]
 
-  pub restart_storage : (from_start_if_empty b).storage ≡ b.storage
-  restart_storage = elim (restart_cases b) [ inl h ↦ ap (λ o. o.storage) h.1 | inr h ↦ ap (λ o. o.storage) h.1 ]
+  pub rewind_storage : (from_start_if_empty b).storage ≡ b.storage
+  rewind_storage = elim (rewind_cases b) [ inl h ↦ ap (λ o. o.storage) h.1 | inr h ↦ ap (λ o. o.storage) h.1 ]
 
 module _ {H : Type 0} where
-  abbrev mk : ℕ → List ℕ → ℕ → List (Packet H) → PacketQueue H
+  abbrev mk : ℕ → List ℕ → ℕ → List (Packet H) → PacketsState H
   mk n st r ps = record { slot_count = n; storage = st; read_at = r; packets = ps }
 
-  module _ (m : RingState (PacketMetadata H)) (b : RingState ℕ) (ps : List (Packet H)) (h : StandFor m b ps) where
+  module _ (m : RingState (PacketMetadata H)) (b : RingState ℕ) (ps : List (Packet H)) (h : Represents m b ps) where
     -- ---- rings that hold packets are seen as these
     pub seen : packets_in 0 (queue m) ≡ ps
     seen = ap (packets_in 0) h.2 ∙ round ps
 
-    pub closed : StandFor m b (packets_in 0 (queue m))
-    closed = subst (λ (l : List (Packet H)). StandFor m b l) (sym seen) h
+    pub closed : Represents m b (packets_in 0 (queue m))
+    closed = subst (λ (l : List (Packet H)). Represents m b l) (sym seen) h
 
-    pub viewed : packet_queue m b ≡ mk (capacity m) b.storage b.read_at ps
+    pub viewed : packets_state m b ≡ mk (capacity m) b.storage b.read_at ps
     viewed = ap (mk (capacity m) b.storage b.read_at) seen
 
     -- bytes that are written over the storage change no place
-    pub written_holds : (p : ℕ) (ws : List ℕ) → StandFor m (with_elements b p ws) ps
+    pub written_holds : (p : ℕ) (ws : List ℕ) → Represents m (with_elements b p ws) ps
     written_holds p ws =
         let long = length-overwrite b.storage p ws in (
           h.0,
@@ -72,13 +72,13 @@ module _ {H : Type 0} where
   before_append ps p = let n = length-append ps (p ∷ []) in take_at ps (p ∷ []) (length (ps ++ (p ∷ [])) - 1) (omega (arith, n))
 
   -- ---- a packet comes last
-  module _ (m : RingState (PacketMetadata H)) (b : RingState ℕ) (h : StandFor m b (packets_in 0 (queue m))) (gap s : ℕ) (e : placement (packet_queue m b) s
+  module _ (m : RingState (PacketMetadata H)) (b : RingState ℕ) (h : Represents m b (packets_in 0 (queue m))) (gap s : ℕ) (e : placement (packets_state m b) s
       ≡ Some gap) where
     abbrev queued_packets : List (Packet H)
     queued_packets = packets_in 0 (queue m)
 
-    abbrev before : PacketQueue H
-    before = packet_queue m b
+    abbrev before : PacketsState H
+    before = packets_state m b
 
     abbrev g : RingState ℕ
     g = from_start_if_empty b
@@ -98,7 +98,7 @@ module _ {H : Type 0} where
     for_g = sym (ap (λ o. gap_for s (contiguous_window (from_start_if_empty o)) (window (from_start_if_empty o))) same) ∙ parts.0
 
     pub wfg : IsWellFormed g
-    wfg = restart_wf b h.1
+    wfg = rewind_wf b h.1
 
     pub here : (index_after room g.read_at (g.count + gap) + s ≤ room)
         × (gap ≢ 0 → index_after room g.read_at g.count + gap ≡ room) × (g.count + gap + s ≤ room)
@@ -111,10 +111,10 @@ module _ {H : Type 0} where
     byte_room = omega (arith, here.2)
 
     pub count_g : g.count ≡ bytes_used queued_packets
-    count_g = restart_count b ∙ h.3
+    count_g = rewind_count b ∙ h.3
 
     placed_g : ArePlaced room g.read_at 0 queued_packets
-    placed_g = elim (restart_cases b) [
+    placed_g = elim (rewind_cases b) [
       | inl k ↦ placed_anew room g.read_at 0 queued_packets (sym h.3 ∙ k.0) (place_le_in room g.read_at 0 wfg.0 (omega arith))
       | inr k ↦ subst (λ (o : RingState ℕ). ArePlaced (capacity o) o.read_at 0 queued_packets) (sym k.1) h.4
     ]
@@ -125,7 +125,7 @@ module _ {H : Type 0} where
 
       pub push_is : mk (capacity m) g.storage g.read_at one_more ≡ with_packet before gap k hd
       push_is =
-          ap (λ (st : List ℕ). mk (capacity m) st g.read_at one_more) (restart_storage b)
+          ap (λ (st : List ℕ). mk (capacity m) st g.read_at one_more) (rewind_storage b)
           ∙ ap (λ (o : RingState ℕ). mk (capacity m) b.storage (from_start_if_empty o).read_at one_more) (sym same)
 
       module _ (le : k ≤ s) where
@@ -144,7 +144,7 @@ module _ {H : Type 0} where
             subst IsWellPlaced push_is ((wfg.0, omega (arith, here.2, le, all, count_g)), push_placed, omega (arith, more, n, free_room, h.0.1))
 
         module _ (m2 : RingState (PacketMetadata H)) (em : queue m2 ≡ queue m ++ (gap_slot gap ++ (slot k (Some hd) ∷ []))) (wfm : IsWellFormed m2) where
-          pub push_holds : StandFor m2 (with_enqueued (gap + k) g) one_more
+          pub push_holds : Represents m2 (with_enqueued (gap + k) g) one_more
           push_holds =
               let slots_all : queue m2 ≡ packet_slots one_more =
               em ∙ ap (λ (l : List (PacketMetadata H)). l ++ (gap_slot gap ++ (slot k (Some hd) ∷ []))) h.2
@@ -152,7 +152,7 @@ module _ {H : Type 0} where
               let all = bytes_append queued_packets (packet hd k gap) in
               (wfm, (wfg.0, omega (arith, here.2, le)), slots_all, omega (arith, count_g, all), push_placed)
 
-          pub push_left : (cm : capacity m2 ≡ capacity m) → packet_queue m2 (with_enqueued (gap + k) g) ≡ with_packet before gap k hd
+          pub push_left : (cm : capacity m2 ≡ capacity m) → packets_state m2 (with_enqueued (gap + k) g) ≡ with_packet before gap k hd
           push_left cm = viewed m2 (with_enqueued (gap + k) g) one_more push_holds ∙ ap (λ (n : ℕ). mk n g.storage g.read_at one_more) cm ∙ push_is
 
     -- ---- a packet comes last, and bytes are written to it
@@ -172,7 +172,7 @@ module _ {H : Type 0} where
           let n : bytes_used all - first_size (only_last all) ≡ g.count + gap = omega (arith, sum, end_size, count_g) in
           ap (index_after (length b.storage) (from_start_if_empty (byte_ring before)).read_at) n
           ∙ ap (λ (o : RingState ℕ). index_after (length b.storage) (from_start_if_empty o).read_at (g.count + gap)) same
-          ∙ ap (λ (st : List ℕ). index_after (length st) g.read_at (g.count + gap)) (sym (restart_storage b))
+          ∙ ap (λ (st : List ℕ). index_after (length st) g.read_at (g.count + gap)) (sym (rewind_storage b))
 
       -- where the last packet's bytes begin
       abbrev at : ℕ
@@ -180,10 +180,10 @@ module _ {H : Type 0} where
 
       pub put_is : (ws : List ℕ) → mk (capacity m) (overwrite g.storage at ws) g.read_at all ≡ with_last_bytes (with_packet_if_room before s hd) ws
       put_is ws =
-          ap (λ (st : List ℕ). mk (capacity m) (overwrite st at ws) g.read_at all) (restart_storage b)
+          ap (λ (st : List ℕ). mk (capacity m) (overwrite st at ws) g.read_at all) (rewind_storage b)
           ∙ ap (λ (o : RingState ℕ). mk (capacity m) (overwrite b.storage at ws) (from_start_if_empty o).read_at all) (sym same)
           ∙ ap (λ (p : ℕ). mk (capacity m) (overwrite b.storage p ws) (from_start_if_empty (byte_ring before)).read_at all) (sym push_place)
-          ∙ ap (λ (o : PacketQueue H). with_last_bytes o ws) (sym pushed_is)
+          ∙ ap (λ (o : PacketsState H). with_last_bytes o ws) (sym pushed_is)
 
       pub cut_is : (k : ℕ) (ws : List ℕ)
           → mk (capacity m) (overwrite g.storage at ws) g.read_at (queued_packets ++ (packet hd k gap ∷ []))
@@ -214,7 +214,7 @@ module _ {H : Type 0} where
         fill_room now stored count =
             let long : length now ≡ s = count ∙ fill_run in
             let size : first_size (only_last (with_packet_if_room before s hd).packets) ≡ s = ap (λ o. first_size (only_last o.packets)) pushed_is ∙ end_size in
-            let st : (with_packet_if_room before s hd).storage ≡ b1.storage = ap (λ o. o.storage) pushed_is ∙ sym (restart_storage b)
+            let st : (with_packet_if_room before s hd).storage ≡ b1.storage = ap (λ o. o.storage) pushed_is ∙ sym (rewind_storage b)
             ∙ ap (λ o. o.storage) (sym is) in
             let one : last_bytes (with_packet_if_room before s hd) ≡ take s (drop (spare_index b1 gap) b1.storage) =
             ap (λ (n : ℕ). take n (drop (last_index (with_packet_if_room before s hd)) (with_packet_if_room before s hd).storage)) size
@@ -227,15 +227,15 @@ module _ {H : Type 0} where
           after_is : b3 ≡ with_elements (with_enqueued (gap + k) g) at ws
           after_is = after ∙ ap₂ (λ (o : RingState ℕ) (p : ℕ). with_enqueued (gap + k) (with_elements o p ws)) is fill_at
 
-          holds : StandFor m2 (with_elements (with_enqueued (gap + k) g) at ws) (queued_packets ++ (packet hd k gap ∷ []))
+          holds : Represents m2 (with_elements (with_enqueued (gap + k) g) at ws) (queued_packets ++ (packet hd k gap ∷ []))
           holds = written_holds m2 (with_enqueued (gap + k) g) (queued_packets ++ (packet hd k gap ∷ [])) (push_holds hd k le m2 em wfm) at ws
 
-          pub fill_holds : StandFor m2 b3 (packets_in 0 (queue m2))
-          fill_holds = subst (λ (o : RingState ℕ). StandFor m2 o (packets_in 0 (queue m2))) (sym after_is) (closed m2 _ _ holds)
+          pub fill_holds : Represents m2 b3 (packets_in 0 (queue m2))
+          fill_holds = subst (λ (o : RingState ℕ). Represents m2 o (packets_in 0 (queue m2))) (sym after_is) (closed m2 _ _ holds)
 
-          pub fill_left : capacity m2 ≡ capacity m → packet_queue m2 b3 ≡ with_last_size k (with_last_bytes (with_packet_if_room before s hd) ws)
+          pub fill_left : capacity m2 ≡ capacity m → packets_state m2 b3 ≡ with_last_size k (with_last_bytes (with_packet_if_room before s hd) ws)
           fill_left cm =
-              ap (packet_queue m2) after_is ∙ viewed m2 _ _ holds
+              ap (packets_state m2) after_is ∙ viewed m2 _ _ holds
               ∙ ap (λ (n : ℕ). mk n (overwrite g.storage at ws) g.read_at (queued_packets ++ (packet hd k gap ∷ []))) cm ∙ cut_is k ws
 
   -- ---- the last packet
@@ -283,7 +283,7 @@ module _ {H : Type 0} where
         rest.3 ∙ sym (ap first_size (last_cons p q ps)),
       )
 
-  module _ (m : RingState (PacketMetadata H)) (b : RingState ℕ) (h : StandFor m b (packets_in 0 (queue m))) where
+  module _ (m : RingState (PacketMetadata H)) (b : RingState ℕ) (h : Represents m b (packets_in 0 (queue m))) where
     abbrev end : ℕ
     end = first_size (only_last (packets_in 0 (queue m)))
 
@@ -293,7 +293,7 @@ module _ {H : Type 0} where
     pub end_queued : end ≤ b.count
     end_queued = omega (arith, h.3, ends.0)
 
-    pub end_place : queue_index b (b.count - end) ≡ last_index (packet_queue m b)
+    pub end_place : queue_index b (b.count - end) ≡ last_index (packets_state m b)
     end_place =
         let z : min (b.count - end) b.count ≡ bytes_used (packets_in 0 (queue m)) - end = omega (arith, h.3) in
         ap (index_after (capacity b) b.read_at) z
@@ -305,8 +305,8 @@ module _ {H : Type 0} where
         omega (arith, at, ends.0, ends.1, h.3)
 
   -- ---- the gap before the first packet goes
-  pub skip_holds : (m : RingState (PacketMetadata H)) (b : RingState ℕ) (ps : List (Packet H)) → StandFor m b ps → 0 < first_gap ps
-      → StandFor (with_dequeued 1 m) (with_dequeued (first_gap ps) b) (without_first_gap ps)
+  pub skip_holds : (m : RingState (PacketMetadata H)) (b : RingState ℕ) (ps : List (Packet H)) → Represents m b ps → 0 < first_gap ps
+      → Represents (with_dequeued 1 m) (with_dequeued (first_gap ps) b) (without_first_gap ps)
   skip_holds m b [] h pos = absurd (omega arith)
   skip_holds m b (p ∷ ps) h pos =
       let wf = h.1 in
@@ -334,20 +334,20 @@ module _ {H : Type 0} where
   close_first [] x s e = e
   close_first (p ∷ ps) x s e = ap (with_gap p.gap) e
 
-  module _ (m : RingState (PacketMetadata H)) (b : RingState ℕ) (h : StandFor m b (packets_in 0 (queue m))) where
+  module _ (m : RingState (PacketMetadata H)) (b : RingState ℕ) (h : Represents m b (packets_in 0 (queue m))) where
     pub skip_kept : 0 < first_gap (packets_in 0 (queue m))
-        → StandFor (with_dequeued 1 m) (with_dequeued (first_gap (packets_in 0 (queue m))) b) (packets_in 0 (queue (with_dequeued 1 m)))
+        → Represents (with_dequeued 1 m) (with_dequeued (first_gap (packets_in 0 (queue m))) b) (packets_in 0 (queue (with_dequeued 1 m)))
     skip_kept pos =
         let ps = packets_in 0 (queue m) in
         closed (with_dequeued 1 m) (with_dequeued (first_gap ps) b) (without_first_gap ps) (skip_holds m b ps h pos)
 
     -- the same by what the two steps left
-    pub skip_keeps : (gap : ℕ) (q : PacketQueue H) (m2 : RingState (PacketMetadata H)) (b2 : RingState ℕ) → packet_queue m b ≡ q
-        → gap ≡ first_gap q.packets → 0 < gap → m2 ≡ with_dequeued 1 m → b2 ≡ with_dequeued gap b → StandFor m2 b2 (packets_in 0 (queue m2))
-    skip_keeps gap q m2 b2 is size some off freed =
+    pub skip_keeps : (gap : ℕ) (q : PacketsState H) (m2 : RingState (PacketMetadata H)) (b2 : RingState ℕ) → packets_state m b ≡ q
+        → gap ≡ first_gap q.packets → 0 < gap → m2 ≡ with_dequeued 1 m → b2 ≡ with_dequeued gap b → Represents m2 b2 (packets_in 0 (queue m2))
+    skip_keeps gap q m2 b2 is size some off dequeued =
         let all : gap ≡ first_gap (packets_in 0 (queue m)) = size ∙ ap (λ o. first_gap o.packets) (sym is) in
-        subst (λ n. StandFor n b2 (packets_in 0 (queue n))) (sym off)
-        (subst (λ o. StandFor (with_dequeued 1 m) o (packets_in 0 (queue (with_dequeued 1 m)))) (sym (freed
+        subst (λ n. Represents n b2 (packets_in 0 (queue n))) (sym off)
+        (subst (λ o. Represents (with_dequeued 1 m) o (packets_in 0 (queue (with_dequeued 1 m)))) (sym (dequeued
         ∙ ap (λ n. with_dequeued n b) all)) (skip_kept (omega (arith, all, some))))
 
   -- ---- the first packet, whose gap is gone
@@ -378,7 +378,7 @@ module _ {H : Type 0} where
 
   pop_go : (m2 : RingState (PacketMetadata H)) (b : RingState ℕ) (ps : List (Packet H)) → IsWellFormed m2
       → queue m2 ≡ packet_slots (drop 1 ps) → IsWellFormed b → b.count ≡ bytes_used ps → ArePlaced (capacity b) b.read_at 0 ps → first_gap ps ≡ 0
-      → StandFor m2 (with_dequeued (first_size ps) b) (drop 1 ps)
+      → Represents m2 (with_dequeued (first_size ps) b) (drop 1 ps)
   pop_go m2 b [] wfm em wf n a z =
       (wfm, (place_wf (capacity b) b.read_at 0 wf.0 (omega arith), omega (arith, wf.1)), em, omega (arith, n), tt)
   pop_go m2 b (p ∷ ps) wfm em wf n a z = (
@@ -389,15 +389,15 @@ module _ {H : Type 0} where
     placed_pop (capacity b) b.read_at p ps wf.0 (omega (arith, n, wf.1)) z a,
   )
 
-  module _ (m : RingState (PacketMetadata H)) (b : RingState ℕ) (h : StandFor m b (packets_in 0 (queue m))) (z : first_gap (packets_in 0 (queue m)) ≡ 0) where
+  module _ (m : RingState (PacketMetadata H)) (b : RingState ℕ) (h : Represents m b (packets_in 0 (queue m))) (z : first_gap (packets_in 0 (queue m)) ≡ 0) where
     abbrev head_size : ℕ
     head_size = first_size (packets_in 0 (queue m))
 
     fits : (head_size ≤ bytes_used (packets_in 0 (queue m))) × (b.read_at + head_size ≤ capacity b)
     fits = head_fits (capacity b) b.read_at (packets_in 0 (queue m)) h.1.0 (omega (arith, h.3, h.1.1)) h.4 z
 
-    pub head_in_row : head_size ≤ contiguous_queued b
-    head_in_row = omega (arith, h.3, fits.0, fits.1)
+    pub head_contiguous : head_size ≤ contiguous_queued b
+    head_contiguous = omega (arith, h.3, fits.0, fits.1)
 
     pub head_at : queue_index b 0 ≡ b.read_at
     head_at = let n : min 0 b.count ≡ 0 = omega arith in ap (index_after (capacity b) b.read_at) n ∙ place_zero (capacity b) b.read_at h.1.0
@@ -415,7 +415,7 @@ module _ {H : Type 0} where
     head_long x e = let f = head_slot x e in ap (λ y. y.size) f.2 ∙ sym (ap first_size f.1)
 
     pub head_first : (x : PacketMetadata H) → queue m ≡ x ∷ drop 1 (queue m) → (hd : H) → x.header ≡ Some hd → (n : ℕ)
-        → n ≡ head_size → (q : PacketQueue H) → packet_queue m b ≡ q → IsFirstSized q.packets hd n
+        → n ≡ head_size → (q : PacketsState H) → packets_state m b ≡ q → IsFirstSized q.packets hd n
     head_first x e hd i n en q is =
         let f = head_slot x e in
         let same : f.0.header ≡ hd = (cond_some true f.0.header hd (sym (ap (λ y. y.header) f.2) ∙ i)).1 in
@@ -424,11 +424,11 @@ module _ {H : Type 0} where
         let whole : IsFirstSized (packets_in 0 (queue m)) hd n =
         f.1 ∙ ap (λ (k : ℕ). packet f.0.header f.0.size k ∷ drop 1 (packets_in 0 (queue m))) gap
         ∙ ap₂ (λ (y : H) (k : ℕ). packet y k (first_gap (packets_in 0 (queue m))) ∷ drop 1 (packets_in 0 (queue m))) same size in
-        subst (λ (o : PacketQueue H). IsFirstSized o.packets hd n) is whole
+        subst (λ (o : PacketsState H). IsFirstSized o.packets hd n) is whole
 
     -- the first packet goes
     pub pop_holds : (m2 : RingState (PacketMetadata H)) → queue m2 ≡ packet_slots (drop 1 (packets_in 0 (queue m)))
-        → IsWellFormed m2 → StandFor m2 (with_dequeued head_size b) (drop 1 (packets_in 0 (queue m)))
+        → IsWellFormed m2 → Represents m2 (with_dequeued head_size b) (drop 1 (packets_in 0 (queue m)))
     pop_holds m2 em wfm = pop_go m2 b (packets_in 0 (queue m)) wfm em h.1 h.3 h.4 z
 
 -- ---- the first element of a list that was read
@@ -503,7 +503,7 @@ module _ {H : Type 0} where
       let many = length-append s.0 (s.1 ∷ []) in
       absurd (last_unread s.0 s.1 l k n (omega (arith, ek, long, many)) (some (omega (arith, long, many))) (el ∙ ap (λ o. take n (drop k o)) whole) i)
 
-  module _ (m : RingState (PacketMetadata H)) (b : RingState ℕ) (h : StandFor m b (packets_in 0 (queue m))) (k n : ℕ) (ek : k
+  module _ (m : RingState (PacketMetadata H)) (b : RingState ℕ) (h : Represents m b (packets_in 0 (queue m))) (k n : ℕ) (ek : k
       ≡ m.count - 1) (en : n ≡ contiguous_queued_from m k 1) (l : List (PacketMetadata H)) (el : l ≡ take n (drop k (queue m))) where
     back : k ≡ length (queue m) - 1
     back = let long = length-queue m h.0 in omega (arith, long, ek)
@@ -523,16 +523,16 @@ module _ {H : Type 0} where
     end_none = none_go (packets_in 0 (queue m)) (queue m) l k n h.2 back el some
 
   -- ---- what holds of every queue
-  pub well_placed : (m : RingState (PacketMetadata H)) (b : RingState ℕ) (h : StandFor m b (packets_in 0 (queue m))) → IsWellPlaced (packet_queue m b)
+  pub well_placed : (m : RingState (PacketMetadata H)) (b : RingState ℕ) (h : Represents m b (packets_in 0 (queue m))) → IsWellPlaced (packets_state m b)
   well_placed m b h =
       let n = count_is m b (packets_in 0 (queue m)) h in
       let k = h.3 in
       ((h.1.0, omega (arith, k, h.1.1)), h.4, omega (arith, n, h.0.1))
 
   -- ---- the bytes before the read index
-  -- of freed bytes the last ones are freed
-  pub freed_less : (q : PacketQueue H) (s k : ℕ) → AreFreed q s → k ≤ s → AreFreed q k
-  freed_less q s k f le =
+  -- of bytes that were dequeued last the last ones are such
+  pub last_dequeued_less : (q : PacketsState H) (s k : ℕ) → AreLastDequeued q s → k ≤ s → AreLastDequeued q k
+  last_dequeued_less q s k f le =
       let c = length q.storage in
       let r = q.read_at in (
         omega (arith, f.0, le),
@@ -546,17 +546,17 @@ module _ {H : Type 0} where
       )
 
   module _ (m : RingState (PacketMetadata H)) (b : RingState ℕ) (s : ℕ) where
-    -- they lie in a row in the ring of bytes
-    pub freed_fits : AreFreed (packet_queue m b) s → (s ≤ capacity b) × (freed_index b s + s ≤ capacity b)
-    freed_fits f = (omega (arith, f.0), f.1)
+    -- they are contiguous in the ring of bytes
+    pub last_dequeued_fits : AreLastDequeued (packets_state m b) s → (s ≤ capacity b) × (last_dequeued_index b s + s ≤ capacity b)
+    last_dequeued_fits f = (omega (arith, f.0), f.1)
 
     -- they are lent
-    module _ (q : PacketQueue H) (is : packet_queue m b ≡ q) where
-      pub freed_ends : (ws : List ℕ) → packet_queue m (with_elements b (freed_index b s) ws) ≡ with_bytes q (freed_bytes_index q s) ws
-      freed_ends ws = ap (λ (o : PacketQueue H). with_bytes o (freed_bytes_index o s) ws) is
+    module _ (q : PacketsState H) (is : packets_state m b ≡ q) where
+      pub last_dequeued_ends : (ws : List ℕ) → packets_state m (with_elements b (last_dequeued_index b s) ws) ≡ with_bytes q (last_dequeued_bytes_index q s) ws
+      last_dequeued_ends ws = ap (λ (o : PacketsState H). with_bytes o (last_dequeued_bytes_index o s) ws) is
 
-      pub freed_value : (now : List ℕ) → now ≡ take s (drop (freed_index b s) b.storage) → now ≡ take s (drop (freed_bytes_index q s) q.storage)
-      freed_value now stored = stored ∙ ap (λ (o : PacketQueue H). take s (drop (freed_bytes_index o s) o.storage)) is
+      pub last_dequeued_value : (now : List ℕ) → now ≡ take s (drop (last_dequeued_index b s) b.storage) → now ≡ take s (drop (last_dequeued_bytes_index q s) q.storage)
+      last_dequeued_value now stored = stored ∙ ap (λ (o : PacketsState H). take s (drop (last_dequeued_bytes_index o s) o.storage)) is
 
 -- ---- a write to a part of which the rest stays as it was
 over_part : (st ws : List ℕ) (r n : ℕ) → r + n ≤ length st → length ws ≤ n → overwrite st r (ws ++ drop (length ws) (take n (drop r st))) ≡ overwrite st r ws
@@ -584,7 +584,7 @@ lent_is b wf =
 module _ {H : Type 0} where
   headed_go : (m2 : RingState (PacketMetadata H)) (b : RingState ℕ) (ps : List (Packet H)) (hd : H) → first_gap ps ≡ 0
       → 0 < length ps → queue m2 ≡ slot (first_size ps) (Some hd) ∷ packet_slots (drop 1 ps) → IsWellFormed m2
-      → IsWellFormed b → b.count ≡ bytes_used ps → ArePlaced (capacity b) b.read_at 0 ps → StandFor m2 b (with_first_header hd ps)
+      → IsWellFormed b → b.count ≡ bytes_used ps → ArePlaced (capacity b) b.read_at 0 ps → Represents m2 b (with_first_header hd ps)
   headed_go m2 b [] hd z some em wfm wf n a = absurd (omega (arith, some))
   headed_go m2 b (p ∷ ps) hd z some em wfm wf n a = (wfm, wf, em ∙ sym (head_slots ps (packet hd p.size p.gap) z), n, a)
 
@@ -597,7 +597,7 @@ module _ {H : Type 0} where
   headed_rest hd (p ∷ ps) = refl
 
   -- ---- the first packet is lent, and is then taken off or stays
-  module _ (m : RingState (PacketMetadata H)) (b : RingState ℕ) (h : StandFor m b (packets_in 0 (queue m))) (z : first_gap (packets_in 0 (queue m))
+  module _ (m : RingState (PacketMetadata H)) (b : RingState ℕ) (h : Represents m b (packets_in 0 (queue m))) (z : first_gap (packets_in 0 (queue m))
       ≡ 0) (s : ℕ) (hd : H) (e : queue m ≡ slot s (Some hd) ∷ drop 1 (queue m)) where
     abbrev kept : List (Packet H)
     kept = packets_in 0 (queue m)
@@ -613,7 +613,7 @@ module _ {H : Type 0} where
     size_is = head_long m b h z (slot s (Some hd)) e
 
     row : s ≤ contiguous_queued b
-    row = let f = head_in_row m b h z in omega (arith, f, size_is)
+    row = let f = head_contiguous m b h z in omega (arith, f, size_is)
 
     pub lift_fits : s ≤ length lent
     lift_fits =
@@ -621,11 +621,11 @@ module _ {H : Type 0} where
         let n = length-take (contiguous_queued b) (queue b) in
         omega (arith, row, n, long)
 
-    pub lift_bytes : take s lent ≡ first_bytes (packet_queue m b)
+    pub lift_bytes : take s lent ≡ first_bytes (packets_state m b)
     lift_bytes = ap (take s) (lent_is b h.1) ∙ take-take s (contiguous_queued b) (drop b.read_at b.storage) row
         ∙ ap (λ (n : ℕ). take n (drop b.read_at b.storage)) size_is
 
-    pub lift_head : (old : PacketQueue H) → packet_queue m b ≡ without_gap old → IsFirst old hd (take s lent)
+    pub lift_head : (old : PacketsState H) → packets_state m b ≡ without_gap old → IsFirst old hd (take s lent)
     lift_head old is =
         let n : length (take s lent) ≡ s = length-take-le s lent lift_fits in (
           close_first old.packets hd (length (take s lent)) (head_first m b h z (slot s (Some hd)) e hd refl (length (take s lent)) (n
@@ -656,15 +656,15 @@ module _ {H : Type 0} where
             bytes_are ∙ ap (λ (n : ℕ). with_elements (with_dequeued n b) b.read_at ws) (all ∙ size_is)
             ∙ ap (λ (c : ℕ). ring (overwrite b.storage b.read_at ws) (index_after c b.read_at (first_size kept)) (b.count - first_size kept)) long_is
 
-        off_holds : StandFor m2 (with_dequeued (first_size kept) (with_elements b b.read_at ws)) (drop 1 kept)
+        off_holds : Represents m2 (with_dequeued (first_size kept) (with_elements b b.read_at ws)) (drop 1 kept)
         off_holds = pop_holds m (with_elements b b.read_at ws) (written_holds m b kept h b.read_at ws) z m2 (em ∙ first_is.3) wfm
 
-        pub off_kept : StandFor m2 b2 (packets_in 0 (queue m2))
-        off_kept = subst (λ (o : RingState ℕ). StandFor m2 o (packets_in 0 (queue m2))) (sym off_is) (closed m2 _ _ off_holds)
+        pub off_kept : Represents m2 b2 (packets_in 0 (queue m2))
+        off_kept = subst (λ (o : RingState ℕ). Represents m2 o (packets_in 0 (queue m2))) (sym off_is) (closed m2 _ _ off_holds)
 
-        pub off_left : capacity m2 ≡ capacity m → (new : H) → packet_queue m2 b2 ≡ without_first (with_first_bytes (packet_queue m b) new ws)
+        pub off_left : capacity m2 ≡ capacity m → (new : H) → packets_state m2 b2 ≡ without_first (with_first_bytes (packets_state m b) new ws)
         off_left cm new =
-            ap (packet_queue m2) off_is ∙ viewed m2 _ _ off_holds
+            ap (packets_state m2) off_is ∙ viewed m2 _ _ off_holds
             ∙ ap (λ (n : ℕ). mk n (overwrite b.storage b.read_at ws)
             (index_after (length (overwrite b.storage b.read_at ws)) b.read_at (first_size kept)) (drop 1 kept)) cm
             ∙ ap₂ (λ (n : ℕ) (l : List (Packet H)). mk (capacity m) (overwrite b.storage b.read_at ws)
@@ -678,17 +678,17 @@ module _ {H : Type 0} where
             ∙ ap₂ (λ (r n : ℕ). ring (overwrite b.storage b.read_at ws) r n) (place_zero (capacity b) b.read_at h.1.0) (let n : b.count - 0 ≡ b.count =
             omega arith in n)
 
-        on_holds : StandFor m2 (with_elements b b.read_at ws) (with_first_header new kept)
+        on_holds : Represents m2 (with_elements b b.read_at ws) (with_first_header new kept)
         on_holds =
             let w = written_holds m b kept h b.read_at ws in
             let n = ap length first_is.1 in
             headed_go m2 (with_elements b b.read_at ws) kept new z (omega (arith, n)) (em
             ∙ ap₂ (λ (n : ℕ) (l : List (PacketMetadata H)). slot n (Some new) ∷ l) size_is first_is.3) wfm w.1 w.3 w.4
 
-        pub on_kept : StandFor m2 b2 (packets_in 0 (queue m2))
-        on_kept = subst (λ (o : RingState ℕ). StandFor m2 o (packets_in 0 (queue m2))) (sym on_is) (closed m2 _ _ on_holds)
+        pub on_kept : Represents m2 b2 (packets_in 0 (queue m2))
+        on_kept = subst (λ (o : RingState ℕ). Represents m2 o (packets_in 0 (queue m2))) (sym on_is) (closed m2 _ _ on_holds)
 
-        pub on_left : capacity m2 ≡ capacity m → packet_queue m2 b2 ≡ with_first_bytes (packet_queue m b) new ws
+        pub on_left : capacity m2 ≡ capacity m → packets_state m2 b2 ≡ with_first_bytes (packets_state m b) new ws
         on_left cm =
-            ap (packet_queue m2) on_is ∙ viewed m2 _ _ on_holds
+            ap (packets_state m2) on_is ∙ viewed m2 _ _ on_holds
             ∙ ap (λ (n : ℕ). mk n (overwrite b.storage b.read_at ws) b.read_at (with_first_header new kept)) cm

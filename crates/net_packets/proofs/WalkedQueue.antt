@@ -13,10 +13,10 @@ use contract.Monad.{fact, fact_i}
 use denote.RattleType.{RattleType}
 use denote.Param.{param, bounded}
 use denote.Param.Laws.{Laws}
-use Rattle.net_packets.specs.Packets.{PacketQueue}
-use Rattle.net_ring.specs.declared.managed.Elements.{Ghosts}
+use Rattle.net_packets.specs.Packets.{PacketsState}
+use Rattle.net_ring.specs.declared.managed.Storage.{Ghosts}
 use Rattle.net_packets.specs.declared.packet_metadata.PacketMetadata.{PacketMetadata}
-use Rattle.net_packets.specs.contracts.packet_buffer.Packets as P
+use Rattle.net_packets.specs.contracts.packet_buffer.PacketsOver as P
 
 -- the headers, the storage of the slots and that of the bytes, and how their traits are passed
 pub record Given : Type 2 where
@@ -41,7 +41,7 @@ module _ (G : Given) where
   Self = P.the_row Header (param 1 G.N) (param 2 G.B) G.slots G.bytes
 
   abbrev pub Q : Type 0
-  Q = PacketQueue G.H.Denot
+  Q = PacketsState G.H.Denot
 
   -- the lifetimes after the first are those of the type parameters
   abbrev pub Live : Lfts 4 → Type 0

@@ -9,7 +9,7 @@ use Rattle.std.specs.Prelude.{◌≡◌, ◌≤◌, ℕ, List, [], ◌∷◌, �
 use Rattle.std.specs.Prelude.{length, min, take, drop}
 use Rattle.std.specs.Borrow.{MutBor}
 use Rattle.std.specs.Fn.{Once, FnOnceTakesAtMut, FnOnceReturnsAtMut}
-use Rattle.net_packets.specs.Packets.{PacketQueue, IsRoom, IsFirst, with_packet_if_room, with_last_bytes}
+use Rattle.net_packets.specs.Packets.{PacketsState, IsRoom, IsFirst, with_packet_if_room, with_last_bytes}
 use Rattle.net_packets.specs.Packets.{with_last_size, after_hand_out}
 use Rattle.net_packets.specs.PacketHistory.{contents}
 
@@ -17,18 +17,18 @@ use Rattle.net_packets.specs.PacketHistory.{contents}
 module _ {F H : Type 0}
     (g : Once F (MutBor (List ℕ) × Unit {0}) (ℕ × (MutBor (List ℕ) × Unit {0}))) where
   -- f may be called once at the bytes that a packet of s bytes is given
-  abbrev pub TakesRoom : F → PacketQueue H → ℕ → H → Type 0
+  abbrev pub TakesRoom : F → PacketsState H → ℕ → H → Type 0
   TakesRoom f q s h = (room : List ℕ) → IsRoom q s h room → FnOnceTakesAtMut g f room
 
   -- and there it returns at most s
-  abbrev pub CountsAtMost : F → PacketQueue H → ℕ → H → Type 0
+  abbrev pub CountsAtMost : F → PacketsState H → ℕ → H → Type 0
   CountsAtMost f q s h =
       (room ws : List ℕ) (k : ℕ) → IsRoom q s h room → FnOnceReturnsAtMut g f room k ws → k ≤ s
 
   -- f was lent the bytes room, wrote ws there and returned k: the first k bytes of ws came last as
   -- a packet, which made r of q
-  pub record WritesPacket (f : F) (q : PacketQueue H) (s : ℕ) (h : H) (k : ℕ)
-      (r : PacketQueue H) : Type 0 where
+  pub record WritesPacket (f : F) (q : PacketsState H) (s : ℕ) (h : H) (k : ℕ)
+      (r : PacketsState H) : Type 0 where
     pub room : List ℕ
     pub bytes : List ℕ
     pub is_room : IsRoom q s h room
@@ -61,13 +61,13 @@ module _ {F H R E : Type 0}
     (g : Once F (MutBor H × (MutBor (List ℕ) × Unit {0}))
     (Result R E × (MutBor H × (MutBor (List ℕ) × Unit {0})))) where
   -- f may be called once at the first packet
-  abbrev pub TakesFirstPacket : F → PacketQueue H → Type 0
+  abbrev pub TakesFirstPacket : F → PacketsState H → Type 0
   TakesFirstPacket f q = (h : H) (bytes : List ℕ) → IsFirst q h bytes → TakesPacket g f h bytes
 
   -- f was handed the first packet, wrote its header and bytes anew and returned: the packet is gone
   -- from r if that is `Ok`, and else stays as f wrote it
-  pub record HandsPacket (f : F) (q : PacketQueue H) (answer : Result R E)
-      (r : PacketQueue H) : Type 0 where
+  pub record HandsPacket (f : F) (q : PacketsState H) (answer : Result R E)
+      (r : PacketsState H) : Type 0 where
     pub header : H
     pub bytes : List ℕ
     pub new_header : H

@@ -9,10 +9,10 @@ use Rattle.std.specs.Prelude.{◌≡◌, ◌≢◌, ◌≤◌, ℕ, ◌+◌, Lis
 use Rattle.std.specs.declared.option.Option.TheVariants.{None}
 use Rattle.net_ring.specs.Ring.{queue}
 use Rattle.net_ring.specs.Log.{Log, empty_log, log_accepted, log_left, log_dropped}
-use Rattle.net_packets.specs.Packets.{Packet, PacketQueue, no_packets, byte_ring, placement}
+use Rattle.net_packets.specs.Packets.{Packet, PacketsState, no_packets, byte_ring, placement}
 use Rattle.net_packets.specs.Packets.{with_packet_if_room, only_last, last_bytes, with_last_bytes, with_last_size}
 use Rattle.net_packets.specs.Packets.{with_packet_of, first_size, without_gap, with_first_bytes, IsFirst, without_first}
-use Rattle.net_packets.specs.Packets.{without_first_and_gap, freed_bytes_index, AreFreed, with_bytes}
+use Rattle.net_packets.specs.Packets.{without_first_and_gap, last_dequeued_bytes_index, AreLastDequeued, with_bytes}
 
 module _ {H : Type 0} where
   -- the headers and bytes of packets whose bytes, gaps among them, are bs
@@ -22,7 +22,7 @@ module _ {H : Type 0} where
       (p.header, take p.size (drop p.gap bs)) ∷ contents_of ps (drop (p.gap + p.size) bs)
 
   -- the headers and bytes of the packets of a queue, the first one first
-  unfoldable pub contents : PacketQueue H → List (H × List ℕ)
+  unfoldable pub contents : PacketsState H → List (H × List ℕ)
   contents q = contents_of q.packets (queue (byte_ring q))
 
   -- the bytes of the first of these, or none if there is no first
@@ -55,14 +55,14 @@ pub data QueueCall (H : Type 0) : Type 0 where
   DequeueOk : H → List ℕ → H → List ℕ → QueueCall H
   -- `take`: the header and the bytes that were taken off
   Take : H → List ℕ → QueueCall H
-  -- `freed_mut`: the bytes that were written
-  WriteFreed : List ℕ → QueueCall H
+  -- `last_dequeued_mut`: the bytes that were written
+  WriteLastDequeued : List ℕ → QueueCall H
   -- `dequeue`: the header and the bytes that were handed out, and the bytes that were then written
   Dequeue : H → List ℕ → List ℕ → QueueCall H
 
 module _ {H : Type 0} where
   -- the call makes r of q, as its contract says
-  abbrev pub Makes : QueueCall H → PacketQueue H → PacketQueue H → Type 0
+  abbrev pub Makes : QueueCall H → PacketsState H → PacketsState H → Type 0
   Makes Reset q r = r ≡ no_packets q.slot_count q.storage
   Makes (Place header bytes) q r =
       (placement q (length bytes) ≢ None) × (r ≡ with_packet_if_room q (length bytes) header)
@@ -83,16 +83,16 @@ module _ {H : Type 0} where
       IsFirst q header bytes × (length written ≡ length bytes)
       × (r ≡ without_first (with_first_bytes (without_gap q) after written))
   Makes (Take header bytes) q r = IsFirst q header bytes × (r ≡ without_first_and_gap q)
-  Makes (WriteFreed bytes) q r =
-      AreFreed q (length bytes) × (r ≡ with_bytes q (freed_bytes_index q (length bytes)) bytes)
+  Makes (WriteLastDequeued bytes) q r =
+      AreLastDequeued q (length bytes) × (r ≡ with_bytes q (last_dequeued_bytes_index q (length bytes)) bytes)
   Makes (Dequeue header bytes written) q r =
       IsFirst q header bytes × (length written ≡ length bytes)
       × (r ≡ with_bytes (without_first_and_gap q) (without_gap q).read_at written)
 
   -- the calls, one after another, make r of q
-  abbrev pub MakesAll : List (QueueCall H) → PacketQueue H → PacketQueue H → Type 0
+  abbrev pub MakesAll : List (QueueCall H) → PacketsState H → PacketsState H → Type 0
   MakesAll [] q r = r ≡ q
-  MakesAll (call ∷ calls) q r = (next : PacketQueue H) × Makes call q next × MakesAll calls next r
+  MakesAll (call ∷ calls) q r = (next : PacketsState H) × Makes call q next × MakesAll calls next r
 
 -- ---- what came and what left: packets, each with its header and bytes
 module _ {H : Type 0} where
@@ -116,7 +116,7 @@ module _ {H : Type 0} where
       record { accepted = set log.accepted (length log.left) (after, written); left = log.left }
   log_after (DequeueOk header bytes after written) log = log_left ((header, bytes) ∷ []) log
   log_after (Take header bytes) log = log_left ((header, bytes) ∷ []) log
-  log_after (WriteFreed bytes) log = log
+  log_after (WriteLastDequeued bytes) log = log
   log_after (Dequeue header bytes written) log = log_left ((header, bytes) ∷ []) log
 
   -- the log after calls, one after another

@@ -6,31 +6,31 @@ use Rattle.std.specs.Prelude.{◌≡◌, List, ℕ, Result, ⊤}
 use Rattle.std.specs.Borrow.{Lends, LendsIfOk, MutBor, Fml, RattleType, Array, u8, follows_if}
 use Rattle.std.specs.Borrow.{follows_so, name_if_ok}
 use mathlib.Core.Option.{none}
-use Rattle.net_packets.specs.Packets.{PacketQueue}
-use Rattle.net_ring.specs.declared.managed.Elements.{Ghosts}
+use Rattle.net_packets.specs.Packets.{PacketsState}
+use Rattle.net_ring.specs.declared.managed.Storage.{Ghosts}
 use Rattle.net_ring.specs.declared.error.Full.{Full}
 use Rattle.net_ring.specs.declared.error.Empty.{Empty}
 use Rattle.net_packets.specs.declared.packet_metadata.PacketMetadata.{PacketMetadata}
-use Rattle.net_packets.specs.contracts.packet_buffer.Packets.{the_row}
+use Rattle.net_packets.specs.contracts.packet_buffer.PacketsOver.{the_row}
 
 module _ (H M B : RattleType) (m : Ghosts M.Denot (PacketMetadata H.Denot)) (b : Ghosts B.Denot ℕ)
-    (s : MutBor (PacketQueue H.Denot)) where
+    (s : MutBor (PacketsState H.Denot)) where
   -- it ends as F of the bytes that the borrower leaves
-  abbrev pub lends_bytes : MutBor (List ℕ) → (List ℕ → PacketQueue H.Denot) → Fml
+  abbrev pub lends_bytes : MutBor (List ℕ) → (List ℕ → PacketsState H.Denot) → Fml
   lends_bytes r F = Lends (the_row H M B m b) (Array u8 0) s r F
 
   -- the same at `Ok`; at `Err` it ends as it was
-  abbrev pub lends_bytes_if : Result (MutBor (List ℕ)) Full → (List ℕ → PacketQueue H.Denot) → Fml
+  abbrev pub lends_bytes_if : Result (MutBor (List ℕ)) Full → (List ℕ → PacketsState H.Denot) → Fml
   lends_bytes_if r F = LendsIfOk (the_row H M B m b) (Array u8 0) s r F s.now
 
   -- the same for bytes that a header comes with
   abbrev pub lends_packet_if : Result (H.Denot × MutBor (List ℕ)) Empty
-      → (List ℕ → PacketQueue H.Denot) → Fml
+      → (List ℕ → PacketsState H.Denot) → Fml
   lends_packet_if r F =
       follows_if (the_row H M B m b) (Array u8 0) s.ghost_name
       (name_if_ok (λ p. p.1.ghost_name) r) F s.now
 
   -- it ends as q
-  abbrev pub ends_as : PacketQueue H.Denot → Fml
+  abbrev pub ends_as : PacketsState H.Denot → Fml
   ends_as q =
       follows_so (the_row H M B m b) (the_row H M B m b) s.ghost_name none (λ _ _. ⊤) (λ n. n ≡ q)

@@ -1,12 +1,12 @@
 -- A queue of packets by the two rings that store it.
 --     slot s h, packet_slots ps, packets_in gap ms      a slot, the slots of packets, and back
---     StandFor m b ps, packet_queue m b      the packets, and the queue, that two rings stand for
+--     Represents m b ps, packets_state m b      two rings represent packets; the queue that they represent
 --     IsFirstSlot m s h, WithFirstSlot m s h n      what the first slot of a ring is
 use Rattle.std.specs.Prelude.{◌≡◌, ℕ, zero, suc, ◌+◌, List, [], ◌∷◌, ◌++◌, drop}
 use Rattle.std.specs.Prelude.{Option}
 use Rattle.std.specs.declared.option.Option.TheVariants.{Some, None}
 use Rattle.net_ring.specs.Ring.{RingState, capacity, queue, IsWellFormed}
-use Rattle.net_packets.specs.Packets.{Packet, PacketQueue, packet, bytes_used, ArePlaced}
+use Rattle.net_packets.specs.Packets.{Packet, PacketsState, packet, bytes_used, ArePlaced}
 use Rattle.net_packets.specs.declared.packet_metadata.PacketMetadata.{PacketMetadata}
 
 module _ {H : Type 0} where
@@ -33,15 +33,15 @@ module _ {H : Type 0} where
         | Some h ↦ packet h m.size gap ∷ packets_in 0 ms
       ]
 
-  -- the rings stand for these packets
-  abbrev pub StandFor : RingState (PacketMetadata H) → RingState ℕ → List (Packet H) → Type 0
-  StandFor m b ps =
+  -- the rings represent these packets
+  abbrev pub Represents : RingState (PacketMetadata H) → RingState ℕ → List (Packet H) → Type 0
+  Represents m b ps =
       IsWellFormed m × IsWellFormed b × (queue m ≡ packet_slots ps) × (b.count ≡ bytes_used ps)
       × ArePlaced (capacity b) b.read_at 0 ps
 
-  -- the queue that the two rings stand for
-  abbrev pub packet_queue : RingState (PacketMetadata H) → RingState ℕ → PacketQueue H
-  packet_queue m b =
+  -- the queue that the two rings represent
+  abbrev pub packets_state : RingState (PacketMetadata H) → RingState ℕ → PacketsState H
+  packets_state m b =
       record {
         slot_count = capacity m;
         storage = b.storage;

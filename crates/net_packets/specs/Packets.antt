@@ -1,7 +1,7 @@
 -- A queue of packets over a storage of bytes, what decides which packets are refused, and what each
 -- call makes of the queue. Readers think of a queue as its `contents` (PacketHistory), the list of
 -- headers and bytes; the indices and gaps here say only when there is room.
---     Packet H, PacketQueue H      a packet, and a queue of them
+--     Packet H, PacketsState H      a packet, and a queue of them
 --     byte_ring q, bytes_used ps, slots_used ps      the ring of the bytes, and what packets take
 --     placement q s      the gap before a packet of s bytes, if it is not refused
 --     IsWellPlaced q      what is true of every queue
@@ -12,14 +12,15 @@
 --         and the last packet alone
 --     IsFirst q h ws, without_gap q, with_first_bytes q h ws, without_first q, without_first_and_gap q,
 --         after_hand_out gone q h ws      the first packet
---     AreFreed q s, IsFreedAt q s p, freed_bytes_index q s, freed_bytes q s, with_bytes q p ws      the
---         bytes of a packet that was taken off, and bytes that are written over the storage
+--     AreLastDequeued q s, AreLastDequeuedAt q s p, last_dequeued_bytes_index q s, last_dequeued_bytes q s
+--         the bytes of a packet that was taken off
+--     with_bytes q p ws      bytes that are written over the storage
 use Rattle.std.specs.Prelude.{◌≡◌, ◌≢◌, Bool, ℕ, zero, suc, ◌+◌, ◌-◌, ◌≤◌, nat_le}
 use Rattle.std.specs.Prelude.{if◌then◌else◌, List, [], ◌∷◌, ◌++◌, length, take, drop, ⊤}
 use Rattle.std.specs.Prelude.{Option}
 use Rattle.std.specs.declared.option.Option.TheVariants.{Some, None}
 use Rattle.net_ring.specs.Overwrite.{overwrite}
-use Rattle.net_ring.specs.Ring.{RingState, ring, window, index_after, storage_index, freed_index}
+use Rattle.net_ring.specs.Ring.{RingState, ring, window, index_after, storage_index, last_dequeued_index}
 use Rattle.net_ring.specs.Ring.{contiguous_window, from_start_if_empty, IsWellFormed}
 
 -- a packet: its header, how many bytes it has, and how many bytes of the storage are skipped before
@@ -31,7 +32,7 @@ pub record Packet (H : Type 0) : Type 0 where
 
 -- a queue of packets: how many slots it has, its storage, the index where that is read, and its
 -- packets in order
-pub record PacketQueue (H : Type 0) : Type 0 where
+pub record PacketsState (H : Type 0) : Type 0 where
   pub slot_count : ℕ
   pub storage : List ℕ
   pub read_at : ℕ
@@ -48,7 +49,7 @@ module _ {H : Type 0} where
   bytes_used (p ∷ ps) = p.gap + p.size + bytes_used ps
 
   -- the ring that the bytes are
-  abbrev pub byte_ring : PacketQueue H → RingState ℕ
+  abbrev pub byte_ring : PacketsState H → RingState ℕ
   byte_ring q = ring q.storage q.read_at (bytes_used q.packets)
 
 -- ---- what decides a refusal
@@ -57,7 +58,7 @@ abbrev pub slots_for : ℕ → ℕ
 slots_for zero = 1
 slots_for (suc gap) = 2
 
--- the gap before a packet of s bytes, if c bytes are free in a row and w in all
+-- the gap before a packet of s bytes, if w bytes are free, of which the first c are contiguous
 abbrev pub gap_for : ℕ → ℕ → ℕ → Option ℕ
 gap_for s c w = if nat_le s c then Some 0 else if nat_le s (w - c) then Some c else None
 
@@ -73,7 +74,7 @@ module _ {H : Type 0} where
   slots_used (p ∷ ps) = slots_for p.gap + slots_used ps
 
   -- the gap before a packet of s bytes, if there are room and slots for it
-  abbrev pub placement : PacketQueue H → ℕ → Option ℕ
+  abbrev pub placement : PacketsState H → ℕ → Option ℕ
   placement q s =
       let g = from_start_if_empty (byte_ring q) in
       if_slots (q.slot_count - slots_used q.packets) (gap_for s (contiguous_window g) (window g))
@@ -89,9 +90,9 @@ module _ {H : Type 0} where
   ArePlaced c r o [] = ⊤
   ArePlaced c r o (p ∷ ps) = IsPlaced c r o p × ArePlaced c r (o + p.gap + p.size) ps
 
-  -- what holds of every queue: its bytes are a ring, in which each packet lies in a row and each
-  -- gap ends at the storage's end; there is a slot for each packet and gap
-  abbrev pub IsWellPlaced : PacketQueue H → Type 0
+  -- what holds of every queue: its bytes are a ring, in which those of each packet are contiguous and
+  -- each gap ends at the storage's end; there is a slot for each packet and gap
+  abbrev pub IsWellPlaced : PacketsState H → Type 0
   IsWellPlaced q =
       IsWellFormed (byte_ring q) × ArePlaced (length q.storage) q.read_at 0 q.packets
       × (slots_used q.packets ≤ q.slot_count)
@@ -99,12 +100,12 @@ module _ {H : Type 0} where
 -- ---- what calls leave
 module _ {H : Type 0} where
   -- a queue with no packets, as `new` and `reset` leave it
-  abbrev pub no_packets : ℕ → List ℕ → PacketQueue H
+  abbrev pub no_packets : ℕ → List ℕ → PacketsState H
   no_packets slot_count storage =
       record { slot_count = slot_count; storage = storage; read_at = 0; packets = [] }
 
   -- the queue with ws written over its storage from the index p on
-  abbrev pub with_bytes : PacketQueue H → ℕ → List ℕ → PacketQueue H
+  abbrev pub with_bytes : PacketsState H → ℕ → List ℕ → PacketsState H
   with_bytes q p ws =
       record {
         slot_count = q.slot_count;
@@ -120,7 +121,7 @@ module _ {H : Type 0} where
 
   -- ---- a packet comes last
   -- a packet of s bytes came last, after a gap
-  abbrev pub with_packet : PacketQueue H → ℕ → ℕ → H → PacketQueue H
+  abbrev pub with_packet : PacketsState H → ℕ → ℕ → H → PacketsState H
   with_packet q gap s h =
       record {
         slot_count = q.slot_count;
@@ -130,12 +131,12 @@ module _ {H : Type 0} where
       }
 
   -- the same, if there is a gap for it
-  abbrev pub with_packet_if : PacketQueue H → Option ℕ → ℕ → H → PacketQueue H
+  abbrev pub with_packet_if : PacketsState H → Option ℕ → ℕ → H → PacketsState H
   with_packet_if q None s h = q
   with_packet_if q (Some gap) s h = with_packet q gap s h
 
   -- a packet of s bytes came last if it could be placed; its bytes are the storage's
-  abbrev pub with_packet_if_room : PacketQueue H → ℕ → H → PacketQueue H
+  abbrev pub with_packet_if_room : PacketsState H → ℕ → H → PacketsState H
   with_packet_if_room q s h = with_packet_if q (placement q s) s h
 
   -- the packets before the last one
@@ -147,20 +148,20 @@ module _ {H : Type 0} where
   only_last ps = drop (length ps - 1) ps
 
   -- the index where the last packet's bytes begin
-  abbrev pub last_index : PacketQueue H → ℕ
+  abbrev pub last_index : PacketsState H → ℕ
   last_index q =
       storage_index (byte_ring q) (bytes_used q.packets - first_size (only_last q.packets))
 
   -- the last packet's bytes
-  abbrev pub last_bytes : PacketQueue H → List ℕ
+  abbrev pub last_bytes : PacketsState H → List ℕ
   last_bytes q = take (first_size (only_last q.packets)) (drop (last_index q) q.storage)
 
   -- the last packet's bytes are ws
-  abbrev pub with_last_bytes : PacketQueue H → List ℕ → PacketQueue H
+  abbrev pub with_last_bytes : PacketsState H → List ℕ → PacketsState H
   with_last_bytes q ws = with_bytes q (last_index q) ws
 
   -- a packet with the header h and the bytes ws came last, if it could be placed
-  abbrev pub with_packet_of : PacketQueue H → H → List ℕ → PacketQueue H
+  abbrev pub with_packet_of : PacketsState H → H → List ℕ → PacketsState H
   with_packet_of q h ws = with_last_bytes (with_packet_if_room q (length ws) h) ws
 
   -- the first of the packets has k bytes
@@ -169,7 +170,7 @@ module _ {H : Type 0} where
   with_first_size k (p ∷ ps) = packet p.header k p.gap ∷ ps
 
   -- the last packet has the first k of its bytes
-  abbrev pub with_last_size : ℕ → PacketQueue H → PacketQueue H
+  abbrev pub with_last_size : ℕ → PacketsState H → PacketsState H
   with_last_size k q =
       record {
         slot_count = q.slot_count;
@@ -179,7 +180,7 @@ module _ {H : Type 0} where
       }
 
   -- the list room is what a packet of s bytes is given, if it is placed
-  abbrev pub IsRoom : PacketQueue H → ℕ → H → List ℕ → Type 0
+  abbrev pub IsRoom : PacketsState H → ℕ → H → List ℕ → Type 0
   IsRoom q s h room =
       (placement q s ≢ None) × (room ≡ last_bytes (with_packet_if_room q s h)) × (length room ≡ s)
 
@@ -195,7 +196,7 @@ module _ {H : Type 0} where
   without_first_gap (p ∷ ps) = packet p.header p.size 0 ∷ ps
 
   -- the gap before the first packet is gone
-  abbrev pub without_gap : PacketQueue H → PacketQueue H
+  abbrev pub without_gap : PacketsState H → PacketsState H
   without_gap q =
       record {
         slot_count = q.slot_count;
@@ -210,11 +211,11 @@ module _ {H : Type 0} where
   IsFirstSized ps h s = ps ≡ packet h s (first_gap ps) ∷ drop 1 ps
 
   -- the bytes of the first packet, whose gap is gone
-  abbrev pub first_bytes : PacketQueue H → List ℕ
+  abbrev pub first_bytes : PacketsState H → List ℕ
   first_bytes q = take (first_size q.packets) (drop q.read_at q.storage)
 
   -- the first packet has the header h and the bytes ws
-  abbrev pub IsFirst : PacketQueue H → H → List ℕ → Type 0
+  abbrev pub IsFirst : PacketsState H → H → List ℕ → Type 0
   IsFirst q h ws = IsFirstSized q.packets h (length ws) × (ws ≡ first_bytes (without_gap q))
 
   -- the first of the packets has the header h
@@ -223,7 +224,7 @@ module _ {H : Type 0} where
   with_first_header h (p ∷ ps) = packet h p.size p.gap ∷ ps
 
   -- the first packet, whose gap is gone, has the header h and the bytes ws
-  abbrev pub with_first_bytes : PacketQueue H → H → List ℕ → PacketQueue H
+  abbrev pub with_first_bytes : PacketsState H → H → List ℕ → PacketsState H
   with_first_bytes q h ws =
       record {
         slot_count = q.slot_count;
@@ -233,7 +234,7 @@ module _ {H : Type 0} where
       }
 
   -- the first packet, whose gap is gone, was taken off
-  abbrev pub without_first : PacketQueue H → PacketQueue H
+  abbrev pub without_first : PacketsState H → PacketsState H
   without_first q =
       record {
         slot_count = q.slot_count;
@@ -244,26 +245,26 @@ module _ {H : Type 0} where
 
   -- the first packet was handed out and has the header h and the bytes ws: it is gone if gone is
   -- true, and else stays first, without its gap
-  abbrev pub after_hand_out : Bool → PacketQueue H → H → List ℕ → PacketQueue H
+  abbrev pub after_hand_out : Bool → PacketsState H → H → List ℕ → PacketsState H
   after_hand_out gone q h ws =
       if gone then without_first (with_first_bytes (without_gap q) h ws) else with_first_bytes (without_gap q) h ws
 
   -- the first packet and its gap were taken off
-  abbrev pub without_first_and_gap : PacketQueue H → PacketQueue H
+  abbrev pub without_first_and_gap : PacketsState H → PacketsState H
   without_first_and_gap q = without_first (without_gap q)
 
   -- the index where the s bytes before the read index begin
-  abbrev pub freed_bytes_index : PacketQueue H → ℕ → ℕ
-  freed_bytes_index q s = freed_index (byte_ring q) s
+  abbrev pub last_dequeued_bytes_index : PacketsState H → ℕ → ℕ
+  last_dequeued_bytes_index q s = last_dequeued_index (byte_ring q) s
 
   -- these bytes
-  abbrev pub freed_bytes : PacketQueue H → ℕ → List ℕ
-  freed_bytes q s = take s (drop (freed_bytes_index q s) q.storage)
+  abbrev pub last_dequeued_bytes : PacketsState H → ℕ → List ℕ
+  last_dequeued_bytes q s = take s (drop (last_dequeued_bytes_index q s) q.storage)
 
-  -- the s bytes before the read index lie in a row, and none of them is a packet's
-  abbrev pub AreFreed : PacketQueue H → ℕ → Type 0
-  AreFreed q s = (s ≤ window (byte_ring q)) × (freed_bytes_index q s + s ≤ length q.storage)
+  -- the s bytes before the read index are contiguous, and none of them is a packet's
+  abbrev pub AreLastDequeued : PacketsState H → ℕ → Type 0
+  AreLastDequeued q s = (s ≤ window (byte_ring q)) × (last_dequeued_bytes_index q s + s ≤ length q.storage)
 
   -- the s bytes before the read index are such, and begin at the index p
-  abbrev pub IsFreedAt : PacketQueue H → ℕ → ℕ → Type 0
-  IsFreedAt q s p = AreFreed q s × (freed_bytes_index q s ≡ p)
+  abbrev pub AreLastDequeuedAt : PacketsState H → ℕ → ℕ → Type 0
+  AreLastDequeuedAt q s p = AreLastDequeued q s × (last_dequeued_bytes_index q s ≡ p)

@@ -4,5 +4,5 @@
 pub mod packet_buffer;
 mod packet_metadata;
 
-pub use packet_buffer::{PacketBuffer, Packets};
+pub use packet_buffer::{PacketBuffer, PacketsOver};
 pub use packet_metadata::PacketMetadata;

@@ -8,7 +8,7 @@ ghost use Rattle.net_packets.specs.Packets.{first_size, gap_for, slots_for, if_s
 ghost use Rattle.net_packets.specs.PacketHistory.{contents};
 
 use crate::packet_metadata::PacketMetadata;
-use net_ring::{Elements, Empty, Full, ManagedSlice, Ring};
+use net_ring::{Empty, Full, ManagedSlice, RingOver, Storage};
 use std::marker::Model;
 
 mod closures;
@@ -21,7 +21,7 @@ mod taking;
 /// A queue of packets over any storage: `M` has the slots and `B` the bytes. [`PacketBuffer`] is
 /// its usual form.
 ///
-/// A packet has a header and bytes that lie in a row in the storage. If a packet does not fit
+/// A packet has a header and bytes that are contiguous in the storage. If a packet does not fit
 /// before the storage's end, it is placed at the storage's beginning, and the bytes before the end
 /// are skipped as its gap. A packet uses one slot, and a gap, which is never of 0 bytes, one more.
 /// Packets leave in the order in which they came.
@@ -30,49 +30,49 @@ mod taking;
 /// packets are refused is seen by the number of its slots, its storage, the read index, and the list
 /// of its packets (header, size, gap).
 #[derive(Debug, Drop)]
-pub struct Packets<H, M: Elements<PacketMetadata<H>>, B: Elements<u8>> {
-    slots: Ring<PacketMetadata<H>, M>,
-    bytes: Ring<u8, B>,
+pub struct PacketsOver<H, M: Storage<PacketMetadata<H>>, B: Storage<u8>> {
+    slots: RingOver<PacketMetadata<H>, M>,
+    bytes: RingOver<u8, B>,
 }
 
 /// A queue of packets over lent or owned storage.
 ///
 /// It serves sockets that send and receive whole packets, as those of UDP and ICMP.
-pub type PacketBuffer<'a, H> = Packets<
+pub type PacketBuffer<'a, H> = PacketsOver<
     H,
     ManagedSlice<'a, PacketMetadata<H>>,
     ManagedSlice<'a, u8>,
 >;
 
-impl<H, M: Elements<PacketMetadata<H>>, B: Elements<u8>> Model for Packets<H, M, B> {
+impl<H, M: Storage<PacketMetadata<H>>, B: Storage<u8>> Model for PacketsOver<H, M, B> {
     ghost use Rattle.net_ring.specs.Ring.{queue};
-    ghost use Rattle.net_packets.specs.Packets.{PacketQueue};
-    ghost use Rattle.net_packets.specs.PacketSlots.{packet_queue, packets_in, StandFor};
+    ghost use Rattle.net_packets.specs.Packets.{PacketsState};
+    ghost use Rattle.net_packets.specs.PacketSlots.{packets_state, packets_in, Represents};
 
-    ghost Value = { PacketQueue H };
+    ghost Value = { PacketsState H };
 
-    ghost view = { λ a. packet_queue a.slots a.bytes };
+    ghost view = { λ a. packets_state a.slots a.bytes };
 
-    ghost invariant = { λ a. StandFor a.slots a.bytes (packets_in 0 (queue a.slots)) };
+    ghost invariant = { λ a. Represents a.slots a.bytes (packets_in 0 (queue a.slots)) };
 }
 
-impl<H, M: Elements<PacketMetadata<H>>, B: Elements<u8>> Packets<H, M, B> {
+impl<H, M: Storage<PacketMetadata<H>>, B: Storage<u8>> PacketsOver<H, M, B> {
     /// Returns a queue with no packets, which has as many slots as `slots` has elements, and room
     /// for as many bytes as `bytes` has.
     pub fn new(slots: M, bytes: B) -> Self
-        ensures none { contents result ≡ [] }
+        ensures empty { contents result ≡ [] }
         ensures made { result ≡ no_packets (length (M.elements slots)) (B.elements bytes) }
     {
-        Packets {
-            slots: Ring::new(slots),
-            bytes: Ring::new(bytes),
+        PacketsOver {
+            slots: RingOver::new(slots),
+            bytes: RingOver::new(bytes),
         }
     }
 
     /// Returns whether the queue has no packets.
     #[inline]
     pub fn is_empty(&self) -> bool
-        ensures none { IsTrue result ↔ (contents self.now ≡ []) }
+        ensures empty { IsTrue result ↔ (contents self.now ≡ []) }
         ensures packets { result ≡ (length self.now.packets == 0) }
     {
         self.slots.is_empty()
@@ -138,7 +138,7 @@ impl<H, M: Elements<PacketMetadata<H>>, B: Elements<u8>> Packets<H, M, B> {
     ///
     /// In smoltcp this call is private.
     pub fn reset(&mut self)
-        ensures none { contents self.new ≡ [] }
+        ensures empty { contents self.new ≡ [] }
         ensures made { self.new ≡ no_packets self.old.slot_count self.old.storage }
     {
         self.slots.clear();
@@ -147,10 +147,11 @@ impl<H, M: Elements<PacketMetadata<H>>, B: Elements<u8>> Packets<H, M, B> {
 }
 
 /// What the calls share.
-impl<H, M: Elements<PacketMetadata<H>>, B: Elements<u8>> Packets<H, M, B> {
-    /// Returns how many bytes are free in a row, and in all, if an empty ring begins anew.
+impl<H, M: Storage<PacketMetadata<H>>, B: Storage<u8>> PacketsOver<H, M, B> {
+    /// Returns how many free bytes are contiguous, and how many there are, if an empty ring begins
+    /// anew.
     #[inline]
-    fn free_in_a_row(&self) -> (usize, usize)
+    fn contiguous_free(&self) -> (usize, usize)
         ensures contiguous { result.0 ≡ contiguous_window (from_start_if_empty (byte_ring self.now)) }
         ensures window { result.1 ≡ window (from_start_if_empty (byte_ring self.now)) }
     {
@@ -167,7 +168,7 @@ impl<H, M: Elements<PacketMetadata<H>>, B: Elements<u8>> Packets<H, M, B> {
         ensures gap { result ≡ placement self.now size }
         ensures well_placed { IsWellPlaced self.now }
     {
-        let (contiguous, window) = self.free_in_a_row();
+        let (contiguous, window) = self.contiguous_free();
         let free = self.slots.window();
         if_slots(free, gap_for(size, contiguous, window))
     }
@@ -211,8 +212,8 @@ impl<H, M: Elements<PacketMetadata<H>>, B: Elements<u8>> Packets<H, M, B> {
     }
 }
 
-/// Returns the gap before a packet of `size` bytes, if `contiguous` bytes are free in a row and
-/// `window` in all; `None` if it does not fit.
+/// Returns the gap before a packet of `size` bytes, if `window` bytes are free, of which the first
+/// `contiguous` are contiguous; `None` if it does not fit.
 #[inline]
 fn gap_for(size: usize, contiguous: usize, window: usize) -> Option<usize>
     requires { contiguous ≤ window }

@@ -17,17 +17,17 @@ use Rattle.net_receiver.specs.KeptList.{Piece, piece, piece_byte_at, piece_withi
 use Rattle.std.proofs.lemmas.List.Elements.{All-nil, All-cons, All-append}
 use Rattle.net_receiver.specs.KeptList.{byte_at, held_byte_at, next}
 use Rattle.net_receiver.proofs.Stream.{agrees_at}
-use Rattle.net_receiver.specs.Rules.{Show, CommandSeen, ReplySeen, Segment, Read, Verdict, KeepsNone}
+use Rattle.net_receiver.specs.Rules.{Show, CommandValue, ReplyValue, Segment, Read, Verdict, KeepsNone}
 use Rattle.net_receiver.specs.Rules.{Refuses, Keeps, verdict_of_piece, verdict, state_after, segment_result}
-use Rattle.net_receiver.specs.Schedule.{State, Agrees, kept_after_all, Follows, EndsBy, bytes_read, PieceAgrees}
-use Rattle.net_receiver.specs.Stored.{stored_reply, stored_after_all, setting, StandsFor, Stored}
-use Rattle.net_receiver.specs.Stored.{HeldBytes, domain, held_with_piece, first_lacking, held_bytes_at}
-use Rattle.net_receiver.specs.Stored.{stored_next, by_stored, stored_after_read, stored_after}
-use Rattle.net_receiver.specs.Stored.{fresh_stored, IsSound, StaysInSetting}
+use Rattle.net_receiver.specs.Schedule.{KeptState, Agrees, kept_after_commands, Follows, EndsBy, bytes_read, PieceAgrees}
+use Rattle.net_receiver.specs.ReceiverState.{receiver_reply, receiver_after_commands, setting, Refines, ReceiverState}
+use Rattle.net_receiver.specs.ReceiverState.{HeldBytes, domain, held_with_piece, first_lacking, held_bytes_at}
+use Rattle.net_receiver.specs.ReceiverState.{next_position, receiver_ops, receiver_after_read, receiver_after_command}
+use Rattle.net_receiver.specs.ReceiverState.{fresh_receiver, IsSound, StaysInSetting}
 use Rattle.net_receiver.specs.Segments.{KeepsOrRefuses, JoinsQueue}
 use Rattle.net_receiver.proofs.Whole.{ran}
-use Rattle.net_receiver.specs.OneStream.{SaysOfLonger, NoneSay, SegmentSays, ReadSays, ShowSays}
-use Rattle.net_receiver.specs.OneStream.{BothSay, EachSays, FreshReceivesFrom, AgreeingReceives}
+use Rattle.net_receiver.specs.OneStream.{MatchesLonger, EmptyMatches, SegmentMatches, ReadMatches, ShowMatches}
+use Rattle.net_receiver.specs.OneStream.{BothMatch, EachMatches, FreshReceivesFrom, AgreeingReceives}
 use Rattle.net_receiver.specs.OneStream.{ReceivesByParts, ReceivesFromLonger, SegmentReceives}
 use Rattle.net_receiver.specs.OneStream.{HeldIsOfStream}
 use Rattle.net_receiver.proofs.Step.{same_next}
@@ -35,7 +35,7 @@ use Rattle.net_receiver.proofs.Run.{setting_kept}
 use Rattle.net_receiver.proofs.OneStream.{longer_at, longer_receives}
 use Rattle.net_receiver.specs.Execution.{Executes}
 use Rattle.net_receiver.specs.Retransmission.{InOrderReaches}
-use Rattle.net_receiver.specs.OneStream.{CapacityStays, Receives, ReceivesFrom, Says, AllSay, IsTruthful, SaysWhatIsThere, QueueIsOf, window_part}
+use Rattle.net_receiver.specs.OneStream.{CapacityStays, Receives, ReceivesFrom, MatchesStream, AllMatch, IsTruthful, MatchesWhatIsThere, QueueIsOf, window_part}
 use Rattle.net_receiver.proofs.Maps.{get-with_bytes_at, first_lacking_is, next_joined}
 use Rattle.net_receiver.proofs.Covering.{next_is, piece_before, piece_from, slice_get-drop, slice_get-take}
 use Rattle.net_receiver.proofs.Recover.{follows_verdict}
@@ -43,41 +43,41 @@ use Rattle.net_receiver.proofs.Run.{read_prefix}
 use Rattle.net_receiver.proofs.OneStream.{none_is_not, cond_some, one_receives, queue_is_of, fresh_receives, first_stays, first_kept, run_receives}
 
 -- ---- streams
-first_of : (N : ℕ) (v u : Stored) (c : CommandSeen) → u ≡ stored_after N v c → u.first ≡ v.first
-first_of N v u c e = ap (λ (y : Stored). y.first) e ∙ first_stays N v c
+first_of : (N : ℕ) (v u : ReceiverState) (c : CommandValue) → u ≡ receiver_after_command N v c → u.first ≡ v.first
+first_of N v u c e = ap (λ (y : ReceiverState). y.first) e ∙ first_stays N v c
 
-pub segment_receives : (N f : ℕ) (x : List ℕ) (v u : Stored) (pos : ℕ) (xs : List ℕ) →
-    u ≡ stored_after N v (Segment pos xs) → ReceivesFrom f x v → Says f x pos xs → ReceivesFrom f x u
-unfolding ReceivesFrom Says
+pub segment_receives : (N f : ℕ) (x : List ℕ) (v u : ReceiverState) (pos : ℕ) (xs : List ℕ) →
+    u ≡ receiver_after_command N v (Segment pos xs) → ReceivesFrom f x v → MatchesStream f x pos xs → ReceivesFrom f x u
+unfolding ReceivesFrom MatchesStream
 segment_receives N f x v u pos xs e r h = (
   first_of N v u (Segment pos xs) e ∙ r.0,
   subst (Receives x) (sym e) (one_receives N x v (Segment pos xs) r.1 (subst (λ b. PieceAgrees b x (piece pos xs)) (sym r.0) h)),
 )
 
-pub read_receives : (f : ℕ) (x : List ℕ) (v u : Stored) (n : ℕ) → u ≡ stored_after_read v n → ReceivesFrom f x v → ReceivesFrom f x u
+pub read_receives : (f : ℕ) (x : List ℕ) (v u : ReceiverState) (n : ℕ) → u ≡ receiver_after_read v n → ReceivesFrom f x v → ReceivesFrom f x u
 unfolding ReceivesFrom
 read_receives f x v u n e r = (first_of 0 v u (Read n) e ∙ r.0, subst (Receives x) (sym e) (one_receives 0 x v (Read n) r.1 tt))
 
-pub fresh_receives_from : (x : List ℕ) (first capacity : ℕ) → ReceivesFrom first x (fresh_stored first capacity)
+pub fresh_receives_from : (x : List ℕ) (first capacity : ℕ) → ReceivesFrom first x (fresh_receiver first capacity)
 unfolding ReceivesFrom
 fresh_receives_from x first capacity = (refl, fresh_receives x first capacity)
 
-pub queue_of : (f : ℕ) (x : List ℕ) (v : Stored) → ReceivesFrom f x v → QueueIsOf x v
+pub queue_of : (f : ℕ) (x : List ℕ) (v : ReceiverState) → ReceivesFrom f x v → QueueIsOf x v
 unfolding ReceivesFrom
 queue_of f x v r = queue_is_of x v r.1
 
 pub run_receives_from :
-    (N f : ℕ) (x : List ℕ) (v u : Stored) (cs : List CommandSeen) (rs : List ReplySeen) (complete : Bool) →
-    Executes N v u cs rs (IsTrue complete) → ReceivesFrom f x v → AllSay f x cs →
-    ReceivesFrom f x u × (bytes_read rs ++ u.queue ≡ slice_range x v.read (stored_next u - u.first))
-unfolding ReceivesFrom AllSay
+    (N f : ℕ) (x : List ℕ) (v u : ReceiverState) (cs : List CommandValue) (rs : List ReplyValue) (complete : Bool) →
+    Executes N v u cs rs (IsTrue complete) → ReceivesFrom f x v → AllMatch f x cs →
+    ReceivesFrom f x u × (bytes_read rs ++ u.queue ≡ slice_range x v.read (next_position u - u.first))
+unfolding ReceivesFrom AllMatch
 run_receives_from N f x v u cs rs complete run r h =
     let both = run_receives N x v u cs rs complete r.1 (subst (λ b. All (IsTruthful b x) cs) (sym r.0) h) run in
-    ((ap (λ (y : Stored). y.first) run.state ∙ first_kept N v (take run.prefix.count cs) ∙ r.0, both.0), both.1)
+    ((ap (λ (y : ReceiverState). y.first) run.state ∙ first_kept N v (take run.prefix.count cs) ∙ r.0, both.0), both.1)
 
-pub says_what_is_there : SaysWhatIsThere
-unfolding Says
-says_what_is_there f pos x xs h e = λ p b from is.
+pub matches_what_is_there : MatchesWhatIsThere
+unfolding MatchesStream
+matches_what_is_there f pos x xs h e = λ p b from is.
     ⊎_elim
     (λ (l : p < pos). absurd (none_is_not b (sym (piece_before (piece pos xs) p l) ∙ is)))
     (λ (l : pos ≤ p).
@@ -94,7 +94,7 @@ prefix_of x q a n e h = grind (arith, common_steps)
 few_of : (q : List ℕ) (k n : ℕ) → n ≡ min k (length q) → take k q ≡ take n q
 few_of q k n e = grind (arith, common_steps)
 
-pub read_bytes : (f : ℕ) (x : List ℕ) (v : Stored) (into old : List ℕ) (n : ℕ) → n ≡ min (length old) (length v.queue) →
+pub read_bytes : (f : ℕ) (x : List ℕ) (v : ReceiverState) (into old : List ℕ) (n : ℕ) → n ≡ min (length old) (length v.queue) →
     into ≡ take (length old) v.queue ++ drop (length v.queue) old → ReceivesFrom f x v →
     take n into ≡ slice_range x v.read (v.read + n)
 read_bytes f x v into old n count is r =
@@ -109,24 +109,24 @@ values_of m (x ∷ xs) p (suc n) h at =
     let first : unwrap_or (fin.get m p) 0 ≡ x = ap (λ o. unwrap_or o 0) (at p 0 x (omega arith) refl) in
     (λ i. first i ∷ values_of m xs (p + 1) n (omega arith) (λ q j b e is. at q (suc j) b (omega arith) is) i)
 
-laid_at : (v : Stored) (part : Piece) (q i b : ℕ) → q ≡ part.start + i → slice_get part.bytes i ≡ Some b → fin.get (held_with_piece v part) q ≡ Some b
+laid_at : (v : ReceiverState) (part : Piece) (q i b : ℕ) → q ≡ part.start + i → slice_get part.bytes i ≡ Some b → fin.get (held_with_piece v part) q ≡ Some b
 laid_at v part q i b e is =
     let at : q - part.start ≡ i = omega arith in
     get-with_bytes_at v.held part.start part.bytes q ∙ ap (λ o. option_or o (fin.get v.held q))
     (piece_from part q (omega arith) ∙ ap (slice_get part.bytes) at ∙ is)
 
-reaches : (v : Stored) (part : Piece) → part.start ≡ stored_next v → stored_next v + length part.bytes ≤ first_lacking (held_with_piece v part) (stored_next v)
+reaches : (v : ReceiverState) (part : Piece) → part.start ≡ next_position v → next_position v + length part.bytes ≤ first_lacking (held_with_piece v part) (next_position v)
 reaches v part at =
-    let m = first_lacking (held_with_piece v part) (stored_next v) in
-    let is = first_lacking_is (held_with_piece v part) (stored_next v) in
+    let m = first_lacking (held_with_piece v part) (next_position v) in
+    let is = first_lacking_is (held_with_piece v part) (next_position v) in
     let from = is.from in
-    ⊎_elim (λ (l : m < stored_next v + length part.bytes).
+    ⊎_elim (λ (l : m < next_position v + length part.bytes).
     absurd
     (both_ways (fin.contains_key (held_with_piece v part) m) is.here
     (ap is_some
     (laid_at v part m (m - part.start) (get_or part.bytes (m - part.start) 0) (omega arith) (slice_get-get_or part.bytes (m - part.start) 0 (omega arith))))))
-    (λ (l : stored_next v + length part.bytes ≤ m). l)
-    (cases_lt m (stored_next v + length part.bytes))
+    (λ (l : next_position v + length part.bytes ≤ m). l)
+    (cases_lt m (next_position v + length part.bytes))
 
 splits_at : (q w part : List ℕ) (m : ℕ) → m ≡ length q + length part → take (length part) w ≡ part → q ++ w ≡ q ++ part ++ drop m (q ++ w)
 splits_at [] w part m n e =
@@ -141,17 +141,17 @@ splits_none : (q part : List ℕ) → length part ≡ 0 → q ≡ q ++ part ++ d
 splits_none q part e = grind (arith, common_steps)
 
 -- what a segment that begins at or below `next` comes to
-pub in_order : (N : ℕ) (v u : Stored) (pos : ℕ) (xs : List ℕ) (r : Result Kept TooManyHolesError) →
-    u ≡ state_after by_stored v (verdict by_stored N v (piece pos xs)) →
-    r ≡ segment_result by_stored v (verdict by_stored N v (piece pos xs)) →
-    pos ≤ stored_next v → JoinsQueue v (window_part v pos xs) u r
+pub in_order : (N : ℕ) (v u : ReceiverState) (pos : ℕ) (xs : List ℕ) (r : Result Kept TooManyHolesError) →
+    u ≡ state_after receiver_ops v (verdict receiver_ops N v (piece pos xs)) →
+    r ≡ segment_result receiver_ops v (verdict receiver_ops N v (piece pos xs)) →
+    pos ≤ next_position v → JoinsQueue v (window_part v pos xs) u r
 in_order N v u pos xs r state told h =
-    let n = stored_next v in
+    let n = next_position v in
     let part = piece_within n (v.first + v.read + v.capacity) (piece pos xs) in
     let at : part.start ≡ n = omega arith in
     let far = reaches v part at in
     let more = next_joined v part in
-    let all = follows_verdict (λ y. JoinsQueue v part.bytes (state_after by_stored v y) (segment_result by_stored v y)) n N (domain v.held) part at
+    let all = follows_verdict (λ y. JoinsQueue v part.bytes (state_after receiver_ops v y) (segment_result receiver_ops v y)) n N (domain v.held) part at
     (λ none. record { accepted = refl; joins = omega arith; appends = splits_none v.queue part.bytes none })
     (λ some. record {
       accepted = refl;
@@ -161,7 +161,7 @@ in_order N v u pos xs r state told h =
           (λ q i b e is. laid_at v part q i b (omega arith) is));
     }) in
     subst (λ z. JoinsQueue v part.bytes z r) (sym state)
-    (subst (JoinsQueue v part.bytes (state_after by_stored v (verdict by_stored N v (piece pos xs)))) (sym told) all)
+    (subst (JoinsQueue v part.bytes (state_after receiver_ops v (verdict receiver_ops N v (piece pos xs)))) (sym told) all)
 
 -- what any segment comes to
 pub any_verdict : (P : Verdict → Type 0) (n most : ℕ) (h : Positions) (part : Piece) →
@@ -176,57 +176,57 @@ any_verdict P n most h part empty refused keeps =
     both true = refused
     both false = keeps
 
-pub any_order : (N : ℕ) (v u : Stored) (pos : ℕ) (xs : List ℕ) (r : Result Kept TooManyHolesError) →
-    u ≡ state_after by_stored v (verdict by_stored N v (piece pos xs)) →
-    r ≡ segment_result by_stored v (verdict by_stored N v (piece pos xs)) →
+pub any_order : (N : ℕ) (v u : ReceiverState) (pos : ℕ) (xs : List ℕ) (r : Result Kept TooManyHolesError) →
+    u ≡ state_after receiver_ops v (verdict receiver_ops N v (piece pos xs)) →
+    r ≡ segment_result receiver_ops v (verdict receiver_ops N v (piece pos xs)) →
     KeepsOrRefuses v (window_part v pos xs) u r
 any_order N v u pos xs r state told =
-    let n = stored_next v in
+    let n = next_position v in
     let part = piece_within n (v.first + v.read + v.capacity) (piece pos xs) in
     let more = next_joined v part in
     let from = (first_lacking_is (held_with_piece v part) n).from in
-    let all = any_verdict (λ y. KeepsOrRefuses v part.bytes (state_after by_stored v y) (segment_result by_stored v y)) n N (domain v.held) part
+    let all = any_verdict (λ y. KeepsOrRefuses v part.bytes (state_after receiver_ops v y) (segment_result receiver_ops v y)) n N (domain v.held) part
     (λ none. record { read = refl; refused = tt; kept = sym none; queued = omega arith; grows = omega arith })
     (record { read = refl; refused = refl; kept = tt; queued = tt; grows = omega arith })
     (record { read = refl; refused = tt; kept = refl; queued = omega arith; grows = omega arith }) in
     subst (λ z. KeepsOrRefuses v part.bytes z r) (sym state)
-    (subst (KeepsOrRefuses v part.bytes (state_after by_stored v (verdict by_stored N v (piece pos xs)))) (sym told) all)
+    (subst (KeepsOrRefuses v part.bytes (state_after receiver_ops v (verdict receiver_ops N v (piece pos xs)))) (sym told) all)
 
 -- ---- what makes the relations
-pub says_of_longer : SaysOfLonger
-unfolding Says
-says_of_longer f pos x more xs h = λ p b from is. longer_at x more (p - f) b (h p b from is)
+pub matches_longer : MatchesLonger
+unfolding MatchesStream
+matches_longer f pos x more xs h = λ p b from is. longer_at x more (p - f) b (h p b from is)
 
-pub none_say : NoneSay
-unfolding AllSay
-none_say f x = All-nil (IsTruthful f x)
+pub empty_matches : EmptyMatches
+unfolding AllMatch
+empty_matches f x = All-nil (IsTruthful f x)
 
-pub segment_says : SegmentSays
-unfolding Says AllSay
-segment_says f x pos xs cs h all = All-cons (IsTruthful f x) (Segment pos xs) cs h all
+pub segment_matches : SegmentMatches
+unfolding MatchesStream AllMatch
+segment_matches f x pos xs cs h all = All-cons (IsTruthful f x) (Segment pos xs) cs h all
 
-pub read_says : ReadSays
-unfolding AllSay
-read_says f x count cs all = All-cons (IsTruthful f x) (Read count) cs tt all
+pub read_matches : ReadMatches
+unfolding AllMatch
+read_matches f x count cs all = All-cons (IsTruthful f x) (Read count) cs tt all
 
-pub show_says : ShowSays
-unfolding AllSay
-show_says f x cs all = All-cons (IsTruthful f x) Show cs tt all
+pub show_matches : ShowMatches
+unfolding AllMatch
+show_matches f x cs all = All-cons (IsTruthful f x) Show cs tt all
 
-pub both_say : BothSay
-unfolding AllSay
-both_say f x cs ds all more = All-append (IsTruthful f x) cs ds all more
+pub both_match : BothMatch
+unfolding AllMatch
+both_match f x cs ds all more = All-append (IsTruthful f x) cs ds all more
 
-pub each_says : EachSays
-unfolding AllSay
-each_says f x cs all = all
+pub each_matches : EachMatches
+unfolding AllMatch
+each_matches f x cs all = all
 
 pub fresh_receives_as : FreshReceivesFrom
 fresh_receives_as f x v e = subst (ReceivesFrom f x) (sym e) (fresh_receives_from x f v.capacity)
 
 pub agreeing_receives : AgreeingReceives
 unfolding ReceivesFrom
-agreeing_receives f x v s e d all = (e, record { state = s; stands = d; agrees = subst (λ b. Agrees b s.kept x) (sym e) all })
+agreeing_receives f x v s e d all = (e, record { state = s; refines = d; agrees = subst (λ b. Agrees b s.kept x) (sym e) all })
 
 pub receives_by_parts : ReceivesByParts
 unfolding ReceivesFrom
@@ -237,14 +237,14 @@ unfolding ReceivesFrom
 receives_from_longer f x more v h = (h.0, longer_receives x more v h.1)
 
 pub segment_receives_from : SegmentReceives
-segment_receives_from N f x v pos xs r h = segment_receives N f x v (stored_after N v (Segment pos xs)) pos xs refl r h
+segment_receives_from N f x v pos xs r h = segment_receives N f x v (receiver_after_command N v (Segment pos xs)) pos xs refl r h
 
 pub held_of_stream : HeldIsOfStream
 unfolding ReceivesFrom
 held_of_stream f x v p b r is =
     let s = r.1.state in
     let low = (next_is v.first s.kept).from in
-    let there : held_byte_at v.first s.kept p ≡ Some b = sym (r.1.stands.held p) ∙ is in
+    let there : held_byte_at v.first s.kept p ≡ Some b = sym (r.1.refines.held p) ∙ is in
     ⊎_elim
     (λ (l : next v.first s.kept < p).
     let from : v.first ≤ p = omega arith in
@@ -254,7 +254,7 @@ held_of_stream f x v p b r is =
     (cases_lt (next v.first s.kept) p)
 
 -- ---- one command, of which a refusal of memory leaves nothing
-pub executed_keeps : {T E : Type 0} (P : Stored → Type 0) (r : Result T E) (v u w : Stored) → IfOk r (λ _. u ≡ w) → OnErr r (u ≡ v) → P v → P w → P u
+pub executed_keeps : {T E : Type 0} (P : ReceiverState → Type 0) (r : Result T E) (v u w : ReceiverState) → IfOk r (λ _. u ≡ w) → OnErr r (u ≡ v) → P v → P w → P u
 executed_keeps P (Ok t) v u w ok err old new = subst P (sym ok) new
 executed_keeps P (Err e) v u w ok err old new = subst P (sym err) old
 
@@ -262,63 +262,63 @@ pub capacity_stays : CapacityStays
 capacity_stays N v c = ap (λ w. w.capacity) (setting_kept N v c)
 
 -- what a command leaves of what was there, and a refusal of memory too
-pub stays : (N : ℕ) (v u : Stored) (c : CommandSeen) → u ≡ stored_after N v c → IsSound N u → StaysInSetting N v u
+pub stays : (N : ℕ) (v u : ReceiverState) (c : CommandValue) → u ≡ receiver_after_command N v c → IsSound N u → StaysInSetting N v u
 stays N v u c e sound =
-    record { first = first_of N v u c e; capacity = ap (λ (y : Stored). y.capacity) e ∙ capacity_stays N v c; bound = sound.few }
+    record { first = first_of N v u c e; capacity = ap (λ (y : ReceiverState). y.capacity) e ∙ capacity_stays N v c; bound = sound.few }
 
-pub executed_stays : (N : ℕ) {T E : Type 0} (r : Result T E) (v u : Stored) (c : CommandSeen) →
-    IfOk r (λ _. u ≡ stored_after N v c) → OnErr r (u ≡ v) → IsSound N u → StaysInSetting N v u
+pub executed_stays : (N : ℕ) {T E : Type 0} (r : Result T E) (v u : ReceiverState) (c : CommandValue) →
+    IfOk r (λ _. u ≡ receiver_after_command N v c) → OnErr r (u ≡ v) → IsSound N u → StaysInSetting N v u
 executed_stays N (Ok t) v u c ok err sound = stays N v u c ok sound
 executed_stays N (Err e) v u c ok err sound = stays N v u Show err sound
 
-one_run : (N : ℕ) (v : Stored) (c : CommandSeen) → Executes N v (stored_after N v c) (c ∷ []) (stored_reply N v c ∷ []) (IsTrue true)
+one_run : (N : ℕ) (v : ReceiverState) (c : CommandValue) → Executes N v (receiver_after_command N v c) (c ∷ []) (receiver_reply N v c ∷ []) (IsTrue true)
 one_run N v c = record { prefix = record { count = 1; within = omega arith; whole = λ _. refl }; state = refl; replies = refl }
 
-pub one_receives_from : (N f : ℕ) (x : List ℕ) (v : Stored) (c : CommandSeen) → ReceivesFrom f x v → AllSay f x (c ∷ []) → ReceivesFrom f x (stored_after N v c)
-one_receives_from N f x v c r h = (run_receives_from N f x v (stored_after N v c) (c ∷ []) (stored_reply N v c ∷ []) true (one_run N v c) r h).0
+pub one_receives_from : (N f : ℕ) (x : List ℕ) (v : ReceiverState) (c : CommandValue) → ReceivesFrom f x v → AllMatch f x (c ∷ []) → ReceivesFrom f x (receiver_after_command N v c)
+one_receives_from N f x v c r h = (run_receives_from N f x v (receiver_after_command N v c) (c ∷ []) (receiver_reply N v c ∷ []) true (one_run N v c) r h).0
 
-pub executed_receives : (N f : ℕ) (x : List ℕ) {T E : Type 0} (r : Result T E) (v u : Stored) (c : CommandSeen) →
-    IfOk r (λ _. u ≡ stored_after N v c) → OnErr r (u ≡ v) → ReceivesFrom f x v → AllSay f x (c ∷ []) →
+pub executed_receives : (N f : ℕ) (x : List ℕ) {T E : Type 0} (r : Result T E) (v u : ReceiverState) (c : CommandValue) →
+    IfOk r (λ _. u ≡ receiver_after_command N v c) → OnErr r (u ≡ v) → ReceivesFrom f x v → AllMatch f x (c ∷ []) →
     ReceivesFrom f x u
-executed_receives N f x r v u c ok err from h = executed_keeps (ReceivesFrom f x) r v u (stored_after N v c) ok err from (one_receives_from N f x v c from h)
+executed_receives N f x r v u c ok err from h = executed_keeps (ReceivesFrom f x) r v u (receiver_after_command N v c) ok err from (one_receives_from N f x v c from h)
 
 pub executed_bytes :
-    (N f : ℕ) (x : List ℕ) {T E : Type 0} (seen : T → ReplySeen) (r : Result T E) (v u : Stored) (c : CommandSeen) →
-    IfOk r (λ _. u ≡ stored_after N v c) → IfOk r (λ t. seen t ≡ stored_reply N v c) → ReceivesFrom f x v →
-    AllSay f x (c ∷ []) →
-    IfOk r (λ t. bytes_read (seen t ∷ []) ++ u.queue ≡ slice_range x v.read (stored_next u - u.first))
+    (N f : ℕ) (x : List ℕ) {T E : Type 0} (seen : T → ReplyValue) (r : Result T E) (v u : ReceiverState) (c : CommandValue) →
+    IfOk r (λ _. u ≡ receiver_after_command N v c) → IfOk r (λ t. seen t ≡ receiver_reply N v c) → ReceivesFrom f x v →
+    AllMatch f x (c ∷ []) →
+    IfOk r (λ t. bytes_read (seen t ∷ []) ++ u.queue ≡ slice_range x v.read (next_position u - u.first))
 executed_bytes N f x seen (Ok t) v u c ok is from h =
     (λ i. bytes_read (is i ∷ []) ++ (ok i).queue)
-    ∙ (run_receives_from N f x v (stored_after N v c) (c ∷ []) (stored_reply N v c ∷ []) true (one_run N v c) from h).1
-    ∙ ap (λ (y : Stored). slice_range x v.read (stored_next y - y.first)) (sym ok)
+    ∙ (run_receives_from N f x v (receiver_after_command N v c) (c ∷ []) (receiver_reply N v c ∷ []) true (one_run N v c) from h).1
+    ∙ ap (λ (y : ReceiverState). slice_range x v.read (next_position y - y.first)) (sym ok)
 executed_bytes N f x seen (Err e) v u c ok is from h = tt
 
-capacity_kept : (most : ℕ) (v : Stored) (cs : List CommandSeen) → (stored_after_all most v cs).capacity ≡ v.capacity
+capacity_kept : (most : ℕ) (v : ReceiverState) (cs : List CommandValue) → (receiver_after_commands most v cs).capacity ≡ v.capacity
 capacity_kept most v [] = refl
-capacity_kept most v (c ∷ cs) = capacity_kept most (stored_after most v c) cs ∙ capacity_stays most v c
+capacity_kept most v (c ∷ cs) = capacity_kept most (receiver_after_command most v c) cs ∙ capacity_stays most v c
 
-pub run_stays : (N : ℕ) (v u : Stored) (cs : List CommandSeen) (rs : List ReplySeen) (complete : Type 0) →
+pub run_stays : (N : ℕ) (v u : ReceiverState) (cs : List CommandValue) (rs : List ReplyValue) (complete : Type 0) →
     Executes N v u cs rs complete → IsSound N u → StaysInSetting N v u
 run_stays N v u cs rs complete run sound =
     record {
-      first = ap (λ (y : Stored). y.first) run.state ∙ first_kept N v (take run.prefix.count cs);
-      capacity = ap (λ (y : Stored). y.capacity) run.state ∙ capacity_kept N v (take run.prefix.count cs);
+      first = ap (λ (y : ReceiverState). y.first) run.state ∙ first_kept N v (take run.prefix.count cs);
+      capacity = ap (λ (y : ReceiverState). y.capacity) run.state ∙ capacity_kept N v (take run.prefix.count cs);
       bound = sound.few;
     }
 
 -- ---- segments that follow on one another
 pub reached :
-    (N : ℕ) (v u : Stored) (cs : List CommandSeen) (rs : List ReplySeen) {T E : Type 0} (r : Result T E) (s : State) →
-    Executes N v u cs rs (IsOk r) → StandsFor v s →
-    Follows (setting N v) s (stored_next v) cs → IfOk r (λ _. EndsBy (stored_next u) cs)
+    (N : ℕ) (v u : ReceiverState) (cs : List CommandValue) (rs : List ReplyValue) {T E : Type 0} (r : Result T E) (s : KeptState) →
+    Executes N v u cs rs (IsOk r) → Refines v s →
+    Follows (setting N v) s (next_position v) cs → IfOk r (λ _. EndsBy (next_position u) cs)
 reached N v u cs rs (Err e) s run d follows = tt
 reached N v u cs rs (Ok t) s run d follows =
-    let first : u.first ≡ v.first = ap (λ (y : Stored). y.first) run.state ∙ first_kept N v (take run.prefix.count cs) in
+    let first : u.first ≡ v.first = ap (λ (y : ReceiverState). y.first) run.state ∙ first_kept N v (take run.prefix.count cs) in
     let seen = ran N v u cs rs _ run.prefix.count run.prefix.within run.prefix.whole run.state run.replies s d in
     let all : take seen.prefix.count cs ≡ cs = take_all seen.prefix.count cs (omega (arith, seen.prefix.whole refl)) in
-    let there : StandsFor u (kept_after_all (setting N v) s cs) = subst (λ l. StandsFor u (kept_after_all (setting N v) s l)) all seen.stands in
-    let end : stored_next u ≡ next v.first (kept_after_all (setting N v) s cs).kept =
-    same_next u (kept_after_all (setting N v) s cs) there ∙ ap (λ b. next b (kept_after_all (setting N v) s cs).kept) first in
+    let there : Refines u (kept_after_commands (setting N v) s cs) = subst (λ l. Refines u (kept_after_commands (setting N v) s l)) all seen.refines in
+    let end : next_position u ≡ next v.first (kept_after_commands (setting N v) s cs).kept =
+    same_next u (kept_after_commands (setting N v) s cs) there ∙ ap (λ b. next b (kept_after_commands (setting N v) s cs).kept) first in
     subst (λ n. EndsBy n cs) (sym end) (seen.recovers refl (subst (λ n. Follows (setting N v) s n cs) (same_next v s d) follows))
 
 -- ---- parts of the queue
@@ -337,26 +337,26 @@ part_of x q bytes a o e is =
     ∙ take-take n (m - o) (drop (a + o) x) (omega arith))
     (cases_lt m o)
 
-pub part_bytes : (f : ℕ) (x : List ℕ) (v : Stored) (bytes : List ℕ) (o : ℕ) →
+pub part_bytes : (f : ℕ) (x : List ℕ) (v : ReceiverState) (bytes : List ℕ) (o : ℕ) →
     bytes ≡ take (length bytes) (drop o v.queue) → ReceivesFrom f x v →
     bytes ≡ take (length bytes) (drop (v.read + o) x)
 part_bytes f x v bytes o is r = part_of x v.queue bytes v.read o (queue_of f x v r).queue is
 
-pub head_bytes : (f : ℕ) (x : List ℕ) (v : Stored) (n : ℕ) → n ≤ length v.queue → ReceivesFrom f x v → take n v.queue ≡ slice_range x v.read (v.read + n)
+pub head_bytes : (f : ℕ) (x : List ℕ) (v : ReceiverState) (n : ℕ) → n ≤ length v.queue → ReceivesFrom f x v → take n v.queue ≡ slice_range x v.read (v.read + n)
 head_bytes f x v n few r = prefix_of x v.queue v.read n (queue_of f x v r).queue few
 
 -- ---- a segment in order
 pub in_order_reaches : InOrderReaches
 in_order_reaches N v pos xs h =
-    let u = stored_after N v (Segment pos xs) in
+    let u = receiver_after_command N v (Segment pos xs) in
     let limit = v.first + v.read + v.capacity in
-    let r = segment_result by_stored v (verdict by_stored N v (piece pos xs)) in
+    let r = segment_result receiver_ops v (verdict receiver_ops N v (piece pos xs)) in
     let near = in_order N v u pos xs r refl refl h in
     let any = any_order N v u pos xs r refl refl in
     let cut = length-take (limit - pos) xs in
-    let part : length (window_part v pos xs) ≡ length (take (limit - pos) xs) - (stored_next v - pos)
-    = length-drop (stored_next v - pos) (take (limit - pos) xs) in
-    by (min (pos + length xs) limit) (stored_next u) (stored_next v) (length (window_part v pos xs)) r
+    let part : length (window_part v pos xs) ≡ length (take (limit - pos) xs) - (next_position v - pos)
+    = length-drop (next_position v - pos) (take (limit - pos) xs) in
+    by (min (pos + length xs) limit) (next_position u) (next_position v) (length (window_part v pos xs)) r
     near.accepted any.kept any.queued near.joins (omega (arith, cut, part, h))
   where
     by : (e n m k : ℕ) (r : Result Kept TooManyHolesError) → IsOk r → IfOk r (λ t. t.kept ≡ k)

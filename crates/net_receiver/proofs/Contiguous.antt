@@ -10,7 +10,7 @@ use Rattle.net_ring.specs.Ring.{spare, contiguous_queued_from, contiguous_queued
 use Rattle.net_assembler.specs.Positions.{Positions}
 use Rattle.net_receiver.specs.Contiguous.{contiguous_count, first_part, IsReadAt}
 use Rattle.net_receiver.specs.Parts.{parts}
-use Rattle.net_receiver.specs.Stored.{Stored}
+use Rattle.net_receiver.specs.ReceiverState.{ReceiverState}
 
 -- of c places, the one that is j after the place of number i is the place of number i + j
 index_is : (c i j : ℕ) → 0 < c → j ≤ c → index_after c (i % c) j ≡ (i + j) % c
@@ -101,7 +101,7 @@ parts_are q a b n whole size = (
 )
 
 -- what is lent from the first byte of the queue on is its first part
-pub first_part_lent : (f r n : ℕ) (g : RingState ℕ) (s : Positions) (v : Stored) (bytes : List ℕ) → IsReadAt g r → parts f r (queue g) (spare g) s ≡ v →
+pub first_part_lent : (f r n : ℕ) (g : RingState ℕ) (s : Positions) (v : ReceiverState) (bytes : List ℕ) → IsReadAt g r → parts f r (queue g) (spare g) s ≡ v →
     n ≡ length (queue g) → length bytes ≡ contiguous_queued_from g 0 n → bytes ≡ take (length bytes) (queue g) → bytes ≡ first_part v
 first_part_lent f r n g s v bytes at view all lent value =
     let few : length bytes ≤ length (queue g) = omega (arith, ap length value, length-take (length bytes) (queue g)) in
@@ -112,8 +112,8 @@ first_part_lent f r n g s v bytes at view all lent value =
     value ∙ ap (λ k. take k (queue g)) size ∙ ap first_part view
 
 -- the first part has as many bytes, and some unless the queue has none
-pub first_part_length : (v : Stored) → length (first_part v) ≡ contiguous_count v
+pub first_part_length : (v : ReceiverState) → length (first_part v) ≡ contiguous_count v
 first_part_length v = length-take (contiguous_count v) v.queue ∙ (omega arith)
 
-pub contiguous_some : (v : Stored) → length v.queue ≤ v.capacity → 0 < length v.queue → 0 < contiguous_count v
+pub contiguous_some : (v : ReceiverState) → length v.queue ≤ v.capacity → 0 < length v.queue → 0 < contiguous_count v
 contiguous_some v fits some = (let below = mod_below v.read v.capacity (omega arith) in omega arith)

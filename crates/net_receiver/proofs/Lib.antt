@@ -19,6 +19,6 @@ pub mod KeptLists
 pub mod OneStream
 pub mod Called
 pub mod Retransmission
-pub mod Reading
+pub mod ReadLaws
 pub mod Contiguous
 pub mod WorkedExample

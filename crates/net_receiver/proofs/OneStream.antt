@@ -7,9 +7,9 @@ use Rattle.std.proofs.lemmas.Bool.{both_ways, cases_lt}
 use Rattle.std.proofs.lemmas.Option.{slice_get_within}
 use Rattle.std.proofs.lemmas.List.Elements.{All-nil, All-cons, All-head, All-tail}
 use Rattle.net_receiver.specs.KeptList.{Piece, piece, piece_byte_at, piece_within, byte_at, next, bytes, held_positions}
-use Rattle.net_receiver.specs.Rules.{CommandSeen, Segment, Read, Show, Keeps, state_after}
-use Rattle.net_receiver.specs.Schedule.{Setting, State, fresh_state, kept_after, kept_after_all, bytes_read, PieceAgrees, Agrees, by_kept}
-use Rattle.net_receiver.specs.Stored.{Stored, domain, by_stored, fresh_stored, stored_next, stored_after, stored_after_all, setting}
+use Rattle.net_receiver.specs.Rules.{CommandValue, Segment, Read, Show, Keeps, state_after}
+use Rattle.net_receiver.specs.Schedule.{Setting, KeptState, fresh_kept, kept_after_command, kept_after_commands, bytes_read, PieceAgrees, Agrees, kept_ops}
+use Rattle.net_receiver.specs.ReceiverState.{ReceiverState, domain, receiver_ops, fresh_receiver, next_position, receiver_after_command, receiver_after_commands, setting}
 use Rattle.net_receiver.specs.OneStream.{IsTruthful, TruthfulIsKept, Receives, FreshReceives}
 use Rattle.net_receiver.specs.OneStream.{OneReceives, AllReceive, LongerReceives, QueueIsOfStream}
 use Rattle.net_receiver.specs.OneStream.{FreshStream, ReplayReceives, FirstStays, NextGrows}
@@ -18,7 +18,7 @@ use Rattle.net_receiver.proofs.Covering.{piece_before, piece_from, slice_get-dro
 use Rattle.net_receiver.proofs.Step.{verdict_cases, same_next, queue_length}
 use Rattle.net_receiver.proofs.Run.{schedule, setting_kept}
 use Rattle.net_receiver.proofs.Stream.{queue_agrees, agrees_at, stream}
-use Rattle.net_receiver.proofs.Whole.{fresh_stands}
+use Rattle.net_receiver.proofs.Whole.{fresh_refines}
 
 pub none_is_not : {A : Type 0} (b : A) → None ≡ Some b → ⊥
 none_is_not b e = both_ways false refl (ap is_some e)
@@ -50,11 +50,11 @@ All-push : {X : Type 0} (P : X → Type 0) (xs : List X) (y : X) → All P xs �
 All-push P [] y all one = All-cons P y [] one (All-nil P)
 All-push P (x ∷ xs) y all one = All-cons P x (xs ++ y ∷ []) (All-head P x xs all) (All-push P xs y (All-tail P x xs all) one)
 
-one_kept : (w : Setting) (s : State) (x : List ℕ) (c : CommandSeen) → Agrees w.first s.kept x → IsTruthful w.first x c →
-    Agrees w.first (kept_after w s c).kept x
+one_kept : (w : Setting) (s : KeptState) (x : List ℕ) (c : CommandValue) → Agrees w.first s.kept x → IsTruthful w.first x c →
+    Agrees w.first (kept_after_command w s c).kept x
 one_kept w s x (Segment pos xs) all h =
     let part = piece_within (next w.first s.kept) (w.first + s.read + w.capacity) (piece pos xs) in
-    verdict_cases (λ y. Agrees w.first (state_after (by_kept w) s y).kept x) (next w.first s.kept) w.most_runs (held_positions w.first s.kept) part all all
+    verdict_cases (λ y. Agrees w.first (state_after (kept_ops w) s y).kept x) (next w.first s.kept) w.most_runs (held_positions w.first s.kept) part all all
     (All-push (PieceAgrees w.first x) s.kept part all (clip_agrees w.first (next w.first s.kept) (w.first + s.read + w.capacity) x (piece pos xs) h))
 one_kept w s x (Read count) all h = all
 one_kept w s x Show all h = all
@@ -62,22 +62,22 @@ one_kept w s x Show all h = all
 pub truthful_is_kept : TruthfulIsKept
 truthful_is_kept w s x [] all h = all
 truthful_is_kept w s x (c ∷ cs) all h =
-    truthful_is_kept w (kept_after w s c) x cs (one_kept w s x c all (All-head (IsTruthful w.first x) c cs h)) (All-tail (IsTruthful w.first x) c cs h)
+    truthful_is_kept w (kept_after_command w s c) x cs (one_kept w s x c all (All-head (IsTruthful w.first x) c cs h)) (All-tail (IsTruthful w.first x) c cs h)
 
 pub fresh_receives : FreshReceives
-fresh_receives x first capacity = record { state = fresh_state; stands = fresh_stands first capacity; agrees = All-nil (PieceAgrees first x) }
+fresh_receives x first capacity = record { state = fresh_kept; refines = fresh_refines first capacity; agrees = All-nil (PieceAgrees first x) }
 
-pub first_kept : (most : ℕ) (v : Stored) (cs : List CommandSeen) → (stored_after_all most v cs).first ≡ v.first
+pub first_kept : (most : ℕ) (v : ReceiverState) (cs : List CommandValue) → (receiver_after_commands most v cs).first ≡ v.first
 first_kept most v [] = refl
-first_kept most v (c ∷ cs) = first_kept most (stored_after most v c) cs ∙ ap (λ w. w.first) (setting_kept most v c)
+first_kept most v (c ∷ cs) = first_kept most (receiver_after_command most v c) cs ∙ ap (λ w. w.first) (setting_kept most v c)
 
 pub all_receive : AllReceive
 all_receive most x v cs r h =
     let w = setting most v in
     record {
-      state = kept_after_all w r.state cs;
-      stands = (schedule most v r.state r.stands cs).0;
-      agrees = subst (λ f. Agrees f (kept_after_all w r.state cs).kept x) (sym (first_kept most v cs)) (truthful_is_kept w r.state x cs r.agrees h);
+      state = kept_after_commands w r.state cs;
+      refines = (schedule most v r.state r.refines cs).0;
+      agrees = subst (λ f. Agrees f (kept_after_commands w r.state cs).kept x) (sym (first_kept most v cs)) (truthful_is_kept w r.state x cs r.agrees h);
     }
 
 pub one_receives : OneReceives
@@ -96,7 +96,7 @@ All-map P Q f (x ∷ xs) all = All-cons Q x xs (f x (All-head P x xs all)) (All-
 pub longer_receives : LongerReceives
 longer_receives x more v r = record {
   state = r.state;
-  stands = r.stands;
+  refines = r.refines;
   agrees =
       All-map (PieceAgrees v.first x) (PieceAgrees v.first (x ++ more))
       (λ e h p b from is. longer_at x more (p - v.first) b (h p b from is)) r.state.kept r.agrees;
@@ -122,17 +122,17 @@ pub queue_is_of : QueueIsOfStream
 queue_is_of x v r =
     let w = setting 0 v in
     let s = r.state in
-    let d = r.stands in
+    let d = r.refines in
     let n = next v.first s.kept - (v.first + s.read) in
     let long : length v.queue ≡ n = queue_length v s d in
     let same : v.queue ≡ take n (drop s.read x) = d.queue ∙ queue_agrees w x s d.within r.agrees n (omega arith) in
     let read : v.read ≡ s.read = d.read in
     let is : v.queue ≡ take (length v.queue) (drop v.read x) = same ∙ (λ i. take (sym long i) (drop (sym read i) x)) in
-    let end : stored_next v ≡ next v.first s.kept = same_next v s d in
+    let end : next_position v ≡ next v.first s.kept = same_next v s d in
     let wide = covered_within v.first s.kept x r.agrees in
     let from = (next_is v.first s.kept).from in
     let within = d.within in
-    let total : v.read + length v.queue ≡ stored_next v - v.first = omega arith in
+    let total : v.read + length v.queue ≡ next_position v - v.first = omega arith in
     record {
       within = omega arith;
       queue = is;
@@ -142,18 +142,18 @@ queue_is_of x v r =
 
 pub fresh_stream : FreshStream
 fresh_stream most first capacity x cs h =
-    let v = fresh_stored first capacity in
+    let v = fresh_receiver first capacity in
     let w = setting most v in
-    let d = fresh_stands first capacity in
-    let all = schedule most v fresh_state d cs in
-    let u = stored_after_all most v cs in
-    let t = kept_after_all w fresh_state cs in
-    let agrees = truthful_is_kept w fresh_state x cs (All-nil (PieceAgrees first x)) h in
+    let d = fresh_refines first capacity in
+    let all = schedule most v fresh_kept d cs in
+    let u = receiver_after_commands most v cs in
+    let t = kept_after_commands w fresh_kept cs in
+    let agrees = truthful_is_kept w fresh_kept x cs (All-nil (PieceAgrees first x)) h in
     let f : u.first ≡ first = first_kept most v cs in
-    let end : stored_next u - first ≡ next first t.kept - first - 0 =
+    let end : next_position u - first ≡ next first t.kept - first - 0 =
     (let e = same_next u t all.0 in let e' : next u.first t.kept ≡ next first t.kept = ap (λ b. next b t.kept) f in omega arith) in
     (λ i. bytes_read (all.1 i) ++ (all.0.queue ∙ (λ j. bytes t.kept (f j + t.read) (next (f j) t.kept - (f j + t.read)))) i)
-    ∙ stream w x fresh_state d.within cs agrees
+    ∙ stream w x fresh_kept d.within cs agrees
     ∙ ap (λ m. take m x) (sym end)
 
 All-take : {X : Type 0} (P : X → Type 0) (n : ℕ) (xs : List X) → All P xs → All P (take n xs)
@@ -166,17 +166,17 @@ run_receives most x v u cs rs complete r h run =
     let w = setting most v in
     let prefix = take run.prefix.count cs in
     let kept = All-take (IsTruthful v.first x) run.prefix.count cs h in
-    let z = stored_after_all most v prefix in
-    let t = kept_after_all w r.state prefix in
-    let d = schedule most v r.state r.stands prefix in
+    let z = receiver_after_commands most v prefix in
+    let t = kept_after_commands w r.state prefix in
+    let d = schedule most v r.state r.refines prefix in
     let f : z.first ≡ v.first = first_kept most v prefix in
-    let end : stored_next z - z.first ≡ next v.first t.kept - v.first =
+    let end : next_position z - z.first ≡ next v.first t.kept - v.first =
     (let e = same_next z t d.0 in let e' : next z.first t.kept ≡ next v.first t.kept = ap (λ b. next b t.kept) f in omega arith) in (
       subst (Receives x) (sym run.state) (all_receive most x v prefix r kept),
       (λ i. bytes_read ((run.replies ∙ d.1) i) ++
           (ap (λ y. y.queue) run.state ∙ d.0.queue ∙ (λ j. bytes t.kept (f j + t.read) (next (f j) t.kept - (f j + t.read)))) i)
-          ∙ stream w x r.state r.stands.within prefix (truthful_is_kept w r.state x prefix r.agrees kept)
-          ∙ (λ i. slice_range x (sym r.stands.read i) ((sym end ∙ ap (λ y. stored_next y - y.first) (sym run.state)) i)),
+          ∙ stream w x r.state r.refines.within prefix (truthful_is_kept w r.state x prefix r.agrees kept)
+          ∙ (λ i. slice_range x (sym r.refines.read i) ((sym end ∙ ap (λ y. next_position y - y.first) (sym run.state)) i)),
     )
 
 -- ---- what commands change
@@ -184,17 +184,17 @@ pub first_stays : FirstStays
 first_stays most v c = ap (λ w. w.first) (setting_kept most v c)
 
 -- each verdict on a segment
-pub segment_cases : (P : Stored → Type 0) (most : ℕ) (v : Stored) (pos : ℕ) (xs : List ℕ) → P v →
-    ((part : Piece) → P (state_after by_stored v (Keeps part))) → P (stored_after most v (Segment pos xs))
+pub segment_cases : (P : ReceiverState → Type 0) (most : ℕ) (v : ReceiverState) (pos : ℕ) (xs : List ℕ) → P v →
+    ((part : Piece) → P (state_after receiver_ops v (Keeps part))) → P (receiver_after_command most v (Segment pos xs))
 segment_cases P most v pos xs same kept =
-    let part = piece_within (stored_next v) (v.first + v.read + v.capacity) (piece pos xs) in
-    verdict_cases (λ y. P (state_after by_stored v y)) (stored_next v) most (domain v.held) part same same (kept part)
+    let part = piece_within (next_position v) (v.first + v.read + v.capacity) (piece pos xs) in
+    verdict_cases (λ y. P (state_after receiver_ops v y)) (next_position v) most (domain v.held) part same same (kept part)
 
-pub next_grows_stored : NextGrows
-next_grows_stored most v (Segment pos xs) =
-    segment_cases (λ u. stored_next v ≤ stored_next u) most v pos xs (omega arith) (λ part. omega (arith, length-append {A = ℕ}))
-next_grows_stored most v (Read count) = omega (arith, length-drop count v.queue)
-next_grows_stored most v Show = omega arith
+pub next_position_grows : NextGrows
+next_position_grows most v (Segment pos xs) =
+    segment_cases (λ u. next_position v ≤ next_position u) most v pos xs (omega arith) (λ part. omega (arith, length-append {A = ℕ}))
+next_position_grows most v (Read count) = omega (arith, length-drop count v.queue)
+next_position_grows most v Show = omega arith
 
 pub segment_reads_nothing : SegmentReadsNothing
 segment_reads_nothing most v pos xs = segment_cases (λ u. u.read ≡ v.read) most v pos xs refl (λ part. refl)

@@ -14,7 +14,7 @@ use Rattle.net_assembler.proofs.Runs.{in_runs, contains-set_of_runs, rising-in_r
 use Rattle.net_receiver.specs.KeptList.{Piece, piece, piece_byte_at, end, piece_within}
 use Rattle.net_receiver.specs.Rules.{Segment, Read, Show, KeepsNone, Refuses, Keeps, state_after}
 use Rattle.net_receiver.specs.Soundness.{FreshIsSound, SoundStays}
-use Rattle.net_receiver.specs.Stored.{Stored, domain, stored_with_piece, stored_next, stored_after, by_stored, IsSound}
+use Rattle.net_receiver.specs.ReceiverState.{ReceiverState, domain, receiver_with_piece, next_position, receiver_after_command, receiver_ops, IsSound}
 use Rattle.net_receiver.proofs.Covering.{piece_has}
 use Rattle.net_receiver.proofs.Maps.{contains-domain}
 use Rattle.net_receiver.proofs.Sound.{laid_has, after_has, lacking, m, sound_joined, sound_read}
@@ -78,7 +78,7 @@ or_swap false false = refl
 no_part : (start last m q : ℕ) (h : Bool) → last ≤ m → (((nat_le start q && nat_lt q last) || h) && nat_le m q) ≡ (h && nat_le m q)
 no_part start last m q h l = grind (arith, nat_tests)
 
-module _ (most : ℕ) (v : Stored) (sound : IsSound most v) (part : Piece) (starts : stored_next v ≤ part.start)
+module _ (most : ℕ) (v : ReceiverState) (sound : IsSound most v) (part : Piece) (starts : next_position v ≤ part.start)
     (ends : end part ≤ v.first + v.read + v.capacity) where
   abbrev first : ℕ
   first = m most v sound part starts ends
@@ -89,9 +89,9 @@ module _ (most : ℕ) (v : Stored) (sound : IsSound most v) (part : Piece) (star
   outside : (is_some (piece_byte_at part first) ≡ false) × (fin.contains_key v.held first ≡ false)
   outside = or_false _ _ (sym (laid_has most v sound part starts ends first) ∙ (lacking most v sound part starts ends).here)
 
-  left_has : (q : ℕ) → contains (domain (stored_with_piece v part).held) q ≡ ((is_some (piece_byte_at part q) || fin.contains_key v.held q) && nat_le first q)
+  left_has : (q : ℕ) → contains (domain (receiver_with_piece v part).held) q ≡ ((is_some (piece_byte_at part q) || fin.contains_key v.held q) && nat_le first q)
   left_has q =
-      contains-domain (stored_with_piece v part).held q
+      contains-domain (receiver_with_piece v part).held q
       ∙ after_has most v sound part starts ends q
       ∙ ap (λ b. b && nat_le first q) (laid_has most v sound part starts ends q)
 
@@ -101,15 +101,15 @@ module _ (most : ℕ) (v : Stored) (sound : IsSound most v) (part : Piece) (star
       ∙ (λ i. contains-domain v.held q i || sym (piece_has part q) i)
       ∙ or_swap (fin.contains_key v.held q) (is_some (piece_byte_at part q))
 
-  few_joined : (is_some (piece_byte_at part (stored_next v)) ≡ true) ⊎ (runs ranged ≤ most) → runs (domain (stored_with_piece v part).held) ≤ most
+  few_joined : (is_some (piece_byte_at part (next_position v)) ≡ true) ⊎ (runs ranged ≤ most) → runs (domain (receiver_with_piece v part).held) ≤ most
   few_joined which =
       ⊎_elim
-      (λ (at : is_some (piece_byte_at part (stored_next v)) ≡ true).
-      let here = sym (piece_has part (stored_next v)) ∙ at in
+      (λ (at : is_some (piece_byte_at part (next_position v)) ≡ true).
+      let here = sym (piece_has part (next_position v)) ∙ at in
       let away = sym (piece_has part first) ∙ outside.0 in
       let from = (lacking most v sound part starts ends).from in
       let past : part.start + length part.bytes ≤ first = grind (arith, nat_tests) in
-      let fewer = few_from (domain v.held) (domain (stored_with_piece v part).held) first (contains-domain v.held first ∙ outside.1) (λ q.
+      let fewer = few_from (domain v.held) (domain (receiver_with_piece v part).held) first (contains-domain v.held first ∙ outside.1) (λ q.
       left_has q
       ∙ ap (λ b. (b || fin.contains_key v.held q) && nat_le first q) (piece_has part q)
       ∙ no_part part.start (part.start + length part.bytes) first q (fin.contains_key v.held q) past
@@ -118,44 +118,44 @@ module _ (most : ℕ) (v : Stored) (sound : IsSound most v) (part : Piece) (star
       omega arith)
       (λ (few : runs ranged ≤ most).
       let missing = ranged_has first ∙ (λ i. outside.0 i || outside.1 i) in
-      let fewer = few_from ranged (domain (stored_with_piece v part).held) first missing
+      let fewer = few_from ranged (domain (receiver_with_piece v part).held) first missing
       (λ q. left_has q ∙ ap (λ b. b && nat_le first q) (sym (ranged_has q))) in
       omega arith)
       which
 
 -- a part is kept only if it begins at the first missing position, or makes no more runs
-module _ (most : ℕ) (v : Stored) (pos : ℕ) (xs : List ℕ) (sound : IsSound most v) where
+module _ (most : ℕ) (v : ReceiverState) (pos : ℕ) (xs : List ℕ) (sound : IsSound most v) where
   abbrev limit : ℕ
   limit = v.first + v.read + v.capacity
 
   abbrev part : Piece
-  part = piece_within (stored_next v) limit (piece pos xs)
+  part = piece_within (next_position v) limit (piece pos xs)
 
   abbrev more : Positions
   more = with_range (domain v.held) part.start (length part.bytes)
 
   kept : nat_eq (length part.bytes) 0 ≡ false →
-      (is_some (piece_byte_at part (stored_next v)) ≡ true) ⊎ (runs more ≤ most) → IsSound most (stored_with_piece v part)
+      (is_some (piece_byte_at part (next_position v)) ≡ true) ⊎ (runs more ≤ most) → IsSound most (receiver_with_piece v part)
   kept some which =
       let cut = length-take (limit - pos) xs in
-      let size = length-drop (stored_next v - pos) (take (limit - pos) xs) in
+      let size = length-drop (next_position v - pos) (take (limit - pos) xs) in
       let full : 0 < length part.bytes = grind (arith, nat_tests) in
       let ends : end part ≤ limit = omega arith in
-      let starts : stored_next v ≤ part.start = omega arith in
+      let starts : next_position v ≤ part.start = omega arith in
       sound_joined most v sound part starts ends (few_joined most v sound part starts ends which)
 
   accepted : (a : Bool) (r : ℕ) → (not a && nat_lt most r) ≡ false → (a ≡ true) ⊎ (r ≤ most)
   accepted true r e = inl refl
   accepted false r e = inr (grind (arith, nat_tests))
 
-  by : (a : Bool) → nat_eq (length part.bytes) 0 ≡ a → (b : Bool) → (not (is_some (piece_byte_at part (stored_next v))) && nat_lt most (runs more)) ≡ b →
-      IsSound most (state_after by_stored v (cond a KeepsNone (cond b Refuses (Keeps part))))
+  by : (a : Bool) → nat_eq (length part.bytes) 0 ≡ a → (b : Bool) → (not (is_some (piece_byte_at part (next_position v))) && nat_lt most (runs more)) ≡ b →
+      IsSound most (state_after receiver_ops v (cond a KeepsNone (cond b Refuses (Keeps part))))
   by true none b test = sound
   by false some true test = sound
-  by false some false test = kept some (accepted (is_some (piece_byte_at part (stored_next v))) (runs more) test)
+  by false some false test = kept some (accepted (is_some (piece_byte_at part (next_position v))) (runs more) test)
 
-  segment_sound : IsSound most (stored_after most v (Segment pos xs))
-  segment_sound = by (nat_eq (length part.bytes) 0) refl (not (is_some (piece_byte_at part (stored_next v))) && nat_lt most (runs more)) refl
+  segment_sound : IsSound most (receiver_after_command most v (Segment pos xs))
+  segment_sound = by (nat_eq (length part.bytes) 0) refl (not (is_some (piece_byte_at part (next_position v))) && nat_lt most (runs more)) refl
 
 pub sound_stays : SoundStays
 sound_stays most v (Segment pos xs) sound = segment_sound most v pos xs sound

@@ -11,10 +11,10 @@ use Rattle.net_assembler.specs.Positions.{missing_within, first_missing, begins_
 use Rattle.net_assembler.specs.Positions.{maximal_runs, with_range}
 use Rattle.net_assembler.proofs.Positions.{has, Rises, contains-set_of_list, positions-set_of_list, same_positions, runs-maximal_runs}
 use Rattle.net_receiver.specs.KeptList.{Piece, piece, piece_byte_at, piece_within, byte_at, bytes, covered_set, next, held_positions}
-use Rattle.net_receiver.specs.Rules.{CommandSeen, Segment, Read, Show, ReplySeen, SegmentReply, ReadReply}
+use Rattle.net_receiver.specs.Rules.{CommandValue, Segment, Read, Show, ReplyValue, SegmentReply, ReadReply}
 use Rattle.net_receiver.specs.Rules.{ShowReply, Refuses, Keeps, verdict_of_piece, state_after, segment_result}
 use Rattle.net_receiver.specs.Rules.{first_three, verdict}
-use Rattle.net_receiver.specs.Schedule.{Setting, State, fresh_state, kept_after, kept_reply, kept_replies, by_kept}
+use Rattle.net_receiver.specs.Schedule.{Setting, KeptState, fresh_kept, kept_after_command, kept_reply, kept_replies, kept_ops}
 use Rattle.net_receiver.specs.WorkedExample.{is_in, with_position, rising_list, missing_of, missing_in, runs_in, covered_list}
 use Rattle.net_receiver.specs.WorkedExample.{held_list, NextComputed, HeldComputed, RunsComputed}
 use Rattle.net_receiver.specs.WorkedExample.{ByteComputed, segment_reply, WorkedSchedule}
@@ -152,7 +152,7 @@ second = piece 3 (66 ∷ 66 ∷ [])
 abbrev third : Piece
 third = piece 0 (67 ∷ 67 ∷ [])
 
-abbrev kept : List Piece → State
+abbrev kept : List Piece → KeptState
 kept k = record { kept = k; read = 0 }
 
 abbrev one : List Piece
@@ -185,20 +185,20 @@ two_held = held_computed 0 two
 three_held : maximal_runs (held_positions 0 three) ≡ []
 three_held = held_computed 0 three
 
-first_verdict : verdict (by_kept w) 4 fresh_state first ≡ Keeps first
+first_verdict : verdict (kept_ops w) 4 fresh_kept first ≡ Keeps first
 first_verdict =
     (λ i. verdict_of_piece (none_next i) 4 (held_positions 0 []) (piece_within (none_next i) 16 first))
     ∙ ap (λ r. cond (nat_lt 4 r) Refuses (Keeps first)) (let few : runs (with_range (held_positions 0 []) 2 2) ≡ 1 = runs_computed 0 [] 2 2 in few)
 
-second_verdict : verdict (by_kept w) 4 (kept one) second ≡ Keeps second
+second_verdict : verdict (kept_ops w) 4 (kept one) second ≡ Keeps second
 second_verdict =
     (λ i. verdict_of_piece (one_next i) 4 (held_positions 0 one) (piece_within (one_next i) 16 second))
     ∙ ap (λ r. cond (nat_lt 4 r) Refuses (Keeps second)) (let few : runs (with_range (held_positions 0 one) 3 2) ≡ 1 = runs_computed 0 one 3 2 in few)
 
-third_verdict : verdict (by_kept w) 4 (kept two) third ≡ Keeps third
+third_verdict : verdict (kept_ops w) 4 (kept two) third ≡ Keeps third
 third_verdict = λ i. verdict_of_piece (two_next i) 4 (held_positions 0 two) (piece_within (two_next i) 16 third)
 
-step : (s t : State) (c : CommandSeen) (r : ReplySeen) (cs : List CommandSeen) (rs : List ReplySeen) → kept_after w s c ≡ t →
+step : (s t : KeptState) (c : CommandValue) (r : ReplyValue) (cs : List CommandValue) (rs : List ReplyValue) → kept_after_command w s c ≡ t →
     kept_reply w s c ≡ r → kept_replies w t cs ≡ rs → kept_replies w s (c ∷ cs) ≡ r ∷ rs
 step s t c r cs rs left told rest = λ i. told i ∷ (ap (λ u. kept_replies w u cs) left ∙ rest) i
 
@@ -208,19 +208,19 @@ bytes_three = refl
 
 pub worked_schedule : WorkedSchedule
 worked_schedule =
-    step fresh_state (kept one) (Segment 2 (65 ∷ 65 ∷ [])) _ (Segment 3 (66 ∷ 66 ∷ []) ∷ Show ∷ Segment 0 (67 ∷ 67 ∷ []) ∷ Show ∷ Read 5 ∷ Show ∷ []) _
-    (ap (state_after (by_kept w) fresh_state) first_verdict)
-    (ap (λ x. SegmentReply (segment_result (by_kept w) fresh_state x)) first_verdict
+    step fresh_kept (kept one) (Segment 2 (65 ∷ 65 ∷ [])) _ (Segment 3 (66 ∷ 66 ∷ []) ∷ Show ∷ Segment 0 (67 ∷ 67 ∷ []) ∷ Show ∷ Read 5 ∷ Show ∷ []) _
+    (ap (state_after (kept_ops w) fresh_kept) first_verdict)
+    (ap (λ x. SegmentReply (segment_result (kept_ops w) fresh_kept x)) first_verdict
     ∙ (λ i. segment_reply 2 (one_next i - none_next i) (first_three (one_held i))))
     (step (kept one) (kept two) (Segment 3 (66 ∷ 66 ∷ [])) _ (Show ∷ Segment 0 (67 ∷ 67 ∷ []) ∷ Show ∷ Read 5 ∷ Show ∷ []) _
-    (ap (state_after (by_kept w) (kept one)) second_verdict)
-    (ap (λ x. SegmentReply (segment_result (by_kept w) (kept one) x)) second_verdict ∙
+    (ap (state_after (kept_ops w) (kept one)) second_verdict)
+    (ap (λ x. SegmentReply (segment_result (kept_ops w) (kept one) x)) second_verdict ∙
     (λ i. segment_reply 2 (two_next i - one_next i) (first_three (two_held i))))
     (step (kept two) (kept two) Show _ (Segment 0 (67 ∷ 67 ∷ []) ∷ Show ∷ Read 5 ∷ Show ∷ []) _ refl
     (λ i. ShowReply (two_next i) (length (bytes two 0 (two_next i - 0))) (16 - length (bytes two 0 (two_next i - 0))) (two_held i))
     (step (kept two) (kept three) (Segment 0 (67 ∷ 67 ∷ [])) _ (Show ∷ Read 5 ∷ Show ∷ []) _
-    (ap (state_after (by_kept w) (kept two)) third_verdict)
-    (ap (λ x. SegmentReply (segment_result (by_kept w) (kept two) x)) third_verdict
+    (ap (state_after (kept_ops w) (kept two)) third_verdict)
+    (ap (λ x. SegmentReply (segment_result (kept_ops w) (kept two) x)) third_verdict
     ∙ (λ i. segment_reply 2 (three_next i - two_next i) (first_three (three_held i))))
     (step (kept three) (kept three) Show _ (Read 5 ∷ Show ∷ []) _ refl
     (λ i. ShowReply (three_next i) (length (bytes three 0 (three_next i - 0))) (16 - length (bytes three 0 (three_next i - 0))) (three_held i))

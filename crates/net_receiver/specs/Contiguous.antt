@@ -6,28 +6,28 @@
 --     IsReadAt g i      the ring g is read where the stream's byte number i is
 use Rattle.std.specs.Prelude.{◌≡◌, ℕ, ◌+◌, ◌-◌, ◌<◌, ◌%◌, min, List, length, take, drop}
 use Rattle.net_ring.specs.Ring.{RingState}
-use Rattle.net_receiver.specs.Stored.{Stored}
+use Rattle.net_receiver.specs.ReceiverState.{ReceiverState}
 
 -- the index of the stream's byte number i, counted from 0: the storage is filled in order, and from
 -- its beginning on again once its end is reached
-abbrev pub index_of : Stored → ℕ → ℕ
+abbrev pub index_of : ReceiverState → ℕ → ℕ
 index_of v i = i % v.capacity
 
 -- how many bytes of the queue are contiguous, from the first one on
-abbrev pub contiguous_count : Stored → ℕ
+abbrev pub contiguous_count : ReceiverState → ℕ
 contiguous_count v = min (length v.queue) (v.capacity - index_of v v.read)
 
 -- of at most n bytes of the queue from byte o on, how many are contiguous; none if o is past the
 -- queue
-abbrev pub contiguous_count_from : Stored → ℕ → ℕ → ℕ
+abbrev pub contiguous_count_from : ReceiverState → ℕ → ℕ → ℕ
 contiguous_count_from v o n = min n (min (length v.queue - o) (v.capacity - index_of v (v.read + o)))
 
 -- the bytes of the queue up to the storage's end
-abbrev pub first_part : Stored → List ℕ
+abbrev pub first_part : ReceiverState → List ℕ
 first_part v = take (contiguous_count v) v.queue
 
 -- those from its beginning on: what the first part leaves
-abbrev pub second_part : Stored → List ℕ
+abbrev pub second_part : ReceiverState → List ℕ
 second_part v = drop (contiguous_count v) v.queue
 
 -- a ring is read at the index of the stream's byte number i

@@ -5,16 +5,17 @@
 --     items_after old new      what was pushed after old
 --     AreAlike f s g t      what `same_state` finds alike of two states
 --     Converges v u same, TellsStates v u same      when `same_state` finds two receivers the same
---     FreshStands, EverySchedule, TellsNext, TellsHeld, TellsFresh      laws on what a receiver represents
+--     FreshRefines, EverySchedule, TellsNext, TellsHeld, TellsFresh      laws on what a receiver represents
 use Rattle.std.specs.Prelude.{◌≡◌, ◌↔◌, ℕ, ◌-◌, ◌≤◌, Bool, true, List, ◌++◌, length, take}
 use Rattle.std.specs.Prelude.{drop, All, slice_range}
 use Rattle.net_assembler.specs.Positions.{maximal_runs}
 use Rattle.net_receiver.specs.KeptList.{is_covered, next, held_positions}
-use Rattle.net_receiver.specs.Rules.{CommandSeen, ReplySeen}
-use Rattle.net_receiver.specs.Schedule.{State, fresh_state, kept_after_all, kept_replies, bytes_read, queue_bytes}
+use Rattle.net_receiver.specs.Rules.{CommandValue, ReplyValue}
+use Rattle.net_receiver.specs.Schedule.{KeptState, fresh_kept, kept_after_commands, kept_replies, bytes_read}
+use Rattle.net_receiver.specs.Schedule.{queue_bytes}
 use Rattle.net_receiver.specs.Schedule.{Agrees, Follows, EndsBy, IsAccepted}
-use Rattle.net_receiver.specs.Stored.{Stored, domain, stored_next, fresh_stored, setting}
-use Rattle.net_receiver.specs.Stored.{stored_after_all, stored_replies, StandsFor}
+use Rattle.net_receiver.specs.ReceiverState.{ReceiverState, domain, next_position, fresh_receiver, setting}
+use Rattle.net_receiver.specs.ReceiverState.{receiver_after_commands, receiver_replies, Refines}
 
 -- what was pushed after old
 abbrev pub items_after : {A : Type 0} → List A → List A → List A
@@ -22,73 +23,73 @@ items_after old new = drop (length old) new
 
 -- how many of these commands were executed, from the first on and no others: all of them if it is
 -- complete
-pub record ExecutedPrefix (cs : List CommandSeen) (complete : Type 0) : Type 0 where
+pub record ExecutedPrefix (cs : List CommandValue) (complete : Type 0) : Type 0 where
   pub count : ℕ
   pub within : count ≤ length cs
   pub whole : complete → count ≡ length cs
 
 -- what a prefix of the commands leaves stored, and its replies
-pub record Executes (most_runs : ℕ) (v u : Stored) (cs : List CommandSeen) (rs : List ReplySeen)
+pub record Executes (most_runs : ℕ) (v u : ReceiverState) (cs : List CommandValue) (rs : List ReplyValue)
     (complete : Type 0) : Type 0 where
   pub prefix : ExecutedPrefix cs complete
-  pub state : u ≡ stored_after_all most_runs v (take prefix.count cs)
-  pub replies : rs ≡ stored_replies most_runs v (take prefix.count cs)
+  pub state : u ≡ receiver_after_commands most_runs v (take prefix.count cs)
+  pub replies : rs ≡ receiver_replies most_runs v (take prefix.count cs)
 
 -- the same of a schedule's state, with what follows of the bytes that were read and of what is
 -- accepted
-pub record ExecutesFor (most_runs : ℕ) (v u : Stored) (cs : List CommandSeen) (rs : List ReplySeen)
-    (complete : Type 0) (s : State) : Type 0 where
+pub record ExecutesFor (most_runs : ℕ) (v u : ReceiverState) (cs : List CommandValue) (rs : List ReplyValue)
+    (complete : Type 0) (s : KeptState) : Type 0 where
   pub prefix : ExecutedPrefix cs complete
-  pub stands : StandsFor u (kept_after_all (setting most_runs v) s (take prefix.count cs))
+  pub refines : Refines u (kept_after_commands (setting most_runs v) s (take prefix.count cs))
   pub replies : rs ≡ kept_replies (setting most_runs v) s (take prefix.count cs)
   pub stream : (x : List ℕ) →
-      Agrees v.first (kept_after_all (setting most_runs v) s (take prefix.count cs)).kept x →
+      Agrees v.first (kept_after_commands (setting most_runs v) s (take prefix.count cs)).kept x →
       bytes_read rs ++ u.queue
       ≡ slice_range x s.read
-      (next v.first (kept_after_all (setting most_runs v) s (take prefix.count cs)).kept - v.first)
+      (next v.first (kept_after_commands (setting most_runs v) s (take prefix.count cs)).kept - v.first)
   pub accepts : Follows (setting most_runs v) s (next v.first s.kept) cs → All IsAccepted rs
   pub recovers : complete → Follows (setting most_runs v) s (next v.first s.kept) cs →
-      EndsBy (next v.first (kept_after_all (setting most_runs v) s cs).kept) cs
+      EndsBy (next v.first (kept_after_commands (setting most_runs v) s cs).kept) cs
 
 -- two receivers that represent kept lists which agree with one byte list and cover the same
 -- positions, with as much read, are found the same
-abbrev pub Converges : Stored → Stored → Bool → Type 0
-Converges v u same = (x : List ℕ) (s t : State) → StandsFor v s → StandsFor u t →
+abbrev pub Converges : ReceiverState → ReceiverState → Bool → Type 0
+Converges v u same = (x : List ℕ) (s t : KeptState) → Refines v s → Refines u t →
     v.first ≡ u.first → Agrees v.first s.kept x → Agrees v.first t.kept x →
     ((p : ℕ) → is_covered s.kept p ≡ is_covered t.kept p) → s.read ≡ t.read → same ≡ true
 
 -- what two states have alike that `same_state` compares, f and g being their first positions
 -- (`IsSameState` has no `next`: it follows from a receiver's parts, and not from any state's)
-abbrev pub AreAlike : ℕ → State → ℕ → State → Type 0
+abbrev pub AreAlike : ℕ → KeptState → ℕ → KeptState → Type 0
 AreAlike f s g t =
     (f ≡ g) × (s.read ≡ t.read) × (next f s.kept ≡ next g t.kept)
     × (queue_bytes f s ≡ queue_bytes g t)
     × (maximal_runs (held_positions f s.kept) ≡ maximal_runs (held_positions g t.kept))
 
 -- the test is true exactly if the states that two receivers represent are alike
-abbrev pub TellsStates : Stored → Stored → Bool → Type 0
-TellsStates v u same = (s t : State) → StandsFor v s → StandsFor u t →
+abbrev pub TellsStates : ReceiverState → ReceiverState → Bool → Type 0
+TellsStates v u same = (s t : KeptState) → Refines v s → Refines u t →
     (same ≡ true) ↔ AreAlike v.first s u.first t
 
 -- a fresh receiver represents the state in which nothing was kept or read
-abbrev pub FreshStands : Type 0
-FreshStands = (first capacity : ℕ) → StandsFor (fresh_stored first capacity) fresh_state
+abbrev pub FreshRefines : Type 0
+FreshRefines = (first capacity : ℕ) → Refines (fresh_receiver first capacity) fresh_kept
 
 -- what is stored goes on representing a schedule's state, and the replies are the same, over every
 -- list of commands
 abbrev pub EverySchedule : Type 0
-EverySchedule = (most_runs : ℕ) (v : Stored) (s : State) → StandsFor v s → (cs : List CommandSeen) →
-    StandsFor (stored_after_all most_runs v cs) (kept_after_all (setting most_runs v) s cs)
-    × (stored_replies most_runs v cs ≡ kept_replies (setting most_runs v) s cs)
+EverySchedule = (most_runs : ℕ) (v : ReceiverState) (s : KeptState) → Refines v s → (cs : List CommandValue) →
+    Refines (receiver_after_commands most_runs v cs) (kept_after_commands (setting most_runs v) s cs)
+    × (receiver_replies most_runs v cs ≡ kept_replies (setting most_runs v) s cs)
 
 -- the first missing position of a receiver is that of the state it represents
 abbrev pub TellsNext : Type 0
-TellsNext = (v : Stored) (s : State) → StandsFor v s → stored_next v ≡ next v.first s.kept
+TellsNext = (v : ReceiverState) (s : KeptState) → Refines v s → next_position v ≡ next v.first s.kept
 
 -- and so are the positions that are held
 abbrev pub TellsHeld : Type 0
-TellsHeld = (v : Stored) (s : State) → StandsFor v s → domain v.held ≡ held_positions v.first s.kept
+TellsHeld = (v : ReceiverState) (s : KeptState) → Refines v s → domain v.held ≡ held_positions v.first s.kept
 
 -- what a fresh receiver stores represents the fresh state
 abbrev pub TellsFresh : Type 0
-TellsFresh = (first : ℕ) (v : Stored) → v ≡ fresh_stored first v.capacity → StandsFor v fresh_state
+TellsFresh = (first : ℕ) (v : ReceiverState) → v ≡ fresh_receiver first v.capacity → Refines v fresh_kept

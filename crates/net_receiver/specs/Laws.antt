@@ -12,10 +12,10 @@ use Rattle.std.specs.Prelude.{AllPairs, count_by, ⊤}
 use Rattle.net_assembler.specs.Positions.{Positions, contains, lies_in, IsMaximalRun}
 use Rattle.net_receiver.specs.declared.receiver.kept.Kept.{Kept}
 use Rattle.net_receiver.specs.KeptList.{Piece, end, byte_at, next, held_positions}
-use Rattle.net_receiver.specs.Rules.{CommandSeen, ReplySeen, Verdict, state_after, segment_result}
+use Rattle.net_receiver.specs.Rules.{CommandValue, ReplyValue, Verdict, state_after, segment_result}
 use Rattle.net_receiver.specs.Rules.{first_three}
-use Rattle.net_receiver.specs.Schedule.{Setting, State, by_kept}
-use Rattle.net_receiver.specs.Stored.{Stored, StandsFor}
+use Rattle.net_receiver.specs.Schedule.{Setting, KeptState, kept_ops}
+use Rattle.net_receiver.specs.ReceiverState.{ReceiverState, Refines}
 use Rattle.net_receiver.specs.Execution.{ExecutedPrefix, Executes, ExecutesFor}
 
 -- ---- kept lists
@@ -82,42 +82,42 @@ pub record ListsRuns (held : Positions) (sack : List (Option (ℕ × ℕ))) : Ty
 -- the result of each accepted segment lists the held runs after it, whether bytes of it were kept
 -- or none
 abbrev pub ListsHeldRuns : Type 0
-ListsHeldRuns = (w : Setting) (s : State) (x : Verdict) (kept : Kept) →
-    segment_result (by_kept w) s x ≡ Ok kept →
-    ListsRuns (held_positions w.first (state_after (by_kept w) s x).kept) kept.sack
+ListsHeldRuns = (w : Setting) (s : KeptState) (x : Verdict) (kept : Kept) →
+    segment_result (kept_ops w) s x ≡ Ok kept →
+    ListsRuns (held_positions w.first (state_after (kept_ops w) s x).kept) kept.sack
 
 -- ---- calls of `replay`, one after another
 -- a call by its commands and the replies that it appended, and whether it returned Ok
 pub record ReplayCall : Type 0 where
-  pub commands : List CommandSeen
-  pub replies : List ReplySeen
+  pub commands : List CommandValue
+  pub replies : List ReplyValue
   pub complete : Bool
 
 -- what the contract of `replay` says of each call
-abbrev pub Replays : ℕ → Stored → List ReplayCall → Stored → Type 0
+abbrev pub Replays : ℕ → ReceiverState → List ReplayCall → ReceiverState → Type 0
 Replays most_runs v [] u = u ≡ v
 Replays most_runs v (call ∷ calls) u =
-    (between : Stored)
+    (between : ReceiverState)
     × Executes most_runs v between call.commands call.replies (IsTrue call.complete)
     × Replays most_runs between calls u
 
 -- cs is made of the first commands of each call in turn, and of all of them if the call is complete
-abbrev pub ArePrefixes : List ReplayCall → List CommandSeen → Type 0
+abbrev pub ArePrefixes : List ReplayCall → List CommandValue → Type 0
 ArePrefixes [] cs = cs ≡ []
 ArePrefixes (call ∷ calls) cs =
-    (prefix : ExecutedPrefix call.commands (IsTrue call.complete)) × (rest : List CommandSeen)
+    (prefix : ExecutedPrefix call.commands (IsTrue call.complete)) × (rest : List CommandValue)
     × (cs ≡ take prefix.count call.commands ++ rest) × ArePrefixes calls rest
 
 -- the calls did what one complete call does with the commands that they executed
-pub record Composes (most_runs : ℕ) (v : Stored) (calls : List ReplayCall) (u : Stored)
+pub record Composes (most_runs : ℕ) (v : ReceiverState) (calls : List ReplayCall) (u : ReceiverState)
     : Type 0 where
-  pub commands : List CommandSeen
+  pub commands : List CommandValue
   pub prefixes : ArePrefixes calls commands
   pub stored : Executes most_runs v u commands (flat_map (λ call. call.replies) calls) ⊤
-  pub for_states : (s : State) → StandsFor v s →
+  pub for_states : (s : KeptState) → Refines v s →
       ExecutesFor most_runs v u commands (flat_map (λ call. call.replies) calls) ⊤ s
 
 -- calls one after another do what one call does
 abbrev pub CallsCompose : Type 0
-CallsCompose = (most_runs : ℕ) (v u : Stored) (calls : List ReplayCall) →
+CallsCompose = (most_runs : ℕ) (v u : ReceiverState) (calls : List ReplayCall) →
     Replays most_runs v calls u → Composes most_runs v calls u

@@ -1,12 +1,12 @@
--- What a command does, and its reply: the rules, over any way of keeping what comes.
---     CommandSeen, ReplySeen      a command, and its reply, as values
+-- What a command does, and its reply: the rules, over the operations of any receiver.
+--     CommandValue, ReplyValue      a command, and its reply, as values
 --     Verdict      what becomes of a segment: nothing is kept, it is refused, or a piece is kept
---     Keeping S      what a state of type S tells, and what a kept piece and a read make of it
---     verdict keeping N s e      what becomes of the segment e in state s, N being the most runs
---     state_after keeping s x, segment_result keeping s x      the state after it, and its result
---     after keeping N s c, reply keeping N s c      the state after one command, and its reply
---     after_all keeping N s cs, replies keeping N s cs      the same of a list of commands
--- `Schedule.antt` fills them with kept lists, `Stored.antt` with what a receiver stores.
+--     ReceiverOps S      what a state of type S tells, and what a kept piece and a read make of it
+--     verdict ops N s e      what becomes of the segment e in state s, N being the most runs
+--     state_after ops s x, segment_result ops s x      the state after it, and its result
+--     after ops N s c, reply ops N s c      the state after one command, and its reply
+--     after_all ops N s cs, replies ops N s cs      the same of a list of commands
+-- `Schedule.antt` fills them with kept lists, `ReceiverState.antt` with what a receiver stores.
 use Rattle.std.specs.Prelude.{ℕ, ◌+◌, ◌-◌, if◌then◌else◌, not, ◌&&◌, List, [], ◌∷◌, length, take}
 use Rattle.std.specs.Prelude.{nat_lt, nat_eq, slice_get, Option, is_some, Result, Ok, Err}
 use Rattle.net_assembler.specs.declared.assembler.error.TooManyHolesError.{TooManyHolesError}
@@ -15,16 +15,16 @@ use Rattle.net_receiver.specs.declared.receiver.kept.Kept.{Kept}
 use Rattle.net_receiver.specs.KeptList.{Piece, piece, piece_byte_at, piece_within}
 
 -- commands
-pub data CommandSeen : Type 0 where
-  Segment : ℕ → List ℕ → CommandSeen
-  Read : ℕ → CommandSeen
-  Show : CommandSeen
+pub data CommandValue : Type 0 where
+  Segment : ℕ → List ℕ → CommandValue
+  Read : ℕ → CommandValue
+  Show : CommandValue
 
 -- replies
-pub data ReplySeen : Type 0 where
-  SegmentReply : Result Kept TooManyHolesError → ReplySeen
-  ReadReply : List ℕ → ReplySeen
-  ShowReply : ℕ → ℕ → ℕ → List (ℕ × ℕ) → ReplySeen
+pub data ReplyValue : Type 0 where
+  SegmentReply : Result Kept TooManyHolesError → ReplyValue
+  ReadReply : List ℕ → ReplyValue
+  ShowReply : ℕ → ℕ → ℕ → List (ℕ × ℕ) → ReplyValue
 
 -- what becomes of a segment
 pub data Verdict : Type 0 where
@@ -50,8 +50,9 @@ with_sack (Ok n) held =
     Ok (record { kept = n.0; queued = n.1; sack = first_three (maximal_runs held) })
 with_sack (Err e) held = Err e
 
--- a way of keeping what comes: what its states tell, and what a kept piece and a read make of them
-pub record Keeping (S : Type 0) : Type 0 where
+-- the operations of a receiver whose states are of type S: what a state tells, and what a kept piece and
+-- a read make of it
+pub record ReceiverOps (S : Type 0) : Type 0 where
   -- the first position of the stream
   pub first : S → ℕ
   -- how many bytes queue and spare part have together
@@ -69,56 +70,56 @@ pub record Keeping (S : Type 0) : Type 0 where
   -- the state after a read of so many bytes, or of the whole queue if it is shorter
   pub after_read : S → ℕ → S
 
-module _ {S : Type 0} (keeping : Keeping S) where
+module _ {S : Type 0} (ops : ReceiverOps S) where
   -- the end of the free window
   abbrev pub limit : S → ℕ
-  limit s = keeping.first s + keeping.read s + keeping.capacity s
+  limit s = ops.first s + ops.read s + ops.capacity s
 
   -- the state after a segment, by what becomes of it
   abbrev pub state_after : S → Verdict → S
   state_after s KeepsNone = s
   state_after s Refuses = s
-  state_after s (Keeps part) = keeping.with_piece s part
+  state_after s (Keeps part) = ops.with_piece s part
 
   -- how many bytes are kept, and how many join the queue, or the refusal
   abbrev pub numbers : S → Verdict → Result (ℕ × ℕ) TooManyHolesError
   numbers s KeepsNone = Ok (0, 0)
   numbers s Refuses = Err (record {})
   numbers s (Keeps part) =
-      Ok (length part.bytes, keeping.next (keeping.with_piece s part) - keeping.next s)
+      Ok (length part.bytes, ops.next (ops.with_piece s part) - ops.next s)
 
   -- the result of a segment
   abbrev pub segment_result : S → Verdict → Result Kept TooManyHolesError
-  segment_result s x = with_sack (numbers s x) (keeping.held (state_after s x))
+  segment_result s x = with_sack (numbers s x) (ops.held (state_after s x))
 
   module _ (most_runs : ℕ) where
     -- what becomes of a segment in a state: the free window takes what it has from the first missing
     -- position on and below the limit
     abbrev pub verdict : S → Piece → Verdict
     verdict s e =
-        verdict_of_piece (keeping.next s) most_runs (keeping.held s)
-        (piece_within (keeping.next s) (limit s) e)
+        verdict_of_piece (ops.next s) most_runs (ops.held s)
+        (piece_within (ops.next s) (limit s) e)
 
     -- the state after a command
-    abbrev pub after : S → CommandSeen → S
+    abbrev pub after : S → CommandValue → S
     after s (Segment pos xs) = state_after s (verdict s (piece pos xs))
-    after s (Read count) = keeping.after_read s count
+    after s (Read count) = ops.after_read s count
     after s Show = s
 
     -- the reply to a command
-    abbrev pub reply : S → CommandSeen → ReplySeen
+    abbrev pub reply : S → CommandValue → ReplyValue
     reply s (Segment pos xs) = SegmentReply (segment_result s (verdict s (piece pos xs)))
-    reply s (Read count) = ReadReply (take count (keeping.queue s))
+    reply s (Read count) = ReadReply (take count (ops.queue s))
     reply s Show =
-        ShowReply (keeping.next s) (length (keeping.queue s))
-        (keeping.capacity s - length (keeping.queue s)) (maximal_runs (keeping.held s))
+        ShowReply (ops.next s) (length (ops.queue s))
+        (ops.capacity s - length (ops.queue s)) (maximal_runs (ops.held s))
 
     -- the state after commands
-    abbrev pub after_all : S → List CommandSeen → S
+    abbrev pub after_all : S → List CommandValue → S
     after_all s [] = s
     after_all s (c ∷ cs) = after_all (after s c) cs
 
     -- the replies to commands
-    abbrev pub replies : S → List CommandSeen → List ReplySeen
+    abbrev pub replies : S → List CommandValue → List ReplyValue
     replies s [] = []
     replies s (c ∷ cs) = reply s c ∷ replies (after s c) cs

@@ -4,21 +4,21 @@
 use Rattle.std.specs.Prelude.{◌≡◌, ℕ, ◌+◌, ◌≤◌, List, ◌++◌, length, drop, Result, IsOk, IfOk, OnErr}
 use Rattle.net_assembler.specs.declared.assembler.error.TooManyHolesError.{TooManyHolesError}
 use Rattle.net_receiver.specs.declared.receiver.kept.Kept.{Kept}
-use Rattle.net_receiver.specs.Stored.{Stored, stored_next}
+use Rattle.net_receiver.specs.ReceiverState.{ReceiverState, next_position}
 
 -- any segment: a refused one changes nothing, of any other xs is kept; the first missing position
 -- moves up by as many positions as bytes join the queue, and nothing is read
-pub record KeepsOrRefuses (v : Stored) (xs : List ℕ) (u : Stored)
+pub record KeepsOrRefuses (v : ReceiverState) (xs : List ℕ) (u : ReceiverState)
     (r : Result Kept TooManyHolesError) : Type 0 where
   pub refused : OnErr r (u ≡ v)
   pub kept : IfOk r (λ k. k.kept ≡ length xs)
-  pub queued : IfOk r (λ k. stored_next u ≡ stored_next v + k.queued)
-  pub grows : stored_next v ≤ stored_next u
+  pub queued : IfOk r (λ k. next_position u ≡ next_position v + k.queued)
+  pub grows : next_position v ≤ next_position u
   pub read : u.read ≡ v.read
 
 -- one that begins at or below the first missing position: it is accepted, and the queue then goes
 -- on with xs, and with what was held after it
-pub record JoinsQueue (v : Stored) (xs : List ℕ) (u : Stored)
+pub record JoinsQueue (v : ReceiverState) (xs : List ℕ) (u : ReceiverState)
     (r : Result Kept TooManyHolesError) : Type 0 where
   pub accepted : IsOk r
   pub joins : IfOk r (λ k. k.kept ≤ k.queued)

@@ -12,9 +12,9 @@ use Rattle.std.specs.Option.{option_or}
 use Rattle.std.specs.List.{range_with_len}
 use Rattle.net_assembler.specs.Positions.{bound_of, runs, with_range, maximal_runs}
 use Rattle.net_receiver.specs.KeptList.{Piece, piece_byte_at, byte_at, next, held_positions}
-use Rattle.net_receiver.specs.Rules.{CommandSeen, Segment, Read, Show, ReplySeen, SegmentReply, ReadReply}
+use Rattle.net_receiver.specs.Rules.{CommandValue, Segment, Read, Show, ReplyValue, SegmentReply, ReadReply}
 use Rattle.net_receiver.specs.Rules.{ShowReply}
-use Rattle.net_receiver.specs.Schedule.{Setting, fresh_state, kept_replies}
+use Rattle.net_receiver.specs.Schedule.{Setting, fresh_kept, kept_replies}
 
 -- ---- lists of positions
 -- whether q is in ks
@@ -78,12 +78,12 @@ ByteComputed = (k : List Piece) (p : ℕ) → byte_at k p ≡ byte_in k p
 
 -- ---- a schedule in full
 -- the reply to a segment of which so many bytes are kept, and after which so many join the queue
-abbrev pub segment_reply : ℕ → ℕ → List (Option (ℕ × ℕ)) → ReplySeen
+abbrev pub segment_reply : ℕ → ℕ → List (Option (ℕ × ℕ)) → ReplyValue
 segment_reply kept queued sack = SegmentReply (Ok (record { kept = kept; queued = queued; sack = sack }))
 
 -- two segments that disagree come out of order, then the bytes before them: `AA` at 2, `BB` at 3,
 -- `CC` at 0, and then `CCABB` is read
-abbrev pub worked_commands : List CommandSeen
+abbrev pub worked_commands : List CommandValue
 worked_commands =
     Segment 2 (65 ∷ 65 ∷ []) ∷ Segment 3 (66 ∷ 66 ∷ []) ∷ Show
     ∷ Segment 0 (67 ∷ 67 ∷ []) ∷ Show ∷ Read 5 ∷ Show ∷ []
@@ -92,7 +92,7 @@ worked_commands =
 abbrev pub WorkedSchedule : Type 0
 WorkedSchedule =
     let w : Setting = record { first = 0; capacity = 16; most_runs = 4 } in
-    kept_replies w fresh_state worked_commands
+    kept_replies w fresh_kept worked_commands
     ≡ segment_reply 2 0 (Some (2, 4) ∷ None ∷ None ∷ [])
     ∷ segment_reply 2 0 (Some (2, 5) ∷ None ∷ None ∷ [])
     ∷ ShowReply 0 0 16 ((2, 5) ∷ [])

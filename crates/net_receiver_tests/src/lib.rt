@@ -1,6 +1,6 @@
 //! The tests of `net_receiver`, each through its public calls.
 //!
-//! They stand in a crate of their own, so that what stands on `net_receiver` doesn't wait for them
+//! They are in a crate of their own, so that what depends on `net_receiver` doesn't wait for them
 //! and links nothing that only tests need.
 #![tactic(auto)]
 

@@ -92,8 +92,8 @@ module _ {M : Type 1} {𝓤 : Ura M} (𝓛 : Logic 𝓤) (ℓ : Lifetime) (κ : 
 
   module _ (R : RattleType) (m : ℕ) (xs prefix : List R.Denot) (x : R.Denot) (back : List R.Denot) (cut : xs ≡ prefix ++ (x ∷ back)) (lf : length prefix ≡ m)
       (p : ℕ) (on : at o (mem R).size (length prefix) ≡ p) where
-    abbrev pub item_lent : GName → Item 𝓤
-    item_lent δ = ‵ ((MutRef ℓ κ R).own_val (record { ref_ptr = (b, p); ghost_name = δ; now = x }) (vptr b p ∷ [])) ⊛ ‵ (flft κ q) ⊛
+    abbrev pub element_lent : GName → Item 𝓤
+    element_lent δ = ‵ ((MutRef ℓ κ R).own_val (record { ref_ptr = (b, p); ghost_name = δ; now = x }) (vptr b p ∷ [])) ⊛ ‵ (flft κ q) ⊛
         ‵ (follows (Array R 0) R γ δ (set xs m))
 
     abbrev pub ItemLent : GName → SProp 𝓤
@@ -115,9 +115,9 @@ module _ {M : Type 1} {𝓤 : Ura M} (𝓛 : Logic 𝓤) (ℓ : Lifetime) (κ : 
         rewrite ! 0 (λ (l : List R.Denot). ‵ (cells (mem R) l b o)) (sym is) refl $
         feq_i ! ℕ (length (set xs m w)) (length xs) (omega arith) $ fjoin ! $ done !
 
-    pub lends_item : (vs : List Val)
+    pub lends_element : (vs : List Val)
         → ent 𝓤 (sep 𝓤 (sem 𝓛 ((MutSlice ℓ κ R).own_val (record { ref_ptr = (b, o); ghost_name = γ; now = xs }) vs)) (A.lft κ q)) (H.⇛ (ex 𝓤 ItemLent))
-    lends_item vs = qed 𝓛 (‵ ((MutSlice ℓ κ R).own_val (record { ref_ptr = (b, o); ghost_name = γ; now = xs }) vs) ∷ ‵ (flft κ q) ∷ []) ∵ updating ! $
+    lends_element vs = qed 𝓛 (‵ ((MutSlice ℓ κ R).own_val (record { ref_ptr = (b, o); ghost_name = γ; now = xs }) vs) ∷ ‵ (flft κ q) ∷ []) ∵ updating ! $
         fsplit3 ! $ drop ! $
         rewrite ! 0 (λ (l : List R.Denot). ‵ (fobs γ ((coded_list R.coded).code l))) (heres_id R xs) refl $
         open_ref ! tt (Arr (mem R) (length xs)) {b = b} {o = o} $ fsplit ! $ drop ! $

@@ -13,7 +13,7 @@ use Rattle.std.specs.Prelude.{Result, IsOk, IsErr, is_ok, slice_get}
 use Rattle.std.proofs.lemmas.Option.{slice_get_past}
 use Rattle.std.specs.declared.result.Result.TheVariants.{Ok, Err}
 use Rattle.net_ring.specs.Overwrite.{overwrite}
-use Rattle.net_ring.specs.Ring.{RingState, freed_index, rotation, ring, capacity, window, queue}
+use Rattle.net_ring.specs.Ring.{RingState, last_dequeued_index, rotation, ring, capacity, window, queue}
 use Rattle.net_ring.specs.Ring.{spare, storage_index, write_at, IsWellFormed, with_elements}
 use Rattle.net_ring.specs.Ring.{with_elements_wrapping, with_enqueued, with_dequeued}
 use Rattle.net_ring.specs.Ring.{from_start_if_empty, contiguous_window, contiguous_queued}
@@ -299,12 +299,12 @@ module _ {T : Type 0} where
         subst (WritesQueue g i []) (sym still) (sym (overwrite_none (queue g) i), refl, refl)
 
     -- a write over the last spare elements, which are those before the read index
-    pub freed_law : (k : ℕ) → freed_index g k + k ≤ capacity g → (ws : List T) → length ws ≡ k → k ≤ window g
-        → WritesSpare g (window g - k) ws (with_elements g (freed_index g k) ws)
+    pub freed_law : (k : ℕ) → last_dequeued_index g k + k ≤ capacity g → (ws : List T) → length ws ≡ k → k ≤ window g
+        → WritesSpare g (window g - k) ws (with_elements g (last_dequeued_index g k) ws)
     freed_law k fits ws long room =
         let at : capacity g - k ≡ g.count + (window g - k) = omega (arith, room, wf.1) in
-        spare_law (window g - k) (freed_index g k) ws (omega (arith, long, room)) (omega (arith, long, fits))
-        (subst (λ (j : ℕ). IsStorageIndex (capacity g) g.read_at j (freed_index g k)) at (storage_index_is g (capacity g - k)))
+        spare_law (window g - k) (last_dequeued_index g k) ws (omega (arith, long, room)) (omega (arith, long, fits))
+        (subst (λ (j : ℕ). IsStorageIndex (capacity g) g.read_at j (last_dequeued_index g k)) at (storage_index_is g (capacity g - k)))
 
     pub spare_part_law : (i n : ℕ) (ws : List T) → length ws ≡ contiguous_window_from g i n → WritesSpare g i ws (with_elements g (spare_index g i) ws)
     spare_part_law i n ws e = elim (cases_lt (window g) i) [
@@ -559,20 +559,20 @@ module _ {T : Type 0} where
         )
 
     -- the last k spare elements, as they are shown from the index p on, and where p is
-    pub shown_freed : (k p m : ℕ) → k ≤ capacity g → freed_index g k + k ≤ capacity g → p ≡ freed_index g k → m ≡ k
+    pub shown_last_dequeued : (k p m : ℕ) → k ≤ capacity g → last_dequeued_index g k + k ≤ capacity g → p ≡ last_dequeued_index g k → m ≡ k
         → (now : List T) → now ≡ take m (drop p v.storage)
-        → (length now ≡ k) × (now ≡ take k (drop (freed_index g k) g.storage))
-    shown_freed k p m le fits ep em now e =
+        → (length now ≡ k) × (now ≡ take k (drop (last_dequeued_index g k) g.storage))
+    shown_last_dequeued k p m le fits ep em now e =
         let r = shown p m k em (omega (arith, ep, fits)) now e in
         (r.0, r.1 ∙ ap (λ q. take k (drop q g.storage)) ep)
 
-    pub freed_before : (k : ℕ) → k ≤ capacity g → k ≤ v.read_at → v.read_at - k ≡ freed_index g k
-    freed_before k le h =
+    pub last_dequeued_before : (k : ℕ) → k ≤ capacity g → k ≤ v.read_at → v.read_at - k ≡ last_dequeued_index g k
+    last_dequeued_before k le h =
         let r = ap (λ o. o.read_at) is in
         elim (storage_index_is g (capacity g - k)) [ inl i ↦ omega (arith, r, i.0, i.1) | inr i ↦ omega (arith, r, i.0, i.1, read_at_le g well) ]
 
-    pub freed_round : (k : ℕ) → k ≤ capacity g → v.read_at < k → capacity v - (k - v.read_at) ≡ freed_index g k
-    freed_round k le h =
+    pub last_dequeued_round : (k : ℕ) → k ≤ capacity g → v.read_at < k → capacity v - (k - v.read_at) ≡ last_dequeued_index g k
+    last_dequeued_round k le h =
         let r = ap (λ o. o.read_at) is in
         let n = ap (λ o. capacity o) is in
         elim (storage_index_is g (capacity g - k)) [ inl i ↦ omega (arith, r, n, i.0, i.1) | inr i ↦ omega (arith, r, n, i.0, i.1) ]
@@ -656,9 +656,9 @@ module _ {T : Type 0} where
       subst (Enqueues g ws) (sym e) (q, p, t.2)
 
   -- ---- laws
-  pub restarted_is : (g : RingState T) → (queue (from_start_if_empty g) ≡ queue g) × ((from_start_if_empty g).count ≡ g.count)
+  pub rewound_is : (g : RingState T) → (queue (from_start_if_empty g) ≡ queue g) × ((from_start_if_empty g).count ≡ g.count)
       × ((from_start_if_empty g).storage ≡ g.storage)
-  restarted_is g = elim (cases_lt 0 g.count) [
+  rewound_is g = elim (cases_lt 0 g.count) [
     | inl h ↦ let e : from_start_if_empty g ≡ g = ap (λ t. if t then ring g.storage 0 0 else g) (ne_eqb g.count 0 (omega (arith, h)))
         in (ap (λ o. queue o) e, ap (λ o. o.count) e, ap (λ o. o.storage) e)
     | inr h ↦
@@ -687,15 +687,15 @@ module _ {T : Type 0} where
       ring_is g h b er n
 
 -- a ring with an empty queue is read from the storage's beginning on, and any other is as it was
-pub restart_cases : {T : Type 0} (b : RingState T) → ((b.count ≡ 0) × (from_start_if_empty b ≡ ring b.storage 0 0)) ⊎
+pub rewind_cases : {T : Type 0} (b : RingState T) → ((b.count ≡ 0) × (from_start_if_empty b ≡ ring b.storage 0 0)) ⊎
     ((b.count ≢ 0) × (from_start_if_empty b ≡ b))
-restart_cases b = elim (cases_eq b.count 0) [
+rewind_cases b = elim (cases_eq b.count 0) [
   | inl h ↦ inl (h, ap (λ (t : Bool). if t then ring b.storage 0 0 else b) (eq-eqb b.count 0 h))
   | inr h ↦ inr (h, ap (λ (t : Bool). if t then ring b.storage 0 0 else b) (ne_eqb b.count 0 h))
 ]
 
-pub restart_wf : {T : Type 0} (b : RingState T) → IsWellFormed b → IsWellFormed (from_start_if_empty b)
-restart_wf b wf = elim (restart_cases b) [ inl h ↦ subst IsWellFormed (sym h.1) (inl refl, omega arith) | inr h ↦ subst IsWellFormed (sym h.1) wf ]
+pub rewind_wf : {T : Type 0} (b : RingState T) → IsWellFormed b → IsWellFormed (from_start_if_empty b)
+rewind_wf b wf = elim (rewind_cases b) [ inl h ↦ subst IsWellFormed (sym h.1) (inl refl, omega arith) | inr h ↦ subst IsWellFormed (sym h.1) wf ]
 
 -- the index of an element that a ring can hold lies below the storage's end
 storage_index_below : (c r j : ℕ) → j < c → (if nat_lt j (c - r) then r + j else j - (c - r)) < c
@@ -717,9 +717,9 @@ contiguous_free_some g i n l m = let below =
 pub contiguous_next_some : {T : Type 0} (g : RingState T) → window g ≢ 0 → 0 < contiguous_window g
 contiguous_next_some g l = let below = storage_index_below (length g.storage) g.read_at g.count (omega (arith, l)) in omega (arith, l, below)
 
-pub contiguous_restarted_some : {T : Type 0} (g : RingState T) → window g ≢ 0 → 0 < contiguous_window (from_start_if_empty g)
-contiguous_restarted_some g l =
-    let same = restarted_is g in
+pub contiguous_rewound_some : {T : Type 0} (g : RingState T) → window g ≢ 0 → 0 < contiguous_window (from_start_if_empty g)
+contiguous_rewound_some g l =
+    let same = rewound_is g in
     contiguous_next_some (from_start_if_empty g) (λ none. l (ap₂ (λ (s : List _) (n : ℕ). length s - n) (sym same.2) (sym same.1) ∙ none))
 
 pub contiguous_head_some : {T : Type 0} (g : RingState T) → IsWellFormed g → g.count ≢ 0 → 0 < contiguous_queued g

@@ -80,8 +80,8 @@ module _ {T : Type 0} where
   moved : (g : RingState T) → IsWellFormed g → IsWellFormed (from_start_if_empty g) × (queue (from_start_if_empty g) ≡ queue g)
       × (window (from_start_if_empty g) ≡ window g)
   moved g ok =
-      let same = facts.restarted_is g in
-      (facts.restart_wf g ok, same.0, ap₂ (λ (s : List T) (n : ℕ). length s - n) same.2 same.1)
+      let same = facts.rewound_is g in
+      (facts.rewind_wf g ok, same.0, ap₂ (λ (s : List T) (n : ℕ). length s - n) same.2 same.1)
 
   -- xs was written over the spare part, round the storage's end, and then enqueued
   in_wrapping : (g : RingState T) (xs : List T) → IsWellFormed g → length xs ≤ window g →

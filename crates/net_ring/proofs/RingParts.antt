@@ -1,4 +1,4 @@
--- The queue in the two parts that stand in a row, and parts of lists by index.
+-- The queue in its two contiguous parts, and parts of lists by index.
 use Rattle.std.proofs.Common.{◌≡◌, ◌≢◌, ℕ, ◌+◌, ◌-◌, ◌<◌, ◌≤◌, List, ◌++◌, length, take, drop, get_or}
 use Rattle.std.proofs.Common.{refl, sym, ap, ap₂, ◌∙◌, arith, length-take, length-drop}
 use Rattle.std.proofs.lemmas.List.{get_or-take, get_or-drop, get_or_append_left, get_or-append_right}
@@ -37,7 +37,7 @@ module _ {X : Type 0} where
       ap (λ (l : List X). get_or l k d) (sym is) ∙ get_or-append_right a b (length a) k d refl from
 
 module _ {T : Type 0} where
-  -- what stands in a row at the head of the queue, and what wraps
+  -- what is contiguous at the head of the queue, and what wraps
   pub record Parts (g : RingState T) (a b : List T) : Type 0 where
     pub cut : length a ≡ contiguous_queued g
     pub count : length a + length b ≡ g.count

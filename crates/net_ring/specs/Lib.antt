@@ -1,6 +1,6 @@
 pub mod Overwrite
 pub mod Managed
-pub mod ElementLaws
+pub mod StorageLaws
 pub mod ManagedLends
 pub mod WholeLends
 pub mod Ring

@@ -1,6 +1,6 @@
 -- The elements of lent or owned storage.
 --     elements s      the elements
---     with_part s i ws, with_item s i x      the storage with some of them, or one, written over
+--     with_part s i ws, with_element s i x      the storage with some of them, or one, written over
 use Rattle.std.specs.Prelude.{List, ℕ, slice_set}
 use denote.MutBor.{at_last}
 use Rattle.std.specs.Vec.{with_items_from, with_item as vec_with_item}
@@ -20,6 +20,6 @@ module _ {T : Type 0} where
   with_part (Owned v) i ws = Owned (with_items_from v i ws)
 
   -- the storage with one element replaced
-  abbrev pub with_item : ManagedSlice T → ℕ → T → ManagedSlice T
-  with_item (Borrowed s) i x = Borrowed (at_last s (slice_set s.now i x))
-  with_item (Owned v) i x = Owned (vec_with_item v i x)
+  abbrev pub with_element : ManagedSlice T → ℕ → T → ManagedSlice T
+  with_element (Borrowed s) i x = Borrowed (at_last s (slice_set s.now i x))
+  with_element (Owned v) i x = Owned (vec_with_item v i x)

@@ -1,7 +1,7 @@
 -- A ring by its storage, the index where it is read and how many elements are queued.
 --     RingState T, ring b r n, IsWellFormed g      a ring, and what is true of each
 --     capacity g, window g, queue g, spare g      its capacity and window, and its two parts
---     index_after c r i, storage_index g i, write_at g, freed_index g k      indices of the storage
+--     index_after c r i, storage_index g i, write_at g, last_dequeued_index g k      indices of the storage
 --     contiguous_window g, contiguous_spare g, spare_index g i, contiguous_window_from g i n      the
 --         contiguous elements of the spare part
 --     contiguous_queued g, contiguous_queue g, queue_index g i, contiguous_queued_from g i n      those
@@ -100,8 +100,8 @@ module _ {T : Type 0} where
   contiguous_queued_from g i n = min n (min (g.count - i) (length g.storage - queue_index g i))
 
   -- the index where the last k elements of the spare part begin: k elements before the read index
-  abbrev pub freed_index : RingState T → ℕ → ℕ
-  freed_index g k = storage_index g (length g.storage - k)
+  abbrev pub last_dequeued_index : RingState T → ℕ → ℕ
+  last_dequeued_index g k = storage_index g (length g.storage - k)
 
   -- ---- what calls leave
   -- ws is written over the storage from the index p on; what reaches past its end is cut off

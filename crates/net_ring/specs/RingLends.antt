@@ -4,8 +4,8 @@
 use Rattle.std.specs.Prelude.{List, [], ◌∷◌, ℕ, Result}
 use Rattle.std.specs.Borrow.{Lends, LendsIfOk, MutBor, Fml, RattleType, Array}
 use Rattle.net_ring.specs.Ring.{RingState, with_elements}
-use Rattle.net_ring.specs.declared.managed.Elements.{Ghosts}
-use Rattle.net_ring.specs.contracts.ring_buffer.Ring.{the_row}
+use Rattle.net_ring.specs.declared.managed.Storage.{Ghosts}
+use Rattle.net_ring.specs.contracts.ring_buffer.RingOver.{the_row}
 
 -- the ring `after`, with the last elements behind r written over its storage from the index p on
 abbrev pub lends_many : (T S : RattleType) (g : Ghosts S.Denot T.Denot)

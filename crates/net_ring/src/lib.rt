@@ -8,6 +8,6 @@ mod resettable;
 pub mod ring_buffer;
 
 pub use error::{Empty, Full};
-pub use managed::{Elements, ManagedSlice};
+pub use managed::{ManagedSlice, Storage};
 pub use resettable::Resettable;
-pub use ring_buffer::{Ring, RingBuffer};
+pub use ring_buffer::{RingBuffer, RingOver};

@@ -8,7 +8,7 @@ ghost use Rattle.net_ring.specs.WholeLends.{lends_lent, lends_owned};
 use std::ops::IndexMut;
 
 /// A list of elements, parts of which can be shown and lent: the storage of a ring.
-pub trait Elements<T> {
+pub trait Storage<T> {
     // The elements, in order.
     ghost elements: { Self → List T };
 
@@ -16,7 +16,7 @@ pub trait Elements<T> {
     ghost with_part: { Self → ℕ → List T → Self };
 
     // The value with one element replaced.
-    ghost with_item: { Self → ℕ → T → Self };
+    ghost with_element: { Self → ℕ → T → Self };
 
     /// Returns how many elements there are.
     fn count(&self) -> usize
@@ -47,10 +47,10 @@ pub trait Elements<T> {
     /// # Requires
     ///
     /// `at` is below `count()`.
-    fn item_mut(&mut self, at: usize) -> &mut T
+    fn element_mut(&mut self, at: usize) -> &mut T
         requires count { at < length (elements self.old) }
         ensures* writes_back { sem 𝓛 (Lends Self.row T.row self.entry result
-            (with_item self.old at)) }
+            (with_element self.old at)) }
         ensures value { result.now ≡ slice_index_or (elements self.old) at result.now };
 
     /// Shows the element at the index `at`.
@@ -58,7 +58,7 @@ pub trait Elements<T> {
     /// # Requires
     ///
     /// `at` is below `count()`.
-    fn item(&self, at: usize) -> &T
+    fn element(&self, at: usize) -> &T
         requires count { at < length (elements self.now) }
         ensures { slice_get (elements self.now) at ≡ Some result.now };
 
@@ -67,24 +67,24 @@ pub trait Elements<T> {
         elements (with_part s i ws) ≡ overwrite (elements s) i ws };
 
     // The elements after one was replaced.
-    ghost item_written: { (s : Self) (i : ℕ) (w : T) →
-        elements (with_item s i w) ≡ overwrite (elements s) i (w ∷ []) };
+    ghost element_written: { (s : Self) (i : ℕ) (w : T) →
+        elements (with_element s i w) ≡ overwrite (elements s) i (w ∷ []) };
 
     // The same, as a list of which one element is set.
-    ghost item_set: { (s : Self) (i : ℕ) (w : T) →
-        elements (with_item s i w) ≡ slice_set (elements s) i w };
+    ghost element_set: { (s : Self) (i : ℕ) (w : T) →
+        elements (with_element s i w) ≡ slice_set (elements s) i w };
 }
 
-impl<'a, T> Elements<T> for &'a mut [T] {
+impl<'a, T> Storage<T> for &'a mut [T] {
     ghost use denote.Ref.{at_last};
     ghost use Rattle.std.specs.Prelude.{refl};
-    ghost use Rattle.net_ring.specs.ElementLaws.{item_written-list};
+    ghost use Rattle.net_ring.specs.StorageLaws.{element_written-list};
 
     ghost elements = { λ s. s.now };
 
     ghost with_part = { λ s i ws. at_last s (overwrite s.now i ws) };
 
-    ghost with_item = { λ s i w. at_last s (slice_set s.now i w) };
+    ghost with_element = { λ s i w. at_last s (slice_set s.now i w) };
 
     fn count(&self) -> usize {
         self.len()
@@ -98,32 +98,32 @@ impl<'a, T> Elements<T> for &'a mut [T] {
         &mut self[from..to]
     }
 
-    fn item_mut(&mut self, at: usize) -> &mut T {
+    fn element_mut(&mut self, at: usize) -> &mut T {
         &mut self[at]
     }
 
-    fn item(&self, at: usize) -> &T {
+    fn element(&self, at: usize) -> &T {
         let slice = &**self;
         &slice[at]
     }
 
     ghost part_written = { λ s i ws. refl };
 
-    ghost item_written = { λ s i w. item_written-list s.now i w };
+    ghost element_written = { λ s i w. element_written-list s.now i w };
 
-    ghost item_set = { λ s i w. refl };
+    ghost element_set = { λ s i w. refl };
 }
 
-impl<T> Elements<T> for Vec<T> {
+impl<T> Storage<T> for Vec<T> {
     ghost use Rattle.std.specs.Vec.{with_items_from, with_item};
     ghost use Rattle.std.specs.Prelude.{refl};
-    ghost use Rattle.net_ring.specs.ElementLaws.{vec-part_written, item_written-list};
+    ghost use Rattle.net_ring.specs.StorageLaws.{vec-part_written, element_written-list};
 
     ghost elements = { λ v. v.items };
 
     ghost with_part = { with_items_from };
 
-    ghost with_item = { with_item };
+    ghost with_element = { with_item };
 
     fn count(&self) -> usize {
         self.len()
@@ -137,19 +137,19 @@ impl<T> Elements<T> for Vec<T> {
         self.slice_mut(from..to)
     }
 
-    fn item_mut(&mut self, at: usize) -> &mut T {
+    fn element_mut(&mut self, at: usize) -> &mut T {
         self.index_mut(at)
     }
 
-    fn item(&self, at: usize) -> &T {
+    fn element(&self, at: usize) -> &T {
         &self.as_slice()[at]
     }
 
     ghost part_written = { vec-part_written };
 
-    ghost item_written = { λ s i w. item_written-list s.items i w };
+    ghost element_written = { λ s i w. element_written-list s.items i w };
 
-    ghost item_set = { λ s i w. refl };
+    ghost element_set = { λ s i w. refl };
 }
 
 /// Storage of a ring or of a packet queue: lent as a slice, or owned as a vector. So the same code
@@ -162,15 +162,15 @@ pub enum ManagedSlice<'a, T> {
     Owned(Vec<T>),
 }
 
-impl<'a, T> Elements<T> for ManagedSlice<'a, T> {
-    ghost use Rattle.net_ring.specs.Managed.{elements, with_part, with_item};
-    ghost use Rattle.net_ring.specs.ElementLaws.{part_written, item_written, item_set};
+impl<'a, T> Storage<T> for ManagedSlice<'a, T> {
+    ghost use Rattle.net_ring.specs.Managed.{elements, with_part, with_element};
+    ghost use Rattle.net_ring.specs.StorageLaws.{part_written, element_written, element_set};
 
     ghost elements = { elements };
 
     ghost with_part = { with_part };
 
-    ghost with_item = { with_item };
+    ghost with_element = { with_element };
 
     fn count(&self) -> usize {
         match self {
@@ -193,25 +193,25 @@ impl<'a, T> Elements<T> for ManagedSlice<'a, T> {
         }
     }
 
-    fn item_mut(&mut self, at: usize) -> &mut T {
+    fn element_mut(&mut self, at: usize) -> &mut T {
         match self {
-            ManagedSlice::Borrowed(slice) => slice.item_mut(at),
-            ManagedSlice::Owned(vec) => vec.item_mut(at),
+            ManagedSlice::Borrowed(slice) => slice.element_mut(at),
+            ManagedSlice::Owned(vec) => vec.element_mut(at),
         }
     }
 
-    fn item(&self, at: usize) -> &T {
+    fn element(&self, at: usize) -> &T {
         match self {
-            ManagedSlice::Borrowed(slice) => slice.item(at),
-            ManagedSlice::Owned(vec) => vec.item(at),
+            ManagedSlice::Borrowed(slice) => slice.element(at),
+            ManagedSlice::Owned(vec) => vec.element(at),
         }
     }
 
     ghost part_written = { part_written };
 
-    ghost item_written = { item_written };
+    ghost element_written = { element_written };
 
-    ghost item_set = { item_set };
+    ghost element_set = { element_set };
 }
 
 impl<'a, T> From<&'a mut [T]> for ManagedSlice<'a, T> {
@@ -268,8 +268,8 @@ impl<'a, T> ManagedSlice<'a, T> {
 
     /// Lends all elements.
     ///
-    /// A caller's proof does not learn what was written, here or by the calls of [`Elements`] on a
-    /// `ManagedSlice` itself. It learns it of a type parameter `S: Elements<T>`, also where `S` is
+    /// A caller's proof does not learn what was written, here or by the calls of [`Storage`] on a
+    /// `ManagedSlice` itself. It learns it of a type parameter `S: Storage<T>`, also where `S` is
     /// a `ManagedSlice`: a function that has to know what it wrote takes that.
     pub fn as_mut_slice(&mut self) -> &mut [T]
         ensures* writes_back { sem 𝓛 (lends_elements T.row self.entry result) }

@@ -6,7 +6,7 @@ ghost use Rattle.net_ring.specs.Ring.{ring, capacity, window, queue, spare, stor
 ghost use Rattle.net_ring.specs.Ring.{write_at, contiguous_window, from_start_if_empty};
 ghost use Rattle.net_ring.specs.Ring.{IsWellFormed};
 
-use crate::managed::{Elements, ManagedSlice};
+use crate::managed::{ManagedSlice, Storage};
 use crate::resettable::Resettable;
 use std::marker::{Model, PhantomData};
 
@@ -26,7 +26,7 @@ mod unallocated;
 /// `Copy`: the others lend parts of the storage, as `&mut` wherever they can, so that a packet can
 /// be filled in or changed where it stands.
 #[derive(Debug)]
-pub struct Ring<T, S: Elements<T>> {
+pub struct RingOver<T, S: Storage<T>> {
     storage: S,
     read_at: usize,
     length: usize,
@@ -50,25 +50,25 @@ struct Span {
 ///
 /// It serves as a queue, first in and first out, and as the buffer of a stream, which can be written
 /// ahead of what is queued.
-pub type RingBuffer<'a, T> = Ring<T, ManagedSlice<'a, T>>;
+pub type RingBuffer<'a, T> = RingOver<T, ManagedSlice<'a, T>>;
 
-impl<T, S: Elements<T>> Model for Ring<T, S> {
+impl<T, S: Storage<T>> Model for RingOver<T, S> {
     ghost use Rattle.net_ring.specs.Ring.{RingState};
 
     ghost Value = { RingState T };
 
-    ghost use Rattle.net_ring.specs.RingView.{ring_seen};
+    ghost use Rattle.net_ring.specs.RingView.{ring_state};
     ghost use Rattle.net_ring.specs.Ring.{IsWellFormed};
 
-    ghost view = { ring_seen S.elements };
+    ghost view = { ring_state S.elements };
 
-    ghost invariant = { λ a. IsWellFormed (ring_seen S.elements a) };
+    ghost invariant = { λ a. IsWellFormed (ring_state S.elements a) };
 }
 
 /// Written by hand: the storage alone has to be `Drop`, and nothing is asked of `T`.
-impl<T, S: Elements<T> + Drop> Drop for Ring<T, S> {
+impl<T, S: Storage<T> + Drop> Drop for RingOver<T, S> {
     fn drop(self) {
-        let Ring {
+        let RingOver {
             storage,
             read_at: _,
             length: _,
@@ -86,7 +86,7 @@ impl<'a, T> From<ManagedSlice<'a, T>> for RingBuffer<'a, T> {
 
     /// Returns an empty ring over the storage, whose elements stay as they are.
     fn from(storage: ManagedSlice<'a, T>) -> Self {
-        Ring::new(storage)
+        RingOver::new(storage)
     }
 }
 
@@ -95,7 +95,7 @@ impl<'a, T> From<&'a mut [T]> for RingBuffer<'a, T> {
 
     /// Returns an empty ring over elements that are lent, which stay as they are.
     fn from(elements: &'a mut [T]) -> Self {
-        Ring::new(ManagedSlice::Borrowed(elements))
+        RingOver::new(ManagedSlice::Borrowed(elements))
     }
 }
 
@@ -104,7 +104,7 @@ impl<'a, T, const N: usize> From<&'a mut [T; N]> for RingBuffer<'a, T> {
 
     /// Returns an empty ring over an array that is lent, whose elements stay as they are.
     fn from(elements: &'a mut [T; N]) -> Self {
-        Ring::new(ManagedSlice::Borrowed(elements))
+        RingOver::new(ManagedSlice::Borrowed(elements))
     }
 }
 
@@ -113,18 +113,18 @@ impl<'a, T> From<Vec<T>> for RingBuffer<'a, T> {
 
     /// Returns an empty ring over elements of its own, which stay as they are.
     fn from(elements: Vec<T>) -> Self {
-        Ring::new(ManagedSlice::Owned(elements))
+        RingOver::new(ManagedSlice::Owned(elements))
     }
 }
 
 /// Making, emptying and measuring a ring.
-impl<T, S: Elements<T>> Ring<T, S> {
+impl<T, S: Storage<T>> RingOver<T, S> {
     /// Returns an empty ring over the storage, whose elements stay as they are.
     pub fn new(storage: S) -> Self
         ensures ring { result ≡ ring (S.elements storage) 0 0 }
         ensures parts { (queue result ≡ []) × (spare result ≡ S.elements storage) }
     {
-        Ring {
+        RingOver {
             storage,
             read_at: 0,
             length: 0,
@@ -268,7 +268,7 @@ impl<T, S: Elements<T>> Ring<T, S> {
     ///
     /// An addition to smoltcp's calls, for whoever writes free elements before they are enqueued.
     #[inline]
-    pub fn restart(&mut self)
+    pub fn rewind_if_empty(&mut self)
         ensures ring { self.new ≡ from_start_if_empty self.old }
         ensures fits { capacity self.new < 2 ^ 64 }
     {
@@ -281,7 +281,7 @@ impl<T, S: Elements<T>> Ring<T, S> {
 }
 
 /// Emptying a ring and resetting its elements.
-impl<T: Resettable, S: Elements<T>> Ring<T, S> {
+impl<T: Resettable, S: Storage<T>> RingOver<T, S> {
     /// Empties the ring, and resets each element of the storage: it is left as its type states.
     pub fn reset(&mut self)
         ensures ring { self.new ≡ ring self.new.storage 0 0 }

@@ -1,5 +1,5 @@
 //! Single elements of a ring of three that wraps, and a ring that makes room for a newer element.
-use net_ring::{Elements, Full, RingBuffer};
+use net_ring::{Full, RingBuffer, Storage};
 
 /// Queues the elements 1, 2 and 3 so that the last two stand at the storage's beginning, and returns
 /// whether each was taken.
@@ -50,9 +50,9 @@ fn the_last_element_leaves(rt: HostRuntime) {
 }
 
 #[test]
-fn an_item_of_storage(rt: HostRuntime) {
+fn an_element_of_storage(rt: HostRuntime) {
     let mut elements = [1u8, 2];
     let mut slice = elements.as_mut_slice();
-    *slice.item_mut(1) = 3;
-    assert!(rt; slice.count() == 2 && *slice.item(0) == 1 && *slice.item(1) == 3);
+    *slice.element_mut(1) = 3;
+    assert!(rt; slice.count() == 2 && *slice.element(0) == 1 && *slice.element(1) == 3);
 }

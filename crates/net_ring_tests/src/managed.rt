@@ -1,5 +1,5 @@
 //! Storage that is lent, at a concrete type. Rows of `net_cases` show storage that is owned.
-use net_ring::{Elements, ManagedSlice};
+use net_ring::{ManagedSlice, Storage};
 
 /// Turns the elements of a storage round, and returns whether they are as many as these, and then
 /// these.
@@ -28,7 +28,7 @@ fn writes_last(storage: &mut ManagedSlice<'_, u8>, element: u8) -> bool {
     if storage.count() != 3 {
         return false;
     }
-    *storage.item_mut(2) = element;
+    *storage.element_mut(2) = element;
     true
 }
 

@@ -35,34 +35,35 @@ fn heads(ring: &RingBuffer<'_, u8>, shown: &[u8]) -> bool {
     *ring.head() == *shown
 }
 
-/// Enqueues the elements alone and dequeues them, and returns whether they are then lent by `get_freed`.
-fn frees(ring: &mut RingBuffer<'_, u8>, data: &[u8]) -> bool {
+/// Enqueues the elements alone and dequeues them, and returns whether they are then lent by
+/// `last_dequeued_mut`.
+fn lends_what_left(ring: &mut RingBuffer<'_, u8>, data: &[u8]) -> bool {
     ring.clear();
     let count = ring.enqueue_slice(data);
     ring.dequeue_allocated(count);
-    count == data.len() && *ring.get_freed(count) == *data
+    count == data.len() && *ring.last_dequeued_mut(count) == *data
 }
 
-/// Takes so many elements off, and returns whether there were as many in a row.
+/// Takes so many elements off, and returns whether as many were contiguous.
 fn takes_off(ring: &mut RingBuffer<'_, u8>, count: usize) -> bool {
     ring.dequeue_many(count).len() == count
 }
 
-/// Returns whether the head of a ring of four is its oldest element, whatever `restart` does. One element is
-/// left, at the storage's beginning.
+/// Returns whether the head of a ring of four is its oldest element, whatever `rewind_if_empty`
+/// does. One element is left, at the storage's beginning.
 fn keeps_its_head(ring: &mut RingBuffer<'_, u8>) -> bool {
     let none = heads(ring, b"") && ring.enqueue_slice(b"abcd") == 4;
     let third = takes_off(ring, 2) && heads(ring, b"c");
-    ring.restart();
+    ring.rewind_if_empty();
     let same = heads(ring, b"c") && ring.enqueue_slice(b"e") == 1;
     none && third && same && takes_off(ring, 2) && heads(ring, b"e")
 }
 
 /// Returns whether a ring of four, once that element is off, is read from the storage's beginning on behind
-/// `restart` alone.
-fn restarts(ring: &mut RingBuffer<'_, u8>) -> bool {
+/// `rewind_if_empty` alone.
+fn rewinds(ring: &mut RingBuffer<'_, u8>) -> bool {
     let apart = takes_off(ring, 1) && ring.contiguous_window() == 3;
-    ring.restart();
+    ring.rewind_if_empty();
     apart && ring.contiguous_window() == 4
 }
 
@@ -70,8 +71,12 @@ fn restarts(ring: &mut RingBuffer<'_, u8>) -> bool {
 fn the_head_is_shown_and_what_left_is_lent_again(rt: HostRuntime) {
     let mut buffer = [0u8; 4];
     let mut ring = RingBuffer::from(&mut buffer);
-    assert!(rt; keeps_its_head(&mut ring) && restarts(&mut ring));
-    assert!(rt; frees(&mut ring, b"xyz") && frees(&mut ring, b"vxyz") && frees(&mut ring, b""));
+    assert!(rt; keeps_its_head(&mut ring) && rewinds(&mut ring));
+    assert!(rt;
+        lends_what_left(&mut ring, b"xyz")
+            && lends_what_left(&mut ring, b"vxyz")
+            && lends_what_left(&mut ring, b"")
+    );
 }
 
 /// Returns whether `enqueue_many` of five elements that have no size enqueues so many.

@@ -8,7 +8,7 @@
 pub mod laws;
 
 pub use net_assembler::{Assembler, IterData, TooManyHolesError, Turns, assembler};
-pub use net_packets::{PacketBuffer, PacketMetadata, Packets, packet_buffer};
+pub use net_packets::{PacketBuffer, PacketMetadata, PacketsOver, packet_buffer};
 pub use net_ring::{
-    Elements, Empty, Full, ManagedSlice, Resettable, Ring, RingBuffer, ring_buffer,
+    Empty, Full, ManagedSlice, Resettable, RingBuffer, RingOver, Storage, ring_buffer,
 };

@@ -7,20 +7,20 @@ use Rattle.std.proofs.lemmas.Bool.{both_ways, cond-true, cond-false, and_parts, 
 use Rattle.std.proofs.lemmas.Bool.Decides.{nat_tests}
 use Rattle.std.proofs.lemmas.List.{append-nil, take_all}
 use Rattle.std.proofs.Math.Seq.{take-append_seam}
-use Rattle.net_program.proofs.KnownBytes.{Appends-none, Appends-two, Appends-kept, Consumes-none, Consumes-two, Keeps-same}
+use Rattle.net_io.proofs.KnownBytes.{Appends-none, Appends-two, Appends-kept, Consumes-none, Consumes-two, Keeps-same}
 use Rattle.net_receiver.specs.OneStream.{SegmentReadsNothing}
 use Rattle.net_stream.specs.declared.copier.Copier.{Copier}
 use Rattle.net_copies.specs.declared.counts.Counts.{Counts}
-use Rattle.net_program.specs.Writing.{FlushesAfter}
+use Rattle.net_io.specs.Writer.{FlushesAfter}
 use Rattle.net_copies.specs.declared.error.LinkError.{LinkError}
 use Rattle.net_copies.specs.declared.error.LinkError.TheVariants as errors
 use Rattle.net_copies.specs.LinkState.{LinkState, times, round}
 use Rattle.net_copies.specs.CopyState.{Setup, CopyState, Status, Running, Done, GaveUp, ReadFailed, after, final, outcome, concat}
 use Rattle.net_copies.specs.CopyState.{is_written, room_for, rest_of, read_of, with_read, feed, decide, waited, pass, while_running, turn}
-use Rattle.net_copies.specs.Counting.{more, no_counts}
+use Rattle.net_copies.specs.Counts.{more, no_counts}
 use Rattle.net_copies.specs.Promises.{FinalIs}
-use Rattle.net_copies.specs.Copying.{EndsRound, Copied, CopiedPart, HasCopied, HasNotBegun}
-use Rattle.net_stream.specs.Turns.{seen_copy, counts_of, Begins, Feeds, Passes, Breaks, CopiedSoFar}
+use Rattle.net_copies.specs.CopyResult.{EndsRound, Copied, CopiedPart, HasCopied, HasNotBegun}
+use Rattle.net_stream.specs.Turns.{copy_state_of, counts_of, Begins, Feeds, Passes, Breaks, CopiedSoFar}
 use Rattle.net_copies.proofs.Grown.{grown}
 use Rattle.net_copies.proofs.Turns.{feeds}
 
@@ -73,22 +73,22 @@ is_done false written e = refl
 
 -- ---- how far a copy is
 abbrev pub far : LinkState → ℕ
-far l = l.sender.base + l.receiver.read
+far l = l.sender.first_unacknowledged + l.receiver.read
 
--- a round brings it on, or is counted as one that doesn't
-pub brings_on : SegmentReadsNothing → (chunk : ℕ) (c : CopyState) →
+-- a round makes progress, or is counted as one that doesn't
+pub progresses : SegmentReadsNothing → (chunk : ℕ) (c : CopyState) →
     (far c.link < far (pass chunk c).link) ⊎ ((far c.link ≤ far (pass chunk c).link) × ((pass chunk c).stalled ≡ c.stalled + 1))
-brings_on reads_nothing chunk c =
+progresses reads_nothing chunk c =
     let s = round (waited c) in
-    let h = grown reads_nothing c.link.sender.base c.link.receiver.read (waited c) (record { base = omega arith; read = refl }) in
-    by s.sender.base (min chunk (length s.receiver.queue)) (not (nat_eq s.sender.base c.link.sender.base)) (nat_lt 0 (min chunk (length s.receiver.queue)))
-    refl refl h.base h.read
+    let h = grown reads_nothing c.link.sender.first_unacknowledged c.link.receiver.read (waited c) (record { first_unacknowledged = omega arith; read = refl }) in
+    by s.sender.first_unacknowledged (min chunk (length s.receiver.queue)) (not (nat_eq s.sender.first_unacknowledged c.link.sender.first_unacknowledged)) (nat_lt 0 (min chunk (length s.receiver.queue)))
+    refl refl h.first_unacknowledged h.read
   where
-    by : (base n : ℕ) (moved some : Bool) → not (nat_eq base c.link.sender.base) ≡ moved → nat_lt 0 n ≡ some → c.link.sender.base ≤ base → (round (waited c)).receiver.read ≡ c.link.receiver.read →
-        (far c.link < base + ((round (waited c)).receiver.read + n)) ⊎ ((far c.link ≤ base + ((round (waited c)).receiver.read + n)) × (cond (moved || some) 0 (c.stalled + 1) ≡ c.stalled + 1))
-    by base n true some m k b r = inl (grind (arith, nat_tests))
-    by base n false true m k b r = inl (let l = ltb-true 0 n k in omega arith)
-    by base n false false m k b r = inr (omega arith, refl)
+    by : (head n : ℕ) (moved some : Bool) → not (nat_eq head c.link.sender.first_unacknowledged) ≡ moved → nat_lt 0 n ≡ some → c.link.sender.first_unacknowledged ≤ head → (round (waited c)).receiver.read ≡ c.link.receiver.read →
+        (far c.link < head + ((round (waited c)).receiver.read + n)) ⊎ ((far c.link ≤ head + ((round (waited c)).receiver.read + n)) × (cond (moved || some) 0 (c.stalled + 1) ≡ c.stalled + 1))
+    by head n true some m k b r = inl (grind (arith, nat_tests))
+    by head n false true m k b r = inl (let l = ltb-true 0 n k in omega arith)
+    by head n false false m k b r = inr (omega arith, refl)
 
 -- a read leaves it where it is
 pub fed_leaves : (chunk : ℕ) (c : CopyState) → (far (feed chunk c).link ≡ far c.link) × ((feed chunk c).stalled ≡ c.stalled)
@@ -133,15 +133,15 @@ both_counted : (n : ℕ) (xs ys : List ℕ) → n ≡ min (length xs + length ys
 both_counted n xs ys is = omega (arith, is, length-append xs ys)
 
 module _ {A : Type 0} (rounds chunk : ℕ) (old : Copier A) (had held : Option (List ℕ)) where
-  pub none_yet : old.taken ≡ 0 → old.bytes ≡ 0 → old.more ≡ true → CopiedSoFar rounds chunk old old had had held held
-  none_yet taken bytes more = record {
+  pub none_yet : old.bytes_read ≡ 0 → old.bytes_written ≡ 0 → old.more ≡ true → CopiedSoFar rounds chunk old old had had held held
+  none_yet bytes_read bytes_written more = record {
     turns = 0;
     reads = [];
     written = [];
     consumed = Consumes-none had had (Keeps-same had);
     appended = Appends-none held held (Keeps-same held);
-    taken = taken;
-    bytes = bytes;
+    bytes_read = bytes_read;
+    bytes_written = bytes_written;
     state = λ later. refl;
     end = λ e. absurd (both_ways old.more e more);
   }
@@ -149,23 +149,23 @@ module _ {A : Type 0} (rounds chunk : ℕ) (old : Copier A) (had held : Option (
   -- the turns so far, and one read more
   fed_more : (a b : Copier A) (has next holds : Option (List ℕ)) (ended : Status) (so_far : CopiedSoFar rounds chunk old a had has held holds)
       (f : Feeds chunk a b has next ended) (later : List (List ℕ)) → (ended ≡ ReadFailed → later ≡ []) →
-      while_running (feed chunk) (times so_far.turns (turn rounds chunk) (seen_copy old ((so_far.reads ++ f.reads) ++ later) [] [] Running))
-      ≡ seen_copy b later (concat (so_far.reads ++ f.reads)) so_far.written ended
+      while_running (feed chunk) (times so_far.turns (turn rounds chunk) (copy_state_of old ((so_far.reads ++ f.reads) ++ later) [] [] Running))
+      ≡ copy_state_of b later (concat (so_far.reads ++ f.reads)) so_far.written ended
   fed_more a b has next holds ended so_far f later none =
-      ap (λ rs. while_running (feed chunk) (times so_far.turns (turn rounds chunk) (seen_copy old rs [] [] Running))) (append_assoc so_far.reads f.reads later)
+      ap (λ rs. while_running (feed chunk) (times so_far.turns (turn rounds chunk) (copy_state_of old rs [] [] Running))) (append_assoc so_far.reads f.reads later)
       ∙ ap (while_running (feed chunk)) (so_far.state (f.reads ++ later))
       ∙ f.step later (concat so_far.reads) so_far.written none
-      ∙ ap (λ g. seen_copy b later g so_far.written ended) (sym (concat_both so_far.reads f.reads))
+      ∙ ap (λ g. copy_state_of b later g so_far.written ended) (sym (concat_both so_far.reads f.reads))
 
   consumed_more : (a b : Copier A) (has next holds : Option (List ℕ)) (ended : Status) (so_far : CopiedSoFar rounds chunk old a had has held holds)
       (f : Feeds chunk a b has next ended) → Consumes had next (concat (so_far.reads ++ f.reads))
   consumed_more a b has next holds ended so_far f =
       subst (Consumes had next) (sym (concat_both so_far.reads f.reads)) (Consumes-two had has next (concat so_far.reads) (concat f.reads) so_far.consumed f.consumed)
 
-  taken_more : (a b : Copier A) (has next holds : Option (List ℕ)) (ended : Status) (so_far : CopiedSoFar rounds chunk old a had has held holds)
-      (f : Feeds chunk a b has next ended) → b.taken ≡ min (length (concat (so_far.reads ++ f.reads))) (2 ^ 64 - 1)
-  taken_more a b has next holds ended so_far f =
-      both_counted b.taken (concat so_far.reads) (concat f.reads) (f.taken (length (concat so_far.reads)) so_far.taken)
+  read_more : (a b : Copier A) (has next holds : Option (List ℕ)) (ended : Status) (so_far : CopiedSoFar rounds chunk old a had has held holds)
+      (f : Feeds chunk a b has next ended) → b.bytes_read ≡ min (length (concat (so_far.reads ++ f.reads))) (2 ^ 64 - 1)
+  read_more a b has next holds ended so_far f =
+      both_counted b.bytes_read (concat so_far.reads) (concat f.reads) (f.bytes_read (length (concat so_far.reads)) so_far.bytes_read)
       ∙ ap (λ xs. min (length xs) (2 ^ 64 - 1)) (sym (concat_both so_far.reads f.reads))
 
   -- one turn more
@@ -178,13 +178,13 @@ module _ {A : Type 0} (rounds chunk : ℕ) (old : Copier A) (had held : Option (
     written = so_far.written ++ p.written;
     consumed = consumed_more a b has next holds Running so_far f;
     appended = Appends-two held holds keeps so_far.written p.written (so_far.written ++ p.written) so_far.appended p.appended refl;
-    taken = p.taken ∙ taken_more a b has next holds Running so_far f;
-    bytes = both_counted d.bytes so_far.written p.written (p.bytes (length so_far.written) (f.bytes ∙ so_far.bytes));
+    bytes_read = p.bytes_read ∙ read_more a b has next holds Running so_far f;
+    bytes_written = both_counted d.bytes_written so_far.written p.written (p.bytes_written (length so_far.written) (f.bytes_written ∙ so_far.bytes_written));
     state = λ later.
         let g = concat (so_far.reads ++ f.reads) in
-        turn_by rounds chunk (times so_far.turns (turn rounds chunk) (seen_copy old ((so_far.reads ++ f.reads) ++ later) [] [] Running))
-        (seen_copy b later g so_far.written Running) (seen_copy b later g so_far.written Running) (seen_copy d later g (so_far.written ++ p.written) Running)
-        (fed_more a b has next holds Running so_far f later (λ e. cc)) (goes_on rounds (seen_copy b later g so_far.written Running) on few)
+        turn_by rounds chunk (times so_far.turns (turn rounds chunk) (copy_state_of old ((so_far.reads ++ f.reads) ++ later) [] [] Running))
+        (copy_state_of b later g so_far.written Running) (copy_state_of b later g so_far.written Running) (copy_state_of d later g (so_far.written ++ p.written) Running)
+        (fed_more a b has next holds Running so_far f later (λ e. cc)) (goes_on rounds (copy_state_of b later g so_far.written Running) on few)
         (p.step later g so_far.written);
     end = λ e. f.end so_far.end (sym p.more ∙ e);
   }
@@ -192,28 +192,28 @@ module _ {A : Type 0} (rounds chunk : ℕ) (old : Copier A) (had held : Option (
   -- the last one, which ends so
   pub last : FinalIs → (s : Setup) → Begins s rounds chunk old → (a b : Copier A) (has next holds : Option (List ℕ)) (fed status : Status) →
       CopiedSoFar rounds chunk old a had has held holds → Feeds chunk a b has next fed →
-      ((given written : List ℕ) → while_running (decide rounds) (seen_copy b [] given written fed) ≡ seen_copy b [] given written status) →
-      ((given written : List ℕ) → while_running (pass chunk) (seen_copy b [] given written status) ≡ seen_copy b [] given written status) →
+      ((given written : List ℕ) → while_running (decide rounds) (copy_state_of b [] given written fed) ≡ copy_state_of b [] given written status) →
+      ((given written : List ℕ) → while_running (pass chunk) (copy_state_of b [] given written status) ≡ copy_state_of b [] given written status) →
       (status ≡ Running → ⊥) → (status ≡ Done → b.more ≡ false) → Copied s status had next held holds (counts_of b)
   last law s begins a b has next holds fed status so_far f decided ended over none =
       let reads = so_far.reads ++ f.reads in
       let g = concat reads in
-      let state : after s reads (suc so_far.turns) ≡ seen_copy b [] g so_far.written status =
+      let state : after s reads (suc so_far.turns) ≡ copy_state_of b [] g so_far.written status =
       (λ i. times (suc so_far.turns) (turn (begins.rounds_are i) (begins.chunk_is i)) (begins.state reads i))
-      ∙ turn_by rounds chunk (times so_far.turns (turn rounds chunk) (seen_copy old reads [] [] Running))
-      (seen_copy b [] g so_far.written fed) (seen_copy b [] g so_far.written status) (seen_copy b [] g so_far.written status)
-      (ap (λ rs. while_running (feed chunk) (times so_far.turns (turn rounds chunk) (seen_copy old rs [] [] Running))) (sym (append-nil reads))
+      ∙ turn_by rounds chunk (times so_far.turns (turn rounds chunk) (copy_state_of old reads [] [] Running))
+      (copy_state_of b [] g so_far.written fed) (copy_state_of b [] g so_far.written status) (copy_state_of b [] g so_far.written status)
+      (ap (λ rs. while_running (feed chunk) (times so_far.turns (turn rounds chunk) (copy_state_of old rs [] [] Running))) (sym (append-nil reads))
       ∙ fed_more a b has next holds fed so_far f [] (λ _. refl)) (decided g so_far.written) (ended g so_far.written) in
-      let is : final s reads ≡ seen_copy b [] g so_far.written status =
+      let is : final s reads ≡ copy_state_of b [] g so_far.written status =
       law s reads (suc so_far.turns) begins.first_fits (λ r. over (sym (ap (λ (c : CopyState). c.status) state) ∙ r)) ∙ state in
-      let bytes = f.bytes ∙ so_far.bytes in
+      let bytes_written = f.bytes_written ∙ so_far.bytes_written in
       record {
         reads = reads;
         written = so_far.written;
         ends = ap outcome is ∙ (λ i. record {
           status = status;
           written = so_far.written;
-          counts = record (counts_of b) { taken = sym (taken_more a b has next holds fed so_far f) i; bytes = sym bytes i };
+          counts = record (counts_of b) { bytes_read = sym (read_more a b has next holds fed so_far f) i; bytes_written = sym bytes_written i };
         });
         made = ap (λ (c : CopyState). c.reads) is;
         consumed = consumed_more a b has next holds fed so_far f;
@@ -228,14 +228,14 @@ module _ {A : Type 0} (rounds chunk : ℕ) (old : Copier A) (had held : Option (
   part_of s begins error a b d has next holds keeps so_far f on few p =
       let reads = so_far.reads ++ f.reads in
       let g = concat reads in
-      let here = seen_copy b [] g so_far.written Running in
+      let here = copy_state_of b [] g so_far.written Running in
       let state : while_running (decide s.rounds) (while_running (feed s.chunk) (after s reads so_far.turns)) ≡ here =
       (λ i. while_running (decide (begins.rounds_are i)) (while_running (feed (begins.chunk_is i)) (times so_far.turns (turn (begins.rounds_are i) (begins.chunk_is i)) (begins.state reads i))))
-      ∙ ap (while_running (decide rounds)) (ap (λ rs. while_running (feed chunk) (times so_far.turns (turn rounds chunk) (seen_copy old rs [] [] Running))) (sym (append-nil reads))
+      ∙ ap (while_running (decide rounds)) (ap (λ rs. while_running (feed chunk) (times so_far.turns (turn rounds chunk) (copy_state_of old rs [] [] Running))) (sym (append-nil reads))
       ∙ fed_more a b has next holds Running so_far f [] (λ _. refl))
       ∙ goes_on rounds here on few in
-      let taken = p.taken ∙ taken_more a b has next holds Running so_far f in
-      let bytes = both_counted d.bytes so_far.written p.written (p.bytes (length so_far.written) (f.bytes ∙ so_far.bytes)) in
+      let bytes_read = p.bytes_read ∙ read_more a b has next holds Running so_far f in
+      let bytes_written = both_counted d.bytes_written so_far.written p.written (p.bytes_written (length so_far.written) (f.bytes_written ∙ so_far.bytes_written)) in
       record {
         reads = reads;
         turns = so_far.turns;
@@ -245,7 +245,7 @@ module _ {A : Type 0} (rounds chunk : ℕ) (old : Copier A) (had held : Option (
         made = ap (λ (c : CopyState). c.reads) state;
         part = subst (λ (c : CopyState). EndsRound error s.chunk c p.link p.written) (sym state)
             (subst (λ k. EndsRound error k here p.link p.written) (sym begins.chunk_is) (p.part g so_far.written));
-        counted = (λ i. record { taken = taken i; bytes = bytes i; rounds = p.rounds i; micros = p.micros i; frames = p.frames i })
+        counted = (λ i. record { bytes_read = bytes_read i; bytes_written = bytes_written i; rounds = p.rounds i; micros = p.micros i; frames = p.frames i })
             ∙ ap (λ (c : CopyState). (outcome (record c { link = p.link; written = c.written ++ p.written; rounds = more c.rounds })).counts) (sym state);
         consumed = consumed_more a b has next holds Running so_far f;
         appended = subst (λ (c : CopyState). Appends held keeps (c.written ++ p.written)) (sym state)

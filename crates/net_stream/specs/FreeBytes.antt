@@ -4,7 +4,7 @@
 use Rattle.std.specs.Prelude.{◌≡◌, ℕ, ◌≤◌, List, length, take}
 use Rattle.std.specs.Borrow.{MutBor}
 use Rattle.std.specs.Fn.{Once, FnOnceTakesAtMut, FnOnceReturnsAtMut}
-use Rattle.net_copies.specs.Outgoing.{Outgoing, room_in_row, with_written}
+use Rattle.net_copies.specs.SenderState.{SenderState, room_in_row, with_written}
 
 module _ {F R : Type 0}
     (g : Once F (MutBor (List ℕ) × Unit {0}) ((ℕ × R) × (MutBor (List ℕ) × Unit {0}))) where
@@ -17,9 +17,9 @@ module _ {F R : Type 0}
   CountsFreeBytes f n = (xs ws : List ℕ) (r : ℕ × R) → length xs ≡ n →
       FnOnceReturnsAtMut g f xs r ws → r.0 ≤ n
 
-  -- f was called on all the room that stands in a row, left ws there and returned `answer`: the first
+  -- f was called on all the room that is contiguous, left ws there and returned `answer`: the first
   -- ones of ws, as many as it counts, were written
-  abbrev pub CalledOnRoom : F → Outgoing → ℕ × R → Outgoing → Type 0
+  abbrev pub CalledOnRoom : F → SenderState → ℕ × R → SenderState → Type 0
   CalledOnRoom f old answer new = (xs : List ℕ) × (ws : List ℕ)
       × (length xs ≡ room_in_row old)
       × (length ws ≡ room_in_row old)

@@ -1,5 +1,5 @@
 -- A copier as the state of a copy, and what its steps do to a reader and a writer.
---     seen_copy c reads given written status      a copier, what its reads to come give, what they gave
+--     copy_state_of c reads given written status      a copier, what its reads to come give, what they gave
 --         so far, and what was written
 --     counts_of c      its counts
 --     Begins s rounds chunk c, IsFresh c      nothing was done
@@ -9,18 +9,18 @@
 --     CopiedSoFar rounds chunk old new had has held holds      turns of a copy that goes on
 use Rattle.std.specs.Prelude.{◌≡◌, ℕ, ◌+◌, ◌-◌, ◌^◌, min, true, false, List, [], ◌++◌, length, Option}
 use Rattle.std.specs.Io.KnownBytes.{Appends, Consumes, IsAtEnd}
-use Rattle.net_copies.specs.Counting.{more}
+use Rattle.net_copies.specs.Counts.{more}
 use Rattle.net_copies.specs.declared.counts.Counts.{Counts}
 use Rattle.net_copies.specs.declared.error.LinkError.{LinkError}
 use Rattle.net_stream.specs.declared.copier.Copier.{Copier}
 use Rattle.net_copies.specs.LinkState.{LinkState, times}
 use Rattle.net_copies.specs.CopyState.{Setup, CopyState, Status, Running, ReadFailed, begin, concat}
 use Rattle.net_copies.specs.CopyState.{feed, pass, turn}
-use Rattle.net_copies.specs.Copying.{EndsRound}
+use Rattle.net_copies.specs.CopyResult.{EndsRound}
 use Rattle.net_copies.specs.Promises.{StartsFits}
 
-abbrev pub seen_copy : {A : Type 0} → Copier A → List (List ℕ) → List ℕ → List ℕ → Status → CopyState
-seen_copy c reads given written status = record {
+abbrev pub copy_state_of : {A : Type 0} → Copier A → List (List ℕ) → List ℕ → List ℕ → Status → CopyState
+copy_state_of c reads given written status = record {
   link = c.link;
   reads = reads;
   given = given;
@@ -34,8 +34,8 @@ seen_copy c reads given written status = record {
 
 abbrev pub counts_of : {A : Type 0} → Copier A → Counts
 counts_of c = record {
-  taken = c.taken;
-  bytes = c.bytes;
+  bytes_read = c.bytes_read;
+  bytes_written = c.bytes_written;
   rounds = c.rounds;
   micros = c.link.elapsed;
   frames = c.link.counts;
@@ -46,12 +46,12 @@ pub record Begins {A : Type 0} (s : Setup) (rounds chunk : ℕ) (c : Copier A) :
   pub first_fits : StartsFits s
   pub rounds_are : s.rounds ≡ rounds
   pub chunk_is : s.chunk ≡ chunk
-  pub state : (reads : List (List ℕ)) → begin s reads ≡ seen_copy c reads [] [] Running
+  pub state : (reads : List (List ℕ)) → begin s reads ≡ copy_state_of c reads [] [] Running
 
 -- nothing was read or written, and the reader may have more
 pub record IsFresh {A : Type 0} (c : Copier A) : Type 0 where
-  pub taken : c.taken ≡ 0
-  pub bytes : c.bytes ≡ 0
+  pub bytes_read : c.bytes_read ≡ 0
+  pub bytes_written : c.bytes_written ≡ 0
   pub more : c.more ≡ true
 
 -- a read, or none: whatever the later reads give, this is what `feed` says
@@ -59,25 +59,25 @@ pub record Feeds {A : Type 0} (chunk : ℕ) (old new : Copier A) (had has : Opti
     : Type 0 where
   pub reads : List (List ℕ)
   pub consumed : Consumes had has (concat reads)
-  pub taken : (n : ℕ) → old.taken ≡ min n (2 ^ 64 - 1)
-      → new.taken ≡ min (n + length (concat reads)) (2 ^ 64 - 1)
-  pub bytes : new.bytes ≡ old.bytes
+  pub bytes_read : (n : ℕ) → old.bytes_read ≡ min n (2 ^ 64 - 1)
+      → new.bytes_read ≡ min (n + length (concat reads)) (2 ^ 64 - 1)
+  pub bytes_written : new.bytes_written ≡ old.bytes_written
   pub step : (later : List (List ℕ)) (given written : List ℕ) → (ended ≡ ReadFailed → later ≡ [])
-      → feed chunk (seen_copy old (reads ++ later) given written Running)
-      ≡ seen_copy new later (given ++ concat reads) written ended
+      → feed chunk (copy_state_of old (reads ++ later) given written Running)
+      ≡ copy_state_of new later (given ++ concat reads) written ended
   pub end : (old.more ≡ false → IsAtEnd had) → new.more ≡ false → IsAtEnd has
 
 -- a round, and what was written
 pub record Passes {A : Type 0} (chunk : ℕ) (old new : Copier A) (had has : Option (List ℕ)) : Type 0 where
   pub written : List ℕ
   pub appended : Appends had has written
-  pub bytes : (n : ℕ) → old.bytes ≡ min n (2 ^ 64 - 1)
-      → new.bytes ≡ min (n + length written) (2 ^ 64 - 1)
-  pub taken : new.taken ≡ old.taken
+  pub bytes_written : (n : ℕ) → old.bytes_written ≡ min n (2 ^ 64 - 1)
+      → new.bytes_written ≡ min (n + length written) (2 ^ 64 - 1)
+  pub bytes_read : new.bytes_read ≡ old.bytes_read
   pub more : new.more ≡ old.more
   pub step : (later : List (List ℕ)) (given before : List ℕ)
-      → pass chunk (seen_copy old later given before Running)
-      ≡ seen_copy new later given (before ++ written) Running
+      → pass chunk (copy_state_of old later given before Running)
+      ≡ copy_state_of new later given (before ++ written) Running
 
 -- a round that the error ended, and what of it was written
 pub record Breaks {A : Type 0} (chunk : ℕ) (error : LinkError) (old new : Copier A) (had has : Option (List ℕ))
@@ -85,11 +85,11 @@ pub record Breaks {A : Type 0} (chunk : ℕ) (error : LinkError) (old new : Copi
   pub link : LinkState
   pub written : List ℕ
   pub part : (given before : List ℕ)
-      → EndsRound error chunk (seen_copy old [] given before Running) link written
+      → EndsRound error chunk (copy_state_of old [] given before Running) link written
   pub appended : Appends had has written
-  pub bytes : (n : ℕ) → old.bytes ≡ min n (2 ^ 64 - 1)
-      → new.bytes ≡ min (n + length written) (2 ^ 64 - 1)
-  pub taken : new.taken ≡ old.taken
+  pub bytes_written : (n : ℕ) → old.bytes_written ≡ min n (2 ^ 64 - 1)
+      → new.bytes_written ≡ min (n + length written) (2 ^ 64 - 1)
+  pub bytes_read : new.bytes_read ≡ old.bytes_read
   pub rounds : new.rounds ≡ more old.rounds
   pub frames : new.link.counts ≡ link.counts
   pub micros : new.link.elapsed ≡ link.elapsed
@@ -102,9 +102,9 @@ pub record CopiedSoFar {A : Type 0} (rounds chunk : ℕ) (old new : Copier A) (h
   pub written : List ℕ
   pub consumed : Consumes had has (concat reads)
   pub appended : Appends held holds written
-  pub taken : new.taken ≡ min (length (concat reads)) (2 ^ 64 - 1)
-  pub bytes : new.bytes ≡ min (length written) (2 ^ 64 - 1)
+  pub bytes_read : new.bytes_read ≡ min (length (concat reads)) (2 ^ 64 - 1)
+  pub bytes_written : new.bytes_written ≡ min (length written) (2 ^ 64 - 1)
   pub state : (later : List (List ℕ))
-      → times turns (turn rounds chunk) (seen_copy old (reads ++ later) [] [] Running)
-      ≡ seen_copy new later (concat reads) written Running
+      → times turns (turn rounds chunk) (copy_state_of old (reads ++ later) [] [] Running)
+      ≡ copy_state_of new later (concat reads) written Running
   pub end : new.more ≡ false → IsAtEnd has

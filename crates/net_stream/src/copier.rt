@@ -1,12 +1,12 @@
-//! The turns of a copy: reading, passing a round, and writing.
+//! The copier, which makes the turns of a copy: a read, a round and a write.
 ghost use Rattle.std.specs.Prelude.{◌≡◌, ℕ, ◌+◌, ◌&&◌, ◌||◌, ◌⊎◌, ◌*◌, ◌^◌, ◌-◌, ◌<◌, min, not, nat_lt, nat_eq};
 ghost use Rattle.std.specs.Prelude.{length, OnOk, OnErr, IfErr, if◌then◌else◌};
 ghost use Rattle.net_ring.specs.Managed.{elements};
-ghost use Rattle.net_receiver.specs.Stored.{stored_next};
-ghost use Rattle.net_copies.specs.Outgoing.{end_of};
+ghost use Rattle.net_receiver.specs.ReceiverState.{next_position};
+ghost use Rattle.net_copies.specs.SenderState.{end_of};
 ghost use Rattle.net_copies.specs.declared.error.LinkError.TheVariants as errors;
 ghost use Rattle.net_copies.specs.CopyState.{Setup, setup_over, Running, ReadFailed, is_written};
-ghost use Rattle.net_copies.specs.Copying.{HasCopied};
+ghost use Rattle.net_copies.specs.CopyResult.{HasCopied};
 ghost use Rattle.net_stream.specs.Turns.{Feeds, Passes, Breaks, Begins, IsFresh, counts_of};
 
 use crate::fates::LinkFates;
@@ -15,7 +15,7 @@ use crate::timer::{first_wait, next_wait};
 use crate::watch::Watch;
 use net_base::time::Duration;
 use net_copies::{Config, Counts, LinkError, laws};
-use net_program::write_text;
+use net_io::write_text;
 use net_ring::ManagedSlice;
 use std::alloc::Allocator;
 use std::io::{Read, Write};
@@ -28,30 +28,30 @@ pub(crate) struct Copier<'a, 'f, A: Allocator + Copy> {
     /// Whether the reader may have more.
     pub more: bool,
     /// How many bytes were read.
-    pub taken: u64,
+    pub bytes_read: u64,
     /// How many bytes were written.
-    pub bytes: u64,
+    pub bytes_written: u64,
     /// How many rounds were begun.
     pub rounds: u64,
-    /// How many rounds in a row brought nothing on.
+    /// How many rounds in a row made no progress.
     pub stalled: u64,
     /// How long the next round waits.
     pub wait: Duration,
 }
 
-/// How many rounds in a row brought nothing on, after one more.
-fn stalled_after(stalled: u64, brought: bool) -> u64
+/// Returns how many rounds in a row made no progress, after one more.
+fn stalled_after(stalled: u64, progress: bool) -> u64
     requires { stalled < 2 ^ 64 - 1 }
-    ensures { result ≡ (if brought then 0 else stalled + 1) }
+    ensures { result ≡ (if progress then 0 else stalled + 1) }
 {
-    if brought {
+    if progress {
         return 0;
     }
     stalled + 1
 }
 
 impl<'a, 'f, A: Allocator + Copy> Copier<'a, 'f, A> {
-    /// A copy of which nothing was done.
+    /// Returns a copy of which nothing was done.
     pub(crate) fn new(
         alloc: A,
         config: Config,
@@ -69,14 +69,14 @@ impl<'a, 'f, A: Allocator + Copy> Copier<'a, 'f, A> {
                 alloc,
                 config.first,
                 config.payload,
-                config.flight,
+                config.max_burst,
                 to_send,
                 to_receive,
                 fates,
             ),
             more: true,
-            taken: 0,
-            bytes: 0,
+            bytes_read: 0,
+            bytes_written: 0,
             rounds: 0,
             stalled: 0,
             wait: first_wait(),
@@ -88,22 +88,22 @@ impl<'a, 'f, A: Allocator + Copy> Copier<'a, 'f, A> {
         ensures { result ≡ counts_of self.now }
     {
         Counts {
-            taken: self.taken,
-            bytes: self.bytes,
+            bytes_read: self.bytes_read,
+            bytes_written: self.bytes_written,
             rounds: self.rounds,
             micros: self.link.elapsed.total_micros(),
             frames: self.link.counts,
         }
     }
 
-    /// Whether a round let bytes go, or wrote some.
-    fn has_brought_on(&self, base: u64, count: usize) -> bool
-        ensures { result ≡ (not (nat_eq self.now.link.sender.base base) || nat_lt 0 count) }
+    /// Returns whether in a round bytes were acknowledged, or are to be written.
+    fn has_made_progress(&self, before: u64, count: usize) -> bool
+        ensures { result ≡ (not (nat_eq self.now.link.sender.first_unacknowledged before) || nat_lt 0 count) }
     {
-        self.link.sender.base() != base || count > 0
+        self.link.sender.first_unacknowledged() != before || count > 0
     }
 
-    /// Whether it is time for a read into so much room: once all that was read is written.
+    /// Returns whether it is time for a read into so much room: once all that was read is written.
     fn may_read(&self, room: usize) -> bool
         ensures { result ≡ (self.now.more && nat_lt 0 room && is_written self.now.link) }
     {
@@ -131,14 +131,14 @@ impl<'a, 'f, A: Allocator + Copy> Copier<'a, 'f, A> {
             }
             Ok(count) => {
                 self.link.write(&part[..count]);
-                self.taken = self.taken.saturating_add(count as u64);
+                self.bytes_read = self.bytes_read.saturating_add(count as u64);
                 Ok(())
             }
             Err(_) => Err(LinkError::ReadFailed),
         }
     }
 
-    /// Passes a round, and writes what it brought.
+    /// Passes a round, and writes what came.
     fn pass<W: Write>(&mut self, chunk: &mut [u8], writer: &mut W) -> Result<(), LinkError>
         requires { self.old.stalled < 2 ^ 64 - 1 }
         ensures ok { OnOk result (Passes (length chunk.old) self.old self.new
@@ -147,7 +147,7 @@ impl<'a, 'f, A: Allocator + Copy> Copier<'a, 'f, A> {
             (W.contents writer.old) (W.contents writer.new)) }
         ensures chunk { length chunk.new ≡ length chunk.old }
     {
-        let base = self.link.sender.base();
+        let before = self.link.sender.first_unacknowledged();
         self.rounds = self.rounds.saturating_add(1);
         self.link.wait(self.wait);
         if self.link.pass_round().is_err() {
@@ -155,29 +155,29 @@ impl<'a, 'f, A: Allocator + Copy> Copier<'a, 'f, A> {
         }
         let count = self.link.read(chunk);
         match write_text(writer, &chunk[..count]) {
-            Ok(()) => self.bytes = self.bytes.saturating_add(count as u64),
+            Ok(()) => self.bytes_written = self.bytes_written.saturating_add(count as u64),
             Err(written) => {
-                self.bytes = self.bytes.saturating_add(written as u64);
+                self.bytes_written = self.bytes_written.saturating_add(written as u64);
                 return Err(LinkError::WriteFailed);
             }
         }
-        let brought = self.has_brought_on(base, count);
-        self.stalled = stalled_after(self.stalled, brought);
-        self.wait = next_wait(self.wait, brought);
+        let progress = self.has_made_progress(before, count);
+        self.stalled = stalled_after(self.stalled, progress);
+        self.wait = next_wait(self.wait, progress);
         Ok(())
     }
 
-    /// Whether the reader has no more and all that it gave is written.
+    /// Returns whether the reader has no more and all that it gave is written.
     fn is_done(&self) -> bool
         ensures value { result ≡ (not self.now.more && is_written self.now.link) }
         ensures fits { (end_of self.now.link.sender < 2 ^ 64)
-            × (stored_next self.now.link.receiver < 2 ^ 64) }
+            × (next_position self.now.link.receiver < 2 ^ 64) }
     {
         let written = self.link.is_written();
         !self.more && written
     }
 
-    /// Makes turns until all is written, nothing comes on any more, or an error ends it.
+    /// Makes turns until all is written, there is no progress any more, or an error ends it.
     pub(crate) fn run<T: Watch, R: Read, W: Write>(
         &mut self,
         rounds: u64,

@@ -6,7 +6,7 @@ use net_base::rand::Rand;
 use net_copies::{Fate, Rates};
 use std::marker::Model;
 
-/// The fates of the frames to come: those of a list first, and behind it those that a generator
+/// The fates of the frames to come: those of a list first, and after it those that a generator
 /// draws. A list serves for a test of one case, a generator for many.
 ///
 /// Contracts see the rest of the list, the generator's state, and the rates.
@@ -18,15 +18,15 @@ pub struct Fates<'f> {
 }
 
 impl<'f> Model for Fates<'f> {
-    ghost use Rattle.net_copies.specs.Fates.{FatesSeen};
+    ghost use Rattle.net_copies.specs.Fates.{FatesState};
 
-    ghost Value = { FatesSeen };
+    ghost Value = { FatesState };
 
     ghost view = { λ f. record { listed = f.listed.now; state = f.rand; rates = f.rates } };
 }
 
 impl<'f> Fates<'f> {
-    /// The fates of this list, and behind it those that a generator of this seed draws.
+    /// Returns the fates of this list, and after it those that a generator of this seed draws.
     pub fn new(listed: &'f [Fate], seed: u64, rates: Rates) -> Fates<'f>
         ensures { result ≡ record { listed = listed.now; state = seed; rates = rates } }
     {
@@ -37,8 +37,8 @@ impl<'f> Fates<'f> {
         }
     }
 
-    /// The next fate: the first of the list, or if it has none that of the generator's next random
-    /// word.
+    /// Draws the next fate: the first of the list, or if it has none that of the generator's next
+    /// random word.
     pub fn draw(&mut self) -> Fate
         ensures fate { result ≡ next_fate self.old }
         ensures state { self.new ≡ after_fate self.old }

@@ -1,27 +1,27 @@
-//! A stream of bytes over a link that loses, repeats and reorders frames.
+//! A stream of bytes over a link that loses, duplicates and delays frames.
 //!
 //! What a link and a copy are as functions, and what follows of them, is in `net_copies`; this crate
 //! passes it on, and has the code, each call of which is proved to be a part of these functions.
 #![tactic(auto)]
 
 mod copier;
-mod copying;
+mod copy_stream;
 mod fates;
 mod frame;
 mod link;
 mod path;
-mod reported;
+mod sack_blocks;
 mod sender;
 mod timer;
 mod watch;
 
-pub use copying::{CopyBuffers, copy, copy_over, copy_watched};
+pub use copy_stream::{CopyBuffers, copy, copy_over, copy_watched};
 pub use fates::{Fates, LinkFates};
 pub use frame::{decode, send_again, send_frame};
 pub use link::Link;
 pub use net_copies::laws::{distinct_frames, frames_decode, queue_from_greatest};
 pub use net_copies::{Config, Counts, Fate, FrameCounts, LinkError, Rates, laws};
 pub use path::Path;
-pub use reported::Reported;
+pub use sack_blocks::SackBlocks;
 pub use sender::Sender;
 pub use watch::Watch;

@@ -1,11 +1,12 @@
-//! A link as one thing: a sender, a receiver, and the two directions between them.
+//! A link: a sender, a receiver, and the two paths between them.
 ghost use Rattle.std.specs.Prelude.{◌≡◌, ◌+◌, ◌≤◌, ◌<◌, ◌^◌, ◌-◌, ◌++◌, [], ℕ, List, length, min, max};
 ghost use Rattle.std.specs.Prelude.{take, drop, slice_index, slice_range};
 ghost use Rattle.net_ring.specs.Managed.{elements};
-ghost use Rattle.net_receiver.specs.Stored.{fresh_stored, stored_next, stored_after_read};
-ghost use Rattle.net_copies.specs.Outgoing.{outgoing, end_of, room_of, with_written};
-ghost use Rattle.net_copies.specs.Counting.{no_frames};
-ghost use Rattle.net_copies.specs.Links.{Carries};
+ghost use Rattle.net_receiver.specs.ReceiverState.{fresh_receiver, next_position};
+ghost use Rattle.net_receiver.specs.ReceiverState.{receiver_after_read};
+ghost use Rattle.net_copies.specs.SenderState.{sender_state, end_of, room_of, with_written};
+ghost use Rattle.net_copies.specs.Counts.{no_frames};
+ghost use Rattle.net_copies.specs.LinkInvariant.{LinkInvariant};
 ghost use Rattle.net_copies.specs.CopyState.{is_written};
 
 mod acknowledge;
@@ -23,7 +24,7 @@ use net_ring::ManagedSlice;
 use std::alloc::Allocator;
 use std::marker::Model;
 
-/// The most held runs of a link's receiver: as many as an acknowledgement reports.
+/// The most held runs of a link's receiver: as many as an acknowledgement has SACK blocks.
 const MOST_RUNS: usize = 32;
 
 /// A link that carries a stream one way: its sender and its receiver, the path of the frames, and
@@ -39,16 +40,16 @@ pub struct Link<'a, 'f, A: Allocator + Copy> {
     /// What receives.
     pub receiver: Receiver<'a, MOST_RUNS>,
     /// The path of the frames, from the sender to the receiver.
-    pub there: Path<'f, A>,
+    pub forward: Path<'f, A>,
     /// The path of the acknowledgements, from the receiver to the sender.
-    pub back: Path<'f, A>,
+    pub reverse: Path<'f, A>,
     /// The most bytes of a frame's payload; 0 counts as 1.
     pub payload: u32,
     /// The most frames that a round may ever send.
-    pub limit: u32,
-    /// How many frames the next round may send, new or again; 0 counts as 1. Acknowledgements aren't
-    /// counted.
-    pub flight: u32,
+    pub max_burst: u32,
+    /// The most frames that the next round sends, new or again; 0 counts as 1. Acknowledgements
+    /// aren't counted.
+    pub burst: u32,
     /// How much time has passed since the link was made.
     pub elapsed: Duration,
     /// What became of the frames so far, acknowledgements too.
@@ -58,75 +59,75 @@ pub struct Link<'a, 'f, A: Allocator + Copy> {
 impl<'a, 'f, A: Allocator + Copy> Model for Link<'a, 'f, A> {
     ghost use Rattle.net_copies.specs.LinkState.{LinkState};
     ghost use Rattle.std.specs.Coded.{codes};
-    ghost use Rattle.net_receiver.specs.Parts.{stored_code};
+    ghost use Rattle.net_receiver.specs.Parts.{receiver_code};
 
     ghost Value = { LinkState };
 
-    ghost coded = { Prim.hlevel (codes, stored_code) };
+    ghost coded = { Prim.hlevel (codes, receiver_code) };
 
     ghost view = { λ l. record {
       sender = l.sender;
       receiver = l.receiver;
-      there = l.there;
-      back = l.back;
+      forward = l.forward;
+      reverse = l.reverse;
       counts = l.counts;
       payload = l.payload;
-      limit = l.limit;
-      flight = l.flight;
+      max_burst = l.max_burst;
+      burst = l.burst;
       elapsed = l.elapsed;
     } };
 }
 
 impl<'a, 'f, A: Allocator + Copy> Link<'a, 'f, A> {
-    /// A link on which nothing is on its way. The stream's first byte has position `first`.
+    /// Returns a link on which nothing is in flight. The stream's first byte has position `first`.
     ///
     /// The sender's capacity is the length of `to_send`, and the receiver's that of `to_receive`. The
-    /// first round may send as many frames as any may: `limit`, of which 0 counts as 1.
+    /// first round may send as many frames as any may: `max_burst`, of which 0 counts as 1.
     pub fn new(
         alloc: A,
         first: u64,
         payload: u32,
-        limit: u32,
+        max_burst: u32,
         to_send: ManagedSlice<'a, u8>,
         to_receive: ManagedSlice<'a, u8>,
         fates: LinkFates<'f>,
     ) -> Self
         ensures state { let n = length (elements to_send.entry) in result ≡ record {
-          sender = outgoing n first [] [] (first + n);
-          receiver = fresh_stored first (length (elements to_receive.entry));
-          there = record { ahead = []; late = []; fates = fates.entry.frames };
-          back = record { ahead = []; late = []; fates = fates.entry.acks };
+          sender = sender_state n first [] [] (first + n);
+          receiver = fresh_receiver first (length (elements to_receive.entry));
+          forward = record { in_flight = []; delayed = []; fates = fates.entry.frames };
+          reverse = record { in_flight = []; delayed = []; fates = fates.entry.acks };
           counts = no_frames;
           payload = payload;
-          limit = max limit 1;
-          flight = max limit 1;
+          max_burst = max max_burst 1;
+          burst = max max_burst 1;
           elapsed = 0;
         } }
-        ensures carries { Carries first [] result }
+        ensures carries { LinkInvariant first [] result }
     {
         Link {
             sender: Sender::new_at(to_send, first),
             receiver: Receiver::new_at(to_receive, first),
-            there: Path::new(alloc, fates.frames),
-            back: Path::new(alloc, fates.acks),
+            forward: Path::new(alloc, fates.frames),
+            reverse: Path::new(alloc, fates.acks),
             payload,
-            limit: limit.max(1),
-            flight: limit.max(1),
+            max_burst: max_burst.max(1),
+            burst: max_burst.max(1),
             elapsed: Duration::ZERO,
             counts: FrameCounts::new(),
         }
     }
 
-    /// The moment that the clock shows.
+    /// Returns the moment that the clock shows.
     pub(crate) fn now(&self) -> Instant {
         Instant::ZERO.saturating_add(self.elapsed)
     }
 
-    /// Whether all that was written to the sender was read off the receiver.
+    /// Returns whether all that was written to the sender was read off the receiver.
     pub(crate) fn is_written(&self) -> bool
         ensures value { result ≡ is_written self.now }
         ensures fits { (end_of self.now.sender < 2 ^ 64)
-            × (stored_next self.now.receiver < 2 ^ 64) }
+            × (next_position self.now.receiver < 2 ^ 64) }
     {
         self.receiver.next() == self.sender.end() && self.receiver.queued() == 0
     }
@@ -135,7 +136,7 @@ impl<'a, 'f, A: Allocator + Copy> Link<'a, 'f, A> {
     pub fn wait(&mut self, time: Duration)
         ensures state { self.new
             ≡ record self.old { elapsed = min (self.old.elapsed + time) (2 ^ 64 - 1) } }
-        ensures carries { (f : ℕ) (w : List ℕ) → Carries f w self.old → Carries f w self.new }
+        ensures carries { (f : ℕ) (w : List ℕ) → LinkInvariant f w self.old → LinkInvariant f w self.new }
         ensures read { self.new.receiver.read ≡ self.old.receiver.read }
     {
         self.elapsed = self.elapsed.saturating_add(time);
@@ -149,11 +150,11 @@ impl<'a, 'f, A: Allocator + Copy> Link<'a, 'f, A> {
           sender = with_written self.old.sender (take result bytes.now);
         } }
         ensures carries { (f : ℕ) (w : List ℕ) →
-            Carries f w self.old → Carries f (w ++ take result bytes.now) self.new }
+            LinkInvariant f w self.old → LinkInvariant f (w ++ take result bytes.now) self.new }
         ensures prefix { (f from : ℕ) (text : List ℕ) → bytes.now ≡ drop from text →
-            Carries f (take from text) self.old → Carries f (take (from + result) text) self.new }
+            LinkInvariant f (take from text) self.old → LinkInvariant f (take (from + result) text) self.new }
     {
-        laws::says();
+        laws::matches_stream();
         laws::receives();
         self.sender.write(bytes)
     }
@@ -165,15 +166,15 @@ impl<'a, 'f, A: Allocator + Copy> Link<'a, 'f, A> {
         ensures into { into.new ≡ take (length into.old) self.old.receiver.queue
             ++ drop (length self.old.receiver.queue) into.old }
         ensures state { self.new
-            ≡ record self.old { receiver = stored_after_read self.old.receiver (length into.old) } }
-        ensures carries { (f : ℕ) (w : List ℕ) → Carries f w self.old → Carries f w self.new }
+            ≡ record self.old { receiver = receiver_after_read self.old.receiver (length into.old) } }
+        ensures carries { (f : ℕ) (w : List ℕ) → LinkInvariant f w self.old → LinkInvariant f w self.new }
         ensures read { self.new.receiver.read ≡ self.old.receiver.read + result }
-        ensures bytes { (f : ℕ) (w : List ℕ) → Carries f w self.old → take result into.new
+        ensures bytes { (f : ℕ) (w : List ℕ) → LinkInvariant f w self.old → take result into.new
             ≡ slice_range w self.old.receiver.read (self.old.receiver.read + result) }
-        ensures each { (f : ℕ) (w : List ℕ) → Carries f w self.old → (k : ℕ) →
+        ensures each { (f : ℕ) (w : List ℕ) → LinkInvariant f w self.old → (k : ℕ) →
             self.old.receiver.read ≤ k → k < self.old.receiver.read + result →
             slice_index into.new (k - self.old.receiver.read) ≡ slice_index w k }
-        ensures within { (f : ℕ) (w : List ℕ) → Carries f w self.old →
+        ensures within { (f : ℕ) (w : List ℕ) → LinkInvariant f w self.old →
             self.old.receiver.read + result ≤ length w }
     {
         laws::reads();

@@ -13,39 +13,39 @@ use net_copies::Fate;
 use std::alloc::{AllocError, Allocator};
 use std::marker::Model;
 
-/// A path of a link, in one direction: the frames that are on their way, those that come late, and
+/// A path of a link, in one direction: the frames that are in flight, those that are delayed, and
 /// the fates of those that meet theirs next. It serves as a wire that fails in a known way.
 ///
 /// Contracts see the two lists of frames, each the next first, and the fates. Each list is a
 /// loopback device, which takes its memory from the allocator.
 #[derive(Drop)]
 pub struct Path<'f, A: Allocator + Copy> {
-    ahead: Loopback<A>,
-    late: Loopback<A>,
+    in_flight: Loopback<A>,
+    delayed: Loopback<A>,
     fates: Fates<'f>,
 }
 
 impl<'f, A: Allocator + Copy> Model for Path<'f, A> {
-    ghost use Rattle.net_copies.specs.Carrying.{PathSeen};
+    ghost use Rattle.net_copies.specs.PathState.{PathState};
 
-    ghost Value = { PathSeen };
+    ghost Value = { PathState };
 
-    ghost view = { λ p. record { ahead = p.ahead.frames; late = p.late.frames; fates = p.fates } };
+    ghost view = { λ p. record { in_flight = p.in_flight.frames; delayed = p.delayed.frames; fates = p.fates } };
 }
 
 impl<'f, A: Allocator + Copy> Path<'f, A> {
-    /// A path with no frames, whose frames will meet these fates.
+    /// Returns a path with no frames, whose frames will meet these fates.
     pub fn new(alloc: A, fates: Fates<'f>) -> Path<'f, A>
-        ensures { result ≡ record { ahead = []; late = []; fates = fates.entry } }
+        ensures { result ≡ record { in_flight = []; delayed = []; fates = fates.entry } }
     {
         Path {
-            ahead: Loopback::new(alloc, Medium::Ip),
-            late: Loopback::new(alloc, Medium::Ip),
+            in_flight: Loopback::new(alloc, Medium::Ip),
+            delayed: Loopback::new(alloc, Medium::Ip),
             fates,
         }
     }
 
-    /// Puts a frame of this position and this payload behind those on their way.
+    /// Sends a frame of this position and this payload, after those in flight.
     ///
     /// # Requires
     ///
@@ -53,37 +53,37 @@ impl<'f, A: Allocator + Copy> Path<'f, A> {
     pub fn send(&mut self, now: Instant, pos: u64, payload: &[u8]) -> Result<(), AllocError>
         requires { length payload.now + 8 < 2 ^ 64 }
         ensures ok { OnOk result (self.new
-            ≡ record self.old { ahead = self.old.ahead ++ frame_of pos payload.now ∷ [] }) }
-        ensures err { OnErr result (self.new ≡ self.old) }
+            ≡ record self.old { in_flight = self.old.in_flight ++ frame_of pos payload.now ∷ [] }) }
+        ensures unchanged { OnErr result (self.new ≡ self.old) }
     {
-        send_frame(&mut self.ahead, now, pos, payload)
+        send_frame(&mut self.in_flight, now, pos, payload)
     }
 
-    /// Takes the next frame on its way. `None` if there is none.
+    /// Takes the next frame in flight. `None` if there is none.
     pub fn take(&mut self, now: Instant) -> Option<RxToken<A>>
-        ensures { MatchOption result ((self.old.ahead ≡ []) × (self.new ≡ self.old))
-            (λ frame. self.old ≡ record self.new { ahead = frame ∷ self.new.ahead }) }
+        ensures { MatchOption result ((self.old.in_flight ≡ []) × (self.new ≡ self.old))
+            (λ frame. self.old ≡ record self.new { in_flight = frame ∷ self.new.in_flight }) }
     {
-        let (frame, _token) = self.ahead.receive(now)?;
+        let (frame, _token) = self.in_flight.receive(now)?;
         Some(frame)
     }
 
-    /// Takes the next late frame. `None` if there is none.
-    pub fn take_late(&mut self, now: Instant) -> Option<RxToken<A>>
-        ensures { MatchOption result ((self.old.late ≡ []) × (self.new ≡ self.old))
-            (λ frame. self.old ≡ record self.new { late = frame ∷ self.new.late }) }
+    /// Takes the next delayed frame. `None` if there is none.
+    pub fn take_delayed(&mut self, now: Instant) -> Option<RxToken<A>>
+        ensures { MatchOption result ((self.old.delayed ≡ []) × (self.new ≡ self.old))
+            (λ frame. self.old ≡ record self.new { delayed = frame ∷ self.new.delayed }) }
     {
-        let (frame, _token) = self.late.receive(now)?;
+        let (frame, _token) = self.delayed.receive(now)?;
         Some(frame)
     }
 
-    /// Puts a frame behind the late ones.
-    pub fn put_late(&mut self, now: Instant, frame: &[u8]) -> Result<(), AllocError>
+    /// Puts a frame after the delayed ones.
+    pub fn put_delayed(&mut self, now: Instant, frame: &[u8]) -> Result<(), AllocError>
         ensures ok { OnOk result (self.new
-            ≡ record self.old { late = self.old.late ++ frame.now ∷ [] }) }
-        ensures err { OnErr result (self.new ≡ self.old) }
+            ≡ record self.old { delayed = self.old.delayed ++ frame.now ∷ [] }) }
+        ensures unchanged { OnErr result (self.new ≡ self.old) }
     {
-        send_again(&mut self.late, now, frame)
+        send_again(&mut self.delayed, now, frame)
     }
 
     /// Draws the next frame's fate.

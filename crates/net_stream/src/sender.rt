@@ -2,14 +2,14 @@
 ghost use Rattle.std.specs.Prelude.{◌≡◌, ◌+◌, ◌-◌, ◌<◌, ◌≤◌, ◌==◌, ◌^◌, ◌++◌, ℕ, List, []};
 ghost use Rattle.std.specs.Prelude.{length, take, drop, min, slice_index_or};
 ghost use Rattle.net_ring.specs.Managed.{elements};
-ghost use Rattle.net_receiver.specs.OneStream.{Says};
-ghost use Rattle.net_copies.specs.Outgoing.{outgoing, end_of, room_of, row_end, with_written};
-ghost use Rattle.net_copies.specs.Outgoing.{room_in_row, after_ack, Sends};
+ghost use Rattle.net_receiver.specs.OneStream.{MatchesStream};
+ghost use Rattle.net_copies.specs.SenderState.{sender_state, end_of, room_of, row_end, with_written};
+ghost use Rattle.net_copies.specs.SenderState.{room_in_row, after_ack, Sends};
 ghost use Rattle.net_stream.specs.FreeBytes.{TakesFreeBytes, CountsFreeBytes, CalledOnRoom};
-ghost use Rattle.net_copies.specs.Reported.{is_full};
-ghost use Rattle.net_copies.specs.Outgoing.{spared_from, next_reported, stop_of};
+ghost use Rattle.net_copies.specs.SackBlocks.{is_full};
+ghost use Rattle.net_copies.specs.SenderState.{spared_from, next_block, stop_of};
 
-use crate::reported::Reported;
+use crate::sack_blocks::SackBlocks;
 use net_receiver::laws;
 use net_ring::ring_buffer::laws::overwritten;
 use net_ring::{ManagedSlice, RingBuffer};
@@ -19,69 +19,70 @@ use std::marker::Model;
 /// serves as the sending half of a TCP socket: `peek_at` lends what a segment is made of.
 ///
 /// Positions are absolute and counted in bytes, as a `Receiver` counts them. Contracts see the
-/// capacity, the position of the queue's head, the queue, the ranges that the last acknowledgement
-/// reported, and the position at which the storage begins again; `Sends f w` says of a sender that
-/// all bytes that were ever written to it are `w`, the first at position `f`. No call takes memory.
-/// smoltcp's TCP socket has the transmit buffer in itself, and takes no notice of reported ranges.
+/// capacity, the first unacknowledged position, which is that of the queue's head, the queue, the
+/// SACK blocks of the last acknowledgement, and the position at which the storage begins again;
+/// `Sends f w` says of a sender that all bytes that were ever written to it are `w`, the first at
+/// position `f`. No call takes memory. smoltcp's TCP socket has the transmit buffer in itself, and
+/// takes no notice of SACK blocks.
 #[derive(Drop)]
 pub struct Sender<'a> {
     ring: RingBuffer<'a, u8>,
-    base: u64,
-    reported: Reported,
+    first_unacknowledged: u64,
+    sack_blocks: SackBlocks,
 }
 
 impl<'a> Model for Sender<'a> {
     ghost use Rattle.std.specs.Prelude.{◌+◌, ◌-◌, ◌<◌, ◌^◌, length};
     ghost use Rattle.net_ring.specs.Ring.{queue, capacity};
-    ghost use Rattle.net_copies.specs.Outgoing.{Outgoing, outgoing};
+    ghost use Rattle.net_copies.specs.SenderState.{SenderState, sender_state};
 
-    ghost Value = { Outgoing };
+    ghost Value = { SenderState };
 
-    ghost view = { λ s. outgoing (capacity s.ring) s.base (queue s.ring) s.reported
-        (s.base + (capacity s.ring - s.ring.read_at)) };
+    ghost view = { λ s. sender_state (capacity s.ring) s.first_unacknowledged (queue s.ring) s.sack_blocks
+        (s.first_unacknowledged + (capacity s.ring - s.ring.read_at)) };
 
-    ghost invariant = { λ s. s.base + length (queue s.ring) < 2 ^ 64 };
+    ghost invariant = { λ s. s.first_unacknowledged + length (queue s.ring) < 2 ^ 64 };
 }
 
 impl<'a> Sender<'a> {
-    /// A sender of a stream that begins at position 0: `new_at` with 0.
+    /// Returns a sender of a stream that begins at position 0: `new_at` with 0.
     pub fn new(storage: ManagedSlice<'a, u8>) -> Self
-        ensures state { let n = length (elements storage.entry) in result ≡ outgoing n 0 [] [] n }
+        ensures state { let n = length (elements storage.entry) in result ≡ sender_state n 0 [] [] n }
         ensures sends { Sends 0 [] result }
     {
         Self::new_at(storage, 0)
     }
 
-    /// A sender of a stream that begins at position `first`, to which nothing was written.
+    /// Returns a sender of a stream that begins at position `first`, to which nothing was written.
     ///
     /// Its capacity is the length of `storage` in bytes, of which 0 is allowed.
     pub fn new_at(storage: ManagedSlice<'a, u8>, first: u64) -> Self
         ensures state { let n = length (elements storage.entry) in
-            result ≡ outgoing n first [] [] (first + n) }
+            result ≡ sender_state n first [] [] (first + n) }
         ensures sends { Sends first [] result }
     {
         Sender {
             ring: RingBuffer::new(storage),
-            base: first,
-            reported: Reported::new(),
+            first_unacknowledged: first,
+            sack_blocks: SackBlocks::new(),
         }
     }
 
-    /// Returns the position of the queue's head: all before it is acknowledged.
-    pub fn base(&self) -> u64
-        ensures value { result ≡ self.now.base }
+    /// Returns the first unacknowledged position, which is that of the queue's head.
+    pub fn first_unacknowledged(&self) -> u64
+        ensures value { result ≡ self.now.first_unacknowledged }
         ensures fits { end_of self.now < 2 ^ 64 }
     {
-        self.base
+        self.first_unacknowledged
     }
 
-    /// Returns the position behind the last byte that was written.
+    /// Returns the position after the last byte that was written.
     pub fn end(&self) -> u64
         ensures end { result ≡ end_of self.now }
         ensures fits { end_of self.now < 2 ^ 64 }
         ensures room { length self.now.queue ≤ self.now.capacity }
     {
-        self.base + self.ring.len() as u64
+        self.first_unacknowledged + self.ring.len() as u64
     }
 
     /// Returns how many bytes are queued.
@@ -120,7 +121,7 @@ impl<'a> Sender<'a> {
     /// Calls `f` on the free bytes that come next, enqueues as many of them as `f` counts, and
     /// returns what `f` returned.
     ///
-    /// `f` is lent as many as stand in a row in the storage, as far as positions go; what they are
+    /// `f` is lent as many as are contiguous in the storage, as far as positions go; what they are
     /// isn't said. It must count no more than it is lent. smoltcp's `send` does the same.
     ///
     /// # Requires
@@ -152,83 +153,85 @@ impl<'a> Sender<'a> {
         }
     }
 
-    /// Lends the queued bytes from the one at `pos` on, at most `max`, without a copy: as many as lie
-    /// in a row in the storage, which wraps. None if the byte at `pos` isn't queued.
+    /// Lends the queued bytes from the one at `pos` on, at most `max`, without a copy: as many as are
+    /// contiguous in the storage, which wraps. None if the byte at `pos` isn't queued.
     pub fn peek_at(&self, pos: u64, max: usize) -> &[u8]
         ensures value { result.now
-            ≡ take (length result.now) (drop (pos - self.now.base) self.now.queue) }
-        ensures count { self.now.base ≤ pos
+            ≡ take (length result.now) (drop (pos - self.now.first_unacknowledged) self.now.queue) }
+        ensures count { self.now.first_unacknowledged ≤ pos
             → length result.now ≡ min max (row_end self.now pos - pos) }
         ensures max { length result.now ≤ max }
-        ensures before { pos < self.now.base → result.now ≡ [] }
-        ensures some { self.now.base ≤ pos → pos < end_of self.now → 0 < max
+        ensures before { pos < self.now.first_unacknowledged → result.now ≡ [] }
+        ensures some { self.now.first_unacknowledged ≤ pos → pos < end_of self.now → 0 < max
             → 0 < length result.now }
         ensures each { (q d : ℕ) → pos ≤ q → q < pos + length result.now
-            → slice_index_or self.now.queue (q - self.now.base) d
+            → slice_index_or self.now.queue (q - self.now.first_unacknowledged) d
             ≡ slice_index_or result.now (q - pos) d }
         ensures within { 0 < length result.now → pos + length result.now ≤ end_of self.now }
-        ensures says { (f : ℕ) (w : List ℕ) → Sends f w self.now → self.now.base ≤ pos
-            → Says f w pos result.now }
+        ensures says { (f : ℕ) (w : List ℕ) → Sends f w self.now → self.now.first_unacknowledged ≤ pos
+            → MatchesStream f w pos result.now }
         ensures fits { end_of self.now < 2 ^ 64 }
     {
-        laws::says();
-        if pos < self.base || pos >= self.end() {
+        laws::matches_stream();
+        if pos < self.first_unacknowledged || pos >= self.end() {
             return &[];
         }
-        self.ring.get_allocated((pos - self.base) as usize, max)
+        self.ring
+            .get_allocated((pos - self.first_unacknowledged) as usize, max)
     }
 
-    /// Returns how many of the queued bytes, from the one at `pos` on, lie in the first reported
-    /// range that has `pos`: 0 if none has, or `pos` is at or past the end.
-    pub(crate) fn reported_from(&self, pos: u64) -> u64
+    /// Returns how many of the queued bytes, from the one at `pos` on, are in the first SACK block
+    /// that has `pos`: 0 if none has, or `pos` is at or past the end.
+    pub(crate) fn sacked_from(&self, pos: u64) -> u64
         ensures value { result ≡ spared_from self.now pos }
         ensures within { pos ≤ end_of self.now → pos + result ≤ end_of self.now }
         ensures fits { end_of self.now < 2 ^ 64 }
     {
         let left = self.end().saturating_sub(pos);
-        self.reported.count_from(pos).min(left)
+        self.sack_blocks.count_from(pos).min(left)
     }
 
-    /// Returns the first start of a reported range above `pos` and below the end, or the end if
+    /// Returns the first start of a SACK block above `pos` and below the end, or the end if
     /// there is none.
-    pub(crate) fn next_reported(&self, pos: u64) -> u64
-        ensures value { result ≡ next_reported self.now pos }
+    pub(crate) fn next_block(&self, pos: u64) -> u64
+        ensures value { result ≡ next_block self.now pos }
         ensures above { pos < end_of self.now → pos < result }
     {
-        self.reported.next_start(pos, self.end())
+        self.sack_blocks.next_start(pos, self.end())
     }
 
-    /// Returns whether as many ranges were reported as an acknowledgement has room for: then the
-    /// receiver may have held bytes that it couldn't report.
-    pub(crate) fn is_report_full(&self) -> bool
-        ensures { result ≡ is_full self.now.reported }
+    /// Returns whether there are as many SACK blocks as an acknowledgement has room for: then the
+    /// receiver may have held bytes of which it couldn't tell.
+    pub(crate) fn are_sack_blocks_full(&self) -> bool
+        ensures { result ≡ is_full self.now.sack_blocks }
     {
-        self.reported.is_full()
+        self.sack_blocks.is_full()
     }
 
-    /// Returns the position at and above which no frame begins: the end, or, if the report is full,
-    /// the one behind the end of the last range.
+    /// Returns the position at and above which no frame begins: the end, or, if there are as many
+    /// SACK blocks as there can be, the one after the end of the last.
     pub(crate) fn stop(&self) -> u64
         ensures { result ≡ stop_of self.now }
     {
-        if !self.is_report_full() {
+        if !self.are_sack_blocks_full() {
             return self.end();
         }
-        let last = self.reported.greatest_end(self.base);
+        let last = self.sack_blocks.greatest_end(self.first_unacknowledged);
         last.saturating_add(1).min(self.end())
     }
 
-    /// Lets go the bytes below `next`, and takes over the ranges that the receiver reported, in place
-    /// of those that it reported before. A position below `base` or above `end` changes nothing.
-    pub fn acknowledge(&mut self, next: u64, reported: Reported)
-        ensures state { self.new ≡ after_ack self.old next reported }
+    /// Takes an acknowledgement: drops the bytes below `next`, and keeps these SACK blocks in place
+    /// of those before. A position below `first_unacknowledged` or above `end` changes nothing.
+    pub fn acknowledge(&mut self, next: u64, sack_blocks: SackBlocks)
+        ensures state { self.new ≡ after_ack self.old next sack_blocks }
         ensures sends { (f : ℕ) (w : List ℕ) → Sends f w self.old → Sends f w self.new }
     {
-        if next < self.base || next > self.end() {
+        if next < self.first_unacknowledged || next > self.end() {
             return;
         }
-        self.ring.dequeue_allocated((next - self.base) as usize);
-        self.base = next;
-        self.reported = reported;
+        self.ring
+            .dequeue_allocated((next - self.first_unacknowledged) as usize);
+        self.first_unacknowledged = next;
+        self.sack_blocks = sack_blocks;
     }
 }

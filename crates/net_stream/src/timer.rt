@@ -1,23 +1,23 @@
 //! How long a sender waits for an acknowledgement.
 ghost use Rattle.std.specs.Prelude.{◌≡◌, ◌*◌, min, if◌then◌else◌};
-ghost use Rattle.net_copies.specs.Counting.{round_trip_time, longest_wait};
+ghost use Rattle.net_copies.specs.Counts.{round_trip_time, longest_wait};
 
 use net_base::time::Duration;
 
-/// How many microseconds a frame and its acknowledgement are on their way.
+/// How many microseconds a frame and its acknowledgement are in flight.
 const ROUND_TRIP: u64 = 10_000;
 
 /// How many microseconds the longest wait takes.
 const LONGEST_WAIT: u64 = 1_000_000;
 
-/// The first wait for an acknowledgement: the time of a round trip.
+/// Returns the first wait for an acknowledgement: the time of a round trip.
 pub fn first_wait() -> Duration
     ensures { result ≡ round_trip_time }
 {
     Duration::from_micros(ROUND_TRIP)
 }
 
-/// The wait after one that brought nothing: twice as long, and at most a second.
+/// Returns the wait after one without progress: twice as long, and at most a second.
 fn doubled(wait: Duration) -> Duration
     ensures { result ≡ min (wait * 2) longest_wait }
 {
@@ -28,11 +28,11 @@ fn doubled(wait: Duration) -> Duration
     Duration::from_micros(micros * 2)
 }
 
-/// The wait after a round: a round trip if it brought something on, and twice the last one if not.
-pub fn next_wait(wait: Duration, brought: bool) -> Duration
-    ensures { result ≡ (if brought then round_trip_time else min (wait * 2) longest_wait) }
+/// Returns the wait after a round: a round trip if it made progress, and twice the last one if not.
+pub fn next_wait(wait: Duration, progress: bool) -> Duration
+    ensures { result ≡ (if progress then round_trip_time else min (wait * 2) longest_wait) }
 {
-    if brought {
+    if progress {
         return first_wait();
     }
     doubled(wait)

@@ -1,9 +1,9 @@
-//! Who watches a copy.
+//! `Watch`, for who watches a copy.
 use net_copies::Counts;
 
 /// Is told how far a copy is.
 pub trait Watch {
-    /// Takes the counts so far: called after each round, once what it brought is written.
+    /// Takes the counts so far: called after each round, once what came is written.
     fn round(&mut self, counts: &Counts);
 }
 

@@ -1,4 +1,4 @@
-//! The calls of `net_stream` that take many values, and what lies in a link: tests reach them through
+//! The calls of `net_stream` that take many values, and what is in a link: tests reach them through
 //! these functions alone.
 
 use net_base::phy::RxToken;
@@ -11,28 +11,28 @@ use net_stream::{
 use std::alloc::{AllocError, Allocator};
 use std::io::{Read, Write};
 
-/// A link that loses, repeats and delays nothing.
+/// A link that loses, duplicates and delays nothing.
 pub const PERFECT: Rates = Rates {
     lost: 0,
-    repeated: 0,
-    late: 0,
+    duplicated: 0,
+    delayed: 0,
 };
 
 /// A link that loses everything.
 pub const GONE: Rates = Rates {
     lost: 100,
-    repeated: 0,
-    late: 0,
+    duplicated: 0,
+    delayed: 0,
 };
 
-/// A link over which everything is late.
+/// A link over which everything is delayed.
 pub const DELAYED: Rates = Rates {
     lost: 0,
-    repeated: 0,
-    late: 100,
+    duplicated: 0,
+    delayed: 100,
 };
 
-/// What becomes of the frames of one direction: the fates of a list, and behind it those that a generator
+/// What becomes of the frames of one direction: the fates of a list, and after it those that a generator
 /// of this seed draws at these rates.
 #[derive(Clone, Copy, Drop)]
 pub struct Way {
@@ -44,8 +44,8 @@ pub struct Way {
 /// A copy: the fates of its frames and of its acknowledgements, and its config.
 #[derive(Clone, Copy, Drop)]
 pub struct Setup {
-    pub there: Way,
-    pub back: Way,
+    pub forward: Way,
+    pub reverse: Way,
     pub config: Config,
 }
 
@@ -62,8 +62,8 @@ fn fates(way: &Way) -> Fates<'static> {
 /// The fates of both directions.
 fn link_fates(setup: &Setup) -> LinkFates<'static> {
     LinkFates {
-        frames: fates(&setup.there),
-        acks: fates(&setup.back),
+        frames: fates(&setup.forward),
+        acks: fates(&setup.reverse),
     }
 }
 
@@ -138,7 +138,7 @@ pub fn copy_over_by<A: Allocator + Copy, R: Read, W: Write>(
 }
 
 /// A link over storage of the sender and of the receiver. Of the config it takes the first position, the
-/// payload and the flight.
+/// payload and the burst.
 pub fn link_by<'a, A: Allocator + Copy>(
     alloc: A,
     setup: &Setup,
@@ -149,52 +149,52 @@ pub fn link_by<'a, A: Allocator + Copy>(
         alloc,
         setup.config.first,
         setup.config.payload,
-        setup.config.flight,
+        setup.config.max_burst,
         to_send,
         to_receive,
         link_fates(setup),
     )
 }
 
-/// The next frame on its way to the receiver, which is taken.
+/// The next frame in flight to the receiver, which is taken.
 pub fn next_frame<A: Allocator + Copy>(
     link: &mut Link<'_, '_, A>,
 ) -> Option<net_base::phy::loopback::RxToken<A>> {
-    link.there.take(start())
+    link.forward.take(start())
 }
 
-/// The next late frame to the receiver, which is taken.
-pub fn next_late_frame<A: Allocator + Copy>(
+/// The next delayed frame to the receiver, which is taken.
+pub fn next_delayed_frame<A: Allocator + Copy>(
     link: &mut Link<'_, '_, A>,
 ) -> Option<net_base::phy::loopback::RxToken<A>> {
-    link.there.take_late(start())
+    link.forward.take_delayed(start())
 }
 
-/// Whether the next late acknowledgement, which is taken, is of these bytes.
-pub fn is_next_late_ack<A: Allocator + Copy>(link: &mut Link<'_, '_, A>, bytes: &[u8]) -> bool {
-    match link.back.take_late(start()) {
+/// Whether the next delayed acknowledgement, which is taken, is of these bytes.
+pub fn is_next_delayed_ack<A: Allocator + Copy>(link: &mut Link<'_, '_, A>, bytes: &[u8]) -> bool {
+    match link.reverse.take_delayed(start()) {
         Some(token) => token.frame() == bytes,
         None => false,
     }
 }
 
-/// Whether no acknowledgement is late.
-pub fn has_no_late_ack<A: Allocator + Copy>(link: &mut Link<'_, '_, A>) -> bool {
-    matches!(link.back.take_late(start()), None)
+/// Whether no acknowledgement is delayed.
+pub fn has_no_delayed_ack<A: Allocator + Copy>(link: &mut Link<'_, '_, A>) -> bool {
+    matches!(link.reverse.take_delayed(start()), None)
 }
 
-/// Puts a late frame to the receiver.
-pub fn put_late_frame<A: Allocator + Copy>(
+/// Puts a delayed frame to the receiver.
+pub fn put_delayed_frame<A: Allocator + Copy>(
     link: &mut Link<'_, '_, A>,
     frame: &[u8],
 ) -> Result<(), AllocError> {
-    link.there.put_late(start(), frame)
+    link.forward.put_delayed(start(), frame)
 }
 
-/// Puts a late acknowledgement.
-pub fn put_late_ack<A: Allocator + Copy>(
+/// Puts a delayed acknowledgement.
+pub fn put_delayed_ack<A: Allocator + Copy>(
     link: &mut Link<'_, '_, A>,
     frame: &[u8],
 ) -> Result<(), AllocError> {
-    link.back.put_late(start(), frame)
+    link.reverse.put_delayed(start(), frame)
 }

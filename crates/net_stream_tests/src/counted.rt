@@ -17,10 +17,10 @@ pub mod ways;
 const TO_THE_END: (usize, usize, usize, usize) = (NEVER, NEVER, NEVER, NEVER);
 
 /// A copy: what becomes of its frames and of its acknowledgements; how many bytes the reader has, and the
-/// config (first position, capacity, payload, flight and rounds); the most bytes of a read and the number
+/// config (first position, capacity, payload, burst and rounds); the most bytes of a read and the number
 /// of the one that fails, and the same of writes; how it ends and how often it reads; and its counts:
-/// bytes taken and written, rounds, microseconds, frames sent, bytes that they carried, frames lost,
-/// repeated and late, and segments refused.
+/// bytes read and written, rounds, microseconds, frames sent, bytes that they carried, frames lost,
+/// duplicated and delayed, and segments refused.
 #[derive(Clone, Copy, Drop)]
 struct Case(
     Way,
@@ -34,16 +34,16 @@ struct Case(
 /// The counts of a row.
 fn counts_of(row: &[u64; 10]) -> Counts {
     Counts {
-        taken: row[0],
-        bytes: row[1],
+        bytes_read: row[0],
+        bytes_written: row[1],
         rounds: row[2],
         micros: row[3],
         frames: FrameCounts {
             sent: row[4],
             payload: row[5],
             lost: row[6],
-            repeated: row[7],
-            late: row[8],
+            duplicated: row[7],
+            delayed: row[8],
             refused: row[9],
         },
     }
@@ -51,15 +51,15 @@ fn counts_of(row: &[u64; 10]) -> Counts {
 
 /// The fates and the config of a row.
 fn setup_of(case: &Case) -> Setup {
-    let (_, first, capacity, payload, flight, rounds) = case.2;
+    let (_, first, capacity, payload, max_burst, rounds) = case.2;
     Setup {
-        there: case.0,
-        back: case.1,
+        forward: case.0,
+        reverse: case.1,
         config: Config {
             first,
             capacity,
             payload,
-            flight,
+            max_burst,
             rounds,
         },
     }
@@ -71,7 +71,7 @@ fn is_written(sink: &Sink, text: &[u8], counts: &Counts) -> bool {
     let is_once_a_round = sink.bytes_per_call < NEVER || sink.calls as u64 <= counts.rounds;
     is_once_a_round
         && text.starts_with(&sink.bytes)
-        && sink.bytes.len() as u64 == counts.bytes
+        && sink.bytes.len() as u64 == counts.bytes_written
         && sink.flushes == 1
         && sink.flushed == sink.bytes.len()
 }

@@ -97,7 +97,7 @@ const DECODED: [(&[u8], Option<(u64, usize)>); 4] = [
     ),
 ];
 
-/// Whether bytes decode so, and the payload is what lies behind the position.
+/// Whether bytes decode so, and the payload is what follows the position.
 fn decodes_so((bytes, wanted): &(&[u8], Option<(u64, usize)>)) -> bool {
     match (decode(bytes), wanted) {
         (Some((pos, payload)), Some((wanted, len))) => {
@@ -120,27 +120,27 @@ const WORDS: [(u32, Fate); 10] = [
     (0, Fate::Lost),
     (9, Fate::Lost),
     (300_009, Fate::Lost),
-    (10, Fate::Repeated),
-    (1_910, Fate::Repeated),
-    (2_010, Fate::Late),
-    (292_010, Fate::Late),
+    (10, Fate::Duplicated),
+    (1_910, Fate::Duplicated),
+    (2_010, Fate::Delayed),
+    (292_010, Fate::Delayed),
     (302_010, Fate::Delivered),
-    (1_292_099, Fate::Late),
+    (1_292_099, Fate::Delayed),
     (u32::MAX, Fate::Delivered),
 ];
 
 const TEN_TWENTY_THIRTY: Rates = Rates {
     lost: 10,
-    repeated: 20,
-    late: 30,
+    duplicated: 20,
+    delayed: 30,
 };
 
-/// A fate, whether it comes at once, and whether it comes late.
+/// A fate, whether it comes at once, and whether it is delayed.
 const COMINGS: [(Fate, bool, bool); 4] = [
     (Fate::Delivered, true, false),
     (Fate::Lost, false, false),
-    (Fate::Repeated, true, true),
-    (Fate::Late, false, true),
+    (Fate::Duplicated, true, true),
+    (Fate::Delayed, false, true),
 ];
 
 #[test]
@@ -150,39 +150,43 @@ fn pairs_of_digits_decide_a_fate(rt: HostRuntime) {
         assert_holds(&rt, Fate::of_word(word, TEN_TWENTY_THIRTY) == fate, i);
     }
     for i in 0..COMINGS.len() {
-        let (fate, at_once, late) = COMINGS[i];
-        assert_holds(&rt, fate.comes() == at_once && fate.comes_late() == late, i);
+        let (fate, at_once, delayed) = COMINGS[i];
+        assert_holds(
+            &rt,
+            fate.comes() == at_once && fate.comes_delayed() == delayed,
+            i,
+        );
     }
 }
 
 /// The fates of a list, and then those of the random words 4064760752, 2284120977, 3992114710,
 /// 2692415085, 700514163 and 2995075556, as a second program finds them from state 7 on.
 const DRAWN: [Fate; 8] = [
-    Fate::Late,
+    Fate::Delayed,
     Fate::Delivered,
-    Fate::Repeated,
-    Fate::Repeated,
+    Fate::Duplicated,
+    Fate::Duplicated,
     Fate::Lost,
     Fate::Delivered,
     Fate::Delivered,
-    Fate::Late,
+    Fate::Delayed,
 ];
 
 const EACH_QUARTER: Rates = Rates {
     lost: 25,
-    repeated: 25,
-    late: 25,
+    duplicated: 25,
+    delayed: 25,
 };
 
 #[test]
 fn fates_are_listed_and_then_drawn(rt: HostRuntime) {
-    let mut fates = Fates::new(&[Fate::Late, Fate::Delivered], 7, EACH_QUARTER);
+    let mut fates = Fates::new(&[Fate::Delayed, Fate::Delivered], 7, EACH_QUARTER);
     for i in 0..DRAWN.len() {
         assert_holds(&rt, fates.draw() == DRAWN[i], i);
     }
 }
 
-/// Whether the next frame on its way, which is taken, is of these bytes.
+/// Whether the next frame in flight, which is taken, is of these bytes.
 fn takes(path: &mut Path<'_, Global>, bytes: &[u8]) -> bool {
     match path.take(start()) {
         Some(token) => token.frame() == bytes,
@@ -190,38 +194,38 @@ fn takes(path: &mut Path<'_, Global>, bytes: &[u8]) -> bool {
     }
 }
 
-/// Whether the next late frame, which is taken, is of these bytes.
-fn takes_late(path: &mut Path<'_, Global>, bytes: &[u8]) -> bool {
-    match path.take_late(start()) {
+/// Whether the next delayed frame, which is taken, is of these bytes.
+fn takes_delayed(path: &mut Path<'_, Global>, bytes: &[u8]) -> bool {
+    match path.take_delayed(start()) {
         Some(token) => token.frame() == bytes,
         None => false,
     }
 }
 
-/// Whether two frames are sent and two are put among the late ones.
-fn puts_four(path: &mut Path<'_, Global>, late: &[u8]) -> bool {
+/// Whether two frames are sent and two are put among the delayed ones.
+fn puts_four(path: &mut Path<'_, Global>, delayed: &[u8]) -> bool {
     path.send(start(), 1, b"ab").is_ok()
-        && path.put_late(start(), late).is_ok()
-        && path.put_late(start(), b"z").is_ok()
+        && path.put_delayed(start(), delayed).is_ok()
+        && path.put_delayed(start(), b"z").is_ok()
         && path.send(start(), 258, b"").is_ok()
 }
 
 /// Whether four frames are put, and taken in turns of the two lists.
-fn keeps_apart(path: &mut Path<'_, Global>, late: &[u8]) -> bool {
-    puts_four(path, late)
-        && takes_late(path, late)
+fn keeps_apart(path: &mut Path<'_, Global>, delayed: &[u8]) -> bool {
+    puts_four(path, delayed)
+        && takes_delayed(path, delayed)
         && takes(path, &[0, 0, 0, 0, 0, 0, 0, 1, 97, 98])
         && takes(path, &[0, 0, 0, 0, 0, 0, 1, 2])
-        && takes_late(path, b"z")
+        && takes_delayed(path, b"z")
         && path.take(start()).is_none()
-        && path.take_late(start()).is_none()
+        && path.take_delayed(start()).is_none()
 }
 
 #[test]
 fn a_path_keeps_its_two_lists_apart(rt: HostRuntime) -> Result<(), AllocError> {
-    let late = pattern(rt.alloc(), 65_536)?;
+    let delayed = pattern(rt.alloc(), 65_536)?;
     let mut path = Path::new(rt.alloc(), Fates::new(&[Fate::Lost], 1, PERFECT));
-    assert_holds(&rt, keeps_apart(&mut path, &late), 0);
+    assert_holds(&rt, keeps_apart(&mut path, &delayed), 0);
     assert_holds(
         &rt,
         path.draw() == Fate::Lost && path.draw() == Fate::Delivered,
@@ -233,17 +237,17 @@ fn a_path_keeps_its_two_lists_apart(rt: HostRuntime) -> Result<(), AllocError> {
 #[test]
 fn fates_and_refusals_are_counted(rt: HostRuntime) {
     let mut frames = FrameCounts::new();
-    frames.meet(Fate::Late);
+    frames.meet(Fate::Delayed);
     frames.meet(Fate::Delivered);
     frames.refuse_if(true);
     frames.refuse_if(false);
     assert_holds(
         &rt,
-        frames.sent == 2 && frames.late == 1 && frames.refused == 1,
+        frames.sent == 2 && frames.delayed == 1 && frames.refused == 1,
         0,
     );
     let mut counts = Counts::new();
-    counts.taken = 8;
+    counts.bytes_read = 8;
     assert_holds(&rt, counts.sent_again() == 0, 1);
     counts.frames.payload = 13;
     assert_holds(&rt, counts.sent_again() == 5, 2);

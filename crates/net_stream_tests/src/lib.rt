@@ -1,7 +1,7 @@
 //! The tests of `net_stream`, each through its public calls.
 //!
-//! They stand in a crate of their own, so that what stands on `net_stream` doesn't wait for them
-//! and links nothing that only tests need.
+//! They are in a crate of their own, so that what depends on `net_stream` doesn't wait for them and
+//! links nothing that only tests need.
 #![tactic(auto)]
 
 #[cfg(test)]
@@ -9,7 +9,7 @@ mod assertions;
 #[cfg(test)]
 mod calls;
 #[cfg(test)]
-mod copying;
+mod copies;
 #[cfg(test)]
 mod counted;
 #[cfg(test)]

@@ -2,39 +2,39 @@
 
 use crate::assertions::assert_holds;
 use crate::calls::{
-    DELAYED, GONE, PERFECT, Setup, Way, has_no_late_ack, is_next_late_ack, link_by, next_frame,
-    next_late_frame, put_late_ack, put_late_frame,
+    DELAYED, GONE, PERFECT, Setup, Way, has_no_delayed_ack, is_next_delayed_ack, link_by,
+    next_delayed_frame, next_frame, put_delayed_ack, put_delayed_frame,
 };
 use crate::counted::pattern;
 use net_base::phy::RxToken;
 use net_base::time::Duration;
 use net_ring::ManagedSlice;
-use net_stream::{Config, Fate, FrameCounts, Link, Rates, Reported, decode};
+use net_stream::{Config, Fate, FrameCounts, Link, Rates, SackBlocks, decode};
 use net_testing::{Refusing, refuse_each};
 use std::alloc::{AllocError, Allocator, Global};
 
 /// A link of these fates and of frames of at most so many bytes, from this position on.
 fn setup(
-    (there, there_rates): (&'static [Fate], Rates),
-    (back, back_rates): (&'static [Fate], Rates),
-    (first, payload, flight): (u64, u32, u32),
+    (forward, forward_rates): (&'static [Fate], Rates),
+    (reverse, reverse_rates): (&'static [Fate], Rates),
+    (first, payload, max_burst): (u64, u32, u32),
 ) -> Setup {
     Setup {
-        there: Way {
-            listed: there,
+        forward: Way {
+            listed: forward,
             seed: 1,
-            rates: there_rates,
+            rates: forward_rates,
         },
-        back: Way {
-            listed: back,
+        reverse: Way {
+            listed: reverse,
             seed: 1,
-            rates: back_rates,
+            rates: reverse_rates,
         },
         config: Config {
             first,
             capacity: 0,
             payload,
-            flight,
+            max_burst,
             rounds: 0,
         },
     }
@@ -45,25 +45,26 @@ fn setup(
 enum Step {
     /// Writes these bytes: so many are taken.
     Write(&'static [u8], usize),
-    /// Puts a late frame.
+    /// Puts a delayed frame.
     Frame(&'static [u8]),
-    /// Puts a late acknowledgement.
+    /// Puts a delayed acknowledgement.
     Ack(&'static [u8]),
-    /// Passes a round, which leaves this first missing position, this base and this end.
+    /// Passes a round, which leaves this first missing position, this first unacknowledged one and
+    /// this end.
     Round(u64, u64, u64),
     /// Reads these bytes.
     Read(&'static [u8]),
-    /// The next late acknowledgement is of these bytes.
+    /// The next delayed acknowledgement is of these bytes.
     Acked(&'static [u8]),
-    /// No further acknowledgement is late.
+    /// No further acknowledgement is delayed.
     NoneAcked,
 }
 
 /// Whether a round leaves these positions.
-fn passes(link: &mut Link<'_, '_, Global>, next: u64, base: u64, end: u64) -> bool {
+fn passes(link: &mut Link<'_, '_, Global>, next: u64, head: u64, end: u64) -> bool {
     link.pass_round().is_ok()
         && link.receiver.next() == next
-        && link.sender.base() == base
+        && link.sender.first_unacknowledged() == head
         && link.sender.end() == end
 }
 
@@ -77,12 +78,12 @@ fn reads(link: &mut Link<'_, '_, Global>, bytes: &[u8]) -> bool {
 fn does(link: &mut Link<'_, '_, Global>, step: &Step) -> bool {
     match step {
         Step::Write(bytes, count) => link.write(bytes) == *count,
-        Step::Frame(bytes) => put_late_frame(link, bytes).is_ok(),
-        Step::Ack(bytes) => put_late_ack(link, bytes).is_ok(),
-        Step::Round(next, base, end) => passes(link, *next, *base, *end),
+        Step::Frame(bytes) => put_delayed_frame(link, bytes).is_ok(),
+        Step::Ack(bytes) => put_delayed_ack(link, bytes).is_ok(),
+        Step::Round(next, head, end) => passes(link, *next, *head, *end),
         Step::Read(bytes) => reads(link, bytes),
-        Step::Acked(bytes) => is_next_late_ack(link, bytes),
-        Step::NoneAcked => has_no_late_ack(link),
+        Step::Acked(bytes) => is_next_delayed_ack(link, bytes),
+        Step::NoneAcked => has_no_delayed_ack(link),
     }
 }
 
@@ -137,12 +138,13 @@ fn what_comes_is_acknowledged(rt: HostRuntime) {
     assert_holds(&rt, done == ARRIVALS.len(), done);
     assert_holds(
         &rt,
-        counts.sent == 5 && counts.late == 5 && counts.payload == 0,
+        counts.sent == 5 && counts.delayed == 5 && counts.payload == 0,
         0,
     );
 }
 
-/// What is acknowledged is let go; a position that was let go before, and seven bytes, change nothing.
+/// What is acknowledged is dropped; a position that was acknowledged before, and seven bytes, change
+/// nothing.
 static ACKNOWLEDGEMENTS: [Step; 7] = [
     Step::Write(b"abcdefghijkl", 10),
     Step::Ack(&[0, 0, 0, 0, 0, 0, 0, 4]),
@@ -154,18 +156,18 @@ static ACKNOWLEDGEMENTS: [Step; 7] = [
 ];
 
 #[test]
-fn an_acknowledgement_lets_go(rt: HostRuntime) {
+fn an_acknowledgement_drops_bytes(rt: HostRuntime) {
     let setup = setup((&[], GONE), (&[], GONE), (0, 3, 100));
     let (done, _counts) = all_of(rt.alloc(), &setup, &ACKNOWLEDGEMENTS);
     assert_holds(&rt, done == ACKNOWLEDGEMENTS.len(), done);
 }
 
-/// Of `abcdefgh` the second frame is late and the third is lost; then the late one comes, and the third
+/// Of `abcdefgh` the second frame is delayed and the third is lost; then the delayed one comes, and the third
 /// again; then nothing is left but an acknowledgement.
 static ROUNDS: [Step; 5] = [
     Step::Write(b"abcdefgh", 8),
     Step::Round(3, 3, 8),
-    // Two frames again, `def` and `gh`, and `def` late: four acknowledgements.
+    // Two frames again, `def` and `gh`, and `def` delayed: four acknowledgements.
     Step::Round(8, 8, 8),
     Step::Round(8, 8, 8),
     Step::Read(b"abcdefgh"),
@@ -173,15 +175,15 @@ static ROUNDS: [Step; 5] = [
 
 #[test]
 fn rounds_pass(rt: HostRuntime) {
-    let there: &'static [Fate] = &[Fate::Delivered, Fate::Late, Fate::Lost];
-    let setup = setup((there, PERFECT), (&[Fate::Lost], PERFECT), (0, 3, 100));
+    let forward: &'static [Fate] = &[Fate::Delivered, Fate::Delayed, Fate::Lost];
+    let setup = setup((forward, PERFECT), (&[Fate::Lost], PERFECT), (0, 3, 100));
     let (done, counts) = all_of(rt.alloc(), &setup, &ROUNDS);
     let wanted = FrameCounts {
         sent: 3 + 2 + 2 + 4 + 1,
         payload: 8 + 5,
         lost: 2,
-        repeated: 0,
-        late: 1,
+        duplicated: 0,
+        delayed: 1,
         refused: 0,
     };
     assert_holds(&rt, done == ROUNDS.len() && counts == wanted, done);
@@ -199,10 +201,10 @@ fn a_clock_stops_at_its_last_moment(rt: HostRuntime) {
     assert_holds(&rt, link.elapsed == Duration::from_micros(u64::MAX), 1);
 }
 
-/// Whether the next frame of a link over which all is late, which is taken, has this position and so
+/// Whether the next frame of a link over which all is delayed, which is taken, has this position and so
 /// many bytes of payload, which are those of the sender.
 fn is_next(link: &mut Link<'_, '_, Global>, pos: u64, len: usize) -> bool {
-    let Some(token) = next_late_frame(link) else {
+    let Some(token) = next_delayed_frame(link) else {
         return false;
     };
     match decode(token.frame()) {
@@ -213,7 +215,7 @@ fn is_next(link: &mut Link<'_, '_, Global>, pos: u64, len: usize) -> bool {
     }
 }
 
-/// Whether a round of a link over which all is late sends these frames and no more.
+/// Whether a round of a link over which all is delayed sends these frames and no more.
 fn sends(link: &mut Link<'_, '_, Global>, frames: &[(u64, usize)]) -> bool {
     if link.pass_round().is_err() {
         return false;
@@ -223,10 +225,10 @@ fn sends(link: &mut Link<'_, '_, Global>, frames: &[(u64, usize)]) -> bool {
             return false;
         }
     }
-    next_late_frame(link).is_none()
+    next_delayed_frame(link).is_none()
 }
 
-/// The bytes of ranges as an acknowledgement lists them.
+/// The bytes of SACK blocks as an acknowledgement lists them.
 fn listed(alloc: Global, ranges: &[(u64, u64)]) -> Result<Vec<u8>, AllocError> {
     let mut bytes = Vec::new(alloc);
     for (start, end) in ranges {
@@ -236,8 +238,8 @@ fn listed(alloc: Global, ranges: &[(u64, u64)]) -> Result<Vec<u8>, AllocError> {
     Ok(bytes)
 }
 
-/// The ranges that were reported, the most bytes of a frame and the most frames, and the frames that a
-/// round sends, each a position and a length, with the sum of the lengths.
+/// The SACK blocks, the most bytes of a frame and the most frames, and the frames that a round sends,
+/// each a position and a length, with the sum of the lengths.
 type Round = (
     &'static [(u64, u64)],
     u32,
@@ -246,14 +248,14 @@ type Round = (
     u64,
 );
 
-/// Ten bytes from position 20 on, of which those from 28 on stand at the storage's beginning.
+/// Ten bytes from position 20 on, of which those from 28 on are at the storage's beginning.
 static OF_TEN: [Round; 8] = [
     (&[], 100, 100, &[(20, 8), (28, 2)], 10),
     (&[], 3, 100, &[(20, 3), (23, 3), (26, 2), (28, 2)], 10),
     (&[], 3, 2, &[(20, 3), (23, 3)], 6),
     (&[], 0, 0, &[(20, 1)], 1),
     (&[(22, 24)], 100, 100, &[(20, 2), (24, 4), (28, 2)], 8),
-    // Ranges that touch, overlap and go past the end, in any order.
+    // Blocks that touch, overlap and go past the end, in any order.
     (
         &[(24, 26), (20, 22), (21, 24), (29, 99)],
         100,
@@ -262,17 +264,17 @@ static OF_TEN: [Round; 8] = [
         3,
     ),
     (&[(0, 99)], 100, 100, &[], 0),
-    // What is reported beyond the end is of no account.
+    // A block past the end is of no account.
     (&[(30, 40)], 100, 1, &[(20, 8)], 8),
 ];
 
 /// Whether a round of ten bytes goes so.
-fn sends_of_ten(alloc: Global, (ranges, payload, flight, frames, sum): &Round) -> bool {
+fn sends_of_ten(alloc: Global, (ranges, payload, max_burst, frames, sum): &Round) -> bool {
     let Ok(bytes) = listed(alloc, ranges) else {
         return false;
     };
     let mut to_send = [0u8; 10];
-    let setup = setup((&[], DELAYED), (&[], GONE), (18, *payload, *flight));
+    let setup = setup((&[], DELAYED), (&[], GONE), (18, *payload, *max_burst));
     let mut to_receive = [0u8; 0];
     let to_send = ManagedSlice::Borrowed(&mut to_send);
     let mut link = link_by(
@@ -282,9 +284,9 @@ fn sends_of_ten(alloc: Global, (ranges, payload, flight, frames, sum): &Round) -
         ManagedSlice::Borrowed(&mut to_receive),
     );
     let is_written = link.write(b"abcdefghijk") == 10;
-    link.sender.acknowledge(20, Reported::new());
+    link.sender.acknowledge(20, SackBlocks::new());
     let is_full = link.write(b"yz") == 2;
-    link.sender.acknowledge(20, Reported::of_bytes(&bytes));
+    link.sender.acknowledge(20, SackBlocks::of_bytes(&bytes));
     is_written && is_full && sends(&mut link, frames) && link.counts.payload == *sum
 }
 
@@ -328,8 +330,8 @@ fn a_round_sends_all_in_long_frames(rt: HostRuntime) -> Result<(), AllocError> {
     Ok(())
 }
 
-/// Whether, of 70 bytes of which so many single ones are reported, each second one from 1 on, a round of
-/// frames of three bytes sends single bytes up to `last`, and then these frames.
+/// Whether, of 70 bytes of which so many single ones are SACK blocks, each second one from 1 on, a round
+/// of frames of three bytes sends single bytes up to `last`, and then these frames.
 fn sends_of_seventy(alloc: Global, count: u64, frames: &[(u64, usize)]) -> bool {
     let Ok(ranges) = each_second(alloc, count) else {
         return false;
@@ -345,14 +347,14 @@ fn sends_of_seventy(alloc: Global, count: u64, frames: &[(u64, usize)]) -> bool 
         ManagedSlice::Borrowed(&mut to_receive),
     );
     let is_written = link.write(&[7; 70]) == 70;
-    link.sender.acknowledge(0, Reported::of_bytes(&ranges));
+    link.sender.acknowledge(0, SackBlocks::of_bytes(&ranges));
     is_written
         && link.pass_round().is_ok()
         && are_single(&mut link, 31)
         && are_next(&mut link, frames)
 }
 
-/// The bytes of so many ranges of one position each, 1, 3, .., and 15 more, which are no range.
+/// The bytes of so many blocks of one position each, 1, 3, .., and 15 more, which are no block.
 fn each_second(alloc: Global, count: u64) -> Result<Vec<u8>, AllocError> {
     let mut bytes = Vec::new(alloc);
     for i in 0..count.min(100) {
@@ -380,12 +382,12 @@ fn are_next(link: &mut Link<'_, '_, Global>, frames: &[(u64, usize)]) -> bool {
             return false;
         }
     }
-    next_late_frame(link).is_none()
+    next_delayed_frame(link).is_none()
 }
 
-/// With 32 ranges no frame begins behind the last of them; a 33rd isn't read, and with 31 all is sent.
+/// With 32 blocks no frame begins after the last of them; a 33rd isn't read, and with 31 all is sent.
 #[test]
-fn a_full_report_stops_a_round(rt: HostRuntime) {
+fn all_sack_blocks_stop_a_round(rt: HostRuntime) {
     let all = sends_of_seventy(rt.alloc(), 31, &[(62, 3), (65, 3), (68, 2)]);
     assert_holds(&rt, all, 31);
     for count in [32u64, 33] {
@@ -394,7 +396,7 @@ fn a_full_report_stops_a_round(rt: HostRuntime) {
     }
 }
 
-/// How many bytes the frames carry that are on their way, if each begins where the one before it ends.
+/// How many bytes the frames carry that are in flight, if each begins where the one before it ends.
 fn carried<A: Allocator + Copy>(link: &mut Link<'_, '_, A>) -> Option<u64> {
     let mut end = 0u64;
     for _turn in 0..6u32 {
@@ -411,7 +413,7 @@ fn carried<A: Allocator + Copy>(link: &mut Link<'_, '_, A>) -> Option<u64> {
 }
 
 /// A round of nine bytes, all of which are lost, in this memory. Returns whether it passes, and whether,
-/// if it doesn't, the frames that were sent before are on their way and counted, or all met their fate.
+/// if it doesn't, the frames that were sent before are in flight and counted, or all met their fate.
 fn leaves_a_prefix(memory: &Refusing) -> (bool, bool) {
     let mut to_send = [0u8; 9];
     let setup = setup((&[], GONE), (&[], GONE), (0, 2, 100));

@@ -121,20 +121,20 @@ fn reads_in_turn(alloc: Global, row: &Row) -> bool {
         seed: 7,
         rates: Rates {
             lost: row.lost,
-            repeated: 10,
-            late: 10,
+            duplicated: 10,
+            delayed: 10,
         },
     };
     let config = Config {
         first: 0,
         capacity: row.capacity,
         payload: 10_000,
-        flight: 4_096,
+        max_burst: 4_096,
         rounds: 100,
     };
     let setup = Setup {
-        there: way,
-        back: way,
+        forward: way,
+        reverse: way,
         config,
     };
     let ledger = Ledger {

@@ -5,7 +5,7 @@ ghost use Rattle.std.specs.Prelude.{◌≤◌, length};
 use crate::assertions::assert_holds;
 use crate::counted::pattern;
 use net_ring::ManagedSlice;
-use net_stream::{Reported, Sender};
+use net_stream::{SackBlocks, Sender};
 use std::alloc::AllocError;
 
 /// A call of a sender, and what it gives.
@@ -18,7 +18,8 @@ enum Step {
     SendWith(&'static [u8], usize, usize),
     /// Lends these bytes from this position on, at most so many.
     Peek(u64, usize, &'static [u8]),
-    /// Takes an acknowledgement of this position, which leaves this base and this end.
+    /// Takes an acknowledgement of this position, which leaves this first unacknowledged one and this
+    /// end.
     Acknowledge(u64, u64, u64),
     /// Has so much free room.
     Window(usize),
@@ -39,13 +40,13 @@ fn sends(sender: &mut Sender<'_>, text: &[u8], uncounted: usize, wanted: usize) 
     count == wanted && seven == 7
 }
 
-/// Whether an acknowledgement leaves this base and this end, and as many bytes.
-fn is_acknowledged(sender: &mut Sender<'_>, next: u64, base: u64, end: u64) -> bool {
-    sender.acknowledge(next, Reported::new());
-    sender.base() == base
+/// Whether an acknowledgement leaves this first unacknowledged position and this end, and as many bytes.
+fn is_acknowledged(sender: &mut Sender<'_>, next: u64, head: u64, end: u64) -> bool {
+    sender.acknowledge(next, SackBlocks::new());
+    sender.first_unacknowledged() == head
         && sender.end() == end
-        && sender.len() as u64 == end.saturating_sub(base)
-        && sender.is_empty() == (base == end)
+        && sender.len() as u64 == end.saturating_sub(head)
+        && sender.is_empty() == (head == end)
 }
 
 /// Whether a call gives what it should.
@@ -54,7 +55,7 @@ fn does(sender: &mut Sender<'_>, step: &Step) -> bool {
         Step::Write(bytes, count) => sender.write(bytes) == *count,
         Step::SendWith(text, uncounted, count) => sends(sender, text, *uncounted, *count),
         Step::Peek(pos, most, bytes) => sender.peek_at(*pos, *most) == *bytes,
-        Step::Acknowledge(next, base, end) => is_acknowledged(sender, *next, *base, *end),
+        Step::Acknowledge(next, head, end) => is_acknowledged(sender, *next, *head, *end),
         Step::Window(window) => sender.window() == *window,
     }
 }
@@ -67,7 +68,7 @@ const FROM_TEN: [Step; 24] = [
     Step::Window(1),
     Step::Peek(11, 2, b"bc"),
     Step::Acknowledge(13, 13, 14),
-    // Only `e` has room before the storage's end, and `fg` stands at its beginning.
+    // Only `e` has room before the storage's end, and `fg` is at its beginning.
     Step::Write(b"efg", 3),
     Step::Peek(13, 100, b"de"),
     Step::Peek(14, 100, b"e"),
@@ -75,7 +76,7 @@ const FROM_TEN: [Step; 24] = [
     Step::Peek(16, 1, b"g"),
     Step::Peek(17, 100, b""),
     Step::Peek(12, 100, b""),
-    // Neither what lies below the base nor what lies above the end is acknowledged.
+    // Neither what is below the first unacknowledged position nor what is above the end is acknowledged.
     Step::Acknowledge(12, 13, 17),
     Step::Acknowledge(18, 13, 17),
     Step::Acknowledge(17, 17, 17),
@@ -83,7 +84,7 @@ const FROM_TEN: [Step; 24] = [
     Step::Write(b"hijklm", 5),
     Step::Peek(17, 100, b"hijkl"),
     Step::Acknowledge(19, 19, 22),
-    // One lends what stands before the storage's end, and the next one its beginning.
+    // One lends what is before the storage's end, and the next one its beginning.
     Step::Acknowledge(22, 22, 22),
     Step::SendWith(b"abc", 0, 3),
     Step::Acknowledge(24, 24, 25),
@@ -123,7 +124,7 @@ fn all_of(steps: &[Step], storage: &mut [u8], first: u64) -> usize {
 }
 
 #[test]
-fn a_sender_lends_what_stands_in_a_row(rt: HostRuntime) {
+fn a_sender_lends_what_is_contiguous(rt: HostRuntime) {
     let done = all_of(&FROM_TEN, &mut [0; 5], 10);
     assert_holds(&rt, done == FROM_TEN.len(), done);
 }
@@ -147,7 +148,7 @@ fn lends_all(sender: &mut Sender<'_>, bytes: &[u8]) -> bool {
     let is_full = sender.write(bytes) == bytes.len() && sender.window() == 0;
     let is_lent = sender.peek_at(0, usize::MAX) == bytes
         && sender.peek_at(1_000, 65_528) == part(bytes, 1_000, 66_528);
-    sender.acknowledge(200_000, Reported::new());
+    sender.acknowledge(200_000, SackBlocks::new());
     is_full
         && is_lent
         && sender.write(part(bytes, 0, 100_000)) == 100_000
@@ -156,7 +157,7 @@ fn lends_all(sender: &mut Sender<'_>, bytes: &[u8]) -> bool {
 }
 
 #[test]
-fn a_large_sender_lends_all_in_a_row(rt: HostRuntime) -> Result<(), AllocError> {
+fn a_large_sender_lends_all_at_once(rt: HostRuntime) -> Result<(), AllocError> {
     let bytes = pattern(rt.alloc(), 262_144)?;
     let mut storage = pattern(rt.alloc(), 262_144)?;
     let mut sender = Sender::new(ManagedSlice::Borrowed(&mut storage));

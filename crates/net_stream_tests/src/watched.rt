@@ -44,8 +44,8 @@ struct Watching<'a> {
 impl Watch for Watching<'_> {
     fn round(&mut self, counts: &Counts) {
         self.rounds = self.rounds.saturating_add(1);
-        self.bytes = counts.bytes;
-        if counts.rounds != self.rounds || counts.bytes != self.written.get() {
+        self.bytes = counts.bytes_written;
+        if counts.rounds != self.rounds || counts.bytes_written != self.written.get() {
             self.wrong = self.wrong.saturating_add(1);
         }
     }
@@ -65,21 +65,21 @@ static ROWS: [Row; 6] = [
 ];
 
 /// The fates and the config of a row.
-fn setup_of((there, back, payload, _, _): &Row) -> Setup {
+fn setup_of((forward, reverse, payload, _, _): &Row) -> Setup {
     Setup {
-        there: *there,
-        back: *back,
+        forward: *forward,
+        reverse: *reverse,
         config: Config {
             first: 0,
             capacity: 64,
             payload: *payload,
-            flight: 4_096,
+            max_burst: 4_096,
             rounds: 200,
         },
     }
 }
 
-/// Whether a copy of a row ends so, and tells of each round once, after what it brought is written.
+/// Whether a copy of a row ends so, and tells of each round once, after what came is written.
 fn tells_so(alloc: Global, row: &Row) -> bool {
     let written = Cell::new(0u64);
     let bytes = [b'x'; 100];

@@ -12,7 +12,7 @@ use std::marker::Model;
 #[derive(Drop)]
 pub struct IterData<'a, const N: usize> {
     rest: &'a [(usize, usize)],
-    hole: usize,
+    first_start: usize,
 }
 
 impl<'a, const N: usize> Model for IterData<'a, N> {
@@ -23,19 +23,22 @@ impl<'a, const N: usize> Model for IterData<'a, N> {
     ghost use Rattle.net_assembler.specs.Positions.{runs_shifted_up};
     ghost use Rattle.net_assembler.specs.RunLists.{AreRuns, FitsFrom};
 
-    ghost view = { λ s. runs_shifted_up s.hole s.rest.now };
+    ghost view = { λ s. runs_shifted_up s.first_start s.rest.now };
 
-    ghost invariant = { λ s. AreRuns s.rest.now × FitsFrom s.hole s.rest.now };
+    ghost invariant = { λ s. AreRuns s.rest.now × FitsFrom s.first_start s.rest.now };
 }
 
 impl<'a, const N: usize> IterData<'a, N> {
-    /// Returns the runs that these pairs are, counted from `hole`.
-    pub(crate) fn over(pairs: &'a [(usize, usize)], hole: usize) -> Self
+    /// Returns the runs that these pairs are, counted from `first_start`.
+    pub(crate) fn over(pairs: &'a [(usize, usize)], first_start: usize) -> Self
         requires runs { AreRuns pairs.now }
-        requires fits { FitsFrom hole pairs.now }
-        ensures { result ≡ runs_shifted_up hole pairs.now }
+        requires fits { FitsFrom first_start pairs.now }
+        ensures { result ≡ runs_shifted_up first_start pairs.now }
     {
-        IterData { rest: pairs, hole }
+        IterData {
+            rest: pairs,
+            first_start,
+        }
     }
 }
 
@@ -51,6 +54,6 @@ impl<'a, const N: usize> Iterator for IterData<'a, N> {
     fn next(&mut self) -> Option<(usize, usize)> {
         let (&(start, end), rest) = self.rest.split_first()?;
         self.rest = rest;
-        Some((self.hole + start, self.hole + end))
+        Some((self.first_start + start, self.first_start + end))
     }
 }

@@ -16,17 +16,17 @@ use super::{IterData, TooManyHolesError};
 
 /// The runs of a set: sorted pairs (start, end), end not included, with a hole between neighbours.
 ///
-/// They are counted from where the first of them starts, so the first pair starts at 0; `hole` is
-/// that position, and so how many are missing before it. Where positions below it are removed, only
-/// `hole` changes. The first `used` pairs of the array are the runs, and the others aren't read; with
-/// no run `hole` means nothing.
+/// They are counted from where the first of them starts, so the first pair starts at 0;
+/// `first_start` is that position, and so how many are missing before it. Where positions below it
+/// are removed, only `first_start` changes. The first `used` pairs of the array are the runs, and
+/// the others aren't read; with no run `first_start` means nothing.
 ///
 /// The two numbers precede the array: so close to where the value begins, instructions that
 /// read them are short.
 #[derive(Debug, Clone, Copy)]
 pub(crate) struct SortedRuns<const N: usize> {
     used: usize,
-    hole: usize,
+    first_start: usize,
     pairs: [(usize, usize); N],
 }
 
@@ -38,7 +38,7 @@ impl<const N: usize> SortedRuns<N> {
     {
         SortedRuns {
             used: 0,
-            hole: 0,
+            first_start: 0,
             pairs: [(0, 0); N],
         }
     }
@@ -70,7 +70,8 @@ impl<const N: usize> SortedRuns<N> {
         if self.used == 0 {
             return other.used == 0;
         }
-        self.hole == other.hole && self.pairs[..self.used] == other.pairs[..other.used]
+        self.first_start == other.first_start
+            && self.pairs[..self.used] == other.pairs[..other.used]
     }
 
     /// Returns the length of the run at 0, or 0 if position 0 is missing.
@@ -79,7 +80,7 @@ impl<const N: usize> SortedRuns<N> {
         requires { HasSoundPairs self.now }
         ensures { result ≡ front (set_of self.now) }
     {
-        if self.hole != 0 {
+        if self.first_start != 0 {
             return 0;
         }
         if self.used == 0 { 0 } else { self.pairs[0].1 }
@@ -93,7 +94,7 @@ impl<const N: usize> SortedRuns<N> {
     {
         if k < self.used {
             let (start, end) = self.pairs[k];
-            Some((self.hole + start, self.hole + end))
+            Some((self.first_start + start, self.first_start + end))
         } else {
             None
         }
@@ -104,7 +105,7 @@ impl<const N: usize> SortedRuns<N> {
         requires { HasSoundPairs self.now }
         ensures { result ≡ contains (set_of self.now) position }
     {
-        position >= self.hole && holds(&self.pairs[..self.used], position - self.hole)
+        position >= self.first_start && holds(&self.pairs[..self.used], position - self.first_start)
     }
 
     /// Returns the runs, one after another.
@@ -112,7 +113,7 @@ impl<const N: usize> SortedRuns<N> {
         requires { HasSoundPairs self.now }
         ensures { result ≡ runs_of self.now }
     {
-        IterData::over(&self.pairs[..self.used], self.hole)
+        IterData::over(&self.pairs[..self.used], self.first_start)
     }
 
     /// Adds a range, or changes nothing if it needs more pairs than there are.
@@ -137,17 +138,17 @@ impl<const N: usize> SortedRuns<N> {
             if N == 0 {
                 return Err(TooManyHolesError);
             }
-            self.hole = offset;
+            self.first_start = offset;
             self.pairs[0] = (0, size);
             self.used = 1;
             return Ok(());
         }
-        if offset < self.hole {
-            let by = self.hole - offset;
+        if offset < self.first_start {
+            let by = self.first_start - offset;
             self.used = join_before(&mut self.pairs, self.used, by, size, turns)?;
-            self.hole = offset;
+            self.first_start = offset;
         } else {
-            let start = offset - self.hole;
+            let start = offset - self.first_start;
             self.used = join_range(&mut self.pairs, self.used, start, start + size, turns)?;
         }
         Ok(())
@@ -187,8 +188,8 @@ impl<const N: usize> SortedRuns<N> {
         ensures waiting { runs (set_of self.new) ≡ runs (set_of self.old) → turns.new ≡ turns.old }
     {
         // All runs are after a hole. The range itself is the front, and they wait on.
-        if size < self.hole {
-            self.hole -= size;
+        if size < self.first_start {
+            self.first_start -= size;
             return size;
         }
         // No run waits: the range itself is the front.
@@ -201,10 +202,10 @@ impl<const N: usize> SortedRuns<N> {
         }
         // The range reaches the first run, or more. The front ends where the last of these does, or
         // where the range does, and these are removed with it.
-        let reach = size - self.hole;
+        let reach = size - self.first_start;
         let met = runs_starting_by(&self.pairs[..self.used], 1, reach, turns);
         let end = self.pairs[met - 1].1.max(reach);
-        let size = self.hole + end;
+        let size = self.first_start + end;
         self.drop_front(met, end, turns);
         size
     }
@@ -226,7 +227,7 @@ impl<const N: usize> SortedRuns<N> {
         if count == used {
             return;
         }
-        self.hole = self.pairs[count].0 - end;
+        self.first_start = self.pairs[count].0 - end;
         shift_pairs_down(&mut self.pairs, used, count, turns);
     }
 }

@@ -94,6 +94,6 @@ pub trait Device {
         ensures ok { IfOk result (λ r. (frame : List ℕ) × (length frame ≡ len)
             × FnOnceReturnsAtMut F.FnOnce f (replicate len 0) r frame
             × sent self.old frame self.new) }
-        ensures err { OnErr result (self.new ≡ self.old) }
+        ensures unchanged { OnErr result (self.new ≡ self.old) }
         ensures refused { OnErr result (lacks_memory self.old len) };
 }

@@ -12,7 +12,7 @@ use std::alloc::AllocError;
 /// `lacks_memory`, the frame was taken and nothing was sent.
 pub fn echo_once<D: Device>(device: &mut D, timestamp: Instant) -> Result<bool, AllocError>
     ensures idle { result ≡ Ok false → D.is_idle device.old × D.idled device.old device.new }
-    ensures same { result ≡ Ok false → ((old new : D) → D.idled old new → new ≡ old)
+    ensures unchanged { result ≡ Ok false → ((old new : D) → D.idled old new → new ≡ old)
         → device.new ≡ device.old }
     ensures echoed { result ≡ Ok true → Echoes D.taken D.sent device.old device.new }
     ensures err { OnErr result ((frame : List ℕ) × D.taken device.old frame device.new

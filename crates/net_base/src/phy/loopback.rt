@@ -2,7 +2,7 @@
 
 ghost use Rattle.std.specs.Prelude.{◌≡◌, ℕ, List, [], ◌∷◌, ◌++◌, MatchOption};
 ghost use Rattle.std.proofs.Common.{ap};
-ghost use Rattle.net_base.specs.Loopback.{Frames, loopback_capabilities};
+ghost use Rattle.net_base.specs.Loopback.{LoopbackState, loopback_capabilities};
 
 use crate::phy::{
     self, ChecksumCapabilities, Device, DeviceCapabilities, FrameLists, Medium,
@@ -30,9 +30,9 @@ pub struct Loopback<A: Allocator + Copy = Global> {
 }
 
 impl<A: Allocator + Copy> Model for Loopback<A> {
-    ghost use Rattle.net_base.specs.Loopback.{Frames, frames_of};
+    ghost use Rattle.net_base.specs.Loopback.{LoopbackState, frames_of};
 
-    ghost Value = { Frames };
+    ghost Value = { LoopbackState };
 
     ghost view = { λ d. record { medium = d.medium; frames = frames_of d.queue.items } };
 }
@@ -112,11 +112,11 @@ impl<A: Allocator + Copy> FrameLists for Loopback<A> {
 
     ghost outgoing = { λ d. d.frames };
 
-    ghost takes_first = { λ _ _ _ is. ap (λ (d : Frames). d.frames) is };
+    ghost takes_first = { λ _ _ _ is. ap (λ (d : LoopbackState). d.frames) is };
 
-    ghost keeps_all = { λ _ _ is. ap (λ (d : Frames). d.frames) is };
+    ghost keeps_all = { λ _ _ is. ap (λ (d : LoopbackState). d.frames) is };
 
-    ghost sends_last = { λ _ _ _ is. ap (λ (d : Frames). d.frames) is };
+    ghost sends_last = { λ _ _ _ is. ap (λ (d : LoopbackState). d.frames) is };
 }
 
 /// A frame that a loopback device has handed over. Contracts see its bytes.

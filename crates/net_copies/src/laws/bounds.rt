@@ -1,10 +1,10 @@
-//! How many turns, rounds and frames a copy makes, and how many frames are late.
-ghost use Rattle.net_copies.specs.Promises.{Ends, FewRoundsAnyway, FewFrames, RoundKeeps, CopyKeeps};
+//! Laws: how many turns, rounds and frames a copy makes, and how many frames are delayed.
+ghost use Rattle.net_copies.specs.Promises.{Ends, FewRoundsAnyway, FewFrames, RoundDelaysFew, CopyDelaysFew};
 ghost use Rattle.net_copies.specs.Promises.{Stays, FinalIs, CopiedIs, EndsInOneTurn};
 
 use super::streams::known;
 
-/// A copy ends after as many turns as `copied` makes.
+/// States that a copy ends after as many turns as `copied` makes.
 pub fn fuel()
     ensures { Ends }
 {
@@ -22,21 +22,22 @@ pub fn ended()
     known();
 }
 
-/// Whatever the link does, a copy makes at most `rounds` rounds for each byte that was read, twice, and
-/// `rounds` more.
+/// States that, whatever the link does, a copy makes at most `rounds` rounds for each byte that was
+/// read, twice, and `rounds` more.
 pub fn rounds_anyway()
     ensures { FewRoundsAnyway }
 {
     known();
 }
 
-/// A round sends at most `3 * flight + 1` frames and acknowledgements.
+/// States that a round sends at most `3 * max_burst + 1` frames and acknowledgements.
 pub fn sent_frames()
     ensures { FewFrames }
 {}
 
-/// After a round at most `flight` frames and `2 * flight + 1` acknowledgements are late.
-pub fn late_frames()
-    ensures round { RoundKeeps }
-    ensures copy { CopyKeeps }
+/// States that after a round at most `max_burst` frames and `2 * max_burst + 1` acknowledgements are
+/// delayed.
+pub fn delayed_frames()
+    ensures round { RoundDelaysFew }
+    ensures copy { CopyDelaysFew }
 {}

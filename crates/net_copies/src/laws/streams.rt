@@ -1,7 +1,7 @@
-//! What becomes of the stream on a link, and what a copy writes.
+//! Laws: what becomes of the stream on a link, and what a copy writes.
 ghost use Rattle.net_copies.specs.Promises.{WritesPrefix, WritesAll};
 ghost use Rattle.net_copies.specs.Promises.{SameBytes, AllAtOnce};
-ghost use Rattle.net_copies.specs.Streams.{Known, RoundCarries, StopCarries};
+ghost use Rattle.net_copies.specs.Streams.{Known, RoundKeepsInvariant, StopKeepsInvariant};
 ghost use Rattle.net_copies.specs.Streams.{ReadWrites, PassWrites, AllWritten};
 ghost use Rattle.net_copies.specs.WorkedCopy.{WorkedCopy};
 
@@ -9,14 +9,14 @@ use super::frames::frames_decode;
 use net_assembler::assembler;
 use net_receiver::laws;
 
-/// What the laws of streams rest on.
+/// States what the laws of streams depend on.
 pub fn known()
     ensures { Known }
 {
     frames_decode();
     assembler::laws::members();
     assembler::laws::maximal_runs();
-    laws::says();
+    laws::matches_stream();
     laws::receives();
     laws::truthful();
     laws::numbers();
@@ -24,17 +24,17 @@ pub fn known()
     laws::reads();
 }
 
-/// Whatever becomes of its frames, after a round the stream is still on its way; so it is where a round
-/// stopped because it lacked memory.
-pub fn stays_on_its_way()
-    ensures round { RoundCarries }
-    ensures stop { StopCarries }
+/// States that the invariant of a link is kept by a round, whatever becomes of its frames, and by a
+/// round that stopped because it lacked memory.
+pub fn keeps_invariant()
+    ensures round { RoundKeepsInvariant }
+    ensures stop { StopKeepsInvariant }
 {
     known();
 }
 
-/// What the receiver gave out of the bytes that were read is what was written: so it stays over a read
-/// and over a round; and where all that was read is written, it is all of it.
+/// States that what the receiver gave out of the bytes that were read is what was written: so it
+/// stays over a read and over a round; and where all that was read is written, it is all of it.
 pub fn is_written()
     ensures read { ReadWrites }
     ensures pass { PassWrites }
@@ -43,22 +43,22 @@ pub fn is_written()
     known();
 }
 
-/// What is written is a prefix of what was read.
+/// States that what is written is a prefix of what was read.
 pub fn prefix()
     ensures { WritesPrefix }
 {
     known();
 }
 
-/// When a copy is done, it has written all bytes before the input's end.
+/// States that a copy that is done has written all bytes before the input's end.
 pub fn all()
     ensures { WritesAll }
 {
     known();
 }
 
-/// For a reader that fills what it is asked for, what comes of a copy depends on its bytes alone: it is
-/// what comes of one whose reader has all of them at once.
+/// States that for a reader that fills what it is asked for, what comes of a copy depends on its
+/// bytes alone: it is what comes of one whose reader has all of them at once.
 pub fn filling_reads()
     ensures same { SameBytes }
     ensures at_once { AllAtOnce }
@@ -66,8 +66,8 @@ pub fn filling_reads()
     known();
 }
 
-/// A copy computed in full: two bytes in frames of one byte, of which the first is lost once. It shows what
-/// the definitions mean.
+/// States what comes of a copy computed in full: two bytes in frames of one byte, of which the first
+/// is lost once. It shows what the definitions mean.
 pub fn worked_copy()
     ensures { WorkedCopy }
 {

@@ -7,19 +7,19 @@ ghost use Rattle.net_packets.specs.PacketCalls.{TakesRoom, CountsAtMost, WritesP
 ghost use Rattle.net_packets.specs.PacketCalls.{GivesAtPacket, TakesFirstPacket, HandsPacket};
 ghost use Rattle.net_packets.specs.PacketHistory.{contents};
 
-use super::Packets;
+use super::PacketsOver;
 use super::slots::{lift_header, push_slots, put_header};
 use crate::packet_metadata::PacketMetadata;
-use net_ring::{Elements, Empty, Full};
+use net_ring::{Empty, Full, Storage};
 
 /// A closure writes the last packet, or is handed the first one.
-impl<H: Drop, M: Elements<PacketMetadata<H>>, B: Elements<u8>> Packets<H, M, B> {
+impl<H: Drop, M: Storage<PacketMetadata<H>>, B: Storage<u8>> PacketsOver<H, M, B> {
     /// Puts a packet last whose bytes `f` writes: `f` is lent `max_size` bytes, and returns how
     /// many of them, from the first on, are the packet. That number is returned.
     ///
-    /// Returns `Full` if [`Packets::place`] would for `max_size` bytes, and then drops the header,
-    /// does not call `f` and changes nothing. smoltcp places these packets by a rule of its own and
-    /// can take more than `max_size` bytes; here the rule is that of `enqueue`.
+    /// Returns `Full` if [`PacketsOver::place`] would for `max_size` bytes, and then drops the
+    /// header, does not call `f` and changes nothing. smoltcp places these packets by a rule of its
+    /// own and can take more than `max_size` bytes; here the rule is that of `enqueue`.
     ///
     /// # Requires
     ///
@@ -40,7 +40,7 @@ impl<H: Drop, M: Elements<PacketMetadata<H>>, B: Elements<u8>> Packets<H, M, B> 
         let Some(gap) = self.placement(max_size) else {
             return Err(Full);
         };
-        self.bytes.restart();
+        self.bytes.rewind_if_empty();
         let count = f(self.bytes.get_unallocated(gap, max_size));
         self.bytes.enqueue_unallocated(gap + count);
         push_slots(
@@ -68,8 +68,8 @@ impl<H: Drop, M: Elements<PacketMetadata<H>>, B: Elements<u8>> Packets<H, M, B> 
         f: F,
     ) -> Result<Result<R, E>, Empty>
         requires { TakesFirstPacket F.FnOnce f self.old }
-        ensures none { IsErr result ↔ (contents self.old ≡ []) }
-        ensures empty { IsErr result ↔ (length self.old.packets ≡ 0) }
+        ensures empty { IsErr result ↔ (contents self.old ≡ []) }
+        ensures no_packet { IsErr result ↔ (length self.old.packets ≡ 0) }
         ensures unchanged { OnErr result (self.new ≡ self.old) }
         ensures handed { IfOk result (λ answer. HandsPacket F.FnOnce f self.old answer self.new) }
     {
@@ -87,7 +87,7 @@ impl<H: Drop, M: Elements<PacketMetadata<H>>, B: Elements<u8>> Packets<H, M, B> 
     }
 }
 
-/// Calls `f` on a header and the first `size` of bytes in a row, and returns what it returned, the
+/// Calls `f` on a header and the first `size` bytes of the queue, and returns what it returned, the
 /// header and how many bytes are taken off.
 fn with_first<H, R, E, F: FnOnce(&mut H, &mut [u8]) -> Result<R, E>>(
     f: F,

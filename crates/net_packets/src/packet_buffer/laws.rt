@@ -3,21 +3,23 @@
 ghost use Rattle.std.specs.Prelude.{◌≡◌, ◌≢◌, ◌≤◌, ◌<◌, ◌++◌, ◌∷◌, ◌↔◌, [], ℕ, List, Bool};
 ghost use Rattle.std.specs.Prelude.{length, take, drop, if◌then◌else◌};
 ghost use Rattle.std.specs.declared.option.Option.TheVariants.{Some, None};
-ghost use Rattle.net_packets.specs.Packets.{PacketQueue, IsWellPlaced, no_packets, IsFirst};
+ghost use Rattle.net_packets.specs.Packets.{PacketsState, IsWellPlaced, no_packets, IsFirst};
 ghost use Rattle.net_packets.specs.Packets.{IsFirstSized, placement, with_packet_if_room, only_last};
 ghost use Rattle.net_packets.specs.Packets.{last_bytes, with_last_bytes, with_last_size, without_gap};
 ghost use Rattle.net_packets.specs.Packets.{first_size, with_first_bytes, without_first, after_hand_out, without_first_and_gap};
-ghost use Rattle.net_packets.specs.Packets.{with_bytes, freed_bytes_index, freed_bytes, AreFreed};
+ghost use Rattle.net_packets.specs.Packets.{with_bytes, last_dequeued_bytes_index};
+ghost use Rattle.net_packets.specs.Packets.{last_dequeued_bytes, AreLastDequeued};
 ghost use Rattle.net_packets.specs.PacketHistory.{contents, with_bytes_in_last_entry, QueueCall, MakesAll};
 ghost use Rattle.net_packets.specs.PacketHistory.{history};
 
-use crate::packet_buffer::Packets;
+use crate::packet_buffer::PacketsOver;
 use crate::packet_metadata::PacketMetadata;
-use net_ring::Elements;
+use net_ring::Storage;
 
-/// Every queue is well placed: its packets fit into its storage, each in a row, its gaps end at the
-/// storage's end, and there is a slot for each packet and gap. The other laws speak of such queues.
-pub fn well_placed<H, M: Elements<PacketMetadata<H>>, B: Elements<u8>>(queue: &Packets<H, M, B>)
+/// Every queue is well placed: its packets fit into its storage, the bytes of each are contiguous,
+/// its gaps end at the storage's end, and there is a slot for each packet and gap. The other laws
+/// speak of such queues.
+pub fn well_placed<H, M: Storage<PacketMetadata<H>>, B: Storage<u8>>(queue: &PacketsOver<H, M, B>)
     ensures { IsWellPlaced queue.now }
 {
     let _slots = queue.slots.capacity();
@@ -25,19 +27,19 @@ pub fn well_placed<H, M: Elements<PacketMetadata<H>>, B: Elements<u8>>(queue: &P
 
 /// A queue has as many contents as packets, and so none exactly if it has no packets.
 pub fn contents_are_packets<H>()
-    ensures count { (q : PacketQueue H) → length (contents q) ≡ length q.packets }
-    ensures none { (q : PacketQueue H) → (contents q ≡ []) ↔ (length q.packets ≡ 0) }
+    ensures count { (q : PacketsState H) → length (contents q) ≡ length q.packets }
+    ensures empty { (q : PacketsState H) → (contents q ≡ []) ↔ (length q.packets ≡ 0) }
 {}
 
 /// A queue with no packets takes a packet exactly if it has a slot, and as many bytes as the packet:
 /// also where the last packet that left stood in the midst of the storage, the packet is placed
 /// with no gap.
 pub fn empty_queue_takes_what_fits<H>()
-    ensures taken { (q : PacketQueue H) (size : ℕ) → contents q ≡ []
+    ensures taken { (q : PacketsState H) (size : ℕ) → contents q ≡ []
         → 0 < q.slot_count → size ≤ length q.storage → placement q size ≡ Some 0 }
-    ensures no_slot { (q : PacketQueue H) (size : ℕ) → contents q ≡ []
+    ensures no_slot { (q : PacketsState H) (size : ℕ) → contents q ≡ []
         → q.slot_count ≡ 0 → placement q size ≡ None }
-    ensures too_long { (q : PacketQueue H) (size : ℕ) → contents q ≡ []
+    ensures too_long { (q : PacketsState H) (size : ℕ) → contents q ≡ []
         → length q.storage < size → placement q size ≡ None }
 {}
 
@@ -46,51 +48,52 @@ pub fn empty_queue_takes_what_fits<H>()
 /// a queue has, a packet that is accepted comes to the end, a refusing closure writes the first
 /// one anew, the first one is what is shown and taken off, and dropping a gap changes nothing.
 pub fn packets_leave_in_order<H>()
-    ensures accepted { (q : PacketQueue H) (size : ℕ) (header : H) (ws : List ℕ)
+    ensures accepted { (q : PacketsState H) (size : ℕ) (header : H) (ws : List ℕ)
         → IsWellPlaced q → placement q size ≢ None → length ws ≡ size
         → contents (with_last_bytes (with_packet_if_room q size header) ws)
         ≡ contents q ++ (header, ws) ∷ [] }
-    ensures accepted_with { (q : PacketQueue H) (size count : ℕ) (header : H) (ws : List ℕ)
+    ensures accepted_with { (q : PacketsState H) (size count : ℕ) (header : H) (ws : List ℕ)
         → IsWellPlaced q → placement q size ≢ None → length ws ≡ size → count ≤ size
         → contents (with_last_size count (with_last_bytes (with_packet_if_room q size header) ws))
         ≡ contents q ++ (header, take count ws) ∷ [] }
-    ensures gap_dropped { (q : PacketQueue H) → IsWellPlaced q
+    ensures gap_dropped { (q : PacketsState H) → IsWellPlaced q
         → contents (without_gap q) ≡ contents q }
-    ensures shown { (q : PacketQueue H) (header : H) (ws : List ℕ)
+    ensures shown { (q : PacketsState H) (header : H) (ws : List ℕ)
         → IsWellPlaced q → IsFirst q header ws
         → contents q ≡ (header, ws) ∷ drop 1 (contents q) }
-    ensures refused { (q : PacketQueue H) (header : H) (ws : List ℕ)
+    ensures refused { (q : PacketsState H) (header : H) (ws : List ℕ)
         → IsWellPlaced q → q.packets ≢ [] → length ws ≡ first_size q.packets
         → contents (with_first_bytes (without_gap q) header ws)
         ≡ (header, ws) ∷ drop 1 (contents q) }
-    ensures left { (q : PacketQueue H) → IsWellPlaced q
+    ensures left { (q : PacketsState H) → IsWellPlaced q
         → contents (without_first_and_gap q) ≡ drop 1 (contents q) }
-    ensures left_with { (q : PacketQueue H) (header : H) (ws : List ℕ)
+    ensures left_with { (q : PacketsState H) (header : H) (ws : List ℕ)
         → IsWellPlaced q → length ws ≡ first_size q.packets
         → contents (without_first (with_first_bytes (without_gap q) header ws)) ≡ drop 1 (contents q) }
 {}
 
-/// What `place` and `last_mut`, and `take` and `freed_mut`, make of a queue's contents if they are
-/// used apart.
+/// What `place` and `last_mut`, and `take` and `last_dequeued_mut`, make of a queue's contents if
+/// they are used apart.
 ///
 /// A placed packet has the bytes that stand in the storage, until they are written. What
-/// `freed_mut` shows after `take` are the bytes of the packet that was taken off, and a write there
-/// changes no content. The same holds of the bytes that `dequeue` lends.
+/// `last_dequeued_mut` shows after `take` are the bytes of the packet that was taken off, and a
+/// write there changes no content. The same holds of the bytes that `dequeue` lends.
 pub fn the_two_steps_apart<H>()
-    ensures placed { (q : PacketQueue H) (size : ℕ) (header : H)
+    ensures placed { (q : PacketsState H) (size : ℕ) (header : H)
         → IsWellPlaced q → placement q size ≢ None
         → contents (with_packet_if_room q size header)
         ≡ contents q ++ (header, last_bytes (with_packet_if_room q size header)) ∷ [] }
-    ensures last_written { (q : PacketQueue H) (ws : List ℕ)
+    ensures last_written { (q : PacketsState H) (ws : List ℕ)
         → IsWellPlaced q → q.packets ≢ [] → length ws ≡ first_size (only_last q.packets)
         → contents (with_last_bytes q ws) ≡ with_bytes_in_last_entry ws (contents q) }
-    ensures taken { (q : PacketQueue H) (header : H) (size : ℕ)
+    ensures taken { (q : PacketsState H) (header : H) (size : ℕ)
         → IsWellPlaced q → IsFirstSized q.packets header size
-        → contents q ≡ (header, freed_bytes (without_first_and_gap q) size) ∷ contents (without_first_and_gap q) }
-    ensures freed_written { (q : PacketQueue H) (ws : List ℕ)
-        → IsWellPlaced q → AreFreed q (length ws)
-        → contents (with_bytes q (freed_bytes_index q (length ws)) ws) ≡ contents q }
-    ensures lent_written { (q : PacketQueue H) (ws : List ℕ)
+        → contents q ≡ (header, last_dequeued_bytes (without_first_and_gap q) size)
+        ∷ contents (without_first_and_gap q) }
+    ensures last_dequeued_written { (q : PacketsState H) (ws : List ℕ)
+        → IsWellPlaced q → AreLastDequeued q (length ws)
+        → contents (with_bytes q (last_dequeued_bytes_index q (length ws)) ws) ≡ contents q }
+    ensures lent_written { (q : PacketsState H) (ws : List ℕ)
         → IsWellPlaced q → length ws ≡ first_size q.packets
         → contents (with_bytes (without_first_and_gap q) (without_gap q).read_at ws) ≡ drop 1 (contents q) }
 {}
@@ -99,10 +102,10 @@ pub fn the_two_steps_apart<H>()
 /// leaves the header and the bytes of the first packet as they were leaves the contents, less the
 /// packet if it returned `Ok`.
 pub fn showing_changes_nothing<H>()
-    ensures peeked { (q : PacketQueue H) → IsWellPlaced q
+    ensures peeked { (q : PacketsState H) → IsWellPlaced q
         → contents (without_first_and_gap (without_gap q)) ≡ drop 1 (contents q) }
-    ensures still_there { (q : PacketQueue H) → length (without_gap q).packets ≡ length q.packets }
-    ensures unwritten { (q : PacketQueue H) (header : H) (ws : List ℕ) (gone : Bool)
+    ensures still_there { (q : PacketsState H) → length (without_gap q).packets ≡ length q.packets }
+    ensures unwritten { (q : PacketsState H) (header : H) (ws : List ℕ) (gone : Bool)
         → IsWellPlaced q → IsFirst q header ws
         → contents (after_hand_out gone q header ws)
         ≡ (if gone then drop 1 (contents q) else contents q) }
@@ -114,7 +117,7 @@ pub fn showing_changes_nothing<H>()
 /// with the header and the bytes last written to it, by who put it or by a closure that refused it.
 /// What `reset` drops counts as never accepted.
 pub fn accepted_packets_leave_in_turn<H>()
-    ensures { (slot_count : ℕ) (storage : List ℕ) (calls : List (QueueCall H)) (r : PacketQueue H)
+    ensures { (slot_count : ℕ) (storage : List ℕ) (calls : List (QueueCall H)) (r : PacketsState H)
         → MakesAll calls (no_packets slot_count storage) r
         → (history calls).left ++ contents r ≡ (history calls).accepted }
 {}

@@ -7,22 +7,22 @@ ghost use Rattle.net_packets.specs.Packets.{placement, with_packet, with_packet_
 ghost use Rattle.net_packets.specs.Packets.{last_bytes, with_last_bytes, first_size};
 ghost use Rattle.net_packets.specs.PacketHistory.{contents, with_bytes_in_last_entry};
 
-use super::Packets;
+use super::PacketsOver;
 use super::slots::push_slots;
 use crate::packet_metadata::PacketMetadata;
-use net_ring::{Elements, Full};
+use net_ring::{Full, Storage};
 
 /// A packet comes last, and its bytes are lent.
-impl<H: Drop, M: Elements<PacketMetadata<H>>, B: Elements<u8>> Packets<H, M, B> {
+impl<H: Drop, M: Storage<PacketMetadata<H>>, B: Storage<u8>> PacketsOver<H, M, B> {
     ghost use Rattle.net_packets.specs.PacketLends.{lends_bytes, lends_bytes_if};
 
     /// Puts a packet of `size` bytes last. Its bytes are those that stand in the storage;
-    /// [`Packets::last_mut`] lends them.
+    /// [`PacketsOver::last_mut`] lends them.
     ///
-    /// Returns `Full`, and drops the header and changes nothing, if no `size` bytes are free in a
-    /// row, or a slot is missing for the packet or its gap. An empty queue is read from the
-    /// storage's beginning on. With `last_mut` this is [`Packets::enqueue`] in two steps, of which
-    /// callers know exactly what they leave.
+    /// Returns `Full`, and drops the header and changes nothing, if no `size` contiguous bytes are
+    /// free, or a slot is missing for the packet or its gap. An empty queue is read from the
+    /// storage's beginning on. With `last_mut` this is [`PacketsOver::enqueue`] in two steps, of
+    /// which callers know exactly what they leave.
     pub fn place(&mut self, size: usize, header: H) -> Result<(), Full>
         ensures accepted { OnOk result ((ws : List ℕ) → length ws ≡ size
             → contents (with_last_bytes self.new ws) ≡ contents self.old ++ (header, ws) ∷ []) }
@@ -44,7 +44,7 @@ impl<H: Drop, M: Elements<PacketMetadata<H>>, B: Elements<u8>> Packets<H, M, B> 
 
     /// Lends the bytes of the packet that came last, or none if the queue has no packets.
     pub fn last_mut(&mut self) -> &mut [u8]
-        ensures* writes_back { sem 𝓛 (lends_bytes H.row M.row B.row M.Elements B.Elements
+        ensures* writes_back { sem 𝓛 (lends_bytes H.row M.row B.row M.Storage B.Storage
             self.entry result (with_last_bytes self.old)) }
         ensures written { (ws : List ℕ) → length ws ≡ length result.now
             → contents (with_last_bytes self.old ws) ≡ with_bytes_in_last_entry ws (contents self.old) }
@@ -60,11 +60,11 @@ impl<H: Drop, M: Elements<PacketMetadata<H>>, B: Elements<u8>> Packets<H, M, B> 
     /// Puts a packet of `size` bytes last and lends these bytes. Until they are written they are
     /// what stood in the storage.
     ///
-    /// Returns `Full`, and drops the header and changes nothing, if no `size` bytes are free in a
-    /// row, or a slot is missing for the packet or its gap. smoltcp can leave padding behind if it
-    /// refuses.
+    /// Returns `Full`, and drops the header and changes nothing, if no `size` contiguous bytes are
+    /// free, or a slot is missing for the packet or its gap. smoltcp can leave a gap with no packet
+    /// if it refuses.
     pub fn enqueue(&mut self, size: usize, header: H) -> Result<&mut [u8], Full>
-        ensures* writes_back { sem 𝓛 (lends_bytes_if H.row M.row B.row M.Elements B.Elements
+        ensures* writes_back { sem 𝓛 (lends_bytes_if H.row M.row B.row M.Storage B.Storage
             self.entry result (with_last_bytes (with_packet_if_room self.old size header))) }
         ensures accepted { IfOk result (λ r. (ws : List ℕ) → length ws ≡ size
             → contents (with_last_bytes (with_packet_if_room self.old size header) ws)
@@ -94,14 +94,14 @@ impl<H: Drop, M: Elements<PacketMetadata<H>>, B: Elements<u8>> Packets<H, M, B> 
             },
         );
         let bytes = &mut self.bytes;
-        bytes.restart();
+        bytes.rewind_if_empty();
         bytes.enqueue_unallocated(gap + size);
     }
 
     /// Lends the last `size` bytes, which are those of the last packet.
     pub(super) fn last_part_mut(&mut self, size: usize) -> &mut [u8]
         requires { size ≡ first_size (only_last self.old.packets) }
-        ensures* writes_back { sem 𝓛 (lends_bytes H.row M.row B.row M.Elements B.Elements
+        ensures* writes_back { sem 𝓛 (lends_bytes H.row M.row B.row M.Storage B.Storage
             self.entry result (with_last_bytes self.old)) }
         ensures value { result.now ≡ last_bytes self.old }
         ensures size { length result.now ≡ first_size (only_last self.old.packets) }

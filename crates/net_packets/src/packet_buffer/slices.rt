@@ -6,15 +6,15 @@ ghost use Rattle.net_packets.specs.Packets.{placement, with_packet, with_packet_
 ghost use Rattle.net_packets.specs.PacketCalls.{CopiesOut};
 ghost use Rattle.net_packets.specs.PacketHistory.{contents, head_bytes};
 
-use super::Packets;
+use super::PacketsOver;
 use crate::packet_metadata::PacketMetadata;
-use net_ring::{Elements, Empty, Full};
+use net_ring::{Empty, Full, Storage};
 
 /// Bytes are copied in and out.
-impl<H: Drop, M: Elements<PacketMetadata<H>>, B: Elements<u8>> Packets<H, M, B> {
+impl<H: Drop, M: Storage<PacketMetadata<H>>, B: Storage<u8>> PacketsOver<H, M, B> {
     /// Puts a packet last whose bytes are `data`.
     ///
-    /// Returns `Full`, and drops the header and changes nothing, if [`Packets::place`] would.
+    /// Returns `Full`, and drops the header and changes nothing, if [`PacketsOver::place`] would.
     /// smoltcp has no such call.
     pub fn push_slice(&mut self, header: H, data: &[u8]) -> Result<(), Full>
         ensures pushed { OnOk result
@@ -33,7 +33,7 @@ impl<H: Drop, M: Elements<PacketMetadata<H>>, B: Elements<u8>> Packets<H, M, B> 
     ///
     /// Returns `Empty`, and changes nothing, if the queue has no packets. smoltcp has no such call.
     pub fn pop_slice(&mut self, into: &mut [u8]) -> Result<(H, usize), Empty>
-        ensures none { IsErr result ↔ (contents self.old ≡ []) }
+        ensures empty { IsErr result ↔ (contents self.old ≡ []) }
         ensures popped { IfOk result
             (λ r. CopiesOut (contents self.old) r.0 into.old r.1 (contents self.new) into.new) }
         ensures count { IfOk result
@@ -43,12 +43,12 @@ impl<H: Drop, M: Elements<PacketMetadata<H>>, B: Elements<u8>> Packets<H, M, B> 
         ensures whole { length (head_bytes (contents self.old)) ≡ length into.old
             → OnOk result (into.new ≡ head_bytes (contents self.old)) }
         ensures left { OnOk result (contents self.new ≡ drop 1 (contents self.old)) }
-        ensures empty { IsErr result ↔ (length self.old.packets ≡ 0) }
+        ensures no_packet { IsErr result ↔ (length self.old.packets ≡ 0) }
         ensures unchanged { OnErr result ((self.new ≡ self.old) × (into.new ≡ into.old)) }
         ensures made { OnOk result (self.new ≡ without_first_and_gap self.old) }
     {
         let (header, size) = self.take()?;
-        let count = copy(into, self.freed_mut(size));
+        let count = copy(into, self.last_dequeued_mut(size));
         Ok((header, count))
     }
 }

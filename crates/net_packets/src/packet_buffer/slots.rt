@@ -7,11 +7,11 @@ ghost use Rattle.net_packets.specs.Packets.{slots_for};
 ghost use Rattle.net_packets.specs.PacketSlots.{gap_slot, slot, IsFirstSlot, WithFirstSlot};
 
 use crate::packet_metadata::PacketMetadata;
-use net_ring::{Elements, Empty, Ring};
+use net_ring::{Empty, RingOver, Storage};
 
 /// Enqueues the slot of a packet, and before it one for its gap, if that is not of 0 bytes.
-pub(crate) fn push_slots<H: Drop, M: Elements<PacketMetadata<H>>>(
-    slots: &mut Ring<PacketMetadata<H>, M>,
+pub(crate) fn push_slots<H: Drop, M: Storage<PacketMetadata<H>>>(
+    slots: &mut RingOver<PacketMetadata<H>, M>,
     gap: usize,
     slot: PacketMetadata<H>,
 )
@@ -34,8 +34,8 @@ pub(crate) fn push_slots<H: Drop, M: Elements<PacketMetadata<H>>>(
 }
 
 /// Enqueues a slot.
-fn push_slot<H: Drop, M: Elements<PacketMetadata<H>>>(
-    slots: &mut Ring<PacketMetadata<H>, M>,
+fn push_slot<H: Drop, M: Storage<PacketMetadata<H>>>(
+    slots: &mut RingOver<PacketMetadata<H>, M>,
     slot: PacketMetadata<H>,
 )
     requires well_formed { IsWellFormed slots.old }
@@ -51,8 +51,8 @@ fn push_slot<H: Drop, M: Elements<PacketMetadata<H>>>(
 }
 
 /// Returns the size and the header of the first slot, which stays without its header.
-pub(crate) fn lift_header<H: Drop, M: Elements<PacketMetadata<H>>>(
-    slots: &mut Ring<PacketMetadata<H>, M>,
+pub(crate) fn lift_header<H: Drop, M: Storage<PacketMetadata<H>>>(
+    slots: &mut RingOver<PacketMetadata<H>, M>,
 ) -> Result<(usize, H), Empty>
     requires well_formed { IsWellFormed slots.old }
     requires header { (size : ℕ) → IsFirstSlot slots.old size None → ⊥ }
@@ -75,8 +75,8 @@ pub(crate) fn lift_header<H: Drop, M: Elements<PacketMetadata<H>>>(
 }
 
 /// Puts a header into the first slot.
-pub(crate) fn put_header<H: Drop, M: Elements<PacketMetadata<H>>>(
-    slots: &mut Ring<PacketMetadata<H>, M>,
+pub(crate) fn put_header<H: Drop, M: Storage<PacketMetadata<H>>>(
+    slots: &mut RingOver<PacketMetadata<H>, M>,
     header: H,
 )
     requires { IsWellFormed slots.old }

@@ -3,30 +3,31 @@ ghost use Rattle.std.specs.Prelude.{◌≡◌, ◌↔◌, ◌∷◌, [], ℕ, Li
 ghost use Rattle.std.specs.Prelude.{drop};
 ghost use Rattle.std.specs.Borrow.{sem};
 ghost use Rattle.net_packets.specs.Packets.{without_gap, first_gap, first_bytes, IsFirstSized, IsFirst};
-ghost use Rattle.net_packets.specs.Packets.{without_first_and_gap, freed_bytes_index, freed_bytes, AreFreed};
-ghost use Rattle.net_packets.specs.Packets.{IsFreedAt, with_bytes};
+ghost use Rattle.net_packets.specs.Packets.{without_first_and_gap, with_bytes, AreLastDequeued};
+ghost use Rattle.net_packets.specs.Packets.{last_dequeued_bytes_index, last_dequeued_bytes};
+ghost use Rattle.net_packets.specs.Packets.{AreLastDequeuedAt};
 ghost use Rattle.net_packets.specs.PacketHistory.{contents};
 
-use super::Packets;
+use super::PacketsOver;
 use super::slots::lift_header;
 use crate::packet_metadata::PacketMetadata;
-use net_ring::{Elements, Empty};
+use net_ring::{Empty, Storage};
 
 /// The first packet is shown, or taken off, and its bytes are lent.
-impl<H: Drop, M: Elements<PacketMetadata<H>>, B: Elements<u8>> Packets<H, M, B> {
+impl<H: Drop, M: Storage<PacketMetadata<H>>, B: Storage<u8>> PacketsOver<H, M, B> {
     ghost use Rattle.net_packets.specs.PacketLends.{lends_bytes, lends_packet_if, ends_as};
 
     /// Shows the header and the bytes of the first packet, whose gap goes.
     ///
     /// Returns `Empty`, and changes nothing, if the queue has no packets.
     pub fn peek(&mut self) -> Result<(&H, &[u8]), Empty>
-        ensures* skips { sem 𝓛 (ends_as H.row M.row B.row M.Elements B.Elements
+        ensures* skips { sem 𝓛 (ends_as H.row M.row B.row M.Storage B.Storage
             self.entry (without_gap self.old)) }
-        ensures none { IsErr result ↔ (contents self.old ≡ []) }
+        ensures empty { IsErr result ↔ (contents self.old ≡ []) }
         ensures shown { IfOk result
             (λ r. contents self.old ≡ (r.0.now, r.1.now) ∷ drop 1 (contents self.old)) }
         ensures same { contents (without_gap self.old) ≡ contents self.old }
-        ensures empty { IsErr result ↔ (length self.old.packets ≡ 0) }
+        ensures no_packet { IsErr result ↔ (length self.old.packets ≡ 0) }
         ensures unchanged { OnErr result (without_gap self.old ≡ self.old) }
         ensures first { IfOk result (λ r. IsFirstSized self.old.packets r.0.now (length r.1.now)) }
         ensures bytes { IfOk result (λ r. r.1.now ≡ first_bytes (without_gap self.old)) }
@@ -36,20 +37,22 @@ impl<H: Drop, M: Elements<PacketMetadata<H>>, B: Elements<u8>> Packets<H, M, B> 
     }
 
     /// Takes the first packet and its gap off, and returns its header and how many bytes it has.
-    /// [`Packets::freed_mut`] lends these bytes.
+    /// [`PacketsOver::last_dequeued_mut`] lends these bytes.
     ///
-    /// Returns `Empty`, and changes nothing, if the queue has no packets. With `freed_mut` this is
-    /// [`Packets::dequeue`] in two steps, of which callers know exactly what they leave.
+    /// Returns `Empty`, and changes nothing, if the queue has no packets. With `last_dequeued_mut`
+    /// this is [`PacketsOver::dequeue`] in two steps, of which callers know exactly what they
+    /// leave.
     pub fn take(&mut self) -> Result<(H, usize), Empty>
-        ensures none { IsErr result ↔ (contents self.old ≡ []) }
+        ensures empty { IsErr result ↔ (contents self.old ≡ []) }
         ensures taken { IfOk result
-            (λ r. contents self.old ≡ (r.0, freed_bytes self.new r.1) ∷ contents self.new) }
+            (λ r. contents self.old ≡ (r.0, last_dequeued_bytes self.new r.1) ∷ contents self.new) }
         ensures left { OnOk result (contents self.new ≡ drop 1 (contents self.old)) }
-        ensures empty { IsErr result ↔ (length self.old.packets ≡ 0) }
+        ensures no_packet { IsErr result ↔ (length self.old.packets ≡ 0) }
         ensures unchanged { OnErr result (self.new ≡ self.old) }
         ensures first { IfOk result (λ r. IsFirstSized self.old.packets r.0 r.1) }
         ensures dequeued { OnOk result (self.new ≡ without_first_and_gap self.old) }
-        ensures freed { IfOk result (λ r. IsFreedAt self.new r.1 (without_gap self.old).read_at) }
+        ensures last_dequeued { IfOk result
+            (λ r. AreLastDequeuedAt self.new r.1 (without_gap self.old).read_at) }
     {
         self.skip();
         let (size, header) = lift_header(&mut self.slots)?;
@@ -62,48 +65,49 @@ impl<H: Drop, M: Elements<PacketMetadata<H>>, B: Elements<u8>> Packets<H, M, B> 
     ///
     /// # Requires
     ///
-    /// The `size` bytes before the read index lie in a row and none is a packet's, as after a call of
-    /// [`Packets::take`] that returned `size`.
-    pub fn freed_mut(&mut self, size: usize) -> &mut [u8]
-        requires { AreFreed self.old size }
-        ensures* writes_back { sem 𝓛 (lends_bytes H.row M.row B.row M.Elements B.Elements
-            self.entry result (with_bytes self.old (freed_bytes_index self.old size))) }
+    /// The `size` bytes before the read index are contiguous and none is a packet's, as after a
+    /// call of [`PacketsOver::take`] that returned `size`.
+    pub fn last_dequeued_mut(&mut self, size: usize) -> &mut [u8]
+        requires { AreLastDequeued self.old size }
+        ensures* writes_back { sem 𝓛 (lends_bytes H.row M.row B.row M.Storage B.Storage
+            self.entry result (with_bytes self.old (last_dequeued_bytes_index self.old size))) }
         ensures unseen { (ws : List ℕ) → length ws ≡ size
-            → contents (with_bytes self.old (freed_bytes_index self.old size) ws) ≡ contents self.old }
-        ensures value { result.now ≡ freed_bytes self.old size }
+            → contents (with_bytes self.old (last_dequeued_bytes_index self.old size) ws)
+            ≡ contents self.old }
+        ensures value { result.now ≡ last_dequeued_bytes self.old size }
         ensures size { length result.now ≡ size }
     {
-        self.bytes.get_freed(size)
+        self.bytes.last_dequeued_mut(size)
     }
 
     /// Takes the first packet and its gap off, hands its header out and lends its bytes.
     ///
     /// Returns `Empty`, and changes nothing, if the queue has no packets.
     pub fn dequeue(&mut self) -> Result<(H, &mut [u8]), Empty>
-        ensures* writes_back { sem 𝓛 (lends_packet_if H.row M.row B.row M.Elements B.Elements
+        ensures* writes_back { sem 𝓛 (lends_packet_if H.row M.row B.row M.Storage B.Storage
             self.entry result (with_bytes (without_first_and_gap self.old) (without_gap self.old).read_at)) }
-        ensures none { IsErr result ↔ (contents self.old ≡ []) }
+        ensures empty { IsErr result ↔ (contents self.old ≡ []) }
         ensures shown { IfOk result
             (λ r. contents self.old ≡ (r.0, r.1.now) ∷ drop 1 (contents self.old)) }
         ensures left { IfOk result (λ r. (ws : List ℕ) → length ws ≡ length r.1.now
             → contents (with_bytes (without_first_and_gap self.old) (without_gap self.old).read_at ws)
             ≡ drop 1 (contents self.old)) }
-        ensures empty { IsErr result ↔ (length self.old.packets ≡ 0) }
+        ensures no_packet { IsErr result ↔ (length self.old.packets ≡ 0) }
         ensures first { IfOk result (λ r. IsFirst self.old r.0 r.1.now) }
     {
         let Ok((header, size)) = self.take() else {
             return Err(Empty);
         };
-        Ok((header, self.freed_mut(size)))
+        Ok((header, self.last_dequeued_mut(size)))
     }
 }
 
 /// What `peek` shows.
-impl<H, M: Elements<PacketMetadata<H>>, B: Elements<u8>> Packets<H, M, B> {
+impl<H, M: Storage<PacketMetadata<H>>, B: Storage<u8>> PacketsOver<H, M, B> {
     /// Returns the first packet, which has no gap before it.
     fn first(&self) -> Result<(&H, &[u8]), Empty>
         requires { first_gap self.now.packets ≡ 0 }
-        ensures empty { IsErr result ↔ (length self.now.packets ≡ 0) }
+        ensures no_packet { IsErr result ↔ (length self.now.packets ≡ 0) }
         ensures first { IfOk result (λ r. IsFirstSized self.now.packets r.0.now (length r.1.now)) }
         ensures bytes { IfOk result (λ r. r.1.now ≡ first_bytes self.now) }
     {

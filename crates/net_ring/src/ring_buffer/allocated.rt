@@ -6,11 +6,11 @@ ghost use Rattle.net_ring.specs.Ring.{ring, queue, queue_index, contiguous_queue
 ghost use Rattle.net_ring.specs.Ring.{contiguous_queued, contiguous_queue};
 ghost use Rattle.net_ring.specs.Ring.{window, with_dequeued, Dequeues, WritesQueue};
 
-use super::{Ring, Span};
-use crate::managed::Elements;
+use super::{RingOver, Span};
+use crate::managed::Storage;
 
 /// Elements of the queue, at an offset from the first one.
-impl<T, S: Elements<T>> Ring<T, S> {
+impl<T, S: Storage<T>> RingOver<T, S> {
     ghost use Rattle.net_ring.specs.RingLends.{lends_many};
 
     /// Returns how many elements of the queue `get_allocated` shows and `get_allocated_mut` lends:
@@ -80,7 +80,7 @@ impl<T, S: Elements<T>> Ring<T, S> {
     /// An addition to smoltcp's calls: `get_allocated`, for elements that are changed where they
     /// stand. As many are queued after as before.
     pub fn get_allocated_mut(&mut self, offset: usize, size: usize) -> &mut [T]
-        ensures* writes_back { sem 𝓛 (lends_many T.row S.row S.Elements self.entry
+        ensures* writes_back { sem 𝓛 (lends_many T.row S.row S.Storage self.entry
             self.old (queue_index self.old offset) result) }
         ensures count { length result.now ≡ contiguous_queued_from self.old offset size }
         ensures not_empty { offset < self.old.count → 0 < size → 0 < length result.now }
@@ -134,7 +134,7 @@ impl<T, S: Elements<T>> Ring<T, S> {
 }
 
 /// Elements of the queue that are copied out.
-impl<T: Copy, S: Elements<T>> Ring<T, S> {
+impl<T: Copy, S: Storage<T>> RingOver<T, S> {
     /// Copies as many elements of the queue as `data` has room for, from the one at `offset` on, to
     /// the beginning of `data`, and returns how many; 0 if `offset` is past the queue. The rest of
     /// `data` stays as it is, and nothing is dequeued.
@@ -142,7 +142,7 @@ impl<T: Copy, S: Elements<T>> Ring<T, S> {
         ensures count { result ≡ min (length «data».old) (self.old.count - offset) }
         ensures given { «data».new
             ≡ take result (drop offset (queue self.old)) ++ drop result «data».old }
-        ensures same { self.new ≡ self.old }
+        ensures unchanged { self.new ≡ self.old }
     {
         let Span {
             from,

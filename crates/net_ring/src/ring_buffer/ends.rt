@@ -4,12 +4,12 @@ ghost use Rattle.std.specs.Prelude.{IsErr, IsNone, OnErr, OnOk, IfSome, option_c
 ghost use Rattle.net_ring.specs.Ring.{ring, capacity, window, queue, spare, write_at, with_elements};
 ghost use Rattle.net_ring.specs.Ring.{with_enqueued};
 
-use super::Ring;
+use super::RingOver;
 use crate::error::Full;
-use crate::managed::Elements;
+use crate::managed::Storage;
 
 /// One element of the queue is shown. smoltcp has no such calls; std's `VecDeque` has them.
-impl<T, S: Elements<T>> Ring<T, S> {
+impl<T, S: Storage<T>> RingOver<T, S> {
     /// Shows the element at an index of the queue, of which 0 is the first one; `None` if the queue
     /// ends before it.
     pub fn get(&self, index: usize) -> Option<&T>
@@ -34,7 +34,7 @@ impl<T, S: Elements<T>> Ring<T, S> {
 }
 
 /// One element is enqueued by value.
-impl<T: Drop, S: Elements<T>> Ring<T, S> {
+impl<T: Drop, S: Storage<T>> RingOver<T, S> {
     /// Enqueues an element, in place of the next free one.
     ///
     /// A full ring returns `Full`, stays as it is and drops the element. smoltcp has no such call.
@@ -53,13 +53,13 @@ impl<T: Drop, S: Elements<T>> Ring<T, S> {
 }
 
 /// The last element is copied out.
-impl<T: Copy, S: Elements<T>> Ring<T, S> {
+impl<T: Copy, S: Storage<T>> RingOver<T, S> {
     /// Takes the last element of the queue off, and returns it; `None` if it is empty. The storage
     /// stays as it is, so the element is the next free one.
     ///
     /// smoltcp has no such call; std's `VecDeque` has it.
     pub fn pop_back(&mut self) -> Option<T>
-        ensures none { IsNone result ↔ (self.old.count ≡ 0) }
+        ensures empty { IsNone result ↔ (self.old.count ≡ 0) }
         ensures queue { IfSome result (λ x. queue self.old ≡ queue self.new ++ x ∷ []) }
         ensures spare { IfSome result (λ x. spare self.new ≡ x ∷ spare self.old) }
         ensures room { IfSome result (λ x. window self.new ≡ window self.old + 1) }

@@ -24,7 +24,7 @@ pub fn count_and_window_are_capacity<T>()
 
 /// Moving the read index of an empty ring to the storage's beginning changes neither the queue nor
 /// the counts.
-pub fn restarting_keeps_the_queue<T>()
+pub fn rewinding_keeps_the_queue<T>()
     ensures { (g : RingState T) → (queue (from_start_if_empty g) ≡ queue g)
         × ((from_start_if_empty g).count ≡ g.count) × ((from_start_if_empty g).storage ≡ g.storage) }
 {}

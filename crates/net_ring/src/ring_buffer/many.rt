@@ -8,11 +8,11 @@ ghost use Rattle.net_ring.specs.Ring.{with_elements, with_enqueued, with_dequeue
 ghost use Rattle.net_ring.specs.Ring.{Enqueues, Dequeues};
 ghost use Rattle.net_ring.specs.RingCalls.{CountsWithin, CalledOnSpare, CalledOnQueue};
 
-use super::Ring;
-use crate::managed::Elements;
+use super::RingOver;
+use crate::managed::Storage;
 
 /// Many elements at a time: if there is none, the part that is lent is empty.
-impl<T, S: Elements<T>> Ring<T, S> {
+impl<T, S: Storage<T>> RingOver<T, S> {
     ghost use Rattle.net_ring.specs.RingLends.{lends_many};
 
     /// Calls `f` on the contiguous free elements that come next, enqueues as many of them as `f`
@@ -31,7 +31,7 @@ impl<T, S: Elements<T>> Ring<T, S> {
             (contiguous_window (from_start_if_empty self.old)) }
         ensures called { CalledOnSpare F.FnOnce f (from_start_if_empty self.old) result self.new }
     {
-        self.restart();
+        self.rewind_if_empty();
         let from = self.storage_index(self.length);
         let to = from + self.contiguous_window();
         let answer = f(self.storage.part_mut(from, to));
@@ -43,7 +43,7 @@ impl<T, S: Elements<T>> Ring<T, S> {
     ///
     /// An empty ring first moves its read index to the storage's beginning.
     pub fn enqueue_many(&mut self, size: usize) -> &mut [T]
-        ensures* writes_back { sem 𝓛 (lends_many T.row S.row S.Elements self.entry
+        ensures* writes_back { sem 𝓛 (lends_many T.row S.row S.Storage self.entry
             (with_enqueued (min size (contiguous_window (from_start_if_empty self.old))) (from_start_if_empty self.old))
             (write_at (from_start_if_empty self.old)) result) }
         ensures count { length result.now ≡ min size (contiguous_window (from_start_if_empty self.old)) }
@@ -61,7 +61,7 @@ impl<T, S: Elements<T>> Ring<T, S> {
             (ws : List T) → capacity (with_elements (with_enqueued k g) (write_at g) ws)
             ≡ capacity self.old }
     {
-        self.restart();
+        self.rewind_if_empty();
         let count = size.min(self.contiguous_window());
         let from = self.storage_index(self.length);
         self.length += count;
@@ -93,7 +93,7 @@ impl<T, S: Elements<T>> Ring<T, S> {
 
     /// Dequeues at most `size` elements, and lends them: as many as are contiguous.
     pub fn dequeue_many(&mut self, size: usize) -> &mut [T]
-        ensures* writes_back { sem 𝓛 (lends_many T.row S.row S.Elements self.entry
+        ensures* writes_back { sem 𝓛 (lends_many T.row S.row S.Storage self.entry
             (with_dequeued (min size (contiguous_queued self.old)) self.old)
             self.old.read_at result) }
         ensures count { length result.now ≡ min size (contiguous_queued self.old) }

@@ -6,12 +6,12 @@ ghost use Rattle.net_ring.specs.Ring.{window, queue, spare, write_at, with_eleme
 ghost use Rattle.net_ring.specs.Ring.{with_dequeued, capacity, Enqueues, Dequeues};
 ghost use Rattle.net_ring.specs.RingCalls.{TakesFirstOf, CalledOnNext, CalledOnFirst};
 
-use super::Ring;
+use super::RingOver;
 use crate::error::{Empty, Full};
-use crate::managed::Elements;
+use crate::managed::Storage;
 
 /// One element at a time: if there is none, the refusal is `Full` or `Empty`.
-impl<T, S: Elements<T>> Ring<T, S> {
+impl<T, S: Storage<T>> RingOver<T, S> {
     ghost use Rattle.net_ring.specs.RingLends.{lends_one, lends_one_if};
 
     /// Calls `f` on the next free element, enqueues it if `f` returns `Ok`, and returns what `f`
@@ -39,7 +39,7 @@ impl<T, S: Elements<T>> Ring<T, S> {
             return Err(Full);
         }
         let at = self.storage_index(self.length);
-        let answer = f(self.storage.item_mut(at));
+        let answer = f(self.storage.element_mut(at));
         if answer.is_ok() {
             self.length += 1;
         }
@@ -50,7 +50,7 @@ impl<T, S: Elements<T>> Ring<T, S> {
     ///
     /// A full ring returns `Full` and stays as it is.
     pub fn enqueue_one(&mut self) -> Result<&mut T, Full>
-        ensures* writes_back { sem 𝓛 (lends_one_if T.row S.row S.Elements self.entry
+        ensures* writes_back { sem 𝓛 (lends_one_if T.row S.row S.Storage self.entry
             (with_enqueued 1 self.old) (write_at self.old) result) }
         ensures full { IsErr result ↔ (window self.old ≡ 0) }
         ensures value { IfOk result (λ r. spare self.old ≡ r.now ∷ drop 1 (spare self.old)) }
@@ -72,7 +72,7 @@ impl<T, S: Elements<T>> Ring<T, S> {
     /// It stands alone since `enqueue_one` lends by the clause of one call.
     fn enqueue_next(&mut self) -> &mut T
         requires { window self.old ≢ 0 }
-        ensures* writes_back { sem 𝓛 (lends_one T.row S.row S.Elements self.entry
+        ensures* writes_back { sem 𝓛 (lends_one T.row S.row S.Storage self.entry
             (with_enqueued 1 self.old) (write_at self.old) result) }
         ensures value { spare self.old ≡ result.now ∷ drop 1 (spare self.old) }
         ensures enqueued { (w : T) → Enqueues self.old (w ∷ [])
@@ -84,7 +84,7 @@ impl<T, S: Elements<T>> Ring<T, S> {
     {
         let at = self.storage_index(self.length);
         self.length += 1;
-        self.storage.item_mut(at)
+        self.storage.element_mut(at)
     }
 
     /// Calls `f` on the first element of the queue, dequeues it if `f` returns `Ok`, and returns
@@ -113,7 +113,7 @@ impl<T, S: Elements<T>> Ring<T, S> {
         }
         let at = self.read_at;
         let next = self.next_index(1);
-        let answer = f(self.storage.item_mut(at));
+        let answer = f(self.storage.element_mut(at));
         if answer.is_ok() {
             self.read_at = next;
             self.length -= 1;
@@ -125,7 +125,7 @@ impl<T, S: Elements<T>> Ring<T, S> {
     ///
     /// An empty ring returns `Empty` and stays as it is.
     pub fn dequeue_one(&mut self) -> Result<&mut T, Empty>
-        ensures* writes_back { sem 𝓛 (lends_one_if T.row S.row S.Elements self.entry
+        ensures* writes_back { sem 𝓛 (lends_one_if T.row S.row S.Storage self.entry
             (with_dequeued 1 self.old) self.old.read_at result) }
         ensures empty { IsErr result ↔ (self.old.count ≡ 0) }
         ensures value { IfOk result (λ r. queue self.old ≡ r.now ∷ drop 1 (queue self.old)) }
@@ -147,7 +147,7 @@ impl<T, S: Elements<T>> Ring<T, S> {
     /// It stands alone since `dequeue_one` lends by the clause of one call.
     fn dequeue_first(&mut self) -> &mut T
         requires { self.old.count ≢ 0 }
-        ensures* writes_back { sem 𝓛 (lends_one T.row S.row S.Elements self.entry
+        ensures* writes_back { sem 𝓛 (lends_one T.row S.row S.Storage self.entry
             (with_dequeued 1 self.old) self.old.read_at result) }
         ensures value { queue self.old ≡ result.now ∷ drop 1 (queue self.old) }
         ensures dequeued { (w : T) → Dequeues self.old 1 (w ∷ [])
@@ -160,6 +160,6 @@ impl<T, S: Elements<T>> Ring<T, S> {
         let at = self.read_at;
         self.read_at = self.next_index(1);
         self.length -= 1;
-        self.storage.item_mut(at)
+        self.storage.element_mut(at)
     }
 }

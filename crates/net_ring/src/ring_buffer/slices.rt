@@ -5,11 +5,11 @@ ghost use Rattle.net_ring.specs.Ring.{with_enqueued, with_dequeued, from_start_i
 ghost use Rattle.net_ring.specs.Ring.{Enqueues};
 ghost use Rattle.net_ring.specs.Ring.{Dequeues};
 
-use super::Ring;
-use crate::managed::Elements;
+use super::RingOver;
+use crate::managed::Storage;
 
 /// Elements that are copied in and out, wrapping at the storage's end.
-impl<T: Copy, S: Elements<T>> Ring<T, S> {
+impl<T: Copy, S: Storage<T>> RingOver<T, S> {
     /// Enqueues as many elements of `data` as there is room for, and returns how many.
     ///
     /// An empty ring first moves its read index to the storage's beginning, also if nothing is
@@ -24,7 +24,7 @@ impl<T: Copy, S: Elements<T>> Ring<T, S> {
         ensures same { (self.new.count ≡ self.old.count + result)
             × (capacity self.new ≡ capacity self.old) }
     {
-        self.restart();
+        self.rewind_if_empty();
         let count = self.write_unallocated(0, data);
         self.enqueue_unallocated(count);
         count

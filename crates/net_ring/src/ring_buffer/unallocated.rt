@@ -2,15 +2,15 @@
 ghost use Rattle.std.specs.Prelude.{◌≡◌, ◌≤◌, ◌<◌, ◌-◌, ◌+◌, length, take, drop, min, ℕ, List};
 ghost use Rattle.std.specs.Prelude.{slice_index_or};
 ghost use Rattle.std.specs.Borrow.{sem};
-ghost use Rattle.net_ring.specs.Ring.{ring, capacity, window, spare, spare_index, freed_index};
+ghost use Rattle.net_ring.specs.Ring.{ring, capacity, window, spare, spare_index};
 ghost use Rattle.net_ring.specs.Ring.{contiguous_window_from, with_elements, with_elements_wrapping};
-ghost use Rattle.net_ring.specs.Ring.{with_enqueued, Enqueues, WritesSpare};
+ghost use Rattle.net_ring.specs.Ring.{with_enqueued, last_dequeued_index, Enqueues, WritesSpare};
 
-use super::{Ring, Span};
-use crate::managed::Elements;
+use super::{RingOver, Span};
+use crate::managed::Storage;
 
 /// Free elements, at an offset from the first one.
-impl<T, S: Elements<T>> Ring<T, S> {
+impl<T, S: Storage<T>> RingOver<T, S> {
     ghost use Rattle.net_ring.specs.RingLends.{lends_many};
 
     /// Returns how many free elements `get_unallocated` lends: of at most `size` from the one at
@@ -31,7 +31,7 @@ impl<T, S: Elements<T>> Ring<T, S> {
     ///
     /// None if `offset` is past the window. As many elements are queued after as before.
     pub fn get_unallocated(&mut self, offset: usize, size: usize) -> &mut [T]
-        ensures* writes_back { sem 𝓛 (lends_many T.row S.row S.Elements self.entry
+        ensures* writes_back { sem 𝓛 (lends_many T.row S.row S.Storage self.entry
             self.old (spare_index self.old offset) result) }
         ensures count { length result.now ≡ contiguous_window_from self.old offset size }
         ensures not_empty { offset < window self.old → 0 < size → 0 < length result.now }
@@ -59,17 +59,17 @@ impl<T, S: Elements<T>> Ring<T, S> {
     ///
     /// `size` is at most `capacity()`, and the elements are contiguous.
     #[inline]
-    pub fn get_freed(&mut self, size: usize) -> &mut [T]
+    pub fn last_dequeued_mut(&mut self, size: usize) -> &mut [T]
         requires size { size ≤ capacity self.old }
-        requires contiguous { freed_index self.old size + size ≤ capacity self.old }
-        ensures* writes_back { sem 𝓛 (lends_many T.row S.row S.Elements self.entry
-            self.old (freed_index self.old size) result) }
+        requires contiguous { last_dequeued_index self.old size + size ≤ capacity self.old }
+        ensures* writes_back { sem 𝓛 (lends_many T.row S.row S.Storage self.entry
+            self.old (last_dequeued_index self.old size) result) }
         ensures count { length result.now ≡ size }
         ensures stored { result.now
-            ≡ take size (drop (freed_index self.old size) self.old.storage) }
+            ≡ take size (drop (last_dequeued_index self.old size) self.old.storage) }
         ensures written { (ws : List T) → length ws ≡ size → size ≤ window self.old →
             WritesSpare self.old (window self.old - size) ws
-            (with_elements self.old (freed_index self.old size) ws) }
+            (with_elements self.old (last_dequeued_index self.old size) ws) }
     {
         let from = if size <= self.read_at {
             self.read_at - size
@@ -99,7 +99,7 @@ impl<T, S: Elements<T>> Ring<T, S> {
 }
 
 /// Free elements that are copied in.
-impl<T: Copy, S: Elements<T>> Ring<T, S> {
+impl<T: Copy, S: Storage<T>> RingOver<T, S> {
     /// Writes as many elements of `data` as there is room for to the free elements from the one at
     /// `offset` on, and returns how many; 0 if `offset` is past the window. Nothing is enqueued.
     pub fn write_unallocated(&mut self, offset: usize, data: &[T]) -> usize

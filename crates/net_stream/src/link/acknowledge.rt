@@ -1,28 +1,28 @@
 //! Step 5 of a round: acknowledgements come to the sender.
 ghost use Rattle.std.specs.Prelude.{◌≡◌, ◌+◌, ℕ, length, true, false, OnOk, OnErr, IfOk};
 ghost use Rattle.net_copies.specs.LinkState.{times, acknowledge, came_ack, meet_ack};
-ghost use Rattle.net_copies.specs.LinkState.{late_ack, late_acks, pass_ack, pass_acks, StopsAck};
+ghost use Rattle.net_copies.specs.LinkState.{delayed_ack, delayed_acks, pass_ack, pass_acks, StopsAck};
 
 use super::Link;
 use crate::frame::decode;
-use crate::reported::Reported;
+use crate::sack_blocks::SackBlocks;
 use net_base::phy::RxToken;
 use net_copies::Fate;
 use std::alloc::{AllocError, Allocator};
 
 impl<'a, 'f, A: Allocator + Copy> Link<'a, 'f, A> {
-    /// An acknowledgement comes to the sender. One that is too short for a position, or whose
-    /// position is below the sender's `base` or above its `end`, changes nothing.
+    /// Hands an acknowledgement to the sender. One that is too short for a position, or whose
+    /// position is below the sender's `first_unacknowledged` or above its `end`, changes nothing.
     fn acknowledge(&mut self, frame: &[u8])
         ensures state { self.new ≡ acknowledge self.old frame.now }
     {
-        let Some((next, report)) = decode(frame) else {
+        let Some((next, blocks)) = decode(frame) else {
             return;
         };
-        self.sender.acknowledge(next, Reported::of_bytes(report));
+        self.sender.acknowledge(next, SackBlocks::of_bytes(blocks));
     }
 
-    /// An acknowledgement that was taken off its path met its fate.
+    /// Lets an acknowledgement that was taken off its path meet its fate.
     fn meet_ack(&mut self, frame: &[u8], fate: Fate) -> Result<(), AllocError>
         ensures ok { OnOk result (self.new ≡ meet_ack fate self.old frame.now) }
         ensures err { OnErr result (self.new ≡ came_ack fate self.old frame.now) }
@@ -31,37 +31,37 @@ impl<'a, 'f, A: Allocator + Copy> Link<'a, 'f, A> {
         if fate.comes() {
             self.acknowledge(frame);
         }
-        if fate.comes_late() {
-            self.back.put_late(now, frame)?;
+        if fate.comes_delayed() {
+            self.reverse.put_delayed(now, frame)?;
         }
         Ok(())
     }
 
-    /// The next acknowledgement on its way meets its fate. Returns whether there was one.
+    /// Lets the next acknowledgement in flight meet its fate. Returns whether there was one.
     fn pass_ack(&mut self) -> Result<bool, AllocError>
         ensures ok { OnOk result (self.new ≡ pass_ack self.old) }
         ensures some { IfOk result (λ some. some ≡ true
-            → length self.old.back.ahead ≡ length self.new.back.ahead + 1) }
-        ensures none { IfOk result (λ some. some ≡ false
-            → (self.new ≡ self.old) × (length self.old.back.ahead ≡ 0)) }
-        ensures err { OnErr result (StopsAck self.old self.old.back.ahead self.new) }
+            → length self.old.reverse.in_flight ≡ length self.new.reverse.in_flight + 1) }
+        ensures empty { IfOk result (λ some. some ≡ false
+            → (self.new ≡ self.old) × (length self.old.reverse.in_flight ≡ 0)) }
+        ensures err { OnErr result (StopsAck self.old self.old.reverse.in_flight self.new) }
     {
         let now = self.now();
-        let Some(token) = self.back.take(now) else {
+        let Some(token) = self.reverse.take(now) else {
             return Ok(false);
         };
         let frame = token.frame();
-        let fate = self.back.draw();
+        let fate = self.reverse.draw();
         self.counts.meet(fate);
         self.meet_ack(frame, fate)?;
         Ok(true)
     }
 
-    /// The acknowledgements on their way meet their fates, one after another.
+    /// Lets the acknowledgements in flight meet their fates, one after another.
     pub(super) fn pass_acks(&mut self) -> Result<(), AllocError>
         ensures ok { OnOk result (self.new ≡ pass_acks self.old) }
         ensures err { OnErr result ((n : ℕ) × StopsAck (times n pass_ack self.old)
-            (times n pass_ack self.old).back.ahead self.new) }
+            (times n pass_ack self.old).reverse.in_flight self.new) }
     {
         'acks: loop {
             if !self.pass_ack()? {
@@ -70,26 +70,26 @@ impl<'a, 'f, A: Allocator + Copy> Link<'a, 'f, A> {
         }
     }
 
-    /// The next late acknowledgement comes to the sender. Returns whether there was one.
-    fn late_ack(&mut self) -> bool
-        ensures state { self.new ≡ late_ack self.old }
-        ensures some { result ≡ true → length self.old.back.late ≡ length self.new.back.late + 1 }
-        ensures none { result ≡ false → (self.new ≡ self.old) × (length self.old.back.late ≡ 0) }
+    /// Hands the next delayed acknowledgement to the sender. Returns whether there was one.
+    fn delayed_ack(&mut self) -> bool
+        ensures state { self.new ≡ delayed_ack self.old }
+        ensures some { result ≡ true → length self.old.reverse.delayed ≡ length self.new.reverse.delayed + 1 }
+        ensures empty { result ≡ false → (self.new ≡ self.old) × (length self.old.reverse.delayed ≡ 0) }
     {
         let now = self.now();
-        let Some(token) = self.back.take_late(now) else {
+        let Some(token) = self.reverse.take_delayed(now) else {
             return false;
         };
         self.acknowledge(token.frame());
         true
     }
 
-    /// The late acknowledgements of the round before come to the sender.
-    pub(super) fn late_acks(&mut self)
-        ensures state { self.new ≡ late_acks self.old }
+    /// Hands the delayed acknowledgements of the round before to the sender.
+    pub(super) fn delayed_acks(&mut self)
+        ensures state { self.new ≡ delayed_acks self.old }
     {
-        'late: loop {
-            if !self.late_ack() {
+        'delayed: loop {
+            if !self.delayed_ack() {
                 return;
             }
         }

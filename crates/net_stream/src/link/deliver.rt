@@ -1,31 +1,31 @@
 //! Steps 2 and 3 of a round: frames come to the receiver, which acknowledges what it has.
 ghost use Rattle.std.specs.Prelude.{◌≡◌, ◌+◌, ℕ, length, true, false, OnOk, OnErr, IfOk, ◌⊎◌};
 ghost use Rattle.net_copies.specs.LinkState.{times, take_in, come, came, meet, acknowledge_all};
-ghost use Rattle.net_copies.specs.LinkState.{late_frame, late_frames, pass_frame, pass_frames};
-ghost use Rattle.net_copies.specs.LinkState.{StopsLate, StopsFrame};
+ghost use Rattle.net_copies.specs.LinkState.{delayed_frame, delayed_frames, pass_frame, pass_frames};
+ghost use Rattle.net_copies.specs.LinkState.{StopsDelayed, StopsFrame};
 
 use super::{Link, MOST_RUNS};
 use crate::frame::decode;
-use crate::reported::{REPORT_LEN, list_held};
+use crate::sack_blocks::{SACK_BLOCKS_LEN, list_held};
 use net_base::phy::RxToken;
 use net_copies::Fate;
 use net_receiver::Receiver;
 use std::alloc::{AllocError, Allocator};
 
 impl<'a, 'f, A: Allocator + Copy> Link<'a, 'f, A> {
-    /// Puts an acknowledgement of all that the receiver has on its way: the first missing position,
-    /// and the first 32 held runs.
+    /// Sends an acknowledgement of all that the receiver has: the first missing position, and the
+    /// first 32 held runs as SACK blocks.
     pub(super) fn acknowledge_all(&mut self) -> Result<(), AllocError>
         ensures ok { OnOk result (self.new ≡ acknowledge_all self.old) }
-        ensures err { OnErr result (self.new ≡ self.old) }
+        ensures unchanged { OnErr result (self.new ≡ self.old) }
     {
         let now = self.now();
-        let mut report = [0u8; REPORT_LEN];
-        let len = list_held(&self.receiver, &mut report);
-        self.back.send(now, self.receiver.next(), &report[..len])
+        let mut blocks = [0u8; SACK_BLOCKS_LEN];
+        let len = list_held(&self.receiver, &mut blocks);
+        self.reverse.send(now, self.receiver.next(), &blocks[..len])
     }
 
-    /// A frame comes to the receiver, which acknowledges what it then has. One that is too short for
+    /// Hands a frame to the receiver, which acknowledges what it then has. One that is too short for
     /// a position does nothing, nor does one whose positions go past 64 bits.
     fn come(&mut self, frame: &[u8]) -> Result<(), AllocError>
         ensures ok { OnOk result (self.new ≡ come self.old frame.now) }
@@ -42,7 +42,7 @@ impl<'a, 'f, A: Allocator + Copy> Link<'a, 'f, A> {
         self.acknowledge_all()
     }
 
-    /// A frame that was taken off its path met its fate.
+    /// Lets a frame that was taken off its path meet its fate.
     fn meet(&mut self, frame: &[u8], fate: Fate) -> Result<(), AllocError>
         ensures ok { OnOk result (self.new ≡ meet fate self.old frame.now) }
         ensures err { OnErr result ((self.new ≡ take_in self.old frame.now)
@@ -52,37 +52,37 @@ impl<'a, 'f, A: Allocator + Copy> Link<'a, 'f, A> {
         if fate.comes() {
             self.come(frame)?;
         }
-        if fate.comes_late() {
-            self.there.put_late(now, frame)?;
+        if fate.comes_delayed() {
+            self.forward.put_delayed(now, frame)?;
         }
         Ok(())
     }
 
-    /// The next frame on its way meets its fate. Returns whether there was one.
+    /// Lets the next frame in flight meet its fate. Returns whether there was one.
     fn pass_frame(&mut self) -> Result<bool, AllocError>
         ensures ok { OnOk result (self.new ≡ pass_frame self.old) }
         ensures some { IfOk result (λ some. some ≡ true
-            → length self.old.there.ahead ≡ length self.new.there.ahead + 1) }
-        ensures none { IfOk result (λ some. some ≡ false
-            → (self.new ≡ self.old) × (length self.old.there.ahead ≡ 0)) }
-        ensures err { OnErr result (StopsFrame self.old self.old.there.ahead self.new) }
+            → length self.old.forward.in_flight ≡ length self.new.forward.in_flight + 1) }
+        ensures empty { IfOk result (λ some. some ≡ false
+            → (self.new ≡ self.old) × (length self.old.forward.in_flight ≡ 0)) }
+        ensures err { OnErr result (StopsFrame self.old self.old.forward.in_flight self.new) }
     {
         let now = self.now();
-        let Some(token) = self.there.take(now) else {
+        let Some(token) = self.forward.take(now) else {
             return Ok(false);
         };
         let frame = token.frame();
-        let fate = self.there.draw();
+        let fate = self.forward.draw();
         self.counts.meet(fate);
         self.meet(frame, fate)?;
         Ok(true)
     }
 
-    /// The frames on their way meet their fates, one after another.
+    /// Lets the frames in flight meet their fates, one after another.
     pub(super) fn pass_frames(&mut self) -> Result<(), AllocError>
         ensures ok { OnOk result (self.new ≡ pass_frames self.old) }
         ensures err { OnErr result ((n : ℕ) × StopsFrame (times n pass_frame self.old)
-            (times n pass_frame self.old).there.ahead self.new) }
+            (times n pass_frame self.old).forward.in_flight self.new) }
     {
         'frames: loop {
             if !self.pass_frame()? {
@@ -91,31 +91,31 @@ impl<'a, 'f, A: Allocator + Copy> Link<'a, 'f, A> {
         }
     }
 
-    /// The next late frame comes to the receiver. Returns whether there was one.
-    fn late_frame(&mut self) -> Result<bool, AllocError>
-        ensures ok { OnOk result (self.new ≡ late_frame self.old) }
+    /// Hands the next delayed frame to the receiver. Returns whether there was one.
+    fn delayed_frame(&mut self) -> Result<bool, AllocError>
+        ensures ok { OnOk result (self.new ≡ delayed_frame self.old) }
         ensures some { IfOk result (λ some. some ≡ true
-            → length self.old.there.late ≡ length self.new.there.late + 1) }
-        ensures none { IfOk result (λ some. some ≡ false
-            → (self.new ≡ self.old) × (length self.old.there.late ≡ 0)) }
-        ensures err { OnErr result (StopsLate self.old self.old.there.late self.new) }
+            → length self.old.forward.delayed ≡ length self.new.forward.delayed + 1) }
+        ensures empty { IfOk result (λ some. some ≡ false
+            → (self.new ≡ self.old) × (length self.old.forward.delayed ≡ 0)) }
+        ensures err { OnErr result (StopsDelayed self.old self.old.forward.delayed self.new) }
     {
         let now = self.now();
-        let Some(token) = self.there.take_late(now) else {
+        let Some(token) = self.forward.take_delayed(now) else {
             return Ok(false);
         };
         self.come(token.frame())?;
         Ok(true)
     }
 
-    /// The late frames of the round before come to the receiver.
-    pub(super) fn late_frames(&mut self) -> Result<(), AllocError>
-        ensures ok { OnOk result (self.new ≡ late_frames self.old) }
-        ensures err { OnErr result ((n : ℕ) × StopsLate (times n late_frame self.old)
-            (times n late_frame self.old).there.late self.new) }
+    /// Hands the delayed frames of the round before to the receiver.
+    pub(super) fn delayed_frames(&mut self) -> Result<(), AllocError>
+        ensures ok { OnOk result (self.new ≡ delayed_frames self.old) }
+        ensures err { OnErr result ((n : ℕ) × StopsDelayed (times n delayed_frame self.old)
+            (times n delayed_frame self.old).forward.delayed self.new) }
     {
-        'late: loop {
-            if !self.late_frame()? {
+        'delayed: loop {
+            if !self.delayed_frame()? {
                 return Ok(());
             }
         }

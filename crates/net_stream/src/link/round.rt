@@ -1,47 +1,51 @@
-//! A round.
+//! A round of a link, and how many frames the next one may send.
 ghost use Rattle.std.specs.Prelude.{◌≡◌, ℕ, List, OnOk, OnErr};
-ghost use Rattle.net_copies.specs.LinkState.{next_flight, round, StopsRound};
-ghost use Rattle.net_copies.specs.Links.{Carries};
+ghost use Rattle.net_copies.specs.LinkState.{next_burst, round, StopsRound};
+ghost use Rattle.net_copies.specs.LinkInvariant.{LinkInvariant};
 
 use super::Link;
-use crate::reported::MOST_REPORTED;
+use crate::sack_blocks::MOST_SACK_BLOCKS;
 use net_copies::laws;
 use std::alloc::{AllocError, Allocator};
 
-/// How many frames the next round may send: half as many if the report is full, but at least as many
-/// as ranges can be reported, and else so many more; at most `limit`.
-fn flight_after(flight: u32, limit: u32, full: bool) -> u32
-    ensures { result ≡ next_flight limit flight full }
+/// Returns how many frames the next round may send: half as many if there are as many SACK blocks as
+/// there can be, but no fewer than those, and else so many more; at most `max_burst`.
+fn burst_after(burst: u32, max_burst: u32, full: bool) -> u32
+    ensures { result ≡ next_burst max_burst burst full }
 {
     if full {
-        return limit.min((flight / 2).max(MOST_REPORTED as u32));
+        return max_burst.min((burst / 2).max(MOST_SACK_BLOCKS as u32));
     }
-    limit.min(flight.saturating_add(MOST_REPORTED as u32))
+    max_burst.min(burst.saturating_add(MOST_SACK_BLOCKS as u32))
 }
 
 impl<'a, 'f, A: Allocator + Copy> Link<'a, 'f, A> {
-    /// One round: what the sender has queued and wasn't reported is put on its way, late frames of
-    /// the round before come, the frames on their way meet their fates, the receiver acknowledges once
-    /// more what it has, and late acknowledgements and those on their way come likewise. `state` says
+    /// Passes a round: what the sender has queued and is in no SACK block is sent, delayed frames of
+    /// the round before come, the frames in flight meet their fates, the receiver acknowledges once
+    /// more what it has, and delayed acknowledgements and those in flight come likewise. `state` says
     /// it exactly.
     ///
-    /// Then the flight is halved if as many ranges are reported as an acknowledgement has room for,
+    /// Then the burst is halved if there are as many SACK blocks as an acknowledgement has room for,
     /// and else it grows by so many. A refusal of memory ends the round where it was, and leaves the
-    /// flight.
+    /// burst.
     pub fn pass_round(&mut self) -> Result<(), AllocError>
         ensures state { OnOk result (self.new ≡ round self.old) }
         ensures err { OnErr result (StopsRound self.old self.new) }
-        ensures carries { (f : ℕ) (w : List ℕ) → Carries f w self.old → Carries f w self.new }
+        ensures carries { (f : ℕ) (w : List ℕ) → LinkInvariant f w self.old → LinkInvariant f w self.new }
         ensures read { self.new.receiver.read ≡ self.old.receiver.read }
     {
         laws::known();
         self.transmit()?;
-        self.late_frames()?;
+        self.delayed_frames()?;
         self.pass_frames()?;
         self.acknowledge_all()?;
-        self.late_acks();
+        self.delayed_acks();
         self.pass_acks()?;
-        self.flight = flight_after(self.flight, self.limit, self.sender.is_report_full());
+        self.burst = burst_after(
+            self.burst,
+            self.max_burst,
+            self.sender.are_sack_blocks_full(),
+        );
         Ok(())
     }
 }

@@ -1,44 +1,44 @@
-//! Step 1 of a round: the sender's frames are put on their way.
+//! Step 1 of a round: the sender's frames are sent.
 ghost use Rattle.std.specs.Prelude.{◌≡◌, ◌≤◌, ◌<◌, ◌^◌, ℕ, OnOk, OnErr, IfOk};
-ghost use Rattle.net_copies.specs.Outgoing.{end_of};
+ghost use Rattle.net_copies.specs.SenderState.{end_of};
 ghost use Rattle.net_copies.specs.LinkState.{times, start, part, part_at, transmit};
 
 use super::Link;
 use std::alloc::{AllocError, Allocator};
 
 impl<'a, 'f, A: Allocator + Copy> Link<'a, 'f, A> {
-    /// Spares the byte at `pos` and those after it that were reported with it; else sends a frame.
+    /// Spares the byte at `pos` and those after it in its SACK block; if none has it, sends a frame.
     /// Returns the position after them, and how many frames are left.
     fn transmit_part(&mut self, pos: u64, left: u32) -> Result<(u64, u32), AllocError>
-        requires from { self.old.sender.base ≤ pos }
+        requires from { self.old.sender.first_unacknowledged ≤ pos }
         requires queued { pos < end_of self.old.sender }
         requires some { 0 < left }
         ensures ok { IfOk result (λ done. record { pos = done.0; left = done.1; link = self.new }
             ≡ part_at (record { pos = pos; left = left; link = self.old })) }
         ensures within { IfOk result (λ done. (pos < done.0) × (done.0 ≤ end_of self.old.sender)) }
         ensures sender { self.new.sender ≡ self.old.sender }
-        ensures err { OnErr result (self.new ≡ self.old) }
+        ensures unchanged { OnErr result (self.new ≡ self.old) }
     {
         let payload = self.counts.payload;
-        let spared = self.sender.reported_from(pos);
+        let spared = self.sender.sacked_from(pos);
         if spared > 0 {
             return Ok((pos + spared, left));
         }
         let now = self.now();
-        let room = (self.sender.next_reported(pos) - pos) as usize;
+        let room = (self.sender.next_block(pos) - pos) as usize;
         let most = self.payload.max(1) as usize;
         let bytes = self.sender.peek_at(pos, most.min(room));
-        self.there.send(now, pos, bytes)?;
+        self.forward.send(now, pos, bytes)?;
         self.counts.payload = payload.saturating_add(bytes.len() as u64);
         Ok((pos + bytes.len() as u64, left - 1))
     }
 
-    /// Puts frames of the sender's queue on their way, but of what the receiver reported: at most
-    /// `flight` frames, each of at most `payload` bytes. A number of 0 counts as 1.
+    /// Sends frames of the sender's queue, but of what is in SACK blocks: at most `burst` frames, each
+    /// of at most `payload` bytes. A number of 0 counts as 1.
     ///
-    /// A frame ends at `payload` bytes, at the next reported range, where the sender's storage wraps,
-    /// or at the end. While as many ranges are reported as an acknowledgement has room for, no frame
-    /// begins after the last of them. A refusal of memory leaves the frames before it on their way,
+    /// A frame ends at `payload` bytes, at the next SACK block, where the sender's storage wraps,
+    /// or at the end. While there are as many SACK blocks as an acknowledgement has room for, no frame
+    /// begins after the last of them. A refusal of memory leaves the frames before it in flight,
     /// and they are counted.
     pub(super) fn transmit(&mut self) -> Result<(), AllocError>
         ensures ok { OnOk result (self.new ≡ transmit self.old) }
@@ -46,8 +46,8 @@ impl<'a, 'f, A: Allocator + Copy> Link<'a, 'f, A> {
         ensures fits { end_of self.old.sender < 2 ^ 64 }
     {
         let stop = self.sender.stop();
-        let mut left = self.flight.max(1);
-        let mut pos = self.sender.base();
+        let mut left = self.burst.max(1);
+        let mut pos = self.sender.first_unacknowledged();
         'parts: while pos < stop && left > 0 {
             (pos, left) = self.transmit_part(pos, left)?;
         }

@@ -1,9 +1,9 @@
 //! The rows that compare/copy_model.py writes.
 
 use crate::counted::ways::{
-    ALL, EACH_SECOND, EACH_SECOND_THEN_NONE, FIRST_AND_THIRD_LOST, FIRST_LATE, FIRST_LOST,
-    FOUR_LATE_THEN_NONE, FOUR_LOST, LATE_AND_REPEATED, NINE_LOST, NONE, REPEATED_THEN_NONE,
-    SECOND_LOST, SECOND_THEN_NONE, SOME, THIRTY_LOST, THREE_LATE_THEN_NONE,
+    ALL, DELAYED_AND_DUPLICATED, DUPLICATED_THEN_NONE, EACH_SECOND, EACH_SECOND_THEN_NONE,
+    FIRST_AND_THIRD_LOST, FIRST_DELAYED, FIRST_LOST, FOUR_DELAYED_THEN_NONE, FOUR_LOST, NINE_LOST,
+    NONE, SECOND_LOST, SECOND_THEN_NONE, SOME, THIRTY_LOST, THREE_DELAYED_THEN_NONE,
 };
 use crate::counted::{Case, TO_THE_END};
 use net_testing::NEVER;
@@ -19,7 +19,7 @@ pub static CASES: [Case; 57] = [
         ("Ok", 2),
         [6, 6, 1, 10_000, 7, 6, 0, 0, 0, 0],
     ),
-    // The second frame is lost, and it alone is sent again: the third was reported.
+    // The second frame is lost, and it alone is sent again: the third is in a SACK block.
     Case(
         SECOND_LOST,
         ALL,
@@ -37,18 +37,18 @@ pub static CASES: [Case; 57] = [
         ("Ok", 2),
         [6, 6, 2, 30_000, 10, 10, 2, 0, 0, 0],
     ),
-    // One is late, and one comes twice.
+    // One is delayed, and one comes twice.
     Case(
-        LATE_AND_REPEATED,
+        DELAYED_AND_DUPLICATED,
         ALL,
         (6, 0, 16, 2, 4_096, 100),
         TO_THE_END,
         ("Ok", 2),
         [6, 6, 2, 30_000, 11, 8, 0, 1, 1, 0],
     ),
-    // All are late, and none that is sent after them comes: the late ones do.
+    // All are delayed, and none that is sent after them comes: the delayed ones do.
     Case(
-        THREE_LATE_THEN_NONE,
+        THREE_DELAYED_THEN_NONE,
         ALL,
         (6, 0, 16, 2, 4_096, 100),
         TO_THE_END,
@@ -57,7 +57,7 @@ pub static CASES: [Case; 57] = [
     ),
     // One comes twice, and none after it.
     Case(
-        REPEATED_THEN_NONE,
+        DUPLICATED_THEN_NONE,
         ALL,
         (6, 0, 16, 2, 4_096, 100),
         TO_THE_END,
@@ -81,7 +81,7 @@ pub static CASES: [Case; 57] = [
         ("gave up", 1),
         [6, 0, 3, 70_000, 12, 18, 9, 0, 0, 0],
     ),
-    // A held run that was reported brings nothing on.
+    // A SACK block makes no progress.
     Case(
         SECOND_THEN_NONE,
         ALL,
@@ -117,7 +117,7 @@ pub static CASES: [Case; 57] = [
         ("Ok", 2),
         [6, 6, 11, 5_270_000, 47, 66, 30, 0, 0, 0],
     ),
-    // Each second one is lost: 32 runs are held and reported, and eight segments are refused.
+    // Each second one is lost: 32 runs are held, each a SACK block, and eight segments are refused.
     Case(
         EACH_SECOND,
         ALL,
@@ -126,7 +126,7 @@ pub static CASES: [Case; 57] = [
         ("Ok", 2),
         [80, 80, 3, 40_000, 219, 128, 40, 0, 0, 8],
     ),
-    // It gives up after 101 rounds that brought nothing on.
+    // It gives up after 101 rounds without progress.
     Case(
         NONE,
         ALL,
@@ -161,10 +161,10 @@ pub static CASES: [Case; 57] = [
         ("gave up", 1),
         [6, 6, 6, 320_000, 42, 36, 24, 0, 0, 0],
     ),
-    // Late acknowledgements come in the next round, and a repeated one comes at once.
+    // Delayed acknowledgements come in the next round, and a duplicated one comes at once.
     Case(
         ALL,
-        FOUR_LATE_THEN_NONE,
+        FOUR_DELAYED_THEN_NONE,
         (6, 0, 6, 2, 4_096, 5),
         TO_THE_END,
         ("Ok", 2),
@@ -172,13 +172,13 @@ pub static CASES: [Case; 57] = [
     ),
     Case(
         ALL,
-        REPEATED_THEN_NONE,
+        DUPLICATED_THEN_NONE,
         (6, 0, 6, 2, 4_096, 5),
         TO_THE_END,
         ("Ok", 2),
         [6, 6, 1, 10_000, 7, 6, 3, 1, 0, 0],
     ),
-    // What is written brings a copy on, and so does what is let go.
+    // What is written is progress, and so is what is acknowledged.
     Case(
         ALL,
         FOUR_LOST,
@@ -286,7 +286,7 @@ pub static CASES: [Case; 57] = [
         ("Ok", 13),
         [3_000, 3_000, 43, 630_000, 617, 4_536, 129, 137, 114, 0],
     ),
-    // So it is while the flight is used up.
+    // So it is while the burst is used up.
     Case(
         ALL,
         ALL,
@@ -354,10 +354,10 @@ pub static CASES: [Case; 57] = [
         ("Ok", 3),
         [100_000, 100_000, 2, 20_000, 146, 100_000, 0, 0, 0, 0],
     ),
-    // One frame, late, and so is its acknowledgement.
+    // One frame, delayed, and so is its acknowledgement.
     Case(
-        FIRST_LATE,
-        FIRST_LATE,
+        FIRST_DELAYED,
+        FIRST_DELAYED,
         (100_000, 0, 262_144, 100_000, 4_096, 100),
         TO_THE_END,
         ("Ok", 2),
@@ -455,7 +455,7 @@ pub static CASES: [Case; 57] = [
         ("Ok", 3),
         [6, 6, 2, 20_000, 14, 6, 0, 0, 0, 0],
     ),
-    // A read fails while bytes are on their way.
+    // A read fails while bytes are in flight.
     Case(
         SECOND_LOST,
         ALL,

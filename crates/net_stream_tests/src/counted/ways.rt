@@ -7,15 +7,15 @@ const DELIVERED: Fate = Fate::Delivered;
 
 const LOST: Fate = Fate::Lost;
 
-const REPEATED: Fate = Fate::Repeated;
+const DUPLICATED: Fate = Fate::Duplicated;
 
-const LATE: Fate = Fate::Late;
+const DELAYED: Fate = Fate::Delayed;
 
 /// A link that does some of each.
 const MIXED: Rates = Rates {
     lost: 20,
-    repeated: 30,
-    late: 30,
+    duplicated: 30,
+    delayed: 30,
 };
 
 /// Forty frames that are lost, each before one that comes.
@@ -84,32 +84,32 @@ pub const THIRTY_LOST: Way = Way {
     rates: PERFECT,
 };
 
-pub const FIRST_LATE: Way = Way {
-    listed: &[LATE],
+pub const FIRST_DELAYED: Way = Way {
+    listed: &[DELAYED],
     seed: 1,
     rates: PERFECT,
 };
 
-pub const LATE_AND_REPEATED: Way = Way {
-    listed: &[LATE, DELIVERED, REPEATED],
+pub const DELAYED_AND_DUPLICATED: Way = Way {
+    listed: &[DELAYED, DELIVERED, DUPLICATED],
     seed: 1,
     rates: PERFECT,
 };
 
-pub const THREE_LATE_THEN_NONE: Way = Way {
-    listed: &[LATE, LATE, LATE],
+pub const THREE_DELAYED_THEN_NONE: Way = Way {
+    listed: &[DELAYED, DELAYED, DELAYED],
     seed: 1,
     rates: GONE,
 };
 
-pub const FOUR_LATE_THEN_NONE: Way = Way {
-    listed: &[LATE, LATE, LATE, LATE],
+pub const FOUR_DELAYED_THEN_NONE: Way = Way {
+    listed: &[DELAYED, DELAYED, DELAYED, DELAYED],
     seed: 1,
     rates: GONE,
 };
 
-pub const REPEATED_THEN_NONE: Way = Way {
-    listed: &[REPEATED, LOST, LOST, LOST],
+pub const DUPLICATED_THEN_NONE: Way = Way {
+    listed: &[DUPLICATED, LOST, LOST, LOST],
     seed: 1,
     rates: GONE,
 };

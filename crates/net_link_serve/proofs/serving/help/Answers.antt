@@ -1,5 +1,5 @@
 use Rattle.std.proofs.Common.{ℕ, List, inr, ◌∙◌, subst}
-use Rattle.net_program.specs.Writing.{AppendsPrefix}
+use Rattle.net_io.specs.Writer.{AppendsPrefix}
 use Rattle.net_link_serve.proofs.Copied.{prefix}
 use Rattle.net_link_serve.proofs.serving.help.Goals as goal
 

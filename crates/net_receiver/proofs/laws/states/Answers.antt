@@ -1,8 +1,8 @@
 use Rattle.std.proofs.Common.{subst, sym}
-use Rattle.net_receiver.specs.Schedule.{fresh_state}
-use Rattle.net_receiver.specs.Stored.{Stored, StandsFor}
+use Rattle.net_receiver.specs.Schedule.{fresh_kept}
+use Rattle.net_receiver.specs.ReceiverState.{ReceiverState, Refines}
 use Rattle.net_receiver.proofs.Step.{same_next, same_held}
-use Rattle.net_receiver.proofs.Whole.{fresh_stands}
+use Rattle.net_receiver.proofs.Whole.{fresh_refines}
 use Rattle.net_receiver.proofs.laws.states.Goals as goal
 
 pub returns-clause-next : goal.returns-clause-next
@@ -12,4 +12,4 @@ pub returns-clause-held : goal.returns-clause-held
 returns-clause-held c = λ v s d. same_held v s d
 
 pub returns-clause-fresh : goal.returns-clause-fresh
-returns-clause-fresh c = λ first v e. subst (λ (y : Stored). StandsFor y fresh_state) (sym e) (fresh_stands first v.capacity)
+returns-clause-fresh c = λ first v e. subst (λ (y : ReceiverState). Refines y fresh_kept) (sym e) (fresh_refines first v.capacity)

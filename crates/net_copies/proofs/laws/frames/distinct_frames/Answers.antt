@@ -1,6 +1,6 @@
 use Rattle.std.proofs.Common.{◌∙◌, sym, ap}
 use Rattle.net_copies.specs.Frames.{segment_of}
-use Rattle.net_copies.proofs.Carried.{same_parts}
+use Rattle.net_copies.proofs.Invariant.{same_parts}
 use Rattle.net_copies.proofs.laws.frames.distinct_frames.Goals as goal
 
 pub returns : goal.returns

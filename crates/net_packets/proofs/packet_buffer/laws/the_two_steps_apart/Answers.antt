@@ -8,6 +8,6 @@ returns g c = record {
   placed = λ q size header ok some. runs.placed_stands q ok size header some;
   last_written = λ q ws ok some long. runs.last_is_written q ok ws some long;
   taken = λ q header size ok first. runs.taken_contents q ok header size first;
-  freed_written = λ q ws ok free. runs.freed_contents q ok ws free;
+  last_dequeued_written = λ q ws ok free. runs.last_dequeued_contents q ok ws free;
   lent_written = λ q ws ok long. runs.off_contents q ok ws long ∙ order.left q ok;
 }

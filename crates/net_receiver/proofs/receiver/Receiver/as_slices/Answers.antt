@@ -1,13 +1,13 @@
 use Rattle.std.proofs.Common.{◌≡◌, ◌∙◌, ◌++◌, sym, ap, length, length-append, take_all, le_refl, arith}
 use Rattle.net_receiver.specs.Contiguous.{contiguous_count}
-use Rattle.net_receiver.specs.Stored.{Stored}
+use Rattle.net_receiver.specs.ReceiverState.{ReceiverState}
 use Rattle.net_receiver.proofs.Called.{head_bytes}
 use Rattle.net_receiver.proofs.Contiguous.{lent_prefix, parts_are}
 use Rattle.net_receiver.proofs.receiver.Receiver.as_slices.Given as given
 use Rattle.net_receiver.proofs.receiver.Receiver.as_slices.Goals as goal
 
 whole_is : (g : given.Over) (c : goal.After-as_slices g) → c.as_slices.result.0.now ++ c.as_slices.result.1.now ≡ c.args.self.now.queue
-whole_is g c = c.as_slices.ensures.queue ∙ ap (λ (v : Stored). v.queue) c.self.view_is
+whole_is g c = c.as_slices.ensures.queue ∙ ap (λ (v : ReceiverState). v.queue) c.self.view_is
 
 cut_is : (g : given.Over) (c : goal.After-as_slices g) → length c.as_slices.result.0.now ≡ contiguous_count c.args.self.now
 cut_is g c =

@@ -1,6 +1,6 @@
 use Rattle.std.proofs.Common.{◌≡◌, ◌∙◌, ap, drop, take, length, length-take, length-drop, arith}
 use Rattle.net_ring.specs.Ring.{queue}
-use Rattle.net_receiver.specs.Stored.{Stored}
+use Rattle.net_receiver.specs.ReceiverState.{ReceiverState}
 use Rattle.net_receiver.specs.Contiguous.{contiguous_count_from}
 use Rattle.net_receiver.proofs.Called.{part_bytes}
 use Rattle.net_receiver.proofs.Contiguous.{lent_from}
@@ -19,7 +19,7 @@ pub returns-clause-few : goal.returns-clause-few
 returns-clause-few g c =
     let bytes = c.get_allocated.result.now in
     let inner = queue c.self.inside.ring in
-    let size : length inner ≡ length c.args.self.now.queue = ap (λ (v : Stored). length v.queue) c.self.view_is in
+    let size : length inner ≡ length c.args.self.now.queue = ap (λ (v : ReceiverState). length v.queue) c.self.view_is in
     let lent = c.get_allocated.ensures.count in
     let within : length bytes ≡ length (take (length bytes) (drop c.args.offset inner)) = ap length c.get_allocated.ensures.value in
     omega (arith, length-take (length bytes) (drop c.args.offset inner), length-drop c.args.offset inner)
@@ -27,7 +27,7 @@ returns-clause-few g c =
 pub returns-clause-value : goal.returns-clause-value
 returns-clause-value g c =
     let bytes = c.get_allocated.result.now in
-    c.get_allocated.ensures.value ∙ ap (λ (v : Stored). take (length bytes) (drop c.args.offset v.queue)) c.self.view_is
+    c.get_allocated.ensures.value ∙ ap (λ (v : ReceiverState). take (length bytes) (drop c.args.offset v.queue)) c.self.view_is
 
 pub returns-clause-step : goal.returns-clause-step
 returns-clause-step g c = λ s d.

@@ -1,5 +1,5 @@
 use Rattle.std.proofs.Common.{◌∙◌}
-use Rattle.net_ring.specs.ElementLaws.{part_written}
+use Rattle.net_ring.specs.StorageLaws.{part_written}
 use Rattle.net_ring.proofs.RingFacts.{overwrite_whole}
 use Rattle.net_ring.proofs.ring_buffer.laws.storage_is_what_was_written.Goals as goal
 

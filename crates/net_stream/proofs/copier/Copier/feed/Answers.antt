@@ -2,11 +2,11 @@ use Rattle.std.proofs.Common.{◌≡◌, ◌≤◌, ◌++◌, ◌∷◌, [], min
 use Rattle.std.specs.Io.KnownBytes.{Consumes}
 use Rattle.std.proofs.lemmas.Bool.{both_ways}
 use Rattle.std.proofs.lemmas.List.{take_all, append-nil}
-use Rattle.net_program.proofs.KnownBytes.{Consumes-none, Keeps-same}
-use Rattle.net_copies.specs.Outgoing.{room_of, with_written}
+use Rattle.net_io.proofs.KnownBytes.{Consumes-none, Keeps-same}
+use Rattle.net_copies.specs.SenderState.{room_of, with_written}
 use Rattle.net_stream.specs.declared.copier.Copier.{Copier}
 use Rattle.net_copies.specs.CopyState.{Running, ReadFailed, room_for, feed}
-use Rattle.net_stream.specs.Turns.{seen_copy}
+use Rattle.net_stream.specs.Turns.{copy_state_of}
 use Rattle.net_stream.proofs.Copied.{fed, unfed, may_some, read_some}
 use Rattle.net_stream.proofs.copier.Copier.feed.Goals as goal
 
@@ -19,11 +19,11 @@ returns-then-not-may_read-clause-ok g c =
     record {
       reads = [];
       consumed = Consumes-none now now (Keeps-same now);
-      taken = λ n is. omega (arith, is);
-      bytes = refl;
-      step = λ later given written _. unfed (length c.args.chunk.now) c.min-room.result (seen_copy copy later given written Running) c.may_read.result room
+      bytes_read = λ n is. omega (arith, is);
+      bytes_written = refl;
+      step = λ later given written _. unfed (length c.args.chunk.now) c.min-room.result (copy_state_of copy later given written Running) c.may_read.result room
           c.may_read.ensures c.if-not-may_read.true
-          ∙ ap (λ gs. seen_copy copy later gs written Running) (sym (append-nil given));
+          ∙ ap (λ gs. copy_state_of copy later gs written Running) (sym (append-nil given));
       end = λ h e. h e;
     }
 
@@ -41,11 +41,11 @@ returns-in-Ok-eq0-clause-ok g c =
     record {
       reads = [] ∷ [];
       consumed = subst (λ n. Consumes now next (take n c.read.new.buf)) none bytes.0;
-      taken = λ n is. omega (arith, is);
-      bytes = refl;
-      step = λ later given written _. fed (length c.args.chunk.now) c.min-room.result (seen_copy copy ([] ∷ later) given written Running) c.may_read.result room
+      bytes_read = λ n is. omega (arith, is);
+      bytes_written = refl;
+      step = λ later given written _. fed (length c.args.chunk.now) c.min-room.result (copy_state_of copy ([] ∷ later) given written Running) c.may_read.result room
           c.may_read.ensures c.if-not-may_read.false
-          ∙ ap (λ gs. record (seen_copy copy later gs written Running) { more = false }) (sym (append-nil given));
+          ∙ ap (λ gs. record (copy_state_of copy later gs written Running) { more = false }) (sym (append-nil given));
       end = λ _ _. bytes.1 none (omega (arith, some, lent));
     }
 
@@ -69,14 +69,14 @@ returns-in-Ok-clause-ok g c =
     record {
       reads = xs ∷ [];
       consumed = subst (Consumes now next) (sym (append-nil xs)) c.in-Ok.ensures.bytes.0;
-      taken = λ n is. omega (arith, is, size, taken, ap length (append-nil xs));
-      bytes = refl;
+      bytes_read = λ n is. omega (arith, is, size, taken, ap length (append-nil xs));
+      bytes_written = refl;
       step = λ later given written _.
-          let some = read_some c.min-room.result (seen_copy copy (xs ∷ later) given written Running) xs later (omega (arith, size)) few in
-          fed (length c.args.chunk.now) c.min-room.result (seen_copy copy (xs ∷ later) given written Running) c.may_read.result room
+          let some = read_some c.min-room.result (copy_state_of copy (xs ∷ later) given written Running) xs later (omega (arith, size)) few in
+          fed (length c.args.chunk.now) c.min-room.result (copy_state_of copy (xs ∷ later) given written Running) c.may_read.result room
           c.may_read.ensures c.if-not-may_read.false
           ∙ some.0
-          ∙ (λ i. record (seen_copy copy later given written Running) {
+          ∙ (λ i. record (copy_state_of copy later given written Running) {
             link = (ap (λ ys. record copy.link { sender = with_written copy.link.sender ys }) (some.1 ∙ sym all) ∙ sym c.write.ensures.state) i;
             reads = some.2 i;
             given = given ++ (some.1 ∙ sym (append-nil xs)) i;
@@ -95,11 +95,11 @@ returns-in-Err-clause-err g c =
     record {
       reads = [];
       consumed = Consumes-none now next c.in-Err.ensures.bytes;
-      taken = λ n is. omega (arith, is);
-      bytes = refl;
-      step = λ later given written none. subst (λ rs. feed (length c.args.chunk.now) (seen_copy copy rs given written Running) ≡ seen_copy copy rs (given ++ []) written ReadFailed)
+      bytes_read = λ n is. omega (arith, is);
+      bytes_written = refl;
+      step = λ later given written none. subst (λ rs. feed (length c.args.chunk.now) (copy_state_of copy rs given written Running) ≡ copy_state_of copy rs (given ++ []) written ReadFailed)
           (sym (none refl))
-          (fed (length c.args.chunk.now) c.min-room.result (seen_copy copy [] given written Running) c.may_read.result room c.may_read.ensures c.if-not-may_read.false
-          ∙ ap (λ gs. seen_copy copy [] gs written ReadFailed) (sym (append-nil given)));
+          (fed (length c.args.chunk.now) c.min-room.result (copy_state_of copy [] given written Running) c.may_read.result room c.may_read.ensures c.if-not-may_read.false
+          ∙ ap (λ gs. copy_state_of copy [] gs written ReadFailed) (sym (append-nil given)));
       end = λ h e. absurd (both_ways copy.more e may.0);
     }

@@ -1,10 +1,10 @@
 use Rattle.std.proofs.Common.{◌≡◌, ◌+◌, ◌-◌, ◌*◌, ◌^◌, ◌<◌, ◌++◌, ◌||◌, [], min, cond, not, nat_eq, nat_lt, ℕ, List, length, take, refl, sym, ap, subst, ◌∙◌, arith, length-take}
 use Rattle.std.specs.Io.KnownBytes.{Appends}
-use Rattle.net_program.proofs.KnownBytes.{Appends-none, Keeps-same}
-use Rattle.net_copies.specs.Counting.{round_trip_time, longest_wait}
+use Rattle.net_io.proofs.KnownBytes.{Appends-none, Keeps-same}
+use Rattle.net_copies.specs.Counts.{round_trip_time, longest_wait}
 use Rattle.net_copies.specs.LinkState.{LinkState, round, StopsRound}
 use Rattle.net_copies.specs.CopyState.{Running, hand_out}
-use Rattle.net_stream.specs.Turns.{seen_copy}
+use Rattle.net_stream.specs.Turns.{copy_state_of}
 use Rattle.net_stream.proofs.Copied.{handed, was_ok, was_err}
 use Rattle.net_stream.proofs.copier.Copier.pass.Goals as goal
 
@@ -20,24 +20,24 @@ returns-clause-ok g c =
     let size : length bytes ≡ c.read-count.result = ap length is ∙ length-take chunk u.receiver.queue ∙ sym count in
     let link : u ≡ round (record copy.link { elapsed = min (copy.link.elapsed + copy.wait) (2 ^ 64 - 1) }) =
     was_ok _ c.pass_round.result (sym c.is_err.ensures.value ∙ c.if-is_err.false) c.pass_round.ensures.state ∙ ap round c.wait.ensures.state in
-    let brought : (not (nat_eq u.sender.base copy.link.sender.base) || nat_lt 0 (min chunk (length u.receiver.queue))) ≡ c.has_brought_on-brought.result =
-    sym (c.has_brought_on-brought.ensures
-    ∙ (λ i. not (nat_eq (ap (λ (l : LinkState). l.sender.base) c.read-count.ensures.state i) (c.base-base.ensures.value i)) || nat_lt 0 (count i))) in
+    let progress : (not (nat_eq u.sender.first_unacknowledged copy.link.sender.first_unacknowledged) || nat_lt 0 (min chunk (length u.receiver.queue))) ≡ c.has_made_progress-progress.result =
+    sym (c.has_made_progress-progress.ensures
+    ∙ (λ i. not (nat_eq (ap (λ (l : LinkState). l.sender.first_unacknowledged) c.read-count.ensures.state i) (c.first_unacknowledged-before.ensures.value i)) || nat_lt 0 (count i))) in
     let counted = c.saturating_add-self-in-Ok.ensures in
     record {
       written = bytes;
       appended = c.in-Ok.ensures.ok;
-      bytes = λ n e. omega (arith, e, counted, size);
-      taken = refl;
+      bytes_written = λ n e. omega (arith, e, counted, size);
+      bytes_read = refl;
       more = refl;
       step = λ later given before.
-          sym (ap (hand_out chunk (seen_copy copy later given before Running)) link)
-          ∙ (λ i. record (seen_copy copy later given before Running) {
+          sym (ap (hand_out chunk (copy_state_of copy later given before Running)) link)
+          ∙ (λ i. record (copy_state_of copy later given before Running) {
             link = sym c.read-count.ensures.state i;
             written = before ++ sym is i;
             rounds = sym c.saturating_add-self.ensures i;
-            stalled = (ap (λ b. cond b 0 (copy.stalled + 1)) brought ∙ sym c.stalled_after-self.ensures) i;
-            wait = (ap (λ b. cond b round_trip_time (min (copy.wait * 2) longest_wait)) brought ∙ sym c.next_wait-self.ensures) i;
+            stalled = (ap (λ b. cond b 0 (copy.stalled + 1)) progress ∙ sym c.stalled_after-self.ensures) i;
+            wait = (ap (λ b. cond b round_trip_time (min (copy.wait * 2) longest_wait)) progress ∙ sym c.next_wait-self.ensures) i;
           });
     }
 
@@ -53,8 +53,8 @@ returns-then-is_err-clause-err g c =
         refl,
       );
       appended = Appends-none had had (Keeps-same had);
-      bytes = λ n e. omega (arith, e);
-      taken = refl;
+      bytes_written = λ n e. omega (arith, e);
+      bytes_read = refl;
       rounds = c.saturating_add-self.ensures;
       frames = refl;
       micros = refl;
@@ -78,8 +78,8 @@ returns-in-Err-clause-err g c =
       part = λ given before. (link, (c.in-Err.written, less, refl));
       appended = subst (λ (xs : List ℕ). Appends (g.W.Write.contents c.args.writer.now) (g.W.Write.contents c.write_text.new.writer) (take c.in-Err.written xs))
           is c.in-Err.ensures.err.1;
-      bytes = λ n e. omega (arith, e, counted, size);
-      taken = refl;
+      bytes_written = λ n e. omega (arith, e, counted, size);
+      bytes_read = refl;
       rounds = c.saturating_add-self.ensures;
       frames = ap (λ (l : LinkState). l.counts) c.read-count.ensures.state;
       micros = ap (λ (l : LinkState). l.elapsed) c.read-count.ensures.state;

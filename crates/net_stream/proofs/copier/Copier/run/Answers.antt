@@ -1,14 +1,14 @@
 use Rattle.std.proofs.Common.{◌≡◌, ◌<◌, ◌≤◌, ◌⊎◌, ◌+◌, ◌++◌, [], length, Err, refl, sym, ap, subst, ◌∙◌, arith}
 use Rattle.std.proofs.lemmas.Result.{err_from_is_err_and}
 use Rattle.net_copies.specs.CopyState.{CopyState, Running, Done, GaveUp, ReadFailed}
-use Rattle.net_stream.specs.Turns.{seen_copy, Feeds, Passes, Breaks}
-use Rattle.net_stream.proofs.Copied.{none_yet, one_more, last, part_of, read_failed, broke_off, is_over, gives_up, is_done, far, brings_on, fed_leaves, smaller}
+use Rattle.net_stream.specs.Turns.{copy_state_of, Feeds, Passes, Breaks}
+use Rattle.net_stream.proofs.Copied.{none_yet, one_more, last, part_of, read_failed, broke_off, is_over, gives_up, is_done, far, progresses, fed_leaves, smaller}
 use Rattle.net_stream.proofs.copier.Copier.run.Goals as goal
 
 pub turns-init : goal.turns-init
 turns-init g c = record {
   so_far = none_yet c.args.rounds (length c.args.chunk.now) c.args.self.now (g.R.Read.remaining c.args.reader.now) (g.W.Write.contents c.args.writer.now)
-      c.requires.taken c.requires.bytes c.requires.more;
+      c.requires.bytes_read c.requires.bytes_written c.requires.more;
   chunk = refl;
 }
 
@@ -39,7 +39,7 @@ turns-smaller g c =
     let p = c.in_ok-pass.ensures.ok in
     let fits = c.is_done.ensures.fits in
     let fed = f.step [] [] [] (λ e. cc) in
-    let left = fed_leaves (length c.turns.chunk) (seen_copy a (f.reads ++ []) [] [] Running) in
+    let left = fed_leaves (length c.turns.chunk) (copy_state_of a (f.reads ++ []) [] [] Running) in
     let same_far : far b.link ≡ far a.link = sym (ap (λ (s : CopyState). far s.link) fed) ∙ left.0 in
     let same : b.stalled ≡ a.stalled = sym (ap (λ (s : CopyState). s.stalled) fed) ∙ left.1 in
     let few : a.stalled < c.args.rounds = omega arith in
@@ -47,7 +47,7 @@ turns-smaller g c =
     (subst (λ n. (n < far d.link) ⊎ ((n ≤ far d.link) × (d.stalled ≡ a.stalled + 1))) same_far
     (subst (λ n. (far b.link < far d.link) ⊎ ((far b.link ≤ far d.link) × (d.stalled ≡ n + 1))) same
     (subst (λ (s : CopyState). (far b.link < far s.link) ⊎ ((far b.link ≤ far s.link) × (s.stalled ≡ b.stalled + 1))) (p.step [] [] [])
-    (brings_on c.known.ensures.reads_nothing (length c.feed.new.chunk) (seen_copy b [] [] [] Running)))))
+    (progresses c.known.ensures.reads_nothing (length c.feed.new.chunk) (copy_state_of b [] [] [] Running)))))
 
 pub returns-then-is_done : goal.returns-then-is_done
 returns-then-is_done g c = λ s begins.
@@ -60,7 +60,7 @@ returns-then-is_done g c = λ s begins.
     last c.args.rounds (length c.args.chunk.now) c.args.self.now (g.R.Read.remaining c.args.reader.now)
     (g.W.Write.contents c.args.writer.now) c.ended.ensures.last s begins a b has next (g.W.Write.contents c.turns.writer) Running Done i.so_far
     (subst (λ k. Feeds k a b has next Running) i.chunk c.in_ok-feed.ensures.ok)
-    (λ given written. is_over c.args.rounds (seen_copy b [] given written Running) done) (λ given written. refl) (λ e. absurd (cc)) (λ e. is_done b.more _ done)
+    (λ given written. is_over c.args.rounds (copy_state_of b [] given written Running) done) (λ given written. refl) (λ e. absurd (cc)) (λ e. is_done b.more _ done)
 
 pub returns-then-self-rounds : goal.returns-then-self-rounds
 returns-then-self-rounds g c = λ s begins.
@@ -72,7 +72,7 @@ returns-then-self-rounds g c = λ s begins.
     last c.args.rounds (length c.args.chunk.now) c.args.self.now (g.R.Read.remaining c.args.reader.now)
     (g.W.Write.contents c.args.writer.now) c.ended.ensures.last s begins a b has next (g.W.Write.contents c.turns.writer) Running GaveUp i.so_far
     (subst (λ k. Feeds k a b has next Running) i.chunk c.in_ok-feed.ensures.ok)
-    (λ given written. gives_up c.args.rounds (seen_copy b [] given written Running) (sym c.is_done.ensures.value ∙ c.if-is_done.false) (omega arith))
+    (λ given written. gives_up c.args.rounds (copy_state_of b [] given written Running) (sym c.is_done.ensures.value ∙ c.if-is_done.false) (omega arith))
     (λ given written. refl) (λ e. absurd (cc)) (λ e. absurd (cc))
 
 pub returns-in_err-feed : goal.returns-in_err-feed

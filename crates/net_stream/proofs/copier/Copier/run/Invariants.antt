@@ -10,6 +10,6 @@ invariant-turns g l = record {
   chunk : length l.chunk ≡ length l.fn.chunk;
 }
 
--- each turn brings the link on, or is one more of those that don't
+-- each turn makes progress, or is one more of those that don't
 abbrev pub decreases-turns : goal.decreases-turns
 decreases-turns g l = (2 ^ 66 - far l.self.link) * 2 ^ 64 + (l.fn.rounds - l.self.stalled)

@@ -14,4 +14,4 @@ returns-then-not-branch-clause-ok g c = all_done _ _ _ _ _ c.acks.invariant (c.i
 
 pub returns-in_err-pass_ack-clause-err : goal.returns-in_err-pass_ack-clause-err
 returns-in_err-pass_ack-clause-err g c = OnErr-always c.from_residual.result
-    (c.acks.invariant.steps, subst (λ u. StopsAck u u.back.ahead c.pass_ack.new.self) c.acks.invariant.is c.in_err-pass_ack.ensures.err)
+    (c.acks.invariant.steps, subst (λ u. StopsAck u u.reverse.in_flight c.pass_ack.new.self) c.acks.invariant.is c.in_err-pass_ack.ensures.err)

@@ -4,7 +4,7 @@ use Rattle.net_stream.proofs.Loops.{SoFar}
 use Rattle.net_stream.proofs.link.Link.pass_acks.Given as goal
 
 abbrev pub invariant-acks : goal.invariant-acks
-invariant-acks g l = SoFar pass_ack (λ s. length s.back.ahead) l.fn.self l.self
+invariant-acks g l = SoFar pass_ack (λ s. length s.reverse.in_flight) l.fn.self l.self
 
 abbrev pub decreases-acks : goal.decreases-acks
-decreases-acks g l = length l.self.back.ahead
+decreases-acks g l = length l.self.reverse.in_flight

@@ -14,4 +14,4 @@ returns-then-not-branch-clause-ok g c = all_done _ _ _ _ _ c.frames.invariant (c
 
 pub returns-in_err-pass_frame-clause-err : goal.returns-in_err-pass_frame-clause-err
 returns-in_err-pass_frame-clause-err g c = OnErr-always c.from_residual.result
-    (c.frames.invariant.steps, subst (λ u. StopsFrame u u.there.ahead c.pass_frame.new.self) c.frames.invariant.is c.in_err-pass_frame.ensures.err)
+    (c.frames.invariant.steps, subst (λ u. StopsFrame u u.forward.in_flight c.pass_frame.new.self) c.frames.invariant.is c.in_err-pass_frame.ensures.err)

@@ -4,7 +4,7 @@ use Rattle.net_stream.proofs.Loops.{SoFar}
 use Rattle.net_stream.proofs.link.Link.pass_frames.Given as goal
 
 abbrev pub invariant-frames : goal.invariant-frames
-invariant-frames g l = SoFar pass_frame (λ s. length s.there.ahead) l.fn.self l.self
+invariant-frames g l = SoFar pass_frame (λ s. length s.forward.in_flight) l.fn.self l.self
 
 abbrev pub decreases-frames : goal.decreases-frames
-decreases-frames g l = length l.self.there.ahead
+decreases-frames g l = length l.self.forward.in_flight

@@ -1,42 +1,42 @@
 use Rattle.std.proofs.Common.{◌≡◌, ◌<◌, ◌^◌, ℕ, List, rules, refl, sym, ap, subst, ◌∙◌, arith}
-use Rattle.net_copies.specs.Outgoing.{end_of}
+use Rattle.net_copies.specs.SenderState.{end_of}
 use Rattle.net_copies.specs.Streams.{Known}
-use Rattle.net_copies.specs.LinkState.{LinkState, next_flight, late_frames, pass_frames, acknowledge_all, late_acks, pass_acks, with_flight, round, StopsRound}
-use Rattle.net_copies.specs.Links.{Carries}
-use Rattle.net_copies.proofs.Kept.{round_carries, stop_carries}
+use Rattle.net_copies.specs.LinkState.{LinkState, next_burst, delayed_frames, pass_frames, acknowledge_all, delayed_acks, pass_acks, with_burst, round, StopsRound}
+use Rattle.net_copies.specs.LinkInvariant.{LinkInvariant}
+use Rattle.net_copies.proofs.Kept.{round_keeps_invariant, stop_keeps_invariant}
 use Rattle.net_copies.proofs.Grown.{grown, stopped}
 use Rattle.net_stream.proofs.link.Link.pass_round.Goals as goal
 
 -- what a round that lacked memory leaves
 stop_keeps : Known → (l m : LinkState) → end_of l.sender < 2 ^ 64 → StopsRound l m →
-    ((f : ℕ) (w : List ℕ) → Carries f w l → Carries f w m) × (m.receiver.read ≡ l.receiver.read)
+    ((f : ℕ) (w : List ℕ) → LinkInvariant f w l → LinkInvariant f w m) × (m.receiver.read ≡ l.receiver.read)
 stop_keeps known l m fits stop = (
-  λ f w h. (stop_carries known f w l m stop (record { way = h; fits = fits })).way,
-  (stopped known.reads_nothing l.sender.base l.receiver.read l m stop (record { base = omega arith; read = refl })).read,
+  λ f w h. (stop_keeps_invariant known f w l m stop (record { way = h; fits = fits })).way,
+  (stopped known.reads_nothing l.sender.first_unacknowledged l.receiver.read l m stop (record { first_unacknowledged = omega arith; read = refl })).read,
 )
 
 pub returns-clause-state : goal.returns-clause-state
 unfolding round
 returns-clause-state g c =
-    let late = c.in_ok-late_frames.ensures.ok ∙ ap late_frames c.in_ok-transmit.ensures.ok in
-    let passed = c.in_ok-pass_frames.ensures.ok ∙ ap pass_frames late in
+    let delayed = c.in_ok-delayed_frames.ensures.ok ∙ ap delayed_frames c.in_ok-transmit.ensures.ok in
+    let passed = c.in_ok-pass_frames.ensures.ok ∙ ap pass_frames delayed in
     let told = c.in_ok-acknowledge_all.ensures.ok ∙ ap acknowledge_all passed in
-    let acked = c.in_ok-pass_acks.ensures.ok ∙ ap pass_acks (c.late_acks.ensures.state ∙ ap late_acks told) in
+    let acked = c.in_ok-pass_acks.ensures.ok ∙ ap pass_acks (c.delayed_acks.ensures.state ∙ ap delayed_acks told) in
     let u = c.self.inside in
-    let flight = c.flight_after-self-inside.ensures ∙ ap (next_flight u.limit u.flight) c.is_report_full.ensures in
+    let burst = c.burst_after-self-inside.ensures ∙ ap (next_burst u.max_burst u.burst) c.are_sack_blocks_full.ensures in
     (λ i. record (c.self.view_is i) {
-      flight = (flight ∙ ap (λ (l : LinkState). (with_flight l).flight) c.self.view_is) i;
-    }) ∙ ap with_flight acked
+      burst = (burst ∙ ap (λ (l : LinkState). (with_burst l).burst) c.self.view_is) i;
+    }) ∙ ap with_burst acked
 
 pub returns-clause-carries : goal.returns-clause-carries
 returns-clause-carries g c = λ f w h.
-    subst (Carries f w) (sym (returns-clause-state g c)) (round_carries c.known.ensures f w c.args.self.now (record { way = h; fits = c.transmit.ensures.fits })).way
+    subst (LinkInvariant f w) (sym (returns-clause-state g c)) (round_keeps_invariant c.known.ensures f w c.args.self.now (record { way = h; fits = c.transmit.ensures.fits })).way
 
 pub returns-clause-read : goal.returns-clause-read
 returns-clause-read g c =
     let l = c.args.self.now in
     ap (λ (m : LinkState). m.receiver.read) (returns-clause-state g c)
-    ∙ (grown c.known.ensures.reads_nothing l.sender.base l.receiver.read l (record { base = omega arith; read = refl })).read
+    ∙ (grown c.known.ensures.reads_nothing l.sender.first_unacknowledged l.receiver.read l (record { first_unacknowledged = omega arith; read = refl })).read
 
 pub returns-in_err-transmit-clause-carries : goal.returns-in_err-transmit-clause-carries
 returns-in_err-transmit-clause-carries g c = (stop_keeps c.known.ensures c.args.self.now c.transmit.new.self c.transmit.ensures.fits (search rules)).0
@@ -44,11 +44,11 @@ returns-in_err-transmit-clause-carries g c = (stop_keeps c.known.ensures c.args.
 pub returns-in_err-transmit-clause-read : goal.returns-in_err-transmit-clause-read
 returns-in_err-transmit-clause-read g c = (stop_keeps c.known.ensures c.args.self.now c.transmit.new.self c.transmit.ensures.fits (search rules)).1
 
-pub returns-in_err-late_frames-clause-carries : goal.returns-in_err-late_frames-clause-carries
-returns-in_err-late_frames-clause-carries g c = (stop_keeps c.known.ensures c.args.self.now c.late_frames.new.self c.transmit.ensures.fits (search rules)).0
+pub returns-in_err-delayed_frames-clause-carries : goal.returns-in_err-delayed_frames-clause-carries
+returns-in_err-delayed_frames-clause-carries g c = (stop_keeps c.known.ensures c.args.self.now c.delayed_frames.new.self c.transmit.ensures.fits (search rules)).0
 
-pub returns-in_err-late_frames-clause-read : goal.returns-in_err-late_frames-clause-read
-returns-in_err-late_frames-clause-read g c = (stop_keeps c.known.ensures c.args.self.now c.late_frames.new.self c.transmit.ensures.fits (search rules)).1
+pub returns-in_err-delayed_frames-clause-read : goal.returns-in_err-delayed_frames-clause-read
+returns-in_err-delayed_frames-clause-read g c = (stop_keeps c.known.ensures c.args.self.now c.delayed_frames.new.self c.transmit.ensures.fits (search rules)).1
 
 pub returns-in_err-pass_frames-clause-carries : goal.returns-in_err-pass_frames-clause-carries
 returns-in_err-pass_frames-clause-carries g c = (stop_keeps c.known.ensures c.args.self.now c.pass_frames.new.self c.transmit.ensures.fits (search rules)).0

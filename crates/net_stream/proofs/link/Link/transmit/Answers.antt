@@ -1,6 +1,6 @@
 use Rattle.std.proofs.Common.{◌≡◌, suc, length, sym, ap, ◌∙◌, arith, inl, inr}
-use Rattle.net_copies.specs.Outgoing.{end_of}
-use Rattle.net_copies.specs.Outgoing.{stop_of}
+use Rattle.net_copies.specs.SenderState.{end_of}
+use Rattle.net_copies.specs.SenderState.{stop_of}
 use Rattle.net_copies.specs.LinkState.{LinkState, Cursor, part}
 use Rattle.net_copies.proofs.Steps.{goes_on, stops, all_sent}
 use Rattle.net_stream.proofs.link.Link.transmit.Goals as goal
@@ -12,7 +12,7 @@ parts-preserved g c =
     let few = i.so_far.2 in
     let more = c.in_ok-pos.ensures.within in
     let same : c.transmit_part.new.self.sender ≡ s = c.transmit_part.ensures.sender in
-    let base = ap (λ v. v.base) same in
+    let head = ap (λ v. v.first_unacknowledged) same in
     let end = ap end_of same in
     let stop : c.stop-stop.result ≡ stop_of s = c.stop-stop.ensures ∙ ap (λ (l : LinkState). stop_of l.sender) c.self.view_is ∙ ap stop_of (sym i.sender) in
     let here : Cursor = record { pos = c.parts.pos; left = c.parts.left; link = c.parts.self } in

@@ -4,14 +4,14 @@ use Rattle.std.proofs.Math.Seq.{drop-append_seam}
 use Rattle.std.specs.Fn.{FnOnceReturnsAtMut}
 use denote.MutBor.{at_last}
 use Rattle.net_ring.specs.Ring.{capacity, queue, spare, with_elements, spare_index}
-use Rattle.net_copies.specs.Outgoing.{room_of, with_written, Sends}
+use Rattle.net_copies.specs.SenderState.{room_of, with_written, Sends}
 use Rattle.net_copies.proofs.Room.{lent_room, room_written, more_sent}
 use Rattle.net_stream.proofs.sender.Sender.send_with.Goals as goal
 
 pub f-answer-requires : goal.f-answer-requires
 f-answer-requires g c =
     let xs = c.get_unallocated.result.now in
-    let lent = lent_room c.self.inside.ring c.self.inside.base c.self.inside.reported c.args.self.now
+    let lent = lent_room c.self.inside.ring c.self.inside.first_unacknowledged c.self.inside.sack_blocks c.args.self.now
     (c.self.view_is ∙ c.restart.ensures) c.window-most.result (length xs)
     (sym c.len-len.ensures.count ∙ c.len-len.ensures.queue) (omega arith)
     (c.window-most.ensures ∙ ap room_of c.restart.ensures) c.get_unallocated.ensures.count in
@@ -21,7 +21,7 @@ pub enqueue_unallocated-requires : goal.enqueue_unallocated-requires
 enqueue_unallocated-requires g c =
     let xs = c.get_unallocated.result.now in
     let ws = c.f-answer.new.arg2 in
-    let lent = lent_room c.self.inside.ring c.self.inside.base c.self.inside.reported c.args.self.now
+    let lent = lent_room c.self.inside.ring c.self.inside.first_unacknowledged c.self.inside.sack_blocks c.args.self.now
     (c.self.view_is ∙ c.restart.ensures) c.window-most.result (length xs)
     (sym c.len-len.ensures.count ∙ c.len-len.ensures.queue) (omega arith)
     (c.window-most.ensures ∙ ap room_of c.restart.ensures) c.get_unallocated.ensures.count in
@@ -39,7 +39,7 @@ returns-clause-called g c =
     let xs = c.get_unallocated.result.now in
     let ws = c.f-answer.new.arg2 in
     let restarted = c.self.view_is ∙ c.restart.ensures in
-    let lent = lent_room ring c.self.inside.base c.self.inside.reported c.args.self.now restarted c.window-most.result (length xs)
+    let lent = lent_room ring c.self.inside.first_unacknowledged c.self.inside.sack_blocks c.args.self.now restarted c.window-most.result (length xs)
     (sym c.len-len.ensures.count ∙ c.len-len.ensures.queue) (omega arith)
     (c.window-most.ensures ∙ ap room_of c.restart.ensures) c.get_unallocated.ensures.count in
     let met : FnOnceReturnsAtMut g.F.FnOnce c.args.f xs c.f-answer.result ws =
@@ -57,7 +57,7 @@ returns-clause-called g c =
       lent.0,
       long ∙ lent.0,
       met,
-      room_written ring c.self.inside.base c.self.inside.reported c.args.self.now restarted c.f-answer.result.0 ws
+      room_written ring c.self.inside.first_unacknowledged c.self.inside.sack_blocks c.args.self.now restarted c.f-answer.result.0 ws
           (with_elements ring (spare_index ring 0) ws) c.enqueue_unallocated.new.self
           wrote c.enqueue_unallocated.ensures.enqueued whole (omega (arith, few, long, size)) within,
     )
@@ -67,14 +67,14 @@ invariant_of-self g c =
     let old = c.args.self.now in
     let xs = c.get_unallocated.result.now in
     let restarted = c.self.view_is ∙ c.restart.ensures in
-    let lent = lent_room c.self.inside.ring c.self.inside.base c.self.inside.reported old restarted c.window-most.result (length xs)
+    let lent = lent_room c.self.inside.ring c.self.inside.first_unacknowledged c.self.inside.sack_blocks old restarted c.window-most.result (length xs)
     (sym c.len-len.ensures.count ∙ c.len-len.ensures.queue) (omega arith)
     (c.window-most.ensures ∙ ap room_of c.restart.ensures) c.get_unallocated.ensures.count in
     let called = returns-clause-called g c in
     let few = c.requires.count called.0 called.1 c.f-answer.result called.2 called.4 in
     let size = lent.0 in
     let within = lent.2 in
-    let base : c.self.inside.base ≡ old.base = ap (λ v. v.base) restarted in
+    let head : c.self.inside.first_unacknowledged ≡ old.first_unacknowledged = ap (λ v. v.first_unacknowledged) restarted in
     let before : length (queue c.self.inside.ring) ≡ length old.queue = ap (λ v. length v.queue) restarted ∙ ap length (append-nil old.queue) in
     let after = ap (λ v. length v.queue) called.5 ∙ length-append old.queue (take c.f-answer.result.0 called.1) in
     omega (arith, few, size, within, after, length-take c.f-answer.result.0 called.1)

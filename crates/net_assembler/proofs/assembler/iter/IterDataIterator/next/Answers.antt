@@ -13,5 +13,5 @@ rest_of n rs r rest e all =
 
 pub invariant_of-self : goal.invariant_of-self
 invariant_of-self g c =
-    rest_of c.self.inside.hole c.self.inside.rest.now c.in_ok-start.field-0-0.now c.in_ok-start.rest.now
+    rest_of c.self.inside.first_start c.self.inside.rest.now c.in_ok-start.field-0-0.now c.in_ok-start.rest.now
     c.in_ok-start.ensures.cases.0 c.self.invariant

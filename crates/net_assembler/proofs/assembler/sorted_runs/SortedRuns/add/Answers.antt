@@ -12,7 +12,7 @@ returns-then-size-eq0-clause-added g c = none_added c.args.self.now c.requires.s
 pub join_before-requires-clause-fits : goal.join_before-requires-clause-fits
 join_before-requires-clause-fits g c =
     let h = c.args.self.now in
-    fits-less (h.hole - c.args.offset) h.hole (pairs_of h) (omega arith) c.requires.sound.fits
+    fits-less (h.first_start - c.args.offset) h.first_start (pairs_of h) (omega arith) c.requires.sound.fits
 
 pub returns-then-this-eq0-clause-added : goal.returns-then-this-eq0-clause-added
 returns-then-this-eq0-clause-added g c =
@@ -40,7 +40,7 @@ returns-in_err-self-clause-added g c =
     let left = c.in_err-self.ensures.joined in
     let all = preceded_length h s c.join_before.new.pairs c.args.offset c.args.size (omega arith) (omega arith) in
     refused h _ s c.args.offset c.args.size (omega arith) _ c.from_residual.ensures.0 (omega (arith, left.1, s.capacity))
-    (ap (λ ps. set_of_runs (runs_shifted_up h.hole (take h.used ps))) left.0)
+    (ap (λ ps. set_of_runs (runs_shifted_up h.first_start (take h.used ps))) left.0)
 
 pub returns-in_err-self-2-clause-added : goal.returns-in_err-self-2-clause-added
 returns-in_err-self-2-clause-added g c =
@@ -49,7 +49,7 @@ returns-in_err-self-2-clause-added g c =
     let left = c.in_err-self-2.ensures.joined in
     let all = joined_length h s c.join_range.new.pairs c.args.offset c.args.size (omega arith) (omega arith) (omega arith) in
     refused h _ s c.args.offset c.args.size (omega arith) _ c.from_residual-in_err-self-2.ensures.0 (omega (arith, left.1, s.capacity))
-    (ap (λ ps. set_of_runs (runs_shifted_up h.hole (take h.used ps))) left.0)
+    (ap (λ ps. set_of_runs (runs_shifted_up h.first_start (take h.used ps))) left.0)
 
 pub returns-in_ok-self-clause-sound : goal.returns-in_ok-self-clause-sound
 returns-in_ok-self-clause-sound g c =

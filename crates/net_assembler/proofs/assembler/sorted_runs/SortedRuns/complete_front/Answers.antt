@@ -32,15 +32,15 @@ returns-then-self-eq0-clause-rest g c =
     ap set_of_runs (sym (down-none c.args.size (runs_of h) (length-runs_of h c.requires ∙ omega arith)))
     ∙ (next_alone c.args.self.now c.requires c.args.size (λ l. absurd (omega arith))).1
 
--- what is held where only `hole` changes
+-- what is held where only `first_start` changes
 lowered : {n : ℕ} (h : SortedRuns n) → HasSoundPairs h → (m : ℕ) →
-    HasSoundPairs {n = n} record { pairs = h.pairs; used = h.used; hole = h.hole - m }
+    HasSoundPairs {n = n} record { pairs = h.pairs; used = h.used; first_start = h.first_start - m }
 lowered h s m = record {
   room = s.room;
   capacity = s.capacity;
   runs = s.runs;
   first = s.first;
-  fits = fits-less (h.hole - m) h.hole (pairs_of h) (omega arith) s.fits;
+  fits = fits-less (h.first_start - m) h.first_start (pairs_of h) (omega arith) s.fits;
 }
 
 pub returns-then-size-self-clause-sound : goal.returns-then-size-self-clause-sound
@@ -52,7 +52,7 @@ returns-then-size-self-clause-size g c = (next_alone c.args.self.now c.requires 
 pub returns-then-size-self-clause-rest : goal.returns-then-size-self-clause-rest
 returns-then-size-self-clause-rest g c =
     let h = c.args.self.now in
-    ap set_of_runs (sym (down-less h.hole c.args.size (pairs_of h) (omega arith)))
+    ap set_of_runs (sym (down-less h.first_start c.args.size (pairs_of h) (omega arith)))
     ∙ (next_alone c.args.self.now c.requires c.args.size (λ _. omega arith)).1
 
 pub overflow_add-size : goal.overflow_add-size
@@ -76,7 +76,7 @@ drop_front-requires g c =
 
 -- the range reaches runs
 reached : (g : _) (c : After-drop_front g) →
-    Completed (runs_of c.args.self.now) c.runs_starting_by-met.result c.args.size (c.args.self.now.hole + c.max-end.result)
+    Completed (runs_of c.args.self.now) c.runs_starting_by-met.result c.args.size (c.args.self.now.first_start + c.max-end.result)
 reached g c =
     let h = c.args.self.now in
     let s = c.requires in
@@ -84,18 +84,18 @@ reached g c =
     let met = c.runs_starting_by-met.ensures in
     let pairs = length-pairs_of h s in
     let count = length-runs_of h s in
-    let last = end_at-up h.hole (pairs_of h) (n - 1) (omega (arith, met.within, met.from)) in
+    let last = end_at-up h.first_start (pairs_of h) (n - 1) (omega (arith, met.within, met.from)) in
     let ends = end_of h s (n - 1) (omega (arith, met.within, met.from)) in
-    let top : h.hole + c.max-end.result ≡ top_of (runs_of h) n c.args.size =
+    let top : h.first_start + c.max-end.result ≡ top_of (runs_of h) n c.args.size =
     omega (arith, top_before (runs_of h) n c.args.size (omega (arith, met.from)), c.max-end.ensures, last, ends) in
-    completed_at (runs_of h) n c.args.size (h.hole + c.max-end.result) (are_runs h s) (omega arith) (omega (arith, met.within))
+    completed_at (runs_of h) n c.args.size (h.first_start + c.max-end.result) (are_runs h s) (omega arith) (omega (arith, met.within))
     (λ k a.
-    let start = start_at-up h.hole (pairs_of h) k (omega (arith, met.within)) in
+    let start = start_at-up h.first_start (pairs_of h) k (omega (arith, met.within)) in
     either (cases_lt 0 k) (λ b. omega (arith, met.before k b a))
     (λ b.
     let zeroth : k ≡ 0 = omega arith in
     omega (arith, ap (start_at (pairs_of h)) zeroth, start_of h s 0 (omega arith), first_pair h s (omega arith))))
-    (λ k a b. omega (arith, start_at-up h.hole (pairs_of h) k (omega arith), met.behind k a (omega arith)))
+    (λ k a b. omega (arith, start_at-up h.first_start (pairs_of h) k (omega arith), met.behind k a (omega arith)))
     top
 
 pub returns-clause-size : goal.returns-clause-size
@@ -105,7 +105,7 @@ pub returns-clause-rest : goal.returns-clause-rest
 returns-clause-rest g c =
     let h = c.args.self.now in
     let n = c.runs_starting_by-met.result in
-    ap set_of_runs (c.drop_front.ensures.runs ∙ dropped h c.requires n c.max-end.result (h.hole + c.max-end.result) refl)
+    ap set_of_runs (c.drop_front.ensures.runs ∙ dropped h c.requires n c.max-end.result (h.first_start + c.max-end.result) refl)
     ∙ (reached g c).1
 
 pub returns-clause-turns : goal.returns-clause-turns

@@ -23,7 +23,7 @@ returns-clause-sound g c =
       runs = subst AreRuns (sym is) (rising-runs_shifted_down f 0 f behind (omega arith) rises);
       first = subst StartsAtZero (sym is) (first-down f behind (omega arith));
       fits = subst (FitsFrom (f - c.args.end)) (sym is)
-          (fits-down (f - c.args.end) f h.hole behind (omega arith) rises (fits-drop h.hole m (pairs_of h) s.fits));
+          (fits-down (f - c.args.end) f h.first_start behind (omega arith) rises (fits-drop h.first_start m (pairs_of h) s.fits));
     }
 
 pub returns-clause-runs : goal.returns-clause-runs

@@ -23,6 +23,6 @@ returns-else-self-eq0 g c =
     let h = c.args.self.now in
     let count = length-runs_of h c.requires in
     let first = run_start h c.requires (omega arith) in
-    let ends = end-up h.hole (pairs_of h) (omega (arith, length-pairs_of h c.requires)) in
+    let ends = end-up h.first_start (pairs_of h) (omega (arith, length-pairs_of h c.requires)) in
     let last = end_of h c.requires 0 (omega arith) in
     omega (arith, front_some (runs_of h) (omega arith) (omega arith), front-set_of h c.requires)

@@ -6,7 +6,7 @@ use Rattle.net_assembler.specs.Positions.{runs_shifted_up}
 use Rattle.net_assembler.specs.RunLists.{pairs_of, runs_of, set_of, set_of_runs}
 use Rattle.net_assembler.proofs.Positions.{are_same_decides}
 use Rattle.net_assembler.proofs.RunLists.{no_runs}
-use Rattle.net_assembler.proofs.SortedRuns.{length-runs_of, same_hole, same_number, same_pairs}
+use Rattle.net_assembler.proofs.SortedRuns.{length-runs_of, same_first_start, same_number, same_pairs}
 use Rattle.net_assembler.proofs.assembler.sorted_runs.SortedRuns.is_same.Goals as goal
 use Rattle.net_assembler.proofs.assembler.sorted_runs.SortedRuns.is_same.Goals.{Then-self-eq0, Else-self-other, After-eq}
 
@@ -37,12 +37,12 @@ returns-then-self-eq0-clause-same g c = none_held g c
 
 -- their first runs start at different positions
 apart_held : (g : _) (c : Else-self-other g) →
-    Decides (c.args.self.now.hole == c.args.other.now.hole) (set_of c.args.self.now ≡ set_of c.args.other.now)
+    Decides (c.args.self.now.first_start == c.args.other.now.first_start) (set_of c.args.self.now ≡ set_of c.args.other.now)
 apart_held g c =
     let h = c.args.self.now in
     let o = c.args.other.now in (
-      λ t. absurd (c.if-self-other.false (eqb-true h.hole o.hole t)),
-      λ e. absurd (c.if-self-other.false (same_hole h o c.requires.sound c.requires.other_sound (omega arith) e)),
+      λ t. absurd (c.if-self-other.false (eqb-true h.first_start o.first_start t)),
+      λ e. absurd (c.if-self-other.false (same_first_start h o c.requires.sound c.requires.other_sound (omega arith) e)),
     )
 
 pub returns-else-self-other-clause-test : goal.returns-else-self-other-clause-test
@@ -57,7 +57,7 @@ compared g c =
     let h = c.args.self.now in
     let o = c.args.other.now in
     let d = pointwise_decides pair_decides (pairs_of h) (pairs_of o) in
-    let hole : h.hole ≡ o.hole = omega arith in (
+    let hole : h.first_start ≡ o.first_start = omega arith in (
       λ e.
           let pairs = d.0 (sym c.eq.ensures ∙ e) in
           λ i. set_of_runs (runs_shifted_up (hole i) (pairs i)),

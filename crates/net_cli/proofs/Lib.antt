@@ -1,0 +1,2 @@
+-- Lemmas on numerals.
+pub mod Numerals

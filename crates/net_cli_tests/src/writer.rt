@@ -1,0 +1,81 @@
+//! Texts that are written whole, or up to an error, and flushes.
+use net_io::{flush_after, write_text};
+use net_testing::{NEVER, Sink};
+use std::alloc::Global;
+use std::io::ErrorKind;
+use std::process::Abort;
+use std::test::Fail;
+
+/// Ten bytes.
+const TEXT: &[u8] = b"0123456789";
+
+/// Writes the text where a write takes so many bytes at most, and one fails, with an error of this
+/// kind or by taking nothing. So many bytes are written in so many calls, and unless these are all,
+/// the error says how many.
+fn check(
+    rt: &impl Abort,
+    alloc: Global,
+    (bytes_per_call, failing_call, kind): (usize, usize, Option<ErrorKind>),
+    (written, calls): (usize, usize),
+) -> Result<(), Fail> {
+    let mut sink = Sink::failing(alloc, bytes_per_call, failing_call, kind)?;
+    let found = write_text(&mut sink, TEXT);
+    let wanted = if written == 10 { Ok(()) } else { Err(written) };
+    assert!(rt; found == wanted);
+    assert!(rt; sink.bytes.as_slice() == &TEXT[..written.min(10)]);
+    assert!(rt; sink.calls == calls && sink.flushes == 0);
+    Ok(())
+}
+
+#[test]
+fn texts_are_written_whole_or_up_to_an_error(rt: HostRuntime) -> Result<(), Fail> {
+    let interrupted = Some(ErrorKind::Interrupted);
+    let other = Some(ErrorKind::Other);
+    check(&rt, rt.alloc(), (usize::MAX, NEVER, None), (10, 1))?;
+    check(&rt, rt.alloc(), (3, NEVER, None), (10, 4))?;
+    check(&rt, rt.alloc(), (1, NEVER, None), (10, 10))?;
+    check(&rt, rt.alloc(), (3, 0, other), (0, 1))?;
+    check(&rt, rt.alloc(), (3, 2, other), (6, 3))?;
+    check(&rt, rt.alloc(), (3, 2, interrupted), (6, 3))?;
+    check(&rt, rt.alloc(), (3, 3, None), (9, 4))?;
+    check(&rt, rt.alloc(), (10, 1, other), (10, 1))
+}
+
+#[test]
+fn a_text_of_no_bytes_needs_no_write(rt: HostRuntime) -> Result<(), Fail> {
+    let mut sink = Sink::failing(rt.alloc(), 1, 0, None)?;
+    assert!(rt; write_text(&mut sink, b"").is_ok() && sink.calls == 0);
+    Ok(())
+}
+
+/// Whether a result is this one once a writer was flushed, whose flushes fail or don't.
+fn flush(
+    rt: &impl Abort,
+    alloc: Global,
+    kind: Option<ErrorKind>,
+    ended: Result<(), u8>,
+    wanted: Result<(), u8>,
+) -> Result<(), Fail> {
+    let mut sink = Sink::new(alloc)?;
+    sink.flush_kind = kind;
+    assert!(rt; flush_after(ended, 7, &mut sink) == wanted);
+    assert!(rt; sink.flushes == 1 && sink.calls == 0);
+    Ok(())
+}
+
+#[test]
+fn a_failed_flush_takes_no_other_error_s_place(rt: HostRuntime) -> Result<(), Fail> {
+    let other = Some(ErrorKind::Other);
+    flush(&rt, rt.alloc(), None, Ok(()), Ok(()))?;
+    flush(&rt, rt.alloc(), other, Ok(()), Err(7))?;
+    flush(&rt, rt.alloc(), Some(ErrorKind::BrokenPipe), Ok(()), Err(7))?;
+    flush(
+        &rt,
+        rt.alloc(),
+        Some(ErrorKind::Interrupted),
+        Ok(()),
+        Err(7),
+    )?;
+    flush(&rt, rt.alloc(), None, Err(3), Err(3))?;
+    flush(&rt, rt.alloc(), other, Err(3), Err(3))
+}

@@ -1,0 +1,52 @@
+-- Which frames and acknowledgements arrive that meet their fates, and what they leave.
+--     coming_of v frames, delayed_of v frames      of frames that meet the next fates of v, those that
+--         come at once, and those that are delayed
+--     receiver_after_all N r frames      what a receiver stores once frames have come, one after another
+--     acks_of N r frames      its acknowledgements of them
+--     path_after path      what is left of a path whose frames have all met their fates
+use Rattle.std.specs.Prelude.{ℕ, ◌+◌, ◌^◌, nat_lt, if◌then◌else◌}
+use Rattle.std.specs.Prelude.{List, [], ◌∷◌, ◌++◌, length, Option, Some, None}
+use Rattle.net_receiver.specs.ReceiverState.{ReceiverState}
+use Rattle.net_copies.specs.Frames.{segment_of}
+use Rattle.net_copies.specs.Fates.{FatesState, next_fate, after_fate, fates_after, comes, comes_delayed}
+use Rattle.net_copies.specs.PathState.{PathState, ack_of, receiver_after}
+
+-- the frames that come at once, of frames that meet the next fates of v
+abbrev pub coming_of : FatesState → List (List ℕ) → List (List ℕ)
+coming_of v [] = []
+coming_of v (frame ∷ frames) =
+    if comes (next_fate v) then frame ∷ coming_of (after_fate v) frames
+    else coming_of (after_fate v) frames
+
+-- those that come in the next round, for the first time or once more
+abbrev pub delayed_of : FatesState → List (List ℕ) → List (List ℕ)
+delayed_of v [] = []
+delayed_of v (frame ∷ frames) =
+    if comes_delayed (next_fate v) then frame ∷ delayed_of (after_fate v) frames
+    else delayed_of (after_fate v) frames
+
+-- what a receiver stores once frames have come, one after another
+abbrev pub receiver_after_all : ℕ → ReceiverState → List (List ℕ) → ReceiverState
+receiver_after_all most_runs r [] = r
+receiver_after_all most_runs r (frame ∷ frames) = receiver_after_all most_runs (receiver_after most_runs r (segment_of frame)) frames
+
+-- the acknowledgement of a frame that came, if it has one, where the receiver stores r
+abbrev pub ack_to : ReceiverState → Option (ℕ × List ℕ) → List (List ℕ)
+ack_to r None = []
+ack_to r (Some (pos, xs)) =
+    if nat_lt (pos + length xs) (2 ^ 64) then ack_of r ∷ [] else []
+
+-- the acknowledgements of frames that came, one after another
+abbrev pub acks_of : ℕ → ReceiverState → List (List ℕ) → List (List ℕ)
+acks_of most_runs r [] = []
+acks_of most_runs r (frame ∷ frames) =
+    ack_to (receiver_after most_runs r (segment_of frame)) (segment_of frame)
+    ++ acks_of most_runs (receiver_after most_runs r (segment_of frame)) frames
+
+-- what is left of a path whose frames have all met their fates
+abbrev pub path_after : PathState → PathState
+path_after path = record {
+  in_flight = [];
+  delayed = delayed_of path.fates path.in_flight;
+  fates = fates_after (length path.in_flight) path.fates;
+}

@@ -1,0 +1,2 @@
+-- Lemmas on what readers give and writers take.
+pub mod KnownBytes

@@ -1,0 +1,137 @@
+//! Reading: bytes off the head of the queue, copied or lent.
+ghost use Rattle.std.specs.Prelude.{◌≡◌, ℕ, ◌+◌, ◌-◌, ◌<◌, ◌≤◌, min, List, ◌++◌, length, take};
+ghost use Rattle.std.specs.Prelude.{drop, slice_range, slice_index_or};
+ghost use Rattle.std.specs.Fn.{FnOnceTakesAt, FnOnceReturnsAt};
+ghost use Rattle.net_receiver.specs.Rules.{Read, ReadReply};
+ghost use Rattle.net_receiver.specs.Schedule.{KeptState, queue_bytes, kept_reply};
+ghost use Rattle.net_receiver.specs.ReceiverState.{next_position, receiver_after_read};
+ghost use Rattle.net_receiver.specs.ReceiverState.{receiver_reply};
+ghost use Rattle.net_receiver.specs.ReceiverState.{setting, StaysInSetting, StepRefines, Refines};
+ghost use Rattle.net_receiver.specs.Contiguous.{contiguous_count, contiguous_count_from, first_part};
+ghost use Rattle.net_receiver.specs.Contiguous.{second_part};
+ghost use Rattle.net_receiver.specs.OneStream.{ReceivesFrom};
+
+use super::Receiver;
+
+/// Reading: bytes off the head of the queue, copied or lent.
+impl<'a, const N: usize> Receiver<'a, N> {
+    /// Takes bytes off the queue into the beginning of `into`, and returns how many: as many as are
+    /// queued and as `into` has room for. The rest of `into` stays as it is.
+    ///
+    /// As for `segment`, `state`, `count` and `into` say it by what is stored, `step` by kept
+    /// lists, and `receives` and `bytes` by the stream that the segments were of.
+    pub fn read(&mut self, into: &mut [u8]) -> usize
+        ensures state { self.new ≡ receiver_after_read self.old (length into.old) }
+        ensures count { result ≡ min (length into.old) (length self.old.queue) }
+        ensures into { into.new ≡
+            take (length into.old) self.old.queue ++ drop (length self.old.queue) into.old }
+        ensures step { StepRefines N self.old self.new
+            (Read (length into.old)) (ReadReply (take result into.new)) }
+        ensures setting { StaysInSetting N self.old self.new }
+        ensures next { next_position self.new ≡ next_position self.old }
+        ensures receives { (f : ℕ) (x : List ℕ) → ReceivesFrom f x self.old →
+            ReceivesFrom f x self.new }
+        ensures bytes { (f : ℕ) (x : List ℕ) → ReceivesFrom f x self.old → take result into.new
+            ≡ slice_range x self.old.read (self.old.read + result) }
+    {
+        let count = self.ring.dequeue_slice(into);
+        self.count_read += count as u64;
+        count
+    }
+
+    /// Lends bytes of the queue that are contiguous, from its byte `offset` on: `size`, or as many as
+    /// there are up to the end of the queue or of the storage. None are lent only if `size` is 0 or
+    /// the queue has no byte `offset`.
+    ///
+    /// The stream's byte number i, counted from 0, has the index `i` modulo the capacity in the
+    /// storage, so it is known where a part ends. smoltcp's `peek` lends from the head on.
+    pub fn peek(&self, offset: usize, size: usize) -> &[u8]
+        ensures count { length result.now ≡ contiguous_count_from self.now offset size }
+        ensures few { length result.now ≤ min size (length self.now.queue - offset) }
+        ensures some { offset < length self.now.queue → 0 < size → 0 < length result.now }
+        ensures value { result.now ≡ take (length result.now) (drop offset self.now.queue) }
+        ensures step { (s : KeptState) → Refines self.now s → result.now
+            ≡ take (length result.now) (drop offset (queue_bytes self.now.first s)) }
+        ensures each { (k : ℕ) (d : ℕ) → offset ≤ k → k < offset + length result.now →
+            slice_index_or self.now.queue k d ≡ slice_index_or result.now (k - offset) d }
+        ensures end { offset ≤ length self.now.queue →
+            offset + length result.now ≤ length self.now.queue }
+        ensures bytes { (f : ℕ) (x : List ℕ) → ReceivesFrom f x self.now →
+            result.now ≡ take (length result.now) (drop (self.now.read + offset) x) }
+    {
+        self.ring.get_allocated(offset, size)
+    }
+
+    /// Copies bytes from the head of the queue to the beginning of `into`, and returns how many:
+    /// as many as are queued and as `into` has room for. The rest of `into` stays as it is, and
+    /// the queue too: the bytes are those that a `read` would take.
+    pub fn peek_slice(&mut self, into: &mut [u8]) -> usize
+        ensures unchanged { self.new ≡ self.old }
+        ensures count { result ≡ min (length into.old) (length self.old.queue) }
+        ensures into { into.new ≡
+            take (length into.old) self.old.queue ++ drop (length self.old.queue) into.old }
+        ensures reply { ReadReply (take result into.new)
+            ≡ receiver_reply N self.old (Read (length into.old)) }
+        ensures step { (s : KeptState) → Refines self.old s → ReadReply (take result into.new)
+            ≡ kept_reply (setting N self.old) s (Read (length into.old)) }
+        ensures bytes { (f : ℕ) (x : List ℕ) → ReceivesFrom f x self.old → take result into.new
+            ≡ slice_range x self.old.read (self.old.read + result) }
+    {
+        self.ring.read_allocated(0, into)
+    }
+
+    /// Shows the queue, in order, in two parts: the bytes up to the storage's end, and those from its
+    /// beginning on. The second part is empty unless the queue wraps.
+    ///
+    /// An addition to smoltcp's calls, as std's `VecDeque` has it.
+    pub fn as_slices(&self) -> (&[u8], &[u8])
+        ensures queue { result.0.now ++ result.1.now ≡ self.now.queue }
+        ensures cut { length result.0.now ≡ contiguous_count self.now }
+        ensures value { (result.0.now ≡ first_part self.now)
+            × (result.1.now ≡ second_part self.now) }
+        ensures first { (k : ℕ) (d : ℕ) → k < length result.0.now →
+            slice_index_or self.now.queue k d ≡ slice_index_or result.0.now k d }
+        ensures second { (k : ℕ) (d : ℕ) → length result.0.now ≤ k →
+            slice_index_or self.now.queue k d
+            ≡ slice_index_or result.1.now (k - length result.0.now) d }
+        ensures bytes { (f : ℕ) (x : List ℕ) → ReceivesFrom f x self.now →
+            result.0.now ++ result.1.now
+            ≡ slice_range x self.now.read (self.now.read + length self.now.queue) }
+    {
+        self.ring.as_slices()
+    }
+
+    /// Calls `f` on the first part of the queue, as `as_slices` shows it, takes as many bytes off the
+    /// queue as `f` counts, and returns what `f` returned. The part is empty only if the queue is.
+    ///
+    /// `f` must take that part, and count no more bytes than it is lent. smoltcp's `recv` lends the
+    /// bytes for writing too.
+    ///
+    /// # Requires
+    ///
+    /// `f` may be called on the part that it is lent, and counts at most its length.
+    pub fn read_with<R, F: FnOnce(&[u8]) -> (usize, R)>(&mut self, f: F) -> (usize, R)
+        requires callable { FnOnceTakesAt F.FnOnce f (first_part self.old) }
+        requires count { (r : ℕ × R) → FnOnceReturnsAt F.FnOnce f (first_part self.old) r →
+            r.0 ≤ length (first_part self.old) }
+        ensures called { FnOnceReturnsAt F.FnOnce f (first_part self.old) result }
+        ensures count { result.0 ≤ contiguous_count self.old }
+        ensures not_empty { 0 < length self.old.queue → 0 < contiguous_count self.old }
+        ensures state { self.new ≡ receiver_after_read self.old result.0 }
+        ensures step { StepRefines N self.old self.new
+            (Read result.0) (ReadReply (take result.0 self.old.queue)) }
+        ensures setting { StaysInSetting N self.old self.new }
+        ensures next { next_position self.new ≡ next_position self.old }
+        ensures receives { (f : ℕ) (x : List ℕ) → ReceivesFrom f x self.old →
+            ReceivesFrom f x self.new }
+        ensures bytes { (f : ℕ) (x : List ℕ) → ReceivesFrom f x self.old →
+            take result.0 self.old.queue
+            ≡ slice_range x self.old.read (self.old.read + result.0) }
+    {
+        let bytes = self.ring.get_allocated(0, self.ring.len());
+        let answer = f(bytes);
+        self.ring.dequeue_allocated(answer.0);
+        self.count_read += answer.0 as u64;
+        answer
+    }
+}

@@ -1,0 +1,25 @@
+use Rattle.std.proofs.Common.{◌≡◌, ◌∙◌, ap, arith, subst}
+use Rattle.net_ring.specs.Ring.{queue, storage_index, queue_index, contiguous_queued_from, IsWellFormed}
+use Rattle.net_ring.proofs.RingFacts.{shown_in_queue, first_in_queue}
+use Rattle.net_ring.proofs.RingParts.{each_of, end_of}
+use Rattle.net_ring.proofs.ring_buffer.RingOver.get_allocated.Goals as goal
+
+pub returns : goal.returns
+returns g c =
+    let old = c.args.self.now in
+    let span = c.span-span.ensures in
+    let counts = ap (λ o. o.count) c.self.view_is in
+    let at : c.span-span.result.from ≡ queue_index old c.args.offset = span.from ∙ ap (storage_index old) (omega (arith, counts)) in
+    let count : c.span-span.result.contiguous ≡ contiguous_queued_from old c.args.offset c.args.size = omega (arith, span.count, span.contiguous, at, counts) in
+    let lent = shown_in_queue _ _ c.self.view_is c.self.invariant c.args.offset c.args.size _ _ at (omega (arith, count)) _ c.part.ensures in
+    let wf = subst IsWellFormed c.self.view_is c.self.invariant in
+    let head_is = first_in_queue old wf c.args.offset c.args.size _ lent.0 lent.1 in
+    record {
+      count = lent.0;
+      not_empty = head_is.0;
+      value = lent.1;
+      first = head_is.1;
+      each = each_of (queue old) c.part.result.now c.args.offset lent.1;
+      end = end_of (queue old) c.part.result.now c.args.offset lent.1;
+      stored = lent.2;
+    }

@@ -1,0 +1,17 @@
+use Rattle.std.proofs.Common.{rules, ◌≡◌, ◌-◌, length, slice_get, Some}
+use Rattle.net_ring.specs.Ring.{queue}
+use Rattle.net_ring.proofs.RingFacts.{well}
+use Rattle.net_ring.proofs.LastElement.{off_back}
+use Rattle.net_ring.proofs.ring_buffer.RingOver.pop_back.Goals as goal
+
+pub returns-clause-queue : goal.returns-clause-queue
+returns-clause-queue g c =
+    let old = queue c.args.self.now in
+    let last : slice_get old (length old - 1) ≡ Some c.in_ok-last.field-0.now = search rules in
+    (off_back _ _ c.self.view_is (well _ _ c.self.view_is c.self.invariant) _ last).0
+
+pub returns-clause-spare : goal.returns-clause-spare
+returns-clause-spare g c =
+    let old = queue c.args.self.now in
+    let last : slice_get old (length old - 1) ≡ Some c.in_ok-last.field-0.now = search rules in
+    (off_back _ _ c.self.view_is (well _ _ c.self.view_is c.self.invariant) _ last).1

@@ -1,0 +1,15 @@
+pub mod Text
+pub mod Transcript
+pub mod Progress
+pub mod RingMode
+pub mod AsmMode
+pub mod StreamMode
+pub mod Modes
+pub mod RingLines
+pub mod StreamLines
+pub mod StreamReceivers
+pub mod Words
+pub mod Kinds
+pub mod Bench
+pub mod ErrorText
+pub mod Program

@@ -1,0 +1,32 @@
+//! What may be wrong with a line.
+ghost use Rattle.std.specs.Prelude.{◌≡◌};
+ghost use Rattle.net_script.specs.Transcript.{error_at};
+
+use crate::error::BenchError;
+
+/// What may be wrong with a line.
+#[derive(Clone, Copy, Debug, PartialEq, Eq)]
+pub enum Fault {
+    /// It is no line of the mode.
+    BadCommand,
+    /// The end of its range is above the greatest number.
+    RangeTooLong,
+    /// It has more than 4,096 bytes.
+    LineTooLong,
+    /// It begins a third schedule.
+    TooManySchedules,
+}
+
+impl Fault {
+    /// Returns the fault as an error, for the line of this number.
+    pub fn at(self, number: u64) -> BenchError
+        ensures { result ≡ error_at number self }
+    {
+        match self {
+            Fault::BadCommand => BenchError::BadCommand(number),
+            Fault::RangeTooLong => BenchError::RangeTooLong(number),
+            Fault::LineTooLong => BenchError::LineTooLong(number),
+            Fault::TooManySchedules => BenchError::TooManySchedules(number),
+        }
+    }
+}

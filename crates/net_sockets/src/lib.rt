@@ -1,0 +1,18 @@
+//! What is built on `net_storage` and `net_base`: a UDP socket, a buffer of fragments, a bridge, and
+//! an inbox that shows its first datagram in place.
+//!
+//! Each is small and whole, and each is proved from the public contracts of those crates alone, as
+//! a user of them would write it.
+#![tactic(auto)]
+
+mod bridge;
+mod endpoint;
+pub mod fragment_buffer;
+mod inbox;
+mod udp_socket;
+
+pub use bridge::{forward, forward_lists, forward_one};
+pub use endpoint::{Endpoint, endpoint_clone, endpoint_equality};
+pub use fragment_buffer::{FragmentBuffer, FragmentError, FragmentsOver};
+pub use inbox::Inbox;
+pub use udp_socket::UdpSocket;

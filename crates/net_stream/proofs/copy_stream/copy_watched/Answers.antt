@@ -1,0 +1,36 @@
+use Rattle.std.proofs.Common.{length, ap, subst, ◌∙◌, arith, inl, inr}
+use Rattle.net_copies.specs.CopyState.{Setup, setup_over}
+use Rattle.net_copies.specs.CopyResult.{HasCopied}
+use Rattle.net_stream.proofs.Copied.{not_begun}
+use Rattle.net_copies.proofs.Written.{enough, unbegun}
+use Rattle.net_stream.proofs.copy_stream.copy_watched.Goals as goal
+
+pub returns-in_default-clause-exact : goal.returns-in_default-clause-exact
+returns-in_default-clause-exact g c = inr (not_begun c.flush_after.result (g.R.Read.remaining c.args.reader.now) (g.W.Write.contents c.args.writer.now)
+    (g.W.Write.contents c.flush_after.new.writer) c.new.result c.flush_after.ensures.kept c.flush_after.ensures.ended c.new.ensures)
+
+pub returns-in_default-clause-copied : goal.returns-in_default-clause-copied
+returns-in_default-clause-copied g c = unbegun c.flush_after.result (g.R.Read.remaining c.args.reader.now) (g.R.Read.remaining c.args.reader.now)
+    (g.W.Write.contents c.args.writer.now) (g.W.Write.contents c.flush_after.new.writer) c.new.result
+    (not_begun c.flush_after.result (g.R.Read.remaining c.args.reader.now) (g.W.Write.contents c.args.writer.now)
+    (g.W.Write.contents c.flush_after.new.writer) c.new.result c.flush_after.ensures.kept c.flush_after.ensures.ended c.new.ensures)
+
+pub returns-clause-exact : goal.returns-clause-exact
+returns-clause-exact g c =
+    let outgoing = ap length c.deref_mut.ensures.value ∙ c.in-Ok.ensures.0 in
+    let incoming = ap length c.deref_mut-2.ensures.value ∙ c.in-Ok.ensures.1 in
+    let chunk = ap length c.deref_mut-3.ensures.value ∙ c.in-Ok.ensures.2 in
+    inl (subst (λ (s : Setup). HasCopied s c.turns_over-ended.result.0 (g.R.Read.remaining c.args.reader.now) (g.R.Read.remaining c.turns_over-ended.new.reader)
+    (g.W.Write.contents c.args.writer.now) (g.W.Write.contents c.turns_over-ended.new.writer) c.turns_over-ended.result.1)
+    (λ i. setup_over c.args.config (outgoing i) (incoming i) (chunk i) c.args.fates.frames c.args.fates.acks)
+    c.turns_over-ended.ensures.exact)
+
+pub returns-clause-gave_up : goal.returns-clause-gave_up
+returns-clause-gave_up g c = enough c.gives_up_counted.ensures.failed c.args.config c.args.fates.frames c.args.fates.acks (omega arith) c.turns_over-ended.result.0
+    (g.R.Read.remaining c.args.reader.now) (g.R.Read.remaining c.turns_over-ended.new.reader) (g.W.Write.contents c.args.writer.now)
+    (g.W.Write.contents c.turns_over-ended.new.writer) c.turns_over-ended.result.1 (returns-clause-exact g c)
+
+pub returns-in_default-clause-gave_up : goal.returns-in_default-clause-gave_up
+returns-in_default-clause-gave_up g c = enough c.gives_up_counted.ensures.failed c.args.config c.args.fates.frames c.args.fates.acks (omega arith)
+    c.flush_after.result (g.R.Read.remaining c.args.reader.now) (g.R.Read.remaining c.args.reader.now) (g.W.Write.contents c.args.writer.now)
+    (g.W.Write.contents c.flush_after.new.writer) c.new.result (returns-in_default-clause-exact g c)

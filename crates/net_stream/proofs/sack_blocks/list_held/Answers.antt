@@ -1,0 +1,52 @@
+use Rattle.std.proofs.Common.{◌≡◌, ℕ, ◌+◌, ◌*◌, ◌++◌, ◌∙◌, All, take, sym, ap, subst, arith}
+use Rattle.std.specs.Int.{w64, to_be_bytes}
+use Rattle.net_assembler.specs.Positions.{maximal_runs}
+use Rattle.net_receiver.specs.ReceiverState.{domain}
+use Rattle.net_copies.specs.SackBlocks.{most_sack_blocks, block_bytes}
+use Rattle.net_copies.proofs.Invariant.{All-push}
+use Rattle.net_copies.proofs.Ranges.{IsWords, listed_push, take_same, rest_is, take_next}
+use Rattle.net_stream.proofs.sack_blocks.list_held.Goals as goal
+
+pub returns-in_default-clause-listed : goal.returns-in_default-clause-listed
+returns-in_default-clause-listed g c =
+    let all = maximal_runs (domain c.args.receiver.now.held) in
+    let none = sym c.loop-i.invariant.left ∙ c.in_default.ensures.steps.0 in
+    c.loop-i.invariant.listed ∙ ap block_bytes (take_same c.loop-i.i most_sack_blocks all none (omega arith))
+
+pub returns-in_default-clause-fit : goal.returns-in_default-clause-fit
+returns-in_default-clause-fit g c =
+    let all = maximal_runs (domain c.args.receiver.now.held) in
+    let none = sym c.loop-i.invariant.left ∙ c.in_default.ensures.steps.0 in
+    subst (All IsWords) (take_same c.loop-i.i most_sack_blocks all none (omega arith)) c.loop-i.invariant.words
+
+pub loop-i-preserved : goal.loop-i-preserved
+loop-i-preserved g c =
+    let i = c.loop-i.i in
+    let all = maximal_runs (domain c.args.receiver.now.held) in
+    let run : ℕ × ℕ = (c.in-Some.start, c.in-Some.end) in
+    let first = sym c.loop-i.invariant.left ∙ c.in-Some.ensures.steps in
+    let one = take_next i all c.next.new.self run first in
+    let b2 = c.write_number-in-loop-i.new.buffer in
+    let s = to_be_bytes w64 c.in-Some.start in
+    let e = to_be_bytes w64 c.in-Some.end in
+    let place : 16 * (i + 1) ≡ 16 * i + 8 + 8 = omega arith in
+    record {
+      can = tt;
+      finite = tt;
+      left = rest_is i all c.next.new.self run first;
+      len = c.write_number-in-loop-i.ensures.len ∙ c.write_number.ensures.len ∙ c.loop-i.invariant.len;
+      listed =
+          ap (λ n. take n b2) place
+          ∙ c.write_number-in-loop-i.ensures.prefix
+          ∙ ap (λ l. l ++ e) (c.write_number.ensures.prefix ∙ ap (λ l. l ++ s) c.loop-i.invariant.listed)
+          ∙ listed_push (take i all) c.in-Some.start c.in-Some.end
+          ∙ ap block_bytes (sym one);
+      words = subst (All IsWords) (sym one) (All-push IsWords (take i all) run c.loop-i.invariant.words
+          (c.write_number.ensures.fits, c.write_number-in-loop-i.ensures.fits));
+    }
+
+pub returns-clause-listed : goal.returns-clause-listed
+returns-clause-listed g c =
+    let all = maximal_runs (domain c.args.receiver.now.held) in
+    let done : c.loop-i.i ≡ most_sack_blocks = omega arith in
+    subst (λ k. take (16 * k) c.loop-i.buffer ≡ block_bytes (take k all)) done c.loop-i.invariant.listed

@@ -1,0 +1,179 @@
+//! `copy`, from a reader over a link to a writer, and its buffers.
+ghost use Rattle.std.specs.Prelude.{◌≡◌, ◌⊎◌, ◌+◌, ◌<◌, ◌≤◌, length, true, IfOk, IfErr};
+ghost use Rattle.std.specs.Result.{is_ok};
+ghost use Rattle.net_copies.specs.CopyState.{setup_over, setup_of};
+ghost use Rattle.net_copies.specs.CopyResult.{HasPositions, gave_up, HasCopied, HasNotBegun, Copies};
+
+use crate::copier::Copier;
+use crate::fates::LinkFates;
+use crate::watch::{Nobody, Watch};
+use net_copies::{Config, Counts, LinkError, laws};
+use net_io::flush_after;
+use net_ring::ManagedSlice;
+use std::alloc::{AllocError, Allocator};
+use std::io::{Read, Write};
+
+/// The buffers of a copy.
+#[derive(Drop)]
+pub struct CopyBuffers<'a> {
+    /// The sender's storage.
+    pub outgoing: &'a mut [u8],
+    /// The receiver's storage.
+    pub incoming: &'a mut [u8],
+    /// What the reader's bytes are read into, and the writer's are written from.
+    pub chunk: &'a mut [u8],
+}
+
+/// Makes the turns of a copy over buffers that are lent, and returns how it ended and what was counted.
+fn turns_over<'a, 'f, A: Allocator + Copy, T: Watch, R: Read, W: Write>(
+    alloc: A,
+    config: Config,
+    fates: LinkFates<'f>,
+    buffers: CopyBuffers<'a>,
+    watch: &mut T,
+    reader: &mut R,
+    writer: &mut W,
+) -> (Result<(), LinkError>, Counts)
+    ensures exact { HasCopied (setup_over config (length buffers.entry.outgoing.now)
+        (length buffers.entry.incoming.now) (length buffers.entry.chunk.now)
+        fates.entry.frames fates.entry.acks) result.0
+        (R.remaining reader.old) (R.remaining reader.new)
+        (W.contents writer.old) (W.contents writer.new) result.1 }
+    ensures copied { Copies (R.remaining reader.old) (R.remaining reader.new)
+        (W.contents writer.old) (W.contents writer.new)
+        result.1.bytes_read result.1.bytes_written (is_ok result.0) }
+{
+    laws::known();
+    let CopyBuffers {
+        outgoing,
+        incoming,
+        chunk,
+    } = buffers;
+    let mut copier = Copier::new(
+        alloc,
+        config,
+        fates,
+        ManagedSlice::Borrowed(outgoing),
+        ManagedSlice::Borrowed(incoming),
+    );
+    let ended = copier.run(config.rounds, chunk, watch, reader, writer);
+    (
+        flush_after(ended, LinkError::WriteFailed, writer),
+        copier.counts(),
+    )
+}
+
+/// Copies as `copy` does, over buffers that are lent. The capacity of the config isn't read.
+pub fn copy_over<'a, 'f, A: Allocator + Copy, R: Read, W: Write>(
+    alloc: A,
+    config: Config,
+    fates: LinkFates<'f>,
+    buffers: CopyBuffers<'a>,
+    reader: &mut R,
+    writer: &mut W,
+    counts: &mut Counts,
+) -> Result<(), LinkError>
+    ensures exact { HasCopied (setup_over config (length buffers.entry.outgoing.now)
+        (length buffers.entry.incoming.now) (length buffers.entry.chunk.now)
+        fates.entry.frames fates.entry.acks) result
+        (R.remaining reader.old) (R.remaining reader.new)
+        (W.contents writer.old) (W.contents writer.new) counts.new }
+    ensures copied { Copies (R.remaining reader.old) (R.remaining reader.new)
+        (W.contents writer.old) (W.contents writer.new)
+        counts.new.bytes_read counts.new.bytes_written (is_ok result) }
+{
+    let (ended, counted) = turns_over(alloc, config, fates, buffers, &mut Nobody, reader, writer);
+    *counts = counted;
+    ended
+}
+
+/// The storage of a copy.
+#[derive(Drop)]
+struct Storage<A: Allocator + Copy> {
+    outgoing: Vec<u8, A>,
+    incoming: Vec<u8, A>,
+    chunk: Vec<u8, A>,
+}
+
+/// Returns the storage of a copy, each of its three buffers so many bytes long.
+fn storage_of<A: Allocator + Copy>(alloc: A, len: usize) -> Result<Storage<A>, AllocError>
+    ensures { IfOk result (λ storage. (length storage.outgoing.items ≡ len)
+        × (length storage.incoming.items ≡ len) × (length storage.chunk.items ≡ len)) }
+{
+    Ok(Storage {
+        outgoing: vec![in alloc; 0u8; len]?,
+        incoming: vec![in alloc; 0u8; len]?,
+        chunk: vec![in alloc; 0u8; len]?,
+    })
+}
+
+/// Copies all that the reader has to the writer, over a link of these fates.
+///
+/// It reads into a buffer of the capacity once all that it read before is written, and passes rounds
+/// until all is written (docs/LINK.md). What comes of it depends on nothing but the config, the fates
+/// and what each read gives, and `exact` says it: the result, what is written, and all of `counts`.
+/// The module `laws` says what follows. A read or a write that fails ends the copy, and so does a
+/// refusal of memory; nothing is tried again. At the end, after an error too, the writer is flushed
+/// once; if all was written, a flush that fails is a failed write. A stream that uses all positions
+/// up to 2^64 - 2 gives up: the reader's end isn't looked for once none is left.
+pub fn copy<'f, A: Allocator + Copy, R: Read, W: Write>(
+    alloc: A,
+    config: Config,
+    fates: LinkFates<'f>,
+    reader: &mut R,
+    writer: &mut W,
+    counts: &mut Counts,
+) -> Result<(), LinkError>
+    ensures exact { HasCopied (setup_of config fates.entry.frames fates.entry.acks) result
+        (R.remaining reader.old) (R.remaining reader.new)
+        (W.contents writer.old) (W.contents writer.new) counts.new
+        ⊎ HasNotBegun result (R.remaining reader.old) (R.remaining reader.new)
+        (W.contents writer.old) (W.contents writer.new) counts.new }
+    ensures copied { Copies (R.remaining reader.old) (R.remaining reader.new)
+        (W.contents writer.old) (W.contents writer.new)
+        counts.new.bytes_read counts.new.bytes_written (is_ok result) }
+    ensures gave_up { IfErr result (λ e. gave_up e ≡ true
+        → HasPositions config.first counts.new.bytes_read → 0 < config.capacity
+        → (config.rounds ≤ counts.new.frames.lost + counts.new.frames.delayed)
+        × (config.rounds ≤ counts.new.frames.lost + 1)) }
+{
+    copy_watched(alloc, config, fates, &mut Nobody, reader, writer, counts)
+}
+
+/// Copies as `copy` does, and tells `watch` the counts after each round.
+pub fn copy_watched<'f, A: Allocator + Copy, T: Watch, R: Read, W: Write>(
+    alloc: A,
+    config: Config,
+    fates: LinkFates<'f>,
+    watch: &mut T,
+    reader: &mut R,
+    writer: &mut W,
+    counts: &mut Counts,
+) -> Result<(), LinkError>
+    ensures exact { HasCopied (setup_of config fates.entry.frames fates.entry.acks) result
+        (R.remaining reader.old) (R.remaining reader.new)
+        (W.contents writer.old) (W.contents writer.new) counts.new
+        ⊎ HasNotBegun result (R.remaining reader.old) (R.remaining reader.new)
+        (W.contents writer.old) (W.contents writer.new) counts.new }
+    ensures copied { Copies (R.remaining reader.old) (R.remaining reader.new)
+        (W.contents writer.old) (W.contents writer.new)
+        counts.new.bytes_read counts.new.bytes_written (is_ok result) }
+    ensures gave_up { IfErr result (λ e. gave_up e ≡ true
+        → HasPositions config.first counts.new.bytes_read → 0 < config.capacity
+        → (config.rounds ≤ counts.new.frames.lost + counts.new.frames.delayed)
+        × (config.rounds ≤ counts.new.frames.lost + 1)) }
+{
+    laws::gives_up_counted();
+    let Ok(mut storage) = storage_of(alloc, config.capacity) else {
+        *counts = Counts::new();
+        return flush_after(Err(LinkError::OutOfMemory), LinkError::WriteFailed, writer);
+    };
+    let buffers = CopyBuffers {
+        outgoing: &mut storage.outgoing,
+        incoming: &mut storage.incoming,
+        chunk: &mut storage.chunk,
+    };
+    let (ended, counted) = turns_over(alloc, config, fates, buffers, watch, reader, writer);
+    *counts = counted;
+    ended
+}

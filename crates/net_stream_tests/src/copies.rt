@@ -1,0 +1,278 @@
+//! Copies over links: what arrives over any link, which storage is used for what, how each refusal ends
+//! one, and what they ask of memory.
+
+use crate::assertions::assert_holds;
+use crate::calls::{PERFECT, Setup, Way, copy_by, copy_over_by};
+use crate::counted::pattern;
+use crate::counted::ways::{ALL, EACH_SECOND};
+use net_stream::{Config, CopyBuffers, Counts, LinkError, Rates};
+use net_testing::{NEVER, Refusing, Sink, Source, refuse_each};
+use std::alloc::{AllocError, Global};
+use std::io::ErrorKind;
+
+/// A copy from this position on over these fates.
+fn setup(forward: Way, reverse: Way, first: u64, capacity: usize, payload: u32) -> Setup {
+    Setup {
+        forward,
+        reverse,
+        config: Config {
+            first,
+            capacity,
+            payload,
+            max_burst: 4_096,
+            rounds: 100,
+        },
+    }
+}
+
+/// Sixty bytes.
+const TEXT: &[u8] = b"A text of some words, which comes over a link byte for byte.";
+
+/// Eighty bytes.
+const EIGHTY: &[u8] =
+    b"0123456789012345678901234567890123456789012345678901234567890123456789abcdefghij";
+
+/// Fates that are drawn at these rates.
+fn drawn(seed: u64, rates: &Rates) -> Way {
+    Way {
+        listed: &[],
+        seed,
+        rates: *rates,
+    }
+}
+
+/// Whether a text comes over a link that draws its fates.
+fn comes(alloc: Global, rates: &Rates, capacity: usize, seed: u64) -> bool {
+    let setup = setup(drawn(seed, rates), drawn(!seed, rates), 7, capacity, 5);
+    let Ok(mut sink) = Sink::new(alloc) else {
+        return false;
+    };
+    let mut source = Source::new(TEXT);
+    let end = copy_by(alloc, &setup, &mut source, &mut sink, &mut Counts::new());
+    end == "Ok" && sink.bytes.as_slice() == TEXT
+}
+
+static LINKS: [Rates; 5] = [
+    PERFECT,
+    Rates {
+        lost: 30,
+        duplicated: 0,
+        delayed: 0,
+    },
+    Rates {
+        lost: 0,
+        duplicated: 60,
+        delayed: 0,
+    },
+    Rates {
+        lost: 0,
+        duplicated: 0,
+        delayed: 60,
+    },
+    Rates {
+        lost: 20,
+        duplicated: 30,
+        delayed: 30,
+    },
+];
+
+/// Whether a text comes over links of these seeds, with storage of one byte, of some and of many.
+fn comes_at_any_capacity(alloc: Global, rates: &Rates, seeds: u64) -> bool {
+    for seed in 0..seeds {
+        for capacity in [1usize, 7, 4096] {
+            if !comes(alloc, rates, capacity, seed) {
+                return false;
+            }
+        }
+    }
+    true
+}
+
+#[test]
+fn all_comes_whatever_becomes_of_the_frames(rt: HostRuntime) {
+    for i in 0..LINKS.len() {
+        assert_holds(&rt, comes_at_any_capacity(rt.alloc(), &LINKS[i], 51), i);
+    }
+}
+
+/// Whether a copy of these bytes over storage of nine, two and four bytes takes 19 frames, 14 bytes of
+/// payload and five rounds.
+fn takes_five_rounds(alloc: Global, text: &[u8]) -> bool {
+    let setup = setup(ALL, ALL, 0, 0, 2);
+    let Ok(mut sink) = Sink::new(alloc) else {
+        return false;
+    };
+    let mut source = Source::new(text);
+    let mut counts = Counts::new();
+    let end = copy_over_by(
+        alloc,
+        &setup,
+        CopyBuffers {
+            outgoing: &mut [0; 9],
+            incoming: &mut [0; 2],
+            chunk: &mut [0; 4],
+        },
+        &mut source,
+        &mut sink,
+        &mut counts,
+    );
+    let took = (counts.frames.sent, counts.frames.payload, counts.rounds);
+    end == "Ok" && sink.bytes.as_slice() == text && took == (19, 14, 5)
+}
+
+/// A round reads as much as the third storage has room for, queues as much as the first, and the
+/// receiver takes as much as the second. The capacity of the config isn't read.
+#[test]
+fn each_lent_storage_has_its_own_use(rt: HostRuntime) {
+    assert_holds(&rt, takes_five_rounds(rt.alloc(), b"abcdefghij"), 0);
+}
+
+/// The request that is refused, the read and the write that fail, whether the flush does, the end and
+/// how many bytes of `abcdef` came.
+static REFUSALS: [(usize, usize, usize, bool, &'static str, u64); 12] = [
+    (0, NEVER, NEVER, false, "out of memory", 0),
+    (1, NEVER, NEVER, false, "out of memory", 0),
+    (2, NEVER, NEVER, false, "out of memory", 0),
+    (3, NEVER, NEVER, false, "out of memory", 0),
+    (4, NEVER, NEVER, false, "out of memory", 0),
+    (NEVER, 0, NEVER, false, "read failed", 0),
+    (NEVER, 1, NEVER, false, "read failed", 6),
+    (NEVER, NEVER, 0, false, "write failed", 0),
+    (NEVER, NEVER, 1, false, "write failed", 4),
+    (NEVER, 1, NEVER, true, "read failed", 6),
+    (NEVER, NEVER, NEVER, true, "write failed", 6),
+    (NEVER, NEVER, NEVER, false, "Ok", 6),
+];
+
+/// Whether a copy ends so, flushes once, also if memory for its buffers is refused, and gives back all its
+/// memory.
+fn ends_so(
+    alloc: Global,
+    (refused, read, write, is_unflushed, wanted, count): (usize, usize, usize, bool, &str, u64),
+) -> bool {
+    let heap = Refusing::new(alloc, refused);
+    let Ok(mut sink) = Sink::failing(alloc, 4, write, Some(ErrorKind::Other)) else {
+        return false;
+    };
+    if is_unflushed {
+        sink.flush_kind = Some(ErrorKind::Other);
+    }
+    let mut source = Source::failing(b"abcdef", usize::MAX, read, ErrorKind::Other);
+    let mut counts = Counts::new();
+    let setup = setup(ALL, ALL, 0, 16, 2);
+    let end = copy_by(&heap, &setup, &mut source, &mut sink, &mut counts);
+    end == wanted
+        && counts.bytes_written == count
+        && is_prefix(&sink, b"abcdef", count)
+        && sink.flushes == 1
+        && heap.live() == 0
+}
+
+/// Whether a writer has so many bytes, which a text begins with.
+fn is_prefix(sink: &Sink, text: &[u8], count: u64) -> bool {
+    text.starts_with(&sink.bytes) && sink.bytes.len() as u64 == count
+}
+
+#[test]
+fn each_refusal_ends_a_copy(rt: HostRuntime) {
+    for i in 0..REFUSALS.len() {
+        assert_holds(&rt, ends_so(rt.alloc(), REFUSALS[i]), i);
+    }
+}
+
+/// Whether all is counted that came before memory was refused, of a copy of which eight segments are
+/// refused in the first round, in which nothing is written: 80 bytes are sent in it, and 33 in the
+/// next. Each round waits for a round trip at least.
+fn are_kept(counts: &Counts, has_storage: bool) -> bool {
+    let frames = &counts.frames;
+    let is_counted = match counts.rounds {
+        0 => !has_storage,
+        1 => frames.payload <= 80 && frames.refused <= 8,
+        2 => frames.payload >= 80 && frames.refused >= 8,
+        _ => frames.payload >= 113 && frames.refused >= 8,
+    };
+    is_counted && counts.micros / 10_000 >= counts.rounds
+}
+
+/// Copies eighty bytes of which each second is lost, in this memory. Returns how it ends, and whether
+/// what was written is a prefix, and all is counted.
+fn leaves_a_prefix(alloc: Global, memory: &Refusing) -> (&'static str, bool) {
+    let Ok(mut sink) = Sink::new(alloc) else {
+        return ("no writer", false);
+    };
+    let mut source = Source::new(EIGHTY);
+    let mut counts = Counts::new();
+    let setup = setup(EACH_SECOND, drawn(8, &LINKS[4]), 0, 4096, 1);
+    let end = copy_by(memory, &setup, &mut source, &mut sink, &mut counts);
+    let is_right = is_prefix(&sink, EIGHTY, counts.bytes_written)
+        && are_kept(&counts, memory.requests() > 3);
+    (end, is_right)
+}
+
+/// With each request refused in turn a prefix is written, and all memory is given back.
+#[test]
+fn each_refused_request_leaves_a_prefix(rt: HostRuntime) {
+    let mut is_always_right = true;
+    let alloc = rt.alloc();
+    let requests = refuse_each(alloc, |memory| {
+        let (end, is_right) = leaves_a_prefix(alloc, memory);
+        is_always_right = is_always_right && is_right;
+        end == "Ok"
+    });
+    assert_holds(&rt, is_always_right && requests > Some(100), 0);
+}
+
+/// Whether a copy of so many bytes, with so much capacity, asks for at most so many bytes of memory, and
+/// has at most so many at once.
+fn asks_for(alloc: Global, len: usize, capacity: usize, asked: usize, most: usize) -> bool {
+    let heap = Refusing::new(alloc, NEVER);
+    let (Ok(text), Ok(mut sink)) = (pattern(alloc, len), Sink::new(alloc)) else {
+        return false;
+    };
+    let mut counts = Counts::new();
+    let setup = setup(ALL, ALL, 0, capacity, 1_000);
+    let end = copy_by(
+        &heap,
+        &setup,
+        &mut Source::new(&text),
+        &mut sink,
+        &mut counts,
+    );
+    end == "Ok" && heap.bytes() <= asked && heap.most() <= most && heap.live() == 0
+}
+
+/// A copy asks for its three storages, for its frames, each with a header of 8 bytes, for its
+/// acknowledgements, and for the queues of both; each frame is there once, and is given back when it came.
+#[test]
+fn little_memory_is_asked_for(rt: HostRuntime) {
+    // One round, of a frame and two acknowledgements, of 8 bytes each.
+    assert_holds(&rt, asks_for(rt.alloc(), 6, 100_000, 302_000, 302_000), 0);
+    // 1,000 rounds of two frames and three acknowledgements.
+    let frames = 1_000 * (2 * 1_008 + 3 * 8);
+    assert_holds(
+        &rt,
+        asks_for(
+            rt.alloc(),
+            2_000_000,
+            2_000,
+            6_000 + frames + 10_000,
+            20_000,
+        ),
+        1,
+    );
+}
+
+/// Whether an error's text is this one.
+fn says(alloc: Global, error: LinkError, text: &str) -> Result<bool, AllocError> {
+    Ok(format!(in alloc; "{error}")?.as_str() == text)
+}
+
+#[test]
+fn errors_say_what_ended_a_copy(rt: HostRuntime) -> Result<(), AllocError> {
+    let gave_up = says(rt.alloc(), LinkError::GaveUp, "gave up")?;
+    let memory = says(rt.alloc(), LinkError::OutOfMemory, "out of memory")?;
+    let read = says(rt.alloc(), LinkError::ReadFailed, "read failed")?;
+    let write = says(rt.alloc(), LinkError::WriteFailed, "write failed")?;
+    assert_holds(&rt, gave_up && memory && read && write, 0);
+    Ok(())
+}
