@@ -1,9 +1,5 @@
--- A stream in flight: what is true of a sender, a receiver and the frames between them, whatever
--- becomes of these.
+-- A path of a link, and the acknowledgements that a receiver sends.
 --     PathState      the frames in flight in one direction, the delayed ones, and the fates to come
---     PartsInvariant f w s r there back      the stream w, whose first byte has position f, is in flight
---     HasAllOf r ranges      the receiver has each position of the ranges
---     AckMatches r frame      an acknowledgement tells nothing but what the receiver has
 --     ack_of r      the acknowledgement of a receiver
 --     with_delayed fate frame path      the path once this frame met its fate
 --     receiver_after N r frame, with_ack r frame reverse      what a frame that comes leaves

@@ -86,6 +86,15 @@ impl<const N: usize> SortedRuns<N> {
         if self.used == 0 { 0 } else { self.pairs[0].1 }
     }
 
+    /// Returns whether position 0 is missing.
+    #[inline(always)]
+    pub(crate) fn lacks_front(&self) -> bool
+        requires { HasSoundPairs self.now }
+        ensures { IsTrue result ↔ (front (set_of self.now) ≡ 0) }
+    {
+        self.used == 0 || self.first_start != 0
+    }
+
     /// Returns the run with number `k`, counted from 0; None if there are no more than `k`.
     pub(crate) fn run_at(&self, k: usize) -> Option<(usize, usize)>
         requires { HasSoundPairs self.now }

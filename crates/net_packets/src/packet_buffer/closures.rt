@@ -36,6 +36,8 @@ impl<H: Drop, M: Storage<PacketMetadata<H>>, B: Storage<u8>> PacketsOver<H, M, B
         ensures unchanged { OnErr result (self.new ≡ self.old) }
         ensures wrote { IfOk result
             (λ k. WritesPacket F.FnOnce f self.old max_size header k self.new) }
+        ensures capacity { (self.new.slot_count ≡ self.old.slot_count)
+            × (length self.new.storage ≡ length self.old.storage) }
     {
         let Some(gap) = self.placement(max_size) else {
             return Err(Full);
@@ -72,6 +74,8 @@ impl<H: Drop, M: Storage<PacketMetadata<H>>, B: Storage<u8>> PacketsOver<H, M, B
         ensures no_packet { IsErr result ↔ (length self.old.packets ≡ 0) }
         ensures unchanged { OnErr result (self.new ≡ self.old) }
         ensures handed { IfOk result (λ answer. HandsPacket F.FnOnce f self.old answer self.new) }
+        ensures capacity { (self.new.slot_count ≡ self.old.slot_count)
+            × (length self.new.storage ≡ length self.old.storage) }
     {
         self.skip();
         let (size, header) = lift_header(&mut self.slots)?;

@@ -76,6 +76,8 @@ impl<H: Drop, M: Storage<PacketMetadata<H>>, B: Storage<u8>> PacketsOver<H, M, B
             ≡ contents self.old }
         ensures value { result.now ≡ last_dequeued_bytes self.old size }
         ensures size { length result.now ≡ size }
+        ensures capacity { (ws : List ℕ) → length (with_bytes self.old
+            (last_dequeued_bytes_index self.old size) ws).storage ≡ length self.old.storage }
     {
         self.bytes.last_dequeued_mut(size)
     }

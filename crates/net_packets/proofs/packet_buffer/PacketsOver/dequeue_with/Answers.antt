@@ -6,6 +6,7 @@ use Rattle.net_packets.specs.PacketHistory.{contents}
 use Rattle.net_packets.specs.PacketSlots.{slot}
 use Rattle.net_packets.specs.PacketCalls.{GivesAtPacket}
 use Rattle.std.proofs.lemmas.List.{length-take-le}
+use Rattle.net_ring.proofs.Rotations.{length-overwrite}
 use Rattle.net_packets.proofs.PacketFacts.{off_wf}
 use Rattle.net_packets.proofs.PacketOrder as order
 use Rattle.net_packets.proofs.PacketRuns.{handed_contents, none_of}
@@ -125,6 +126,25 @@ returns-clause-handed g c =
           called.0 (is_ok r.1.0) before long;
       made = made;
     }
+
+pub returns-clause-capacity : goal.returns-clause-capacity
+returns-clause-capacity g c =
+    let bytes = c.self.inside.bytes in
+    let is = c.self.view_is ∙ c.skip.ensures.skipped in
+    let lifted = c.in_ok-size.ensures.left in
+    let k = c.dequeue_many_with-answer.ensures.called in
+    let slots = lifted.2 ∙ ap (λ q. q.slot_count) is in
+    let stored = ap (λ o. length o.storage) k.3 ∙ length-overwrite bytes.storage bytes.read_at k.0 ∙ ap (λ q. length q.storage) is in
+    elim c.if-is_ok.branch [
+      | then-is_ok w ↦ (
+        ap (λ q. q.slot_count) w.self-is ∙ ap capacity w.dequeue_allocated.ensures.ring ∙ slots,
+        ap (λ q. length q.storage) w.self-is ∙ stored,
+      )
+      | else-is_ok w ↦ (
+        ap (λ q. q.slot_count) w.self-is ∙ w.put_header.ensures.capacity ∙ slots,
+        ap (λ q. length q.storage) w.self-is ∙ stored,
+      )
+    ]
 
 pub returns-in_err-size-clause-empty : goal.returns-in_err-size-clause-empty
 returns-in_err-size-clause-empty g c = none_of c.args.self.now (search rules)

@@ -9,6 +9,7 @@ use Rattle.net_packets.specs.PacketSlots.{slot, gap_slot}
 use Rattle.net_packets.proofs.PacketOrder as order
 use Rattle.net_packets.proofs.PacketSteps.{free_room, byte_room, fill_room, fill_holds, fill_left}
 use Rattle.net_ring.proofs.Rotations.{length-overwrite}
+use Rattle.net_ring.proofs.RingFacts.{rewound_is}
 use Rattle.net_packets.proofs.packet_buffer.PacketsOver.enqueue_with_infallible.Goals as goal
 
 pub f-count-requires : goal.f-count-requires
@@ -106,3 +107,12 @@ returns-clause-wrote g c =
     let accepted = ap contents left
     ∙ order.accepted_with c.args.self.now c.placement.ensures.well_placed c.args.max_size c.args.header after room.0 long count le in
     record { room = now; bytes = after; is_room = room; met = search met; size = long; at_most = search le; accepted = search accepted; made = search left }
+
+pub returns-clause-capacity : goal.returns-clause-capacity
+returns-clause-capacity g c =
+    let b = c.self.inside.bytes in
+    let b1 = c.rewind_if_empty.new.self in
+    let stored = ap (λ o. length o.storage) c.enqueue_unallocated.ensures.ring in
+    let long = length-overwrite b1.storage (spare_index b1 c.in-Some.gap) c.f-count.new.arg2 in
+    let restarted = ap (λ o. length o.storage) c.rewind_if_empty.ensures.ring ∙ ap length (rewound_is b).2 in
+    (c.push_slots.ensures.capacity ∙ ap (λ q. q.slot_count) c.self.view_is, stored ∙ long ∙ restarted ∙ ap (λ q. length q.storage) c.self.view_is)
