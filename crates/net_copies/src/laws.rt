@@ -8,6 +8,7 @@ mod bounds;
 mod ends;
 mod frames;
 mod streams;
+mod values;
 
 pub use bounds::{delayed_frames, ended, fuel, rounds_anyway, sent_frames};
 pub use ends::{
@@ -16,6 +17,10 @@ pub use ends::{
 };
 pub use frames::{distinct_frames, frames_decode, queue_from_greatest};
 pub use streams::{all, filling_reads, is_written, keeps_invariant, known, prefix, worked_copy};
+pub use values::{
+    config_clone, config_equality, counts_clone, counts_equality, fate_clone, fate_equality,
+    frame_counts_clone, frame_counts_equality, rates_clone, rates_equality,
+};
 
 /// States that if every frame comes at once, so do the next ones, however many.
 pub fn known_fates()

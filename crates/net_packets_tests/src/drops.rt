@@ -30,7 +30,7 @@ fn queue_refuses(alloc: Global, count: usize, drops: &Cell<u32>) -> Result<bool,
 
 #[test]
 fn refused_closures_are_dropped(rt: HostRuntime) -> Result<(), Fail> {
-    for count in [0, 1, 2, 300, 70000] {
+    for count in [0, 1, 2, 300, 70000, 100000] {
         let drops = Cell::new(0);
         assert!(rt; queue_refuses(rt.alloc(), count, &drops)?);
         assert_eq!(rt; drops.get(), 1);

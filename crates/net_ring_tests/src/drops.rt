@@ -28,7 +28,7 @@ fn drops_of_ring(alloc: Global, count: u32) -> Result<(u32, u32), Fail> {
 
 #[test]
 fn a_ring_drops_its_storage(rt: HostRuntime) -> Result<(), Fail> {
-    for count in [0, 1, 2, 3, 64, 1000] {
+    for count in [0, 1, 2, 3, 64, 1000, 70000] {
         assert_eq!(rt; drops_of_ring(rt.alloc(), count)?, (count, 0));
     }
     Ok(())
@@ -65,7 +65,7 @@ fn ring_refuses(alloc: Global, count: usize, drops: &Cell<u32>) -> Result<bool, 
 
 #[test]
 fn refused_closures_are_dropped(rt: HostRuntime) -> Result<(), Fail> {
-    for count in [0, 1, 2, 300, 70000] {
+    for count in [0, 1, 2, 300, 70000, 100000] {
         let drops = Cell::new(0);
         assert!(rt; ring_refuses(rt.alloc(), count, &drops)?);
         assert_eq!(rt; drops.get(), 2);

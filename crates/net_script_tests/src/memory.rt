@@ -37,7 +37,11 @@ fn output_before(alloc: Global, parts: &[Part<'_>], refused: usize) -> Result<Ve
     Ok(output)
 }
 
-/// Refuses this request for memory of a call that makes so many.
+/// The most bytes that a call here asks for: those of the buffers for a line and for replies, and
+/// little beside them.
+const MOST_BYTES: usize = 4_096 + 65_536 + 2_048;
+
+/// Refuses this request for memory of a call that makes so many. All that it got is given back.
 fn check_refusal(
     rt: &impl Abort,
     alloc: Global,
@@ -57,6 +61,8 @@ fn check_refusal(
     let streams = (&mut source, &mut sink);
     check_run(rt, (alloc, &heap), place, streams, (end, output))?;
     assert_count(rt, heap.requests(), made, place);
+    assert_holds(rt, heap.bytes() <= MOST_BYTES, ("bytes", heap.bytes()));
+    assert_count(rt, heap.live(), 0, place);
     Ok(())
 }
 
