@@ -117,8 +117,8 @@ impl<const N: usize> Subject for Pair<N> {
         Ok(None)
     }
 
-    /// The front; whether the assembler is empty; how many runs it has; the first two of them, the second
-    /// in front; and the digest of all runs, of all by their numbers, and of the text.
+    /// Shows the front; whether the assembler is empty; how many runs it has; the first two of them,
+    /// the second in front; and the digest of all runs, of all by their numbers, and of the text.
     fn show(&mut self, alloc: Global) -> Result<Reply, AllocError> {
         let text = self.now.to_string(alloc)?;
         let (count, sum) = all_runs(&self.now);

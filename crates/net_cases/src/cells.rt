@@ -60,7 +60,8 @@ impl Subject for RingBuffer<'static, Cell> {
         }
     }
 
-    /// How many cells are queued and free, and the digest of the queued and then the free ones.
+    /// Shows how many cells are queued and free, and the digest of the queued and then the free
+    /// ones.
     fn show(&mut self, _: Global) -> Result<Reply, AllocError> {
         let digest = digest_of(self);
         let reply = Reply::new().count(self.len()).count(self.window());

@@ -28,7 +28,7 @@ impl Subject for Rand {
         }
     }
 
-    /// Nothing can be seen of it.
+    /// Shows nothing, since nothing can be seen of it.
     fn show(&mut self, _: Global) -> Result<Reply, AllocError> {
         Ok(Reply::new())
     }

@@ -74,7 +74,8 @@ impl Subject for PacketBuffer<'static, u32> {
         Ok(None)
     }
 
-    /// Slots used and in all, bytes used and in all, and whether the queue is empty and full.
+    /// Shows the slots used and in all, the bytes used and in all, and whether the queue is empty
+    /// and full.
     fn show(&mut self, _: Global) -> Result<Reply, AllocError> {
         let reply = Reply::new()
             .count(self.slots_used())

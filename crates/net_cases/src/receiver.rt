@@ -128,9 +128,9 @@ impl<const N: usize> Subject for Pair<N> {
         Ok(None)
     }
 
-    /// The first missing position, how many bytes are queued and how many have room, how many runs are held,
-    /// the first of them, and the digest of all and of the queue. Positions but those of the digest are
-    /// counted from the stream's first one.
+    /// Shows the first missing position, how many bytes are queued and how many have room, how many
+    /// runs are held, the first of them, and the digest of all and of the queue. Positions except
+    /// those of the digest are counted from the stream's first one.
     fn show(&mut self, _: Global) -> Result<Reply, AllocError> {
         let (held, sum) = all_held(&self.now);
         let reply = Reply::new()

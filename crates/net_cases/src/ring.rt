@@ -110,7 +110,7 @@ impl Subject for RingBuffer<'static, u8> {
         Ok(None)
     }
 
-    /// How many elements are queued, free, and free and contiguous; the capacity; whether the ring
+    /// Shows how many elements are queued, free, and free and contiguous; the capacity; whether the ring
     /// is empty and full; and the digest of its queue and then its free elements.
     fn show(&mut self, _: Global) -> Result<Reply, AllocError> {
         let digest = digest_of(self);

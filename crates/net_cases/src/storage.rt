@@ -40,7 +40,7 @@ impl Subject for ManagedSlice<'static, u8> {
         }
     }
 
-    /// How many bytes there are, by both calls, and their digest.
+    /// Shows how many bytes there are, by both calls, and their digest.
     fn show(&mut self, _: Global) -> Result<Reply, AllocError> {
         let digest = mix_bytes(START, self.as_slice());
         let reply = Reply::new().count(self.count()).count(self.len());

@@ -68,7 +68,7 @@ impl Subject for Texts {
         Ok(None)
     }
 
-    /// Nothing.
+    /// Shows nothing.
     fn show(&mut self, _: Global) -> Result<Reply, AllocError> {
         Ok(Reply::new())
     }

@@ -30,7 +30,7 @@ impl Subject for Times {
         Ok(reply)
     }
 
-    /// Nothing.
+    /// Shows nothing.
     fn show(&mut self, _: Global) -> Result<Reply, AllocError> {
         Ok(Reply::new())
     }

@@ -2,7 +2,7 @@
 ghost use Rattle.std.specs.Prelude.{◌≡◌};
 ghost use Rattle.net_cli.specs.Numeral.{begins_numeral, number_of};
 
-/// Whether a word has a byte, and the first is above the digit 0 unless it is the only one.
+/// Returns whether a word has a byte, and the first is above the digit 0 unless it is the only one.
 fn begins_numeral(word: &[u8]) -> bool
     ensures { result ≡ begins_numeral word.now }
 {

@@ -9,7 +9,7 @@ use std::test::Fail;
 /// Six words, of which one is empty.
 const LINE: &str = "stream 8 4 1000  x";
 
-/// The words of the line.
+/// Returns the words of the line.
 fn words_of(alloc: Global) -> Result<Vec<String>, AllocError> {
     let mut words = Vec::new(alloc);
     for word in LINE.split(' ') {

@@ -48,7 +48,7 @@ fn a_text_of_no_bytes_needs_no_write(rt: HostRuntime) -> Result<(), Fail> {
     Ok(())
 }
 
-/// Whether a result is this one once a writer was flushed, whose flushes fail or don't.
+/// Returns whether a result is this one once a writer was flushed, whose flushes fail or don't.
 fn flush(
     rt: &impl Abort,
     alloc: Global,

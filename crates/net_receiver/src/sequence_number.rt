@@ -81,7 +81,7 @@ impl SequenceNumber {
     }
 }
 
-/// The number so many bytes on, going round at 2^32.
+/// Adds a count of bytes to a number, going round at 2^32.
 impl Add<u32> for SequenceNumber {
     type Output = SequenceNumber;
 

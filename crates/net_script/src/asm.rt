@@ -60,7 +60,7 @@ impl<const N: usize> Model for AsmSession<N> {
     ghost view = { λ s. s.assembler };
 }
 
-/// The offset and the size of the range that two words name, if both are numbers.
+/// Returns the offset and the size of the range that two words name, if both are numbers.
 fn range(offset: &[u8], size: &[u8]) -> Option<(usize, usize)>
     ensures { result ≡ range_of (number_of offset.now) (number_of size.now) }
 {
@@ -99,7 +99,7 @@ fn asm_line(line: &[u8]) -> Option<AsmLine>
 }
 
 impl<const N: usize> AsmSession<N> {
-    /// The empty set.
+    /// Returns a session with the empty set.
     pub fn new() -> AsmSession<N>
         requires { 1 ≤ N }
         ensures { result ≡ nothing }
@@ -172,7 +172,7 @@ impl<const N: usize> AsmSession<N> {
     }
 }
 
-/// The reply that says how long the front was.
+/// Returns the reply that says how long the front was.
 fn front_text<A: Allocator + Copy>(
     buffers: &mut Buffers<A>,
     length: usize,

@@ -71,15 +71,18 @@ struct Bench<A: Allocator + Copy, S> {
     number: u64,
     line: Vec<u8, A>,
     replies: Replies<A>,
+    /// The line is no longer than a line may be.
     ghost short: { length line.items ≤ 4096 },
+    /// Its line feed hasn't come.
     ghost unended: { HasNoFeed line.items },
+    /// Any line has room.
     ghost room: { 4096 ≤ vec_capacity line },
 }
 
 impl<A: Allocator + Copy, S: Session<A>> Bench<A, S> {
     ghost use Rattle.net_script.specs.Bench.{bench_state};
 
-    /// The same before the first line. All memory for lines and replies is taken here.
+    /// Returns a bench before its first line. All memory for lines and replies is taken here.
     fn new(alloc: A, session: S) -> Result<Bench<A, S>, AllocError>
     where
         S: Drop,

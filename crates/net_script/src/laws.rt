@@ -11,14 +11,14 @@ ghost use Rattle.net_script.specs.StreamMode.{ToReceiver, stream_command, reply_
 ghost use Rattle.net_script.specs.Modes.{Ring, Asm, Stream, mode_of, output, fault};
 ghost use Rattle.net_script.specs.declared.error.BenchError.{BenchError};
 
-/// What a ring's lines write, and which fault they have.
+/// States what a ring's lines write, and which fault they have.
 pub fn ring_lines()
     ensures took { output (Ring 4) (codes "w 616263\nr 2\nr 9")
         ≡ codes "took 3\nread 6162\nread 63\n" }
     ensures fault { fault (Ring 4) (codes "w 61\nx 1\nw 62\n") ≡ Some (BenchError.BadCommand 2) }
 {}
 
-/// Which fault an assembler's lines have, and that mode `asm` refuses a range exactly if an
+/// States which fault an assembler's lines have, and that mode `asm` refuses a range exactly if an
 /// `Assembler` does.
 pub fn asm_lines()
     ensures refused { (most offset size : ℕ) (set : Positions)
@@ -30,7 +30,8 @@ pub fn asm_lines()
         ≡ Some (BenchError.BadCommand 1) }
 {}
 
-/// Which words name mode `stream`, what its lines and replies say, and which fault they have.
+/// States which words name mode `stream`, what its lines and replies say, and which fault they
+/// have.
 pub fn stream_lines()
     ensures words { mode_of (codes "stream" ∷ codes "8" ∷ codes "4" ∷ codes "1000" ∷ [])
         ≡ Some (Stream (record { first = 1000; capacity = 8; most_runs = 4 })) }

@@ -92,7 +92,8 @@ fn two_words(name: &[u8], number: &[u8]) -> Option<Mode>
     None
 }
 
-/// Mode `stream` with the numbers that these words write, and this first position.
+/// Returns mode `stream` with the numbers that these words write, and this first position, if these
+/// are its words.
 fn stream(
     name: &[u8],
     capacity_word: &[u8],

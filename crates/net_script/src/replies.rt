@@ -30,7 +30,9 @@ fn write_whole<W: Write>(writer: &mut W, text: &[u8]) -> Result<(), BenchError>
 #[derive(Drop)]
 pub struct Replies<A: Allocator + Copy> {
     pending: Vec<u8, A>,
+    /// No more is pending than is gathered.
     ghost within: { length pending.items ≤ 65536 },
+    /// As much as is gathered has room.
     ghost room: { 65536 ≤ vec_capacity pending },
 }
 

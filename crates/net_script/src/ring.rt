@@ -29,7 +29,8 @@ pub enum RingLine<A: Allocator + Copy> {
     Read(u64),
 }
 
-/// A ring of bytes that lines fill and empty.
+/// A ring of bytes that lines fill and empty. A contract sees its queue and its capacity, and not
+/// where in the storage it is read.
 #[derive(Drop)]
 pub struct RingSession<'a> {
     ring: RingBuffer<'a, u8>,
@@ -43,7 +44,6 @@ impl<'a> Model for RingSession<'a> {
     ghost use Rattle.std.specs.Prelude.{◌≡◌, length};
     ghost use Rattle.net_ring.specs.Ring.{capacity, queue};
 
-    // The queue and the capacity of the ring; where in the storage it is read is forgotten.
     ghost view = { λ s. record { capacity = capacity s.ring; bytes = queue s.ring } };
 
     ghost invariant = { λ s. length (queue s.ring) ≡ s.ring.count };
@@ -72,7 +72,7 @@ fn ring_line<A: Allocator + Copy>(
 }
 
 impl<'a> RingSession<'a> {
-    /// An empty ring over this storage.
+    /// Returns an empty ring over this storage.
     pub fn new(storage: &'a mut [u8]) -> RingSession<'a>
         ensures { result ≡ fresh_ring_mode (length storage.old) }
     {
@@ -94,8 +94,8 @@ impl<'a> RingSession<'a> {
         text::displayed(buffers, TOOK_ROOM, format_args!("took {count}\n"))
     }
 
-    /// The reply that shows so many bytes from the head of the queue, of the one part or the two in
-    /// which they are in the storage.
+    /// Returns the reply that shows so many bytes from the head of the queue, of the one part or
+    /// the two in which they are in the storage.
     fn shown<A: Allocator + Copy>(
         &self,
         buffers: &mut Buffers<A>,

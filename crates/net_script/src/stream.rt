@@ -119,7 +119,7 @@ fn stream_line<A: Allocator + Copy>(
     }
 }
 
-/// Whether a segment's end is at most the greatest number.
+/// Returns whether a segment's end is at most the greatest number.
 fn fits<A: Allocator + Copy, const N: usize>(command: &Command<A>) -> bool
     ensures { result ≡ end_fits (command_value command.now) }
 {
@@ -183,8 +183,8 @@ fn hand_back_read<A: Allocator + Copy>(buffers: &mut Buffers<A>, reply: Reply<A>
 }
 
 impl<'a, A: Allocator + Copy, const N: usize> StreamSession<'a, A, N> {
-    /// A fresh receiver of a stream that begins at `first`, over this storage. The storage of the
-    /// second schedule takes the place of what `second` is now.
+    /// Returns a session with a fresh receiver of a stream that begins at `first`, over this
+    /// storage. The storage of the second schedule takes the place of what `second` is now.
     pub fn new(
         first: u64,
         storage: &'a mut [u8],

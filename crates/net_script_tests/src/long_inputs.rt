@@ -188,7 +188,8 @@ fn check_long_stream(
     Ok(sink.calls)
 }
 
-/// These bytes are a prefix of the others; all of them, or not, as it is told.
+/// Stops the test unless these bytes are a prefix of the others; all of them, or not, as it is
+/// told.
 fn assert_prefix(rt: &impl Abort, prefix: &[u8], whole: &[u8], is_whole: bool) {
     let place = ("bytes", prefix.len());
     assert_holds(rt, whole.starts_with(prefix), place);

@@ -139,7 +139,8 @@ fn each_request_for_memory_is_refused_in_turn(rt: HostRuntime) -> Result<(), Fai
     check_refusals(&rt, rt.alloc(), "stream 4 4 1000", &DIFFERING)
 }
 
-/// Whether a call over this memory ends without an error, writes so many bytes, and flushes nothing.
+/// Returns whether a call over this memory ends without an error, writes so many bytes, and flushes
+/// nothing.
 fn writes_all(
     alloc: Global,
     memory: &Refusing,

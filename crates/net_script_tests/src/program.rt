@@ -13,7 +13,7 @@ const USAGE_LINE: &[u8] = b"usage: net_bench ring CAP | asm N | stream CAP N [FI
 /// Where a test is: the words of a mode or a name, and the number of a row, a call or a request.
 type Place<'a> = (&'a str, usize);
 
-/// The words of a line.
+/// Returns the words of a line.
 fn words_of(alloc: Global, line: &str) -> Result<Vec<String>, AllocError> {
     let mut words = Vec::new(alloc);
     for word in line.split(' ') {
@@ -255,8 +255,8 @@ fn says_which_stream_failed(rt: HostRuntime) -> Result<(), Fail> {
     Ok(())
 }
 
-/// Whether standard error says this line where that many lines ask for the front, and the next one for
-/// nothing.
+/// Returns whether standard error says this line where that many lines ask for the front, and the
+/// next one for nothing.
 fn says_line(alloc: Global, lines: usize, told: &[u8]) -> Result<bool, Fail> {
     let words = words_of(alloc, "asm 4")?;
     let mut input = Vec::new(alloc);

@@ -62,7 +62,7 @@ const ACCEPTED_ROOM: usize = 20 + 2 * NUMBER_ROOM + RUN_ROOM * LISTED;
 /// them.
 const SHOWN_ROOM: usize = 28 + 3 * NUMBER_ROOM + RUN_ROOM * 32;
 
-/// What was kept of a segment and the first held runs, as a line.
+/// Returns what was kept of a segment and the first held runs, as a line.
 fn accepted_text<A: Allocator + Copy>(
     buffers: &mut Buffers<A>,
     kept: usize,
@@ -79,7 +79,7 @@ fn accepted_text<A: Allocator + Copy>(
     )
 }
 
-/// What was kept of a segment, as a line.
+/// Returns what was kept of a segment, as a line.
 fn kept_text<A: Allocator + Copy>(
     buffers: &mut Buffers<A>,
     kept: &Kept,
@@ -99,7 +99,7 @@ fn kept_text<A: Allocator + Copy>(
     accepted_text(buffers, kept.kept, kept.queued, &[first, second, third])
 }
 
-/// The bytes that were read, as a line.
+/// Returns the bytes that were read, as a line.
 fn read_text<A: Allocator + Copy>(
     buffers: &mut Buffers<A>,
     bytes: &[u8],
@@ -109,7 +109,7 @@ fn read_text<A: Allocator + Copy>(
     text::read_reply(buffers, bytes, &[])
 }
 
-/// A receiver's numbers and held runs, as a line.
+/// Returns a receiver's numbers and held runs, as a line.
 fn shown_text<A: Allocator + Copy>(
     buffers: &mut Buffers<A>,
     next: u64,
@@ -128,7 +128,7 @@ fn shown_text<A: Allocator + Copy>(
     )
 }
 
-/// A reply as a line.
+/// Returns a reply as a line.
 pub fn reply_text<A: Allocator + Copy>(
     buffers: &mut Buffers<A>,
     reply: &Reply<A>,
