@@ -20,7 +20,8 @@ enum Step {
     Window(usize),
 }
 
-/// Whether an acknowledgement leaves this first unacknowledged position and this end, and as many bytes.
+/// Returns whether an acknowledgement leaves this first unacknowledged position and this end, and
+/// as many bytes.
 fn is_acknowledged(sender: &mut Sender<'_>, next: u64, head: u64, end: u64) -> bool {
     sender.acknowledge(next, SackBlocks::new());
     sender.first_unacknowledged() == head
@@ -29,7 +30,7 @@ fn is_acknowledged(sender: &mut Sender<'_>, next: u64, head: u64, end: u64) -> b
         && sender.is_empty() == (head == end)
 }
 
-/// Whether a call gives what it should.
+/// Returns whether a call gives what it should.
 fn does(sender: &mut Sender<'_>, step: &Step) -> bool {
     match step {
         Step::Write(bytes, count) => sender.write(bytes) == *count,
@@ -83,7 +84,7 @@ const AT_THE_END: [Step; 7] = [
     Step::Window(0),
 ];
 
-/// How many of the calls give what they should, up to the first that doesn't.
+/// Returns how many of the calls give what they should, up to the first that doesn't.
 fn all_of(steps: &[Step], storage: &mut [u8], first: u64) -> usize {
     let mut sender = Sender::new_at(ManagedSlice::Borrowed(storage), first);
     for i in 0..steps.len() {
@@ -106,13 +107,14 @@ fn bytes_are_queued_as_far_as_positions_go(rt: HostRuntime) {
     assert_holds(&rt, done == AT_THE_END.len(), done);
 }
 
-/// The elements from `from` on and before `to`, as far as there are any.
+/// Returns the elements from `from` on and before `to`, as far as there are any.
 fn part(elements: &[u8], from: usize, to: usize) -> &[u8] {
     let to = to.min(elements.len());
     &elements[from.min(to)..to]
 }
 
-/// Whether a sender of as many bytes as these lends all, and again once some were acknowledged.
+/// Returns whether a sender of as many bytes as these lends all, and again once some were
+/// acknowledged.
 fn lends_all(sender: &mut Sender<'_>, bytes: &[u8]) -> bool {
     let is_full = sender.write(bytes) == bytes.len() && sender.window() == 0;
     let is_lent = sender.peek_at(0, usize::MAX) == bytes
