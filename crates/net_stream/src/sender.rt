@@ -3,7 +3,7 @@ ghost use Rattle.std.specs.Prelude.{◌≡◌, ◌+◌, ◌-◌, ◌<◌, ◌≤
 ghost use Rattle.std.specs.Prelude.{length, take, drop, min, slice_index_or};
 ghost use Rattle.net_ring.specs.Managed.{elements};
 ghost use Rattle.net_receiver.specs.OneStream.{MatchesStream};
-ghost use Rattle.net_copies.specs.SenderState.{sender_state, end_of, room_of, row_end, with_written};
+ghost use Rattle.net_copies.specs.SenderState.{sender_state, end_of, room_of, contiguous_end, with_written};
 ghost use Rattle.net_copies.specs.SenderState.{after_ack, spared_from, next_block, stop_of, Sends};
 ghost use Rattle.net_copies.specs.SackBlocks.{is_full};
 
@@ -121,7 +121,7 @@ impl<'a> Sender<'a> {
         ensures value { result.now
             ≡ take (length result.now) (drop (pos - self.now.first_unacknowledged) self.now.queue) }
         ensures count { self.now.first_unacknowledged ≤ pos
-            → length result.now ≡ min max (row_end self.now pos - pos) }
+            → length result.now ≡ min max (contiguous_end self.now pos - pos) }
         ensures max { length result.now ≤ max }
         ensures before { pos < self.now.first_unacknowledged → result.now ≡ [] }
         ensures some { self.now.first_unacknowledged ≤ pos → pos < end_of self.now → 0 < max
