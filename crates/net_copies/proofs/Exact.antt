@@ -6,7 +6,7 @@ use Rattle.std.proofs.lemmas.List.{append-nil}
 use Rattle.net_assembler.specs.Positions.{IsMaximalRun, maximal_runs}
 use Rattle.net_receiver.specs.ReceiverState.{ReceiverState, IsSound, next_position, domain}
 use Rattle.net_receiver.specs.OneStream.{ReceivesFrom}
-use Rattle.net_copies.specs.SenderState.{SenderState, end_of, row_end, sender_from}
+use Rattle.net_copies.specs.SenderState.{SenderState, end_of, contiguous_end, sender_from}
 use Rattle.net_copies.specs.Frames.{Part, frames_from, part_bytes, frame_of, FramesDecode}
 use Rattle.net_copies.specs.SackBlocks.{is_sacked, count_from, next_start, greatest_end, is_full, most_sack_blocks, block_bytes, blocks_of}
 use Rattle.net_copies.specs.PathState.{PathState, ack_of}
@@ -37,9 +37,9 @@ use Rattle.net_copies.proofs.RoundCount.{coming_all}
 module _ (v : SenderState) (most : ℕ) (none : v.sack_blocks ≡ []) (far : end_of v ≤ v.wraps_at) where
   part_is : (p : ℕ) → part_end v most p ≡ min (p + most) (end_of v)
   part_is p =
-      let row : row_end v p ≡ end_of v = split (λ n. n ≡ end_of v) (nat_lt p v.wraps_at) (min v.wraps_at (end_of v)) (end_of v) (λ _. omega arith) (λ _. refl) in
-      (λ i. cond (is_sacked (none i) p) (p + min (count_from (none i) p) (end_of v - p)) (min (p + most) (min (next_start (none i) p (end_of v)) (row_end v p))))
-      ∙ (let e : min (p + most) (min (end_of v) (row_end v p)) ≡ min (p + most) (end_of v) = omega arith in e)
+      let row : contiguous_end v p ≡ end_of v = split (λ n. n ≡ end_of v) (nat_lt p v.wraps_at) (min v.wraps_at (end_of v)) (end_of v) (λ _. omega arith) (λ _. refl) in
+      (λ i. cond (is_sacked (none i) p) (p + min (count_from (none i) p) (end_of v - p)) (min (p + most) (min (next_start (none i) p (end_of v)) (contiguous_end v p))))
+      ∙ (let e : min (p + most) (min (end_of v) (contiguous_end v p)) ≡ min (p + most) (end_of v) = omega arith in e)
 
   -- each frame but the last is as long as a payload
   parts_far : (p : ℕ) (parts : List Part) → All (HasSize most) parts → AreSparedIfSacked v.sack_blocks p parts → HaveEnds v most p parts →

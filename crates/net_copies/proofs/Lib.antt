@@ -1,6 +1,5 @@
 -- The lemmas behind the contracts.
 pub mod Parts
-pub mod Room
 pub mod Spared
 pub mod Invariant
 pub mod Sent

@@ -2,11 +2,11 @@
 use Rattle.std.proofs.Common.{◌≡◌, ℕ, ◌+◌, ◌-◌, ◌≤◌, ◌<◌, min, nat_eq, nat_lt, Bool, true, false, List, [], ◌∷◌, ◌++◌, length, take, drop, refl, sym, ap, subst, ◌∙◌, arith, ⊎_elim, length-append, length-take, length-drop, take-add, append_assoc}
 use Rattle.std.specs.Io.{StartsWith}
 use Rattle.std.proofs.lemmas.Bool.{and_parts, both_ways, cases_lt, eqb-true, ltb-true, ltb-false}
-use Rattle.std.proofs.lemmas.List.{take_all, take-take, take-append-le, take-append-drop, append-nil}
+use Rattle.std.proofs.lemmas.List.{take_all, take-take, take-append-le, take-append-drop, append-nil, drop-append-le}
 use Rattle.std.proofs.Math.Seq.{take-append_seam}
 use Rattle.net_receiver.specs.ReceiverState.{ReceiverState, fresh_receiver, next_position, receiver_after_read}
 use Rattle.net_receiver.specs.OneStream.{QueueIsOf}
-use Rattle.net_copies.specs.SenderState.{end_of, with_written}
+use Rattle.net_copies.specs.SenderState.{SenderState, end_of, with_written, Sends}
 use Rattle.net_copies.specs.LinkState.{LinkState, round}
 use Rattle.net_copies.specs.CopyState.{Setup, CopyState, Running, Done, begin, is_written, rest_of, read_of, room_for, feed, decide, waited, pass, after}
 use Rattle.net_copies.specs.Streams.{Known, LinkInvariantFits, Writes, ReadWrites, PassWrites, AllWritten}
@@ -14,7 +14,6 @@ use Rattle.net_copies.specs.Promises.{StartsFits, before_end, WritesPrefix, Writ
 use Rattle.net_copies.proofs.Invariant.{begun, took, written}
 use Rattle.net_copies.proofs.Queue.{queue_from}
 use Rattle.net_copies.proofs.Reached.{first_is}
-use Rattle.net_copies.proofs.Room.{more_sent}
 use Rattle.net_copies.proofs.Kept.{split, round_keeps_invariant}
 use Rattle.net_copies.proofs.Grown.{grown}
 use Rattle.net_copies.proofs.Turns.{feeds, decides, all_turned}
@@ -48,6 +47,19 @@ before_rest room xs reads some =
     ∙ sym (append_assoc (take room xs) (drop room xs) (before_end reads)) ∙ ap (λ l. l ++ before_end reads) (take-append-drop room xs)
     ∙ sym (before_more xs reads some))
     (λ e. (let all = ltb-false room (length xs) e in ap (λ l. l ++ before_end reads) (take_all room xs all) ∙ sym (before_more xs reads some)))
+
+-- what was written is the rest of the stream
+more_sent : (f : ℕ) (w : List ℕ) (v : SenderState) (xs : List ℕ) → Sends f w v → Sends f (w ++ xs) (with_written v xs)
+more_sent f w v xs s =
+    let from = s.from in
+    let end = s.end in
+    let both = length-append v.queue xs in
+    let all = length-append w xs in
+    record {
+      from = from;
+      end = omega arith;
+      queue = ap (λ q. q ++ xs) s.queue ∙ sym (drop-append-le (v.first_unacknowledged - f) w xs (omega arith));
+    }
 
 module _ (known : Known) where
   pub queue_of : (f : ℕ) (g : List ℕ) (l : LinkState) → LinkInvariantFits f g l → QueueIsOf g l.receiver

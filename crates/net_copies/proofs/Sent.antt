@@ -6,7 +6,7 @@ use Rattle.std.proofs.lemmas.Bool.{both_ways, cases_lt, cond-true, cond-false, l
 use Rattle.std.proofs.lemmas.List.{append-nil, take-take}
 use Rattle.std.proofs.Math.Seq.{take-append_seam}
 use Rattle.std.proofs.lemmas.List.Elements.{All-nil, All-head}
-use Rattle.net_copies.specs.SenderState.{SenderState, end_of, row_end}
+use Rattle.net_copies.specs.SenderState.{SenderState, end_of, contiguous_end}
 use Rattle.net_copies.specs.Frames.{Part, frame_of, frames_from, part_bytes}
 use Rattle.net_copies.specs.SackBlocks.{is_sacked, greatest_end, is_full}
 use Rattle.net_copies.specs.PathState.{PathState}
@@ -18,9 +18,9 @@ use Rattle.net_copies.proofs.Invariant.{All-push}
 use Rattle.net_copies.proofs.Spared.{end_from}
 
 -- ---- where parts end
-pub row_above : (s : SenderState) (p : ℕ) → p < end_of s → p < row_end s p
+pub row_above : (s : SenderState) (p : ℕ) → p < end_of s → p < contiguous_end s p
 row_above s p kept =
-    ⊎_elim {C = p < row_end s p}
+    ⊎_elim {C = p < contiguous_end s p}
     (λ (l : p < s.wraps_at). (let e = cond-true (nat_lt p s.wraps_at) (min s.wraps_at (end_of s)) (end_of s) (lt-ltb p s.wraps_at l) in omega arith))
     (λ (l : s.wraps_at ≤ p). (let e = cond-false (nat_lt p s.wraps_at) (min s.wraps_at (end_of s)) (end_of s) (le-ltb p s.wraps_at l) in omega arith))
     (cases_lt p s.wraps_at)
@@ -80,7 +80,7 @@ spared_part s most pos n t some within is marked =
       short = λ e. absurd (both_ways true e refl);
       marked = marked;
       ends = ap (λ k. pos + k) is ∙ sym (cond-true (is_sacked s.sack_blocks pos) (pos + spared_from s pos)
-          (min (pos + most) (min (next_block s pos) (row_end s pos))) here);
+          (min (pos + most) (min (next_block s pos) (contiguous_end s pos))) here);
       frames = refl;
       sent = λ i. record { in_flight = sym (append-nil t.in_flight) i; delayed = t.delayed; fates = t.fates };
     }
@@ -88,18 +88,18 @@ spared_part s most pos n t some within is marked =
 -- a frame of others was sent
 pub sent_part : (s : SenderState) (most pos : ℕ) (t0 t1 : PathState) (xs : List ℕ) → pos < end_of s → 0 < most →
     pos < next_block s pos → is_sacked s.sack_blocks pos ≡ false →
-    length xs ≡ min (min most (next_block s pos - pos)) (row_end s pos - pos) → pos + length xs ≤ end_of s → IsSackedIf s.sack_blocks pos (length xs) false →
+    length xs ≡ min (min most (next_block s pos - pos)) (contiguous_end s pos - pos) → pos + length xs ≤ end_of s → IsSackedIf s.sack_blocks pos (length xs) false →
     xs ≡ take (length xs) (drop (pos - s.first_unacknowledged) s.queue) → t1 ≡ record t0 { in_flight = t0.in_flight ++ frame_of pos xs ∷ [] } → SendsPart s most pos (length xs) 1 t0 t1
 sent_part s most pos t0 t1 xs kept more next here size within marked is sent =
     let row = row_above s pos kept in
-    let end : pos + length xs ≡ min (pos + most) (min (next_block s pos) (row_end s pos)) = omega arith in
+    let end : pos + length xs ≡ min (pos + most) (min (next_block s pos) (contiguous_end s pos)) = omega arith in
     record {
       some = omega arith;
       within = within;
       spared = false;
       short = λ _. omega arith;
       marked = marked;
-      ends = end ∙ sym (cond-false (is_sacked s.sack_blocks pos) (pos + spared_from s pos) (min (pos + most) (min (next_block s pos) (row_end s pos))) here);
+      ends = end ∙ sym (cond-false (is_sacked s.sack_blocks pos) (pos + spared_from s pos) (min (pos + most) (min (next_block s pos) (contiguous_end s pos))) here);
       frames = refl;
       sent = sent ∙ ap (λ ys. record t0 { in_flight = t0.in_flight ++ frame_of pos ys ∷ [] }) is;
     }

@@ -1,7 +1,7 @@
 -- What `transmit` sends, as parts of the sender's queue.
 use Rattle.std.proofs.Common.{◌≡◌, ◌⊎◌, ℕ, zero, suc, ◌+◌, ◌-◌, ◌^◌, ◌≤◌, ◌<◌, min, nat_lt, true, false, length, take, drop, refl, sym, ap, subst, ◌∙◌, arith, ⊎_elim, inl, inr, length-take, length-drop}
 use Rattle.std.proofs.lemmas.Bool.{both_ways, cases_lt, lt-ltb, ltb-true}
-use Rattle.net_copies.specs.SenderState.{SenderState, end_of, row_end}
+use Rattle.net_copies.specs.SenderState.{SenderState, end_of, contiguous_end}
 use Rattle.net_copies.specs.SackBlocks.{count_outside}
 use Rattle.net_copies.specs.SenderState.{at_least_one, stop_of, spared_from, next_block}
 use Rattle.net_copies.specs.Transmission.{IsSackedIf, SendsRound}
@@ -12,7 +12,7 @@ use Rattle.net_copies.proofs.Sent.{SentSoFar, none_sent, spared_part, sent_part,
 use Rattle.net_copies.specs.LinkState.{LinkState, times, Cursor, start, frame_len, send, part, part_at, transmit}
 use Rattle.net_copies.proofs.Steps.{goes_on, stops, split}
 
-row_within : (s : SenderState) (p : ℕ) → row_end s p ≤ end_of s
+row_within : (s : SenderState) (p : ℕ) → contiguous_end s p ≤ end_of s
 row_within s p = split (λ n. n ≤ end_of s) (nat_lt p s.wraps_at) (min s.wraps_at (end_of s)) (end_of s) (λ _. omega arith) (λ _. omega arith)
 
 module _ (s : LinkState) (fits : s.counts.payload < 2 ^ 64) where

@@ -13,7 +13,7 @@
 use Rattle.std.specs.Prelude.{◌≡◌, ℕ, zero, suc, ◌+◌, ◌-◌, ◌/◌, ◌&&◌, ◌⊎◌, min, max, nat_lt}
 use Rattle.std.specs.Prelude.{Bool, if◌then◌else◌, List, [], ◌∷◌, ◌++◌, length, take, drop}
 use Rattle.net_receiver.specs.ReceiverState.{ReceiverState}
-use Rattle.net_copies.specs.SenderState.{SenderState, row_end}
+use Rattle.net_copies.specs.SenderState.{SenderState, contiguous_end}
 use Rattle.net_copies.specs.Frames.{frame_of, segment_of}
 use Rattle.net_copies.specs.SackBlocks.{most_sack_blocks, is_full}
 use Rattle.net_copies.specs.Fates.{next_fate, after_fate, comes}
@@ -58,7 +58,7 @@ start s = record { pos = s.sender.first_unacknowledged; left = at_least_one s.bu
 -- SACK block or past the storage's end
 abbrev pub frame_len : LinkState → ℕ → ℕ
 frame_len s p =
-    min (min (at_least_one s.payload) (next_block s.sender p - p)) (row_end s.sender p - p)
+    min (min (at_least_one s.payload) (next_block s.sender p - p)) (contiguous_end s.sender p - p)
 
 -- n bytes from position p on are sent, and counted
 abbrev pub send : LinkState → ℕ → ℕ → LinkState

@@ -3,8 +3,7 @@
 --         unacknowledged position, which is that of the queue's head, the queue, the last SACK blocks,
 --         and the position at which the storage begins again
 --     end_of v, room_of v      the position after the queue, and how many bytes can be written
---     room_in_row v      how many of them are contiguous in the storage
---     row_end v p      where the bytes end that are contiguous in the storage with the one at p
+--     contiguous_end v p      where the bytes end that are contiguous in the storage with the one at p
 --     after_ack v n ranges      the sender once all below position n was acknowledged, with these SACK
 --         blocks
 --     after_acks v acks      the sender once several acknowledgements came
@@ -44,18 +43,13 @@ abbrev pub room_of : SenderState → ℕ
 room_of v = min (v.capacity - length v.queue) (2 ^ 64 - 1 - end_of v)
 
 -- of the queued bytes from position p on, where those end that are contiguous in the storage
-abbrev pub row_end : SenderState → ℕ → ℕ
-row_end v p = if nat_lt p v.wraps_at then min v.wraps_at (end_of v) else end_of v
+abbrev pub contiguous_end : SenderState → ℕ → ℕ
+contiguous_end v p = if nat_lt p v.wraps_at then min v.wraps_at (end_of v) else end_of v
 
 -- where the storage begins again for the bytes that are written next: if the queue is empty, the first
 -- of them is at the storage's beginning
 abbrev pub next_wrap : SenderState → ℕ
 next_wrap v = if nat_eq (length v.queue) 0 then v.first_unacknowledged + v.capacity else v.wraps_at
-
--- of the bytes that can be written, how many are contiguous in the storage
-abbrev pub room_in_row : SenderState → ℕ
-room_in_row v =
-    if nat_lt (end_of v) (next_wrap v) then min (room_of v) (next_wrap v - end_of v) else room_of v
 
 -- these bytes were written after the queue
 abbrev pub with_written : SenderState → List ℕ → SenderState

@@ -11,7 +11,7 @@
 use Rattle.std.specs.Prelude.{◌≡◌, ℕ, ◌+◌, ◌-◌, ◌<◌, ◌≤◌, ◌⊎◌, min, if◌then◌else◌}
 use Rattle.std.specs.Prelude.{Bool, false}
 use Rattle.std.specs.Prelude.{List, [], ◌∷◌, ◌++◌, length, take, drop, All}
-use Rattle.net_copies.specs.SenderState.{SenderState, end_of, row_end, spared_from, next_block, stop_of}
+use Rattle.net_copies.specs.SenderState.{SenderState, end_of, contiguous_end, spared_from, next_block, stop_of}
 use Rattle.net_copies.specs.Frames.{Part, frames_from, part_bytes}
 use Rattle.net_copies.specs.SackBlocks.{is_sacked}
 use Rattle.net_copies.specs.PathState.{PathState}
@@ -39,7 +39,7 @@ HasSize most part = (0 < length part.1) × (part.0 ≡ false → length part.1 �
 abbrev pub part_end : SenderState → ℕ → ℕ → ℕ
 part_end s most p =
     if is_sacked s.sack_blocks p then p + spared_from s p
-    else min (p + most) (min (next_block s p) (row_end s p))
+    else min (p + most) (min (next_block s p) (contiguous_end s p))
 
 -- parts that follow one another from position p on begin below that position, and end where they
 -- have to

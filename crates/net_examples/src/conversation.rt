@@ -6,7 +6,7 @@ use net_base::time::Duration;
 use net_stream::Link;
 use std::alloc::{AllocError, Allocator};
 
-/// A client sends a request over one link, and once all of it came the server replies over the
+/// Sends a client's request over one link and, once all of it came, the server's reply over the
 /// other one. Each link has so many rounds. Returns how many bytes of the reply came, or `None` if
 /// the server didn't hear the whole request.
 ///
@@ -67,7 +67,7 @@ fn write_more<A: Allocator + Copy>(link: &mut Link<'_, '_, A>, text: &[u8], from
     from + link.write(&text[from..])
 }
 
-/// A round, and the time that it takes.
+/// Passes a round, and lets the time pass that it takes.
 fn pass<A: Allocator + Copy>(link: &mut Link<'_, '_, A>) -> Result<(), AllocError>
     ensures carries { (w : List ℕ) → LinkInvariant 0 w link.old → LinkInvariant 0 w link.new }
     ensures read { link.new.receiver.read ≡ link.old.receiver.read }

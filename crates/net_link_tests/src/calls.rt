@@ -99,7 +99,7 @@ static ROWS: [Row; 5] = [
 /// As many bytes as an input has at most.
 static INPUT: [u8; 262_144] = [b'x'; 262_144];
 
-/// Whether a copy goes as a row says.
+/// Returns whether a copy goes as a row says.
 fn goes_so(alloc: Global, row: &Row) -> Result<bool, AllocError> {
     let words = words_of(alloc, row.words)?;
     let (len, per_call) = row.input;

@@ -13,7 +13,7 @@ pub fn assert_holds(rt: &impl Abort, fact: bool, row: usize) {
     assert!(rt; fact, "row {row}");
 }
 
-/// The words of a line.
+/// Returns the words of a line.
 pub fn words_of(alloc: Global, line: &str) -> Result<Vec<String>, AllocError> {
     let mut words = Vec::new(alloc);
     for word in line.split(' ') {
@@ -138,7 +138,7 @@ static FAILURES: [Failure; 10] = [
     ),
 ];
 
-/// Whether the program ends so, and standard error took what there was to say, and has it.
+/// Returns whether the program ends so, and standard error took what there was to say, and has it.
 pub fn is_so(ended: Ended, status: Status, errors: &Messages<Sink>, told: &str) -> bool {
     ended
         == Ended {
@@ -148,7 +148,7 @@ pub fn is_so(ended: Ended, status: Status, errors: &Messages<Sink>, told: &str) 
         && errors.stream.bytes.as_slice() == told.as_bytes()
 }
 
-/// Whether a failure is told so.
+/// Returns whether a failure is told so.
 fn fails_so(
     alloc: Global,
     (line, read, write, flush, status, told): &Failure,
@@ -193,7 +193,7 @@ const NO_CAUSE: &str = "net_link: read failed\n\
     0 bytes, 0 frames, 0 lost, 0 duplicated, 0 delayed, \
     0 refused, 0 bytes sent again, 0 rounds, 0 bytes a second\n";
 
-/// Whether a read that fails at once is told so in this memory.
+/// Returns whether a read that fails at once is told so in this memory.
 fn fails_at_once<A: Allocator + Copy>(
     alloc: Global,
     memory: A,
@@ -207,9 +207,9 @@ fn fails_at_once<A: Allocator + Copy>(
     Ok(is_so(ended, Status::Failed, &errors, told))
 }
 
-/// Whether a read that fails at once is told so where the request of this number is refused: three are
-/// those of the buffers, each of 262,144 bytes, and the others are for the text of the cause, of less than
-/// 1,000 bytes in all. All memory is given back.
+/// Returns whether a read that fails at once is told so where the request of this number is
+/// refused: three are those of the buffers, each of 262,144 bytes, and the others are for the text
+/// of the cause, of less than 1,000 bytes in all. All memory is given back.
 fn tells(alloc: Global, refused: usize, told: &str) -> Result<bool, AllocError> {
     let memory = Refusing::new(alloc, refused);
     let is_told = fails_at_once(alloc, &memory, told)?;

@@ -326,7 +326,7 @@ const CASES: [Case; 25] = [
     },
 ];
 
-/// The words of a line.
+/// Returns the words of a line.
 fn words_of(alloc: Global, line: &str) -> Result<Vec<String>, AllocError> {
     let mut words = Vec::new(alloc);
     for word in line.split(' ') {
@@ -335,7 +335,7 @@ fn words_of(alloc: Global, line: &str) -> Result<Vec<String>, AllocError> {
     Ok(words)
 }
 
-/// So many bytes, which repeat after 251 of them.
+/// Returns so many bytes, which repeat after 251 of them.
 fn input_of(alloc: Global, len: usize) -> Result<Vec<u8>, AllocError> {
     let mut input = vec![in alloc; 0u8; len]?;
     for i in 0..len {

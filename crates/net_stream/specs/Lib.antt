@@ -18,5 +18,4 @@ pub use Rattle.net_copies.specs.CopyResult
 pub use Rattle.net_copies.specs.Streams
 pub use Rattle.net_copies.specs.Promises
 pub use Rattle.net_copies.specs.WorkedCopy
-pub mod FreeBytes
 pub mod Turns

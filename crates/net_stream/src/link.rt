@@ -16,6 +16,7 @@ mod transmit;
 
 use crate::fates::LinkFates;
 use crate::path::Path;
+use crate::sack_blocks::MOST_SACK_BLOCKS;
 use crate::sender::Sender;
 use net_base::time::{Duration, Instant};
 use net_copies::FrameCounts;
@@ -23,9 +24,6 @@ use net_receiver::{Receiver, laws};
 use net_ring::ManagedSlice;
 use std::alloc::Allocator;
 use std::marker::Model;
-
-/// The most held runs of a link's receiver: as many as an acknowledgement has SACK blocks.
-const MOST_RUNS: usize = 32;
 
 /// A link that carries a stream one way: its sender and its receiver, the path of the frames, and
 /// the path of the acknowledgements.
@@ -37,8 +35,8 @@ const MOST_RUNS: usize = 32;
 pub struct Link<'a, 'f, A: Allocator + Copy> {
     /// What sends.
     pub sender: Sender<'a>,
-    /// What receives.
-    pub receiver: Receiver<'a, MOST_RUNS>,
+    /// What receives. It holds at most as many runs as an acknowledgement has SACK blocks.
+    pub receiver: Receiver<'a, MOST_SACK_BLOCKS>,
     /// The path of the frames, from the sender to the receiver.
     pub forward: Path<'f, A>,
     /// The path of the acknowledgements, from the receiver to the sender.

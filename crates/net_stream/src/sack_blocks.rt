@@ -11,7 +11,7 @@ use crate::frame::decode;
 use net_receiver::Receiver;
 use std::marker::Model;
 
-/// The most SACK blocks of an acknowledgement.
+/// The most SACK blocks of an acknowledgement; in contracts, `most_sack_blocks`.
 pub(crate) const MOST_SACK_BLOCKS: usize = 32;
 
 /// How many bytes they take.

@@ -3,15 +3,12 @@ ghost use Rattle.std.specs.Prelude.{◌≡◌, ◌+◌, ◌-◌, ◌<◌, ◌≤
 ghost use Rattle.std.specs.Prelude.{length, take, drop, min, slice_index_or};
 ghost use Rattle.net_ring.specs.Managed.{elements};
 ghost use Rattle.net_receiver.specs.OneStream.{MatchesStream};
-ghost use Rattle.net_copies.specs.SenderState.{sender_state, end_of, room_of, row_end, with_written};
-ghost use Rattle.net_copies.specs.SenderState.{room_in_row, after_ack, Sends};
-ghost use Rattle.net_stream.specs.FreeBytes.{TakesFreeBytes, CountsFreeBytes, CalledOnRoom};
+ghost use Rattle.net_copies.specs.SenderState.{sender_state, end_of, room_of, contiguous_end, with_written};
+ghost use Rattle.net_copies.specs.SenderState.{after_ack, spared_from, next_block, stop_of, Sends};
 ghost use Rattle.net_copies.specs.SackBlocks.{is_full};
-ghost use Rattle.net_copies.specs.SenderState.{spared_from, next_block, stop_of};
 
 use crate::sack_blocks::SackBlocks;
 use net_receiver::laws;
-use net_ring::ring_buffer::laws::overwritten;
 use net_ring::{ManagedSlice, RingBuffer};
 use std::marker::Model;
 
@@ -118,48 +115,13 @@ impl<'a> Sender<'a> {
         self.ring.enqueue_slice(&bytes[..count])
     }
 
-    /// Calls `f` on the free bytes that come next, enqueues as many of them as `f` counts, and
-    /// returns what `f` returned.
-    ///
-    /// `f` is lent as many as are contiguous in the storage, as far as positions go; what they are
-    /// isn't said. It must count no more than it is lent. smoltcp's `send` does the same.
-    ///
-    /// # Requires
-    ///
-    /// `f` may be called on the free bytes that it is lent, and counts at most as many.
-    pub fn send_with<R, F: FnOnce(&mut [u8]) -> (usize, R)>(&mut self, f: F) -> (usize, R)
-        requires callable { TakesFreeBytes F.FnOnce f (room_in_row self.old) }
-        requires count { CountsFreeBytes F.FnOnce f (room_in_row self.old) }
-        ensures called { CalledOnRoom F.FnOnce f self.old result self.new }
-        ensures sends { (f : ℕ) (w : List ℕ) → Sends f w self.old
-            → Sends f (w ++ drop (length self.old.queue) self.new.queue) self.new }
-    {
-        overwritten::<u8>();
-        self.restart();
-        // Called for its clauses alone: by them what is counted fits the ring.
-        let _len = self.ring.len();
-        let most = self.window();
-        let answer = f(self.ring.get_unallocated(0, most));
-        self.ring.enqueue_unallocated(answer.0);
-        answer
-    }
-
-    /// Moves an empty sender's bytes to come to the beginning of the storage.
-    fn restart(&mut self)
-        ensures { self.new ≡ with_written self.old [] }
-    {
-        if self.is_empty() {
-            self.ring.clear();
-        }
-    }
-
     /// Lends the queued bytes from the one at `pos` on, at most `max`, without a copy: as many as are
     /// contiguous in the storage, which wraps. None if the byte at `pos` isn't queued.
     pub fn peek_at(&self, pos: u64, max: usize) -> &[u8]
         ensures value { result.now
             ≡ take (length result.now) (drop (pos - self.now.first_unacknowledged) self.now.queue) }
         ensures count { self.now.first_unacknowledged ≤ pos
-            → length result.now ≡ min max (row_end self.now pos - pos) }
+            → length result.now ≡ min max (contiguous_end self.now pos - pos) }
         ensures max { length result.now ≤ max }
         ensures before { pos < self.now.first_unacknowledged → result.now ≡ [] }
         ensures some { self.now.first_unacknowledged ≤ pos → pos < end_of self.now → 0 < max

@@ -49,17 +49,17 @@ pub struct Setup {
     pub config: Config,
 }
 
-/// The moment at which everything is sent.
+/// Returns the moment at which everything is sent.
 pub fn start() -> Instant {
     Instant::from_micros(0)
 }
 
-/// The fates of one direction.
+/// Returns the fates of one direction.
 fn fates(way: &Way) -> Fates<'static> {
     Fates::new(way.listed, way.seed, way.rates)
 }
 
-/// The fates of both directions.
+/// Returns the fates of both directions.
 fn link_fates(setup: &Setup) -> LinkFates<'static> {
     LinkFates {
         frames: fates(&setup.forward),
@@ -67,7 +67,7 @@ fn link_fates(setup: &Setup) -> LinkFates<'static> {
     }
 }
 
-/// The name of how a copy ended.
+/// Returns the name of how a copy ended.
 fn ending(ended: Result<(), LinkError>) -> &'static str {
     match ended {
         Ok(()) => "Ok",
@@ -137,8 +137,8 @@ pub fn copy_over_by<A: Allocator + Copy, R: Read, W: Write>(
     ))
 }
 
-/// A link over storage of the sender and of the receiver. Of the config it takes the first position, the
-/// payload and the burst.
+/// Returns a link over storage of the sender and of the receiver. Of the config it takes the first
+/// position, the payload and the burst.
 pub fn link_by<'a, A: Allocator + Copy>(
     alloc: A,
     setup: &Setup,
@@ -156,21 +156,21 @@ pub fn link_by<'a, A: Allocator + Copy>(
     )
 }
 
-/// The next frame in flight to the receiver, which is taken.
+/// Returns the next frame in flight to the receiver, which is taken.
 pub fn next_frame<A: Allocator + Copy>(
     link: &mut Link<'_, '_, A>,
 ) -> Option<net_base::phy::loopback::RxToken<A>> {
     link.forward.take(start())
 }
 
-/// The next delayed frame to the receiver, which is taken.
+/// Returns the next delayed frame to the receiver, which is taken.
 pub fn next_delayed_frame<A: Allocator + Copy>(
     link: &mut Link<'_, '_, A>,
 ) -> Option<net_base::phy::loopback::RxToken<A>> {
     link.forward.take_delayed(start())
 }
 
-/// Whether the next delayed acknowledgement, which is taken, is of these bytes.
+/// Returns whether the next delayed acknowledgement, which is taken, is of these bytes.
 pub fn is_next_delayed_ack<A: Allocator + Copy>(link: &mut Link<'_, '_, A>, bytes: &[u8]) -> bool {
     match link.reverse.take_delayed(start()) {
         Some(token) => token.frame() == bytes,
@@ -178,7 +178,7 @@ pub fn is_next_delayed_ack<A: Allocator + Copy>(link: &mut Link<'_, '_, A>, byte
     }
 }
 
-/// Whether no acknowledgement is delayed.
+/// Returns whether no acknowledgement is delayed.
 pub fn has_no_delayed_ack<A: Allocator + Copy>(link: &mut Link<'_, '_, A>) -> bool {
     matches!(link.reverse.take_delayed(start()), None)
 }

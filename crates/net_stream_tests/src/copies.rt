@@ -10,7 +10,7 @@ use net_testing::{NEVER, Refusing, Sink, Source, refuse_each};
 use std::alloc::{AllocError, Global};
 use std::io::ErrorKind;
 
-/// A copy from this position on over these fates.
+/// Returns a copy from this position on over these fates.
 fn setup(forward: Way, reverse: Way, first: u64, capacity: usize, payload: u32) -> Setup {
     Setup {
         forward,
@@ -41,7 +41,7 @@ fn drawn(seed: u64, rates: &Rates) -> Way {
     }
 }
 
-/// Whether a text comes over a link that draws its fates.
+/// Returns whether a text comes over a link that draws its fates.
 fn comes(alloc: Global, rates: &Rates, capacity: usize, seed: u64) -> bool {
     let setup = setup(drawn(seed, rates), drawn(!seed, rates), 7, capacity, 5);
     let Ok(mut sink) = Sink::new(alloc) else {
@@ -76,7 +76,8 @@ static LINKS: [Rates; 5] = [
     },
 ];
 
-/// Whether a text comes over links of these seeds, with storage of one byte, of some and of many.
+/// Returns whether a text comes over links of these seeds, with storage of one byte, of some and of
+/// many.
 fn comes_at_any_capacity(alloc: Global, rates: &Rates, seeds: u64) -> bool {
     for seed in 0..seeds {
         for capacity in [1usize, 7, 4096] {
@@ -95,8 +96,8 @@ fn all_comes_whatever_becomes_of_the_frames(rt: HostRuntime) {
     }
 }
 
-/// Whether a copy of these bytes over storage of nine, two and four bytes takes 19 frames, 14 bytes of
-/// payload and five rounds.
+/// Returns whether a copy of these bytes over storage of nine, two and four bytes takes 19 frames,
+/// 14 bytes of payload and five rounds.
 fn takes_five_rounds(alloc: Global, text: &[u8]) -> bool {
     let setup = setup(ALL, ALL, 0, 0, 2);
     let Ok(mut sink) = Sink::new(alloc) else {
@@ -144,8 +145,8 @@ static REFUSALS: [(usize, usize, usize, bool, &'static str, u64); 12] = [
     (NEVER, NEVER, NEVER, false, "Ok", 6),
 ];
 
-/// Whether a copy ends so, flushes once, also if memory for its buffers is refused, and gives back all its
-/// memory.
+/// Returns whether a copy ends so, flushes once, also if memory for its buffers is refused, and
+/// gives back all its memory.
 fn ends_so(
     alloc: Global,
     (refused, read, write, is_unflushed, wanted, count): (usize, usize, usize, bool, &str, u64),
@@ -168,7 +169,7 @@ fn ends_so(
         && heap.live() == 0
 }
 
-/// Whether a writer has so many bytes, which a text begins with.
+/// Returns whether a writer has so many bytes, which a text begins with.
 fn is_prefix(sink: &Sink, text: &[u8], count: u64) -> bool {
     text.starts_with(&sink.bytes) && sink.bytes.len() as u64 == count
 }
@@ -180,9 +181,9 @@ fn each_refusal_ends_a_copy(rt: HostRuntime) {
     }
 }
 
-/// Whether all is counted that came before memory was refused, of a copy of which eight segments are
-/// refused in the first round, in which nothing is written: 80 bytes are sent in it, and 33 in the
-/// next. Each round waits for a round trip at least.
+/// Returns whether all is counted that came before memory was refused, of a copy of which eight
+/// segments are refused in the first round, in which nothing is written: 80 bytes are sent in it,
+/// and 33 in the next. Each round waits for a round trip at least.
 fn are_kept(counts: &Counts, has_storage: bool) -> bool {
     let frames = &counts.frames;
     let is_counted = match counts.rounds {
@@ -222,8 +223,8 @@ fn each_refused_request_leaves_a_prefix(rt: HostRuntime) {
     assert_holds(&rt, is_always_right && requests > Some(100), 0);
 }
 
-/// Whether a copy of so many bytes, with so much capacity, asks for at most so many bytes of memory, and
-/// has at most so many at once.
+/// Returns whether a copy of so many bytes, with so much capacity, asks for at most so many bytes
+/// of memory, and has at most so many at once.
 fn asks_for(alloc: Global, len: usize, capacity: usize, asked: usize, most: usize) -> bool {
     let heap = Refusing::new(alloc, NEVER);
     let (Ok(text), Ok(mut sink)) = (pattern(alloc, len), Sink::new(alloc)) else {
@@ -262,7 +263,7 @@ fn little_memory_is_asked_for(rt: HostRuntime) {
     );
 }
 
-/// Whether an error's text is this one.
+/// Returns whether an error's text is this one.
 fn says(alloc: Global, error: LinkError, text: &str) -> Result<bool, AllocError> {
     Ok(format!(in alloc; "{error}")?.as_str() == text)
 }

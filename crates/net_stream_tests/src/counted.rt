@@ -31,7 +31,7 @@ struct Case(
     [u64; 10],
 );
 
-/// The counts of a row.
+/// Returns the counts of a row.
 fn counts_of(row: &[u64; 10]) -> Counts {
     Counts {
         bytes_read: row[0],
@@ -49,7 +49,7 @@ fn counts_of(row: &[u64; 10]) -> Counts {
     }
 }
 
-/// The fates and the config of a row.
+/// Returns the fates and the config of a row.
 fn setup_of(case: &Case) -> Setup {
     let (_, first, capacity, payload, max_burst, rounds) = case.2;
     Setup {
@@ -65,8 +65,9 @@ fn setup_of(case: &Case) -> Setup {
     }
 }
 
-/// Whether the writer has a prefix of the text, as many bytes as are counted, and was flushed once, after
-/// all writes; and, where a write takes all, whether at most one was made in a round.
+/// Returns whether the writer has a prefix of the text, as many bytes as are counted, and was
+/// flushed once, after all writes; and, where a write takes all, whether at most one was made in a
+/// round.
 fn is_written(sink: &Sink, text: &[u8], counts: &Counts) -> bool {
     let is_once_a_round = sink.bytes_per_call < NEVER || sink.calls as u64 <= counts.rounds;
     is_once_a_round
@@ -76,7 +77,7 @@ fn is_written(sink: &Sink, text: &[u8], counts: &Counts) -> bool {
         && sink.flushed == sink.bytes.len()
 }
 
-/// Whether a copy over these streams goes so, and gives back all its memory.
+/// Returns whether a copy over these streams goes so, and gives back all its memory.
 fn copies_so(
     alloc: Global,
     case: &Case,
@@ -94,8 +95,8 @@ fn copies_so(
         && heap.live() == 0
 }
 
-/// Whether a copy goes so where a failed read is of the first kind, and a failed write of the second one,
-/// or takes no byte.
+/// Returns whether a copy goes so where a failed read is of the first kind, and a failed write of
+/// the second one, or takes no byte.
 fn goes_so(
     alloc: Global,
     case: &Case,
@@ -116,7 +117,7 @@ const KINDS: [(ErrorKind, Option<ErrorKind>); 3] = [
     (ErrorKind::Other, None),
 ];
 
-/// Whether a copy goes so, of whatever kind the errors are.
+/// Returns whether a copy goes so, of whatever kind the errors are.
 fn goes_so_always(alloc: Global, case: &Case, bytes: &[u8]) -> bool {
     let (text, _) = bytes.split_at(bytes.len().min(case.2.0));
     for kinds in &KINDS {

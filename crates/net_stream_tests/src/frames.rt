@@ -8,7 +8,7 @@ use net_stream::{Counts, Fate, Fates, FrameCounts, Path, Rates, decode, send_aga
 use net_testing::{Refusing, refuse_each};
 use std::alloc::{AllocError, Allocator, Global};
 
-/// Whether the next frame, which is taken, is of these bytes.
+/// Returns whether the next frame, which is taken, is of these bytes.
 fn gives<A: Allocator + Copy>(device: &mut Loopback<A>, bytes: &[u8]) -> bool {
     match device.receive(start()) {
         Some((token, _reply)) => token.frame() == bytes,
@@ -16,7 +16,7 @@ fn gives<A: Allocator + Copy>(device: &mut Loopback<A>, bytes: &[u8]) -> bool {
     }
 }
 
-/// Whether there is no frame.
+/// Returns whether there is no frame.
 fn gives_none<A: Allocator + Copy>(device: &mut Loopback<A>) -> bool {
     device.receive(start()).is_none()
 }
@@ -43,7 +43,8 @@ fn a_frame_is_its_position_and_its_payload(rt: HostRuntime) {
 /// The longest frame, of 65,536 bytes, has so many bytes of payload.
 const LONG: usize = 65_528;
 
-/// Whether a frame of position 256 and this payload comes, is sent again, and comes once more.
+/// Returns whether a frame of position 256 and this payload comes, is sent again, and comes once
+/// more.
 fn is_sent_twice(alloc: Global, payload: &[u8], frame: &[u8]) -> bool {
     let mut device = Loopback::new(alloc, Medium::Ip);
     send_frame(&mut device, start(), 256, payload).is_ok()
@@ -97,7 +98,7 @@ const DECODED: [(&[u8], Option<(u64, usize)>); 4] = [
     ),
 ];
 
-/// Whether bytes decode so, and the payload is what follows the position.
+/// Returns whether bytes decode so, and the payload is what follows the position.
 fn decodes_so((bytes, wanted): &(&[u8], Option<(u64, usize)>)) -> bool {
     match (decode(bytes), wanted) {
         (Some((pos, payload)), Some((wanted, len))) => {
@@ -186,7 +187,7 @@ fn fates_are_listed_and_then_drawn(rt: HostRuntime) {
     }
 }
 
-/// Whether the next frame in flight, which is taken, is of these bytes.
+/// Returns whether the next frame in flight, which is taken, is of these bytes.
 fn takes(path: &mut Path<'_, Global>, bytes: &[u8]) -> bool {
     match path.take(start()) {
         Some(token) => token.frame() == bytes,
@@ -194,7 +195,7 @@ fn takes(path: &mut Path<'_, Global>, bytes: &[u8]) -> bool {
     }
 }
 
-/// Whether the next delayed frame, which is taken, is of these bytes.
+/// Returns whether the next delayed frame, which is taken, is of these bytes.
 fn takes_delayed(path: &mut Path<'_, Global>, bytes: &[u8]) -> bool {
     match path.take_delayed(start()) {
         Some(token) => token.frame() == bytes,
@@ -202,7 +203,7 @@ fn takes_delayed(path: &mut Path<'_, Global>, bytes: &[u8]) -> bool {
     }
 }
 
-/// Whether two frames are sent and two are put among the delayed ones.
+/// Returns whether two frames are sent and two are put among the delayed ones.
 fn puts_four(path: &mut Path<'_, Global>, delayed: &[u8]) -> bool {
     path.send(start(), 1, b"ab").is_ok()
         && path.put_delayed(start(), delayed).is_ok()
@@ -210,7 +211,7 @@ fn puts_four(path: &mut Path<'_, Global>, delayed: &[u8]) -> bool {
         && path.send(start(), 258, b"").is_ok()
 }
 
-/// Whether four frames are put, and taken in turns of the two lists.
+/// Returns whether four frames are put, and taken in turns of the two lists.
 fn keeps_apart(path: &mut Path<'_, Global>, delayed: &[u8]) -> bool {
     puts_four(path, delayed)
         && takes_delayed(path, delayed)

@@ -13,7 +13,7 @@ use net_stream::{Config, Fate, FrameCounts, Link, Rates, SackBlocks, decode};
 use net_testing::{Refusing, refuse_each};
 use std::alloc::{AllocError, Allocator, Global};
 
-/// A link of these fates and of frames of at most so many bytes, from this position on.
+/// Returns a link of these fates and of frames of at most so many bytes, from this position on.
 fn setup(
     (forward, forward_rates): (&'static [Fate], Rates),
     (reverse, reverse_rates): (&'static [Fate], Rates),
@@ -60,7 +60,7 @@ enum Step {
     NoneAcked,
 }
 
-/// Whether a round leaves these positions.
+/// Returns whether a round leaves these positions.
 fn passes(link: &mut Link<'_, '_, Global>, next: u64, head: u64, end: u64) -> bool {
     link.pass_round().is_ok()
         && link.receiver.next() == next
@@ -68,13 +68,13 @@ fn passes(link: &mut Link<'_, '_, Global>, next: u64, head: u64, end: u64) -> bo
         && link.sender.end() == end
 }
 
-/// Whether these bytes are read, and no more.
+/// Returns whether these bytes are read, and no more.
 fn reads(link: &mut Link<'_, '_, Global>, bytes: &[u8]) -> bool {
     let mut into = [0u8; 16];
     link.read(&mut into) == bytes.len() && into.starts_with(bytes)
 }
 
-/// Whether a call gives what it should.
+/// Returns whether a call gives what it should.
 fn does(link: &mut Link<'_, '_, Global>, step: &Step) -> bool {
     match step {
         Step::Write(bytes, count) => link.write(bytes) == *count,
@@ -87,8 +87,8 @@ fn does(link: &mut Link<'_, '_, Global>, step: &Step) -> bool {
     }
 }
 
-/// How many of the calls of a link of ten bytes each way give what they should, up to the first that
-/// doesn't, and what became of its frames.
+/// Returns how many of the calls of a link of ten bytes each way give what they should, up to the
+/// first that doesn't, and what became of its frames.
 fn all_of(alloc: Global, setup: &Setup, steps: &[Step]) -> (usize, FrameCounts) {
     let mut to_send = [0u8; 10];
     let mut to_receive = [0u8; 10];
@@ -201,8 +201,8 @@ fn a_clock_stops_at_its_last_moment(rt: HostRuntime) {
     assert_holds(&rt, link.elapsed == Duration::from_micros(u64::MAX), 1);
 }
 
-/// Whether the next frame of a link over which all is delayed, which is taken, has this position and so
-/// many bytes of payload, which are those of the sender.
+/// Returns whether the next frame of a link over which all is delayed, which is taken, has this
+/// position and so many bytes of payload, which are those of the sender.
 fn is_next(link: &mut Link<'_, '_, Global>, pos: u64, len: usize) -> bool {
     let Some(token) = next_delayed_frame(link) else {
         return false;
@@ -215,7 +215,7 @@ fn is_next(link: &mut Link<'_, '_, Global>, pos: u64, len: usize) -> bool {
     }
 }
 
-/// Whether a round of a link over which all is delayed sends these frames and no more.
+/// Returns whether a round of a link over which all is delayed sends these frames and no more.
 fn sends(link: &mut Link<'_, '_, Global>, frames: &[(u64, usize)]) -> bool {
     if link.pass_round().is_err() {
         return false;
@@ -228,7 +228,7 @@ fn sends(link: &mut Link<'_, '_, Global>, frames: &[(u64, usize)]) -> bool {
     next_delayed_frame(link).is_none()
 }
 
-/// The bytes of SACK blocks as an acknowledgement lists them.
+/// Returns the bytes of SACK blocks as an acknowledgement lists them.
 fn listed(alloc: Global, ranges: &[(u64, u64)]) -> Result<Vec<u8>, AllocError> {
     let mut bytes = Vec::new(alloc);
     for (start, end) in ranges {
@@ -268,7 +268,7 @@ static OF_TEN: [Round; 8] = [
     (&[(30, 40)], 100, 1, &[(20, 8)], 8),
 ];
 
-/// Whether a round of ten bytes goes so.
+/// Returns whether a round of ten bytes goes so.
 fn sends_of_ten(alloc: Global, (ranges, payload, max_burst, frames, sum): &Round) -> bool {
     let Ok(bytes) = listed(alloc, ranges) else {
         return false;
@@ -306,7 +306,7 @@ static LONG_FRAMES: [(u64, usize); 5] = [
     (262_119, 32),
 ];
 
-/// Whether a round of as many bytes as the storage has room for sends them so.
+/// Returns whether a round of as many bytes as the storage has room for sends them so.
 fn sends_long_frames(alloc: Global, bytes: &[u8], to_send: &mut [u8]) -> bool {
     let mut to_receive = [0u8; 0];
     let setup = setup((&[], DELAYED), (&[], GONE), (7, 65_528, 4_096));
@@ -354,7 +354,8 @@ fn sends_of_seventy(alloc: Global, count: u64, frames: &[(u64, usize)]) -> bool 
         && are_next(&mut link, frames)
 }
 
-/// The bytes of so many blocks of one position each, 1, 3, .., and 15 more, which are no block.
+/// Returns the bytes of so many blocks of one position each, 1, 3, .., and 15 more, which are no
+/// block.
 fn each_second(alloc: Global, count: u64) -> Result<Vec<u8>, AllocError> {
     let mut bytes = Vec::new(alloc);
     for i in 0..count.min(100) {
@@ -365,7 +366,7 @@ fn each_second(alloc: Global, count: u64) -> Result<Vec<u8>, AllocError> {
     Ok(bytes)
 }
 
-/// Whether the next frames are so many single bytes, at positions 0, 2, ...
+/// Returns whether the next frames are so many single bytes, at positions 0, 2, ...
 fn are_single(link: &mut Link<'_, '_, Global>, count: u64) -> bool {
     for i in 0..count.min(100) {
         if !is_next(link, 2 * i, 1) {
@@ -375,7 +376,7 @@ fn are_single(link: &mut Link<'_, '_, Global>, count: u64) -> bool {
     true
 }
 
-/// Whether these frames come next, and no more.
+/// Returns whether these frames come next, and no more.
 fn are_next(link: &mut Link<'_, '_, Global>, frames: &[(u64, usize)]) -> bool {
     for (pos, len) in frames {
         if !is_next(link, *pos, *len) {
@@ -396,7 +397,8 @@ fn all_sack_blocks_stop_a_round(rt: HostRuntime) {
     }
 }
 
-/// How many bytes the frames carry that are in flight, if each begins where the one before it ends.
+/// Returns how many bytes the frames carry that are in flight, if each begins where the one before
+/// it ends.
 fn carried<A: Allocator + Copy>(link: &mut Link<'_, '_, A>) -> Option<u64> {
     let mut end = 0u64;
     for _turn in 0..6u32 {
@@ -412,8 +414,9 @@ fn carried<A: Allocator + Copy>(link: &mut Link<'_, '_, A>) -> Option<u64> {
     None
 }
 
-/// A round of nine bytes, all of which are lost, in this memory. Returns whether it passes, and whether,
-/// if it doesn't, the frames that were sent before are in flight and counted, or all met their fate.
+/// Passes a round of nine bytes, all of which are lost, in this memory. Returns whether it passes,
+/// and whether, if it doesn't, the frames that were sent before are in flight and counted, or all
+/// met their fate.
 fn leaves_a_prefix(memory: &Refusing) -> (bool, bool) {
     let mut to_send = [0u8; 9];
     let setup = setup((&[], GONE), (&[], GONE), (0, 2, 100));

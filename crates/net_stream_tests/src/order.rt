@@ -114,7 +114,7 @@ static ROWS: [Row; 5] = [
     },
 ];
 
-/// Whether a copy reads as often as a row says, and each time only once all is written.
+/// Returns whether a copy reads as often as a row says, and each time only once all is written.
 fn reads_in_turn(alloc: Global, row: &Row) -> bool {
     let way = Way {
         listed: &[],

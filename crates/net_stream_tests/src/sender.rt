@@ -1,7 +1,5 @@
 //! What a sender has queued and lends, at known bytes.
 
-ghost use Rattle.std.specs.Prelude.{◌≤◌, length};
-
 use crate::assertions::assert_holds;
 use crate::counted::pattern;
 use net_ring::ManagedSlice;
@@ -13,9 +11,6 @@ use std::alloc::AllocError;
 enum Step {
     /// Writes these bytes: so many are taken.
     Write(&'static [u8], usize),
-    /// Writes as many of these bytes as the room that it lends has place for, and counts so many fewer:
-    /// so many are queued.
-    SendWith(&'static [u8], usize, usize),
     /// Lends these bytes from this position on, at most so many.
     Peek(u64, usize, &'static [u8]),
     /// Takes an acknowledgement of this position, which leaves this first unacknowledged one and this
@@ -25,22 +20,8 @@ enum Step {
     Window(usize),
 }
 
-/// Writes as much of a text as there is room for, and returns how many bytes.
-fn put(room: &mut [u8], text: &[u8]) -> usize
-    ensures { result ≤ length room.old }
-{
-    let count = room.len().min(text.len());
-    room[..count].copy_from_slice(&text[..count]);
-    count
-}
-
-/// Whether so many bytes are queued of what is written into the room that is lent.
-fn sends(sender: &mut Sender<'_>, text: &[u8], uncounted: usize, wanted: usize) -> bool {
-    let (count, seven) = sender.send_with(|room| (put(room, text).saturating_sub(uncounted), 7u8));
-    count == wanted && seven == 7
-}
-
-/// Whether an acknowledgement leaves this first unacknowledged position and this end, and as many bytes.
+/// Returns whether an acknowledgement leaves this first unacknowledged position and this end, and
+/// as many bytes.
 fn is_acknowledged(sender: &mut Sender<'_>, next: u64, head: u64, end: u64) -> bool {
     sender.acknowledge(next, SackBlocks::new());
     sender.first_unacknowledged() == head
@@ -49,11 +30,10 @@ fn is_acknowledged(sender: &mut Sender<'_>, next: u64, head: u64, end: u64) -> b
         && sender.is_empty() == (head == end)
 }
 
-/// Whether a call gives what it should.
+/// Returns whether a call gives what it should.
 fn does(sender: &mut Sender<'_>, step: &Step) -> bool {
     match step {
         Step::Write(bytes, count) => sender.write(bytes) == *count,
-        Step::SendWith(text, uncounted, count) => sends(sender, text, *uncounted, *count),
         Step::Peek(pos, most, bytes) => sender.peek_at(*pos, *most) == *bytes,
         Step::Acknowledge(next, head, end) => is_acknowledged(sender, *next, *head, *end),
         Step::Window(window) => sender.window() == *window,
@@ -61,7 +41,7 @@ fn does(sender: &mut Sender<'_>, step: &Step) -> bool {
 }
 
 /// Calls of a sender of five bytes from position 10 on.
-const FROM_TEN: [Step; 24] = [
+const FROM_TEN: [Step; 25] = [
     Step::Acknowledge(10, 10, 10),
     Step::Window(5),
     Step::Write(b"abcd", 4),
@@ -86,17 +66,17 @@ const FROM_TEN: [Step; 24] = [
     Step::Acknowledge(19, 19, 22),
     // One lends what is before the storage's end, and the next one its beginning.
     Step::Acknowledge(22, 22, 22),
-    Step::SendWith(b"abc", 0, 3),
+    Step::Write(b"abc", 3),
     Step::Acknowledge(24, 24, 25),
-    Step::SendWith(b"defg", 0, 2),
+    Step::Write(b"defg", 4),
     Step::Peek(24, 9, b"cde"),
+    Step::Peek(27, 9, b"fg"),
 ];
 
 /// Calls of a sender of nine bytes four positions below the last one.
-const AT_THE_END: [Step; 8] = [
+const AT_THE_END: [Step; 7] = [
     Step::Window(4),
-    Step::SendWith(b"abcdefghi", 0, 4),
-    Step::SendWith(b"e", 0, 0),
+    Step::Write(b"abcdefghi", 4),
     Step::Write(b"e", 0),
     Step::Peek(u64::MAX - 4, 9, b"abcd"),
     Step::Acknowledge(u64::MAX - 1, u64::MAX - 1, u64::MAX),
@@ -104,15 +84,7 @@ const AT_THE_END: [Step; 8] = [
     Step::Window(0),
 ];
 
-/// What isn't counted isn't queued.
-const UNCOUNTED: [Step; 4] = [
-    Step::SendWith(b"xy", 1, 1),
-    Step::Peek(0, 9, b"x"),
-    Step::SendWith(b"z", 0, 1),
-    Step::Peek(0, 9, b"xz"),
-];
-
-/// How many of the calls give what they should, up to the first that doesn't.
+/// Returns how many of the calls give what they should, up to the first that doesn't.
 fn all_of(steps: &[Step], storage: &mut [u8], first: u64) -> usize {
     let mut sender = Sender::new_at(ManagedSlice::Borrowed(storage), first);
     for i in 0..steps.len() {
@@ -130,20 +102,19 @@ fn a_sender_lends_what_is_contiguous(rt: HostRuntime) {
 }
 
 #[test]
-fn places_are_lent_as_far_as_positions_go(rt: HostRuntime) {
+fn bytes_are_queued_as_far_as_positions_go(rt: HostRuntime) {
     let done = all_of(&AT_THE_END, &mut [0; 9], u64::MAX - 4);
     assert_holds(&rt, done == AT_THE_END.len(), done);
-    let done = all_of(&UNCOUNTED, &mut [0; 5], 0);
-    assert_holds(&rt, done == UNCOUNTED.len(), done);
 }
 
-/// The elements from `from` on and before `to`, as far as there are any.
+/// Returns the elements from `from` on and before `to`, as far as there are any.
 fn part(elements: &[u8], from: usize, to: usize) -> &[u8] {
     let to = to.min(elements.len());
     &elements[from.min(to)..to]
 }
 
-/// Whether a sender of as many bytes as these lends all, and again once some were acknowledged.
+/// Returns whether a sender of as many bytes as these lends all, and again once some were
+/// acknowledged.
 fn lends_all(sender: &mut Sender<'_>, bytes: &[u8]) -> bool {
     let is_full = sender.write(bytes) == bytes.len() && sender.window() == 0;
     let is_lent = sender.peek_at(0, usize::MAX) == bytes

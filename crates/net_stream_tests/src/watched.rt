@@ -64,7 +64,7 @@ static ROWS: [Row; 6] = [
     (NONE, ALL, 7, 100, ("gave up", 0)),
 ];
 
-/// The fates and the config of a row.
+/// Returns the fates and the config of a row.
 fn setup_of((forward, reverse, payload, _, _): &Row) -> Setup {
     Setup {
         forward: *forward,
@@ -79,7 +79,8 @@ fn setup_of((forward, reverse, payload, _, _): &Row) -> Setup {
     }
 }
 
-/// Whether a copy of a row ends so, and tells of each round once, after what came is written.
+/// Returns whether a copy of a row ends so, and tells of each round once, after what came is
+/// written.
 fn tells_so(alloc: Global, row: &Row) -> bool {
     let written = Cell::new(0u64);
     let bytes = [b'x'; 100];

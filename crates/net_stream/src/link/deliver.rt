@@ -4,9 +4,9 @@ ghost use Rattle.net_copies.specs.LinkState.{times, take_in, come, came, meet, a
 ghost use Rattle.net_copies.specs.LinkState.{delayed_frame, delayed_frames, pass_frame, pass_frames};
 ghost use Rattle.net_copies.specs.LinkState.{StopsDelayed, StopsFrame};
 
-use super::{Link, MOST_RUNS};
+use super::Link;
 use crate::frame::decode;
-use crate::sack_blocks::{SACK_BLOCKS_LEN, list_held};
+use crate::sack_blocks::{MOST_SACK_BLOCKS, SACK_BLOCKS_LEN, list_held};
 use net_base::phy::RxToken;
 use net_copies::Fate;
 use net_receiver::Receiver;
@@ -34,7 +34,7 @@ impl<'a, 'f, A: Allocator + Copy> Link<'a, 'f, A> {
         let Some((pos, payload)) = decode(frame) else {
             return Ok(());
         };
-        if !Receiver::<MOST_RUNS>::fits(pos, payload.len()) {
+        if !Receiver::<MOST_SACK_BLOCKS>::fits(pos, payload.len()) {
             return Ok(());
         }
         let refused = self.receiver.segment(pos, payload).is_err();

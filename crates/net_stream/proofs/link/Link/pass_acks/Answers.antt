@@ -10,7 +10,7 @@ pub acks-preserved : goal.acks-preserved
 acks-preserved g c = one_more _ _ _ _ _ c.acks.invariant (c.in_ok-pass_ack.ensures.some c.if-not-branch.false) c.in_ok-pass_ack.ensures.ok
 
 pub returns-then-not-branch-clause-ok : goal.returns-then-not-branch-clause-ok
-returns-then-not-branch-clause-ok g c = all_done _ _ _ _ _ c.acks.invariant (c.in_ok-pass_ack.ensures.none c.if-not-branch.true)
+returns-then-not-branch-clause-ok g c = all_done _ _ _ _ _ c.acks.invariant (c.in_ok-pass_ack.ensures.empty c.if-not-branch.true)
 
 pub returns-in_err-pass_ack-clause-err : goal.returns-in_err-pass_ack-clause-err
 returns-in_err-pass_ack-clause-err g c = OnErr-always c.from_residual.result

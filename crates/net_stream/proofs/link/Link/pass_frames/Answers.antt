@@ -10,7 +10,7 @@ pub frames-preserved : goal.frames-preserved
 frames-preserved g c = one_more _ _ _ _ _ c.frames.invariant (c.in_ok-pass_frame.ensures.some c.if-not-branch.false) c.in_ok-pass_frame.ensures.ok
 
 pub returns-then-not-branch-clause-ok : goal.returns-then-not-branch-clause-ok
-returns-then-not-branch-clause-ok g c = all_done _ _ _ _ _ c.frames.invariant (c.in_ok-pass_frame.ensures.none c.if-not-branch.true)
+returns-then-not-branch-clause-ok g c = all_done _ _ _ _ _ c.frames.invariant (c.in_ok-pass_frame.ensures.empty c.if-not-branch.true)
 
 pub returns-in_err-pass_frame-clause-err : goal.returns-in_err-pass_frame-clause-err
 returns-in_err-pass_frame-clause-err g c = OnErr-always c.from_residual.result
