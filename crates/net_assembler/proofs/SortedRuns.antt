@@ -129,7 +129,7 @@ module _ {n : ℕ} (h g : SortedRuns n) (s : HasSoundPairs h) (o k : ℕ) (l : 0
       let few = few_held g t in
       record {
         ok = joined_set e;
-        err = tt;
+        unchanged = tt;
         refused = (λ f. absurd (cc), λ over. absurd (omega (arith, over.1)));
         bound = few;
       }
@@ -144,7 +144,7 @@ module _ {n : ℕ} (h g : SortedRuns n) (s : HasSoundPairs h) (o k : ℕ) (l : 0
       let now = ap runs same in
       record {
         ok = tt;
-        err = same;
+        unchanged = same;
         refused = (λ _. (l, omega arith), λ _. refl);
         bound = omega arith;
       }
@@ -162,7 +162,7 @@ pub none_added : {n : ℕ} (h : SortedRuns n) → HasSoundPairs h → (o k : ℕ
     Adds n (set_of h) o k (Ok tt) (set_of h)
 none_added h s o k e = record {
   ok = sym (with_range-none (set_of h) o k e);
-  err = tt;
+  unchanged = tt;
   refused = (λ f. absurd (cc), λ over. absurd (omega (arith, over.0)));
   bound = few_held h s;
 }
