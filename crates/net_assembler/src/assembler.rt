@@ -178,11 +178,11 @@ impl<const N: usize> Assembler<N> {
     }
 
     /// Removes the front as `remove_front` does, and counts each turn of a loop as `add_counted`
-    /// does. It isn't in smoltcp.
+    /// does.
     ///
     /// Moves rise by at most `N`, and by none if no run is removed. There are no looks.
     #[inline(always)]
-    pub fn remove_front_counted(&mut self, turns: &mut Turns) -> usize
+    pub(crate) fn remove_front_counted(&mut self, turns: &mut Turns) -> usize
         ensures length { result ≡ front self.old }
         ensures rest { self.new ≡ shift_down self.old (front self.old) }
         ensures bound { runs self.new ≤ N }
@@ -221,7 +221,7 @@ impl<const N: usize> Assembler<N> {
     }
 
     /// Adds a range and removes the front as `add_then_remove_front` does, and counts each turn of
-    /// a loop as `add_counted` does. It isn't in smoltcp.
+    /// a loop as `add_counted` does.
     ///
     /// Looks rise by at most twice the number of binary digits of `N`, moves by at most `2 * N`.
     /// Data that comes next takes no turn, however many runs wait, unless one of them is removed.
@@ -230,7 +230,7 @@ impl<const N: usize> Assembler<N> {
     ///
     /// The range ends within 64 bits, as `fits` tests.
     #[inline(always)]
-    pub fn add_then_remove_front_counted(
+    pub(crate) fn add_then_remove_front_counted(
         &mut self,
         offset: usize,
         size: usize,

@@ -11,7 +11,7 @@ ghost use Rattle.net_assembler.specs.Ranges.{with_ranges, lies_in_some};
 
 use crate::assembler::laws::{front as front_is_least, members};
 
-/// A set to which a range was added has its positions and those of the range.
+/// States that a set to which a range was added has its positions and those of the range.
 pub fn member_after_with_range()
     ensures { (s t : Positions) (offset size p : ℕ) → t ≡ with_range s offset size →
         contains t p ≡ (contains s p || lies_in p (offset, offset + size)) }
@@ -19,8 +19,8 @@ pub fn member_after_with_range()
     members();
 }
 
-/// `remove_front` twice returns 0 the second time: no position is missing below the first missing
-/// one, and once as many are removed the first position is missing.
+/// States that `remove_front` twice returns 0 the second time: no position is missing below the
+/// first missing one, and once as many are removed the first position is missing.
 pub fn front_after_remove_front()
     ensures { (s t : Positions) → t ≡ shift_down s (front s) → front t ≡ 0 }
 {
@@ -28,9 +28,9 @@ pub fn front_after_remove_front()
     front_is_least();
 }
 
-/// Ranges that are added one after another leave the union, whatever their order: a position is
-/// present exactly if it was before or is in one of the ranges, and ranges in another order, or any
-/// that have the same positions, leave the same set.
+/// States that ranges that are added one after another leave the union, whatever their order: a
+/// position is present exactly if it was before or is in one of the ranges, and ranges in another
+/// order, or any that have the same positions, leave the same set.
 pub fn ranges_in_any_order()
     ensures members { (s : Positions) (ranges : List (ℕ × ℕ)) (p : ℕ) →
         contains (with_ranges s ranges) p ≡ (contains s p || lies_in_some p ranges) }

@@ -36,7 +36,7 @@ impl Rand {
     /// What is then added.
     const INCREMENT: u64 = 0x7590ef39;
 
-    /// A generator whose state is the seed. Any seed is allowed.
+    /// Returns a generator whose state is the seed. Any seed is allowed.
     pub fn new(seed: u64) -> Rand
         ensures { result ≡ seed }
     {

@@ -70,12 +70,12 @@ fn has_length(frame: &[u8], length: usize) -> bool {
     frame.len() == length && frame.starts_with(&marks[..count])
 }
 
-/// Whether `==` finds a value equal to itself and not to the other one.
+/// Returns whether `==` finds a value equal to itself and not to the other one.
 fn tells_apart<T: Eq>(value: &T, other: &T) -> bool {
     value == value && value != other
 }
 
-/// Metadata that asks for segments of so many bytes.
+/// Returns metadata that asks for segments of so many bytes.
 fn cut_to(size: u16) -> PacketMeta {
     PacketMeta {
         id: 7,

@@ -1,3 +1,4 @@
+//! Random words and ports, at known seeds.
 ghost use Rattle.std.specs.Prelude.{◌≡◌};
 
 use net_base::rand::Rand;

@@ -29,7 +29,7 @@ TEXT_RUNS = {most: Size(f"assembler of {most}: runs in a text under options", mo
              for most in SIZES}
 WIDTH = Size("assembler: width of a text", 8)
 CALLED = {name: Test(f"assembler: {name} is refused") for name in (
-    "add", "add_counted", "add_then_remove_front", "add_then_remove_front_counted")}
+    "add", "add_counted", "add_then_remove_front")}
 
 
 def with_range(runs, start, end):
@@ -102,15 +102,12 @@ class Assembler:
     def add_counted(self, offset, size):
         return self.add(offset, size, "add_counted")
 
-    def add_then_remove_front(self, offset, size, name="add_then_remove_front"):
-        runs = self.adding(name, offset, size, True)
+    def add_then_remove_front(self, offset, size):
+        runs = self.adding("add_then_remove_front", offset, size, True)
         if isinstance(runs, str):
             return runs
         self.runs = runs
         return self.remove_front()
-
-    def add_then_remove_front_counted(self, offset, size):
-        return self.add_then_remove_front(offset, size, "add_then_remove_front_counted")
 
     def remove_front(self):
         front = front_of(self.runs)
@@ -119,9 +116,6 @@ class Assembler:
             REMOVED_REST(len(self.runs) > 1)
             self.runs = shifted_down(self.runs, front)
         return f"front {front}"
-
-    def remove_front_counted(self):
-        return self.remove_front()
 
     def clear(self):
         CLEARED(bool(self.runs))
@@ -159,9 +153,9 @@ class Assembler:
         return truth(True)
 
 
-ADDING = ["add", "add", "add_counted", "add_then_remove_front", "add_then_remove_front_counted"]
+ADDING = ["add", "add", "add_counted", "add_then_remove_front", "add_then_remove_front"]
 ASKING = ["contains", "contains", "run_at", "run_at", "fits", "clone", "eq", "eq", "text", "text"]
-RARE = ["remove_front", "remove_front_counted", "remove_front", "remove_front", "clear"]
+RARE = ["remove_front"] * 4 + ["clear"]
 
 
 def position(random, runs, span):

@@ -118,8 +118,8 @@ ASSEMBLERS = [
         "fits 18446744073709551614 1: 1; fits 18446744073709551614 2: 0", [(18446744073709551612, 18446744073709551614)]),
     (4, "add 4 8: ok; add 0 2: ok; clone: done; clear: done; eq: 0 1; add 0 1: ok; add 4 4: ok; add 8 4: ok; add 1 1: ok; "
         "eq: 1 0", [(0, 2), (4, 12)]),
-    (4, "FILL; add_counted 13 7: ok; add_then_remove_front_counted 0 4: front 4; remove_front_counted: front 0; "
-        "add_then_remove_front_counted 0 6: front 19; text 65535: 1", [(7, 10), (17, 20)]),
+    (4, "FILL; add_counted 13 7: ok; add_then_remove_front 0 4: front 4; remove_front: front 0; "
+        "add_then_remove_front 0 6: front 19; text 65535: 1", [(7, 10), (17, 20)]),
 ]
 
 # Ranges below 64 that touch, overlap, repeat and fill gaps.

@@ -22,26 +22,19 @@ enum Adding {
     Add,
     AddCounted,
     AddThenRemoveFront,
-    AddThenRemoveFrontCounted,
 }
 
 /// The calls that add a range.
-const ADDING: [Entry<Adding>; 4] = [
+const ADDING: [Entry<Adding>; 3] = [
     ("add", 2, Adding::Add),
     ("add_counted", 2, Adding::AddCounted),
     ("add_then_remove_front", 2, Adding::AddThenRemoveFront),
-    (
-        "add_then_remove_front_counted",
-        2,
-        Adding::AddThenRemoveFrontCounted,
-    ),
 ];
 
 /// Any other call but those of text and clone.
 #[derive(Clone, Copy)]
 enum Kind {
     RemoveFront,
-    RemoveFrontCounted,
     Clear,
     Fits,
     Contains,
@@ -49,9 +42,8 @@ enum Kind {
 }
 
 /// The other calls.
-const CALLS: [Entry<Kind>; 6] = [
+const CALLS: [Entry<Kind>; 5] = [
     ("remove_front", 0, Kind::RemoveFront),
-    ("remove_front_counted", 0, Kind::RemoveFrontCounted),
     ("clear", 0, Kind::Clear),
     ("fits", 2, Kind::Fits),
     ("contains", 1, Kind::Contains),
@@ -181,11 +173,6 @@ fn add<const N: usize>(
         Adding::Add => show_added(assembler.add(offset, size)),
         Adding::AddCounted => { show_added(assembler.add_counted(offset, size, &mut used_turns())) }
         Adding::AddThenRemoveFront => show_front(assembler.add_then_remove_front(offset, size)),
-        Adding::AddThenRemoveFrontCounted => show_front(assembler.add_then_remove_front_counted(
-            offset,
-            size,
-            &mut used_turns(),
-        )),
     }
 }
 
@@ -217,10 +204,6 @@ fn show_front(front: Result<usize, TooManyHolesError>) -> Reply {
 fn make<const N: usize>(assembler: &mut Assembler<N>, kind: Kind, one: usize, two: usize) -> Reply {
     match kind {
         Kind::RemoveFront => Reply::word("front").count(assembler.remove_front()),
-        Kind::RemoveFrontCounted => {
-            let front = assembler.remove_front_counted(&mut used_turns());
-            Reply::word("front").count(front)
-        }
         Kind::Clear => {
             assembler.clear();
             allowed(true)

@@ -1,3 +1,4 @@
+//! A TCP segment that is kept, and its acknowledgement.
 ghost use Rattle.std.specs.Prelude.{◌≡◌, ℕ, ◌+◌, ◌-◌, ◌<◌, ◌^◌, List, length, min};
 ghost use Rattle.net_receiver.specs.OneStream.{ReceivesFrom, MatchesStream};
 ghost use Rattle.net_receiver.specs.SequenceNumbers.{number_at, IsNear};

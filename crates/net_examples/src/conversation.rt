@@ -1,3 +1,4 @@
+//! A request and its reply, over two links.
 ghost use Rattle.std.specs.Prelude.{◌≡◌, ◌≤◌, [], ℕ, List, length, take, IfOk, IfSome};
 ghost use Rattle.net_stream.specs.LinkInvariant.{LinkInvariant};
 ghost use Rattle.net_examples.specs.Conversation.{AgreeBelow};

@@ -1,3 +1,4 @@
+//! A device over another one, which counts the frames that are sent.
 ghost use Rattle.std.specs.Prelude.{◌≡◌, min, ◌+◌, ◌-◌, ◌^◌};
 
 use net_base::phy::{Device, DeviceCapabilities, FrameLists};

@@ -1,3 +1,4 @@
+//! A datagram through a UDP socket over arrays.
 ghost use Rattle.std.specs.Prelude.{◌≡◌, ◌≤◌, ◌↔◌, ◌++◌, length, take, drop, min, IfSome, IfNone};
 ghost use Rattle.std.specs.Prelude.{IsSome};
 
@@ -5,8 +6,8 @@ use net_packets::{PacketBuffer, PacketMetadata};
 use net_ring::{Empty, ManagedSlice};
 use net_sockets::{Endpoint, UdpSocket};
 
-/// A datagram comes in at a socket over arrays, and is received: as much of it as `into` has room
-/// for. `None` exactly if it has more than the 64 bytes that the socket has room for.
+/// Passes a datagram through a socket over arrays, and copies as much of it as `into` has room for.
+/// `None` exactly if it has more than the 64 bytes that the socket has room for.
 pub fn pass_through(from: Endpoint, bytes: &[u8], into: &mut [u8]) -> Option<usize>
     ensures room { IsSome result ↔ (length bytes.now ≤ 64) }
     ensures count { IfSome result (λ n. n ≡ min (length bytes.now) (length into.old)) }

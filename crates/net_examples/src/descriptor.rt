@@ -1,3 +1,4 @@
+//! Memory for one frame, as hardware has it.
 ghost use Rattle.std.specs.Prelude.{◌≡◌, ◌≤◌, length, take, replicate};
 ghost use Rattle.std.specs.Fn.{FnOnceTakesAtMut, FnOnceReturnsAtMut};
 

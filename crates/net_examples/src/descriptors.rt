@@ -1,3 +1,4 @@
+//! A device whose frames are in two rings of descriptors.
 ghost use Rattle.std.specs.Prelude.{◌≡◌, ◌≢◌, ◌≤◌, ◌<◌, ◌++◌, ◌∷◌, [], ◌⊎◌, ℕ, List, length};
 ghost use Rattle.std.specs.Prelude.{IsTrue, IsFalse, IsOk, Ok, true, false};
 ghost use Rattle.net_ring.specs.Ring.{queue, spare, window, capacity};

@@ -1,3 +1,4 @@
+//! A device over another one, which drops frames that are too short.
 ghost use Rattle.std.specs.Prelude.{◌⊎◌, ℕ, List};
 
 use net_base::phy::{Device, DeviceCapabilities, RxToken};

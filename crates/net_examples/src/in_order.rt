@@ -1,3 +1,4 @@
+//! Segments that come in any order, and bytes that are read in order.
 ghost use Rattle.std.specs.Prelude.{◌≡◌, ℕ, ◌+◌, List, take, slice_range};
 ghost use Rattle.net_receiver.specs.OneStream.{ReceivesFrom, MatchesStream};
 

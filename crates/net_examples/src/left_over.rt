@@ -1,3 +1,4 @@
+//! Bytes that are queued as far as there is room.
 ghost use Rattle.std.specs.Prelude.{◌≡◌, ◌+◌, ◌++◌, length, take, min};
 ghost use Rattle.net_ring.specs.Ring.{queue, window};
 

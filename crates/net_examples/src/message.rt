@@ -1,3 +1,4 @@
+//! A message that is queued whole, or not at all.
 ghost use Rattle.std.specs.Prelude.{◌≡◌, ◌≤◌, ◌↔◌, ◌++◌, IsTrue, IsFalse, length};
 ghost use Rattle.net_ring.specs.Ring.{queue, window};
 

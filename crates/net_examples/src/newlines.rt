@@ -1,3 +1,4 @@
+//! Lines of a ring's queue, which may wrap.
 ghost use Rattle.std.specs.Prelude.{◌≡◌, ◌==◌, ◌+◌, ◌<◌, ◌≤◌, ◌++◌, ◌^◌, ℕ, length, take, drop, position};
 ghost use Rattle.std.specs.Prelude.{Some, IfSome, IfNone};
 ghost use Rattle.net_ring.specs.Ring.{queue};

@@ -1,3 +1,4 @@
+//! One byte of a ring, looked at and written.
 ghost use Rattle.std.specs.Prelude.{◌≡◌, ◌<◌, [], ◌∷◌, IsTrue, IsFalse, slice_get};
 ghost use Rattle.net_ring.specs.Ring.{queue, window, WritesSpare};
 

@@ -1,3 +1,4 @@
+//! One command, by a list of one.
 ghost use Rattle.std.specs.Prelude.{◌≡◌, IfOk};
 ghost use Rattle.net_receiver.specs.Commands.{command_value, reply_value, CommandFits};
 ghost use Rattle.net_receiver.specs.ReceiverState.{receiver_after_command, receiver_reply};

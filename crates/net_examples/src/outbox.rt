@@ -1,3 +1,4 @@
+//! A queue of bytes whose contracts see a list.
 ghost use Rattle.std.specs.Prelude.{◌≡◌, ◌++◌, [], length, take, drop, min};
 ghost use Rattle.net_ring.specs.Managed.{elements};
 
@@ -20,7 +21,7 @@ impl<'a> Model for Outbox<'a> {
 }
 
 impl<'a> Outbox<'a> {
-    /// No bytes, with room for as many as `storage` has.
+    /// Returns no bytes, with room for as many as `storage` has.
     pub fn new(storage: ManagedSlice<'a, u8>) -> Self
         ensures { result ≡ [] }
     {

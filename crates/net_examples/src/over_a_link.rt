@@ -1,3 +1,4 @@
+//! A copy over a link that loses frames.
 ghost use Rattle.std.specs.Prelude.{◌≡◌, ◌+◌, ◌-◌, ◌^◌, ◌<◌, ◌≤◌, true, IfErr};
 ghost use Rattle.std.specs.Result.{is_ok};
 ghost use Rattle.net_stream.specs.CopyResult.{Copies, gave_up};

@@ -1,3 +1,4 @@
+//! Packets that are written, and wiped, where they are.
 ghost use Rattle.std.specs.Prelude.{◌≡◌, ◌↔◌, ◌∷◌, ◌++◌, [], OnOk, OnErr, IsErr, drop, length};
 ghost use Rattle.std.specs.declared.option.Option.TheVariants.{None};
 ghost use Rattle.net_packets.specs.PacketHistory.{contents};

@@ -1,3 +1,4 @@
+//! Ranges of bytes that come in any order.
 ghost use Rattle.std.specs.Prelude.{◌≡◌, ◌↔◌, ◌<◌, ◌^◌, ◌+◌, OnOk, OnErr, IfOk, IsErr};
 ghost use Rattle.net_assembler.specs.Assembler.{MakesTooManyRuns};
 ghost use Rattle.net_assembler.specs.Positions.{front, with_range};

@@ -1,3 +1,4 @@
+//! A struct over a storage of any kind.
 ghost use Rattle.std.specs.Prelude.{◌≡◌, ◌<◌, length, slice_get, slice_set, Some};
 
 use net_ring::Storage;
@@ -17,7 +18,7 @@ impl<S: Storage<u16> + Drop> Drop for Samples<S> {
 }
 
 impl<S: Storage<u16> + Drop> Samples<S> {
-    /// The samples that the storage has.
+    /// Returns the samples that the storage has.
     pub fn new(samples: S) -> Self
         ensures { result.samples ≡ samples }
     {

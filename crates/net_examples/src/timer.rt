@@ -1,3 +1,4 @@
+//! A timer that waits longer each time.
 ghost use Rattle.std.specs.Prelude.{◌≡◌, ◌↔◌, ◌*◌, ◌-◌, ◌^◌, ◌+ℤ◌, ◌≤ℤ◌, pos, min, IsTrue};
 ghost use Rattle.net_base.specs.Time.{IsMoment};
 
@@ -11,7 +12,7 @@ pub struct Timer {
 }
 
 impl Timer {
-    /// A timer that was armed at `now`.
+    /// Returns a timer that was armed at `now`.
     pub fn new(timeout: Duration, now: Instant) -> Timer
         ensures timeout { result.timeout ≡ timeout }
         ensures deadline { IsMoment (now +ℤ pos timeout)
@@ -23,7 +24,7 @@ impl Timer {
         }
     }
 
-    /// Whether the deadline has come.
+    /// Returns whether the deadline has come.
     pub fn is_expired(&self, now: Instant) -> bool
         ensures { IsTrue result ↔ (self.now.deadline ≤ℤ now) }
     {

@@ -23,7 +23,8 @@ fn bytes_wait_in_an_outbox(rt: HostRuntime) {
     assert!(rt; into.starts_with(b"abcd"));
 }
 
-/// Whether a line of so many bytes is taken off, with its newline, and `into` begins with these.
+/// Returns whether a line of so many bytes is taken off, with its newline, and `into` begins with
+/// these.
 fn gives(ring: &mut RingBuffer<'_, u8>, into: &mut [u8], length: usize, bytes: &[u8]) -> bool {
     take_line(ring, into) == Some(length) && into.starts_with(bytes)
 }
@@ -56,7 +57,7 @@ fn a_datagram_passes(rt: HostRuntime) {
     assert!(rt; pass_through(from, &[0; 65], &mut into).is_none());
 }
 
-/// Whether samples that are lent are noted, each in its place.
+/// Returns whether samples that are lent are noted, each in its place.
 fn notes_lent_samples() -> bool {
     let mut storage = [0u16; 3];
     let mut samples = Samples::new(ManagedSlice::Borrowed(&mut storage));
@@ -65,7 +66,7 @@ fn notes_lent_samples() -> bool {
     samples.last(0) == 0 && samples.last(1) == 7 && samples.last(2) == 9
 }
 
-/// The same of owned ones.
+/// Returns whether samples that are owned are noted, each in its place.
 fn notes_owned_samples(storage: Vec<u16>) -> bool {
     if storage.len() != 3 {
         return false;
@@ -93,7 +94,7 @@ fn segments_are_read_in_order(rt: HostRuntime) {
     assert!(rt; into.starts_with(b"hello, world"));
 }
 
-/// Whether a segment of this number is answered with this number and this window.
+/// Returns whether a segment of this number is answered with this number and this window.
 fn answers(receiver: &mut Receiver<'_, 4>, number: u32, bytes: &[u8], wanted: (u32, u16)) -> bool {
     let initial = SequenceNumber::new(0xffff_fffe);
     let (number, window) = acknowledge(receiver, initial, SequenceNumber::new(number), bytes);
@@ -120,8 +121,8 @@ fn a_stream_crosses_a_bad_link(rt: HostRuntime) {
     assert_eq!(rt; writer.as_slice(), b"abcdef".as_slice());
 }
 
-/// How many bytes of a reply come to the buffer over links that lose a third of their frames, in so
-/// many rounds each.
+/// Returns how many bytes of a reply come to the buffer over links that lose a third of their
+/// frames, in so many rounds each.
 fn reply_to(
     alloc: Global,
     request: &[u8],
@@ -226,7 +227,7 @@ fn sends_zeros(device: &mut Counted<Loopback>, length: usize) -> Result<bool, Al
     device.send(token, length, |_buffer| true)
 }
 
-/// A frame comes: hardware puts it in, if it fits a descriptor and one is free.
+/// Puts a frame in as hardware does, if it fits a descriptor and one is free.
 fn comes(device: &mut DescriptorRings<'_>, bytes: &[u8]) -> bool {
     if bytes.len() > FRAME_SIZE {
         return false;
@@ -235,7 +236,7 @@ fn comes(device: &mut DescriptorRings<'_>, bytes: &[u8]) -> bool {
     device.received.enqueue_slice(&[descriptor]) == 1
 }
 
-/// Whether the next frame that hardware takes out is these bytes.
+/// Returns whether the next frame that hardware takes out is these bytes.
 fn goes(device: &mut DescriptorRings<'_>, bytes: &[u8]) -> bool {
     match device.to_send.dequeue_one() {
         Ok(descriptor) => descriptor.frame() == bytes,
@@ -243,7 +244,7 @@ fn goes(device: &mut DescriptorRings<'_>, bytes: &[u8]) -> bool {
     }
 }
 
-/// Whether a frame is sent back, exactly if this is so.
+/// Returns whether a frame is sent back, exactly if this is so.
 fn bounces(device: &mut DescriptorRings<'_>, moved: bool) -> bool {
     bounce(device, Instant::ZERO) == Ok(moved)
 }
@@ -264,7 +265,7 @@ fn frames_are_sent_back_while_a_descriptor_is_free(rt: HostRuntime) {
     assert!(rt; bounces(&mut device, false) && !goes(&mut device, b""));
 }
 
-/// Whether the bytes are sent as one frame.
+/// Returns whether the bytes are sent as one frame.
 fn sends(device: &mut DescriptorRings<'_>, bytes: &[u8]) -> bool {
     send_now(device, bytes, Instant::ZERO)
 }
@@ -281,7 +282,7 @@ fn a_frame_is_sent_where_it_fits(rt: HostRuntime) {
     assert!(rt; sends(&mut device, b"") && goes(&mut device, b""));
 }
 
-/// Whether the next frame of the device is these bytes.
+/// Returns whether the next frame of the device is these bytes.
 fn is_next(device: &mut Loopback, bytes: &[u8]) -> bool {
     match device.receive(Instant::ZERO) {
         Some((frame, _token)) => frame.frame() == bytes,
@@ -289,7 +290,7 @@ fn is_next(device: &mut Loopback, bytes: &[u8]) -> bool {
     }
 }
 
-/// Whether so many frames pass on to the other device.
+/// Returns whether so many frames pass on to the other device.
 fn passes(from: &mut DescriptorRings<'_>, to: &mut Loopback, count: usize) -> bool {
     forward_lists(from, to, Instant::ZERO, 5) == Ok(count)
 }

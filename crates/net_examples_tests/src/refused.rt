@@ -1,7 +1,8 @@
+//! How many requests for memory a list takes.
 use net_testing::refuse_each;
 use std::alloc::{AllocError, Global};
 
-/// How many requests for memory it takes to make a list of three bytes.
+/// Returns how many requests for memory it takes to make a list of three bytes.
 pub fn requests_for_a_list(alloc: Global) -> Option<usize> {
     refuse_each(alloc, |memory| {
         let bytes: Result<Vec<u8, _>, AllocError> = Vec::from_slice(memory, b"abc");

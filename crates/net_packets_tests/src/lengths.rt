@@ -2,12 +2,12 @@
 use net_packets::{PacketBuffer, PacketMetadata};
 use net_ring::ManagedSlice;
 
-/// Whether a packet of so many bytes comes last.
+/// Returns whether a packet of so many bytes comes last.
 fn takes(queue: &mut PacketBuffer<'_, u8>, size: usize) -> bool {
     queue.place(size, 0).is_ok()
 }
 
-/// Whether a queue has so many packets, in so many slots.
+/// Returns whether a queue has so many packets, in so many slots.
 fn has(queue: &PacketBuffer<'_, u8>, packets: usize, slots: usize) -> bool {
     queue.len() == packets && queue.slots_used() == slots
 }

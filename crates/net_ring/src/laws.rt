@@ -12,8 +12,8 @@ ghost use Rattle.net_ring.specs.Overwrite.{overwrite};
 use crate::error::{Empty, Full};
 use crate::ring_buffer::laws::overwritten;
 
-/// A list that was written over has, at an index, the element that was written there, or the old
-/// one if none was; and as many elements as before.
+/// States that a list that was written over has, at an index, the element that was written there,
+/// or the old one if none was; and as many elements as before.
 pub fn element_after_overwrite<T>()
     ensures length { (xs ys ws : List T) (i : ℕ) → ys ≡ overwrite xs i ws →
         length ys ≡ length xs }
@@ -31,8 +31,8 @@ pub fn element_after_overwrite<T>()
     overwritten::<T>();
 }
 
-/// A list of which one element was written over is the list with that element set: the element is
-/// there, and the others are as they were.
+/// States that a list of which one element was written over is the list with that element set: the
+/// element is there, and the others are as they were.
 pub fn element_set<T>()
     ensures set { (xs ys : List T) (i : ℕ) (x : T) → ys ≡ overwrite xs i (x ∷ []) →
         ys ≡ slice_set xs i x }
@@ -42,13 +42,13 @@ pub fn element_set<T>()
         k ≢ i → slice_get ys k ≡ slice_get xs k }
 {}
 
-/// Two refusals of an enqueue are equal, and a clone of one is never refused.
+/// States that two refusals of an enqueue are equal, and a clone of one is never refused.
 pub fn full(x: &Full, y: &Full)
     ensures equal { IsTrue (⟦<Full as PartialEq>⟧.eq x.now y.now) }
     ensures never_refused { ⟦<Full as Clone>⟧.is_infallible x.now }
 {}
 
-/// Two refusals of a dequeue are equal, and a clone of one is never refused.
+/// States that two refusals of a dequeue are equal, and a clone of one is never refused.
 pub fn empty(x: &Empty, y: &Empty)
     ensures equal { IsTrue (⟦<Empty as PartialEq>⟧.eq x.now y.now) }
     ensures never_refused { ⟦<Empty as Clone>⟧.is_infallible x.now }

@@ -9,13 +9,13 @@ use std::ops::IndexMut;
 
 /// A list of elements, parts of which can be shown and lent: the storage of a ring.
 pub trait Storage<T> {
-    // The elements, in order.
+    /// The elements, in order.
     ghost elements: { Self → List T };
 
-    // The value with a list written over its elements from an index on.
+    /// The value with a list written over its elements from an index on.
     ghost with_part: { Self → ℕ → List T → Self };
 
-    // The value with one element replaced.
+    /// The value with one element replaced.
     ghost with_element: { Self → ℕ → T → Self };
 
     /// Returns how many elements there are.
@@ -62,15 +62,15 @@ pub trait Storage<T> {
         requires count { at < length (elements self.now) }
         ensures { slice_get (elements self.now) at ≡ Some result.now };
 
-    // The elements after a list was written over a part.
+    /// The elements after a list was written over a part.
     ghost part_written: { (s : Self) (i : ℕ) (ws : List T) →
         elements (with_part s i ws) ≡ overwrite (elements s) i ws };
 
-    // The elements after one was replaced.
+    /// The elements after one was replaced.
     ghost element_written: { (s : Self) (i : ℕ) (w : T) →
         elements (with_element s i w) ≡ overwrite (elements s) i (w ∷ []) };
 
-    // The same, as a list of which one element is set.
+    /// The same, as a list of which one element is set.
     ghost element_set: { (s : Self) (i : ℕ) (w : T) →
         elements (with_element s i w) ≡ slice_set (elements s) i w };
 }

@@ -9,17 +9,17 @@ fn fills(ring: &mut RingBuffer<'_, u8>) -> bool {
     taken && pushes(ring, 1) && pushes(ring, 2) && pushes(ring, 3)
 }
 
-/// Whether a ring takes an element.
+/// Returns whether a ring takes an element.
 fn pushes(ring: &mut RingBuffer<'_, u8>, element: u8) -> bool {
     ring.push_one(element).is_ok()
 }
 
-/// Whether the first and the last element of the queue are these.
+/// Returns whether the first and the last element of the queue are these.
 fn has_ends(ring: &RingBuffer<'_, u8>, front: Option<u8>, back: Option<u8>) -> bool {
     ring.front().copied() == front && ring.back().copied() == back
 }
 
-/// Whether the element at an index of the queue is this.
+/// Returns whether the element at an index of the queue is this.
 fn has_at(ring: &RingBuffer<'_, u8>, index: usize, element: Option<u8>) -> bool {
     ring.get(index).copied() == element
 }

@@ -64,7 +64,7 @@ pub fn forward<A: Device, B: Device>(
     Ok(max)
 }
 
-/// As `forward`, between devices whose frames are in lists, of which it says what passed as
+/// Does as `forward` does, between devices whose frames are in lists, and says what passed as
 /// lists.
 pub fn forward_lists<A: FrameLists, B: FrameLists>(
     from: &mut A,

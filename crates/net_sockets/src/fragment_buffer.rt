@@ -70,7 +70,7 @@ impl<B: Storage<u8>, const N: usize> Model for FragmentsOver<B, N> {
 }
 
 impl<B: Storage<u8>, const N: usize> FragmentsOver<B, N> {
-    /// A packet of which nothing came, which is waited for up to `expires_at`.
+    /// Returns a packet of which nothing came, which is waited for up to `expires_at`.
     ///
     /// # Requires
     ///
@@ -89,7 +89,7 @@ impl<B: Storage<u8>, const N: usize> FragmentsOver<B, N> {
         }
     }
 
-    /// A fragment comes, whose first byte is that of the packet at `offset`.
+    /// Adds a fragment, whose first byte is that of the packet at `offset`.
     ///
     /// It is refused, and nothing changes, exactly if it reaches past the buffer's end, which is
     /// `TooLong`, or would leave more than `N` maximal runs.
@@ -114,8 +114,8 @@ impl<B: Storage<u8>, const N: usize> FragmentsOver<B, N> {
         Ok(())
     }
 
-    /// The packet has `size` bytes. Another size that was given before is forgotten, which smoltcp
-    /// refuses.
+    /// Sets the packet's size to `size` bytes. Another size that was set before is forgotten, where
+    /// smoltcp refuses.
     ///
     /// It is refused as `TooLong`, and nothing changes, exactly if the buffer has fewer bytes.
     pub fn set_total_size(&mut self, size: usize) -> Result<(), FragmentError>
@@ -131,8 +131,8 @@ impl<B: Storage<u8>, const N: usize> FragmentsOver<B, N> {
         Ok(())
     }
 
-    /// The bytes of the packet. `None` exactly if its size is not known or one of its bytes is
-    /// missing.
+    /// Shows the bytes of the packet. `None` exactly if its size is not known or one of its bytes
+    /// is missing.
     pub fn assemble(&self) -> Option<&[u8]>
         ensures complete { IsSome result ↔ ((size : ℕ) × IsComplete self.now size) }
         ensures bytes { IfSome result
@@ -146,7 +146,7 @@ impl<B: Storage<u8>, const N: usize> FragmentsOver<B, N> {
         Some(self.bytes.part(0, total))
     }
 
-    /// Whether `now` is after the moment up to which the packet is waited for.
+    /// Returns whether `now` is after the moment up to which the packet is waited for.
     pub fn is_expired(&self, now: Instant) -> bool
         ensures { IsTrue result ↔ (self.now.expires_at <ℤ now) }
     {

@@ -33,7 +33,7 @@ impl<M: Storage<PacketMetadata<Endpoint>>, B: Storage<u8>> Model for Inbox<M, B>
 impl<M: Storage<PacketMetadata<Endpoint>>, B: Storage<u8>> Inbox<M, B> {
     ghost use Rattle.net_sockets.specs.InboxLends.{stays};
 
-    /// An inbox of the packets of the queue.
+    /// Returns an inbox of the packets of the queue.
     pub fn new(queue: PacketsOver<Endpoint, M, B>) -> Self
         ensures { result ≡ contents queue }
     {

@@ -39,8 +39,8 @@ impl<'a> Model for UdpSocket<'a> {
 }
 
 impl<'a> UdpSocket<'a> {
-    /// A socket over two queues: the packets of `inbound` were received, and those of `outbound` are
-    /// to be sent.
+    /// Returns a socket over two queues: the packets of `inbound` were received, and those of
+    /// `outbound` are to be sent.
     pub fn new(inbound: PacketBuffer<'a, Endpoint>, outbound: PacketBuffer<'a, Endpoint>) -> Self
         ensures inbound { result.inbound ≡ inbound.entry }
         ensures outbound { result.outbound ≡ outbound.entry }
@@ -48,7 +48,7 @@ impl<'a> UdpSocket<'a> {
         UdpSocket { inbound, outbound }
     }
 
-    /// A datagram of the bytes `data` comes to the end of those to be sent. Any endpoint is taken.
+    /// Puts a datagram of the bytes `data` at the end of those to be sent. Any endpoint is taken.
     ///
     /// `Full` changes nothing. It is returned exactly if the queue can't place a packet of so many
     /// bytes: if it has no slot free for it and for the gap that it may need, or not so many
@@ -103,7 +103,7 @@ impl<'a> UdpSocket<'a> {
         copy_first(&mut self.inbound, into)
     }
 
-    /// Whether a datagram was received that was not taken off.
+    /// Returns whether a datagram was received that was not taken off.
     pub fn can_recv(&self) -> bool
         ensures { result ≡ not (length (inbound_datagrams self.now) == 0) }
     {
@@ -111,8 +111,8 @@ impl<'a> UdpSocket<'a> {
         !self.inbound.is_empty()
     }
 
-    /// Whether a slot is free for a datagram to be sent. `send_slice` can still return `Full`, for
-    /// want of bytes.
+    /// Returns whether a slot is free for a datagram to be sent. `send_slice` can still return
+    /// `Full`, for want of bytes.
     pub fn can_send(&self) -> bool
         ensures slot { IsTrue result ↔ (slots_used self.now.outbound.packets
             < self.now.outbound.slot_count) }
@@ -121,7 +121,7 @@ impl<'a> UdpSocket<'a> {
         !self.outbound.is_full()
     }
 
-    /// A datagram came in: it comes to the end of those that were received. Returns false, drops it
+    /// Puts a datagram that came in at the end of those that were received. Returns false, drops it
     /// and changes nothing, exactly if the queue can't place a packet of so many bytes.
     pub fn process(&mut self, from: Endpoint, data: &[u8]) -> bool
         ensures outbound { self.new.outbound ≡ self.old.outbound }
@@ -161,7 +161,7 @@ impl<'a> UdpSocket<'a> {
     }
 }
 
-/// A packet with a copy of `data` comes last, or nothing changes.
+/// Puts a packet with a copy of `data` last, or changes nothing.
 fn put(queue: &mut PacketBuffer<'_, Endpoint>, endpoint: Endpoint, data: &[u8]) -> Result<(), Full>
     ensures full { IsErr result ↔ (placement queue.old (length «data».now) ≡ None) }
     ensures unchanged { OnErr result (queue.new ≡ queue.old) }
@@ -174,7 +174,7 @@ fn put(queue: &mut PacketBuffer<'_, Endpoint>, endpoint: Endpoint, data: &[u8]) 
     queue.push_slice(endpoint, data)
 }
 
-/// The bytes of the first packet are copied as far as `into` has room.
+/// Copies the bytes of the first packet as far as `into` has room.
 fn copy_first(
     queue: &mut PacketBuffer<'_, Endpoint>,
     into: &mut [u8],
@@ -193,7 +193,7 @@ fn copy_first(
     Ok((count, *header))
 }
 
-/// The first packet is handed to `emit`, and taken off if that returns `Ok`.
+/// Hands the first packet to `emit`, and takes it off if that returns `Ok`.
 fn hand<R, E, F: FnOnce(Endpoint, &[u8]) -> Result<R, E>>(
     queue: &mut PacketBuffer<'_, Endpoint>,
     emit: F,

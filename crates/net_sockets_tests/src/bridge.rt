@@ -1,3 +1,4 @@
+//! Frames from one device to another.
 ghost use Rattle.std.specs.Prelude.{◌≡◌, ◌∷◌, ◌++◌, []};
 ghost use Rattle.net_base.specs.Loopback.{loopback_capabilities};
 
@@ -35,7 +36,7 @@ fn sends_three(device: &mut Loopback) -> Result<bool, AllocError> {
     Ok(true)
 }
 
-/// Whether the next three frames are those.
+/// Returns whether the next three frames are those.
 fn gives_three(device: &mut Loopback) -> bool {
     for byte in [b'a', b'b', b'c'] {
         if !gives(device, Instant::ZERO, 1, byte) {
@@ -45,7 +46,8 @@ fn gives_three(device: &mut Loopback) -> bool {
     true
 }
 
-/// Whether two of these frames pass where two may, then the last where five may, and then none.
+/// Returns whether two of these frames pass where two may, then the last where five may, and then
+/// none.
 fn passes_three(from: &mut Loopback, to: &mut Loopback) -> Result<bool, AllocError> {
     Ok(
         forward(from, to, Instant::ZERO, 2)? == 2
@@ -113,7 +115,7 @@ fn sends_many(device: &mut Loopback, count: usize) -> Result<bool, AllocError> {
     Ok(true)
 }
 
-/// Whether so many frames come as they were sent, and no other.
+/// Returns whether so many frames come as they were sent, and no other.
 fn gives_many(device: &mut Loopback, count: usize) -> bool {
     for length in 0..count {
         if !gives(device, Instant::ZERO, length, 7) {
@@ -189,7 +191,7 @@ impl Device for Noting {
     }
 }
 
-/// Such a device, with no frames.
+/// Returns such a device, with no frames.
 fn without_frames(alloc: Global) -> Noting {
     Noting {
         device: Loopback::new(alloc, Medium::Ip),
@@ -199,7 +201,7 @@ fn without_frames(alloc: Global) -> Noting {
     }
 }
 
-/// Whether both devices are asked at so many microseconds, by one bridge or the other.
+/// Returns whether both devices are asked at so many microseconds, by one bridge or the other.
 fn are_asked_at(from: &mut Noting, to: &mut Noting, micros: i64, many: bool) -> bool {
     let now = Instant::from_micros(micros);
     let stopped = if many {
@@ -221,7 +223,8 @@ fn both_devices_are_asked_at_the_moment_that_was_given(rt: HostRuntime) {
     }
 }
 
-/// Whether a frame passes, and the device that it goes to is asked for room once, and the other one never.
+/// Returns whether a frame passes, and the device that it goes to is asked for room once, and the
+/// other one never.
 fn asks_once(from: &mut Noting, to: &mut Noting) -> Result<bool, AllocError> {
     let rooms = to.rooms;
     let passed = sends(&mut from.device, Instant::ZERO, 9, 7)?

@@ -1,3 +1,4 @@
+//! Endpoints, compared.
 use crate::assertions::assert_holds;
 use net_sockets::Endpoint;
 
@@ -9,7 +10,7 @@ static PAIRS: [((u32, u16), (u32, u16), bool); 4] = [
     ((0, 65_535), (0, 0), false),
 ];
 
-/// The endpoint of an address and a port.
+/// Returns the endpoint of an address and a port.
 fn endpoint((address, port): (u32, u16)) -> Endpoint {
     Endpoint { address, port }
 }

@@ -1,3 +1,4 @@
+//! Packets that come in fragments.
 use crate::assertions::assert_holds;
 use net_base::time::Instant;
 use net_sockets::{FragmentError, FragmentsOver};

@@ -1,9 +1,10 @@
+//! A datagram that is shown in place.
 use crate::assertions::assert_holds;
 use net_packets::{PacketMetadata, PacketsOver};
 use net_ring::Empty;
 use net_sockets::{Endpoint, Inbox};
 
-/// Whether an inbox shows this datagram as its first.
+/// Returns whether an inbox shows this datagram as its first.
 fn shows(
     inbox: &mut Inbox<&mut [PacketMetadata<Endpoint>], &mut [u8]>,
     from: Endpoint,

@@ -16,25 +16,25 @@ const ENDPOINT: Endpoint = Endpoint {
     port: 53,
 };
 
-/// Whether a ring over the storage takes two bytes.
+/// Returns whether a ring over the storage takes two bytes.
 fn ring_takes(bytes: ManagedSlice<'_, u8>) -> bool {
     let mut ring = RingBuffer::new(bytes);
     ring.enqueue_slice(b"hi") == 2 && ring.len() == 2
 }
 
-/// Whether a queue over the storage takes a datagram.
+/// Returns whether a queue over the storage takes a datagram.
 fn queue_takes(slots: Slots<'_>, bytes: ManagedSlice<'_, u8>) -> bool {
     let mut queue = PacketBuffer::new(slots, bytes);
     queue.push_slice(ENDPOINT, b"hi").is_ok() && !queue.is_empty()
 }
 
-/// Whether an inbox over the storage is empty.
+/// Returns whether an inbox over the storage is empty.
 fn inbox_is_empty(slots: Slots<'_>, bytes: ManagedSlice<'_, u8>) -> bool {
     let mut inbox = Inbox::new(PacketBuffer::new(slots, bytes));
     inbox.first().is_err()
 }
 
-/// Whether a socket takes a datagram to send, over storage of two queues.
+/// Returns whether a socket takes a datagram to send, over storage of two queues.
 fn socket_sends(
     slots_in: Slots<'_>,
     bytes_in: ManagedSlice<'_, u8>,
@@ -47,7 +47,7 @@ fn socket_sends(
     socket.send_slice(b"hi", ENDPOINT).is_ok()
 }
 
-/// Whether a socket over lent storage takes a datagram to send.
+/// Returns whether a socket over lent storage takes a datagram to send.
 fn lent_socket_sends() -> bool {
     let mut slots_in = [PacketMetadata::<Endpoint>::EMPTY; 1];
     let mut slots_out = [PacketMetadata::<Endpoint>::EMPTY; 1];
@@ -61,18 +61,18 @@ fn lent_socket_sends() -> bool {
     )
 }
 
-/// A slot, on the heap.
+/// Returns a slot, on the heap.
 fn owned_slots(alloc: Global) -> Result<Slots<'static>, AllocError> {
     let slots = vec![in alloc; PacketMetadata::<Endpoint>::EMPTY; 1]?;
     Ok(ManagedSlice::Owned(slots))
 }
 
-/// Two bytes, on the heap.
+/// Returns two bytes, on the heap.
 fn owned_bytes(alloc: Global) -> Result<ManagedSlice<'static, u8>, AllocError> {
     Ok(ManagedSlice::Owned([0u8; 2].to_vec(alloc)?))
 }
 
-/// Whether a packet over lent bytes comes whole.
+/// Returns whether a packet over lent bytes comes whole.
 fn lent_packet_is_whole(bytes: &mut [u8]) -> bool {
     let mut packet = FragmentBuffer::<4>::new(ManagedSlice::Borrowed(bytes), Instant::ZERO);
     packet.add(0, b"hi").is_ok()
@@ -80,7 +80,7 @@ fn lent_packet_is_whole(bytes: &mut [u8]) -> bool {
         && packet.assemble() == Some(b"hi".as_slice())
 }
 
-/// Whether a packet over owned bytes comes whole.
+/// Returns whether a packet over owned bytes comes whole.
 fn owned_packet_is_whole(bytes: Vec<u8>) -> bool {
     let mut packet = FragmentBuffer::<4>::new(ManagedSlice::Owned(bytes), Instant::ZERO);
     packet.add(0, b"hi").is_ok()

@@ -1,3 +1,4 @@
+//! Datagrams that are sent and received.
 use crate::assertions::assert_holds;
 use net_packets::{PacketBuffer, PacketMetadata};
 use net_ring::{Empty, ManagedSlice};
@@ -9,7 +10,7 @@ const SERVER: Endpoint = Endpoint {
     port: 53,
 };
 
-/// A queue of datagrams over lent slots and bytes.
+/// Returns a queue of datagrams over lent slots and bytes.
 fn queue_over<'a>(
     slots: &'a mut [PacketMetadata<Endpoint>],
     bytes: &'a mut [u8],
@@ -17,18 +18,18 @@ fn queue_over<'a>(
     PacketBuffer::<Endpoint>::new(ManagedSlice::Borrowed(slots), ManagedSlice::Borrowed(bytes))
 }
 
-/// Whether a datagram to be sent is taken.
+/// Returns whether a datagram to be sent is taken.
 fn sends(socket: &mut UdpSocket<'_>, to: Endpoint, data: &[u8]) -> bool {
     socket.can_send() && socket.send_slice(data, to).is_ok()
 }
 
-/// Whether a link that is busy is handed a datagram.
+/// Returns whether a link that is busy is handed a datagram.
 fn is_handed_on(socket: &mut UdpSocket<'_>) -> bool {
     let refused = socket.dispatch(|_to: Endpoint, _bytes: &[u8]| Result::<(), u8>::Err(1));
     matches!(refused, Ok(Err(1)))
 }
 
-/// Whether a link is handed this datagram, and takes it.
+/// Returns whether a link is handed this datagram, and takes it.
 fn takes(socket: &mut UdpSocket<'_>, port: u16, data: &[u8]) -> bool {
     let sent = socket.dispatch(|to: Endpoint, bytes: &[u8]| {
         Result::<bool, u8>::Ok(to.port == port && bytes == data)
@@ -36,23 +37,23 @@ fn takes(socket: &mut UdpSocket<'_>, port: u16, data: &[u8]) -> bool {
     matches!(sent, Ok(Ok(true)))
 }
 
-/// Whether there is nothing to be sent.
+/// Returns whether there is nothing to be sent.
 fn is_idle(socket: &mut UdpSocket<'_>) -> bool {
     let idle = socket.dispatch(|_to: Endpoint, _bytes: &[u8]| Result::<(), u8>::Ok(()));
     matches!(idle, Err(Empty))
 }
 
-/// Whether `into` is given these bytes, of the first datagram received, which is taken off.
+/// Returns whether `into` is given these bytes, of the first datagram received, which is taken off.
 fn gives(socket: &mut UdpSocket<'_>, into: &mut [u8], bytes: &[u8]) -> bool {
     socket.recv_slice(into) == Ok((bytes.len(), SERVER)) && &*into == bytes
 }
 
-/// Whether there is nothing that was received.
+/// Returns whether there is nothing that was received.
 fn gives_nothing(socket: &mut UdpSocket<'_>) -> bool {
     !socket.can_recv() && socket.recv_slice(&mut [0u8; 2]).is_err()
 }
 
-/// A question goes out once the link takes it.
+/// Sends a question, which goes out once the link takes it.
 fn asks(socket: &mut UdpSocket<'_>) -> bool {
     sends(socket, SERVER, b"who?")
         && socket.send_slice(b"too long", SERVER).is_err()
@@ -61,7 +62,7 @@ fn asks(socket: &mut UdpSocket<'_>) -> bool {
         && is_idle(socket)
 }
 
-/// A datagram comes in, longer than was expected, and one more for which there is no room.
+/// Takes a datagram in, longer than was expected, and one more for which there is no room.
 fn is_replied_to(socket: &mut UdpSocket<'_>) -> bool {
     socket.process(SERVER, b"me, me")
         && !socket.process(SERVER, b"and me")
@@ -85,7 +86,7 @@ fn a_question_goes_out_and_its_answer_comes_in(rt: HostRuntime) {
     assert_holds(&rt, is_replied_to(&mut socket), ("replied to", 0));
 }
 
-/// The bytes of a datagram of so many, at most 32.
+/// Returns the bytes of a datagram of so many, at most 32.
 fn datagram(size: usize) -> &'static [u8] {
     [7u8; 32].get(..size).unwrap_or(&[])
 }
@@ -111,12 +112,12 @@ fn goes_out(socket: &mut UdpSocket<'_>, sizes: &[usize], refused: usize) -> bool
     is_full && is_idle(socket)
 }
 
-/// Whether a datagram of so many bytes is taken off.
+/// Returns whether a datagram of so many bytes is taken off.
 fn receives(socket: &mut UdpSocket<'_>, size: usize) -> bool {
     socket.recv_slice(&mut [0u8; 32]) == Ok((size, SERVER))
 }
 
-/// The same of datagrams that come in.
+/// Does the same with datagrams that come in.
 fn comes_in(socket: &mut UdpSocket<'_>, sizes: &[usize], refused: usize) -> bool {
     for &size in sizes {
         if !socket.process(SERVER, datagram(size)) {

@@ -15,9 +15,9 @@ pub use net_assembler::laws::{
 };
 pub use net_ring::laws::{element_after_overwrite, element_set};
 
-/// A buffer that is written over wherever lists come, with the set of the positions that were: one
-/// more write and its range keep the two true to the writes, and below the front of the set no
-/// element is missing.
+/// States that a buffer that is written over wherever lists come, and the set of the positions that
+/// were, stay true to the writes with one more write and its range, and that below the front of the
+/// set no element is missing.
 pub fn reassembling<T>()
     ensures none { (buffer : List T) → Reassembles [] buffer nothing }
     ensures more { (writes : List (ℕ × List T)) (offset : ℕ) (xs old new : List T)

@@ -18,8 +18,9 @@ ghost use Rattle.net_assembler.specs.AssemblerLaws.{IteratesMaximalRuns, EnoughB
 
 use super::{Assembler, TooManyHolesError};
 
-/// Two sets are equal exactly if they have the same members, and what the members are of the empty
-/// set, of the set of a list, of a set with a range, and of a set that was shifted down or up.
+/// States that two sets are equal exactly if they have the same members, and what the members are
+/// of the empty set, of the set of a list, of a set with a range, and of a set that was shifted
+/// down or up.
 pub fn members()
     ensures equal { EqualSets }
     ensures nothing { MembersOfNothing }
@@ -29,92 +30,93 @@ pub fn members()
     ensures shifted_up { MembersShiftedUp }
 {}
 
-/// The first missing position from any position on is the least one from there on that is not in
-/// the set.
+/// States that the first missing position from any position on is the least one from there on that
+/// is not in the set.
 pub fn first_missing()
     ensures { FirstMissingIsLeast }
 {}
 
-/// The front of a set is the least position that is not in it.
+/// States that the front of a set is the least position that is not in it.
 pub fn front()
     ensures { FrontIsLeastMissing }
 {}
 
-/// The list of maximal runs has, for every set, exactly its maximal runs: each position of the
-/// set is in exactly one of them, they rise with a hole between neighbours, and there are as many
-/// as the set has positions that begin a run.
+/// States that the list of maximal runs has, for every set, exactly its maximal runs: each position
+/// of the set is in exactly one of them, they rise with a hole between neighbours, and there are as
+/// many as the set has positions that begin a run.
 pub fn maximal_runs()
     ensures { MaximalRunsOfEverySet }
 {}
 
-/// What `run_at` returns is a maximal run of the set, and it returns None exactly if the set has
-/// no more runs than the number that is asked for.
+/// States that what `run_at` returns is a maximal run of the set, and it returns None exactly if
+/// the set has no more runs than the number that is asked for.
 pub fn maximal_runs_by_number()
     ensures { MaximalRunsByNumber }
 {}
 
-/// Two sets are equal exactly if their lists of maximal runs are.
+/// States that two sets are equal exactly if their lists of maximal runs are.
 pub fn equal_maximal_runs()
     ensures { EqualMaximalRuns }
 {}
 
-/// A set that was shifted up has its maximal runs shifted up, and so as many of them.
+/// States that a set that was shifted up has its maximal runs shifted up, and so as many of them.
 pub fn shifted_up()
     ensures maximal_runs { MaximalRunsShiftedUp }
     ensures number { AsManyRunsShiftedUp }
 {}
 
-/// Two assemblers are equal exactly if their sets have the same members.
+/// States that two assemblers are equal exactly if their sets have the same members.
 pub fn equal_assemblers()
     ensures { EqualAssemblers }
 {}
 
-/// To add an accepted range again is accepted and changes nothing.
+/// States that to add an accepted range again is accepted and changes nothing.
 pub fn adding_again()
     ensures set { RangeAgain }
     ensures calls { AddingAgain }
 {}
 
-/// The empty set has no run, and a range makes at most one run more. So a range is accepted if
-/// there are fewer than `N` runs.
+/// States that the empty set has no run, and a range makes at most one run more. So a range is
+/// accepted if there are fewer than `N` runs.
 pub fn number_of_runs()
     ensures of_nothing { NothingHasNoRun }
     ensures with_range { OneRunMore }
 {}
 
-/// Two ranges that are accepted in both orders leave equal assemblers.
+/// States that two ranges that are accepted in both orders leave equal assemblers.
 pub fn adding_in_both_orders()
     ensures { AddingInBothOrders }
 {}
 
-/// `add_then_remove_front` does what `add` and then `remove_front` do whenever that `add` is
-/// accepted, and with offset 0 it is never refused.
+/// States that `add_then_remove_front` does what `add` and then `remove_front` do whenever that
+/// `add` is accepted, and with offset 0 it is never refused.
 pub fn adding_then_removing()
     ensures same { AddingThenRemoving }
     ensures at_zero { RangeAtZeroIsNeverRefused }
 {}
 
-/// `iter_data` gives the maximal runs, at most as many as the assembler has room for, and ends.
+/// States that `iter_data` gives the maximal runs, at most as many as the assembler has room for,
+/// and ends.
 pub fn iterating()
     ensures { IteratesMaximalRuns }
 {}
 
-/// What bounds the looks of `add_counted`: b binary digits are enough exactly for the numbers below
-/// 2 to the power b, so 4 has 3 of them, and 32 has 6.
+/// States what bounds the looks of `add_counted`: b binary digits are enough exactly for the
+/// numbers below 2 to the power b, so 4 has 3 of them, and 32 has 6.
 pub fn counting_binary_digits()
     ensures enough { EnoughBinaryDigits }
     ensures of_4 { binary_digits 4 ≡ 3 }
     ensures of_32 { binary_digits 32 ≡ 6 }
 {}
 
-/// A clone of an assembler is the same set, and is never refused.
+/// States that a clone of an assembler is the same set, and is never refused.
 pub fn assembler_clone<const N: usize>(assembler: &Assembler<N>, clone: &Assembler<N>)
     ensures same { ⟦<Assembler<N> as Clone>⟧.is_clone assembler.now clone.now
         → clone.now ≡ assembler.now }
     ensures never_refused { ⟦<Assembler<N> as Clone>⟧.is_infallible assembler.now }
 {}
 
-/// Two refusals are equal, and a clone of one is never refused.
+/// States that two refusals are equal, and a clone of one is never refused.
 pub fn too_many_holes(x: &TooManyHolesError, y: &TooManyHolesError)
     ensures equal { IsTrue (⟦<TooManyHolesError as PartialEq>⟧.eq x.now y.now) }
     ensures never_refused { ⟦<TooManyHolesError as Clone>⟧.is_infallible x.now }

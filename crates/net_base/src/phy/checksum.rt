@@ -1,3 +1,4 @@
+//! What the stack does about the checksums of one protocol.
 ghost use Rattle.std.specs.Prelude.{◌≡◌};
 ghost use Rattle.net_base.specs.Checksum.{is_verified, is_computed};
 
@@ -16,14 +17,14 @@ pub enum Checksum {
 }
 
 impl Checksum {
-    /// Whether checksums are verified when receiving.
+    /// Returns whether checksums are verified when receiving.
     pub fn rx(&self) -> bool
         ensures { result ≡ is_verified self.now }
     {
         matches!(self, Checksum::Both | Checksum::Rx)
     }
 
-    /// Whether checksums are computed when sending.
+    /// Returns whether checksums are computed when sending.
     pub fn tx(&self) -> bool
         ensures { result ≡ is_computed self.now }
     {

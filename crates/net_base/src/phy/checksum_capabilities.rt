@@ -1,3 +1,4 @@
+//! What the stack does about the checksums of all protocols.
 ghost use Rattle.std.specs.Prelude.{◌≡◌};
 ghost use Rattle.net_base.specs.Checksum.{no_checksums};
 
@@ -20,7 +21,8 @@ pub struct ChecksumCapabilities {
 }
 
 impl ChecksumCapabilities {
-    /// The capabilities under which the stack verifies and computes no checksum of any protocol.
+    /// Returns the capabilities under which the stack verifies and computes no checksum of any
+    /// protocol.
     pub fn ignored() -> ChecksumCapabilities
         ensures { result ≡ no_checksums }
     {

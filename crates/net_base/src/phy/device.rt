@@ -1,3 +1,4 @@
+//! The trait of a network device.
 ghost use Rattle.std.specs.Prelude.{◌≡◌, ℕ, List, length, replicate};
 ghost use Rattle.std.specs.Prelude.{MatchOption, IfNone, IfSome, IfOk, OnErr};
 ghost use Rattle.std.specs.Fn.{FnOnceReturnsAtMut, FnOnceTakesAtMut};
@@ -60,9 +61,9 @@ pub trait Device {
         ensures { MatchOption result (is_idle self.old × idled self.old self.new)
             (λ tokens. taken self.old (Self.RxToken.bytes tokens.0) self.new) };
 
-    /// A token to send one frame with. Returns `None` only if `is_busy` holds of the device, and a
-    /// token only if `is_free` does, as the device states them. The device stays as it was in both
-    /// cases.
+    /// Returns a token to send one frame with. Returns `None` only if `is_busy` holds of the
+    /// device, and a token only if `is_free` does, as the device states them. The device stays as
+    /// it was in both cases.
     ///
     /// The timestamp is the moment of the call. Any moment is allowed.
     fn transmit(&mut self, timestamp: Instant) -> Option<Self::TxToken>
@@ -70,7 +71,7 @@ pub trait Device {
         ensures some { IfSome result (λ _. is_free self.old) }
         ensures unchanged { self.new ≡ self.old };
 
-    /// What the device can do.
+    /// Returns what the device can do.
     fn capabilities(&self) -> DeviceCapabilities
         ensures { result ≡ abilities self.now };
 

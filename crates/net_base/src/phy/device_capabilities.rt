@@ -1,3 +1,4 @@
+//! What a device can do.
 ghost use Rattle.std.specs.Prelude.{◌≡◌, ◌↔◌, IsTrue};
 ghost use Rattle.net_base.specs.DeviceCapabilities.{HasIpMtu, ip_mtu_of};
 ghost use Rattle.net_base.specs.DeviceCapabilities.{FitsIpHeader, fragment_size_of};
@@ -30,7 +31,8 @@ pub struct DeviceCapabilities {
 }
 
 impl DeviceCapabilities {
-    /// Whether the longest frame has room for the header of its medium, which `ip_mtu` needs.
+    /// Returns whether the longest frame has room for the header of its medium, which `ip_mtu`
+    /// needs.
     pub fn has_ip_mtu(&self) -> bool
         ensures { IsTrue result ↔ HasIpMtu self.now }
     {
@@ -40,7 +42,7 @@ impl DeviceCapabilities {
         }
     }
 
-    /// The bytes of the longest IP packet: those of the longest frame, less 14 on Ethernet.
+    /// Returns the bytes of the longest IP packet: those of the longest frame, less 14 on Ethernet.
     ///
     /// # Requires
     ///
@@ -55,7 +57,7 @@ impl DeviceCapabilities {
         }
     }
 
-    /// Whether the longest IP packet has room for an IP header of so many bytes, which
+    /// Returns whether the longest IP packet has room for an IP header of so many bytes, which
     /// `max_ipv4_fragment_size` needs.
     pub fn fits_ip_header(&self, ip_header_len: usize) -> bool
         ensures { IsTrue result ↔ FitsIpHeader self.now ip_header_len }
@@ -63,8 +65,8 @@ impl DeviceCapabilities {
         self.has_ip_mtu() && ip_header_len <= self.ip_mtu()
     }
 
-    /// The bytes of the longest payload of an IPv4 fragment after an IP header of so many bytes:
-    /// what is left of the longest IP packet, down to a multiple of 8.
+    /// Returns the bytes of the longest payload of an IPv4 fragment after an IP header of so many
+    /// bytes: what is left of the longest IP packet, down to a multiple of 8.
     ///
     /// # Requires
     ///

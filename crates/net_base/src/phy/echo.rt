@@ -1,3 +1,4 @@
+//! A frame that is sent back, on any device.
 ghost use Rattle.std.specs.Prelude.{◌≡◌, ℕ, List, length, OnErr, Ok, true, false};
 ghost use Rattle.net_base.specs.Device.{Echoes};
 

@@ -1,3 +1,4 @@
+//! The trait of a device whose frames are in lists.
 ghost use Rattle.std.specs.Prelude.{◌≡◌, ◌∷◌, ◌++◌, [], ℕ, List};
 
 use crate::phy::Device;

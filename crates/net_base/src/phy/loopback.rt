@@ -38,7 +38,8 @@ impl<A: Allocator + Copy> Model for Loopback<A> {
 }
 
 impl<A: Allocator + Copy> Loopback<A> {
-    /// A device with no frames, which stores `alloc` for those to come and takes no memory yet.
+    /// Returns a device with no frames, which stores `alloc` for those to come and takes no memory
+    /// yet.
     pub fn new(alloc: A, medium: Medium) -> Loopback<A>
         ensures { result ≡ record { medium = medium; frames = [] } }
     {
@@ -79,7 +80,7 @@ impl<A: Allocator + Copy> Device for Loopback<A> {
         Some(TxToken(()))
     }
 
-    /// The given medium, frames of 65535 bytes, no checksums, bursts without a limit and no
+    /// Returns the given medium, frames of 65535 bytes, no checksums, bursts without a limit and no
     /// segmentation.
     fn capabilities(&self) -> DeviceCapabilities {
         DeviceCapabilities {

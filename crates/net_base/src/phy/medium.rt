@@ -1,3 +1,5 @@
+//! The medium of a device.
+
 /// What the frames of a device are.
 #[derive(Debug, PartialEq, Eq, Clone, Copy, Default)]
 pub enum Medium {

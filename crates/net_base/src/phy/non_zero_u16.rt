@@ -1,3 +1,4 @@
+//! A number of 16 bits other than 0.
 ghost use Rattle.std.specs.Prelude.{◌≡◌, ◌<◌, MatchOption};
 
 use std::marker::Model;
@@ -21,7 +22,7 @@ impl Model for NonZeroU16 {
 }
 
 impl NonZeroU16 {
-    /// The number, or `None` exactly for 0.
+    /// Returns the number, or `None` exactly for 0.
     pub fn new(value: u16) -> Option<NonZeroU16>
         ensures { MatchOption result (value ≡ 0) (λ n. (n ≡ value) × (0 < value)) }
     {
@@ -31,7 +32,7 @@ impl NonZeroU16 {
         Some(NonZeroU16 { value })
     }
 
-    /// The number, which is not 0.
+    /// Returns the number, which is not 0.
     pub fn get(self) -> u16
         ensures value { result ≡ self }
         ensures positive { 0 < result }

@@ -1,3 +1,4 @@
+//! A `usize` other than 0.
 ghost use Rattle.std.specs.Prelude.{◌≡◌, ◌<◌, MatchOption};
 
 use std::marker::Model;
@@ -21,7 +22,7 @@ impl Model for NonZeroUsize {
 }
 
 impl NonZeroUsize {
-    /// The number, or `None` exactly for 0.
+    /// Returns the number, or `None` exactly for 0.
     pub fn new(value: usize) -> Option<NonZeroUsize>
         ensures { MatchOption result (value ≡ 0) (λ n. (n ≡ value) × (0 < value)) }
     {
@@ -31,7 +32,7 @@ impl NonZeroUsize {
         Some(NonZeroUsize { value })
     }
 
-    /// The number, which is not 0.
+    /// Returns the number, which is not 0.
     pub fn get(self) -> usize
         ensures value { result ≡ self }
         ensures positive { 0 < result }

@@ -1,3 +1,4 @@
+//! What goes along with a packet.
 use crate::phy::NonZeroU16;
 
 /// What goes along with a packet, beside its bytes. By default the identifier is 0, and no

@@ -1,3 +1,4 @@
+//! The trait of a frame that a device has handed over.
 ghost use Rattle.std.specs.Prelude.{◌≡◌, ℕ, List};
 ghost use Rattle.std.specs.Fn.{FnOnceReturnsAt, FnOnceTakesAt};
 ghost use Rattle.net_base.specs.PacketMeta.{no_metadata};
@@ -21,12 +22,12 @@ pub trait RxToken: Drop {
         requires { FnOnceTakesAt F.FnOnce f (bytes self) }
         ensures { FnOnceReturnsAt F.FnOnce f (bytes self) result };
 
-    /// The bytes of the frame, which stays with the token.
+    /// Shows the bytes of the frame, which stays with the token.
     fn frame(&self) -> &[u8]
         ensures { result.now ≡ bytes self.now };
 
-    /// What goes along with the frame: by default nothing, the default value. A token that has
-    /// metadata writes its own method, with a contract of its own.
+    /// Returns what goes along with the frame: by default nothing, the default value. A token that
+    /// has metadata writes its own method, with a contract of its own.
     fn meta(&self) -> PacketMeta
         ensures { is_plain self.now → result ≡ no_metadata }
     {

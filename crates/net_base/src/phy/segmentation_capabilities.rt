@@ -1,3 +1,4 @@
+//! The segmentation that a device takes off the stack.
 use crate::phy::NonZeroUsize;
 
 /// The largest buffer, in bytes, that the device cuts into segments for each protocol pair; `None`,

@@ -1,3 +1,4 @@
+//! The trait of the right to send one frame.
 ghost use Rattle.std.specs.Prelude.{◌≡◌};
 
 use crate::phy::PacketMeta;

@@ -5,14 +5,15 @@ ghost use Rattle.net_base.specs.Generator.{LeadsTo, IsPeriod};
 
 use crate::rand::Rand;
 
-/// From every state every state is reached, in 1 to 2^64 steps.
+/// States that from every state every state is reached, in 1 to 2^64 steps.
 pub fn full_period(from: &Rand, to: &Rand)
     ensures { LeadsTo from.now to.now }
 {
     let _state = to.state;
 }
 
-/// The period is 2^64: that many steps lead from each state to itself, and fewer never do.
+/// States that the period is 2^64: that many steps lead from each state to itself, and fewer never
+/// do.
 pub fn period(state: &Rand)
     ensures { (n : ℕ) × (n ≡ 2 ^ 64) × IsPeriod state.now n }
 {

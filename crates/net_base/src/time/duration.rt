@@ -1,3 +1,4 @@
+//! Lengths of time, in whole microseconds.
 ghost use Rattle.std.specs.Prelude.{◌≡◌, ◌↔◌, IsTrue, Some, ◌+◌, ◌-◌, ◌*◌, ◌/◌, ◌%◌, ◌^◌, ◌<◌, ◌≤◌};
 ghost use Rattle.std.specs.Prelude.{min, SomeIff, IfOk};
 ghost use Rattle.std.specs.Fmt.InlineText.{inline_text};
@@ -37,21 +38,21 @@ impl Duration {
     /// The greatest length, of 2^64 - 1 microseconds.
     pub const MAX: Duration = Duration { micros: u64::MAX };
 
-    /// A length of so many microseconds.
+    /// Returns a length of so many microseconds.
     pub fn from_micros(micros: u64) -> Duration
         ensures { result ≡ micros }
     {
         Duration { micros }
     }
 
-    /// Whether so many milliseconds are a length, which `from_millis` needs.
+    /// Returns whether so many milliseconds are a length, which `from_millis` needs.
     pub fn fits_millis(millis: u64) -> bool
         ensures { IsTrue result ↔ IsLength (millis * 1_000) }
     {
         millis.checked_mul(1_000).is_some()
     }
 
-    /// A length of so many milliseconds.
+    /// Returns a length of so many milliseconds.
     ///
     /// # Requires
     ///
@@ -65,14 +66,14 @@ impl Duration {
         }
     }
 
-    /// Whether so many seconds are a length, which `from_secs` needs.
+    /// Returns whether so many seconds are a length, which `from_secs` needs.
     pub fn fits_secs(secs: u64) -> bool
         ensures { IsTrue result ↔ IsLength (secs * 1_000_000) }
     {
         secs.checked_mul(1_000_000).is_some()
     }
 
-    /// A length of so many seconds.
+    /// Returns a length of so many seconds.
     ///
     /// # Requires
     ///
@@ -86,28 +87,28 @@ impl Duration {
         }
     }
 
-    /// The whole milliseconds beyond the whole seconds.
+    /// Returns the whole milliseconds beyond the whole seconds.
     pub fn millis(&self) -> u64
         ensures { result ≡ length_millis self.now }
     {
         self.micros / 1_000 % 1_000
     }
 
-    /// The microseconds beyond the whole seconds.
+    /// Returns the microseconds beyond the whole seconds.
     pub fn micros(&self) -> u64
         ensures { result ≡ self.now % 1_000_000 }
     {
         self.micros % 1_000_000
     }
 
-    /// The whole seconds.
+    /// Returns the whole seconds.
     pub fn secs(&self) -> u64
         ensures { result ≡ self.now / 1_000_000 }
     {
         self.micros / 1_000_000
     }
 
-    /// The whole milliseconds.
+    /// Returns the whole milliseconds.
     pub fn total_millis(&self) -> u64
         ensures { result ≡ self.now / 1_000 }
     {
@@ -121,16 +122,16 @@ impl Duration {
         self.micros
     }
 
-    /// Whether the whole microseconds of a duration of the standard library are a length, which
-    /// `from_core` needs.
+    /// Returns whether the whole microseconds of a duration of the standard library are a length,
+    /// which `from_core` needs.
     pub fn fits_core(duration: std::time::Duration) -> bool
         ensures { IsTrue result ↔ IsLength (as_nanos duration / 1_000) }
     {
         u64::try_from(duration.as_micros()).is_ok()
     }
 
-    /// The whole microseconds of a duration of the standard library; its nanoseconds beyond them
-    /// are left out.
+    /// Returns the whole microseconds of a duration of the standard library; its nanoseconds beyond
+    /// them are left out.
     ///
     /// # Requires
     ///
@@ -144,28 +145,28 @@ impl Duration {
         }
     }
 
-    /// Whether the sum is a length, which `+` and `+=` need.
+    /// Returns whether the sum is a length, which `+` and `+=` need.
     pub fn can_add(&self, duration: Duration) -> bool
         ensures { IsTrue result ↔ IsLength (self.now + duration) }
     {
         self.micros.checked_add(duration.micros).is_some()
     }
 
-    /// Whether the difference is a length, which `-` and `-=` need.
+    /// Returns whether the difference is a length, which `-` and `-=` need.
     pub fn can_sub(&self, duration: Duration) -> bool
         ensures { IsTrue result ↔ (duration ≤ self.now) }
     {
         duration.micros <= self.micros
     }
 
-    /// Whether the product is a length, which `*` and `*=` need.
+    /// Returns whether the product is a length, which `*` and `*=` need.
     pub fn can_mul(&self, factor: u32) -> bool
         ensures { IsTrue result ↔ IsLength (self.now * factor) }
     {
         self.micros.checked_mul(u64::from(factor)).is_some()
     }
 
-    /// The sum, or `None` exactly if it is no length.
+    /// Returns the sum, or `None` exactly if it is no length.
     pub fn checked_add(self, rhs: Duration) -> Option<Duration>
         ensures { SomeIff result (IsLength (self + rhs)) (self + rhs) }
     {
@@ -174,7 +175,7 @@ impl Duration {
             .map(Duration::from_micros)
     }
 
-    /// The difference, or `None` exactly if it is no length: if `rhs` is the longer one.
+    /// Returns the difference, or `None` exactly if it is no length: if `rhs` is the longer one.
     pub fn checked_sub(self, rhs: Duration) -> Option<Duration>
         ensures { SomeIff result (rhs ≤ self) (self - rhs) }
     {
@@ -183,7 +184,7 @@ impl Duration {
             .map(Duration::from_micros)
     }
 
-    /// The product, or `None` exactly if it is no length.
+    /// Returns the product, or `None` exactly if it is no length.
     pub fn checked_mul(self, rhs: u32) -> Option<Duration>
         ensures { SomeIff result (IsLength (self * rhs)) (self * rhs) }
     {
@@ -192,7 +193,7 @@ impl Duration {
             .map(Duration::from_micros)
     }
 
-    /// The quotient, or `None` exactly if the divisor is 0.
+    /// Returns the quotient, or `None` exactly if the divisor is 0.
     pub fn checked_div(self, rhs: u32) -> Option<Duration>
         ensures { SomeIff result (0 < rhs) (self / rhs) }
     {
@@ -201,28 +202,28 @@ impl Duration {
             .map(Duration::from_micros)
     }
 
-    /// The sum, or the greatest length if it is none.
+    /// Returns the sum, or the greatest length if it is none.
     pub fn saturating_add(self, rhs: Duration) -> Duration
         ensures { result ≡ min (self + rhs) (2 ^ 64 - 1) }
     {
         Duration::from_micros(self.micros.saturating_add(rhs.micros))
     }
 
-    /// The difference, or no time if `rhs` is the longer one.
+    /// Returns the difference, or no time if `rhs` is the longer one.
     pub fn saturating_sub(self, rhs: Duration) -> Duration
         ensures { result ≡ self - rhs }
     {
         Duration::from_micros(self.micros.saturating_sub(rhs.micros))
     }
 
-    /// The product, or the greatest length if it is none.
+    /// Returns the product, or the greatest length if it is none.
     pub fn saturating_mul(self, rhs: u32) -> Duration
         ensures { result ≡ min (self * rhs) (2 ^ 64 - 1) }
     {
         Duration::from_micros(self.micros.saturating_mul(u64::from(rhs)))
     }
 
-    /// The text of the length, whatever the options.
+    /// Returns the text of the length, whatever the options.
     fn text(&self) -> Result<InlineText<LONGEST_TEXT>, fmt::Error>
         ensures { IfOk result (λ text. inline_text text ≡ length_text self.now) }
     {

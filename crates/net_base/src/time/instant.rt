@@ -1,3 +1,4 @@
+//! Moments, in whole microseconds from an origin.
 ghost use Rattle.std.specs.Prelude.{◌≡◌, ◌↔◌, ◌-◌, ◌^◌, IsTrue, Some, pos, ◌+ℤ◌, ◌-ℤ◌, ◌*ℤ◌};
 ghost use Rattle.std.specs.Prelude.{int_div};
 ghost use Rattle.std.specs.Prelude.{negsuc, SomeIff, IfOk};
@@ -35,29 +36,30 @@ impl Instant {
     /// The origin.
     pub const ZERO: Instant = Instant { micros: 0 };
 
-    /// The moment so many microseconds after the origin.
+    /// Returns the moment so many microseconds after the origin.
     pub fn from_micros(micros: i64) -> Instant
         ensures { result ≡ micros }
     {
         Instant { micros }
     }
 
-    /// As `from_micros`. It is no `const fn` here, as smoltcp's is: it is there so that code which
-    /// was written for smoltcp finds it.
+    /// Returns the same as `from_micros`. It is no `const fn` here, as smoltcp's is: it is there so
+    /// that code which was written for smoltcp finds it.
     pub fn from_micros_const(micros: i64) -> Instant
         ensures { result ≡ micros }
     {
         Instant::from_micros(micros)
     }
 
-    /// Whether so many milliseconds after the origin there is a moment, which `from_millis` needs.
+    /// Returns whether so many milliseconds after the origin there is a moment, which `from_millis`
+    /// needs.
     pub fn fits_millis(millis: i64) -> bool
         ensures { IsTrue result ↔ IsMoment (millis *ℤ pos 1_000) }
     {
         millis.checked_mul(1_000).is_some()
     }
 
-    /// The moment so many milliseconds after the origin.
+    /// Returns the moment so many milliseconds after the origin.
     ///
     /// # Requires
     ///
@@ -71,7 +73,7 @@ impl Instant {
         }
     }
 
-    /// As `from_millis`. It is no `const fn` either.
+    /// Returns the same as `from_millis`. It is no `const fn` either.
     ///
     /// # Requires
     ///
@@ -83,14 +85,14 @@ impl Instant {
         Instant::from_millis(millis)
     }
 
-    /// Whether so many seconds after the origin there is a moment, which `from_secs` needs.
+    /// Returns whether so many seconds after the origin there is a moment, which `from_secs` needs.
     pub fn fits_secs(secs: i64) -> bool
         ensures { IsTrue result ↔ IsMoment (secs *ℤ pos 1_000_000) }
     {
         secs.checked_mul(1_000_000).is_some()
     }
 
-    /// The moment so many seconds after the origin.
+    /// Returns the moment so many seconds after the origin.
     ///
     /// # Requires
     ///
@@ -104,56 +106,56 @@ impl Instant {
         }
     }
 
-    /// The whole milliseconds beyond the whole seconds, with the sign of the moment.
+    /// Returns the whole milliseconds beyond the whole seconds, with the sign of the moment.
     pub fn millis(&self) -> i64
         ensures { result ≡ moment_millis self.now }
     {
         self.micros() / 1_000
     }
 
-    /// The microseconds beyond the whole seconds, with the sign of the moment.
+    /// Returns the microseconds beyond the whole seconds, with the sign of the moment.
     pub fn micros(&self) -> i64
         ensures { result ≡ moment_micros self.now }
     {
         self.micros % 1_000_000
     }
 
-    /// The whole seconds since the origin.
+    /// Returns the whole seconds since the origin.
     pub fn secs(&self) -> i64
         ensures { result ≡ moment_secs self.now }
     {
         self.micros / 1_000_000
     }
 
-    /// The whole milliseconds since the origin.
+    /// Returns the whole milliseconds since the origin.
     pub fn total_millis(&self) -> i64
         ensures { result ≡ int_div self.now (pos 1_000) }
     {
         self.micros / 1_000
     }
 
-    /// The microseconds since the origin.
+    /// Returns the microseconds since the origin.
     pub fn total_micros(&self) -> i64
         ensures { result ≡ self.now }
     {
         self.micros
     }
 
-    /// Whether there is a moment so much later, which `+` and `+=` need.
+    /// Returns whether there is a moment so much later, which `+` and `+=` need.
     pub fn can_add(&self, duration: Duration) -> bool
         ensures { IsTrue result ↔ IsMoment (self.now +ℤ pos duration) }
     {
         i64::try_from(i128::from(self.micros) + i128::from(duration.total_micros())).is_ok()
     }
 
-    /// Whether there is a moment so much earlier, which `-` and `-=` need.
+    /// Returns whether there is a moment so much earlier, which `-` and `-=` need.
     pub fn can_sub(&self, duration: Duration) -> bool
         ensures { IsTrue result ↔ IsMoment (self.now -ℤ pos duration) }
     {
         i64::try_from(i128::from(self.micros) - i128::from(duration.total_micros())).is_ok()
     }
 
-    /// The moment so much later, or `None` exactly if there is none.
+    /// Returns the moment so much later, or `None` exactly if there is none.
     pub fn checked_add(&self, duration: Duration) -> Option<Instant>
         ensures { SomeIff result (IsMoment (self.now +ℤ pos duration)) (self.now +ℤ pos duration) }
     {
@@ -164,7 +166,7 @@ impl Instant {
         }
     }
 
-    /// The moment so much earlier, or `None` exactly if there is none.
+    /// Returns the moment so much earlier, or `None` exactly if there is none.
     pub fn checked_sub(&self, duration: Duration) -> Option<Instant>
         ensures { SomeIff result (IsMoment (self.now -ℤ pos duration)) (self.now -ℤ pos duration) }
     {
@@ -175,7 +177,7 @@ impl Instant {
         }
     }
 
-    /// The moment so much later, or the last one if there is none.
+    /// Returns the moment so much later, or the last one if there is none.
     pub fn saturating_add(&self, duration: Duration) -> Instant
         ensures exact { IsMoment (self.now +ℤ pos duration) → result ≡ self.now +ℤ pos duration }
         ensures last { (IsMoment (self.now +ℤ pos duration) → ⊥) → result ≡ pos (2 ^ 63 - 1) }
@@ -187,7 +189,7 @@ impl Instant {
         }
     }
 
-    /// The moment so much earlier, or the first one if there is none.
+    /// Returns the moment so much earlier, or the first one if there is none.
     pub fn saturating_sub(&self, duration: Duration) -> Instant
         ensures exact { IsMoment (self.now -ℤ pos duration) → result ≡ self.now -ℤ pos duration }
         ensures first { (IsMoment (self.now -ℤ pos duration) → ⊥) → result ≡ negsuc (2 ^ 63 - 1) }
@@ -199,7 +201,7 @@ impl Instant {
         }
     }
 
-    /// The text of the moment, whatever the options.
+    /// Returns the text of the moment, whatever the options.
     fn text(&self) -> Result<InlineText<LONGEST_TEXT>, fmt::Error>
         ensures { IfOk result (λ text. inline_text text ≡ moment_text self.now) }
     {

@@ -11,29 +11,29 @@ ghost use Rattle.net_base.specs.Time.{distance, IsMoment, IsLength, moment_text,
 use crate::time::{Duration, Instant};
 use std::fmt::Display;
 
-/// The origin is 0 microseconds.
+/// States that the origin is 0 microseconds.
 pub fn instant_zero() -> Instant
     ensures { result ≡ pos 0 }
 {
     Instant::ZERO
 }
 
-/// No time is 0 microseconds.
+/// States that no time is 0 microseconds.
 pub fn duration_zero() -> Duration
     ensures { result ≡ 0 }
 {
     Duration::ZERO
 }
 
-/// The greatest length is 2^64 - 1 microseconds.
+/// States that the greatest length is 2^64 - 1 microseconds.
 pub fn duration_max() -> Duration
     ensures { result ≡ 2 ^ 64 - 1 }
 {
     Duration::MAX
 }
 
-/// The order of moments is that of their microseconds, and two moments are equal exactly if they
-/// are the same.
+/// States that the order of moments is that of their microseconds, and two moments are equal
+/// exactly if they are the same.
 pub fn instant_order(x: &Instant, y: &Instant)
     ensures order { MatchOrdering (⟦<Instant as Ord>⟧.cmp x.now y.now)
         (x.now <ℤ y.now) (x.now ≡ y.now) (y.now <ℤ x.now) }
@@ -42,8 +42,8 @@ pub fn instant_order(x: &Instant, y: &Instant)
     ensures equality { IsTrue (⟦<Instant as PartialEq>⟧.eq x.now y.now) ↔ (x.now ≡ y.now) }
 {}
 
-/// The order of lengths is that of their microseconds, and two lengths are equal exactly if they
-/// are the same.
+/// States that the order of lengths is that of their microseconds, and two lengths are equal
+/// exactly if they are the same.
 pub fn duration_order(x: &Duration, y: &Duration)
     ensures order { MatchOrdering (⟦<Duration as Ord>⟧.cmp x.now y.now)
         (x.now < y.now) (x.now ≡ y.now) (y.now < x.now) }
@@ -52,12 +52,12 @@ pub fn duration_order(x: &Duration, y: &Duration)
     ensures equality { IsTrue (⟦<Duration as PartialEq>⟧.eq x.now y.now) ↔ (x.now ≡ y.now) }
 {}
 
-/// The distance of two moments is the same both ways.
+/// States that the distance of two moments is the same both ways.
 pub fn distance_both_ways(x: &Instant, y: &Instant)
     ensures { distance x.now y.now ≡ distance y.now x.now }
 {}
 
-/// A length that is added to a moment and taken off again leaves the moment.
+/// States that a length that is added to a moment and taken off again leaves the moment.
 ///
 /// # Requires
 ///
@@ -69,7 +69,7 @@ pub fn instant_there_and_back(instant: Instant, duration: Duration) -> Instant
     (instant + duration) - duration
 }
 
-/// A length that is taken off a moment and added again leaves the moment.
+/// States that a length that is taken off a moment and added again leaves the moment.
 ///
 /// # Requires
 ///
@@ -81,7 +81,7 @@ pub fn instant_back_and_there(instant: Instant, duration: Duration) -> Instant
     (instant - duration) + duration
 }
 
-/// A moment and the one that is so much later are so far apart.
+/// States that a moment and the one that is so much later are so far apart.
 ///
 /// # Requires
 ///
@@ -93,7 +93,7 @@ pub fn instant_moved(instant: Instant, duration: Duration) -> Duration
     (instant + duration) - instant
 }
 
-/// A length that is added to another and taken off again leaves the other.
+/// States that a length that is added to another and taken off again leaves the other.
 ///
 /// # Requires
 ///
@@ -105,40 +105,40 @@ pub fn duration_there_and_back(duration: Duration, other: Duration) -> Duration
     (duration + other) - other
 }
 
-/// A clone of a moment is the same moment, and is never refused.
+/// States that a clone of a moment is the same moment, and is never refused.
 pub fn instant_clone(instant: &Instant, clone: &Instant)
     ensures same { ⟦<Instant as Clone>⟧.is_clone instant.now clone.now → clone.now ≡ instant.now }
     ensures never_refused { ⟦<Instant as Clone>⟧.is_infallible instant.now }
 {}
 
-/// A clone of a length is the same length, and is never refused.
+/// States that a clone of a length is the same length, and is never refused.
 pub fn duration_clone(duration: &Duration, clone: &Duration)
     ensures same { ⟦<Duration as Clone>⟧.is_clone duration.now clone.now
         → clone.now ≡ duration.now }
     ensures never_refused { ⟦<Duration as Clone>⟧.is_infallible duration.now }
 {}
 
-/// The default length is zero.
+/// States that the default length is zero.
 pub fn duration_default(duration: &Duration)
     ensures { ⟦<Duration as Default>⟧.is_default duration.now → duration.now ≡ 0 }
 {}
 
-/// No option changes the text of a moment.
+/// States that no option changes the text of a moment.
 pub fn instant_text(instant: &Instant)
     ensures { (fill align flags width precision : ℕ)
         → ⟦<Instant as Display>⟧.styled_output instant.now (format_spec fill align flags width precision)
         ≡ Some (moment_text instant.now) }
 {}
 
-/// No option changes the text of a length.
+/// States that no option changes the text of a length.
 pub fn duration_text(duration: &Duration)
     ensures { (fill align flags width precision : ℕ)
         → ⟦<Duration as Display>⟧.styled_output duration.now (format_spec fill align flags width precision)
         ≡ Some (length_text duration.now) }
 {}
 
-/// A fold with `earlier`, from `None` on, finds the earliest of the moments that a list's elements
-/// have.
+/// States that a fold with `earlier`, from `None` on, finds the earliest of the moments that a
+/// list's elements have.
 pub fn earliest_of_each<T>()
     ensures { (f : T → Option ℤ) (xs : List T) (t : Option ℤ) → t ≡ earliest_of f xs →
         IsEarliest f xs t }

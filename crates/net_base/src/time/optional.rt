@@ -25,7 +25,7 @@ pub fn earliest(moments: &[Option<Instant>]) -> Option<Instant>
     fold_earlier(moments)
 }
 
-/// The earliest of the moments, as a fold.
+/// Returns the earliest of the moments, as a fold.
 fn fold_earlier(moments: &[Option<Instant>]) -> Option<Instant>
     ensures { result ≡ earliest_of (λ t. t) moments.now }
 {

@@ -1,3 +1,4 @@
+//! Sizes of packets and fragments that a device's capabilities allow.
 use net_base::phy::{ChecksumCapabilities, DeviceCapabilities, Medium};
 use std::alloc::AllocError;
 
@@ -10,7 +11,7 @@ fn with_size(medium: Medium, max_transmission_unit: usize) -> DeviceCapabilities
     }
 }
 
-/// The greatest size of an IP packet, if there is one.
+/// Returns the greatest size of an IP packet, if there is one.
 fn ip_mtu(capabilities: &DeviceCapabilities) -> Option<usize> {
     if capabilities.has_ip_mtu() {
         Some(capabilities.ip_mtu())
@@ -19,7 +20,7 @@ fn ip_mtu(capabilities: &DeviceCapabilities) -> Option<usize> {
     }
 }
 
-/// The greatest size of a fragment behind a header of 20 bytes, if such a header fits.
+/// Returns the greatest size of a fragment behind a header of 20 bytes, if such a header fits.
 fn fragment_size(capabilities: &DeviceCapabilities) -> Option<usize> {
     if capabilities.fits_ip_header(20) {
         Some(capabilities.max_ipv4_fragment_size(20))

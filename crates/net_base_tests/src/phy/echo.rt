@@ -1,3 +1,4 @@
+//! Frames that are sent back, also where memory is refused.
 ghost use Rattle.std.specs.Prelude.{◌≡◌, ◌∷◌, ◌++◌, [], List, ℕ, Ok, true};
 ghost use Rattle.net_base.specs.DeviceCapabilities.{default_capabilities};
 

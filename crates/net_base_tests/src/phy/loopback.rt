@@ -1,3 +1,4 @@
+//! Frames of a loopback device, also where memory is refused.
 ghost use Rattle.std.specs.Prelude.{◌≡◌, List, ℕ, [], ◌∷◌, ◌++◌, codes, OnOk, IsTrue};
 
 use super::{is_over, next_is, sends};
@@ -81,7 +82,7 @@ fn sends_frames_beyond_its_longest(rt: HostRuntime) {
     }
 }
 
-/// Metadata with this identifier alone.
+/// Returns metadata with this identifier alone.
 fn marked(id: u32) -> PacketMeta {
     PacketMeta {
         id,
@@ -133,8 +134,8 @@ fn sends_many<A: Allocator + Copy>(device: &mut Loopback<A>, count: usize) -> bo
     true
 }
 
-/// Whether so many frames are sent and queued by at most this many requests more than there are frames
-/// with bytes, with at most 128 bytes of the queue for each frame.
+/// Returns whether so many frames are sent and queued by at most this many requests more than there
+/// are frames with bytes, with at most 128 bytes of the queue for each frame.
 fn asks_for_little(memory: &Refusing, count: usize, growths: usize) -> bool {
     let mut device = Loopback::new(memory, Medium::Ip);
     let is_sent = sends_many(&mut device, count);

@@ -1,3 +1,4 @@
+//! Numbers of 16 bits other than 0.
 use net_base::phy::NonZeroU16;
 
 #[test]

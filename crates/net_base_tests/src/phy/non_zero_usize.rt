@@ -1,3 +1,4 @@
+//! Numbers of type `usize` other than 0.
 use net_base::phy::NonZeroUsize;
 
 #[test]

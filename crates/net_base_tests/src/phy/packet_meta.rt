@@ -1,7 +1,8 @@
+//! Metadata of packets, compared and hashed.
 use net_base::phy::{NonZeroU16, PacketMeta};
 use std::hash::{DefaultHasher, Hash, Hasher};
 
-/// What the default hasher makes of the metadata.
+/// Returns what the default hasher makes of the metadata.
 fn hash_of(meta: PacketMeta) -> u64 {
     let mut state = DefaultHasher::new();
     meta.hash(&mut state);

@@ -1,3 +1,4 @@
+//! A frame's token with metadata of its own.
 ghost use Rattle.std.specs.Prelude.{◌≡◌};
 ghost use Rattle.net_base.specs.PacketMeta.{no_metadata};
 
@@ -30,7 +31,7 @@ impl RxToken for Marked {
     }
 }
 
-/// The first byte of the token's frame, if there is one, and its metadata.
+/// Returns the first byte of the token's frame, if there is one, and its metadata.
 fn first_byte_and_meta<T: RxToken>(token: T) -> (Option<u8>, PacketMeta)
     ensures { T.is_plain token → result.1 ≡ no_metadata }
 {

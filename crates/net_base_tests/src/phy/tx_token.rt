@@ -1,3 +1,4 @@
+//! A token to send with that takes metadata.
 ghost use Rattle.std.specs.Prelude.{◌≡◌};
 
 use net_base::phy::{PacketMeta, TxToken};

@@ -18,7 +18,7 @@ fn send_back(device: &mut TwoLists, timestamp: Instant) -> Result<bool, AllocErr
     echo_once(device, timestamp)
 }
 
-/// A device over this memory, with no frames.
+/// Returns a device over this memory, with no frames.
 fn without_frames<A: Allocator + Copy>(alloc: A) -> TwoLists<A> {
     TwoLists {
         to_come: VecDeque::new(alloc),

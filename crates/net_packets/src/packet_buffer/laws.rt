@@ -16,24 +16,24 @@ use crate::packet_buffer::PacketsOver;
 use crate::packet_metadata::PacketMetadata;
 use net_ring::Storage;
 
-/// Every queue is well placed: its packets fit into its storage, the bytes of each are contiguous,
-/// its gaps end at the storage's end, and there is a slot for each packet and gap. The other laws
-/// speak of such queues.
+/// States that every queue is well placed: its packets fit into its storage, the bytes of each are
+/// contiguous, its gaps end at the storage's end, and there is a slot for each packet and gap. The
+/// other laws speak of such queues.
 pub fn well_placed<H, M: Storage<PacketMetadata<H>>, B: Storage<u8>>(queue: &PacketsOver<H, M, B>)
     ensures { IsWellPlaced queue.now }
 {
     let _slots = queue.slots.capacity();
 }
 
-/// A queue has as many contents as packets, and so none exactly if it has no packets.
+/// States that a queue has as many contents as packets, and so none exactly if it has no packets.
 pub fn contents_are_packets<H>()
     ensures count { (q : PacketsState H) → length (contents q) ≡ length q.packets }
     ensures empty { (q : PacketsState H) → (contents q ≡ []) ↔ (length q.packets ≡ 0) }
 {}
 
-/// A queue with no packets takes a packet exactly if it has a slot, and as many bytes as the packet:
-/// also where the last packet that left stood in the midst of the storage, the packet is placed
-/// with no gap.
+/// States that a queue with no packets takes a packet exactly if it has a slot, and as many bytes
+/// as the packet: also where the last packet that left stood in the midst of the storage, the
+/// packet is placed with no gap.
 pub fn empty_queue_takes_what_fits<H>()
     ensures taken { (q : PacketsState H) (size : ℕ) → contents q ≡ []
         → 0 < q.slot_count → size ≤ length q.storage → placement q size ≡ Some 0 }
@@ -43,10 +43,11 @@ pub fn empty_queue_takes_what_fits<H>()
         → length q.storage < size → placement q size ≡ None }
 {}
 
-/// Packets leave in the order in which they were accepted, each with the header and the bytes last
-/// written by who put it or by a closure that refused it: on the list of the headers and bytes that
-/// a queue has, a packet that is accepted comes to the end, a refusing closure writes the first
-/// one anew, the first one is what is shown and taken off, and dropping a gap changes nothing.
+/// States that packets leave in the order in which they were accepted, each with the header and the
+/// bytes last written by who put it or by a closure that refused it: on the list of the headers and
+/// bytes that a queue has, a packet that is accepted comes to the end, a refusing closure writes
+/// the first one anew, the first one is what is shown and taken off, and dropping a gap changes
+/// nothing.
 pub fn packets_leave_in_order<H>()
     ensures accepted { (q : PacketsState H) (size : ℕ) (header : H) (ws : List ℕ)
         → IsWellPlaced q → placement q size ≢ None → length ws ≡ size
@@ -72,8 +73,8 @@ pub fn packets_leave_in_order<H>()
         → contents (without_first (with_first_bytes (without_gap q) header ws)) ≡ drop 1 (contents q) }
 {}
 
-/// What `place` and `last_mut`, and `take` and `last_dequeued_mut`, make of a queue's contents if
-/// they are used apart.
+/// States what `place` and `last_mut`, and `take` and `last_dequeued_mut`, make of a queue's
+/// contents if they are used apart.
 ///
 /// A placed packet has the bytes that stand in the storage, until they are written. What
 /// `last_dequeued_mut` shows after `take` are the bytes of the packet that was taken off, and a
@@ -98,9 +99,9 @@ pub fn the_two_steps_apart<H>()
         → contents (with_bytes (without_first_and_gap q) (without_gap q).read_at ws) ≡ drop 1 (contents q) }
 {}
 
-/// A packet that was only shown: after `peek` the same packet is taken off, and a closure that
-/// leaves the header and the bytes of the first packet as they were leaves the contents, less the
-/// packet if it returned `Ok`.
+/// States what becomes of a packet that was only shown: after `peek` the same packet is taken off,
+/// and a closure that leaves the header and the bytes of the first packet as they were leaves the
+/// contents, less the packet if it returned `Ok`.
 pub fn showing_changes_nothing<H>()
     ensures peeked { (q : PacketsState H) → IsWellPlaced q
         → contents (without_first_and_gap (without_gap q)) ≡ drop 1 (contents q) }
@@ -111,8 +112,8 @@ pub fn showing_changes_nothing<H>()
         ≡ (if gone then drop 1 (contents q) else contents q) }
 {}
 
-/// The packet that leaves k-th is the one that was accepted k-th. Over any calls, in any order,
-/// from a new queue on, the packets that left, in order, followed by those that are
+/// States that the packet that leaves k-th is the one that was accepted k-th. Over any calls, in
+/// any order, from a new queue on, the packets that left, in order, followed by those that are
 /// still in the queue, are exactly the packets that were accepted, in order. Each left, or stays,
 /// with the header and the bytes last written to it, by who put it or by a closure that refused it.
 /// What `reset` drops counts as never accepted.

@@ -9,46 +9,47 @@ ghost use Rattle.net_ring.specs.RingHistory.{RingCall, MakesAll, history};
 
 use crate::managed::ManagedSlice;
 
-/// A ring is no more than its read index, its queue and its spare part: two rings that agree in
-/// these are the same.
+/// States that a ring is no more than its read index, its queue and its spare part: two rings that
+/// agree in these are the same.
 pub fn ring_is_its_parts<T>()
     ensures { (g h : RingState T) → IsWellFormed g → IsWellFormed h →
         g.read_at ≡ h.read_at → queue g ≡ queue h → spare g ≡ spare h → g ≡ h }
 {}
 
-/// What is queued and what is free are a ring's capacity, and the lengths of its two parts.
+/// States that what is queued and what is free are a ring's capacity, and the lengths of its two
+/// parts.
 pub fn count_and_window_are_capacity<T>()
     ensures { (g : RingState T) → IsWellFormed g → (g.count + window g ≡ capacity g)
         × (length (queue g) ≡ g.count) × (length (spare g) ≡ window g) }
 {}
 
-/// Moving the read index of an empty ring to the storage's beginning changes neither the queue nor
-/// the counts.
+/// States that moving the read index of an empty ring to the storage's beginning changes neither
+/// the queue nor the counts.
 pub fn rewinding_keeps_the_queue<T>()
     ensures { (g : RingState T) → (queue (from_start_if_empty g) ≡ queue g)
         × ((from_start_if_empty g).count ≡ g.count) × ((from_start_if_empty g).storage ≡ g.storage) }
 {}
 
-/// The element that leaves k-th is the one that came k-th. Over any calls, in any order, from an
-/// empty ring on, the elements that left, in order, followed by those that are still queued, are
-/// exactly the elements that came, in order. Each left as it was shown then, and each stands as it
-/// was last written while it was queued, by who put it or by who was lent it there. What `clear`
-/// and `reset` drop counts as never accepted.
+/// States that the element that leaves k-th is the one that came k-th. Over any calls, in any
+/// order, from an empty ring on, the elements that left, in order, followed by those that are still
+/// queued, are exactly the elements that came, in order. Each left as it was shown then, and each
+/// stands as it was last written while it was queued, by who put it or by who was lent it there.
+/// What `clear` and `reset` drop counts as never accepted.
 pub fn elements_leave_in_turn<T>()
     ensures { (storage : List T) (calls : List (RingCall T)) (g : RingState T)
         → MakesAll calls (ring storage 0 0) g
         → (history calls).left ++ queue g ≡ (history calls).accepted }
 {}
 
-/// What was written over the whole of a storage is what its elements then are.
+/// States that what was written over the whole of a storage is what its elements then are.
 pub fn storage_is_what_was_written<T>(storage: &ManagedSlice<'_, T>)
     ensures { (ws : List T) → length ws ≡ length (elements storage.now) →
         elements (with_part storage.now 0 ws) ≡ ws }
 {}
 
-/// A list that was written over has as many elements as before; at each index it has the element
-/// that was written there, and the old one if none was; if a part of it was written over itself it
-/// is as it was; and one element that is written over is that element set.
+/// States that a list that was written over has as many elements as before; at each index it has
+/// the element that was written there, and the old one if none was; if a part of it was written
+/// over itself it is as it was; and one element that is written over is that element set.
 pub fn overwritten<T>()
     ensures count { (xs ws : List T) (i : ℕ) → length (overwrite xs i ws) ≡ length xs }
     ensures element { (xs ws : List T) (i k : ℕ) (x : T) → OverwritesAt xs i ws k x }

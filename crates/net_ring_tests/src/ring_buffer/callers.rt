@@ -10,7 +10,7 @@ ghost use Rattle.net_ring.specs.Ring.{WritesSpare, WritesQueue};
 use net_ring::{Empty, Full, ManagedSlice, RingBuffer};
 use std::marker::Model;
 
-/// A byte is written to the part that `enqueue_many` lends.
+/// Writes a byte to the part that `enqueue_many` lends.
 pub fn enqueue_byte(ring: &mut RingBuffer<'_, u8>, byte: u8)
     requires { 0 < contiguous_window (from_start_if_empty ring.old) }
     ensures parts { Enqueues (from_start_if_empty ring.old) (byte ∷ []) ring.new }
@@ -19,7 +19,7 @@ pub fn enqueue_byte(ring: &mut RingBuffer<'_, u8>, byte: u8)
     ring.enqueue_many(1)[0] = byte;
 }
 
-/// A byte is written to the element that `enqueue_one` lends.
+/// Writes a byte to the element that `enqueue_one` lends.
 pub fn enqueue_one_byte(ring: &mut RingBuffer<'_, u8>, byte: u8) -> Result<(), Full>
     ensures full { IsErr result ↔ (window ring.old ≡ 0) }
     ensures unchanged { OnErr result (ring.new ≡ ring.old) }
@@ -29,7 +29,7 @@ pub fn enqueue_one_byte(ring: &mut RingBuffer<'_, u8>, byte: u8) -> Result<(), F
     Ok(())
 }
 
-/// A byte is written to a free element, and stands there.
+/// Writes a byte to a free element, where it stays.
 pub fn stage(ring: &mut RingBuffer<'_, u8>, offset: usize, byte: u8)
     requires { 0 < contiguous_window_from ring.old offset 1 }
     ensures { WritesSpare ring.old offset (byte ∷ []) ring.new }
@@ -37,7 +37,7 @@ pub fn stage(ring: &mut RingBuffer<'_, u8>, offset: usize, byte: u8)
     ring.get_unallocated(offset, 1)[0] = byte;
 }
 
-/// A byte of the queue is written over.
+/// Writes over a byte of the queue.
 pub fn patch(ring: &mut RingBuffer<'_, u8>, offset: usize, byte: u8)
     requires { 0 < contiguous_queued_from ring.old offset 1 }
     ensures { WritesQueue ring.old offset (byte ∷ []) ring.new }
@@ -45,7 +45,7 @@ pub fn patch(ring: &mut RingBuffer<'_, u8>, offset: usize, byte: u8)
     ring.get_allocated_mut(offset, 1)[0] = byte;
 }
 
-/// The first byte of the queue is dequeued, and zero is left in its place.
+/// Dequeues the first byte of the queue, and leaves zero in its place.
 pub fn dequeue_byte(ring: &mut RingBuffer<'_, u8>) -> u8
     requires { 0 < contiguous_queued ring.old }
     ensures parts { Dequeues ring.old 1 (0 ∷ []) ring.new }
@@ -57,7 +57,7 @@ pub fn dequeue_byte(ring: &mut RingBuffer<'_, u8>) -> u8
     byte
 }
 
-/// The same by `dequeue_one`.
+/// Does the same by `dequeue_one`.
 pub fn dequeue_one_byte(ring: &mut RingBuffer<'_, u8>) -> Result<u8, Empty>
     ensures empty { IsErr result ↔ (ring.old.count ≡ 0) }
     ensures unchanged { OnErr result (ring.new ≡ ring.old) }
@@ -80,7 +80,8 @@ pub fn write_and_enqueue(ring: &mut RingBuffer<'_, u8>, data: &[u8]) -> usize
     count
 }
 
-/// A closure writes and then returns `Err`: what it wrote stays, and nothing is enqueued.
+/// Calls a closure that writes and then returns `Err`: what it wrote stays, and nothing is
+/// enqueued.
 pub fn write_and_refuse(ring: &mut RingBuffer<'_, u8>, byte: u8)
     ensures queue { queue ring.new ≡ queue ring.old }
     ensures count { ring.new.count ≡ ring.old.count }
@@ -92,7 +93,7 @@ pub fn write_and_refuse(ring: &mut RingBuffer<'_, u8>, byte: u8)
     });
 }
 
-/// A closure that may be called only on a slice that has an element.
+/// Calls a closure that may be called only on a slice that has an element.
 pub fn enqueue_first(ring: &mut RingBuffer<'_, u8>, byte: u8)
     requires { 0 < contiguous_window (from_start_if_empty ring.old) }
     ensures { queue ring.new ≡ queue (from_start_if_empty ring.old) ++ (byte ∷ []) }
@@ -149,7 +150,7 @@ impl<'a> Duplex<'a> {
     }
 }
 
-/// A ring over a slice, made and dropped here.
+/// Makes a ring over a slice, and drops it.
 pub fn room_of_slice(buffer: &mut [u8]) -> usize
     ensures { result ≡ length buffer.old }
 {
@@ -157,7 +158,7 @@ pub fn room_of_slice(buffer: &mut [u8]) -> usize
     ring.window()
 }
 
-/// A ring over a vector, made and dropped here.
+/// Makes a ring over a vector, and drops it.
 pub fn room_of_vector(vector: Vec<u8>) -> usize
     ensures { result ≡ vec_len vector }
 {

@@ -7,8 +7,8 @@ use crate::fragment_buffer::FragmentError;
 use net_assembler::assembler;
 use net_ring::ring_buffer;
 
-/// After any accepted fragments, in any order and however they overlap, the byte at each position
-/// that came is that of the last fragment there, whatever was in the buffer before.
+/// States that after any accepted fragments, in any order and however they overlap, the byte at
+/// each position that came is that of the last fragment there, whatever was in the buffer before.
 pub fn the_last_fragment_stands()
     ensures each { LastFragmentStands }
     ensures old_bytes { OldBytesAreGone }
@@ -17,12 +17,12 @@ pub fn the_last_fragment_stands()
     ring_buffer::laws::overwritten::<u8>();
 }
 
-/// Two refusals are equal exactly if they are the same.
+/// States that two refusals are equal exactly if they are the same.
 pub fn fragment_error_equality(x: &FragmentError, y: &FragmentError)
     ensures { IsTrue (⟦<FragmentError as PartialEq>⟧.eq x.now y.now) ↔ (x.now ≡ y.now) }
 {}
 
-/// A clone of a refusal is the same, and is never refused.
+/// States that a clone of a refusal is the same, and is never refused.
 pub fn fragment_error_clone(error: &FragmentError, clone: &FragmentError)
     ensures same { ⟦<FragmentError as Clone>⟧.is_clone error.now clone.now
         → clone.now ≡ error.now }
