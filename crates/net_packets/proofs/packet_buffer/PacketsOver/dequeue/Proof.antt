@@ -294,10 +294,11 @@ module _ (G : Given) {M : Type 1} {𝓤 : Ura M} (𝓛 : Logic 𝓤) (𝓜 : Mod
               ‵ (lasts (last_dequeued.ended G.H G.N G.B G.slots G.slots_by G.bytes G.bytes_by G.drops_by) (to_last_dequeued k).0.0 (to_last_dequeued k).0.3 ws)
               ⊛ ‵ (follow (last_dequeued_bytes_index y k) m)
               ⊛ raw (fact 𝓤 ((l : List ℕ) → length l ≡ k → contents (with_bytes y (last_dequeued_bytes_index y k) l) ≡ contents y)) ⊛
-              raw (fact 𝓤 (m.now ≡ take-list k (drop-list (last_dequeued_bytes_index y k) y.storage))) ⊛ raw (fact 𝓤 (length m.now ≡ k))))))
+              raw (fact 𝓤 (m.now ≡ take-list k (drop-list (last_dequeued_bytes_index y k) y.storage))) ⊛ raw (fact 𝓤 (length m.now ≡ k))
+              ⊛ raw (fact 𝓤 ((l : List ℕ) → length (with_bytes y (last_dequeued_bytes_index y k) l).storage ≡ length y.storage))))))
               (id⊢ 𝓤 (LastDequeued.post (to_last_dequeued k) u)) $
               await ! tt $ pick ! (λ m. split ! $ split ! $ move ! (2 ∷ []) $
-              pick ! (λ _. split3 ! $ drop ! $ move ! (1 ∷ []) $ split3 ! $ heard ! _ (λ unseen. heard ! _ (λ value. heard ! _ (λ size.
+              pick ! (λ _. split3 ! $ drop ! $ move ! (1 ∷ []) $ split3 ! $ heard ! _ (λ unseen. heard ! _ (λ value. split ! $ heard ! _ (λ size. heard ! _ (λ _.
               -- [what self follows; the tokens; the part; the header]
               -- the size that the clause `front` says
               let sized : length m.now ≡ s = omega (arith, size) in
@@ -315,7 +316,7 @@ module _ (G : Given) {M : Type 1} {𝓤 : Ura M} (𝓛 : Logic 𝓤) (𝓜 : Mod
               (λ (p : ℕ). contents (with_bytes y p l) ≡ contents y) lies.1 (unseen l (long ∙ size)) ∙ rest in
               by ! (lends h hv m w (λ e. subst T (sym (subst (λ t. IsErr t) c.1 (empty.1 e))) tt)
               (λ e. subst T (sym (subst (λ t. IsErr t) c.1 (none.1 e))) tt) shown leaves
-              (subst (IsFirstSized x.packets h) (sym sized) head_is, value ∙ (λ i. take-list (sym sizes i) (drop-list (lies.1 i) x.storage)))))))))))))))
+              (subst (IsFirstSized x.packets h) (sym sized) head_is, value ∙ (λ i. take-list (sym sizes i) (drop-list (lies.1 i) x.storage))))))))))))))))
           | inr c ↦
               let is_x : ws.0 ≡ x = subst (λ t. OnErr t (ws.0 ≡ x)) c.1 unchanged in
               rewrite ! 0 (λ (m : Q G). ‵ (mine m)) is_x refl $ rewrite ! 3 (λ (t : Answer.Denot). ‵ (Answer.own_val t (v ∷ []))) c.1 refl $ move ! (3 ∷ []) $
