@@ -11,8 +11,8 @@ pub fn fuel()
     known();
 }
 
-/// States that a copy that has ended stays as it is, so that what comes of it is what it was then. It
-/// ended in one turn, before which it went on.
+/// States that a copy that has ended stays as it is, so that what comes of it is what it was then, and
+/// that it ended in one turn, before which it went on.
 pub fn ended()
     ensures stays { Stays }
     ensures last { FinalIs }

@@ -40,8 +40,8 @@ pub fn delays()
     known_of_rounds();
 }
 
-/// States that over a link that loses and delays nothing a copy doesn't give up: it is done, if the
-/// input's end comes.
+/// States that over a link that loses and delays nothing a copy never gives up, and that it is done if
+/// the input's end comes.
 pub fn all_come()
     ensures never { EndsIfAllCome }
     ensures done { DoneIfAllCome }
