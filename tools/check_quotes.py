@@ -1,7 +1,9 @@
 #!/usr/bin/env python3
 """Looks for what the pages quote and name in the sources.
 
-The pages are README.md, CONTRIBUTING.md, docs/*.md and crates/*/CALLING.md. Of their blocks between ``` lines,
+In doc comments of crates/*/src, each block between ``` lines has to stand, line by line, in a file of
+crates/net_examples/src. The pages are README.md, CONTRIBUTING.md, docs/*.md and crates/*/CALLING.md. Of their blocks
+between ``` lines,
 
 - one marked `rust` has to stand, line by line, in one file crates/*/src/**/*.rt, which the prover checks. How
   far it is indented doesn't matter, nor does the attribute `#![tactic(auto)]`, which stands in each crate's
@@ -58,6 +60,21 @@ def blocks(page, kind):
             block = None
         elif block is not None:
             block.append(line)
+
+
+def examples(path):
+    """The blocks of a source's doc comments, each with the number of its first line."""
+    block, begins = None, 0
+    for number, line in enumerate(path.read_text().splitlines(), 1):
+        comment = re.match(r"\s*//[/!] ?(.*)$", line)
+        if comment and comment.group(1).startswith("```"):
+            if block is None:
+                block, begins = [], number + 1
+            else:
+                yield begins, block
+                block = None
+        elif block is not None:
+            block.append(comment.group(1) if comment else line)
 
 
 def without_root_attribute(lines):
@@ -205,7 +222,7 @@ def main():
     sources = [path.read_text().splitlines() for path in sorted(ROOT.glob("crates/*/src/**/*.rt"))]
     known = {crate: functions(crate) for crate in crates}
     pages = [ROOT / "README.md", *sorted(ROOT.glob("docs/*.md")), *sorted(ROOT.glob("crates/*/CALLING.md"))]
-    counts = {"blocks": 0, "quoted": 0, "retold": 0}
+    counts = {"blocks": 0, "examples": 0, "quoted": 0, "retold": 0}
     missing = 0
 
     def miss(page, number, what):
@@ -238,6 +255,13 @@ def main():
                             miss(page, number, f"{name} has no clause {clause}")
                     quoted = len(names) == 1 and plain(says).rstrip(" }") in here.get(names[0], set())
                     counts["quoted" if quoted else "retold"] += 1
+    proved = [path.read_text().splitlines() for path in sorted(ROOT.glob("crates/net_examples/src/*.rt"))]
+    for path in sorted(ROOT.glob("crates/*/src/**/*.rt")):
+        for number, block in examples(path):
+            if any(stands_in(dedented(block), source) for source in proved):
+                counts["examples"] += 1
+            else:
+                miss(path, number, f"stands in no example: {block[:1]}")
     named = names_of_sources()
     all_clauses = {clause for here in known.values() for clauses in here.values() for clause in clauses}
     for page in [*pages, ROOT / "CONTRIBUTING.md"]:
@@ -254,6 +278,7 @@ def main():
             if lines and not has_lines(span, int(lines.group(1))):
                 miss(page, number, f"{span} hasn't {lines.group(1)} lines")
     print(f"{counts['blocks']} quoted blocks stand in the sources")
+    print(f"{counts['examples']} examples of doc comments stand in net_examples")
     print(f"of the contracts that pages tell, {counts['quoted']} clauses are quoted and {counts['retold']} retold")
     print(f"{missing} things stand in no source")
     return 1 if missing else 0
