@@ -27,7 +27,8 @@ pub use turns::Turns;
 /// A finite set of present positions, such as those of a stream whose segments arrive out of order,
 /// in at most `N` maximal runs.
 ///
-/// It serves whoever puts together what comes in any order: it says up to where all has come.
+/// It serves to put data together that arrives in any order: it says up to which position all has
+/// arrived.
 ///
 /// Positions are counted from 0. A maximal run is a range of present positions that no
 /// other present position touches. Two assemblers are equal exactly if their sets are.
@@ -132,8 +133,8 @@ impl<const N: usize> Assembler<N> {
         self.add_counted(offset, size, &mut Turns::new())
     }
 
-    /// Adds a range as `add` does, and counts each turn of a loop: a move if the turn moves a run,
-    /// else a look. It isn't in smoltcp.
+    /// Adds a range as `add` does, and counts each iteration of a loop: a move if it moves a run,
+    /// otherwise a look. It isn't in smoltcp.
     ///
     /// Looks rise by at most twice the number of binary digits of `N`, which is 3 for 4 and 6 for
     /// 32, moves by at most `N`, and both together by at most `4 * N`. Neither count falls.
@@ -177,8 +178,8 @@ impl<const N: usize> Assembler<N> {
         self.remove_front_counted(&mut Turns::new())
     }
 
-    /// Removes the front as `remove_front` does, and counts each turn of a loop as `add_counted`
-    /// does.
+    /// Removes the front as `remove_front` does, and counts each iteration of a loop as
+    /// `add_counted` does.
     ///
     /// Moves rise by at most `N`, and by none if no run is removed. There are no looks.
     #[inline(always)]
@@ -195,9 +196,9 @@ impl<const N: usize> Assembler<N> {
     /// Adds a range as `add` does, and then removes the front as `remove_front` does.
     ///
     /// A range at 0 is never refused, since the run that it is part of is removed at once. TCP
-    /// depends on that: were the segment that it waits for refused, no other could complete the
-    /// front, and the connection would stall. Elsewhere it is refused exactly if `add` is, and the
-    /// set stays as it was then. With `size` 0 it can still remove a run.
+    /// depends on that: if the segment that it waits for were refused, no other could complete the
+    /// front, and the connection would stall. A range elsewhere is refused exactly if `add` refuses
+    /// it, and then the set stays as it was. With `size` 0 a run can still be removed.
     ///
     /// # Requires
     ///
@@ -220,11 +221,12 @@ impl<const N: usize> Assembler<N> {
         self.add_then_remove_front_counted(offset, size, &mut Turns::new())
     }
 
-    /// Adds a range and removes the front as `add_then_remove_front` does, and counts each turn of
-    /// a loop as `add_counted` does.
+    /// Adds a range and removes the front as `add_then_remove_front` does, and counts each
+    /// iteration of a loop as `add_counted` does.
     ///
     /// Looks rise by at most twice the number of binary digits of `N`, moves by at most `2 * N`.
-    /// Data that comes next takes no turn, however many runs wait, unless one of them is removed.
+    /// Data that comes next takes no iteration, however many runs wait, unless one of them is
+    /// removed.
     ///
     /// # Requires
     ///
@@ -278,9 +280,9 @@ impl<const N: usize> Assembler<N> {
         self.runs.contains(position)
     }
 
-    /// Returns the maximal runs as (start, end), end not included, in rising order.
+    /// Returns the maximal runs as (start, end), the end not included, in rising order.
     ///
-    /// smoltcp's documentation speaks of offset and size, but its code yields start and end too.
+    /// smoltcp's documentation says offset and size, but its code yields start and end too.
     pub fn iter_data(&self) -> IterData<'_, N>
         ensures runs { result ≡ maximal_runs self.now }
         ensures bound { length result ≤ N }

@@ -1,8 +1,8 @@
-//! Laws whose premises are what the contracts of calls say: an equation of what a call left, and
-//! what follows from it at one position.
+//! Laws whose premises are equations, as the contracts of calls state them, and what follows at one
+//! position.
 //!
-//! Each function does nothing. Where a law of `assembler::laws` speaks of `with_range s o n` itself,
-//! a law here speaks of any set that is equal to it, as one in a field is after a call.
+//! Each function does nothing. A law of `assembler::laws` is on `with_range s o n` itself; a law
+//! here is on any set that is equal to it, such as one in a field after a call.
 ghost use Rattle.std.specs.Prelude.{◌≡◌, ◌+◌, ◌||◌, ℕ, List};
 ghost use Rattle.std.specs.List.Sorted.{IsPermutation};
 ghost use Rattle.net_assembler.specs.Positions.{Positions, contains, with_range, lies_in, front};

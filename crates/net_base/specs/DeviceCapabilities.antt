@@ -27,8 +27,7 @@ ip_mtu_of c = c.max_transmission_unit - header_len c.medium
 abbrev pub FitsIpHeader : DeviceCapabilities → ℕ → Type 0
 FitsIpHeader c n = HasIpMtu c × (n ≤ ip_mtu_of c)
 
--- the longest payload of a fragment: what is left beside an IP header of n bytes, down to a
--- multiple of 8
+-- the longest payload of a fragment: what is left besides an IP header of n bytes, down to a multiple of 8
 abbrev pub fragment_size_of : DeviceCapabilities → ℕ → ℕ
 fragment_size_of c n = (ip_mtu_of c - n) - (ip_mtu_of c - n) % 8
 

@@ -32,5 +32,5 @@ pub use rx_token::RxToken;
 pub use segmentation_capabilities::SegmentationCapabilities;
 pub use tx_token::TxToken;
 
-/// The payload of each IPv4 fragment but the last is a multiple of this many bytes.
+/// The payload of each IPv4 fragment except the last is a multiple of this many bytes.
 pub const IPV4_FRAGMENT_PAYLOAD_ALIGNMENT: usize = 8;

@@ -16,8 +16,8 @@ const LAST_RESERVED_PORT: u16 = 1024;
 
 /// A generator of random words. Contracts see its state, a number below 2^64.
 ///
-/// It serves for source ports and for tests. Random words are no secret: who knows one state knows
-/// all that follow.
+/// It serves for source ports and for tests. Random words are no secret: anyone who knows one state
+/// knows all that follow.
 #[derive(Debug, Drop)]
 pub struct Rand {
     state: u64,
@@ -68,8 +68,8 @@ impl Rand {
     }
 
     /// Goes on to the next state, and returns a number below `bound`: the part of `bound` that its
-    /// random word is of 2^32, rounded down; 0 if `bound` is 0. Each number below `bound` stands for
-    /// as many words as each other, or for one more. smoltcp has no such call.
+    /// random word is of 2^32, rounded down; 0 if `bound` is 0. Each number below `bound` is the
+    /// result for equally many words, or for one more. smoltcp has no such call.
     pub fn below(&mut self, bound: u32) -> u32
         ensures state { self.new ≡ successor self.old }
         ensures value { result ≡ random_word self.new * bound / 2 ^ 32 }
@@ -82,8 +82,8 @@ impl Rand {
 
     /// Draws 16 bits until a draw is above 1024, returns that draw, and stays at its state.
     ///
-    /// It returns from every state, after at most 2^64 draws: `laws::full_period` says that each
-    /// state lies ahead of each other, so one whose draw is above 1024 does.
+    /// It returns from every state, after at most 2^64 draws: by `laws::full_period` each state
+    /// leads to every state, so also to one whose draw is above 1024.
     pub fn rand_source_port(&mut self) -> u16
         ensures { IsPort self.old result self.new }
     {

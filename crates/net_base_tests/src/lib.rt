@@ -1,8 +1,8 @@
 //! The tests of `net_base`, each through its public calls, and a device of its trait that is no
 //! loopback.
 //!
-//! They stand in a crate of their own, so that what stands on `net_base` doesn't wait for them and
-//! links nothing that only tests need.
+//! They are in a crate of their own, so that crates that use `net_base` don't wait for them, and
+//! link nothing that only tests need.
 #![tactic(auto)]
 
 #[cfg(test)]

@@ -124,7 +124,7 @@ impl<const N: usize> Subject for Pair<N> {
     }
 }
 
-/// Returns the reply with the run of a number behind it, if there is one.
+/// Returns the reply followed by the run of a number, if there is one.
 fn show_run<const N: usize>(assembler: &Assembler<N>, number: usize, reply: Reply) -> Reply {
     match assembler.run_at(number) {
         Some((start, end)) => reply.and(Part::Run(start as u64, end as u64)),

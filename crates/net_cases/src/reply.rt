@@ -56,22 +56,22 @@ impl Reply {
         Reply::new().and(Part::Word(word))
     }
 
-    /// Returns the reply with a number behind it.
+    /// Returns the reply followed by a number.
     pub fn number(self, number: u64) -> Reply {
         self.and(Part::Number(number))
     }
 
-    /// Returns the reply with a count behind it.
+    /// Returns the reply followed by a count.
     pub fn count(self, count: usize) -> Reply {
         self.and(Part::Number(count as u64))
     }
 
-    /// Returns the reply with 1 behind it if a fact holds, and else 0.
+    /// Returns the reply followed by 1 if a fact holds, otherwise by 0.
     pub fn truth(self, holds: bool) -> Reply {
         self.and(Part::Number(u64::from(holds)))
     }
 
-    /// Returns the reply with bytes behind it.
+    /// Returns the reply followed by bytes.
     pub fn bytes(self, bytes: &[u8]) -> Reply {
         self.and(shown(bytes))
     }

@@ -1,4 +1,4 @@
--- Numbers as words write them.
+-- Numbers in decimal digits.
 --     number_of word      the number that a word writes
 use Rattle.std.specs.Prelude.{ℕ, ◌^◌, ◌==◌, ◌&&◌, ◌||◌, nat_lt, if◌then◌else◌, Bool}
 use Rattle.std.specs.Prelude.{List, length, slice_index, Option, Some, None}

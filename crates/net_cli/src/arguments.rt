@@ -6,8 +6,8 @@ use std::alloc::{AllocError, Allocator, Global};
 use std::env;
 use std::env::Env;
 
-/// Returns all words that the iterator gives, in their order; or an error if memory for one of them
-/// was refused, and then none of them.
+/// Returns all words that the iterator gives, in order; or an error if memory for one of them was
+/// refused.
 ///
 /// # Requires
 ///

@@ -1,4 +1,5 @@
-//! What a command line needs: its words, the numbers that words write, and how a program ends.
+//! What a program needs of a command line: its words, numbers in decimal digits, and how the
+//! program ends.
 #![tactic(auto)]
 
 mod arguments;

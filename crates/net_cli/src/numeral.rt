@@ -1,4 +1,4 @@
-//! Numbers as words write them.
+//! Numbers in decimal digits.
 ghost use Rattle.std.specs.Prelude.{◌≡◌};
 ghost use Rattle.net_cli.specs.Numeral.{begins_numeral, number_of};
 
@@ -9,7 +9,8 @@ fn begins_numeral(word: &[u8]) -> bool
     !word.is_empty() && (word[0] > b'0' || word.len() == 1)
 }
 
-/// Returns the number that a word writes, if it is a numeral and the number fits 64 bits.
+/// Returns the number that a word is in decimal digits, if it is a numeral and the number fits 64
+/// bits.
 pub fn number(word: &[u8]) -> Option<u64>
     ensures { result ≡ number_of word.now }
 {

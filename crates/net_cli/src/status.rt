@@ -10,11 +10,11 @@ use std::process::ExitCode;
 pub enum Status {
     /// 0: all was done.
     Done,
-    /// 1: there was an error, and standard error says which.
+    /// 1: there was an error, which standard error says.
     Failed,
     /// 2: the words of the command line ask for nothing, and standard error says which words do.
     Misused,
-    /// 3: the program gave up what it was asked for, and standard error says so.
+    /// 3: the program gave up, and standard error says so.
     GaveUp,
 }
 

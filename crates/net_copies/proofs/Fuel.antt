@@ -1,5 +1,5 @@
 -- How many turns and rounds a copy makes at most, and what comes of it.
-use Rattle.std.proofs.Common.{◌≡◌, ◌⊎◌, ◌||◌, ℕ, zero, suc, ◌+◌, ◌-◌, ◌*◌, ◌≤◌, ◌<◌, min, not, nat_eq, nat_lt, Bool, true, false, cond, List, [], ◌∷◌, length, refl, sym, ap, arith, ⊎_elim, inl, inr, length-append, mul-le-mul_right}
+use Rattle.std.proofs.Common.{◌≡◌, ◌⊎◌, ◌||◌, ◌∙◌, ℕ, zero, suc, ◌+◌, ◌-◌, ◌*◌, ◌≤◌, ◌<◌, min, not, nat_eq, nat_lt, Bool, true, false, cond, List, [], ◌∷◌, length, refl, sym, ap, arith, ⊎_elim, inl, inr, length-append, mul-le-mul_right}
 use Rattle.std.proofs.lemmas.Bool.{cases_lt, ltb-true}
 use Rattle.std.proofs.lemmas.Bool.Decides.{nat_tests}
 use Rattle.std.proofs.Math.Nat.{add-mul}
@@ -168,20 +168,22 @@ final_is known s reads n fits over =
 pub copied_is : Known → CopiedIs
 copied_is known s reads n fits over = ap outcome (final_is known s reads n fits over)
 
+-- one turn before the n-th ended it
+abbrev OneTurn : Setup → List (List ℕ) → ℕ → Type 0
+OneTurn s reads n = (k : ℕ) × (k < n) × ((after s reads k).status ≡ Running) × (after s reads (suc k) ≡ after s reads n)
+
 pub ends_in_one_turn : EndsInOneTurn
 ends_in_one_turn s reads zero over = absurd (over refl)
-ends_in_one_turn s reads (suc n) over = by (after s reads n).status refl
+ends_in_one_turn s reads (suc n) over = by (λ before. ends_in_one_turn s reads n before) (after s reads n).status refl
   where
-    ended_before : HasEnded (after s reads n) →
-        (k : ℕ) × (k < suc n) × ((after s reads k).status ≡ Running) × (after s reads (suc k) ≡ after s reads (suc n))
-    ended_before before =
-        let h = ends_in_one_turn s reads n before in
-        let few = h.1.0 in
-        (h.0, (let l : h.0 < suc n = omega arith in l), h.1.1.0, h.1.1.1 ∙ sym (ended s.rounds s.chunk (after s reads n) before))
+    earlier : (HasEnded (after s reads n) → OneTurn s reads n) → HasEnded (after s reads n) → OneTurn s reads (suc n)
+    earlier before stays =
+        let h = before stays in
+        let few = h.1 in
+        (h.0, (let l : h.0 < suc n = omega arith in l), h.2, h.3 ∙ sym (ended s.rounds s.chunk (after s reads n) stays))
 
-    by : (st : Status) → (after s reads n).status ≡ st →
-        (k : ℕ) × (k < suc n) × ((after s reads k).status ≡ Running) × (after s reads (suc k) ≡ after s reads (suc n))
-    by Running e = (n, (let l : n < suc n = omega arith in l), e, refl)
-    by Done e = ended_before (λ r. absurd (cc))
-    by GaveUp e = ended_before (λ r. absurd (cc))
-    by ReadFailed e = ended_before (λ r. absurd (cc))
+    by : (HasEnded (after s reads n) → OneTurn s reads n) → (st : Status) → (after s reads n).status ≡ st → OneTurn s reads (suc n)
+    by before Running e = (n, (let l : n < suc n = omega arith in l), e, refl)
+    by before Done e = earlier before (λ r. absurd (cc))
+    by before GaveUp e = earlier before (λ r. absurd (cc))
+    by before ReadFailed e = earlier before (λ r. absurd (cc))

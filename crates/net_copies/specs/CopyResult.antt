@@ -1,9 +1,9 @@
--- What comes of a copy, from a reader over a link to a writer.
+-- The results of a copy, from a reader over a link to a writer.
 --     Copied s status had has held holds counts      a copy that has ended so
 --     before_pass s reads n      the copy when the round begins that follows n turns
 --     EndsRound error chunk c link written      a round that the error ended
 --     CopiedPart s error had has held holds counts      a copy that ended within a round
---     HasCopied s result had has held holds counts      what comes of a copy, by its result
+--     HasCopied s result had has held holds counts      what a copy did, by its result
 --     HasNotBegun result had has held holds counts      a copy that had no memory to begin with
 --     Copies old new had has read wrote complete      what came, and what was written
 --     gave_up e      whether a copy ended because it made no progress any more
@@ -23,7 +23,7 @@ use Rattle.net_copies.specs.declared.error.LinkError.TheVariants.{GaveUp, OutOfM
 use Rattle.net_copies.specs.declared.error.LinkError.TheVariants.{ReadFailed, WriteFailed}
 
 -- ---- exactly
--- a copy that has ended so: it is what comes of the reads that were made, and those are all
+-- a copy that has ended so: it is the outcome of the reads that were made, and those are all
 pub record Copied (s : Setup) (status : Status) (had has held holds : Option (List ℕ)) (counts : Counts)
     : Type 0 where
   pub reads : List (List ℕ)
@@ -67,7 +67,7 @@ pub record CopiedPart (s : Setup) (error : LinkError) (had has held holds : Opti
   pub consumed : Consumes had has (concat reads)
   pub appended : Appends held holds ((before_pass s reads turns).written ++ written)
 
--- what comes of a copy, by its result; where all was written, a flush that fails is a failed write
+-- what a copy did, by its result; if all was written, a flush that fails is a failed write
 abbrev pub HasCopied : {T : Type 0} → Setup → Result T LinkError → (had has held holds : Option (List ℕ))
     → Counts → Type 0
 HasCopied s (Ok t) had has held holds counts = Copied s Done had has held holds counts

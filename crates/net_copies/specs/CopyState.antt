@@ -1,15 +1,15 @@
 -- A copy as a function of what its reads gave and of the fates (docs/LINK.md, "A turn").
---     Setup, setup_of config fates ack_fates      all that a copy is given beside its reads
+--     Setup, setup_of config fates ack_fates      all that a copy is given besides its reads
 --     Status      how far a copy is
---     CopyState, begin s reads      all that a copy is seen as, and how it begins
+--     CopyState, begin s reads      the model of a copy, and how it begins
 --     is_written l      whether all that was read is written
 --     feed chunk c      a read, if it is time for one
 --     decide rounds c      whether the copy is done, or gives up
---     pass chunk c      a round, and what it brings is written
+--     pass chunk c      a round, and then the bytes that it delivers are written
 --     turn rounds chunk c      these three; nothing once the copy has ended
 --     after s reads n      the copy after n turns
---     Outcome, outcome c      what comes of it
---     final s reads, copied s reads      the copy once it has ended, and what comes of it
+--     Outcome, outcome c      the outcome of a copy
+--     final s reads, copied s reads      the copy once it has ended, and its outcome
 use Rattle.std.specs.Prelude.{ℕ, suc, ◌+◌, ◌*◌, ◌-◌, ◌^◌, ◌&&◌, ◌||◌, not, min, max, nat_lt, nat_le, nat_eq}
 use Rattle.std.specs.Prelude.{if◌then◌else◌, Bool, true, false}
 use Rattle.std.specs.Prelude.{List, [], ◌∷◌, ◌++◌, length, take, drop, flat_map}

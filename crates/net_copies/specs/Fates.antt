@@ -1,4 +1,4 @@
--- What becomes of frames.
+-- The fates of frames.
 --     fate_of rates random_word      the fate that a random word represents
 --     FatesState      the fates of a list, and after it those that a generator draws
 --     next_fate v, after_fate v      the next fate, and the fates that are left then

@@ -4,7 +4,7 @@
 --     Part      some bytes, and whether they are spared: then no frame has them
 --     frames_from p parts      the frames of parts that follow one another from position p on
 --     part_bytes parts      the bytes of parts
---     FrameMatches f w frame      the frame brings nothing but what the stream w has
+--     FrameMatches f w frame      the frame has only bytes of the stream w
 --     FramesDecode, DistinctFrames      laws of frames
 use Rattle.std.specs.Prelude.{◌≡◌, ℕ, ◌+◌, ◌<◌, ◌^◌, if◌then◌else◌, nat_lt, Bool, true, false}
 use Rattle.std.specs.Prelude.{List, [], ◌∷◌, ◌++◌, length, take, drop, Option, Some, None}
@@ -45,6 +45,6 @@ abbrev pub part_bytes : List Part → List ℕ
 part_bytes [] = []
 part_bytes ((spared, xs) ∷ parts) = xs ++ part_bytes parts
 
--- the frame brings nothing but what the stream w has, whose first byte has position f
+-- the frame has only bytes of the stream w, whose first byte has position f
 abbrev pub FrameMatches : ℕ → List ℕ → List ℕ → Type 0
 FrameMatches f w frame = (pos : ℕ) (xs : List ℕ) → segment_of frame ≡ Some (pos, xs) → MatchesStream f w pos xs

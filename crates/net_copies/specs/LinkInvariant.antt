@@ -1,6 +1,6 @@
--- What is true of a link whatever becomes of its frames.
+-- What is true of a link, whatever happens to its frames.
 --     HasAllOf r ranges      the receiver has each position of the ranges
---     AckMatches r frame      an acknowledgement tells nothing but what the receiver has
+--     AckMatches r frame      an acknowledgement lists only bytes that the receiver has
 --     PartsInvariant f w s r forward reverse      the stream w, whose first byte has position f, is at the sender s,
 --         at the receiver r and on the two paths between them
 --     LinkInvariant f w link      the same of a link
@@ -26,9 +26,8 @@ abbrev pub AckMatches : ReceiverState → List ℕ → Type 0
 AckMatches r frame = (n : ℕ) (xs : List ℕ) → segment_of frame ≡ Some (n, xs) →
     (n ≤ next_position r) × HasAllOf r (blocks_of most_sack_blocks xs)
 
--- w was written to the sender; each frame brings nothing but parts of w, and so did each that came to
--- the receiver; each acknowledgement tells of bytes that the receiver has, and so did each that came
--- to the sender
+-- w was written to the sender; each frame has only bytes of w, and so had each that arrived at the receiver; each
+-- acknowledgement lists only bytes that the receiver has, and so did each that arrived at the sender
 pub record PartsInvariant (f : ℕ) (w : List ℕ) (s : SenderState) (r : ReceiverState)
     (forward reverse : PathState) : Type 0 where
   pub sends : Sends f w s
@@ -40,7 +39,7 @@ pub record PartsInvariant (f : ℕ) (w : List ℕ) (s : SenderState) (r : Receiv
   pub behind : s.first_unacknowledged ≤ next_position r
   pub sack_blocks : HasAllOf r s.sack_blocks
 
--- w was written to the sender, each frame brings nothing but parts of w, and each acknowledgement
--- tells of bytes that the receiver has
+-- w was written to the sender, each frame has only bytes of w, and each acknowledgement lists only bytes that the
+-- receiver has
 abbrev pub LinkInvariant : ℕ → List ℕ → LinkState → Type 0
 LinkInvariant f w link = PartsInvariant f w link.sender link.receiver link.forward link.reverse

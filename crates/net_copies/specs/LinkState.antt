@@ -1,5 +1,5 @@
 -- A link as one value, and what each step of a round makes of it (docs/LINK.md, "A round is this").
---     LinkState      all that a link is seen as
+--     LinkState      the model of a link
 --     times n f s      f, n times over
 --     Cursor, part, transmit      step 1: the sender's frames are sent, part by part
 --     come s frame      a frame comes to the receiver, which acknowledges what it then has

@@ -1,5 +1,5 @@
--- What is promised of every copy: laws over the function of CopyState.antt alone. In each, s is the setup,
--- reads what the reads give, and n a number of turns.
+-- What is promised of every copy: laws over the function of CopyState.antt. In each, s is the setup, reads what the
+-- reads give, and n a number of turns.
 --     StartsFits s      the position of the first byte fits 64 bits
 --     CanPass s c      the buffers have room for a byte, and not all positions are used up
 --     before_end reads      the bytes before the input's end
@@ -11,7 +11,7 @@
 --     frames_sent l, acks_sent l      how many frames and acknowledgements a round sends
 --     Fails follow l      what fails in a round that makes no progress
 --     GivesUpIfFailed      it gives up only if each of these rounds failed
---     NoneLost v, NeverByDelays      delays and duplicates alone never end it
+--     NoneLost v, NeverByDelays      delays and duplicates never end it
 --     EndsIfAllCome      over a link that loses and delays nothing it doesn't give up
 --     has_end reads, DoneIfAllCome      it is done, if the input's end comes
 --     CountsRounds, CountsEachFate      what the counts of rounds and of frames are
@@ -20,10 +20,10 @@
 --     EnoughRounds, RoundsAtOnce      bounds where it is done, and where nothing is lost or delayed
 --     FewRounds, FewRoundsAnyway, FewFrames      bounds
 --     RoundDelaysFew, FewDelayed      how much is delayed after a round
---     HasEnded c, Stays, FinalIs, CopiedIs      an ended copy stays as it is, so that it is what comes of it
+--     HasEnded c, Stays, FinalIs, CopiedIs      an ended copy stays as it is, and gives the outcome
 --     EndsInOneTurn      it ended in the turn after those in which it went on
---     Fills s reads      each read fills its room, but for the last one before the input's end
---     SameBytes, AllAtOnce      then what comes of a copy depends on the bytes alone
+--     Fills s reads      each read fills its room, except the last one before the input's end
+--     SameBytes, AllAtOnce      then the outcome of a copy depends only on the bytes
 use Rattle.std.specs.Prelude.{Bool, true, false, ◌≡◌, ℕ, suc, ◌+◌, ◌-◌, ◌*◌, ◌<◌, ◌≤◌, ◌^◌, ◌⊎◌, min, List, [], ◌∷◌, ◌++◌, length}
 use Rattle.std.specs.Io.{StartsWith}
 use Rattle.net_copies.specs.Fates.{FatesState, next_fate, fates_after, AllCome}
@@ -240,7 +240,7 @@ abbrev pub EndsInOneTurn : Type 0
 EndsInOneTurn = (s : Setup) (reads : List (List ℕ)) (n : ℕ) → HasEnded (after s reads n) →
     (k : ℕ) × (k < n) × ((after s reads k).status ≡ Running) × (after s reads (suc k) ≡ after s reads n)
 
--- what comes of a copy is what came of it when it had ended
+-- the outcome of a copy is its outcome when it had ended
 abbrev pub CopiedIs : Type 0
 CopiedIs = (s : Setup) (reads : List (List ℕ)) (n : ℕ) → StartsFits s → HasEnded (after s reads n) →
     copied s reads ≡ outcome (after s reads n)
@@ -258,17 +258,17 @@ abbrev pub FillsAt : ℕ → CopyState → Type 0
 FillsAt chunk c = (xs : List ℕ) (rest : List (List ℕ)) → Asks chunk c → c.reads ≡ xs ∷ rest →
     (room_for chunk c.link ≤ length xs) ⊎ (before_end rest ≡ [])
 
--- each read fills its room, but for the last one before the input's end
+-- each read fills its room, except the last one before the input's end
 abbrev pub Fills : Setup → List (List ℕ) → Type 0
 Fills s reads = (n : ℕ) → FillsAt s.chunk (after s reads n)
 
--- what comes of a copy then depends on the bytes alone, however the reads cut them
+-- the outcome of a copy then depends only on the bytes, however the reads split them
 abbrev pub SameBytes : Type 0
 SameBytes = (s : Setup) (reads others : List (List ℕ)) → StartsFits s → Fills s reads → Fills s others →
     has_end reads ≡ has_end others → before_end reads ≡ before_end others →
     copied s reads ≡ copied s others
 
--- so it is what comes of a copy whose reader has all of them at once
+-- so it is that of a copy whose reader gives all of them at once
 abbrev pub AllAtOnce : Type 0
 AllAtOnce = (s : Setup) (reads : List (List ℕ)) → StartsFits s → Fills s reads → has_end reads ≡ true →
     copied s reads ≡ copied s (before_end reads ∷ [] ∷ [])

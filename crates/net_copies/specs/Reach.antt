@@ -10,7 +10,7 @@ use Rattle.net_copies.specs.SenderState.{SenderState, after_ack_frame}
 use Rattle.net_copies.specs.Frames.{segment_of}
 use Rattle.net_copies.specs.Transmission.{IsSackedIf}
 
--- a frame that begins past p brings nothing that counts
+-- a frame that begins past p doesn't count
 abbrev pub reach_one : ℕ → Option (ℕ × List ℕ) → ℕ
 reach_one p None = p
 reach_one p (Some (pos, xs)) = if nat_le pos p then max p (pos + length xs) else p

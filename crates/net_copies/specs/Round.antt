@@ -55,9 +55,9 @@ RoundPasses = (s : LinkState) → s.counts.payload < 2 ^ 64 → Passes s (round 
 abbrev pub HasRoomFor : LinkState → Type 0
 HasRoomFor link = end_of link.sender ≤ limit_of link.receiver
 
--- a round; if all its frames and acknowledgements come, and the free window has room, it brings the
--- receiver to the end of what was sent, and leaves the sender the rest: nothing, if all was sent,
--- as it is if the burst isn't used up and there are fewer SACK blocks than there can be
+-- a round; if all its frames and acknowledgements arrive, and the free window has room, the receiver then has all that
+-- was sent, and the sender the rest: nothing, if all was sent, as it is if the burst isn't used up and there are fewer
+-- SACK blocks than there can be
 pub record Round (old new : LinkState) : Type 0 where
   pub passed : Passes old new
   pub delivers : (f : ℕ) (w : List ℕ) → LinkInvariant f w old → HasRoomFor old

@@ -19,8 +19,8 @@ use Rattle.std.specs.Prelude.{◌≡◌, ℕ, ◌+◌, ◌-◌, ◌≤◌, ◌^�
 use Rattle.std.specs.Prelude.{if◌then◌else◌, List, [], ◌∷◌, ◌++◌, length, drop, Option, Some, None}
 use Rattle.net_copies.specs.SackBlocks.{count_from, next_start, greatest_end, is_full, most_sack_blocks, blocks_of}
 
--- what a sender is seen as: a byte of position `wraps_at` is at the storage's beginning, and one before
--- it is at an index less by `wraps_at` minus its position than the storage's length
+-- the model of a sender: a byte of position `wraps_at` is at the storage's beginning, and one before it is at an index
+-- less by `wraps_at` minus its position than the storage's length
 pub record SenderState : Type 0 where
   pub capacity : ℕ
   pub first_unacknowledged : ℕ

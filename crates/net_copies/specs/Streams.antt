@@ -1,4 +1,4 @@
--- What follows of the stream on a link, from the functions alone.
+-- Laws of the stream on a link, over the functions only.
 --     Known      what other laws say of frames, of held runs and of receivers
 --     LinkInvariantFits f w l      the invariant of a link, whose positions fit 64 bits
 --     RoundKeepsInvariant, StopKeepsInvariant      laws: a round keeps it, and so does one that lacked memory

@@ -1,5 +1,5 @@
 -- A copy computed in full.
---     WorkedCopy      a law: what comes of two bytes in frames of one byte, of which the first is lost
+--     WorkedCopy      a law: the outcome for two bytes in frames of one byte, of which the first is lost
 use Rattle.std.specs.Prelude.{◌≡◌, List, [], ◌∷◌}
 use Rattle.net_copies.specs.declared.fate.Fate.{Fate}
 use Rattle.net_copies.specs.declared.fate.Fate.TheVariants.{Delivered, Lost}

@@ -1,11 +1,12 @@
 //! The config of a copy.
 
-/// What a copy goes by.
+/// The settings of a copy.
 #[derive(Debug, Clone, Copy, PartialEq, Eq, Drop)]
 pub struct Config {
     /// The position of the stream's first byte.
     pub first: u64,
-    /// The capacity of the sender and of the receiver, in bytes. With 0 a copy gives up.
+    /// The capacity of the sender and of the receiver, in bytes. With 0 a copy reads nothing, and
+    /// gives up.
     pub capacity: usize,
     /// The most bytes of a frame's payload; 0 counts as 1.
     pub payload: u32,

@@ -4,7 +4,7 @@ ghost use Rattle.net_copies.specs.Counts.{more, with_fate, no_frames, no_counts}
 
 use crate::fate::Fate;
 
-/// What is counted of the frames of a link. Each count stays at the greatest number of 64 bits.
+/// The counts of the frames of a link. Each count stays at the greatest number of 64 bits.
 #[derive(Debug, Clone, Copy, PartialEq, Eq, Drop)]
 pub struct FrameCounts {
     /// How many frames were sent, acknowledgements too.
@@ -60,7 +60,7 @@ impl FrameCounts {
     }
 }
 
-/// What is counted of a copy. Each count stays at the greatest number of 64 bits.
+/// The counts of a copy. Each count stays at the greatest number of 64 bits.
 #[derive(Debug, Clone, Copy, PartialEq, Eq, Drop)]
 pub struct Counts {
     /// How many bytes the reader gave.
@@ -71,7 +71,7 @@ pub struct Counts {
     pub rounds: u64,
     /// How many microseconds the rounds took, in simulated time.
     pub micros: u64,
-    /// What became of the frames.
+    /// The counts of frames and their fates.
     pub frames: FrameCounts,
 }
 
@@ -89,8 +89,8 @@ impl Counts {
         }
     }
 
-    /// Returns how many bytes were sent more than once: what frames carried beyond what the reader
-    /// gave.
+    /// Returns how many bytes were sent more than once: the bytes that frames carried, less those
+    /// that the reader gave.
     pub fn sent_again(&self) -> u64
         ensures { result ≡ self.now.frames.payload - self.now.bytes_read }
     {

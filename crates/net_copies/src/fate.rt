@@ -2,7 +2,7 @@
 ghost use Rattle.std.specs.Prelude.{◌≡◌};
 ghost use Rattle.net_copies.specs.Fates.{fate_of, comes, comes_delayed};
 
-/// What becomes of a frame.
+/// What happens to a frame.
 #[derive(Debug, Clone, Copy, PartialEq, Eq, Drop)]
 pub enum Fate {
     /// It comes at once.

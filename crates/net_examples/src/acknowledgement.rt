@@ -6,8 +6,8 @@ ghost use Rattle.net_receiver.specs.ReceiverState.{next_position};
 
 use net_receiver::{Receiver, SequenceNumber};
 
-/// A TCP segment comes, and is kept as far as the window goes. Returns what to send back: the number of
-/// the first missing byte, and how many bytes have room from there on, at most 65,535.
+/// Takes a TCP segment, and keeps its bytes within the window. Returns what to send back: the
+/// number of the first missing byte, and how many bytes have room from there on, at most 65,535.
 ///
 /// `initial` is the number of the stream's first byte, the one after the SYN's, and `number` that of the
 /// segment's.

@@ -36,7 +36,8 @@ pub fn ask<A: Allocator + Copy>(
     Ok(Some(count))
 }
 
-/// Sends a text over a link in so many rounds, and reads what comes. Returns how many bytes came.
+/// Sends a text over a link in so many rounds, and reads what arrives. Returns how many bytes
+/// arrived.
 fn deliver<A: Allocator + Copy>(
     link: &mut Link<'_, '_, A>,
     text: &[u8],
@@ -57,7 +58,7 @@ fn deliver<A: Allocator + Copy>(
     Ok(came)
 }
 
-/// Writes more of a text, of which `from` bytes were written. Returns how many are then.
+/// Writes more of a text, of which `from` bytes were written. Returns how many are written then.
 fn write_more<A: Allocator + Copy>(link: &mut Link<'_, '_, A>, text: &[u8], from: usize) -> usize
     requires { from ≤ length text.now }
     ensures carries { LinkInvariant 0 (take from text.now) link.old →
@@ -78,7 +79,7 @@ fn pass<A: Allocator + Copy>(link: &mut Link<'_, '_, A>) -> Result<(), AllocErro
     Ok(())
 }
 
-/// Reads more into a buffer, into which `from` bytes were read. Returns how many were then.
+/// Reads more into a buffer, into which `from` bytes were read. Returns how many are read then.
 fn read_more<A: Allocator + Copy>(link: &mut Link<'_, '_, A>, into: &mut [u8], from: usize) -> usize
     requires { (from ≤ length into.old) × (link.old.receiver.read ≡ from) }
     ensures carries { (w : List ℕ) → LinkInvariant 0 w link.old → LinkInvariant 0 w link.new }

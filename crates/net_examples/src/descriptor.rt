@@ -5,7 +5,7 @@ ghost use Rattle.std.specs.Fn.{FnOnceTakesAtMut, FnOnceReturnsAtMut};
 /// The bytes of the longest frame.
 pub const FRAME_SIZE: usize = 128;
 
-/// Memory for one frame, and how many bytes of it are one.
+/// Memory for one frame, and the frame's length.
 #[derive(Debug, Clone, Copy)]
 pub struct Descriptor {
     len: usize,
@@ -29,7 +29,7 @@ impl Descriptor {
         &self.bytes[..self.len]
     }
 
-    /// Calls a closure on so many zeros. Returns a frame of what it made of them, and what it
+    /// Calls a closure on so many zeros. Returns the frame that it left there, and what it
     /// returned.
     pub fn written<R, F: FnOnce(&mut [u8]) -> R>(len: usize, f: F) -> (Descriptor, R)
         requires fits { len ≤ 128 }

@@ -17,11 +17,11 @@ use net_base::time::Instant;
 use net_ring::{Empty, RingBuffer};
 use std::alloc::AllocError;
 
-/// A device whose frames are in two rings of descriptors, memory that it shares with hardware:
-/// the frames that came, and those that are to be sent.
+/// A device whose frames are in two rings of descriptors, memory that it shares with hardware: the
+/// frames that arrived, and those that are to be sent.
 #[derive(Drop)]
 pub struct DescriptorRings<'a> {
-    /// The frames that came. Hardware puts them in.
+    /// The frames that arrived. Hardware puts them in.
     pub received: RingBuffer<'a, Descriptor>,
     /// The frames that are to be sent. Hardware takes them out.
     pub to_send: RingBuffer<'a, Descriptor>,
@@ -167,8 +167,8 @@ pub fn send_now(device: &mut DescriptorRings<'_>, bytes: &[u8], now: Instant) ->
     sent.is_ok()
 }
 
-/// Sends the next frame back, if one came and a descriptor is free. It is never refused: a frame is
-/// only taken off where there is room for the reply.
+/// Sends the next frame back, if one arrived and a descriptor is free. It is never refused: a frame
+/// is only taken off if there is room for the reply.
 pub fn bounce(device: &mut DescriptorRings<'_>, now: Instant) -> Result<bool, AllocError>
     ensures never_refused { IsOk result }
     ensures bounced { result ≡ Ok true → (frame : List ℕ)

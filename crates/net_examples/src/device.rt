@@ -5,7 +5,7 @@ use net_base::phy::{Device, DeviceCapabilities, RxToken};
 use net_base::time::Instant;
 use std::alloc::AllocError;
 
-/// The frames of another device, but for those that are too short to have an Ethernet header.
+/// The frames of another device, except those that are too short to have an Ethernet header.
 #[derive(Drop)]
 pub struct Undamaged<D: Device + Drop> {
     pub device: D,

@@ -4,7 +4,7 @@ ghost use Rattle.net_ring.specs.Ring.{queue, window};
 
 use net_ring::RingBuffer;
 
-/// Enqueues a whole message, or nothing of it where there isn't room.
+/// Enqueues a whole message, or nothing of it if there isn't room.
 pub fn send(ring: &mut RingBuffer<'_, u8>, message: &[u8]) -> bool
     ensures room { IsTrue result ↔ (length message.now ≤ window ring.old) }
     ensures sent { IsTrue result → queue ring.new ≡ queue ring.old ++ message.now }

@@ -25,7 +25,8 @@ fn newline_in(first: &[u8], second: &[u8]) -> Option<usize>
 }
 
 /// Takes the first line off, with its newline, and copies both to `into`. Returns the length of the
-/// line. `None`, and nothing changes, exactly if no newline came, or `into` has no room for it.
+/// line. `None`, and nothing changes, exactly if there is no newline, or `into` has no room for the
+/// line.
 pub fn take_line(ring: &mut RingBuffer<'_, u8>, into: &mut [u8]) -> Option<usize>
     ensures line { IfSome result (λ n. (position (λ byte. byte == 10) (queue ring.old) ≡ Some n)
         × (n < length into.old)

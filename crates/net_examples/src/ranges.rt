@@ -5,8 +5,8 @@ ghost use Rattle.net_assembler.specs.Positions.{front, with_range};
 
 use net_assembler::{Assembler, TooManyHolesError};
 
-/// Adds the range of the bytes that came, and returns the front: how many bytes are complete from
-/// position 0 on. It is refused exactly if that would make more than `N` runs.
+/// Adds the range of the bytes that arrived, and returns the front: how many bytes are complete
+/// from position 0 on. It is refused exactly if that would make more than `N` runs.
 pub fn came<const N: usize>(
     assembler: &mut Assembler<N>,
     offset: usize,

@@ -4,7 +4,8 @@ ghost use Rattle.net_base.specs.Time.{IsMoment};
 
 use net_base::time::{Duration, Instant};
 
-/// Expires a timeout after it was armed. Each time it may be made to wait twice as long.
+/// A timer that expires a timeout after it was armed. Each time it can be made to wait twice as
+/// long.
 #[derive(Debug, Clone, Copy)]
 pub struct Timer {
     timeout: Duration,
@@ -31,7 +32,7 @@ impl Timer {
         self.deadline <= now
     }
 
-    /// Arms it anew, to wait twice as long as before, or as long as can be.
+    /// Arms it anew, to wait twice as long as before, or the longest time there is.
     pub fn back_off(&mut self, now: Instant)
         ensures timeout { self.new.timeout ≡ min (self.old.timeout * 2) (2 ^ 64 - 1) }
         ensures deadline { IsMoment (now +ℤ pos self.new.timeout)

@@ -8,8 +8,8 @@ use std::io::Write;
 /// Writes all of the text. A write that returns an error or takes no byte ends it; the error is how
 /// many bytes were written before.
 ///
-/// std's `write_all` tries a write again that was interrupted, and says nothing of what was written
-/// before an error; here nothing is tried again.
+/// std's `write_all` tries an interrupted write again, and doesn't say what was written before an
+/// error; here nothing is tried again.
 pub fn write_text<W: Write>(writer: &mut W, text: &[u8]) -> Result<(), usize>
     ensures ok { OnOk result (Appends (W.contents writer.old) (W.contents writer.new) text.now) }
     ensures err { IfErr result (λ count. (count < length text.now)
@@ -25,8 +25,8 @@ pub fn write_text<W: Write>(writer: &mut W, text: &[u8]) -> Result<(), usize>
     Ok(())
 }
 
-/// Flushes a writer, and returns how the work over it ended: a flush that fails where the work
-/// succeeded is the error `failed`, and it takes no other error's place.
+/// Flushes a writer, and returns how the work over it ended: if the work succeeded and the flush
+/// fails, that is the error `failed`; another error stays.
 pub fn flush_after<E: Drop, W: Write>(
     ended: Result<(), E>,
     failed: E,

@@ -1,11 +1,11 @@
--- What comes of the words of a command line.
+-- The results of the words of a command line.
 --     config_of plan, rates_of plan      what a copy goes by
 --     fates_of plan, ack_fates_of plan      the fates of frames and of acknowledgements
---     setup_for plan      all that a copy is given beside its reads
+--     setup_for plan      all that a copy is given besides its reads
 --     status_of ended      the status after a copy
---     CopiesOver plan old new had has said says ended      what came of a copy
---     Helps had has said says ended      what came of a word that asks how the program is used
---     ComesOf words asked old new had has said says ended      what came of words
+--     CopiesOver plan old new had has said says ended      the results of a copy
+--     Helps had has said says ended      the results of a word that asks how the program is used
+--     ComesOf words asked old new had has said says ended      the results of words
 use Rattle.std.specs.Prelude.{◌≡◌, ◌⊎◌, ℕ, ◌-◌, ◌^◌, List, [], Option, Bool, true, false, Result, Ok, Err, codes}
 use Rattle.std.specs.Io.KnownBytes.{Appends, Keeps}
 use Rattle.net_io.specs.Writer.{AppendsPrefix}

@@ -19,7 +19,7 @@ bytes_a_second c = min (c.bytes_written * 1000000) (2 ^ 64 - 1) / max c.micros 1
 abbrev pub bytes_sent_again : Counts → ℕ
 bytes_sent_again c = c.frames.payload - c.bytes_read
 
--- what became of frames
+-- the counts of frames
 abbrev pub frames_text : FrameCounts → List ℕ
 frames_text c =
     decimal c.sent ++ codes " frames, " ++ decimal c.lost ++ codes " lost, "

@@ -1,4 +1,4 @@
--- What the program says of its words.
+-- The messages on the program's words.
 --     usage_text      how the program is used
 --     count_lines n      what is wrong with so many numbers, as a line, and how the program is used
 --     wrong_lines word text      the same of the text of a word

@@ -60,8 +60,8 @@ fn status(ended: &Result<(), LinkError>) -> Status
     }
 }
 
-/// Returns what a line says of why a call failed: nothing, if there was no error, or no memory for its
-/// text.
+/// Returns the cause of a failed call, as a part of a line: nothing, if there was no error, or no
+/// memory for its text.
 fn cause_of<A: Allocator + Copy>(alloc: A, error: Option<io::Error>) -> String<A> {
     let Some(error) = error else {
         return String::new(alloc);
@@ -120,7 +120,7 @@ fn say_unwritten<A: Allocator + Copy, E: Write>(
     }
 }
 
-/// Makes the copy of a plan, and tells its progress if the plan asks for that.
+/// Makes the copy of a plan, and shows its progress if the plan asks for that.
 fn carry<A: Allocator + Copy, R: Read, W: Write, E: Write>(
     alloc: A,
     plan: Plan,
@@ -173,13 +173,12 @@ fn copy_over_link<A: Allocator + Copy, R: Read, W: Write, E: Write>(
 ///
 /// `--help` writes how the program is used to the writer: the status is `Done`, or `Failed` if it
 /// couldn't be written. For a copy the reader's bytes go to the writer over the link that the words
-/// ask for, what is written is a prefix of what was read, and a line of counts is written to `errors`,
-/// after a line that says the error, if there was one, and why a read or a write failed; with
-/// `--progress` it is told the counts so far, too. The status is
-/// `Done` if all was written and flushed, `GaveUp` if the copy gave up, and `Failed` after another
-/// error. Words that ask for nothing are `Misused`: nothing is read, and nothing is written but what
-/// is wrong with them and how the program is used, to `errors`. Whether `errors` takes what there is
-/// to say changes nothing else.
+/// ask for, what is written is a prefix of what was read, and a line of counts is written to
+/// `errors`, after a line that says the error, if there was one, and why a read or a write failed;
+/// with `--progress` the counts so far are written to it, too. The status is `Done` if all was
+/// written and flushed, `GaveUp` if the copy gave up, and `Failed` after another error. Words that
+/// ask for nothing are `Misused`: nothing is read, and only `errors` is written to: what is wrong
+/// with them, and how the program is used. If `errors` takes no bytes, nothing else changes.
 pub fn serve<A: Allocator + Copy, R: Read, W: Write, E: Write>(
     alloc: A,
     words: &[String],

@@ -1,4 +1,4 @@
-//! Streams that remember why they failed, and standard error, which is told of progress.
+//! Streams that remember why they failed, and standard error, to which progress is written.
 ghost use Rattle.std.specs.Prelude.{◌≡◌};
 
 use crate::summary::write_counts;
@@ -71,7 +71,7 @@ impl<W: Write> Write for Remembering<W> {
     }
 }
 
-/// After how many rounds each the counts so far are told.
+/// After so many rounds each, the counts so far are written.
 const ROUNDS_EACH: u64 = 256;
 
 /// Standard error: it takes the program's messages, and the counts so far of a copy that it watches.

@@ -8,14 +8,14 @@ use net_stream::{Counts, FrameCounts, LinkError};
 use std::io::Write;
 use std::{fmt, io};
 
-/// Returns how many bytes a second of simulated time came, rounded down.
+/// Returns how many bytes were written a second of simulated time, rounded down.
 fn bytes_a_second(counts: &Counts) -> u64
     ensures { result ≡ bytes_a_second counts.now }
 {
     counts.bytes_written.saturating_mul(1_000_000) / counts.micros.max(1)
 }
 
-/// What became of frames, as a part of a line.
+/// The counts of frames, as a part of a line.
 #[derive(Drop)]
 struct FramesText(FrameCounts);
 

@@ -9,7 +9,7 @@ use crate::words::{Misuse, Word};
 use std::io;
 use std::io::Write;
 
-/// How the program is used: its words, and of each what it is and what it is if it is left out.
+/// How the program is used: its words, what each means, and its value if it is left out.
 const USAGE: &str = "usage: net_link [--progress] LOSS SEED [DUPLICATED DELAYED [BYTES [ROUNDS]]]
        net_link --help
 Copies standard input to standard output over a link that loses, duplicates and delays frames.

@@ -6,7 +6,7 @@ ghost use Rattle.net_link_serve.specs.Usage.{range_text};
 
 use net_cli::number;
 
-/// A number that the program is asked for by a word.
+/// A number that a word of the command line gives.
 #[derive(Clone, Copy, Drop)]
 pub enum Word {
     /// Of a hundred frames, how many are lost.
@@ -23,7 +23,7 @@ pub enum Word {
     Rounds,
 }
 
-/// What a copy is asked for.
+/// A copy, as words ask for it.
 #[derive(Clone, Copy, Drop)]
 pub struct Plan {
     /// Of a hundred frames, how many are lost.
@@ -56,7 +56,7 @@ pub enum Asked {
 pub enum Misuse {
     /// So many numbers are too few, too many, or three.
     Count(usize),
-    /// The first word that isn't what it may be.
+    /// The first word that isn't one of its numbers.
     Wrong(Word),
 }
 
@@ -186,9 +186,10 @@ pub fn numbers(words: &[String]) -> &[String]
     words
 }
 
-/// Returns what these words ask for: `--help`, whatever follows, or a copy, by `LOSS SEED`, `LOSS
-/// SEED DUPLICATED DELAYED`, `LOSS SEED DUPLICATED DELAYED BYTES` or `LOSS SEED DUPLICATED DELAYED BYTES ROUNDS`,
-/// alone or after `--progress`. Else it returns what is wrong with them.
+/// Returns what these words ask for: `--help`, whatever follows, or a copy, by `LOSS SEED`,
+/// `LOSS SEED DUPLICATED DELAYED`, `LOSS SEED DUPLICATED DELAYED BYTES` or
+/// `LOSS SEED DUPLICATED DELAYED BYTES ROUNDS`, each with or without `--progress` before it.
+/// Otherwise it returns what is wrong with them.
 pub fn asked_of(words: &[String]) -> Result<Asked, Misuse>
     ensures { result ≡ asked_of (map string_bytes words.now) }
 {

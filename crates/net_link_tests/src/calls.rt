@@ -7,7 +7,7 @@ use net_testing::{NEVER, Sink, Source};
 use std::alloc::{AllocError, Global};
 use std::io::ErrorKind;
 
-/// A copy, and what comes of it.
+/// A copy, and its results.
 struct Row {
     /// The words of the command line.
     words: &'static str,

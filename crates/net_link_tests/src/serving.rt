@@ -1,4 +1,5 @@
-//! What comes of copies. The counts are those that a second program finds, written from docs/LINK.md.
+//! The results of copies. The counts are those that a second program finds, written from
+//! docs/LINK.md.
 use net_cli::{Ended, Status};
 use net_link_serve::{Messages, Remembering, serve};
 use net_testing::{NEVER, Refusing, Sink, Source};
@@ -7,7 +8,7 @@ use std::io::ErrorKind;
 use std::process::Abort;
 use std::test::Fail;
 
-/// A copy, and what comes of it.
+/// A copy, and its results.
 struct Case {
     /// The words of the command line.
     words: &'static str,

@@ -82,8 +82,8 @@ module _ {F H R E : Type 0}
     pub made : r ≡ after_hand_out (is_ok answer) q new_header new_bytes
 
 -- ---- a packet is copied out
--- the first of the packets ps, with the header h, is gone from rest, and as many of its bytes as xs
--- has room for, k of them, stand over the first of xs, which made ys
+-- the first of the packets ps, with the header h, is gone from rest, and as many of its bytes as xs has room for, k of
+-- them, were written over the first of xs, which made ys
 pub record CopiesOut {H : Type 0} (ps : List (H × List ℕ)) (h : H) (xs : List ℕ) (k : ℕ)
     (rest : List (H × List ℕ)) (ys : List ℕ) : Type 0 where
   pub bytes : List ℕ

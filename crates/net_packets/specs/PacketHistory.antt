@@ -37,7 +37,7 @@ module _ {H : Type 0} where
 pub data QueueCall (H : Type 0) : Type 0 where
   -- `reset`
   Reset : QueueCall H
-  -- `place`: the header, and the bytes that stand in the storage
+  -- `place`: the header, and the bytes that are in the storage
   Place : H → List ℕ → QueueCall H
   -- `last_mut`: the bytes that were written
   WriteLast : List ℕ → QueueCall H

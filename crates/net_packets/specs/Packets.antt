@@ -9,7 +9,7 @@
 --     with_packet_if_room q s h, with_packet_of q h ws      a packet came last
 --     last_bytes q, with_last_bytes q ws, with_last_size k q, IsRoom q s h room      the last packet
 --     first_size ps, only_last ps, IsFirstSized ps s, first_bytes q      the first packet's size and bytes,
---         and the last packet alone
+--         and the last packet by itself
 --     IsFirst q h ws, without_gap q, with_first_bytes q h ws, without_first q, without_first_and_gap q,
 --         after_hand_out gone q h ws      the first packet
 --     AreLastDequeued q s, AreLastDequeuedAt q s p, last_dequeued_bytes_index q s, last_dequeued_bytes q s
@@ -143,7 +143,7 @@ module _ {H : Type 0} where
   abbrev pub before_last : List (Packet H) → List (Packet H)
   before_last ps = take (length ps - 1) ps
 
-  -- the last of the packets alone, in a list
+  -- the last of the packets by itself, in a list
   abbrev pub only_last : List (Packet H) → List (Packet H)
   only_last ps = drop (length ps - 1) ps
 

@@ -24,11 +24,11 @@ mod taking;
 /// A packet has a header and bytes that are contiguous in the storage. If a packet does not fit
 /// before the storage's end, it is placed at the storage's beginning, and the bytes before the end
 /// are skipped as its gap. A packet uses one slot, and a gap, which is never of 0 bytes, one more.
-/// Packets leave in the order in which they came.
+/// Packets leave in the order in which they were put in.
 ///
-/// Contracts lead with `contents q`, the list of the headers and bytes of a queue's packets. Which
-/// packets are refused is seen by the number of its slots, its storage, the read index, and the list
-/// of its packets (header, size, gap).
+/// Contracts lead with `contents q`, the list of the headers and bytes of a queue's packets. Number
+/// of slots, storage, read index and the list of packets (header, size, gap) determine which
+/// packets are refused.
 #[derive(Debug, Drop)]
 pub struct PacketsOver<H, M: Storage<PacketMetadata<H>>, B: Storage<u8>> {
     slots: RingOver<PacketMetadata<H>, M>,
@@ -37,7 +37,7 @@ pub struct PacketsOver<H, M: Storage<PacketMetadata<H>>, B: Storage<u8>> {
 
 /// A queue of packets over lent or owned storage.
 ///
-/// It serves sockets that send and receive whole packets, as those of UDP and ICMP.
+/// It serves sockets that send and receive whole packets, such as those of UDP and ICMP.
 pub type PacketBuffer<'a, H> = PacketsOver<
     H,
     ManagedSlice<'a, PacketMetadata<H>>,
@@ -78,8 +78,8 @@ impl<H, M: Storage<PacketMetadata<H>>, B: Storage<u8>> PacketsOver<H, M, B> {
         self.slots.is_empty()
     }
 
-    /// Returns whether no slot is free. A queue that is not full can still refuse a packet for want
-    /// of bytes, or of a slot for its gap.
+    /// Returns whether no slot is free. A queue that is not full can still refuse a packet if bytes
+    /// are missing, or a slot for its gap.
     #[inline]
     pub fn is_full(&self) -> bool
         ensures { result ≡ (self.now.slot_count - slots_used self.now.packets == 0) }
@@ -103,8 +103,8 @@ impl<H, M: Storage<PacketMetadata<H>>, B: Storage<u8>> PacketsOver<H, M, B> {
         self.bytes.capacity()
     }
 
-    /// Returns the number of bytes that packets take. Gaps are counted, so a call that drops the
-    /// gap before the first packet lowers it.
+    /// Returns the number of bytes that packets take, gaps included. So a call that drops the gap
+    /// before the first packet lowers it.
     #[inline]
     pub fn payload_bytes_count(&self) -> usize
         ensures { result ≡ bytes_used self.now.packets }
@@ -127,7 +127,7 @@ impl<H, M: Storage<PacketMetadata<H>>, B: Storage<u8>> PacketsOver<H, M, B> {
         ensures contents { result ≡ length (contents self.now) }
         ensures packets { result ≡ length self.now.packets }
     {
-        // Called for its clauses alone: by them the sum below does not wrap.
+        // Called only for its clauses, by which the sum below does not wrap.
         let _used = self.slots.len();
         let (first, second) = self.slots.as_slices();
         count_packets(first) + count_packets(second)
@@ -148,8 +148,8 @@ impl<H, M: Storage<PacketMetadata<H>>, B: Storage<u8>> PacketsOver<H, M, B> {
 
 /// What the calls share.
 impl<H, M: Storage<PacketMetadata<H>>, B: Storage<u8>> PacketsOver<H, M, B> {
-    /// Returns how many free bytes are contiguous, and how many there are, if an empty ring begins
-    /// anew.
+    /// Returns how many free bytes are contiguous, and how many there are in all, if an empty ring
+    /// begins anew.
     #[inline]
     fn contiguous_free(&self) -> (usize, usize)
         ensures contiguous { result.0 ≡ contiguous_window (from_start_if_empty (byte_ring self.now)) }
@@ -228,7 +228,7 @@ fn gap_for(size: usize, contiguous: usize, window: usize) -> Option<usize>
     }
 }
 
-/// Returns how many of the slots are of packets, and of no gaps.
+/// Returns how many of the slots are of packets, not of gaps.
 fn count_packets<H>(slots: &[PacketMetadata<H>]) -> usize
     ensures count { result ≡ length (filter (λ m. is_some m.header) slots.now) }
     ensures within { result ≤ length slots.now }

@@ -62,7 +62,7 @@ with_bytes_at held p (x ∷ xs) = fin.insert (with_bytes_at held (p + 1) xs) p x
 abbrev pub first_lacking : HeldBytes → ℕ → ℕ
 first_lacking held n = first_missing (domain held) n
 
--- the held bytes at p to p + n - 1; 0 if there is no byte there: it is used for held positions alone
+-- the held bytes at p to p + n - 1; 0 if there is no byte there: it is used only for held positions
 abbrev pub held_bytes_at : HeldBytes → ℕ → ℕ → List ℕ
 held_bytes_at held p n = map (λ q. unwrap_or (fin.get held q) 0) (range_with_len p n)
 

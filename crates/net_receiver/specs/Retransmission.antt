@@ -24,7 +24,7 @@ abbrev pub HeldChangesNothing : Type 0
 HeldChangesNothing = (most_runs : ℕ) (v : ReceiverState) (pos : ℕ) (xs : List ℕ) →
     IsSound most_runs v → IsHeld v pos xs → receiver_after_command most_runs v (Segment pos xs) ≡ v
 
--- the second copy of a segment changes nothing, whatever became of the first one
+-- the second copy of a segment changes nothing, whatever happened to the first one
 abbrev pub SecondCopy : Type 0
 SecondCopy = (most_runs : ℕ) (v : ReceiverState) (pos : ℕ) (xs : List ℕ) → IsSound most_runs v →
     let u = receiver_after_command most_runs v (Segment pos xs) in

@@ -1,8 +1,8 @@
 -- What a command does, and its reply: the rules, over the operations of any receiver.
 --     CommandValue, ReplyValue      a command, and its reply, as values
---     Verdict      what becomes of a segment: nothing is kept, it is refused, or a piece is kept
+--     Verdict      what happens to a segment: nothing is kept, it is refused, or a piece is kept
 --     ReceiverOps S      what a state of type S tells, and what a kept piece and a read make of it
---     verdict ops N s e      what becomes of the segment e in state s, N being the most runs
+--     verdict ops N s e      what happens to the segment e in state s, N being the most runs
 --     state_after ops s x, segment_result ops s x      the state after it, and its result
 --     after ops N s c, reply ops N s c      the state after one command, and its reply
 --     after_all ops N s cs, replies ops N s cs      the same of a list of commands
@@ -26,7 +26,7 @@ pub data ReplyValue : Type 0 where
   ReadReply : List ℕ → ReplyValue
   ShowReply : ℕ → ℕ → ℕ → List (ℕ × ℕ) → ReplyValue
 
--- what becomes of a segment
+-- what happens to a segment
 pub data Verdict : Type 0 where
   KeepsNone : Verdict
   Refuses : Verdict
@@ -61,7 +61,7 @@ pub record ReceiverOps (S : Type 0) : Type 0 where
   pub read : S → ℕ
   -- the first missing position
   pub next : S → ℕ
-  -- the bytes behind those that were read, up to the first missing position
+  -- the bytes after those that were read, up to the first missing position
   pub queue : S → List ℕ
   -- the positions above the first missing one whose bytes are there
   pub held : S → Positions
@@ -75,7 +75,7 @@ module _ {S : Type 0} (ops : ReceiverOps S) where
   abbrev pub limit : S → ℕ
   limit s = ops.first s + ops.read s + ops.capacity s
 
-  -- the state after a segment, by what becomes of it
+  -- the state after a segment, by what happens to it
   abbrev pub state_after : S → Verdict → S
   state_after s KeepsNone = s
   state_after s Refuses = s
@@ -93,8 +93,8 @@ module _ {S : Type 0} (ops : ReceiverOps S) where
   segment_result s x = with_sack (numbers s x) (ops.held (state_after s x))
 
   module _ (most_runs : ℕ) where
-    -- what becomes of a segment in a state: the free window takes what it has from the first missing
-    -- position on and below the limit
+    -- what happens to a segment in a state: the free window takes what it has from the first missing position on and
+    -- below the limit
     abbrev pub verdict : S → Piece → Verdict
     verdict s e =
         verdict_of_piece (ops.next s) most_runs (ops.held s)

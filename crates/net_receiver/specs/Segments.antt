@@ -1,4 +1,4 @@
--- What becomes of one segment, of which xs is what the free window takes.
+-- What happens to one segment, whose bytes in the free window are xs.
 --     KeepsOrRefuses v xs u r      xs is kept, or nothing changes
 --     JoinsQueue v xs u r      xs is kept and joins the queue
 use Rattle.std.specs.Prelude.{◌≡◌, ℕ, ◌+◌, ◌≤◌, List, ◌++◌, length, drop, Result, IsOk, IfOk, OnErr}

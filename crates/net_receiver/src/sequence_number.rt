@@ -5,11 +5,11 @@ ghost use Rattle.net_receiver.specs.SequenceNumbers.{number_at, ahead_of, ComesB
 use std::marker::Model;
 use std::ops::Add;
 
-/// The number by which TCP names a byte of a stream: 32 bits, and after the greatest comes 0.
+/// The number by which TCP names a byte of a stream: 32 bits, and 0 follows the greatest one.
 ///
 /// A contract sees a whole number below 2^32. A receiver counts in positions of 64 bits, which do
-/// not wrap; `at` and `position` go from one to the other. smoltcp's `SeqNumber` is an `i32` and
-/// has no positions.
+/// not wrap; `at` and `position` convert between the two. smoltcp's `SeqNumber` is an `i32` and has
+/// no positions.
 #[derive(Debug, Copy, Clone, PartialEq, Eq)]
 pub struct SequenceNumber {
     number: u32,

@@ -6,7 +6,7 @@ use Rattle.net_ring.specs.declared.managed.ManagedSlice.{ManagedSlice}
 use Rattle.net_ring.specs.contracts.managed.ManagedSlice.{the_row}
 use Rattle.net_ring.specs.Managed.{with_part}
 
--- the storage with the last elements behind r written over its own
+-- the storage with the elements that r last pointed to written over its own
 abbrev pub lends_elements : (T : RattleType)
     → MutBor (ManagedSlice T.Denot) → MutBor (List T.Denot) → Fml
 lends_elements T s r =

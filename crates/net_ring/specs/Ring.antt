@@ -25,7 +25,7 @@ pub record RingState (T : Type 0) : Type 0 where
 abbrev pub index_after : ℕ → ℕ → ℕ → ℕ
 index_after c r i = if nat_lt i (c - r) then r + i else i - (c - r)
 
--- the list from the index r on, followed by what stands before it
+-- the list from the index r on, followed by the elements before it
 abbrev pub rotation : {T : Type 0} → List T → ℕ → List T
 rotation b r = drop r b ++ take r b
 
@@ -112,7 +112,7 @@ module _ {T : Type 0} where
   abbrev pub with_elements_wrapping : RingState T → ℕ → List T → RingState T
   with_elements_wrapping g p ws = with_elements (with_elements g p ws) 0 (drop (length g.storage - p) ws)
 
-  -- k elements are enqueued as they stand: the first k spare ones are the last k of the queue
+  -- k elements are enqueued as they are: the first k spare ones are the last k of the queue
   abbrev pub with_enqueued : ℕ → RingState T → RingState T
   with_enqueued k g = ring g.storage g.read_at (g.count + k)
 
@@ -132,7 +132,7 @@ module _ {T : Type 0} where
       (queue h ≡ queue g ++ ws) × (spare h ≡ drop (length ws) (spare g))
       × (h.read_at ≡ g.read_at)
 
-  -- the first k elements left the queue, and stand as ws at the end of the spare part
+  -- the first k elements left the queue, and are ws at the end of the spare part
   abbrev pub Dequeues : RingState T → ℕ → List T → RingState T → Type 0
   Dequeues g k ws h =
       (queue h ≡ drop k (queue g)) × (spare h ≡ spare g ++ ws)
@@ -150,14 +150,13 @@ module _ {T : Type 0} where
       (queue h ≡ overwrite (queue g) i ws) × (spare h ≡ spare g)
       × (h.read_at ≡ g.read_at)
 
-  -- of the list ws, which stands over the first spare elements, the first k came to the end of the
-  -- queue
+  -- the list ws was written over the first spare elements, and its first k are put at the end of the queue
   abbrev pub EnqueuesFrom : RingState T → ℕ → List T → RingState T → Type 0
   EnqueuesFrom g k ws h =
       (queue h ≡ queue g ++ take k ws) × (spare h ≡ drop k (overwrite (spare g) 0 ws))
       × (h.read_at ≡ g.read_at)
 
-  -- of the list ws, which stands over the first elements of the queue, the first k left it
+  -- the list ws was written over the first elements of the queue, and its first k left the queue
   abbrev pub DequeuesFrom : RingState T → ℕ → List T → RingState T → Type 0
   DequeuesFrom g k ws h =
       (queue h ≡ drop k (overwrite (queue g) 0 ws)) × (spare h ≡ spare g ++ take k ws)

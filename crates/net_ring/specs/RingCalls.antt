@@ -18,8 +18,8 @@ module _ {F T R E : Type 0}
   abbrev pub TakesFirstOf : F → List T → Type 0
   TakesFirstOf f xs = (x : T) → xs ≡ x ∷ drop 1 xs → FnOnceTakesAtMut g f x
 
-  -- f was called on the next free element x, left y there and returned `answer`: at `Ok` y came to
-  -- the end of the queue, and at `Err` it stands at the beginning of the spare part
+  -- f was called on the next free element x, left y there and returned `answer`: on `Ok` y is at the end of the queue,
+  -- and on `Err` at the beginning of the spare part
   abbrev pub CalledOnNext : F → RingState T → Result R E → RingState T → Type 0
   CalledOnNext f old answer new = (x : T) × (y : T)
       × FnOnceReturnsAtMut g f x answer y

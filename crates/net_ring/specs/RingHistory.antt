@@ -20,7 +20,7 @@ pub data RingCall (T : Type 0) : Type 0 where
   Reset : List T → RingCall T
   -- `enqueue_slice`: the elements that there was room for
   EnqueueSlice : List T → RingCall T
-  -- `enqueue_unallocated`: the elements that stood there
+  -- `enqueue_unallocated`: the elements that were there
   EnqueueUnallocated : List T → RingCall T
   -- `enqueue_many`: the elements that were written to the part that it lent
   EnqueueMany : List T → RingCall T

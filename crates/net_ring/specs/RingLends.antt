@@ -7,7 +7,7 @@ use Rattle.net_ring.specs.Ring.{RingState, with_elements}
 use Rattle.net_ring.specs.declared.managed.Storage.{Ghosts}
 use Rattle.net_ring.specs.contracts.ring_buffer.RingOver.{the_row}
 
--- the ring `after`, with the last elements behind r written over its storage from the index p on
+-- the ring `after`, with the elements that r last pointed to written over its storage from the index p on
 abbrev pub lends_many : (T S : RattleType) (g : Ghosts S.Denot T.Denot)
     → MutBor (RingState T.Denot) → RingState T.Denot → ℕ → MutBor (List T.Denot) → Fml
 lends_many T S g s after p r = Lends (the_row T S g) (Array T 0) s r (with_elements after p)

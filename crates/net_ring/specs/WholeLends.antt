@@ -11,13 +11,13 @@ use Rattle.std.specs.Global.{Vec as VecOf}
 use Rattle.std.specs.Vec.{with_items_from}
 use Rattle.net_ring.specs.Overwrite.{overwrite}
 
--- a lent slice with the last elements behind r written over its own
+-- a lent slice with the elements that r last pointed to written over its own
 abbrev pub lends_lent : (T : RattleType)
     → MutBor (MutBor (List T.Denot)) → MutBor (List T.Denot) → Fml
 lends_lent T s r =
     Lends (MutSlice (named 1) [] T) (Array T 0) s r (λ w. at_last s.now (overwrite s.now.now 0 w))
 
--- a vector with the last elements behind r written over its own
+-- a vector with the elements that r last pointed to written over its own
 abbrev pub lends_owned : (T : RattleType) → MutBor (VecOf T.Denot) → MutBor (List T.Denot) → Fml
 lends_owned T s r =
     Lends (Vec.the_row T Global.the_row TheImpl.ghosts) (Array T 0) s r (with_items_from s.now 0)

@@ -8,7 +8,7 @@ use thiserror::Error;
 #[error("buffer full")]
 pub struct Full;
 
-/// A ring or a packet queue has nothing that could be dequeued.
+/// A ring or a packet queue has nothing to dequeue.
 ///
 /// Its text is "buffer empty".
 #[derive(Debug, Clone, Copy, PartialEq, Eq, Drop, Error)]

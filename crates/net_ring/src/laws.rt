@@ -1,9 +1,8 @@
-//! A law whose premise is what the contracts of calls say, an equation of what a call left, and laws
-//! of refusals.
+//! A law whose premise is an equation, as the contracts of calls state it, and laws of refusals.
 //!
-//! No function here does anything. A law of `ring_buffer::laws` speaks of `overwrite xs i ws` itself;
-//! `element_after_overwrite` and `element_set` speak of any list that is equal to it, as one in a
-//! field is after a call.
+//! No function here does anything. A law of `ring_buffer::laws` is on `overwrite xs i ws` itself;
+//! `element_after_overwrite` and `element_set` are on any list that is equal to it, such as one in
+//! a field after a call.
 ghost use Rattle.std.specs.Prelude.{◌≡◌, ◌+◌, ◌-◌, ◌<◌, ◌≤◌, ◌&&◌, nat_le, nat_lt};
 ghost use Rattle.std.specs.Prelude.{ℕ, List, length, slice_index_or, if◌then◌else◌, IsTrue};
 ghost use Rattle.std.specs.Prelude.{◌≢◌, ◌∷◌, [], slice_get, slice_set, Some};

@@ -156,9 +156,9 @@ impl<T> Storage<T> for Vec<T> {
 /// serves with a heap and without.
 #[derive(Debug, Drop)]
 pub enum ManagedSlice<'a, T> {
-    /// Elements that stand elsewhere, and are lent.
+    /// Elements that are stored elsewhere, and lent.
     Borrowed(&'a mut [T]),
-    /// Elements of its own.
+    /// Elements that it owns.
     Owned(Vec<T>),
 }
 
@@ -269,8 +269,8 @@ impl<'a, T> ManagedSlice<'a, T> {
     /// Lends all elements.
     ///
     /// A caller's proof does not learn what was written, here or by the calls of [`Storage`] on a
-    /// `ManagedSlice` itself. It learns it of a type parameter `S: Storage<T>`, also where `S` is
-    /// a `ManagedSlice`: a function that has to know what it wrote takes that.
+    /// `ManagedSlice` itself. It does for a type parameter `S: Storage<T>`, also if `S` is a
+    /// `ManagedSlice`: a function that has to know what it wrote takes one.
     pub fn as_mut_slice(&mut self) -> &mut [T]
         ensures* writes_back { sem 𝓛 (lends_elements T.row self.entry result) }
         ensures value { result.now ≡ elements self.old }

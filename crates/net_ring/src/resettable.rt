@@ -1,4 +1,4 @@
-//! Values that can be brought back to a state of their own choice.
+//! Values that can be reset in place.
 
 /// A value that can be reset in place.
 pub trait Resettable {

@@ -20,11 +20,11 @@ mod unallocated;
 
 /// A ring of elements over any storage; [`RingBuffer`] is the one over a [`ManagedSlice`].
 ///
-/// Contracts see a ring as its storage, the index where it is read and how many elements are queued.
-/// Its queue is these, in order; the rest of the storage is its spare part. Both wrap at the
-/// storage's end. Nothing is copied but by the calls whose element type is
-/// `Copy`: the others lend parts of the storage, as `&mut` wherever they can, so that a packet can
-/// be filled in or changed where it stands.
+/// Contracts see a ring as its storage, the index where it is read and how many elements are
+/// queued. Its queue is these, in order; the rest of the storage is its spare part. Both wrap at
+/// the storage's end. Only the calls whose element type is `Copy` copy anything. The others lend
+/// parts of the storage, as `&mut` wherever they can, so that a packet can be filled in or changed
+/// in place.
 #[derive(Debug)]
 pub struct RingOver<T, S: Storage<T>> {
     storage: S,
@@ -35,7 +35,7 @@ pub struct RingOver<T, S: Storage<T>> {
 
 /// Elements of a ring from some offset on.
 ///
-/// Those that are not contiguous with the first one stand at the storage's beginning.
+/// Those that are not contiguous with the first one are at the storage's beginning.
 #[derive(Clone, Copy)]
 struct Span {
     /// The index of the first one in the storage.
@@ -65,7 +65,7 @@ impl<T, S: Storage<T>> Model for RingOver<T, S> {
     ghost invariant = { λ a. IsWellFormed (ring_state S.elements a) };
 }
 
-/// Written by hand: the storage alone has to be `Drop`, and nothing is asked of `T`.
+/// Written by hand: only the storage has to be `Drop`, and nothing is asked of `T`.
 impl<T, S: Storage<T> + Drop> Drop for RingOver<T, S> {
     fn drop(self) {
         let RingOver {
@@ -180,8 +180,8 @@ impl<T, S: Storage<T>> RingOver<T, S> {
         ensures within { (result ≤ window self.now)
             × (write_at self.now + result ≤ capacity self.now) }
     {
-        // What is spare lies behind the queue, up to the storage's end, and before it. If the queue
-        // reaches that end, all of it lies together.
+        // The spare part is after the queue, up to the storage's end, and before the queue. If the
+        // queue reaches that end, the spare part is contiguous.
         let to_end = self.capacity() - self.read_at;
         if self.length < to_end {
             to_end - self.length
@@ -212,8 +212,8 @@ impl<T, S: Storage<T>> RingOver<T, S> {
         self.len() >= self.capacity()
     }
 
-    /// Returns the index in the storage of what is `offset` elements after the read index, wrapping
-    /// at the storage's end.
+    /// Returns the index in the storage that is `offset` elements after the read index, wrapping at
+    /// the storage's end.
     #[inline]
     fn storage_index(&self, offset: usize) -> usize
         requires { offset ≤ capacity self.now }
@@ -228,8 +228,8 @@ impl<T, S: Storage<T>> RingOver<T, S> {
         }
     }
 
-    /// Returns the index in the storage of what is `count` elements after the read index, if these
-    /// are contiguous, wrapping at the storage's end. It is `storage_index`, with one comparison.
+    /// Returns the index in the storage that is `count` elements after the read index, if these are
+    /// contiguous, wrapping at the storage's end. It is `storage_index`, with one comparison.
     #[inline]
     fn next_index(&self, count: usize) -> usize
         requires { self.now.read_at + count ≤ capacity self.now }
@@ -266,13 +266,14 @@ impl<T, S: Storage<T>> RingOver<T, S> {
     /// Moves the read index of an empty ring to the storage's beginning: then all its free elements
     /// are contiguous. A ring with queued elements stays as it is.
     ///
-    /// An addition to smoltcp's calls, for whoever writes free elements before they are enqueued.
+    /// An addition to smoltcp's calls, for callers that write free elements before these are
+    /// enqueued.
     #[inline]
     pub fn rewind_if_empty(&mut self)
         ensures ring { self.new ≡ from_start_if_empty self.old }
         ensures fits { capacity self.new < 2 ^ 64 }
     {
-        // Called for its clause alone: `fits` is known by it.
+        // Called only for its clause, by which `fits` is known.
         let _capacity = self.capacity();
         if self.length == 0 {
             self.read_at = 0;
@@ -282,7 +283,7 @@ impl<T, S: Storage<T>> RingOver<T, S> {
 
 /// Emptying a ring and resetting its elements.
 impl<T: Resettable, S: Storage<T>> RingOver<T, S> {
-    /// Empties the ring, and resets each element of the storage: it is left as its type states.
+    /// Empties the ring, and resets each element of the storage, which is left as its type states.
     pub fn reset(&mut self)
         ensures ring { self.new ≡ ring self.new.storage 0 0 }
         ensures parts { (queue self.new ≡ []) × (spare self.new ≡ self.new.storage) }
@@ -296,7 +297,8 @@ impl<T: Resettable, S: Storage<T>> RingOver<T, S> {
 
 /// Resets each element once.
 ///
-/// The loop of `reset` stands alone, so that its invariant speaks of a list and of no ring.
+/// The loop of `reset` is a function of its own, so that its invariant is on a list and not on a
+/// ring.
 fn reset_each<T: Resettable>(elements: &mut [T])
     ensures { AllZip T.IsReset elements.old elements.new }
 {

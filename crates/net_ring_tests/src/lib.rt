@@ -1,6 +1,6 @@
 //! The tests of `net_ring`, each through its public calls.
 //!
-//! They stand in a crate of their own, so that the library is proved once and its edits don't wait
+//! They are in a crate of their own, so that the library is proved once and its edits don't wait
 //! for them.
 #![tactic(auto)]
 

@@ -1,5 +1,5 @@
-//! What rows of calls and replies don't say: storage that is lent, elements without a size, closures that
-//! mustn't run, and callers that are proved from contracts alone.
+//! What rows of calls and replies don't say: storage that is lent, elements without a size,
+//! closures that mustn't run, and callers that are proved only from contracts.
 ghost use Rattle.std.specs.Prelude.{◌≡◌};
 
 mod callers;

@@ -1,4 +1,4 @@
--- What comes of a call of `run`, and what standard error says.
+-- The results of a call of `run`, and what standard error says.
 --     usage_line, error_line e      the line for words that name no mode, and for an error
 --     status_of outcome      the status after this result of `run`
 --     FailsOnInput all before left old new said says told      what an error says of the input, of what

@@ -41,7 +41,7 @@ text_of rules closing state (line ∷ lines) =
     by_step (λ next reply. reply ++ text_of rules closing next lines) (λ _. [])
     (line_step rules state line)
 
--- the replies alone
+-- only the replies
 abbrev pub replies_of : {S : Type 0} → Rules S → S → List (List ℕ) → List ℕ
 replies_of rules state lines = text_of rules (λ _. []) state lines
 
@@ -99,8 +99,8 @@ ErrorOfLines all lines old new ReadFailed = ⊥
 -- before and after
 abbrev pub ErrorOfInput : Transcript → List ℕ → Option (List ℕ) → Option (List ℕ) →
     Option (List ℕ) → BenchError → Type 0
--- the replies of all lines whose line feed is in what the reads gave were written, none of
--- these lines has a fault, and what came of the next line isn't too long
+-- the replies of all lines whose line feed is in what the reads gave were written, none of these lines has a fault, and
+-- the bytes of the next line that were read are not too many
 ErrorOfInput all input left old new ReadFailed =
     (given : List ℕ) × Consumes (Some input) left given × (all.fault (ended_lines given) ≡ None)
     × Appends old new (all.replies (ended_lines given)) × (length (unended_line given) ≤ 4096)

@@ -22,11 +22,11 @@ use std::marker::Model;
 const REFUSED: &str = "refused too many holes\n";
 
 /// The most bytes of a line that says how long the front was: a number of at most 20 digits, and 7
-/// bytes beside it.
+/// more bytes.
 const FRONT_ROOM: usize = 27;
 
-/// The most bytes of a line that shows 32 runs: two numbers of at most 20 digits for each, and 4
-/// bytes beside them, and 4 bytes around all.
+/// The most bytes of a line that shows 32 runs: for each, two numbers of at most 20 digits and 4
+/// more bytes; and 4 bytes around all.
 const PRINT_ROOM: usize = 4 + 44 * 32;
 
 /// A line of the mode.

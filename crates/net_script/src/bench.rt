@@ -62,8 +62,8 @@ fn run_line<A: Allocator + Copy, S: Session<A>, W: Write>(
     }
 }
 
-/// What is known between two reads: the mode's state, the number of the line that comes next, what has
-/// come of it, and the replies that are pending.
+/// The state between two reads: the mode's state, the number of the next line, the bytes of it that
+/// were read, and the pending replies.
 #[derive(Drop)]
 struct Bench<A: Allocator + Copy, S> {
     buffers: Buffers<A>,
@@ -157,7 +157,7 @@ impl<A: Allocator + Copy, S: Session<A>> Bench<A, S> {
 
     /// Executes the lines that these bytes end, stores what follows them, and gathers the
     /// replies.
-    // Apart from `take`, which writes the replies out also where this fails.
+    // It is a function of its own, since `take` writes the replies out also if this fails.
     fn run_ended_lines<W: Write>(&mut self, bytes: &[u8], writer: &mut W) -> Result<(), BenchError>
         ensures ok { OnOk result ((text : List ℕ)
             × Advances S.rules bytes.now (bench_state self.old) (bench_state self.new) text
@@ -208,9 +208,9 @@ impl<A: Allocator + Copy, S: Session<A>> Bench<A, S> {
         self.replies.gather(closing.as_bytes(), writer)
     }
 
-    /// Executes what has come of the last line, if anything has, and gathers its reply and the closing
+    /// Executes the bytes of the last line, if there are any, and gathers its reply and the closing
     /// text.
-    // Apart from `finish`, which writes the replies out also where this fails.
+    // It is a function of its own, since `finish` writes the replies out also if this fails.
     fn run_last_line<W: Write>(&mut self, writer: &mut W) -> Result<(), BenchError>
         ensures ok { OnOk result (
             let all = transcript S.rules S.closing self.old.number self.old.session in
@@ -230,7 +230,7 @@ impl<A: Allocator + Copy, S: Session<A>> Bench<A, S> {
         self.close(writer)
     }
 
-    /// Executes what has come of the last line, if anything has, and writes its reply and the closing
+    /// Executes the bytes of the last line, if there are any, and writes its reply and the closing
     /// text. No reply is pending when it returns.
     fn finish<W: Write>(&mut self, writer: &mut W) -> Result<(), BenchError>
         ensures emptied { self.new.replies ≡ [] }

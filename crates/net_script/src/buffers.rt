@@ -1,11 +1,11 @@
-//! Memory that is used again from line to line.
+//! Memory that is reused from line to line.
 ghost use Rattle.std.specs.Prelude.{◌≡◌, [], length, IfOk, string_bytes};
 
 use std::alloc::{AllocError, Allocator};
 use std::mem;
 
 /// A buffer for a reply's text and one for a line's bytes. Each is taken out while it is in use,
-/// and is handed back, so that the next line asks for memory only if it needs more.
+/// and then handed back, so that the next line asks for memory only if it needs more.
 #[derive(Drop)]
 pub struct Buffers<A: Allocator + Copy> {
     alloc: A,

@@ -16,9 +16,9 @@ use net_receiver::laws;
 use std::alloc::Allocator;
 use std::io::{Read, Write};
 
-/// Executes the lines that the reader gives, and writes the replies. It returns where the reader ends
-/// or fails, or at the first fault. Where reader and writer tell their bytes, as those over memory
-/// do:
+/// Executes the lines that the reader gives, and writes the replies. It returns at the reader's
+/// end, at a failed read or at the first fault. If reader and writer tell their bytes, as those
+/// over memory do:
 pub fn run<A: Allocator + Copy, R: Read, W: Write>(
     alloc: A,
     mode: Mode,

@@ -13,14 +13,14 @@ use net_io::flush_after;
 use std::alloc::Allocator;
 use std::io::{Read, Write};
 
-/// What standard error says of words that name no mode.
+/// The line on standard error for words that name no mode.
 const USAGE: &str = "usage: net_bench ring CAP | asm N | stream CAP N [FIRST]\n";
 
-/// Calls `run` in the mode that the words name and flushes the writer once; a flush that fails where
-/// `run` returned Ok is a failed write. An error is written to `errors` as a line; whether `errors`
-/// takes it changes nothing else. The status is `Done` if `run` and the flush returned Ok,
-/// `Failed` after an error, and `Misused` if the words name no mode: then nothing is read, and
-/// nothing written but the usage line, to `errors`.
+/// Calls `run` in the mode that the words name and flushes the writer once; if `run` returned Ok, a
+/// flush that fails is a failed write. An error is written to `errors` as a line; if `errors`
+/// doesn't take it, nothing else changes. The status is `Done` if `run` and the flush returned Ok,
+/// `Failed` after an error, and `Misused` if the words name no mode: then nothing is read, and only
+/// the usage line is written, to `errors`.
 pub fn serve<A: Allocator + Copy, R: Read, W: Write, E: Write>(
     alloc: A,
     words: &[String],

@@ -54,7 +54,7 @@ impl<A: Allocator + Copy> Replies<A> {
         })
     }
 
-    /// Gathers a reply. What is pending is written first if there is no room beside it, and a
+    /// Gathers a reply. Pending replies are written first if there is no room besides them, and a
     /// reply that is longer than the whole buffer is written at once.
     pub fn gather<W: Write>(&mut self, reply: &[u8], writer: &mut W) -> Result<(), BenchError>
         ensures ok { OnOk result (Gathers (outlet (W.contents writer.old) self.old)
@@ -73,7 +73,7 @@ impl<A: Allocator + Copy> Replies<A> {
         Ok(())
     }
 
-    /// Writes what is pending. Nothing is pending afterwards, so that after an error nothing is
+    /// Writes the pending replies. None is pending afterwards, so that after an error nothing is
     /// tried again.
     pub fn write_out<W: Write>(&mut self, writer: &mut W) -> Result<(), BenchError>
         ensures emptied { self.new ≡ [] }

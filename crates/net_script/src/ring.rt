@@ -1,4 +1,4 @@
-//! Mode `ring`: bytes go in and come out in order.
+//! Mode `ring`: bytes go in, and come out in order.
 ghost use Rattle.std.specs.Prelude.{◌≡◌, ◌-◌, [], ◌++◌, IfOk, string_bytes, option_map, codes};
 ghost use Rattle.std.specs.Prelude.{length, min, ◌≤◌, take};
 ghost use Rattle.net_script.specs.Text.{words_of, hex_text};
@@ -17,7 +17,7 @@ use std::alloc::{AllocError, Allocator};
 use std::marker::Model;
 
 /// The most bytes of a line that says how much was taken in: a number of at most 20 digits, and 6
-/// bytes beside it.
+/// more bytes.
 const TOOK_ROOM: usize = 26;
 
 /// A line of the mode.
@@ -81,7 +81,7 @@ impl<'a> RingSession<'a> {
         }
     }
 
-    /// Takes in what there is room for, and says how much that was.
+    /// Enqueues as many bytes as there is room for, and replies how many.
     fn write<A: Allocator + Copy>(
         &mut self,
         buffers: &mut Buffers<A>,
@@ -110,7 +110,7 @@ impl<'a> RingSession<'a> {
         text::read_reply(buffers, &first[..cut], &second[..count - cut])
     }
 
-    /// Shows as many bytes as are asked for and there, and takes them off.
+    /// Shows the first bytes, at most as many as are asked for, and takes them off.
     fn read<A: Allocator + Copy>(
         &mut self,
         buffers: &mut Buffers<A>,

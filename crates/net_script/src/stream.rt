@@ -1,4 +1,4 @@
-//! Mode `stream`: segments of a stream come in any order, and its bytes go out in order.
+//! Mode `stream`: segments of a stream arrive in any order, and its bytes are read in order.
 ghost use Rattle.std.specs.Prelude.{◌≡◌, IfOk, MatchResult, Ok, Err, string_bytes};
 ghost use Rattle.std.specs.Prelude.{option_map, ◌≤◌, length};
 ghost use Rattle.net_receiver.specs.Commands.{command_value, reply_value, CommandFits};
@@ -36,7 +36,7 @@ pub enum StreamLine<A: Allocator + Copy> {
     NextSchedule,
 }
 
-/// A receiver that lines send segments to and read from, and the one before it where `--` has come.
+/// A receiver that lines send segments to and read from, and after `--` the one before it.
 ///
 /// The storage of the second schedule is made when it begins, in the list that `second` lends.
 #[derive(Drop)]

@@ -34,7 +34,7 @@ fn next_word(line: &[u8]) -> (&[u8], Option<&[u8]>)
     }
 }
 
-/// Returns the words of a line, parted by exactly one space.
+/// Returns the words of a line, separated by exactly one space.
 pub fn split_words(line: &[u8]) -> Words<'_>
     ensures { AreWords result (words_of line.now) }
 {

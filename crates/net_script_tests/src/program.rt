@@ -130,7 +130,7 @@ fn check(
     )
 }
 
-/// The words, the input, and what comes of it.
+/// The words, the input, and the results.
 type Row<'a> = (&'a str, &'a [u8], Expected<'a>);
 
 /// Calls of each status but 2.

@@ -11,7 +11,7 @@ use Rattle.net_packets.specs.Packets.{PacketsState, after_hand_out}
 use Rattle.net_packets.specs.PacketHistory.{contents}
 use Rattle.net_sockets.specs.declared.endpoint.Endpoint.{Endpoint}
 
--- the two queues of a socket, each with its slots, its storage and where its packets lie
+-- the two queues of a socket, each with its slots, its storage and where its packets are
 pub record SocketState : Type 0 where
   pub inbound : PacketsState Endpoint
   pub outbound : PacketsState Endpoint

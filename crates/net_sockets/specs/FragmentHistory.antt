@@ -27,8 +27,8 @@ LastFragmentStands = (b : FragmentsState) (fs : List (ℕ × List ℕ)) (p d : �
     → slice_index_or (after_fragments b fs).bytes p d
     ≡ last_byte p (slice_index_or b.bytes p d) fs
 
--- at each position that came since nothing had come, the byte is that of the last fragment there,
--- whatever stood in the buffer
+-- at each position that came since nothing had come, the byte is that of the last fragment there, whatever was in the
+-- buffer
 abbrev pub OldBytesAreGone : Type 0
 OldBytesAreGone = (b : FragmentsState) (fs : List (ℕ × List ℕ)) (p d : ℕ)
     → b.present ≡ nothing → p < length b.bytes

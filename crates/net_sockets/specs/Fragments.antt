@@ -1,4 +1,4 @@
--- A packet that comes in fragments.
+-- A packet that arrives in fragments.
 --     FragmentsState, state_code      what the buffer has come to, and its code
 --     Fits bytes total      a known size is at most that of the buffer
 --     with_fragment b offset data', IsComplete b n      a fragment came, and all of them did
@@ -32,7 +32,7 @@ abbrev pub Fits : List ℕ → Option ℕ → Type 0
 Fits bytes None = ⊤
 Fits bytes (Some n) = n ≤ length bytes
 
--- a fragment came: its bytes stand from the offset on, and its positions are present
+-- a fragment arrived: its bytes are at the offset, and its positions are present
 abbrev pub with_fragment : FragmentsState → ℕ → List ℕ → FragmentsState
 with_fragment b offset data' = record b {
   bytes = overwrite b.bytes offset data';

@@ -7,12 +7,12 @@ use net_base::phy::{Device, FrameLists, RxToken};
 use net_base::time::Instant;
 use std::alloc::AllocError;
 
-/// Takes one frame off one device and sends that very frame on another. Returns whether it did.
-/// If it returns false, one device had no frame to hand over, and is what it then becomes, by
-/// default what it was, or the other had no room to send one; nothing was sent.
+/// Takes one frame off one device and sends the same frame on another. Returns whether it did. On
+/// false nothing was sent: either the other device had no room to send one, or the one had no frame
+/// to hand over, and then it may have changed as it states in `idled`, by default not at all.
 ///
-/// If memory is refused, which comes only if the other device lacks it for that frame, as it states
-/// in `lacks_memory`, the frame was taken and nothing was sent.
+/// If memory is refused, which happens only if the other device lacks it for that frame, as it
+/// states in `lacks_memory`, the frame was taken and nothing was sent.
 pub fn forward_one<A: Device, B: Device>(
     from: &mut A,
     to: &mut B,
@@ -43,7 +43,7 @@ pub fn forward_one<A: Device, B: Device>(
 /// no room to send one.
 ///
 /// If memory is refused, the frame that was taken last is lost, and each one before it was sent.
-/// That comes only if the other device lacks memory for that frame.
+/// That happens only if the other device lacks memory for that frame.
 pub fn forward<A: Device, B: Device>(
     from: &mut A,
     to: &mut B,

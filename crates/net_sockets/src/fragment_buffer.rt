@@ -1,4 +1,4 @@
-//! A packet that comes in fragments.
+//! A packet that arrives in fragments.
 ghost use Rattle.std.specs.Prelude.{◌≡◌, ◌↔◌, ◌+◌, ◌<◌, ◌≤◌, ◌⊎◌, ℕ, IsTrue, IsSome, IsErr, IfSome};
 ghost use Rattle.std.specs.Prelude.{OnOk, OnErr, ◌<ℤ◌, Err, length, take};
 ghost use Rattle.std.specs.declared.option.Option.TheVariants.{Some, None};
@@ -22,13 +22,13 @@ pub enum FragmentError {
     TooManyHoles,
 }
 
-/// A packet that comes in fragments, in any order, over any storage, as those of IPv4 do.
+/// A packet that arrives in fragments, in any order, over any storage, as those of IPv4 do.
 /// [`FragmentBuffer`] is its usual form. `N` is how many maximal runs of bytes it has room for.
 ///
-/// Fragments may overlap: at each position the byte is that of the fragment that came last there.
+/// Fragments may overlap: at each position the byte is that of the last fragment there.
 ///
-/// Contracts see the bytes of the storage, the set of the positions that came, the packet's size,
-/// once it is known, and the moment up to which the packet is waited for.
+/// Contracts see the bytes of the storage, the set of the positions that arrived, the packet's
+/// size, once it is known, and the moment up to which the packet is waited for.
 pub struct FragmentsOver<B: Storage<u8>, const N: usize> {
     bytes: B,
     present: Assembler<N>,
@@ -49,7 +49,7 @@ impl<B: Storage<u8> + Drop, const N: usize> Drop for FragmentsOver<B, N> {
     }
 }
 
-/// A packet that comes in fragments, over lent or owned bytes.
+/// A packet that arrives in fragments, over lent or owned bytes.
 pub type FragmentBuffer<'a, const N: usize> = FragmentsOver<ManagedSlice<'a, u8>, N>;
 
 impl<B: Storage<u8>, const N: usize> Model for FragmentsOver<B, N> {
@@ -153,7 +153,7 @@ impl<B: Storage<u8>, const N: usize> FragmentsOver<B, N> {
         self.expires_at < now
     }
 
-    /// Begins anew for another packet, which is waited for up to `expires_at`: nothing of it came.
+    /// Begins anew for another packet, which is waited for up to `expires_at`.
     pub fn reset(&mut self, expires_at: Instant)
         ensures bytes { self.new.bytes ≡ self.old.bytes }
         ensures nothing { (self.new.present ≡ nothing) × (self.new.total ≡ None) }

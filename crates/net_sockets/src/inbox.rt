@@ -11,8 +11,8 @@ use std::marker::Model;
 
 /// Datagrams that came in, over any storage.
 ///
-/// A struct that lends on what a queue in its field lends is generic in the queue's storage, as
-/// this one is: over a `PacketBuffer` no contract could say what the loan leaves.
+/// A struct that lends from a queue in its field is generic in the queue's storage, as this one is:
+/// over a `PacketBuffer` no contract could say what the loan leaves.
 ///
 /// Contracts see the list of the datagrams, each with its endpoint and its bytes.
 #[derive(Drop)]

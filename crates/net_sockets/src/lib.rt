@@ -1,8 +1,8 @@
-//! What is built on `net_storage` and `net_base`: a UDP socket, a buffer of fragments, a bridge, and
-//! an inbox that shows its first datagram in place.
+//! Users of `net_storage` and `net_base`: a UDP socket, a buffer of fragments, a bridge, and an
+//! inbox that shows its first datagram in place.
 //!
-//! Each is small and whole, and each is proved from the public contracts of those crates alone, as
-//! a user of them would write it.
+//! Each is small, and each is proved only from the public contracts of those crates, as a user
+//! would write it.
 #![tactic(auto)]
 
 mod bridge;

@@ -51,8 +51,8 @@ impl<'a> UdpSocket<'a> {
     /// Puts a datagram of the bytes `data` at the end of those to be sent. Any endpoint is taken.
     ///
     /// `Full` changes nothing. It is returned exactly if the queue can't place a packet of so many
-    /// bytes: if it has no slot free for it and for the gap that it may need, or not so many
-    /// contiguous bytes free.
+    /// bytes: if no slot is free for it or for the gap that it may need, or if not so many
+    /// contiguous bytes are free.
     pub fn send_slice(&mut self, data: &[u8], to: Endpoint) -> Result<(), Full>
         ensures inbound { self.new.inbound ≡ self.old.inbound }
         ensures full { IsErr result ↔ (placement self.old.outbound (length «data».now) ≡ None) }
@@ -66,10 +66,10 @@ impl<'a> UdpSocket<'a> {
     }
 
     /// Takes the first received datagram off, copies as many of its bytes as `into` has room for,
-    /// and returns how many those are, and where it came from. What does not fit is lost.
+    /// and returns how many those are, and where it came from. Bytes that don't fit are lost.
     ///
-    /// `Empty` changes nothing. smoltcp returns an error in place of the number if a datagram does
-    /// not fit, and loses it too.
+    /// `Empty` changes nothing. If a datagram does not fit, smoltcp returns an error in place of
+    /// the number; there too the datagram is lost.
     pub fn recv_slice(&mut self, into: &mut [u8]) -> Result<(usize, Endpoint), Empty>
         ensures empty { IsErr result ↔ (inbound_datagrams self.old ≡ []) }
         ensures unchanged { OnErr result ((self.new ≡ self.old) × (into.new ≡ into.old)) }
@@ -112,7 +112,7 @@ impl<'a> UdpSocket<'a> {
     }
 
     /// Returns whether a slot is free for a datagram to be sent. `send_slice` can still return
-    /// `Full`, for want of bytes.
+    /// `Full`, if bytes are missing.
     pub fn can_send(&self) -> bool
         ensures slot { IsTrue result ↔ (slots_used self.now.outbound.packets
             < self.now.outbound.slot_count) }

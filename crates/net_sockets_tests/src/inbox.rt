@@ -16,7 +16,7 @@ fn shows(
     }
 }
 
-/// A datagram is looked at twice where it lies.
+/// A datagram is looked at twice in place.
 #[test]
 fn the_first_datagram_is_shown_in_place(rt: HostRuntime) {
     let mut slots = [PacketMetadata::<Endpoint>::EMPTY; 1];

@@ -1,6 +1,6 @@
 //! The tests of `net_sockets`, each through its public calls.
 //!
-//! They stand in a crate of their own, so that what stands on `net_sockets` doesn't wait for them.
+//! They are in a crate of their own, so that crates that use `net_sockets` don't wait for them.
 #![tactic(auto)]
 
 #[cfg(test)]

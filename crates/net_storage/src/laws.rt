@@ -1,8 +1,8 @@
-//! Laws whose premises are what the contracts of calls say: an equation of what a call left, and
-//! what follows from it at one index or position.
+//! Laws whose premises are equations, as the contracts of calls state them, and what follows at one
+//! index or position.
 //!
-//! One speaks of a list that was written over and of a set of positions, so it is here. The others
-//! are those of `net_ring::laws` and `net_assembler::laws`.
+//! One is on a list that was written over and on a set of positions, so it is here. The others are
+//! those of `net_ring::laws` and `net_assembler::laws`.
 ghost use Rattle.std.specs.Prelude.{◌≡◌, ◌+◌, ◌<◌, ◌≤◌};
 ghost use Rattle.std.specs.Prelude.{ℕ, List, [], ◌∷◌, length, slice_index_or, IsTrue};
 ghost use Rattle.net_ring.specs.Overwrite.{overwrite};

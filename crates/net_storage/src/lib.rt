@@ -2,7 +2,7 @@
 //! that comes out of order.
 //!
 //! Each of the three is a crate of its own, `net_ring`, `net_packets` and `net_assembler`; this one
-//! passes them on, and has the one law that speaks of two of them.
+//! re-exports them, and has the one law that is on two of them.
 #![tactic(auto)]
 
 pub mod laws;

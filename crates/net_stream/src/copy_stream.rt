@@ -63,7 +63,7 @@ fn turns_over<'a, 'f, A: Allocator + Copy, T: Watch, R: Read, W: Write>(
     )
 }
 
-/// Copies as `copy` does, over buffers that are lent. The capacity of the config isn't read.
+/// Copies as `copy` does, over lent buffers. The capacity of the config isn't used.
 pub fn copy_over<'a, 'f, A: Allocator + Copy, R: Read, W: Write>(
     alloc: A,
     config: Config,
@@ -109,13 +109,13 @@ fn storage_of<A: Allocator + Copy>(alloc: A, len: usize) -> Result<Storage<A>, A
 
 /// Copies all that the reader has to the writer, over a link of these fates.
 ///
-/// It reads into a buffer of the capacity once all that it read before is written, and passes rounds
-/// until all is written (docs/LINK.md). What comes of it depends on nothing but the config, the fates
-/// and what each read gives, and `exact` says it: the result, what is written, and all of `counts`.
-/// The module `laws` says what follows. A read or a write that fails ends the copy, and so does a
-/// refusal of memory; nothing is tried again. At the end, after an error too, the writer is flushed
-/// once; if all was written, a flush that fails is a failed write. A stream that uses all positions
-/// up to 2^64 - 2 gives up: the reader's end isn't looked for once none is left.
+/// It reads into a buffer of the capacity once all that it read before is written, and passes
+/// rounds until all is written (docs/LINK.md). The outcome depends only on the config, the fates
+/// and what each read gives, and `exact` says how: the result, what is written, and all of
+/// `counts`. The module `laws` says what follows. A read or a write that fails ends the copy, and
+/// so does a refusal of memory; nothing is tried again. At the end, after an error too, the writer
+/// is flushed once; if all was written, a flush that fails is a failed write. A stream that uses
+/// all positions up to 2^64 - 2 gives up: the reader's end isn't looked for once none is left.
 pub fn copy<'f, A: Allocator + Copy, R: Read, W: Write>(
     alloc: A,
     config: Config,

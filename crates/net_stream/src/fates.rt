@@ -7,7 +7,7 @@ use net_copies::{Fate, Rates};
 use std::marker::Model;
 
 /// The fates of the frames to come: those of a list first, and after it those that a generator
-/// draws. A list serves for a test of one case, a generator for many.
+/// draws. A list serves to test one case, a generator to test many.
 ///
 /// Contracts see the rest of the list, the generator's state, and the rates.
 #[derive(Drop)]

@@ -1,7 +1,7 @@
 //! A stream of bytes over a link that loses, duplicates and delays frames.
 //!
-//! What a link and a copy are as functions, and what follows of them, is in `net_copies`; this crate
-//! passes it on, and has the code, each call of which is proved to be a part of these functions.
+//! `net_copies` has links and copies as functions, with their laws; this crate re-exports it, and
+//! has the code. Each call is proved to compute a part of these functions.
 #![tactic(auto)]
 
 mod copier;

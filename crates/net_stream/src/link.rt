@@ -25,12 +25,13 @@ use net_ring::ManagedSlice;
 use std::alloc::Allocator;
 use std::marker::Model;
 
-/// A link that carries a stream one way: its sender and its receiver, the path of the frames, and
-/// the path of the acknowledgements.
+/// A link that carries a stream in one direction: its sender and its receiver, the path of the
+/// frames, and the path of the acknowledgements.
 ///
 /// The fields are there to be used: the sender and the receiver can be asked how many bytes are
-/// queued. A conversation takes two links, one each way, for a path carries either frames or
-/// acknowledgements. Time is simulated: a link has a clock of its own, which `wait` advances.
+/// queued. A conversation takes two links, one for each direction, since a path carries either
+/// frames or acknowledgements. Time is simulated: a link has a clock of its own, which `wait`
+/// advances.
 #[derive(Drop)]
 pub struct Link<'a, 'f, A: Allocator + Copy> {
     /// What sends.
@@ -50,7 +51,7 @@ pub struct Link<'a, 'f, A: Allocator + Copy> {
     pub burst: u32,
     /// How much time has passed since the link was made.
     pub elapsed: Duration,
-    /// What became of the frames so far, acknowledgements too.
+    /// The counts of the frames so far, acknowledgements included.
     pub counts: FrameCounts,
 }
 

@@ -1,4 +1,4 @@
-//! SACK blocks: the held runs of which a receiver tells a sender.
+//! SACK blocks: the held runs that a receiver lists for a sender.
 ghost use Rattle.std.specs.Prelude.{◌≡◌, ◌+◌, ◌^◌, ◌<◌, ◌≤◌, ◌++◌, ◌∷◌, [], length, take};
 ghost use Rattle.std.specs.Prelude.{All, MatchOption, None, Some, min, nat_lt, if◌then◌else◌};
 ghost use Rattle.std.specs.Int.{w64, to_be_bytes};
@@ -17,7 +17,8 @@ pub(crate) const MOST_SACK_BLOCKS: usize = 32;
 /// How many bytes they take.
 pub(crate) const SACK_BLOCKS_LEN: usize = 16 * MOST_SACK_BLOCKS;
 
-/// SACK blocks: ranges of positions that a receiver has, each a start and an end, end not included.
+/// SACK blocks: ranges of positions that a receiver has, each a start and an end, the end not
+/// included.
 ///
 /// Contracts see the list of the ranges, of which there are at most 32. In TCP they are the blocks
 /// of a selective acknowledgement, of which a segment's header has room for three or four.
@@ -121,7 +122,7 @@ impl SackBlocks {
     }
 }
 
-/// Returns the lesser of two positions, if the first is above `pos`, and else the second.
+/// Returns the lesser of two positions, if the first is above `pos`, otherwise the second.
 fn nearer(pos: u64, start: u64, nearest: u64) -> u64
     ensures { result ≡ (if nat_lt pos start then min start nearest else nearest) }
 {

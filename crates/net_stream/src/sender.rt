@@ -20,7 +20,7 @@ use std::marker::Model;
 /// SACK blocks of the last acknowledgement, and the position at which the storage begins again;
 /// `Sends f w` says of a sender that all bytes that were ever written to it are `w`, the first at
 /// position `f`. No call takes memory. smoltcp's TCP socket has the transmit buffer in itself, and
-/// takes no notice of SACK blocks.
+/// ignores SACK blocks.
 #[derive(Drop)]
 pub struct Sender<'a> {
     ring: RingBuffer<'a, u8>,
@@ -163,7 +163,7 @@ impl<'a> Sender<'a> {
     }
 
     /// Returns whether there are as many SACK blocks as an acknowledgement has room for: then the
-    /// receiver may have held bytes of which it couldn't tell.
+    /// receiver may have held bytes that it couldn't list.
     pub(crate) fn are_sack_blocks_full(&self) -> bool
         ensures { result ≡ is_full self.now.sack_blocks }
     {

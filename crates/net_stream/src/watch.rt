@@ -1,13 +1,13 @@
-//! `Watch`, for who watches a copy.
+//! `Watch`, for watching a copy.
 use net_copies::Counts;
 
-/// Is told how far a copy is.
+/// Something that is told how far a copy is.
 pub trait Watch {
     /// Takes the counts so far: called after each round, once what came is written.
     fn round(&mut self, counts: &Counts);
 }
 
-/// Nobody.
+/// A watch that does nothing.
 #[derive(Drop)]
 pub(crate) struct Nobody;
 

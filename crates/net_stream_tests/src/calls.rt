@@ -32,7 +32,7 @@ pub const DELAYED: Rates = Rates {
     delayed: 100,
 };
 
-/// What becomes of the frames of one direction: the fates of a list, and after it those that a generator
+/// The fates of the frames of one direction: those of a list, and after it those that a generator
 /// of this seed draws at these rates.
 #[derive(Clone, Copy, Drop)]
 pub struct Way {

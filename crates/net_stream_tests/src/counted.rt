@@ -1,6 +1,6 @@
 //! All that is counted of copies over links of known fates.
 //!
-//! The numbers are those of compare/copy_model.py, a model that is written from docs/LINK.md alone.
+//! The numbers are those of compare/copy_model.py, a model that is written only from docs/LINK.md.
 
 use crate::assertions::assert_holds;
 use crate::calls::{Setup, Way, copy_by};

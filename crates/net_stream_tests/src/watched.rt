@@ -1,4 +1,4 @@
-//! What a watch is told of a copy.
+//! The counts that a watch is told.
 
 use crate::assertions::assert_holds;
 use crate::calls::{Setup, Way, copy_watched_by};

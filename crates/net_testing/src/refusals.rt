@@ -7,9 +7,9 @@ const MOST_REQUESTS: usize = 1_000_000;
 /// Calls `run` with memory that refuses its first request, then its second, and so on, up to a call
 /// that succeeds, and returns how many requests that call makes.
 ///
-/// Each call of `run` begins anew, with the memory that it is given, and returns whether it succeeded.
-/// It has to fail exactly if a request was refused: `None` if a call fails where none was, or succeeds
-/// where one was. And it has to give all memory back: `None` if a call keeps some.
+/// Each call of `run` begins anew, with the memory that it is given, and returns whether it
+/// succeeded. The result is `None` if a call fails though no request was refused, succeeds though
+/// one was, or doesn't give all its memory back.
 ///
 /// # Requires
 ///

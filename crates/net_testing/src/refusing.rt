@@ -5,14 +5,14 @@ use std::alloc::{AllocError, Allocator, Global};
 /// refuses exactly one of the requests.
 ///
 /// Each growth of a list is a request too, and a list whose growth is refused stays as it was. A
-/// `&Refusing` is an allocator that is copied.
+/// `&Refusing` is an allocator that can be copied.
 pub struct Refusing<A: Allocator = Global> {
     inner: A,
     requests: Requests,
 }
 
 impl<A: Allocator> Refusing<A> {
-    /// Memory of `alloc`, but for the request of number `refused`, counted from 0.
+    /// Memory of `alloc`, except for request number `refused`, counted from 0.
     pub fn new(alloc: A, refused: usize) -> Refusing<A> {
         Refusing {
             inner: alloc,

@@ -7,8 +7,8 @@ use std::marker::Model;
 
 /// An iterator over the maximal runs of an assembler, made by `Assembler::iter_data`.
 ///
-/// It yields (start, end) of each run in rising order, end not included, at most `N` of them, and
-/// ends then.
+/// It yields (start, end) of each run in rising order, the end not included, at most `N` of them,
+/// and then ends.
 #[derive(Drop)]
 pub struct IterData<'a, const N: usize> {
     rest: &'a [(usize, usize)],
@@ -29,7 +29,7 @@ impl<'a, const N: usize> Model for IterData<'a, N> {
 }
 
 impl<'a, const N: usize> IterData<'a, N> {
-    /// Returns the runs that these pairs are, counted from `first_start`.
+    /// Returns these pairs as runs, counted from `first_start`.
     pub(crate) fn over(pairs: &'a [(usize, usize)], first_start: usize) -> Self
         requires runs { AreRuns pairs.now }
         requires fits { FitsFrom first_start pairs.now }

@@ -15,7 +15,7 @@ use super::turns::Turns;
 
 /// Joins a range that isn't empty with the runs that it meets or touches.
 ///
-/// What most segments do is tested first and takes no loop: a range after all runs, and one that
+/// The most frequent cases are tested first and take no loop: a range after all runs, and one that
 /// only the last run meets.
 #[inline(always)]
 pub(crate) fn join_range(
@@ -43,7 +43,7 @@ pub(crate) fn join_range(
         pairs[used] = (start, end);
         return Ok(used + 1);
     }
-    // The range starts in the last run, or right after it: only that grows.
+    // The range starts in the last run, or right after it: only that run grows.
     if last.0 <= start {
         pairs[used - 1] = (last.0, last.1.max(end));
         return Ok(used);
@@ -54,8 +54,9 @@ pub(crate) fn join_range(
 
 /// Joins a range that isn't empty, and isn't after the last run, with the runs that it meets
 /// or touches.
-// Most segments don't come here. Were this code inline, with all its loops, the tests that they take
-// would be far apart, and more of them across lines of the processor's cache of decoded code.
+// Most segments don't need this. If this code were inline, with all its loops, the tests that most
+// segments take would be far apart, and more of them would cross lines of the processor's cache of
+// decoded code.
 #[inline(never)]
 fn join_any(
     pairs: &mut [(usize, usize)],
@@ -74,7 +75,8 @@ fn join_any(
     ensures turns { let n = length pairs.old in
         TurnsWithin (2 * binary_digits n) n turns.old turns.new }
 {
-    // The range starts in the first run, or right after it, as what fills one hole after another.
+    // The range starts in the first run, or right after it, as data does that fills one hole after
+    // another.
     if start <= pairs[0].1 {
         return Ok(grow_run(pairs, used, 0, start, end, turns));
     }
@@ -93,7 +95,7 @@ fn join_any(
 /// Joins a range that isn't empty with the run at `first`, which it meets or touches, and with those
 /// after that run that it meets or touches; it meets none before. Returns how many runs are left.
 ///
-/// A range that meets no other takes no search.
+/// A range that meets no other run takes no search.
 #[inline(always)]
 fn grow_run(
     pairs: &mut [(usize, usize)],

@@ -1,7 +1,7 @@
 //! Laws of sets of positions and of an assembler's calls.
 //!
 //! Each function does nothing: its contract is the law, for all sets, ranges and results. The laws
-//! of calls speak of whatever the contracts of these calls allow, so they hold of every body that
+//! of calls are on all that the contracts of these calls allow, so they hold of every body that
 //! meets them.
 ghost use Rattle.std.specs.Prelude.{◌≡◌, IsTrue};
 ghost use Rattle.net_assembler.specs.Turns.{binary_digits};
@@ -49,7 +49,7 @@ pub fn maximal_runs()
 {}
 
 /// States that what `run_at` returns is a maximal run of the set, and it returns None exactly if
-/// the set has no more runs than the number that is asked for.
+/// the set has no run with that number.
 pub fn maximal_runs_by_number()
     ensures { MaximalRunsByNumber }
 {}

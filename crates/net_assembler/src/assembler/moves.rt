@@ -6,7 +6,7 @@ ghost use Rattle.net_assembler.specs.RunLists.{AreRuns, FitsFrom, runs_shifted_d
 use super::turns::Turns;
 
 /// Writes `entry` at `at`, and the used pairs from there on one index up.
-// Where a range is joined, most are next to a run and need no loop: that code stays short.
+// Most ranges that are joined are next to a run and need no loop, so that code is short.
 #[inline(never)]
 pub(crate) fn insert_pair(
     pairs: &mut [(usize, usize)],
@@ -102,7 +102,8 @@ pub(crate) fn shift_pairs_up(
     ensures moves { turns.new.1 + from ≡ turns.old.1 + used }
 {
     let count = from - 1;
-    // `min` changes nothing; it tells the compiler how many turns there can be where it knows `N`.
+    // `min` changes nothing; it tells the compiler how many iterations there can be, since the
+    // compiler knows `N`.
     for k in from..used.min(pairs.len()) {
         let (start, end) = pairs[k];
         pairs[k - count] = (by + start, by + end);

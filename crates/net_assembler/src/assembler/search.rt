@@ -7,7 +7,7 @@ use super::turns::Turns;
 
 /// Returns how many runs end before `offset`, if the first does and the last doesn't.
 ///
-/// The second is tested by itself, and the later ones are halved.
+/// The second is tested by itself, and the later ones are found by halving.
 #[inline(always)]
 pub(crate) fn runs_ending_before(
     pairs: &[(usize, usize)],
@@ -46,7 +46,7 @@ pub(crate) fn runs_ending_before(
 
 /// Returns how many runs start at or before `end`, but at least `from`.
 ///
-/// The run at `from` is tested by itself, and the later ones are halved.
+/// The run at `from` is tested by itself, and the later ones are found by halving.
 #[inline(always)]
 pub(crate) fn runs_starting_by(
     pairs: &[(usize, usize)],
@@ -64,7 +64,7 @@ pub(crate) fn runs_starting_by(
     ensures no_look_lost { turns.old.0 ≤ turns.new.0 }
     ensures moves { turns.new.1 ≡ turns.old.1 }
 {
-    // No run from `from` on starts by then: most data meets no run but the one next to it.
+    // No run from `from` on starts by then: most data meets only the run next to it.
     if from == pairs.len() || end < pairs[from].0 {
         return from;
     }

@@ -14,15 +14,16 @@ use super::search::{holds, runs_starting_by};
 use super::turns::Turns;
 use super::{IterData, TooManyHolesError};
 
-/// The runs of a set: sorted pairs (start, end), end not included, with a hole between neighbours.
+/// The runs of a set: sorted pairs (start, end), the end not included, with a hole between
+/// neighbours.
 ///
 /// They are counted from where the first of them starts, so the first pair starts at 0;
-/// `first_start` is that position, and so how many are missing before it. Where positions below it
-/// are removed, only `first_start` changes. The first `used` pairs of the array are the runs, and
-/// the others aren't read; with no run `first_start` means nothing.
+/// `first_start` is that position, and so how many are missing before it. If positions below it are
+/// removed, only `first_start` changes. The first `used` pairs of the array are the runs, and the
+/// others aren't read; if there is no run, `first_start` means nothing.
 ///
-/// The two numbers precede the array: so close to where the value begins, instructions that
-/// read them are short.
+/// The two numbers precede the array: instructions that read them are short, so close to the
+/// value's beginning.
 #[derive(Debug, Clone, Copy)]
 pub(crate) struct SortedRuns<const N: usize> {
     used: usize,
@@ -196,16 +197,16 @@ impl<const N: usize> SortedRuns<N> {
         ensures turns { TurnsWithin (binary_digits N) N turns.old turns.new }
         ensures waiting { runs (set_of self.new) ≡ runs (set_of self.old) → turns.new ≡ turns.old }
     {
-        // All runs are after a hole. The range itself is the front, and they wait on.
+        // All runs are after a hole. The range itself is the front, and they remain.
         if size < self.first_start {
             self.first_start -= size;
             return size;
         }
-        // No run waits: the range itself is the front.
+        // There is no run: the range itself is the front.
         if self.used == 0 {
             return size;
         }
-        // Nothing is added: what is removed is the run that is at 0 already.
+        // Nothing is added: the run that is at 0 already is removed.
         if size == 0 {
             return self.remove_front(turns);
         }

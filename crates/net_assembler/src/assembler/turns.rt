@@ -1,4 +1,4 @@
-//! Counts of loop turns that only contracts see.
+//! Counts of iterations, which only contracts see.
 ghost use Rattle.std.specs.Prelude.{◌≡◌, ◌+◌};
 
 use std::marker::Model;
@@ -43,7 +43,7 @@ impl Turns {
         }
     }
 
-    /// Counts a turn that looks at a run.
+    /// Counts an iteration that looks at a run.
     #[inline]
     pub fn count_look(&mut self)
         ensures looks { self.new.0 ≡ self.old.0 + 1 }
@@ -53,7 +53,7 @@ impl Turns {
         self.looks = Snapshot::of(&Count::Next(before));
     }
 
-    /// Counts a turn that moves a run.
+    /// Counts an iteration that moves a run.
     #[inline]
     pub fn count_move(&mut self)
         ensures looks { self.new.0 ≡ self.old.0 }

@@ -11,8 +11,8 @@ use std::alloc::AllocError;
 /// A device that hands over the frames that came in, and sends frames out.
 ///
 /// Tokens are owned: several can exist at once, and a transmit token can be spent on any device
-/// that has its type. Each device says what a frame that is taken off it, a frame that is sent, and
-/// a `receive` that finds none, change of it.
+/// that has its type. Each device states how it changes when a frame is taken off it, when a frame
+/// is sent, and when `receive` finds none.
 pub trait Device {
     /// A frame that the device has handed over.
     type RxToken: RxToken;
@@ -20,29 +20,29 @@ pub trait Device {
     /// The right to send one frame.
     type TxToken: TxToken;
 
-    /// A frame was taken off the device: what the device was, the frame, what it is.
+    /// A frame was taken off the device: the device before, the frame, the device after.
     ghost taken: { Self → List ℕ → Self → Type 0 };
 
-    /// Holds of a device whose `receive` may return `None`. By default nothing is said of one.
+    /// Holds of a device whose `receive` may return `None`. By default it holds of each.
     ghost is_idle: { Self → Type 0 } = { λ _. Unit {0} };
 
-    /// No frame was handed over: what the device was, what it is. By default it is as it was. A
-    /// device that may drop frames meanwhile, as a driver does with damaged ones, says here which.
+    /// No frame was handed over: the device before, the device after. By default it is unchanged. A
+    /// device that may drop frames meanwhile, as a driver drops damaged ones, states here which.
     ghost idled: { Self → Self → Type 0 } = { λ old new. new ≡ old };
 
-    /// Holds of a device whose `transmit` may return `None`. By default nothing is said of one.
+    /// Holds of a device whose `transmit` may return `None`. By default it holds of each.
     ghost is_busy: { Self → Type 0 } = { λ _. Unit {0} };
 
-    /// Holds of a device whose `transmit` may return a token. By default nothing is said of one. A
-    /// device with room of its own for frames says here that some is free.
+    /// Holds of a device whose `transmit` may return a token. By default it holds of each. A device
+    /// with room of its own for frames states here that some is free.
     ghost is_free: { Self → Type 0 } = { λ _. Unit {0} };
 
-    /// A frame was sent: what the device was, the frame, what it is.
+    /// A frame was sent: the device before, the frame, the device after.
     ghost sent: { Self → List ℕ → Self → Type 0 };
 
     /// Holds of a device, and of a number of bytes, if `send` may be refused memory for a frame of
-    /// so many. By default nothing is said. A device whose frames are in memory of its own says here
-    /// that it never is.
+    /// so many. By default it holds of all. A device whose frames are in memory of its own states
+    /// here that it never is.
     ghost lacks_memory: { Self → ℕ → Type 0 } = { λ _ _. Unit {0} };
 
     /// What the device can do.
@@ -78,8 +78,8 @@ pub trait Device {
     /// Sends one frame: calls `f` once on `len` zero bytes, sends what `f` made of them, and returns
     /// what `f` returned.
     ///
-    /// If memory is refused, which comes only if `lacks_memory` holds of the device and `len`, as the
-    /// device states it, `f` is dropped without a call, hence its bound `Drop`, and the device
+    /// If memory is refused, which happens only if `lacks_memory` holds of the device and `len`, as
+    /// the device states it, `f` is dropped without a call (hence its bound `Drop`), and the device
     /// stays as it was. The token is spent in both cases.
     ///
     /// # Requires

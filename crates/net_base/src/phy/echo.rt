@@ -6,10 +6,10 @@ use crate::phy::{Device, RxToken};
 use crate::time::Instant;
 use std::alloc::AllocError;
 
-/// Takes one frame off the device and sends that very frame back. Returns whether there was one; if
+/// Takes one frame off the device and sends the same frame back. Returns whether there was one; if
 /// there was none, the device becomes what it states in `idled`, by default what it was.
 ///
-/// If memory is refused, which comes only if the device lacks it for that frame, as it states in
+/// If memory is refused, which happens only if the device lacks it for that frame, as it states in
 /// `lacks_memory`, the frame was taken and nothing was sent.
 pub fn echo_once<D: Device>(device: &mut D, timestamp: Instant) -> Result<bool, AllocError>
     ensures idle { result ≡ Ok false → D.is_idle device.old × D.idled device.old device.new }

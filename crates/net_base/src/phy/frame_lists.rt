@@ -6,8 +6,8 @@ use crate::phy::Device;
 /// A device whose frames are in lists: those that come in are taken off the head of one, and
 /// those that are sent go to the end of one, which may be the same.
 ///
-/// Each device that is one proves it by the three laws. What is known of frames that pass between
-/// such devices is then known as lists.
+/// Each such device proves it by the three laws. Contracts can then say by lists which frames
+/// passed between such devices.
 pub trait FrameLists: Device {
     /// The frames that wait to be taken off, the next first.
     ghost incoming: { Self → List (List ℕ) };

@@ -37,7 +37,7 @@ pub fn loopback_tokens<A: Allocator + Copy>(rx: &loopback::RxToken<A>, tx: &loop
 {}
 
 /// States that two packets' metadata are equal exactly if they are the same, and then they hash
-/// alike, by any hasher. What a hasher is fed is the identifier and the segment size.
+/// alike, by any hasher. A hasher is fed the identifier and the segment size.
 pub fn packet_meta_hash(x: &PacketMeta, y: &PacketMeta)
     ensures equality { IsTrue (⟦<PacketMeta as PartialEq>⟧.eq x.now y.now) ↔ (x.now ≡ y.now) }
     ensures alike { IsTrue (⟦<PacketMeta as PartialEq>⟧.eq x.now y.now)

@@ -1,7 +1,7 @@
 //! What goes along with a packet.
 use crate::phy::NonZeroU16;
 
-/// What goes along with a packet, beside its bytes. By default the identifier is 0, and no
+/// What goes along with a packet, besides its bytes. By default the identifier is 0, and no
 /// segmentation is asked for.
 #[derive(Debug, PartialEq, Eq, Hash, Clone, Copy, Default)]
 pub struct PacketMeta {

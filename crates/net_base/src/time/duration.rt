@@ -12,8 +12,8 @@ use std::ops::{
     Add, AddAssign, Div, DivAssign, Mul, MulAssign, Shl, ShlAssign, Shr, ShrAssign, Sub, SubAssign,
 };
 
-/// A length of time, in microseconds. By default it is zero. It serves for timeouts, and for what
-/// lies between two moments.
+/// A length of time, in microseconds. By default it is zero. It serves for timeouts, and for the
+/// distance of two moments.
 ///
 /// Contracts see the microseconds, a number from 0 to 2^64 - 1. Quotients are cut to whole numbers.
 #[derive(Debug, Default, Copy, Clone, PartialEq, Eq, PartialOrd, Ord)]

@@ -43,8 +43,8 @@ impl Instant {
         Instant { micros }
     }
 
-    /// Returns the same as `from_micros`. It is no `const fn` here, as smoltcp's is: it is there so
-    /// that code which was written for smoltcp finds it.
+    /// Returns the same as `from_micros`. smoltcp's is a `const fn`, this one isn't: it is here for
+    /// code that was written for smoltcp.
     pub fn from_micros_const(micros: i64) -> Instant
         ensures { result ≡ micros }
     {

@@ -4,8 +4,8 @@ ghost use Rattle.net_base.specs.Earliest.{earlier_of, earliest_of, IsEarliest};
 
 use crate::time::Instant;
 
-/// Returns the earlier of two moments. One that is missing is later than each that is there, so the
-/// answer is `None` only if both are. It serves as the step of a fold over whatever has a moment;
+/// Returns the earlier of two moments. A missing one is later than any other, so the result is
+/// `None` only if both are missing. It serves as the step of a fold over anything with moments;
 /// `laws::earliest_of_each` says what such a fold finds.
 pub fn earlier(first: Option<Instant>, second: Option<Instant>) -> Option<Instant>
     ensures { result ≡ earlier_of first second }
@@ -17,8 +17,8 @@ pub fn earlier(first: Option<Instant>, second: Option<Instant>) -> Option<Instan
     }
 }
 
-/// Returns the earliest of the moments that are there, or `None` if none is: when to poll what has
-/// several timers, each of which may be off.
+/// Returns the earliest of the moments that are there, or `None` if none is: when to poll something
+/// with several timers, each of which may be off.
 pub fn earliest(moments: &[Option<Instant>]) -> Option<Instant>
     ensures { IsEarliest (λ t. t) moments.now result }
 {

@@ -130,8 +130,8 @@ pub fn answer(call: &Call<'_>) -> Option<Reply> {
     }
 }
 
-/// Returns a reply of a length: its microseconds, and the digest of its milliseconds, its whole seconds, and
-/// what lies beyond them as milliseconds and as microseconds.
+/// Returns a reply of a length: its microseconds, and the digest of its milliseconds, its whole
+/// seconds, and what is beyond them as milliseconds and as microseconds.
 pub fn show(duration: Duration) -> Reply {
     let sum = mix(mix(START, duration.total_millis()), duration.secs());
     let sum = mix(mix(sum, duration.millis()), duration.micros());

@@ -89,8 +89,8 @@ pub fn answer(call: &Call<'_>) -> Option<Reply> {
     }
 }
 
-/// Returns a reply of a moment: its microseconds, and the digest of its milliseconds, its whole seconds, and
-/// what lies beyond them as milliseconds and as microseconds.
+/// Returns a reply of a moment: its microseconds, and the digest of its milliseconds, its whole
+/// seconds, and what is beyond them as milliseconds and as microseconds.
 fn show(instant: Instant) -> Reply {
     let sum = mix(START, instant.total_millis().cast_unsigned());
     let sum = mix(sum, instant.secs().cast_unsigned());

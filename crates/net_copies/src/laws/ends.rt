@@ -33,7 +33,7 @@ pub fn gives_up_if_failed()
     known_of_rounds();
 }
 
-/// States that delays and duplicates alone never end a copy whose `rounds` is above 1.
+/// States that delays and duplicates never end a copy whose `rounds` is above 1.
 pub fn delays()
     ensures { NeverByDelays }
 {

@@ -15,7 +15,7 @@ pub fn distinct_frames()
 }
 
 /// States that after several acknowledgements, whatever their order, a sender's queue begins at the
-/// greatest of where it began and of their positions, those above its end left out.
+/// greatest of where it began and of those of their positions that are not above its end.
 pub fn queue_from_greatest()
     ensures { QueueFromGreatest }
 {}

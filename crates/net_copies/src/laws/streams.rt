@@ -1,4 +1,4 @@
-//! Laws: what becomes of the stream on a link, and what a copy writes.
+//! Laws of the stream on a link, and of what a copy writes.
 ghost use Rattle.net_copies.specs.Promises.{WritesPrefix, WritesAll};
 ghost use Rattle.net_copies.specs.Promises.{SameBytes, AllAtOnce};
 ghost use Rattle.net_copies.specs.Streams.{Known, RoundKeepsInvariant, StopKeepsInvariant};
@@ -9,7 +9,7 @@ use super::frames::frames_decode;
 use net_assembler::assembler;
 use net_receiver::laws;
 
-/// States what the laws of streams depend on.
+/// States the facts from which the laws of streams follow.
 pub fn known()
     ensures { Known }
 {
@@ -24,7 +24,7 @@ pub fn known()
     laws::reads();
 }
 
-/// States that the invariant of a link is kept by a round, whatever becomes of its frames, and by a
+/// States that the invariant of a link is kept by a round, whatever happens to its frames, and by a
 /// round that stopped because it lacked memory.
 pub fn keeps_invariant()
     ensures round { RoundKeepsInvariant }
@@ -57,8 +57,8 @@ pub fn all()
     known();
 }
 
-/// States that for a reader that fills what it is asked for, what comes of a copy depends on its
-/// bytes alone: it is what comes of one whose reader has all of them at once.
+/// States that for a reader that fills what it is asked for, the outcome of a copy depends only on
+/// the reader's bytes: it is that of a copy whose reader gives all of them at once.
 pub fn filling_reads()
     ensures same { SameBytes }
     ensures at_once { AllAtOnce }
@@ -66,8 +66,8 @@ pub fn filling_reads()
     known();
 }
 
-/// States what comes of a copy computed in full: two bytes in frames of one byte, of which the first
-/// is lost once. It shows what the definitions mean.
+/// States the outcome of a copy that is computed in full: two bytes in frames of one byte, of which
+/// the first is lost once. It shows what the definitions mean.
 pub fn worked_copy()
     ensures { WorkedCopy }
 {

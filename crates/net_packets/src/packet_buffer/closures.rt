@@ -56,7 +56,7 @@ impl<H: Drop, M: Storage<PacketMetadata<H>>, B: Storage<u8>> PacketsOver<H, M, B
         Ok(count)
     }
 
-    /// Calls `f` on the header and the bytes of the first packet, whose gap goes. If `f` returns
+    /// Calls `f` on the header and the bytes of the first packet, and drops its gap. If `f` returns
     /// `Ok`, the packet is taken off; if it returns `Err`, the packet stays first, with what `f`
     /// wrote to its header and bytes.
     ///
@@ -91,8 +91,8 @@ impl<H: Drop, M: Storage<PacketMetadata<H>>, B: Storage<u8>> PacketsOver<H, M, B
     }
 }
 
-/// Calls `f` on a header and the first `size` bytes of the queue, and returns what it returned, the
-/// header and how many bytes are taken off.
+/// Calls `f` on a header and the first `size` bytes of the queue, and returns what `f` returned,
+/// the header and how many bytes are taken off.
 fn with_first<H, R, E, F: FnOnce(&mut H, &mut [u8]) -> Result<R, E>>(
     f: F,
     mut header: H,

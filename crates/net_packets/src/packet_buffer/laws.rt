@@ -18,7 +18,7 @@ use net_ring::Storage;
 
 /// States that every queue is well placed: its packets fit into its storage, the bytes of each are
 /// contiguous, its gaps end at the storage's end, and there is a slot for each packet and gap. The
-/// other laws speak of such queues.
+/// other laws are on such queues.
 pub fn well_placed<H, M: Storage<PacketMetadata<H>>, B: Storage<u8>>(queue: &PacketsOver<H, M, B>)
     ensures { IsWellPlaced queue.now }
 {
@@ -44,9 +44,9 @@ pub fn empty_queue_takes_what_fits<H>()
 {}
 
 /// States that packets leave in the order in which they were accepted, each with the header and the
-/// bytes last written by who put it or by a closure that refused it: on the list of the headers and
-/// bytes that a queue has, a packet that is accepted comes to the end, a refusing closure writes
-/// the first one anew, the first one is what is shown and taken off, and dropping a gap changes
+/// bytes last written by the call that put it in or by a closure that refused it: on the list of
+/// the headers and bytes that a queue has, an accepted packet is put at the end, a refusing closure
+/// writes the first one anew, the first one is shown and taken off, and dropping a gap changes
 /// nothing.
 pub fn packets_leave_in_order<H>()
     ensures accepted { (q : PacketsState H) (size : ℕ) (header : H) (ws : List ℕ)
@@ -76,7 +76,7 @@ pub fn packets_leave_in_order<H>()
 /// States what `place` and `last_mut`, and `take` and `last_dequeued_mut`, make of a queue's
 /// contents if they are used apart.
 ///
-/// A placed packet has the bytes that stand in the storage, until they are written. What
+/// A placed packet has the bytes that are in the storage, until they are written. What
 /// `last_dequeued_mut` shows after `take` are the bytes of the packet that was taken off, and a
 /// write there changes no content. The same holds of the bytes that `dequeue` lends.
 pub fn the_two_steps_apart<H>()
@@ -115,8 +115,8 @@ pub fn showing_changes_nothing<H>()
 /// States that the packet that leaves k-th is the one that was accepted k-th. Over any calls, in
 /// any order, from a new queue on, the packets that left, in order, followed by those that are
 /// still in the queue, are exactly the packets that were accepted, in order. Each left, or stays,
-/// with the header and the bytes last written to it, by who put it or by a closure that refused it.
-/// What `reset` drops counts as never accepted.
+/// with the header and the bytes last written to it, by the call that put it in or by a closure
+/// that refused it. What `reset` drops counts as never accepted.
 pub fn accepted_packets_leave_in_turn<H>()
     ensures { (slot_count : ℕ) (storage : List ℕ) (calls : List (QueueCall H)) (r : PacketsState H)
         → MakesAll calls (no_packets slot_count storage) r

@@ -1,4 +1,4 @@
-//! Packets that come last.
+//! Packets that are put last.
 ghost use Rattle.std.specs.Prelude.{◌≡◌, ◌↔◌, ◌∷◌, ◌++◌, [], ℕ, List, IsErr, IfOk, OnErr, OnOk};
 ghost use Rattle.std.specs.Prelude.{length};
 ghost use Rattle.std.specs.Borrow.{sem};
@@ -12,17 +12,17 @@ use super::slots::push_slots;
 use crate::packet_metadata::PacketMetadata;
 use net_ring::{Full, Storage};
 
-/// A packet comes last, and its bytes are lent.
+/// A packet is put last, and its bytes are lent.
 impl<H: Drop, M: Storage<PacketMetadata<H>>, B: Storage<u8>> PacketsOver<H, M, B> {
     ghost use Rattle.net_packets.specs.PacketLends.{lends_bytes, lends_bytes_if};
 
-    /// Puts a packet of `size` bytes last. Its bytes are those that stand in the storage;
+    /// Puts a packet of `size` bytes last. Its bytes are those that are in the storage;
     /// [`PacketsOver::last_mut`] lends them.
     ///
     /// Returns `Full`, and drops the header and changes nothing, if no `size` contiguous bytes are
-    /// free, or a slot is missing for the packet or its gap. An empty queue is read from the
-    /// storage's beginning on. With `last_mut` this is [`PacketsOver::enqueue`] in two steps, of
-    /// which callers know exactly what they leave.
+    /// free, or a slot is missing for the packet or its gap. An empty queue begins at the storage's
+    /// beginning. With `last_mut` this is [`PacketsOver::enqueue`] in two steps, whose effects
+    /// callers know exactly.
     pub fn place(&mut self, size: usize, header: H) -> Result<(), Full>
         ensures accepted { OnOk result ((ws : List ℕ) → length ws ≡ size
             → contents (with_last_bytes self.new ws) ≡ contents self.old ++ (header, ws) ∷ []) }
@@ -42,7 +42,7 @@ impl<H: Drop, M: Storage<PacketMetadata<H>>, B: Storage<u8>> PacketsOver<H, M, B
         Ok(())
     }
 
-    /// Lends the bytes of the packet that came last, or none if the queue has no packets.
+    /// Lends the bytes of the last packet, or none if the queue has no packets.
     pub fn last_mut(&mut self) -> &mut [u8]
         ensures* writes_back { sem 𝓛 (lends_bytes H.row M.row B.row M.Storage B.Storage
             self.entry result (with_last_bytes self.old)) }
@@ -58,11 +58,11 @@ impl<H: Drop, M: Storage<PacketMetadata<H>>, B: Storage<u8>> PacketsOver<H, M, B
     }
 
     /// Puts a packet of `size` bytes last and lends these bytes. Until they are written they are
-    /// what stood in the storage.
+    /// what was in the storage.
     ///
     /// Returns `Full`, and drops the header and changes nothing, if no `size` contiguous bytes are
-    /// free, or a slot is missing for the packet or its gap. smoltcp can leave a gap with no packet
-    /// if it refuses.
+    /// free, or a slot is missing for the packet or its gap. If smoltcp refuses, it can leave a gap
+    /// with no packet.
     pub fn enqueue(&mut self, size: usize, header: H) -> Result<&mut [u8], Full>
         ensures* writes_back { sem 𝓛 (lends_bytes_if H.row M.row B.row M.Storage B.Storage
             self.entry result (with_last_bytes (with_packet_if_room self.old size header))) }

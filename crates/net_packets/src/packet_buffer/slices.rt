@@ -29,7 +29,7 @@ impl<H: Drop, M: Storage<PacketMetadata<H>>, B: Storage<u8>> PacketsOver<H, M, B
     }
 
     /// Takes the first packet and its gap off, copies as many of its bytes as `into` has room for,
-    /// and returns its header and how many bytes those are. What does not fit is lost.
+    /// and returns its header and how many bytes were copied. Bytes that don't fit are lost.
     ///
     /// Returns `Empty`, and changes nothing, if the queue has no packets. smoltcp has no such call.
     pub fn pop_slice(&mut self, into: &mut [u8]) -> Result<(H, usize), Empty>

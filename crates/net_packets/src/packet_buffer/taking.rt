@@ -17,7 +17,7 @@ use net_ring::{Empty, Storage};
 impl<H: Drop, M: Storage<PacketMetadata<H>>, B: Storage<u8>> PacketsOver<H, M, B> {
     ghost use Rattle.net_packets.specs.PacketLends.{lends_bytes, lends_packet_if, ends_as};
 
-    /// Shows the header and the bytes of the first packet, whose gap goes.
+    /// Shows the header and the bytes of the first packet, and drops its gap.
     ///
     /// Returns `Empty`, and changes nothing, if the queue has no packets.
     pub fn peek(&mut self) -> Result<(&H, &[u8]), Empty>
@@ -40,8 +40,7 @@ impl<H: Drop, M: Storage<PacketMetadata<H>>, B: Storage<u8>> PacketsOver<H, M, B
     /// [`PacketsOver::last_dequeued_mut`] lends these bytes.
     ///
     /// Returns `Empty`, and changes nothing, if the queue has no packets. With `last_dequeued_mut`
-    /// this is [`PacketsOver::dequeue`] in two steps, of which callers know exactly what they
-    /// leave.
+    /// this is [`PacketsOver::dequeue`] in two steps, whose effects callers know exactly.
     pub fn take(&mut self) -> Result<(H, usize), Empty>
         ensures empty { IsErr result ↔ (contents self.old ≡ []) }
         ensures taken { IfOk result

@@ -18,8 +18,8 @@ impl<'a, const N: usize> Receiver<'a, N> {
     /// Takes bytes off the queue into the beginning of `into`, and returns how many: as many as are
     /// queued and as `into` has room for. The rest of `into` stays as it is.
     ///
-    /// As for `segment`, `state`, `count` and `into` say it by what is stored, `step` by kept
-    /// lists, and `receives` and `bytes` by the stream that the segments were of.
+    /// Like those of `segment`, the clauses `state`, `count` and `into` say it by what is stored,
+    /// `step` by kept lists, and `receives` and `bytes` by the stream of the segments.
     pub fn read(&mut self, into: &mut [u8]) -> usize
         ensures state { self.new ≡ receiver_after_read self.old (length into.old) }
         ensures count { result ≡ min (length into.old) (length self.old.queue) }
@@ -44,7 +44,7 @@ impl<'a, const N: usize> Receiver<'a, N> {
     /// the queue has no byte `offset`.
     ///
     /// The stream's byte number i, counted from 0, has the index `i` modulo the capacity in the
-    /// storage, so it is known where a part ends. smoltcp's `peek` lends from the head on.
+    /// storage, so a caller knows where a part ends. smoltcp's `peek` lends from the head on.
     pub fn peek(&self, offset: usize, size: usize) -> &[u8]
         ensures count { length result.now ≡ contiguous_count_from self.now offset size }
         ensures few { length result.now ≤ min size (length self.now.queue - offset) }

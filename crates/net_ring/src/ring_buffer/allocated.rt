@@ -77,8 +77,8 @@ impl<T, S: Storage<T>> RingOver<T, S> {
     /// Lends at most `size` elements of the queue from the one at `offset` on: as many as are
     /// contiguous.
     ///
-    /// An addition to smoltcp's calls: `get_allocated`, for elements that are changed where they
-    /// stand. As many are queued after as before.
+    /// An addition to smoltcp's calls: `get_allocated`, for elements that are changed in place. The
+    /// number of queued elements stays the same.
     pub fn get_allocated_mut(&mut self, offset: usize, size: usize) -> &mut [T]
         ensures* writes_back { sem 𝓛 (lends_many T.row S.row S.Storage self.entry
             self.old (queue_index self.old offset) result) }
@@ -108,7 +108,7 @@ impl<T, S: Storage<T>> RingOver<T, S> {
         ensures value { result.now ≡ take 1 (queue self.now) }
         ensures first { slice_get result.now 0 ≡ slice_get (queue self.now) 0 }
     {
-        // Called for its clauses alone: by them the sum below does not wrap.
+        // Called only for its clauses, by which the sum below does not wrap.
         let _capacity = self.capacity();
         let from = self.read_at;
         self.storage.part(from, from + self.length.min(1))
@@ -151,7 +151,7 @@ impl<T: Copy, S: Storage<T>> RingOver<T, S> {
         } = self.span(0, self.length, offset, data.len());
         // The elements up to the storage's end.
         data[..contiguous].copy_from_slice(self.storage.part(from, from + contiguous));
-        // The rest stands at its beginning.
+        // The rest is at its beginning.
         if contiguous < count {
             data[contiguous..count].copy_from_slice(self.storage.part(0, count - contiguous));
         }

@@ -32,9 +32,9 @@ pub fn rewinding_keeps_the_queue<T>()
 
 /// States that the element that leaves k-th is the one that came k-th. Over any calls, in any
 /// order, from an empty ring on, the elements that left, in order, followed by those that are still
-/// queued, are exactly the elements that came, in order. Each left as it was shown then, and each
-/// stands as it was last written while it was queued, by who put it or by who was lent it there.
-/// What `clear` and `reset` drop counts as never accepted.
+/// queued, are exactly the elements that were put in, in order. Each left as it was shown then, and
+/// each has the value last written to it while it was queued, by the call that put it in or through
+/// a loan. What `clear` and `reset` drop counts as never accepted.
 pub fn elements_leave_in_turn<T>()
     ensures { (storage : List T) (calls : List (RingCall T)) (g : RingState T)
         → MakesAll calls (ring storage 0 0) g

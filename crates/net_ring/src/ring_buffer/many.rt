@@ -19,7 +19,7 @@ impl<T, S: Storage<T>> RingOver<T, S> {
     /// counts, and returns what `f` returned.
     ///
     /// An empty ring first moves its read index to the storage's beginning. What `f` wrote stays in
-    /// the storage, also behind the elements that it counted. It must count no more than the
+    /// the storage, also after the elements that it counted. It must count no more than the
     /// elements that it is lent.
     ///
     /// # Requires
@@ -39,7 +39,7 @@ impl<T, S: Storage<T>> RingOver<T, S> {
         answer
     }
 
-    /// Enqueues at most `size` elements, as they stand, and lends them: as many as are contiguous.
+    /// Enqueues at most `size` elements, as they are, and lends them: as many as are contiguous.
     ///
     /// An empty ring first moves its read index to the storage's beginning.
     pub fn enqueue_many(&mut self, size: usize) -> &mut [T]

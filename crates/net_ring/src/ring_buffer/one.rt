@@ -46,7 +46,7 @@ impl<T, S: Storage<T>> RingOver<T, S> {
         Ok(answer)
     }
 
-    /// Enqueues the next free element, as it stands, and lends it.
+    /// Enqueues the next free element, as it is, and lends it.
     ///
     /// A full ring returns `Full` and stays as it is.
     pub fn enqueue_one(&mut self) -> Result<&mut T, Full>
@@ -69,7 +69,7 @@ impl<T, S: Storage<T>> RingOver<T, S> {
 
     /// Enqueues the next free element of a ring that has room, and lends it.
     ///
-    /// It stands alone since `enqueue_one` lends by the clause of one call.
+    /// It is a function of its own, since `enqueue_one` lends by the clause of one call.
     fn enqueue_next(&mut self) -> &mut T
         requires { window self.old ≢ 0 }
         ensures* writes_back { sem 𝓛 (lends_one T.row S.row S.Storage self.entry
@@ -144,7 +144,7 @@ impl<T, S: Storage<T>> RingOver<T, S> {
 
     /// Dequeues the first element of a ring that is not empty, and lends it.
     ///
-    /// It stands alone since `dequeue_one` lends by the clause of one call.
+    /// It is a function of its own, since `dequeue_one` lends by the clause of one call.
     fn dequeue_first(&mut self) -> &mut T
         requires { self.old.count ≢ 0 }
         ensures* writes_back { sem 𝓛 (lends_one T.row S.row S.Storage self.entry

@@ -29,7 +29,7 @@ impl<T, S: Storage<T>> RingOver<T, S> {
 
     /// Lends at most `size` free elements from the one at `offset` on: as many as are contiguous.
     ///
-    /// None if `offset` is past the window. As many elements are queued after as before.
+    /// None if `offset` is past the window. The number of queued elements stays the same.
     pub fn get_unallocated(&mut self, offset: usize, size: usize) -> &mut [T]
         ensures* writes_back { sem 𝓛 (lends_many T.row S.row S.Storage self.entry
             self.old (spare_index self.old offset) result) }
@@ -79,7 +79,7 @@ impl<T, S: Storage<T>> RingOver<T, S> {
         self.storage.part_mut(from, from + size)
     }
 
-    /// Enqueues `count` elements, as they stand.
+    /// Enqueues `count` elements, as they are.
     ///
     /// There must be as many free ones, which `window` tells; smoltcp panics if there are not.
     ///
@@ -92,7 +92,7 @@ impl<T, S: Storage<T>> RingOver<T, S> {
         ensures enqueued { Enqueues self.old (take count (spare self.old)) self.new }
         ensures of_spare { spare self.new ≡ drop count (spare self.old) }
     {
-        // Called for its clauses alone: by them the sum below does not wrap.
+        // Called only for its clauses, by which the sum below does not wrap.
         let _capacity = self.capacity();
         self.length += count;
     }

@@ -1,4 +1,4 @@
-//! Callers of a ring, proved from its contracts alone.
+//! Callers of a ring, proved only from its contracts.
 ghost use Rattle.std.specs.Prelude.{◌≡◌, ◌≢◌, ◌<◌, ◌↔◌, ◌++◌, [], ◌∷◌, length, take, drop, min, ℕ};
 ghost use Rattle.std.specs.Prelude.{List, IsErr, OnOk, OnErr, IfOk, vec_len};
 ghost use Rattle.net_ring.specs.Ring.{window, queue, spare, contiguous_window};
@@ -104,7 +104,7 @@ pub fn enqueue_first(ring: &mut RingBuffer<'_, u8>, byte: u8)
     });
 }
 
-/// Two rings in one struct, seen as a pair of their queues.
+/// Two rings in one struct, modelled as a pair of their queues.
 #[derive(Drop)]
 pub struct Duplex<'a> {
     inbound: RingBuffer<'a, u8>,

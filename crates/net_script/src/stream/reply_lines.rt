@@ -54,12 +54,11 @@ const RUN_ROOM: usize = 2 * NUMBER_ROOM + 2;
 /// How many runs the reply to a segment lists at most.
 const LISTED: usize = 3;
 
-/// The most bytes of a line that says what was kept: two numbers, the listed runs, and 20 bytes
-/// beside them.
+/// The most bytes of a line that says what was kept: two numbers, the listed runs, and 20 more
+/// bytes.
 const ACCEPTED_ROOM: usize = 20 + 2 * NUMBER_ROOM + RUN_ROOM * LISTED;
 
-/// The most bytes of a line that shows a receiver: three numbers, 32 held runs, and 28 bytes beside
-/// them.
+/// The most bytes of a line that shows a receiver: three numbers, 32 held runs, and 28 more bytes.
 const SHOWN_ROOM: usize = 28 + 3 * NUMBER_ROOM + RUN_ROOM * 32;
 
 /// Returns what was kept of a segment and the first held runs, as a line.

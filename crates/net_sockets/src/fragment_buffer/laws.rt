@@ -1,4 +1,4 @@
-//! Laws of packets that come in fragments, and of why a fragment is refused. No function here does
+//! Laws of packets that arrive in fragments, and of refusals of a fragment. No function here does
 //! anything.
 ghost use Rattle.std.specs.Prelude.{◌≡◌, ◌↔◌, IsTrue};
 ghost use Rattle.net_sockets.specs.FragmentHistory.{LastFragmentStands, OldBytesAreGone};
@@ -8,7 +8,8 @@ use net_assembler::assembler;
 use net_ring::ring_buffer;
 
 /// States that after any accepted fragments, in any order and however they overlap, the byte at
-/// each position that came is that of the last fragment there, whatever was in the buffer before.
+/// each position that arrived is that of the last fragment there, whatever was in the buffer
+/// before.
 pub fn the_last_fragment_stands()
     ensures each { LastFragmentStands }
     ensures old_bytes { OldBytesAreGone }

@@ -1,4 +1,4 @@
-//! What becomes of the frames of one direction.
+//! The fates of the frames of one direction.
 
 use crate::calls::{GONE, PERFECT, Way};
 use net_stream::{Fate, Rates};
