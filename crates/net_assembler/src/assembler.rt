@@ -252,13 +252,13 @@ impl<const N: usize> Assembler<N> {
         if offset == 0 {
             return Ok(self.runs.complete_front(size, turns));
         }
-        // Where position 0 is missing, it stays so. The test comes before the range is added, so
-        // that the compiler leaves it out where the range is the only run, or begins before all.
-        let is_missing = self.runs.lacks_front();
-        self.add_counted(offset, size, turns)?;
-        if is_missing {
+        // Position 0 is missing and stays so: nothing is removed. This is most data that comes too
+        // early; one comparison then says that, and that the range doesn't begin before the runs.
+        if self.runs.waits_before(offset) {
+            self.add_counted(offset, size, turns)?;
             return Ok(0);
         }
+        self.add_counted(offset, size, turns)?;
         Ok(self.remove_front_counted(turns))
     }
 

@@ -87,13 +87,17 @@ impl<const N: usize> SortedRuns<N> {
         if self.used == 0 { 0 } else { self.pairs[0].1 }
     }
 
-    /// Returns whether position 0 is missing.
+    /// Returns whether there is a run, and the first one starts after 0, but not after `offset`. If
+    /// so, position 0 is missing.
     #[inline(always)]
-    pub(crate) fn lacks_front(&self) -> bool
+    pub(crate) fn waits_before(&self, offset: usize) -> bool
         requires { HasSoundPairs self.now }
-        ensures { IsTrue result ↔ (front (set_of self.now) ≡ 0) }
+        ensures { IsTrue result → (0 < offset) × (front (set_of self.now) ≡ 0) }
     {
-        self.used == 0 || self.first_start != 0
+        if self.used == 0 || self.first_start == 0 {
+            return false;
+        }
+        self.first_start <= offset
     }
 
     /// Returns the run with number `k`, counted from 0; None if there are no more than `k`.
