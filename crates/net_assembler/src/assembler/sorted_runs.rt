@@ -175,6 +175,8 @@ impl<const N: usize> SortedRuns<N> {
         requires { HasSoundPairs self.old }
         ensures sound { HasSoundPairs self.new }
         ensures removed { RemovesFront N (set_of self.old) result (set_of self.new) }
+        ensures unchanged { result ≡ 0 → self.new ≡ self.old }
+        ensures fewer { 0 < result → runs (set_of self.new) + 1 ≡ runs (set_of self.old) }
         ensures turns { TurnsWithin 0 N turns.old turns.new }
         ensures waiting { runs (set_of self.new) ≡ runs (set_of self.old) → turns.new ≡ turns.old }
     {
@@ -197,6 +199,7 @@ impl<const N: usize> SortedRuns<N> {
         ensures size { result ≡ front (with_range (set_of self.old) 0 size) }
         ensures rest { let all = with_range (set_of self.old) 0 size in
             set_of self.new ≡ shift_down all result }
+        ensures fewer { runs (set_of self.new) ≤ runs (set_of self.old) }
         ensures bound { runs (set_of self.new) ≤ N }
         ensures turns { TurnsWithin (binary_digits N) N turns.old turns.new }
         ensures waiting { runs (set_of self.new) ≡ runs (set_of self.old) → turns.new ≡ turns.old }
