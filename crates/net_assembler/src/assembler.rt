@@ -173,6 +173,8 @@ impl<const N: usize> Assembler<N> {
     pub fn remove_front(&mut self) -> usize
         ensures length { result ≡ front self.old }
         ensures rest { self.new ≡ shift_down self.old (front self.old) }
+        ensures unchanged { result ≡ 0 → self.new ≡ self.old }
+        ensures fewer { 0 < result → runs self.new + 1 ≡ runs self.old }
         ensures bound { runs self.new ≤ N }
     {
         self.remove_front_counted(&mut Turns::new())
@@ -186,6 +188,8 @@ impl<const N: usize> Assembler<N> {
     pub(crate) fn remove_front_counted(&mut self, turns: &mut Turns) -> usize
         ensures length { result ≡ front self.old }
         ensures rest { self.new ≡ shift_down self.old (front self.old) }
+        ensures unchanged { result ≡ 0 → self.new ≡ self.old }
+        ensures fewer { 0 < result → runs self.new + 1 ≡ runs self.old }
         ensures bound { runs self.new ≤ N }
         ensures turns { TurnsWithin 0 N turns.old turns.new }
         ensures waiting { runs self.new ≡ runs self.old → turns.new ≡ turns.old }
@@ -216,6 +220,7 @@ impl<const N: usize> Assembler<N> {
         ensures refused { let too_many = MakesTooManyRuns N self.old offset size in
             IsErr result ↔ ((0 < offset) × too_many) }
         ensures accepted { runs self.old < N → IsOk result }
+        ensures more { runs self.new ≤ runs self.old + 1 }
         ensures bound { runs self.new ≤ N }
     {
         self.add_then_remove_front_counted(offset, size, &mut Turns::new())
@@ -245,6 +250,7 @@ impl<const N: usize> Assembler<N> {
         ensures refused { let too_many = MakesTooManyRuns N self.old offset size in
             IsErr result ↔ ((0 < offset) × too_many) }
         ensures accepted { runs self.old < N → IsOk result }
+        ensures more { runs self.new ≤ runs self.old + 1 }
         ensures bound { runs self.new ≤ N }
         ensures turns { TurnsWithin (2 * binary_digits N) (2 * N) turns.old turns.new }
         ensures waiting { offset ≡ 0 → runs self.new ≡ runs self.old → turns.new ≡ turns.old }
@@ -252,13 +258,13 @@ impl<const N: usize> Assembler<N> {
         if offset == 0 {
             return Ok(self.runs.complete_front(size, turns));
         }
-        // Where position 0 is missing, it stays so. The test comes before the range is added, so
-        // that the compiler leaves it out where the range is the only run, or begins before all.
-        let is_missing = self.runs.lacks_front();
-        self.add_counted(offset, size, turns)?;
-        if is_missing {
+        // Position 0 is missing and stays so: nothing is removed. This is most data that comes too
+        // early; one comparison then says that, and that the range doesn't begin before the runs.
+        if self.runs.waits_before(offset) {
+            self.add_counted(offset, size, turns)?;
             return Ok(0);
         }
+        self.add_counted(offset, size, turns)?;
         Ok(self.remove_front_counted(turns))
     }
 

@@ -8,10 +8,12 @@ ghost use Rattle.net_ring.specs.Ring.{IsWellFormed};
 
 use crate::managed::{ManagedSlice, Storage};
 use crate::resettable::Resettable;
+pub use iter::Iter;
 use std::marker::{Model, PhantomData};
 
 mod allocated;
 mod ends;
+mod iter;
 pub mod laws;
 mod many;
 mod one;

@@ -152,8 +152,8 @@ fn runs_long_inputs(rt: HostRuntime) -> Result<(), Fail> {
     check_scripts(&rt, rt.alloc(), &SCRIPTS)
 }
 
-/// Segments of six bytes each that come in two parts, the later first, and are read in two parts:
-/// the lines of mode `stream`, and the replies.
+/// Returns segments of six bytes each that come in two parts, the later first, and are read in two
+/// parts: the lines of mode `stream`, and the replies.
 fn long_stream(alloc: Global) -> Result<(Vec<u8>, Vec<u8>), AllocError> {
     let mut input = Vec::new(alloc);
     let mut output = Vec::new(alloc);
@@ -212,7 +212,7 @@ fn runs_a_long_stream(rt: HostRuntime) -> Result<(), Fail> {
     Ok(())
 }
 
-/// Returns a line of so many bytes, a command if bytes stand in it.
+/// Returns a line of so many bytes, a command if it has bytes.
 fn line_of(alloc: Global, length: usize) -> Result<Vec<u8>, AllocError> {
     let mut line = Vec::new(alloc);
     line.push(b'w')?;
@@ -253,7 +253,7 @@ fn runs_lines_of_every_length(rt: HostRuntime) -> Result<(), Fail> {
     Ok(())
 }
 
-/// Lines that fill a ring of 65,536 bytes and read all of it, and what is written for them.
+/// Returns lines that fill a ring of 65,536 bytes and read all of it, and what is written for them.
 pub fn long_reply(alloc: Global) -> Result<(Vec<u8>, Vec<u8>), AllocError> {
     let mut input = Vec::new(alloc);
     let mut output = Vec::new(alloc);

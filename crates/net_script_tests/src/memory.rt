@@ -199,8 +199,8 @@ fn a_ring_asks_for_its_memory_once(rt: HostRuntime) -> Result<(), Fail> {
     Ok(())
 }
 
-/// Segments of 1,000 bytes each that fill a receiver of 64,000, and a read of all, so many times:
-/// the lines of mode `stream`, and how many bytes are written.
+/// Returns segments of 1,000 bytes each that fill a receiver of 64,000, and a read of all, so many
+/// times: the lines of mode `stream`, and how many bytes are written.
 fn full_receivers(alloc: Global, times: usize) -> Result<(Vec<u8>, usize), AllocError> {
     let mut input = Vec::new(alloc);
     let digits = vec![in alloc; b'6'; 2_000]?;

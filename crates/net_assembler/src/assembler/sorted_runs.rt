@@ -87,13 +87,17 @@ impl<const N: usize> SortedRuns<N> {
         if self.used == 0 { 0 } else { self.pairs[0].1 }
     }
 
-    /// Returns whether position 0 is missing.
+    /// Returns whether there is a run, and the first one starts after 0, but not after `offset`. If
+    /// so, position 0 is missing.
     #[inline(always)]
-    pub(crate) fn lacks_front(&self) -> bool
+    pub(crate) fn waits_before(&self, offset: usize) -> bool
         requires { HasSoundPairs self.now }
-        ensures { IsTrue result ↔ (front (set_of self.now) ≡ 0) }
+        ensures { IsTrue result → (0 < offset) × (front (set_of self.now) ≡ 0) }
     {
-        self.used == 0 || self.first_start != 0
+        if self.used == 0 || self.first_start == 0 {
+            return false;
+        }
+        self.first_start <= offset
     }
 
     /// Returns the run with number `k`, counted from 0; None if there are no more than `k`.
@@ -171,6 +175,8 @@ impl<const N: usize> SortedRuns<N> {
         requires { HasSoundPairs self.old }
         ensures sound { HasSoundPairs self.new }
         ensures removed { RemovesFront N (set_of self.old) result (set_of self.new) }
+        ensures unchanged { result ≡ 0 → self.new ≡ self.old }
+        ensures fewer { 0 < result → runs (set_of self.new) + 1 ≡ runs (set_of self.old) }
         ensures turns { TurnsWithin 0 N turns.old turns.new }
         ensures waiting { runs (set_of self.new) ≡ runs (set_of self.old) → turns.new ≡ turns.old }
     {
@@ -193,6 +199,7 @@ impl<const N: usize> SortedRuns<N> {
         ensures size { result ≡ front (with_range (set_of self.old) 0 size) }
         ensures rest { let all = with_range (set_of self.old) 0 size in
             set_of self.new ≡ shift_down all result }
+        ensures fewer { runs (set_of self.new) ≤ runs (set_of self.old) }
         ensures bound { runs (set_of self.new) ≤ N }
         ensures turns { TurnsWithin (binary_digits N) N turns.old turns.new }
         ensures waiting { runs (set_of self.new) ≡ runs (set_of self.old) → turns.new ≡ turns.old }

@@ -1,7 +1,7 @@
 use Rattle.std.proofs.Common.{rules, ◌≡◌, ◌∙◌, ◌+◌, ◌-◌, ◌<◌, ◌≤◌, ℕ, ap, sym, refl, arith}
 use Rattle.std.proofs.lemmas.Bool.{cases_lt}
 use Rattle.net_assembler.specs.declared.assembler.sorted_runs.SortedRuns.{SortedRuns}
-use Rattle.net_assembler.specs.Positions.{front, shift_down}
+use Rattle.net_assembler.specs.Positions.{front, runs, shift_down}
 use Rattle.net_assembler.specs.RunLists.{HasSoundPairs, pairs_of, runs_of, set_of, set_of_runs, start_at}
 use Rattle.net_assembler.specs.Turns.{binary_digits}
 use Rattle.net_assembler.proofs.AssemblerLaws.{below_binary_digits}
@@ -139,3 +139,21 @@ returns-then-size-self-clause-bound g c = few_held _ (lowered c.args.self.now c.
 
 pub returns-clause-bound : goal.returns-clause-bound
 returns-clause-bound g c = few_held c.drop_front.new.self c.drop_front.ensures.sound
+
+pub returns-then-size-self-clause-fewer : goal.returns-then-size-self-clause-fewer
+returns-then-size-self-clause-fewer g c =
+    let h = c.args.self.now in
+    omega (arith, runs-set_of h c.requires, runs-set_of _ (lowered h c.requires c.args.size))
+
+pub returns-then-size-eq0-clause-fewer : goal.returns-then-size-eq0-clause-fewer
+returns-then-size-eq0-clause-fewer g c =
+    let met = c.remove_front.ensures in
+    either (cases_lt 0 c.remove_front.result) (λ some. omega (arith, met.fewer some))
+    (λ none. omega (arith, ap (λ h. runs (set_of h)) (met.unchanged (omega (arith, none)))))
+
+pub returns-clause-fewer : goal.returns-clause-fewer
+returns-clause-fewer g c =
+    let h = c.args.self.now in
+    let left = dropped_number h c.requires c.runs_starting_by-met.result c.max-end.result c.drop_front.new.self
+    c.drop_front.ensures.sound c.drop_front.ensures.runs in
+    omega (arith, left, runs-set_of h c.requires)

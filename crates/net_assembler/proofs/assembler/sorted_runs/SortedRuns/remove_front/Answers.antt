@@ -42,3 +42,10 @@ returns-clause-waiting g c = λ same.
     let held = front_held h c.requires (omega (arith, c.front-size.ensures)) in
     let left = dropped_number h c.requires 1 c.front-size.result c.drop_front.new.self c.drop_front.ensures.sound c.drop_front.ensures.runs in
     absurd (omega (arith, same, left, runs-set_of h c.requires, held.0))
+
+pub returns-clause-fewer : goal.returns-clause-fewer
+returns-clause-fewer g c = λ some.
+    let h = c.args.self.now in
+    let held = front_held h c.requires (omega (arith, c.front-size.ensures)) in
+    let left = dropped_number h c.requires 1 c.front-size.result c.drop_front.new.self c.drop_front.ensures.sound c.drop_front.ensures.runs in
+    omega (arith, left, runs-set_of h c.requires, held.0)

@@ -1,0 +1,65 @@
+//! The elements of a queue, one after another.
+ghost use Rattle.std.specs.Prelude.{◌≡◌};
+ghost use Rattle.net_ring.specs.Ring.{queue};
+
+use super::RingOver;
+use crate::managed::Storage;
+use std::marker::Model;
+
+/// An iterator over the elements of a queue, the first one first, made by `RingOver::iter`.
+///
+/// A contract sees the list of the elements that are left.
+#[derive(Drop)]
+pub struct Iter<'a, T> {
+    first: &'a [T],
+    second: &'a [T],
+}
+
+impl<'a, T> Model for Iter<'a, T> {
+    ghost use Rattle.std.specs.Prelude.{◌+◌, ◌^◌, ◌<◌, List, ◌++◌, length};
+
+    ghost Value = { List T };
+
+    ghost view = { λ s. s.first.now ++ s.second.now };
+
+    ghost invariant = { λ s. length s.first.now + length s.second.now < 2 ^ 64 };
+}
+
+impl<T, S: Storage<T>> RingOver<T, S> {
+    /// Returns an iterator over the queue, which shows the elements in order.
+    ///
+    /// It isn't in smoltcp; std's `VecDeque` has it.
+    pub fn iter(&self) -> Iter<'_, T>
+        ensures { result ≡ queue self.now }
+    {
+        // By the clauses of these two calls the number of elements is below 2^64.
+        let _capacity = self.capacity();
+        let _len = self.len();
+        let (first, second) = self.as_slices();
+        Iter { first, second }
+    }
+}
+
+impl<'a, T> Iterator for Iter<'a, T> {
+    ghost use Rattle.std.specs.Iterator.{YieldsFirstRef, item_count};
+
+    type Item = &'a T;
+
+    ghost next_gives = { YieldsFirstRef (λ s. s) };
+
+    ghost remaining = { item_count (λ s. s) };
+
+    fn next(&mut self) -> Option<&'a T> {
+        let first = self.first;
+        if !first.is_empty() {
+            self.first = &first[1..];
+            return Some(&first[0]);
+        }
+        let second = self.second;
+        if !second.is_empty() {
+            self.second = &second[1..];
+            return Some(&second[0]);
+        }
+        None
+    }
+}
