@@ -21,6 +21,7 @@ In prose, between backquotes,
   ELSEWHERE: names of the kit, of Rust or of smoltcp that no source has, and parameters. A name that ends or begins
   with an underscore is short for all that begin or end so;
 - a path has to be a file's, from the top, from `crates` or from a crate's folder on, and a file's name that of a file;
+- a path `Rattle.CRATE.specs.FILE` has to be that of a file of a crate's specs;
 - a file with a number of lines after it, such as `specs/Frames.antt`, 24 lines, has to have so many;
 - each name after the word "clause" has to be that of a clause of some function.
 
@@ -217,6 +218,16 @@ def is_there(page, span):
     return any((place / span).is_file() for place in places)
 
 
+def is_spec(span):
+    """Whether each path `Rattle.CRATE.specs.FILE` in a span is that of a file, or of one that the crate passes on."""
+    for crate, name in re.findall(r"\bRattle\.(net_\w+)\.specs\.([A-Z]\w*)", span):
+        specs = ROOT / "crates" / crate / "specs"
+        passed = (specs / "Lib.antt").read_text() if (specs / "Lib.antt").is_file() else ""
+        if not (specs / f"{name}.antt").is_file() and not re.search(rf"\.{name}$", passed, re.MULTILINE):
+            return False
+    return True
+
+
 def has_lines(span, count):
     """Whether a file that a page names has so many lines; true if there is no such file."""
     found = [path for path in ROOT.glob(f"**/{span}") if path.is_file() and "out" not in path.parts]
@@ -278,6 +289,8 @@ def main():
             for name in NAME.findall(span):
                 if not is_named(name, named):
                     miss(page, number, f"no source has the name {name}")
+            if not is_spec(span):
+                miss(page, number, f"there is no module {span}")
             if not is_there(page, span):
                 miss(page, number, f"there is no file {span}")
             lines = re.match(r",? (\d+) lines", behind)
