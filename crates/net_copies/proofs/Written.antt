@@ -5,8 +5,8 @@ use Rattle.std.specs.Result.{is_ok}
 use Rattle.std.proofs.lemmas.Bool.{both_ways, ltb-false}
 use Rattle.std.proofs.lemmas.List.{append-nil, take-append-drop, take_all}
 use Rattle.net_copies.specs.declared.counts.Counts.{Counts}
-use Rattle.net_copies.specs.declared.error.LinkError.{LinkError}
-use Rattle.net_copies.specs.declared.error.LinkError.TheVariants as errors
+use Rattle.net_copies.specs.declared.error.CopyError.{CopyError}
+use Rattle.net_copies.specs.declared.error.CopyError.TheVariants as errors
 use Rattle.net_copies.specs.LinkState.{LinkState}
 use Rattle.net_copies.specs.declared.config.Config.{Config}
 use Rattle.net_copies.specs.Fates.{FatesState}
@@ -98,7 +98,7 @@ module _ (known : Known) (s : Setup) (fits : StartsFits s) where
       (append-nil c.written ∙ all_written s.first c.given c over.1 h.writes, p.at_end d)))
 
   -- of what a round brought, a part is written
-  part_rest : (error : LinkError) (c : CopyState) (link : LinkState) (w : List ℕ) → EndsRound error s.chunk c link w → Writes s.first c.given c →
+  part_rest : (error : CopyError) (c : CopyState) (link : LinkState) (w : List ℕ) → EndsRound error s.chunk c link w → Writes s.first c.given c →
       (rest : List ℕ) × ((c.written ++ w) ++ rest ≡ c.given)
   part_rest errors.OutOfMemory c link w p h =
       let r = drop c.link.receiver.read c.given in
@@ -118,7 +118,7 @@ module _ (known : Known) (s : Setup) (fits : StartsFits s) where
   part_rest errors.GaveUp c link w p h = absurd p
   part_rest errors.ReadFailed c link w p h = absurd p
 
-  part_short : (error : LinkError) (had has held holds : Option (List ℕ)) (counts : Counts) → CopiedPart s error had has held holds counts →
+  part_short : (error : CopyError) (had has held holds : Option (List ℕ)) (counts : Counts) → CopiedPart s error had has held holds counts →
       Copies had has held holds counts.bytes_read counts.bytes_written false
   part_short error had has held holds counts p =
       let c = after s p.reads p.turns in
@@ -131,7 +131,7 @@ module _ (known : Known) (s : Setup) (fits : StartsFits s) where
       in_short e p.reads p.written rest.0 had has held holds counts.bytes_read counts.bytes_written false two (given_before p.reads s p.turns) p.made p.consumed p.appended rest.1
       (ap (λ (n : Counts). n.bytes_read) p.counted) (ap (λ (n : Counts). n.bytes_written) p.counted) (λ t. absurd (both_ways false refl t))
 
-  pub short : {T : Type 0} (r : Result T LinkError) (had has held holds : Option (List ℕ)) (counts : Counts) → HasCopied s r had has held holds counts →
+  pub short : {T : Type 0} (r : Result T CopyError) (had has held holds : Option (List ℕ)) (counts : Counts) → HasCopied s r had has held holds counts →
       Copies had has held holds counts.bytes_read counts.bytes_written (is_ok r)
   short (Ok t) had has held holds counts p = copied_short Done had has held holds counts true (λ _. refl) p
   short (Err errors.GaveUp) had has held holds counts p = copied_short GaveUp had has held holds counts false (λ e. absurd (both_ways false refl e)) p
@@ -143,7 +143,7 @@ module _ (known : Known) (s : Setup) (fits : StartsFits s) where
       p
 
 -- a copy that had no memory
-pub unbegun : {T : Type 0} (r : Result T LinkError) (had has held holds : Option (List ℕ)) (counts : Counts) → HasNotBegun r had has held holds counts →
+pub unbegun : {T : Type 0} (r : Result T CopyError) (had has held holds : Option (List ℕ)) (counts : Counts) → HasNotBegun r had has held holds counts →
     Copies had has held holds counts.bytes_read counts.bytes_written (is_ok r)
 unbegun r had has held holds counts p = record {
   given = [];
@@ -157,12 +157,12 @@ unbegun r had has held holds counts p = record {
 }
 
 -- a copy that gave up counted a failure for each of its last rounds
-abbrev Enough : ℕ → ℕ → ℕ → Counts → LinkError → Type 0
+abbrev Enough : ℕ → ℕ → ℕ → Counts → CopyError → Type 0
 Enough first cap rounds counts e = gave_up e ≡ true → HasPositions first counts.bytes_read → 0 < cap →
     (rounds ≤ counts.frames.lost + counts.frames.delayed) × (rounds ≤ counts.frames.lost + 1)
 
 module _ (law : EnoughFailed) (config : Config) (fates ack_fates : FatesState) (word : config.rounds < 2 ^ 64) where
-  enough_of : {T : Type 0} (r : Result T LinkError) (had has held holds : Option (List ℕ)) (counts : Counts) →
+  enough_of : {T : Type 0} (r : Result T CopyError) (had has held holds : Option (List ℕ)) (counts : Counts) →
       HasCopied (setup_of config fates ack_fates) r had has held holds counts → IfErr r (Enough config.first config.capacity config.rounds counts)
   enough_of (Ok t) had has held holds counts p = tt
   enough_of (Err errors.GaveUp) had has held holds counts p = λ _ left some.
@@ -176,7 +176,7 @@ module _ (law : EnoughFailed) (config : Config) (fates ack_fates : FatesState) (
   enough_of (Err errors.OutOfMemory) had has held holds counts p = λ e. absurd (both_ways false refl e)
   enough_of (Err errors.WriteFailed) had has held holds counts p = λ e. absurd (both_ways false refl e)
 
-  pub enough : {T : Type 0} (r : Result T LinkError) (had has held holds : Option (List ℕ)) (counts : Counts) →
+  pub enough : {T : Type 0} (r : Result T CopyError) (had has held holds : Option (List ℕ)) (counts : Counts) →
       HasCopied (setup_of config fates ack_fates) r had has held holds counts ⊎ HasNotBegun r had has held holds counts →
       IfErr r (Enough config.first config.capacity config.rounds counts)
   enough r had has held holds counts p = ⊎_elim {C = IfErr r (Enough config.first config.capacity config.rounds counts)}

@@ -18,9 +18,9 @@ use Rattle.net_copies.specs.LinkState.{LinkState, round, StopsRound}
 use Rattle.net_copies.specs.CopyState as status
 use Rattle.net_copies.specs.CopyState.{Setup, CopyState, Status, Running, Done, concat, after, outcome}
 use Rattle.net_copies.specs.CopyState.{feed, decide, waited, while_running, final, copied}
-use Rattle.net_copies.specs.declared.error.LinkError.{LinkError}
-use Rattle.net_copies.specs.declared.error.LinkError.TheVariants.{GaveUp, OutOfMemory}
-use Rattle.net_copies.specs.declared.error.LinkError.TheVariants.{ReadFailed, WriteFailed}
+use Rattle.net_copies.specs.declared.error.CopyError.{CopyError}
+use Rattle.net_copies.specs.declared.error.CopyError.TheVariants.{GaveUp, OutOfMemory}
+use Rattle.net_copies.specs.declared.error.CopyError.TheVariants.{ReadFailed, WriteFailed}
 
 -- ---- exactly
 -- a copy that has ended so: it is the outcome of the reads that were made, and those are all
@@ -41,7 +41,7 @@ before_pass s reads n =
 
 -- a round that the error ended: it stopped for want of memory, and nothing of it was written; or not all
 -- of what it brought was
-abbrev pub EndsRound : LinkError → ℕ → CopyState → LinkState → List ℕ → Type 0
+abbrev pub EndsRound : CopyError → ℕ → CopyState → LinkState → List ℕ → Type 0
 EndsRound OutOfMemory chunk c link written = StopsRound (waited c) link × (written ≡ [])
 EndsRound WriteFailed chunk c link written = (link ≡ round (waited c))
     × ((n : ℕ) × (n < length (take chunk link.receiver.queue))
@@ -50,7 +50,7 @@ EndsRound GaveUp chunk c link written = ⊥
 EndsRound ReadFailed chunk c link written = ⊥
 
 -- a copy that ended within a round: so many turns, the next read, and a part of that round
-pub record CopiedPart (s : Setup) (error : LinkError) (had has held holds : Option (List ℕ)) (counts : Counts)
+pub record CopiedPart (s : Setup) (error : CopyError) (had has held holds : Option (List ℕ)) (counts : Counts)
     : Type 0 where
   pub reads : List (List ℕ)
   pub turns : ℕ
@@ -68,7 +68,7 @@ pub record CopiedPart (s : Setup) (error : LinkError) (had has held holds : Opti
   pub appended : Appends held holds ((before_pass s reads turns).written ++ written)
 
 -- what a copy did, by its result; if all was written, a flush that fails is a failed write
-abbrev pub HasCopied : {T : Type 0} → Setup → Result T LinkError → (had has held holds : Option (List ℕ))
+abbrev pub HasCopied : {T : Type 0} → Setup → Result T CopyError → (had has held holds : Option (List ℕ))
     → Counts → Type 0
 HasCopied s (Ok t) had has held holds counts = Copied s Done had has held holds counts
 HasCopied s (Err GaveUp) had has held holds counts = Copied s status.GaveUp had has held holds counts
@@ -78,7 +78,7 @@ HasCopied s (Err WriteFailed) had has held holds counts =
     CopiedPart s WriteFailed had has held holds counts ⊎ Copied s Done had has held holds counts
 
 -- a copy that had no memory to begin with: nothing was read or written
-abbrev pub HasNotBegun : {T : Type 0} → Result T LinkError → (had has held holds : Option (List ℕ))
+abbrev pub HasNotBegun : {T : Type 0} → Result T CopyError → (had has held holds : Option (List ℕ))
     → Counts → Type 0
 HasNotBegun result had has held holds counts = (result ≡ Err OutOfMemory)
     × Consumes had has [] × Appends held holds [] × (counts ≡ no_counts)
@@ -98,7 +98,7 @@ pub record Copies (old new had has : Option (List ℕ)) (read wrote : ℕ) (comp
   pub whole : complete ≡ true → (written ≡ given) × IsAtEnd new
 
 -- whether a copy ended because it made no progress any more
-abbrev pub gave_up : LinkError → Bool
+abbrev pub gave_up : CopyError → Bool
 gave_up GaveUp = true
 gave_up OutOfMemory = false
 gave_up ReadFailed = false

@@ -10,5 +10,5 @@ pub mod laws;
 
 pub use config::Config;
 pub use counts::{Counts, FrameCounts};
-pub use error::LinkError;
+pub use error::CopyError;
 pub use fate::{Fate, Rates};

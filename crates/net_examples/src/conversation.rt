@@ -75,7 +75,7 @@ fn pass<A: Allocator + Copy>(link: &mut Link<'_, '_, A>) -> Result<(), AllocErro
     ensures read { link.new.receiver.read ≡ link.old.receiver.read }
 {
     link.pass_round()?;
-    link.wait(Duration::from_millis(10));
+    link.advance(Duration::from_millis(10));
     Ok(())
 }
 

@@ -3,7 +3,7 @@ ghost use Rattle.std.specs.Prelude.{◌≡◌, ◌+◌, ◌-◌, ◌^◌, ◌<�
 ghost use Rattle.std.specs.Result.{is_ok};
 ghost use Rattle.net_stream.specs.CopyResult.{Copies, gave_up};
 
-use net_stream::{Config, Counts, Fates, LinkError, LinkFates, Rates, copy};
+use net_stream::{Config, CopyError, Counts, Fates, LinkFates, Rates, copy};
 use std::alloc::Allocator;
 use std::io::{Read, Write};
 
@@ -14,7 +14,7 @@ pub fn over_a_bad_link<A: Allocator + Copy, R: Read, W: Write>(
     reader: &mut R,
     writer: &mut W,
     counts: &mut Counts,
-) -> Result<(), LinkError>
+) -> Result<(), CopyError>
     ensures copied { Copies (R.remaining reader.old) (R.remaining reader.new)
         (W.contents writer.old) (W.contents writer.new)
         counts.new.bytes_read counts.new.bytes_written (is_ok result) }

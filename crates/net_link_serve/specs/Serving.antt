@@ -17,9 +17,9 @@ use Rattle.net_stream.specs.CopyResult.{HasCopied, HasNotBegun}
 use Rattle.net_stream.specs.Fates.{FatesState}
 use Rattle.net_copies.specs.declared.config.Config.{Config}
 use Rattle.net_copies.specs.declared.counts.Counts.{Counts}
-use Rattle.net_copies.specs.declared.error.LinkError.{LinkError}
-use Rattle.net_copies.specs.declared.error.LinkError.TheVariants.{GaveUp, OutOfMemory}
-use Rattle.net_copies.specs.declared.error.LinkError.TheVariants.{ReadFailed, WriteFailed}
+use Rattle.net_copies.specs.declared.error.CopyError.{CopyError}
+use Rattle.net_copies.specs.declared.error.CopyError.TheVariants.{GaveUp, OutOfMemory}
+use Rattle.net_copies.specs.declared.error.CopyError.TheVariants.{ReadFailed, WriteFailed}
 use Rattle.net_copies.specs.declared.fate.Rates.{Rates}
 use Rattle.net_link_serve.specs.declared.words.Plan.{Plan}
 use Rattle.net_link_serve.specs.declared.words.Asked.{Asked}
@@ -53,7 +53,7 @@ abbrev pub ack_fates_of : Plan → FatesState
 ack_fates_of plan =
     record { listed = []; state = 2 ^ 64 - 1 - plan.seed; rates = rates_of plan }
 
-abbrev pub status_of : {T : Type 0} → Result T LinkError → Status
+abbrev pub status_of : {T : Type 0} → Result T CopyError → Status
 status_of (Ok t) = Done
 status_of (Err GaveUp) = GaveItUp
 status_of (Err OutOfMemory) = Failed
@@ -69,7 +69,7 @@ setup_for plan = setup_of (config_of plan) (fates_of plan) (ack_fates_of plan)
 -- Before that it says something only if the plan shows progress
 pub record CopiesOver (plan : Plan) (old new had has said says : Option (List ℕ))
     (ended : Ended) : Type 0 where
-  pub outcome : Result (Unit {0}) LinkError
+  pub outcome : Result (Unit {0}) CopyError
   pub counts : Counts
   pub cause : List ℕ
   pub shown : Option (List ℕ)

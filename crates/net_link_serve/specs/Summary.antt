@@ -6,9 +6,9 @@
 use Rattle.std.specs.Prelude.{ℕ, ◌*◌, ◌-◌, ◌/◌, ◌^◌, min, max, List, [], ◌++◌, Result, Ok, Err, codes, decimal}
 use Rattle.net_copies.specs.declared.counts.Counts.{Counts}
 use Rattle.net_copies.specs.declared.counts.FrameCounts.{FrameCounts}
-use Rattle.net_copies.specs.declared.error.LinkError.{LinkError}
-use Rattle.net_copies.specs.declared.error.LinkError.TheVariants.{GaveUp, OutOfMemory}
-use Rattle.net_copies.specs.declared.error.LinkError.TheVariants.{ReadFailed, WriteFailed}
+use Rattle.net_copies.specs.declared.error.CopyError.{CopyError}
+use Rattle.net_copies.specs.declared.error.CopyError.TheVariants.{GaveUp, OutOfMemory}
+use Rattle.net_copies.specs.declared.error.CopyError.TheVariants.{ReadFailed, WriteFailed}
 
 -- bytes written for each second of simulated time, rounded down; the bytes times a million, as far as
 -- 64 bits go, over the microseconds, of which none count as one
@@ -37,12 +37,12 @@ abbrev pub failed_line : List ℕ → List ℕ → List ℕ
 failed_line what cause = codes "net_link: " ++ what ++ cause ++ codes "\n"
 
 -- the line of an error, if there is one
-abbrev pub error_line : {T : Type 0} → Result T LinkError → List ℕ → List ℕ
+abbrev pub error_line : {T : Type 0} → Result T CopyError → List ℕ → List ℕ
 error_line (Ok t) cause = []
 error_line (Err GaveUp) cause = failed_line (codes "gave up") []
 error_line (Err OutOfMemory) cause = failed_line (codes "out of memory") []
 error_line (Err ReadFailed) cause = failed_line (codes "read failed") cause
 error_line (Err WriteFailed) cause = failed_line (codes "write failed") cause
 
-abbrev pub summary : {T : Type 0} → Result T LinkError → List ℕ → Counts → List ℕ
+abbrev pub summary : {T : Type 0} → Result T CopyError → List ℕ → Counts → List ℕ
 summary ended cause counts = error_line ended cause ++ counts_text counts ++ codes "\n"

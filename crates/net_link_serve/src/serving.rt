@@ -14,7 +14,7 @@ use crate::usage::{usage_text, write_misuse};
 use crate::words::{Asked, Misuse, Plan, asked_of, numbers};
 use net_cli::{Ended, Status};
 use net_io::{flush_after, write_text};
-use net_stream::{Config, Counts, Fates, LinkError, LinkFates, Rates, copy, copy_watched};
+use net_stream::{Config, CopyError, Counts, Fates, LinkFates, Rates, copy, copy_watched};
 use std::alloc::Allocator;
 use std::io;
 use std::io::{Read, Write};
@@ -50,12 +50,12 @@ fn rates(plan: Plan) -> Rates
 }
 
 /// Returns the status after a copy that ended so.
-fn status(ended: &Result<(), LinkError>) -> Status
+fn status(ended: &Result<(), CopyError>) -> Status
     ensures { result ≡ status_of ended.now }
 {
     match ended {
         Ok(()) => Status::Done,
-        Err(LinkError::GaveUp) => Status::GaveUp,
+        Err(CopyError::GaveUp) => Status::GaveUp,
         Err(_) => Status::Failed,
     }
 }
@@ -128,7 +128,7 @@ fn carry<A: Allocator + Copy, R: Read, W: Write, E: Write>(
     writer: &mut Remembering<W>,
     errors: &mut Messages<E>,
     counts: &mut Counts,
-) -> Result<(), LinkError>
+) -> Result<(), CopyError>
     ensures exact { HasCopied (setup_for plan) result
         (R.remaining reader.old.stream) (R.remaining reader.new.stream)
         (W.contents writer.old.stream) (W.contents writer.new.stream) counts.new

@@ -4,7 +4,7 @@ ghost use Rattle.std.specs.Io.KnownBytes.{Appends};
 ghost use Rattle.net_link_serve.specs.Summary.{bytes_a_second, frames_text, counts_text, summary};
 ghost use Rattle.net_link_serve.specs.Summary.{failed_line};
 
-use net_stream::{Counts, FrameCounts, LinkError};
+use net_stream::{CopyError, Counts, FrameCounts};
 use std::io::Write;
 use std::{fmt, io};
 
@@ -79,7 +79,7 @@ fn write_failure<E: Write>(
 /// as a line.
 pub fn write_summary<E: Write>(
     errors: &mut E,
-    ended: &Result<(), LinkError>,
+    ended: &Result<(), CopyError>,
     cause: &str,
     counts: &Counts,
 ) -> io::Result<()>
@@ -89,10 +89,10 @@ pub fn write_summary<E: Write>(
     let counts = CountsText(*counts);
     match ended {
         Ok(()) => writeln!(errors, "{counts}"),
-        Err(LinkError::GaveUp) => write_failure(errors, "gave up", "", counts),
-        Err(LinkError::OutOfMemory) => write_failure(errors, "out of memory", "", counts),
-        Err(LinkError::ReadFailed) => write_failure(errors, "read failed", cause, counts),
-        Err(LinkError::WriteFailed) => write_failure(errors, "write failed", cause, counts),
+        Err(CopyError::GaveUp) => write_failure(errors, "gave up", "", counts),
+        Err(CopyError::OutOfMemory) => write_failure(errors, "out of memory", "", counts),
+        Err(CopyError::ReadFailed) => write_failure(errors, "read failed", cause, counts),
+        Err(CopyError::WriteFailed) => write_failure(errors, "write failed", cause, counts),
     }
 }
 

@@ -12,8 +12,8 @@ use Rattle.net_receiver.specs.OneStream.{SegmentReadsNothing}
 use Rattle.net_stream.specs.declared.copier.Copier.{Copier}
 use Rattle.net_copies.specs.declared.counts.Counts.{Counts}
 use Rattle.net_io.specs.Writer.{FlushesAfter}
-use Rattle.net_copies.specs.declared.error.LinkError.{LinkError}
-use Rattle.net_copies.specs.declared.error.LinkError.TheVariants as errors
+use Rattle.net_copies.specs.declared.error.CopyError.{CopyError}
+use Rattle.net_copies.specs.declared.error.CopyError.TheVariants as errors
 use Rattle.net_copies.specs.LinkState.{LinkState, times, round}
 use Rattle.net_copies.specs.CopyState.{Setup, CopyState, Status, Running, Done, GaveUp, ReadFailed, after, final, outcome, concat}
 use Rattle.net_copies.specs.CopyState.{is_written, room_for, rest_of, read_of, with_read, feed, decide, waited, pass, while_running, turn}
@@ -222,7 +222,7 @@ module _ {A : Type 0} (rounds chunk : ℕ) (old : Copier A) (had held : Option (
       }
 
   -- the last one, which an error ended within its round
-  pub part_of : (s : Setup) → Begins s rounds chunk old → (error : LinkError) (a b d : Copier A) (has next holds keeps : Option (List ℕ)) →
+  pub part_of : (s : Setup) → Begins s rounds chunk old → (error : CopyError) (a b d : Copier A) (has next holds keeps : Option (List ℕ)) →
       CopiedSoFar rounds chunk old a had has held holds → Feeds chunk a b has next Running → (not b.more && is_written b.link) ≡ false → b.stalled < rounds →
       Breaks chunk error b d holds keeps → CopiedPart s error had next held keeps (counts_of d)
   part_of s begins error a b d has next holds keeps so_far f on few p =
@@ -254,12 +254,12 @@ module _ {A : Type 0} (rounds chunk : ℕ) (old : Copier A) (had held : Option (
 
 -- ---- by the result
 -- a read failed
-pub read_failed : {T : Type 0} (s : Setup) (r : Result T LinkError) (e : LinkError) (had has held holds : Option (List ℕ)) (counts : Counts) →
+pub read_failed : {T : Type 0} (s : Setup) (r : Result T CopyError) (e : CopyError) (had has held holds : Option (List ℕ)) (counts : Counts) →
     r ≡ Err e → e ≡ errors.ReadFailed → Copied s ReadFailed had has held holds counts → HasCopied s r had has held holds counts
 read_failed s r e had has held holds counts was is p = subst (λ x. HasCopied s x had has held holds counts) (sym (was ∙ ap Err is)) p
 
 -- an error ended a round
-pub broke_off : {T : Type 0} (s : Setup) (r : Result T LinkError) (e : LinkError) (had has held holds : Option (List ℕ)) (counts : Counts) → r ≡ Err e →
+pub broke_off : {T : Type 0} (s : Setup) (r : Result T CopyError) (e : CopyError) (had has held holds : Option (List ℕ)) (counts : Counts) → r ≡ Err e →
     CopiedPart s e had has held holds counts → HasCopied s r had has held holds counts
 broke_off s r errors.OutOfMemory had has held holds counts was p = subst (λ x. HasCopied s x had has held holds counts) (sym was) p
 broke_off s r errors.WriteFailed had has held holds counts was p = subst (λ x. HasCopied s x had has held holds counts) (sym was) (inl p)
@@ -279,7 +279,7 @@ copied_kept s status had has held holds keeps counts k p = record {
   at_end = p.at_end;
 }
 
-part_kept : (s : Setup) (error : LinkError) (had has held holds keeps : Option (List ℕ)) (counts : Counts) → Keeps holds keeps →
+part_kept : (s : Setup) (error : CopyError) (had has held holds keeps : Option (List ℕ)) (counts : Counts) → Keeps holds keeps →
     CopiedPart s error had has held holds counts → CopiedPart s error had has held keeps counts
 part_kept s error had has held holds keeps counts k p = record {
   reads = p.reads;
@@ -294,7 +294,7 @@ part_kept s error had has held holds keeps counts k p = record {
   appended = Appends-kept held holds keeps _ p.appended k;
 }
 
-kept : {T : Type 0} (s : Setup) (r : Result T LinkError) (had has held holds keeps : Option (List ℕ)) (counts : Counts) → Keeps holds keeps →
+kept : {T : Type 0} (s : Setup) (r : Result T CopyError) (had has held holds keeps : Option (List ℕ)) (counts : Counts) → Keeps holds keeps →
     HasCopied s r had has held holds counts → HasCopied s r had has held keeps counts
 kept s (Ok t) had has held holds keeps counts k p = copied_kept s Done had has held holds keeps counts k p
 kept s (Err errors.GaveUp) had has held holds keeps counts k p = copied_kept s GaveUp had has held holds keeps counts k p
@@ -306,12 +306,12 @@ kept s (Err errors.WriteFailed) had has held holds keeps counts k p =
     (λ (q : Copied s Done had has held holds counts). inr (copied_kept s Done had has held holds keeps counts k q))
     p
 
-was_done : {T : Type 0} (s : Setup) (r : Result T LinkError) (had has held holds : Option (List ℕ)) (counts : Counts) → IsOk r →
+was_done : {T : Type 0} (s : Setup) (r : Result T CopyError) (had has held holds : Option (List ℕ)) (counts : Counts) → IsOk r →
     HasCopied s r had has held holds counts → Copied s Done had has held holds counts
 was_done s (Ok t) had has held holds counts ok p = p
 was_done s (Err e) had has held holds counts ok p = absurd (both_ways false refl ok)
 
-pub flushed : {T : Type 0} (s : Setup) (ended result : Result T LinkError) (had has held holds keeps : Option (List ℕ)) (counts : Counts) →
+pub flushed : {T : Type 0} (s : Setup) (ended result : Result T CopyError) (had has held holds keeps : Option (List ℕ)) (counts : Counts) →
     Keeps holds keeps → FlushesAfter errors.WriteFailed ended result → HasCopied s ended had has held holds counts → HasCopied s result had has held keeps counts
 flushed s ended result had has held holds keeps counts k flush p =
     let q = kept s ended had has held holds keeps counts k p in
@@ -322,7 +322,7 @@ flushed s ended result had has held holds keeps counts k flush p =
     flush
 
 -- a copy without memory
-pub not_begun : {T : Type 0} (result : Result T LinkError) (had held holds : Option (List ℕ)) (counts : Counts) →
+pub not_begun : {T : Type 0} (result : Result T CopyError) (had held holds : Option (List ℕ)) (counts : Counts) →
     Keeps held holds → FlushesAfter errors.WriteFailed (Err errors.OutOfMemory) result → counts ≡ no_counts → HasNotBegun result had had held holds counts
 not_begun result had held holds counts k flushed none = (
   ⊎_elim {C = result ≡ Err errors.OutOfMemory} (λ e. e) (λ e. absurd (both_ways false refl e.0)) flushed,

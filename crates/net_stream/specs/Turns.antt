@@ -11,7 +11,7 @@ use Rattle.std.specs.Prelude.{◌≡◌, ℕ, ◌+◌, ◌-◌, ◌^◌, min, tr
 use Rattle.std.specs.Io.KnownBytes.{Appends, Consumes, IsAtEnd}
 use Rattle.net_copies.specs.Counts.{more}
 use Rattle.net_copies.specs.declared.counts.Counts.{Counts}
-use Rattle.net_copies.specs.declared.error.LinkError.{LinkError}
+use Rattle.net_copies.specs.declared.error.CopyError.{CopyError}
 use Rattle.net_stream.specs.declared.copier.Copier.{Copier}
 use Rattle.net_copies.specs.LinkState.{LinkState, times}
 use Rattle.net_copies.specs.CopyState.{Setup, CopyState, Status, Running, ReadFailed, begin, concat}
@@ -80,7 +80,7 @@ pub record Passes {A : Type 0} (chunk : ℕ) (old new : Copier A) (had has : Opt
       ≡ copy_state_of new later given (before ++ written) Running
 
 -- a round that the error ended, and what of it was written
-pub record Breaks {A : Type 0} (chunk : ℕ) (error : LinkError) (old new : Copier A) (had has : Option (List ℕ))
+pub record Breaks {A : Type 0} (chunk : ℕ) (error : CopyError) (old new : Copier A) (had has : Option (List ℕ))
     : Type 0 where
   pub link : LinkState
   pub written : List ℕ

@@ -4,17 +4,17 @@ ghost use Rattle.std.specs.Prelude.{length, OnOk, OnErr, IfErr, if◌then◌else
 ghost use Rattle.net_ring.specs.Managed.{elements};
 ghost use Rattle.net_receiver.specs.ReceiverState.{next_position};
 ghost use Rattle.net_copies.specs.SenderState.{end_of};
-ghost use Rattle.net_copies.specs.declared.error.LinkError.TheVariants as errors;
+ghost use Rattle.net_copies.specs.declared.error.CopyError.TheVariants as errors;
 ghost use Rattle.net_copies.specs.CopyState.{Setup, setup_over, Running, ReadFailed, is_written};
 ghost use Rattle.net_copies.specs.CopyResult.{HasCopied};
 ghost use Rattle.net_stream.specs.Turns.{Feeds, Passes, Breaks, Begins, IsFresh, counts_of};
 
+use crate::backoff::{first_wait, next_wait};
 use crate::fates::LinkFates;
 use crate::link::Link;
-use crate::timer::{first_wait, next_wait};
 use crate::watch::Watch;
 use net_base::time::Duration;
-use net_copies::{Config, Counts, LinkError, laws};
+use net_copies::{Config, CopyError, Counts, laws};
 use net_io::write_text;
 use net_ring::ManagedSlice;
 use std::alloc::Allocator;
@@ -111,7 +111,7 @@ impl<'a, 'f, A: Allocator + Copy> Copier<'a, 'f, A> {
     }
 
     /// Reads once, if it is time for that: no more than the sender has room for.
-    fn feed<R: Read>(&mut self, chunk: &mut [u8], reader: &mut R) -> Result<(), LinkError>
+    fn feed<R: Read>(&mut self, chunk: &mut [u8], reader: &mut R) -> Result<(), CopyError>
         ensures ok { OnOk result (Feeds (length chunk.old) self.old self.new
             (R.remaining reader.old) (R.remaining reader.new) Running) }
         ensures err { OnErr result (Feeds (length chunk.old) self.old self.new
@@ -134,12 +134,12 @@ impl<'a, 'f, A: Allocator + Copy> Copier<'a, 'f, A> {
                 self.bytes_read = self.bytes_read.saturating_add(count as u64);
                 Ok(())
             }
-            Err(_) => Err(LinkError::ReadFailed),
+            Err(_) => Err(CopyError::ReadFailed),
         }
     }
 
     /// Passes a round, and writes what came.
-    fn pass<W: Write>(&mut self, chunk: &mut [u8], writer: &mut W) -> Result<(), LinkError>
+    fn pass<W: Write>(&mut self, chunk: &mut [u8], writer: &mut W) -> Result<(), CopyError>
         requires { self.old.stalled < 2 ^ 64 - 1 }
         ensures ok { OnOk result (Passes (length chunk.old) self.old self.new
             (W.contents writer.old) (W.contents writer.new)) }
@@ -149,16 +149,16 @@ impl<'a, 'f, A: Allocator + Copy> Copier<'a, 'f, A> {
     {
         let before = self.link.sender.first_unacknowledged();
         self.rounds = self.rounds.saturating_add(1);
-        self.link.wait(self.wait);
+        self.link.advance(self.wait);
         if self.link.pass_round().is_err() {
-            return Err(LinkError::OutOfMemory);
+            return Err(CopyError::OutOfMemory);
         }
         let count = self.link.read(chunk);
         match write_text(writer, &chunk[..count]) {
             Ok(()) => self.bytes_written = self.bytes_written.saturating_add(count as u64),
             Err(written) => {
                 self.bytes_written = self.bytes_written.saturating_add(written as u64);
-                return Err(LinkError::WriteFailed);
+                return Err(CopyError::WriteFailed);
             }
         }
         let progress = self.has_made_progress(before, count);
@@ -185,7 +185,7 @@ impl<'a, 'f, A: Allocator + Copy> Copier<'a, 'f, A> {
         watch: &mut T,
         reader: &mut R,
         writer: &mut W,
-    ) -> Result<(), LinkError>
+    ) -> Result<(), CopyError>
         requires { IsFresh self.old }
         ensures { (s : Setup) → Begins s rounds (length chunk.old) self.old →
             HasCopied s result (R.remaining reader.old) (R.remaining reader.new)
@@ -199,7 +199,7 @@ impl<'a, 'f, A: Allocator + Copy> Copier<'a, 'f, A> {
                 return Ok(());
             }
             if self.stalled >= rounds {
-                return Err(LinkError::GaveUp);
+                return Err(CopyError::GaveUp);
             }
             self.pass(chunk, writer)?;
             watch.round(&self.counts());

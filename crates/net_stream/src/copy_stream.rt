@@ -7,7 +7,7 @@ ghost use Rattle.net_copies.specs.CopyResult.{HasPositions, gave_up, HasCopied, 
 use crate::copier::Copier;
 use crate::fates::LinkFates;
 use crate::watch::{Nobody, Watch};
-use net_copies::{Config, Counts, LinkError, laws};
+use net_copies::{Config, CopyError, Counts, laws};
 use net_io::flush_after;
 use net_ring::ManagedSlice;
 use std::alloc::{AllocError, Allocator};
@@ -33,7 +33,7 @@ fn turns_over<'a, 'f, A: Allocator + Copy, T: Watch, R: Read, W: Write>(
     watch: &mut T,
     reader: &mut R,
     writer: &mut W,
-) -> (Result<(), LinkError>, Counts)
+) -> (Result<(), CopyError>, Counts)
     ensures exact { HasCopied (setup_over config (length buffers.entry.outgoing.now)
         (length buffers.entry.incoming.now) (length buffers.entry.chunk.now)
         fates.entry.frames fates.entry.acks) result.0
@@ -58,13 +58,13 @@ fn turns_over<'a, 'f, A: Allocator + Copy, T: Watch, R: Read, W: Write>(
     );
     let ended = copier.run(config.rounds, chunk, watch, reader, writer);
     (
-        flush_after(ended, LinkError::WriteFailed, writer),
+        flush_after(ended, CopyError::WriteFailed, writer),
         copier.counts(),
     )
 }
 
 /// Copies as `copy` does, over lent buffers. The capacity of the config isn't used.
-pub fn copy_over<'a, 'f, A: Allocator + Copy, R: Read, W: Write>(
+pub fn copy_with_buffers<'a, 'f, A: Allocator + Copy, R: Read, W: Write>(
     alloc: A,
     config: Config,
     fates: LinkFates<'f>,
@@ -72,7 +72,7 @@ pub fn copy_over<'a, 'f, A: Allocator + Copy, R: Read, W: Write>(
     reader: &mut R,
     writer: &mut W,
     counts: &mut Counts,
-) -> Result<(), LinkError>
+) -> Result<(), CopyError>
     ensures exact { HasCopied (setup_over config (length buffers.entry.outgoing.now)
         (length buffers.entry.incoming.now) (length buffers.entry.chunk.now)
         fates.entry.frames fates.entry.acks) result
@@ -123,7 +123,7 @@ pub fn copy<'f, A: Allocator + Copy, R: Read, W: Write>(
     reader: &mut R,
     writer: &mut W,
     counts: &mut Counts,
-) -> Result<(), LinkError>
+) -> Result<(), CopyError>
     ensures exact { HasCopied (setup_of config fates.entry.frames fates.entry.acks) result
         (R.remaining reader.old) (R.remaining reader.new)
         (W.contents writer.old) (W.contents writer.new) counts.new
@@ -149,7 +149,7 @@ pub fn copy_watched<'f, A: Allocator + Copy, T: Watch, R: Read, W: Write>(
     reader: &mut R,
     writer: &mut W,
     counts: &mut Counts,
-) -> Result<(), LinkError>
+) -> Result<(), CopyError>
     ensures exact { HasCopied (setup_of config fates.entry.frames fates.entry.acks) result
         (R.remaining reader.old) (R.remaining reader.new)
         (W.contents writer.old) (W.contents writer.new) counts.new
@@ -166,7 +166,7 @@ pub fn copy_watched<'f, A: Allocator + Copy, T: Watch, R: Read, W: Write>(
     laws::gives_up_counted();
     let Ok(mut storage) = storage_of(alloc, config.capacity) else {
         *counts = Counts::new();
-        return flush_after(Err(LinkError::OutOfMemory), LinkError::WriteFailed, writer);
+        return flush_after(Err(CopyError::OutOfMemory), CopyError::WriteFailed, writer);
     };
     let buffers = CopyBuffers {
         outgoing: &mut storage.outgoing,

@@ -4,6 +4,7 @@
 //! has the code. Each call is proved to compute a part of these functions.
 #![tactic(auto)]
 
+mod backoff;
 mod copier;
 mod copy_stream;
 mod fates;
@@ -12,15 +13,14 @@ mod link;
 mod path;
 mod sack_blocks;
 mod sender;
-mod timer;
 mod watch;
 
-pub use copy_stream::{CopyBuffers, copy, copy_over, copy_watched};
+pub use copy_stream::{CopyBuffers, copy, copy_watched, copy_with_buffers};
 pub use fates::{Fates, LinkFates};
-pub use frame::{decode, send_again, send_frame};
+pub use frame::{decode, requeue_frame, send_frame};
 pub use link::Link;
 pub use net_copies::laws::{distinct_frames, frames_decode, queue_from_greatest};
-pub use net_copies::{Config, Counts, Fate, FrameCounts, LinkError, Rates, laws};
+pub use net_copies::{Config, CopyError, Counts, Fate, FrameCounts, Rates, laws};
 pub use path::Path;
 pub use sack_blocks::SackBlocks;
 pub use sender::Sender;

@@ -9,9 +9,9 @@ ghost use Rattle.net_copies.specs.Counts.{no_frames};
 ghost use Rattle.net_copies.specs.LinkInvariant.{LinkInvariant};
 ghost use Rattle.net_copies.specs.CopyState.{is_written};
 
-mod acknowledge;
 mod deliver;
 mod round;
+mod take_acks;
 mod transmit;
 
 use crate::fates::LinkFates;
@@ -30,7 +30,7 @@ use std::marker::Model;
 ///
 /// The fields are there to be used: the sender and the receiver can be asked how many bytes are
 /// queued. A conversation takes two links, one for each direction, since a path carries either
-/// frames or acknowledgements. Time is simulated: a link has a clock of its own, which `wait`
+/// frames or acknowledgements. Time is simulated: a link has a clock of its own, which `advance`
 /// advances.
 #[derive(Drop)]
 pub struct Link<'a, 'f, A: Allocator + Copy> {
@@ -132,7 +132,7 @@ impl<'a, 'f, A: Allocator + Copy> Link<'a, 'f, A> {
     }
 
     /// Lets time pass: the clock goes on by so much, up to 2^64 - 1 microseconds in all.
-    pub fn wait(&mut self, time: Duration)
+    pub fn advance(&mut self, time: Duration)
         ensures state { self.new
             ≡ record self.old { elapsed = min (self.old.elapsed + time) (2 ^ 64 - 1) } }
         ensures carries { (f : ℕ) (w : List ℕ) → LinkInvariant f w self.old → LinkInvariant f w self.new }

@@ -5,7 +5,7 @@ ghost use Rattle.net_copies.specs.Frames.{frame_of};
 ghost use Rattle.net_copies.specs.Fates.{next_fate, after_fate};
 
 use crate::fates::Fates;
-use crate::frame::{send_again, send_frame};
+use crate::frame::{requeue_frame, send_frame};
 use net_base::phy::loopback::RxToken;
 use net_base::phy::{Device, Loopback, Medium};
 use net_base::time::Instant;
@@ -83,7 +83,7 @@ impl<'f, A: Allocator + Copy> Path<'f, A> {
             ≡ record self.old { delayed = self.old.delayed ++ frame.now ∷ [] }) }
         ensures unchanged { OnErr result (self.new ≡ self.old) }
     {
-        send_again(&mut self.delayed, now, frame)
+        requeue_frame(&mut self.delayed, now, frame)
     }
 
     /// Draws the next frame's fate.

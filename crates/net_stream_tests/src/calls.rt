@@ -5,8 +5,8 @@ use net_base::phy::RxToken;
 use net_base::time::Instant;
 use net_ring::ManagedSlice;
 use net_stream::{
-    Config, CopyBuffers, Counts, Fate, Fates, Link, LinkError, LinkFates, Rates, Watch, copy,
-    copy_over, copy_watched,
+    Config, CopyBuffers, CopyError, Counts, Fate, Fates, Link, LinkFates, Rates, Watch, copy,
+    copy_watched, copy_with_buffers,
 };
 use std::alloc::{AllocError, Allocator};
 use std::io::{Read, Write};
@@ -68,13 +68,13 @@ fn link_fates(setup: &Setup) -> LinkFates<'static> {
 }
 
 /// Returns the name of how a copy ended.
-fn ending(ended: Result<(), LinkError>) -> &'static str {
+fn ending(ended: Result<(), CopyError>) -> &'static str {
     match ended {
         Ok(()) => "Ok",
-        Err(LinkError::GaveUp) => "gave up",
-        Err(LinkError::OutOfMemory) => "out of memory",
-        Err(LinkError::ReadFailed) => "read failed",
-        Err(LinkError::WriteFailed) => "write failed",
+        Err(CopyError::GaveUp) => "gave up",
+        Err(CopyError::OutOfMemory) => "out of memory",
+        Err(CopyError::ReadFailed) => "read failed",
+        Err(CopyError::WriteFailed) => "write failed",
     }
 }
 
@@ -126,7 +126,7 @@ pub fn copy_over_by<A: Allocator + Copy, R: Read, W: Write>(
     writer: &mut W,
     counts: &mut Counts,
 ) -> &'static str {
-    ending(copy_over(
+    ending(copy_with_buffers(
         alloc,
         setup.config,
         link_fates(setup),

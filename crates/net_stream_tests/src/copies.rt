@@ -5,7 +5,7 @@ use crate::assertions::assert_holds;
 use crate::calls::{PERFECT, Setup, Way, copy_by, copy_over_by};
 use crate::counted::pattern;
 use crate::counted::ways::{ALL, EACH_SECOND};
-use net_stream::{Config, CopyBuffers, Counts, LinkError, Rates};
+use net_stream::{Config, CopyBuffers, CopyError, Counts, Rates};
 use net_testing::{NEVER, Refusing, Sink, Source, refuse_each};
 use std::alloc::{AllocError, Global};
 use std::io::ErrorKind;
@@ -264,16 +264,16 @@ fn little_memory_is_asked_for(rt: HostRuntime) {
 }
 
 /// Returns whether an error's text is this one.
-fn says(alloc: Global, error: LinkError, text: &str) -> Result<bool, AllocError> {
+fn says(alloc: Global, error: CopyError, text: &str) -> Result<bool, AllocError> {
     Ok(format!(in alloc; "{error}")?.as_str() == text)
 }
 
 #[test]
 fn errors_say_what_ended_a_copy(rt: HostRuntime) -> Result<(), AllocError> {
-    let gave_up = says(rt.alloc(), LinkError::GaveUp, "gave up")?;
-    let memory = says(rt.alloc(), LinkError::OutOfMemory, "out of memory")?;
-    let read = says(rt.alloc(), LinkError::ReadFailed, "read failed")?;
-    let write = says(rt.alloc(), LinkError::WriteFailed, "write failed")?;
+    let gave_up = says(rt.alloc(), CopyError::GaveUp, "gave up")?;
+    let memory = says(rt.alloc(), CopyError::OutOfMemory, "out of memory")?;
+    let read = says(rt.alloc(), CopyError::ReadFailed, "read failed")?;
+    let write = says(rt.alloc(), CopyError::WriteFailed, "write failed")?;
     assert_holds(&rt, gave_up && memory && read && write, 0);
     Ok(())
 }

@@ -4,7 +4,9 @@ use crate::assertions::assert_holds;
 use crate::calls::{PERFECT, start};
 use crate::counted::pattern;
 use net_base::phy::{Device, Loopback, Medium, RxToken};
-use net_stream::{Counts, Fate, Fates, FrameCounts, Path, Rates, decode, send_again, send_frame};
+use net_stream::{
+    Counts, Fate, Fates, FrameCounts, Path, Rates, decode, requeue_frame, send_frame,
+};
 use net_testing::{Refusing, refuse_each};
 use std::alloc::{AllocError, Allocator, Global};
 
@@ -24,7 +26,7 @@ fn gives_none<A: Allocator + Copy>(device: &mut Loopback<A>) -> bool {
 /// Takes the next frame, and sends it again.
 fn sends_again<A: Allocator + Copy>(device: &mut Loopback<A>) -> bool {
     match device.receive(start()) {
-        Some((token, _reply)) => send_again(device, start(), token.frame()).is_ok(),
+        Some((token, _reply)) => requeue_frame(device, start(), token.frame()).is_ok(),
         None => false,
     }
 }
@@ -66,7 +68,7 @@ fn long_frames_are_sent_and_sent_again(rt: HostRuntime) -> Result<(), AllocError
 fn is_there_once_sent(memory: &Refusing, is_again: bool) -> (bool, bool) {
     let mut device = Loopback::new(memory, Medium::Ip);
     let is_sent = if is_again {
-        send_again(&mut device, start(), &[1, 2]).is_ok()
+        requeue_frame(&mut device, start(), &[1, 2]).is_ok()
     } else {
         send_frame(&mut device, start(), 3, &[1]).is_ok()
     };

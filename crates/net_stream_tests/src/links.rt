@@ -194,10 +194,10 @@ fn a_clock_stops_at_its_last_moment(rt: HostRuntime) {
     let setup = setup((&[], PERFECT), (&[], PERFECT), (0, 3, 100));
     let none = ManagedSlice::Borrowed(&mut []);
     let mut link = link_by(rt.alloc(), &setup, none, ManagedSlice::Borrowed(&mut []));
-    link.wait(Duration::from_micros(7));
-    link.wait(Duration::from_micros(u64::MAX - 9));
+    link.advance(Duration::from_micros(7));
+    link.advance(Duration::from_micros(u64::MAX - 9));
     assert_holds(&rt, link.elapsed == Duration::from_micros(u64::MAX - 2), 0);
-    link.wait(Duration::from_micros(3));
+    link.advance(Duration::from_micros(3));
     assert_holds(&rt, link.elapsed == Duration::from_micros(u64::MAX), 1);
 }
 
