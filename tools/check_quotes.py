@@ -20,7 +20,7 @@ In prose, between backquotes,
 - each name has to be one of the sources (code, specs, proofs, edits, scripts), a file's or a folder's, or one of
   ELSEWHERE: names of the kit, of Rust or of smoltcp that no source has, and parameters. A name that ends or begins
   with an underscore is short for all that begin or end so;
-- a path has to be a file's, from the top, from `crates` or from a crate's folder on;
+- a path has to be a file's, from the top, from `crates` or from a crate's folder on, and a file's name that of a file;
 - a file with a number of lines after it, such as `specs/Frames.antt`, 24 lines, has to have so many;
 - each name after the word "clause" has to be that of a clause of some function.
 
@@ -204,8 +204,14 @@ def clauses_named(page):
 
 
 def is_there(page, span):
-    """Whether a span is no path of a file, or has a parameter, or names one from the top, from `crates` or from a crate on."""
-    if not re.fullmatch(r"[\w./]+/[\w.]+\.(antt|rt|py|md|rs|edit|svg)", span) or re.search(r"\b[A-Z]{4}", span):
+    """Whether a span names no file, or has a parameter, or names a file that is there.
+
+    A path is one from the top, from `crates` or from a crate on; a name without a folder is that of any file.
+    """
+    kinds = r"\.(antt|rt|py|md|rs|edit|svg)"
+    if re.fullmatch(r"\w+" + kinds, span) and not re.search(r"\b[A-Z]{4}\b", span):
+        return any("out" not in path.parts for path in ROOT.glob(f"**/{span}"))
+    if not re.fullmatch(r"[\w./]+/[\w.]+" + kinds, span) or re.search(r"\b[A-Z]{4}", span):
         return True
     places = [ROOT, ROOT / "crates", page.parent, *page.parent.glob("*"), *ROOT.glob("crates/*")]
     return any((place / span).is_file() for place in places)
