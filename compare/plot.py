@@ -3,7 +3,7 @@ import html
 import math
 
 LEFT, RIGHT, TOP, HEIGHT, WIDTH = 200, 30, 64, 18, 760
-TICKS = [0.25, 0.33, 0.5, 0.67, 0.8, 1, 1.25, 1.5, 2, 2.5]
+TICKS = [0.1, 0.2, 0.33, 0.5, 0.67, 0.8, 1, 1.25, 1.5, 2]
 PORT, NOISE = "#1f5fbf", "#b0b0b0"
 
 

@@ -20,6 +20,7 @@ import subprocess
 import sys
 import tempfile
 import time
+from collections import Counter
 from pathlib import Path
 
 sys.dont_write_bytecode = True
@@ -112,19 +113,21 @@ def groups_of(rows, at):
     return {group: mean(column) for group, column in groups.items()}
 
 
-def workload_tables(rows, counts):
+def workload_table(rows, counts):
     """Over placements: the median of the ratios, the lowest and the highest, and smoltcp by itself."""
-    print("| Group | Median | Lowest | Highest | smoltcp by itself |\n|---|---:|---:|---:|---:|")
-    columns = [groups_of(rows, at) for at in (4, 5, 6, 9)]
-    for group in columns[0]:
-        median, lowest, highest, itself = (column[group] for column in columns)
-        print(f"| {group} | {median:.2f} | {lowest:.2f} | {highest:.2f} | {itself:.2f} |")
-    print("\n| Row | Original, ns | Here, ns | Median | Lowest | Highest | smoltcp by itself "
+    print("| Row | Original, ns | Here, ns | Median | Lowest | Highest | smoltcp by itself "
           "| Instructions, original | Here | Branches, original | Here |")
     print("|---|---:|---:|---:|---:|---:|---:|---:|---:|---:|---:|")
-    for _, name, original, port, median, lowest, highest, _, _, itself in rows:
+    columns = [groups_of(rows, at) for at in (4, 5, 6, 9)]
+    number = lambda value: "not counted" if value is None else f"{value:.1f}"
+    large = [group for group, count in Counter(row[0] for row in rows).items() if count > 2]
+    shown = None
+    for group, name, original, port, median, lowest, highest, _, _, itself in rows:
+        if group != shown and group in large:
+            means = " | ".join(f"**{column[group]:.2f}**" for column in columns)
+            print(f"| **group {group}** | | | {means} | | | | |")
+        shown = group
         here, branches, there, other = counts[name] if counts else [None] * 4
-        number = lambda value: "not counted" if value is None else f"{value:.1f}"
         print(f"| {name} | {original:.2f} | {port:.2f} | {median:.2f} | {lowest:.2f} | {highest:.2f} | {itself:.2f} "
               f"| {number(there)} | {number(here)} | {number(other)} | {number(branches)} |")
 
@@ -242,7 +245,7 @@ def main():
         peer_tables(rows)
         memory_table(built)
     else:
-        workload_tables(rows, counted(built, [path.split(":")[0] for path in sides], arguments))
+        workload_table(rows, counted(built, [path.split(":")[0] for path in sides], arguments))
         if arguments.svg:
             Path(arguments.svg).write_text(plot.svg(rows))
     if arguments.lines:

@@ -11,7 +11,7 @@
 --     frames_sent l, acks_sent l      how many frames and acknowledgements a round sends
 --     Fails follow l      what fails in a round that makes no progress
 --     GivesUpIfFailed      it gives up only if each of these rounds failed
---     NoneLost v, NeverByDelays      delays and duplicates never end it
+--     NoneLost v, NeverByDelays      where nothing is lost, delays and duplicates don't end it
 --     EndsIfAllCome      over a link that loses and delays nothing it doesn't give up
 --     has_end reads, DoneIfAllCome      it is done, if the input's end comes
 --     CountsRounds, CountsEachFate      what the counts of rounds and of frames are

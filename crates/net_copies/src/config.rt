@@ -15,6 +15,6 @@ pub struct Config {
     /// acknowledgements and one more, in flight and delayed each.
     pub max_burst: u32,
     /// After how many rounds in a row in which nothing was written and nothing acknowledged a copy
-    /// gives up: with 0 before the first.
+    /// gives up: with 0 before the first. (`Counts::rounds` counts all rounds.)
     pub rounds: u64,
 }

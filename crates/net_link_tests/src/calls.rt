@@ -3,7 +3,7 @@
 use crate::causes::{assert_holds, is_so, words_of};
 use net_cli::Status;
 use net_link_serve::{Messages, Remembering, serve};
-use net_testing::{NEVER, Sink, Source};
+use net_testing::{NEVER, Refusing, Sink, Source};
 use std::alloc::{AllocError, Global};
 use std::io::ErrorKind;
 
@@ -23,7 +23,7 @@ struct Row {
     told: &'static str,
 }
 
-static ROWS: [Row; 5] = [
+static ROWS: [Row; 6] = [
     // A read that fills the room, and a write of all of it.
     Row {
         words: "0 1 0 0 65536",
@@ -46,6 +46,17 @@ static ROWS: [Row; 5] = [
     // Nothing comes, so the input's end isn't read.
     Row {
         words: "99 0",
+        input: (9, usize::MAX),
+        told_calls: NEVER,
+        calls: (1, 0, 1),
+        status: Status::GaveUp,
+        told: "net_link: gave up\n\
+            0 bytes, 200 frames, 200 lost, 0 duplicated, 0 delayed, \
+            0 refused, 891 bytes sent again, 100 rounds, 0 bytes a second\n",
+    },
+    // With no round to show on the way it is the same.
+    Row {
+        words: "--progress 99 0",
         input: (9, usize::MAX),
         told_calls: NEVER,
         calls: (1, 0, 1),
@@ -99,7 +110,8 @@ static ROWS: [Row; 5] = [
 /// As many bytes as an input has at most.
 static INPUT: [u8; 262_144] = [b'x'; 262_144];
 
-/// Returns whether a copy goes as a row says.
+/// Returns whether a copy goes as a row says. Its frames take less memory than a fourth buffer and 300,000
+/// bytes more, and all memory is given back.
 fn goes_so(alloc: Global, row: &Row) -> Result<bool, AllocError> {
     let words = words_of(alloc, row.words)?;
     let (len, per_call) = row.input;
@@ -112,10 +124,12 @@ fn goes_so(alloc: Global, row: &Row) -> Result<bool, AllocError> {
         row.told_calls,
         Some(ErrorKind::Other),
     )?);
-    let ended = serve(alloc, &words, &mut reader, &mut writer, &mut errors);
+    let memory = Refusing::new(alloc, NEVER);
+    let ended = serve(&memory, &words, &mut reader, &mut writer, &mut errors);
     let sink = &writer.stream;
     let calls = (reader.stream.calls, sink.calls, sink.flushes);
-    Ok(calls == row.calls && is_so(ended, row.status, &errors, row.told))
+    let is_little = memory.bytes() < 4 * 262_144 + 300_000 && memory.live() == 0;
+    Ok(calls == row.calls && is_little && is_so(ended, row.status, &errors, row.told))
 }
 
 #[test]

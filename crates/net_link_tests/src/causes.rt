@@ -138,7 +138,8 @@ static FAILURES: [Failure; 10] = [
     ),
 ];
 
-/// Returns whether the program ends so, and standard error took what there was to say, and has it.
+/// Returns whether the program ends so, and standard error took what there was to say, has it, and wasn't
+/// flushed.
 pub fn is_so(ended: Ended, status: Status, errors: &Messages<Sink>, told: &str) -> bool {
     ended
         == Ended {
@@ -146,6 +147,7 @@ pub fn is_so(ended: Ended, status: Status, errors: &Messages<Sink>, told: &str) 
             is_told: true,
         }
         && errors.stream.bytes.as_slice() == told.as_bytes()
+        && errors.stream.flushes == 0
 }
 
 /// Returns whether a failure is told so.
@@ -167,6 +169,102 @@ fn the_first_failure_is_the_cause(rt: HostRuntime) -> Result<(), AllocError> {
     for i in 0..FAILURES.len() {
         let is_right = fails_so(rt.alloc(), &FAILURES[i])?;
         assert_holds(&rt, is_right, i);
+    }
+    Ok(())
+}
+
+/// The kinds of errors.
+static KINDS: [ErrorKind; 42] = [
+    ErrorKind::NotFound,
+    ErrorKind::PermissionDenied,
+    ErrorKind::ConnectionRefused,
+    ErrorKind::ConnectionReset,
+    ErrorKind::HostUnreachable,
+    ErrorKind::NetworkUnreachable,
+    ErrorKind::ConnectionAborted,
+    ErrorKind::NotConnected,
+    ErrorKind::AddrInUse,
+    ErrorKind::AddrNotAvailable,
+    ErrorKind::NetworkDown,
+    ErrorKind::BrokenPipe,
+    ErrorKind::AlreadyExists,
+    ErrorKind::WouldBlock,
+    ErrorKind::NotADirectory,
+    ErrorKind::IsADirectory,
+    ErrorKind::DirectoryNotEmpty,
+    ErrorKind::ReadOnlyFilesystem,
+    ErrorKind::FilesystemLoop,
+    ErrorKind::StaleNetworkFileHandle,
+    ErrorKind::InvalidInput,
+    ErrorKind::InvalidData,
+    ErrorKind::TimedOut,
+    ErrorKind::WriteZero,
+    ErrorKind::StorageFull,
+    ErrorKind::NotSeekable,
+    ErrorKind::QuotaExceeded,
+    ErrorKind::FileTooLarge,
+    ErrorKind::ResourceBusy,
+    ErrorKind::ExecutableFileBusy,
+    ErrorKind::Deadlock,
+    ErrorKind::CrossesDevices,
+    ErrorKind::TooManyLinks,
+    ErrorKind::InvalidFilename,
+    ErrorKind::ArgumentListTooLong,
+    ErrorKind::Interrupted,
+    ErrorKind::Unsupported,
+    ErrorKind::UnexpectedEof,
+    ErrorKind::OutOfMemory,
+    ErrorKind::InProgress,
+    ErrorKind::Other,
+    ErrorKind::Uncategorized,
+];
+
+/// The copies that a failed call of each kind ends: what standard error says of it, and the counts.
+static ENDED: [(&'static str, &'static str); 3] = [
+    (
+        "read failed",
+        "0 bytes, 0 frames, 0 lost, 0 duplicated, 0 delayed, \
+            0 refused, 0 bytes sent again, 0 rounds, 0 bytes a second\n",
+    ),
+    (
+        "write failed",
+        "0 bytes, 7 frames, 0 lost, 0 duplicated, 0 delayed, \
+            0 refused, 0 bytes sent again, 1 rounds, 0 bytes a second\n",
+    ),
+    (
+        "write failed",
+        "9 bytes, 7 frames, 0 lost, 0 duplicated, 0 delayed, \
+            0 refused, 0 bytes sent again, 1 rounds, 900 bytes a second\n",
+    ),
+];
+
+/// Returns whether the first read, the first write or the flush, by number, fails with an error of
+/// this kind, and its text is the cause.
+fn tells_kind(alloc: Global, call: usize, kind: ErrorKind) -> Result<bool, AllocError> {
+    let words = words_of(alloc, "0 1 0 0 4")?;
+    let read = if call == 0 { 0 } else { NEVER };
+    let write = if call == 1 { 0 } else { NEVER };
+    let mut reader = Remembering::new(Source::failing(b"some text", NEVER, read, kind));
+    let mut writer = Remembering::new(Sink::failing(alloc, NEVER, write, Some(kind))?);
+    if call == 2 {
+        writer.stream.flush_kind = Some(kind);
+    }
+    let mut errors = Messages::new(Sink::new(alloc)?);
+    let ended = serve(alloc, &words, &mut reader, &mut writer, &mut errors);
+    let (what, counts) = ENDED[call.min(2)];
+    let error = io::Error::from(kind);
+    let told = format!(in alloc; "net_link: {what}: {error}\n{counts}")?;
+    let is_told = is_so(ended, Status::Failed, &errors, told.as_str());
+    Ok(is_told && writer.stream.flushes == 1)
+}
+
+#[test]
+fn a_cause_of_any_kind_is_told(rt: HostRuntime) -> Result<(), AllocError> {
+    for call in 0..3usize {
+        for i in 0..KINDS.len() {
+            let is_right = tells_kind(rt.alloc(), call, KINDS[i])?;
+            assert_holds(&rt, is_right, i);
+        }
     }
     Ok(())
 }

@@ -40,6 +40,21 @@ fn elements_by_their_index(rt: HostRuntime) {
     assert!(rt; has_at(&ring, 1, Some(2)) && has_at(&ring, 2, Some(3)) && has_at(&ring, 3, None));
 }
 
+/// Returns the number of elements that an iterator over the queue shows, and where it shows this one.
+fn shown(ring: &RingBuffer<'_, u8>, element: u8) -> (usize, Option<usize>) {
+    let at = ring.iter().position(|other| *other == element);
+    (ring.iter().count(), at)
+}
+
+#[test]
+fn elements_one_after_another(rt: HostRuntime) {
+    let mut elements = [7u8; 3];
+    let mut ring = RingBuffer::from(&mut elements);
+    assert!(rt; shown(&ring, 7) == (0, None));
+    assert!(rt; fills(&mut ring) && shown(&ring, 1) == (3, Some(0)));
+    assert!(rt; shown(&ring, 3) == (3, Some(2)) && shown(&ring, 7) == (3, None));
+}
+
 #[test]
 fn the_last_element_leaves(rt: HostRuntime) {
     let mut elements = [7u8; 3];

@@ -1,4 +1,5 @@
-//! The copier, which makes the turns of a copy: a read, a round and a write.
+//! The copier, which makes the turns of a copy: a read if one is due, a decision, a round and a
+//! write.
 ghost use Rattle.std.specs.Prelude.{◌≡◌, ℕ, ◌+◌, ◌&&◌, ◌||◌, ◌⊎◌, ◌*◌, ◌^◌, ◌-◌, ◌<◌, min, not, nat_lt, nat_eq};
 ghost use Rattle.std.specs.Prelude.{length, OnOk, OnErr, IfErr, if◌then◌else◌};
 ghost use Rattle.net_ring.specs.Managed.{elements};

@@ -110,12 +110,14 @@ fn storage_of<A: Allocator + Copy>(alloc: A, len: usize) -> Result<Storage<A>, A
 /// Copies all that the reader has to the writer, over a link of these fates.
 ///
 /// It reads into a buffer of the capacity once all that it read before is written, and passes
-/// rounds until all is written (docs/LINK.md). The outcome depends only on the config, the fates
-/// and what each read gives, and `exact` says how: the result, what is written, and all of
-/// `counts`. The module `laws` says what follows. A read or a write that fails ends the copy, and
-/// so does a refusal of memory; nothing is tried again. At the end, after an error too, the writer
-/// is flushed once; if all was written, a flush that fails is a failed write. A stream that uses
-/// all positions up to 2^64 - 2 gives up: the reader's end isn't looked for once none is left.
+/// rounds until all is written (docs/LINK.md). Unless memory is refused, or a write or the flush
+/// fails, the outcome depends only on the config, the fates and what each read gives: the result,
+/// what is written, and all of `counts`. Otherwise what is written and counted comes from some
+/// whole rounds and a part of the next one. Clause `exact` says how, and the module `laws` what
+/// follows. A read or a write that fails ends the copy, and so does a refusal of memory; nothing
+/// is tried again. At the end, after an error too, the writer is flushed once; if all was written,
+/// a flush that fails is a failed write. A stream that uses all positions up to 2^64 - 2 gives up:
+/// the reader's end isn't looked for once none is left.
 pub fn copy<'f, A: Allocator + Copy, R: Read, W: Write>(
     alloc: A,
     config: Config,

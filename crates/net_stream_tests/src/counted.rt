@@ -67,9 +67,10 @@ fn setup_of(case: &Case) -> Setup {
 
 /// Returns whether the writer has a prefix of the text, as many bytes as are counted, and was
 /// flushed once, after all writes; and, where a write takes all, whether at most one was made in a
-/// round.
+/// round, and none of no bytes.
 fn is_written(sink: &Sink, text: &[u8], counts: &Counts) -> bool {
-    let is_once_a_round = sink.bytes_per_call < NEVER || sink.calls as u64 <= counts.rounds;
+    let most = counts.rounds.min(counts.bytes_written);
+    let is_once_a_round = sink.bytes_per_call < NEVER || sink.calls as u64 <= most;
     is_once_a_round
         && text.starts_with(&sink.bytes)
         && sink.bytes.len() as u64 == counts.bytes_written
@@ -77,7 +78,29 @@ fn is_written(sink: &Sink, text: &[u8], counts: &Counts) -> bool {
         && sink.flushed == sink.bytes.len()
 }
 
-/// Returns whether a copy over these streams goes so, and gives back all its memory.
+/// Returns whether no more bytes of memory were asked for than the three buffers take, the frames, each
+/// of 8 bytes more than its payload, the acknowledgements, each of at most 520 bytes, and the queues of
+/// both. If a frame was delayed or duplicated, all of them count twice.
+fn is_little(asked: usize, capacity: usize, counts: &Counts) -> bool {
+    let frames = &counts.frames;
+    let is_perfect = frames.lost == 0 && frames.duplicated == 0 && frames.delayed == 0;
+    let (times, len) = if is_perfect {
+        (1u64, 8u64)
+    } else {
+        (2u64, 520u64)
+    };
+    let carried = frames.payload.saturating_mul(times);
+    let listed = frames.sent.saturating_mul(times).saturating_mul(len);
+    let queues = frames.sent.saturating_mul(256).saturating_add(1_000);
+    let most = (capacity as u64)
+        .saturating_mul(3)
+        .saturating_add(carried)
+        .saturating_add(listed)
+        .saturating_add(queues);
+    asked as u64 <= most
+}
+
+/// Returns whether a copy over these streams goes so, asks for little memory, and gives back all of it.
 fn copies_so(
     alloc: Global,
     case: &Case,
@@ -92,6 +115,7 @@ fn copies_so(
         && source.calls == case.4.1
         && counts == counts_of(&case.5)
         && is_written(sink, text, &counts)
+        && is_little(heap.bytes(), case.2.2, &counts)
         && heap.live() == 0
 }
 
@@ -110,18 +134,65 @@ fn goes_so(
     copies_so(alloc, case, text, &mut source, &mut sink)
 }
 
-/// The kinds of failed reads and writes.
-const KINDS: [(ErrorKind, Option<ErrorKind>); 3] = [
-    (ErrorKind::Other, Some(ErrorKind::Other)),
-    (ErrorKind::Interrupted, Some(ErrorKind::Interrupted)),
-    (ErrorKind::Other, None),
+/// The kinds of errors.
+static KINDS: [ErrorKind; 42] = [
+    ErrorKind::NotFound,
+    ErrorKind::PermissionDenied,
+    ErrorKind::ConnectionRefused,
+    ErrorKind::ConnectionReset,
+    ErrorKind::HostUnreachable,
+    ErrorKind::NetworkUnreachable,
+    ErrorKind::ConnectionAborted,
+    ErrorKind::NotConnected,
+    ErrorKind::AddrInUse,
+    ErrorKind::AddrNotAvailable,
+    ErrorKind::NetworkDown,
+    ErrorKind::BrokenPipe,
+    ErrorKind::AlreadyExists,
+    ErrorKind::WouldBlock,
+    ErrorKind::NotADirectory,
+    ErrorKind::IsADirectory,
+    ErrorKind::DirectoryNotEmpty,
+    ErrorKind::ReadOnlyFilesystem,
+    ErrorKind::FilesystemLoop,
+    ErrorKind::StaleNetworkFileHandle,
+    ErrorKind::InvalidInput,
+    ErrorKind::InvalidData,
+    ErrorKind::TimedOut,
+    ErrorKind::WriteZero,
+    ErrorKind::StorageFull,
+    ErrorKind::NotSeekable,
+    ErrorKind::QuotaExceeded,
+    ErrorKind::FileTooLarge,
+    ErrorKind::ResourceBusy,
+    ErrorKind::ExecutableFileBusy,
+    ErrorKind::Deadlock,
+    ErrorKind::CrossesDevices,
+    ErrorKind::TooManyLinks,
+    ErrorKind::InvalidFilename,
+    ErrorKind::ArgumentListTooLong,
+    ErrorKind::Interrupted,
+    ErrorKind::Unsupported,
+    ErrorKind::UnexpectedEof,
+    ErrorKind::OutOfMemory,
+    ErrorKind::InProgress,
+    ErrorKind::Other,
+    ErrorKind::Uncategorized,
 ];
 
-/// Returns whether a copy goes so, of whatever kind the errors are.
+/// Returns whether a copy goes so, of whatever kind the errors are, if a read or a write fails.
 fn goes_so_always(alloc: Global, case: &Case, bytes: &[u8]) -> bool {
     let (text, _) = bytes.split_at(bytes.len().min(case.2.0));
-    for kinds in &KINDS {
-        if !goes_so(alloc, case, text, *kinds) {
+    if !goes_so(alloc, case, text, (ErrorKind::Other, None)) {
+        return false;
+    }
+    let kinds = if (case.3.1, case.3.3) == (NEVER, NEVER) {
+        0
+    } else {
+        KINDS.len()
+    };
+    for i in 0..kinds {
+        if !goes_so(alloc, case, text, (KINDS[i], Some(KINDS[i]))) {
             return false;
         }
     }

@@ -10,16 +10,18 @@ use std::cell::Cell;
 use std::io;
 use std::io::Write;
 
-/// A writer that takes at most so many bytes a call, and tells how many it has.
+/// A writer that takes at most so many bytes a call, and so many in all, and tells how many it has.
 #[derive(Drop)]
 struct Telling<'a> {
     per_call: usize,
+    left: usize,
     written: &'a Cell<u64>,
 }
 
 impl Write for Telling<'_> {
     fn write(&mut self, buf: &[u8]) -> io::Result<usize> {
-        let count = buf.len().min(self.per_call);
+        let count = buf.len().min(self.per_call).min(self.left);
+        self.left -= count;
         self.written
             .set(self.written.get().saturating_add(count as u64));
         Ok(count)
@@ -37,31 +39,33 @@ struct Watching<'a> {
     written: &'a Cell<u64>,
     rounds: u64,
     wrong: u64,
-    /// How many bytes were written by what it was told last.
-    bytes: u64,
+    /// What it was told last.
+    last: Counts,
 }
 
 impl Watch for Watching<'_> {
     fn round(&mut self, counts: &Counts) {
         self.rounds = self.rounds.saturating_add(1);
-        self.bytes = counts.bytes_written;
+        self.last = *counts;
         if counts.rounds != self.rounds || counts.bytes_written != self.written.get() {
             self.wrong = self.wrong.saturating_add(1);
         }
     }
 }
 
-/// What becomes of frames, and of acknowledgements; the payload and the most bytes of a write; and how a copy
-/// of a hundred bytes ends, and how many are written.
-type Row = (Way, Way, u32, usize, (&'static str, u64));
+/// What becomes of frames, and of acknowledgements; the payload; the most bytes of a write, and of all
+/// writes; and how a copy of a hundred bytes ends, and how many are written.
+type Row = (Way, Way, u32, (usize, usize), (&'static str, u64));
 
-static ROWS: [Row; 6] = [
-    (ALL, ALL, 100, 100, ("Ok", 100)),
-    (SOME, ALL, 3, 100, ("Ok", 100)),
-    (SOME, SOME, 7, 5, ("Ok", 100)),
-    (EACH_SECOND, ALL, 1, 50, ("Ok", 100)),
-    (FIRST_LOST, SOME, 200, 3, ("Ok", 100)),
-    (NONE, ALL, 7, 100, ("gave up", 0)),
+static ROWS: [Row; 7] = [
+    (ALL, ALL, 100, (100, 100), ("Ok", 100)),
+    (SOME, ALL, 3, (100, 100), ("Ok", 100)),
+    (SOME, SOME, 7, (5, 100), ("Ok", 100)),
+    (EACH_SECOND, ALL, 1, (50, 100), ("Ok", 100)),
+    (FIRST_LOST, SOME, 200, (3, 100), ("Ok", 100)),
+    (NONE, ALL, 7, (100, 100), ("gave up", 0)),
+    // Of 64 bytes of the first round all are written, and of the other 36 of the second one 16.
+    (ALL, ALL, 7, (100, 80), ("write failed", 80)),
 ];
 
 /// Returns the fates and the config of a row.
@@ -80,7 +84,8 @@ fn setup_of((forward, reverse, payload, _, _): &Row) -> Setup {
 }
 
 /// Returns whether a copy of a row ends so, and tells of each round once, after what came is
-/// written.
+/// written. Of a round in which a write fails it doesn't tell; what it tells last of others is all
+/// that is counted.
 fn tells_so(alloc: Global, row: &Row) -> bool {
     let written = Cell::new(0u64);
     let bytes = [b'x'; 100];
@@ -88,7 +93,7 @@ fn tells_so(alloc: Global, row: &Row) -> bool {
         written: &written,
         rounds: 0,
         wrong: 0,
-        bytes: 0,
+        last: Counts::new(),
     };
     let mut counts = Counts::new();
     let end = copy_watched_by(
@@ -97,12 +102,18 @@ fn tells_so(alloc: Global, row: &Row) -> bool {
         &mut watch,
         &mut Source::new(&bytes),
         &mut Telling {
-            per_call: row.3,
+            per_call: row.3.0,
+            left: row.3.1,
             written: &written,
         },
         &mut counts,
     );
-    (end, watch.bytes) == row.4 && (watch.rounds, watch.wrong) == (counts.rounds, 0)
+    let is_told = if end == "write failed" {
+        watch.rounds.saturating_add(1) == counts.rounds
+    } else {
+        watch.last == counts
+    };
+    (end, counts.bytes_written) == row.4 && watch.wrong == 0 && is_told
 }
 
 #[test]

@@ -54,10 +54,7 @@ pub(crate) fn join_range(
 
 /// Joins a range that isn't empty, and isn't after the last run, with the runs that it meets
 /// or touches.
-// Most segments don't need this. If this code were inline, with all its loops, the tests that most
-// segments take would be far apart, and more of them would cross lines of the processor's cache of
-// decoded code.
-#[inline(never)]
+#[inline(always)]
 fn join_any(
     pairs: &mut [(usize, usize)],
     used: usize,
@@ -78,8 +75,34 @@ fn join_any(
     // The range starts in the first run, or right after it, as data does that fills one hole after
     // another.
     if start <= pairs[0].1 {
-        return Ok(grow_run(pairs, used, 0, start, end, turns));
+        return Ok(grow_first(pairs, used, start, end, turns));
     }
+    join_later(pairs, used, start, end, turns)
+}
+
+/// Joins a range that isn't empty, starts after the end of the first run, and isn't after the last
+/// one, with the runs that it meets or touches.
+// Most segments don't need this, nor `grow_first`. If their code were inline, with all its loops,
+// the tests that most segments take would be far apart, and more of them would cross lines of the
+// processor's cache of decoded code.
+#[inline(never)]
+fn join_later(
+    pairs: &mut [(usize, usize)],
+    used: usize,
+    start: usize,
+    end: usize,
+    turns: &mut Turns,
+) -> Result<usize, TooManyHolesError>
+    requires used { used ≤ length pairs.old }
+    requires runs { AreRuns (take used pairs.old) }
+    requires waiting { 0 < used }
+    requires some { start < end }
+    requires past { end_at (take used pairs.old) 0 < start }
+    requires last { start ≤ end_at (take used pairs.old) (used - 1) }
+    ensures joined { JoinsRange (take used pairs.old) pairs.old pairs.new start end result }
+    ensures turns { let n = length pairs.old in
+        TurnsWithin (2 * binary_digits n) n turns.old turns.new }
+{
     let first = runs_ending_before(&pairs[..used], start, turns);
     // The range is in the hole before that run: it is a run of its own.
     if end < pairs[first].0 {
@@ -90,6 +113,31 @@ fn join_any(
         return Ok(used + 1);
     }
     Ok(grow_run(pairs, used, first, start, end, turns))
+}
+
+/// Joins a range that isn't empty with the first run, which it meets or touches, and with those
+/// after it that it meets or touches. Returns how many runs are left.
+// Apart from the search for a run, this takes so few registers that none has to be saved.
+#[inline(never)]
+fn grow_first(
+    pairs: &mut [(usize, usize)],
+    used: usize,
+    start: usize,
+    end: usize,
+    turns: &mut Turns,
+) -> usize
+    requires used { used ≤ length pairs.old }
+    requires runs { AreRuns (take used pairs.old) }
+    requires first { StartsAtZero (take used pairs.old) }
+    requires waiting { 0 < used }
+    requires some { start < end }
+    requires from { start ≤ end_at (take used pairs.old) 0 }
+    ensures joined { take result pairs.new ≡ runs_with_range (take used pairs.old) start end }
+    ensures within { result ≤ length pairs.old }
+    ensures turns { let n = length pairs.old in
+        TurnsWithin (binary_digits n) n turns.old turns.new }
+{
+    grow_run(pairs, used, 0, start, end, turns)
 }
 
 /// Joins a range that isn't empty with the run at `first`, which it meets or touches, and with those

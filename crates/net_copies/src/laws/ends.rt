@@ -33,7 +33,8 @@ pub fn gives_up_if_failed()
     known_of_rounds();
 }
 
-/// States that delays and duplicates never end a copy whose `rounds` is above 1.
+/// States that a copy never gives up where nothing is lost, whatever is delayed or duplicated, if
+/// its `rounds` is above 1.
 pub fn delays()
     ensures { NeverByDelays }
 {

@@ -3,7 +3,7 @@ use Rattle.std.proofs.lemmas.List.{length-take-le}
 use Rattle.net_assembler.specs.Turns.{binary_digits}
 use Rattle.net_assembler.proofs.AssemblerLaws.{below_binary_digits}
 use Rattle.net_assembler.proofs.RunLists.{inserted_run, refused_run, all_behind}
-use Rattle.net_assembler.proofs.assembler.joins.join_any.Goals as goal
+use Rattle.net_assembler.proofs.assembler.joins.join_later.Goals as goal
 
 pub returns-then-used-pairs-clause-joined : goal.returns-then-used-pairs-clause-joined
 returns-then-used-pairs-clause-joined c =
@@ -59,7 +59,7 @@ returns-clause-turns c =
     let len = length-take-le c.args.used c.args.pairs.now c.requires.used in
     let few = c.runs_ending_before-first.ensures.looks (binary_digits n)
     (let d = below_binary_digits n in omega (arith, c.requires.used)) in
-    let grows = c.grow_run-2.ensures.turns in
+    let grows = c.grow_run.ensures.turns in
     record {
       looks_few = omega (arith, grows.looks_few);
       moves_few = omega (arith, grows.moves_few);
