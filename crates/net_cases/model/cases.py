@@ -12,6 +12,7 @@ sys.dont_write_bytecode = True
 import assembler
 import branches
 import drawing
+import link
 import modes
 import moments
 import packets
@@ -22,6 +23,7 @@ import texts
 import worked
 
 SEED = 54
+MOST_BYTES = 2 ** 20  # that a program may write, as a stored case or by `rt try`
 PARTS = [
     ("rings of bytes", ring.draw, 6000),
     ("rings of cells", small.draw_cells, 700),
@@ -35,6 +37,7 @@ PARTS = [
     ("texts of moments and lengths", moments.draw_texts, 700),
     ("texts of errors", texts.draw, 400),
     ("words and lines of modes", modes.draw, 2100),
+    ("words of net_link", link.draw, 450),
 ]
 
 
@@ -52,6 +55,8 @@ def main():
     same = True
     for name, lines in (("stdin", cases.lines), ("stdout", cases.replies)):
         text = "".join(line + "\n" for line in lines).encode()
+        if name == "stdout" and len(text) > MOST_BYTES:
+            raise SystemExit(f"the replies have {len(text)} bytes, and {MOST_BYTES} may be written")
         if "--check" in sys.argv:
             same = same and (here / name).read_bytes() == text
         else:

@@ -12,6 +12,7 @@ mod call;
 mod cells;
 mod error;
 mod generator;
+mod link;
 mod packets;
 mod receiver;
 mod reply;

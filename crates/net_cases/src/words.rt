@@ -1,10 +1,11 @@
-//! Numbers, words that name modes of `net_script`, and lines that are executed in one.
+//! Numbers, words that name modes of `net_script`, lines that are executed in one, and words of `net_link`.
 use crate::call::first_word;
+use crate::link;
 use net_cli::number;
 use net_script::{Mode, run};
 use std::alloc::{AllocError, Global};
 
-/// Answers a line that begins with `number`, `mode` or `run`; returns whether it is one.
+/// Answers a line that begins with `number`, `mode`, `run` or `link`; returns whether it is one.
 pub fn answer(alloc: Global, line: &str, reply: &mut String) -> Result<bool, AllocError> {
     let (name, rest) = first_word(line);
     let rest = rest.unwrap_or("");
@@ -12,6 +13,7 @@ pub fn answer(alloc: Global, line: &str, reply: &mut String) -> Result<bool, All
         "number" => answer_number(rest, reply),
         "mode" => answer_mode(alloc, rest, reply),
         "run" => answer_run(alloc, rest, reply),
+        "link" => link::answer(alloc, rest, reply),
         _ => Ok(false),
     }
 }

@@ -1,0 +1,79 @@
+//! What `net_link` does with its words and an input.
+use crate::bytes::pattern;
+use crate::call::first_word;
+use crate::reply::{Part, Reply, many};
+use net_cli::{Ended, Status, number};
+use net_link_serve::{Messages, Remembering, serve};
+use std::alloc::{AllocError, Global};
+
+/// Answers a number of bytes and the words of a command line: appends the exit status, the digests of what
+/// is written to the output and of what standard error says, and its first line. Returns whether there is a
+/// number.
+pub fn answer(alloc: Global, rest: &str, reply: &mut String) -> Result<bool, AllocError> {
+    let (length, words) = first_word(rest);
+    let Some(length) = number(length.as_bytes()) else {
+        return Ok(false);
+    };
+    let input = pattern(alloc, length, 0)?;
+    serve_words(alloc, &words_of(alloc, words)?, &input, reply)?;
+    Ok(true)
+}
+
+/// Returns the words of a line, which are parted by a space.
+fn words_of(alloc: Global, line: Option<&str>) -> Result<Vec<String>, AllocError> {
+    let mut words = Vec::new(alloc);
+    let Some(line) = line else {
+        return Ok(words);
+    };
+    for word in line.split(' ') {
+        words.push(String::from_str(alloc, word)?)?;
+    }
+    Ok(words)
+}
+
+/// Runs the program over memory, and appends what comes of it.
+fn serve_words(
+    alloc: Global,
+    words: &[String],
+    input: &[u8],
+    reply: &mut String,
+) -> Result<(), AllocError> {
+    let mut reader = Remembering::new(input);
+    let mut writer: Remembering<Vec<u8>> = Remembering::new(Vec::new(alloc));
+    let mut errors: Messages<Vec<u8>> = Messages::new(Vec::new(alloc));
+    let ended = serve(alloc, words, &mut reader, &mut writer, &mut errors);
+    Reply::new()
+        .and(Part::Word(name_of(&ended)))
+        .and(many(&writer.stream))
+        .and(many(&errors.stream))
+        .append_to(reply)?;
+    append_first_line(&errors.stream, reply)
+}
+
+/// Returns the exit status, with a word if standard error didn't take what was to be said there.
+fn name_of(ended: &Ended) -> &'static str {
+    if !ended.is_told {
+        return "untold";
+    }
+    match ended.status {
+        Status::Done => "0",
+        Status::Failed => "1",
+        Status::Misused => "2",
+        Status::GaveUp => "3",
+    }
+}
+
+/// Appends a space and the first line of a text, if it has one.
+fn append_first_line(text: &[u8], reply: &mut String) -> Result<(), AllocError> {
+    if text.is_empty() {
+        return Ok(());
+    }
+    reply.push(' ')?;
+    for &byte in text {
+        if byte == b'\n' {
+            break;
+        }
+        reply.push(char::from(byte))?;
+    }
+    Ok(())
+}
