@@ -68,9 +68,9 @@ more_met v v' u u' c d bytes frames acks same h =
     let before = with_fates h.frames v no_frames in
     let both = with_fates h.acks v' before in
     let reached = with_fates (h.frames + frames) v no_frames in
-    let framed : with_fates frames u both ≡ with_fates h.acks v' forward =
+    let framed : with_fates frames u both ≡ with_fates h.acks v' reached =
     all_past frames h.acks u v' before ∙ ap (with_fates h.acks v') (ap (λ w. with_fates frames w before) h.left ∙ met_more h.frames frames v no_frames) in
-    let acked : with_fates acks u' (with_fates h.acks v' reached) ≡ with_fates (h.acks + acks) v' forward =
+    let acked : with_fates acks u' (with_fates h.acks v' reached) ≡ with_fates (h.acks + acks) v' reached =
     ap (λ w. with_fates acks w (with_fates h.acks v' reached)) h.left_reverse ∙ met_more h.acks acks v' reached in
     ap fates_only same
     ∙ same_fates acks u' (with_fates frames u (with_payload bytes c)) (with_fates frames u both) (same_fates frames u (with_payload bytes c) both h.counted)

@@ -174,7 +174,7 @@ module _ (known : KnownOfRounds) (s : Setup) (bytes : List ℕ) (has : HasRoomAt
       let cap = stays.outgoing in
       let some = has.some in
       let queue = h.queue in
-      let head = h.first_unacknowledged in
+      let head = h.head in
       let all = h.all in
       let end = was.writes.carries.way.sends.end in
       let written : is_written c.link ≡ true = and_from (nat_eq (next_position c.link.receiver) (end_of c.link.sender)) (nat_eq (length c.link.receiver.queue) 0)
@@ -187,7 +187,7 @@ module _ (known : KnownOfRounds) (s : Setup) (bytes : List ℕ) (has : HasRoomAt
   is_all_written : (c : CopyState) → SoFar known.known s reads c → Ready c → is_written c.link ≡ true
   is_all_written c was h =
       let queue = h.queue in
-      let head = h.first_unacknowledged in
+      let head = h.head in
       and_from (nat_eq (next_position c.link.receiver) (end_of c.link.sender)) (nat_eq (length c.link.receiver.queue) 0)
       (eq-eqb (next_position c.link.receiver) (end_of c.link.sender) (omega arith)) (eq-eqb (length c.link.receiver.queue) 0 h.empty)
 
@@ -211,7 +211,7 @@ module _ (known : KnownOfRounds) (s : Setup) (bytes : List ℕ) (has : HasRoomAt
       let cap = before.outgoing in
       let in_cap = stays.incoming in
       let no_queue = h.queue in
-      let from = h.first_unacknowledged in
+      let from = h.head in
       let none_held = h.empty in
       let end = w.carries.way.sends.end in
       let has_some = has.some in
@@ -270,7 +270,7 @@ module _ (known : KnownOfRounds) (s : Setup) (bytes : List ℕ) (has : HasRoomAt
         queue = a;
         sack_blocks = b;
         empty = d;
-        first_unacknowledged = e;
+        head = e;
         burst = f;
         max_burst = g;
         payload = i;
@@ -302,7 +302,7 @@ module _ (known : KnownOfRounds) (s : Setup) (bytes : List ℕ) (has : HasRoomAt
     queue = refl;
     sack_blocks = refl;
     empty = refl;
-    first_unacknowledged = (let e : s.first ≡ s.first + 0 + 0 = omega arith in e);
+    head = (let e : s.first ≡ s.first + 0 + 0 = omega arith in e);
     burst = refl;
     max_burst = refl;
     payload = refl;

@@ -18,7 +18,7 @@ lent_says says f w v pos xs s h is =
 pub lent_at : (head pos : ℕ) (queue xs : List ℕ) → head ≤ pos → xs ≡ take (length xs) (drop (pos - head) queue) → (q d : ℕ) →
     pos ≤ q → q < pos + length xs → get_or queue (q - head) d ≡ get_or xs (q - pos) d
 lent_at head pos queue xs h is = λ q d from to.
-    let place : (pos - head) + (q - pos) ≡ q - first_unacknowledged = omega arith in
+    let place : (pos - head) + (q - pos) ≡ q - head = omega arith in
     sym (ap (λ ys. get_or ys (q - pos) d) is
     ∙ get_or-take (length xs) (drop (pos - head) queue) (q - pos) d (omega arith)
     ∙ get_or-drop (pos - head) queue (q - pos) d
