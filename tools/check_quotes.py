@@ -22,8 +22,7 @@ In prose, between backquotes,
   with an underscore is short for all that begin or end so;
 - a path has to be a file's, from the top, from `crates` or from a crate's folder on, and a file's name that of a file;
 - a name of a value in an answer, such as `c.part.ensures`, has to be in a file `proofs/**/*.antt`;
-- a path `Rattle.CRATE.specs.FILE` of a crate here has to be that of a file of the crate, or of one that its
-  `specs/Lib.antt` hands on;
+- a path `Rattle.CRATE.specs.FILE` has to be that of a file of a crate's specs;
 - a file with a number of lines after it, such as `specs/Frames.antt`, 24 lines, has to have so many;
 - each name after the word "clause" has to be that of a clause of some function.
 
@@ -231,13 +230,12 @@ def names_of_answers():
     return known
 
 
-def has_specs(span):
-    """Whether each path of a spec of a crate here, in a span, is that of a file, or of one that the crate hands on."""
-    for crate, name in re.findall(r"\bRattle\.(\w+)\.specs\.(\w+)", span):
+def is_spec(span):
+    """Whether each path `Rattle.CRATE.specs.FILE` in a span is that of a file, or of one that the crate passes on."""
+    for crate, name in re.findall(r"\bRattle\.(net_\w+)\.specs\.([A-Z]\w*)", span):
         specs = ROOT / "crates" / crate / "specs"
-        if not specs.is_dir() or name == "declared" or (specs / f"{name}.antt").is_file():
-            continue
-        if not re.search(rf"^pub use Rattle\.\w+\.specs\.{name}$", (specs / "Lib.antt").read_text(), re.M):
+        passed = (specs / "Lib.antt").read_text() if (specs / "Lib.antt").is_file() else ""
+        if not (specs / f"{name}.antt").is_file() and not re.search(rf"\.{name}$", passed, re.MULTILINE):
             return False
     return True
 
@@ -306,8 +304,8 @@ def main():
                     miss(page, number, f"no source has the name {name}")
             if re.fullmatch(r"c(\.[\w-]+)+", span) and span not in answers:
                 miss(page, number, f"no proof has the name {span}")
-            if not has_specs(span):
-                miss(page, number, f"there is no spec {span}")
+            if not is_spec(span):
+                miss(page, number, f"there is no module {span}")
             if not is_there(page, span):
                 miss(page, number, f"there is no file {span}")
             lines = re.match(r",? (\d+) lines", behind)
