@@ -21,7 +21,9 @@ In prose, between backquotes,
   ELSEWHERE: names of the kit, of Rust or of smoltcp that no source has, and parameters. A name that ends or begins
   with an underscore is short for all that begin or end so;
 - a path has to be a file's, from the top, from `crates` or from a crate's folder on, and a file's name that of a file;
-- a path `Rattle.CRATE.specs.FILE` has to be that of a file of a crate's specs;
+- a name of a value in an answer, such as `c.part.ensures`, has to be in a file `proofs/**/*.antt`;
+- a path `Rattle.CRATE.specs.FILE` of a crate here has to be that of a file of the crate, or of one that its
+  `specs/Lib.antt` hands on;
 - a file with a number of lines after it, such as `specs/Frames.antt`, 24 lines, has to have so many;
 - each name after the word "clause" has to be that of a clause of some function.
 
@@ -39,6 +41,7 @@ ELSEWHERE = set("""
     Gone FitsInMemory ManuallyDrop new_unchecked NonZero WouldBlock must_use non_exhaustive
     pad_integral styled write_char plant tidy my_crate directory logic dac8208d650f15bf
     CAUSE DATA END MODULE PATH dev null poll_at start_lib BUILD bazel
+    c.storage-1.given
 """.split())
 NAME = re.compile(r"[A-Za-z_][A-Za-z0-9_]*")
 
@@ -218,12 +221,23 @@ def is_there(page, span):
     return any((place / span).is_file() for place in places)
 
 
-def is_spec(span):
-    """Whether each path `Rattle.CRATE.specs.FILE` in a span is that of a file, or of one that the crate passes on."""
-    for crate, name in re.findall(r"\bRattle\.(net_\w+)\.specs\.([A-Z]\w*)", span):
+def names_of_answers():
+    """Each name with dots that a proof has: of a value of a function's body, and what it begins with."""
+    known = set()
+    for path in ROOT.glob("crates/*/proofs/**/*.antt"):
+        for name in re.findall(r"\bc(?:\.[\w-]+)+", path.read_text()):
+            parts = name.split(".")
+            known.update(".".join(parts[:end]) for end in range(2, len(parts) + 1))
+    return known
+
+
+def has_specs(span):
+    """Whether each path of a spec of a crate here, in a span, is that of a file, or of one that the crate hands on."""
+    for crate, name in re.findall(r"\bRattle\.(\w+)\.specs\.(\w+)", span):
         specs = ROOT / "crates" / crate / "specs"
-        passed = (specs / "Lib.antt").read_text() if (specs / "Lib.antt").is_file() else ""
-        if not (specs / f"{name}.antt").is_file() and not re.search(rf"\.{name}$", passed, re.MULTILINE):
+        if not specs.is_dir() or name == "declared" or (specs / f"{name}.antt").is_file():
+            continue
+        if not re.search(rf"^pub use Rattle\.\w+\.specs\.{name}$", (specs / "Lib.antt").read_text(), re.M):
             return False
     return True
 
@@ -280,6 +294,7 @@ def main():
             else:
                 miss(path, number, f"stands in no example: {block[:1]}")
     named = names_of_sources()
+    answers = names_of_answers() | ELSEWHERE
     all_clauses = {clause for here in known.values() for clauses in here.values() for clause in clauses}
     for page in [*pages, ROOT / "CONTRIBUTING.md"]:
         for number, name in clauses_named(page):
@@ -289,8 +304,10 @@ def main():
             for name in NAME.findall(span):
                 if not is_named(name, named):
                     miss(page, number, f"no source has the name {name}")
-            if not is_spec(span):
-                miss(page, number, f"there is no module {span}")
+            if re.fullmatch(r"c(\.[\w-]+)+", span) and span not in answers:
+                miss(page, number, f"no proof has the name {span}")
+            if not has_specs(span):
+                miss(page, number, f"there is no spec {span}")
             if not is_there(page, span):
                 miss(page, number, f"there is no file {span}")
             lines = re.match(r",? (\d+) lines", behind)

@@ -94,6 +94,10 @@ ASSEMBLERS = [
     (4, "add 50 10: ok; add 10 10: ok; add 15 60: ok", [(10, 75)]),
     (4, "add 0 1: ok; add 2 1: ok; add 1 1: ok", [(0, 3)]),
     (4, "add 5 0: ok; add 18446744073709551615 0: ok", []),
+    (4, "add 9223372036854775808 8: ok; contains 9223372036854775807: 0; contains 9223372036854775808: 1; "
+        "contains 9223372036854775815: 1; contains 9223372036854775816: 0; add 18446744073709551610 5: ok; "
+        "contains 18446744073709551614: 1; contains 18446744073709551615: 0",
+     [(2 ** 63, 2 ** 63 + 8), (2 ** 64 - 6, 2 ** 64 - 1)]),
     (4, "FILL; add 1 3: refused; add_counted 1 3: refused; add_then_remove_front 1 3: refused; add 13 7: ok; "
         "add 1 3: ok", [(1, 4), (10, 23), (30, 33), (40, 43)]),
     (4, "FILL; add_counted 13 7: ok", [(10, 23), (30, 33), (40, 43)]),
@@ -460,6 +464,8 @@ def add_shown(cases):
     play_all(cases, 100, [("add", [5 * number + 3, 2]) for number in range(40)])
     play_all(cases, 4, [("add", [5 * number + 3, 2]) for number in range(3)]
              + [("text", [width]) for width in (*range(300), 65535)])
+    full = [("add", [5 * number + 3, 2]) for number in range(100)]
+    play_all(cases, 100, full + [("clone", []), ("eq", []), ("add", [500, 1]), ("eq", []), ("clone", []), ("eq", [])])
     numbers = [10 ** power for power in range(1, 20)] + [2 ** power for power in range(63)]
     play_all(cases, 1, [call for number in numbers
                         for call in (("add", [number, 1]), ("clear", []), ("add", [7, number]), ("clear", []))])
@@ -486,8 +492,19 @@ def add_schedules(cases):
         cases.begin(f"receiver {capacity} 4 {first}", subject.show())
         for part in (commands[:2], commands[2:]):
             receiver.add(cases, subject, "replay", [number for command in part for number in command])
+    reply_often(cases)
     hold_and_send(cases, 64, range(0, 64, 7), False)
     hold_and_send(cases, 16, range(0, 48, 7), True)
+
+
+def reply_often(cases):
+    """Lists of commands whose replies come after 300 and more others."""
+    subject = receiver.Pair(16, 4, 0)
+    cases.begin("receiver 16 4 0", subject.show())
+    for start in range(0, 2100, 700):
+        commands = [([0, pos, 7, pos], [1, 7, 0, 0], [2, 0, 0, 0]) for pos in range(start, start + 700, 7)]
+        numbers = [number for command in commands for part in command for number in part]
+        receiver.add(cases, subject, "replay", numbers)
 
 
 def hold_and_send(cases, capacity, starts, reads):

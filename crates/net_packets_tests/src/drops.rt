@@ -86,9 +86,15 @@ fn takes_many_off(queue: &mut PacketBuffer<'_, Counted<'_>>, count: usize) -> bo
     true
 }
 
-/// Puts packets, takes so many off, and drops the queue with the rest in it; returns how many
-/// headers were dropped, or `None` if a call went otherwise than expected.
-fn drops_of_queue(alloc: Global, put: usize, taken: usize) -> Result<Option<u32>, Fail> {
+/// Puts packets and takes so many off; resets the queue and puts as many packets again, if `resets` is
+/// true; and drops the queue with the rest in it. Returns how many headers were dropped, or `None` if a
+/// call went otherwise than expected.
+fn drops_of_queue(
+    alloc: Global,
+    put: usize,
+    taken: usize,
+    resets: bool,
+) -> Result<Option<u32>, Fail> {
     let drops = Cell::new(0);
     let mut slots = Vec::new(alloc);
     for _ in 0..put {
@@ -99,7 +105,11 @@ fn drops_of_queue(alloc: Global, put: usize, taken: usize) -> Result<Option<u32>
         ManagedSlice::Owned(slots),
         ManagedSlice::Owned(bytes),
     );
-    let done = puts_many(&mut queue, &drops, put) && takes_many_off(&mut queue, taken);
+    let mut done = puts_many(&mut queue, &drops, put) && takes_many_off(&mut queue, taken);
+    if resets {
+        queue.reset();
+        done = done && puts_many(&mut queue, &drops, put);
+    }
     drop(queue);
     Ok(done.then_some(drops.get()))
 }
@@ -107,7 +117,8 @@ fn drops_of_queue(alloc: Global, put: usize, taken: usize) -> Result<Option<u32>
 #[test]
 fn every_header_is_dropped_once(rt: HostRuntime) -> Result<(), Fail> {
     for taken in [0, 1, 2, 3, 50, 99, 100] {
-        assert_eq!(rt; drops_of_queue(rt.alloc(), 100, taken)?, Some(100));
+        assert_eq!(rt; drops_of_queue(rt.alloc(), 100, taken, false)?, Some(100));
+        assert_eq!(rt; drops_of_queue(rt.alloc(), 100, taken, true)?, Some(200));
     }
     Ok(())
 }

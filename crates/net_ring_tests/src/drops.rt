@@ -14,13 +14,14 @@ fn many<'c>(alloc: Global, drops: &'c Cell<u32>, count: u32) -> Result<Vec<Count
     Ok(values)
 }
 
-/// Makes a ring over such values, enqueues half of them, and drops it; returns how many values were
-/// dropped then, and how many before.
-fn drops_of_ring(alloc: Global, count: u32) -> Result<(u32, u32), Fail> {
+/// Makes a ring over such values, enqueues half of them, dequeues so many, and drops it; returns how
+/// many values were dropped then, and how many before.
+fn drops_of_ring(alloc: Global, count: u32, taken: usize) -> Result<(u32, u32), Fail> {
     let drops = Cell::new(0);
     let mut ring = RingBuffer::from(many(alloc, &drops, count)?);
     let half = ring.capacity() / 2;
     ring.enqueue_many(half);
+    ring.dequeue_many(taken);
     let before = drops.get();
     drop(ring);
     Ok((drops.get(), before))
@@ -29,7 +30,38 @@ fn drops_of_ring(alloc: Global, count: u32) -> Result<(u32, u32), Fail> {
 #[test]
 fn a_ring_drops_its_storage(rt: HostRuntime) -> Result<(), Fail> {
     for count in [0, 1, 2, 3, 64, 1000, 70000] {
-        assert_eq!(rt; drops_of_ring(rt.alloc(), count)?, (count, 0));
+        assert_eq!(rt; drops_of_ring(rt.alloc(), count, 0)?, (count, 0));
+        assert_eq!(rt; drops_of_ring(rt.alloc(), count, 1)?, (count, 0));
+        assert_eq!(rt; drops_of_ring(rt.alloc(), count, 40000)?, (count, 0));
+    }
+    Ok(())
+}
+
+/// Returns whether `push_one` enqueues a value.
+fn pushes<'c>(ring: &mut RingBuffer<'_, Counted<'c>>, drops: &'c Cell<u32>) -> bool {
+    ring.push_one(Counted { drops }).is_ok()
+}
+
+/// Fills a ring of so many values by `push_one`, which drops those that it writes over, and then
+/// one that it refuses, and drops the ring; returns how many values were dropped, or `None` if a call
+/// went otherwise than expected.
+fn drops_of_pushes(alloc: Global, count: u32) -> Result<Option<u32>, Fail> {
+    let drops = Cell::new(0);
+    let mut ring = RingBuffer::from(many(alloc, &drops, count)?);
+    let mut pushed = true;
+    for _ in 0..count {
+        pushed = pushed && pushes(&mut ring, &drops);
+    }
+    let refused = !pushes(&mut ring, &drops);
+    let before = drops.get();
+    drop(ring);
+    Ok((pushed && refused && before == count.saturating_add(1)).then_some(drops.get()))
+}
+
+#[test]
+fn an_element_that_is_written_over_or_refused_is_dropped(rt: HostRuntime) -> Result<(), Fail> {
+    for (count, all) in [(0, 1), (1, 3), (2, 5), (300, 601)] {
+        assert_eq!(rt; drops_of_pushes(rt.alloc(), count)?, Some(all));
     }
     Ok(())
 }
