@@ -1,6 +1,6 @@
 -- Which frames and acknowledgements arrive that meet their fates, and what they leave.
 --     coming_of v frames, delayed_of v frames      of frames that meet the next fates of v, those that
---         arrive in their round, and those that are delayed
+--         come at once, and those that are delayed
 --     receiver_after_all N r frames      what a receiver stores once frames have come, one after another
 --     acks_of N r frames      its acknowledgements of them
 --     path_after path      what is left of a path whose frames have all met their fates
@@ -11,7 +11,7 @@ use Rattle.net_copies.specs.Frames.{segment_of}
 use Rattle.net_copies.specs.Fates.{FatesState, next_fate, after_fate, fates_after, comes, comes_delayed}
 use Rattle.net_copies.specs.PathState.{PathState, ack_of, receiver_after}
 
--- the frames that arrive in their round, of frames that meet the next fates of v
+-- the frames that come at once, of frames that meet the next fates of v
 abbrev pub coming_of : FatesState → List (List ℕ) → List (List ℕ)
 coming_of v [] = []
 coming_of v (frame ∷ frames) =

@@ -16,7 +16,7 @@
 --     has_end reads, DoneIfAllCome      it is done, if the input's end comes
 --     CountsRounds, CountsEachFate      what the counts of rounds and of frames are
 --     GivesUpCounted, EnoughFailed, Unfinished      what a copy that gives up counts
---     HasRoomAtOnce s, ExactRounds      the number of rounds where all arrives in its round
+--     HasRoomAtOnce s, ExactRounds      the number of rounds where all comes at once
 --     EnoughRounds, RoundsAtOnce      bounds where it is done, and where nothing is lost or delayed
 --     FewRounds, FewRoundsAnyway, FewFrames      bounds
 --     RoundDelaysFew, FewDelayed      how much is delayed after a round
@@ -93,7 +93,7 @@ frames_sent l = length (transmit l).forward.in_flight
 abbrev pub acks_sent : LinkState → ℕ
 acks_sent l = length (acknowledge_all (pass_frames (delayed_frames (transmit l)))).reverse.in_flight
 
--- of the frames of such a round the first doesn't arrive in its round, or none of its acknowledgements does; and
+-- of the frames of such a round the first doesn't come at once, or none of its acknowledgements does; and
 -- that frame or all of them are lost, if more such rounds follow
 abbrev pub Fails : ℕ → LinkState → Type 0
 Fails follow l = FatesFail follow (frames_sent l) (acks_sent l) l.forward.fates l.reverse.fates

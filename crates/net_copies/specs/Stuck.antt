@@ -1,5 +1,5 @@
 -- Rounds that make no progress.
---     failures counts, losses counts      how many frames and acknowledgements didn't arrive in their round,
+--     failures counts, losses counts      how many frames and acknowledgements didn't come at once,
 --                                         and how many were lost
 --     RoundLeaves old new      what a round leaves as it was, or lets grow
 --     HasFailed follow fate, FatesFail follow frames acks v v'      what fails in a stuck round
@@ -24,7 +24,7 @@ use Rattle.net_receiver.specs.Soundness.{FreshIsSound, SoundStays}
 use Rattle.net_copies.specs.LinkInvariant.{LinkInvariant}
 use Rattle.net_copies.specs.Streams.{Known}
 
--- how many frames and acknowledgements didn't arrive in their round, as far as 64 bits go
+-- how many frames and acknowledgements didn't come at once, as far as 64 bits go
 abbrev pub failures : FrameCounts → ℕ
 failures c = min c.lost (2 ^ 64 - 1) + min c.delayed (2 ^ 64 - 1)
 
@@ -44,7 +44,7 @@ pub record RoundLeaves (old new : LinkState) : Type 0 where
   pub receiver_capacity : new.receiver.capacity ≡ old.receiver.capacity
   pub grows : next_position old.receiver ≤ next_position new.receiver
 
--- the fate of a frame in a stuck round that so many stuck rounds follow: it doesn't arrive in its round, and
+-- the fate of a frame in a stuck round that so many stuck rounds follow: it doesn't come at once, and
 -- isn't delayed either if any follows, so that it is lost
 abbrev pub HasFailed : ℕ → Fate → Type 0
 HasFailed follow fate = (comes fate ≡ false) × (0 < follow → comes_delayed fate ≡ false)

@@ -5,13 +5,13 @@ ghost use Rattle.net_copies.specs.Fates.{fate_of, comes, comes_delayed};
 /// What happens to a frame.
 #[derive(Debug, Clone, Copy, PartialEq, Eq, Drop)]
 pub enum Fate {
-    /// It arrives in its round.
+    /// It comes at once.
     Delivered,
-    /// It never arrives.
+    /// It never comes.
     Lost,
-    /// It arrives in its round, and again in the next one.
+    /// It comes at once, and again in the next round.
     Duplicated,
-    /// It arrives in the next round, before the frames that are sent then.
+    /// It comes in the next round, before the frames that are sent then.
     Delayed,
 }
 
@@ -45,7 +45,7 @@ impl Fate {
         Fate::Delivered
     }
 
-    /// Returns whether a frame of this fate arrives in its round.
+    /// Returns whether a frame of this fate comes at once.
     pub fn comes(self) -> bool
         ensures { result ≡ comes self }
     {
@@ -55,8 +55,7 @@ impl Fate {
         }
     }
 
-    /// Returns whether a frame of this fate arrives in the next round, for the first time or once
-    /// more.
+    /// Returns whether a frame of this fate comes in the next round, for the first time or once more.
     pub fn comes_delayed(self) -> bool
         ensures { result ≡ comes_delayed self }
     {

@@ -22,7 +22,7 @@ pub use values::{
     frame_counts_clone, frame_counts_equality, rates_clone, rates_equality,
 };
 
-/// States that if every frame arrives in its round, so do the next ones, however many.
+/// States that if every frame comes at once, so do the next ones, however many.
 pub fn known_fates()
     ensures { EachNextComes }
 {}

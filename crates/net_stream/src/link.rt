@@ -31,7 +31,7 @@ use std::marker::Model;
 /// The fields are there to be used: the sender and the receiver can be asked how many bytes are
 /// queued. A conversation takes two links, one for each direction, since a path carries either
 /// frames or acknowledgements. Time is simulated: a link has a clock of its own, which `advance`
-/// moves.
+/// advances.
 #[derive(Drop)]
 pub struct Link<'a, 'f, A: Allocator + Copy> {
     /// What sends.
