@@ -97,11 +97,18 @@ impl<'a, 'f, A: Allocator + Copy> Copier<'a, 'f, A> {
         }
     }
 
+    /// Returns the position of the first byte that isn't acknowledged.
+    fn first_unacknowledged(&self) -> u64
+        ensures { result ≡ self.now.link.sender.first_unacknowledged }
+    {
+        self.link.sender.first_unacknowledged()
+    }
+
     /// Returns whether in a round bytes were acknowledged, or are to be written.
     fn has_made_progress(&self, before: u64, count: usize) -> bool
         ensures { result ≡ (not (nat_eq self.now.link.sender.first_unacknowledged before) || nat_lt 0 count) }
     {
-        self.link.sender.first_unacknowledged() != before || count > 0
+        self.first_unacknowledged() != before || count > 0
     }
 
     /// Returns whether it is time for a read into so much room: once all that was read is written.
@@ -148,7 +155,7 @@ impl<'a, 'f, A: Allocator + Copy> Copier<'a, 'f, A> {
             (W.contents writer.old) (W.contents writer.new)) }
         ensures chunk { length chunk.new ≡ length chunk.old }
     {
-        let before = self.link.sender.first_unacknowledged();
+        let before = self.first_unacknowledged();
         self.rounds = self.rounds.saturating_add(1);
         self.link.advance(self.wait);
         if self.link.pass_round().is_err() {

@@ -22,7 +22,7 @@ returns-clause-ok g c =
     was_ok _ c.pass_round.result (sym c.is_err.ensures.value ∙ c.if-is_err.false) c.pass_round.ensures.state ∙ ap round c.advance.ensures.state in
     let progress : (not (nat_eq u.sender.first_unacknowledged copy.link.sender.first_unacknowledged) || nat_lt 0 (min chunk (length u.receiver.queue))) ≡ c.has_made_progress-progress.result =
     sym (c.has_made_progress-progress.ensures
-    ∙ (λ i. not (nat_eq (ap (λ (l : LinkState). l.sender.first_unacknowledged) c.read-count.ensures.state i) (c.first_unacknowledged-before.ensures.value i)) || nat_lt 0 (count i))) in
+    ∙ (λ i. not (nat_eq (ap (λ (l : LinkState). l.sender.first_unacknowledged) c.read-count.ensures.state i) (c.first_unacknowledged-before.ensures i)) || nat_lt 0 (count i))) in
     let counted = c.saturating_add-self-in-Ok.ensures in
     record {
       written = bytes;
