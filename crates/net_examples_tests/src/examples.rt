@@ -117,7 +117,7 @@ fn a_stream_crosses_a_bad_link(rt: HostRuntime) {
     let mut writer = Vec::new(rt.alloc());
     let mut counts = Counts::new();
     let ended = over_a_bad_link(rt.alloc(), &mut reader, &mut writer, &mut counts);
-    assert!(rt; ended.is_ok() && counts.bytes == 6);
+    assert!(rt; ended.is_ok() && counts.bytes_written == 6);
     assert_eq!(rt; writer.as_slice(), b"abcdef".as_slice());
 }
 
