@@ -8,7 +8,7 @@ Each row is a copy over a link of known fates, and what the model counts of it.
 import collections
 import sys
 
-from link_parts import LAST, LONGEST, MOST_RUNS, SHORTEST, Direction, Receiver, Sender, D, L, R, T
+from link_parts import LAST, LONGEST, MOST_RUNS, SHORTEST, Direction, Receiver, Sender, exchange, D, L, R, T
 
 PERFECT, GONE, MIXED = (0, 0, 0), (100, 0, 0), (20, 30, 30)
 
@@ -38,21 +38,9 @@ def predicted(row):
             end = "gave up"
             break
         head, before = sender.first_unacknowledged, receiver.written
-        frames, acks = sender.frames(max(row.payload, 1), burst), []
+        frames = sender.frames(max(row.payload, 1), burst)
         carried += sum(end - start for start, end in frames)
-        for frame in forward.take_delayed():
-            receiver.come(*frame)
-            acks.append(receiver.acknowledgement())
-        for frame in frames:
-            if forward.comes(frame):
-                receiver.come(*frame)
-                acks.append(receiver.acknowledgement())
-        acks.append(receiver.acknowledgement())
-        for ack in reverse.take_delayed():
-            sender.acknowledge(*ack)
-        for ack in acks:
-            if reverse.comes(ack):
-                sender.acknowledge(*ack)
+        exchange(forward, reverse, sender, receiver, frames)
         full = sender.is_full()
         burst = min(most, max(burst // 2, MOST_RUNS) if full else burst + MOST_RUNS)
         rounds += 1

@@ -13,7 +13,7 @@ import subprocess
 import sys
 import tempfile
 
-from link_parts import LONGEST, MOST_RUNS, SHORTEST, Direction, Receiver, Sender
+from link_parts import LONGEST, MOST_RUNS, SHORTEST, Direction, Receiver, Sender, exchange
 
 BUFFER, MAX_BURST, MOST_ROUNDS = 262_144, 4_096, 100
 SHOWN_EACH, GAVE_UP = 256, 3
@@ -46,22 +46,9 @@ class Copy:
 
     def exchange(self):
         """Frames go on the forward path, and acknowledgements on the reverse one."""
-        forward, reverse, sender, receiver = self.forward, self.reverse, self.sender, self.receiver
-        frames, acks = sender.frames(self.payload, self.burst), []
+        frames = self.sender.frames(self.payload, self.burst)
         self.carried += sum(end - start for start, end in frames)
-        for frame in forward.take_delayed():
-            receiver.come(*frame)
-            acks.append(receiver.acknowledgement())
-        for frame in frames:
-            if forward.comes(frame):
-                receiver.come(*frame)
-                acks.append(receiver.acknowledgement())
-        acks.append(receiver.acknowledgement())
-        for ack in reverse.take_delayed():
-            sender.acknowledge(*ack)
-        for ack in acks:
-            if reverse.comes(ack):
-                sender.acknowledge(*ack)
+        exchange(self.forward, self.reverse, self.sender, self.receiver, frames)
 
     def make_round(self):
         head, written = self.sender.first_unacknowledged, self.receiver.written

@@ -1,5 +1,5 @@
-"""One direction of a link, a receiver and a sender, written from docs/LINK.md alone: what the models of `copy` and
-of net_link share.
+"""One direction of a link, a receiver, a sender and a round, written from docs/LINK.md alone: what the models of `copy`
+and of net_link share.
 """
 
 MOST_RUNS, SHORTEST, LONGEST, LAST = 32, 10_000, 1_000_000, 2**64 - 1
@@ -106,3 +106,21 @@ class Sender:
                 return frames
             place = end
         return frames
+
+
+def exchange(forward, reverse, sender, receiver, frames):
+    """These frames go on the forward path, and acknowledgements on the reverse one."""
+    acks = []
+    for frame in forward.take_delayed():
+        receiver.come(*frame)
+        acks.append(receiver.acknowledgement())
+    for frame in frames:
+        if forward.comes(frame):
+            receiver.come(*frame)
+            acks.append(receiver.acknowledgement())
+    acks.append(receiver.acknowledgement())
+    for ack in reverse.take_delayed():
+        sender.acknowledge(*ack)
+    for ack in acks:
+        if reverse.comes(ack):
+            sender.acknowledge(*ack)
