@@ -1,8 +1,8 @@
 #!/usr/bin/env python3
 """Looks for what the pages quote and name in the sources.
 
-In doc comments of crates/*/src, each block between ``` lines has to stand, line by line, in a file of
-crates/net_examples/src. The pages are README.md, CONTRIBUTING.md, docs/*.md and crates/*/CALLING.md. Of their blocks
+In doc comments of crates/*/src, each block between ``` lines is an example: it has to stand, line by line, in a file
+of one of EXAMPLES, crates that the gate proves, and to name the item that it is a comment of. The pages are README.md, CONTRIBUTING.md, docs/*.md and crates/*/CALLING.md. Of their blocks
 between ``` lines,
 
 - one marked `rust` has to stand, line by line, in one file crates/*/src/**/*.rt, which the prover checks. How
@@ -34,6 +34,8 @@ import re
 import sys
 
 ROOT = pathlib.Path(__file__).resolve().parent.parent
+# The crates whose lines doc comments quote as examples.
+EXAMPLES = ["net_examples", "net_examples_tests", "net_sockets"]
 # Where names are looked for.
 SOURCES = ["crates/**/*", "compare/**/*", "tools/*", "crates.txt", "HANDLES", ".ci/run", "*", "docs/*"]
 ELSEWHERE = set("""
@@ -66,18 +68,24 @@ def blocks(page, kind):
 
 
 def examples(path):
-    """The blocks of a source's doc comments, each with the number of its first line."""
-    block, begins = None, 0
+    """The blocks of a source's doc comments, each with the number of its first line and the name of its item."""
+    block, begins, ended = None, 0, []
     for number, line in enumerate(path.read_text().splitlines(), 1):
         comment = re.match(r"\s*//[/!] ?(.*)$", line)
+        item = re.match(r"\s*(?:pub )?(?:const |unsafe )*(?:fn|const|struct|enum|trait|type) (\w+)", line)
         if comment and comment.group(1).startswith("```"):
             if block is None:
                 block, begins = [], number + 1
             else:
-                yield begins, block
+                ended.append((begins, block))
                 block = None
         elif block is not None:
             block.append(comment.group(1) if comment else line)
+        elif item and not comment:
+            yield from ((begins, block, item.group(1)) for begins, block in ended)
+            ended = []
+    for begins, block in [*ended, *([] if block is None else [(begins, block)])]:
+        yield begins, block, None
 
 
 def without_root_attribute(lines):
@@ -284,13 +292,19 @@ def main():
                             miss(page, number, f"{name} has no clause {clause}")
                     quoted = len(names) == 1 and plain(says).rstrip(" }") in here.get(names[0], set())
                     counts["quoted" if quoted else "retold"] += 1
-    proved = [path.read_text().splitlines() for path in sorted(ROOT.glob("crates/net_examples/src/*.rt"))]
+    proved = [
+        path.read_text().splitlines()
+        for crate in EXAMPLES
+        for path in sorted(ROOT.glob(f"crates/{crate}/src/**/*.rt"))
+    ]
     for path in sorted(ROOT.glob("crates/*/src/**/*.rt")):
-        for number, block in examples(path):
-            if any(stands_in(dedented(block), source) for source in proved):
-                counts["examples"] += 1
-            else:
+        for number, block, name in examples(path):
+            if not block or not any(stands_in(dedented(block), source) for source in proved):
                 miss(path, number, f"stands in no example: {block[:1]}")
+            elif name is None or name not in NAME.findall("\n".join(block)):
+                miss(path, number, f"an example that doesn't name {name}")
+            else:
+                counts["examples"] += 1
     named = names_of_sources()
     answers = names_of_answers() | ELSEWHERE
     all_clauses = {clause for here in known.values() for clauses in here.values() for clause in clauses}
@@ -312,7 +326,7 @@ def main():
             if lines and not has_lines(span, int(lines.group(1))):
                 miss(page, number, f"{span} hasn't {lines.group(1)} lines")
     print(f"{counts['blocks']} quoted blocks stand in the sources")
-    print(f"{counts['examples']} examples of doc comments stand in net_examples")
+    print(f"{counts['examples']} examples of doc comments stand in {', '.join(EXAMPLES)}")
     print(f"of the contracts that pages tell, {counts['quoted']} clauses are quoted and {counts['retold']} retold")
     print(f"{missing} things stand in no source")
     return 1 if missing else 0

@@ -89,6 +89,13 @@ impl<const N: usize> Assembler<N> {
     }
 
     /// Returns the length of the run at position 0, or 0 if position 0 is missing.
+    ///
+    /// ```rust
+    /// let total = self.total?;
+    /// if self.present.peek_front() < total {
+    ///     return None;
+    /// }
+    /// ```
     pub fn peek_front(&self) -> usize
         ensures { result ≡ front self.now }
     {
@@ -116,6 +123,11 @@ impl<const N: usize> Assembler<N> {
     /// It is refused, and the set stays as it was, exactly if the set with these positions has more
     /// than `N` maximal runs: never while there are fewer than `N`. Ranges that only touch are one
     /// run.
+    ///
+    /// ```rust
+    /// assembler.add(offset, size)?;
+    /// Ok(assembler.peek_front())
+    /// ```
     ///
     /// # Requires
     ///

@@ -1,4 +1,4 @@
-//! The smallest users of the libraries, one for each kind. The pages of this repository quote them.
+//! The smallest users of the libraries, one for each kind. Pages and doc comments quote them.
 #![tactic(auto)]
 
 mod acknowledgement;

@@ -59,6 +59,13 @@ impl<H, M: Storage<PacketMetadata<H>>, B: Storage<u8>> Model for PacketsOver<H, 
 impl<H, M: Storage<PacketMetadata<H>>, B: Storage<u8>> PacketsOver<H, M, B> {
     /// Returns a queue with no packets, which has as many slots as `slots` has elements, and room
     /// for as many bytes as `bytes` has.
+    ///
+    /// ```rust
+    /// PacketBuffer::new(
+    ///     ManagedSlice::Borrowed(&mut slots_in),
+    ///     ManagedSlice::Borrowed(&mut bytes_in),
+    /// ),
+    /// ```
     pub fn new(slots: M, bytes: B) -> Self
         ensures empty { contents result ≡ [] }
         ensures made { result ≡ no_packets (length (M.elements slots)) (B.elements bytes) }

@@ -39,6 +39,11 @@ impl SequenceNumber {
     }
 
     /// Returns the number of a stream's position, if position 0 has the number `initial`.
+    ///
+    /// ```rust
+    /// let window = receiver.window().min(65_535) as u16;
+    /// (SequenceNumber::at(initial, receiver.next()), window)
+    /// ```
     pub fn at(initial: SequenceNumber, pos: u64) -> Self
         ensures { result ≡ number_at initial pos }
     {
@@ -50,6 +55,14 @@ impl SequenceNumber {
     /// Returns the position nearest to `next` that has this number, if position 0 has the number
     /// `initial`: less than 2^31 after `next`, or at most 2^31 before it. `None` if no position
     /// there has it.
+    ///
+    /// ```rust
+    /// if let Some(pos) = number.position(initial, receiver.next()) {
+    ///     if Receiver::<4>::fits(pos, payload.len()) {
+    ///         let _kept = receiver.segment(pos, payload).is_ok();
+    ///     }
+    /// }
+    /// ```
     pub fn position(self, initial: SequenceNumber, next: u64) -> Option<u64>
         ensures number { IfSome result (λ pos. number_at initial pos ≡ self) }
         ensures near { IfSome result (λ pos. IsNear next pos) }

@@ -122,6 +122,11 @@ impl<'a, T> From<Vec<T>> for RingBuffer<'a, T> {
 /// Making, emptying and measuring a ring.
 impl<T, S: Storage<T>> RingOver<T, S> {
     /// Returns an empty ring over the storage, whose elements stay as they are.
+    ///
+    /// ```rust
+    /// let mut storage = [0u8; 8];
+    /// let mut ring = RingBuffer::new(ManagedSlice::Borrowed(&mut storage));
+    /// ```
     pub fn new(storage: S) -> Self
         ensures ring { result ≡ ring (S.elements storage) 0 0 }
         ensures parts { (queue result ≡ []) × (spare result ≡ S.elements storage) }

@@ -70,6 +70,13 @@ impl<'a> UdpSocket<'a> {
     ///
     /// `Empty` changes nothing. If a datagram does not fit, smoltcp returns an error in place of
     /// the number; there too the datagram is lost.
+    ///
+    /// ```rust
+    /// match socket.recv_slice(into) {
+    ///     Ok((count, _from)) => Some(count),
+    ///     Err(Empty) => None,
+    /// }
+    /// ```
     pub fn recv_slice(&mut self, into: &mut [u8]) -> Result<(usize, Endpoint), Empty>
         ensures empty { IsErr result ↔ (inbound_datagrams self.old ≡ []) }
         ensures unchanged { OnErr result ((self.new ≡ self.old) × (into.new ≡ into.old)) }
@@ -123,6 +130,12 @@ impl<'a> UdpSocket<'a> {
 
     /// Puts a datagram that came in at the end of those that were received. Returns false, drops it
     /// and changes nothing, exactly if the queue can't place a packet of so many bytes.
+    ///
+    /// ```rust
+    /// if !socket.process(from, bytes) {
+    ///     return None;
+    /// }
+    /// ```
     pub fn process(&mut self, from: Endpoint, data: &[u8]) -> bool
         ensures outbound { self.new.outbound ≡ self.old.outbound }
         ensures full { IsFalse result ↔ (placement self.old.inbound (length «data».now) ≡ None) }

@@ -118,6 +118,14 @@ fn storage_of<A: Allocator + Copy>(alloc: A, len: usize) -> Result<Storage<A>, A
 /// is tried again. At the end, after an error too, the writer is flushed once; if all was written,
 /// a flush that fails is a failed write. A stream that uses all positions up to 2^64 - 2 gives up:
 /// the reader's end isn't looked for once none is left.
+///
+/// ```rust
+/// let fates = LinkFates {
+///     frames: Fates::new(&[], 1, rates),
+///     acks: Fates::new(&[], 2, rates),
+/// };
+/// copy(alloc, config, fates, reader, writer, counts)
+/// ```
 pub fn copy<'f, A: Allocator + Copy, R: Read, W: Write>(
     alloc: A,
     config: Config,

@@ -27,6 +27,13 @@ impl<'f> Model for Fates<'f> {
 
 impl<'f> Fates<'f> {
     /// Returns the fates of this list, and after it those that a generator of this seed draws.
+    ///
+    /// ```rust
+    /// let fates = LinkFates {
+    ///     frames: Fates::new(&[], 1, rates),
+    ///     acks: Fates::new(&[], 2, rates),
+    /// };
+    /// ```
     pub fn new(listed: &'f [Fate], seed: u64, rates: Rates) -> Fates<'f>
         ensures { result ≡ record { listed = listed.now; state = seed; rates = rates } }
     {

@@ -57,6 +57,13 @@ pub trait Device {
     /// refused memory.
     ///
     /// The timestamp is the moment of the call. Any moment is allowed.
+    ///
+    /// ```rust
+    /// match device.receive(Instant::ZERO) {
+    ///     Some((frame, _token)) => frame.frame() == bytes,
+    ///     None => false,
+    /// }
+    /// ```
     fn receive(&mut self, timestamp: Instant) -> Option<(Self::RxToken, Self::TxToken)>
         ensures { MatchOption result (is_idle self.old × idled self.old self.new)
             (λ tokens. taken self.old (Self.RxToken.bytes tokens.0) self.new) };
@@ -66,6 +73,13 @@ pub trait Device {
     /// it was in both cases.
     ///
     /// The timestamp is the moment of the call. Any moment is allowed.
+    ///
+    /// ```rust
+    /// let Some(token) = device.transmit(now) else {
+    ///     return false;
+    /// };
+    /// let sent = device.send(token, bytes.len(), |buffer| buffer.copy_from_slice(bytes));
+    /// ```
     fn transmit(&mut self, timestamp: Instant) -> Option<Self::TxToken>
         ensures none { IfNone result (is_busy self.old) }
         ensures some { IfSome result (λ _. is_free self.old) }
@@ -81,6 +95,11 @@ pub trait Device {
     /// If memory is refused, which happens only if `lacks_memory` holds of the device and `len`, as
     /// the device states it, `f` is dropped without a call (hence its bound `Drop`), and the device
     /// stays as it was. The token is spent in both cases.
+    ///
+    /// ```rust
+    /// let frame = rx.frame();
+    /// to.send(token, frame.len(), |buffer| buffer.copy_from_slice(frame))?;
+    /// ```
     ///
     /// # Requires
     ///

@@ -217,6 +217,11 @@ impl Duration {
     }
 
     /// Returns the product, or the greatest length if it is none.
+    ///
+    /// ```rust
+    /// self.timeout = self.timeout.saturating_mul(2);
+    /// self.deadline = now.saturating_add(self.timeout);
+    /// ```
     pub fn saturating_mul(self, rhs: u32) -> Duration
         ensures { result ≡ min (self * rhs) (2 ^ 64 - 1) }
     {

@@ -178,6 +178,11 @@ impl Instant {
     }
 
     /// Returns the moment so much later, or the last one if there is none.
+    ///
+    /// ```rust
+    /// self.timeout = self.timeout.saturating_mul(2);
+    /// self.deadline = now.saturating_add(self.timeout);
+    /// ```
     pub fn saturating_add(&self, duration: Duration) -> Instant
         ensures exact { IsMoment (self.now +ℤ pos duration) → result ≡ self.now +ℤ pos duration }
         ensures last { (IsMoment (self.now +ℤ pos duration) → ⊥) → result ≡ pos (2 ^ 63 - 1) }

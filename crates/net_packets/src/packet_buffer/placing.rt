@@ -23,6 +23,11 @@ impl<H: Drop, M: Storage<PacketMetadata<H>>, B: Storage<u8>> PacketsOver<H, M, B
     /// free, or a slot is missing for the packet or its gap. An empty queue begins at the storage's
     /// beginning. With `last_mut` this is [`PacketsOver::enqueue`] in two steps, whose effects
     /// callers know exactly.
+    ///
+    /// ```rust
+    /// queue.place(bytes.len(), header)?;
+    /// queue.last_mut().copy_from_slice(bytes);
+    /// ```
     pub fn place(&mut self, size: usize, header: H) -> Result<(), Full>
         ensures accepted { OnOk result ((ws : List ℕ) → length ws ≡ size
             → contents (with_last_bytes self.new ws) ≡ contents self.old ++ (header, ws) ∷ []) }

@@ -32,6 +32,11 @@ impl<H: Drop, M: Storage<PacketMetadata<H>>, B: Storage<u8>> PacketsOver<H, M, B
     /// and returns its header and how many bytes were copied. Bytes that don't fit are lost.
     ///
     /// Returns `Empty`, and changes nothing, if the queue has no packets. smoltcp has no such call.
+    ///
+    /// ```rust
+    /// let (from, count) = self.inbound.pop_slice(into)?;
+    /// Ok((count, from))
+    /// ```
     pub fn pop_slice(&mut self, into: &mut [u8]) -> Result<(H, usize), Empty>
         ensures empty { IsErr result ↔ (contents self.old ≡ []) }
         ensures popped { IfOk result

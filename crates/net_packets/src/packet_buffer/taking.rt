@@ -20,6 +20,12 @@ impl<H: Drop, M: Storage<PacketMetadata<H>>, B: Storage<u8>> PacketsOver<H, M, B
     /// Shows the header and the bytes of the first packet, and drops its gap.
     ///
     /// Returns `Empty`, and changes nothing, if the queue has no packets.
+    ///
+    /// ```rust
+    /// let (header, bytes) = queue.peek()?;
+    /// let count = copy(into, bytes);
+    /// Ok((count, *header))
+    /// ```
     pub fn peek(&mut self) -> Result<(&H, &[u8]), Empty>
         ensures* skips { sem 𝓛 (ends_as H.row M.row B.row M.Storage B.Storage
             self.entry (without_gap self.old)) }
@@ -41,6 +47,12 @@ impl<H: Drop, M: Storage<PacketMetadata<H>>, B: Storage<u8>> PacketsOver<H, M, B
     ///
     /// Returns `Empty`, and changes nothing, if the queue has no packets. With `last_dequeued_mut`
     /// this is [`PacketsOver::dequeue`] in two steps, whose effects callers know exactly.
+    ///
+    /// ```rust
+    /// let (_header, size) = queue.take()?;
+    /// let bytes = queue.last_dequeued_mut(size);
+    /// bytes.fill(0);
+    /// ```
     pub fn take(&mut self) -> Result<(H, usize), Empty>
         ensures empty { IsErr result ↔ (contents self.old ≡ []) }
         ensures taken { IfOk result

@@ -20,6 +20,13 @@ impl<'a, const N: usize> Receiver<'a, N> {
     ///
     /// Like those of `segment`, the clauses `state`, `count` and `into` say it by what is stored,
     /// `step` by kept lists, and `receives` and `bytes` by the stream of the segments.
+    ///
+    /// ```rust
+    /// if Receiver::<4>::fits(pos, payload.len()) {
+    ///     let _accepted = receiver.segment(pos, payload).is_ok();
+    /// }
+    /// receiver.read(into)
+    /// ```
     pub fn read(&mut self, into: &mut [u8]) -> usize
         ensures state { self.new ≡ receiver_after_read self.old (length into.old) }
         ensures count { result ≡ min (length into.old) (length self.old.queue) }

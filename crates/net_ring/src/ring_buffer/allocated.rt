@@ -30,6 +30,10 @@ impl<T, S: Storage<T>> RingOver<T, S> {
     /// contiguous.
     ///
     /// None if `offset` is past the queue.
+    ///
+    /// ```rust
+    /// ring.get_allocated(at, 1).first().copied()
+    /// ```
     pub fn get_allocated(&self, offset: usize, size: usize) -> &[T]
         ensures count { length result.now ≡ contiguous_queued_from self.now offset size }
         ensures not_empty { offset < self.now.count → 0 < size → 0 < length result.now }
@@ -50,6 +54,11 @@ impl<T, S: Storage<T>> RingOver<T, S> {
     /// its beginning on. The second part is empty unless the queue wraps.
     ///
     /// An addition to smoltcp's calls, as std's `VecDeque` has it.
+    ///
+    /// ```rust
+    /// let (first, second) = ring.as_slices();
+    /// newline_in(first, second)
+    /// ```
     pub fn as_slices(&self) -> (&[T], &[T])
         ensures queue { result.0.now ++ result.1.now ≡ queue self.now }
         ensures cut { length result.0.now ≡ contiguous_queued self.now }

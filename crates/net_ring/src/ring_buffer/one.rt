@@ -124,6 +124,13 @@ impl<T, S: Storage<T>> RingOver<T, S> {
     /// Dequeues the first element of the queue, and lends it.
     ///
     /// An empty ring returns `Empty` and stays as it is.
+    ///
+    /// ```rust
+    /// match ring.dequeue_one() {
+    ///     Ok(descriptor) => Some(*descriptor),
+    ///     Err(Empty) => None,
+    /// }
+    /// ```
     pub fn dequeue_one(&mut self) -> Result<&mut T, Empty>
         ensures* writes_back { sem 𝓛 (lends_one_if T.row S.row S.Storage self.entry
             (with_dequeued 1 self.old) self.old.read_at result) }

@@ -14,6 +14,11 @@ impl<T: Copy, S: Storage<T>> RingOver<T, S> {
     ///
     /// An empty ring first moves its read index to the storage's beginning, also if nothing is
     /// enqueued.
+    ///
+    /// ```rust
+    /// let count = ring.enqueue_slice(bytes);
+    /// bytes.len() - count
+    /// ```
     pub fn enqueue_slice(&mut self, data: &[T]) -> usize
         ensures count { result ≡ min (length «data».now) (window self.old) }
         ensures ring { let g = from_start_if_empty self.old in self.new
@@ -32,6 +37,11 @@ impl<T: Copy, S: Storage<T>> RingOver<T, S> {
 
     /// Dequeues as many elements as `data` has room for and are queued, copies them to the beginning
     /// of `data`, and returns how many. The rest of `data` stays as it is.
+    ///
+    /// ```rust
+    /// ring.dequeue_slice(&mut into[..length + 1]);
+    /// Some(length)
+    /// ```
     pub fn dequeue_slice(&mut self, data: &mut [T]) -> usize
         ensures count { result ≡ min (length «data».old) self.old.count }
         ensures of_queue { result ≡ min (length «data».old) (length (queue self.old)) }

@@ -30,6 +30,13 @@ impl<T, S: Storage<T>> RingOver<T, S> {
     /// Lends at most `size` free elements from the one at `offset` on: as many as are contiguous.
     ///
     /// None if `offset` is past the window. The number of queued elements stays the same.
+    ///
+    /// ```rust
+    /// if ring.contiguous_unallocated(offset, 1) == 0 {
+    ///     return false;
+    /// }
+    /// ring.get_unallocated(offset, 1)[0] = byte;
+    /// ```
     pub fn get_unallocated(&mut self, offset: usize, size: usize) -> &mut [T]
         ensures* writes_back { sem 𝓛 (lends_many T.row S.row S.Storage self.entry
             self.old (spare_index self.old offset) result) }

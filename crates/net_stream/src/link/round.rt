@@ -28,6 +28,11 @@ impl<'a, 'f, A: Allocator + Copy> Link<'a, 'f, A> {
     /// Then the burst is halved if there are as many SACK blocks as an acknowledgement has room
     /// for, and otherwise it grows by so many. A refusal of memory ends the round where it was, and
     /// leaves the burst.
+    ///
+    /// ```rust
+    /// link.pass_round()?;
+    /// link.advance(Duration::from_millis(10));
+    /// ```
     pub fn pass_round(&mut self) -> Result<(), AllocError>
         ensures state { OnOk result (self.new ≡ round self.old) }
         ensures err { OnErr result (StopsRound self.old self.new) }
