@@ -13,7 +13,7 @@ pub fn line_end(ring: &RingBuffer<'_, u8>) -> Option<usize>
     newline_in(first, second)
 }
 
-/// Returns the offset of the first newline in two parts, one after the other.
+/// Returns the offset of the first newline in two parts, the second of which follows the first.
 fn newline_in(first: &[u8], second: &[u8]) -> Option<usize>
     requires { length first.now + length second.now < 2 ^ 64 }
     ensures { result ≡ position (λ byte. byte == 10) (first.now ++ second.now) }
@@ -25,14 +25,14 @@ fn newline_in(first: &[u8], second: &[u8]) -> Option<usize>
 }
 
 /// Takes the first line off, with its newline, and copies both to `into`. Returns the length of the
-/// line. `None`, and nothing changes, exactly if there is no newline, or `into` has no room for the
-/// line.
+/// line. Returns `None`, and changes nothing, exactly if there is no newline, or `into` has no room
+/// for the line and its newline.
 pub fn take_line(ring: &mut RingBuffer<'_, u8>, into: &mut [u8]) -> Option<usize>
     ensures line { IfSome result (λ n. (position (λ byte. byte == 10) (queue ring.old) ≡ Some n)
         × (n < length into.old)
         × (into.new ≡ take (n + 1) (queue ring.old) ++ drop (n + 1) into.old)
         × (queue ring.new ≡ drop (n + 1) (queue ring.old))) }
-    ensures none { IfNone result ((ring.new ≡ ring.old) × (into.new ≡ into.old)
+    ensures unchanged { IfNone result ((ring.new ≡ ring.old) × (into.new ≡ into.old)
         × ((n : ℕ) → position (λ byte. byte == 10) (queue ring.old) ≡ Some n
         → length into.old ≤ n)) }
 {
