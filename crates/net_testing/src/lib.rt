@@ -1,5 +1,5 @@
-//! What tests of other crates share: memory that is refused at one known request, and readers and
-//! writers over memory that give and take little, and that fail at one known call.
+//! Code that the tests of other crates share: memory that is refused at one known request, and
+//! readers and writers over memory that move few bytes a call and fail at one known call.
 #![tactic(auto)]
 
 mod refusals;

@@ -1,8 +1,9 @@
+//! An allocator that counts requests, and refuses one.
 use crate::requests::Requests;
 use std::alloc::{AllocError, Allocator, Global};
 
-/// An allocator that counts the requests for memory and their bytes, and what is given back, and
-/// refuses exactly one of the requests.
+/// An allocator that counts the requests for memory, their bytes and the bytes that are given back,
+/// and refuses exactly one of the requests.
 ///
 /// Each growth of a list is a request too, and a list whose growth is refused stays as it was. A
 /// `&Refusing` is an allocator that can be copied.
@@ -12,7 +13,8 @@ pub struct Refusing<A: Allocator = Global> {
 }
 
 impl<A: Allocator> Refusing<A> {
-    /// Memory of `alloc`, except for request number `refused`, counted from 0.
+    /// Returns an allocator that takes memory from `alloc`, and refuses request number `refused`,
+    /// counted from 0.
     pub fn new(alloc: A, refused: usize) -> Refusing<A> {
         Refusing {
             inner: alloc,
@@ -20,25 +22,25 @@ impl<A: Allocator> Refusing<A> {
         }
     }
 
-    /// How many requests there were, with the one that was refused.
+    /// Returns how many requests there were, including the one that was refused.
     pub fn requests(&self) -> usize {
         self.requests.count()
     }
 
-    /// How many bytes the requests asked for in all, those of the one that was refused included. A
-    /// growth of a list asks for all bytes of its new room.
+    /// Returns how many bytes the requests asked for in all, including those of the one that was
+    /// refused. A growth of a list asks for all bytes of its new room.
     pub fn bytes(&self) -> usize {
         self.requests.bytes()
     }
 
-    /// How many bytes of the requests that weren't refused were not given back: 0 once all that was
-    /// made of this memory is dropped.
+    /// Returns how many of the granted bytes were not given back: 0 once everything made of this
+    /// memory is dropped.
     pub fn live(&self) -> usize {
         self.requests.live()
     }
 
-    /// The most bytes that weren't given back at once. While a list grows, its old room and its new
-    /// one both count.
+    /// Returns the most bytes that were granted and not given back at one time. While a list grows,
+    /// its old room and its new one both count.
     pub fn most(&self) -> usize {
         self.requests.most()
     }

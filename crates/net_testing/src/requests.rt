@@ -1,7 +1,8 @@
+//! The counts of an allocator.
 use std::cell::Cell;
 
-/// The requests for memory so far, their bytes, how many of these weren't given back, and the number
-/// of the request to refuse.
+/// The counts of an allocator: its requests, their bytes, how many of these are not given back, the most there
+/// were at one time, and the number of the request to refuse.
 #[derive(Drop)]
 pub struct Requests {
     made: Cell<usize>,
@@ -12,7 +13,7 @@ pub struct Requests {
 }
 
 impl Requests {
-    /// None so far.
+    /// Returns the counts before any request.
     pub fn new(refused: usize) -> Requests {
         Requests {
             made: Cell::new(0),
@@ -23,27 +24,27 @@ impl Requests {
         }
     }
 
-    /// How many requests there were.
+    /// Returns how many requests there were.
     pub fn count(&self) -> usize {
         self.made.get()
     }
 
-    /// How many bytes they asked for in all.
+    /// Returns how many bytes they asked for in all.
     pub fn bytes(&self) -> usize {
         self.asked.get()
     }
 
-    /// How many bytes of those that were granted weren't given back.
+    /// Returns how many of the granted bytes were not given back.
     pub fn live(&self) -> usize {
         self.live.get()
     }
 
-    /// The most bytes that weren't given back at once.
+    /// Returns the most bytes that were granted and not given back at one time.
     pub fn most(&self) -> usize {
         self.most.get()
     }
 
-    /// Counts one more, of so many bytes, and returns whether it is the one to refuse.
+    /// Counts a request of so many bytes, and returns whether it is the one to refuse.
     pub fn refuses_next(&self, size: usize) -> bool {
         let number = self.made.get();
         self.made.set(number.saturating_add(1));

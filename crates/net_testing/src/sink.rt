@@ -1,3 +1,4 @@
+//! A writer to memory that can fail.
 ghost use Rattle.std.specs.Prelude.{◌≡◌, [], None, Some, IfOk};
 
 use crate::source::NEVER;
@@ -6,8 +7,8 @@ use std::io;
 use std::io::{ErrorKind, Write};
 
 /// A writer to memory. It takes at most `bytes_per_call` bytes a call. Its call number
-/// `failing_call`, counted from 0, fails with an error of this kind, or takes no byte if there is
-/// none. Each flush fails with an error of the kind `flush_kind`, if there is one.
+/// `failing_call`, counted from 0, fails with an error of its kind, or takes no byte if it has no
+/// kind. Each flush fails with an error of the kind `flush_kind`, if there is one.
 #[derive(Drop)]
 pub struct Sink {
     /// The bytes that were taken.
@@ -22,7 +23,7 @@ pub struct Sink {
     pub kind: Option<ErrorKind>,
     /// How many flushes there were.
     pub flushes: usize,
-    /// How many bytes had been taken at the last of them.
+    /// How many bytes had been taken at the last flush.
     pub flushed: usize,
     /// The kind of the error of each flush, if they fail.
     pub flush_kind: Option<ErrorKind>,

@@ -1,17 +1,17 @@
+//! A reader over memory that can fail.
 ghost use Rattle.std.specs.Prelude.{◌≡◌, Some};
 
 use std::io;
 use std::io::{ErrorKind, Read};
 
-/// The number of a call that never comes.
+/// The number of a call that is never made.
 pub const NEVER: usize = usize::MAX;
 
-/// A reader over bytes. It gives at most `bytes_per_call` bytes a call, and one if that is 0. Its
-/// call number `failing_call`, counted from 0, fails with an error of this kind, and no other call
-/// does.
+/// A reader over bytes. It gives at most `bytes_per_call` bytes a call, and one if that is 0. Only
+/// its call number `failing_call`, counted from 0, fails, with an error of its kind.
 #[derive(Drop)]
 pub struct Source<'a> {
-    /// The bytes that weren't read yet.
+    /// The bytes that are not yet read.
     pub bytes: &'a [u8],
     /// The most bytes that a call gives.
     pub bytes_per_call: usize,
