@@ -27,8 +27,8 @@ pub use turns::Turns;
 /// A finite set of present positions, such as those of a stream whose segments arrive out of order,
 /// in at most `N` maximal runs.
 ///
-/// It serves to put data together that arrives in any order: it says up to which position all has
-/// arrived.
+/// It serves to reassemble data that arrives in any order: it says up to which position everything
+/// has arrived.
 ///
 /// Positions are counted from 0. A maximal run is a range of present positions that no
 /// other present position touches. Two assemblers are equal exactly if their sets are.
@@ -109,8 +109,8 @@ impl<const N: usize> Assembler<N> {
         self.runs.is_empty()
     }
 
-    /// Returns whether `offset + size` fits `usize`, which all calls that add a range require. It
-    /// isn't in smoltcp, where such a sum overflows.
+    /// Returns whether `offset + size` fits `usize`, which all calls that add a range require.
+    /// smoltcp has no such call; there such a sum overflows.
     #[inline]
     pub fn fits(offset: usize, size: usize) -> bool
         ensures { IsTrue result ↔ RangeFits offset size }
@@ -120,9 +120,9 @@ impl<const N: usize> Assembler<N> {
 
     /// Adds the positions from `offset` to `offset + size - 1`; none if `size` is 0.
     ///
-    /// It is refused, and the set stays as it was, exactly if the set with these positions has more
-    /// than `N` maximal runs: never while there are fewer than `N`. Ranges that only touch are one
-    /// run.
+    /// The range is refused, and the set stays as it was, exactly if the set with these positions
+    /// would have more than `N` maximal runs: never while there are fewer than `N`. Ranges that
+    /// only touch form one run.
     ///
     /// ```rust
     /// assembler.add(offset, size)?;
@@ -146,7 +146,7 @@ impl<const N: usize> Assembler<N> {
     }
 
     /// Adds a range as `add` does, and counts each iteration of a loop: a move if it moves a run,
-    /// otherwise a look. It isn't in smoltcp.
+    /// otherwise a look. smoltcp has no such call.
     ///
     /// Looks rise by at most twice the number of binary digits of `N`, which is 3 for 4 and 6 for
     /// 32, moves by at most `N`, and both together by at most `4 * N`. Neither count falls.
@@ -195,7 +195,7 @@ impl<const N: usize> Assembler<N> {
     /// Removes the front as `remove_front` does, and counts each iteration of a loop as
     /// `add_counted` does.
     ///
-    /// Moves rise by at most `N`, and by none if no run is removed. There are no looks.
+    /// Moves rise by at most `N`, and by 0 if no run is removed. There are no looks.
     #[inline(always)]
     pub(crate) fn remove_front_counted(&mut self, turns: &mut Turns) -> usize
         ensures length { result ≡ front self.old }
@@ -242,8 +242,8 @@ impl<const N: usize> Assembler<N> {
     /// iteration of a loop as `add_counted` does.
     ///
     /// Looks rise by at most twice the number of binary digits of `N`, moves by at most `2 * N`.
-    /// Data that comes next takes no iteration, however many runs wait, unless one of them is
-    /// removed.
+    /// Data that is next in order takes no iteration, however many runs there are, unless one of
+    /// them is removed.
     ///
     /// # Requires
     ///
@@ -270,8 +270,9 @@ impl<const N: usize> Assembler<N> {
         if offset == 0 {
             return Ok(self.runs.complete_front(size, turns));
         }
-        // Position 0 is missing and stays so: nothing is removed. This is most data that comes too
-        // early; one comparison then says that, and that the range doesn't begin before the runs.
+        // Position 0 is missing and stays missing, so nothing is removed. This is the case of most
+        // data that arrives too early; one comparison tells it, and that the range doesn't begin
+        // before the runs.
         if self.runs.waits_before(offset) {
             self.add_counted(offset, size, turns)?;
             return Ok(0);
@@ -281,9 +282,10 @@ impl<const N: usize> Assembler<N> {
     }
 
     /// Returns the maximal run with number `k`, counted from 0 in rising order, as (start, end),
-    /// the end not included; None exactly if there are no more than `k`. It isn't in smoltcp.
+    /// the end not included; `None` exactly if there are no more than `k`. smoltcp has no such
+    /// call.
     ///
-    /// It takes no memory, and is one read of an array.
+    /// It takes no memory, and reads an array once.
     pub fn run_at(&self, k: usize) -> Option<(usize, usize)>
         ensures run { result ≡ slice_get (maximal_runs self.now) k }
         ensures some { IfSome result (λ r. r.0 < r.1) }
@@ -291,7 +293,7 @@ impl<const N: usize> Assembler<N> {
         self.runs.run_at(k)
     }
 
-    /// Returns whether `position` is present. It isn't in smoltcp.
+    /// Returns whether `position` is present. smoltcp has no such call.
     pub fn contains(&self, position: usize) -> bool
         ensures { result ≡ contains self.now position }
     {

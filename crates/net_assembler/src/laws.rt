@@ -1,8 +1,8 @@
 //! Laws whose premises are equations, as the contracts of calls state them, and what follows at one
 //! position.
 //!
-//! Each function does nothing. A law of `assembler::laws` is on `with_range s o n` itself; a law
-//! here is on any set that is equal to it, such as one in a field after a call.
+//! Each function does nothing. A law of `assembler::laws` is about `with_range s o n` itself; a law
+//! here is about any set that is equal to it, such as a field after a call.
 ghost use Rattle.std.specs.Prelude.{◌≡◌, ◌+◌, ◌||◌, ℕ, List};
 ghost use Rattle.std.specs.List.Sorted.{IsPermutation};
 ghost use Rattle.net_assembler.specs.Positions.{Positions, contains, with_range, lies_in, front};
@@ -19,8 +19,8 @@ pub fn member_after_with_range()
     members();
 }
 
-/// States that `remove_front` twice returns 0 the second time: no position is missing below the
-/// first missing one, and once as many are removed the first position is missing.
+/// States that a second `remove_front` in a row returns 0: no position is missing below the first
+/// missing one, and once as many positions are removed, position 0 is missing.
 pub fn front_after_remove_front()
     ensures { (s t : Positions) → t ≡ shift_down s (front s) → front t ≡ 0 }
 {

@@ -1,4 +1,4 @@
-//! The assembler of data that comes out of order, and finite sets of positions.
+//! The assembler of data that arrives out of order, and finite sets of positions.
 #![tactic(auto)]
 
 pub mod assembler;

@@ -43,7 +43,7 @@ impl Rand {
         Rand { state: seed }
     }
 
-    /// Goes on to the next state, and returns its random word.
+    /// Steps to the next state, and returns its random word.
     pub fn rand_u32(&mut self) -> u32
         ensures state { self.new ≡ successor self.old }
         ensures value { result ≡ random_word self.new }
@@ -57,8 +57,8 @@ impl Rand {
         ((state >> shift) & 0xffff_ffff) as u32
     }
 
-    /// Goes on to the next state, and returns its draw of 16 bits: the two halves of its random word,
-    /// combined by exclusive or.
+    /// Steps to the next state, and returns its draw of 16 bits: the two halves of its random word, combined by
+    /// exclusive or.
     pub fn rand_u16(&mut self) -> u16
         ensures state { self.new ≡ successor self.old }
         ensures value { result ≡ draw self.new }
@@ -67,7 +67,7 @@ impl Rand {
         ((n ^ (n >> 16)) & 0xffff) as u16
     }
 
-    /// Goes on to the next state, and returns a number below `bound`: the part of `bound` that its
+    /// Steps to the next state, and returns a number below `bound`: the part of `bound` that its
     /// random word is of 2^32, rounded down; 0 if `bound` is 0. Each number below `bound` is the
     /// result for equally many words, or for one more. smoltcp has no such call.
     pub fn below(&mut self, bound: u32) -> u32
@@ -80,10 +80,11 @@ impl Rand {
         (word * u64::from(bound) >> 32) as u32
     }
 
-    /// Draws 16 bits until a draw is above 1024, returns that draw, and stays at its state.
+    /// Draws 16 bits until a draw is above 1024, and returns that draw. The generator stays at that
+    /// draw's state.
     ///
     /// It returns from every state, after at most 2^64 draws: by `laws::full_period` each state
-    /// leads to every state, so also to one whose draw is above 1024.
+    /// leads to every state, including one whose draw is above 1024.
     pub fn rand_source_port(&mut self) -> u16
         ensures { IsPort self.old result self.new }
     {

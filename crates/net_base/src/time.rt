@@ -9,5 +9,5 @@ pub use duration::Duration;
 pub use instant::Instant;
 pub use optional::{earlier, earliest};
 
-/// The bytes of the longest text, that of the first moment.
+/// The length of the longest text, that of the first moment, in bytes.
 const LONGEST_TEXT: usize = 20;

@@ -31,7 +31,7 @@ const ADDING: [Entry<Adding>; 3] = [
     ("add_then_remove_front", 2, Adding::AddThenRemoveFront),
 ];
 
-/// Any other call but those of text and clone.
+/// Any other call, except those of text and clone.
 #[derive(Clone, Copy)]
 enum Kind {
     RemoveFront,
@@ -109,8 +109,8 @@ impl<const N: usize> Subject for Pair<N> {
         Ok(None)
     }
 
-    /// Shows the front; whether the assembler is empty; how many runs it has; the first two of them,
-    /// the second in front; and the digest of all runs, of all by their numbers, and of the text.
+    /// Shows the front; whether the assembler is empty; how many runs it has; the first two of them, the second
+    /// one first; and the digest of all runs, of all by their numbers, and of the text.
     fn show(&mut self, alloc: Global) -> Result<Reply, AllocError> {
         let text = self.now.to_string(alloc)?;
         let (count, sum) = all_runs(&self.now);
@@ -159,7 +159,7 @@ fn equal<const N: usize>(own: &Assembler<N>, other: &Assembler<N>) -> Reply {
     Reply::new().truth(*own == *other).truth(*own != *other)
 }
 
-/// Adds a range, where a condition allows it.
+/// Adds a range, if a condition allows it.
 fn add<const N: usize>(
     assembler: &mut Assembler<N>,
     adding: Adding,

@@ -14,8 +14,8 @@ use crate::words;
 use net_base::rand::Rand;
 use std::alloc::{AllocError, Global};
 
-/// Appends the replies to blocks of lines, which are parted by an empty line, up to the first line that
-/// asks for no call.
+/// Appends the replies to blocks of lines, which are separated by an empty line, up to the first line that asks
+/// for no call.
 pub fn answer_blocks(alloc: Global, text: &str, replies: &mut String) -> Result<(), CaseError> {
     for (number, block) in text.split("\n\n").enumerate() {
         if number > 0 {
@@ -102,7 +102,8 @@ fn receive(
     }
 }
 
-/// Makes the calls of lines on a subject. Each reply is what the call gave, and what can be seen then.
+/// Makes the calls of lines on a subject. Each reply is the result of the call, and what can be seen of the
+/// subject then.
 fn play<S: Subject>(
     alloc: Global,
     subject: &mut S,

@@ -2,8 +2,7 @@
 use net_cli::number;
 use std::alloc::{AllocError, Global};
 
-/// A call: its name, and the numbers after it. A number below zero is written for the sum of it and
-/// 2^64.
+/// A call: its name, and the numbers after it. A number below zero stands for its sum with 2^64.
 #[derive(Drop)]
 pub struct Call<'a> {
     pub name: &'a str,
@@ -11,8 +10,8 @@ pub struct Call<'a> {
 }
 
 impl<'a> Call<'a> {
-    /// Returns the call that a line asks for: words parted by a space, of which all but the first
-    /// are numbers. `None` if one is not.
+    /// Returns the call that a line asks for: words separated by a space, of which all except the
+    /// first are numbers. `None` if one is not.
     pub fn of_line(alloc: Global, line: &'a str) -> Result<Option<Call<'a>>, AllocError> {
         let (name, rest) = first_word(line);
         let mut numbers = Vec::new(alloc);
@@ -67,7 +66,7 @@ fn signed(word: &str) -> Option<u64> {
 /// A call's name, how many numbers it has, and what it is.
 pub type Entry<T> = (&'static str, usize, T);
 
-/// As the number of a call's numbers: any.
+/// Any number of a call's numbers.
 pub const ANY: usize = usize::MAX;
 
 /// Returns the entry of a table that has a call's name and as many numbers.

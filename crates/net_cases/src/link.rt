@@ -19,7 +19,7 @@ pub fn answer(alloc: Global, rest: &str, reply: &mut String) -> Result<bool, All
     Ok(true)
 }
 
-/// Returns the words of a line, which are parted by a space.
+/// Returns the words of a line, which are separated by a space.
 fn words_of(alloc: Global, line: Option<&str>) -> Result<Vec<String>, AllocError> {
     let mut words = Vec::new(alloc);
     let Some(line) = line else {
@@ -31,7 +31,7 @@ fn words_of(alloc: Global, line: Option<&str>) -> Result<Vec<String>, AllocError
     Ok(words)
 }
 
-/// Runs the program over memory, and appends what comes of it.
+/// Runs the program over memory, and appends its results.
 fn serve_words(
     alloc: Global,
     words: &[String],

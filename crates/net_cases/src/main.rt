@@ -1,7 +1,7 @@
 //! Makes the calls that blocks of lines of standard input ask for, and writes what each of them gave.
 //!
-//! Blocks are parted by an empty line. The first line of a block makes what the calls of its other lines
-//! are made on, as `ring 4 7`; a line has a call's name and its numbers, and its reply is one line. The
+//! Blocks are separated by an empty line. The first line of a block, such as `ring 4 7`, makes the subject of
+//! the calls of its other lines; a line has a call's name and its numbers, and its reply is one line. The
 //! folder `model` draws the blocks and says what the replies are.
 #![tactic(auto)]
 

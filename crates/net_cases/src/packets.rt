@@ -123,7 +123,7 @@ fn enqueue(queue: &mut Packets, size: usize, header: u32, seed: u64) -> Reply {
     }
 }
 
-/// Writes over what a closure is lent, of which at most so many bytes are kept; what was lent is left in
+/// Writes over the bytes that a closure is lent, of which at most so many are kept, and leaves the old ones in
 /// `lent`.
 fn keep_part(part: &mut [u8], count: usize, seed: u64, lent: &mut Part) -> usize
     ensures { result ≤ length part.old }
@@ -191,7 +191,7 @@ fn dequeue(queue: &mut Packets, seed: u64) -> Reply {
     }
 }
 
-/// Writes over what a closure is handed, and returns what it was, as `Ok` or as `Err`.
+/// Writes over the packet that a closure is handed, and returns what it was, as `Ok` or as `Err`.
 fn turn(
     header: &mut u32,
     bytes: &mut [u8],

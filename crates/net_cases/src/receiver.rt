@@ -38,7 +38,7 @@ const READS: [Entry<Copying>; 2] = [
     ("peek_slice", 2, Copying::PeekSlice),
 ];
 
-/// Any other call but those with commands.
+/// Any other call, except those with commands.
 #[derive(Clone, Copy)]
 enum Kind {
     ReadWith,
@@ -160,7 +160,7 @@ fn all_held<const N: usize>(receiver: &Receiver<'_, N>) -> (usize, u64) {
     (count, sum)
 }
 
-/// Returns a reply with a run behind it, counted from a first position, if there is one.
+/// Returns the reply followed by a run, counted from a first position, if there is one.
 fn show_run(run: Option<(u64, u64)>, first: u64, reply: Reply) -> Reply {
     match run {
         Some((start, end)) => {
@@ -237,7 +237,7 @@ fn same_state<const N: usize>(own: &Receiver<'_, N>, other: &Receiver<'_, N>) ->
 }
 
 /// Returns the command of four numbers: 0, a position, a size and what bytes represent; 1 and a
-/// count; or else `Show`. A segment that ends beyond the last position is `Show` too.
+/// count; otherwise `Show`. A segment that ends beyond the last position is `Show` too.
 fn command_of(alloc: Global, numbers: &[u64]) -> Result<Command, AllocError>
     ensures { IfOk result CommandFits }
 {

@@ -19,9 +19,9 @@ pub enum Part {
     Signed(i64),
     /// A digest.
     Digest(u64),
-    /// So many bytes, by the number that they write, the first byte in front.
+    /// So many bytes, by the number that they write, the first byte the most significant.
     Bytes(usize, u64),
-    /// So many, by their digest.
+    /// So many bytes, by their digest.
     Many(usize, u64),
     /// A run, the end not included.
     Run(u64, u64),
@@ -76,7 +76,7 @@ impl Reply {
         self.and(shown(bytes))
     }
 
-    /// Appends the parts, parted by a space.
+    /// Appends the parts, separated by a space.
     pub fn append_to(&self, text: &mut String) -> Result<(), AllocError> {
         for (number, part) in self.parts.iter().take(self.count).enumerate() {
             if number > 0 {

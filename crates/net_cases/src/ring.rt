@@ -195,8 +195,8 @@ fn dequeue_one_with(ring: &mut Bytes, byte: u8, keeps: bool) -> Reply {
     }
 }
 
-/// Writes over what a closure is lent, of which at most so many are counted, and returns that count and what
-/// was lent.
+/// Writes over the elements that a closure is lent, of which at most so many are counted, and returns that
+/// count and the old elements.
 fn take_part(part: &mut [u8], size: usize, seed: u64) -> (usize, Part)
     ensures { result.0 ≤ length part.old }
 {

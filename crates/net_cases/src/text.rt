@@ -10,7 +10,7 @@ use net_script::BenchError;
 use std::alloc::{AllocError, Global};
 use std::fmt::Display;
 
-/// What texts are made of is in the line.
+/// The subject of calls that make texts. Everything that a text is made of is in the line.
 #[derive(Drop)]
 pub struct Texts;
 

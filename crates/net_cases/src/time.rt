@@ -10,7 +10,7 @@ use crate::subject::Subject;
 use std::alloc::{AllocError, Global};
 use std::cmp::Ordering;
 
-/// What these calls are made on is in the line.
+/// The subject of these calls. Everything that a call needs is in the line.
 #[derive(Drop)]
 pub struct Times;
 

@@ -34,7 +34,7 @@ fn answer_mode(alloc: Global, words: &str, reply: &mut String) -> Result<bool, A
     Ok(true)
 }
 
-/// Returns the mode that words name, which are parted by a space.
+/// Returns the mode that words name, which are separated by a space.
 fn mode_of(alloc: Global, words: &str) -> Result<Option<Mode>, AllocError> {
     let mut list = Vec::new(alloc);
     for word in words.split(' ') {
@@ -43,8 +43,8 @@ fn mode_of(alloc: Global, words: &str) -> Result<Option<Mode>, AllocError> {
     Ok(Mode::from_words(&list))
 }
 
-/// Executes the lines after the colon in the mode that the words before it name, and appends what is
-/// written, and how it ends. A line feed is written as `;`, in the lines and in what is written.
+/// Executes the lines after the colon in the mode that the words before it name, and appends what is written,
+/// and how it ends. A line feed is written as `;`, in the lines and in the output.
 fn answer_run(alloc: Global, rest: &str, reply: &mut String) -> Result<bool, AllocError> {
     let (words, lines) = rest.split_once(':').unwrap_or((rest, ""));
     match mode_of(alloc, words)? {
@@ -67,7 +67,7 @@ fn run_lines(alloc: Global, mode: Mode, lines: &str, reply: &mut String) -> Resu
     }
 }
 
-/// Writes one byte wherever another one is.
+/// Writes one byte over each occurrence of another.
 fn exchange(bytes: &mut [u8], from: u8, to: u8) {
     for byte in bytes.iter_mut() {
         if *byte == from {

@@ -1,4 +1,4 @@
-//! What holds of all values of how a program ends. No function here does anything.
+//! Laws of how a program ends. No function here does anything.
 ghost use Rattle.std.specs.Prelude.{◌≡◌, ◌↔◌, IsTrue};
 
 use crate::status::{Ended, Status};
@@ -14,12 +14,12 @@ pub fn status_clone(status: &Status, clone: &Status)
     ensures never_refused { ⟦<Status as Clone>⟧.is_infallible status.now }
 {}
 
-/// States that two ends of a program are equal exactly if they are the same.
+/// States that two values of `Ended` are equal exactly if they are the same.
 pub fn ended_equality(x: &Ended, y: &Ended)
     ensures { IsTrue (⟦<Ended as PartialEq>⟧.eq x.now y.now) ↔ (x.now ≡ y.now) }
 {}
 
-/// States that a clone of how a program ended is the same, and is never refused.
+/// States that a clone of an `Ended` is the same, and is never refused.
 pub fn ended_clone(ended: &Ended, clone: &Ended)
     ensures same { ⟦<Ended as Clone>⟧.is_clone ended.now clone.now → clone.now ≡ ended.now }
     ensures never_refused { ⟦<Ended as Clone>⟧.is_infallible ended.now }

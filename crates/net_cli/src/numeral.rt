@@ -2,15 +2,16 @@
 ghost use Rattle.std.specs.Prelude.{◌≡◌};
 ghost use Rattle.net_cli.specs.Numeral.{begins_numeral, number_of};
 
-/// Returns whether a word has a byte, and the first is above the digit 0 unless it is the only one.
+/// Returns whether a word isn't empty, and its first byte is above the digit 0 unless it is the
+/// only one.
 fn begins_numeral(word: &[u8]) -> bool
     ensures { result ≡ begins_numeral word.now }
 {
     !word.is_empty() && (word[0] > b'0' || word.len() == 1)
 }
 
-/// Returns the number that a word is in decimal digits, if it is a numeral and the number fits 64
-/// bits.
+/// Returns the number that a word writes in decimal digits, if it is a numeral and the number fits
+/// 64 bits.
 pub fn number(word: &[u8]) -> Option<u64>
     ensures { result ≡ number_of word.now }
 {

@@ -12,13 +12,13 @@ pub enum Status {
     Done,
     /// 1: there was an error, which standard error says.
     Failed,
-    /// 2: the words of the command line ask for nothing, and standard error says which words do.
+    /// 2: the words of the command line are wrong, and standard error says how the program is used.
     Misused,
     /// 3: the program gave up, and standard error says so.
     GaveUp,
 }
 
-/// What is left to say of a program that ended.
+/// The end of a program.
 #[derive(Debug, Clone, Copy, PartialEq, Eq, Drop)]
 pub struct Ended {
     /// Its exit status.
@@ -28,8 +28,8 @@ pub struct Ended {
 }
 
 impl Ended {
-    /// Returns the exit status that a process ends with: whether standard error took what was to be
-    /// said there changes nothing.
+    /// Returns the exit status of the process. It is the same whether or not standard error took
+    /// what was to be said there.
     pub fn exit_code(self) -> ExitCode
         ensures { exit_status result ≡ status_code self.status }
     {

@@ -14,7 +14,7 @@ pub struct Config {
     /// most so many frames in flight and as many delayed ones, and for at most twice as many
     /// acknowledgements and one more, in flight and delayed each.
     pub max_burst: u32,
-    /// After how many rounds in a row in which nothing was written and nothing acknowledged a copy
-    /// gives up: with 0 before the first. (`Counts::rounds` counts all rounds.)
+    /// After how many rounds in a row in which no byte was written and none acknowledged a copy
+    /// gives up; with 0 it does so before the first round. (`Counts::rounds` counts all rounds.)
     pub rounds: u64,
 }

@@ -15,7 +15,7 @@ pub struct FrameCounts {
     pub lost: u64,
     /// How many frames were duplicated.
     pub duplicated: u64,
-    /// How many frames were delayed: they came only in the next round.
+    /// How many frames were delayed: they arrived only in the next round.
     pub delayed: u64,
     /// How many segments the receiver refused.
     pub refused: u64,

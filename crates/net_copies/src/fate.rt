@@ -5,21 +5,21 @@ ghost use Rattle.net_copies.specs.Fates.{fate_of, comes, comes_delayed};
 /// What happens to a frame.
 #[derive(Debug, Clone, Copy, PartialEq, Eq, Drop)]
 pub enum Fate {
-    /// It comes at once.
+    /// It arrives in its round.
     Delivered,
-    /// It never comes.
+    /// It never arrives.
     Lost,
-    /// It comes at once, and again in the next round.
+    /// It arrives in its round, and again in the next one.
     Duplicated,
-    /// It comes in the next round, before the frames that are sent then.
+    /// It arrives in the next round, before the frames that are sent then.
     Delayed,
 }
 
-/// How many frames in a hundred, about, meet each fate; each rate is of those that the rates before
-/// it leave.
+/// About how many frames in a hundred meet each fate; each rate is of the frames that the rates
+/// before it leave.
 #[derive(Debug, Clone, Copy, PartialEq, Eq, Drop)]
 pub struct Rates {
-    /// How many are lost. 100 and more lose each frame.
+    /// How many are lost. With 100 or more, every frame is.
     pub lost: u32,
     /// Of those that are not lost, how many in a hundred are duplicated.
     pub duplicated: u32,
@@ -45,7 +45,7 @@ impl Fate {
         Fate::Delivered
     }
 
-    /// Returns whether a frame of this fate comes at once.
+    /// Returns whether a frame of this fate arrives in its round.
     pub fn comes(self) -> bool
         ensures { result ≡ comes self }
     {
@@ -55,7 +55,7 @@ impl Fate {
         }
     }
 
-    /// Returns whether a frame of this fate comes in the next round, for the first time or once more.
+    /// Returns whether a frame of this fate arrives in the next round, for the first time or once more.
     pub fn comes_delayed(self) -> bool
         ensures { result ≡ comes_delayed self }
     {

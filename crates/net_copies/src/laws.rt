@@ -1,4 +1,4 @@
-//! The laws of streams and links, whatever the fates of frames.
+//! The laws of streams and links, for all fates of frames.
 //!
 //! Each function does nothing: its contract is the law.
 ghost use Rattle.net_copies.specs.Fates.{EachNextComes};
@@ -22,7 +22,7 @@ pub use values::{
     frame_counts_clone, frame_counts_equality, rates_clone, rates_equality,
 };
 
-/// States that if every frame comes at once, so do the next ones, however many.
+/// States that if every frame arrives in its round, so does each of the next n frames, for every n.
 pub fn known_fates()
     ensures { EachNextComes }
 {}

@@ -1,5 +1,5 @@
-//! Links that lose, duplicate and delay frames, and copies over them, as functions of what reads
-//! give and of the fates of frames, with their laws. No code here sends a frame.
+//! Links that lose, duplicate and delay frames, and copies over them, as functions of the bytes of
+//! reads and of the fates of frames, with their laws. No code here sends a frame.
 #![tactic(auto)]
 
 mod config;

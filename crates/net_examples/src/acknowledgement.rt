@@ -6,11 +6,12 @@ ghost use Rattle.net_receiver.specs.ReceiverState.{next_position};
 
 use net_receiver::{Receiver, SequenceNumber};
 
-/// Takes a TCP segment, and keeps its bytes within the window. Returns what to send back: the
-/// number of the first missing byte, and how many bytes have room from there on, at most 65,535.
+/// Takes a TCP segment, and keeps its bytes within the window. Returns the acknowledgement to send:
+/// the number of the first missing byte, and the window, the number of bytes that have room from
+/// there on, at most 65,535.
 ///
-/// `initial` is the number of the stream's first byte, the one after the SYN's, and `number` that of the
-/// segment's.
+/// `initial` is the number of the stream's first byte, the initial sequence number plus 1, and `number` is that
+/// of the segment's first byte.
 pub fn acknowledge(
     receiver: &mut Receiver<'_, 4>,
     initial: SequenceNumber,

@@ -7,11 +7,11 @@ use net_base::time::Duration;
 use net_stream::Link;
 use std::alloc::{AllocError, Allocator};
 
-/// Sends a client's request over one link and, once all of it came, the server's reply over the
-/// other one. Each link has so many rounds. Returns how many bytes of the reply came, or `None` if
-/// the server didn't hear the whole request.
+/// Sends a client's request over one link and, once all of it arrived, the server's reply over the
+/// other one. Each link has so many rounds. Returns how many bytes of the reply arrived, or `None`
+/// if the server didn't get the whole request.
 ///
-/// What each side has then is what the other one wrote.
+/// Each side then has the bytes that the other one wrote.
 pub fn ask<A: Allocator + Copy>(
     to_server: &mut Link<'_, '_, A>,
     to_client: &mut Link<'_, '_, A>,
@@ -69,7 +69,7 @@ fn write_more<A: Allocator + Copy>(link: &mut Link<'_, '_, A>, text: &[u8], from
     from + link.write(&text[from..])
 }
 
-/// Passes a round, and lets the time pass that it takes.
+/// Passes a round, and advances the clock by the time that it takes.
 fn pass<A: Allocator + Copy>(link: &mut Link<'_, '_, A>) -> Result<(), AllocError>
     ensures carries { (w : List ℕ) → LinkInvariant 0 w link.old → LinkInvariant 0 w link.new }
     ensures read { link.new.receiver.read ≡ link.old.receiver.read }

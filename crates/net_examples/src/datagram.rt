@@ -7,7 +7,8 @@ use net_ring::{Empty, ManagedSlice};
 use net_sockets::{Endpoint, UdpSocket};
 
 /// Passes a datagram through a socket over arrays, and copies as much of it as `into` has room for.
-/// `None` exactly if it has more than the 64 bytes that the socket has room for.
+/// Returns how many bytes that is, or `None` exactly if the datagram has more than the 64 bytes
+/// that the socket has room for.
 pub fn pass_through(from: Endpoint, bytes: &[u8], into: &mut [u8]) -> Option<usize>
     ensures room { IsSome result ↔ (length bytes.now ≤ 64) }
     ensures count { IfSome result (λ n. n ≡ min (length bytes.now) (length into.old)) }

@@ -29,7 +29,7 @@ impl Descriptor {
         &self.bytes[..self.len]
     }
 
-    /// Calls a closure on so many zeros. Returns the frame that it left there, and what it
+    /// Calls a closure on so many zeros. Returns the frame that the closure left there, and what it
     /// returned.
     pub fn written<R, F: FnOnce(&mut [u8]) -> R>(len: usize, f: F) -> (Descriptor, R)
         requires fits { len ≤ 128 }
@@ -43,7 +43,7 @@ impl Descriptor {
     }
 }
 
-/// Returns the bytes of a descriptor, at first.
+/// Returns the bytes of a new descriptor.
 fn zeros() -> [u8; FRAME_SIZE]
     ensures { result ≡ replicate 128 0 }
 {

@@ -17,8 +17,8 @@ use net_base::time::Instant;
 use net_ring::{Empty, RingBuffer};
 use std::alloc::AllocError;
 
-/// A device whose frames are in two rings of descriptors, memory that it shares with hardware: the
-/// frames that arrived, and those that are to be sent.
+/// A device whose frames are in two rings of descriptors, memory that it shares with hardware: one
+/// of received frames, and one of frames to be sent.
 #[derive(Drop)]
 pub struct DescriptorRings<'a> {
     /// The frames that arrived. Hardware puts them in.

@@ -31,7 +31,7 @@ impl<D: Device + Drop> Device for Undamaged<D> {
 
     ghost abilities = { λ d. D.abilities d.device };
 
-    /// Takes the next frame off. `None` also if that was too short, and then it is lost.
+    /// Takes the next frame off. Returns `None` also if that was too short, and then it is lost.
     fn receive(&mut self, timestamp: Instant) -> Option<(D::RxToken, D::TxToken)> {
         let (frame, token) = self.device.receive(timestamp)?;
         if frame.frame().len() < 14 {

@@ -5,7 +5,7 @@ ghost use Rattle.net_receiver.specs.OneStream.{ReceivesFrom, MatchesStream};
 use net_receiver::{Receiver, laws};
 use net_ring::ManagedSlice;
 
-/// Takes a segment, and reads: the bytes are the stream's, from those read before on.
+/// Takes a segment, and reads: the bytes read are the stream's next ones.
 pub fn receive(receiver: &mut Receiver<'_, 4>, pos: u64, payload: &[u8], into: &mut [u8]) -> usize
     ensures receives { (x : List ℕ) → ReceivesFrom 0 x receiver.old →
         MatchesStream 0 x pos payload.now → ReceivesFrom 0 x receiver.new }
@@ -19,7 +19,7 @@ pub fn receive(receiver: &mut Receiver<'_, 4>, pos: u64, payload: &[u8], into: &
     receiver.read(into)
 }
 
-/// A receiver of the two halves of a stream, in the wrong order.
+/// Returns a receiver of the two halves of a stream, in the wrong order.
 pub fn receive_halves<'a>(storage: &'a mut [u8], stream: &[u8]) -> Receiver<'a, 4>
     ensures { ReceivesFrom 0 stream.now result }
 {

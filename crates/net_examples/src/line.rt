@@ -1,4 +1,4 @@
-//! A struct that holds a ring, and lends on what it lends.
+//! A struct with a ring, which lends a part of that ring.
 ghost use Rattle.std.specs.Prelude.{◌≡◌, length, List, ℕ};
 ghost use Rattle.std.specs.Borrow.{sem};
 ghost use Rattle.net_ring.specs.Ring.{contiguous_window_from, spare_index, with_elements};

@@ -6,7 +6,7 @@ ghost use Rattle.net_receiver.specs.ReceiverState.{receiver_after_command, recei
 use net_receiver::{Command, Receiver, Reply, replay};
 use std::alloc::{AllocError, Global};
 
-/// Executes one command by a list of one: what `execute` does with less memory.
+/// Executes one command by a list of one. `execute` does the same with less memory.
 pub fn execute_by_list<const N: usize>(
     alloc: Global,
     receiver: &mut Receiver<'_, N>,

@@ -5,7 +5,7 @@ ghost use Rattle.net_ring.specs.Managed.{elements};
 use net_ring::{ManagedSlice, RingBuffer};
 use std::marker::Model;
 
-/// Bytes that wait to be sent. Contracts see them, the first one first.
+/// Bytes that wait to be sent. Contracts see the list of these bytes.
 #[derive(Drop)]
 pub struct Outbox<'a> {
     ring: RingBuffer<'a, u8>,
@@ -21,7 +21,7 @@ impl<'a> Model for Outbox<'a> {
 }
 
 impl<'a> Outbox<'a> {
-    /// Returns no bytes, with room for as many as `storage` has.
+    /// Returns an empty outbox, with room for as many bytes as `storage` has.
     pub fn new(storage: ManagedSlice<'a, u8>) -> Self
         ensures { result ≡ [] }
     {
@@ -37,7 +37,7 @@ impl<'a> Outbox<'a> {
         self.ring.enqueue_slice(bytes)
     }
 
-    /// Gives the first bytes, as many as `into` has room for, and returns how many.
+    /// Moves the first bytes to `into`, as many as it has room for, and returns how many.
     pub fn give(&mut self, into: &mut [u8]) -> usize
         ensures count { result ≡ min (length into.old) (length self.old) }
         ensures given { into.new ≡ take result self.old ++ drop result into.old }

@@ -32,7 +32,7 @@ impl Timer {
         self.deadline <= now
     }
 
-    /// Arms it anew, to wait twice as long as before, or the longest time there is.
+    /// Arms the timer again, to wait twice as long as before, or the longest time there is.
     pub fn back_off(&mut self, now: Instant)
         ensures timeout { self.new.timeout ≡ min (self.old.timeout * 2) (2 ^ 64 - 1) }
         ensures deadline { IsMoment (now +ℤ pos self.new.timeout)

@@ -1,6 +1,6 @@
 //! Writing a text whole, and flushing.
 //!
-//! It also has the lemmas on what readers give and writers take that several crates cite.
+//! It also has the lemmas about readers and writers that several crates cite.
 #![tactic(auto)]
 
 mod writer;

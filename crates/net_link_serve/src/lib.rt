@@ -1,5 +1,5 @@
-//! The program `net_link` without its `main`: what its words ask for, the copy that they ask for,
-//! and what standard error says.
+//! The program `net_link` without its `main`: the meaning of its words, the copy that they ask for,
+//! and the messages on standard error.
 #![tactic(auto)]
 
 mod serving;

@@ -1,4 +1,4 @@
-//! `serve`, which is the program from its words and streams to its exit status.
+//! `serve`: the program, from its words and streams to its exit status.
 ghost use Rattle.std.specs.Prelude.{◌≡◌, ◌↔◌, ◌⊎◌, IsErr, map, string_bytes, true, false};
 ghost use Rattle.std.specs.Io.KnownBytes.{Appends, Keeps};
 ghost use Rattle.net_stream.specs.CopyResult.{HasCopied, HasNotBegun};
@@ -60,8 +60,8 @@ fn status(ended: &Result<(), CopyError>) -> Status
     }
 }
 
-/// Returns the cause of a failed call, as a part of a line: nothing, if there was no error, or no
-/// memory for its text.
+/// Returns the cause of a failed call, as a part of a line: an empty text if there was no error, or
+/// no memory for its text.
 fn cause_of<A: Allocator + Copy>(alloc: A, error: Option<io::Error>) -> String<A> {
     let Some(error) = error else {
         return String::new(alloc);
@@ -72,7 +72,7 @@ fn cause_of<A: Allocator + Copy>(alloc: A, error: Option<io::Error>) -> String<A
     }
 }
 
-/// Says what is wrong with the words, and how the program is used.
+/// Writes what is wrong with the words, and how the program is used.
 fn refuse<E: Write>(words: &[String], misuse: Misuse, errors: &mut E) -> Ended
     ensures status { result.status ≡ Misused }
     ensures told { result.is_told ≡ true → Appends (E.contents errors.old) (E.contents errors.new)
@@ -104,7 +104,7 @@ fn help<A: Allocator + Copy, W: Write, E: Write>(
     }
 }
 
-/// Says that a write failed, and why.
+/// Writes that a write failed, and why.
 fn say_unwritten<A: Allocator + Copy, E: Write>(
     alloc: A,
     error: Option<io::Error>,
@@ -147,7 +147,7 @@ fn carry<A: Allocator + Copy, R: Read, W: Write, E: Write>(
     copy(alloc, config(plan), fates, reader, writer, counts)
 }
 
-/// Makes the copy of a plan, and says how it ended.
+/// Makes the copy of a plan, and writes how it ended.
 fn copy_over_link<A: Allocator + Copy, R: Read, W: Write, E: Write>(
     alloc: A,
     plan: Plan,
@@ -173,12 +173,13 @@ fn copy_over_link<A: Allocator + Copy, R: Read, W: Write, E: Write>(
 ///
 /// `--help` writes how the program is used to the writer: the status is `Done`, or `Failed` if it
 /// couldn't be written. For a copy the reader's bytes go to the writer over the link that the words
-/// ask for, what is written is a prefix of what was read, and a line of counts is written to
-/// `errors`, after a line that says the error, if there was one, and why a read or a write failed;
-/// with `--progress` the counts so far are written to it, too. The status is `Done` if all was
-/// written and flushed, `GaveUp` if the copy gave up, and `Failed` after another error. Words that
-/// ask for nothing are `Misused`: nothing is read, and only `errors` is written to: what is wrong
-/// with them, and how the program is used. If `errors` takes no bytes, nothing else changes.
+/// ask for, and the bytes written are a prefix of those read. A line of counts is written to
+/// `errors`. Before it is a line that says the error, if there was one, and why a read or a write
+/// failed. With `--progress` the counts so far are written to `errors`, too. The status is `Done`
+/// if all was written and flushed, `GaveUp` if the copy gave up, and `Failed` after another error.
+/// If the words are wrong, the status is `Misused`: nothing is read, and only `errors` is written
+/// to: what is wrong with them, and how the program is used. If `errors` takes no bytes, nothing
+/// else changes.
 pub fn serve<A: Allocator + Copy, R: Read, W: Write, E: Write>(
     alloc: A,
     words: &[String],

@@ -6,8 +6,7 @@ use net_stream::{Counts, Watch};
 use std::io;
 use std::io::{ErrorKind, Read, Write};
 
-/// A reader or a writer, and the error of its first call that failed. A write that took no byte counts
-/// as failed.
+/// A reader or a writer, and the error of its first call that failed. A write that took no byte counts as one.
 #[derive(Drop)]
 pub struct Remembering<S> {
     /// The reader or the writer.

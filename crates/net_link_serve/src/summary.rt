@@ -1,4 +1,4 @@
-//! The lines that standard error has of a copy.
+//! The lines about a copy on standard error.
 ghost use Rattle.std.specs.Prelude.{◌≡◌, ◌++◌, OnOk, Some, codes};
 ghost use Rattle.std.specs.Io.KnownBytes.{Appends};
 ghost use Rattle.net_link_serve.specs.Summary.{bytes_a_second, frames_text, counts_text, summary};
@@ -8,7 +8,7 @@ use net_stream::{CopyError, Counts, FrameCounts};
 use std::io::Write;
 use std::{fmt, io};
 
-/// Returns how many bytes were written a second of simulated time, rounded down.
+/// Returns how many bytes were written per second of simulated time, rounded down.
 fn bytes_a_second(counts: &Counts) -> u64
     ensures { result ≡ bytes_a_second counts.now }
 {

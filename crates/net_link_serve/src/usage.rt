@@ -55,7 +55,7 @@ fn text_at(numbers: &[String], word: Word) -> &str
     }
 }
 
-/// Writes that so many numbers are too few, too many or three, and how the program is used.
+/// Writes that so many numbers are not 2, 4, 5 or 6, and how the program is used.
 fn write_count<E: Write>(errors: &mut E, count: usize) -> io::Result<()>
     ensures { OnOk result (Appends (E.contents errors.old) (E.contents errors.new)
         (count_lines count)) }
@@ -78,7 +78,7 @@ pub fn write_misuse<E: Write>(errors: &mut E, numbers: &[String], misuse: Misuse
     }
 }
 
-/// Writes which numbers a word may be, that it is this text, and how the program is used.
+/// Writes which numbers a word may be, which text it is, and how the program is used.
 fn write_wrong<E: Write>(errors: &mut E, word: Word, text: &str) -> io::Result<()>
     ensures { OnOk result (Appends (E.contents errors.old) (E.contents errors.new)
         (wrong_lines word text.now)) }

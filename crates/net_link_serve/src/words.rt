@@ -1,4 +1,4 @@
-//! The words of a command line, and what they ask for.
+//! The words of a command line, and their meaning.
 ghost use Rattle.std.specs.Prelude.{◌≡◌, ◌≤◌, Some, IfOk, map, string_bytes};
 ghost use Rattle.net_link_serve.specs.Words.{least, most, place, number_in, number_at, plan_of};
 ghost use Rattle.net_link_serve.specs.Words.{begins_with, numbers, asked_of};
@@ -11,9 +11,9 @@ use net_cli::number;
 pub enum Word {
     /// Of a hundred frames, how many are lost.
     Loss,
-    /// Where the fates are drawn from.
+    /// The seed that the fates are drawn from.
     Seed,
-    /// Of a hundred frames that are not lost, how many come twice.
+    /// Of a hundred frames that are not lost, how many are duplicated.
     Duplicated,
     /// Of a hundred frames that are neither, how many are delayed.
     Delayed,
@@ -28,9 +28,9 @@ pub enum Word {
 pub struct Plan {
     /// Of a hundred frames, how many are lost.
     pub lost: u32,
-    /// Where the fates are drawn from.
+    /// The seed that the fates are drawn from.
     pub seed: u64,
-    /// Of a hundred frames that are not lost, how many come twice.
+    /// Of a hundred frames that are not lost, how many are duplicated.
     pub duplicated: u32,
     /// Of a hundred frames that are neither, how many are delayed.
     pub delayed: u32,
@@ -42,7 +42,7 @@ pub struct Plan {
     pub shows_progress: bool,
 }
 
-/// What words ask for.
+/// What the words of a command line ask for.
 #[derive(Clone, Copy, Drop)]
 pub enum Asked {
     /// How the program is used.
@@ -51,10 +51,10 @@ pub enum Asked {
     Copy(Plan),
 }
 
-/// Why words ask for nothing.
+/// What is wrong with the words of a command line.
 #[derive(Clone, Copy, Drop)]
 pub enum Misuse {
-    /// So many numbers are too few, too many, or three.
+    /// There are so many numbers, and not 2, 4, 5 or 6.
     Count(usize),
     /// The first word that isn't one of its numbers.
     Wrong(Word),
@@ -124,12 +124,11 @@ impl Word {
         Ok(number)
     }
 
-    /// Returns the number at its place among the words; the one that it is otherwise, if it is
-    /// left out.
+    /// Returns the number at its place among the words, or `otherwise` if it is left out.
     ///
     /// # Requires
     ///
-    /// It may be the number `otherwise`.
+    /// The word may be the number `otherwise`.
     fn number_at(self, words: &[String], otherwise: u64) -> Result<u64, Misuse>
         requires { otherwise ≤ most self }
         ensures number { result ≡ number_at self otherwise (map string_bytes words.now) }

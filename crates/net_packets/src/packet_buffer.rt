@@ -23,12 +23,12 @@ mod taking;
 ///
 /// A packet has a header and bytes that are contiguous in the storage. If a packet does not fit
 /// before the storage's end, it is placed at the storage's beginning, and the bytes before the end
-/// are skipped as its gap. A packet uses one slot, and a gap, which is never of 0 bytes, one more.
+/// are skipped as its gap. A packet uses one slot, and a gap, which never has 0 bytes, one more.
 /// Packets leave in the order in which they were put in.
 ///
-/// Contracts lead with `contents q`, the list of the headers and bytes of a queue's packets. Number
-/// of slots, storage, read index and the list of packets (header, size, gap) determine which
-/// packets are refused.
+/// Contracts lead with `contents q`, the list of the headers and bytes of a queue's packets. The
+/// number of slots, the storage, the read index and the list of packets (header, size, gap)
+/// determine which packets are refused.
 #[derive(Debug, Drop)]
 pub struct PacketsOver<H, M: Storage<PacketMetadata<H>>, B: Storage<u8>> {
     slots: RingOver<PacketMetadata<H>, M>,
@@ -85,8 +85,8 @@ impl<H, M: Storage<PacketMetadata<H>>, B: Storage<u8>> PacketsOver<H, M, B> {
         self.slots.is_empty()
     }
 
-    /// Returns whether no slot is free. A queue that is not full can still refuse a packet if bytes
-    /// are missing, or a slot for its gap.
+    /// Returns whether no slot is free. A queue that is not full still refuses a packet if there
+    /// are too few free bytes, or no slot for its gap.
     #[inline]
     pub fn is_full(&self) -> bool
         ensures { result ≡ (self.now.slot_count - slots_used self.now.packets == 0) }
@@ -110,8 +110,8 @@ impl<H, M: Storage<PacketMetadata<H>>, B: Storage<u8>> PacketsOver<H, M, B> {
         self.bytes.capacity()
     }
 
-    /// Returns the number of bytes that packets take, gaps included. So a call that drops the gap
-    /// before the first packet lowers it.
+    /// Returns the number of bytes that packets take, gaps included. A call that drops the gap
+    /// before the first packet lowers this number.
     #[inline]
     pub fn payload_bytes_count(&self) -> usize
         ensures { result ≡ bytes_used self.now.packets }
@@ -128,8 +128,8 @@ impl<H, M: Storage<PacketMetadata<H>>, B: Storage<u8>> PacketsOver<H, M, B> {
         self.slots.len()
     }
 
-    /// Returns how many packets the queue has. It goes over the slots, one by one, to leave the gaps
-    /// out. smoltcp has no such call.
+    /// Returns how many packets the queue has. It looks at every slot, to leave out the gaps. smoltcp has no
+    /// such call.
     pub fn len(&self) -> usize
         ensures contents { result ≡ length (contents self.now) }
         ensures packets { result ≡ length self.now.packets }
@@ -153,10 +153,10 @@ impl<H, M: Storage<PacketMetadata<H>>, B: Storage<u8>> PacketsOver<H, M, B> {
     }
 }
 
-/// What the calls share.
+/// Steps that the calls share.
 impl<H, M: Storage<PacketMetadata<H>>, B: Storage<u8>> PacketsOver<H, M, B> {
-    /// Returns how many free bytes are contiguous, and how many there are in all, if an empty ring
-    /// begins anew.
+    /// Returns how many free bytes are contiguous, and how many there are in all. In an empty ring
+    /// all are contiguous, since it is then read from the storage's beginning.
     #[inline]
     fn contiguous_free(&self) -> (usize, usize)
         ensures contiguous { result.0 ≡ contiguous_window (from_start_if_empty (byte_ring self.now)) }
@@ -235,7 +235,7 @@ fn gap_for(size: usize, contiguous: usize, window: usize) -> Option<usize>
     }
 }
 
-/// Returns how many of the slots are of packets, not of gaps.
+/// Returns how many of the slots are those of packets, not of gaps.
 fn count_packets<H>(slots: &[PacketMetadata<H>]) -> usize
     ensures count { result ≡ length (filter (λ m. is_some m.header) slots.now) }
     ensures within { result ≤ length slots.now }

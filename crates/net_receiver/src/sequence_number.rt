@@ -5,7 +5,8 @@ ghost use Rattle.net_receiver.specs.SequenceNumbers.{number_at, ahead_of, ComesB
 use std::marker::Model;
 use std::ops::Add;
 
-/// The number by which TCP names a byte of a stream: 32 bits, and 0 follows the greatest one.
+/// The number by which TCP names a byte of a stream. It has 32 bits, and 0 follows the greatest
+/// one.
 ///
 /// A contract sees a whole number below 2^32. A receiver counts in positions of 64 bits, which do
 /// not wrap; `at` and `position` convert between the two. smoltcp's `SeqNumber` is an `i32` and has
@@ -38,7 +39,9 @@ impl SequenceNumber {
         self.number
     }
 
-    /// Returns the number of a stream's position, if position 0 has the number `initial`.
+    /// Returns the number of a stream's position, if position 0 has the number `initial`. In TCP
+    /// the first byte's number is the initial sequence number, that of the SYN, plus 1: `initial`
+    /// is this sum if the stream's first byte has position 0.
     ///
     /// ```rust
     /// let window = receiver.window().min(65_535) as u16;
@@ -77,7 +80,7 @@ impl SequenceNumber {
         }
     }
 
-    /// Returns how far this number is ahead of another one, going round at 2^32.
+    /// Returns how far this number is ahead of another one, modulo 2^32.
     pub fn ahead_of(self, other: SequenceNumber) -> u32
         ensures { result ≡ ahead_of other self }
     {
@@ -94,7 +97,7 @@ impl SequenceNumber {
     }
 }
 
-/// Adds a count of bytes to a number, going round at 2^32.
+/// Adds a count of bytes to a number, modulo 2^32.
 impl Add<u32> for SequenceNumber {
     type Output = SequenceNumber;
 

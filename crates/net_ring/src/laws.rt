@@ -1,8 +1,8 @@
 //! A law whose premise is an equation, as the contracts of calls state it, and laws of refusals.
 //!
-//! No function here does anything. A law of `ring_buffer::laws` is on `overwrite xs i ws` itself;
-//! `element_after_overwrite` and `element_set` are on any list that is equal to it, such as one in
-//! a field after a call.
+//! No function here does anything. A law of `ring_buffer::laws` is about `overwrite xs i ws`
+//! itself; `element_after_overwrite` and `element_set` are about any list that is equal to it, such
+//! as a field after a call.
 ghost use Rattle.std.specs.Prelude.{◌≡◌, ◌+◌, ◌-◌, ◌<◌, ◌≤◌, ◌&&◌, nat_le, nat_lt};
 ghost use Rattle.std.specs.Prelude.{ℕ, List, length, slice_index_or, if◌then◌else◌, IsTrue};
 ghost use Rattle.std.specs.Prelude.{◌≢◌, ◌∷◌, [], slice_get, slice_set, Some};
@@ -11,8 +11,8 @@ ghost use Rattle.net_ring.specs.Overwrite.{overwrite};
 use crate::error::{Empty, Full};
 use crate::ring_buffer::laws::overwritten;
 
-/// States that a list that was written over has, at an index, the element that was written there,
-/// or the old one if none was; and as many elements as before.
+/// States that an overwritten list has at each index the element that was written there, or the old
+/// one if none was, and that its length is unchanged.
 pub fn element_after_overwrite<T>()
     ensures length { (xs ys ws : List T) (i : ℕ) → ys ≡ overwrite xs i ws →
         length ys ≡ length xs }
@@ -30,8 +30,8 @@ pub fn element_after_overwrite<T>()
     overwritten::<T>();
 }
 
-/// States that a list of which one element was written over is the list with that element set: the
-/// element is there, and the others are as they were.
+/// States that overwriting a list with one element sets that element and leaves the others
+/// unchanged.
 pub fn element_set<T>()
     ensures set { (xs ys : List T) (i : ℕ) (x : T) → ys ≡ overwrite xs i (x ∷ []) →
         ys ≡ slice_set xs i x }

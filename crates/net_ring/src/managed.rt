@@ -62,7 +62,7 @@ pub trait Storage<T> {
         requires count { at < length (elements self.now) }
         ensures { slice_get (elements self.now) at ≡ Some result.now };
 
-    /// The elements after a list was written over a part.
+    /// The elements after a list was written over a part of them.
     ghost part_written: { (s : Self) (i : ℕ) (ws : List T) →
         elements (with_part s i ws) ≡ overwrite (elements s) i ws };
 
@@ -153,7 +153,7 @@ impl<T> Storage<T> for Vec<T> {
 }
 
 /// Storage of a ring or of a packet queue: lent as a slice, or owned as a vector. So the same code
-/// serves with a heap and without.
+/// works with a heap and without.
 #[derive(Debug, Drop)]
 pub enum ManagedSlice<'a, T> {
     /// Elements that are stored elsewhere, and lent.
@@ -269,8 +269,8 @@ impl<'a, T> ManagedSlice<'a, T> {
     /// Lends all elements.
     ///
     /// A caller's proof does not learn what was written, here or by the calls of [`Storage`] on a
-    /// `ManagedSlice` itself. It does for a type parameter `S: Storage<T>`, also if `S` is a
-    /// `ManagedSlice`: a function that has to know what it wrote takes one.
+    /// `ManagedSlice` itself. It does for a type parameter `S: Storage<T>`, even if `S` is a
+    /// `ManagedSlice`: a function that has to know what it wrote takes such a parameter.
     pub fn as_mut_slice(&mut self) -> &mut [T]
         ensures* writes_back { sem 𝓛 (lends_elements T.row self.entry result) }
         ensures value { result.now ≡ elements self.old }

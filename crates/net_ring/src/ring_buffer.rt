@@ -23,10 +23,10 @@ mod unallocated;
 /// A ring of elements over any storage; [`RingBuffer`] is the one over a [`ManagedSlice`].
 ///
 /// Contracts see a ring as its storage, the index where it is read and how many elements are
-/// queued. Its queue is these, in order; the rest of the storage is its spare part. Both wrap at
-/// the storage's end. Only the calls whose element type is `Copy` copy anything. The others lend
-/// parts of the storage, as `&mut` wherever they can, so that a packet can be filled in or changed
-/// in place.
+/// queued. The queued elements, in order, are its queue; the rest of the storage is its spare part.
+/// Both wrap at the storage's end. Only the calls whose element type is `Copy` copy elements. The
+/// others lend parts of the storage, as `&mut` wherever they can, so that a packet can be filled in
+/// or changed in place.
 #[derive(Debug)]
 pub struct RingOver<T, S: Storage<T>> {
     storage: S,
@@ -35,7 +35,7 @@ pub struct RingOver<T, S: Storage<T>> {
     elements: PhantomData<T>,
 }
 
-/// Elements of a ring from some offset on.
+/// Elements of a ring from an offset on.
 ///
 /// Those that are not contiguous with the first one are at the storage's beginning.
 #[derive(Clone, Copy)]
@@ -67,7 +67,7 @@ impl<T, S: Storage<T>> Model for RingOver<T, S> {
     ghost invariant = { λ a. IsWellFormed (ring_state S.elements a) };
 }
 
-/// Written by hand: only the storage has to be `Drop`, and nothing is asked of `T`.
+/// Written by hand, so that only the storage has to be `Drop`, and not `T`.
 impl<T, S: Storage<T> + Drop> Drop for RingOver<T, S> {
     fn drop(self) {
         let RingOver {
@@ -214,8 +214,8 @@ impl<T, S: Storage<T>> RingOver<T, S> {
         ensures none_spare { IsTrue result ↔ (spare self.now ≡ []) }
         ensures sum { self.now.count + window self.now ≡ capacity self.now }
     {
-        // `window() == 0` says the same; this tells the compiler that a ring with room for one more
-        // doesn't have the largest length there is, so that one more can't make it 0.
+        // `window() == 0` says the same. This form tells the compiler that the length of a ring
+        // that isn't full is not the greatest one, so that adding 1 can't make it 0.
         self.len() >= self.capacity()
     }
 

@@ -62,8 +62,8 @@ fn run_line<A: Allocator + Copy, S: Session<A>, W: Write>(
     }
 }
 
-/// The state between two reads: the mode's state, the number of the next line, the bytes of it that
-/// were read, and the pending replies.
+/// The state between two reads: the mode's state, the number of the next line, its bytes that were
+/// read, and the pending replies.
 #[derive(Drop)]
 struct Bench<A: Allocator + Copy, S> {
     buffers: Buffers<A>,
@@ -73,7 +73,7 @@ struct Bench<A: Allocator + Copy, S> {
     replies: Replies<A>,
     /// The line is no longer than a line may be.
     ghost short: { length line.items ≤ 4096 },
-    /// Its line feed hasn't come.
+    /// Its line feed was not read yet.
     ghost unended: { HasNoFeed line.items },
     /// Any line has room.
     ghost room: { 4096 ≤ vec_capacity line },
@@ -114,7 +114,7 @@ impl<A: Allocator + Copy, S: Session<A>> Bench<A, S> {
         Ok(())
     }
 
-    /// Executes the line that these bytes end, and gathers its reply.
+    /// Executes the line that ends with these bytes, and gathers its reply.
     fn end_line<W: Write>(&mut self, bytes: &[u8], writer: &mut W) -> Result<(), BenchError>
         requires { HasNoFeed bytes.now }
         ensures ok { OnOk result ((reply : List ℕ)
@@ -155,8 +155,8 @@ impl<A: Allocator + Copy, S: Session<A>> Bench<A, S> {
         Ok(())
     }
 
-    /// Executes the lines that these bytes end, stores what follows them, and gathers the
-    /// replies.
+    /// Executes the lines that end in these bytes, stores the beginning of the next one, and
+    /// gathers the replies.
     // It is a function of its own, since `take` writes the replies out also if this fails.
     fn run_ended_lines<W: Write>(&mut self, bytes: &[u8], writer: &mut W) -> Result<(), BenchError>
         ensures ok { OnOk result ((text : List ℕ)
@@ -271,7 +271,7 @@ pub fn run_lines<A: Allocator + Copy, S: Session<A> + Drop, R: Read, W: Write>(
         return Err(BenchError::OutOfMemory);
     };
     let mut chunk = [0u8; CHUNK];
-    // The bound is what shows that the loop ends; the label is its name in its proof.
+    // The bound shows that the loop ends; the label is the loop's name in its proof.
     'reads: for _ in 0..u64::MAX {
         match reader.read(&mut chunk) {
             Ok(0) => return bench.finish(writer),

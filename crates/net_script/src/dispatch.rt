@@ -17,8 +17,8 @@ use std::alloc::Allocator;
 use std::io::{Read, Write};
 
 /// Executes the lines that the reader gives, and writes the replies. It returns at the reader's
-/// end, at a failed read or at the first fault. If reader and writer tell their bytes, as those
-/// over memory do:
+/// end, at a failed read or at the first fault. If the bytes of reader and writer are known to
+/// contracts, as they are over memory:
 pub fn run<A: Allocator + Copy, R: Read, W: Write>(
     alloc: A,
     mode: Mode,

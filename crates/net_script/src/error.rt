@@ -8,7 +8,7 @@ use std::fmt;
 /// An error of `run`. A number is that of the faulty line, counted from 1.
 #[derive(Debug, Drop)]
 pub enum BenchError {
-    /// The line is no line of the mode.
+    /// The line is not one of the mode.
     BadCommand(u64),
     /// The end of the line's range is above the greatest number.
     RangeTooLong(u64),

@@ -7,7 +7,7 @@ use crate::error::BenchError;
 /// What may be wrong with a line.
 #[derive(Clone, Copy, Debug, PartialEq, Eq)]
 pub enum Fault {
-    /// It is no line of the mode.
+    /// It is not a line of the mode.
     BadCommand,
     /// The end of its range is above the greatest number.
     RangeTooLong,

@@ -1,4 +1,4 @@
-//! What the definitions say of some inputs, so that wrong definitions are noticed.
+//! What the definitions say of some inputs, so that a wrong definition is noticed.
 //!
 //! Each function does nothing: its contract is the law.
 ghost use Rattle.std.specs.Prelude.{◌≡◌, ◌↔◌, ℕ, IsTrue, [], ◌∷◌, codes, Some, None, Ok};

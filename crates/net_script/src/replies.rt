@@ -1,4 +1,4 @@
-//! Replies on their way to a writer, which takes many at once.
+//! Replies that are gathered, and written many at a time.
 ghost use Rattle.std.specs.Prelude.{◌≡◌, [], ◌++◌, length, ◌≤◌, IfOk, OnOk, IfErr, vec_capacity};
 ghost use Rattle.std.specs.Io.KnownBytes.{Appends};
 ghost use Rattle.net_io.specs.Writer.{AppendsPrefix};
@@ -30,9 +30,9 @@ fn write_whole<W: Write>(writer: &mut W, text: &[u8]) -> Result<(), BenchError>
 #[derive(Drop)]
 pub struct Replies<A: Allocator + Copy> {
     pending: Vec<u8, A>,
-    /// No more is pending than is gathered.
+    /// At most as many bytes are pending as are gathered.
     ghost within: { length pending.items ≤ 65536 },
-    /// As much as is gathered has room.
+    /// The buffer has room for as many.
     ghost room: { 65536 ≤ vec_capacity pending },
 }
 
@@ -54,8 +54,8 @@ impl<A: Allocator + Copy> Replies<A> {
         })
     }
 
-    /// Gathers a reply. Pending replies are written first if there is no room besides them, and a
-    /// reply that is longer than the whole buffer is written at once.
+    /// Gathers a reply. Pending replies are written first if there is no room for it beside them,
+    /// and a reply that is longer than the whole buffer is written at once.
     pub fn gather<W: Write>(&mut self, reply: &[u8], writer: &mut W) -> Result<(), BenchError>
         ensures ok { OnOk result (Gathers (outlet (W.contents writer.old) self.old)
             (outlet (W.contents writer.new) self.new) reply.now) }

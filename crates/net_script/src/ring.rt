@@ -94,8 +94,8 @@ impl<'a> RingSession<'a> {
         text::displayed(buffers, TOOK_ROOM, format_args!("took {count}\n"))
     }
 
-    /// Returns the reply that shows so many bytes from the head of the queue, of the one part or
-    /// the two in which they are in the storage.
+    /// Returns the reply that shows so many bytes from the head of the queue, which are in one or
+    /// two parts of the storage.
     fn shown<A: Allocator + Copy>(
         &self,
         buffers: &mut Buffers<A>,

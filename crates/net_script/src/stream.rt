@@ -36,7 +36,7 @@ pub enum StreamLine<A: Allocator + Copy> {
     NextSchedule,
 }
 
-/// A receiver that lines send segments to and read from, and after `--` the one before it.
+/// A receiver that lines send segments to and read from, and after `--` also the one before it.
 ///
 /// The storage of the second schedule is made when it begins, in the list that `second` lends.
 #[derive(Drop)]
@@ -67,7 +67,7 @@ impl<'a, A: Allocator + Copy, const N: usize> Model for StreamSession<'a, A, N> 
     ghost invariant = { λ s. (1 ≤ N) × (s.ended ≡ None → IsSome s.second) };
 }
 
-/// Returns the segment that two words name, if they do.
+/// Returns the segment that two words name, if they name one.
 fn segment<A: Allocator + Copy>(
     buffers: &mut Buffers<A>,
     position: &[u8],
@@ -130,7 +130,8 @@ fn fits<A: Allocator + Copy, const N: usize>(command: &Command<A>) -> bool
 }
 
 /// Reads at most so many bytes into memory of the buffers, and returns them.
-// `execute` asks the allocator for the bytes of a read, and this takes those of an earlier line.
+// `execute` asks the allocator for the bytes of a read; this function reuses those of an earlier
+// line.
 fn read_in_buffers<A: Allocator + Copy, const N: usize>(
     buffers: &mut Buffers<A>,
     receiver: &mut Receiver<'_, N>,

@@ -8,7 +8,7 @@ use crate::buffers::Buffers;
 use std::alloc::{AllocError, Allocator};
 use std::fmt::Display;
 
-/// Returns the bytes that a word writes, if it writes some: `-` for none, or one or more pairs of
+/// Returns the bytes that a word writes, if it does: `-` for none, or one or more pairs of
 /// hexadecimal digits in either case.
 pub fn bytes<A: Allocator + Copy>(
     buffers: &mut Buffers<A>,
@@ -41,8 +41,8 @@ pub fn plain<A: Allocator + Copy>(
     Ok(reply)
 }
 
-/// Returns the text that a value displays, in memory for `room` bytes: one request at most, if that
-/// is enough.
+/// Returns the text that a value displays, in memory for `room` bytes: at most one request for
+/// memory, if that is enough.
 pub fn displayed<A: Allocator + Copy, D: Display + Drop>(
     buffers: &mut Buffers<A>,
     room: usize,
@@ -58,7 +58,8 @@ pub fn displayed<A: Allocator + Copy, D: Display + Drop>(
     }
 }
 
-/// Writes the reply that shows two parts, of which one has a byte. There must be room for it.
+/// Writes the reply that shows two parts, at least one of which has a byte. There must be room for
+/// it.
 fn put_read_reply(first: &[u8], second: &[u8], reply: &mut [u8])
     requires { length reply.old ≡ 6 + (2 * length first.now + 2 * length second.now) }
     ensures { reply.new
@@ -73,7 +74,7 @@ fn put_read_reply(first: &[u8], second: &[u8], reply: &mut [u8])
     end.copy_from_slice(b"\n");
 }
 
-/// Returns the bytes of the reply that shows two parts, of which one has a byte.
+/// Returns the bytes of the reply that shows two parts, at least one of which has a byte.
 fn read_reply_bytes<A: Allocator + Copy>(
     buffers: &mut Buffers<A>,
     first: &[u8],

@@ -3,7 +3,7 @@ ghost use Rattle.std.specs.Prelude.{◌≡◌, ◌==◌, [], ◌∷◌, MatchOpt
 ghost use Rattle.net_script.specs.Text.{words_of};
 ghost use Rattle.net_script.specs.Words.{AreWords};
 
-/// The words of a line, as far as a line of any mode has them.
+/// The words of a line, up to as many as a line of any mode has.
 pub enum Words<'a> {
     /// One word.
     One(&'a [u8]),

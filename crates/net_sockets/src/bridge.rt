@@ -7,12 +7,13 @@ use net_base::phy::{Device, FrameLists, RxToken};
 use net_base::time::Instant;
 use std::alloc::AllocError;
 
-/// Takes one frame off one device and sends the same frame on another. Returns whether it did. On
-/// false nothing was sent: either the other device had no room to send one, or the one had no frame
-/// to hand over, and then it may have changed as it states in `idled`, by default not at all.
+/// Takes one frame off one device and sends the same frame on another. Returns whether it did. If
+/// it returns false, nothing was sent: either the second device had no room to send a frame, or the
+/// first had no frame to hand over. In that case the first device changes only as it states in
+/// `idled`, by default not at all.
 ///
-/// If memory is refused, which happens only if the other device lacks it for that frame, as it
-/// states in `lacks_memory`, the frame was taken and nothing was sent.
+/// If memory is refused, which happens only if the second device lacks it for that frame, as it
+/// states in `lacks_memory`, the frame was taken off and nothing was sent.
 pub fn forward_one<A: Device, B: Device>(
     from: &mut A,
     to: &mut B,
@@ -26,7 +27,7 @@ pub fn forward_one<A: Device, B: Device>(
     ensures err { OnErr result ((frame : List ℕ) × A.taken from.old frame from.new
         × (to.new ≡ to.old) × B.lacks_memory to.old (length frame)) }
 {
-    // The room is asked for first: a frame that was taken without it would be lost.
+    // Room is asked for first: a frame that was taken off without room to send it would be lost.
     let Some(token) = to.transmit(timestamp) else {
         return Ok(false);
     };
@@ -38,12 +39,12 @@ pub fn forward_one<A: Device, B: Device>(
     Ok(true)
 }
 
-/// Takes at most `max` frames off one device and sends them, in order, on another. Returns how many
-/// those are: fewer than `max` only if the one device has no frame left to hand over or the other
-/// no room to send one.
+/// Takes at most `max` frames off one device and sends them, in order, on another. Returns how
+/// many: fewer than `max` only if the first device has no frame left to hand over, or the second
+/// has no room to send one.
 ///
-/// If memory is refused, the frame that was taken last is lost, and each one before it was sent.
-/// That happens only if the other device lacks memory for that frame.
+/// If memory is refused, the frame that was taken off last is lost, and each one before it was
+/// sent. That happens only if the second device lacks memory for that frame.
 pub fn forward<A: Device, B: Device>(
     from: &mut A,
     to: &mut B,
@@ -64,8 +65,8 @@ pub fn forward<A: Device, B: Device>(
     Ok(max)
 }
 
-/// Does as `forward` does, between devices whose frames are in lists, and says what passed as
-/// lists.
+/// Does the same as `forward`, between devices whose frames are in lists. The contract says in
+/// terms of lists which frames passed.
 pub fn forward_lists<A: FrameLists, B: FrameLists>(
     from: &mut A,
     to: &mut B,

@@ -22,7 +22,7 @@ pub enum FragmentError {
     TooManyHoles,
 }
 
-/// A packet that arrives in fragments, in any order, over any storage, as those of IPv4 do.
+/// A packet that arrives in fragments, in any order, as those of IPv4 do, over any storage.
 /// [`FragmentBuffer`] is its usual form. `N` is how many maximal runs of bytes it has room for.
 ///
 /// Fragments may overlap: at each position the byte is that of the last fragment there.
@@ -36,7 +36,7 @@ pub struct FragmentsOver<B: Storage<u8>, const N: usize> {
     expires_at: Instant,
 }
 
-/// Written by hand: with a derived one a `FragmentBuffer` could not be a local.
+/// Written by hand: with a derived `Drop` a `FragmentBuffer` could not be a local.
 impl<B: Storage<u8> + Drop, const N: usize> Drop for FragmentsOver<B, N> {
     fn drop(self) {
         let FragmentsOver {
@@ -70,7 +70,8 @@ impl<B: Storage<u8>, const N: usize> Model for FragmentsOver<B, N> {
 }
 
 impl<B: Storage<u8>, const N: usize> FragmentsOver<B, N> {
-    /// Returns a packet of which nothing came, which is waited for up to `expires_at`.
+    /// Returns a packet of which no fragment has arrived, and which is waited for up to
+    /// `expires_at`.
     ///
     /// # Requires
     ///
@@ -114,8 +115,8 @@ impl<B: Storage<u8>, const N: usize> FragmentsOver<B, N> {
         Ok(())
     }
 
-    /// Sets the packet's size to `size` bytes. Another size that was set before is forgotten, where
-    /// smoltcp refuses.
+    /// Sets the packet's size to `size` bytes. A size that was set before is replaced; smoltcp
+    /// refuses a second size that differs.
     ///
     /// It is refused as `TooLong`, and nothing changes, exactly if the buffer has fewer bytes.
     pub fn set_total_size(&mut self, size: usize) -> Result<(), FragmentError>
@@ -153,7 +154,7 @@ impl<B: Storage<u8>, const N: usize> FragmentsOver<B, N> {
         self.expires_at < now
     }
 
-    /// Begins anew for another packet, which is waited for up to `expires_at`.
+    /// Starts over for another packet, which is waited for up to `expires_at`.
     pub fn reset(&mut self, expires_at: Instant)
         ensures bytes { self.new.bytes ≡ self.old.bytes }
         ensures nothing { (self.new.present ≡ nothing) × (self.new.total ≡ None) }

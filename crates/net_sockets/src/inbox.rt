@@ -9,7 +9,7 @@ use net_packets::{PacketMetadata, PacketsOver};
 use net_ring::{Empty, Storage};
 use std::marker::Model;
 
-/// Datagrams that came in, over any storage.
+/// Received datagrams, over any storage.
 ///
 /// A struct that lends from a queue in its field is generic in the queue's storage, as this one is:
 /// over a `PacketBuffer` no contract could say what the loan leaves.

@@ -1,8 +1,8 @@
 //! Users of `net_storage` and `net_base`: a UDP socket, a buffer of fragments, a bridge, and an
 //! inbox that shows its first datagram in place.
 //!
-//! Each is small, and each is proved only from the public contracts of those crates, as a user
-//! would write it.
+//! Each is small, and is proved only from the public contracts of those crates, as a user's code
+//! would be.
 #![tactic(auto)]
 
 mod bridge;

@@ -48,11 +48,11 @@ impl<'a> UdpSocket<'a> {
         UdpSocket { inbound, outbound }
     }
 
-    /// Puts a datagram of the bytes `data` at the end of those to be sent. Any endpoint is taken.
+    /// Appends a datagram of the bytes `data` to those to be sent. Any endpoint is accepted.
     ///
     /// `Full` changes nothing. It is returned exactly if the queue can't place a packet of so many
-    /// bytes: if no slot is free for it or for the gap that it may need, or if not so many
-    /// contiguous bytes are free.
+    /// bytes: if no slot is free for it or for the gap that it may need, or if there are not so
+    /// many contiguous free bytes.
     pub fn send_slice(&mut self, data: &[u8], to: Endpoint) -> Result<(), Full>
         ensures inbound { self.new.inbound ≡ self.old.inbound }
         ensures full { IsErr result ↔ (placement self.old.outbound (length «data».now) ≡ None) }
@@ -66,7 +66,7 @@ impl<'a> UdpSocket<'a> {
     }
 
     /// Takes the first received datagram off, copies as many of its bytes as `into` has room for,
-    /// and returns how many those are, and where it came from. Bytes that don't fit are lost.
+    /// and returns how many, and where it came from. Bytes that don't fit are lost.
     ///
     /// `Empty` changes nothing. If a datagram does not fit, smoltcp returns an error in place of
     /// the number; there too the datagram is lost.
@@ -93,8 +93,8 @@ impl<'a> UdpSocket<'a> {
     }
 
     /// Copies as many bytes of the first received datagram as `into` has room for, and returns how
-    /// many those are, and where it came from. The datagram stays. Only the gap before it, if there
-    /// is one, is given up, so that there may be room for one more.
+    /// many, and where it came from. The datagram stays. Only the gap before it, if there is one,
+    /// is dropped, so that there may be room for one more datagram.
     ///
     /// `Empty` leaves the socket and `into` as they were.
     pub fn peek_slice(&mut self, into: &mut [u8]) -> Result<(usize, Endpoint), Empty>
@@ -110,7 +110,7 @@ impl<'a> UdpSocket<'a> {
         copy_first(&mut self.inbound, into)
     }
 
-    /// Returns whether a datagram was received that was not taken off.
+    /// Returns whether there is a received datagram that was not taken off.
     pub fn can_recv(&self) -> bool
         ensures { result ≡ not (length (inbound_datagrams self.now) == 0) }
     {
@@ -119,7 +119,7 @@ impl<'a> UdpSocket<'a> {
     }
 
     /// Returns whether a slot is free for a datagram to be sent. `send_slice` can still return
-    /// `Full`, if bytes are missing.
+    /// `Full`, if there are too few free bytes.
     pub fn can_send(&self) -> bool
         ensures slot { IsTrue result ↔ (slots_used self.now.outbound.packets
             < self.now.outbound.slot_count) }
@@ -128,8 +128,8 @@ impl<'a> UdpSocket<'a> {
         !self.outbound.is_full()
     }
 
-    /// Puts a datagram that came in at the end of those that were received. Returns false, drops it
-    /// and changes nothing, exactly if the queue can't place a packet of so many bytes.
+    /// Appends a datagram to those that were received. Returns false, drops it and changes nothing,
+    /// exactly if the queue can't place a packet of so many bytes.
     ///
     /// ```rust
     /// if !socket.process(from, bytes) {
@@ -151,7 +151,7 @@ impl<'a> UdpSocket<'a> {
 
     /// Hands the first datagram to be sent to `emit`, with where it goes. If that returns `Ok`, the
     /// datagram is taken off; if it returns `Err`, it stays first, and only the gap before it, if
-    /// there is one, is given up.
+    /// there is one, is dropped.
     ///
     /// `Empty` changes nothing, and `emit` is not called.
     ///
@@ -174,7 +174,7 @@ impl<'a> UdpSocket<'a> {
     }
 }
 
-/// Puts a packet with a copy of `data` last, or changes nothing.
+/// Appends a packet with a copy of `data`, or changes nothing.
 fn put(queue: &mut PacketBuffer<'_, Endpoint>, endpoint: Endpoint, data: &[u8]) -> Result<(), Full>
     ensures full { IsErr result ↔ (placement queue.old (length «data».now) ≡ None) }
     ensures unchanged { OnErr result (queue.new ≡ queue.old) }

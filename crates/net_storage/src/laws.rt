@@ -1,7 +1,7 @@
 //! Laws whose premises are equations, as the contracts of calls state them, and what follows at one
 //! index or position.
 //!
-//! One is on a list that was written over and on a set of positions, so it is here. The others are
+//! The law that is defined here is about an overwritten list and a set of positions. The others are
 //! those of `net_ring::laws` and `net_assembler::laws`.
 ghost use Rattle.std.specs.Prelude.{◌≡◌, ◌+◌, ◌<◌, ◌≤◌};
 ghost use Rattle.std.specs.Prelude.{ℕ, List, [], ◌∷◌, length, slice_index_or, IsTrue};
@@ -15,9 +15,9 @@ pub use net_assembler::laws::{
 };
 pub use net_ring::laws::{element_after_overwrite, element_set};
 
-/// States that a buffer that is written over wherever lists come, and the set of the positions that
-/// were, stay true to the writes with one more write and its range, and that below the front of the
-/// set no element is missing.
+/// States that `Reassembles` holds of a buffer and the empty set before any write, and after each
+/// further write of a list over the buffer whose range is added to the set; and that no element is
+/// missing below the front of the set.
 pub fn reassembling<T>()
     ensures none { (buffer : List T) → Reassembles [] buffer nothing }
     ensures more { (writes : List (ℕ × List T)) (offset : ℕ) (xs old new : List T)

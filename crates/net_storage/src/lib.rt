@@ -1,8 +1,8 @@
 //! Storage for packets and streams, under one name: rings, packet queues, and the assembler of data
-//! that comes out of order.
+//! that arrives out of order.
 //!
 //! Each of the three is a crate of its own, `net_ring`, `net_packets` and `net_assembler`; this one
-//! re-exports them, and has the one law that is on two of them.
+//! re-exports them, and has the one law that is about two of them.
 #![tactic(auto)]
 
 pub mod laws;

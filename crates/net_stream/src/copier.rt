@@ -36,7 +36,7 @@ pub(crate) struct Copier<'a, 'f, A: Allocator + Copy> {
     pub rounds: u64,
     /// How many rounds in a row made no progress.
     pub stalled: u64,
-    /// How long the next round waits.
+    /// How long the next round takes.
     pub wait: Duration,
 }
 
@@ -52,7 +52,7 @@ fn stalled_after(stalled: u64, progress: bool) -> u64
 }
 
 impl<'a, 'f, A: Allocator + Copy> Copier<'a, 'f, A> {
-    /// Returns a copy of which nothing was done.
+    /// Returns a copy before its first turn.
     pub(crate) fn new(
         alloc: A,
         config: Config,
@@ -104,7 +104,7 @@ impl<'a, 'f, A: Allocator + Copy> Copier<'a, 'f, A> {
         self.link.sender.first_unacknowledged()
     }
 
-    /// Returns whether in a round bytes were acknowledged, or are to be written.
+    /// Returns whether a round made progress: bytes were acknowledged, or are to be written.
     fn has_made_progress(&self, before: u64, count: usize) -> bool
         ensures { result ≡ (not (nat_eq self.now.link.sender.first_unacknowledged before) || nat_lt 0 count) }
     {
@@ -146,7 +146,7 @@ impl<'a, 'f, A: Allocator + Copy> Copier<'a, 'f, A> {
         }
     }
 
-    /// Passes a round, and writes what came.
+    /// Passes a round, and writes the bytes that it delivered.
     fn pass<W: Write>(&mut self, chunk: &mut [u8], writer: &mut W) -> Result<(), CopyError>
         requires { self.old.stalled < 2 ^ 64 - 1 }
         ensures ok { OnOk result (Passes (length chunk.old) self.old self.new
@@ -175,7 +175,7 @@ impl<'a, 'f, A: Allocator + Copy> Copier<'a, 'f, A> {
         Ok(())
     }
 
-    /// Returns whether the reader has no more and all that it gave is written.
+    /// Returns whether the reader has no more and everything that it gave is written.
     fn is_done(&self) -> bool
         ensures value { result ≡ (not self.now.more && is_written self.now.link) }
         ensures fits { (end_of self.now.link.sender < 2 ^ 64)
@@ -185,7 +185,7 @@ impl<'a, 'f, A: Allocator + Copy> Copier<'a, 'f, A> {
         !self.more && written
     }
 
-    /// Makes turns until all is written, there is no progress any more, or an error ends it.
+    /// Makes turns until everything is written, the copy gives up, or an error ends it.
     pub(crate) fn run<T: Watch, R: Read, W: Write>(
         &mut self,
         rounds: u64,

@@ -20,7 +20,7 @@ pub struct CopyBuffers<'a> {
     pub outgoing: &'a mut [u8],
     /// The receiver's storage.
     pub incoming: &'a mut [u8],
-    /// What the reader's bytes are read into, and the writer's are written from.
+    /// The buffer that bytes are read into and written from.
     pub chunk: &'a mut [u8],
 }
 
@@ -107,17 +107,17 @@ fn storage_of<A: Allocator + Copy>(alloc: A, len: usize) -> Result<Storage<A>, A
     })
 }
 
-/// Copies all that the reader has to the writer, over a link of these fates.
+/// Copies everything that the reader has to the writer, over a link of these fates.
 ///
 /// It reads into a buffer of the capacity once all that it read before is written, and passes
 /// rounds until all is written (docs/LINK.md). Unless memory is refused, or a write or the flush
 /// fails, the outcome depends only on the config, the fates and what each read gives: the result,
 /// what is written, and all of `counts`. Otherwise what is written and counted comes from some
-/// whole rounds and a part of the next one. Clause `exact` says how, and the module `laws` what
-/// follows. A read or a write that fails ends the copy, and so does a refusal of memory; nothing
-/// is tried again. At the end, after an error too, the writer is flushed once; if all was written,
-/// a flush that fails is a failed write. A stream that uses all positions up to 2^64 - 2 gives up:
-/// the reader's end isn't looked for once none is left.
+/// whole rounds and a part of the next one. Clause `exact` says how, and the module `laws` says
+/// what follows. A read or a write that fails ends the copy, and so does a refusal of memory;
+/// nothing is tried again. At the end, after an error too, the writer is flushed once; if all was
+/// written, a flush that fails is a failed write. A copy whose stream uses all positions, up to
+/// 2^64 - 2, gives up: once no position is left, it doesn't read again to find the reader's end.
 ///
 /// ```rust
 /// let fates = LinkFates {

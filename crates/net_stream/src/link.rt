@@ -28,10 +28,10 @@ use std::marker::Model;
 /// A link that carries a stream in one direction: its sender and its receiver, the path of the
 /// frames, and the path of the acknowledgements.
 ///
-/// The fields are there to be used: the sender and the receiver can be asked how many bytes are
+/// The fields are public so that the sender and the receiver can be asked how many bytes are
 /// queued. A conversation takes two links, one for each direction, since a path carries either
-/// frames or acknowledgements. Time is simulated: a link has a clock of its own, which `advance`
-/// advances.
+/// frames or acknowledgements. Time is simulated: a link has its own clock, which `advance` moves
+/// on.
 #[derive(Drop)]
 pub struct Link<'a, 'f, A: Allocator + Copy> {
     /// What sends.
@@ -117,12 +117,12 @@ impl<'a, 'f, A: Allocator + Copy> Link<'a, 'f, A> {
         }
     }
 
-    /// Returns the moment that the clock shows.
+    /// Returns the time on the clock.
     pub(crate) fn now(&self) -> Instant {
         Instant::ZERO.saturating_add(self.elapsed)
     }
 
-    /// Returns whether all that was written to the sender was read off the receiver.
+    /// Returns whether all bytes that were written to the sender were read from the receiver.
     pub(crate) fn is_written(&self) -> bool
         ensures value { result ≡ is_written self.now }
         ensures fits { (end_of self.now.sender < 2 ^ 64)
@@ -131,7 +131,7 @@ impl<'a, 'f, A: Allocator + Copy> Link<'a, 'f, A> {
         self.receiver.next() == self.sender.end() && self.receiver.queued() == 0
     }
 
-    /// Lets time pass: the clock goes on by so much, up to 2^64 - 1 microseconds in all.
+    /// Advances the clock by so much, up to 2^64 - 1 microseconds in all.
     pub fn advance(&mut self, time: Duration)
         ensures state { self.new
             ≡ record self.old { elapsed = min (self.old.elapsed + time) (2 ^ 64 - 1) } }
@@ -158,7 +158,7 @@ impl<'a, 'f, A: Allocator + Copy> Link<'a, 'f, A> {
         self.sender.write(bytes)
     }
 
-    /// Reads bytes off the receiver into the beginning of `into`, as many as are queued and as it
+    /// Reads bytes from the receiver into the beginning of `into`, as many as are queued and as it
     /// has room for, and returns how many.
     pub fn read(&mut self, into: &mut [u8]) -> usize
         ensures count { result ≡ min (length into.old) (length self.old.receiver.queue) }

@@ -14,10 +14,10 @@ use std::alloc::{AllocError, Allocator};
 use std::marker::Model;
 
 /// A path of a link, in one direction: the frames that are in flight, those that are delayed, and
-/// the fates of those that meet theirs next. It serves as a wire that fails in a known way.
+/// the fates to come. It serves as a wire that fails in a known way.
 ///
-/// Contracts see the two lists of frames, each the next first, and the fates. Each list is a
-/// loopback device, which takes its memory from the allocator.
+/// Contracts see the two lists of frames, each with the next one first, and the fates. Each list is
+/// a loopback device, which takes its memory from the allocator.
 #[derive(Drop)]
 pub struct Path<'f, A: Allocator + Copy> {
     in_flight: Loopback<A>,
@@ -77,7 +77,7 @@ impl<'f, A: Allocator + Copy> Path<'f, A> {
         Some(frame)
     }
 
-    /// Puts a frame after the delayed ones.
+    /// Appends a frame to the delayed ones.
     pub fn put_delayed(&mut self, now: Instant, frame: &[u8]) -> Result<(), AllocError>
         ensures ok { OnOk result (self.new
             ≡ record self.old { delayed = self.old.delayed ++ frame.now ∷ [] }) }

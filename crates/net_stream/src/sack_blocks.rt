@@ -39,7 +39,7 @@ impl Model for SackBlocks {
 }
 
 impl SackBlocks {
-    /// Returns no blocks.
+    /// Returns an empty list of blocks.
     pub fn new() -> SackBlocks
         ensures { result ≡ [] }
     {
@@ -50,7 +50,7 @@ impl SackBlocks {
     }
 
     /// Returns the first 32 of the blocks that bytes list: each start and each end in 8 bytes, the
-    /// most significant first. Fewer than 16 bytes list none.
+    /// most significant first. Fewer than 16 bytes list no block.
     pub fn of_bytes(bytes: &[u8]) -> SackBlocks
         ensures { result ≡ blocks_of most_sack_blocks bytes.now }
     {
@@ -66,7 +66,7 @@ impl SackBlocks {
         sack_blocks
     }
 
-    /// Puts a block after the others.
+    /// Appends a block to the others.
     fn push(&mut self, start: u64, end: u64)
         requires { length self.old < most_sack_blocks }
         ensures { self.new ≡ self.old ++ (start, end) ∷ [] }
@@ -122,7 +122,7 @@ impl SackBlocks {
     }
 }
 
-/// Returns the lesser of two positions, if the first is above `pos`, otherwise the second.
+/// Returns the lesser of two positions if the first is above `pos`, and otherwise the second.
 fn nearer(pos: u64, start: u64, nearest: u64) -> u64
     ensures { result ≡ (if nat_lt pos start then min start nearest else nearest) }
 {

@@ -13,13 +13,13 @@ use net_ring::{ManagedSlice, RingBuffer};
 use std::marker::Model;
 
 /// The sender of a stream: its queue has the bytes that were written and not yet acknowledged. It
-/// serves as the sending half of a TCP socket: `peek_at` lends what a segment is made of.
+/// serves as the sending half of a TCP socket: `peek_at` lends the bytes of a segment.
 ///
 /// Positions are absolute and counted in bytes, as a `Receiver` counts them. Contracts see the
 /// capacity, the first unacknowledged position, which is that of the queue's head, the queue, the
 /// SACK blocks of the last acknowledgement, and the position at which the storage begins again;
 /// `Sends f w` says of a sender that all bytes that were ever written to it are `w`, the first at
-/// position `f`. No call takes memory. smoltcp's TCP socket has the transmit buffer in itself, and
+/// position `f`. No call takes memory. smoltcp's TCP socket has its transmit buffer inside, and
 /// ignores SACK blocks.
 #[derive(Drop)]
 pub struct Sender<'a> {
@@ -89,14 +89,15 @@ impl<'a> Sender<'a> {
         self.ring.len()
     }
 
-    /// Returns whether all that was written is acknowledged.
+    /// Returns whether all bytes that were written are acknowledged.
     pub fn is_empty(&self) -> bool
         ensures { result ≡ (length self.now.queue == 0) }
     {
         self.len() == 0
     }
 
-    /// Returns how many bytes `write` would take: those that have room, as far as positions go.
+    /// Returns how many bytes `write` would take: as many as have room in the storage and below the
+    /// last position.
     pub fn window(&self) -> usize
         ensures { result ≡ room_of self.now }
     {
@@ -116,7 +117,7 @@ impl<'a> Sender<'a> {
     }
 
     /// Lends the queued bytes from the one at `pos` on, at most `max`, without a copy: as many as are
-    /// contiguous in the storage, which wraps. None if the byte at `pos` isn't queued.
+    /// contiguous in the storage, which wraps. No byte is lent if the byte at `pos` isn't queued.
     pub fn peek_at(&self, pos: u64, max: usize) -> &[u8]
         ensures value { result.now
             ≡ take (length result.now) (drop (pos - self.now.first_unacknowledged) self.now.queue) }
@@ -143,7 +144,7 @@ impl<'a> Sender<'a> {
     }
 
     /// Returns how many of the queued bytes, from the one at `pos` on, are in the first SACK block
-    /// that has `pos`: 0 if none has, or `pos` is at or past the end.
+    /// that has `pos`: 0 if none has it, or `pos` is at or past the end.
     pub(crate) fn sacked_from(&self, pos: u64) -> u64
         ensures value { result ≡ spared_from self.now pos }
         ensures within { pos ≤ end_of self.now → pos + result ≤ end_of self.now }
@@ -162,8 +163,8 @@ impl<'a> Sender<'a> {
         self.sack_blocks.next_start(pos, self.end())
     }
 
-    /// Returns whether there are as many SACK blocks as an acknowledgement has room for: then the
-    /// receiver may have held bytes that it couldn't list.
+    /// Returns whether there are as many SACK blocks as an acknowledgement has room for. Then the
+    /// receiver may hold bytes that it couldn't list.
     pub(crate) fn are_sack_blocks_full(&self) -> bool
         ensures { result ≡ is_full self.now.sack_blocks }
     {
@@ -182,8 +183,9 @@ impl<'a> Sender<'a> {
         last.saturating_add(1).min(self.end())
     }
 
-    /// Takes an acknowledgement: drops the bytes below `next`, and keeps these SACK blocks in place
-    /// of those before. A position below `first_unacknowledged` or above `end` changes nothing.
+    /// Accepts an acknowledgement: drops the bytes below `next`, and stores these SACK blocks in
+    /// place of the last ones. A position below `first_unacknowledged` or above `end` changes
+    /// nothing.
     pub fn acknowledge(&mut self, next: u64, sack_blocks: SackBlocks)
         ensures state { self.new ≡ after_ack self.old next sack_blocks }
         ensures sends { (f : ℕ) (w : List ℕ) → Sends f w self.old → Sends f w self.new }

@@ -1,9 +1,10 @@
 //! `Watch`, for watching a copy.
 use net_copies::Counts;
 
-/// Something that is told how far a copy is.
+/// An observer of a copy's progress.
 pub trait Watch {
-    /// Takes the counts so far: called after each round, once what came is written.
+    /// Takes the counts so far. It is called after each round, once the bytes that the round
+    /// delivered are written.
     fn round(&mut self, counts: &Counts);
 }
 

@@ -1,8 +1,8 @@
 //! Laws of sets of positions and of an assembler's calls.
 //!
 //! Each function does nothing: its contract is the law, for all sets, ranges and results. The laws
-//! of calls are on all that the contracts of these calls allow, so they hold of every body that
-//! meets them.
+//! of calls are about everything that the contracts of these calls allow, so they hold of every
+//! body that meets the contracts.
 ghost use Rattle.std.specs.Prelude.{◌≡◌, IsTrue};
 ghost use Rattle.net_assembler.specs.Turns.{binary_digits};
 ghost use Rattle.net_assembler.specs.AssemblerLaws.{EqualSets, MembersOfNothing, MembersOfList};
@@ -48,8 +48,8 @@ pub fn maximal_runs()
     ensures { MaximalRunsOfEverySet }
 {}
 
-/// States that what `run_at` returns is a maximal run of the set, and it returns None exactly if
-/// the set has no run with that number.
+/// States that a run that `run_at` returns is a maximal run of the set, and that it returns `None`
+/// exactly if the set has no run with that number.
 pub fn maximal_runs_by_number()
     ensures { MaximalRunsByNumber }
 {}
@@ -70,7 +70,7 @@ pub fn equal_assemblers()
     ensures { EqualAssemblers }
 {}
 
-/// States that to add an accepted range again is accepted and changes nothing.
+/// States that adding an accepted range again is accepted and changes nothing.
 pub fn adding_again()
     ensures set { RangeAgain }
     ensures calls { AddingAgain }
@@ -101,8 +101,8 @@ pub fn iterating()
     ensures { IteratesMaximalRuns }
 {}
 
-/// States what bounds the looks of `add_counted`: b binary digits are enough exactly for the
-/// numbers below 2 to the power b, so 4 has 3 of them, and 32 has 6.
+/// States how many binary digits a number has, which bounds the looks of `add_counted`: b digits
+/// are enough exactly for the numbers below 2 to the power b, so 4 has 3 of them, and 32 has 6.
 pub fn counting_binary_digits()
     ensures enough { EnoughBinaryDigits }
     ensures of_4 { binary_digits 4 ≡ 3 }

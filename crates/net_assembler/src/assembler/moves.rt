@@ -5,7 +5,7 @@ ghost use Rattle.net_assembler.specs.RunLists.{AreRuns, FitsFrom, runs_shifted_d
 
 use super::turns::Turns;
 
-/// Writes `entry` at `at`, and the used pairs from there on one index up.
+/// Writes `entry` at `at`, and moves the used pairs from there on one index up.
 // Most ranges that are joined are next to a run and need no loop, so that code is short.
 #[inline(never)]
 pub(crate) fn insert_pair(
@@ -55,7 +55,7 @@ pub(crate) fn remove_pairs(
     }
 }
 
-/// Writes `entry` at 0, and the used pairs one index up, each counted `by` higher.
+/// Writes `entry` at 0, and moves the used pairs one index up, each counted `by` higher.
 #[inline(always)]
 pub(crate) fn prepend_pair(
     pairs: &mut [(usize, usize)],

@@ -22,8 +22,8 @@ use super::{IterData, TooManyHolesError};
 /// removed, only `first_start` changes. The first `used` pairs of the array are the runs, and the
 /// others aren't read; if there is no run, `first_start` means nothing.
 ///
-/// The two numbers precede the array: instructions that read them are short, so close to the
-/// value's beginning.
+/// The two numbers precede the array: so close to the value's beginning, they are read by short
+/// instructions.
 #[derive(Debug, Clone, Copy)]
 pub(crate) struct SortedRuns<const N: usize> {
     used: usize,
@@ -32,7 +32,7 @@ pub(crate) struct SortedRuns<const N: usize> {
 }
 
 impl<const N: usize> SortedRuns<N> {
-    /// Returns no run.
+    /// Returns the runs of the empty set: none.
     pub(crate) fn new() -> Self
         ensures sound { HasSoundPairs result }
         ensures empty { set_of result ≡ nothing }
@@ -100,7 +100,7 @@ impl<const N: usize> SortedRuns<N> {
         self.first_start <= offset
     }
 
-    /// Returns the run with number `k`, counted from 0; None if there are no more than `k`.
+    /// Returns the run with number `k`, counted from 0; `None` if there are no more than `k`.
     pub(crate) fn run_at(&self, k: usize) -> Option<(usize, usize)>
         requires { HasSoundPairs self.now }
         ensures run { result ≡ slice_get (maximal_runs (set_of self.now)) k }
@@ -204,7 +204,7 @@ impl<const N: usize> SortedRuns<N> {
         ensures turns { TurnsWithin (binary_digits N) N turns.old turns.new }
         ensures waiting { runs (set_of self.new) ≡ runs (set_of self.old) → turns.new ≡ turns.old }
     {
-        // All runs are after a hole. The range itself is the front, and they remain.
+        // All runs are after a hole. The range itself is the front, and the runs remain.
         if size < self.first_start {
             self.first_start -= size;
             return size;
@@ -213,7 +213,7 @@ impl<const N: usize> SortedRuns<N> {
         if self.used == 0 {
             return size;
         }
-        // Nothing is added: the run that is at 0 already is removed.
+        // Nothing is added: the run at 0 is removed.
         if size == 0 {
             return self.remove_front(turns);
         }

@@ -32,7 +32,7 @@ impl Model for Turns {
 }
 
 impl Turns {
-    /// Returns no looks and no moves.
+    /// Returns counts of no looks and no moves.
     pub fn new() -> Turns
         ensures looks { result.0 ≡ 0 }
         ensures moves { result.1 ≡ 0 }

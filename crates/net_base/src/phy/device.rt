@@ -8,11 +8,11 @@ use crate::phy::{DeviceCapabilities, RxToken, TxToken};
 use crate::time::Instant;
 use std::alloc::AllocError;
 
-/// A device that hands over the frames that came in, and sends frames out.
+/// A device that hands over received frames, and sends frames.
 ///
 /// Tokens are owned: several can exist at once, and a transmit token can be spent on any device
-/// that has its type. Each device states how it changes when a frame is taken off it, when a frame
-/// is sent, and when `receive` finds none.
+/// with that type of tokens. Each device states how it changes when a frame is taken off it, when a
+/// frame is sent, and when `receive` finds none.
 pub trait Device {
     /// A frame that the device has handed over.
     type RxToken: RxToken;
@@ -20,29 +20,31 @@ pub trait Device {
     /// The right to send one frame.
     type TxToken: TxToken;
 
-    /// A frame was taken off the device: the device before, the frame, the device after.
+    /// Holds of the device before, a frame and the device after, if the frame was taken off the
+    /// device.
     ghost taken: { Self → List ℕ → Self → Type 0 };
 
-    /// Holds of a device whose `receive` may return `None`. By default it holds of each.
+    /// Holds of a device whose `receive` may return `None`. By default it holds of every device.
     ghost is_idle: { Self → Type 0 } = { λ _. Unit {0} };
 
-    /// No frame was handed over: the device before, the device after. By default it is unchanged. A
-    /// device that may drop frames meanwhile, as a driver drops damaged ones, states here which.
+    /// Holds of the device before and after a `receive` that handed over no frame. By default the
+    /// device is unchanged. A device that may drop frames then, as a driver drops damaged ones,
+    /// states here which.
     ghost idled: { Self → Self → Type 0 } = { λ old new. new ≡ old };
 
-    /// Holds of a device whose `transmit` may return `None`. By default it holds of each.
+    /// Holds of a device whose `transmit` may return `None`. By default it holds of every device.
     ghost is_busy: { Self → Type 0 } = { λ _. Unit {0} };
 
-    /// Holds of a device whose `transmit` may return a token. By default it holds of each. A device
-    /// with room of its own for frames states here that some is free.
+    /// Holds of a device whose `transmit` may return a token. By default it holds of every device.
+    /// A device with room of its own for frames states here that some is free.
     ghost is_free: { Self → Type 0 } = { λ _. Unit {0} };
 
-    /// A frame was sent: the device before, the frame, the device after.
+    /// Holds of the device before, a frame and the device after, if the frame was sent.
     ghost sent: { Self → List ℕ → Self → Type 0 };
 
-    /// Holds of a device, and of a number of bytes, if `send` may be refused memory for a frame of
-    /// so many. By default it holds of all. A device whose frames are in memory of its own states
-    /// here that it never is.
+    /// Holds of a device and a number of bytes if `send` may be refused memory for a frame of so
+    /// many bytes. By default it always holds. A device whose frames are in memory of its own
+    /// states here that it is never refused any.
     ghost lacks_memory: { Self → ℕ → Type 0 } = { λ _ _. Unit {0} };
 
     /// What the device can do.
@@ -50,11 +52,10 @@ pub trait Device {
 
     /// Takes the next frame off the device: a token that has it, and a token to send one frame
     /// with. Returns `None` only if `is_idle` holds of the device, as the device states it, and
-    /// then the device becomes what it states in `idled`.
+    /// then the device changes as it states in `idled`.
     ///
-    /// The second token is there so that a stack can send at once in return: one that replies to
-    /// an ICMP echo needs no other call to get the right to send. `send` with it can still be
-    /// refused memory.
+    /// The second token lets a stack reply at once: to reply to an ICMP echo it needs no other call
+    /// to get the right to send. `send` with this token can still be refused memory.
     ///
     /// The timestamp is the moment of the call. Any moment is allowed.
     ///

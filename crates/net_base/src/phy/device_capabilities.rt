@@ -10,7 +10,7 @@ use crate::phy::{
 /// The bytes of an Ethernet header.
 const ETHERNET_HEADER_LEN: usize = 14;
 
-/// What a device can do. Nothing here is enforced: it is what a layer above should keep to.
+/// What a device can do. Nothing here is enforced: a layer above should keep to it.
 ///
 /// By default the medium is Ethernet, the longest frame has 0 bytes, bursts have no limit, the
 /// stack handles all checksums and the device cuts no segments.
@@ -19,14 +19,14 @@ pub struct DeviceCapabilities {
     /// What the frames of the device are.
     pub medium: Medium,
     /// The bytes of the longest frame. On Ethernet the 14 bytes of the Ethernet header are counted,
-    /// and the frame check sequence is not: it is the IP MTU plus 14. If an operating system
-    /// names the MTU of an Ethernet device it means the IP MTU, mostly 1500, which is 1514 here.
+    /// and the frame check sequence is not: it is the IP MTU plus 14. The MTU of an Ethernet device
+    /// that an operating system names is the IP MTU, mostly 1500, which is 1514 here.
     pub max_transmission_unit: usize,
     /// How many frames may be sent or received at once; `None` if there is no limit.
     pub max_burst_size: Option<usize>,
-    /// What the stack does about checksums, which the device may take off it.
+    /// What the stack does about checksums; the device does the rest.
     pub checksum: ChecksumCapabilities,
-    /// The segmentation that the device may take off the stack.
+    /// The segmentation that the device can do for the stack.
     pub segmentation: SegmentationCapabilities,
 }
 

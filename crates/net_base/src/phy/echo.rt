@@ -7,10 +7,10 @@ use crate::time::Instant;
 use std::alloc::AllocError;
 
 /// Takes one frame off the device and sends the same frame back. Returns whether there was one; if
-/// there was none, the device becomes what it states in `idled`, by default what it was.
+/// there was none, the device changes only as it states in `idled`, by default not at all.
 ///
 /// If memory is refused, which happens only if the device lacks it for that frame, as it states in
-/// `lacks_memory`, the frame was taken and nothing was sent.
+/// `lacks_memory`, the frame was taken off and nothing was sent.
 pub fn echo_once<D: Device>(device: &mut D, timestamp: Instant) -> Result<bool, AllocError>
     ensures idle { result ≡ Ok false → D.is_idle device.old × D.idled device.old device.new }
     ensures unchanged { result ≡ Ok false → ((old new : D) → D.idled old new → new ≡ old)

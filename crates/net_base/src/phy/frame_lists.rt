@@ -3,11 +3,11 @@ ghost use Rattle.std.specs.Prelude.{◌≡◌, ◌∷◌, ◌++◌, [], ℕ, Lis
 
 use crate::phy::Device;
 
-/// A device whose frames are in lists: those that come in are taken off the head of one, and
-/// those that are sent go to the end of one, which may be the same.
+/// A device whose frames are in lists: received frames are taken off the head of one list, and sent
+/// frames are appended to one, which may be the same list.
 ///
-/// Each such device proves it by the three laws. Contracts can then say by lists which frames
-/// passed between such devices.
+/// Each such device proves this by the three laws. Contracts can then say in terms of lists which
+/// frames passed between such devices.
 pub trait FrameLists: Device {
     /// The frames that wait to be taken off, the next first.
     ghost incoming: { Self → List (List ℕ) };

@@ -1,5 +1,5 @@
-//! What holds of all values of the types of this module, and of its constant. No function here
-//! changes anything.
+//! Laws of all values of the types of this module, and of its constant. No function here changes
+//! anything.
 
 ghost use Rattle.std.specs.Prelude.{◌≡◌, ◌↔◌, IsTrue};
 ghost use Rattle.std.specs.Hash as fed;
@@ -16,7 +16,7 @@ use crate::phy::{
 use std::alloc::Allocator;
 use std::hash::Hash;
 
-/// States that the payload of each IPv4 fragment but the last is a multiple of 8 bytes.
+/// States that the payload of each IPv4 fragment except the last is a multiple of 8 bytes.
 pub fn fragment_payload_alignment() -> usize
     ensures { result ≡ 8 }
 {
@@ -30,14 +30,14 @@ pub fn loopback_metadata<A: Allocator + Copy>(frame: &loopback::RxToken<A>) -> P
     frame.meta()
 }
 
-/// States that the tokens of a loopback device are plain.
+/// States that the tokens of a loopback device have no metadata.
 pub fn loopback_tokens<A: Allocator + Copy>(rx: &loopback::RxToken<A>, tx: &loopback::TxToken)
     ensures received { ⟦<loopback::RxToken<A> as RxToken>⟧.is_plain rx.now }
     ensures sent { ⟦<loopback::TxToken as TxToken>⟧.is_plain tx.now }
 {}
 
-/// States that two packets' metadata are equal exactly if they are the same, and then they hash
-/// alike, by any hasher. A hasher is fed the identifier and the segment size.
+/// States that two packets' metadata are equal exactly if they are the same, and then they have
+/// equal hashes, by any hasher. A hasher is fed the identifier and the segment size.
 pub fn packet_meta_hash(x: &PacketMeta, y: &PacketMeta)
     ensures equality { IsTrue (⟦<PacketMeta as PartialEq>⟧.eq x.now y.now) ↔ (x.now ≡ y.now) }
     ensures alike { IsTrue (⟦<PacketMeta as PartialEq>⟧.eq x.now y.now)
@@ -75,7 +75,7 @@ pub fn checksum_default(checksum: &Checksum)
     ensures { ⟦<Checksum as Default>⟧.is_default checksum.now → checksum.now ≡ Both }
 {}
 
-/// States that a clone of what is done about checksums is the same, and is never refused.
+/// States that a clone of a `Checksum` is the same, and is never refused.
 pub fn checksum_clone(checksum: &Checksum, clone: &Checksum)
     ensures same { ⟦<Checksum as Clone>⟧.is_clone checksum.now clone.now
         → clone.now ≡ checksum.now }
@@ -88,8 +88,7 @@ pub fn checksums_default(checksums: &ChecksumCapabilities)
         → checksums.now ≡ all_checksums }
 {}
 
-/// States that a clone of what is done about the checksums of all protocols is the same, and is
-/// never refused.
+/// States that a clone of `ChecksumCapabilities` is the same, and is never refused.
 pub fn checksums_clone(checksums: &ChecksumCapabilities, clone: &ChecksumCapabilities)
     ensures same { ⟦<ChecksumCapabilities as Clone>⟧.is_clone checksums.now clone.now
         → clone.now ≡ checksums.now }
@@ -102,8 +101,7 @@ pub fn segmentation_default(segmentation: &SegmentationCapabilities)
         → segmentation.now ≡ no_segmentation }
 {}
 
-/// States that a clone of the segmentation that a device takes off the stack is the same, and is
-/// never refused.
+/// States that a clone of `SegmentationCapabilities` is the same, and is never refused.
 pub fn segmentation_clone(segmentation: &SegmentationCapabilities, clone: &SegmentationCapabilities)
     ensures same { ⟦<SegmentationCapabilities as Clone>⟧.is_clone segmentation.now clone.now
         → clone.now ≡ segmentation.now }
@@ -126,8 +124,8 @@ pub fn medium_equality(x: &Medium, y: &Medium)
     ensures { IsTrue (⟦<Medium as PartialEq>⟧.eq x.now y.now) ↔ (x.now ≡ y.now) }
 {}
 
-/// States that two numbers other than 0 are equal exactly if they are the same, and then they hash
-/// alike, by any hasher.
+/// States that two numbers other than 0 are equal exactly if they are the same, and then they have
+/// equal hashes, by any hasher.
 pub fn nonzero_u16_hash(x: &NonZeroU16, y: &NonZeroU16)
     ensures equality { IsTrue (⟦<NonZeroU16 as PartialEq>⟧.eq x.now y.now) ↔ (x.now ≡ y.now) }
     ensures alike { IsTrue (⟦<NonZeroU16 as PartialEq>⟧.eq x.now y.now)
@@ -142,8 +140,8 @@ pub fn nonzero_u16_clone(number: &NonZeroU16, clone: &NonZeroU16)
     ensures never_refused { ⟦<NonZeroU16 as Clone>⟧.is_infallible number.now }
 {}
 
-/// States that two numbers other than 0 are equal exactly if they are the same, and then they hash
-/// alike, by any hasher.
+/// States that two numbers other than 0 are equal exactly if they are the same, and then they have
+/// equal hashes, by any hasher.
 pub fn nonzero_usize_hash(x: &NonZeroUsize, y: &NonZeroUsize)
     ensures equality { IsTrue (⟦<NonZeroUsize as PartialEq>⟧.eq x.now y.now) ↔ (x.now ≡ y.now) }
     ensures alike { IsTrue (⟦<NonZeroUsize as PartialEq>⟧.eq x.now y.now)

@@ -16,12 +16,12 @@ use std::marker::Model;
 /// The longest frame that the capabilities name, in bytes.
 const LONGEST_FRAME: usize = 65_535;
 
-/// A device that receives what it sends, in the order in which it was sent. It serves tests, and two
-/// ends in one program.
+/// A device that receives what it sends, in the order in which it was sent. It serves for tests, and to connect
+/// two ends in one program.
 ///
 /// Contracts see its medium and the list of its frames, the next first. It stores its allocator,
 /// from which `send` takes the room in its queue and the bytes of each frame. Frames of any length
-/// are sent, also those beyond the `max_transmission_unit` of its capabilities.
+/// are sent, even those longer than the `max_transmission_unit` of its capabilities.
 #[derive_where(Debug)]
 #[derive(Drop)]
 pub struct Loopback<A: Allocator + Copy = Global> {
@@ -92,7 +92,7 @@ impl<A: Allocator + Copy> Device for Loopback<A> {
         }
     }
 
-    /// Puts a frame after the others. The room in the queue and the bytes of the frame are taken
+    /// Appends a frame to the others. Memory for its place in the queue and for its bytes is taken
     /// before `f` is called.
     fn send<R, F: FnOnce(&mut [u8]) -> R + Drop>(
         &mut self,

@@ -10,7 +10,7 @@ pub trait RxToken: Drop {
     /// The bytes of the frame.
     ghost bytes: { Self → List ℕ };
 
-    /// Holds of a token whose frame has no metadata. By default every token is one.
+    /// Holds of a token whose frame has no metadata. By default it holds of every token.
     ghost is_plain: { Self → Type 0 } = { λ _. Unit {0} };
 
     /// Calls `f` once on the frame, and returns what `f` returned.
@@ -26,7 +26,7 @@ pub trait RxToken: Drop {
     fn frame(&self) -> &[u8]
         ensures { result.now ≡ bytes self.now };
 
-    /// Returns what goes along with the frame: by default nothing, the default value. A token that
+    /// Returns the metadata of the frame: by default none, which is the default value. A token that
     /// has metadata writes its own method, with a contract of its own.
     fn meta(&self) -> PacketMeta
         ensures { is_plain self.now → result ≡ no_metadata }

@@ -1,4 +1,4 @@
-//! The segmentation that a device takes off the stack.
+//! The segmentation that a device does for the stack.
 use crate::phy::NonZeroUsize;
 
 /// The largest buffer, in bytes, that the device cuts into segments for each protocol pair; `None`,

@@ -1,4 +1,4 @@
-//! What holds of every generator. No function here does anything.
+//! Laws of every generator. No function here does anything.
 
 ghost use Rattle.std.specs.Prelude.{◌≡◌, ◌^◌, ℕ};
 ghost use Rattle.net_base.specs.Generator.{LeadsTo, IsPeriod};

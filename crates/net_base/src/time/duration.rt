@@ -13,7 +13,7 @@ use std::ops::{
 };
 
 /// A length of time, in microseconds. By default it is zero. It serves for timeouts, and for the
-/// distance of two moments.
+/// distance between two moments.
 ///
 /// Contracts see the microseconds, a number from 0 to 2^64 - 1. Quotients are cut to whole numbers.
 #[derive(Debug, Default, Copy, Clone, PartialEq, Eq, PartialOrd, Ord)]
@@ -115,7 +115,7 @@ impl Duration {
         self.micros / 1_000
     }
 
-    /// All of the microseconds.
+    /// Returns all of the microseconds.
     pub fn total_micros(&self) -> u64
         ensures { result ≡ self.now }
     {
@@ -130,8 +130,8 @@ impl Duration {
         u64::try_from(duration.as_micros()).is_ok()
     }
 
-    /// Returns the whole microseconds of a duration of the standard library; its nanoseconds beyond
-    /// them are left out.
+    /// Returns the whole microseconds of a duration of the standard library; the nanoseconds beyond
+    /// them are dropped.
     ///
     /// # Requires
     ///
@@ -166,7 +166,7 @@ impl Duration {
         self.micros.checked_mul(u64::from(factor)).is_some()
     }
 
-    /// Returns the sum, or `None` exactly if it is no length.
+    /// Returns the sum, or `None` exactly if it is above the greatest length.
     pub fn checked_add(self, rhs: Duration) -> Option<Duration>
         ensures { SomeIff result (IsLength (self + rhs)) (self + rhs) }
     {
@@ -175,7 +175,7 @@ impl Duration {
             .map(Duration::from_micros)
     }
 
-    /// Returns the difference, or `None` exactly if it is no length: if `rhs` is the longer one.
+    /// Returns the difference, or `None` exactly if `rhs` is the longer one.
     pub fn checked_sub(self, rhs: Duration) -> Option<Duration>
         ensures { SomeIff result (rhs ≤ self) (self - rhs) }
     {
@@ -184,7 +184,7 @@ impl Duration {
             .map(Duration::from_micros)
     }
 
-    /// Returns the product, or `None` exactly if it is no length.
+    /// Returns the product, or `None` exactly if it is above the greatest length.
     pub fn checked_mul(self, rhs: u32) -> Option<Duration>
         ensures { SomeIff result (IsLength (self * rhs)) (self * rhs) }
     {
@@ -202,21 +202,21 @@ impl Duration {
             .map(Duration::from_micros)
     }
 
-    /// Returns the sum, or the greatest length if it is none.
+    /// Returns the sum, or the greatest length if the sum is above it.
     pub fn saturating_add(self, rhs: Duration) -> Duration
         ensures { result ≡ min (self + rhs) (2 ^ 64 - 1) }
     {
         Duration::from_micros(self.micros.saturating_add(rhs.micros))
     }
 
-    /// Returns the difference, or no time if `rhs` is the longer one.
+    /// Returns the difference, or zero if `rhs` is the longer one.
     pub fn saturating_sub(self, rhs: Duration) -> Duration
         ensures { result ≡ self - rhs }
     {
         Duration::from_micros(self.micros.saturating_sub(rhs.micros))
     }
 
-    /// Returns the product, or the greatest length if it is none.
+    /// Returns the product, or the greatest length if the product is above it.
     ///
     /// ```rust
     /// self.timeout = self.timeout.saturating_mul(2);
@@ -253,7 +253,7 @@ impl fmt::Display for Duration {
     }
 }
 
-/// The sum. `can_add` tells whether it is a length.
+/// Returns the sum. `can_add` tells whether it is a length.
 impl Add for Duration {
     type Output = Duration;
 
@@ -279,7 +279,7 @@ impl AddAssign for Duration {
     }
 }
 
-/// The difference. `can_sub` tells whether it is a length.
+/// Returns the difference. `can_sub` tells whether it is a length.
 impl Sub for Duration {
     type Output = Duration;
 
@@ -294,7 +294,7 @@ impl Sub for Duration {
     }
 }
 
-/// Takes a length off. `can_sub` tells whether the difference is one.
+/// Subtracts a length. `can_sub` tells whether the difference is one.
 impl SubAssign for Duration {
     ghost can_sub_assign = { λ d e. e ≤ d };
 
@@ -305,7 +305,7 @@ impl SubAssign for Duration {
     }
 }
 
-/// The product. `can_mul` tells whether it is a length.
+/// Returns the product. `can_mul` tells whether it is a length.
 impl Mul<u32> for Duration {
     type Output = Duration;
 
@@ -331,7 +331,7 @@ impl MulAssign<u32> for Duration {
     }
 }
 
-/// The quotient. The divisor may not be 0.
+/// Returns the quotient. The divisor must not be 0.
 impl Div<u32> for Duration {
     type Output = Duration;
 
@@ -346,7 +346,7 @@ impl Div<u32> for Duration {
     }
 }
 
-/// Divides the length. The divisor may not be 0.
+/// Divides the length. The divisor must not be 0.
 impl DivAssign<u32> for Duration {
     ghost can_div_assign = { λ _ k. 0 < k };
 
@@ -357,7 +357,7 @@ impl DivAssign<u32> for Duration {
     }
 }
 
-/// The low 64 bits of the microseconds, shifted left. The shift is below 64.
+/// Returns the low 64 bits of the microseconds, shifted left. The shift must be below 64.
 impl Shl<u32> for Duration {
     type Output = Duration;
 
@@ -372,7 +372,7 @@ impl Shl<u32> for Duration {
     }
 }
 
-/// Shifts the microseconds left, and keeps the low 64 bits. The shift is below 64.
+/// Shifts the microseconds left, and keeps the low 64 bits. The shift must be below 64.
 impl ShlAssign<u32> for Duration {
     ghost can_shl_assign = { λ _ k. k < 64 };
 
@@ -383,7 +383,7 @@ impl ShlAssign<u32> for Duration {
     }
 }
 
-/// The microseconds, shifted right. The shift is below 64.
+/// Returns the microseconds, shifted right. The shift must be below 64.
 impl Shr<u32> for Duration {
     type Output = Duration;
 
@@ -398,7 +398,7 @@ impl Shr<u32> for Duration {
     }
 }
 
-/// Shifts the microseconds right. The shift is below 64.
+/// Shifts the microseconds right. The shift must be below 64.
 impl ShrAssign<u32> for Duration {
     ghost can_shr_assign = { λ _ k. k < 64 };
 
@@ -409,7 +409,7 @@ impl ShrAssign<u32> for Duration {
     }
 }
 
-/// The same length, as a duration of the standard library.
+/// Returns the same length as a duration of the standard library.
 impl From<Duration> for std::time::Duration {
     ghost from_gives = { λ d r. as_nanos r ≡ d * 1_000 };
 

@@ -12,8 +12,8 @@ use std::marker::Model;
 use std::ops::{Add, AddAssign, Sub, SubAssign};
 
 /// A moment, in microseconds since an origin of the user's own, such as the start of the system. A
-/// moment below zero is before the origin. It serves wherever a caller says what time it is: in
-/// timeouts, and for a device that is polled.
+/// moment below zero is before the origin. A caller says with it what time it is: in timeouts, and
+/// to a device that it polls.
 ///
 /// Contracts see the microseconds, a whole number from -2^63 to 2^63 - 1. Quotients are cut towards
 /// zero.
@@ -155,7 +155,7 @@ impl Instant {
         i64::try_from(i128::from(self.micros) - i128::from(duration.total_micros())).is_ok()
     }
 
-    /// Returns the moment so much later, or `None` exactly if there is none.
+    /// Returns the moment so much later, or `None` exactly if that is after the last moment.
     pub fn checked_add(&self, duration: Duration) -> Option<Instant>
         ensures { SomeIff result (IsMoment (self.now +ℤ pos duration)) (self.now +ℤ pos duration) }
     {
@@ -166,7 +166,7 @@ impl Instant {
         }
     }
 
-    /// Returns the moment so much earlier, or `None` exactly if there is none.
+    /// Returns the moment so much earlier, or `None` exactly if that is before the first moment.
     pub fn checked_sub(&self, duration: Duration) -> Option<Instant>
         ensures { SomeIff result (IsMoment (self.now -ℤ pos duration)) (self.now -ℤ pos duration) }
     {
@@ -177,7 +177,7 @@ impl Instant {
         }
     }
 
-    /// Returns the moment so much later, or the last one if there is none.
+    /// Returns the moment so much later, or the last moment if that is after it.
     ///
     /// ```rust
     /// self.timeout = self.timeout.saturating_mul(2);
@@ -194,7 +194,7 @@ impl Instant {
         }
     }
 
-    /// Returns the moment so much earlier, or the first one if there is none.
+    /// Returns the moment so much earlier, or the first moment if that is before it.
     pub fn saturating_sub(&self, duration: Duration) -> Instant
         ensures exact { IsMoment (self.now -ℤ pos duration) → result ≡ self.now -ℤ pos duration }
         ensures first { (IsMoment (self.now -ℤ pos duration) → ⊥) → result ≡ negsuc (2 ^ 63 - 1) }
@@ -232,7 +232,7 @@ impl fmt::Display for Instant {
     }
 }
 
-/// The moment so much later. `can_add` tells whether there is one.
+/// Returns the moment so much later. `can_add` tells whether there is one.
 impl Add<Duration> for Instant {
     type Output = Instant;
 
@@ -258,7 +258,7 @@ impl AddAssign<Duration> for Instant {
     }
 }
 
-/// The moment so much earlier. `can_sub` tells whether there is one.
+/// Returns the moment so much earlier. `can_sub` tells whether there is one.
 impl Sub<Duration> for Instant {
     type Output = Instant;
 
@@ -284,7 +284,8 @@ impl SubAssign<Duration> for Instant {
     }
 }
 
-/// How far the moments are apart, whichever is the later one. Any two moments have a distance.
+/// Returns how far apart the moments are, whichever is the later one. Any two moments have a
+/// distance.
 impl Sub<Instant> for Instant {
     type Output = Duration;
 

@@ -1,4 +1,4 @@
-//! What holds of all moments and lengths, and of the constants. No function here changes anything.
+//! Laws of all moments and lengths, and of the constants. No function here changes anything.
 
 ghost use Rattle.std.specs.Prelude.{◌≡◌, ◌↔◌, ◌-◌, ◌^◌, ◌<◌, ◌<ℤ◌, pos, IsTrue, Some};
 ghost use Rattle.std.specs.Ordering.{MatchOrdering};
@@ -52,12 +52,12 @@ pub fn duration_order(x: &Duration, y: &Duration)
     ensures equality { IsTrue (⟦<Duration as PartialEq>⟧.eq x.now y.now) ↔ (x.now ≡ y.now) }
 {}
 
-/// States that the distance of two moments is the same both ways.
+/// States that the distance between two moments is the same both ways.
 pub fn distance_both_ways(x: &Instant, y: &Instant)
     ensures { distance x.now y.now ≡ distance y.now x.now }
 {}
 
-/// States that a length that is added to a moment and taken off again leaves the moment.
+/// States that adding a length to a moment and subtracting it again gives the moment.
 ///
 /// # Requires
 ///
@@ -69,7 +69,7 @@ pub fn instant_there_and_back(instant: Instant, duration: Duration) -> Instant
     (instant + duration) - duration
 }
 
-/// States that a length that is taken off a moment and added again leaves the moment.
+/// States that subtracting a length from a moment and adding it again gives the moment.
 ///
 /// # Requires
 ///
@@ -81,7 +81,7 @@ pub fn instant_back_and_there(instant: Instant, duration: Duration) -> Instant
     (instant - duration) + duration
 }
 
-/// States that a moment and the one that is so much later are so far apart.
+/// States that the distance between a moment and the one a length later is that length.
 ///
 /// # Requires
 ///
@@ -93,7 +93,7 @@ pub fn instant_moved(instant: Instant, duration: Duration) -> Duration
     (instant + duration) - instant
 }
 
-/// States that a length that is added to another and taken off again leaves the other.
+/// States that adding a length to another and subtracting it again gives the other.
 ///
 /// # Requires
 ///
@@ -137,8 +137,8 @@ pub fn duration_text(duration: &Duration)
         ≡ Some (length_text duration.now) }
 {}
 
-/// States that a fold with `earlier`, from `None` on, finds the earliest of the moments that a
-/// list's elements have.
+/// States that a fold with `earlier`, from `None` on, finds the earliest of the moments of a list's
+/// elements.
 pub fn earliest_of_each<T>()
     ensures { (f : T → Option ℤ) (xs : List T) (t : Option ℤ) → t ≡ earliest_of f xs →
         IsEarliest f xs t }

@@ -17,7 +17,7 @@ pub fn earlier(first: Option<Instant>, second: Option<Instant>) -> Option<Instan
     }
 }
 
-/// Returns the earliest of the moments that are there, or `None` if none is: when to poll something
+/// Returns the earliest of the moments that are there, or `None` if none is: when to poll an object
 /// with several timers, each of which may be off.
 pub fn earliest(moments: &[Option<Instant>]) -> Option<Instant>
     ensures { IsEarliest (λ t. t) moments.now result }

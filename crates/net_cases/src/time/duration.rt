@@ -176,7 +176,7 @@ fn from_secs(secs: u64) -> Option<Duration> {
     Some(Duration::from_secs(secs))
 }
 
-/// Makes a call on two lengths, where a condition allows it.
+/// Makes a call on two lengths, if a condition allows it.
 fn combine(kind: Two, duration: Duration, other: Duration) -> Reply {
     match kind {
         Two::CanAdd => Reply::new().truth(duration.can_add(other)),
@@ -233,7 +233,7 @@ fn compare(duration: Duration, other: Duration) -> Reply {
         .truth(cloned)
 }
 
-/// Makes a call on a length and a number, where a condition allows it.
+/// Makes a call on a length and a number, if a condition allows it.
 fn scale(scaling: Scaling, duration: Duration, factor: u32) -> Reply {
     match scaling {
         Scaling::CanMul => Reply::new().truth(duration.can_mul(factor)),

@@ -143,7 +143,7 @@ fn from_secs(secs: i64) -> Option<Instant> {
     Some(Instant::from_secs(secs))
 }
 
-/// Moves a moment, where a condition allows it.
+/// Moves a moment, if a condition allows it.
 fn move_by(moving: Moving, instant: Instant, length: Duration) -> Reply {
     match moving {
         Moving::CanAdd => Reply::new().truth(instant.can_add(length)),

@@ -11,8 +11,8 @@ pub fn fuel()
     known();
 }
 
-/// States that a copy that has ended stays as it is, so that what comes of it is what it was then, and
-/// that it ended in one turn, before which it went on.
+/// States that a copy that has ended stays as it is, so that its outcome is the one at that moment; and that it
+/// ended in one turn, before which it went on.
 pub fn ended()
     ensures stays { Stays }
     ensures last { FinalIs }
@@ -22,8 +22,8 @@ pub fn ended()
     known();
 }
 
-/// States that, whatever the link does, a copy makes at most `rounds` rounds for each byte that was
-/// read, twice, and `rounds` more.
+/// States that, whatever the link does, a copy makes at most `2 * rounds` rounds for each byte that
+/// was read, and `rounds` more.
 pub fn rounds_anyway()
     ensures { FewRoundsAnyway }
 {

@@ -9,7 +9,7 @@ ghost use Rattle.net_copies.specs.Stuck.{KnownOfRounds};
 use super::streams;
 use net_receiver::laws;
 
-/// States what the laws of rounds depend on.
+/// States the facts from which the laws of rounds follow.
 fn known_of_rounds()
     ensures { KnownOfRounds }
 {
@@ -26,23 +26,23 @@ pub fn gives_up()
 {}
 
 /// States that a copy gives up only if in each of its last `rounds` rounds the first frame or all
-/// acknowledgements failed.
+/// acknowledgements failed to arrive.
 pub fn gives_up_if_failed()
     ensures { GivesUpIfFailed }
 {
     known_of_rounds();
 }
 
-/// States that a copy never gives up where nothing is lost, whatever is delayed or duplicated, if
-/// its `rounds` is above 1.
+/// States that a copy never gives up if nothing is lost, whatever is delayed or duplicated, and its
+/// `rounds` is above 1.
 pub fn delays()
     ensures { NeverByDelays }
 {
     known_of_rounds();
 }
 
-/// States that over a link that loses and delays nothing a copy never gives up, and that it is done if
-/// the input's end comes.
+/// States that over a link that loses and delays nothing a copy never gives up, and that it is done if the
+/// reads come to the input's end.
 pub fn all_come()
     ensures never { EndsIfAllCome }
     ensures done { DoneIfAllCome }
@@ -58,7 +58,8 @@ pub fn rounds()
     known_of_rounds();
 }
 
-/// States what a copy counts: a round in each turn of one that goes on, and each frame's fate.
+/// States what a copy counts: a round for each turn after which it goes on, and the fate of each
+/// frame.
 pub fn counts()
     ensures rounds { CountsRounds }
     ensures fates { CountsEachFate }
@@ -66,9 +67,9 @@ pub fn counts()
     known_of_rounds();
 }
 
-/// States what a copy counts that gives up: at least `rounds` rounds, as many frames and
-/// acknowledgements that were lost or delayed, and all but one of them lost. If it read less than
-/// the sender has room for, it hasn't written all of that.
+/// States what a copy that gives up has counted: at least `rounds` rounds, and at least as many
+/// frames and acknowledgements that were lost or delayed, of which at most one was not lost. If it
+/// read less than the sender has room for, it hasn't written all that it read.
 pub fn gives_up_counted()
     ensures rounds { GivesUpCounted }
     ensures failed { EnoughFailed }
@@ -78,8 +79,8 @@ pub fn gives_up_counted()
 }
 
 /// States that a copy that is done read no more than a chunk a round, and that over a link that
-/// loses and delays nothing each round wrote some bytes. If a round has room for what a read gives,
-/// and each read fills its room, a copy makes as many rounds as reads (`exact`).
+/// loses and delays nothing each round wrote some bytes. If a round has room for the bytes of a
+/// read, and each read fills its room, a copy makes as many rounds as reads (`exact`).
 pub fn enough_rounds()
     ensures least { EnoughRounds }
     ensures at_once { RoundsAtOnce }
@@ -88,8 +89,8 @@ pub fn enough_rounds()
     known_of_rounds();
 }
 
-/// States what a round delivers if all its frames and acknowledgements come, and the receiver's free
-/// window has room for all that the sender has queued: the receiver has all that was sent, and the
+/// States what a round delivers if all its frames and acknowledgements arrive, and the receiver's free window
+/// has room for everything that the sender has queued: the receiver has all that was sent, and the sender's
 /// queue is the rest.
 pub fn round_delivers()
     ensures { RoundDelivers }

@@ -7,15 +7,16 @@ pub fn frames_decode()
     ensures { FramesDecode }
 {}
 
-/// States that frames of two positions or of two payloads differ.
+/// States that frames with different positions or different payloads differ.
 pub fn distinct_frames()
     ensures { DistinctFrames }
 {
     frames_decode();
 }
 
-/// States that after several acknowledgements, whatever their order, a sender's queue begins at the
-/// greatest of where it began and of those of their positions that are not above its end.
+/// States that after several acknowledgements, in any order, a sender's queue begins at the
+/// greatest of the position at which it began and of those acknowledged positions that are not
+/// above its end.
 pub fn queue_from_greatest()
     ensures { QueueFromGreatest }
 {}

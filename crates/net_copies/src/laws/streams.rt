@@ -24,8 +24,8 @@ pub fn known()
     laws::reads();
 }
 
-/// States that the invariant of a link is kept by a round, whatever happens to its frames, and by a
-/// round that stopped because it lacked memory.
+/// States that a round keeps the invariant of a link, whatever happens to its frames, and so does a
+/// round that stopped for want of memory.
 pub fn keeps_invariant()
     ensures round { RoundKeepsInvariant }
     ensures stop { StopKeepsInvariant }
@@ -33,8 +33,9 @@ pub fn keeps_invariant()
     known();
 }
 
-/// States that what the receiver gave out of the bytes that were read is what was written: so it
-/// stays over a read and over a round; and where all that was read is written, it is all of it.
+/// States that the bytes written are the input's bytes that the receiver gave out: this stays true
+/// over a read and over a round, and once a copy has written everything it read, they are all of
+/// these bytes.
 pub fn is_written()
     ensures read { ReadWrites }
     ensures pass { PassWrites }
@@ -43,7 +44,7 @@ pub fn is_written()
     known();
 }
 
-/// States that what is written is a prefix of what was read.
+/// States that the bytes written are a prefix of the bytes read.
 pub fn prefix()
     ensures { WritesPrefix }
 {
@@ -57,7 +58,7 @@ pub fn all()
     known();
 }
 
-/// States that for a reader that fills what it is asked for, the outcome of a copy depends only on
+/// States that if each read fills the room that it is given, the outcome of a copy depends only on
 /// the reader's bytes: it is that of a copy whose reader gives all of them at once.
 pub fn filling_reads()
     ensures same { SameBytes }

@@ -1,4 +1,4 @@
-//! Equality and clones of what a copy goes by, and of what is counted of it.
+//! Laws: equality and clones of configs, counts, fates and rates.
 ghost use Rattle.std.specs.Prelude.{◌≡◌, ◌↔◌, IsTrue};
 
 use crate::config::Config;

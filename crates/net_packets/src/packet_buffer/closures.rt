@@ -1,4 +1,4 @@
-//! Closures that write the last packet, or are handed the first one.
+//! Closures that write a new packet, or are handed the first one.
 ghost use Rattle.std.specs.Prelude.{◌≡◌, ◌≤◌, ◌↔◌, ◌++◌, [], ℕ, List, IsErr, IfOk, OnErr, length};
 ghost use Rattle.std.specs.Prelude.{take, drop, is_ok, if◌then◌else◌};
 ghost use Rattle.std.specs.declared.option.Option.TheVariants.{None};
@@ -12,10 +12,10 @@ use super::slots::{lift_header, push_slots, put_header};
 use crate::packet_metadata::PacketMetadata;
 use net_ring::{Empty, Full, Storage};
 
-/// A closure writes the last packet, or is handed the first one.
+/// Calls whose closure writes a new packet, or is handed the first one.
 impl<H: Drop, M: Storage<PacketMetadata<H>>, B: Storage<u8>> PacketsOver<H, M, B> {
-    /// Puts a packet last whose bytes `f` writes: `f` is lent `max_size` bytes, and returns how
-    /// many of them, from the first on, are the packet. That number is returned.
+    /// Appends a packet whose bytes `f` writes: `f` is lent `max_size` bytes, and returns how many
+    /// of them, from the first on, are the packet. That number is returned.
     ///
     /// Returns `Full` if [`PacketsOver::place`] would for `max_size` bytes, and then drops the
     /// header, does not call `f` and changes nothing. smoltcp places these packets by a rule of its

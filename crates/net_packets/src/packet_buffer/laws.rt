@@ -1,5 +1,4 @@
-//! Laws of packet queues. No function here does anything: each is called for what its contract
-//! says.
+//! Laws of packet queues. No function here does anything: each is called for its contract.
 ghost use Rattle.std.specs.Prelude.{◌≡◌, ◌≢◌, ◌≤◌, ◌<◌, ◌++◌, ◌∷◌, ◌↔◌, [], ℕ, List, Bool};
 ghost use Rattle.std.specs.Prelude.{length, take, drop, if◌then◌else◌};
 ghost use Rattle.std.specs.declared.option.Option.TheVariants.{Some, None};
@@ -18,22 +17,23 @@ use net_ring::Storage;
 
 /// States that every queue is well placed: its packets fit into its storage, the bytes of each are
 /// contiguous, its gaps end at the storage's end, and there is a slot for each packet and gap. The
-/// other laws are on such queues.
+/// other laws are about such queues.
 pub fn well_placed<H, M: Storage<PacketMetadata<H>>, B: Storage<u8>>(queue: &PacketsOver<H, M, B>)
     ensures { IsWellPlaced queue.now }
 {
     let _slots = queue.slots.capacity();
 }
 
-/// States that a queue has as many contents as packets, and so none exactly if it has no packets.
+/// States that a queue's contents have as many entries as it has packets, and so none exactly if it
+/// has no packets.
 pub fn contents_are_packets<H>()
     ensures count { (q : PacketsState H) → length (contents q) ≡ length q.packets }
     ensures empty { (q : PacketsState H) → (contents q ≡ []) ↔ (length q.packets ≡ 0) }
 {}
 
-/// States that a queue with no packets takes a packet exactly if it has a slot, and as many bytes
-/// as the packet: also where the last packet that left stood in the midst of the storage, the
-/// packet is placed with no gap.
+/// States that a queue with no packets takes a packet exactly if it has a slot, and at least as
+/// many bytes as the packet. The packet is placed without a gap, even if the last packet to leave
+/// was in the middle of the storage.
 pub fn empty_queue_takes_what_fits<H>()
     ensures taken { (q : PacketsState H) (size : ℕ) → contents q ≡ []
         → 0 < q.slot_count → size ≤ length q.storage → placement q size ≡ Some 0 }
@@ -44,10 +44,10 @@ pub fn empty_queue_takes_what_fits<H>()
 {}
 
 /// States that packets leave in the order in which they were accepted, each with the header and the
-/// bytes last written by the call that put it in or by a closure that refused it: on the list of
-/// the headers and bytes that a queue has, an accepted packet is put at the end, a refusing closure
-/// writes the first one anew, the first one is shown and taken off, and dropping a gap changes
-/// nothing.
+/// bytes last written by the call that put it in or by a closure that refused it: in `contents`,
+/// the list of headers and bytes, an accepted packet is appended, a closure that refuses overwrites
+/// the first entry, the first entry is the one that is shown and taken off, and dropping a gap
+/// changes nothing.
 pub fn packets_leave_in_order<H>()
     ensures accepted { (q : PacketsState H) (size : ℕ) (header : H) (ws : List ℕ)
         → IsWellPlaced q → placement q size ≢ None → length ws ≡ size
@@ -73,12 +73,12 @@ pub fn packets_leave_in_order<H>()
         → contents (without_first (with_first_bytes (without_gap q) header ws)) ≡ drop 1 (contents q) }
 {}
 
-/// States what `place` and `last_mut`, and `take` and `last_dequeued_mut`, make of a queue's
-/// contents if they are used apart.
+/// States what `place` and `last_mut`, and `take` and `last_dequeued_mut`, do to a queue's contents
+/// if they are used separately.
 ///
-/// A placed packet has the bytes that are in the storage, until they are written. What
-/// `last_dequeued_mut` shows after `take` are the bytes of the packet that was taken off, and a
-/// write there changes no content. The same holds of the bytes that `dequeue` lends.
+/// A placed packet has the bytes that are in the storage, until they are written. After `take`,
+/// `last_dequeued_mut` lends the bytes of the packet that was taken off, and a write to them leaves
+/// the contents unchanged. The same holds of the bytes that `dequeue` lends.
 pub fn the_two_steps_apart<H>()
     ensures placed { (q : PacketsState H) (size : ℕ) (header : H)
         → IsWellPlaced q → placement q size ≢ None
@@ -99,9 +99,9 @@ pub fn the_two_steps_apart<H>()
         → contents (with_bytes (without_first_and_gap q) (without_gap q).read_at ws) ≡ drop 1 (contents q) }
 {}
 
-/// States what becomes of a packet that was only shown: after `peek` the same packet is taken off,
-/// and a closure that leaves the header and the bytes of the first packet as they were leaves the
-/// contents, less the packet if it returned `Ok`.
+/// States that showing a packet changes nothing: after `peek` the same packet is taken off, and a
+/// closure that changes neither the header nor the bytes of the first packet leaves the contents as
+/// they were, without the packet if it returned `Ok`.
 pub fn showing_changes_nothing<H>()
     ensures peeked { (q : PacketsState H) → IsWellPlaced q
         → contents (without_first_and_gap (without_gap q)) ≡ drop 1 (contents q) }
@@ -112,11 +112,11 @@ pub fn showing_changes_nothing<H>()
         ≡ (if gone then drop 1 (contents q) else contents q) }
 {}
 
-/// States that the packet that leaves k-th is the one that was accepted k-th. Over any calls, in
-/// any order, from a new queue on, the packets that left, in order, followed by those that are
-/// still in the queue, are exactly the packets that were accepted, in order. Each left, or stays,
-/// with the header and the bytes last written to it, by the call that put it in or by a closure
-/// that refused it. What `reset` drops counts as never accepted.
+/// States that the k-th packet to leave is the k-th that was accepted. Over any calls, in any
+/// order, from a new queue on, the packets that left, in order, followed by those that are still in
+/// the queue, are exactly the packets that were accepted, in order. Each left, or stays, with the
+/// header and the bytes last written to it, by the call that put it in or by a closure that refused
+/// it. What `reset` drops counts as never accepted.
 pub fn accepted_packets_leave_in_turn<H>()
     ensures { (slot_count : ℕ) (storage : List ℕ) (calls : List (QueueCall H)) (r : PacketsState H)
         → MakesAll calls (no_packets slot_count storage) r

@@ -1,4 +1,4 @@
-//! Packets that are put last.
+//! Packets that are appended.
 ghost use Rattle.std.specs.Prelude.{◌≡◌, ◌↔◌, ◌∷◌, ◌++◌, [], ℕ, List, IsErr, IfOk, OnErr, OnOk};
 ghost use Rattle.std.specs.Prelude.{length};
 ghost use Rattle.std.specs.Borrow.{sem};
@@ -12,15 +12,15 @@ use super::slots::push_slots;
 use crate::packet_metadata::PacketMetadata;
 use net_ring::{Full, Storage};
 
-/// A packet is put last, and its bytes are lent.
+/// Calls that append a packet, and lend its bytes.
 impl<H: Drop, M: Storage<PacketMetadata<H>>, B: Storage<u8>> PacketsOver<H, M, B> {
     ghost use Rattle.net_packets.specs.PacketLends.{lends_bytes, lends_bytes_if};
 
-    /// Puts a packet of `size` bytes last. Its bytes are those that are in the storage;
+    /// Appends a packet of `size` bytes. Its bytes are those that are in the storage;
     /// [`PacketsOver::last_mut`] lends them.
     ///
-    /// Returns `Full`, and drops the header and changes nothing, if no `size` contiguous bytes are
-    /// free, or a slot is missing for the packet or its gap. An empty queue begins at the storage's
+    /// Returns `Full`, drops the header and changes nothing, if there are no `size` contiguous free
+    /// bytes, or no slot for the packet or its gap. An empty queue begins at the storage's
     /// beginning. With `last_mut` this is [`PacketsOver::enqueue`] in two steps, whose effects
     /// callers know exactly.
     ///
@@ -62,12 +62,12 @@ impl<H: Drop, M: Storage<PacketMetadata<H>>, B: Storage<u8>> PacketsOver<H, M, B
         self.last_part_mut(size)
     }
 
-    /// Puts a packet of `size` bytes last and lends these bytes. Until they are written they are
-    /// what was in the storage.
+    /// Appends a packet of `size` bytes and lends them. Until they are written they are those that
+    /// were in the storage.
     ///
-    /// Returns `Full`, and drops the header and changes nothing, if no `size` contiguous bytes are
-    /// free, or a slot is missing for the packet or its gap. If smoltcp refuses, it can leave a gap
-    /// with no packet.
+    /// Returns `Full`, drops the header and changes nothing, if there are no `size` contiguous free
+    /// bytes, or no slot for the packet or its gap. If smoltcp refuses, it can leave a gap with no
+    /// packet.
     pub fn enqueue(&mut self, size: usize, header: H) -> Result<&mut [u8], Full>
         ensures* writes_back { sem 𝓛 (lends_bytes_if H.row M.row B.row M.Storage B.Storage
             self.entry result (with_last_bytes (with_packet_if_room self.old size header))) }
@@ -85,7 +85,7 @@ impl<H: Drop, M: Storage<PacketMetadata<H>>, B: Storage<u8>> PacketsOver<H, M, B
         Ok(self.last_part_mut(size))
     }
 
-    /// Puts a packet last, after `gap` bytes.
+    /// Appends a packet after a gap of `gap` bytes.
     fn push(&mut self, gap: usize, size: usize, header: H)
         requires { placement self.old size ≡ Some gap }
         ensures { self.new ≡ with_packet self.old gap size header }

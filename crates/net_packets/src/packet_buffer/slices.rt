@@ -10,11 +10,11 @@ use super::PacketsOver;
 use crate::packet_metadata::PacketMetadata;
 use net_ring::{Empty, Full, Storage};
 
-/// Bytes are copied in and out.
+/// Calls that copy bytes in and out.
 impl<H: Drop, M: Storage<PacketMetadata<H>>, B: Storage<u8>> PacketsOver<H, M, B> {
-    /// Puts a packet last whose bytes are `data`.
+    /// Appends a packet whose bytes are `data`.
     ///
-    /// Returns `Full`, and drops the header and changes nothing, if [`PacketsOver::place`] would.
+    /// Returns `Full`, drops the header and changes nothing, if [`PacketsOver::place`] would.
     /// smoltcp has no such call.
     pub fn push_slice(&mut self, header: H, data: &[u8]) -> Result<(), Full>
         ensures pushed { OnOk result

@@ -9,7 +9,7 @@ ghost use Rattle.net_packets.specs.PacketSlots.{gap_slot, slot, IsFirstSlot, Wit
 use crate::packet_metadata::PacketMetadata;
 use net_ring::{Empty, RingOver, Storage};
 
-/// Enqueues the slot of a packet, and before it one for its gap, if that is not of 0 bytes.
+/// Enqueues the slot of a packet, and before it one for its gap, unless the gap has 0 bytes.
 pub(crate) fn push_slots<H: Drop, M: Storage<PacketMetadata<H>>>(
     slots: &mut RingOver<PacketMetadata<H>, M>,
     gap: usize,
@@ -50,7 +50,7 @@ fn push_slot<H: Drop, M: Storage<PacketMetadata<H>>>(
     }
 }
 
-/// Returns the size and the header of the first slot, which stays without its header.
+/// Takes the header out of the first slot, which stays, and returns the slot's size and the header.
 pub(crate) fn lift_header<H: Drop, M: Storage<PacketMetadata<H>>>(
     slots: &mut RingOver<PacketMetadata<H>, M>,
 ) -> Result<(usize, H), Empty>

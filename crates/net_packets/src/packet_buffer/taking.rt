@@ -13,7 +13,7 @@ use super::slots::lift_header;
 use crate::packet_metadata::PacketMetadata;
 use net_ring::{Empty, Storage};
 
-/// The first packet is shown, or taken off, and its bytes are lent.
+/// Calls that show the first packet, or take it off and lend its bytes.
 impl<H: Drop, M: Storage<PacketMetadata<H>>, B: Storage<u8>> PacketsOver<H, M, B> {
     ghost use Rattle.net_packets.specs.PacketLends.{lends_bytes, lends_packet_if, ends_as};
 
@@ -93,7 +93,7 @@ impl<H: Drop, M: Storage<PacketMetadata<H>>, B: Storage<u8>> PacketsOver<H, M, B
         self.bytes.last_dequeued_mut(size)
     }
 
-    /// Takes the first packet and its gap off, hands its header out and lends its bytes.
+    /// Takes the first packet and its gap off, returns its header and lends its bytes.
     ///
     /// Returns `Empty`, and changes nothing, if the queue has no packets.
     pub fn dequeue(&mut self) -> Result<(H, &mut [u8]), Empty>
@@ -115,7 +115,7 @@ impl<H: Drop, M: Storage<PacketMetadata<H>>, B: Storage<u8>> PacketsOver<H, M, B
     }
 }
 
-/// What `peek` shows.
+/// A step of `peek`.
 impl<H, M: Storage<PacketMetadata<H>>, B: Storage<u8>> PacketsOver<H, M, B> {
     /// Returns the first packet, which has no gap before it.
     fn first(&self) -> Result<(&H, &[u8]), Empty>

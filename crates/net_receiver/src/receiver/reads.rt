@@ -1,4 +1,4 @@
-//! Reading: bytes off the head of the queue, copied or lent.
+//! Reading: bytes at the head of the queue, copied out or lent.
 ghost use Rattle.std.specs.Prelude.{◌≡◌, ℕ, ◌+◌, ◌-◌, ◌<◌, ◌≤◌, min, List, ◌++◌, length, take};
 ghost use Rattle.std.specs.Prelude.{drop, slice_range, slice_index_or};
 ghost use Rattle.std.specs.Fn.{FnOnceTakesAt, FnOnceReturnsAt};
@@ -13,13 +13,13 @@ ghost use Rattle.net_receiver.specs.OneStream.{ReceivesFrom};
 
 use super::Receiver;
 
-/// Reading: bytes off the head of the queue, copied or lent.
+/// Reading: bytes at the head of the queue, copied out or lent.
 impl<'a, const N: usize> Receiver<'a, N> {
-    /// Takes bytes off the queue into the beginning of `into`, and returns how many: as many as are
-    /// queued and as `into` has room for. The rest of `into` stays as it is.
+    /// Moves bytes from the head of the queue to the beginning of `into`, and returns how many: as
+    /// many as are queued and as `into` has room for. The rest of `into` stays as it is.
     ///
-    /// Like those of `segment`, the clauses `state`, `count` and `into` say it by what is stored,
-    /// `step` by kept lists, and `receives` and `bytes` by the stream of the segments.
+    /// As in `segment`, the clauses `state`, `count` and `into` are about what is stored, `step`
+    /// about kept lists, and `receives` and `bytes` about the stream of the segments.
     ///
     /// ```rust
     /// if Receiver::<4>::fits(pos, payload.len()) {
@@ -46,9 +46,9 @@ impl<'a, const N: usize> Receiver<'a, N> {
         count
     }
 
-    /// Lends bytes of the queue that are contiguous, from its byte `offset` on: `size`, or as many as
-    /// there are up to the end of the queue or of the storage. None are lent only if `size` is 0 or
-    /// the queue has no byte `offset`.
+    /// Lends bytes of the queue that are contiguous, from its byte `offset` on: `size`, or as many as there are
+    /// up to the end of the queue or of the storage. No byte is lent only if `size` is 0 or the queue has no
+    /// byte `offset`.
     ///
     /// The stream's byte number i, counted from 0, has the index `i` modulo the capacity in the
     /// storage, so a caller knows where a part ends. smoltcp's `peek` lends from the head on.
@@ -90,7 +90,7 @@ impl<'a, const N: usize> Receiver<'a, N> {
     /// Shows the queue, in order, in two parts: the bytes up to the storage's end, and those from its
     /// beginning on. The second part is empty unless the queue wraps.
     ///
-    /// An addition to smoltcp's calls, as std's `VecDeque` has it.
+    /// smoltcp has no such call; std's `VecDeque` has it.
     pub fn as_slices(&self) -> (&[u8], &[u8])
         ensures queue { result.0.now ++ result.1.now ≡ self.now.queue }
         ensures cut { length result.0.now ≡ contiguous_count self.now }

@@ -16,8 +16,8 @@ impl<T, S: Storage<T>> RingOver<T, S> {
     /// Returns how many elements of the queue `get_allocated` shows and `get_allocated_mut` lends:
     /// of at most `size` from the one at `offset` on, as many as are contiguous.
     ///
-    /// An addition to smoltcp's calls, since nothing else can be asked of a ring while a part of it
-    /// is lent.
+    /// smoltcp has no such call. A caller needs it, since a ring can't be asked anything while a
+    /// part of it is lent.
     pub fn contiguous_allocated(&self, offset: usize, size: usize) -> usize
         ensures count { result ≡ contiguous_queued_from self.now offset size }
         ensures within { (result ≤ size) × (result ≤ self.now.count - offset) }
@@ -29,7 +29,7 @@ impl<T, S: Storage<T>> RingOver<T, S> {
     /// Shows at most `size` elements of the queue from the one at `offset` on: as many as are
     /// contiguous.
     ///
-    /// None if `offset` is past the queue.
+    /// No elements are shown if `offset` is past the queue.
     ///
     /// ```rust
     /// ring.get_allocated(at, 1).first().copied()
@@ -53,7 +53,7 @@ impl<T, S: Storage<T>> RingOver<T, S> {
     /// Shows the queue, in order, in two parts: the elements up to the storage's end, and those from
     /// its beginning on. The second part is empty unless the queue wraps.
     ///
-    /// An addition to smoltcp's calls, as std's `VecDeque` has it.
+    /// smoltcp has no such call; std's `VecDeque` has it.
     ///
     /// ```rust
     /// let (first, second) = ring.as_slices();
@@ -86,8 +86,8 @@ impl<T, S: Storage<T>> RingOver<T, S> {
     /// Lends at most `size` elements of the queue from the one at `offset` on: as many as are
     /// contiguous.
     ///
-    /// An addition to smoltcp's calls: `get_allocated`, for elements that are changed in place. The
-    /// number of queued elements stays the same.
+    /// It is `get_allocated` for elements that are changed in place. The number of queued elements
+    /// stays the same. smoltcp has no such call.
     pub fn get_allocated_mut(&mut self, offset: usize, size: usize) -> &mut [T]
         ensures* writes_back { sem 𝓛 (lends_many T.row S.row S.Storage self.entry
             self.old (queue_index self.old offset) result) }
@@ -110,8 +110,8 @@ impl<T, S: Storage<T>> RingOver<T, S> {
             .part_mut(span.from, span.from + span.contiguous)
     }
 
-    /// Shows the first element of the queue, or nothing if there is none: `get_allocated(0, 1)` in
-    /// fewer steps. It isn't in smoltcp.
+    /// Shows the first element of the queue, or an empty slice if there is none: `get_allocated(0,
+    /// 1)` in fewer steps. smoltcp has no such call.
     #[inline]
     pub fn head(&self) -> &[T]
         ensures value { result.now ≡ take 1 (queue self.now) }
@@ -125,7 +125,7 @@ impl<T, S: Storage<T>> RingOver<T, S> {
 
     /// Dequeues `count` elements.
     ///
-    /// As many must be queued, which `len` tells; smoltcp panics if they are not.
+    /// At least `count` elements must be queued, as `len` tells; otherwise smoltcp panics.
     ///
     /// # Requires
     ///

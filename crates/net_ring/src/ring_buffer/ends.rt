@@ -8,7 +8,7 @@ use super::RingOver;
 use crate::error::Full;
 use crate::managed::Storage;
 
-/// One element of the queue is shown. smoltcp has no such calls; std's `VecDeque` has them.
+/// Calls that show one element of the queue. smoltcp doesn't have them; std's `VecDeque` does.
 impl<T, S: Storage<T>> RingOver<T, S> {
     /// Shows the element at an index of the queue, of which 0 is the first one; `None` if the queue
     /// ends before it.
@@ -35,7 +35,7 @@ impl<T, S: Storage<T>> RingOver<T, S> {
 
 /// One element is enqueued by value.
 impl<T: Drop, S: Storage<T>> RingOver<T, S> {
-    /// Enqueues an element, in place of the next free one.
+    /// Enqueues an element, over the next free one.
     ///
     /// A full ring returns `Full`, stays as it is and drops the element. smoltcp has no such call.
     pub fn push_one(&mut self, element: T) -> Result<(), Full>

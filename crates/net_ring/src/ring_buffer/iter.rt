@@ -28,7 +28,7 @@ impl<'a, T> Model for Iter<'a, T> {
 impl<T, S: Storage<T>> RingOver<T, S> {
     /// Returns an iterator over the queue, which shows the elements in order.
     ///
-    /// It isn't in smoltcp; std's `VecDeque` has it.
+    /// smoltcp has no such call; std's `VecDeque` has it.
     pub fn iter(&self) -> Iter<'_, T>
         ensures { result ≡ queue self.now }
     {

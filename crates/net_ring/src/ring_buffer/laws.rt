@@ -9,15 +9,15 @@ ghost use Rattle.net_ring.specs.RingHistory.{RingCall, MakesAll, history};
 
 use crate::managed::ManagedSlice;
 
-/// States that a ring is no more than its read index, its queue and its spare part: two rings that
-/// agree in these are the same.
+/// States that read index, queue and spare part determine a ring: two rings that agree in these are
+/// equal.
 pub fn ring_is_its_parts<T>()
     ensures { (g h : RingState T) → IsWellFormed g → IsWellFormed h →
         g.read_at ≡ h.read_at → queue g ≡ queue h → spare g ≡ spare h → g ≡ h }
 {}
 
-/// States that what is queued and what is free are a ring's capacity, and the lengths of its two
-/// parts.
+/// States that the numbers of queued and of free elements are the lengths of a ring's two parts,
+/// and add up to its capacity.
 pub fn count_and_window_are_capacity<T>()
     ensures { (g : RingState T) → IsWellFormed g → (g.count + window g ≡ capacity g)
         × (length (queue g) ≡ g.count) × (length (spare g) ≡ window g) }
@@ -30,26 +30,27 @@ pub fn rewinding_keeps_the_queue<T>()
         × ((from_start_if_empty g).count ≡ g.count) × ((from_start_if_empty g).storage ≡ g.storage) }
 {}
 
-/// States that the element that leaves k-th is the one that came k-th. Over any calls, in any
+/// States that the k-th element to leave is the k-th that was enqueued. Over any calls, in any
 /// order, from an empty ring on, the elements that left, in order, followed by those that are still
-/// queued, are exactly the elements that were put in, in order. Each left as it was shown then, and
-/// each has the value last written to it while it was queued, by the call that put it in or through
-/// a loan. What `clear` and `reset` drop counts as never accepted.
+/// queued, are exactly the elements that were enqueued, in order. An element leaves with the value
+/// that is shown then, and this is the value last written to it while it was queued, by the call
+/// that enqueued it or through a loan. Elements that `clear` and `reset` drop count as never
+/// enqueued.
 pub fn elements_leave_in_turn<T>()
     ensures { (storage : List T) (calls : List (RingCall T)) (g : RingState T)
         → MakesAll calls (ring storage 0 0) g
         → (history calls).left ++ queue g ≡ (history calls).accepted }
 {}
 
-/// States that what was written over the whole of a storage is what its elements then are.
+/// States that a list that is written over a whole storage is then its elements.
 pub fn storage_is_what_was_written<T>(storage: &ManagedSlice<'_, T>)
     ensures { (ws : List T) → length ws ≡ length (elements storage.now) →
         elements (with_part storage.now 0 ws) ≡ ws }
 {}
 
-/// States that a list that was written over has as many elements as before; at each index it has
-/// the element that was written there, and the old one if none was; if a part of it was written
-/// over itself it is as it was; and one element that is written over is that element set.
+/// States that an overwritten list has as many elements as before, and at each index the element
+/// that was written there, or the old one if none was; that writing a part of a list over itself
+/// changes nothing; and that overwriting one element sets it.
 pub fn overwritten<T>()
     ensures count { (xs ws : List T) (i : ℕ) → length (overwrite xs i ws) ≡ length xs }
     ensures element { (xs ws : List T) (i k : ℕ) (x : T) → OverwritesAt xs i ws k x }

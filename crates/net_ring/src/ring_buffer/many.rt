@@ -11,7 +11,7 @@ ghost use Rattle.net_ring.specs.RingCalls.{CountsWithin, CalledOnSpare, CalledOn
 use super::RingOver;
 use crate::managed::Storage;
 
-/// Many elements at a time: if there is none, the part that is lent is empty.
+/// Many elements at a time: if there are none, the part that is lent is empty.
 impl<T, S: Storage<T>> RingOver<T, S> {
     ghost use Rattle.net_ring.specs.RingLends.{lends_many};
 
@@ -19,8 +19,8 @@ impl<T, S: Storage<T>> RingOver<T, S> {
     /// counts, and returns what `f` returned.
     ///
     /// An empty ring first moves its read index to the storage's beginning. What `f` wrote stays in
-    /// the storage, also after the elements that it counted. It must count no more than the
-    /// elements that it is lent.
+    /// the storage, even past the elements that it counted. It must count no more than the elements
+    /// that it is lent.
     ///
     /// # Requires
     ///

@@ -12,7 +12,7 @@ use crate::managed::Storage;
 impl<T: Copy, S: Storage<T>> RingOver<T, S> {
     /// Enqueues as many elements of `data` as there is room for, and returns how many.
     ///
-    /// An empty ring first moves its read index to the storage's beginning, also if nothing is
+    /// An empty ring first moves its read index to the storage's beginning, even if nothing is
     /// enqueued.
     ///
     /// ```rust

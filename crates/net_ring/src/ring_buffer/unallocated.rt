@@ -16,8 +16,8 @@ impl<T, S: Storage<T>> RingOver<T, S> {
     /// Returns how many free elements `get_unallocated` lends: of at most `size` from the one at
     /// `offset` on, as many as are contiguous.
     ///
-    /// An addition to smoltcp's calls, since nothing else can be asked of a ring while a part of it
-    /// is lent.
+    /// smoltcp has no such call. A caller needs it, since a ring can't be asked anything while a
+    /// part of it is lent.
     pub fn contiguous_unallocated(&self, offset: usize, size: usize) -> usize
         ensures count { result ≡ contiguous_window_from self.now offset size }
         ensures within { (result ≤ size) × (result ≤ window self.now - offset) }
@@ -29,7 +29,8 @@ impl<T, S: Storage<T>> RingOver<T, S> {
 
     /// Lends at most `size` free elements from the one at `offset` on: as many as are contiguous.
     ///
-    /// None if `offset` is past the window. The number of queued elements stays the same.
+    /// No elements are lent if `offset` is past the window. The number of queued elements stays the
+    /// same.
     ///
     /// ```rust
     /// if ring.contiguous_unallocated(offset, 1) == 0 {
@@ -58,9 +59,9 @@ impl<T, S: Storage<T>> RingOver<T, S> {
             .part_mut(span.from, span.from + span.contiguous)
     }
 
-    /// Lends the `size` elements before the read index, which are the last free ones if as many are
-    /// free: so those that were dequeued last, in the order in which they were queued. It isn't in
-    /// smoltcp.
+    /// Lends the `size` elements before the read index. If as many are free, they are the last free
+    /// ones: those that were dequeued last, in the order in which they were queued. smoltcp has no
+    /// such call.
     ///
     /// # Requires
     ///
@@ -88,7 +89,7 @@ impl<T, S: Storage<T>> RingOver<T, S> {
 
     /// Enqueues `count` elements, as they are.
     ///
-    /// There must be as many free ones, which `window` tells; smoltcp panics if there are not.
+    /// At least `count` elements must be free, as `window` tells; otherwise smoltcp panics.
     ///
     /// # Requires
     ///

@@ -1,4 +1,4 @@
-//! Steps 2 and 3 of a round: frames come to the receiver, which acknowledges what it has.
+//! Steps 2 and 3 of a round: frames arrive at the receiver, which acknowledges what it has.
 ghost use Rattle.std.specs.Prelude.{◌≡◌, ◌+◌, ℕ, length, true, false, OnOk, OnErr, IfOk, ◌⊎◌};
 ghost use Rattle.net_copies.specs.LinkState.{times, take_in, come, came, meet, acknowledge_all};
 ghost use Rattle.net_copies.specs.LinkState.{delayed_frame, delayed_frames, pass_frame, pass_frames};
@@ -25,8 +25,8 @@ impl<'a, 'f, A: Allocator + Copy> Link<'a, 'f, A> {
         self.reverse.send(now, self.receiver.next(), &blocks[..len])
     }
 
-    /// Hands a frame to the receiver, which acknowledges what it then has. One that is too short for
-    /// a position does nothing, nor does one whose positions go past 64 bits.
+    /// Hands a frame to the receiver, which acknowledges what it then has. A frame that is too short for a
+    /// position, or whose positions go past 64 bits, changes nothing.
     fn come(&mut self, frame: &[u8]) -> Result<(), AllocError>
         ensures ok { OnOk result (self.new ≡ come self.old frame.now) }
         ensures err { OnErr result (self.new ≡ take_in self.old frame.now) }

@@ -8,8 +8,9 @@ use crate::sack_blocks::MOST_SACK_BLOCKS;
 use net_copies::laws;
 use std::alloc::{AllocError, Allocator};
 
-/// Returns how many frames the next round may send: half as many if there are as many SACK blocks
-/// as there can be, but no fewer than those; otherwise so many more; at most `max_burst`.
+/// Returns the burst of the next round. If there are as many SACK blocks as an acknowledgement has
+/// room for, it is half of this burst, but not below their number; otherwise it is this burst plus
+/// that number. It is never above `max_burst`.
 fn burst_after(burst: u32, max_burst: u32, full: bool) -> u32
     ensures { result ≡ next_burst max_burst burst full }
 {
@@ -20,14 +21,14 @@ fn burst_after(burst: u32, max_burst: u32, full: bool) -> u32
 }
 
 impl<'a, 'f, A: Allocator + Copy> Link<'a, 'f, A> {
-    /// Passes a round: what the sender has queued and is in no SACK block is sent, delayed frames
-    /// of the round before come, the frames in flight meet their fates, the receiver acknowledges
-    /// once more what it has, and delayed acknowledgements and those in flight arrive likewise.
-    /// `state` says it exactly.
+    /// Passes a round: the sender sends its queued bytes that are in no SACK block, delayed frames
+    /// of the round before arrive, the frames in flight meet their fates, the receiver acknowledges
+    /// once more what it has, delayed acknowledgements of the round before arrive, and those in
+    /// flight meet their fates. `state` says it exactly.
     ///
     /// Then the burst is halved if there are as many SACK blocks as an acknowledgement has room
-    /// for, and otherwise it grows by so many. A refusal of memory ends the round where it was, and
-    /// leaves the burst.
+    /// for, and otherwise it grows by that number. A refusal of memory ends the round where it was,
+    /// and leaves the burst unchanged.
     ///
     /// ```rust
     /// link.pass_round()?;

@@ -1,4 +1,4 @@
-//! Step 5 of a round: acknowledgements come to the sender.
+//! Step 5 of a round: acknowledgements arrive at the sender.
 ghost use Rattle.std.specs.Prelude.{◌≡◌, ◌+◌, ℕ, length, true, false, OnOk, OnErr, IfOk};
 ghost use Rattle.net_copies.specs.LinkState.{times, acknowledge, came_ack, meet_ack};
 ghost use Rattle.net_copies.specs.LinkState.{delayed_ack, delayed_acks, pass_ack, pass_acks, StopsAck};
@@ -11,8 +11,9 @@ use net_copies::Fate;
 use std::alloc::{AllocError, Allocator};
 
 impl<'a, 'f, A: Allocator + Copy> Link<'a, 'f, A> {
-    /// Hands an acknowledgement to the sender. One that is too short for a position, or whose
-    /// position is below the sender's `first_unacknowledged` or above its `end`, changes nothing.
+    /// Hands an acknowledgement to the sender. An acknowledgement that is too short for a position,
+    /// or whose position is below the sender's `first_unacknowledged` or above its `end`, changes
+    /// nothing.
     fn acknowledge(&mut self, frame: &[u8])
         ensures state { self.new ≡ acknowledge self.old frame.now }
     {

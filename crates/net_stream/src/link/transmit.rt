@@ -7,7 +7,7 @@ use super::Link;
 use std::alloc::{AllocError, Allocator};
 
 impl<'a, 'f, A: Allocator + Copy> Link<'a, 'f, A> {
-    /// Spares the byte at `pos` and those after it in its SACK block; if none has it, sends a frame.
+    /// Spares the byte at `pos` and those after it in its SACK block; if no block has it, sends a frame.
     /// Returns the position after them, and how many frames are left.
     fn transmit_part(&mut self, pos: u64, left: u32) -> Result<(u64, u32), AllocError>
         requires from { self.old.sender.first_unacknowledged ≤ pos }
@@ -33,13 +33,13 @@ impl<'a, 'f, A: Allocator + Copy> Link<'a, 'f, A> {
         Ok((pos + bytes.len() as u64, left - 1))
     }
 
-    /// Sends frames of the sender's queue, but of what is in SACK blocks: at most `burst` frames, each
-    /// of at most `payload` bytes. A number of 0 counts as 1.
+    /// Sends frames of the sender's queue, without the bytes in SACK blocks: at most `burst` frames, each of at
+    /// most `payload` bytes. Of both numbers 0 counts as 1.
     ///
-    /// A frame ends at `payload` bytes, at the next SACK block, where the sender's storage wraps,
-    /// or at the end. While there are as many SACK blocks as an acknowledgement has room for, no frame
-    /// begins after the last of them. A refusal of memory leaves the frames before it in flight,
-    /// and they are counted.
+    /// A frame ends at `payload` bytes, at the next SACK block, where the sender's storage wraps, or at the
+    /// end. While there are as many SACK blocks as an acknowledgement has room for, a frame may begin at the
+    /// byte right after the last of them, and none further on. A refusal of memory leaves the frames before it
+    /// in flight, and they are counted.
     pub(super) fn transmit(&mut self) -> Result<(), AllocError>
         ensures ok { OnOk result (self.new ≡ transmit self.old) }
         ensures err { OnErr result ((n : ℕ) × (self.new ≡ (times n part (start self.old)).link)) }
