@@ -93,29 +93,31 @@ def rows():
     eighty = dict(length=80, capacity=4096, payload=1)
     # Frames that fail.
     yield row("Three frames, an acknowledgement for each and one more.")
-    yield row("The second frame is lost, and it alone is sent again: the third is in a SACK block.", forward="SECOND_LOST")
+    yield row("The second frame is lost, and only it is sent again: the third is in a SACK block.",
+              forward="SECOND_LOST")
     yield row("The first and the third are lost, and both are sent again.", forward="FIRST_AND_THIRD_LOST")
-    yield row("One is delayed, and one comes twice.", forward="DELAYED_AND_DUPLICATED")
-    yield row("All are delayed, and none that is sent after them comes: the delayed ones do.", forward="THREE_DELAYED_THEN_NONE")
-    yield row("One comes twice, and none after it.", forward="DUPLICATED_THEN_NONE")
-    yield row("Nothing comes.", forward="NONE")
+    yield row("One is delayed, and one is duplicated.", forward="DELAYED_AND_DUPLICATED")
+    yield row("All are delayed, and all that are sent after them are lost: only the delayed ones arrive.",
+              forward="THREE_DELAYED_THEN_NONE")
+    yield row("One is duplicated, and all after it are lost.", forward="DUPLICATED_THEN_NONE")
+    yield row("Nothing arrives.", forward="NONE")
     yield row(forward="NONE", rounds=3)
     yield row("A SACK block makes no progress.", forward="SECOND_THEN_NONE", rounds=5)
-    yield row("Of eighty frames each second is lost, and eight segments are refused; then nothing comes.",
+    yield row("Every second one of eighty frames is lost, and eight segments are refused; then nothing arrives.",
               forward="EACH_SECOND_THEN_NONE", rounds=3, **eighty)
-    yield row("Waits double, and begin anew.", forward="NINE_LOST")
-    yield row("They are a second at most.", forward="THIRTY_LOST")
-    yield row("Each second one is lost: 32 runs are held, each a SACK block, and eight segments are refused.",
+    yield row("Waits double, and start over.", forward="NINE_LOST")
+    yield row("They are at most a second.", forward="THIRTY_LOST")
+    yield row("Every second one is lost: 32 runs are held, each a SACK block, and eight segments are refused.",
               forward="EACH_SECOND", **eighty)
     yield row("It gives up after 101 rounds without progress.", forward="NONE", rounds=101)
     # Acknowledgements that fail.
     yield row("All was written, and the reader has no more: no acknowledgement is waited for.", reverse="FOUR_LOST")
     yield row(reverse="NONE")
     yield row("The sender's queue is full, and the reader isn't asked.", reverse="NONE", capacity=6, rounds=5)
-    yield row("Delayed acknowledgements come in the next round, and a duplicated one comes at once.",
+    yield row("Delayed acknowledgements arrive in the next round, and a duplicated one in both.",
               reverse="FOUR_DELAYED_THEN_NONE", capacity=6, rounds=5)
     yield row(reverse="DUPLICATED_THEN_NONE", capacity=6, rounds=5)
-    yield row("What is written is progress, and so is what is acknowledged.",
+    yield row("Written bytes are progress, and so are acknowledged ones.",
               reverse="FOUR_LOST", length=8, capacity=6, rounds=1)
     # Sizes and rates.
     for capacity in (1, 7, 4096):
@@ -130,8 +132,8 @@ def rows():
               forward="FIRST_LOST", length=20, capacity=8)
     yield row(forward="SECOND_LOST", reverse="FOUR_LOST", length=40, capacity=16, payload=4)
     yield row(forward="SOME", reverse="SOME", length=3_000, capacity=256, payload=16)
-    yield row("So it is while the burst is used up.", length=40, payload=1, max_burst=4)
-    yield row("Nothing to copy takes no round, and so it is with no round allowed.", length=0)
+    yield row("The same, with a burst that is used up.", length=40, payload=1, max_burst=4)
+    yield row("Nothing to copy takes no round, even if no round is allowed.", length=0)
     yield row(length=0, rounds=0)
     yield row(rounds=0)
     yield row("No byte has room.", capacity=0)
@@ -181,7 +183,7 @@ def main():
     ways = ",\n    ".join(sorted(WAYS))
     print("use crate::counted::ways::{\n    " + ways + ",\n};")
     print("use crate::counted::{Case, TO_THE_END};\nuse net_testing::NEVER;\n")
-    print(f"/// Copies, and what is counted of each.\npub static CASES: [Case; {len(cases)}] = [")
+    print(f"/// Copies, and the counts of each.\npub static CASES: [Case; {len(cases)}] = [")
     print("\n".join(cases) + "\n];")
 
 

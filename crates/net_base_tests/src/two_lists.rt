@@ -11,7 +11,7 @@ use std::marker::Model;
 
 mod tests;
 
-/// A device of two lists: frames to come, and frames that were sent. It stores the moment at which
+/// A device of two lists: received frames, and frames that were sent. It stores the moment at which
 /// it was last asked for a frame, and counts how often it was asked for room.
 #[derive(Drop)]
 pub struct TwoLists<A: Allocator + Copy = Global> {
@@ -30,7 +30,7 @@ impl<A: Allocator + Copy> Model for TwoLists<A> {
     ghost view = { λ d. (frames_of d.to_come.items, frames_of d.sent.items) };
 }
 
-/// A frame that has come.
+/// A received frame.
 #[derive(Drop)]
 pub struct TwoListsRxToken<A: Allocator + Copy>(Vec<u8, A>);
 

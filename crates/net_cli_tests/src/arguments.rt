@@ -26,8 +26,8 @@ fn assert_words<A: Allocator + Copy>(rt: &impl Abort, words: &Vec<String, A>) {
     }
 }
 
-/// Gathers the words over memory that refuses this request. Returns whether it was made; if not, two
-/// were: the list grows for the first word, and for the fifth.
+/// Gathers the words in memory that refuses this request. Returns whether the request was made; if not, two
+/// were made: the list grows for the first word, and for the fifth.
 fn is_refused(rt: &impl Abort, alloc: Global, refused: usize) -> Result<bool, Fail> {
     let heap = Refusing::new(alloc, refused);
     let Ok(gathered) = gather(&heap, words_of(alloc)?.into_iter()) else {

@@ -1,4 +1,4 @@
-//! Texts that are written whole, or up to an error, and flushes.
+//! Texts that are written completely, or up to an error, and flushes.
 use net_io::{flush_after, write_text};
 use net_testing::{NEVER, Sink};
 use std::alloc::Global;
@@ -9,9 +9,9 @@ use std::test::Fail;
 /// Ten bytes.
 const TEXT: &[u8] = b"0123456789";
 
-/// Writes the text where a write takes so many bytes at most, and one fails, with an error of this
-/// kind or by taking nothing. So many bytes are written in so many calls, and unless these are all,
-/// the error says how many.
+/// Writes the text to a writer that takes at most so many bytes a call, and one of whose calls
+/// fails, with an error of this kind or by taking nothing. So many bytes are written in so many
+/// calls, and if these are not all bytes, the error says how many.
 fn check(
     rt: &impl Abort,
     alloc: Global,
@@ -48,7 +48,7 @@ fn a_text_of_no_bytes_needs_no_write(rt: HostRuntime) -> Result<(), Fail> {
     Ok(())
 }
 
-/// Returns whether a result is this one once a writer was flushed, whose flushes fail or don't.
+/// Returns whether a result becomes this one when a writer is flushed, whose flushes fail or don't.
 fn flush(
     rt: &impl Abort,
     alloc: Global,

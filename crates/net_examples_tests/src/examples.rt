@@ -23,8 +23,8 @@ fn bytes_wait_in_an_outbox(rt: HostRuntime) {
     assert!(rt; into.starts_with(b"abcd"));
 }
 
-/// Returns whether a line of so many bytes is taken off, with its newline, and `into` begins with
-/// these.
+/// Returns whether a line of so many bytes is taken off, with its newline, and `into` then begins
+/// with these bytes.
 fn gives(ring: &mut RingBuffer<'_, u8>, into: &mut [u8], length: usize, bytes: &[u8]) -> bool {
     take_line(ring, into) == Some(length) && into.starts_with(bytes)
 }
@@ -94,7 +94,7 @@ fn segments_are_read_in_order(rt: HostRuntime) {
     assert!(rt; into.starts_with(b"hello, world"));
 }
 
-/// Returns whether a segment of this number is answered with this number and this window.
+/// Returns whether a segment of this number is acknowledged by this number and this window.
 fn answers(receiver: &mut Receiver<'_, 4>, number: u32, bytes: &[u8], wanted: (u32, u16)) -> bool {
     let initial = SequenceNumber::new(0xffff_fffe);
     let (number, window) = acknowledge(receiver, initial, SequenceNumber::new(number), bytes);
@@ -121,7 +121,7 @@ fn a_stream_crosses_a_bad_link(rt: HostRuntime) {
     assert_eq!(rt; writer.as_slice(), b"abcdef".as_slice());
 }
 
-/// Returns how many bytes of a reply come to the buffer over links that lose a third of their
+/// Returns how many bytes of a reply arrive in the buffer over links that lose a third of their
 /// frames, in so many rounds each.
 fn reply_to(
     alloc: Global,
@@ -236,7 +236,7 @@ fn comes(device: &mut DescriptorRings<'_>, bytes: &[u8]) -> bool {
     device.received.enqueue_slice(&[descriptor]) == 1
 }
 
-/// Returns whether the next frame that hardware takes out is these bytes.
+/// Returns whether the next frame that hardware takes out has these bytes.
 fn goes(device: &mut DescriptorRings<'_>, bytes: &[u8]) -> bool {
     match device.to_send.dequeue_one() {
         Ok(descriptor) => descriptor.frame() == bytes,
@@ -244,12 +244,12 @@ fn goes(device: &mut DescriptorRings<'_>, bytes: &[u8]) -> bool {
     }
 }
 
-/// Returns whether a frame is sent back, exactly if this is so.
+/// Returns whether a frame is sent back exactly if it should be.
 fn bounces(device: &mut DescriptorRings<'_>, moved: bool) -> bool {
     bounce(device, Instant::ZERO) == Ok(moved)
 }
 
-/// Two frames came, and there is one descriptor for replies.
+/// Two frames arrived, and there is one descriptor for replies.
 #[test]
 fn frames_are_sent_back_while_a_descriptor_is_free(rt: HostRuntime) {
     let mut received = [Descriptor::EMPTY; 2];
@@ -282,7 +282,7 @@ fn a_frame_is_sent_where_it_fits(rt: HostRuntime) {
     assert!(rt; sends(&mut device, b"") && goes(&mut device, b""));
 }
 
-/// Returns whether the next frame of the device is these bytes.
+/// Returns whether the next frame of the device has these bytes.
 fn is_next(device: &mut Loopback, bytes: &[u8]) -> bool {
     match device.receive(Instant::ZERO) {
         Some((frame, _token)) => frame.frame() == bytes,

@@ -1,5 +1,5 @@
-//! How often a copy reads, writes and flushes, and what it says on the way. The counts are those that a second
-//! program finds, written from docs/LINK.md.
+//! How often a copy reads, writes and flushes, and its lines of progress. The counts are those of a second
+//! program, written from docs/LINK.md.
 use crate::causes::{assert_holds, is_so, words_of};
 use net_cli::Status;
 use net_link_serve::{Messages, Remembering, serve};
@@ -13,7 +13,7 @@ struct Row {
     words: &'static str,
     /// How many bytes the input has, and how many of them a read gives at most.
     input: (usize, usize),
-    /// How many calls of standard error are before the one that fails.
+    /// How many writes to standard error there are before the one that fails.
     told_calls: usize,
     /// How many reads, writes and flushes there are.
     calls: (usize, usize, usize),
@@ -43,7 +43,7 @@ static ROWS: [Row; 6] = [
         told: "9 bytes, 3 frames, 0 lost, 0 duplicated, 0 delayed, \
             0 refused, 0 bytes sent again, 1 rounds, 900 bytes a second\n",
     },
-    // Nothing comes, so the input's end isn't read.
+    // Nothing arrives, so the input's end isn't read.
     Row {
         words: "99 0",
         input: (9, usize::MAX),
@@ -110,7 +110,7 @@ static ROWS: [Row; 6] = [
 /// As many bytes as an input has at most.
 static INPUT: [u8; 262_144] = [b'x'; 262_144];
 
-/// Returns whether a copy goes as a row says. Its frames take less memory than a fourth buffer and 300,000
+/// Returns whether a copy does what a row says. Its frames take less memory than a fourth buffer and 300,000
 /// bytes more, and all memory is given back.
 fn goes_so(alloc: Global, row: &Row) -> Result<bool, AllocError> {
     let words = words_of(alloc, row.words)?;

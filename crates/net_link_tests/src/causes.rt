@@ -1,5 +1,5 @@
-//! What standard error says of streams that fail in two ways, of causes that are long, or for which there is
-//! no memory, and what memory `serve` asks for.
+//! What standard error says of streams that fail in two ways, of long causes, and of causes for which there is
+//! no memory; and how much memory `serve` asks for.
 use net_cli::{Ended, Status};
 use net_link_serve::{Messages, Remembering, serve};
 use net_testing::{NEVER, Refusing, Sink, Source};
@@ -117,7 +117,7 @@ static FAILURES: [Failure; 10] = [
             9 bytes, 7 frames, 0 lost, 0 duplicated, 0 delayed, \
             0 refused, 0 bytes sent again, 1 rounds, 900 bytes a second\n",
     ),
-    // No call failed but the flush after it gave up, which says nothing more.
+    // Only the flush failed, after the copy gave up, and nothing more is said of it.
     (
         "99 0",
         (NEVER, ErrorKind::Other),
@@ -138,7 +138,7 @@ static FAILURES: [Failure; 10] = [
     ),
 ];
 
-/// Returns whether the program ends so, and standard error took what there was to say, has it, and wasn't
+/// Returns whether the program ends like this, and standard error took everything, has this text, and wasn't
 /// flushed.
 pub fn is_so(ended: Ended, status: Status, errors: &Messages<Sink>, told: &str) -> bool {
     ended
@@ -150,7 +150,7 @@ pub fn is_so(ended: Ended, status: Status, errors: &Messages<Sink>, told: &str) 
         && errors.stream.flushes == 0
 }
 
-/// Returns whether a failure is told so.
+/// Returns whether a failure is reported by this text.
 fn fails_so(
     alloc: Global,
     (line, read, write, flush, status, told): &Failure,
@@ -291,7 +291,7 @@ const NO_CAUSE: &str = "net_link: read failed\n\
     0 bytes, 0 frames, 0 lost, 0 duplicated, 0 delayed, \
     0 refused, 0 bytes sent again, 0 rounds, 0 bytes a second\n";
 
-/// Returns whether a read that fails at once is told so in this memory.
+/// Returns whether a read that fails at once is reported like this in this memory.
 fn fails_at_once<A: Allocator + Copy>(
     alloc: Global,
     memory: A,
@@ -305,7 +305,7 @@ fn fails_at_once<A: Allocator + Copy>(
     Ok(is_so(ended, Status::Failed, &errors, told))
 }
 
-/// Returns whether a read that fails at once is told so where the request of this number is
+/// Returns whether a read that fails at once is reported like this if the request of this number is
 /// refused: three are those of the buffers, each of 262,144 bytes, and the others are for the text
 /// of the cause, of less than 1,000 bytes in all. All memory is given back.
 fn tells(alloc: Global, refused: usize, told: &str) -> Result<bool, AllocError> {

@@ -1,5 +1,5 @@
-//! The tests of `net_link_serve`, over memory, with readers and writers that give and take little, and
-//! that fail.
+//! The tests of `net_link_serve`, over memory, with readers and writers that move few bytes a call, and that
+//! fail.
 #![tactic(auto)]
 
 #[cfg(test)]

@@ -1,5 +1,4 @@
-//! The results of copies. The counts are those that a second program finds, written from
-//! docs/LINK.md.
+//! The results of copies. The counts are those of a second program, written from docs/LINK.md.
 use net_cli::{Ended, Status};
 use net_link_serve::{Messages, Remembering, serve};
 use net_testing::{NEVER, Refusing, Sink, Source};
@@ -29,7 +28,7 @@ struct Case {
 }
 
 const CASES: [Case; 25] = [
-    // No frame meets anything.
+    // No frame is lost, duplicated or delayed.
     Case {
         words: "0 1",
         input: 9,
@@ -175,7 +174,7 @@ const CASES: [Case; 25] = [
         told: "500 bytes, 4424 frames, 2663 lost, 719 duplicated, 521 delayed, \
             772 refused, 2349 bytes sent again, 22 rounds, 925 bytes a second\n",
     },
-    // It reads once all that it read is written.
+    // It reads only once all that it read is written.
     Case {
         words: "50 7 0 0 8192",
         input: 300_000,
@@ -249,7 +248,7 @@ const CASES: [Case; 25] = [
             8187 bytes, 213 frames, 38 lost, 19 duplicated, 17 delayed, \
             0 refused, 2774 bytes sent again, 3 rounds, 272900 bytes a second\n",
     },
-    // Too little comes.
+    // Too little arrives.
     Case {
         words: "99 0",
         input: 9,
@@ -356,7 +355,7 @@ fn assert_prefix(rt: &impl Abort, found: &[u8], input: &[u8], len: usize, words:
     assert!(rt; found == prefix, "{words}");
 }
 
-/// Stops the test unless the program ended so, and standard error took what there was to say.
+/// Stops the test unless the program ended like this, and standard error took everything.
 fn assert_ended(rt: &impl Abort, found: Ended, status: Status, words: &str) {
     let wanted = Ended {
         status,
@@ -411,8 +410,8 @@ Time is simulated: the program waits for nothing but its input.
   --progress  shows the counts so far on standard error after each 256 rounds
 ";
 
-/// Calls `serve` with words that ask for nothing: nothing is read or written, and standard error
-/// says what is wrong with them, and how the program is used.
+/// Calls `serve` with wrong words: nothing is read or written, and standard error says what is
+/// wrong with them, and how the program is used.
 fn check_misuse(rt: &impl Abort, alloc: Global, words: &[String], line: &str) -> Result<(), Fail> {
     let mut reader = Remembering::new(Source::new(b"some text"));
     let mut writer = Remembering::new(Sink::new(alloc)?);
@@ -468,8 +467,8 @@ fn names_the_first_wrong_word(rt: HostRuntime) -> Result<(), Fail> {
     check_misuse(&rt, rt.alloc(), &[], "2, 4, 5 or 6 numbers, not 0")
 }
 
-/// Asks how the program is used: a writer takes so many bytes a call, and its call of this number
-/// fails.
+/// Asks how the program is used, with a writer that takes so many bytes a call and whose call of
+/// this number fails.
 fn check_help(
     rt: &impl Abort,
     alloc: Global,
@@ -525,7 +524,7 @@ fn says_that_memory_was_refused(rt: HostRuntime) -> Result<(), Fail> {
     Ok(())
 }
 
-/// Calls `serve` where standard error takes nothing.
+/// Calls `serve` with a standard error that takes nothing.
 fn check_untold(rt: &impl Abort, alloc: Global, line: &str, status: Status) -> Result<(), Fail> {
     let words = words_of(alloc, line)?;
     let mut reader = Remembering::new(Source::new(b"some text"));

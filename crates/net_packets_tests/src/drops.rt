@@ -1,4 +1,4 @@
-//! What a packet queue is given is dropped once, whatever a call returns: headers, and closures.
+//! The headers and closures that a packet queue is given are dropped once, whatever a call returns.
 use crate::counted::Counted;
 use net_packets::{PacketBuffer, PacketMetadata};
 use net_ring::{Empty, ManagedSlice};
@@ -70,8 +70,8 @@ fn pops(queue: &mut PacketBuffer<'_, Counted<'_>>) -> bool {
     queue.pop_slice(&mut [0; 100]).is_ok()
 }
 
-/// Takes packets of 0, 1, 2, .. bytes off, by three calls in turn, and returns whether each went as
-/// expected.
+/// Takes packets of 0, 1, 2, .. bytes off, by three calls in turn, and returns whether each call
+/// did what was expected.
 fn takes_many_off(queue: &mut PacketBuffer<'_, Counted<'_>>, count: usize) -> bool {
     for size in 0..count {
         let off = match size % 3 {
@@ -86,9 +86,9 @@ fn takes_many_off(queue: &mut PacketBuffer<'_, Counted<'_>>, count: usize) -> bo
     true
 }
 
-/// Puts packets and takes so many off; resets the queue and puts as many packets again, if `resets` is
-/// true; and drops the queue with the rest in it. Returns how many headers were dropped, or `None` if a
-/// call went otherwise than expected.
+/// Puts packets in and takes so many off; resets the queue and puts as many packets in again, if `resets` is
+/// true; and drops the queue with the rest in it. Returns how many headers were dropped, or `None` if a call
+/// didn't do what was expected.
 fn drops_of_queue(
     alloc: Global,
     put: usize,

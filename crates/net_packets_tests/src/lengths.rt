@@ -2,7 +2,7 @@
 use net_packets::{PacketBuffer, PacketMetadata};
 use net_ring::ManagedSlice;
 
-/// Returns whether a packet of so many bytes comes last.
+/// Returns whether a packet of so many bytes is appended.
 fn takes(queue: &mut PacketBuffer<'_, u8>, size: usize) -> bool {
     queue.place(size, 0).is_ok()
 }
@@ -12,7 +12,7 @@ fn has(queue: &PacketBuffer<'_, u8>, packets: usize, slots: usize) -> bool {
     queue.len() == packets && queue.slots_used() == slots
 }
 
-/// Of 8 bytes, the first packet takes 3 and the second 3; the third has room only where the first was,
+/// Of 8 bytes, the first packet takes 3 and the second 3; the third has room only in the place of the first,
 /// after a gap of 2 bytes.
 #[test]
 fn gaps_are_no_packets(rt: HostRuntime) {

@@ -1,4 +1,4 @@
-//! What rows of calls and replies don't say: storage that is lent, closures that mustn't run, and headers that
+//! What the rows of `net_cases` don't show: storage that is lent, closures that mustn't run, and headers that
 //! are dropped.
 use crate::counted::Counted;
 use net_packets::{PacketBuffer, PacketMetadata};
@@ -82,8 +82,8 @@ fn closure_is_refused<'c>(
         .is_err()
 }
 
-/// Tries each call that puts a packet of these bytes, and returns how many headers were dropped by
-/// that; `None` if a call accepts it.
+/// Tries each call that appends a packet of these bytes, and returns how many headers were dropped,
+/// or `None` if a call accepts the packet.
 fn drops_of_refused<'c>(
     queue: &mut PacketBuffer<'_, Counted<'c>>,
     drops: &'c Cell<u32>,
@@ -98,8 +98,8 @@ fn drops_of_refused<'c>(
     all_refused.then_some(drops.get().saturating_sub(before))
 }
 
-/// Puts two packets, tries each call that is refused, and takes the packets off; returns whether
-/// each went as expected. The queue and its storage end with it.
+/// Puts two packets in, tries each call that is refused, and takes the packets off. Returns whether
+/// each call did what was expected. The queue and its storage are dropped at the end.
 fn headers_come_and_go(drops: &Cell<u32>) -> bool {
     let mut slots = [PacketMetadata::EMPTY, PacketMetadata::EMPTY];
     let mut bytes = [0u8; 4];

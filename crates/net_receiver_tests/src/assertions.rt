@@ -1,5 +1,5 @@
-//! What tests compare. Each comparison is a function of its own, since an `assert!` makes the proof
-//! of the body that it is in several times as long.
+//! Comparisons of tests. Each is a function of its own, since an `assert!` makes the proof of the
+//! body that it is in several times as long.
 use std::process::Abort;
 
 /// Where a test is: the name of what is compared, and the number of a row, a turn or a request.

@@ -1,7 +1,7 @@
 //! The tests of `net_receiver`, each through its public calls.
 //!
-//! They are in a crate of their own, so that what depends on `net_receiver` doesn't wait for them
-//! and links nothing that only tests need.
+//! They are in a crate of their own, so that crates that use `net_receiver` don't wait for them and
+//! link nothing that only tests need.
 #![tactic(auto)]
 
 #[cfg(test)]

@@ -1,4 +1,5 @@
-//! What a ring is given is dropped once, whatever a call returns: its storage, and closures.
+//! The storage of a ring, and the closures that it is given, are dropped once, whatever a call
+//! returns.
 use crate::counted::Counted;
 use net_ring::{Empty, Full, RingBuffer};
 use std::alloc::Global;
@@ -14,8 +15,8 @@ fn many<'c>(alloc: Global, drops: &'c Cell<u32>, count: u32) -> Result<Vec<Count
     Ok(values)
 }
 
-/// Makes a ring over such values, enqueues half of them, dequeues so many, and drops it; returns how
-/// many values were dropped then, and how many before.
+/// Makes a ring over such values, enqueues half of them, dequeues so many, and drops the ring. Returns how many
+/// values the drop of the ring dropped, and how many were dropped before.
 fn drops_of_ring(alloc: Global, count: u32, taken: usize) -> Result<(u32, u32), Fail> {
     let drops = Cell::new(0);
     let mut ring = RingBuffer::from(many(alloc, &drops, count)?);
@@ -42,9 +43,9 @@ fn pushes<'c>(ring: &mut RingBuffer<'_, Counted<'c>>, drops: &'c Cell<u32>) -> b
     ring.push_one(Counted { drops }).is_ok()
 }
 
-/// Fills a ring of so many values by `push_one`, which drops those that it writes over, and then
-/// one that it refuses, and drops the ring; returns how many values were dropped, or `None` if a call
-/// went otherwise than expected.
+/// Fills a ring of so many values by `push_one`, which drops those that it writes over and the one that it
+/// refuses, and drops the ring. Returns how many values were dropped, or `None` if a call didn't do what was
+/// expected.
 fn drops_of_pushes(alloc: Global, count: u32) -> Result<Option<u32>, Fail> {
     let drops = Cell::new(0);
     let mut ring = RingBuffer::from(many(alloc, &drops, count)?);

@@ -1,15 +1,15 @@
 //! Single elements of a ring of three that wraps, and a ring that makes room for a newer element.
 use net_ring::{Full, RingBuffer, Storage};
 
-/// Queues the elements 1, 2 and 3 so that the last two stand at the storage's beginning, and returns
-/// whether each was taken.
+/// Queues the elements 1, 2 and 3 so that the last two are at the storage's beginning, and returns whether each
+/// was accepted.
 fn fills(ring: &mut RingBuffer<'_, u8>) -> bool {
     let taken = ring.enqueue_slice(&[0, 0]) == 2;
     ring.dequeue_allocated(ring.len());
     taken && pushes(ring, 1) && pushes(ring, 2) && pushes(ring, 3)
 }
 
-/// Returns whether a ring takes an element.
+/// Returns whether a ring accepts an element.
 fn pushes(ring: &mut RingBuffer<'_, u8>, element: u8) -> bool {
     ring.push_one(element).is_ok()
 }
@@ -19,7 +19,7 @@ fn has_ends(ring: &RingBuffer<'_, u8>, front: Option<u8>, back: Option<u8>) -> b
     ring.front().copied() == front && ring.back().copied() == back
 }
 
-/// Returns whether the element at an index of the queue is this.
+/// Returns whether the element at an index of the queue is this one.
 fn has_at(ring: &RingBuffer<'_, u8>, index: usize, element: Option<u8>) -> bool {
     ring.get(index).copied() == element
 }
@@ -40,7 +40,7 @@ fn elements_by_their_index(rt: HostRuntime) {
     assert!(rt; has_at(&ring, 1, Some(2)) && has_at(&ring, 2, Some(3)) && has_at(&ring, 3, None));
 }
 
-/// Returns the number of elements that an iterator over the queue shows, and where it shows this one.
+/// Returns how many elements an iterator over the queue shows, and where it shows this one.
 fn shown(ring: &RingBuffer<'_, u8>, element: u8) -> (usize, Option<usize>) {
     let at = ring.iter().position(|other| *other == element);
     (ring.iter().count(), at)

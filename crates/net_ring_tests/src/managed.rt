@@ -1,8 +1,7 @@
 //! Storage that is lent, at a concrete type. Rows of `net_cases` show storage that is owned.
 use net_ring::{ManagedSlice, Storage};
 
-/// Turns the elements of a storage round, and returns whether they are as many as these, and then
-/// these.
+/// Reverses the elements of a storage, and returns whether they are then these.
 fn turns_into(storage: &mut ManagedSlice<'_, u8>, elements: &[u8]) -> bool {
     let count = storage.len();
     storage.as_mut_slice().reverse();

@@ -1,5 +1,5 @@
-//! What rows of calls and replies don't say: storage that is lent, elements without a size,
-//! closures that mustn't run, and callers that are proved only from contracts.
+//! What the rows of `net_cases` don't show: storage that is lent, elements without a size, closures
+//! that mustn't run, and callers that are proved only from contracts.
 ghost use Rattle.std.specs.Prelude.{◌≡◌};
 
 mod callers;
@@ -35,7 +35,7 @@ fn heads(ring: &RingBuffer<'_, u8>, shown: &[u8]) -> bool {
     *ring.head() == *shown
 }
 
-/// Enqueues the elements alone and dequeues them, and returns whether they are then lent by
+/// Enqueues only these elements and dequeues them, and returns whether they are then lent by
 /// `last_dequeued_mut`.
 fn lends_what_left(ring: &mut RingBuffer<'_, u8>, data: &[u8]) -> bool {
     ring.clear();
@@ -59,8 +59,8 @@ fn keeps_its_head(ring: &mut RingBuffer<'_, u8>) -> bool {
     none && third && same && takes_off(ring, 2) && heads(ring, b"e")
 }
 
-/// Returns whether a ring of four, once that element is off, is read from the storage's beginning on behind
-/// `rewind_if_empty` alone.
+/// Returns whether a ring of four, once that element is off, is read from the storage's beginning on only after
+/// `rewind_if_empty`.
 fn rewinds(ring: &mut RingBuffer<'_, u8>) -> bool {
     let apart = takes_off(ring, 1) && ring.contiguous_window() == 3;
     ring.rewind_if_empty();
@@ -174,7 +174,7 @@ fn callers_write_and_read_back(rt: HostRuntime) {
     assert!(rt; gives_three(&mut ring, b"bde\0") && gives_byte(&mut ring, Err(Empty)));
 }
 
-/// Returns whether so many bytes are taken into zeros, which become these.
+/// Returns whether so many bytes are taken into four zeros, which become these.
 fn takes_out(duplex: &mut Duplex<'_>, count: usize, after: &[u8; 4]) -> bool {
     let mut out = [0; 4];
     duplex.take(&mut out) == count && out == *after

@@ -1,5 +1,5 @@
-//! What tests compare. Each comparison is a function of its own, since an `assert!` makes the proof
-//! of the body that it is in several times as long.
+//! Comparisons of tests. Each is a function of its own, since an `assert!` makes the proof of the
+//! body that it is in several times as long.
 use std::process::Abort;
 
 /// Where a test is: the words of a mode or a name, and the number of a row, a call or a request.

@@ -1,4 +1,4 @@
-//! How a call of `run` ends.
+//! The ends of calls of `run`.
 use crate::assertions::{Place, assert_bytes, assert_count, assert_text};
 use net_script::{Mode, run};
 use net_testing::{Sink, Source};
@@ -16,7 +16,7 @@ pub fn command_words(alloc: Global, line: &str) -> Result<Vec<String>, AllocErro
     Ok(words)
 }
 
-/// Returns the text of how `run` ends whose memory is that of `heap`, in the mode that these words
+/// Returns a text that says how `run` ends, in memory of `heap` and in the mode that these words
 /// name.
 pub fn ending<A: Allocator + Copy, R: Read, W: Write>(
     alloc: Global,

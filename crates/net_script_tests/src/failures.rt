@@ -54,7 +54,7 @@ impl Write for Counter<'_> {
     }
 }
 
-/// Executes parts that are read one a call: before each read so many bytes were written.
+/// Executes an input whose parts are read one a call: before each read so many bytes were written.
 fn check_written(
     rt: &impl Abort,
     alloc: Global,
@@ -109,8 +109,8 @@ static SCRIPTS: [Script; 3] = [
     ),
 ];
 
-/// Returns the prefix of the output that is written for the lines which these first bytes of the
-/// input end.
+/// Returns the prefix of the output that is written for the lines that end within these first bytes
+/// of the input.
 fn output_for((_, input, output, ends): Script, given: usize) -> &'static [u8] {
     let ended = input[..given.min(input.len())]
         .iter()
@@ -131,7 +131,7 @@ fn check_failing_read(
     let (words, input, output, _) = script;
     let mut source = Source::failing(input, bytes_per_call, failing_call, kind);
     let mut sink = Sink::new(alloc)?;
-    // One more call sees the end.
+    // One more call finds the end.
     let giving_calls = input.len().div_ceil(bytes_per_call.max(1));
     let given = failing_call.saturating_mul(bytes_per_call);
     let wanted = if failing_call <= giving_calls {
@@ -261,7 +261,7 @@ fn each_write_fails_in_turn(rt: HostRuntime) -> Result<(), Fail> {
     Ok(())
 }
 
-/// A line of so many bytes that no line feed ends, by reads of so many bytes of which one fails:
+/// A line of so many bytes without a line feed, read by reads of so many bytes of which one fails:
 /// how `run` ends, and after how many reads.
 static LONG_LINES: [(usize, usize, usize, &str, usize); 8] = [
     (4096, 65536, 1, "read failed", 2),

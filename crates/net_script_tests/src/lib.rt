@@ -1,8 +1,8 @@
 //! The tests of `net_script`, each through its public calls, over memory, with readers and writers
-//! that give and take little, and that fail.
+//! that move few bytes a call, and that fail.
 //!
-//! They are in a crate of their own, so that what depends on `net_script` doesn't wait for them and
-//! links nothing that only tests need.
+//! They are in a crate of their own, so that crates that use `net_script` don't wait for them and
+//! link nothing that only tests need.
 #![tactic(auto)]
 
 #[cfg(test)]

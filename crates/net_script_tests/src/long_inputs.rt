@@ -1,4 +1,4 @@
-//! Calls of `run` over long inputs: what gives up from some size on is caught.
+//! Calls of `run` over long inputs, which catch a body that gives up from some size on.
 ghost use Rattle.std.specs.Prelude.{None};
 
 use crate::assertions::{assert_count, assert_holds, assert_text};
@@ -80,7 +80,7 @@ impl Write for Expected<'_> {
 /// How often four lines are given: 60,000 lines.
 const TIMES: usize = 15000;
 
-/// Executes four lines again and again, with these last bytes or a failed read behind them, over a
+/// Executes four lines again and again, followed by these last bytes or a failed read, over a
 /// writer with so much room.
 fn check_repeated(
     rt: &impl Abort,
@@ -152,8 +152,8 @@ fn runs_long_inputs(rt: HostRuntime) -> Result<(), Fail> {
     check_scripts(&rt, rt.alloc(), &SCRIPTS)
 }
 
-/// Returns segments of six bytes each that come in two parts, the later first, and are read in two
-/// parts: the lines of mode `stream`, and the replies.
+/// Returns segments of six bytes each that arrive in two parts, the later one first, and are read
+/// in two parts: the lines of mode `stream`, and the replies.
 fn long_stream(alloc: Global) -> Result<(Vec<u8>, Vec<u8>), AllocError> {
     let mut input = Vec::new(alloc);
     let mut output = Vec::new(alloc);
@@ -188,8 +188,8 @@ fn check_long_stream(
     Ok(sink.calls)
 }
 
-/// Stops the test unless these bytes are a prefix of the others; all of them, or not, as it is
-/// told.
+/// Stops the test unless these bytes are a prefix of the others, and unless they are all of them
+/// exactly if that is expected.
 fn assert_prefix(rt: &impl Abort, prefix: &[u8], whole: &[u8], is_whole: bool) {
     let place = ("bytes", prefix.len());
     assert_holds(rt, whole.starts_with(prefix), place);

@@ -38,10 +38,11 @@ fn output_before(alloc: Global, parts: &[Part<'_>], refused: usize) -> Result<Ve
 }
 
 /// The most bytes that a call here asks for: those of the buffers for a line and for replies, and
-/// little beside them.
+/// few more.
 const MOST_BYTES: usize = 4_096 + 65_536 + 2_048;
 
-/// Refuses this request for memory of a call that makes so many. All that it got is given back.
+/// Refuses this request for memory of a call that makes so many. All memory that the call got is
+/// given back.
 fn check_refusal(
     rt: &impl Abort,
     alloc: Global,
@@ -82,8 +83,8 @@ fn check_refusals(
     Ok(())
 }
 
-/// Mode `ring`. The buffers of a line's bytes and of a reply's text grow only for what is longer
-/// than before.
+/// Mode `ring`. The buffers of a line's bytes and of a reply's text grow only for longer ones than
+/// before.
 static RING: [Part<'static>; 7] = [
     (b"", b"", 3),
     (b"w 6162\n", b"took 2\n", 2),
@@ -121,7 +122,7 @@ static STREAM: [Part<'static>; 12] = [
     (b"", b"same\n", 0),
 ];
 
-/// Mode `stream`, with two schedules that end apart.
+/// Mode `stream`, with two schedules that end in different states.
 static DIFFERING: [Part<'static>; 4] = [
     (b"", b"", 3),
     (b"s 1000 61\n", b"kept 1 queued 1 sack -\n", 2),

@@ -40,7 +40,7 @@ fn assert_bytes(rt: &impl Abort, found: &[u8], wanted: &[u8], (name, number): Pl
     );
 }
 
-/// Stops the test unless a run ended so.
+/// Stops the test unless a run ended like this.
 fn assert_ended(
     rt: &impl Abort,
     found: Ended,
@@ -60,7 +60,7 @@ fn assert_ended(
 /// What is written, the status, what standard error says, and how many reads and writes there are.
 type Expected<'a> = (&'a [u8], u8, &'a [u8], usize, usize);
 
-/// Calls `serve` over these streams, and this comes of it; there is one flush, and none with the
+/// Calls `serve` over these streams, with these results; there is one flush, and none with the
 /// usage line.
 fn check_status<A: Allocator + Copy>(
     rt: &impl Abort,
@@ -82,8 +82,8 @@ fn check_status<A: Allocator + Copy>(
     Ok(())
 }
 
-/// Calls `serve` over this reader and a writer that fails at this call, by a flush that fails
-/// with this kind of error, if there is one. A failed flush is told only if nothing else is.
+/// Calls `serve` over this reader and a writer that fails at this call, by a flush that fails with
+/// this kind of error, if there is one. A failed flush is reported only if nothing else failed.
 fn check_flush(
     rt: &impl Abort,
     alloc: Global,
@@ -255,8 +255,8 @@ fn says_which_stream_failed(rt: HostRuntime) -> Result<(), Fail> {
     Ok(())
 }
 
-/// Returns whether standard error says this line where that many lines ask for the front, and the
-/// next one for nothing.
+/// Returns whether standard error has this line if so many lines ask for the front, and the next
+/// one for nothing.
 fn says_line(alloc: Global, lines: usize, told: &[u8]) -> Result<bool, Fail> {
     let words = words_of(alloc, "asm 4")?;
     let mut input = Vec::new(alloc);
@@ -363,7 +363,7 @@ fn says_that_memory_was_refused(rt: HostRuntime) -> Result<(), Fail> {
     check_enough_memory(&rt, rt.alloc(), 5)
 }
 
-/// Calls `serve` where the writer of errors takes nothing.
+/// Calls `serve` with a writer of errors that takes nothing.
 fn check_untold(rt: &impl Abort, alloc: Global, line: &str, status: u8) -> Result<(), Fail> {
     let words = words_of(alloc, line)?;
     let mut source = Source::new(b"w 61\nx\n");

@@ -1,4 +1,5 @@
-//! Lines of each mode, with readers and writers that give and take little. Rows of `net_cases` show more lines.
+//! Lines of each mode, with readers and writers that move few bytes a call. Rows of `net_cases` show more
+//! lines.
 use crate::assertions::assert_count;
 use crate::endings::check_run;
 use net_testing::{NEVER, Sink, Source};
@@ -10,8 +11,8 @@ use std::test::Fail;
 /// A row: the mode's words, the input, the output and how `run` ends.
 type Row<'a> = (&'a str, &'a [u8], &'a [u8], &'a str);
 
-/// Executes a row by a reader and a writer that give and take so many bytes a call. Without a fault one
-/// read more than those that give bytes is made, which sees the end.
+/// Executes a row by a reader and a writer that give and take so many bytes a call. Without a fault there is
+/// one more read than those that give bytes: it finds the end.
 fn check_row(
     rt: &impl Abort,
     alloc: Global,

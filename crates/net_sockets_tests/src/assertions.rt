@@ -1,5 +1,5 @@
-//! What tests compare: a function of its own, since an `assert!` makes the proof of the body that it
-//! stands in several times as long.
+//! Comparisons of tests: a function of its own, since an `assert!` makes the proof of the body that it is in
+//! several times as long.
 use std::process::Abort;
 
 /// Stops the test unless this holds, of what has this name and number.

@@ -46,7 +46,7 @@ fn gives_three(device: &mut Loopback) -> bool {
     true
 }
 
-/// Returns whether two of these frames pass where two may, then the last where five may, and then
+/// Returns whether two of these frames pass if two may, then the last one if five may, and then
 /// none.
 fn passes_three(from: &mut Loopback, to: &mut Loopback) -> Result<bool, AllocError> {
     Ok(
@@ -67,7 +67,8 @@ fn frames_pass_from_one_device_to_the_other(rt: HostRuntime) -> Result<(), Alloc
     Ok(())
 }
 
-/// Sends one frame and forwards it. Returns whether it came as it was sent, and was the only one.
+/// Sends one frame and forwards it. Returns whether it arrived as it was sent, and was the only
+/// one.
 fn one_passes(
     from: &mut Loopback,
     to: &mut Loopback,
@@ -115,7 +116,7 @@ fn sends_many(device: &mut Loopback, count: usize) -> Result<bool, AllocError> {
     Ok(true)
 }
 
-/// Returns whether so many frames come as they were sent, and no other.
+/// Returns whether so many frames arrive as they were sent, and no other.
 fn gives_many(device: &mut Loopback, count: usize) -> bool {
     for length in 0..count {
         if !gives(device, Instant::ZERO, length, 7) {
@@ -125,7 +126,7 @@ fn gives_many(device: &mut Loopback, count: usize) -> bool {
     device.receive(Instant::ZERO).is_none()
 }
 
-/// All of many frames pass in one call, and none is lost.
+/// Many frames pass in one call, and none is lost.
 #[test]
 fn many_frames_pass_at_once(rt: HostRuntime) -> Result<(), AllocError> {
     let mut from = Loopback::new(rt.alloc(), Medium::Ip);
@@ -233,7 +234,8 @@ fn asks_once(from: &mut Noting, to: &mut Noting) -> Result<bool, AllocError> {
     Ok(passed && to.rooms == rooms.saturating_add(1) && from.rooms == 0)
 }
 
-/// Each frame is sent by a token that was asked for, and no other token is: nor where none waits.
+/// Each call asks the device that it sends on for one token, even if no frame waits, and the other
+/// device for none.
 #[test]
 fn room_is_asked_for_once_a_frame(rt: HostRuntime) -> Result<(), AllocError> {
     let mut from = without_frames(rt.alloc());

@@ -1,9 +1,9 @@
-//! Packets that come in fragments.
+//! Packets that arrive in fragments.
 use crate::assertions::assert_holds;
 use net_base::time::Instant;
 use net_sockets::{FragmentError, FragmentsOver};
 
-/// What is done with a packet, and what must come of it.
+/// A call on a packet, and its expected result.
 #[derive(Drop)]
 enum Step<'a> {
     /// A fragment by its offset and bytes, and why it is refused, if it is.
@@ -12,13 +12,13 @@ enum Step<'a> {
     Sizes(usize, Option<FragmentError>),
     /// The whole packet, if it is there.
     Assembles(Option<&'a [u8]>),
-    /// The packet begins anew, and is waited for up to this moment in microseconds.
+    /// The packet starts over, and is waited for up to this moment in microseconds.
     Resets(i64),
     /// Whether the packet is given up at this moment in microseconds.
     Expires(i64, bool),
 }
 
-/// Does one step, and returns whether what must come of it came.
+/// Does one step, and returns whether its result is the expected one.
 fn does(packet: &mut FragmentsOver<&mut [u8], 2>, step: &Step<'_>) -> bool {
     match step {
         Step::Adds(offset, data, refusal) => packet.add(*offset, data).err() == *refusal,
@@ -34,8 +34,8 @@ fn does(packet: &mut FragmentsOver<&mut [u8], 2>, step: &Step<'_>) -> bool {
     }
 }
 
-/// Three fragments come out of order, and one of them twice, with other bytes. The next packet never
-/// comes whole.
+/// Three fragments arrive out of order, and one of them twice, with other bytes. The next packet never becomes
+/// complete.
 static STEPS: [Step<'static>; 16] = [
     Step::Adds(6, b"gh", None),
     Step::Adds(3, b"??", None),

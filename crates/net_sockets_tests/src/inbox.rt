@@ -16,7 +16,7 @@ fn shows(
     }
 }
 
-/// A datagram is looked at twice in place.
+/// A datagram is shown in place twice.
 #[test]
 fn the_first_datagram_is_shown_in_place(rt: HostRuntime) {
     let mut slots = [PacketMetadata::<Endpoint>::EMPTY; 1];

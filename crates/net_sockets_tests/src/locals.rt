@@ -72,7 +72,7 @@ fn owned_bytes(alloc: Global) -> Result<ManagedSlice<'static, u8>, AllocError> {
     Ok(ManagedSlice::Owned([0u8; 2].to_vec(alloc)?))
 }
 
-/// Returns whether a packet over lent bytes comes whole.
+/// Returns whether a packet over lent bytes becomes complete.
 fn lent_packet_is_whole(bytes: &mut [u8]) -> bool {
     let mut packet = FragmentBuffer::<4>::new(ManagedSlice::Borrowed(bytes), Instant::ZERO);
     packet.add(0, b"hi").is_ok()
@@ -80,7 +80,7 @@ fn lent_packet_is_whole(bytes: &mut [u8]) -> bool {
         && packet.assemble() == Some(b"hi".as_slice())
 }
 
-/// Returns whether a packet over owned bytes comes whole.
+/// Returns whether a packet over owned bytes becomes complete.
 fn owned_packet_is_whole(bytes: Vec<u8>) -> bool {
     let mut packet = FragmentBuffer::<4>::new(ManagedSlice::Owned(bytes), Instant::ZERO);
     packet.add(0, b"hi").is_ok()

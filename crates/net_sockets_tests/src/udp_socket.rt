@@ -18,7 +18,7 @@ fn queue_over<'a>(
     PacketBuffer::<Endpoint>::new(ManagedSlice::Borrowed(slots), ManagedSlice::Borrowed(bytes))
 }
 
-/// Returns whether a datagram to be sent is taken.
+/// Returns whether a datagram to be sent is accepted.
 fn sends(socket: &mut UdpSocket<'_>, to: Endpoint, data: &[u8]) -> bool {
     socket.can_send() && socket.send_slice(data, to).is_ok()
 }
@@ -91,8 +91,8 @@ fn datagram(size: usize) -> &'static [u8] {
     [7u8; 32].get(..size).unwrap_or(&[])
 }
 
-/// Sends datagrams of these sizes, each of its number alone, and then one that has no room. Then
-/// takes all of them off. Returns whether each came as it was sent.
+/// Sends datagrams of these sizes, and then one that has no room. Then takes the others off.
+/// Returns whether each arrived as it was sent, and the last one was refused.
 fn goes_out(socket: &mut UdpSocket<'_>, sizes: &[usize], refused: usize) -> bool {
     let to = Endpoint {
         address: 0x0a000001,
@@ -117,7 +117,7 @@ fn receives(socket: &mut UdpSocket<'_>, size: usize) -> bool {
     socket.recv_slice(&mut [0u8; 32]) == Ok((size, SERVER))
 }
 
-/// Does the same with datagrams that come in.
+/// Does the same with received datagrams.
 fn comes_in(socket: &mut UdpSocket<'_>, sizes: &[usize], refused: usize) -> bool {
     for &size in sizes {
         if !socket.process(SERVER, datagram(size)) {

@@ -1,5 +1,5 @@
-//! What tests compare. A comparison is a function of its own, since an `assert!` makes the proof of the
-//! body that has it several times as long.
+//! Comparisons of tests: a function of its own, since an `assert!` makes the proof of the body that it is in
+//! several times as long.
 
 use std::process::Abort;
 

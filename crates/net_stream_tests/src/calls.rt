@@ -1,5 +1,5 @@
-//! The calls of `net_stream` that take many values, and what is in a link: tests reach them through
-//! these functions alone.
+//! The calls of `net_stream` that take many values, and the parts of a link: tests reach them only
+//! through these functions.
 
 use net_base::phy::RxToken;
 use net_base::time::Instant;
@@ -96,7 +96,7 @@ pub fn copy_by<A: Allocator + Copy, R: Read, W: Write>(
     ))
 }
 
-/// Copies, tells who watches, and returns the name of how it ended.
+/// Copies, reports to a watch, and returns the name of how it ended.
 pub fn copy_watched_by<A: Allocator + Copy, T: Watch, R: Read, W: Write>(
     alloc: A,
     setup: &Setup,
@@ -137,8 +137,8 @@ pub fn copy_over_by<A: Allocator + Copy, R: Read, W: Write>(
     ))
 }
 
-/// Returns a link over storage of the sender and of the receiver. Of the config it takes the first
-/// position, the payload and the burst.
+/// Returns a link over storage of the sender and of the receiver. It takes the first position, the
+/// payload and the burst from the config.
 pub fn link_by<'a, A: Allocator + Copy>(
     alloc: A,
     setup: &Setup,
@@ -156,21 +156,21 @@ pub fn link_by<'a, A: Allocator + Copy>(
     )
 }
 
-/// Returns the next frame in flight to the receiver, which is taken.
+/// Takes the next frame in flight to the receiver, and returns it.
 pub fn next_frame<A: Allocator + Copy>(
     link: &mut Link<'_, '_, A>,
 ) -> Option<net_base::phy::loopback::RxToken<A>> {
     link.forward.take(start())
 }
 
-/// Returns the next delayed frame to the receiver, which is taken.
+/// Takes the next delayed frame to the receiver, and returns it.
 pub fn next_delayed_frame<A: Allocator + Copy>(
     link: &mut Link<'_, '_, A>,
 ) -> Option<net_base::phy::loopback::RxToken<A>> {
     link.forward.take_delayed(start())
 }
 
-/// Returns whether the next delayed acknowledgement, which is taken, is of these bytes.
+/// Takes the next delayed acknowledgement, and returns whether it has these bytes.
 pub fn is_next_delayed_ack<A: Allocator + Copy>(link: &mut Link<'_, '_, A>, bytes: &[u8]) -> bool {
     match link.reverse.take_delayed(start()) {
         Some(token) => token.frame() == bytes,

@@ -1,5 +1,5 @@
-//! Copies over links: what arrives over any link, which storage is used for what, how each refusal ends
-//! one, and what they ask of memory.
+//! Copies over links: what arrives over any link, the use of each storage, how each refusal ends a copy, and
+//! how much memory a copy asks for.
 
 use crate::assertions::assert_holds;
 use crate::calls::{PERFECT, Setup, Way, copy_by, copy_over_by};
@@ -32,7 +32,7 @@ const TEXT: &[u8] = b"A text of some words, which comes over a link byte for byt
 const EIGHTY: &[u8] =
     b"0123456789012345678901234567890123456789012345678901234567890123456789abcdefghij";
 
-/// Fates that are drawn at these rates.
+/// Returns fates that are drawn at these rates.
 fn drawn(seed: u64, rates: &Rates) -> Way {
     Way {
         listed: &[],
@@ -41,7 +41,7 @@ fn drawn(seed: u64, rates: &Rates) -> Way {
     }
 }
 
-/// Returns whether a text comes over a link that draws its fates.
+/// Returns whether a text arrives over a link that draws its fates.
 fn comes(alloc: Global, rates: &Rates, capacity: usize, seed: u64) -> bool {
     let setup = setup(drawn(seed, rates), drawn(!seed, rates), 7, capacity, 5);
     let Ok(mut sink) = Sink::new(alloc) else {
@@ -76,8 +76,8 @@ static LINKS: [Rates; 5] = [
     },
 ];
 
-/// Returns whether a text comes over links of these seeds, with storage of one byte, of some and of
-/// many.
+/// Returns whether a text arrives over links of these seeds, with storage of one byte, of some and
+/// of many.
 fn comes_at_any_capacity(alloc: Global, rates: &Rates, seeds: u64) -> bool {
     for seed in 0..seeds {
         for capacity in [1usize, 7, 4096] {
@@ -128,8 +128,8 @@ fn each_lent_storage_has_its_own_use(rt: HostRuntime) {
     assert_holds(&rt, takes_five_rounds(rt.alloc(), b"abcdefghij"), 0);
 }
 
-/// The request that is refused, the read and the write that fail, whether the flush does, the end and
-/// how many bytes of `abcdef` came.
+/// The request that is refused, the read and the write that fail, whether the flush fails, the end and how many
+/// bytes of `abcdef` were written.
 static REFUSALS: [(usize, usize, usize, bool, &'static str, u64); 12] = [
     (0, NEVER, NEVER, false, "out of memory", 0),
     (1, NEVER, NEVER, false, "out of memory", 0),
@@ -145,8 +145,8 @@ static REFUSALS: [(usize, usize, usize, bool, &'static str, u64); 12] = [
     (NEVER, NEVER, NEVER, false, "Ok", 6),
 ];
 
-/// Returns whether a copy ends so, flushes once, also if memory for its buffers is refused, and
-/// gives back all its memory.
+/// Returns whether a copy ends like this, flushes once, even if memory for its buffers is refused,
+/// and gives back all its memory.
 fn ends_so(
     alloc: Global,
     (refused, read, write, is_unflushed, wanted, count): (usize, usize, usize, bool, &str, u64),
@@ -169,7 +169,7 @@ fn ends_so(
         && heap.live() == 0
 }
 
-/// Returns whether a writer has so many bytes, which a text begins with.
+/// Returns whether a writer has so many bytes, and a text begins with them.
 fn is_prefix(sink: &Sink, text: &[u8], count: u64) -> bool {
     text.starts_with(&sink.bytes) && sink.bytes.len() as u64 == count
 }
@@ -181,9 +181,9 @@ fn each_refusal_ends_a_copy(rt: HostRuntime) {
     }
 }
 
-/// Returns whether all is counted that came before memory was refused, of a copy of which eight
-/// segments are refused in the first round, in which nothing is written: 80 bytes are sent in it,
-/// and 33 in the next. Each round waits for a round trip at least.
+/// Returns whether the counts of a copy have everything up to the refusal of memory. In its first
+/// round eight segments are refused and nothing is written: 80 bytes are sent in that round, and 33
+/// in the next. Each round takes at least a round trip.
 fn are_kept(counts: &Counts, has_storage: bool) -> bool {
     let frames = &counts.frames;
     let is_counted = match counts.rounds {
@@ -195,8 +195,8 @@ fn are_kept(counts: &Counts, has_storage: bool) -> bool {
     is_counted && counts.micros / 10_000 >= counts.rounds
 }
 
-/// Copies eighty bytes of which each second is lost, in this memory. Returns how it ends, and whether
-/// what was written is a prefix, and all is counted.
+/// Copies eighty bytes, every second of which is lost, in this memory. Returns how the copy ends, and whether
+/// the bytes written are a prefix, and everything is counted.
 fn leaves_a_prefix(alloc: Global, memory: &Refusing) -> (&'static str, bool) {
     let Ok(mut sink) = Sink::new(alloc) else {
         return ("no writer", false);
@@ -210,7 +210,7 @@ fn leaves_a_prefix(alloc: Global, memory: &Refusing) -> (&'static str, bool) {
     (end, is_right)
 }
 
-/// With each request refused in turn a prefix is written, and all memory is given back.
+/// If one request is refused, whichever it is, a prefix is written, and all memory is given back.
 #[test]
 fn each_refused_request_leaves_a_prefix(rt: HostRuntime) {
     let mut is_always_right = true;
@@ -242,8 +242,8 @@ fn asks_for(alloc: Global, len: usize, capacity: usize, asked: usize, most: usiz
     end == "Ok" && heap.bytes() <= asked && heap.most() <= most && heap.live() == 0
 }
 
-/// A copy asks for its three storages, for its frames, each with a header of 8 bytes, for its
-/// acknowledgements, and for the queues of both; each frame is there once, and is given back when it came.
+/// A copy asks for its three storages, for its frames, each with a header of 8 bytes, for its acknowledgements,
+/// and for the queues of both. Each frame is there once, and is given back once it has arrived.
 #[test]
 fn little_memory_is_asked_for(rt: HostRuntime) {
     // One round, of a frame and two acknowledgements, of 8 bytes each.

@@ -1,4 +1,4 @@
-//! All that is counted of copies over links of known fates.
+//! All counts of copies over links of known fates.
 //!
 //! The numbers are those of compare/copy_model.py, a model that is written only from docs/LINK.md.
 
@@ -13,14 +13,14 @@ use std::io::ErrorKind;
 mod rows;
 pub mod ways;
 
-/// Reads and writes of all that there is, of which none fails.
+/// Reads and writes of all bytes at once, none of which fails.
 const TO_THE_END: (usize, usize, usize, usize) = (NEVER, NEVER, NEVER, NEVER);
 
-/// A copy: what becomes of its frames and of its acknowledgements; how many bytes the reader has, and the
-/// config (first position, capacity, payload, burst and rounds); the most bytes of a read and the number
-/// of the one that fails, and the same of writes; how it ends and how often it reads; and its counts:
-/// bytes read and written, rounds, microseconds, frames sent, bytes that they carried, frames lost,
-/// duplicated and delayed, and segments refused.
+/// A copy: the fates of its frames and of its acknowledgements; how many bytes the reader has, and the config
+/// (first position, capacity, payload, burst and rounds); the most bytes of a read and the number of the one
+/// that fails, and the same for writes; how the copy ends and how often it reads; and its counts: bytes read
+/// and written, rounds, microseconds, frames sent, bytes that they carried, frames lost, duplicated and
+/// delayed, and segments refused.
 #[derive(Clone, Copy, Drop)]
 struct Case(
     Way,
@@ -66,8 +66,8 @@ fn setup_of(case: &Case) -> Setup {
 }
 
 /// Returns whether the writer has a prefix of the text, as many bytes as are counted, and was
-/// flushed once, after all writes; and, where a write takes all, whether at most one was made in a
-/// round, and none of no bytes.
+/// flushed once, after all writes; and, if a write takes everything, whether at most one was made
+/// in a round, and none of 0 bytes.
 fn is_written(sink: &Sink, text: &[u8], counts: &Counts) -> bool {
     let most = counts.rounds.min(counts.bytes_written);
     let is_once_a_round = sink.bytes_per_call < NEVER || sink.calls as u64 <= most;
@@ -78,9 +78,9 @@ fn is_written(sink: &Sink, text: &[u8], counts: &Counts) -> bool {
         && sink.flushed == sink.bytes.len()
 }
 
-/// Returns whether no more bytes of memory were asked for than the three buffers take, the frames, each
-/// of 8 bytes more than its payload, the acknowledgements, each of at most 520 bytes, and the queues of
-/// both. If a frame was delayed or duplicated, all of them count twice.
+/// Returns whether no more bytes of memory were asked for than the three buffers take, the frames, each of 8
+/// bytes more than its payload, the acknowledgements, each of at most 520 bytes, and the queues of both. If a
+/// frame was delayed or duplicated, all frames count twice.
 fn is_little(asked: usize, capacity: usize, counts: &Counts) -> bool {
     let frames = &counts.frames;
     let is_perfect = frames.lost == 0 && frames.duplicated == 0 && frames.delayed == 0;
@@ -100,7 +100,8 @@ fn is_little(asked: usize, capacity: usize, counts: &Counts) -> bool {
     asked as u64 <= most
 }
 
-/// Returns whether a copy over these streams goes so, asks for little memory, and gives back all of it.
+/// Returns whether a copy over these streams has these results, asks for little memory, and gives back all of
+/// it.
 fn copies_so(
     alloc: Global,
     case: &Case,
@@ -119,8 +120,8 @@ fn copies_so(
         && heap.live() == 0
 }
 
-/// Returns whether a copy goes so where a failed read is of the first kind, and a failed write of
-/// the second one, or takes no byte.
+/// Returns whether a copy has these results if a failed read is of the first kind, and a failed
+/// write of the second one, or takes no byte.
 fn goes_so(
     alloc: Global,
     case: &Case,
@@ -180,7 +181,7 @@ static KINDS: [ErrorKind; 42] = [
     ErrorKind::Uncategorized,
 ];
 
-/// Returns whether a copy goes so, of whatever kind the errors are, if a read or a write fails.
+/// Returns whether a copy has these results for each kind of error, if a read or a write fails.
 fn goes_so_always(alloc: Global, case: &Case, bytes: &[u8]) -> bool {
     let (text, _) = bytes.split_at(bytes.len().min(case.2.0));
     if !goes_so(alloc, case, text, (ErrorKind::Other, None)) {
@@ -199,7 +200,7 @@ fn goes_so_always(alloc: Global, case: &Case, bytes: &[u8]) -> bool {
     true
 }
 
-/// Bytes that differ from their neighbours: byte i is i modulo 251.
+/// Returns bytes that differ from their neighbours: byte i is i modulo 251.
 pub fn pattern(alloc: Global, len: usize) -> Result<Vec<u8>, AllocError> {
     let mut bytes = Vec::with_capacity(alloc, len)?;
     for i in 0..len {

@@ -10,7 +10,7 @@ use net_stream::{
 use net_testing::{Refusing, refuse_each};
 use std::alloc::{AllocError, Allocator, Global};
 
-/// Returns whether the next frame, which is taken, is of these bytes.
+/// Takes the next frame, and returns whether it has these bytes.
 fn gives<A: Allocator + Copy>(device: &mut Loopback<A>, bytes: &[u8]) -> bool {
     match device.receive(start()) {
         Some((token, _reply)) => token.frame() == bytes,
@@ -42,11 +42,11 @@ fn a_frame_is_its_position_and_its_payload(rt: HostRuntime) {
     assert_holds(&rt, gives_none(&mut device), 3);
 }
 
-/// The longest frame, of 65,536 bytes, has so many bytes of payload.
+/// The bytes of payload of the longest frame, which has 65,536 bytes.
 const LONG: usize = 65_528;
 
-/// Returns whether a frame of position 256 and this payload comes, is sent again, and comes once
-/// more.
+/// Returns whether a frame of position 256 and this payload arrives, is sent again, and arrives
+/// once more.
 fn is_sent_twice(alloc: Global, payload: &[u8], frame: &[u8]) -> bool {
     let mut device = Loopback::new(alloc, Medium::Ip);
     send_frame(&mut device, start(), 256, payload).is_ok()
@@ -63,8 +63,8 @@ fn long_frames_are_sent_and_sent_again(rt: HostRuntime) -> Result<(), AllocError
     Ok(())
 }
 
-/// Sends a frame, or these bytes again, in this memory; where it is refused no frame is there. Returns
-/// whether it was sent, and whether it is there exactly then.
+/// Sends a frame, or these bytes again, in this memory; if memory is refused, no frame is there. Returns
+/// whether the frame was sent, and whether it is there exactly then.
 fn is_there_once_sent(memory: &Refusing, is_again: bool) -> (bool, bool) {
     let mut device = Loopback::new(memory, Medium::Ip);
     let is_sent = if is_again {
@@ -138,7 +138,7 @@ const TEN_TWENTY_THIRTY: Rates = Rates {
     delayed: 30,
 };
 
-/// A fate, whether it comes at once, and whether it is delayed.
+/// A fate, whether its frame arrives in its round, and whether in the next one.
 const COMINGS: [(Fate, bool, bool); 4] = [
     (Fate::Delivered, true, false),
     (Fate::Lost, false, false),
@@ -163,7 +163,7 @@ fn pairs_of_digits_decide_a_fate(rt: HostRuntime) {
 }
 
 /// The fates of a list, and then those of the random words 4064760752, 2284120977, 3992114710,
-/// 2692415085, 700514163 and 2995075556, as a second program finds them from state 7 on.
+/// 2692415085, 700514163 and 2995075556, as a second program computes them from state 7 on.
 const DRAWN: [Fate; 8] = [
     Fate::Delayed,
     Fate::Delivered,
@@ -189,7 +189,7 @@ fn fates_are_listed_and_then_drawn(rt: HostRuntime) {
     }
 }
 
-/// Returns whether the next frame in flight, which is taken, is of these bytes.
+/// Takes the next frame in flight, and returns whether it has these bytes.
 fn takes(path: &mut Path<'_, Global>, bytes: &[u8]) -> bool {
     match path.take(start()) {
         Some(token) => token.frame() == bytes,
@@ -197,7 +197,7 @@ fn takes(path: &mut Path<'_, Global>, bytes: &[u8]) -> bool {
     }
 }
 
-/// Returns whether the next delayed frame, which is taken, is of these bytes.
+/// Takes the next delayed frame, and returns whether it has these bytes.
 fn takes_delayed(path: &mut Path<'_, Global>, bytes: &[u8]) -> bool {
     match path.take_delayed(start()) {
         Some(token) => token.frame() == bytes,

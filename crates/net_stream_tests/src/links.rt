@@ -45,16 +45,16 @@ fn setup(
 enum Step {
     /// Writes these bytes: so many are taken.
     Write(&'static [u8], usize),
-    /// Puts a delayed frame.
+    /// Puts a frame among the delayed ones.
     Frame(&'static [u8]),
-    /// Puts a delayed acknowledgement.
+    /// Puts an acknowledgement among the delayed ones.
     Ack(&'static [u8]),
     /// Passes a round, which leaves this first missing position, this first unacknowledged one and
     /// this end.
     Round(u64, u64, u64),
     /// Reads these bytes.
     Read(&'static [u8]),
-    /// The next delayed acknowledgement is of these bytes.
+    /// The next delayed acknowledgement has these bytes.
     Acked(&'static [u8]),
     /// No further acknowledgement is delayed.
     NoneAcked,
@@ -88,7 +88,7 @@ fn does(link: &mut Link<'_, '_, Global>, step: &Step) -> bool {
 }
 
 /// Returns how many of the calls of a link of ten bytes each way give what they should, up to the
-/// first that doesn't, and what became of its frames.
+/// first that doesn't, and the counts of its frames.
 fn all_of(alloc: Global, setup: &Setup, steps: &[Step]) -> (usize, FrameCounts) {
     let mut to_send = [0u8; 10];
     let mut to_receive = [0u8; 10];
@@ -106,8 +106,8 @@ fn all_of(alloc: Global, setup: &Setup, steps: &[Step]) -> (usize, FrameCounts) 
     (steps.len(), link.counts)
 }
 
-/// Of the acknowledgements of a frame that came each is the first missing position, and each held run,
-/// as bytes; a round ends with one more.
+/// Each acknowledgement of a frame that arrived has the first missing position and each held run, as bytes; a
+/// round ends with one more.
 static ARRIVALS: [Step; 15] = [
     Step::Frame(&[0, 0, 0, 0, 0, 0, 0, 2, 99, 100]),
     Step::Round(0, 0, 0),
@@ -162,8 +162,8 @@ fn an_acknowledgement_drops_bytes(rt: HostRuntime) {
     assert_holds(&rt, done == ACKNOWLEDGEMENTS.len(), done);
 }
 
-/// Of `abcdefgh` the second frame is delayed and the third is lost; then the delayed one comes, and the third
-/// again; then nothing is left but an acknowledgement.
+/// Of `abcdefgh` the second frame is delayed and the third is lost; then the delayed one arrives, and the third
+/// is sent again; then only an acknowledgement is left.
 static ROUNDS: [Step; 5] = [
     Step::Write(b"abcdefgh", 8),
     Step::Round(3, 3, 8),
@@ -201,7 +201,7 @@ fn a_clock_stops_at_its_last_moment(rt: HostRuntime) {
     assert_holds(&rt, link.elapsed == Duration::from_micros(u64::MAX), 1);
 }
 
-/// Returns whether the next frame of a link over which all is delayed, which is taken, has this
+/// Takes the next frame of a link over which everything is delayed, and returns whether it has this
 /// position and so many bytes of payload, which are those of the sender.
 fn is_next(link: &mut Link<'_, '_, Global>, pos: u64, len: usize) -> bool {
     let Some(token) = next_delayed_frame(link) else {
@@ -215,7 +215,8 @@ fn is_next(link: &mut Link<'_, '_, Global>, pos: u64, len: usize) -> bool {
     }
 }
 
-/// Returns whether a round of a link over which all is delayed sends these frames and no more.
+/// Returns whether a round of a link over which everything is delayed sends these frames and no
+/// more.
 fn sends(link: &mut Link<'_, '_, Global>, frames: &[(u64, usize)]) -> bool {
     if link.pass_round().is_err() {
         return false;
@@ -264,11 +265,11 @@ static OF_TEN: [Round; 8] = [
         3,
     ),
     (&[(0, 99)], 100, 100, &[], 0),
-    // A block past the end is of no account.
+    // A block past the end changes nothing.
     (&[(30, 40)], 100, 1, &[(20, 8)], 8),
 ];
 
-/// Returns whether a round of ten bytes goes so.
+/// Returns whether a round of ten bytes sends these frames.
 fn sends_of_ten(alloc: Global, (ranges, payload, max_burst, frames, sum): &Round) -> bool {
     let Ok(bytes) = listed(alloc, ranges) else {
         return false;
@@ -306,7 +307,7 @@ static LONG_FRAMES: [(u64, usize); 5] = [
     (262_119, 32),
 ];
 
-/// Returns whether a round of as many bytes as the storage has room for sends them so.
+/// Returns whether a round of as many bytes as the storage has room for sends these frames.
 fn sends_long_frames(alloc: Global, bytes: &[u8], to_send: &mut [u8]) -> bool {
     let mut to_receive = [0u8; 0];
     let setup = setup((&[], DELAYED), (&[], GONE), (7, 65_528, 4_096));
@@ -330,8 +331,8 @@ fn a_round_sends_all_in_long_frames(rt: HostRuntime) -> Result<(), AllocError> {
     Ok(())
 }
 
-/// Whether, of 70 bytes of which so many single ones are SACK blocks, each second one from 1 on, a round
-/// of frames of three bytes sends single bytes up to `last`, and then these frames.
+/// Returns whether a round of frames of at most three bytes sends 31 single bytes and then these frames, of 70
+/// bytes of which so many are SACK blocks of one byte, at positions 1, 3, ..
 fn sends_of_seventy(alloc: Global, count: u64, frames: &[(u64, usize)]) -> bool {
     let Ok(ranges) = each_second(alloc, count) else {
         return false;
@@ -354,8 +355,8 @@ fn sends_of_seventy(alloc: Global, count: u64, frames: &[(u64, usize)]) -> bool 
         && are_next(&mut link, frames)
 }
 
-/// Returns the bytes of so many blocks of one position each, 1, 3, .., and 15 more, which are no
-/// block.
+/// Returns the bytes of so many blocks of one position each, 1, 3, .., and 15 more bytes, which are
+/// no block.
 fn each_second(alloc: Global, count: u64) -> Result<Vec<u8>, AllocError> {
     let mut bytes = Vec::new(alloc);
     for i in 0..count.min(100) {
@@ -376,7 +377,7 @@ fn are_single(link: &mut Link<'_, '_, Global>, count: u64) -> bool {
     true
 }
 
-/// Returns whether these frames come next, and no more.
+/// Returns whether these frames are next, and no more.
 fn are_next(link: &mut Link<'_, '_, Global>, frames: &[(u64, usize)]) -> bool {
     for (pos, len) in frames {
         if !is_next(link, *pos, *len) {
@@ -386,7 +387,8 @@ fn are_next(link: &mut Link<'_, '_, Global>, frames: &[(u64, usize)]) -> bool {
     next_delayed_frame(link).is_none()
 }
 
-/// With 32 blocks no frame begins after the last of them; a 33rd isn't read, and with 31 all is sent.
+/// With 32 blocks a frame may begin at the byte right after the last of them, and none further on; a 33rd isn't
+/// read, and with 31 everything is sent.
 #[test]
 fn all_sack_blocks_stop_a_round(rt: HostRuntime) {
     let all = sends_of_seventy(rt.alloc(), 31, &[(62, 3), (65, 3), (68, 2)]);
@@ -397,8 +399,7 @@ fn all_sack_blocks_stop_a_round(rt: HostRuntime) {
     }
 }
 
-/// Returns how many bytes the frames carry that are in flight, if each begins where the one before
-/// it ends.
+/// Returns how many bytes the frames in flight carry, if each begins where the one before it ends.
 fn carried<A: Allocator + Copy>(link: &mut Link<'_, '_, A>) -> Option<u64> {
     let mut end = 0u64;
     for _turn in 0..6u32 {
@@ -414,9 +415,9 @@ fn carried<A: Allocator + Copy>(link: &mut Link<'_, '_, A>) -> Option<u64> {
     None
 }
 
-/// Passes a round of nine bytes, all of which are lost, in this memory. Returns whether it passes,
-/// and whether, if it doesn't, the frames that were sent before are in flight and counted, or all
-/// met their fate.
+/// Passes a round of nine bytes, all of which are lost, in this memory. Returns whether the round
+/// passes, and whether, if it doesn't, the frames that were sent before are in flight and counted,
+/// or all met their fates.
 fn leaves_a_prefix(memory: &Refusing) -> (bool, bool) {
     let mut to_send = [0u8; 9];
     let setup = setup((&[], GONE), (&[], GONE), (0, 2, 100));

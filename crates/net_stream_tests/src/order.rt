@@ -8,7 +8,7 @@ use std::cell::Cell;
 use std::io;
 use std::io::{Read, Write};
 
-/// What a reader and a writer know of each other.
+/// The counts that a reader and a writer share.
 #[derive(Drop)]
 struct Ledger {
     /// How many bytes were given to the copy.
@@ -17,7 +17,7 @@ struct Ledger {
     written: Cell<usize>,
     /// How often it read.
     reads: Cell<usize>,
-    /// How often it read while bytes weren't written.
+    /// How often it read while some bytes weren't written.
     early: Cell<usize>,
 }
 
@@ -44,7 +44,7 @@ impl Read for Asked<'_> {
     }
 }
 
-/// A writer that takes all.
+/// A writer that takes everything.
 #[derive(Drop)]
 struct Told<'a> {
     ledger: &'a Ledger,
@@ -75,7 +75,7 @@ struct Row {
 }
 
 static ROWS: [Row; 5] = [
-    // Reads that fill what they are asked for, over a link that loses nothing, and over others.
+    // Reads that fill their room, over a link that loses nothing, and over others.
     Row {
         bytes: 1_000,
         per_call: 1_000,

@@ -1,4 +1,4 @@
-//! What a sender has queued and lends, at known bytes.
+//! The bytes that a sender has queued and lends, at known bytes.
 
 use crate::assertions::assert_holds;
 use crate::counted::pattern;
@@ -56,15 +56,15 @@ const FROM_TEN: [Step; 25] = [
     Step::Peek(16, 1, b"g"),
     Step::Peek(17, 100, b""),
     Step::Peek(12, 100, b""),
-    // Neither what is below the first unacknowledged position nor what is above the end is acknowledged.
+    // A position below the first unacknowledged one or above the end is not acknowledged.
     Step::Acknowledge(12, 13, 17),
     Step::Acknowledge(18, 13, 17),
     Step::Acknowledge(17, 17, 17),
-    // Empty, it begins at the storage's beginning.
+    // An empty sender starts at the storage's beginning.
     Step::Write(b"hijklm", 5),
     Step::Peek(17, 100, b"hijkl"),
     Step::Acknowledge(19, 19, 22),
-    // One lends what is before the storage's end, and the next one its beginning.
+    // One call lends the bytes before the storage's end, and the next one those at its beginning.
     Step::Acknowledge(22, 22, 22),
     Step::Write(b"abc", 3),
     Step::Acknowledge(24, 24, 25),
@@ -113,8 +113,8 @@ fn part(elements: &[u8], from: usize, to: usize) -> &[u8] {
     &elements[from.min(to)..to]
 }
 
-/// Returns whether a sender of as many bytes as these lends all, and again once some were
-/// acknowledged.
+/// Returns whether a sender of as many bytes as these lends all of them, and after an
+/// acknowledgement the rest of them and the bytes that are written then.
 fn lends_all(sender: &mut Sender<'_>, bytes: &[u8]) -> bool {
     let is_full = sender.write(bytes) == bytes.len() && sender.window() == 0;
     let is_lent = sender.peek_at(0, usize::MAX) == bytes

@@ -32,14 +32,14 @@ impl Write for Telling<'_> {
     }
 }
 
-/// Counts what it is told, and how much of that isn't of the round after the one before, or hasn't as many
-/// bytes as the writer.
+/// Counts how often it is called, and how often the counts aren't those of the next round, or have other bytes
+/// than the writer.
 #[derive(Drop)]
 struct Watching<'a> {
     written: &'a Cell<u64>,
     rounds: u64,
     wrong: u64,
-    /// What it was told last.
+    /// The last counts that it was given.
     last: Counts,
 }
 
@@ -53,8 +53,8 @@ impl Watch for Watching<'_> {
     }
 }
 
-/// What becomes of frames, and of acknowledgements; the payload; the most bytes of a write, and of all
-/// writes; and how a copy of a hundred bytes ends, and how many are written.
+/// The fates of frames, and of acknowledgements; the payload; the most bytes of a write, and of all writes; and
+/// how a copy of a hundred bytes ends, and how many are written.
 type Row = (Way, Way, u32, (usize, usize), (&'static str, u64));
 
 static ROWS: [Row; 7] = [
@@ -64,7 +64,7 @@ static ROWS: [Row; 7] = [
     (EACH_SECOND, ALL, 1, (50, 100), ("Ok", 100)),
     (FIRST_LOST, SOME, 200, (3, 100), ("Ok", 100)),
     (NONE, ALL, 7, (100, 100), ("gave up", 0)),
-    // Of 64 bytes of the first round all are written, and of the other 36 of the second one 16.
+    // All 64 bytes of the first round are written, and 16 of the 36 bytes of the second one.
     (ALL, ALL, 7, (100, 80), ("write failed", 80)),
 ];
 
@@ -83,9 +83,9 @@ fn setup_of((forward, reverse, payload, _, _): &Row) -> Setup {
     }
 }
 
-/// Returns whether a copy of a row ends so, and tells of each round once, after what came is
-/// written. Of a round in which a write fails it doesn't tell; what it tells last of others is all
-/// that is counted.
+/// Returns whether a copy of a row ends like this, and calls its watch once for each round, after
+/// the bytes that arrived are written. It doesn't call the watch for a round in which a write
+/// fails; otherwise the last counts that the watch is given are the final ones.
 fn tells_so(alloc: Global, row: &Row) -> bool {
     let written = Cell::new(0u64);
     let bytes = [b'x'; 100];

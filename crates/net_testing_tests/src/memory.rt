@@ -1,10 +1,10 @@
-//! Memory that is counted and refused.
+//! Requests for memory that are counted and refused.
 
 use net_testing::{NEVER, Refusing, refuse_each};
 use std::alloc::{AllocError, Global};
 
-/// Makes so many requests of `size` bytes each, of which the one of number `refused` is refused.
-/// Returns whether that one was, and no other.
+/// Makes so many requests of `size` bytes each, in memory that refuses request number `refused`.
+/// Returns whether that request was refused, and no other.
 fn refuses_one(alloc: Global, refused: usize, requests: usize, size: usize) -> bool {
     let memory = Refusing::new(alloc, refused);
     let mut is_right = true;
@@ -31,7 +31,7 @@ fn one_request_is_refused(rt: HostRuntime) {
     }
 }
 
-/// A list asks for the room of the bytes that it is made of, and again when that is full.
+/// A list asks for memory for the bytes that it is made of, and again when that is full.
 #[test]
 fn a_list_keeps_its_bytes_where_it_can_not_grow(rt: HostRuntime) -> Result<(), AllocError> {
     let memory = Refusing::new(rt.alloc(), 1);
@@ -45,8 +45,8 @@ fn a_list_keeps_its_bytes_where_it_can_not_grow(rt: HostRuntime) -> Result<(), A
     Ok(())
 }
 
-/// A list that grows asks for its new room before it gives its old one back, and gives all back when
-/// it is dropped.
+/// A list that grows asks for its new room before it gives the old one back, and gives everything back when it
+/// is dropped.
 #[test]
 fn what_is_given_back_is_counted(rt: HostRuntime) {
     let memory = Refusing::new(rt.alloc(), NEVER);
@@ -56,7 +56,8 @@ fn what_is_given_back_is_counted(rt: HostRuntime) {
     assert_eq!(rt; memory.live(), 0);
 }
 
-/// Whether eight bytes are live while a list of eight is there, and more than both rooms never are.
+/// Returns whether eight bytes are live while a list of eight is there, and never more than both
+/// rooms.
 fn grows_from_eight(memory: &Refusing) -> bool {
     let made: Result<Vec<u8, &Refusing>, AllocError> = Vec::from_slice(memory, b"abcdefgh");
     let Ok(mut bytes) = made else {
@@ -70,14 +71,15 @@ fn grows_from_eight(memory: &Refusing) -> bool {
     is_alone && room > 8 && memory.live() == room && memory.most() == room.saturating_add(8)
 }
 
-/// Whether so many bytes are live while a block of them is there, and the most that were stays.
+/// Returns whether so many bytes are live while a block of them is there, and `most` doesn't
+/// change.
 fn keeps_a_block(memory: &Refusing, size: usize) -> bool {
     let most = memory.most();
     let block: Result<Vec<u8, &Refusing>, AllocError> = Vec::with_capacity(memory, size);
     block.is_ok() && memory.live() == size && memory.most() == most
 }
 
-/// A refused request is no memory that is live.
+/// The bytes of a refused request are not live.
 #[test]
 fn refused_bytes_are_not_live(rt: HostRuntime) {
     let memory = Refusing::new(rt.alloc(), 0);
@@ -85,7 +87,7 @@ fn refused_bytes_are_not_live(rt: HostRuntime) {
     assert!(rt; memory.live() == 0 && memory.most() == 0);
 }
 
-/// Whether a list of eight bytes is made and grows by one, and whether each was tried.
+/// Returns whether a list of eight bytes is made and grows by one, and whether each was tried.
 fn makes_and_grows(memory: &Refusing) -> bool {
     let made: Result<Vec<u8, &Refusing>, AllocError> = Vec::from_slice(memory, b"abcdefgh");
     match made {
@@ -110,7 +112,7 @@ fn each_request_of_a_run_is_refused_in_turn(rt: HostRuntime) {
     assert_eq!(rt; gives_up, None);
 }
 
-/// A block that is never given back is seen, though the run succeeds.
+/// A block that is never given back is noticed, though the run succeeds.
 #[test]
 fn memory_that_is_kept_is_seen(rt: HostRuntime) {
     let kept = refuse_each(rt.alloc(), |memory| forgets_a_list(memory));

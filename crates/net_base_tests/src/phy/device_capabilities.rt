@@ -2,7 +2,8 @@
 use net_base::phy::{ChecksumCapabilities, DeviceCapabilities, Medium};
 use std::alloc::AllocError;
 
-/// Capabilities with this medium and this greatest size of a frame, and else those by default.
+/// Returns capabilities with this medium and this greatest size of a frame, and otherwise the
+/// default ones.
 fn with_size(medium: Medium, max_transmission_unit: usize) -> DeviceCapabilities {
     DeviceCapabilities {
         medium,
@@ -20,7 +21,7 @@ fn ip_mtu(capabilities: &DeviceCapabilities) -> Option<usize> {
     }
 }
 
-/// Returns the greatest size of a fragment behind a header of 20 bytes, if such a header fits.
+/// Returns the greatest size of a fragment after a header of 20 bytes, if such a header fits.
 fn fragment_size(capabilities: &DeviceCapabilities) -> Option<usize> {
     if capabilities.fits_ip_header(20) {
         Some(capabilities.max_ipv4_fragment_size(20))

@@ -1,4 +1,4 @@
-//! Frames that are sent back, also where memory is refused.
+//! Frames that are sent back, with memory and without.
 ghost use Rattle.std.specs.Prelude.{◌≡◌, ◌∷◌, ◌++◌, [], List, ℕ, Ok, true};
 ghost use Rattle.net_base.specs.DeviceCapabilities.{default_capabilities};
 
@@ -12,7 +12,7 @@ use std::alloc::{AllocError, Allocator, Global};
 use std::marker::Model;
 use std::process::Abort;
 
-/// Moves the first frame of a loopback device behind the others, at that moment.
+/// Moves the first frame of a loopback device after the others, at that moment.
 fn rotate_at(device: &mut Loopback, timestamp: Instant) -> Result<bool, AllocError>
     ensures moved { result ≡ Ok true → (frame : List ℕ) × (rest : List (List ℕ))
         × (device.old.frames ≡ frame ∷ rest) × (device.new.frames ≡ rest ++ frame ∷ []) }
@@ -20,7 +20,7 @@ fn rotate_at(device: &mut Loopback, timestamp: Instant) -> Result<bool, AllocErr
     echo_once(device, timestamp)
 }
 
-/// Moves the first frame behind the others, at so many microseconds, and returns whether there was
+/// Moves the first frame after the others, at so many microseconds, and returns whether there was
 /// one.
 fn rotates_at(device: &mut Loopback, micros: i64) -> bool {
     rotate_at(device, Instant::from_micros(micros)) == Ok(true)
@@ -51,7 +51,7 @@ fn sends_length(device: &mut Loopback, length: usize) -> bool {
     device.send(token, length, write_length).is_ok()
 }
 
-/// Sends a frame of that length, sends it back, and returns whether it then comes.
+/// Sends a frame of that length, sends it back, and returns whether it then arrives.
 fn comes_back(device: &mut Loopback, length: usize) -> bool {
     sends_length(device, length) && rotates_at(device, 0) && next_has_length(device, length)
 }
@@ -162,7 +162,7 @@ fn asks_at_the_moment_that_it_was_given(rt: HostRuntime) {
     }
 }
 
-/// What came of an echo, of whose requests for memory one was refused.
+/// The results of an echo, one of whose requests for memory was refused.
 #[derive(Drop)]
 struct Outcome {
     sent: bool,
@@ -174,8 +174,8 @@ struct Outcome {
     is_over: bool,
 }
 
-/// Echoes a frame of 200 bytes on a loopback device that has one of 2 bytes behind it, and refuses
-/// the request for memory of that number. Then takes the frames off the device.
+/// Echoes a frame of 200 bytes on a loopback device that has a frame of 2 bytes after it, and
+/// refuses the request for memory of that number. Then takes the frames off the device.
 fn rotate_refused(alloc: Global, refused: usize) -> Outcome {
     let memory = Refusing::new(alloc, refused);
     let mut device = Loopback::new(&memory, Medium::Ip);
@@ -197,7 +197,8 @@ fn echoes<A: Allocator + Copy>(device: &mut Loopback<A>) -> bool {
     echo_once(device, Instant::ZERO).is_ok()
 }
 
-/// Returns whether the frame comes back exactly if this is so, all else as it should.
+/// Returns whether the frame comes back exactly if it should, and everything else is as it should
+/// be.
 fn is_expected(outcome: &Outcome, echoed: bool) -> bool {
     outcome.sent
         && outcome.echoed == echoed
@@ -210,7 +211,7 @@ fn is_expected(outcome: &Outcome, echoed: bool) -> bool {
 
 /// Three requests are made before the echo: for the queue, and for the bytes of both frames. The
 /// echo makes one, for the 200 bytes: the queue has room, since a frame was taken off it. If that
-/// is refused, the frame was taken and nothing was sent.
+/// is refused, the frame was taken off and nothing was sent.
 #[test]
 fn its_request_for_memory_is_refused(rt: HostRuntime) {
     for refused in 3..5usize {

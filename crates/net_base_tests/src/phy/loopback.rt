@@ -1,4 +1,4 @@
-//! Frames of a loopback device, also where memory is refused.
+//! Frames of a loopback device, with memory and without.
 ghost use Rattle.std.specs.Prelude.{◌≡◌, List, ℕ, [], ◌∷◌, ◌++◌, codes, OnOk, IsTrue};
 
 use super::{is_over, next_is, sends};
@@ -9,7 +9,7 @@ use net_testing::Refusing;
 use std::alloc::{AllocError, Allocator, Global};
 use std::cell::Cell;
 
-/// Loses the next frame by letting its token go, and lets a transmit token go.
+/// Loses the next frame by dropping its token, and drops a transmit token.
 fn let_go(device: &mut Loopback) -> bool
     ensures { IsTrue result → (frame : List ℕ) × (device.old.frames ≡ frame ∷ device.new.frames) }
 {
@@ -34,7 +34,7 @@ fn frames_come_in_order_until_none_is_left(rt: HostRuntime) {
     assert!(rt; sent && came && is_over(&mut device));
 }
 
-/// Spends the token of one device on another, and returns whether the frame comes there alone.
+/// Spends the token of one device on another, and returns whether the frame arrives only there.
 fn comes_elsewhere(from: &mut Loopback, to: &mut Loopback) -> bool {
     send_elsewhere(from, to).is_ok() && is_over(from) && next_is(to, b"ab")
 }
@@ -82,7 +82,7 @@ fn sends_frames_beyond_its_longest(rt: HostRuntime) {
     }
 }
 
-/// Returns metadata with this identifier alone.
+/// Returns metadata with this identifier and nothing else.
 fn marked(id: u32) -> PacketMeta {
     PacketMeta {
         id,
@@ -90,8 +90,8 @@ fn marked(id: u32) -> PacketMeta {
     }
 }
 
-/// Takes the next frame off, gives the token that sends metadata, and returns whether there was a
-/// frame, and without metadata.
+/// Takes the next frame off, gives metadata to the token to send with, and returns whether there
+/// was a frame, and it has no metadata.
 fn comes_unmarked(device: &mut Loopback) -> bool {
     match device.receive(Instant::ZERO) {
         Some((frame, mut token)) => {
@@ -147,7 +147,7 @@ fn asks_for_little(memory: &Refusing, count: usize, growths: usize) -> bool {
         && memory.live() > 0
 }
 
-/// The queue has room for 4 frames, 8, 16, .., and all is given back with it, the queued frames' bytes
+/// The queue has room for 4 frames, 8, 16, .., and all memory is given back with it, that of the queued frames
 /// too.
 #[test]
 fn a_queue_grows_by_doubling_and_gives_all_back(rt: HostRuntime) {
@@ -158,7 +158,7 @@ fn a_queue_grows_by_doubling_and_gives_all_back(rt: HostRuntime) {
     }
 }
 
-/// What a closure owns, to count how often one is called or let go.
+/// A value that a closure owns, to count how often a closure is called or dropped.
 struct Owned<'c> {
     drops: &'c Cell<u8>,
 }
@@ -170,7 +170,7 @@ impl Drop for Owned<'_> {
     }
 }
 
-/// What came of five frames that were sent in turn, of whose requests for memory one was refused.
+/// The results of five frames that were sent in turn, one of whose requests for memory was refused.
 #[derive(Drop)]
 struct Outcome {
     sent: u8,
@@ -205,8 +205,8 @@ fn send_refused(alloc: Global, refused: usize) -> Outcome {
     }
 }
 
-/// Sends a frame of 200 bytes that are this number, by a closure that counts how often it is called,
-/// and how often it is called or let go; returns whether there was memory for it.
+/// Sends a frame of 200 bytes that are this number, by a closure that counts how often it is called, and how
+/// often it is called or dropped; returns whether there was memory for the frame.
 fn sends_number<A: Allocator + Copy>(
     device: &mut Loopback<A>,
     number: u8,
@@ -260,7 +260,7 @@ fn each_request_for_memory_is_refused_in_turn(rt: HostRuntime) {
     }
 }
 
-/// Returns whether a frame of the greatest length is refused and its closure is let go, and not called.
+/// Returns whether a frame of the greatest length is refused and its closure is dropped, and not called.
 fn refuses_greatest(device: &mut Loopback) -> bool {
     let drops = Cell::new(0);
     let owned = Owned { drops: &drops };
@@ -286,7 +286,7 @@ fn sends_length<A: Allocator + Copy>(device: &mut Loopback<A>, length: usize) ->
     device.send(token, length, |buffer| buffer.fill(1)).is_ok()
 }
 
-/// Sends a frame beside one that waits, and returns how many bytes are asked for.
+/// Sends a frame while another one waits, and returns how many bytes are asked for.
 fn asked_for(alloc: Global, length: usize) -> usize {
     let memory = Refusing::new(alloc, usize::MAX);
     let mut device = Loopback::new(&memory, Medium::Ip);
@@ -309,7 +309,7 @@ fn a_frame_asks_for_as_many_bytes_as_it_has(rt: HostRuntime) {
     }
 }
 
-/// Takes one frame off and lets it go, and consumes another. Returns whether both were there.
+/// Takes one frame off and drops it, and consumes another. Returns whether both were there.
 fn takes_two<A: Allocator + Copy>(device: &mut Loopback<A>, length: usize) -> bool {
     let first = device.receive(Instant::ZERO).is_some();
     first
@@ -319,7 +319,7 @@ fn takes_two<A: Allocator + Copy>(device: &mut Loopback<A>, length: usize) -> bo
         }
 }
 
-/// Returns whether the bytes of two frames that were taken are given back, all but the queue's room.
+/// Returns whether the bytes of two frames that were taken off are given back, all except the queue's room.
 fn gives_back(alloc: Global, length: usize) -> bool {
     let memory = Refusing::new(alloc, usize::MAX);
     let mut device = Loopback::new(&memory, Medium::Ip);

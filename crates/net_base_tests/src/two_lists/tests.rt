@@ -9,7 +9,7 @@ fn is_back<A: Allocator + Copy>(frames: &VecDeque<Vec<u8, A>, A>, bytes: &[u8]) 
     frames.back().is_some_and(|frame| frame.as_slice() == bytes)
 }
 
-/// Sends back the first frame that has come.
+/// Sends back the first received frame.
 fn send_back(device: &mut TwoLists, timestamp: Instant) -> Result<bool, AllocError>
     ensures sent { result ≡ Ok true → (frame : List ℕ)
         × (device.old.0 ≡ frame ∷ device.new.0) × (device.new.1 ≡ device.old.1 ++ frame ∷ []) }
@@ -28,7 +28,7 @@ fn without_frames<A: Allocator + Copy>(alloc: A) -> TwoLists<A> {
     }
 }
 
-/// Puts these bytes behind the frames.
+/// Puts these bytes after the frames.
 fn put<A: Allocator + Copy>(
     frames: &mut VecDeque<Vec<u8, A>, A>,
     alloc: A,
@@ -38,9 +38,9 @@ fn put<A: Allocator + Copy>(
     Ok(())
 }
 
-/// Returns whether the first frame comes back at so many microseconds, if one is there, and the
-/// device is asked then; two frames are sent then, of which it is the last one. The echo goes out by
-/// the token that came with the frame: the device is never asked for room.
+/// Returns whether the first frame, if there is one, is sent back at so many microseconds, and the device is
+/// asked at that moment. Two frames are then sent, the last of which is this one. The echo is sent by the token
+/// that came with the frame: the device is never asked for room.
 fn is_sent_back(device: &mut TwoLists, micros: i64, found: bool) -> bool {
     let moment = Instant::from_micros(micros);
     send_back(device, moment) == Ok(found)
@@ -60,7 +60,7 @@ fn echoes_over_two_lists(rt: HostRuntime) {
     assert!(rt; is_sent_back(&mut device, 8, false));
 }
 
-/// Puts two frames that come and four that were sent.
+/// Puts in two received frames and four that were sent.
 fn put_six<A: Allocator + Copy>(device: &mut TwoLists<A>, alloc: A) -> Result<(), AllocError> {
     put(&mut device.to_come, alloc, &[7; 200])?;
     put(&mut device.to_come, alloc, &[7; 2])?;
@@ -70,7 +70,7 @@ fn put_six<A: Allocator + Copy>(device: &mut TwoLists<A>, alloc: A) -> Result<()
     Ok(())
 }
 
-/// Returns whether the first of two frames was taken and, if this is so, sent.
+/// Returns whether the first of two frames was taken off and, if it should be, sent.
 fn is_left<A: Allocator + Copy>(device: &TwoLists<A>, is_sent: bool) -> bool {
     device.to_come.len() == 1
         && device.sent.len() == if is_sent { 5 } else { 4 }
@@ -82,8 +82,8 @@ fn echoes<A: Allocator + Copy>(device: &mut TwoLists<A>) -> bool {
     echo_once(device, Instant::ZERO).is_ok()
 }
 
-/// Refuses the request for memory of that number, and returns whether an echo then succeeds if
-/// this is so, and so many requests were made.
+/// Refuses the request for memory of that number, and returns whether an echo then succeeds exactly
+/// if it should, and so many requests were made.
 fn goes_so(alloc: Global, (refused, succeeds, requests): (usize, bool, usize)) -> bool {
     let heap = Refusing::new(alloc, refused);
     let mut device = without_frames(&heap);

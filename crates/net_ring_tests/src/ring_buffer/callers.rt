@@ -29,7 +29,7 @@ pub fn enqueue_one_byte(ring: &mut RingBuffer<'_, u8>, byte: u8) -> Result<(), F
     Ok(())
 }
 
-/// Writes a byte to a free element, where it stays.
+/// Writes a byte to a free element, which stays free.
 pub fn stage(ring: &mut RingBuffer<'_, u8>, offset: usize, byte: u8)
     requires { 0 < contiguous_window_from ring.old offset 1 }
     ensures { WritesSpare ring.old offset (byte ∷ []) ring.new }
@@ -70,7 +70,7 @@ pub fn dequeue_one_byte(ring: &mut RingBuffer<'_, u8>) -> Result<u8, Empty>
     Ok(byte)
 }
 
-/// Bytes are written ahead, and enqueued after.
+/// Writes bytes to free elements, and then enqueues them.
 pub fn write_and_enqueue(ring: &mut RingBuffer<'_, u8>, data: &[u8]) -> usize
     ensures count { result ≡ min (length «data».now) (window ring.old) }
     ensures queue { queue ring.new ≡ queue ring.old ++ take result «data».now }
@@ -93,7 +93,7 @@ pub fn write_and_refuse(ring: &mut RingBuffer<'_, u8>, byte: u8)
     });
 }
 
-/// Calls a closure that may be called only on a slice that has an element.
+/// Enqueues by a closure that may be called only on a slice that has an element.
 pub fn enqueue_first(ring: &mut RingBuffer<'_, u8>, byte: u8)
     requires { 0 < contiguous_window (from_start_if_empty ring.old) }
     ensures { queue ring.new ≡ queue (from_start_if_empty ring.old) ++ (byte ∷ []) }
@@ -121,6 +121,7 @@ impl<'a> Model for Duplex<'a> {
 }
 
 impl<'a> Duplex<'a> {
+    /// Returns two empty rings over these storages.
     pub fn new(inbound: ManagedSlice<'a, u8>, outbound: ManagedSlice<'a, u8>) -> Self
         ensures { result ≡ ([], []) }
     {
@@ -130,18 +131,21 @@ impl<'a> Duplex<'a> {
         }
     }
 
+    /// Enqueues bytes to be sent, as many as there is room for, and returns how many.
     pub fn send(&mut self, data: &[u8]) -> usize
         ensures { self.new ≡ (self.old.0, self.old.1 ++ take result «data».now) }
     {
         self.outbound.enqueue_slice(data)
     }
 
+    /// Enqueues received bytes, as many as there is room for, and returns how many.
     pub fn receive(&mut self, data: &[u8]) -> usize
         ensures { self.new ≡ (self.old.0 ++ take result «data».now, self.old.1) }
     {
         self.inbound.enqueue_slice(data)
     }
 
+    /// Dequeues received bytes, as many as `data` has room for, and returns how many.
     pub fn take(&mut self, data: &mut [u8]) -> usize
         ensures left { self.new ≡ (drop result self.old.0, self.old.1) }
         ensures given { take result «data».new ≡ take result self.old.0 }

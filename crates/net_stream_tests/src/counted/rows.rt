@@ -8,7 +8,7 @@ use crate::counted::ways::{
 use crate::counted::{Case, TO_THE_END};
 use net_testing::NEVER;
 
-/// Copies, and what is counted of each.
+/// Copies, and the counts of each.
 pub static CASES: [Case; 57] = [
     // Three frames, an acknowledgement for each and one more.
     Case(
@@ -19,7 +19,7 @@ pub static CASES: [Case; 57] = [
         ("Ok", 2),
         [6, 6, 1, 10_000, 7, 6, 0, 0, 0, 0],
     ),
-    // The second frame is lost, and it alone is sent again: the third is in a SACK block.
+    // The second frame is lost, and only it is sent again: the third is in a SACK block.
     Case(
         SECOND_LOST,
         ALL,
@@ -37,7 +37,7 @@ pub static CASES: [Case; 57] = [
         ("Ok", 2),
         [6, 6, 2, 30_000, 10, 10, 2, 0, 0, 0],
     ),
-    // One is delayed, and one comes twice.
+    // One is delayed, and one is duplicated.
     Case(
         DELAYED_AND_DUPLICATED,
         ALL,
@@ -46,7 +46,7 @@ pub static CASES: [Case; 57] = [
         ("Ok", 2),
         [6, 6, 2, 30_000, 11, 8, 0, 1, 1, 0],
     ),
-    // All are delayed, and none that is sent after them comes: the delayed ones do.
+    // All are delayed, and all that are sent after them are lost: only the delayed ones arrive.
     Case(
         THREE_DELAYED_THEN_NONE,
         ALL,
@@ -55,7 +55,7 @@ pub static CASES: [Case; 57] = [
         ("Ok", 2),
         [6, 6, 2, 30_000, 11, 12, 3, 0, 3, 0],
     ),
-    // One comes twice, and none after it.
+    // One is duplicated, and all after it are lost.
     Case(
         DUPLICATED_THEN_NONE,
         ALL,
@@ -64,7 +64,7 @@ pub static CASES: [Case; 57] = [
         ("gave up", 1),
         [6, 2, 101, 94_280_000, 306, 406, 202, 1, 0, 0],
     ),
-    // Nothing comes.
+    // Nothing arrives.
     Case(
         NONE,
         ALL,
@@ -90,7 +90,7 @@ pub static CASES: [Case; 57] = [
         ("gave up", 1),
         [6, 0, 5, 310_000, 17, 22, 10, 0, 0, 0],
     ),
-    // Of eighty frames each second is lost, and eight segments are refused; then nothing comes.
+    // Every second one of eighty frames is lost, and eight segments are refused; then nothing arrives.
     Case(
         EACH_SECOND_THEN_NONE,
         ALL,
@@ -99,7 +99,7 @@ pub static CASES: [Case; 57] = [
         ("gave up", 1),
         [80, 0, 3, 70_000, 189, 146, 106, 0, 0, 8],
     ),
-    // Waits double, and begin anew.
+    // Waits double, and start over.
     Case(
         NINE_LOST,
         ALL,
@@ -108,7 +108,7 @@ pub static CASES: [Case; 57] = [
         ("Ok", 2),
         [6, 6, 4, 150_000, 19, 24, 9, 0, 0, 0],
     ),
-    // They are a second at most.
+    // They are at most a second.
     Case(
         THIRTY_LOST,
         ALL,
@@ -117,7 +117,7 @@ pub static CASES: [Case; 57] = [
         ("Ok", 2),
         [6, 6, 11, 5_270_000, 47, 66, 30, 0, 0, 0],
     ),
-    // Each second one is lost: 32 runs are held, each a SACK block, and eight segments are refused.
+    // Every second one is lost: 32 runs are held, each a SACK block, and eight segments are refused.
     Case(
         EACH_SECOND,
         ALL,
@@ -161,7 +161,7 @@ pub static CASES: [Case; 57] = [
         ("gave up", 1),
         [6, 6, 6, 320_000, 42, 36, 24, 0, 0, 0],
     ),
-    // Delayed acknowledgements come in the next round, and a duplicated one comes at once.
+    // Delayed acknowledgements arrive in the next round, and a duplicated one in both.
     Case(
         ALL,
         FOUR_DELAYED_THEN_NONE,
@@ -178,7 +178,7 @@ pub static CASES: [Case; 57] = [
         ("Ok", 2),
         [6, 6, 1, 10_000, 7, 6, 3, 1, 0, 0],
     ),
-    // What is written is progress, and so is what is acknowledged.
+    // Written bytes are progress, and so are acknowledged ones.
     Case(
         ALL,
         FOUR_LOST,
@@ -286,7 +286,7 @@ pub static CASES: [Case; 57] = [
         ("Ok", 13),
         [3_000, 3_000, 43, 630_000, 617, 4_536, 129, 137, 114, 0],
     ),
-    // So it is while the burst is used up.
+    // The same, with a burst that is used up.
     Case(
         ALL,
         ALL,
@@ -295,7 +295,7 @@ pub static CASES: [Case; 57] = [
         ("Ok", 4),
         [40, 40, 10, 100_000, 90, 40, 0, 0, 0, 0],
     ),
-    // Nothing to copy takes no round, and so it is with no round allowed.
+    // Nothing to copy takes no round, even if no round is allowed.
     Case(
         ALL,
         ALL,
