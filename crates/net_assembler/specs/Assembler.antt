@@ -1,5 +1,5 @@
--- What an assembler refuses, and its text.
---     MakesTooManyRuns most_runs s o n      what makes a range be refused
+-- The ranges that an assembler refuses, and its text.
+--     MakesTooManyRuns most_runs s o n      when a range is refused
 --     display_text s, text_from at runs, hole_text n      the text of a set, of runs, and of a hole
 use Rattle.std.specs.Prelude.{ℕ, ◌-◌, ◌<◌, cond, nat_eq, List, [], ◌∷◌, ◌++◌, codes}
 use Rattle.std.specs.Fmt.{decimal}

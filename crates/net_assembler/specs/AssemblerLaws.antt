@@ -1,4 +1,4 @@
--- Laws of sets of positions and of what the contracts of an assembler's calls say.
+-- Laws of sets of positions and of the contracts of an assembler's calls.
 --     Adds, RemovesFront, AddsThenRemovesFront, Compares, Iterates      what a call's contract says of it
 --     CallsNext rest results last      what calls of `next`, one after another, return and leave
 --     results_of_next rest n       what n of them return
@@ -16,7 +16,7 @@ use Rattle.net_assembler.specs.Positions.{IsMaximalRun, AreMaximalRuns}
 use Rattle.net_assembler.specs.Assembler.{MakesTooManyRuns}
 use Rattle.net_assembler.specs.Turns.{binary_digits}
 
--- what the contract of `add` says of a call
+-- the contract of `add`, of one call
 pub record Adds (most_runs : ℕ) (old : Positions) (offset size : ℕ)
     (result : Result (Unit {0}) TooManyHolesError) (new : Positions) : Type 0 where
   pub ok : OnOk result (new ≡ with_range old offset size)
@@ -24,14 +24,14 @@ pub record Adds (most_runs : ℕ) (old : Positions) (offset size : ℕ)
   pub refused : IsErr result ↔ MakesTooManyRuns most_runs old offset size
   pub bound : runs new ≤ most_runs
 
--- what the contract of `remove_front` says of a call
+-- the contract of `remove_front`, of one call
 pub record RemovesFront (most_runs : ℕ) (old : Positions) (result : ℕ) (new : Positions) :
     Type 0 where
   pub length : result ≡ front old
   pub rest : new ≡ shift_down old (front old)
   pub bound : runs new ≤ most_runs
 
--- what the contract of `add_then_remove_front` says of a call
+-- the contract of `add_then_remove_front`, of one call
 pub record AddsThenRemovesFront (most_runs : ℕ) (old : Positions) (offset size : ℕ)
     (result : Result ℕ TooManyHolesError) (new : Positions) : Type 0 where
   pub value : let all = with_range old offset size in MatchResult result
@@ -40,17 +40,17 @@ pub record AddsThenRemovesFront (most_runs : ℕ) (old : Positions) (offset size
   pub refused : IsErr result ↔ ((0 < offset) × MakesTooManyRuns most_runs old offset size)
   pub bound : runs new ≤ most_runs
 
--- what the contract of `==` says of a call
+-- the contract of `==`, of one call
 pub record Compares (s t : Positions) (result : Bool) : Type 0 where
   pub test : result ≡ are_same s t
   pub same : IsTrue result ↔ (s ≡ t)
 
--- what the contract of `iter_data` says of a call
+-- the contract of `iter_data`, of one call
 pub record Iterates (most_runs : ℕ) (s : Positions) (result : List (ℕ × ℕ)) : Type 0 where
   pub listed : result ≡ maximal_runs s
   pub bound : length result ≤ most_runs
 
--- what calls of `next`, one after another, return and leave by its contract
+-- the results of calls of `next`, one after another, and what they leave, by its contract
 abbrev pub CallsNext : List (ℕ × ℕ) → List (Option (ℕ × ℕ)) → List (ℕ × ℕ) → Type 0
 CallsNext rest [] last = rest ≡ last
 CallsNext rest (result ∷ results) last =
@@ -63,7 +63,7 @@ results_of_next rest zero = []
 results_of_next [] (suc n) = None ∷ results_of_next [] n
 results_of_next (run ∷ rest) (suc n) = Some run ∷ results_of_next rest n
 
--- sets are equal exactly if they have the same members
+-- two sets are equal exactly if they have the same members
 abbrev pub EqualSets : Type 0
 EqualSets = (s t : Positions) → (s ≡ t) ↔ ((p : ℕ) → contains s p ≡ contains t p)
 
@@ -97,11 +97,11 @@ FirstMissingIsLeast = (s : Positions) (p : ℕ) → IsFirstMissing s p (first_mi
 abbrev pub FrontIsLeastMissing : Type 0
 FrontIsLeastMissing = (s : Positions) → IsFirstMissing s 0 (front s)
 
--- the list of maximal runs is what its name says, for every set
+-- the list of maximal runs has exactly the maximal runs, for every set
 abbrev pub MaximalRunsOfEverySet : Type 0
 MaximalRunsOfEverySet = (s : Positions) → AreMaximalRuns s (maximal_runs s)
 
--- sets are equal exactly if their lists of maximal runs are
+-- two sets are equal exactly if their lists of maximal runs are
 abbrev pub EqualMaximalRuns : Type 0
 EqualMaximalRuns = (s t : Positions) → (maximal_runs s ≡ maximal_runs t) ↔ (s ≡ t)
 
@@ -117,7 +117,7 @@ abbrev pub MaximalRunsShiftedUp : Type 0
 MaximalRunsShiftedUp = (s : Positions) (n : ℕ) →
     maximal_runs (shift_up s n) ≡ runs_shifted_up n (maximal_runs s)
 
--- and so it has as many
+-- so it has as many
 abbrev pub AsManyRunsShiftedUp : Type 0
 AsManyRunsShiftedUp = (s : Positions) (n : ℕ) → runs (shift_up s n) ≡ runs s
 
@@ -143,8 +143,8 @@ abbrev pub RangeAgain : Type 0
 RangeAgain = (s : Positions) (offset size : ℕ) →
     with_range (with_range s offset size) offset size ≡ with_range s offset size
 
--- to add an accepted range again is accepted and changes nothing: what the clauses of `add` say of
--- the second call
+-- adding an accepted range again is accepted and changes nothing, by the clauses of `add` for the
+-- second call
 abbrev pub AddingAgain : Type 0
 AddingAgain = (most_runs offset size : ℕ) (s once twice : Positions)
     (again : Result (Unit {0}) TooManyHolesError) →
@@ -160,8 +160,8 @@ AddingInBothOrders = (most_runs a m b n : ℕ) (s one two ab ba : Positions) (eq
     Adds most_runs s b n (Ok tt) two → Adds most_runs two a m (Ok tt) ba →
     Compares ab ba equal → IsTrue equal
 
--- `add_then_remove_front` returns and leaves what `add` and then `remove_front` do, wherever that
--- `add` is accepted
+-- `add_then_remove_front` returns and leaves what `add` and then `remove_front` do, if that `add`
+-- is accepted
 abbrev pub AddingThenRemoving : Type 0
 AddingThenRemoving = (most_runs offset size count : ℕ) (s all rest both : Positions)
     (result : Result ℕ TooManyHolesError) →

@@ -5,7 +5,7 @@
 --         are, and which
 --     lies_in p run      whether p is in a run
 --     first_missing s p, front s, IsFirstMissing s p n      the first missing position, and the front
---     shift_down s m, shift_up s n, runs_shifted_up n rs      sets and runs, counted anew
+--     shift_down s m, shift_up s n, runs_shifted_up n rs      sets and runs, counted from elsewhere
 --     are_same s t      whether two sets are one
 use Rattle.std.specs.Prelude.{◌≡◌, ℕ, zero, suc, ◌+◌, ◌-◌, ◌<◌, ◌≤◌, ◌^◌, max, Bool, cond, not}
 use Rattle.std.specs.Prelude.{◌&&◌, ◌||◌, ◌==◌, List, [], ◌∷◌, ◌++◌, map, filter, length, nat_le}

@@ -47,8 +47,8 @@ runs_with_range (r ∷ rs) lo hi =
     cond (nat_lt r.1 lo) (r ∷ runs_with_range rs lo hi)
     (cond (nat_lt hi r.0) ((lo, hi) ∷ r ∷ rs) (runs_with_range rs (min r.0 lo) (max r.1 hi)))
 
--- what joins a range with runs: the first n pairs of an array are the runs with the range then, or
--- the array is as it was, where these are more than it has room for
+-- a range is joined with runs: the first n pairs of an array are then the runs with the range, or
+-- the array is as it was, if these are more than it has room for
 abbrev pub JoinsRange : List (ℕ × ℕ) → List (ℕ × ℕ) → List (ℕ × ℕ) →
     ℕ → ℕ → Result ℕ TooManyHolesError → Type 0
 JoinsRange rs old new start end result = MatchResult result

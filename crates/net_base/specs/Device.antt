@@ -1,4 +1,4 @@
--- What happened at a device.
+-- What happens at a device.
 use Rattle.std.specs.Prelude.{ℕ, List}
 
 -- one frame was taken off the device, and then that very frame was sent

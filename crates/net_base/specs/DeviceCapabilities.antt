@@ -10,7 +10,7 @@ use Rattle.net_base.specs.declared.phy.medium.Medium.TheVariants.{Ethernet, Ip}
 use Rattle.net_base.specs.declared.phy.segmentation_capabilities.SegmentationCapabilities.{SegmentationCapabilities}
 use Rattle.net_base.specs.declared.phy.device_capabilities.DeviceCapabilities.{DeviceCapabilities}
 
--- the header that is before an IP packet
+-- the length of the header before an IP packet
 abbrev pub header_len : Medium → ℕ
 header_len Ethernet = 14
 header_len Ip = 0
@@ -27,7 +27,8 @@ ip_mtu_of c = c.max_transmission_unit - header_len c.medium
 abbrev pub FitsIpHeader : DeviceCapabilities → ℕ → Type 0
 FitsIpHeader c n = HasIpMtu c × (n ≤ ip_mtu_of c)
 
--- the longest payload of a fragment: what is left besides an IP header of n bytes, down to a multiple of 8
+-- the longest payload of a fragment: the rest of the packet after an IP header of n bytes, down to a multiple
+-- of 8
 abbrev pub fragment_size_of : DeviceCapabilities → ℕ → ℕ
 fragment_size_of c n = (ip_mtu_of c - n) - (ip_mtu_of c - n) % 8
 

@@ -1,17 +1,17 @@
 -- The earliest of moments that may be missing, in microseconds.
 --     earlier_of t u      the earlier of two
 --     earliest_of f xs      the earliest of those that f says of xs
---     IsEarliest f xs t      t is none of them later than t, and t is one of them
+--     IsEarliest f xs t      none of them is earlier than t, and t is one of them
 use Rattle.std.specs.Prelude.{◌≡◌, ◌⊎◌, ℤ, ◌≤ℤ◌, List, fold, All, Any, Option, Some, None}
 use Rattle.std.specs.Int.{int_min}
 
--- the earlier of two moments; one that is missing is later than each that is there
+-- the earlier of two moments; a missing one is later than any that is there
 abbrev pub earlier_of : Option ℤ → Option ℤ → Option ℤ
 earlier_of None second = second
 earlier_of (Some x) None = Some x
 earlier_of (Some x) (Some y) = Some (int_min x y)
 
--- one moment is at or before another; one that is missing is later than each that is there
+-- one moment is at or before another; a missing one is later than any that is there
 abbrev pub IsNoLater : Option ℤ → Option ℤ → Type 0
 IsNoLater t None = Unit {0}
 IsNoLater None (Some u) = ⊥

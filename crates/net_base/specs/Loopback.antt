@@ -1,5 +1,5 @@
 -- A loopback device, as its users see it.
---     LoopbackState, frames_of buffers      a medium and the frames to come, and the bytes of each buffer
+--     LoopbackState, frames_of buffers      a medium and the frames that wait, and the bytes of each buffer
 --     loopback_capabilities medium      what the device can do
 use Rattle.std.specs.Prelude.{ℕ, List, map, Vec, None}
 use Rattle.net_base.specs.Checksum.{no_checksums}
@@ -7,7 +7,7 @@ use Rattle.net_base.specs.DeviceCapabilities.{no_segmentation}
 use Rattle.net_base.specs.declared.phy.medium.Medium.{Medium}
 use Rattle.net_base.specs.declared.phy.device_capabilities.DeviceCapabilities.{DeviceCapabilities}
 
--- the medium, and the frames to come, the next first
+-- the medium, and the frames that wait, the next first
 pub record LoopbackState : Type 0 where
   pub medium : Medium
   pub frames : List (List ℕ)

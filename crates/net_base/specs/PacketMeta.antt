@@ -1,12 +1,12 @@
--- What goes along with a packet.
+-- The metadata of a packet.
 use Rattle.std.specs.Prelude.{None, ◌++◌}
 use Rattle.std.specs.Hash as fed
 use Rattle.net_base.specs.declared.phy.packet_meta.PacketMeta.{PacketMeta}
 
--- the metadata of a packet of which nothing is said
+-- the default metadata of a packet
 abbrev pub no_metadata : PacketMeta
 no_metadata = record { id = 0; segmentation_offload_size = None }
 
--- what a hasher is fed: the identifier, and then the segment size, if there is one
+-- the input of a hasher: the identifier, and then the segment size, if there is one
 abbrev pub metadata_hash : PacketMeta → fed.HashWrites
 metadata_hash m = fed.u32 m.id ++ fed.option fed.u16 m.segmentation_offload_size

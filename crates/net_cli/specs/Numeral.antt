@@ -6,7 +6,7 @@ use Rattle.std.specs.List.{list_all}
 use Rattle.std.specs.Char.{is_ascii_digit}
 use Rattle.std.specs.Str.Parse.{digits_value}
 
--- a byte or more, of which the first is above the digit 0 unless that is all
+-- at least one byte, the first of which is above the digit 0 unless it is the only one
 abbrev pub begins_numeral : List ℕ → Bool
 begins_numeral word = nat_lt 0 (length word) && (nat_lt 48 (slice_index word 0) || length word == 1)
 

@@ -1,7 +1,7 @@
--- Which frames and acknowledgements arrive that meet their fates, and what they leave.
+-- Frames and acknowledgements that meet their fates: which of them arrive, and what they leave.
 --     coming_of v frames, delayed_of v frames      of frames that meet the next fates of v, those that
---         come at once, and those that are delayed
---     receiver_after_all N r frames      what a receiver stores once frames have come, one after another
+--         arrive in their round, and those that are delayed
+--     receiver_after_all N r frames      what a receiver stores once frames have arrived, one after another
 --     acks_of N r frames      its acknowledgements of them
 --     path_after path      what is left of a path whose frames have all met their fates
 use Rattle.std.specs.Prelude.{ℕ, ◌+◌, ◌^◌, nat_lt, if◌then◌else◌}
@@ -11,32 +11,32 @@ use Rattle.net_copies.specs.Frames.{segment_of}
 use Rattle.net_copies.specs.Fates.{FatesState, next_fate, after_fate, fates_after, comes, comes_delayed}
 use Rattle.net_copies.specs.PathState.{PathState, ack_of, receiver_after}
 
--- the frames that come at once, of frames that meet the next fates of v
+-- of frames that meet the next fates of v, those that arrive in their round
 abbrev pub coming_of : FatesState → List (List ℕ) → List (List ℕ)
 coming_of v [] = []
 coming_of v (frame ∷ frames) =
     if comes (next_fate v) then frame ∷ coming_of (after_fate v) frames
     else coming_of (after_fate v) frames
 
--- those that come in the next round, for the first time or once more
+-- those that arrive in the next round, for the first time or once more
 abbrev pub delayed_of : FatesState → List (List ℕ) → List (List ℕ)
 delayed_of v [] = []
 delayed_of v (frame ∷ frames) =
     if comes_delayed (next_fate v) then frame ∷ delayed_of (after_fate v) frames
     else delayed_of (after_fate v) frames
 
--- what a receiver stores once frames have come, one after another
+-- what a receiver stores once frames have arrived, one after another
 abbrev pub receiver_after_all : ℕ → ReceiverState → List (List ℕ) → ReceiverState
 receiver_after_all most_runs r [] = r
 receiver_after_all most_runs r (frame ∷ frames) = receiver_after_all most_runs (receiver_after most_runs r (segment_of frame)) frames
 
--- the acknowledgement of a frame that came, if it has one, where the receiver stores r
+-- the acknowledgement of a frame that arrived, if it has one, if the receiver stores r
 abbrev pub ack_to : ReceiverState → Option (ℕ × List ℕ) → List (List ℕ)
 ack_to r None = []
 ack_to r (Some (pos, xs)) =
     if nat_lt (pos + length xs) (2 ^ 64) then ack_of r ∷ [] else []
 
--- the acknowledgements of frames that came, one after another
+-- the acknowledgements of frames that arrived, one after another
 abbrev pub acks_of : ℕ → ReceiverState → List (List ℕ) → List (List ℕ)
 acks_of most_runs r [] = []
 acks_of most_runs r (frame ∷ frames) =

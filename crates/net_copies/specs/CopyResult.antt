@@ -1,12 +1,12 @@
 -- The results of a copy, from a reader over a link to a writer.
 --     Copied s status had has held holds counts      a copy that has ended so
---     before_pass s reads n      the copy when the round begins that follows n turns
+--     before_pass s reads n      the copy at the beginning of the round after n turns
 --     EndsRound error chunk c link written      a round that the error ended
 --     CopiedPart s error had has held holds counts      a copy that ended within a round
 --     HasCopied s result had has held holds counts      what a copy did, by its result
 --     HasNotBegun result had has held holds counts      a copy that had no memory to begin with
---     Copies old new had has read wrote complete      what came, and what was written
---     gave_up e      whether a copy ended because it made no progress any more
+--     Copies old new had has read wrote complete      the bytes read, and the bytes written
+--     gave_up e      whether a copy ended because it made no more progress
 --     HasPositions first taken      positions are left
 use Rattle.std.specs.Prelude.{◌≡◌, ℕ, List, ◌++◌, ◌+◌, ◌-◌, ◌<◌, ◌^◌, ◌⊎◌, [], length, take}
 use Rattle.std.specs.Prelude.{Bool, true, false, Option, Result, Ok, Err}
@@ -34,13 +34,13 @@ pub record Copied (s : Setup) (status : Status) (had has held holds : Option (Li
   pub appended : Appends held holds written
   pub at_end : status ≡ Done → IsAtEnd has
 
--- the copy when the round begins that follows n turns, if it goes on
+-- the copy at the beginning of the round after n turns, if it goes on
 abbrev pub before_pass : Setup → List (List ℕ) → ℕ → CopyState
 before_pass s reads n =
     while_running (decide s.rounds) (while_running (feed s.chunk) (after s reads n))
 
--- a round that the error ended: it stopped for want of memory, and nothing of it was written; or not all
--- of what it brought was
+-- a round that the error ended: it stopped for want of memory, and no bytes of it were written; or not all of
+-- the bytes that it delivered were
 abbrev pub EndsRound : CopyError → ℕ → CopyState → LinkState → List ℕ → Type 0
 EndsRound OutOfMemory chunk c link written = StopsRound (waited c) link × (written ≡ [])
 EndsRound WriteFailed chunk c link written = (link ≡ round (waited c))
@@ -97,7 +97,7 @@ pub record Copies (old new had has : Option (List ℕ)) (read wrote : ℕ) (comp
   pub bytes_written : length written ≡ wrote
   pub whole : complete ≡ true → (written ≡ given) × IsAtEnd new
 
--- whether a copy ended because it made no progress any more
+-- whether a copy ended because it made no more progress
 abbrev pub gave_up : CopyError → Bool
 gave_up GaveUp = true
 gave_up OutOfMemory = false

@@ -1,11 +1,11 @@
 -- A copy as a function of what its reads gave and of the fates (docs/LINK.md, "A turn").
---     Setup, setup_of config fates ack_fates      all that a copy is given besides its reads
+--     Setup, setup_of config fates ack_fates      all that a copy is given, except its reads
 --     Status      how far a copy is
 --     CopyState, begin s reads      the model of a copy, and how it begins
 --     is_written l      whether all that was read is written
 --     feed chunk c      a read, if it is time for one
 --     decide rounds c      whether the copy is done, or gives up
---     pass chunk c      a round, and then the bytes that it delivers are written
+--     pass chunk c      a round, and a write of the bytes that it delivers
 --     turn rounds chunk c      these three; nothing once the copy has ended
 --     after s reads n      the copy after n turns
 --     Outcome, outcome c      the outcome of a copy
@@ -54,16 +54,16 @@ abbrev pub setup_of : Config → FatesState → FatesState → Setup
 setup_of config fates ack_fates =
     setup_over config config.capacity config.capacity config.capacity fates ack_fates
 
--- a copy goes on, or has ended: all is written, it made no progress any more, or a read failed
+-- a copy goes on, or has ended: everything is written, it made no more progress, or a read failed
 pub data Status : Type 0 where
   Running : Status
   Done : Status
   GaveUp : Status
   ReadFailed : Status
 
--- the link; what the reads to come give, with no bytes at the input's end, and after them one that
--- fails; what the reads gave so far, and whether there may be more; what was written; the rounds, how many
--- in a row made no progress, and how long the next one waits
+-- the link; the bytes of the reads to come, with no bytes at the input's end, and after them a read that fails;
+-- the bytes of the reads so far, and whether there may be more; the bytes written; the rounds, how many in a
+-- row made no progress, and how long the next one takes
 pub record CopyState : Type 0 where
   pub link : LinkState
   pub reads : List (List ℕ)
@@ -75,7 +75,7 @@ pub record CopyState : Type 0 where
   pub wait : ℕ
   pub status : Status
 
--- nothing was done
+-- a copy before its first turn
 abbrev pub begin : Setup → List (List ℕ) → CopyState
 begin s reads = record {
   link = record {
@@ -104,7 +104,8 @@ abbrev pub is_written : LinkState → Bool
 is_written l = nat_eq (next_position l.receiver) (end_of l.sender) && nat_eq (length l.receiver.queue) 0
 
 -- ---- a turn
--- what is left of the reads: a read gives no more than it has room for, and the next one the rest
+-- the reads that are left: a read gives no more than it has room for, and the next one gives the
+-- rest
 abbrev pub rest_of : ℕ → List ℕ → List (List ℕ) → List (List ℕ)
 rest_of room xs reads = if nat_lt room (length xs) then drop room xs ∷ reads else reads
 
@@ -143,8 +144,8 @@ decide rounds c =
 abbrev pub makes_progress : ℕ → LinkState → LinkState → Bool
 makes_progress chunk l m = not (nat_eq m.sender.first_unacknowledged l.sender.first_unacknowledged) || nat_lt 0 (min chunk (length m.receiver.queue))
 
--- from the state `c` a round led to the link m: what the receiver has is written, and the next wait is
--- as long as the progress of the round says
+-- from the state `c` a round led to the link m: the bytes that the receiver has queued are written, and the
+-- next wait depends on the round's progress
 abbrev pub hand_out : ℕ → CopyState → LinkState → CopyState
 hand_out chunk c m = record c {
   link = record m { receiver = receiver_after_read m.receiver chunk };
@@ -178,7 +179,7 @@ turn rounds chunk c =
 abbrev pub after : Setup → List (List ℕ) → ℕ → CopyState
 after s reads n = times n (turn s.rounds s.chunk) (begin s reads)
 
--- what comes of it
+-- its outcome
 pub record Outcome : Type 0 where
   pub status : Status
   pub written : List ℕ
@@ -201,8 +202,8 @@ outcome c = record {
 abbrev pub concat : List (List ℕ) → List ℕ
 concat lists = flat_map (λ xs. xs) lists
 
--- no more turns than this are made: each byte that is read makes for progress twice, once at the writer and
--- once at the sender, with fewer than so many rounds before that, and the last turn makes no round
+-- no more turns than this are made: each byte that is read makes progress twice, once at the writer and once at
+-- the sender, each time after fewer than so many rounds without progress, and the last turn makes no round
 abbrev pub most_turns : Setup → List (List ℕ) → ℕ
 most_turns s reads = suc ((2 * length (concat reads) + 1) * s.rounds)
 

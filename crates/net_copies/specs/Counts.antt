@@ -1,4 +1,4 @@
--- What is counted.
+-- The counts of frames and of copies.
 --     more n      one more, up to the greatest number of 64 bits
 --     with_fate fate counts      a frame met its fate
 --     with_fates n v counts      n frames met their fates, the next of v
@@ -48,7 +48,7 @@ is_refused (SegmentReply (Err e)) = true
 is_refused (ReadReply xs) = false
 is_refused (ShowReply n q r h) = false
 
--- a frame came to a receiver: one more is refused if the receiver refuses its segment
+-- a frame arrived at a receiver: one more is refused if the receiver refuses its segment
 abbrev pub with_refusal : ℕ → ReceiverState → Option (ℕ × List ℕ) → FrameCounts → FrameCounts
 with_refusal most_runs r None c = c
 with_refusal most_runs r (Some (pos, xs)) c =
@@ -61,7 +61,7 @@ with_refusal most_runs r (Some (pos, xs)) c =
 abbrev pub no_frames : FrameCounts
 no_frames = record { sent = 0; payload = 0; lost = 0; duplicated = 0; delayed = 0; refused = 0 }
 
--- nothing was done yet
+-- before a copy's first turn
 abbrev pub no_counts : Counts
 no_counts = record { bytes_read = 0; bytes_written = 0; rounds = 0; micros = 0; frames = no_frames }
 

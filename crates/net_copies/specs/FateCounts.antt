@@ -1,4 +1,4 @@
--- The fates that are counted of rounds.
+-- The fates that the counts of rounds have.
 --     CountsFates v v' counts      what is counted of the frames of rounds
 --     FatesSoFar v v' u u' counts      the same, with the fates u and u' left
 use Rattle.std.specs.Prelude.{◌≡◌, ℕ}
@@ -17,7 +17,7 @@ pub record CountsFates (v v' : FatesState) (counts : FrameCounts) : Type 0 where
   pub acks : ℕ
   pub counted : fates_only counts ≡ fates_only (with_fates acks v' (with_fates frames v no_frames))
 
--- so they are, and u and u' are the fates that are left
+-- the same, and u and u' are the fates that are left
 pub record FatesSoFar (v v' u u' : FatesState) (counts : FrameCounts) : Type 0 where
   pub frames : ℕ
   pub acks : ℕ

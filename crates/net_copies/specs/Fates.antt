@@ -3,9 +3,9 @@
 --     FatesState      the fates of a list, and after it those that a generator draws
 --     next_fate v, after_fate v      the next fate, and the fates that are left then
 --     fates_after n v      what is left of v once n fates have come
---     comes fate, comes_delayed fate      whether a frame comes at once, and whether it comes in the next round
---     AllCome v, NextCome n v      every frame comes at once, or the next n do
---     EachNextComes      a law: if every frame comes, so do the next n
+--     comes fate, comes_delayed fate      whether a frame arrives in its round, and whether in the next one
+--     AllCome v, NextCome n v      every frame arrives in its round, or the next n do
+--     EachNextComes      a law: if every frame does, so do the next n
 use Rattle.std.specs.Prelude.{ℕ, zero, suc, ◌/◌, ◌%◌, nat_lt, if◌then◌else◌, Bool, true, false}
 use Rattle.std.specs.Prelude.{◌≡◌, List, [], ◌∷◌, All}
 use Rattle.net_base.specs.Generator.{successor, random_word}
@@ -22,14 +22,14 @@ fate_of rates random_word =
     else if nat_lt (random_word / 10000 % 100) rates.delayed then Delayed
     else Delivered
 
--- whether a frame comes at once
+-- whether a frame arrives in its round
 abbrev pub comes : Fate → Bool
 comes Delivered = true
 comes Lost = false
 comes Duplicated = true
 comes Delayed = false
 
--- whether a frame comes in the next round, for the first time or once more
+-- whether a frame arrives in the next round, for the first time or once more
 abbrev pub comes_delayed : Fate → Bool
 comes_delayed Delivered = false
 comes_delayed Lost = false
@@ -63,17 +63,17 @@ abbrev pub fates_after : ℕ → FatesState → FatesState
 fates_after zero v = v
 fates_after (suc n) v = fates_after n (after_fate v)
 
--- each of the next n frames comes at once
+-- each of the next n frames arrives in its round
 abbrev pub NextCome : ℕ → FatesState → Type 0
 NextCome zero v = Unit {0}
 NextCome (suc n) v = (comes (next_fate v) ≡ true) × NextCome n (after_fate v)
 
--- every frame comes at once: each fate of the list says so, and none is drawn that is lost or delayed
+-- every frame arrives in its round: each fate of the list says so, and no drawn fate is `Lost` or `Delayed`
 pub record AllCome (v : FatesState) : Type 0 where
   pub listed : All (λ fate. comes fate ≡ true) v.listed
   pub lost : v.rates.lost ≡ 0
   pub delayed : v.rates.delayed ≡ 0
 
--- if every frame comes at once, so do the next n
+-- if every frame arrives in its round, so do the next n
 abbrev pub EachNextComes : Type 0
 EachNextComes = (n : ℕ) (v : FatesState) → AllCome v → NextCome n v

@@ -1,6 +1,6 @@
 -- Frames as bytes.
 --     frame_of pos xs      the position in 8 bytes, the most significant first, and then the bytes
---     segment_of frame      what a frame says: its position and its bytes, if it has a position
+--     segment_of frame      the position and the bytes of a frame, if it has a position
 --     Part      some bytes, and whether they are spared: then no frame has them
 --     frames_from p parts      the frames of parts that follow one another from position p on
 --     part_bytes parts      the bytes of parts
@@ -15,7 +15,7 @@ use Rattle.net_receiver.specs.OneStream.{MatchesStream}
 abbrev pub frame_of : ℕ → List ℕ → List ℕ
 frame_of pos xs = to_be_bytes w64 pos ++ xs
 
--- a frame of fewer than 8 bytes says nothing
+-- a frame of fewer than 8 bytes has no position
 abbrev pub segment_of : List ℕ → Option (ℕ × List ℕ)
 segment_of frame =
     if nat_lt (length frame) 8 then None

@@ -1,4 +1,4 @@
--- What is true of a link, whatever happens to its frames.
+-- The invariant of a link, which holds whatever happens to its frames.
 --     HasAllOf r ranges      the receiver has each position of the ranges
 --     AckMatches r frame      an acknowledgement lists only bytes that the receiver has
 --     PartsInvariant f w s r forward reverse      the stream w, whose first byte has position f, is at the sender s,
@@ -20,8 +20,8 @@ use Rattle.net_copies.specs.LinkState.{LinkState}
 abbrev pub HasAllOf : ReceiverState → List (ℕ × ℕ) → Type 0
 HasAllOf r ranges = (p : ℕ) → IsTrue (is_sacked ranges p) → HasByteAt r p
 
--- an acknowledgement is of nothing past the first missing position, and its SACK blocks are of nothing
--- but positions that the receiver has
+-- an acknowledgement has no position past the first missing one, and its SACK blocks have only positions that
+-- the receiver has
 abbrev pub AckMatches : ReceiverState → List ℕ → Type 0
 AckMatches r frame = (n : ℕ) (xs : List ℕ) → segment_of frame ≡ Some (n, xs) →
     (n ≤ next_position r) × HasAllOf r (blocks_of most_sack_blocks xs)

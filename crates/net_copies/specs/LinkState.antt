@@ -1,15 +1,15 @@
--- A link as one value, and what each step of a round makes of it (docs/LINK.md, "A round is this").
+-- A link as one value, and what each step of a round does to it (docs/LINK.md, "A round is this").
 --     LinkState      the model of a link
 --     times n f s      f, n times over
 --     Cursor, part, transmit      step 1: the sender's frames are sent, part by part
---     come s frame      a frame comes to the receiver, which acknowledges what it then has
---     delayed_frame      the next delayed frame comes: step 2
+--     come s frame      a frame arrives at the receiver, which acknowledges what it then has
+--     delayed_frame      the next delayed frame arrives: step 2
 --     pass_frame      the next frame in flight meets its fate: step 3
---     acknowledge_all      one acknowledgement more: step 4
---     delayed_ack, pass_ack      the same of acknowledgements: step 5
+--     acknowledge_all      one more acknowledgement: step 4
+--     delayed_ack, pass_ack      the same for acknowledgements: step 5
 --     next_burst max_burst burst full      how many frames the next round may send
 --     round s      a round
---     StopsRound s v      where a round stopped that lacked memory for a frame
+--     StopsRound s v      where a round stopped for want of memory for a frame
 use Rattle.std.specs.Prelude.{◌≡◌, ℕ, zero, suc, ◌+◌, ◌-◌, ◌/◌, ◌&&◌, ◌⊎◌, min, max, nat_lt}
 use Rattle.std.specs.Prelude.{Bool, if◌then◌else◌, List, [], ◌∷◌, ◌++◌, length, take, drop}
 use Rattle.net_receiver.specs.ReceiverState.{ReceiverState}
@@ -25,8 +25,8 @@ use Rattle.net_copies.specs.PathState.{with_delayed}
 use Rattle.net_copies.specs.declared.counts.FrameCounts.{FrameCounts}
 use Rattle.net_copies.specs.declared.fate.Fate.{Fate}
 
--- the sender, the receiver, the two paths between them, what was counted, the most bytes of a frame's
--- payload, the most frames that a round may ever send, the most of the next one, and the time
+-- the sender, the receiver, the two paths between them, the counts, the most bytes of a frame's payload, the
+-- most frames that any round may send, the most that the next one may, and the time
 pub record LinkState : Type 0 where
   pub sender : SenderState
   pub receiver : ReceiverState
@@ -80,29 +80,29 @@ part_at c =
       link = send c.link c.pos (frame_len c.link c.pos);
     }
 
--- the same; nothing where no frame may begin
+-- the same, if a frame may begin here; otherwise nothing
 abbrev pub part : Cursor → Cursor
 part c = if nat_lt c.pos (stop_of c.link.sender) && nat_lt 0 c.left then part_at c else c
 
--- each part has a byte, so that there are no more parts than bytes
+-- each part has a byte, so there are no more parts than bytes
 abbrev pub transmit : LinkState → LinkState
 transmit s = (times (length s.sender.queue) part (start s)).link
 
--- ---- steps 2 to 4: frames come to the receiver
--- what the receiver takes of a frame
+-- ---- steps 2 to 4: frames arrive at the receiver
+-- the receiver takes a frame
 abbrev pub take_in : LinkState → List ℕ → LinkState
 take_in s frame = record s {
   receiver = receiver_after most_sack_blocks s.receiver (segment_of frame);
   counts = with_refusal most_sack_blocks s.receiver (segment_of frame) s.counts;
 }
 
--- a frame comes, and the receiver acknowledges what it then has
+-- a frame arrives, and the receiver acknowledges what it then has
 abbrev pub come : LinkState → List ℕ → LinkState
 come s frame = record (take_in s frame) {
   reverse = with_ack (receiver_after most_sack_blocks s.receiver (segment_of frame)) (segment_of frame) s.reverse;
 }
 
--- the first of some delayed frames comes
+-- the first of some delayed frames arrives
 abbrev pub delayed_frame_of : LinkState → List (List ℕ) → LinkState
 delayed_frame_of s [] = s
 delayed_frame_of s (frame ∷ rest) = come (record s { forward = record s.forward { delayed = rest } }) frame
@@ -110,11 +110,11 @@ delayed_frame_of s (frame ∷ rest) = come (record s { forward = record s.forwar
 abbrev pub delayed_frame : LinkState → LinkState
 delayed_frame s = delayed_frame_of s s.forward.delayed
 
--- a frame that was taken off its path comes, if that is its fate
+-- a frame that was taken off its path arrives, if that is its fate
 abbrev pub came : Fate → LinkState → List ℕ → LinkState
 came fate s frame = if comes fate then come s frame else s
 
--- and is put among the delayed ones, if that is
+-- and is put among the delayed ones, if that is its fate
 abbrev pub meet : Fate → LinkState → List ℕ → LinkState
 meet fate s frame =
     record (came fate s frame) { forward = with_delayed fate frame (came fate s frame).forward }
@@ -136,12 +136,12 @@ pass_frame_of s (frame ∷ rest) = meet (next_fate s.forward.fates) (take_frame 
 abbrev pub pass_frame : LinkState → LinkState
 pass_frame s = pass_frame_of s s.forward.in_flight
 
--- one acknowledgement more
+-- one more acknowledgement
 abbrev pub acknowledge_all : LinkState → LinkState
 acknowledge_all s =
     record s { reverse = record s.reverse { in_flight = s.reverse.in_flight ++ ack_of s.receiver ∷ [] } }
 
--- ---- step 5: acknowledgements come to the sender
+-- ---- step 5: acknowledgements arrive at the sender
 abbrev pub acknowledge : LinkState → List ℕ → LinkState
 acknowledge s frame = record s { sender = after_ack_frame s.sender (segment_of frame) }
 
@@ -183,8 +183,9 @@ delayed_acks s = times (length s.reverse.delayed) delayed_ack s
 abbrev pub pass_acks : LinkState → LinkState
 pass_acks s = times (length s.reverse.in_flight) pass_ack s
 
--- how many frames a round may send after one that might send `burst`: half as many, but no fewer
--- than the most SACK blocks, if there are as many, and otherwise so many more; at most `max_burst`
+-- how many frames a round may send after one that might send `burst`: half as many, but not fewer
+-- than the most SACK blocks, if there are as many blocks; otherwise that number more; at most
+-- `max_burst`
 abbrev pub next_burst : ℕ → ℕ → Bool → ℕ
 next_burst max_burst burst full =
     min max_burst (if full then max most_sack_blocks (burst / 2) else burst + most_sack_blocks)
@@ -196,14 +197,14 @@ unfoldable pub round : LinkState → LinkState
 round s =
     with_burst (pass_acks (delayed_acks (acknowledge_all (pass_frames (delayed_frames (transmit s))))))
 
--- ---- a refusal of memory: where a step stops before the frame that there was no memory for
--- a delayed frame came, and has no acknowledgement
+-- ---- a refusal of memory: where a step stops, at the frame that there was no memory for
+-- a delayed frame arrived, and was not acknowledged
 abbrev pub StopsDelayed : LinkState → List (List ℕ) → LinkState → Type 0
 StopsDelayed s [] v = ⊥
 StopsDelayed s (frame ∷ rest) v =
     v ≡ take_in (record s { forward = record s.forward { delayed = rest } }) frame
 
--- a frame met its fate, and has no acknowledgement, or isn't among the delayed ones
+-- a frame met its fate, and was not acknowledged, or isn't among the delayed ones
 abbrev pub StopsFrame : LinkState → List (List ℕ) → LinkState → Type 0
 StopsFrame s [] v = ⊥
 StopsFrame s (frame ∷ rest) v =

@@ -2,7 +2,7 @@
 --     PathState      the frames in flight in one direction, the delayed ones, and the fates to come
 --     ack_of r      the acknowledgement of a receiver
 --     with_delayed fate frame path      the path once this frame met its fate
---     receiver_after N r frame, with_ack r frame reverse      what a frame that comes leaves
+--     receiver_after N r frame, with_ack r frame reverse      what a frame that arrives leaves
 use Rattle.std.specs.Prelude.{ℕ, ◌+◌, ◌^◌, nat_lt, if◌then◌else◌}
 use Rattle.std.specs.Prelude.{Option, Some, None}
 use Rattle.std.specs.Prelude.{List, [], ◌∷◌, ◌++◌, length, take}
@@ -30,14 +30,14 @@ abbrev pub ack_of : ReceiverState → List ℕ
 ack_of r =
     frame_of (next_position r) (block_bytes (take most_sack_blocks (maximal_runs (domain r.held))))
 
--- what a receiver stores once a frame came: one that is too short for a position changes nothing,
--- nor does one whose positions go past 64 bits
+-- what a receiver stores once a frame arrived: a frame that is too short for a position, or whose
+-- positions go past 64 bits, changes nothing
 abbrev pub receiver_after : ℕ → ReceiverState → Option (ℕ × List ℕ) → ReceiverState
 receiver_after most_runs r None = r
 receiver_after most_runs r (Some (pos, xs)) =
     if nat_lt (pos + length xs) (2 ^ 64) then receiver_after_command most_runs r (Segment pos xs) else r
 
--- the reverse path then, where the receiver stores r: its acknowledgement is after those in flight
+-- the reverse path then, if the receiver stores r: its acknowledgement is after those in flight
 abbrev pub with_ack : ReceiverState → Option (ℕ × List ℕ) → PathState → PathState
 with_ack r None reverse = reverse
 with_ack r (Some (pos, xs)) reverse =

@@ -1,25 +1,25 @@
--- What is promised of every copy: laws over the function of CopyState.antt. In each, s is the setup, reads what the
+-- The promises about every copy: laws over the function of CopyState.antt. In each, s is the setup, reads what the
 -- reads give, and n a number of turns.
 --     StartsFits s      the position of the first byte fits 64 bits
 --     CanPass s c      the buffers have room for a byte, and not all positions are used up
 --     before_end reads      the bytes before the input's end
---     WritesPrefix, WritesAll      what is written is a prefix of what was read, and all of it in the end
+--     WritesPrefix, WritesAll      the bytes written are a prefix of those read, and in the end all of them
 --     Ends      a copy ends after so many turns as `copied` makes
 --     before_round s reads n      the link when round n + 1 begins
 --     MakesNoProgress s reads n      round n + 1 makes no progress
 --     GivesUpAfter, NeverLater      it gives up after `rounds` rounds in a row without progress
 --     frames_sent l, acks_sent l      how many frames and acknowledgements a round sends
---     Fails follow l      what fails in a round that makes no progress
+--     Fails follow l      which frames fail in a round that makes no progress
 --     GivesUpIfFailed      it gives up only if each of these rounds failed
---     NoneLost v, NeverByDelays      where nothing is lost, delays and duplicates don't end it
+--     NoneLost v, NeverByDelays      if nothing is lost, delays and duplicates don't end it
 --     EndsIfAllCome      over a link that loses and delays nothing it doesn't give up
---     has_end reads, DoneIfAllCome      it is done, if the input's end comes
---     CountsRounds, CountsEachFate      what the counts of rounds and of frames are
---     GivesUpCounted, EnoughFailed, Unfinished      what a copy that gives up counts
---     HasRoomAtOnce s, ExactRounds      the number of rounds where all comes at once
---     EnoughRounds, RoundsAtOnce      bounds where it is done, and where nothing is lost or delayed
+--     has_end reads, DoneIfAllCome      it is done, if the reads come to the input's end
+--     CountsRounds, CountsEachFate      the counts of rounds and of frames
+--     GivesUpCounted, EnoughFailed, Unfinished      the counts of a copy that gives up
+--     HasRoomAtOnce s, ExactRounds      the number of rounds if all frames arrive in their rounds
+--     EnoughRounds, RoundsAtOnce      bounds if it is done, and if nothing is lost or delayed
 --     FewRounds, FewRoundsAnyway, FewFrames      bounds
---     RoundDelaysFew, FewDelayed      how much is delayed after a round
+--     RoundDelaysFew, FewDelayed      how many frames are delayed after a round
 --     HasEnded c, Stays, FinalIs, CopiedIs      an ended copy stays as it is, and gives the outcome
 --     EndsInOneTurn      it ended in the turn after those in which it went on
 --     Fills s reads      each read fills its room, except the last one before the input's end
@@ -74,7 +74,7 @@ MakesNoProgress s reads n =
     ((after s reads (suc n)).link.sender.first_unacknowledged ≡ (after s reads n).link.sender.first_unacknowledged)
     × ((after s reads (suc n)).written ≡ (after s reads n).written)
 
--- where turn n + 1 gives up, n rounds were made, and each of the last `rounds` of them made no progress
+-- if turn n + 1 gives up, n rounds were made, and each of the last `rounds` of them made no progress
 abbrev pub GivesUpAfter : Type 0
 GivesUpAfter = (s : Setup) (reads : List (List ℕ)) (n : ℕ) →
     (after s reads n).status ≡ Running → (after s reads (suc n)).status ≡ GaveUp →
@@ -86,15 +86,15 @@ NeverLater = (s : Setup) (reads : List (List ℕ)) (n : ℕ) →
     (after s reads n).status ≡ Running → s.rounds < n →
     ((k : ℕ) → n ≤ k + suc s.rounds → k < n → MakesNoProgress s reads k) → ⊥
 
--- how many frames a round sends that begins with this link, and how many acknowledgements
+-- how many frames and how many acknowledgements a round that begins with this link sends
 abbrev pub frames_sent : LinkState → ℕ
 frames_sent l = length (transmit l).forward.in_flight
 
 abbrev pub acks_sent : LinkState → ℕ
 acks_sent l = length (acknowledge_all (pass_frames (delayed_frames (transmit l)))).reverse.in_flight
 
--- of the frames of such a round the first doesn't come at once, or none of its acknowledgements does; and
--- that frame or all of them are lost, if more such rounds follow
+-- in such a round the first frame doesn't arrive, or none of its acknowledgements does; and if more such rounds
+-- follow, that frame or all of these acknowledgements are lost, and not only delayed
 abbrev pub Fails : ℕ → LinkState → Type 0
 Fails follow l = FatesFail follow (frames_sent l) (acks_sent l) l.forward.fates l.reverse.fates
 
@@ -103,7 +103,7 @@ GivesUpIfFailed = (s : Setup) (reads : List (List ℕ)) (n : ℕ) → CanPass s 
     (after s reads n).status ≡ Running → (after s reads (suc n)).status ≡ GaveUp →
     (k : ℕ) → n ≤ k + s.rounds → k < n → Fails (n - suc k) (before_round s reads k)
 
--- no frame is lost that meets these fates
+-- no frame that meets these fates is lost
 abbrev pub NoneLost : FatesState → Type 0
 NoneLost v = (n : ℕ) → next_fate (fates_after n v) ≡ Lost → ⊥
 
@@ -117,20 +117,20 @@ EndsIfAllCome = (s : Setup) (reads : List (List ℕ)) (n : ℕ) → CanPass s (a
     AllCome s.fates → AllCome s.ack_fates → 0 < s.rounds →
     (after s reads n).status ≡ GaveUp → ⊥
 
--- whether the input's end comes, and no read fails before it
+-- whether the reads come to the input's end, and none fails before it
 abbrev pub has_end : List (List ℕ) → Bool
 has_end [] = false
 has_end ([] ∷ reads) = true
 has_end ((x ∷ xs) ∷ reads) = has_end reads
 
--- so it is done, if the input's end comes
+-- the copy is then done, if the reads come to the input's end
 abbrev pub DoneIfAllCome : Type 0
 DoneIfAllCome = (s : Setup) (reads : List (List ℕ)) → CanPass s (final s reads) →
     AllCome s.fates → AllCome s.ack_fates → 0 < s.rounds → has_end reads ≡ true →
     (copied s reads).status ≡ Done
 
 -- ---- what is counted
--- a copy that goes on makes a round in each turn, and counts as many as 64 bits go
+-- a copy that goes on makes a round in each turn, and counts them as far as 64 bits go
 abbrev pub CountsRounds : Type 0
 CountsRounds = (s : Setup) (reads : List (List ℕ)) (n : ℕ) →
     (after s reads n).status ≡ Running → (after s reads n).rounds ≡ min n (2 ^ 64 - 1)
@@ -145,14 +145,15 @@ abbrev pub GivesUpCounted : Type 0
 GivesUpCounted = (s : Setup) (reads : List (List ℕ)) (n : ℕ) → s.rounds < 2 ^ 64 →
     (after s reads n).status ≡ GaveUp → s.rounds ≤ (after s reads n).rounds
 
--- at least as many frames and acknowledgements were then lost or delayed, and all but one lost
+-- then at least `rounds` frames and acknowledgements were lost or delayed, and at least `rounds -
+-- 1` were lost
 abbrev pub EnoughFailed : Type 0
 EnoughFailed = (s : Setup) (reads : List (List ℕ)) (n : ℕ) → CanPass s (after s reads n) →
     s.rounds < 2 ^ 64 → (after s reads n).status ≡ GaveUp →
     (s.rounds ≤ (after s reads n).link.counts.lost + (after s reads n).link.counts.delayed)
     × (s.rounds ≤ (after s reads n).link.counts.lost + 1)
 
--- it hasn't written all that was read, if that was less than the sender has room for
+-- it hasn't written everything that it read, if that was less than the sender has room for
 abbrev pub Unfinished : Type 0
 Unfinished = (s : Setup) (reads : List (List ℕ)) (n : ℕ) → CanPass s (after s reads n) →
     (after s reads n).status ≡ GaveUp → length (after s reads n).given < s.outgoing →
@@ -174,21 +175,21 @@ pub record HasRoomAtOnce (s : Setup) : Type 0 where
   pub incoming : most_read s ≤ s.incoming
   pub frames : most_read s ≤ at_least_one s.max_burst * at_least_one s.payload
 
--- over such a link that loses and delays nothing, for a reader that gives all that there is room for, a
--- copy makes as many rounds as such reads have the bytes
+-- over such a link that loses and delays nothing, with a reader that fills the room of each read, a copy makes
+-- as many rounds as the bytes take reads
 abbrev pub ExactRounds : Type 0
 ExactRounds = (s : Setup) (bytes : List ℕ) (n : ℕ) → HasRoomAtOnce s →
     s.first + length bytes < 2 ^ 64 - 1 → AllCome s.fates → AllCome s.ack_fates →
     let c = after s (bytes ∷ [] ∷ []) n in c.status ≡ Done →
     (length bytes ≤ c.rounds * most_read s) × (c.rounds * most_read s < length bytes + most_read s)
 
--- over a link that loses and delays nothing each round writes some
+-- over a link that loses and delays nothing each round writes some bytes
 abbrev pub RoundsAtOnce : Type 0
 RoundsAtOnce = (s : Setup) (reads : List (List ℕ)) (n : ℕ) → CanPass s (after s reads n) →
     AllCome s.fates → AllCome s.ack_fates →
     (after s reads n).rounds ≤ length (after s reads n).given
 
--- two rounds for each byte that was read, and one for each frame or acknowledgement that was lost or
+-- at most two rounds for each byte that was read, and one for each frame or acknowledgement that was lost or
 -- delayed
 abbrev pub FewRounds : Type 0
 FewRounds = (s : Setup) (reads : List (List ℕ)) (n : ℕ) → CanPass s (after s reads n) →
@@ -230,7 +231,7 @@ abbrev pub Stays : Type 0
 Stays = (s : Setup) (reads : List (List ℕ)) (n k : ℕ) → HasEnded (after s reads n) →
     after s reads (n + k) ≡ after s reads n
 
--- so that the final copy is the one that had ended, after however many turns
+-- so the final copy is the one that had ended, after any number of turns
 abbrev pub FinalIs : Type 0
 FinalIs = (s : Setup) (reads : List (List ℕ)) (n : ℕ) → StartsFits s → HasEnded (after s reads n) →
     final s reads ≡ after s reads n
@@ -240,12 +241,12 @@ abbrev pub EndsInOneTurn : Type 0
 EndsInOneTurn = (s : Setup) (reads : List (List ℕ)) (n : ℕ) → HasEnded (after s reads n) →
     (k : ℕ) × (k < n) × ((after s reads k).status ≡ Running) × (after s reads (suc k) ≡ after s reads n)
 
--- the outcome of a copy is its outcome when it had ended
+-- the outcome of a copy is its outcome when it ended
 abbrev pub CopiedIs : Type 0
 CopiedIs = (s : Setup) (reads : List (List ℕ)) (n : ℕ) → StartsFits s → HasEnded (after s reads n) →
     copied s reads ≡ outcome (after s reads n)
 
--- ---- readers that fill what they are asked for
+-- ---- readers that fill each read
 -- a copy asks its reader for bytes
 pub record Asks (chunk : ℕ) (c : CopyState) : Type 0 where
   pub running : c.status ≡ Running
@@ -253,7 +254,7 @@ pub record Asks (chunk : ℕ) (c : CopyState) : Type 0 where
   pub room : 0 < room_for chunk c.link
   pub written : is_written c.link ≡ true
 
--- if it does, the reader has as many bytes as there is room for, or no bytes after these
+-- if it does, the next read has as many bytes as there is room for, or no bytes follow it
 abbrev pub FillsAt : ℕ → CopyState → Type 0
 FillsAt chunk c = (xs : List ℕ) (rest : List (List ℕ)) → Asks chunk c → c.reads ≡ xs ∷ rest →
     (room_for chunk c.link ≤ length xs) ⊎ (before_end rest ≡ [])
@@ -268,7 +269,7 @@ SameBytes = (s : Setup) (reads others : List (List ℕ)) → StartsFits s → Fi
     has_end reads ≡ has_end others → before_end reads ≡ before_end others →
     copied s reads ≡ copied s others
 
--- so it is that of a copy whose reader gives all of them at once
+-- it is that of a copy whose reader gives all of them at once
 abbrev pub AllAtOnce : Type 0
 AllAtOnce = (s : Setup) (reads : List (List ℕ)) → StartsFits s → Fills s reads → has_end reads ≡ true →
     copied s reads ≡ copied s (before_end reads ∷ [] ∷ [])

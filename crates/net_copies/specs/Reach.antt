@@ -1,7 +1,7 @@
--- How far frames and acknowledgements bring a receiver and a sender, once they have come.
---     reach_one p frame      how far a receiver comes at least that has all before p
---     Reaches ranges end p frames      frames bring it to `end`, if it has the ranges too
---     after_ack_frames s frames      a sender once acknowledgements have come
+-- How far a receiver and a sender get by the frames and acknowledgements that arrive.
+--     reach_one p frame      how far a receiver that has all before p gets, at least
+--     Reaches ranges end p frames      frames bring it to `end`, if it also has the ranges
+--     after_ack_frames s frames      a sender once acknowledgements have arrived
 --     limit_of r      where the receiver's free window ends
 use Rattle.std.specs.Prelude.{◌≡◌, ℕ, ◌+◌, ◌-◌, ◌⊎◌, max, nat_le, if◌then◌else◌}
 use Rattle.std.specs.Prelude.{true, List, [], ◌∷◌, length, Option, Some, None}
@@ -15,8 +15,8 @@ abbrev pub reach_one : ℕ → Option (ℕ × List ℕ) → ℕ
 reach_one p None = p
 reach_one p (Some (pos, xs)) = if nat_le pos p then max p (pos + length xs) else p
 
--- frames bring a receiver to the position `end` that has all before p and the ranges: some of them one
--- after another, each of which begins where nothing before it is missing
+-- frames bring a receiver that has all positions before p and the ranges to the position `end`: some of the
+-- frames do, one after another, each of which begins where nothing before it is missing
 abbrev pub Reaches : List (ℕ × ℕ) → ℕ → ℕ → List (List ℕ) → Type 0
 Reaches ranges end p [] = IsSackedIf ranges p (end - p) true
 Reaches ranges end p (frame ∷ frames) =
@@ -25,7 +25,7 @@ Reaches ranges end p (frame ∷ frames) =
     × IsSackedIf ranges p (pos - p) true
     × Reaches ranges end (max p (pos + length xs)) frames)
 
--- a sender once several acknowledgements have come, one after another
+-- a sender once several acknowledgements have arrived, one after another
 abbrev pub after_ack_frames : SenderState → List (List ℕ) → SenderState
 after_ack_frames s [] = s
 after_ack_frames s (frame ∷ frames) = after_ack_frames (after_ack_frame s (segment_of frame)) frames

@@ -1,8 +1,8 @@
 -- What a round does to a link.
---     RoundPasses      what a round leaves that begins with counts of 64 bits
+--     RoundPasses      what a round leaves, if its counts fit 64 bits before it
 --     HasRoomFor link      the receiver's free window ends at or after the sender's end
 --     Passes old new      what a round leaves
---     Round old new      the same, and what it delivers if its frames and acknowledgements all come
+--     Round old new      the same, and what it delivers if its frames and acknowledgements all arrive
 --     RoundDelivers      a law: that is what a round delivers
 use Rattle.std.specs.Prelude.{◌≡◌, ℕ, ◌+◌, ◌^◌, ◌<◌, ◌≤◌, List, [], ◌∷◌, ◌++◌, length}
 use Rattle.std.specs.Prelude.{false}
@@ -20,9 +20,9 @@ use Rattle.net_copies.specs.Arrivals.{coming_of, receiver_after_all, acks_of, pa
 use Rattle.net_copies.specs.LinkState.{LinkState, next_burst, round}
 use Rattle.net_copies.specs.LinkInvariant.{LinkInvariant}
 
--- a round: n of the sender's queued bytes are spared or sent, as many as its burst lets; the delayed
--- frames come, and those of the others whose fates say so; the receiver acknowledges each of them, and
--- once more at the end; and the delayed acknowledgements come, and those of the others whose fates say so
+-- a round: n of the sender's queued bytes are spared or sent, as many as its burst allows; the delayed frames
+-- arrive, and those of the others whose fates say so; the receiver acknowledges each of them, and once more at
+-- the end; and the delayed acknowledgements arrive, and those of the others whose fates say so
 pub record Passes (old new : LinkState) : Type 0 where
   pub sent : PathState
   pub n : ℕ
@@ -47,7 +47,7 @@ pub record Passes (old new : LinkState) : Type 0 where
   pub burst : new.burst
       ≡ next_burst old.max_burst old.burst (is_full new.sender.sack_blocks)
 
--- so does each round, if the bytes counted so far fit 64 bits
+-- each round does this, if the bytes counted so far fit 64 bits
 abbrev pub RoundPasses : Type 0
 RoundPasses = (s : LinkState) → s.counts.payload < 2 ^ 64 → Passes s (round s)
 
@@ -56,8 +56,8 @@ abbrev pub HasRoomFor : LinkState → Type 0
 HasRoomFor link = end_of link.sender ≤ limit_of link.receiver
 
 -- a round; if all its frames and acknowledgements arrive, and the free window has room, the receiver then has all that
--- was sent, and the sender the rest: nothing, if all was sent, as it is if the burst isn't used up and there are fewer
--- SACK blocks than there can be
+-- was sent, and the sender has the rest: nothing, if all was sent, which is so if the burst isn't used up and there
+-- are fewer SACK blocks than there can be
 pub record Round (old new : LinkState) : Type 0 where
   pub passed : Passes old new
   pub delivers : (f : ℕ) (w : List ℕ) → LinkInvariant f w old → HasRoomFor old
@@ -70,7 +70,7 @@ pub record Round (old new : LinkState) : Type 0 where
   pub all : length (frames_from old.sender.first_unacknowledged passed.all.prefix.parts) < at_least_one old.burst
       → is_full old.sender.sack_blocks ≡ false → passed.n ≡ length old.sender.queue
 
--- so is each round, if the bytes counted and the sender's positions fit 64 bits
+-- each round is like this, if the bytes counted and the sender's positions fit 64 bits
 abbrev pub RoundDelivers : Type 0
 RoundDelivers = (s : LinkState) → s.counts.payload < 2 ^ 64 → IsSound most_sack_blocks s.receiver →
     end_of s.sender < 2 ^ 64 → Round s (round s)

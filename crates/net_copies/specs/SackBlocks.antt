@@ -1,4 +1,4 @@
--- SACK blocks, the ranges of positions of which a receiver tells a sender: each a start and an end, not
+-- SACK blocks, the ranges of positions that a receiver reports to a sender: each a start and an end, not
 -- included.
 --     is_sacked ranges p      whether the position p is in one of the ranges
 --     count_outside ranges p n      how many of the n positions from p on are in none of the ranges
@@ -18,7 +18,7 @@ use Rattle.net_copies.specs.Frames.{frame_of, segment_of}
 abbrev pub is_sacked : List (ℕ × ℕ) → ℕ → Bool
 is_sacked ranges p = list_any (lies_in p) ranges
 
--- how many positions are in none of them, of the n positions from p on
+-- of the n positions from p on, how many are in none of the ranges
 abbrev pub count_outside : List (ℕ × ℕ) → ℕ → ℕ → ℕ
 count_outside ranges p n = count_by (λ q. not (is_sacked ranges q)) (range_with_len p n)
 

@@ -3,11 +3,11 @@
 --         unacknowledged position, which is that of the queue's head, the queue, the last SACK blocks,
 --         and the position at which the storage begins again
 --     end_of v, room_of v      the position after the queue, and how many bytes can be written
---     contiguous_end v p      where the bytes end that are contiguous in the storage with the one at p
+--     contiguous_end v p      the end of the bytes that are contiguous in the storage with the one at p
 --     after_ack v n ranges      the sender once all below position n was acknowledged, with these SACK
 --         blocks
---     after_acks v acks      the sender once several acknowledgements came
---     after_ack_frame v frame      the same, of a frame
+--     after_acks v acks      the sender once several acknowledgements arrived
+--     after_ack_frame v frame      the same, for a frame
 --     at_least_one n      a number of which 0 counts as 1
 --     spared_from v p, next_block v p      how many bytes from position p on are in a SACK block, and
 --         where the next one begins
@@ -42,7 +42,7 @@ end_of v = v.first_unacknowledged + length v.queue
 abbrev pub room_of : SenderState → ℕ
 room_of v = min (v.capacity - length v.queue) (2 ^ 64 - 1 - end_of v)
 
--- of the queued bytes from position p on, where those end that are contiguous in the storage
+-- of the queued bytes from position p on, the end of those that are contiguous in the storage
 abbrev pub contiguous_end : SenderState → ℕ → ℕ
 contiguous_end v p = if nat_lt p v.wraps_at then min v.wraps_at (end_of v) else end_of v
 
@@ -55,8 +55,8 @@ next_wrap v = if nat_eq (length v.queue) 0 then v.first_unacknowledged + v.capac
 abbrev pub with_written : SenderState → List ℕ → SenderState
 with_written v xs = record v { queue = v.queue ++ xs; wraps_at = next_wrap v }
 
--- all below position n was acknowledged; once n is past `wraps_at`, the storage begins again later by its
--- length
+-- all bytes below position n were acknowledged; once n is past `wraps_at`, the storage begins again later by
+-- its length
 abbrev pub sender_from : SenderState → ℕ → List (ℕ × ℕ) → SenderState
 sender_from v n ranges = sender_state v.capacity n (drop (n - v.first_unacknowledged) v.queue) ranges
     (if nat_lt n v.wraps_at then v.wraps_at else v.wraps_at + v.capacity)
@@ -66,8 +66,8 @@ abbrev pub after_ack : SenderState → ℕ → List (ℕ × ℕ) → SenderState
 after_ack v n ranges =
     if nat_le v.first_unacknowledged n && nat_le n (end_of v) then sender_from v n ranges else v
 
--- ---- a frame has come, and a frame is sent
--- a sender once an acknowledgement has come: one too short for a position changes nothing
+-- ---- a frame has arrived, and a frame is sent
+-- a sender once an acknowledgement has arrived: one too short for a position changes nothing
 abbrev pub after_ack_frame : SenderState → Option (ℕ × List ℕ) → SenderState
 after_ack_frame s None = s
 after_ack_frame s (Some (n, xs)) = after_ack s n (blocks_of most_sack_blocks xs)
@@ -91,18 +91,18 @@ stop_of s =
     if is_full s.sack_blocks then min (end_of s) (greatest_end s.sack_blocks s.first_unacknowledged + 1) else end_of s
 
 -- ---- several acknowledgements, each of a position and of ranges
--- the sender once they came, one after another
+-- the sender once they arrived, one after another
 abbrev pub after_acks : SenderState → List (ℕ × List (ℕ × ℕ)) → SenderState
 after_acks v [] = v
 after_acks v ((n, ranges) ∷ acks) = after_acks (after_ack v n ranges) acks
 
--- the greatest of p and of their positions, but of those above the limit
+-- the greatest of p and of their positions, except those above the limit
 abbrev pub greatest_within : ℕ → ℕ → List (ℕ × List (ℕ × ℕ)) → ℕ
 greatest_within limit p [] = p
 greatest_within limit p ((n, ranges) ∷ acks) =
     greatest_within limit (if nat_le n limit then max p n else p) acks
 
--- a sender's queue is all from the greatest position on that was acknowledged, of those up to its end
+-- a sender's queue is all bytes from the greatest acknowledged position on, of those up to its end
 abbrev pub QueueFromGreatest : Type 0
 QueueFromGreatest = (v : SenderState) (acks : List (ℕ × List (ℕ × ℕ))) →
     ((after_acks v acks).first_unacknowledged ≡ greatest_within (end_of v) v.first_unacknowledged acks)

@@ -1,7 +1,7 @@
 -- Laws of the stream on a link, over the functions only.
---     Known      what other laws say of frames, of held runs and of receivers
+--     Known      facts about frames, held runs and receivers, from other laws
 --     LinkInvariantFits f w l      the invariant of a link, whose positions fit 64 bits
---     RoundKeepsInvariant, StopKeepsInvariant      laws: a round keeps it, and so does one that lacked memory
+--     RoundKeepsInvariant, StopKeepsInvariant      laws: a round keeps it, and so does one that lacks memory
 --     Writes f g c      of the bytes g that were read, those that the receiver gave out are written
 --     ReadWrites, PassWrites, AllWritten      laws: so it stays over a read and over a round, and where
 --         all is written, that is all that was read
@@ -18,7 +18,7 @@ use Rattle.net_copies.specs.LinkInvariant.{LinkInvariant}
 use Rattle.net_copies.specs.LinkState.{LinkState, round, StopsRound}
 use Rattle.net_copies.specs.CopyState.{CopyState, room_for, with_read, pass, is_written}
 
--- what other laws say of frames, of held runs and of receivers
+-- facts about frames, held runs and receivers, from other laws
 pub record Known : Type 0 where
   pub decode : FramesDecode
   pub members : MembersOfList
@@ -50,7 +50,7 @@ StopKeepsInvariant = (f : ℕ) (w : List ℕ) (l m : LinkState) → StopsRound l
     LinkInvariantFits f w l → LinkInvariantFits f w m
 
 -- ---- a turn
--- what was written is what the receiver gave out of the bytes that were read
+-- the bytes written are those that the receiver gave out, of the bytes read
 pub record Writes (f : ℕ) (g : List ℕ) (c : CopyState) : Type 0 where
   pub carries : LinkInvariantFits f g c.link
   pub written : c.written ≡ take c.link.receiver.read g

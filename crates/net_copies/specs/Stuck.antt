@@ -1,13 +1,13 @@
 -- Rounds that make no progress.
---     failures counts, losses counts      how many frames and acknowledgements didn't come at once,
---                                         and how many were lost
+--     failures counts, losses counts      how many frames and acknowledgements didn't arrive in
+--                                         their round, and how many were lost
 --     RoundLeaves old new      what a round leaves as it was, or lets grow
---     HasFailed follow fate, FatesFail follow frames acks v v'      what fails in a stuck round
+--     HasFailed follow fate, FatesFail follow frames acks v v'      which frames fail in a stuck round
 --     IsDue link      what is delayed makes for progress in the next round
---     IsStuck frames acks old new      a round in which a frame or an acknowledgement failed that had to
---                                      come
+--     IsStuck frames acks old new      a round in which a frame or an acknowledgement failed that had
+--                                      to arrive
 --     ProgressesOrIsStuck frames acks old new      a round that makes no progress was stuck
---     KnownOfRounds      what other laws say of frames and of receivers
+--     KnownOfRounds      facts about frames and receivers, from other laws
 use Rattle.std.specs.Prelude.{◌≡◌, ◌⊎◌, ℕ, zero, suc, ◌+◌, ◌-◌, ◌<◌, ◌≤◌, ◌^◌, min}
 use Rattle.std.specs.Prelude.{false, List, [], ◌∷◌, length, Some}
 use Rattle.net_receiver.specs.ReceiverState.{next_position}
@@ -24,7 +24,7 @@ use Rattle.net_receiver.specs.Soundness.{FreshIsSound, SoundStays}
 use Rattle.net_copies.specs.LinkInvariant.{LinkInvariant}
 use Rattle.net_copies.specs.Streams.{Known}
 
--- how many frames and acknowledgements didn't come at once, as far as 64 bits go
+-- how many frames and acknowledgements didn't arrive in their round, as far as 64 bits go
 abbrev pub failures : FrameCounts → ℕ
 failures c = min c.lost (2 ^ 64 - 1) + min c.delayed (2 ^ 64 - 1)
 
@@ -44,18 +44,18 @@ pub record RoundLeaves (old new : LinkState) : Type 0 where
   pub receiver_capacity : new.receiver.capacity ≡ old.receiver.capacity
   pub grows : next_position old.receiver ≤ next_position new.receiver
 
--- the fate of a frame in a stuck round that so many stuck rounds follow: it doesn't come at once, and
--- isn't delayed either if any follows, so that it is lost
+-- the fate of a frame in a stuck round that so many stuck rounds follow: it doesn't arrive in its round, and if
+-- any stuck round follows it isn't delayed either, so it is lost
 abbrev pub HasFailed : ℕ → Fate → Type 0
 HasFailed follow fate = (comes fate ≡ false) × (0 < follow → comes_delayed fate ≡ false)
 
--- so fails each of the next n frames
+-- each of the next n frames fails like this
 abbrev pub AllFail : ℕ → ℕ → FatesState → Type 0
 AllFail follow zero v = Unit {0}
 AllFail follow (suc n) v = HasFailed follow (next_fate v) × AllFail follow n (after_fate v)
 
--- in a round that so many stuck rounds follow: of its frames, which meet the next fates of v, the
--- first fails, or of its acknowledgements, which meet those of v', each does
+-- in a round that so many stuck rounds follow: the first of its frames fails, which meet the next
+-- fates of v, or each of its acknowledgements does, which meet those of v'
 abbrev pub FatesFail : ℕ → ℕ → ℕ → FatesState → FatesState → Type 0
 FatesFail follow frames acks v v' =
     ((0 < frames) × HasFailed follow (next_fate v)) ⊎ ((0 < acks) × AllFail follow acks v')
@@ -65,16 +65,17 @@ abbrev pub FirstMatches : List (List ℕ) → (ℕ → ℕ → Type 0) → Type 
 FirstMatches frames P = (frame : List ℕ) × (rest : List (List ℕ)) × (pos : ℕ) × (xs : List ℕ)
     × (frames ≡ frame ∷ rest) × (segment_of frame ≡ Some (pos, xs)) × P pos (pos + length xs)
 
--- what is delayed makes for progress in the next round: the first delayed frame has the byte that the
--- receiver lacks, or the first delayed acknowledgement is of more than the sender knows of
+-- a delayed frame or acknowledgement makes progress in the next round: the first delayed frame has the
+-- receiver's first missing byte, or the first delayed acknowledgement is beyond the sender's first
+-- unacknowledged position
 abbrev pub IsDue : LinkState → Type 0
 IsDue link =
     FirstMatches link.forward.delayed (λ p e. (p ≤ next_position link.receiver)
     × (next_position link.receiver < e) × (e < 2 ^ 64))
     ⊎ FirstMatches link.reverse.delayed (λ p e. (link.sender.first_unacknowledged < p) × (p ≤ end_of link.sender))
 
--- a round of so many frames and acknowledgements that was stuck, and counted it: by a loss, or what was
--- delayed makes for progress in the next one
+-- a round of so many frames and acknowledgements that was stuck, and counted it: as a loss, or a delayed frame
+-- or acknowledgement makes progress in the next round
 pub record IsStuck (frames acks : ℕ) (old new : LinkState) : Type 0 where
   pub why : FatesFail 0 frames acks old.forward.fates old.reverse.fates
   pub left : new.forward.fates ≡ fates_after frames old.forward.fates
@@ -85,8 +86,8 @@ pub record IsStuck (frames acks : ℕ) (old new : LinkState) : Type 0 where
       × (min (losses old.counts + 1) (2 ^ 64 - 1) ≤ losses new.counts))
       ⊎ (IsDue new × (losses old.counts ≤ losses new.counts))
 
--- a round that began with nothing to come but what is delayed, and in which neither the receiver nor the
--- sender made progress, was stuck
+-- a round that began with nothing in flight, and in which neither the receiver nor the sender made progress,
+-- was stuck
 abbrev pub ProgressesOrIsStuck : ℕ → ℕ → LinkState → LinkState → Type 0
 ProgressesOrIsStuck frames acks old new = (f : ℕ) (w : List ℕ) → LinkInvariant f w old
     → old.forward.in_flight ≡ [] → old.reverse.in_flight ≡ [] → 0 < length old.sender.queue
@@ -94,7 +95,7 @@ ProgressesOrIsStuck frames acks old new = (f : ℕ) (w : List ℕ) → LinkInvar
     → next_position new.receiver ≡ next_position old.receiver → new.sender.first_unacknowledged ≡ old.sender.first_unacknowledged
     → IsStuck frames acks old new
 
--- what other laws say of frames and of receivers
+-- facts about frames and receivers, from other laws
 pub record KnownOfRounds : Type 0 where
   pub known : Known
   pub first : FirstStays

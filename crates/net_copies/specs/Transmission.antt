@@ -1,8 +1,8 @@
--- What a sender transmits in a round.
+-- The frames that a sender transmits in a round.
 --     SendsFrames p parts old new      frames of the parts, from position p on, were sent
---     IsSackedIf ranges p n spared, AreSparedIfSacked ranges p parts      exactly what is in the ranges is
+--     IsSackedIf ranges p n spared, AreSparedIfSacked ranges p parts      exactly the positions in the ranges are
 --         spared
---     part_end s most p      where the part ends that begins at position p
+--     part_end s most p      the end of the part that begins at position p
 --     HaveEnds s most p parts      each of the parts, from position p on, ends there
 --     SendsPart s most p n k old new      n bytes from position p on were spared or sent, in k frames
 --     SendsPrefix s most burst n old new      so were the first n bytes of the queue, in at most
@@ -34,7 +34,7 @@ AreSparedIfSacked ranges p ((spared, xs) ∷ parts) =
 abbrev pub HasSize : ℕ → Part → Type 0
 HasSize most part = (0 < length part.1) × (part.0 ≡ false → length part.1 ≤ most)
 
--- where the part ends that begins at position p: with the first SACK block that has p; if none
+-- the end of the part that begins at position p: that of the first SACK block that has p; if none
 -- has it, a frame is as long as its size, the next SACK block and the storage's end allow
 abbrev pub part_end : SenderState → ℕ → ℕ → ℕ
 part_end s most p =
@@ -60,9 +60,9 @@ pub record SendsPart (s : SenderState) (most p n k : ℕ) (old new : PathState) 
   pub frames : k ≡ (if spared then 0 else 1)
   pub sent : SendsFrames p ((spared, take n (drop (p - s.first_unacknowledged) s.queue)) ∷ []) old new
 
--- frames of the first n bytes of the sender's queue were sent, in order: each byte in one of them if it
--- isn't in a SACK block, and in none if it is; each frame has at least one byte and at most so many, and
--- as many as can be
+-- frames of the first n bytes of the sender's queue were sent, in order: each byte is in one of them if it
+-- isn't in a SACK block, and in none if it is; each frame has at least one byte, at most so many, and as many
+-- as possible
 pub record SendsPrefix (s : SenderState) (most burst n : ℕ) (old new : PathState) : Type 0 where
   pub parts : List Part
   pub within : n ≤ length s.queue
@@ -73,7 +73,7 @@ pub record SendsPrefix (s : SenderState) (most burst n : ℕ) (old new : PathSta
   pub few : length (frames_from s.first_unacknowledged parts) ≤ burst
   pub sent : SendsFrames s.first_unacknowledged parts old new
 
--- so they were; and there are `burst` frames, or no part begins after them
+-- frames were sent like this; and there are `burst` frames, or no part begins after them
 pub record SendsRound (s : SenderState) (most burst n : ℕ) (old new : PathState) : Type 0 where
   pub prefix : SendsPrefix s most burst n old new
   pub stop : (stop_of s ≤ s.first_unacknowledged + n) ⊎ (length (frames_from s.first_unacknowledged prefix.parts) ≡ burst)

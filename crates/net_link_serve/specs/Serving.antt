@@ -1,10 +1,10 @@
 -- The results of the words of a command line.
---     config_of plan, rates_of plan      what a copy goes by
+--     config_of plan, rates_of plan      the settings of a copy
 --     fates_of plan, ack_fates_of plan      the fates of frames and of acknowledgements
---     setup_for plan      all that a copy is given besides its reads
+--     setup_for plan      all that a copy is given, except its reads
 --     status_of ended      the status after a copy
 --     CopiesOver plan old new had has said says ended      the results of a copy
---     Helps had has said says ended      the results of a word that asks how the program is used
+--     Helps had has said says ended      the results of `--help`
 --     ComesOf words asked old new had has said says ended      the results of words
 use Rattle.std.specs.Prelude.{◌≡◌, ◌⊎◌, ℕ, ◌-◌, ◌^◌, List, [], Option, Bool, true, false, Result, Ok, Err, codes}
 use Rattle.std.specs.Io.KnownBytes.{Appends, Keeps}
@@ -64,9 +64,9 @@ status_of (Err WriteFailed) = Failed
 abbrev pub setup_for : Plan → Setup
 setup_for plan = setup_of (config_of plan) (fates_of plan) (ack_fates_of plan)
 
--- a copy over the link of the plan was made, or there was no memory to begin with; and if standard
--- error took all, the last that it says is the error, if there was one, and the counts of that copy.
--- Before that it says something only if the plan shows progress
+-- a copy over the link of the plan was made, or there was no memory to begin with; and if standard error took
+-- everything, it ends with the error, if there was one, and the counts of that copy. Before that it has
+-- something only if the plan shows progress
 pub record CopiesOver (plan : Plan) (old new had has said says : Option (List ℕ))
     (ended : Ended) : Type 0 where
   pub outcome : Result (Unit {0}) CopyError
@@ -93,8 +93,7 @@ Helps had has said says ended =
     ((ended ≡ record { status = Done; is_told = true }) × Appends had has usage_text × Keeps said says)
     ⊎ (AppendsPrefix had has usage_text × FailsToWrite said says ended)
 
--- words that ask for nothing: nothing is read or written, and standard error says what is wrong with
--- them, if it took that
+-- wrong words: nothing is read or written, and standard error says what is wrong with them, if it took that
 pub record Refuses (numbers : List (List ℕ)) (misuse : Misuse) (old new had has said says : Option (List ℕ))
     (ended : Ended) : Type 0 where
   pub unread : Keeps old new

@@ -1,4 +1,4 @@
--- What standard error says of a copy.
+-- The lines about a copy on standard error.
 --     counts_text counts      the line of its counts, without its line feed
 --     failed_line what cause      a line that says what failed
 --     error_line ended cause      the line of its error, if there is one
@@ -15,7 +15,7 @@ use Rattle.net_copies.specs.declared.error.CopyError.TheVariants.{ReadFailed, Wr
 abbrev pub bytes_a_second : Counts → ℕ
 bytes_a_second c = min (c.bytes_written * 1000000) (2 ^ 64 - 1) / max c.micros 1
 
--- what frames carried beyond what was read
+-- the bytes that frames carried beyond those that were read
 abbrev pub bytes_sent_again : Counts → ℕ
 bytes_sent_again c = c.frames.payload - c.bytes_read
 

@@ -13,7 +13,7 @@ use Rattle.net_link_serve.specs.declared.words.Word.TheVariants.{Loss, Seed, Dup
 use Rattle.net_link_serve.specs.declared.words.Misuse.{Misuse}
 use Rattle.net_link_serve.specs.declared.words.Misuse.TheVariants.{Count, Wrong}
 
--- how the program is used: the words, and of each what it is and what it is if it is left out
+-- how the program is used: the words, and for each what it means and its value if it is left out
 abbrev pub usage_text : List ℕ
 usage_text =
     codes "usage: net_link [--progress] LOSS SEED [DUPLICATED DELAYED [BYTES [ROUNDS]]]\n"
@@ -42,7 +42,7 @@ range_text Rounds = codes "ROUNDS is 1 to 18446744073709551615"
 abbrev pub is_plain : List ℕ → Bool
 is_plain text = nat_lt 0 (length text) && nat_le (length text) 40 && list_all is_ascii_graphic text
 
--- a word is shown if it is plain, and else its length in bytes
+-- a word is shown if it is plain, and otherwise its length in bytes
 abbrev pub shown : List ℕ → List ℕ
 shown text = if is_plain text then text else codes "a word of length " ++ decimal (length text)
 

@@ -64,8 +64,8 @@ if_there word otherwise (Some text) = number_in word text
 abbrev pub number_at : Word → ℕ → List (List ℕ) → Result ℕ Misuse
 number_at word otherwise words = if_there word otherwise (slice_get words (place word))
 
--- half as many frames as are lost are duplicated, and as many delayed; a frame has at most 16,384 bytes of
--- payload; and the copy gives up after 100 rounds, if no words say otherwise
+-- if no words say otherwise, half as many frames are duplicated as are lost, and as many are delayed; a frame
+-- has at most 16,384 bytes of payload; and the copy gives up after 100 rounds
 abbrev pub numbers_of : Bool → List (List ℕ) → Result Plan Misuse
 numbers_of shows_progress words = do
   lost ← number_at Loss 0 words

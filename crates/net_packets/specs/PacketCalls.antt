@@ -1,6 +1,6 @@
 -- Calls of a closure at a packet: at the bytes that it is given, or at its header and bytes; and
 -- bytes that are copied out.
---     TakesRoom f q s h, CountsAtMost f q s h      what is asked of a closure that writes a packet
+--     TakesRoom f q s h, CountsAtMost f q s h      what is required of a closure that writes a packet
 --     WritesPacket f q s h k r      what a call of it leaves
 --     TakesPacket f h ws, GivesAtPacket f h ws r h' ws'      a closure at a header and bytes
 --     TakesFirstPacket f q, HandsPacket f q answer r      the same at the first packet of a queue
@@ -25,8 +25,8 @@ module _ {F H : Type 0}
   CountsAtMost f q s h =
       (room ws : List ℕ) (k : ℕ) → IsRoom q s h room → FnOnceReturnsAtMut g f room k ws → k ≤ s
 
-  -- f was lent the bytes room, wrote ws there and returned k: the first k bytes of ws came last as
-  -- a packet, which made r of q
+  -- f was lent the bytes room, wrote ws there and returned k: the first k bytes of ws were appended
+  -- as a packet, which made r of q
   pub record WritesPacket (f : F) (q : PacketsState H) (s : ℕ) (h : H) (k : ℕ)
       (r : PacketsState H) : Type 0 where
     pub room : List ℕ
@@ -64,8 +64,8 @@ module _ {F H R E : Type 0}
   abbrev pub TakesFirstPacket : F → PacketsState H → Type 0
   TakesFirstPacket f q = (h : H) (bytes : List ℕ) → IsFirst q h bytes → TakesPacket g f h bytes
 
-  -- f was handed the first packet, wrote its header and bytes anew and returned: the packet is gone
-  -- from r if that is `Ok`, and else stays as f wrote it
+  -- f was handed the first packet, overwrote its header and bytes and returned: the packet is gone
+  -- from r if f returned `Ok`, and otherwise stays as f wrote it
   pub record HandsPacket (f : F) (q : PacketsState H) (answer : Result R E)
       (r : PacketsState H) : Type 0 where
     pub header : H

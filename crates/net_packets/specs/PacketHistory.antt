@@ -1,5 +1,4 @@
--- The packets of a queue as those who put and take them see them, and what a queue makes of them
--- over many calls.
+-- The packets of a queue as its callers see them, and over many calls.
 --     contents q      the headers and bytes of a queue's packets
 --     head_bytes ps      the bytes of the first of these
 --     with_bytes_in_last_entry bytes ps      the last of these has other bytes
@@ -94,7 +93,7 @@ module _ {H : Type 0} where
   MakesAll [] q r = r ≡ q
   MakesAll (call ∷ calls) q r = (next : PacketsState H) × Makes call q next × MakesAll calls next r
 
--- ---- what came and what left: packets, each with its header and bytes
+-- ---- what was accepted and what left: packets, each with its header and bytes
 module _ {H : Type 0} where
   -- the last packet has these bytes
   abbrev pub with_bytes_in_last_entry : List ℕ → List (H × List ℕ) → List (H × List ℕ)

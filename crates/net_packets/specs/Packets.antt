@@ -1,12 +1,12 @@
 -- A queue of packets over a storage of bytes, what decides which packets are refused, and what each
--- call makes of the queue. Readers think of a queue as its `contents` (PacketHistory), the list of
--- headers and bytes; the indices and gaps here say only when there is room.
+-- call makes of the queue. A reader can think of a queue as its `contents` (PacketHistory), the
+-- list of headers and bytes; the indices and gaps here only say when there is room.
 --     Packet H, PacketsState H      a packet, and a queue of them
 --     byte_ring q, bytes_used ps, slots_used ps      the ring of the bytes, and what packets take
 --     placement q s      the gap before a packet of s bytes, if it is not refused
 --     IsWellPlaced q      what is true of every queue
 --     no_packets slot_count storage      a queue with no packets
---     with_packet_if_room q s h, with_packet_of q h ws      a packet came last
+--     with_packet_if_room q s h, with_packet_of q h ws      a packet was appended
 --     last_bytes q, with_last_bytes q ws, with_last_size k q, IsRoom q s h room      the last packet
 --     first_size ps, only_last ps, IsFirstSized ps s, first_bytes q      the first packet's size and bytes,
 --         and the last packet by itself
@@ -79,13 +79,13 @@ module _ {H : Type 0} where
       let g = from_start_if_empty (byte_ring q) in
       if_slots (q.slot_count - slots_used q.packets) (gap_for s (contiguous_window g) (window g))
 
-  -- in a storage of c bytes, a packet that comes o bytes after the index r: it doesn't reach past the
+  -- in a storage of c bytes, a packet that begins o bytes after the index r: it doesn't reach past the
   -- storage's end, and a gap ends there
   abbrev pub IsPlaced : ℕ → ℕ → ℕ → Packet H → Type 0
   IsPlaced c r o p =
       (index_after c r (o + p.gap) + p.size ≤ c) × (p.gap ≢ 0 → index_after c r o + p.gap ≡ c)
 
-  -- packets of which the first comes o bytes after the index r
+  -- packets, the first of which begins o bytes after the index r
   abbrev pub ArePlaced : ℕ → ℕ → ℕ → List (Packet H) → Type 0
   ArePlaced c r o [] = ⊤
   ArePlaced c r o (p ∷ ps) = IsPlaced c r o p × ArePlaced c r (o + p.gap + p.size) ps
@@ -119,8 +119,8 @@ module _ {H : Type 0} where
   first_size [] = 0
   first_size (p ∷ ps) = p.size
 
-  -- ---- a packet comes last
-  -- a packet of s bytes came last, after a gap
+  -- ---- a packet is appended
+  -- a packet of s bytes was appended, after a gap
   abbrev pub with_packet : PacketsState H → ℕ → ℕ → H → PacketsState H
   with_packet q gap s h =
       record {
@@ -135,7 +135,7 @@ module _ {H : Type 0} where
   with_packet_if q None s h = q
   with_packet_if q (Some gap) s h = with_packet q gap s h
 
-  -- a packet of s bytes came last if it could be placed; its bytes are the storage's
+  -- a packet of s bytes was appended if it could be placed; its bytes are the storage's
   abbrev pub with_packet_if_room : PacketsState H → ℕ → H → PacketsState H
   with_packet_if_room q s h = with_packet_if q (placement q s) s h
 
@@ -160,7 +160,7 @@ module _ {H : Type 0} where
   abbrev pub with_last_bytes : PacketsState H → List ℕ → PacketsState H
   with_last_bytes q ws = with_bytes q (last_index q) ws
 
-  -- a packet with the header h and the bytes ws came last, if it could be placed
+  -- a packet with the header h and the bytes ws was appended, if it could be placed
   abbrev pub with_packet_of : PacketsState H → H → List ℕ → PacketsState H
   with_packet_of q h ws = with_last_bytes (with_packet_if_room q (length ws) h) ws
 
@@ -244,7 +244,7 @@ module _ {H : Type 0} where
       }
 
   -- the first packet was handed out and has the header h and the bytes ws: it is gone if gone is
-  -- true, and else stays first, without its gap
+  -- true, and otherwise stays first, without its gap
   abbrev pub after_hand_out : Bool → PacketsState H → H → List ℕ → PacketsState H
   after_hand_out gone q h ws =
       if gone then without_first (with_first_bytes (without_gap q) h ws) else with_first_bytes (without_gap q) h ws

@@ -26,7 +26,7 @@ contiguous_count_from v o n = min n (min (length v.queue - o) (v.capacity - inde
 abbrev pub first_part : ReceiverState → List ℕ
 first_part v = take (contiguous_count v) v.queue
 
--- those from its beginning on: what the first part leaves
+-- those from its beginning on: the rest of the queue after the first part
 abbrev pub second_part : ReceiverState → List ℕ
 second_part v = drop (contiguous_count v) v.queue
 

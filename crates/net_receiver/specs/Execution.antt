@@ -3,7 +3,7 @@
 --     Executes N v u cs rs complete      what cs leave stored, and their replies
 --     ExecutesFor N v u cs rs complete s      what cs did to a receiver that represented s
 --     items_after old new      what was pushed after old
---     AreAlike f s g t      what `same_state` finds alike of two states
+--     AreAlike f s g t      what `same_state` compares of two states
 --     Converges v u same, TellsStates v u same      when `same_state` finds two receivers the same
 --     FreshRefines, EverySchedule, TellsNext, TellsHeld, TellsFresh      laws on what a receiver represents
 use Rattle.std.specs.Prelude.{◌≡◌, ◌↔◌, ℕ, ◌-◌, ◌≤◌, Bool, true, List, ◌++◌, length, take}
@@ -35,8 +35,8 @@ pub record Executes (most_runs : ℕ) (v u : ReceiverState) (cs : List CommandVa
   pub state : u ≡ receiver_after_commands most_runs v (take prefix.count cs)
   pub replies : rs ≡ receiver_replies most_runs v (take prefix.count cs)
 
--- the same of a schedule's state, with what follows of the bytes that were read and of what is
--- accepted
+-- the same for a schedule's state, and what follows about the bytes that were read and about
+-- accepted segments
 pub record ExecutesFor (most_runs : ℕ) (v u : ReceiverState) (cs : List CommandValue) (rs : List ReplyValue)
     (complete : Type 0) (s : KeptState) : Type 0 where
   pub prefix : ExecutedPrefix cs complete
@@ -52,13 +52,13 @@ pub record ExecutesFor (most_runs : ℕ) (v u : ReceiverState) (cs : List Comman
       EndsBy (next v.first (kept_after_commands (setting most_runs v) s cs).kept) cs
 
 -- two receivers that represent kept lists which agree with one byte list and cover the same
--- positions, with as much read, are found the same
+-- positions, with as many bytes read, are found the same
 abbrev pub Converges : ReceiverState → ReceiverState → Bool → Type 0
 Converges v u same = (x : List ℕ) (s t : KeptState) → Refines v s → Refines u t →
     v.first ≡ u.first → Agrees v.first s.kept x → Agrees v.first t.kept x →
     ((p : ℕ) → is_covered s.kept p ≡ is_covered t.kept p) → s.read ≡ t.read → same ≡ true
 
--- what two states have alike that `same_state` compares, f and g being their first positions
+-- two states are equal in what `same_state` compares, f and g being their first positions
 -- (`IsSameState` has no `next`: it follows from a receiver's parts, and not from any state's)
 abbrev pub AreAlike : ℕ → KeptState → ℕ → KeptState → Type 0
 AreAlike f s g t =
@@ -66,7 +66,7 @@ AreAlike f s g t =
     × (queue_bytes f s ≡ queue_bytes g t)
     × (maximal_runs (held_positions f s.kept) ≡ maximal_runs (held_positions g t.kept))
 
--- the test is true exactly if the states that two receivers represent are alike
+-- the test is true exactly if the states that two receivers represent are equal in that
 abbrev pub TellsStates : ReceiverState → ReceiverState → Bool → Type 0
 TellsStates v u same = (s t : KeptState) → Refines v s → Refines u t →
     (same ≡ true) ↔ AreAlike v.first s u.first t

@@ -1,4 +1,4 @@
--- The laws on kept lists, on the runs that are listed, and on calls that follow one another.
+-- The laws of kept lists, of listed runs, and of calls of `replay`, one after another.
 --     Contains e p, NoneContains k p      the entry e, or no entry of k, contains the position p
 --     IsLast k p e      e is the last entry of k that contains p
 --     IsLeastMissing f k n      n is the least position from f on that no entry of k contains
@@ -62,7 +62,7 @@ HeldAreAbove = (f : ℕ) (k : List Piece) (p : ℕ) →
     IsTrue (contains (held_positions f k) p) ↔ ((next f k < p) × SomeContains k p)
 
 -- ---- listed runs
--- the runs of a list in which some are missing
+-- the runs of a list, some of whose entries are missing
 abbrev pub runs_of_sack : List (Option (ℕ × ℕ)) → List (ℕ × ℕ)
 runs_of_sack [] = []
 runs_of_sack (Some run ∷ entries) = run ∷ runs_of_sack entries

@@ -1,12 +1,12 @@
--- Segments that say what one stream has, and receivers that took nothing else.
+-- Segments that have the bytes of one stream, and receivers that took only such segments.
 --     MatchesStream f x pos xs      the bytes xs at pos are what the stream x, which begins at f, has there
---     AllMatch f x cs      each segment of the commands says what x has
---     ReceivesFrom f x v      the receiver v took nothing but parts of x
+--     AllMatch f x cs      each segment of the commands has the bytes of x
+--     ReceivesFrom f x v      the receiver v took only parts of x
 --     QueueIsOf x v      the queue is what x has after the bytes that were read
 --     window_part v pos xs      the bytes of a segment that the free window of v takes
--- The others are laws: what makes these, what follows from them, and what commands leave.
--- `MatchesStream`, `AllMatch` and `ReceivesFrom` are not unfolded by a caller's proofs, which find them by the
--- clauses of the calls and by the laws that make them.
+-- The others are laws: when these hold, what follows from them, and what commands leave. `MatchesStream`,
+-- `AllMatch` and `ReceivesFrom` are not unfolded by a caller's proofs, which find them by the clauses of the
+-- calls and by the laws that make them.
 use Rattle.std.specs.Prelude.{◌≡◌, ◌↔◌, ℕ, ◌+◌, ◌-◌, ◌≤◌, List, [], ◌∷◌, ◌++◌, length, take, drop}
 use Rattle.std.specs.Prelude.{slice_range, slice_get, Some, All, Bool, IsTrue}
 use Rattle.std.specs.FinMap as fin
@@ -19,7 +19,7 @@ use Rattle.net_receiver.specs.ReceiverState.{receiver_after_commands, receiver_r
 use Rattle.net_receiver.specs.Execution.{Executes}
 
 -- ---- the relations
--- a segment says what x has at its positions from f on; the other commands bring nothing
+-- a segment has the bytes of x at its positions from f on; the other commands bring no bytes
 abbrev pub IsTruthful : ℕ → List ℕ → CommandValue → Type 0
 IsTruthful f x (Segment pos xs) = PieceAgrees f x (piece pos xs)
 IsTruthful f x (Read count) = Unit {0}
@@ -35,11 +35,11 @@ pub record Receives (x : List ℕ) (v : ReceiverState) : Type 0 where
 unfoldable pub MatchesStream : ℕ → List ℕ → ℕ → List ℕ → Type 0
 MatchesStream f x pos xs = PieceAgrees f x (piece pos xs)
 
--- each segment says what x has
+-- each segment has the bytes of x
 unfoldable pub AllMatch : ℕ → List ℕ → List CommandValue → Type 0
 AllMatch f x cs = All (IsTruthful f x) cs
 
--- the receiver took nothing but parts of the stream x, whose first byte has position f
+-- the receiver took only parts of the stream x, whose first byte has position f
 unfoldable pub ReceivesFrom : ℕ → List ℕ → ReceiverState → Type 0
 ReceivesFrom f x v = (v.first ≡ f) × Receives x v
 
@@ -55,8 +55,8 @@ pub record QueueIsOf (x : List ℕ) (v : ReceiverState) : Type 0 where
 abbrev pub window_part : ReceiverState → ℕ → List ℕ → List ℕ
 window_part v pos xs = drop (next_position v - pos) (take (v.first + v.read + v.capacity - pos) xs)
 
--- ---- what makes them, and what follows
--- a segment that is the stream's bytes at its position says what the stream has
+-- ---- when they hold, and what follows
+-- a segment that is the stream's bytes at its position matches the stream
 abbrev pub MatchesWhatIsThere : Type 0
 MatchesWhatIsThere = (f pos : ℕ) (x xs : List ℕ) → f ≤ pos →
     xs ≡ take (length xs) (drop (pos - f) x) → MatchesStream f x pos xs
@@ -113,7 +113,7 @@ abbrev pub ReceivesFromLonger : Type 0
 ReceivesFromLonger = (f : ℕ) (x more : List ℕ) (v : ReceiverState) →
     ReceivesFrom f x v → ReceivesFrom f (x ++ more) v
 
--- a truthful segment leaves a receiver of nothing but parts of x
+-- after a truthful segment the receiver still took only parts of x
 abbrev pub SegmentReceives : Type 0
 SegmentReceives = (most_runs f : ℕ) (x : List ℕ) (v : ReceiverState) (pos : ℕ) (xs : List ℕ) →
     ReceivesFrom f x v → MatchesStream f x pos xs →

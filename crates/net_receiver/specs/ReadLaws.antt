@@ -6,7 +6,7 @@ use Rattle.net_receiver.specs.Retransmission.{HasByteAt}
 use Rattle.net_receiver.specs.ReceiverState.{ReceiverState, next_position, receiver_after_read}
 use Rattle.net_receiver.specs.OneStream.{ReceivesFrom}
 
--- a receiver that took nothing but parts of a stream still did after a read
+-- a receiver that took only parts of a stream still did after a read
 abbrev pub ReadReceives : Type 0
 ReadReceives = (f n : ℕ) (x : List ℕ) (v : ReceiverState) →
     ReceivesFrom f x v → ReceivesFrom f x (receiver_after_read v n)
@@ -24,7 +24,7 @@ abbrev pub ReadsAdd : Type 0
 ReadsAdd = (v : ReceiverState) (m n : ℕ) →
     receiver_after_read (receiver_after_read v m) n ≡ receiver_after_read v (m + n)
 
--- and give together what it gives
+-- and together they give what it gives
 abbrev pub ReadsGiveTogether : Type 0
 ReadsGiveTogether = (v : ReceiverState) (m n : ℕ) →
     take m v.queue ++ take n (receiver_after_read v m).queue ≡ take (m + n) v.queue

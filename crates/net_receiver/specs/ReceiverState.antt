@@ -66,8 +66,8 @@ first_lacking held n = first_missing (domain held) n
 abbrev pub held_bytes_at : HeldBytes → ℕ → ℕ → List ℕ
 held_bytes_at held p n = map (λ q. unwrap_or (fin.get held q) 0) (range_with_len p n)
 
--- where `laid` is the held bytes with the kept ones over them: the bytes from n up to `end`, the first
--- position that is lacking, join the queue
+-- if `laid` is the held bytes with the kept ones over them, the bytes from n up to `end`, the first missing
+-- position, join the queue
 abbrev pub receiver_up_to : ReceiverState → ℕ → HeldBytes → ℕ → ReceiverState
 receiver_up_to v n laid end = record {
   first = v.first;

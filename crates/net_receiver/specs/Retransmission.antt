@@ -1,5 +1,5 @@
--- Segments that come again, and segments that together cover a range.
---     IsHeld v pos xs      what the free window would take of a segment is held already
+-- Retransmitted segments, and segments that together cover a range.
+--     IsHeld v pos xs      all bytes of a segment in the free window are held already
 --     HasByteAt v p      the position p is below the first missing one, or is held
 --     Brings cs p      a segment of cs contains the position p
 -- The others are laws.
@@ -13,13 +13,13 @@ use Rattle.net_receiver.specs.ReceiverState.{ReceiverState, IsSound, next_positi
 use Rattle.net_receiver.specs.ReceiverState.{receiver_reply}
 use Rattle.net_receiver.specs.ReceiverState.{receiver_after_commands, receiver_replies}
 
--- ---- segments that come again
+-- ---- retransmitted segments
 -- each byte of a segment within the free window is held already
 abbrev pub IsHeld : ReceiverState → ℕ → List ℕ → Type 0
 IsHeld v pos xs = (p b : ℕ) → next_position v ≤ p → p < v.first + v.read + v.capacity →
     piece_byte_at (piece pos xs) p ≡ Some b → fin.get v.held p ≡ Some b
 
--- a segment of which that is so changes nothing
+-- such a segment changes nothing
 abbrev pub HeldChangesNothing : Type 0
 HeldChangesNothing = (most_runs : ℕ) (v : ReceiverState) (pos : ℕ) (xs : List ℕ) →
     IsSound most_runs v → IsHeld v pos xs → receiver_after_command most_runs v (Segment pos xs) ≡ v
@@ -47,7 +47,7 @@ AcceptedBrings = (most_runs : ℕ) (v : ReceiverState) (pos : ℕ) (xs : List �
     pos ≤ p → p < pos + length xs → p < v.first + v.read + v.capacity →
     HasByteAt (receiver_after_command most_runs v (Segment pos xs)) p
 
--- where a receiver has each position up to an end, its first missing one is not below that
+-- if a receiver has each position up to an end, its first missing one is not below that end
 abbrev pub HasAllReaches : Type 0
 HasAllReaches = (most_runs : ℕ) (v : ReceiverState) (end : ℕ) → IsSound most_runs v →
     ((p : ℕ) → next_position v ≤ p → p < end → HasByteAt v p) → end ≤ next_position v
@@ -59,8 +59,8 @@ Brings (Segment pos xs ∷ cs) p = ((pos ≤ p) × (p < pos + length xs)) ⊎ Br
 Brings (Read count ∷ cs) p = Brings cs p
 Brings (Show ∷ cs) p = Brings cs p
 
--- segments that cover what is missing up to an end within the free window, in any order and
--- overlap, none of them refused, bring the first missing position there
+-- if segments cover all missing positions up to an end within the free window, in any order and
+-- however they overlap, and none is refused, the first missing position is then not below that end
 abbrev pub Completes : Type 0
 Completes = (most_runs : ℕ) (v : ReceiverState) (cs : List CommandValue) (end : ℕ) →
     IsSound most_runs v → end ≤ v.first + v.read + v.capacity →
@@ -68,7 +68,7 @@ Completes = (most_runs : ℕ) (v : ReceiverState) (cs : List CommandValue) (end 
     ((p : ℕ) → next_position v ≤ p → p < end → Brings cs p) →
     end ≤ next_position (receiver_after_commands most_runs v cs)
 
--- a segment that begins at or below the first missing position brings that to the segment's end, or
+-- a segment that begins at or below the first missing position moves that to the segment's end, or
 -- to the end of the free window
 abbrev pub InOrderReaches : Type 0
 InOrderReaches = (most_runs : ℕ) (v : ReceiverState) (pos : ℕ) (xs : List ℕ) → pos ≤ next_position v →

@@ -32,7 +32,7 @@ pub data Verdict : Type 0 where
   Refuses : Verdict
   Keeps : Piece → Verdict
 
--- the verdict on what the free window takes of a segment, where n is the first missing position
+-- the verdict on the part of a segment in the free window, n being the first missing position
 abbrev pub verdict_of_piece : ℕ → ℕ → Positions → Piece → Verdict
 verdict_of_piece n most_runs held part =
     if nat_eq (length part.bytes) 0 then KeepsNone
@@ -93,8 +93,8 @@ module _ {S : Type 0} (ops : ReceiverOps S) where
   segment_result s x = with_sack (numbers s x) (ops.held (state_after s x))
 
   module _ (most_runs : ℕ) where
-    -- what happens to a segment in a state: the free window takes what it has from the first missing position on and
-    -- below the limit
+    -- what happens to a segment in a state: its part in the free window is at the positions from the first missing
+    -- one on and below the limit
     abbrev pub verdict : S → Piece → Verdict
     verdict s e =
         verdict_of_piece (ops.next s) most_runs (ops.held s)

@@ -1,4 +1,4 @@
--- What the sets of a kept list come to, by computing with lists; and a schedule computed in full.
+-- The sets of a kept list, computed with lists; and a schedule computed in full.
 --     covered_list k      the covered positions, rising and each once
 --     missing_in ks p      the least position from p on that is not in ks
 --     held_list f k      the held positions
@@ -81,7 +81,7 @@ ByteComputed = (k : List Piece) (p : ℕ) → byte_at k p ≡ byte_in k p
 abbrev pub segment_reply : ℕ → ℕ → List (Option (ℕ × ℕ)) → ReplyValue
 segment_reply kept queued sack = SegmentReply (Ok (record { kept = kept; queued = queued; sack = sack }))
 
--- two segments that disagree come out of order, then the bytes before them: `AA` at 2, `BB` at 3,
+-- two segments that disagree arrive out of order, then the bytes before them: `AA` at 2, `BB` at 3,
 -- `CC` at 0, and then `CCABB` is read
 abbrev pub worked_commands : List CommandValue
 worked_commands =

@@ -1,4 +1,4 @@
--- What came into a queue and what left it, over many calls.
+-- What a queue accepted and what left it, over many calls.
 --     Log X      what was accepted, and what left
 --     empty_log      the log before any call
 --     log_accepted xs log, log_left xs log, log_dropped log      the log after more was accepted, or
@@ -12,7 +12,7 @@ pub record Log (X : Type 0) : Type 0 where
   pub left : List X
 
 module _ {X : Type 0} where
-  -- nothing came and nothing left
+  -- nothing was accepted and nothing left
   abbrev pub empty_log : Log X
   empty_log = record { accepted = []; left = [] }
 

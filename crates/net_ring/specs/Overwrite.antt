@@ -7,8 +7,8 @@ module _ {X : Type 0} where
   abbrev pub overwrite : List X → ℕ → List X → List X
   overwrite xs i ws = take (length xs) (take i xs ++ (ws ++ drop (length ws) (drop i xs)))
 
-  -- the element k is that of ws which was written there, and else the one that xs has. x is what
-  -- a read past a list's end gives, so that the statement holds of each element there is
+  -- the element k is the one of ws that was written there, and otherwise the one that xs has. A
+  -- read past a list's end gives x, so that the statement holds of each element there is
   abbrev pub OverwritesAt : List X → ℕ → List X → ℕ → X → Type 0
   OverwritesAt xs i ws k x = k < length xs → slice_index_or (overwrite xs i ws) k x
       ≡ (if nat_le i k && nat_lt k (i + length ws) then slice_index_or ws (k - i) x

@@ -126,7 +126,7 @@ module _ {T : Type 0} where
   from_start_if_empty g = if nat_eq g.count 0 then ring g.storage 0 0 else g
 
   -- ---- the same by queue and spare part
-  -- ws came to the end of the queue, over the first spare elements
+  -- ws was appended to the queue, over the first spare elements
   abbrev pub Enqueues : RingState T → List T → RingState T → Type 0
   Enqueues g ws h =
       (queue h ≡ queue g ++ ws) × (spare h ≡ drop (length ws) (spare g))

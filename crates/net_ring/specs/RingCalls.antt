@@ -1,5 +1,5 @@
--- What the calls of a ring that call a closure ask of it, and what they leave.
---     TakesFirstOf f xs, CountsWithin f xs n      what is asked of a closure
+-- Calls of a ring that call a closure: what they require of the closure, and what they leave.
+--     TakesFirstOf f xs, CountsWithin f xs n      what is required of a closure
 --     CalledOnNext f old answer new, CalledOnFirst f old answer new      it was called on one element
 --     CalledOnSpare f old answer new, CalledOnQueue f old answer new      or on contiguous ones
 use Rattle.std.specs.Prelude.{◌≡◌, ◌≤◌, ℕ, List, [], ◌∷◌, length, drop, Result, IsOk, IsErr, is_ok}
@@ -46,7 +46,7 @@ module _ {F T R : Type 0}
   CountsWithin f xs n = (r : ℕ × R) (ws : List T) → FnOnceReturnsAtMut g f xs r ws → r.0 ≤ n
 
   -- f was called on the contiguous spare elements, left ws there and returned `answer`: the first
-  -- ones of ws, as many as it counts, came to the end of the queue
+  -- ones of ws, as many as it counts, are now the end of the queue
   abbrev pub CalledOnSpare : F → RingState T → ℕ × R → RingState T → Type 0
   CalledOnSpare f old answer new = (ws : List T)
       × FnOnceReturnsAtMut g f (contiguous_spare old) answer ws

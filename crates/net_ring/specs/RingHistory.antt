@@ -1,4 +1,4 @@
--- What a ring makes of its elements over many calls.
+-- The elements of a ring over many calls.
 --     RingCall T, Makes call g h, MakesAll calls g h      what one call did, and what calls make
 --     log_after call log, log_after_all calls log, history calls      the log after calls
 use Rattle.std.specs.Prelude.{◌≡◌, ◌≢◌, ◌≤◌, ℕ, ◌+◌, ◌-◌, List, [], ◌∷◌, length, take, drop}
@@ -94,7 +94,7 @@ module _ {T : Type 0} where
   MakesAll [] g h = h ≡ g
   MakesAll (call ∷ calls) g h = (next : RingState T) × Makes call g next × MakesAll calls next h
 
-  -- ---- what came and what left
+  -- ---- what was accepted and what left
   -- ws was written over the elements that have not left, from the one at the offset i on
   abbrev pub log_written : ℕ → List T → Log T → Log T
   log_written i ws log =

@@ -16,7 +16,7 @@ use Rattle.net_script.specs.declared.asm.AsmLine.TheVariants.{RemoveFront, Print
 use Rattle.net_script.specs.declared.fault.Fault.{Fault}
 use Rattle.net_script.specs.declared.fault.Fault.TheVariants as faults
 
--- the offset and the size of a range, where both of its words are numbers
+-- the offset and the size of a range, if both of its words are numbers
 abbrev pub range_of : Option ℕ → Option ℕ → Option (ℕ × ℕ)
 range_of (Some offset) (Some size) = Some (offset, size)
 range_of _ _ = None
@@ -50,7 +50,7 @@ abbrev pub front_removal : Positions → Positions × List ℕ
 front_removal set =
     (shift_down set (front set), codes "front " ++ decimal (front set) ++ codes "\n")
 
--- the set with a range, or unchanged where that has too many runs
+-- the set with a range, or the set unchanged if that has too many runs
 abbrev pub addition : ℕ → Positions → ℕ → ℕ → Positions × List ℕ
 addition most_runs set offset size =
     if makes_too_many_runs most_runs set offset size then (set, refused_text)

@@ -1,4 +1,4 @@
--- What is said of errors.
+-- The texts of errors.
 --     error_text e      the text of an error, without a line feed
 use Rattle.std.specs.Prelude.{ℕ, List, ◌++◌, codes, decimal}
 use Rattle.net_script.specs.declared.error.BenchError.{BenchError}

@@ -1,7 +1,7 @@
 -- The modes: what their words are, and what each makes of an input.
 --     Mode, mode_of words      a mode with its numbers, and the one that words name
---     transcript_of mode      what a mode makes of lines
---     output mode input, fault mode input      what is written for an input, and its first fault
+--     transcript_of mode      the transcript of lines in a mode
+--     output mode input, fault mode input      the output for an input, and its first fault
 use Rattle.std.specs.Prelude.{ℕ, List, [], ◌∷◌, ◌==◌, ◌||◌, codes, bytes_eq, nat_le, if◌then◌else◌}
 use Rattle.std.specs.Prelude.{Option, Some, None, option_map, option_and_then}
 use Rattle.net_cli.specs.Numeral.{number_of}
@@ -28,7 +28,7 @@ at_most_64k number = if nat_le number 65536 then Some number else None
 abbrev pub four_or_32 : ℕ → Option ℕ
 four_or_32 number = if (number == 4) || (number == 32) then Some number else None
 
--- the numbers of mode stream, where all are there
+-- the numbers of mode stream, if all are there
 abbrev pub setting_of : Option ℕ → Option ℕ → Option ℕ → Option Setting
 setting_of (Some capacity) (Some most_runs) (Some first) =
     Some (record { first = first; capacity = capacity; most_runs = most_runs })
@@ -56,7 +56,7 @@ mode_of (name ∷ capacity ∷ most_runs ∷ first ∷ []) =
     stream_of name capacity most_runs (number_of first)
 mode_of _ = None
 
--- what a mode makes of lines
+-- the transcript of lines in a mode
 abbrev pub transcript_of : Mode → Transcript
 transcript_of (Ring capacity) = transcript ring_rules (λ _. []) 1 (fresh_ring_mode capacity)
 transcript_of (Asm most_runs) = transcript (asm_rules most_runs) (λ _. []) 1 nothing
@@ -64,7 +64,7 @@ transcript_of (Stream setting) =
     transcript (stream_rules kept_schedule_ops) (stream_closing kept_schedule_ops) 1
     (first_schedule kept_schedule_ops setting)
 
--- what is written for an input
+-- the output for an input
 abbrev pub output : Mode → List ℕ → List ℕ
 output mode input = (transcript_of mode).text (lines_of input)
 

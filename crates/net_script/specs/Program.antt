@@ -1,4 +1,4 @@
--- The results of a call of `run`, and what standard error says.
+-- The results of a call of `run`, and the lines on standard error.
 --     usage_line, error_line e      the line for words that name no mode, and for an error
 --     status_of outcome      the status after this result of `run`
 --     FailsOnInput all before left old new said says told      what an error says of the input, of what

@@ -1,10 +1,10 @@
--- How the bytes of an input lead from line to line as they come: for the contracts of the calls that
--- `run` makes.
+-- How the bytes of an input lead from line to line as they are read: for the contracts of the calls that `run`
+-- makes.
 --     HasNoFeed line      no line feed is in it
 --     BenchState S      where a reader of lines is
 --     Advances rules bytes old new text      where these bytes lead
 --     Outlet, outlet contents pending      what a writer has, and the replies that are pending
---     Gathers old new text      a text came to the replies that are pending
+--     Gathers old new text      a text was added to the pending replies
 --     IsPendingFault all lines old new e      the first fault, with pending replies
 --     PendingError all lines old new e      what an error says, with pending replies
 use Rattle.std.specs.Prelude.{◌≡◌, ℕ, List, [], ◌++◌, false, ◌==◌, Option, Some, take}
@@ -28,7 +28,7 @@ pub record BenchState (S : Type 0) : Type 0 where
   -- the number of the next line
   pub number : ℕ
   pub state : S
-  -- the beginning of the next line that came so far
+  -- the beginning of the next line, as far as it was read
   pub line : List ℕ
 
 -- from where a reader of lines is, these bytes lead to where it is then, and to this text:
@@ -45,7 +45,7 @@ pub record Advances {S : Type 0} (rules : Rules S) (bytes : List ℕ) (old new :
       first_fault rules old.number old.state (lines ++ more)
       ≡ first_fault rules new.number new.state more
 
--- what a writer has, where that is known, and the replies that are pending for it
+-- what a writer has, if that is known, and the replies that are pending for it
 pub record Outlet : Type 0 where
   pub contents : Option (List ℕ)
   pub pending : List ℕ
@@ -54,8 +54,7 @@ pub record Outlet : Type 0 where
 abbrev pub outlet : Option (List ℕ) → List ℕ → Outlet
 outlet contents pending = record { contents = contents; pending = pending }
 
--- a text came to the replies that were pending: a prefix of both was written, and the rest is
--- pending
+-- a text was added to the pending replies: a prefix of both was written, and the rest is pending
 pub record Gathers (old new : Outlet) (text : List ℕ) : Type 0 where
   pub written : List ℕ
   pub appended : Appends old.contents new.contents written

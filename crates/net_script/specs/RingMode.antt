@@ -42,7 +42,7 @@ ring_does queue (Write bytes) =
       record queue { bytes = queue.bytes ++ take count bytes },
       codes "took " ++ decimal count ++ codes "\n",
     )
--- as many bytes as are asked for and there leave it
+-- as many bytes as are asked for, if there are as many, leave it
 ring_does queue (Read number) =
     let count = min number (length queue.bytes) in (
       record queue { bytes = drop count queue.bytes },

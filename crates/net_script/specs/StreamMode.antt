@@ -1,7 +1,7 @@
 -- Mode stream: a schedule of segments and reads, or two of them, one after the other.
 --     StreamCommand, stream_command words      what a line says, if its words are a line of the mode
 --     runs_text runs, reply_text reply      runs, and a reply, as text
---     Outcome, comparison a b      what is compared of two schedules, and the line that says it
+--     Outcome, comparison a b      the values that two schedules are compared by, and the line that says the result
 --     ScheduleOps S, kept_schedule_ops      what represents a schedule: here a kept list and a count read
 --     Schedules S, first_schedule schedule_ops setting      the one or two schedules of an input
 --     stream_rules schedule_ops, stream_closing schedule_ops schedules      the rules of the mode, and what
@@ -28,7 +28,7 @@ pub data StreamCommand : Type 0 where
   ToReceiver : CommandValue → StreamCommand
   NextSchedule : StreamCommand
 
--- a segment, where both of its words are read
+-- a segment, if both of its words can be read
 abbrev pub segment_command : Option ℕ → Option (List ℕ) → Option StreamCommand
 segment_command (Some position) (Some bytes) = Some (ToReceiver (Segment position bytes))
 segment_command _ _ = None
@@ -89,38 +89,38 @@ reply_text (ShowReply next queued window held) =
     codes "next " ++ decimal next ++ codes " queued " ++ decimal queued
     ++ codes " window " ++ decimal window ++ codes " held " ++ runs_text held ++ codes "\n"
 
--- ---- what a schedule leaves
+-- ---- the outcome of a schedule
 
--- what is compared of two schedules: the count of bytes read, the first missing position, the bytes
--- from what was read to there, and the maximal runs of held positions
+-- the values that two schedules are compared by: the count of bytes read, the first missing
+-- position, the bytes from the read ones up to there, and the maximal runs of held positions
 pub record Outcome : Type 0 where
   pub read : ℕ
   pub next : ℕ
   pub queue : List ℕ
   pub held : List (ℕ × ℕ)
 
--- whether two runs are one
+-- whether two runs are equal
 abbrev pub same_run : ℕ × ℕ → ℕ × ℕ → Bool
 same_run a b = (a.0 == b.0) && (a.1 == b.1)
 
--- whether two outcomes are one
+-- whether two outcomes are equal
 abbrev pub same_outcome : Outcome → Outcome → Bool
 same_outcome a b =
     (a.read == b.read) && (a.next == b.next) && bytes_eq a.queue b.queue
     && pointwise same_run a.held b.held
 
--- the line that says whether two outcomes are one
+-- the line that says whether two outcomes are equal
 abbrev pub comparison : Outcome → Outcome → List ℕ
 comparison a b = if same_outcome a b then codes "same\n" else codes "differs\n"
 
 -- ---- rules
 
--- what represents a schedule: how one begins, and the operations of its receiver
+-- a representation of schedules: how one begins, and the operations of its receiver
 pub record ScheduleOps (S : Type 0) : Type 0 where
   pub begun : Setting → S
   pub receiver : Setting → ReceiverOps S
 
--- what a schedule is compared by in the end
+-- the values that a schedule is compared by in the end
 abbrev pub outcome : {S : Type 0} → ReceiverOps S → S → Outcome
 outcome ops s = record {
   read = ops.read s;
@@ -129,7 +129,7 @@ outcome ops s = record {
   held = maximal_runs (ops.held s);
 }
 
--- a schedule as what it kept and how much of it was read
+-- a schedule as its kept list and its count of bytes read
 abbrev pub kept_schedule_ops : ScheduleOps KeptState
 kept_schedule_ops = record { begun = λ w. fresh_kept; receiver = kept_ops }
 
@@ -176,7 +176,7 @@ module _ {S : Type 0} (schedule_ops : ScheduleOps S) where
       else Err faults.RangeTooLong
   stream_does schedules NextSchedule = next_schedule schedules schedules.ended
 
-  -- what the words of a line do, if they say something, and else the fault
+  -- what the words of a line do, if they are a line of the mode, and otherwise the fault
   abbrev pub stream_replies
       : Schedules S → Option StreamCommand → Result (Schedules S × List ℕ) Fault
   stream_replies schedules (Some command) = stream_does schedules command

@@ -1,5 +1,4 @@
--- What is written for the lines of an input, and which fault they have: for any mode, from what one
--- line does.
+-- The output for the lines of an input, and their first fault: for any mode, by what one line does.
 --     Rules S      what the words of a line do to a state
 --     text_of rules closing state lines, replies_of rules state lines      what is written
 --     first_fault rules n state lines, error_at n fault      the first fault, as an error
@@ -23,7 +22,7 @@ use Rattle.net_script.specs.declared.error.BenchError.TheVariants.{WriteFailed}
 abbrev pub Rules : Type 0 → Type 0
 Rules S = S → List (List ℕ) → Result (S × List ℕ) Fault
 
--- what a line does: one of more than 4,096 bytes is too long, whatever is in it
+-- what a line does: a line of more than 4,096 bytes is too long, whatever is in it
 abbrev pub line_step : {S : Type 0} → Rules S → S → List ℕ → Result (S × List ℕ) Fault
 line_step rules state line =
     if nat_lt 4096 (length line) then Err faults.LineTooLong else rules state (words_of line)
@@ -34,7 +33,7 @@ by_step go stop (Ok next) = go next.0 next.1
 by_step go stop (Err fault) = stop fault
 
 -- the text: the replies of the lines before the first with a fault, and `closing` of the last state
--- where none has one
+-- if none has one
 abbrev pub text_of : {S : Type 0} → Rules S → (S → List ℕ) → S → List (List ℕ) → List ℕ
 text_of rules closing state [] = closing state
 text_of rules closing state (line ∷ lines) =
@@ -59,7 +58,7 @@ first_fault rules n state (line ∷ lines) =
     by_step (λ next reply. first_fault rules (next_number n) next lines)
     (λ fault. Some (error_at n fault)) (line_step rules state line)
 
--- what a mode makes of the lines of an input
+-- the transcript of the lines of an input
 pub record Transcript : Type 0 where
   -- all that is written
   pub text : List (List ℕ) → List ℕ
@@ -68,7 +67,7 @@ pub record Transcript : Type 0 where
   -- the first fault, with the number of its line
   pub fault : List (List ℕ) → Option BenchError
 
--- what these rules make of lines, from a state on, the first line having the number n
+-- the transcript of lines by these rules, from a state on, the first line having the number n
 abbrev pub transcript : {S : Type 0} → Rules S → (S → List ℕ) → ℕ → S → Transcript
 transcript rules closing n state = record {
   text = text_of rules closing state;
@@ -92,7 +91,7 @@ ErrorOfLines all lines old new (TooManySchedules n) =
 -- whole replies of a prefix of the lines were written
 ErrorOfLines all lines old new OutOfMemory = (k : ℕ) × Appends old new (all.replies (take k lines))
 ErrorOfLines all lines old new WriteFailed = AppendsPrefix old new (all.text lines)
--- a failed read says nothing of these lines, but of those that came
+-- a failed read is no error of lines: ErrorOfInput says what it means
 ErrorOfLines all lines old new ReadFailed = ⊥
 
 -- what the error of `run` says of the input, of what is left of that, and of what the writer has

@@ -20,7 +20,7 @@ pub record SocketState : Type 0 where
 abbrev pub inbound_datagrams : SocketState → List (Endpoint × List ℕ)
 inbound_datagrams s = contents s.inbound
 
--- the datagrams that are to be sent, likewise
+-- the datagrams that are to be sent, each with its endpoint and its bytes, the first one first
 abbrev pub outbound_datagrams : SocketState → List (Endpoint × List ℕ)
 outbound_datagrams s = contents s.outbound
 

@@ -1,4 +1,4 @@
--- What a buffer has after many fragments.
+-- A buffer after many fragments.
 --     after_fragments b fs      the buffer after fragments
 --     last_byte p d fs      the byte at a position: that of the last fragment there
 --     LastFragmentStands, OldBytesAreGone      what the buffer then has
@@ -16,19 +16,19 @@ after_fragments b (f ∷ fs) = after_fragments (with_fragment b f.0 f.1) fs
 abbrev pub covers : ℕ → ℕ × List ℕ → Bool
 covers p f = nat_le f.0 p && nat_lt p (f.0 + length f.1)
 
--- the byte at a position: that of the last fragment that has one there, and d where none has
+-- the byte at a position: that of the last fragment that has one there, and d if none has
 abbrev pub last_byte : ℕ → ℕ → List (ℕ × List ℕ) → ℕ
 last_byte p d [] = d
 last_byte p d (f ∷ fs) = last_byte p (if covers p f then slice_index_or f.1 (p - f.0) d else d) fs
 
--- the byte at each position is that of the last fragment there, and where none is it is as it was
+-- the byte at each position is that of the last fragment there, and is as it was if there is none
 abbrev pub LastFragmentStands : Type 0
 LastFragmentStands = (b : FragmentsState) (fs : List (ℕ × List ℕ)) (p d : ℕ) → p < length b.bytes
     → slice_index_or (after_fragments b fs).bytes p d
     ≡ last_byte p (slice_index_or b.bytes p d) fs
 
--- at each position that came since nothing had come, the byte is that of the last fragment there, whatever was in the
--- buffer
+-- in a buffer that began with no fragment, the byte at each position that arrived is that of the last fragment there,
+-- whatever was in the buffer
 abbrev pub OldBytesAreGone : Type 0
 OldBytesAreGone = (b : FragmentsState) (fs : List (ℕ × List ℕ)) (p d : ℕ)
     → b.present ≡ nothing → p < length b.bytes

@@ -1,7 +1,7 @@
 -- A packet that arrives in fragments.
---     FragmentsState, state_code      what the buffer has come to, and its code
+--     FragmentsState, state_code      the state of a buffer, and its code
 --     Fits bytes total      a known size is at most that of the buffer
---     with_fragment b offset data', IsComplete b n      a fragment came, and all of them did
+--     with_fragment b offset data', IsComplete b n      a fragment arrived, and all bytes have
 use Rattle.std.specs.Prelude.{◌≡◌, ◌<◌, ◌≤◌, ⊤, ℕ, ℤ, List, Option, length, IsTrue, refl}
 use Rattle.std.specs.Coded.{Coded, code_by, coded×, coded_ℕ, coded_ℤ, coded_list, coded_option}
 use Rattle.std.specs.FinSet as set
@@ -9,7 +9,7 @@ use Rattle.std.specs.declared.option.Option.TheVariants.{Some, None}
 use Rattle.net_ring.specs.Overwrite.{overwrite}
 use Rattle.net_assembler.specs.Positions.{Positions, contains, with_range}
 
--- the bytes of the buffer, the positions that came, how many bytes the packet has, once that is
+-- the bytes of the buffer, the positions that arrived, how many bytes the packet has, once that is
 -- known, and the last moment at which it is waited for
 pub record FragmentsState : Type 0 where
   pub bytes : List ℕ
@@ -39,6 +39,6 @@ with_fragment b offset data' = record b {
   present = with_range b.present offset (length data');
 }
 
--- the packet has n bytes, and each of them came
+-- the packet has n bytes, and each of them arrived
 abbrev pub IsComplete : FragmentsState → ℕ → Type 0
 IsComplete b n = (b.total ≡ Some n) × ((p : ℕ) → p < n → IsTrue (contains b.present p))

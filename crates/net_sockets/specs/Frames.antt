@@ -30,12 +30,12 @@ module _ {A B : Type 0} (taken : A → List ℕ → A → Type 0) (sent : B → 
 
 module _ {A B : Type 0} (taken : A → List ℕ → A → Type 0) (is_idle : A → Type 0)
     (idled : A → A → Type 0) (is_busy : B → Type 0) (sent : B → List ℕ → B → Type 0) where
-  -- no frame passes: the one device has no room to send, or the other has none to hand over and
-  -- becomes what it then becomes
+  -- no frame passes: the second device has no room to send, or the first has no frame to hand over
+  -- and changes as it states
   abbrev pub Stops : A → A → B → Type 0
   Stops x x' y = (is_busy y × (x' ≡ x)) ⊎ (is_idle x × idled x x')
 
-  -- n frames passed, and then either these were as many as are to pass, or no other one passes
+  -- n frames passed, and then either these are as many as should pass, or no other one passes
   pub record ForwardsUpTo (max n : ℕ) (x x' : A) (y y' : B) : Type 0 where
     pub between : A
     pub passed : Forwards taken sent n x between y y'

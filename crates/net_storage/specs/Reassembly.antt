@@ -1,4 +1,4 @@
--- A buffer over which lists are written at offsets, and the set of the positions that were.
+-- A buffer over which lists are written at offsets, and the set of the positions that were written.
 --     is_in_writes p writes, newest_element writes p x      what the writes have at a position
 --     Reassembles writes buffer present      a buffer and a set of positions are what the writes make
 use Rattle.std.specs.Prelude.{◌≡◌, ℕ, ◌+◌, ◌-◌, ◌<◌, Bool, IsTrue, if◌then◌else◌}
@@ -11,11 +11,12 @@ module _ {X : Type 0} where
   abbrev pub is_in_write : ℕ → ℕ × List X → Bool
   is_in_write p write = lies_in p (write.0, write.0 + length write.1)
 
-  -- whether one of them has
+  -- whether one of the writes has an element there
   abbrev pub is_in_writes : ℕ → List (ℕ × List X) → Bool
   is_in_writes p writes = list_any (is_in_write p) writes
 
-  -- the element of the newest write that has one at p, the newest coming first; x if none has
+  -- the element of the newest write that has one at p, the newest being the first; x if no write
+  -- has one
   abbrev pub newest_element : List (ℕ × List X) → ℕ → X → X
   newest_element [] p x = x
   newest_element (write ∷ writes) p x =

@@ -1,8 +1,8 @@
--- A copier as the state of a copy, and what its steps do to a reader and a writer.
---     copy_state_of c reads given written status      a copier, what its reads to come give, what they gave
---         so far, and what was written
+-- A copier as the state of a copy, and its steps, with their effects on a reader and a writer.
+--     copy_state_of c reads given written status      a copier, the bytes of its reads to come, and of those
+--         so far, and the bytes written
 --     counts_of c      its counts
---     Begins s rounds chunk c, IsFresh c      nothing was done
+--     Begins s rounds chunk c, IsFresh c      a copy before its first turn
 --     Feeds chunk old new had has ended      a read, or none, and what it gave
 --     Passes chunk old new had has      a round, and what was written
 --     Breaks chunk error old new had has      a round that the error ended
@@ -41,7 +41,7 @@ counts_of c = record {
   frames = c.link.counts;
 }
 
--- nothing was done of a copy of this setup
+-- a copy of this setup before its first turn
 pub record Begins {A : Type 0} (s : Setup) (rounds chunk : ℕ) (c : Copier A) : Type 0 where
   pub first_fits : StartsFits s
   pub rounds_are : s.rounds ≡ rounds
@@ -79,7 +79,7 @@ pub record Passes {A : Type 0} (chunk : ℕ) (old new : Copier A) (had has : Opt
       → pass chunk (copy_state_of old later given before Running)
       ≡ copy_state_of new later given (before ++ written) Running
 
--- a round that the error ended, and what of it was written
+-- a round that the error ended, and which bytes of it were written
 pub record Breaks {A : Type 0} (chunk : ℕ) (error : CopyError) (old new : Copier A) (had has : Option (List ℕ))
     : Type 0 where
   pub link : LinkState

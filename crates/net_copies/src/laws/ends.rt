@@ -67,8 +67,8 @@ pub fn counts()
     known_of_rounds();
 }
 
-/// States what a copy that gives up has counted: at least `rounds` rounds, and at least as many
-/// frames and acknowledgements that were lost or delayed, of which at most one was not lost. If it
+/// States what a copy that gives up has counted: at least `rounds` rounds, at least `rounds` frames
+/// and acknowledgements that were lost or delayed, and at least `rounds - 1` that were lost. If it
 /// read less than the sender has room for, it hasn't written all that it read.
 pub fn gives_up_counted()
     ensures rounds { GivesUpCounted }
