@@ -260,7 +260,7 @@ module _ (known : KnownOfRounds) where
       subst (λ k. k ≤ (after s reads (suc m)).rounds * s.chunk) (sym last.0)
       (subst (λ k. length (after s reads m).given ≤ k * s.chunk) (sym last.1) (taken_few s reads fits m on)))) n
 
-  -- ---- where all come at once
+  -- ---- if all arrive in their rounds
   module _ (s : Setup) (reads : List (List ℕ)) (come : AllCome s.fates) (come_reverse : AllCome s.ack_fates) where
     -- the sender keeps what the receiver lacks, and each round wrote some
     abbrev AtOnce : CopyState → Type 0

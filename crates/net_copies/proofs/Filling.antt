@@ -1,4 +1,4 @@
--- Readers that fill what they are asked for: what comes of a copy depends on their bytes alone.
+-- Readers that fill each read: the outcome of a copy depends only on their bytes.
 use Rattle.std.proofs.Common.{◌≡◌, ◌⊎◌, ◌&&◌, ℕ, zero, suc, ◌+◌, ◌≤◌, ◌<◌, nat_lt, nat_le, not, Bool, true, false, cond, List, [], ◌∷◌, ◌++◌, length, take, drop, refl, sym, ap, subst, ◌∙◌, arith, ⊎_elim, inr, length-drop}
 use Rattle.std.proofs.lemmas.Bool.{and_parts, both_ways, ltb-true}
 use Rattle.std.proofs.lemmas.List.{append-nil, take-append-le}

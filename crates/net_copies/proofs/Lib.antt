@@ -1,4 +1,4 @@
--- The lemmas behind the contracts.
+-- The lemmas that the proofs of contracts cite.
 pub mod Parts
 pub mod Spared
 pub mod Invariant

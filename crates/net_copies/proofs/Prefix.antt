@@ -1,4 +1,4 @@
--- What is written is a prefix of what was read, turn by turn, from the functions alone.
+-- The bytes written are a prefix of the bytes read, turn by turn, by the functions alone.
 use Rattle.std.proofs.Common.{◌≡◌, ℕ, ◌+◌, ◌-◌, ◌≤◌, ◌<◌, min, nat_eq, nat_lt, Bool, true, false, List, [], ◌∷◌, ◌++◌, length, take, drop, refl, sym, ap, subst, ◌∙◌, arith, ⊎_elim, length-append, length-take, length-drop, take-add, append_assoc}
 use Rattle.std.specs.Io.{StartsWith}
 use Rattle.std.proofs.lemmas.Bool.{and_parts, both_ways, cases_lt, eqb-true, ltb-true, ltb-false}

@@ -30,7 +30,7 @@ pub more_still : (n n' b b' r r' f x x' : ℕ) → b' ≡ b → r' ≡ r → min
     n' ≤ (b' - f) + r' + x'
 more_still n n' b b' r r' f x x' same same_read more one few = omega arith
 
--- ---- where every frame comes at once
+-- ---- if every frame arrives in its round
 pub coming_all : (v : FatesState) (frames : List (List ℕ)) → NextCome (length frames) v → coming_of v frames ≡ frames
 coming_all v [] come = refl
 coming_all v (x ∷ xs) come =

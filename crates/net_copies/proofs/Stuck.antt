@@ -250,8 +250,8 @@ FirstFrame head end parts = (xs : List ℕ) × (rest : List (List ℕ)) × (fram
 abbrev HasMissing : ℕ → List (List ℕ) → Type 0
 HasMissing n frames = FirstMatches frames (λ p e. (p ≤ n) × (n < e) × (e < 2 ^ 64))
 
--- the receiver lacked the first byte that the sender keeps, and the first frame, which has it, didn't come at once; or it had
--- that byte, and no acknowledgement came at once
+-- the receiver lacked the first byte that the sender keeps, and the first frame, which has it, didn't arrive in its round; or it had
+-- that byte, and no acknowledgement arrived in its round
 abbrev Lacked : (old new : LinkState) → Passes old new → Type 0
 Lacked old new p =
     (HasMissing (next_position old.receiver) p.sent.in_flight × (0 < length p.sent.in_flight) × (comes (next_fate old.forward.fates) ≡ false))
@@ -426,7 +426,7 @@ first_fails v (x ∷ xs) some none =
 le_refl : (n : ℕ) → n ≤ n
 le_refl n = omega arith
 
--- what doesn't come at once is lost or is delayed
+-- a frame that doesn't arrive in its round is lost or delayed
 all_fail : (follow : ℕ) (v : FatesState) (frames : List (List ℕ)) → coming_of v frames ≡ [] → (0 < follow → delayed_of v frames ≡ []) →
     AllFail follow (length frames) v
 all_fail follow v [] none never = tt

@@ -216,7 +216,7 @@ module _ {H : Type 0} where
   close_size [] = refl
   close_size (p ∷ ps) = refl
 
-  -- the bytes of a packet that was taken off lie before the read index
+  -- the bytes of a packet that was taken off are before the read index
   rest_bytes : (ps : List (Packet H)) → bytes_used (drop 1 ps) + first_size ps ≤ bytes_used ps
   rest_bytes [] = omega arith
   rest_bytes (p ∷ ps) = omega arith
@@ -289,7 +289,7 @@ module _ {H : Type 0} where
       let l = last_contents q ok ws some long in
       l.4 ∙ sym (last_entry l.0 l.1 l.2 ws) ∙ ap (with_bytes_in_last_entry ws) (sym l.3)
 
-  -- what was taken off stands before the read index
+  -- the packet that was taken off is before the read index
   taken_bytes : (q : PacketsState H) → IsWellPlaced q → (s : ℕ) → s ≡ first_size q.packets
       → (last_dequeued_bytes (without_first_and_gap q) s ≡ first_bytes (without_gap q)) × (length (last_dequeued_bytes (without_first_and_gap q) s) ≡ s)
   taken_bytes q ok s is =
@@ -310,7 +310,7 @@ module _ {H : Type 0} where
       order.shown q ok hd (last_dequeued_bytes (without_first_and_gap q) s) (sized, t.0)
       ∙ ap (λ l. (hd, last_dequeued_bytes (without_first_and_gap q) s) ∷ l) (sym (order.left q ok))
 
-  -- what stands before the read index is written over itself
+  -- the bytes before the read index are written over themselves
   pub last_dequeued_stay : (q : PacketsState H) (s : ℕ) (ws : List ℕ) → ws ≡ last_dequeued_bytes q s → with_bytes q (last_dequeued_bytes_index q s) ws ≡ q
   last_dequeued_stay q s ws is = ap (with_bytes q (last_dequeued_bytes_index q s)) is
       ∙ ap (λ (st : List ℕ). mk q.slot_count st q.read_at q.packets) (overwrite-same q.storage (last_dequeued_bytes_index q s) s)

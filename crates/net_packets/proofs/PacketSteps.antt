@@ -358,7 +358,7 @@ module _ {H : Type 0} where
   first_or d [] = d
   first_or d (x ∷ xs) = x
 
-  -- the slot that stands first is that of the first packet
+  -- the first slot is that of the first packet
   pub head_is : (ps : List (Packet H)) (x : PacketMetadata H) (ms : List (PacketMetadata H)) → x ∷ ms ≡ packet_slots ps → first_gap ps ≡ 0
       → (p : Packet H) × (ps ≡ p ∷ drop 1 ps) × (x ≡ slot p.size (Some p.header)) × (ms ≡ packet_slots (drop 1 ps)) × (p.gap ≡ 0)
   head_is [] x ms e z = absurd (let n = ap length e in omega (arith, n))
@@ -454,7 +454,7 @@ module _ {X : Type 0} where
       let all : overwrite (z ∷ drop 1 q) 0 (y ∷ []) ≡ y ∷ drop 1 q = ap (λ l. y ∷ l) (take_all (length (drop 1 q)) (drop 1 q) (omega arith)) in
       (i ∙ ap (head_or w) whole, en ∙ ap (λ l. overwrite l 0 (y ∷ [])) f ∙ all)
 
-  -- the only element that stands at the end
+  -- the only element at the end
   pub last_read : (ms : List X) (y : X) (l : List X) (k n : ℕ) (x : X) → k ≡ length ms → l ≡ take n (drop k (ms ++ (y ∷ []))) → Some x ≡ slice_get l 0 → x ≡ y
   last_read ms y l k n x ek e i =
       let q : drop k (ms ++ (y ∷ [])) ≡ y ∷ [] = drop_at ms (y ∷ []) k (sym ek) in

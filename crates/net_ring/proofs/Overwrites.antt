@@ -39,7 +39,7 @@ module _ {X : Type 0} where
       ∙ pick i k (length ws) (get_or ws (k - i) x) (get_or xs k x) (get_or (uncut xs i ws) k x) (before xs ws i k x h) (inside xs ws i k x h)
       (behind xs ws i k x h)
 
-  -- the first n elements of a list, and what stands behind as many
+  -- the first n elements of a list, and those after as many
   take_and_rest : (xs : List X) (n : ℕ) → take n xs ++ drop (length (take n xs)) xs ≡ xs
   take_and_rest xs zero = refl
   take_and_rest [] (suc n) = refl

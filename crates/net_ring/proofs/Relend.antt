@@ -132,7 +132,7 @@ module _ {M : Type 1} {𝓤 : Ura M} (𝓛 : Logic 𝓤) (ℓ : Lifetime) (κ : 
         ((coded_list R.coded).code xs) x) $ await ! tt $ pick ! (λ δ. split3 ! $
         feq_i ! (List Val) (vptr b p ∷ []) (vptr b p ∷ []) refl $ fjoin3 ! $ now ! $ show ! ItemLent δ $ done !)
 
--- the element behind a prefix part is what the list has there
+-- the element after a prefix is the one that the list has there
 pub here_or : {X : Type 0} (prefix back : List X) (x : X) (xs : List X) (m : ℕ) → length prefix ≡ m → xs ≡ prefix ++ (x ∷ back) → x ≡ get_or xs m x
 here_or [] back x xs m e cut = rw (cut, sym e) refl
 here_or (y ∷ ys) back x xs m e cut = rw (cut, sym e) (here_or ys back x (ys ++ (x ∷ back)) (length ys) refl refl)

@@ -697,7 +697,7 @@ rewind_cases b = elim (cases_eq b.count 0) [
 pub rewind_wf : {T : Type 0} (b : RingState T) → IsWellFormed b → IsWellFormed (from_start_if_empty b)
 rewind_wf b wf = elim (rewind_cases b) [ inl h ↦ subst IsWellFormed (sym h.1) (inl refl, omega arith) | inr h ↦ subst IsWellFormed (sym h.1) wf ]
 
--- the index of an element that a ring can hold lies below the storage's end
+-- the index of an element that a ring can hold is below the storage's end
 storage_index_below : (c r j : ℕ) → j < c → (if nat_lt j (c - r) then r + j else j - (c - r)) < c
 storage_index_below c r j l =
     ⊎_elim (λ (a : j < c - r). subst (λ (p : ℕ). p < c) (sym (cond-true _ _ _ (lt-ltb j (c - r) a))) (omega arith))
@@ -760,7 +760,7 @@ take_first [] zero e = refl
 take_first [] (suc k) e = absurd (omega (arith, e))
 take_first (x ∷ q) k e = let one : k ≡ 1 = omega (arith, e) in ap (λ n. take n (x ∷ q)) one
 
--- and what stands first in it
+-- and its first element
 pub first_taken : {T : Type 0} (q l : List T) → l ≡ take 1 q → slice_get l 0 ≡ slice_get q 0
 first_taken [] l e = ap (λ o. slice_get o 0) e
 first_taken (x ∷ q) l e = ap (λ o. slice_get o 0) e

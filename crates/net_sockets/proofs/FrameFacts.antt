@@ -13,7 +13,7 @@ module _ {D : Type 0} (step : D → List ℕ → D → Type 0) (view : D → Lis
   abbrev pub TakesFirst : Type 0
   TakesFirst = (x : D) (f : List ℕ) (y : D) → step x f y → view x ≡ f ∷ view y
 
-  -- a step puts the element behind the list that is seen
+  -- a step appends the element to the list that contracts see
   abbrev pub PutsLast : Type 0
   PutsLast = (x : D) (f : List ℕ) (y : D) → step x f y → view y ≡ view x ++ (f ∷ [])
 

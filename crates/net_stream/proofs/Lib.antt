@@ -1,3 +1,3 @@
--- The lemmas behind the contracts.
+-- The lemmas that the proofs of contracts cite.
 pub mod Loops
 pub mod Copied
