@@ -13,7 +13,7 @@ FILES = [
     "storage/mod.rs", "storage/assembler.rs", "storage/packet_buffer.rs", "storage/ring_buffer.rs",
     "phy/mod.rs", "phy/loopback.rs", "rand.rs", "time.rs",
 ]
-# The crates of the port's workspace that stand in folders here.
+# The crates of the port's workspace whose folders are here.
 STATIC_LIBRARIES = {"net_replay": ["port", "calls"], "net_perf": ["perf"]}
 
 

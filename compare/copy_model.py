@@ -1,4 +1,4 @@
-"""A model of `copy`, written from docs/LINK.md alone: the rows of net_stream_tests.
+"""A model of `copy`, written only from docs/LINK.md: the rows of net_stream_tests.
 
     python3 compare/copy_model.py > crates/net_stream_tests/src/counted/rows.rt
     (cd crates/net_stream_tests && rt fmt)

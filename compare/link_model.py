@@ -1,4 +1,4 @@
-"""A model of net_link, written from docs/LINK.md alone, beside the program: statuses, outputs, lines of counts.
+"""A model of net_link, written only from docs/LINK.md, compared with the program: statuses, outputs, lines of counts.
 
     python3 compare/link_model.py PROGRAM [--cases 1000] [--seed 1]
     python3 compare/link_model.py --gives-up [--copies 40]

@@ -1,4 +1,4 @@
-"""One direction of a link, a receiver, a sender and a round, written from docs/LINK.md alone: what the models of `copy`
+"""One direction of a link, a receiver, a sender and a round, written only from docs/LINK.md: what the models of `copy`
 and of net_link share.
 """
 

@@ -36,7 +36,7 @@ def run(program, words, source, target):
 
 
 def svg(points):
-    """Bytes sent again for each byte of the stream, by loss, over what lost frames alone would cost."""
+    """The plot: bytes sent again for each byte of the stream, by loss, and the least that lost frames cost."""
     most = max([0.5, *(again for _, again in points)])
     x = lambda loss: LEFT + (WIDTH - LEFT - RIGHT) * loss / LOSSES[-1]
     y = lambda again: HEIGHT - BOTTOM - (HEIGHT - BOTTOM - TOP) * again / most

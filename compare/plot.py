@@ -11,7 +11,7 @@ def svg(rows):
     """A line for each row: the ratio to the original over placements, from the lowest to the highest, over the
     original's by itself.
 
-    What lies outside the ticks is drawn at the edge.
+    Values outside the ticks are drawn at the edge.
     """
     low, high = TICKS[0], TICKS[-1]
     scale = (WIDTH - LEFT - RIGHT) / math.log(high / low)

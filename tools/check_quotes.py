@@ -1,16 +1,16 @@
 #!/usr/bin/env python3
 """Looks for what the pages quote and name in the sources.
 
-In doc comments of crates/*/src, each block between ``` lines is an example: it has to stand, line by line, in a file
-of one of EXAMPLES, crates that the gate proves, and to name the item that it is a comment of. The pages are README.md, CONTRIBUTING.md, docs/*.md and crates/*/CALLING.md. Of their blocks
-between ``` lines,
+In doc comments of crates/*/src, each block between ``` lines is an example: it has to be found, line by line, in a file
+of one of EXAMPLES, crates that the gate proves, and to name the item that it documents. The pages are README.md,
+CONTRIBUTING.md, docs/*.md and crates/*/CALLING.md. Of their blocks between ``` lines,
 
-- one marked `rust` has to stand, line by line, in one file crates/*/src/**/*.rt, which the prover checks. How
-  far it is indented doesn't matter, nor does the attribute `#![tactic(auto)]`, which stands in each crate's
+- one marked `rust` has to be found, line by line, in one file crates/*/src/**/*.rt, which the prover checks. How
+  far it is indented doesn't matter, nor does the attribute `#![tactic(auto)]`, which each crate has in its
   root;
-- of one marked `text`, which tells contracts, each line that has a clause in braces has to stand in one file,
-  in order, but for a remark behind two spaces or more. Of each other function in it, `fn NAME` or
-  `fn TYPE::NAME`, a function of this name has to stand in the sources of the page's crate, and have each clause
+- of one marked `text`, which shows contracts, each line that has a clause in braces has to be found in one file,
+  in order, except a remark after two spaces or more. Of each other function in it, `fn NAME` or
+  `fn TYPE::NAME`, a function of this name has to be in the sources of the page's crate, and have each clause
   that the block names, as `ensures NAME:` or `ensures NAME, NAME:`. What a clause says is compared too, `S`
   standing for what `self` points to before a call and `S'` for that after it: it says how many clauses are
   quoted and how many retold, in other words or shortened.
@@ -97,8 +97,8 @@ def without_root_attribute(lines):
     return lines
 
 
-def stands_in(block, source):
-    """Whether the block stands in the source's lines, indented by any number of spaces."""
+def has_block(block, source):
+    """Whether the source's lines have the block, indented by any number of spaces."""
     first = block[0]
     for start, line in enumerate(source[: len(source) - len(block) + 1]):
         if line.strip() == first.strip():
@@ -107,8 +107,8 @@ def stands_in(block, source):
     return False
 
 
-def stands_in_order(block, source):
-    """Whether each line of the block, but for its remark, stands in the source, in this order."""
+def has_in_order(block, source):
+    """Whether the source has each line of the block, without its remark, in this order."""
     lines = iter(line.strip() for line in source)
     return all(re.split(r"\s{2,}", line.strip())[0] in lines for line in block if line.strip())
 
@@ -196,7 +196,7 @@ def is_named(name, known):
 
 
 def spans(page):
-    """Each part of a page's prose between backquotes, with its line's number and what is behind it there."""
+    """Each part of a page's prose between backquotes, with its line's number and the text after it there."""
     in_block = False
     for number, line in enumerate(page.read_text().splitlines(), 1):
         if line.strip().startswith("```"):
@@ -270,16 +270,16 @@ def main():
     for page in pages:
         for number, block in blocks(page, "rust"):
             block = dedented(without_root_attribute(block))
-            if block and any(stands_in(block, source) for source in sources):
+            if block and any(has_block(block, source) for source in sources):
                 counts["blocks"] += 1
             else:
-                miss(page, number, f"stands in no source: {block[:1]}")
+                miss(page, number, f"is in no source: {block[:1]}")
         for number, block in blocks(page, "text"):
             if any(re.match(r"\s*(ensures|requires)[^:]*\{", line) for line in block):
-                if any(stands_in_order(block, source) for source in sources):
+                if any(has_in_order(block, source) for source in sources):
                     counts["blocks"] += 1
                 else:
-                    miss(page, number, f"stands in no source: {block[:1]}")
+                    miss(page, number, f"is in no source: {block[:1]}")
                 continue
             for name, clauses in told(block):
                 here = known.get(page.parent, {}).get(name)
@@ -299,8 +299,8 @@ def main():
     ]
     for path in sorted(ROOT.glob("crates/*/src/**/*.rt")):
         for number, block, name in examples(path):
-            if not block or not any(stands_in(dedented(block), source) for source in proved):
-                miss(path, number, f"stands in no example: {block[:1]}")
+            if not block or not any(has_block(dedented(block), source) for source in proved):
+                miss(path, number, f"is in no example: {block[:1]}")
             elif name is None or name not in NAME.findall("\n".join(block)):
                 miss(path, number, f"an example that doesn't name {name}")
             else:
@@ -325,10 +325,10 @@ def main():
             lines = re.match(r",? (\d+) lines", behind)
             if lines and not has_lines(span, int(lines.group(1))):
                 miss(page, number, f"{span} hasn't {lines.group(1)} lines")
-    print(f"{counts['blocks']} quoted blocks stand in the sources")
-    print(f"{counts['examples']} examples of doc comments stand in {', '.join(EXAMPLES)}")
+    print(f"{counts['blocks']} quoted blocks are in the sources")
+    print(f"{counts['examples']} examples of doc comments are in {', '.join(EXAMPLES)}")
     print(f"of the contracts that pages tell, {counts['quoted']} clauses are quoted and {counts['retold']} retold")
-    print(f"{missing} things stand in no source")
+    print(f"{missing} things are in no source")
     return 1 if missing else 0
 
 

@@ -5,17 +5,17 @@
     python3 tools/edits.py --log FILE             all edits, by what `rt ci` printed into a file
     python3 tools/edits.py --open CRATE EDIT      the goals that are open with this edit and not without
 
-An edit has a line `clause: FUNCTION CLAUSE` beside those that `rt` reads: the function as `rt check
---only` takes it, and the name of one of its `ensures`, or `ensures` where the contract has a single
-one without a name, or is proved as one goal, as that of a call that lends. `rt must-fail`, and so `rt ci`, prints the first goal that is open with the edit,
-where it arises in the source or where an answer to it fails; that has to be a goal of this clause of this
-function.
-A condition of a callee, what a loop keeps, and a name that a proof no longer finds refuse an edit too,
-and say nothing of the contract.
+An edit has a line `clause: FUNCTION CLAUSE` besides those that `rt` reads: the function as `rt check
+--only` takes it, and the name of one of its `ensures`. The name is `ensures` if the contract has a
+single clause without a name, or is proved as one goal, as that of a call that lends. `rt must-fail`, and
+so `rt ci`, prints the first goal that is open with the edit, where it arises in the source or where an
+answer to it fails; that has to be a goal of this clause of this function. A callee's precondition, a
+loop's invariant, and a name that a proof no longer finds refuse an edit too, and say nothing of the
+contract.
 
-An answer may fail because the clause is false with the edit, or because what it names lost its shape.
+An answer may fail because the clause is false with the edit, or because a value that it names changed.
 So `--open` takes the function's answers away, checks it with and without the edit, and prints the
-goals that are open with the edit alone, and those that are open in both, of which it says nothing.
+goals that are open only with the edit, and those that are open in both, which say nothing.
 
 Ends with status 1 if an edit has no such line or another goal refuses it.
 """
@@ -34,7 +34,7 @@ FAILED_ANSWER = re.compile(r"proofs/(\S+)/\w+\.antt:\d+:\d+: error: (?:\d+ decla
 
 
 def lines_of(edit, word):
-    """What stands behind this word in the lines of an edit."""
+    """The texts after this word in the lines of an edit."""
     return [it[len(word) + 2 :] for it in edit.read_text().split("\n") if it.startswith(f"{word}: ")]
 
 
@@ -54,14 +54,14 @@ def edited(folder, edit):
 
 
 def function_at(text, line):
-    """The name of the function in which a line of a text stands."""
+    """The name of the function that has a line of a text."""
     names = re.findall(r"\bfn (\w+)", "\n".join(text.split("\n")[:line]))
     return names[-1] if names else ""
 
 
 def clause_of(goal):
-    """The clause that a goal belongs to, if it is one of what a function ensures. A lemma beside the
-    answers that several of them cite is named by the clause that it states.
+    """The clause that a goal belongs to, if it is one of what a function ensures. A lemma that
+    several answers cite is named by the clause that it states.
     """
     if not goal.startswith("returns"):
         return goal

@@ -4,8 +4,8 @@
 
 It looks at the provers among its own children every 2 seconds, so the last seconds of each check are missing
 from its row, and a check that is shorter may be missing altogether; what the whole gate took, LLVM and the
-runs of tests included, is counted by the system and stands below the table. Other provers of the machine
-aren't counted. The output of `rt ci` goes to standard error. Linux alone.
+runs of tests included, is counted by the system and is printed below the table. Other provers of the machine
+aren't counted. The output of `rt ci` goes to standard error. Linux only.
 """
 import collections
 import os

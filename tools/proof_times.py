@@ -2,7 +2,7 @@
 
     (cd crates/net_ring && rm -rf out && rt check --jobs 1) && python3 tools/proof_times.py net_ring [ROWS]
 
-A check with one job proves one thing after another and writes a file behind each, so the time between
+A check with one job proves one thing after another and writes a file after each, so the time between
 two files is what the second took; with more jobs it may be counted for a neighbour. A crate's own time alone
 is counted: the libraries below it have an `out` of their own.
 """

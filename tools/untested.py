@@ -5,15 +5,15 @@
 
 Public are a `pub fn` that a user of the crate reaches by `pub mod` and `pub use`, each `pub fn` of a
 type that is reached so, and each method of a trait of ours, of the trait and of each of its types.
-Left out are modules `laws`, other functions whose body is empty or calls nothing but such laws, traits of
+Left out are modules `laws`, other functions whose body is empty or calls only such laws, traits of
 std, most of whose methods are called by an operator or written by a derive, and traits of ours that no
 library implements: their users write the methods, and the library calls them.
 
 Tests and examples are the crates *_tests, net_examples, net_cases, whose rows are run, and the files tests.rt.
 Named there is
 - a function where it is called in a file that brings it in by `use`, or by a path that ends in it;
-- an associated function where `Type::name` stands, with the type or an alias of it;
-- a method where `.name` stands behind something of its type: a parameter, a field, a `let` of a
+- an associated function where the text has `Type::name`, with the type or an alias of it;
+- a method where `.name` follows something of its type: a parameter, a field, a `let` of a
   call whose result is declared, or a chain of these. Where the type can't be told, `.name` counts
   if just one of the types that the file names has it, or if the file is that type's own
   (`assembler.rt` for `Assembler`). A method of a trait counts by each of the trait's types.
@@ -55,7 +55,7 @@ def closing(text, at, step=1):
 
 
 def behind_generics(text, at):
-    """The index behind the `<..>` that begins at an index, if one does."""
+    """The index after the `<..>` that begins at an index, if one does."""
     depth = 0
     for index in range(at, len(text)):
         depth += (text[index] == "<") - (text[index] == ">" and text[index - 1] not in "-=")
@@ -232,7 +232,7 @@ class TestFile:
             self.read_call(body, it.start(), it[1], known)
 
     def read_call(self, body, dot, name, known):
-        """Notes a method that is called behind the dot at an index."""
+        """Notes a method that is called after the dot at an index."""
         having = self.library.having(name)
         if not having:
             return

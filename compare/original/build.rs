@@ -1,4 +1,4 @@
-//! Lays out smoltcp's files, as they stand in the checkout that `SMOLTCP` names, as the modules of this
+//! Lays out smoltcp's files, as they are in the checkout that `SMOLTCP` names, as the modules of this
 //! crate. The number of runs of the assembler is the one in the package's name.
 use std::path::{Path, PathBuf};
 use std::{env, fs, process};

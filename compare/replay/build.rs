@@ -1,6 +1,6 @@
 //! Lays out the calls of `../calls` as modules of this program, and links the port.
 //!
-//! They are Rattle, and Rust but for lines that are proofs alone, which are left out.
+//! They are Rattle, and also Rust once lines that are only proofs are left out.
 #[path = "../link.rs"]
 mod link;
 
@@ -24,7 +24,7 @@ fn main() {
     fs::write(Path::new(&out).join("calls.rs"), root).expect("OUT_DIR can be written");
 }
 
-/// A module's text without what is proof alone, with more derives, and with the traits of `side` in scope.
+/// A module's text without lines that are only proofs, with more derives, and with the traits of `side` in scope.
 fn rust(text: &str) -> String {
     let proof = |line: &&str| line.trim_start().starts_with("ghost ") || *line == "#[derive(Drop)]";
     let lines = text.lines().filter(|line| !proof(line)).map(|line| match line {

@@ -2,7 +2,7 @@
 //! a type of std, and smoltcp; with `--count` runs each row for a counter of instructions.
 //!
 //! `driver PORT.so[:..] ORIGINAL.so[:..] [--peers | --count] [--samples N] [--milliseconds N] [--only WORD]`: a
-//! line of words, parted by tabs, for each row. Status 1 if a checksum, the storage or the sink differs.
+//! line of words, separated by tabs, for each row. Status 1 if a checksum, the storage or the sink differs.
 mod rows;
 
 use peers::PEERS;
@@ -152,8 +152,8 @@ fn time(group: &str, row: &Row, ports: &[Workload], originals: &[Workload], samp
     print(group, &row.name, &numbers);
 }
 
-/// Times a row beside a type of std: nanoseconds a call of std and of the port, and the ratios of the port and of
-/// smoltcp to it.
+/// Times a row, and the same calls on a type of std: nanoseconds a call of std and of the port, and the ratios of the
+/// port and of smoltcp to it.
 fn time_beside(group: &str, name: &str, row: &Row, sides: [Workload; 3], samples: usize, nanoseconds: f64) {
     let (times, calls) = times(row, &sides, samples, nanoseconds);
     let call = |at: usize| median(&times[at]) / calls;

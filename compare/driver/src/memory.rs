@@ -1,7 +1,7 @@
 //! How much memory it takes to hold each second byte of 65,536 before the first one has come: the positions
 //! 1, 3, .., 65,535, in this order, a byte each.
 //!
-//! A line of words, parted by tabs, for each type: its name, how many bytes it holds, how many it refuses, how
+//! A line of words, separated by tabs, for each type: its name, how many bytes it holds, how many it refuses, how
 //! many bytes of memory it has, and how many C's allocator spends on them. Status 101 if the port doesn't hold
 //! and refuse what smoltcp does.
 #[path = "../../side_port/src/port.rs"]

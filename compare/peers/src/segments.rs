@@ -17,7 +17,7 @@ impl Segments {
         Segments { queue: Ring::new(capacity), held: BTreeMap::new(), next: 0 }
     }
 
-    /// Queues bytes; of those from `position` on what lies before `next` is queued already.
+    /// Queues bytes from `position` on; those before `next` are queued already.
     fn enqueue(&mut self, position: u64, bytes: &[u8]) -> usize {
         let old = (self.next - position).min(bytes.len() as u64) as usize;
         let count = self.queue.enqueue_slice(&bytes[old..]);
@@ -27,7 +27,7 @@ impl Segments {
 }
 
 impl Stream for Segments {
-    /// Keeps what of the bytes lies in the window. None is refused.
+    /// Keeps the bytes that are in the window. None is refused.
     fn segment(&mut self, position: u64, bytes: &[u8]) -> Option<Segment> {
         let end = self.next + self.queue.window() as u64;
         let old = self.next.saturating_sub(position).min(bytes.len() as u64) as usize;

@@ -24,7 +24,7 @@ impl<const N: usize> Assembler for Tree<N> {
         }
         let start = self.base + offset;
         let mut end = start + size;
-        // From behind: the runs that begin by the range's end and reach its start.
+        // From the last one on: the runs that begin by the range's end and reach its start.
         while let Some((&first, last)) = self.runs.range_mut(..=end).next_back() {
             if *last < start {
                 break;

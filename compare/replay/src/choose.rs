@@ -64,7 +64,7 @@ fn all(title: &'static str, subjects: Vec<Subject>, calls: Vec<Call>, length: u3
     Group { how: "enumerated", name: format!("{title}, {length} calls"), count, script: Box::new(script) }
 }
 
-/// The calls of these numbers, each with each pair of arguments beside them.
+/// The calls of these numbers, each with each of these pairs of arguments.
 fn calls(table: &[(&[u64], &[(u64, u64)])]) -> Vec<Call> {
     let mut all = Vec::new();
     for (numbers, pairs) in table {

@@ -41,7 +41,7 @@ impl<const N: usize> Receiver<'_, N> {
         self.assembler.iter_data().into_iter().map(|(start, end)| (at(start), at(end))).collect()
     }
 
-    /// What lies before the next position or past the window is cut off; the rest is noted, and written where
+    /// Bytes before the next position or past the window are cut off; the rest is noted, and written where
     /// there is room for its run; what is then contiguous joins the queue.
     pub fn segment(&mut self, pos: u64, bytes: &[u8]) -> Result<Kept, ()> {
         let (next, window) = (self.next(), self.window() as u64);

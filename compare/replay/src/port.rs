@@ -31,7 +31,7 @@ pub fn run(script: &Script) -> Vec<Seen> {
     let (calls, mut storage) = (&script.calls, vec![0; capacity]);
     let mut seen = vec![Seen::default(); calls.len() + 1];
     let (place, places) = (seen.as_mut_ptr(), seen.len());
-    // Each pointer is that of a live slice of the length beside it, as the function wants.
+    // Each pointer is that of a live slice of the length next to it, as the function requires.
     unsafe {
         let storage = storage.as_mut_ptr();
         nr_replay(kind, first, count, storage, capacity, calls.as_ptr(), calls.len(), place, places);

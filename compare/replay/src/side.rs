@@ -103,7 +103,7 @@ fn send(mut token: impl TxToken, call: Call) -> u64 {
     token.consume(call.a as usize, |frame| write_over(frame, call.byte))
 }
 
-/// What `push_slice` and `pop_slice` stand for.
+/// `push_slice` and `pop_slice`, by smoltcp's own calls.
 pub trait Copies<H> {
     fn push_slice(&mut self, header: H, data: &[u8]) -> Result<(), Full>;
     fn pop_slice(&mut self, into: &mut [u8]) -> Result<(H, usize), Empty>;
@@ -213,7 +213,7 @@ impl<const N: usize> Assembler<N> {
         with!(self, runs => runs.iter_data().collect())
     }
 
-    /// What `run_at` stands for.
+    /// `run_at`, by smoltcp's own calls.
     pub fn run_at(&self, k: usize) -> Option<(usize, usize)> {
         with!(self, runs => runs.iter_data().nth(k))
     }

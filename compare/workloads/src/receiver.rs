@@ -104,7 +104,7 @@ impl<'a, A: Assembler> Receiver<'a, A> {
         self.ring.window()
     }
 
-    /// Keeps what of the bytes lies in the window; None if they would make too many runs.
+    /// Keeps the bytes that are in the window; `None` if they would make too many runs.
     #[inline]
     pub fn segment(&mut self, position: u64, bytes: &[u8]) -> Option<Segment> {
         let next = self.next();

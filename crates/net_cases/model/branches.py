@@ -33,7 +33,7 @@ class Test(Question):
 
 
 class Order(Question):
-    """How two numbers lie: whether the first is below the second, equal or above."""
+    """The order of two numbers: whether the first is below the second, equal or above."""
 
     def __init__(self, name, answers=("below", "equal", "above")):
         super().__init__(name, answers)

@@ -65,7 +65,7 @@ class Random:
 
 
 class Cases:
-    """The lines of the cases, in blocks that are parted by an empty line, with their replies."""
+    """The lines of the cases, in blocks that are separated by an empty line, with their replies."""
 
     def __init__(self):
         self.lines, self.replies, self.parts = [], [], {}

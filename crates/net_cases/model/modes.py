@@ -218,7 +218,7 @@ MODES = {"ring": RingMode, "asm": AsmMode, "stream": StreamMode}
 
 
 def run(words, text):
-    """What is written for an input, and how it ends; line feeds stand as `;`."""
+    """The output for an input, and how it ends; line feeds are shown as `;`."""
     named = mode(words)
     if named is None:
         return "none"

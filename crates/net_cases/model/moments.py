@@ -34,7 +34,7 @@ def is_length(micros):
 
 
 def parts(micros):
-    """Whole seconds, and what lies beyond them as milliseconds and as microseconds, cut towards 0."""
+    """Whole seconds, and the rest as milliseconds and as microseconds, cut towards 0."""
     sign = -1 if micros < 0 else 1
     secs, rest = divmod(abs(micros), 1_000_000)
     return sign * secs, sign * (rest // 1_000), sign * rest
