@@ -30,10 +30,10 @@ impl Model for Rand {
 }
 
 impl Rand {
-    /// What the state is multiplied by.
+    /// The number that a step multiplies the state by.
     const MULTIPLIER: u64 = 0xbb2efcec3c39611d;
 
-    /// What is then added.
+    /// The number that a step then adds.
     const INCREMENT: u64 = 0x7590ef39;
 
     /// Returns a generator whose state is the seed. Any seed is allowed.

@@ -2,7 +2,7 @@
 ghost use Rattle.std.specs.Prelude.{◌≡◌};
 ghost use Rattle.net_copies.specs.Fates.{fate_of, comes, comes_delayed};
 
-/// What happens to a frame.
+/// The fate of a frame.
 #[derive(Debug, Clone, Copy, PartialEq, Eq, Drop)]
 pub enum Fate {
     /// It arrives in its round.

@@ -76,7 +76,7 @@ const ROUNDS_EACH: u64 = 256;
 /// Standard error: it takes the program's messages, and the counts so far of a copy that it watches.
 #[derive(Drop)]
 pub struct Messages<E> {
-    /// What the messages are written to.
+    /// The writer that the messages go to.
     pub stream: E,
 }
 

@@ -69,7 +69,7 @@ fn range(offset: &[u8], size: &[u8]) -> Option<(usize, usize)>
     Some((offset as usize, size as usize))
 }
 
-/// Returns what a line says, if it is one of the mode's.
+/// Returns the meaning of a line, if it is one of the mode's.
 fn asm_line(line: &[u8]) -> Option<AsmLine>
     ensures { result ≡ asm_line (words_of line.now) }
 {

@@ -1,10 +1,10 @@
-//! What may be wrong with a line.
+//! The faults of a line.
 ghost use Rattle.std.specs.Prelude.{◌≡◌};
 ghost use Rattle.net_script.specs.Transcript.{error_at};
 
 use crate::error::BenchError;
 
-/// What may be wrong with a line.
+/// A fault of a line.
 #[derive(Clone, Copy, Debug, PartialEq, Eq)]
 pub enum Fault {
     /// It is not a line of the mode.

@@ -32,7 +32,7 @@ pub(crate) enum ModeKind {
     Stream(u64, usize, MostRuns),
 }
 
-/// What `run` does, as the words of a command line name it.
+/// A mode of `run`, as the words of a command line name it.
 #[derive(Debug, Drop)]
 pub struct Mode {
     kind: ModeKind,

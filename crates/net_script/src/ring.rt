@@ -49,7 +49,7 @@ impl<'a> Model for RingSession<'a> {
     ghost invariant = { λ s. length (queue s.ring) ≡ s.ring.count };
 }
 
-/// Returns what a line says, if it is one of the mode's.
+/// Returns the meaning of a line, if it is one of the mode's.
 fn ring_line<A: Allocator + Copy>(
     buffers: &mut Buffers<A>,
     line: &[u8],
@@ -125,7 +125,7 @@ impl<'a> RingSession<'a> {
         Ok(reply)
     }
 
-    /// Does what a line says, and makes the reply.
+    /// Executes a line, and makes the reply.
     fn write_or_read<A: Allocator + Copy>(
         &mut self,
         buffers: &mut Buffers<A>,

@@ -1,4 +1,4 @@
-//! What a mode is: a state that lines change.
+//! The trait of a mode: a state that lines change.
 ghost use Rattle.std.specs.Prelude.{◌≡◌, List, ℕ, Ok, Err, IfOk, MatchResult, string_bytes};
 ghost use Rattle.net_script.specs.Text.{words_of};
 ghost use Rattle.net_script.specs.Transcript.{Rules};
@@ -9,14 +9,14 @@ use std::alloc::{AllocError, Allocator};
 
 /// The state of a mode, whose replies are in memory of `A`.
 pub trait Session<A: Allocator + Copy> {
-    /// What a line's words do to the state, and the reply, or the line's fault.
+    /// The effect of a line's words on the state, and the reply, or the line's fault.
     ghost rules: { Rules Self };
 
-    /// What is written after the last line.
+    /// The text after the last line.
     ghost closing: { Self → List ℕ };
 
-    /// Does what a line of at most 4,096 bytes says, and makes its reply, in memory of the buffers.
-    /// After a fault, or if memory was refused, the session is over.
+    /// Executes a line of at most 4,096 bytes, and makes its reply, in memory of the buffers. After
+    /// a fault, or if memory was refused, the session is over.
     fn apply_line(
         &mut self,
         buffers: &mut Buffers<A>,

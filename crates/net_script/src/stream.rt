@@ -85,7 +85,7 @@ fn segment<A: Allocator + Copy>(
     Ok(Some(StreamLine::ToReceiver(Command::Segment { pos, bytes })))
 }
 
-/// Returns what a line says, if it is one of the mode's.
+/// Returns the meaning of a line, if it is one of the mode's.
 fn stream_line<A: Allocator + Copy>(
     buffers: &mut Buffers<A>,
     line: &[u8],
@@ -185,7 +185,8 @@ fn hand_back_read<A: Allocator + Copy>(buffers: &mut Buffers<A>, reply: Reply<A>
 
 impl<'a, A: Allocator + Copy, const N: usize> StreamSession<'a, A, N> {
     /// Returns a session with a fresh receiver of a stream that begins at `first`, over this
-    /// storage. The storage of the second schedule takes the place of what `second` is now.
+    /// storage. The storage of the second schedule takes the place of the present value of
+    /// `second`.
     pub fn new(
         first: u64,
         storage: &'a mut [u8],

@@ -84,7 +84,7 @@ impl<'a, 'f, A: Allocator + Copy> Copier<'a, 'f, A> {
         }
     }
 
-    /// Returns what was counted so far.
+    /// Returns the counts so far.
     pub(crate) fn counts(&self) -> Counts
         ensures { result ≡ counts_of self.now }
     {

@@ -34,9 +34,9 @@ use std::marker::Model;
 /// on.
 #[derive(Drop)]
 pub struct Link<'a, 'f, A: Allocator + Copy> {
-    /// What sends.
+    /// The sender.
     pub sender: Sender<'a>,
-    /// What receives. It holds at most as many runs as an acknowledgement has SACK blocks.
+    /// The receiver. It holds at most as many runs as an acknowledgement has SACK blocks.
     pub receiver: Receiver<'a, MOST_SACK_BLOCKS>,
     /// The path of the frames, from the sender to the receiver.
     pub forward: Path<'f, A>,

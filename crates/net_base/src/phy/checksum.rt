@@ -1,8 +1,8 @@
-//! What the stack does about the checksums of one protocol.
+//! How the stack handles the checksums of one protocol.
 ghost use Rattle.std.specs.Prelude.{◌≡◌};
 ghost use Rattle.net_base.specs.Checksum.{is_verified, is_computed};
 
-/// What the stack does about the checksums of one protocol; the device does the rest.
+/// How the stack handles the checksums of one protocol; the device does the rest.
 #[derive(Debug, Clone, Copy, Default)]
 pub enum Checksum {
     /// Verifies them when receiving and computes them when sending.

@@ -1,11 +1,11 @@
-//! What the stack does about the checksums of all protocols.
+//! How the stack handles the checksums of all protocols.
 ghost use Rattle.std.specs.Prelude.{◌≡◌};
 ghost use Rattle.net_base.specs.Checksum.{no_checksums};
 
 use crate::phy::Checksum;
 
-/// What the stack does about the checksums of each protocol. By default it verifies and computes
-/// all of them.
+/// How the stack handles the checksums of each protocol. By default it verifies and computes all of
+/// them.
 #[derive(Debug, Clone, Default, Drop)]
 pub struct ChecksumCapabilities {
     /// Of IPv4 headers.

@@ -47,7 +47,7 @@ pub trait Device {
     /// states here that it is never refused any.
     ghost lacks_memory: { Self → ℕ → Type 0 } = { λ _ _. Unit {0} };
 
-    /// What the device can do.
+    /// The capabilities of the device.
     ghost abilities: { Self → DeviceCapabilities };
 
     /// Takes the next frame off the device: a token that has it, and a token to send one frame
@@ -86,11 +86,11 @@ pub trait Device {
         ensures some { IfSome result (λ _. is_free self.old) }
         ensures unchanged { self.new ≡ self.old };
 
-    /// Returns what the device can do.
+    /// Returns the capabilities of the device.
     fn capabilities(&self) -> DeviceCapabilities
         ensures { result ≡ abilities self.now };
 
-    /// Sends one frame: calls `f` once on `len` zero bytes, sends what `f` made of them, and returns
+    /// Sends one frame: calls `f` once on `len` zero bytes, sends the bytes that `f` made of them, and returns
     /// what `f` returned.
     ///
     /// If memory is refused, which happens only if `lacks_memory` holds of the device and `len`, as

@@ -10,13 +10,13 @@ use crate::phy::{
 /// The bytes of an Ethernet header.
 const ETHERNET_HEADER_LEN: usize = 14;
 
-/// What a device can do. Nothing here is enforced: a layer above should keep to it.
+/// The capabilities of a device. Nothing here is enforced: a layer above should keep to it.
 ///
 /// By default the medium is Ethernet, the longest frame has 0 bytes, bursts have no limit, the
 /// stack handles all checksums and the device cuts no segments.
 #[derive(Debug, Clone, Default, Drop)]
 pub struct DeviceCapabilities {
-    /// What the frames of the device are.
+    /// The kind of the device's frames.
     pub medium: Medium,
     /// The bytes of the longest frame. On Ethernet the 14 bytes of the Ethernet header are counted,
     /// and the frame check sequence is not: it is the IP MTU plus 14. The MTU of an Ethernet device
@@ -24,7 +24,7 @@ pub struct DeviceCapabilities {
     pub max_transmission_unit: usize,
     /// How many frames may be sent or received at once; `None` if there is no limit.
     pub max_burst_size: Option<usize>,
-    /// What the stack does about checksums; the device does the rest.
+    /// How the stack handles checksums; the device does the rest.
     pub checksum: ChecksumCapabilities,
     /// The segmentation that the device can do for the stack.
     pub segmentation: SegmentationCapabilities,
@@ -66,7 +66,7 @@ impl DeviceCapabilities {
     }
 
     /// Returns the bytes of the longest payload of an IPv4 fragment after an IP header of so many
-    /// bytes: what is left of the longest IP packet, down to a multiple of 8.
+    /// bytes: the rest of the longest IP packet, down to a multiple of 8.
     ///
     /// # Requires
     ///

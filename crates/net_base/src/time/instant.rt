@@ -12,7 +12,7 @@ use std::marker::Model;
 use std::ops::{Add, AddAssign, Sub, SubAssign};
 
 /// A moment, in microseconds since an origin of the user's own, such as the start of the system. A
-/// moment below zero is before the origin. A caller says with it what time it is: in timeouts, and
+/// moment below zero is before the origin. With it a caller says what time it is, in timeouts and
 /// to a device that it polls.
 ///
 /// Contracts see the microseconds, a whole number from -2^63 to 2^63 - 1. Quotients are cut towards
