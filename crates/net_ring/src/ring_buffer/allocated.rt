@@ -105,6 +105,7 @@ impl<T, S: Storage<T>> RingOver<T, S> {
     /// fewer steps. It isn't in smoltcp.
     #[inline]
     pub fn head(&self) -> &[T]
+        ensures count { length result.now ≡ min self.now.count 1 }
         ensures value { result.now ≡ take 1 (queue self.now) }
         ensures first { slice_get result.now 0 ≡ slice_get (queue self.now) 0 }
     {
