@@ -180,13 +180,15 @@ impl<const N: usize> Assembler<N> {
     /// Removes the run at position 0, counts all later positions from its end, and returns its
     /// length.
     ///
-    /// If position 0 is missing it returns 0 and changes nothing.
+    /// If position 0 is missing it returns 0 and changes nothing. Otherwise there is room for one
+    /// more run, so the next `add` is accepted.
     #[inline(always)]
     pub fn remove_front(&mut self) -> usize
         ensures length { result ≡ front self.old }
         ensures rest { self.new ≡ shift_down self.old (front self.old) }
         ensures unchanged { result ≡ 0 → self.new ≡ self.old }
         ensures fewer { 0 < result → runs self.new + 1 ≡ runs self.old }
+        ensures room { 0 < result → runs self.new < N }
         ensures bound { runs self.new ≤ N }
     {
         self.remove_front_counted(&mut Turns::new())
@@ -202,6 +204,7 @@ impl<const N: usize> Assembler<N> {
         ensures rest { self.new ≡ shift_down self.old (front self.old) }
         ensures unchanged { result ≡ 0 → self.new ≡ self.old }
         ensures fewer { 0 < result → runs self.new + 1 ≡ runs self.old }
+        ensures room { 0 < result → runs self.new < N }
         ensures bound { runs self.new ≤ N }
         ensures turns { TurnsWithin 0 N turns.old turns.new }
         ensures waiting { runs self.new ≡ runs self.old → turns.new ≡ turns.old }

@@ -177,6 +177,7 @@ impl<const N: usize> SortedRuns<N> {
         ensures removed { RemovesFront N (set_of self.old) result (set_of self.new) }
         ensures unchanged { result ≡ 0 → self.new ≡ self.old }
         ensures fewer { 0 < result → runs (set_of self.new) + 1 ≡ runs (set_of self.old) }
+        ensures room { 0 < result → runs (set_of self.new) < N }
         ensures turns { TurnsWithin 0 N turns.old turns.new }
         ensures waiting { runs (set_of self.new) ≡ runs (set_of self.old) → turns.new ≡ turns.old }
     {

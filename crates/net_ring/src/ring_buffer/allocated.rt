@@ -114,6 +114,7 @@ impl<T, S: Storage<T>> RingOver<T, S> {
     /// 1)` in fewer steps. smoltcp has no such call.
     #[inline]
     pub fn head(&self) -> &[T]
+        ensures count { length result.now ≡ min self.now.count 1 }
         ensures value { result.now ≡ take 1 (queue self.now) }
         ensures first { slice_get result.now 0 ≡ slice_get (queue self.now) 0 }
     {

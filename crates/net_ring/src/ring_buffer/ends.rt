@@ -1,6 +1,6 @@
 //! Single elements: the first and the last of the queue, and the one at an index.
-ghost use Rattle.std.specs.Prelude.{◌≡◌, ◌↔◌, ◌+◌, ◌-◌, ◌∷◌, ◌++◌, [], length, slice_get};
-ghost use Rattle.std.specs.Prelude.{IsErr, IsNone, OnErr, OnOk, IfSome, option_copied};
+ghost use Rattle.std.specs.Prelude.{◌≡◌, ◌↔◌, ◌<◌, ◌≤◌, ◌+◌, ◌-◌, ◌∷◌, ◌++◌, [], length, slice_get};
+ghost use Rattle.std.specs.Prelude.{IsErr, IsNone, IsSome, OnErr, OnOk, IfSome, option_copied};
 ghost use Rattle.net_ring.specs.Ring.{ring, capacity, window, queue, spare, write_at, with_elements};
 ghost use Rattle.net_ring.specs.Ring.{with_enqueued};
 
@@ -13,21 +13,31 @@ impl<T, S: Storage<T>> RingOver<T, S> {
     /// Shows the element at an index of the queue, of which 0 is the first one; `None` if the queue
     /// ends before it.
     pub fn get(&self, index: usize) -> Option<&T>
-        ensures { option_copied result ≡ slice_get (queue self.now) index }
+        ensures value { option_copied result ≡ slice_get (queue self.now) index }
+        ensures some { IsSome result ↔ (index < self.now.count) }
+        ensures none { IsNone result ↔ (self.now.count ≤ index) }
+        ensures of_queue { IsSome result ↔ (index < length (queue self.now)) }
     {
         self.get_allocated(index, 1).first()
     }
 
     /// Shows the first element of the queue, the next one to be dequeued; `None` if it is empty.
     pub fn front(&self) -> Option<&T>
-        ensures { option_copied result ≡ slice_get (queue self.now) 0 }
+        ensures value { option_copied result ≡ slice_get (queue self.now) 0 }
+        ensures some { IsSome result ↔ (0 < self.now.count) }
+        ensures empty { IsNone result ↔ (self.now.count ≡ 0) }
+        ensures none_queued { IsNone result ↔ (queue self.now ≡ []) }
     {
         self.head().first()
     }
 
     /// Shows the last element of the queue, the one that was enqueued last; `None` if it is empty.
     pub fn back(&self) -> Option<&T>
-        ensures { option_copied result ≡ slice_get (queue self.now) (length (queue self.now) - 1) }
+        ensures value { option_copied result
+            ≡ slice_get (queue self.now) (length (queue self.now) - 1) }
+        ensures some { IsSome result ↔ (0 < self.now.count) }
+        ensures empty { IsNone result ↔ (self.now.count ≡ 0) }
+        ensures none_queued { IsNone result ↔ (queue self.now ≡ []) }
     {
         self.get(self.len().saturating_sub(1))
     }

@@ -1,5 +1,5 @@
 //! The elements of a queue, one after another.
-ghost use Rattle.std.specs.Prelude.{◌≡◌};
+ghost use Rattle.std.specs.Prelude.{◌≡◌, length};
 ghost use Rattle.net_ring.specs.Ring.{queue};
 
 use super::RingOver;
@@ -30,7 +30,8 @@ impl<T, S: Storage<T>> RingOver<T, S> {
     ///
     /// smoltcp has no such call; std's `VecDeque` has it.
     pub fn iter(&self) -> Iter<'_, T>
-        ensures { result ≡ queue self.now }
+        ensures queue { result ≡ queue self.now }
+        ensures count { length result ≡ self.now.count }
     {
         // By the clauses of these two calls the number of elements is below 2^64.
         let _capacity = self.capacity();

@@ -49,3 +49,6 @@ returns-clause-fewer g c = λ some.
     let held = front_held h c.requires (omega (arith, c.front-size.ensures)) in
     let left = dropped_number h c.requires 1 c.front-size.result c.drop_front.new.self c.drop_front.ensures.sound c.drop_front.ensures.runs in
     omega (arith, left, runs-set_of h c.requires, held.0)
+
+pub returns-clause-room : goal.returns-clause-room
+returns-clause-room g c = λ some. omega (arith, returns-clause-fewer g c some, few_held c.args.self.now c.requires)
