@@ -4,8 +4,9 @@
 
 It looks at the provers among its own children every 2 seconds, so the last seconds of each check are missing
 from its row, and a check that is shorter may be missing altogether; what the whole gate took, LLVM and the
-runs of tests included, is counted by the system and is printed below the table. Other provers of the machine
-aren't counted. The output of `rt ci` goes to standard error. Linux only.
+runs of tests included, is counted by the system and is printed below the table. So is the longest chain, a crate's
+proof and then its edits: for how long by the clock one of them ran. Other provers of the machine aren't counted. The
+output of `rt ci` goes to standard error. Linux only.
 """
 import collections
 import os
@@ -39,8 +40,8 @@ def descends(process, found, ancestor):
 
 
 def look(seen, gate):
-    """Notes how long each prover of the gate has run, by its number."""
-    found = processes()
+    """Notes how long each prover of the gate has run, by its number; returns the crates whose proof or edit runs."""
+    found, at_work = processes(), set()
     for number, (_, taken) in found.items():
         folder = pathlib.Path("/proc") / str(number)
         try:
@@ -52,7 +53,11 @@ def look(seen, gate):
             continue
         if descends(number, found, gate):
             kind = "edits" if is_edit else "tests" if "--test" in words else "proof"
-            seen[number] = words[words.index("--crate-name") + 1], kind, taken
+            crate = words[words.index("--crate-name") + 1]
+            seen[number] = crate, kind, taken
+            if kind != "tests":
+                at_work.add(crate)
+    return at_work
 
 
 def table(seen):
@@ -70,16 +75,21 @@ def table(seen):
 def main():
     if len(sys.argv) > 1:
         sys.exit(__doc__)
-    seen, begun = {}, time.monotonic()
+    seen, chains, begun = {}, collections.Counter(), time.monotonic()
+    looked = begun
     gate = subprocess.Popen(["rt", "ci"], cwd=pathlib.Path(__file__).resolve().parent.parent, stdout=sys.stderr)
     while gate.poll() is None:
-        look(seen, gate.pid)
+        before, looked = looked, time.monotonic()
+        for crate in look(seen, gate.pid):
+            chains[crate] += looked - before
         time.sleep(2)
     minutes = (time.monotonic() - begun) / 60
     table(seen)
     used = resource.getrusage(resource.RUSAGE_CHILDREN)
     print("\nSeconds of processor time. The whole gate took ", end="")
     print(f"{(used.ru_utime + used.ru_stime) / 60:.0f} minutes of it, and {minutes:.0f} by the clock.")
+    for crate, seconds in chains.most_common(1):
+        print(f"The longest chain, a proof and its edits: `{crate}`, {seconds / 60:.1f} minutes by the clock.")
     sys.exit(gate.returncode)
 
 

@@ -3,7 +3,7 @@ ghost use Rattle.std.specs.Prelude.{◌≤◌, ◌+◌, ◌<◌, ◌^◌};
 
 use crate::bytes::{START, mix, mix_bytes};
 use crate::call::{Call, Entry, find};
-use crate::reply::{Part, Reply, allowed};
+use crate::reply::{Part, Reply, allowed, answered};
 use crate::subject::Subject;
 use crate::text::keeps_text;
 use net_assembler::{Assembler, TooManyHolesError, Turns};
@@ -25,7 +25,7 @@ enum Adding {
 }
 
 /// The calls that add a range.
-const ADDING: [Entry<Adding>; 3] = [
+static ADDING: [Entry<Adding>; 3] = [
     ("add", 2, Adding::Add),
     ("add_counted", 2, Adding::AddCounted),
     ("add_then_remove_front", 2, Adding::AddThenRemoveFront),
@@ -42,7 +42,7 @@ enum Kind {
 }
 
 /// The other calls.
-const CALLS: [Entry<Kind>; 5] = [
+static CALLS: [Entry<Kind>; 5] = [
     ("remove_front", 0, Kind::RemoveFront),
     ("clear", 0, Kind::Clear),
     ("fits", 2, Kind::Fits),
@@ -59,7 +59,7 @@ enum Whole {
 }
 
 /// The calls of the whole.
-const WHOLE: [Entry<Whole>; 3] = [
+static WHOLE: [Entry<Whole>; 3] = [
     ("clone", 0, Whole::Clone),
     ("eq", 0, Whole::Eq),
     ("text", 1, Whole::Text),
@@ -103,10 +103,10 @@ impl<const N: usize> Subject for Pair<N> {
         if let Some(kind) = find(&CALLS, call) {
             return Ok(Some(make(&mut self.now, kind, one as usize, two as usize)));
         }
-        if let Some(whole) = find(&WHOLE, call) {
-            return Ok(Some(self.make_whole(alloc, whole, one as usize)?));
+        match find(&WHOLE, call) {
+            Some(whole) => answered(self.make_whole(alloc, whole, one as usize)),
+            None => Ok(None),
         }
-        Ok(None)
     }
 
     /// Shows the front; whether the assembler is empty; how many runs it has; the first two of them, the second

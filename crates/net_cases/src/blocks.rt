@@ -21,21 +21,29 @@ pub fn answer_blocks(alloc: Global, text: &str, replies: &mut String) -> Result<
         if number > 0 {
             replies.push_str("\n")?;
         }
-        let (first, lines) = block.split_once('\n').unwrap_or((block, ""));
-        if !answer_block(alloc, first, lines, replies)? {
-            return Err(no_call(alloc, first)?);
-        }
+        answer_block(alloc, block, replies)?;
     }
     Ok(())
 }
 
-/// Returns the error of a line that asks for no call.
-fn no_call(alloc: Global, line: &str) -> Result<CaseError, AllocError> {
-    Ok(CaseError::NoCall(String::from_str(alloc, line)?))
+/// Fails with a line unless it asked for a call.
+fn expect_call(alloc: Global, line: &str, is_call: bool) -> Result<(), CaseError> {
+    if is_call {
+        return Ok(());
+    }
+    Err(CaseError::NoCall(String::from_str(alloc, line)?))
 }
 
-/// Appends the replies to a block; returns whether its first line says what calls are made on.
-fn answer_block(
+/// Appends the replies to a block.
+fn answer_block(alloc: Global, block: &str, replies: &mut String) -> Result<(), CaseError> {
+    let (first, lines) = block.split_once('\n').unwrap_or((block, ""));
+    let is_call = answer_lines(alloc, first, lines, replies)?;
+    expect_call(alloc, first, is_call)
+}
+
+/// Appends the replies to the lines of a block; returns whether its first line says what calls are made
+/// on.
+fn answer_lines(
     alloc: Global,
     first: &str,
     lines: &str,
@@ -44,22 +52,87 @@ fn answer_block(
     if first == "words" {
         return answer_words(alloc, lines, replies);
     }
+    match subject_of(alloc, first)? {
+        Some((name, numbers)) => answer_named(alloc, name, numbers, (lines, replies)),
+        None => Ok(false),
+    }
+}
+
+/// A name and three numbers.
+type Named<'a> = (&'a str, (u64, u64, u64));
+
+/// Returns the name and the numbers of a block's first line, if what follows the name is numbers.
+fn subject_of(alloc: Global, first: &str) -> Result<Option<Named<'_>>, AllocError> {
     let Some(call) = Call::of_line(alloc, first)? else {
-        return Ok(false);
+        return Ok(None);
     };
     let [one, two, three, _] = call.four();
-    match call.name {
+    Ok(Some((call.name, (one, two, three))))
+}
+
+/// Appends the replies of what a name and numbers say; returns whether they do.
+fn answer_named(
+    alloc: Global,
+    name: &str,
+    (one, two, three): (u64, u64, u64),
+    (lines, replies): (&str, &mut String),
+) -> Result<bool, CaseError> {
+    match name {
         "times" => play(alloc, &mut Times, lines, replies),
         "texts" => play(alloc, &mut Texts, lines, replies),
         "rand" => play(alloc, &mut Rand::new(one), lines, replies),
-        "storage" => play(alloc, &mut storage(alloc, one, two)?, lines, replies),
-        "ring" => play(alloc, &mut ring(alloc, one, two)?, lines, replies),
-        "cells" => play(alloc, &mut cells(alloc, one)?, lines, replies),
-        "packets" => play(alloc, &mut packets(alloc, one, two, three)?, lines, replies),
+        "storage" => play_storage(alloc, (one, two), lines, replies),
+        "ring" => play_ring(alloc, (one, two), lines, replies),
+        "cells" => play_cells(alloc, one, lines, replies),
+        "packets" => play_packets(alloc, (one, two, three), lines, replies),
         "assembler" => assemble(alloc, one, lines, replies),
         "receiver" => receive(alloc, (one, two, three), lines, replies),
         _ => Ok(false),
     }
+}
+
+/// Appends the replies of storage of a size and of what its bytes represent.
+fn play_storage(
+    alloc: Global,
+    (count, seed): (u64, u64),
+    lines: &str,
+    replies: &mut String,
+) -> Result<bool, CaseError> {
+    let mut storage = storage(alloc, count, seed)?;
+    play(alloc, &mut storage, lines, replies)
+}
+
+/// Appends the replies of a ring of a capacity and of what its bytes represent.
+fn play_ring(
+    alloc: Global,
+    (capacity, seed): (u64, u64),
+    lines: &str,
+    replies: &mut String,
+) -> Result<bool, CaseError> {
+    let mut ring = ring(alloc, capacity, seed)?;
+    play(alloc, &mut ring, lines, replies)
+}
+
+/// Appends the replies of a ring of so many cells.
+fn play_cells(
+    alloc: Global,
+    capacity: u64,
+    lines: &str,
+    replies: &mut String,
+) -> Result<bool, CaseError> {
+    let mut cells = cells(alloc, capacity)?;
+    play(alloc, &mut cells, lines, replies)
+}
+
+/// Appends the replies of a queue of so many slots and bytes, and of what these represent.
+fn play_packets(
+    alloc: Global,
+    (slots, bytes, seed): (u64, u64, u64),
+    lines: &str,
+    replies: &mut String,
+) -> Result<bool, CaseError> {
+    let mut packets = packets(alloc, slots, bytes, seed)?;
+    play(alloc, &mut packets, lines, replies)
 }
 
 /// Appends the replies of an assembler of so many runs.
@@ -112,9 +185,8 @@ fn play<S: Subject>(
 ) -> Result<bool, CaseError> {
     append_state(alloc, subject, replies)?;
     for line in lines.lines() {
-        if !is_answered(alloc, subject, line, replies)? {
-            return Err(no_call(alloc, line)?);
-        }
+        let is_call = is_answered(alloc, subject, line, replies)?;
+        expect_call(alloc, line, is_call)?;
         append_state(alloc, subject, replies)?;
     }
     Ok(true)
@@ -152,9 +224,8 @@ fn is_answered<S: Subject>(
 fn answer_words(alloc: Global, lines: &str, replies: &mut String) -> Result<bool, CaseError> {
     replies.push_str("|\n")?;
     for line in lines.lines() {
-        if !words::answer(alloc, line, replies)? {
-            return Err(no_call(alloc, line)?);
-        }
+        let is_call = words::answer(alloc, line, replies)?;
+        expect_call(alloc, line, is_call)?;
         replies.push_str("\n")?;
     }
     Ok(true)

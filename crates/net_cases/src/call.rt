@@ -55,6 +55,15 @@ pub fn first_word(text: &str) -> (&str, Option<&str>) {
     }
 }
 
+/// Returns the words of a text, which are parted by a space.
+pub fn words_of(alloc: Global, text: &str) -> Result<Vec<String>, AllocError> {
+    let mut words = Vec::new(alloc);
+    for word in text.split(' ') {
+        words.push(String::from_str(alloc, word)?)?;
+    }
+    Ok(words)
+}
+
 /// Returns the number that a word writes, with a sign or without one.
 fn signed(word: &str) -> Option<u64> {
     match word.as_bytes() {

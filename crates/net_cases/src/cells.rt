@@ -35,7 +35,7 @@ enum Kind {
 }
 
 /// The calls.
-const CALLS: [Entry<Kind>; 4] = [
+static CALLS: [Entry<Kind>; 4] = [
     ("enqueue_one", 1, Kind::EnqueueOne),
     ("dequeue_one", 1, Kind::DequeueOne),
     ("reset", 0, Kind::Reset),

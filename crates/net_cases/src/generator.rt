@@ -14,7 +14,7 @@ enum Kind {
 }
 
 /// The calls.
-const CALLS: [Entry<Kind>; 3] = [
+static CALLS: [Entry<Kind>; 3] = [
     ("rand_u32", 0, Kind::Word),
     ("rand_u16", 0, Kind::Draw),
     ("rand_source_port", 0, Kind::SourcePort),

@@ -1,6 +1,6 @@
 //! What `net_link` does with its words and an input.
 use crate::bytes::pattern;
-use crate::call::first_word;
+use crate::call::{first_word, words_of};
 use crate::reply::{Part, Reply, many};
 use net_cli::{Ended, Status, number};
 use net_link_serve::{Messages, Remembering, serve};
@@ -15,20 +15,17 @@ pub fn answer(alloc: Global, rest: &str, reply: &mut String) -> Result<bool, All
         return Ok(false);
     };
     let input = pattern(alloc, length, 0)?;
-    serve_words(alloc, &words_of(alloc, words)?, &input, reply)?;
+    let words = words_of_line(alloc, words)?;
+    serve_words(alloc, &words, &input, reply)?;
     Ok(true)
 }
 
-/// Returns the words of a line, which are separated by a space.
-fn words_of(alloc: Global, line: Option<&str>) -> Result<Vec<String>, AllocError> {
-    let mut words = Vec::new(alloc);
-    let Some(line) = line else {
-        return Ok(words);
-    };
-    for word in line.split(' ') {
-        words.push(String::from_str(alloc, word)?)?;
+/// Returns the words of a line, if there is one.
+fn words_of_line(alloc: Global, line: Option<&str>) -> Result<Vec<String>, AllocError> {
+    match line {
+        Some(line) => words_of(alloc, line),
+        None => Ok(Vec::new(alloc)),
     }
-    Ok(words)
 }
 
 /// Runs the program over memory, and appends its results.

@@ -3,7 +3,7 @@ ghost use Rattle.std.specs.Prelude.{◌≤◌, length};
 
 use crate::bytes::{fill, low_word, pattern};
 use crate::call::{Call, Entry, find};
-use crate::reply::{Part, Reply, allowed, many, show_and_fill};
+use crate::reply::{Part, Reply, allowed, answered, many, show_and_fill};
 use crate::subject::Subject;
 use net_packets::{PacketBuffer, PacketMetadata};
 use net_ring::{Empty, Full, ManagedSlice};
@@ -27,7 +27,7 @@ enum Kind {
 }
 
 /// The calls that copy nothing.
-const CALLS: [Entry<Kind>; 9] = [
+static CALLS: [Entry<Kind>; 9] = [
     ("place", 3, Kind::Place),
     ("enqueue", 3, Kind::Enqueue),
     ("enqueue_with_infallible", 4, Kind::EnqueueWith),
@@ -39,11 +39,20 @@ const CALLS: [Entry<Kind>; 9] = [
     ("reset", 0, Kind::Reset),
 ];
 
-/// The call that copies bytes in.
-const PUSH: [Entry<()>; 1] = [("push_slice", 3, ())];
+/// A call that copies bytes.
+#[derive(Clone, Copy)]
+enum Copying {
+    /// A size, a header, and what the bytes represent.
+    Push,
+    /// A size, and what the bytes that are copied over represent.
+    Pop,
+}
 
-/// The call that copies bytes out.
-const POP: [Entry<()>; 1] = [("pop_slice", 2, ())];
+/// The calls that copy bytes.
+static COPIES: [Entry<Copying>; 2] = [
+    ("push_slice", 3, Copying::Push),
+    ("pop_slice", 2, Copying::Pop),
+];
 
 /// Returns a queue with no packets, so many slots, and so many bytes, which are those that the third
 /// number represents.
@@ -58,31 +67,52 @@ pub fn packets(alloc: Global, slots: u64, bytes: u64, seed: u64) -> Result<Packe
 
 impl Subject for PacketBuffer<'static, u32> {
     fn answer(&mut self, alloc: Global, call: &Call<'_>) -> Result<Option<Reply>, AllocError> {
-        let numbers = call.four();
-        let [size, header, seed, _] = numbers;
         if let Some(kind) = find(&CALLS, call) {
-            return Ok(Some(make(self, kind, numbers)));
+            return Ok(Some(make(self, kind, call.four())));
         }
-        if find(&PUSH, call).is_some() {
-            let bytes = pattern(alloc, size, seed)?;
-            return Ok(Some(push_slice(self, low_word(header), &bytes)));
+        match find(&COPIES, call) {
+            Some(copying) => answered(make_copy(alloc, self, copying, call.four())),
+            None => Ok(None),
         }
-        if find(&POP, call).is_some() {
-            let mut into = pattern(alloc, size, header)?;
-            return Ok(Some(pop_slice(self, &mut into)));
-        }
-        Ok(None)
     }
 
     /// Shows the slots used and in all, the bytes used and in all, and whether the queue is empty
     /// and full.
     fn show(&mut self, _: Global) -> Result<Reply, AllocError> {
-        let reply = Reply::new()
-            .count(self.slots_used())
-            .count(self.packet_capacity())
-            .count(self.payload_bytes_count())
-            .count(self.payload_capacity());
-        Ok(reply.truth(self.is_empty()).truth(self.is_full()))
+        Ok(show_ends(self, show_sizes(self)))
+    }
+}
+
+/// Returns a reply of the slots used and in all, and the bytes used and in all.
+fn show_sizes(queue: &Packets) -> Reply {
+    Reply::new()
+        .count(queue.slots_used())
+        .count(queue.packet_capacity())
+        .count(queue.payload_bytes_count())
+        .count(queue.payload_capacity())
+}
+
+/// Returns the reply followed by whether the queue is empty and full.
+fn show_ends(queue: &Packets, reply: Reply) -> Reply {
+    reply.truth(queue.is_empty()).truth(queue.is_full())
+}
+
+/// Makes a call that copies bytes.
+fn make_copy(
+    alloc: Global,
+    queue: &mut Packets,
+    copying: Copying,
+    [size, two, three, _]: [u64; 4],
+) -> Result<Reply, AllocError> {
+    match copying {
+        Copying::Push => {
+            let bytes = pattern(alloc, size, three)?;
+            Ok(push_slice(queue, low_word(two), &bytes))
+        }
+        Copying::Pop => {
+            let mut into = pattern(alloc, size, two)?;
+            Ok(pop_slice(queue, &mut into))
+        }
     }
 }
 

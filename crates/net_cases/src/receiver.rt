@@ -4,7 +4,7 @@ ghost use Rattle.net_receiver.specs.Commands.{CommandFits};
 
 use crate::bytes::{START, mix, mix_bytes, pattern};
 use crate::call::{ANY, Call, Entry, find};
-use crate::reply::{Part, Reply, allowed, many};
+use crate::reply::{Part, Reply, allowed, answered, many};
 use crate::subject::Subject;
 use net_assembler::TooManyHolesError;
 use net_receiver::{Command, Kept, Receiver, Reply as Given, execute, replay};
@@ -21,24 +21,31 @@ pub struct Pair<const N: usize> {
     replies: Vec<Given>,
 }
 
-/// A call with bytes: a number, and then a size and what the bytes represent.
+/// A call that asks for memory.
 #[derive(Clone, Copy)]
-enum Copying {
+enum Asking {
+    /// A position, a size, and what the bytes that come represent.
     Segment,
+    /// A size, and what the bytes that are copied over represent.
     Read,
+    /// The same.
     PeekSlice,
+    /// A command's four numbers.
+    Execute,
+    /// Those of a list of commands.
+    Replay,
 }
 
-/// The calls with bytes that come.
-const SEGMENTS: [Entry<Copying>; 1] = [("segment", 3, Copying::Segment)];
-
-/// The calls with bytes that are copied over.
-const READS: [Entry<Copying>; 2] = [
-    ("read", 2, Copying::Read),
-    ("peek_slice", 2, Copying::PeekSlice),
+/// The calls that ask for memory.
+static ASKING: [Entry<Asking>; 5] = [
+    ("segment", 3, Asking::Segment),
+    ("read", 2, Asking::Read),
+    ("peek_slice", 2, Asking::PeekSlice),
+    ("execute", 4, Asking::Execute),
+    ("replay", ANY, Asking::Replay),
 ];
 
-/// Any other call, except those with commands.
+/// Any other call.
 #[derive(Clone, Copy)]
 enum Kind {
     ReadWith,
@@ -50,7 +57,7 @@ enum Kind {
 }
 
 /// The other calls; `swap` exchanges the two receivers.
-const CALLS: [Entry<Kind>; 6] = [
+static CALLS: [Entry<Kind>; 6] = [
     ("read_with", 1, Kind::ReadWith),
     ("peek", 2, Kind::Peek),
     ("as_slices", 0, Kind::AsSlices),
@@ -58,12 +65,6 @@ const CALLS: [Entry<Kind>; 6] = [
     ("same_state", 0, Kind::SameState),
     ("swap", 0, Kind::Swap),
 ];
-
-/// The call with one command.
-const EXECUTE: [Entry<()>; 1] = [("execute", 4, ())];
-
-/// The call with a list of commands, of four numbers each.
-const REPLAY: [Entry<()>; 1] = [("replay", ANY, ())];
 
 impl<const N: usize> Pair<N> {
     /// Returns two receivers over so many bytes each, of a stream that begins at `first`.
@@ -80,7 +81,19 @@ impl<const N: usize> Pair<N> {
         })
     }
 
-    /// Makes a call without bytes or commands.
+    /// Makes a call that asks for memory.
+    fn ask(&mut self, alloc: Global, asking: Asking, call: &Call<'_>) -> Result<Reply, AllocError> {
+        let numbers = call.four();
+        match asking {
+            Asking::Segment => segment(alloc, &mut self.now, self.first, numbers),
+            Asking::Read => read(alloc, &mut self.now, numbers),
+            Asking::PeekSlice => peek_slice(alloc, &mut self.now, numbers),
+            Asking::Execute => execute_one(alloc, &mut self.now, self.first, numbers),
+            Asking::Replay => { replay_all(alloc, &mut self.now, &call.numbers, &mut self.replies) }
+        }
+    }
+
+    /// Makes a call that asks for none.
     fn make(&mut self, kind: Kind, one: u64, two: u64) -> Reply {
         match kind {
             Kind::ReadWith => read_with(&mut self.now, one as usize),
@@ -94,38 +107,18 @@ impl<const N: usize> Pair<N> {
             }
         }
     }
-
-    /// Executes a list of commands, whose replies are appended to those before them.
-    fn replay(&mut self, alloc: Global, numbers: &[u64]) -> Result<Reply, AllocError> {
-        let commands = commands_of(alloc, numbers)?;
-        replay(alloc, &mut self.now, &commands, &mut self.replies)?;
-        let digest = mix_replies(START, &self.replies);
-        Ok(Reply::new().and(Part::Many(self.replies.len(), digest)))
-    }
 }
 
 impl<const N: usize> Subject for Pair<N> {
     fn answer(&mut self, alloc: Global, call: &Call<'_>) -> Result<Option<Reply>, AllocError> {
-        let numbers = call.four();
-        let [one, two, three, _] = numbers;
-        if let Some(copying) = find(&SEGMENTS, call) {
-            let mut bytes = pattern(alloc, two, three)?;
-            return Ok(Some(make_copy(&mut self.now, self.first, copying, one, &mut bytes)));
+        if let Some(asking) = find(&ASKING, call) {
+            return answered(self.ask(alloc, asking, call));
         }
-        if let Some(copying) = find(&READS, call) {
-            let mut bytes = pattern(alloc, one, two)?;
-            return Ok(Some(make_copy(&mut self.now, self.first, copying, 0, &mut bytes)));
+        let [one, two, _, _] = call.four();
+        match find(&CALLS, call) {
+            Some(kind) => Ok(Some(self.make(kind, one, two))),
+            None => Ok(None),
         }
-        if let Some(kind) = find(&CALLS, call) {
-            return Ok(Some(self.make(kind, one, two)));
-        }
-        if find(&EXECUTE, call).is_some() {
-            return Ok(Some(execute_one(alloc, &mut self.now, self.first, numbers)?));
-        }
-        if find(&REPLAY, call).is_some() {
-            return Ok(Some(self.replay(alloc, &call.numbers)?));
-        }
-        Ok(None)
     }
 
     /// Shows the first missing position, how many bytes are queued and how many have room, how many
@@ -170,28 +163,18 @@ fn show_run(run: Option<(u64, u64)>, first: u64, reply: Reply) -> Reply {
     }
 }
 
-/// Makes a call with bytes.
-fn make_copy<const N: usize>(
+fn segment<const N: usize>(
+    alloc: Global,
     receiver: &mut Receiver<'_, N>,
     first: u64,
-    copying: Copying,
-    pos: u64,
-    bytes: &mut [u8],
-) -> Reply {
-    match copying {
-        Copying::Segment => segment(receiver, first, pos, bytes),
-        Copying::Read => {
-            let count = receiver.read(bytes);
-            Reply::new().count(count).bytes(bytes)
-        }
-        Copying::PeekSlice => {
-            let count = receiver.peek_slice(bytes);
-            Reply::new().count(count).bytes(bytes)
-        }
-    }
+    [pos, size, seed, _]: [u64; 4],
+) -> Result<Reply, AllocError> {
+    let bytes = pattern(alloc, size, seed)?;
+    Ok(take_segment(receiver, first, pos, &bytes))
 }
 
-fn segment<const N: usize>(
+/// Gives a segment, where a condition allows it.
+fn take_segment<const N: usize>(
     receiver: &mut Receiver<'_, N>,
     first: u64,
     pos: u64,
@@ -201,6 +184,26 @@ fn segment<const N: usize>(
         return allowed(false);
     }
     show_segment(&receiver.segment(pos, bytes), first)
+}
+
+fn read<const N: usize>(
+    alloc: Global,
+    receiver: &mut Receiver<'_, N>,
+    [size, seed, _, _]: [u64; 4],
+) -> Result<Reply, AllocError> {
+    let mut bytes = pattern(alloc, size, seed)?;
+    let count = receiver.read(&mut bytes);
+    Ok(Reply::new().count(count).bytes(&bytes))
+}
+
+fn peek_slice<const N: usize>(
+    alloc: Global,
+    receiver: &mut Receiver<'_, N>,
+    [size, seed, _, _]: [u64; 4],
+) -> Result<Reply, AllocError> {
+    let mut bytes = pattern(alloc, size, seed)?;
+    let count = receiver.peek_slice(&mut bytes);
+    Ok(Reply::new().count(count).bytes(&bytes))
 }
 
 /// Returns a reply of what a segment gave. Positions are counted from the stream's first one.
@@ -277,6 +280,23 @@ fn four_from(numbers: &[u64], index: usize) -> &[u64] {
         Some(four) => four,
         None => &[],
     }
+}
+
+/// Executes a list of commands, whose replies are appended to those before them.
+fn replay_all<const N: usize>(
+    alloc: Global,
+    receiver: &mut Receiver<'_, N>,
+    numbers: &[u64],
+    replies: &mut Vec<Given>,
+) -> Result<Reply, AllocError> {
+    let commands = commands_of(alloc, numbers)?;
+    replay(alloc, receiver, &commands, replies)?;
+    Ok(show_replies(replies))
+}
+
+/// Returns how many replies there are, and their digest.
+fn show_replies(replies: &[Given]) -> Reply {
+    Reply::new().and(Part::Many(replies.len(), mix_replies(START, replies)))
 }
 
 /// Executes one command.

@@ -78,14 +78,21 @@ impl Reply {
 
     /// Appends the parts, separated by a space.
     pub fn append_to(&self, text: &mut String) -> Result<(), AllocError> {
-        for (number, part) in self.parts.iter().take(self.count).enumerate() {
-            if number > 0 {
-                text.push_str(" ")?;
+        for number in 0..MOST_PARTS {
+            if number < self.count {
+                append_next(number, self.parts[number], text)?;
             }
-            append(*part, text)?;
         }
         Ok(())
     }
+}
+
+/// Appends the part of a number, after a space unless it is the first.
+fn append_next(number: usize, part: Part, text: &mut String) -> Result<(), AllocError> {
+    if number > 0 {
+        text.push_str(" ")?;
+    }
+    append(part, text)
 }
 
 /// Appends a part to a text.
@@ -142,6 +149,14 @@ pub fn show_and_set(place: &mut u8, byte: u8) -> Reply {
     let before = *place;
     *place = byte;
     Reply::new().bytes(&[before])
+}
+
+/// Returns a reply, if there was memory to make it, as the answer to a call.
+pub fn answered(made: Result<Reply, AllocError>) -> Result<Option<Reply>, AllocError> {
+    match made {
+        Ok(reply) => Ok(Some(reply)),
+        Err(AllocError) => Err(AllocError),
+    }
 }
 
 /// Returns a reply that says whether a condition allows a call.

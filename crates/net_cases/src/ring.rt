@@ -3,7 +3,7 @@ ghost use Rattle.std.specs.Prelude.{◌≤◌, length};
 
 use crate::bytes::{START, fill, low_byte, mix_bytes, pattern};
 use crate::call::{Call, Entry, find};
-use crate::reply::{Part, Reply, allowed, many, show_and_fill, show_and_set};
+use crate::reply::{Part, Reply, allowed, answered, many, show_and_fill, show_and_set};
 use crate::subject::Subject;
 use net_ring::{Empty, Full, RingBuffer};
 use std::alloc::{AllocError, Global};
@@ -25,7 +25,7 @@ enum Change {
 }
 
 /// The calls that lend or take one or many elements.
-const CHANGES: [Entry<Change>; 8] = [
+static CHANGES: [Entry<Change>; 8] = [
     ("enqueue_one", 1, Change::EnqueueOne),
     ("dequeue_one", 1, Change::DequeueOne),
     ("enqueue_one_with", 2, Change::EnqueueOneWith),
@@ -51,7 +51,7 @@ enum Look {
 }
 
 /// The calls at an offset, or on the whole ring.
-const LOOKS: [Entry<Look>; 9] = [
+static LOOKS: [Entry<Look>; 9] = [
     ("contiguous_allocated", 2, Look::ContiguousAllocated),
     ("get_allocated", 2, Look::GetAllocated),
     ("get_allocated_mut", 3, Look::GetAllocatedMut),
@@ -74,13 +74,13 @@ enum Copying {
 }
 
 /// The calls that copy, with no offset.
-const SLICES: [Entry<Copying>; 2] = [
+static SLICES: [Entry<Copying>; 2] = [
     ("enqueue_slice", 2, Copying::EnqueueSlice),
     ("dequeue_slice", 2, Copying::DequeueSlice),
 ];
 
 /// The calls that copy at an offset.
-const AT_OFFSETS: [Entry<Copying>; 2] = [
+static AT_OFFSETS: [Entry<Copying>; 2] = [
     ("write_unallocated", 3, Copying::WriteUnallocated),
     ("read_allocated", 3, Copying::ReadAllocated),
 ];
@@ -100,14 +100,12 @@ impl Subject for RingBuffer<'static, u8> {
             return Ok(Some(make_look(self, look, one as usize, two as usize, three)));
         }
         if let Some(copying) = find(&SLICES, call) {
-            let mut bytes = pattern(alloc, one, two)?;
-            return Ok(Some(make_copy(self, copying, 0, &mut bytes)));
+            return answered(make_copy(alloc, self, copying, (0, one, two)));
         }
-        if let Some(copying) = find(&AT_OFFSETS, call) {
-            let mut bytes = pattern(alloc, two, three)?;
-            return Ok(Some(make_copy(self, copying, one as usize, &mut bytes)));
+        match find(&AT_OFFSETS, call) {
+            Some(copying) => answered(make_copy(alloc, self, copying, (one, two, three))),
+            None => Ok(None),
         }
-        Ok(None)
     }
 
     /// Shows how many elements are queued, free, and free and contiguous; the capacity; whether the ring
@@ -256,8 +254,19 @@ fn as_slices(ring: &Bytes) -> Reply {
     Reply::new().bytes(first).bytes(second)
 }
 
-/// Makes a call that copies.
-fn make_copy(ring: &mut Bytes, copying: Copying, offset: usize, bytes: &mut [u8]) -> Reply {
+/// Makes a call that copies, of an offset, a size, and what the bytes represent.
+fn make_copy(
+    alloc: Global,
+    ring: &mut Bytes,
+    copying: Copying,
+    (offset, size, seed): (u64, u64, u64),
+) -> Result<Reply, AllocError> {
+    let mut bytes = pattern(alloc, size, seed)?;
+    Ok(copy(ring, copying, offset as usize, &mut bytes))
+}
+
+/// Copies from or to bytes.
+fn copy(ring: &mut Bytes, copying: Copying, offset: usize, bytes: &mut [u8]) -> Reply {
     match copying {
         Copying::EnqueueSlice => Reply::new().count(ring.enqueue_slice(bytes)),
         Copying::DequeueSlice => {

@@ -16,7 +16,7 @@ enum Kind {
 }
 
 /// The calls.
-const CALLS: [Entry<Kind>; 6] = [
+static CALLS: [Entry<Kind>; 6] = [
     ("SequenceNumber::at", 2, Kind::At),
     ("SequenceNumber::position", 3, Kind::Position),
     ("SequenceNumber::ahead_of", 2, Kind::AheadOf),

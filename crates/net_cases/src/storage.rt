@@ -19,7 +19,7 @@ enum Kind {
 }
 
 /// The calls.
-const CALLS: [Entry<Kind>; 4] = [
+static CALLS: [Entry<Kind>; 4] = [
     ("as_mut_slice", 1, Kind::AsMutSlice),
     ("part", 2, Kind::Part),
     ("part_mut", 3, Kind::PartMut),

@@ -1,7 +1,7 @@
 //! Texts, plain and under options of a width or a precision.
 use crate::bytes::{START, mix_bytes};
 use crate::call::{Call, Entry, find};
-use crate::reply::{Part, Reply};
+use crate::reply::{Part, Reply, answered};
 use crate::subject::Subject;
 use net_assembler::TooManyHolesError;
 use net_base::time::{Duration, Instant};
@@ -25,7 +25,7 @@ enum Kind {
 }
 
 /// The types with a text: a value's number and the width.
-const TYPES: [Entry<Kind>; 5] = [
+static TYPES: [Entry<Kind>; 5] = [
     ("Instant", 2, Kind::Instant),
     ("Duration", 2, Kind::Duration),
     ("Full", 2, Kind::Full),
@@ -46,7 +46,7 @@ enum Fault {
 }
 
 /// The kinds of `BenchError`: a line's number and the width.
-const FAULTS: [Entry<Fault>; 7] = [
+static FAULTS: [Entry<Fault>; 7] = [
     ("BadCommand", 2, Fault::BadCommand),
     ("RangeTooLong", 2, Fault::RangeTooLong),
     ("LineTooLong", 2, Fault::LineTooLong),
@@ -60,12 +60,12 @@ impl Subject for Texts {
     fn answer(&mut self, alloc: Global, call: &Call<'_>) -> Result<Option<Reply>, AllocError> {
         let [number, width, _, _] = call.four();
         if let Some(kind) = find(&TYPES, call) {
-            return Ok(Some(text_of(alloc, kind, number, width as usize)?));
+            return answered(text_of(alloc, kind, number, width as usize));
         }
-        if let Some(fault) = find(&FAULTS, call) {
-            return Ok(Some(show(alloc, &error(fault, number), width as usize)?));
+        match find(&FAULTS, call) {
+            Some(fault) => answered(show(alloc, &error(fault, number), width as usize)),
+            None => Ok(None),
         }
-        Ok(None)
     }
 
     /// Shows nothing.

@@ -1,5 +1,5 @@
 //! Numbers, words that name modes of `net_script`, lines that are executed in one, and words of `net_link`.
-use crate::call::first_word;
+use crate::call::{first_word, words_of};
 use crate::link;
 use net_cli::number;
 use net_script::{Mode, run};
@@ -36,10 +36,7 @@ fn answer_mode(alloc: Global, words: &str, reply: &mut String) -> Result<bool, A
 
 /// Returns the mode that words name, which are separated by a space.
 fn mode_of(alloc: Global, words: &str) -> Result<Option<Mode>, AllocError> {
-    let mut list = Vec::new(alloc);
-    for word in words.split(' ') {
-        list.push(String::from_str(alloc, word)?)?;
-    }
+    let list = words_of(alloc, words)?;
     Ok(Mode::from_words(&list))
 }
 

@@ -19,7 +19,7 @@ enum Making {
 }
 
 /// The calls that make a length of a number.
-const MAKING: [Entry<Making>; 8] = [
+static MAKING: [Entry<Making>; 8] = [
     ("Duration::from_micros", 1, Making::FromMicros),
     ("Duration::from_millis", 1, Making::FromMillis),
     ("Duration::from_secs", 1, Making::FromSecs),
@@ -47,7 +47,7 @@ enum Two {
 }
 
 /// The calls on two lengths.
-const TWO: [Entry<Two>; 11] = [
+static TWO: [Entry<Two>; 11] = [
     ("Duration::can_add", 2, Two::CanAdd),
     ("Duration::can_sub", 2, Two::CanSub),
     ("Duration::add", 2, Two::Add),
@@ -79,7 +79,7 @@ enum Scaling {
 }
 
 /// The calls on a length and a number of 32 bits.
-const SCALING: [Entry<Scaling>; 12] = [
+static SCALING: [Entry<Scaling>; 12] = [
     ("Duration::can_mul", 2, Scaling::CanMul),
     ("Duration::mul", 2, Scaling::Mul),
     ("Duration::mul_assign", 2, Scaling::MulAssign),
@@ -103,7 +103,7 @@ enum Core {
 }
 
 /// The calls from a duration of the standard library, of seconds and of nanoseconds beyond them, and to one.
-const CORE: [Entry<Core>; 3] = [
+static CORE: [Entry<Core>; 3] = [
     ("Duration::fits_core", 2, Core::Fits),
     ("Duration::from_core", 2, Core::From),
     ("Duration::into_core", 1, Core::Into),

@@ -19,7 +19,7 @@ enum Making {
 }
 
 /// The calls that make a moment of a number.
-const MAKING: [Entry<Making>; 8] = [
+static MAKING: [Entry<Making>; 8] = [
     ("Instant::from_micros", 1, Making::FromMicros),
     ("Instant::from_micros_const", 1, Making::FromMicrosConst),
     ("Instant::from_millis", 1, Making::FromMillis),
@@ -46,7 +46,7 @@ enum Moving {
 }
 
 /// The calls that move a moment by a length.
-const MOVING: [Entry<Moving>; 10] = [
+static MOVING: [Entry<Moving>; 10] = [
     ("Instant::can_add", 2, Moving::CanAdd),
     ("Instant::can_sub", 2, Moving::CanSub),
     ("Instant::add", 2, Moving::Add),
@@ -67,7 +67,7 @@ enum Two {
 }
 
 /// The calls on two moments.
-const TWO: [Entry<Two>; 2] = [
+static TWO: [Entry<Two>; 2] = [
     ("Instant::since", 2, Two::Since),
     ("Instant::cmp", 2, Two::Cmp),
 ];
