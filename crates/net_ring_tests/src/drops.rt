@@ -15,14 +15,21 @@ fn many<'c>(alloc: Global, drops: &'c Cell<u32>, count: u32) -> Result<Vec<Count
     Ok(values)
 }
 
-/// Makes a ring over such values, enqueues half of them, dequeues so many, and drops the ring. Returns how many
-/// values the drop of the ring dropped, and how many were dropped before.
-fn drops_of_ring(alloc: Global, count: u32, taken: usize) -> Result<(u32, u32), Fail> {
+/// Makes a ring over such values, enqueues half of them, dequeues so many, enqueues so many up to the
+/// storage's end and so many from its beginning on, and drops it; returns how many values were dropped
+/// then, and how many before.
+fn drops_of_ring(
+    alloc: Global,
+    count: u32,
+    (taken, more): (usize, usize),
+) -> Result<(u32, u32), Fail> {
     let drops = Cell::new(0);
     let mut ring = RingBuffer::from(many(alloc, &drops, count)?);
     let half = ring.capacity() / 2;
     ring.enqueue_many(half);
     ring.dequeue_many(taken);
+    ring.enqueue_many(more);
+    ring.enqueue_many(more);
     let before = drops.get();
     drop(ring);
     Ok((drops.get(), before))
@@ -31,9 +38,10 @@ fn drops_of_ring(alloc: Global, count: u32, taken: usize) -> Result<(u32, u32), 
 #[test]
 fn a_ring_drops_its_storage(rt: HostRuntime) -> Result<(), Fail> {
     for count in [0, 1, 2, 3, 64, 1000, 70000] {
-        assert_eq!(rt; drops_of_ring(rt.alloc(), count, 0)?, (count, 0));
-        assert_eq!(rt; drops_of_ring(rt.alloc(), count, 1)?, (count, 0));
-        assert_eq!(rt; drops_of_ring(rt.alloc(), count, 40000)?, (count, 0));
+        assert_eq!(rt; drops_of_ring(rt.alloc(), count, (0, 0))?, (count, 0));
+        assert_eq!(rt; drops_of_ring(rt.alloc(), count, (1, 0))?, (count, 0));
+        assert_eq!(rt; drops_of_ring(rt.alloc(), count, (1, 70000))?, (count, 0));
+        assert_eq!(rt; drops_of_ring(rt.alloc(), count, (40000, 0))?, (count, 0));
     }
     Ok(())
 }

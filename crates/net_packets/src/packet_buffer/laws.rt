@@ -122,3 +122,12 @@ pub fn accepted_packets_leave_in_turn<H>()
         → MakesAll calls (no_packets slot_count storage) r
         → (history calls).left ++ contents r ≡ (history calls).accepted }
 {}
+
+/// States that a clone of a slot is the same, if that of a header is, and is never refused, if that of
+/// a header isn't.
+pub fn packet_metadata_clone<H: Clone>(slot: &PacketMetadata<H>, clone: &PacketMetadata<H>)
+    ensures same { ((x y : H) → H.is_clone x y → y ≡ x)
+        → ⟦<PacketMetadata<H> as Clone>⟧.is_clone slot.now clone.now → clone.now ≡ slot.now }
+    ensures never_refused { ((x : H) → H.is_infallible x)
+        → ⟦<PacketMetadata<H> as Clone>⟧.is_infallible slot.now }
+{}
