@@ -154,6 +154,7 @@ def rows():
         yield row(read=(3, call), write=(2, None), **six)
     for call in (0, 1, 3, None):
         yield row(read=(3, None), write=(2, call), **six)
+    yield row("A read fails while bytes are unacknowledged.", reverse="FOUR_LOST", read=(None, 1))
     yield row("A read fails while bytes are in flight.", forward="SECOND_LOST", read=(None, 1), capacity=7)
     yield row(forward="EACH_SECOND", read=(None, 1), write=(40, None), **eighty)
     for call in (1, 2):

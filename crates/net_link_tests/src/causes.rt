@@ -239,16 +239,19 @@ static ENDED: [(&'static str, &'static str); 3] = [
 ];
 
 /// Returns whether the first read, the first write or the flush, by number, fails with an error of
-/// this kind, and its text is the cause.
-fn tells_kind(alloc: Global, call: usize, kind: ErrorKind) -> Result<bool, AllocError> {
+/// this kind, and its text is the cause, also where the flush after it fails with one of the other kind.
+fn tells_kind(
+    alloc: Global,
+    call: usize,
+    kind: ErrorKind,
+    other: ErrorKind,
+) -> Result<bool, AllocError> {
     let words = words_of(alloc, "0 1 0 0 4")?;
     let read = if call == 0 { 0 } else { NEVER };
     let write = if call == 1 { 0 } else { NEVER };
     let mut reader = Remembering::new(Source::failing(b"some text", NEVER, read, kind));
     let mut writer = Remembering::new(Sink::failing(alloc, NEVER, write, Some(kind))?);
-    if call == 2 {
-        writer.stream.flush_kind = Some(kind);
-    }
+    writer.stream.flush_kind = Some(if call == 2 { kind } else { other });
     let mut errors = Messages::new(Sink::new(alloc)?);
     let ended = serve(alloc, &words, &mut reader, &mut writer, &mut errors);
     let (what, counts) = ENDED[call.min(2)];
@@ -262,7 +265,8 @@ fn tells_kind(alloc: Global, call: usize, kind: ErrorKind) -> Result<bool, Alloc
 fn a_cause_of_any_kind_is_told(rt: HostRuntime) -> Result<(), AllocError> {
     for call in 0..3usize {
         for i in 0..KINDS.len() {
-            let is_right = tells_kind(rt.alloc(), call, KINDS[i])?;
+            let other = KINDS[(i + 1) % KINDS.len()];
+            let is_right = tells_kind(rt.alloc(), call, KINDS[i], other)?;
             assert_holds(&rt, is_right, i);
         }
     }

@@ -422,6 +422,7 @@ fn check_misuse(rt: &impl Abort, alloc: Global, words: &[String], line: &str) ->
     assert_bytes(rt, &errors.stream.bytes, wanted.as_bytes(), line);
     let sink = &writer.stream;
     assert!(rt; reader.stream.calls == 0 && sink.calls == 0 && sink.flushes == 0);
+    assert!(rt; errors.stream.flushes == 0);
     Ok(())
 }
 
@@ -487,6 +488,7 @@ fn check_help(
     assert_prefix(rt, &sink.bytes, USAGE.as_bytes(), written, line);
     assert_bytes(rt, &errors.stream.bytes, told.as_bytes(), line);
     assert!(rt; reader.stream.calls == 0 && sink.flushes == 1);
+    assert!(rt; errors.stream.flushes == 0);
     Ok(())
 }
 
@@ -513,6 +515,7 @@ fn check_refused_memory(rt: &impl Abort, alloc: Global, refused: usize) -> Resul
         b"net_link: out of memory\n0 bytes, 0 frames, 0 lost, 0 duplicated, 0 delayed, 0 refused, \
         0 bytes sent again, 0 rounds, 0 bytes a second\n";
     assert_bytes(rt, &errors.stream.bytes, told, "refused");
+    assert!(rt; errors.stream.flushes == 0);
     Ok(())
 }
 

@@ -97,16 +97,18 @@ fn all_comes_whatever_becomes_of_the_frames(rt: HostRuntime) {
 }
 
 /// Returns whether a copy of these bytes over storage of nine, two and four bytes takes 19 frames,
-/// 14 bytes of payload and five rounds.
+/// 14 bytes of payload and five rounds, four reads, five writes and a flush, and little memory, all
+/// of which is given back.
 fn takes_five_rounds(alloc: Global, text: &[u8]) -> bool {
     let setup = setup(ALL, ALL, 0, 0, 2);
+    let heap = Refusing::new(alloc, NEVER);
     let Ok(mut sink) = Sink::new(alloc) else {
         return false;
     };
     let mut source = Source::new(text);
     let mut counts = Counts::new();
     let end = copy_over_by(
-        alloc,
+        &heap,
         &setup,
         CopyBuffers {
             outgoing: &mut [0; 9],
@@ -118,7 +120,13 @@ fn takes_five_rounds(alloc: Global, text: &[u8]) -> bool {
         &mut counts,
     );
     let took = (counts.frames.sent, counts.frames.payload, counts.rounds);
-    end == "Ok" && sink.bytes.as_slice() == text && took == (19, 14, 5)
+    let calls = (source.calls, sink.calls, sink.flushes);
+    let is_little = heap.bytes() < 1_000 && heap.live() == 0;
+    end == "Ok"
+        && sink.bytes.as_slice() == text
+        && took == (19, 14, 5)
+        && calls == (4, 5, 1)
+        && is_little
 }
 
 /// A round reads as much as the third storage has room for, queues as much as the first, and the
@@ -183,16 +191,23 @@ fn each_refusal_ends_a_copy(rt: HostRuntime) {
 
 /// Returns whether the counts of a copy have everything up to the refusal of memory. In its first
 /// round eight segments are refused and nothing is written: 80 bytes are sent in that round, and 33
-/// in the next. Each round takes at least a round trip.
-fn are_kept(counts: &Counts, has_storage: bool) -> bool {
+/// in the next. Each round takes at least a round trip. The requests are those of the three buffers,
+/// of frames of at least a byte, of acknowledgements (at most two for each frame and one for each
+/// round), of delayed ones (at most one for each), and some for room in queues.
+fn are_kept(counts: &Counts, requests: usize) -> bool {
     let frames = &counts.frames;
+    let accounted = frames
+        .payload
+        .saturating_add(frames.sent.saturating_mul(3))
+        .saturating_add(counts.rounds)
+        .saturating_add(32);
     let is_counted = match counts.rounds {
-        0 => !has_storage,
+        0 => requests <= 3,
         1 => frames.payload <= 80 && frames.refused <= 8,
         2 => frames.payload >= 80 && frames.refused >= 8,
         _ => frames.payload >= 113 && frames.refused >= 8,
     };
-    is_counted && counts.micros / 10_000 >= counts.rounds
+    is_counted && requests as u64 <= accounted && counts.micros / 10_000 >= counts.rounds
 }
 
 /// Copies eighty bytes, every second of which is lost, in this memory. Returns how the copy ends, and whether
@@ -206,7 +221,7 @@ fn leaves_a_prefix(alloc: Global, memory: &Refusing) -> (&'static str, bool) {
     let setup = setup(EACH_SECOND, drawn(8, &LINKS[4]), 0, 4096, 1);
     let end = copy_by(memory, &setup, &mut source, &mut sink, &mut counts);
     let is_right = is_prefix(&sink, EIGHTY, counts.bytes_written)
-        && are_kept(&counts, memory.requests() > 3);
+        && are_kept(&counts, memory.requests());
     (end, is_right)
 }
 
@@ -248,6 +263,7 @@ fn asks_for(alloc: Global, len: usize, capacity: usize, asked: usize, most: usiz
 fn little_memory_is_asked_for(rt: HostRuntime) {
     // One round, of a frame and two acknowledgements, of 8 bytes each.
     assert_holds(&rt, asks_for(rt.alloc(), 6, 100_000, 302_000, 302_000), 0);
+    assert_holds(&rt, asks_for(rt.alloc(), 6, 100, 600, 600), 0);
     // 1,000 rounds of two frames and three acknowledgements.
     let frames = 1_000 * (2 * 1_008 + 3 * 8);
     assert_holds(

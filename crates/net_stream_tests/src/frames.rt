@@ -7,7 +7,7 @@ use net_base::phy::{Device, Loopback, Medium, RxToken};
 use net_stream::{
     Counts, Fate, Fates, FrameCounts, Path, Rates, decode, requeue_frame, send_frame,
 };
-use net_testing::{Refusing, refuse_each};
+use net_testing::{NEVER, Refusing, refuse_each};
 use std::alloc::{AllocError, Allocator, Global};
 
 /// Takes the next frame, and returns whether it has these bytes.
@@ -87,6 +87,37 @@ fn refused_memory_sends_no_frame(rt: HostRuntime) {
         });
         assert_holds(&rt, is_always_there && requests == Some(2), 0);
     }
+}
+
+/// Puts a frame of this payload, or these bytes among the delayed ones, after another one. Returns
+/// whether it takes one request, of as many bytes as it has.
+fn takes_its_bytes(alloc: Global, bytes: &[u8], is_delayed: bool) -> bool {
+    let memory = Refusing::new(alloc, NEVER);
+    let mut path = Path::new(&memory, Fates::new(&[], 1, PERFECT));
+    let is_first = path.send(start(), 1, b"ab").is_ok() && path.put_delayed(start(), b"c").is_ok();
+    let (requests, asked) = (memory.requests(), memory.bytes());
+    let (is_put, len) = if is_delayed {
+        (path.put_delayed(start(), bytes).is_ok(), bytes.len())
+    } else {
+        (
+            path.send(start(), 2, bytes).is_ok(),
+            bytes.len().saturating_add(8),
+        )
+    };
+    is_first
+        && is_put
+        && memory.requests() == requests.saturating_add(1)
+        && memory.bytes() == asked.saturating_add(len)
+}
+
+#[test]
+fn a_path_takes_the_bytes_of_its_frames(rt: HostRuntime) -> Result<(), AllocError> {
+    let bytes = pattern(rt.alloc(), 65_528)?;
+    for is_delayed in [false, true] {
+        assert_holds(&rt, takes_its_bytes(rt.alloc(), b"d", is_delayed), 0);
+        assert_holds(&rt, takes_its_bytes(rt.alloc(), &bytes, is_delayed), 1);
+    }
+    Ok(())
 }
 
 /// Bytes, and the position and the length of the payload that they decode to, if they do.

@@ -4,11 +4,11 @@ use crate::assertions::assert_holds;
 use crate::calls::{Setup, Way, copy_watched_by};
 use crate::counted::ways::{ALL, EACH_SECOND, FIRST_LOST, NONE, SOME};
 use net_stream::{Config, Counts, Watch};
-use net_testing::Source;
+use net_testing::{NEVER, Refusing, Source};
 use std::alloc::Global;
 use std::cell::Cell;
 use std::io;
-use std::io::Write;
+use std::io::{ErrorKind, Write};
 
 /// A writer that takes at most so many bytes a call, and so many in all, and tells how many it has.
 #[derive(Drop)]
@@ -114,6 +114,42 @@ fn tells_so(alloc: Global, row: &Row) -> bool {
         watch.last == counts
     };
     (end, counts.bytes_written) == row.4 && watch.wrong == 0 && is_told
+}
+
+/// Returns whether a copy in which a request for memory is refused, or a read fails, ends so, and
+/// tells of each round once, but of no round that was broken off.
+fn tells_until(alloc: Global, (refused, failing): (usize, usize), wanted: &str) -> bool {
+    let memory = Refusing::new(alloc, refused);
+    let written = Cell::new(0u64);
+    let mut watch = Watching {
+        written: &written,
+        rounds: 0,
+        wrong: 0,
+        last: Counts::new(),
+    };
+    let mut counts = Counts::new();
+    let end = copy_watched_by(
+        &memory,
+        &setup_of(&ROWS[1]),
+        &mut watch,
+        &mut Source::failing(&[b'x'; 100], 50, failing, ErrorKind::Other),
+        &mut Telling {
+            per_call: 100,
+            left: 100,
+            written: &written,
+        },
+        &mut counts,
+    );
+    let broken_off = u64::from(end == "out of memory");
+    end == wanted && watch.wrong == 0 && watch.rounds.saturating_add(broken_off) == counts.rounds
+}
+
+#[test]
+fn nothing_is_told_of_an_error(rt: HostRuntime) {
+    let read = tells_until(rt.alloc(), (NEVER, 1), "read failed");
+    assert_holds(&rt, read, 0);
+    let memory = tells_until(rt.alloc(), (40, NEVER), "out of memory");
+    assert_holds(&rt, memory, 1);
 }
 
 #[test]

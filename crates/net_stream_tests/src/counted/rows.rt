@@ -9,7 +9,7 @@ use crate::counted::{Case, TO_THE_END};
 use net_testing::NEVER;
 
 /// Copies, and the counts of each.
-pub static CASES: [Case; 57] = [
+pub static CASES: [Case; 58] = [
     // Three frames, an acknowledgement for each and one more.
     Case(
         ALL,
@@ -454,6 +454,15 @@ pub static CASES: [Case; 57] = [
         (3, NEVER, 2, NEVER),
         ("Ok", 3),
         [6, 6, 2, 20_000, 14, 6, 0, 0, 0, 0],
+    ),
+    // A read fails while bytes are unacknowledged.
+    Case(
+        ALL,
+        FOUR_LOST,
+        (6, 0, 16, 2, 4_096, 100),
+        (NEVER, 1, NEVER, NEVER),
+        ("read failed", 2),
+        [6, 6, 1, 10_000, 7, 6, 4, 0, 0, 0],
     ),
     // A read fails while bytes are in flight.
     Case(
