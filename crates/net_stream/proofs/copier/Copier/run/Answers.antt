@@ -1,8 +1,10 @@
-use Rattle.std.proofs.Common.{◌≡◌, ◌<◌, ◌≤◌, ◌⊎◌, ◌+◌, ◌++◌, [], length, Err, refl, sym, ap, subst, ◌∙◌, arith}
+use Rattle.std.proofs.Common.{◌≡◌, ◌<◌, ◌+◌, ◌++◌, [], length, Err, refl, sym, ap, subst, ◌∙◌, arith}
 use Rattle.std.proofs.lemmas.Result.{err_from_is_err_and}
 use Rattle.net_copies.specs.CopyState.{CopyState, Running, Done, GaveUp, ReadFailed}
 use Rattle.net_stream.specs.Turns.{copy_state_of, Feeds, Passes, Breaks}
-use Rattle.net_stream.proofs.Copied.{none_yet, one_more, last, part_of, read_failed, broke_off, is_over, gives_up, is_done, far, progresses, fed_leaves, smaller}
+use Rattle.net_stream.proofs.Copied.{none_yet, one_more, last, part_of, read_failed, broke_off, is_over, gives_up, is_done, smaller}
+use Rattle.net_copies.proofs.Fuel.{far, Moves, progresses}
+use Rattle.net_copies.proofs.GoesOn.{fed_leaves}
 use Rattle.net_stream.proofs.copier.Copier.run.Goals as goal
 
 pub turns-init : goal.turns-init
@@ -40,14 +42,13 @@ turns-smaller g c =
     let fits = c.is_done.ensures.fits in
     let fed = f.step [] [] [] (λ e. cc) in
     let left = fed_leaves (length c.turns.chunk) (copy_state_of a (f.reads ++ []) [] [] Running) in
-    let same_far : far b.link ≡ far a.link = sym (ap (λ (s : CopyState). far s.link) fed) ∙ left.0 in
-    let same : b.stalled ≡ a.stalled = sym (ap (λ (s : CopyState). s.stalled) fed) ∙ left.1 in
+    let same_far : far b.link ≡ far a.link = sym (ap (λ (s : CopyState). far s.link) fed) ∙ (λ i. left.first_unacknowledged i + (left.receiver i).read) in
+    let same : b.stalled ≡ a.stalled = sym (ap (λ (s : CopyState). s.stalled) fed) ∙ left.stalled in
     let few : a.stalled < c.args.rounds = omega arith in
     smaller c.args.rounds (far a.link) (far d.link) a.stalled d.stalled (omega arith) (omega (arith, fits, same_far)) few
-    (subst (λ n. (n < far d.link) ⊎ ((n ≤ far d.link) × (d.stalled ≡ a.stalled + 1))) same_far
-    (subst (λ n. (far b.link < far d.link) ⊎ ((far b.link ≤ far d.link) × (d.stalled ≡ n + 1))) same
-    (subst (λ (s : CopyState). (far b.link < far s.link) ⊎ ((far b.link ≤ far s.link) × (s.stalled ≡ b.stalled + 1))) (p.step [] [] [])
-    (progresses c.known.ensures.reads_nothing (length c.feed.new.chunk) (copy_state_of b [] [] [] Running)))))
+    (subst (λ n. Moves n (far d.link) a.stalled d.stalled) same_far (subst (λ n. Moves (far b.link) (far d.link) n d.stalled) same
+    (subst (λ (s : CopyState). Moves (far b.link) (far s.link) b.stalled s.stalled) (p.step [] [] [])
+    (progresses c.known.ensures.reads_nothing (length c.feed.new.chunk) (copy_state_of b [] [] [] Running)).1)))
 
 pub returns-then-is_done : goal.returns-then-is_done
 returns-then-is_done g c = λ s begins.
