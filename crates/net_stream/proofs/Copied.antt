@@ -93,6 +93,10 @@ pub gives_up : (rounds : ℕ) (c : CopyState) → (not c.more && is_written c.li
 gives_up rounds c on many =
     cond-false (not c.more && is_written c.link) (record c { status = Done }) _ on ∙ cond-true (nat_le rounds c.stalled) (record c { status = GaveUp }) c (le-leb rounds c.stalled many)
 
+-- a read into a chunk of this length
+pub fed_into : {A : Type 0} (k chunk : ℕ) (a b : Copier A) (has next : Option (List ℕ)) (ended : Status) → k ≡ chunk → Feeds k a b has next ended → Feeds chunk a b has next ended
+fed_into k chunk a b has next ended same f = subst (λ n. Feeds n a b has next ended) same f
+
 concat_both : (xs ys : List (List ℕ)) → concat (xs ++ ys) ≡ concat xs ++ concat ys
 concat_both [] ys = refl
 concat_both (x ∷ xs) ys = ap (λ l. x ++ l) (concat_both xs ys) ∙ sym (append_assoc x (concat xs) (concat ys))
