@@ -1,12 +1,13 @@
 -- What is counted of frames that met their fates.
-use Rattle.std.proofs.Common.{◌≡◌, ◌&&◌, ℕ, zero, suc, ◌+◌, ◌^◌, nat_lt, Bool, true, false, cond}
-use Rattle.std.proofs.Common.{List, length, Option, Some, None, refl, sym, ap, ◌∙◌, arith}
+use Rattle.std.proofs.Common.{◌≡◌, ◌&&◌, ℕ, zero, suc, ◌+◌, ◌^◌, nat_lt}
+use Rattle.std.proofs.Common.{List, length, Option, Some, None, refl, ap, ◌∙◌}
 use Rattle.net_receiver.specs.Rules.{Segment}
 use Rattle.net_receiver.specs.ReceiverState.{ReceiverState, receiver_reply}
 use Rattle.net_copies.specs.declared.counts.FrameCounts.{FrameCounts}
 use Rattle.net_copies.specs.declared.fate.Fate.{Fate}
 use Rattle.net_copies.specs.declared.fate.Fate.TheVariants.{Delivered, Lost, Duplicated, Delayed}
 use Rattle.net_copies.specs.Fates.{FatesState, next_fate, after_fate}
+use Rattle.net_copies.proofs.Steps.{split}
 use Rattle.net_copies.specs.Counts.{more, with_fate, with_fates, SameButRefused, is_refused, with_refusal}
 
 pub same_equal : (c d : FrameCounts) → c ≡ d → SameButRefused c d
@@ -26,20 +27,9 @@ same_met (suc n) v c d same = same_met n (after_fate v) (with_fate (next_fate v)
 -- a frame that comes changes no other count
 refusing_is : (most : ℕ) (r : ReceiverState) (o : Option (ℕ × List ℕ)) (c : FrameCounts) → SameButRefused (with_refusal most r o c) c
 refusing_is most r None c = refl
-refusing_is most r (Some (pos, xs)) c = both (nat_lt (pos + length xs) (2 ^ 64) && is_refused (receiver_reply most r (Segment pos xs)))
-  where
-    both : (b : Bool) → SameButRefused (cond b (record c { refused = more c.refused }) c) c
-    both true = refl
-    both false = refl
+refusing_is most r (Some (pos, xs)) c =
+    split (λ d. SameButRefused d c) (nat_lt (pos + length xs) (2 ^ 64) && is_refused (receiver_reply most r (Segment pos xs)))
+    (record c { refused = more c.refused }) c (λ _. refl) (λ _. refl)
 
 pub same_refusing : (most : ℕ) (r : ReceiverState) (o : Option (ℕ × List ℕ)) (c d : FrameCounts) → d ≡ with_refusal most r o c → SameButRefused d c
 same_refusing most r o c d is = same_equal d (with_refusal most r o c) is ∙ refusing_is most r o c
-
--- so are the frames that are left
-pub met_left : (v v' : FatesState) (c c' : FrameCounts) (m n : ℕ) → m ≡ n + 1 → v' ≡ after_fate v → SameButRefused c' (with_fate (next_fate v) c) →
-    SameButRefused (with_fates n v' c') (with_fates m v c)
-met_left v v' c c' m n is left same =
-    let k : m ≡ suc n = omega arith in
-    ap (λ u. record (with_fates n u c') { refused = 0 }) left
-    ∙ same_met n (after_fate v) c' (with_fate (next_fate v) c) same
-    ∙ ap (λ j. record (with_fates j v c) { refused = 0 }) (sym k)

@@ -1,6 +1,6 @@
 -- What is counted of a copy's rounds and frames, turn by turn.
-use Rattle.std.proofs.Common.{◌≡◌, ◌⊎◌, ℕ, zero, suc, ◌+◌, ◌-◌, ◌*◌, ◌≤◌, ◌<◌, ◌^◌, min, nat_eq, not, true, false, List, ◌∷◌, ◌++◌, length, take, refl, sym, ap, subst, ◌∙◌, arith, ⊎_elim, inl, inr, length-append, length-take}
-use Rattle.std.proofs.lemmas.Bool.{both_ways, cases_lt, and_from, and_parts, eq-eqb}
+use Rattle.std.proofs.Common.{◌≡◌, ◌⊎◌, ℕ, zero, suc, ◌+◌, ◌-◌, ◌*◌, ◌≤◌, ◌<◌, ◌^◌, min, nat_eq, not, true, List, ◌∷◌, ◌++◌, length, take, refl, sym, ap, subst, ◌∙◌, arith, ⊎_elim, inl, inr, pos_of_ne-zero, lt_of_not-le, length-append, length-take}
+use Rattle.std.proofs.lemmas.Bool.{both_ways, and_from, and_parts, eq-eqb}
 use Rattle.net_receiver.specs.ReceiverState.{next_position}
 use Rattle.net_copies.specs.SenderState.{end_of}
 use Rattle.net_copies.specs.Fates.{AllCome}
@@ -16,44 +16,23 @@ use Rattle.net_copies.proofs.Stuck.{due_kept, all_after, round_moves}
 use Rattle.net_copies.proofs.RoundCount.{round_at_once, more_taken}
 use Rattle.net_copies.proofs.Passed.{round_sends}
 use Rattle.net_copies.proofs.Kept.{round_keeps_invariant}
-use Rattle.net_copies.proofs.Turns.{ended, decides, all_turned}
+use Rattle.net_copies.proofs.Turns.{decides, all_turned}
 use Rattle.net_copies.proofs.Prefix.{SoFar, so_far, fed_so_far}
-use Rattle.net_copies.proofs.GoesOn.{FedLeaves, Feeds, Waits, Fails, Ends, Gives, feeds, fed_leaves, ends, asked, Turned, Failed, Finished, Stopped, WentOn, turns, goes_on, Still, Brought, Some, Nothing, brought, running_or_not}
+use Rattle.net_copies.proofs.GoesOn.{FedLeaves, Feeds, Waits, Fails, Ends, Gives, feeds, fed_leaves, ends, asked, Turned, Failed, Finished, Stopped, WentOn, turns, GoesOn, goes_on, stops, Still, Brought, Some, Nothing, brought}
 use Rattle.net_copies.proofs.GivesUp.{gives_up_after}
-use Rattle.net_copies.proofs.StuckRounds.{numbers, Stays, fed_stays, pass_stays, all_stays, passes_before, stuck_turn, leaves, sends, writes, left, kept, fed}
+use Rattle.net_copies.proofs.Fuel.{ends_in_one_turn}
+use Rattle.net_copies.proofs.StuckRounds.{numbers, by_turns, Stays, fed_stays, pass_stays, all_stays, passes_before, stuck_turn, leaves, sends, writes, left, kept, fed}
 
 -- what is true where a copy ends so, is true from then on
 pub at_end : (s : Setup) (reads : List (List ℕ)) (Q : CopyState → Type 0) (last : Status) → (last ≡ Running → ⊥) →
     ((n : ℕ) → (after s reads n).status ≡ Running → (after s reads (suc n)).status ≡ last → Q (after s reads (suc n))) →
     (n : ℕ) → (after s reads n).status ≡ last → Q (after s reads n)
-at_end s reads Q last over one zero is = absurd (over (sym is))
-at_end s reads Q last over one (suc n) is =
-    let before = at_end s reads Q last over one n in
-    ⊎_elim {C = Q (after s reads (suc n))}
-    (λ (on : (after s reads n).status ≡ Running). one n on is)
-    (λ (not_on : (after s reads n).status ≡ Running → ⊥).
-    let same = ended s.rounds s.chunk (after s reads n) not_on in
-    subst Q (sym same) (before (sym (ap (λ c. c.status) same) ∙ is)))
-    (running_or_not (after s reads n).status)
+at_end s reads Q last over one n is =
+    let h = ends_in_one_turn s reads n (λ r. over (sym is ∙ r)) in
+    subst Q h.3 (one h.0 h.2 (ap (λ c. c.status) h.3 ∙ is))
 
 gave_up_no_longer_runs : GaveUp ≡ Running → ⊥
 gave_up_no_longer_runs e = cc
-
--- the turn with which a copy gives up
-record Stops (rounds chunk : ℕ) (c : CopyState) : Type 0 where
-  fed : (feed chunk c).status ≡ Running
-  on : ends (feed chunk c) ≡ false
-  many : rounds ≤ c.stalled
-  is : turn rounds chunk c ≡ record (feed chunk c) { status = GaveUp }
-
-stops : (rounds chunk : ℕ) (c : CopyState) → c.status ≡ Running → (turn rounds chunk c).status ≡ GaveUp → Stops rounds chunk c
-stops rounds chunk c on gave = by (turns rounds chunk c on)
-  where
-    by : Turned rounds chunk c → Stops rounds chunk c
-    by (Failed failed e) = (let j : ReadFailed ≡ GaveUp = sym failed ∙ sym (ap (λ d. d.status) e) ∙ gave in cc)
-    by (Finished done e) = (let j : Done ≡ GaveUp = sym (ap (λ d. d.status) e) ∙ gave in cc)
-    by (Stopped fed more many e) = record { fed = fed; on = more; many = subst (λ n. rounds ≤ n) (fed_leaves chunk c).stalled many; is = e }
-    by (WentOn fed more few e) = (let j : Running ≡ GaveUp = sym fed ∙ sym (ap (λ d. d.status) e) ∙ gave in cc)
 
 -- ---- rounds
 pub counts_rounds : CountsRounds
@@ -98,14 +77,11 @@ module _ (known : KnownOfRounds) where
           let begins = first_is s.first d.given d.link.receiver w.carries.way.receives in
           let read = (queue_from known.known.queue s.first d.given d.link.receiver w.carries.way.receives).within in
           let long = ap length w.written in
-          ⊎_elim {C = length (after s reads (suc n)).written < length (after s reads (suc n)).given}
-          (λ (l : length (after s reads (suc n)).written < length (after s reads (suc n)).given). l)
-          (λ (l : length (after s reads (suc n)).given ≤ length (after s reads (suc n)).written).
+          lt_of_not-le (λ (l : length (after s reads (suc n)).given ≤ length (after s reads (suc n)).written).
           let all : d.link.receiver.read ≡ length d.given = omega (arith, length-take d.link.receiver.read d.given) in
-          absurd (asked s.chunk c stop.fed stop.on can.chunk (omega arith) (omega arith)
+          asked s.chunk c stop.fed stop.on can.chunk (omega arith) (omega arith)
           (and_from (nat_eq (next_position d.link.receiver) (end_of d.link.sender)) (nat_eq (length d.link.receiver.queue) 0)
-          (eq-eqb (next_position d.link.receiver) (end_of d.link.sender) (omega arith)) (eq-eqb (length d.link.receiver.queue) 0 (omega arith)))))
-          (cases_lt (length (after s reads (suc n)).written) (length (after s reads (suc n)).given))
+          (eq-eqb (next_position d.link.receiver) (end_of d.link.sender) (omega arith)) (eq-eqb (length d.link.receiver.queue) 0 (omega arith))))
 
   -- ---- the fates of frames
   module _ (s : Setup) where
@@ -274,14 +250,10 @@ module _ (known : KnownOfRounds) where
         let few = h.1 in
         (f.first_unacknowledged ∙ h.0 ∙ sym (ap (λ r. r.first + r.read + length r.queue) f.receiver), omega arith)
 
-    one_at_once : (c : CopyState) → SoFar known.known s reads c → Stays known s c.link → CanPass s (turn s.rounds s.chunk c) → AtOnce c →
-        Turned s.rounds s.chunk c → AtOnce (turn s.rounds s.chunk c)
-    one_at_once c was stays can h (Failed failed is) = subst AtOnce (sym is) (fed_at_once c h)
-    one_at_once c was stays can h (Finished done is) = subst AtOnce (sym is) (fed_at_once c h)
-    one_at_once c was stays can h (Stopped fed more many is) = subst AtOnce (sym is) (fed_at_once c h)
-    one_at_once c was stays can h (WentOn on more few is) =
+    one_at_once : (c : CopyState) → SoFar known.known s reads c → Stays known s c.link → CanPass s (turn s.rounds s.chunk c) → GoesOn s.rounds s.chunk c →
+        AtOnce (feed s.chunk c) → AtOnce (pass s.chunk (feed s.chunk c))
+    one_at_once c was stays can one h =
         let e = feed s.chunk c in
-        let one = goes_on s.rounds s.chunk c (ap (λ d. d.status) is ∙ on) in
         let old = waited e in
         let new = round old in
         let p = (sends known s reads c was stays can one).passes in
@@ -289,38 +261,21 @@ module _ (known : KnownOfRounds) where
         let w = (writes known s reads c was stays can one).carries in
         let end = w.way.sends.end in
         let most = left known s reads c was stays can one in
-        let last = (pass s.chunk e).link in
         let room = can.incoming in
         let cap = u.incoming in
         let moves = round_moves old new p known.known.decode (numbers known) known.order known.known.queue u.sound (omega arith) in
-        let was_few = (fed_at_once c h).1 in
-        let one_more = round_at_once known.known.decode known.known.queue s.first e.given old new last s.chunk p
-        (leaves known s reads c was stays can one) moves (omega arith) refl w.way
+        let was_few = h.1 in
+        let one_more = round_at_once known.known.decode known.known.queue s.first e.given old new s.chunk p
+        (leaves known s reads c was stays can one) moves (omega arith) w.way
         (round_keeps_invariant known.known s.first e.given old (record { way = w.way; fits = w.fits })).way u.in_flight u.in_flight_reverse
         (subst AllCome (sym u.drawn.1) (all_after u.drawn.0 s.fates come)) (subst AllCome (sym u.drawn_reverse.1) (all_after u.drawn_reverse.0 s.ack_fates come_reverse))
-        (fed_at_once c h).0 (omega arith) can.chunk
-        (λ none. some_kept e (λ empty. kept known s reads c was stays can one empty none)) in
+        h.0 (omega arith) can.chunk
+        (λ none. pos_of_ne-zero (λ empty. kept known s reads c was stays can one empty none)) in
         let grows = one_more.1 in
-        subst AtOnce (sym is) (one_more.0, few_more e.rounds e.link.receiver.read last.receiver.read was_few grows)
-      where
-        some_kept : (e : CopyState) → (length e.link.sender.queue ≡ 0 → ⊥) → 0 < length e.link.sender.queue
-        some_kept e not_none = ⊎_elim {C = 0 < length e.link.sender.queue} (λ (l : 0 < length e.link.sender.queue). l)
-            (λ (l : length e.link.sender.queue ≤ 0). absurd (not_none (omega arith))) (cases_lt 0 (length e.link.sender.queue))
-
-        few_more : (n r r' : ℕ) → n ≤ r → r < r' → min (n + 1) (2 ^ 64 - 1) ≤ r'
-        few_more n r r' h l = omega arith
+        (one_more.0, omega (arith, was_few, grows))
 
     at_once : (n : ℕ) → CanPass s (after s reads n) → AtOnce (after s reads n)
-    at_once zero can = (omega arith, omega arith)
-    at_once (suc n) can =
-        let c = after s reads n in
-        let positions = can.positions in
-        let starts : s.first < 2 ^ 64 = omega arith in
-        let before = at_once n (passes_before known s reads n (suc n) (omega arith) can) in
-        ⊎_elim {C = AtOnce (after s reads (suc n))}
-        (λ (on : c.status ≡ Running). one_at_once c (so_far known.known s reads starts n) (all_stays known s reads n) can before (turns s.rounds s.chunk c on))
-        (λ (over : c.status ≡ Running → ⊥). subst AtOnce (sym (ended s.rounds s.chunk c over)) before)
-        (running_or_not c.status)
+    at_once = by_turns known s reads AtOnce fed_at_once (λ c status h. h) one_at_once (omega arith, omega arith)
 
   pub rounds_at_once : RoundsAtOnce
   rounds_at_once s reads n can come come_reverse =

@@ -19,8 +19,9 @@ use Rattle.net_copies.specs.Round.{HasRoomFor, Passes, RoundDelivers}
 use Rattle.net_copies.specs.LinkInvariant.{LinkInvariant}
 use Rattle.net_copies.specs.LinkState.{LinkState, round}
 use Rattle.net_copies.specs.Stuck.{KnownOfRounds}
-use Rattle.net_copies.proofs.Kept.{split, at_parts, round_keeps_invariant}
-use Rattle.net_copies.proofs.Meeting.{brought_append}
+use Rattle.net_copies.proofs.Kept.{at_parts, round_keeps_invariant}
+use Rattle.net_copies.proofs.Steps.{split}
+use Rattle.net_copies.proofs.Meeting.{arrives, all_arrive, brought_append}
 use Rattle.net_copies.proofs.Queue.{queue_from}
 use Rattle.net_copies.proofs.Passed.{round_sends}
 use Rattle.net_copies.proofs.Reached.{says_ends, reach_cases, brought, no_gap, sent_reaches, first_is}
@@ -46,14 +47,10 @@ module _ (known : KnownOfRounds) (f : ℕ) (w : List ℕ) where
       grows
 
   one_has : (r : ReceiverState) (o : Option (ℕ × List ℕ)) (p : ℕ) → HasByteAt r p → HasByteAt (receiver_after most_sack_blocks r o) p
-  one_has r None p h = h
-  one_has r (Some (pos, xs)) p h =
-      split (λ (v : ReceiverState). HasByteAt v p) (nat_lt (pos + length xs) (2 ^ 64)) (receiver_after_command most_sack_blocks r (Segment pos xs)) r
-      (λ _. known.known.has most_sack_blocks r (Segment pos xs) p h) (λ _. h)
+  one_has r o p h = arrives (λ v. HasByteAt v p) most_sack_blocks r o (λ pos xs _. known.known.has most_sack_blocks r (Segment pos xs) p h) h
 
   all_have : (r : ReceiverState) (frames : List (List ℕ)) (p : ℕ) → HasByteAt r p → HasByteAt (receiver_after_all most_sack_blocks r frames) p
-  all_have r [] p h = h
-  all_have r (frame ∷ frames) p h = all_have (receiver_after most_sack_blocks r (segment_of frame)) frames p (one_has r (segment_of frame) p h)
+  all_have r frames p = all_arrive (λ v. HasByteAt v p) most_sack_blocks (λ v pos xs. known.known.has most_sack_blocks v (Segment pos xs) p) r frames
 
   all_reach : (r : ReceiverState) (ranges : List (ℕ × ℕ)) (end : ℕ) (frames : List (List ℕ)) → IsSound most_sack_blocks r → HasAllOf r ranges →
       All (FrameMatches f w) frames → f + length w ≤ limit_of r → f + length w < 2 ^ 64 → Reaches ranges end (next_position r) frames →

@@ -1,7 +1,5 @@
 -- What is counted of the frames of several rounds.
-use Rattle.std.proofs.Common.{◌≡◌, ℕ, zero, suc, ◌+◌, length, true, false, Result, Ok, Err, OnOk, OnErr, refl, ap, ◌∙◌, arith}
-use Rattle.std.specs.Result.{is_err}
-use Rattle.std.proofs.lemmas.Bool.{both_ways}
+use Rattle.std.proofs.Common.{◌≡◌, ℕ, zero, suc, ◌+◌, length, refl, ap, ◌∙◌, arith}
 use Rattle.net_copies.specs.declared.counts.FrameCounts.{FrameCounts}
 use Rattle.net_copies.specs.declared.fate.Fate.{Fate}
 use Rattle.net_copies.specs.declared.fate.Fate.TheVariants.{Delivered, Lost, Duplicated, Delayed}
@@ -94,12 +92,3 @@ round_met v v' old new round h =
 
 pub met_so_far : (v v' u u' : FatesState) (c : FrameCounts) → FatesSoFar v v' u u' c → CountsFates v v' c
 met_so_far v v' u u' c h = record { frames = h.frames; acks = h.acks; counted = h.counted }
-
--- ---- which end a call had
-pub was_ok : {T E : Type 0} (P : Type 0) (r : Result T E) → is_err r ≡ false → OnOk r P → P
-was_ok P (Ok t) e p = p
-was_ok P (Err x) e p = absurd (both_ways true e refl)
-
-pub was_err : {T E : Type 0} (P : Type 0) (r : Result T E) → is_err r ≡ true → OnErr r P → P
-was_err P (Ok t) e p = absurd (both_ways false refl e)
-was_err P (Err x) e p = p

@@ -1,20 +1,19 @@
 -- How many rounds a copy makes where nothing is lost or delayed, and a round has room for what a read gives.
-use Rattle.std.proofs.Common.{◌≡◌, ℕ, suc, ◌+◌, ◌-◌, ◌*◌, ◌≤◌, ◌<◌, min, cond, nat_lt, true, false, List, [], ◌∷◌, ◌++◌, length, take, All, refl, sym, ap, subst, ◌∙◌, arith, ⊎_elim, length-append, length-take, nat_le, ◌^◌, ◌&&◌, Some, append_assoc, length-drop, drop, zero, le_trans, nat_eq}
-use Rattle.std.proofs.lemmas.Bool.{both_ways, cond-true, and_from, le-leb, cases_lt, cond-false, eq-eqb, lt-ltb, le-ltb}
+use Rattle.std.proofs.Common.{◌≡◌, ℕ, suc, ◌+◌, ◌-◌, ◌*◌, ◌≤◌, ◌<◌, min, cond, nat_lt, true, false, List, [], ◌∷◌, ◌++◌, length, take, All, refl, sym, ap, subst, ◌∙◌, arith, ⊎_elim, length-append, length-take, ◌^◌, ◌&&◌, append_assoc, length-drop, drop, zero, le_trans, nat_eq}
+use Rattle.std.proofs.lemmas.Bool.{both_ways, cond-true, and_from, cases_lt, cond-false, eq-eqb, lt-ltb, le-ltb}
 use Rattle.std.proofs.lemmas.List.Elements.{All-head, All-tail}
 use Rattle.std.proofs.lemmas.List.{append-nil}
 use Rattle.net_assembler.specs.Positions.{IsMaximalRun, maximal_runs}
 use Rattle.net_receiver.specs.ReceiverState.{ReceiverState, IsSound, next_position, domain}
 use Rattle.net_receiver.specs.OneStream.{ReceivesFrom}
-use Rattle.net_copies.specs.SenderState.{SenderState, end_of, contiguous_end, sender_from}
-use Rattle.net_copies.specs.Frames.{Part, frames_from, part_bytes, frame_of, FramesDecode}
+use Rattle.net_copies.specs.SenderState.{SenderState, end_of, contiguous_end}
+use Rattle.net_copies.specs.Frames.{Part, frames_from, part_bytes}
 use Rattle.net_copies.specs.SackBlocks.{is_sacked, count_from, next_start, greatest_end, is_full, most_sack_blocks, block_bytes, blocks_of}
 use Rattle.net_copies.specs.PathState.{PathState, ack_of}
 use Rattle.net_copies.specs.Transmission.{AreSparedIfSacked, HasSize, part_end, HaveEnds, SendsRound}
 use Rattle.net_copies.specs.SenderState.{stop_of, at_least_one}
 use Rattle.net_copies.specs.Fates.{AllCome}
 use Rattle.net_copies.specs.Arrivals.{acks_of}
-use Rattle.net_copies.specs.SenderState.{after_ack_frame}
 use Rattle.net_copies.specs.Reach.{after_ack_frames}
 use Rattle.net_copies.specs.LinkState.{LinkState, round, next_burst}
 use Rattle.net_copies.specs.Round.{HasRoomFor}
@@ -27,10 +26,11 @@ use Rattle.net_copies.proofs.Passed.{round_sends}
 use Rattle.net_copies.proofs.CountedTurns.{at_end, done_none}
 use Rattle.net_copies.proofs.GoesOn.{asks, ends, GoesOn, goes_on}
 use Rattle.net_copies.proofs.Prefix.{SoFar, so_far, fed_so_far}
-use Rattle.net_copies.proofs.Reached.{next_come, acked_append, all_keep_end}
-use Rattle.net_copies.proofs.Stuck.{round_keeps, all_after, head_grows}
+use Rattle.net_copies.proofs.Reached.{next_come}
+use Rattle.net_copies.proofs.Stuck.{round_keeps, all_after, acked_last}
 use Rattle.net_copies.proofs.StuckRounds.{numbers, all_sound, Stays, all_stays, fed_stays}
-use Rattle.net_copies.proofs.Kept.{split, held_within, round_keeps_invariant}
+use Rattle.net_copies.proofs.Kept.{held_within, round_keeps_invariant}
+use Rattle.net_copies.proofs.Steps.{split}
 use Rattle.net_copies.proofs.Ranges.{contains_held, ranges_stop}
 use Rattle.net_copies.proofs.RoundCount.{coming_all}
 
@@ -88,21 +88,6 @@ no_runs known f w r sound from all = by (maximal_runs (domain r.held)) (known.kn
         let high = held_within known.known f w r run.0 from held in
         absurd (omega arith)
 
--- the sender has the SACK blocks of the last acknowledgement
-last_sacked : FramesDecode → (s : SenderState) (n : ℕ) (xs : List ℕ) (prefix : List (List ℕ)) → n ≤ end_of s → n < 2 ^ 64 →
-    (after_ack_frames s (prefix ++ frame_of n xs ∷ [])).first_unacknowledged ≤ n → (after_ack_frames s (prefix ++ frame_of n xs ∷ [])).sack_blocks ≡ blocks_of most_sack_blocks xs
-last_sacked trip s n xs prefix within word below =
-    let t = after_ack_frames s prefix in
-    let end : end_of t ≡ end_of s = all_keep_end s prefix in
-    let is : after_ack_frames s (prefix ++ frame_of n xs ∷ []) ≡ after_ack_frame t (Some (n, xs)) =
-    acked_append s prefix (frame_of n xs ∷ []) ∙ ap (after_ack_frame t) (trip n xs word) in
-    let same : (after_ack_frames s (prefix ++ frame_of n xs ∷ [])).first_unacknowledged ≡ (after_ack_frame t (Some (n, xs))).first_unacknowledged = ap (λ v. v.first_unacknowledged) is in
-    let grows : t.first_unacknowledged ≤ (after_ack_frame t (Some (n, xs))).first_unacknowledged = head_grows t (Some (n, xs)) in
-    let low : t.first_unacknowledged ≤ n = omega (arith, same, grows, below) in
-    let high : n ≤ end_of t = omega (arith, end, within) in
-    ap (λ v. v.sack_blocks) (is ∙ cond-true (nat_le t.first_unacknowledged n && nat_le n (end_of t)) (sender_from t n (blocks_of most_sack_blocks xs)) t
-    (and_from (nat_le t.first_unacknowledged n) (nat_le n (end_of t)) (le-leb t.first_unacknowledged n low) (le-leb n (end_of t) high)))
-
 -- a round that has room for all
 pub record DeliversAll (l m : LinkState) : Type 0 where
   pub next : next_position m.receiver ≡ end_of l.sender
@@ -137,9 +122,8 @@ delivers_all known f w l counted sound sound_after h none far few room come come
       next = reached;
       queue = both.1;
       first_unacknowledged = head;
-      sack_blocks = ap (λ v. v.sack_blocks) is
-          ∙ last_sacked known.known.decode l.sender (next_position m.receiver) xs earlier (omega arith) (omega arith)
-          (subst (λ v. v.first_unacknowledged ≤ next_position m.receiver) is (omega arith))
+      sack_blocks = ap (λ v. v.sack_blocks) (is ∙ acked_last known.known.decode l.sender (next_position m.receiver) xs earlier (omega arith) (omega arith)
+          (subst (λ v. v.first_unacknowledged ≤ next_position m.receiver) is (omega arith)))
           ∙ ap (λ k. blocks_of most_sack_blocks (block_bytes (take most_sack_blocks k))) runs ∙ ranges_stop most_sack_blocks [] refl;
     }
 
@@ -148,6 +132,14 @@ module _ (known : KnownOfRounds) (s : Setup) (bytes : List ℕ) (has : HasRoomAt
     (come_reverse : AllCome s.ack_fates) where
   abbrev reads : List (List ℕ)
   reads = bytes ∷ [] ∷ []
+
+  -- what the reads to come give
+  record Ahead (c : CopyState) : Type 0 where
+    rest : List ℕ
+    last : List (List ℕ)
+    coming : c.reads ≡ rest ∷ last
+    all : length c.given + length rest ≡ length bytes
+    exact : 0 < length rest → (last ≡ [] ∷ []) × (c.rounds * most_read s ≤ length c.given)
 
   -- all that was read is written, in as many rounds as it takes
   record Ready (c : CopyState) : Type 0 where
@@ -159,30 +151,9 @@ module _ (known : KnownOfRounds) (s : Setup) (bytes : List ℕ) (has : HasRoomAt
     max_burst : c.link.max_burst ≡ at_least_one s.max_burst
     payload : c.link.payload ≡ s.payload
     more : c.more ≡ true
-    rest : List ℕ
-    last : List (List ℕ)
-    coming : c.reads ≡ rest ∷ last
-    all : length c.given + length rest ≡ length bytes
     low : length c.given ≤ c.rounds * most_read s
     high : c.rounds * most_read s < length c.given + most_read s
-    exact : 0 < length rest → (last ≡ [] ∷ []) × (c.rounds * most_read s ≤ length c.given)
-
-  -- a read is made
-  ready_reads : (c : CopyState) → SoFar known.known s reads c → Stays known s c.link → (h : Ready c) →
-      feed s.chunk c ≡ read_of (room_for s.chunk c.link) c (h.rest ∷ h.last)
-  ready_reads c was stays h =
-      let cap = stays.outgoing in
-      let some = has.some in
-      let queue = h.queue in
-      let head = h.head in
-      let all = h.all in
-      let end = was.writes.carries.way.sends.end in
-      let written : is_written c.link ≡ true = and_from (nat_eq (next_position c.link.receiver) (end_of c.link.sender)) (nat_eq (length c.link.receiver.queue) 0)
-      (eq-eqb (next_position c.link.receiver) (end_of c.link.sender) (omega arith)) (eq-eqb (length c.link.receiver.queue) 0 h.empty) in
-      cond-true (asks s.chunk c) (read_of (room_for s.chunk c.link) c c.reads) c
-      (and_from (c.more && nat_lt 0 (room_for s.chunk c.link)) (is_written c.link)
-      (and_from c.more (nat_lt 0 (room_for s.chunk c.link)) h.more (lt-ltb 0 (room_for s.chunk c.link) (omega arith))) written)
-      ∙ ap (read_of (room_for s.chunk c.link) c) h.coming
+    ahead : Ahead c
 
   is_all_written : (c : CopyState) → SoFar known.known s reads c → Ready c → is_written c.link ≡ true
   is_all_written c was h =
@@ -190,6 +161,20 @@ module _ (known : KnownOfRounds) (s : Setup) (bytes : List ℕ) (has : HasRoomAt
       let head = h.head in
       and_from (nat_eq (next_position c.link.receiver) (end_of c.link.sender)) (nat_eq (length c.link.receiver.queue) 0)
       (eq-eqb (next_position c.link.receiver) (end_of c.link.sender) (omega arith)) (eq-eqb (length c.link.receiver.queue) 0 h.empty)
+
+  -- a read is made
+  ready_reads : (c : CopyState) → SoFar known.known s reads c → Stays known s c.link → (h : Ready c) →
+      feed s.chunk c ≡ read_of (room_for s.chunk c.link) c (h.ahead.rest ∷ h.ahead.last)
+  ready_reads c was stays h =
+      let cap = stays.outgoing in
+      let some = has.some in
+      let queue = h.queue in
+      let all = h.ahead.all in
+      let end = was.writes.carries.way.sends.end in
+      cond-true (asks s.chunk c) (read_of (room_for s.chunk c.link) c c.reads) c
+      (and_from (c.more && nat_lt 0 (room_for s.chunk c.link)) (is_written c.link)
+      (and_from c.more (nat_lt 0 (room_for s.chunk c.link)) h.more (lt-ltb 0 (room_for s.chunk c.link) (omega arith))) (is_all_written c was h))
+      ∙ ap (read_of (room_for s.chunk c.link) c) h.ahead.coming
 
   le_times : (r k : ℕ) → 0 < k → r ≤ r * k
   le_times r zero some = absurd (omega arith)
@@ -248,44 +233,37 @@ module _ (known : KnownOfRounds) (s : Setup) (bytes : List ℕ) (has : HasRoomAt
       let rounds_is : (pass s.chunk e).rounds ≡ c.rounds + 1 = omega arith in
       let burst_is : next_burst l.max_burst l.burst (is_full m.sender.sack_blocks) ≡ at_least_one s.max_burst =
       (λ i. next_burst (h.max_burst i) (h.burst i) (is_full (one.sack_blocks i))) ∙ (let same : min (at_least_one s.max_burst) (at_least_one s.max_burst + most_sack_blocks) ≡ at_least_one s.max_burst = omega arith in same) in
-      let made = λ (rest' : List ℕ) (last' : List (List ℕ)) (coming : e.reads ≡ rest' ∷ last') (all' : length e.given + length rest' ≡ length bytes)
-      (exact' : 0 < length rest' → (last' ≡ [] ∷ []) × ((pass s.chunk e).rounds * k ≤ length e.given)).
-      made_ready (pass s.chunk e) one.queue one.sack_blocks (omega (arith, left, size, few_taken)) (omega (arith, met, left)) (p.burst ∙ burst_is) (p.max_burst ∙ h.max_burst)
-      (p.payload ∙ h.payload) h.more rest' last' coming all' (subst (λ r. length e.given ≤ r * k) (sym rounds_is) (omega (arith, given_is, few_taken, low)))
-      (subst (λ r. r * k < length e.given + k) (sym rounds_is) (omega (arith, given_is, some_taken, exact))) exact' in
-      ⊎_elim {C = Ready (pass s.chunk e)}
-      (λ (long : room < length rest). made (drop room rest) last (cond-true (nat_lt room (length rest)) (drop room rest ∷ last) last (lt-ltb room (length rest) long))
-      (omega (arith, given_is, taken_is, length-drop room rest, all))
-      (λ _. (ends_so, subst (λ r. r * k ≤ length e.given) (sym rounds_is) (omega (arith, given_is, taken_is, exact, all, end, no_queue, cap)))))
-      (λ (short : length rest ≤ room). made [] [] (cond-false (nat_lt room (length rest)) (drop room rest ∷ last) last (le-ltb room (length rest) short) ∙ ends_so)
-      (omega (arith, given_is, taken_is, all)) (λ none. absurd (omega arith)))
-      (cases_lt room (length rest))
-    where
-      made_ready : (c : CopyState) → length c.link.sender.queue ≡ 0 → c.link.sender.sack_blocks ≡ [] → length c.link.receiver.queue ≡ 0 →
-          c.link.sender.first_unacknowledged ≡ next_position c.link.receiver → c.link.burst ≡ at_least_one s.max_burst → c.link.max_burst ≡ at_least_one s.max_burst →
-          c.link.payload ≡ s.payload → c.more ≡ true → (rest : List ℕ) (last : List (List ℕ)) → c.reads ≡ rest ∷ last → length c.given + length rest ≡ length bytes →
-          length c.given ≤ c.rounds * most_read s → c.rounds * most_read s < length c.given + most_read s →
-          (0 < length rest → (last ≡ [] ∷ []) × (c.rounds * most_read s ≤ length c.given)) → Ready c
-      made_ready c a b d e f g i j rest last l m n o p = record {
-        queue = a;
-        sack_blocks = b;
-        empty = d;
-        head = e;
-        burst = f;
-        max_burst = g;
-        payload = i;
-        more = j;
-        rest = rest;
-        last = last;
-        coming = l;
-        all = m;
-        low = n;
-        high = o;
-        exact = p;
+      record {
+        queue = one.queue;
+        sack_blocks = one.sack_blocks;
+        empty = omega (arith, left, size, few_taken);
+        head = omega (arith, met, left);
+        burst = p.burst ∙ burst_is;
+        max_burst = p.max_burst ∙ h.max_burst;
+        payload = p.payload ∙ h.payload;
+        more = h.more;
+        low = subst (λ r. length e.given ≤ r * k) (sym rounds_is) (omega (arith, given_is, few_taken, low));
+        high = subst (λ r. r * k < length e.given + k) (sym rounds_is) (omega (arith, given_is, some_taken, exact));
+        ahead = ⊎_elim {C = Ahead (pass s.chunk e)}
+            (λ (long : room < length rest). record {
+              rest = drop room rest;
+              last = last;
+              coming = cond-true (nat_lt room (length rest)) (drop room rest ∷ last) last (lt-ltb room (length rest) long);
+              all = omega (arith, given_is, taken_is, length-drop room rest, all);
+              exact = λ _. (ends_so, subst (λ r. r * k ≤ length e.given) (sym rounds_is) (omega (arith, given_is, taken_is, exact, all, end, no_queue, cap)));
+            })
+            (λ (short : length rest ≤ room). record {
+              rest = [];
+              last = [];
+              coming = cond-false (nat_lt room (length rest)) (drop room rest ∷ last) last (le-ltb room (length rest) short) ∙ ends_so;
+              all = omega (arith, given_is, taken_is, all);
+              exact = λ none. absurd (omega arith);
+            })
+            (cases_lt room (length rest));
       }
 
   one_ready : (c : CopyState) → SoFar known.known s reads c → Stays known s c.link → Ready c → GoesOn s.rounds s.chunk c → Ready (turn s.rounds s.chunk c)
-  one_ready c was stays h one = by h.rest h.last (ready_reads c was stays h) h.all h.exact
+  one_ready c was stays h one = by h.ahead.rest h.ahead.last (ready_reads c was stays h) h.ahead.all h.ahead.exact
     where
       by : (rest : List ℕ) (last : List (List ℕ)) → feed s.chunk c ≡ read_of (room_for s.chunk c.link) c (rest ∷ last) → length c.given + length rest ≡ length bytes →
           (0 < length rest → (last ≡ [] ∷ []) × (c.rounds * most_read s ≤ length c.given)) → Ready (turn s.rounds s.chunk c)
@@ -307,13 +285,9 @@ module _ (known : KnownOfRounds) (s : Setup) (bytes : List ℕ) (has : HasRoomAt
     max_burst = refl;
     payload = refl;
     more = refl;
-    rest = bytes;
-    last = [] ∷ [];
-    coming = refl;
-    all = omega arith;
     low = omega arith;
     high = (let some = has.some in omega arith);
-    exact = λ some. (refl, omega arith);
+    ahead = record { rest = bytes; last = [] ∷ []; coming = refl; all = omega arith; exact = λ some. (refl, omega arith) };
   }
   ready (suc n) on =
       let c = after s reads n in

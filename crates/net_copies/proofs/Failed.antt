@@ -1,45 +1,34 @@
 -- What failed in the last rounds of a copy that gives up, and how many rounds a copy makes.
-use Rattle.std.proofs.Common.{◌≡◌, ℕ, zero, suc, ◌+◌, ◌-◌, ◌≤◌, ◌<◌, ◌^◌, min, true, List, length, refl, sym, ap, subst, ◌∙◌, arith, ⊎_elim}
+use Rattle.std.proofs.Common.{◌≡◌, ℕ, suc, ◌+◌, ◌-◌, ◌≤◌, ◌<◌, ◌^◌, min, true, List, length, refl, sym, ap, subst, ◌∙◌, arith, ⊎_elim, lt_of_not-le}
 use Rattle.std.proofs.lemmas.Bool.{both_ways, cases_lt}
 use Rattle.net_copies.specs.declared.fate.Fate.{Fate}
 use Rattle.net_copies.specs.declared.fate.Fate.TheVariants.{Delivered, Lost, Duplicated, Delayed}
-use Rattle.net_copies.specs.Fates.{FatesState, next_fate, AllCome}
+use Rattle.net_copies.specs.Fates.{next_fate, AllCome}
 use Rattle.net_copies.specs.LinkState.{LinkState, round}
-use Rattle.net_copies.specs.CopyState.{Setup, CopyState, Running, GaveUp, feed, waited, pass, turn, after}
+use Rattle.net_copies.specs.CopyState.{Setup, CopyState, Running, GaveUp, feed, waited, pass, after}
 use Rattle.net_copies.specs.Stuck.{failures, RoundLeaves, IsDue, IsStuck, HasFailed, AllFail, FatesFail, KnownOfRounds}
 use Rattle.net_copies.specs.Promises.{CanPass, before_round, frames_sent, acks_sent, Fails, GivesUpIfFailed, NeverByDelays, EndsIfAllCome, FewRounds}
 use Rattle.net_copies.proofs.Queue.{queue_from}
-use Rattle.net_copies.proofs.Stuck.{due_kept, stuck_weaker, all_after, round_failed}
+use Rattle.net_copies.proofs.Stuck.{first_of_all, due_kept, stuck_weaker, all_after, round_failed}
 use Rattle.net_copies.proofs.RoundCount.{more_moved, more_still, never_fails}
-use Rattle.net_copies.proofs.Turns.{ended}
-use Rattle.net_copies.proofs.Prefix.{SoFar, so_far}
-use Rattle.net_copies.proofs.GoesOn.{fed_leaves, Turned, Failed, Finished, Stopped, WentOn, turns, goes_on, Still, Brought, Some, Nothing, brought, runs, running_or_not, still_from}
+use Rattle.net_copies.proofs.Prefix.{so_far}
+use Rattle.net_copies.proofs.GoesOn.{fed_leaves, Still, Brought, Some, Nothing, brought, runs, still_from}
 use Rattle.net_copies.proofs.GivesUp.{gives_up_after}
-use Rattle.net_copies.proofs.StuckRounds.{all_stays, Stays, passes_before, runs_before, drawn_before, stuck_round, stuck_turn, leaves, sends, writes}
+use Rattle.net_copies.proofs.Fuel.{ends_in_one_turn}
+use Rattle.net_copies.proofs.StuckRounds.{by_turns, passes_before, runs_before, drawn_before, stuck_round, stuck_turn, leaves, sends, writes}
 
 -- the turn with which a copy gives up
 gave_up_once : (s : Setup) (reads : List (List ℕ)) (n : ℕ) → (after s reads n).status ≡ GaveUp →
     (m : ℕ) × (m < n) × ((after s reads m).status ≡ Running) × ((after s reads (suc m)).status ≡ GaveUp)
-gave_up_once s reads zero gave = (let j : Running ≡ GaveUp = gave in cc)
-gave_up_once s reads (suc n) gave =
-    let here = gave_up_once s reads n in
-    ⊎_elim {C = (m : ℕ) × (m < suc n) × ((after s reads m).status ≡ Running) × ((after s reads (suc m)).status ≡ GaveUp)}
-    (λ (on : (after s reads n).status ≡ Running). (n, omega arith, on, gave))
-    (λ (over : (after s reads n).status ≡ Running → ⊥).
-    let before = here (sym (ap (λ c. c.status) (ended s.rounds s.chunk (after s reads n) over)) ∙ gave) in
-    let few = before.1 in
-    (before.0, omega arith, before.2, before.3))
-    (running_or_not (after s reads n).status)
+gave_up_once s reads n gave =
+    let h = ends_in_one_turn s reads n (λ r. (let j : GaveUp ≡ Running = sym gave ∙ r in cc)) in
+    (h.0, h.1, h.2, ap (λ c. c.status) h.3 ∙ gave)
 
 is_lost : (lot : Fate) → HasFailed 1 lot → lot ≡ Lost
 is_lost Delivered h = absurd (both_ways true h.0 refl)
 is_lost Lost h = refl
 is_lost Duplicated h = absurd (both_ways true h.0 refl)
 is_lost Delayed h = absurd (both_ways true (h.1 (omega arith)) refl)
-
-first_fails : (follow n : ℕ) (v : FatesState) → 0 < n → AllFail follow n v → HasFailed follow (next_fate v)
-first_fails follow zero v some all = absurd (omega arith)
-first_fails follow (suc n) v some all = all.0
 
 module _ (known : KnownOfRounds) where
   -- ---- what failed
@@ -85,7 +74,7 @@ module _ (known : KnownOfRounds) where
       ⊎_elim {C = ⊥}
       (λ (a : (0 < frames_sent l) × HasFailed 1 (next_fate l.forward.fates)). none drawn.0 (ap next_fate (sym drawn.2) ∙ is_lost (next_fate l.forward.fates) a.1))
       (λ (b : (0 < acks_sent l) × AllFail 1 (acks_sent l) l.reverse.fates).
-      none_reverse drawn.1 (ap next_fate (sym drawn.3) ∙ is_lost (next_fate l.reverse.fates) (first_fails 1 (acks_sent l) l.reverse.fates b.0 b.1)))
+      none_reverse drawn.1 (ap next_fate (sym drawn.3) ∙ is_lost (next_fate l.reverse.fates) (first_of_all 1 (acks_sent l) l.reverse.fates b.0 b.1)))
       failed
 
   pub ends_if_all_come : EndsIfAllCome
@@ -127,11 +116,8 @@ module _ (known : KnownOfRounds) where
         let head = keeps.first_unacknowledged in
         let read = keeps.read in
         let far : e.link.sender.first_unacknowledged + e.link.receiver.read < m.sender.first_unacknowledged + (m.receiver.read + n) =
-        ⊎_elim {C = e.link.sender.first_unacknowledged + e.link.receiver.read < m.sender.first_unacknowledged + (m.receiver.read + n)}
-        (λ (l : e.link.sender.first_unacknowledged + e.link.receiver.read < m.sender.first_unacknowledged + (m.receiver.read + n)). l)
-        (λ (l : m.sender.first_unacknowledged + (m.receiver.read + n) ≤ e.link.sender.first_unacknowledged + e.link.receiver.read).
-        absurd (some (still_from s.chunk e (omega arith) (omega arith))))
-        (cases_lt (e.link.sender.first_unacknowledged + e.link.receiver.read) (m.sender.first_unacknowledged + (m.receiver.read + n))) in
+        lt_of_not-le (λ (l : m.sender.first_unacknowledged + (m.receiver.read + n) ≤ e.link.sender.first_unacknowledged + e.link.receiver.read).
+        some (still_from s.chunk e (omega arith) (omega arith))) in
         more_moved e.rounds (pass s.chunk e).rounds e.link.sender.first_unacknowledged m.sender.first_unacknowledged e.link.receiver.read (m.receiver.read + n) s.first
         (failures e.link.counts) (failures m.counts) from head far grows (omega arith) h
     passed_bounded e frames acks h keeps from grows stuck (Nothing more still empty) =
@@ -141,31 +127,13 @@ module _ (known : KnownOfRounds) where
         more_still e.rounds (pass s.chunk e).rounds e.link.sender.first_unacknowledged m.sender.first_unacknowledged e.link.receiver.read (m.receiver.read + n) s.first
         (failures e.link.counts) (failures m.counts) still.0 (omega arith) (stuck still empty).counted refl h
 
-    one_bounded : (c : CopyState) → SoFar known.known s reads c → Stays known s c.link → CanPass s (turn s.rounds s.chunk c) → Bounded c → Turned s.rounds s.chunk c →
-        Bounded (turn s.rounds s.chunk c)
-    one_bounded c was stays can h (Failed failed is) = subst Bounded (sym is) (fed_bounded c h)
-    one_bounded c was stays can h (Finished done is) = subst Bounded (sym is) (fed_bounded c h)
-    one_bounded c was stays can h (Stopped fed more many is) = subst Bounded (sym is) (fed_bounded c h)
-    one_bounded c was stays can h (WentOn fed more few is) =
-        let e = feed s.chunk c in
-        let one = goes_on s.rounds s.chunk c (ap (λ d. d.status) is ∙ fed) in
-        let old = waited e in
-        let passes = (sends known s reads c was stays can one).passes in
-        subst Bounded (sym is)
-        (passed_bounded e (frames_sent old) (acks_sent old) (fed_bounded c h) (leaves known s reads c was stays can one)
-        (writes known s reads c was stays can one).carries.way.sends.from (round_failed old (round old) passes)
-        (stuck_turn known s reads c was stays can one) (brought s.chunk e))
-
     bounded : (n : ℕ) → CanPass s (after s reads n) → Bounded (after s reads n)
-    bounded zero can = omega arith
-    bounded (suc n) can =
-        let c = after s reads n in
-        let starts : s.first < 2 ^ 64 = (let left = can.positions in omega arith) in
-        let before : Bounded c = bounded n (passes_before known s reads n (suc n) (omega arith) can) in
-        ⊎_elim {C = Bounded (after s reads (suc n))}
-        (λ (on : c.status ≡ Running). one_bounded c (so_far known.known s reads starts n) (all_stays known s reads n) can before (turns s.rounds s.chunk c on))
-        (λ (over : c.status ≡ Running → ⊥). subst Bounded (sym (ended s.rounds s.chunk c over)) before)
-        (running_or_not c.status)
+    bounded = by_turns known s reads Bounded fed_bounded (λ c status h. h)
+        (λ c was stays can one h.
+        let old = waited (feed s.chunk c) in
+        passed_bounded (feed s.chunk c) (frames_sent old) (acks_sent old) h (leaves known s reads c was stays can one)
+        (writes known s reads c was stays can one).carries.way.sends.from (round_failed old (round old) (sends known s reads c was stays can one).passes)
+        (stuck_turn known s reads c was stays can one) (brought s.chunk (feed s.chunk c))) (omega arith)
 
   pub few_rounds : FewRounds
   few_rounds s reads n can =

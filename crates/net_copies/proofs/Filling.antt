@@ -7,7 +7,7 @@ use Rattle.net_copies.specs.SenderState.{with_written}
 use Rattle.net_copies.specs.CopyState.{Setup, CopyState, Status, Running, Done, GaveUp, ReadFailed, begin, is_written, rest_of, room_for, read_of, with_read, feed, decide, pass, while_running, turn, after, outcome, most_turns, copied}
 use Rattle.net_copies.specs.Streams.{Known}
 use Rattle.net_copies.specs.Promises.{before_end, EndsIfAllCome, has_end, DoneIfAllCome, FillsAt, Fills, SameBytes, AllAtOnce}
-use Rattle.net_copies.proofs.Kept.{split}
+use Rattle.net_copies.proofs.Steps.{split}
 use Rattle.net_copies.proofs.Turns.{feeds, decides, all_turned}
 use Rattle.net_copies.proofs.Prefix.{before_more, before_rest}
 use Rattle.net_copies.proofs.Fuel.{ends, stays_so}

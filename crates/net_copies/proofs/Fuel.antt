@@ -1,37 +1,62 @@
 -- How many turns and rounds a copy makes at most, and what comes of it.
-use Rattle.std.proofs.Common.{◌≡◌, ◌⊎◌, ◌||◌, ◌∙◌, ℕ, zero, suc, ◌+◌, ◌-◌, ◌*◌, ◌≤◌, ◌<◌, min, not, nat_eq, nat_lt, Bool, true, false, cond, List, [], ◌∷◌, length, refl, sym, ap, arith, ⊎_elim, inl, inr, length-append, mul-le-mul_right}
+use Rattle.std.proofs.Common.{◌≡◌, ◌⊎◌, ◌||◌, ◌∙◌, ℕ, zero, suc, ◌+◌, ◌-◌, ◌*◌, ◌≤◌, ◌<◌, min, not, nat_eq, nat_lt, Bool, true, false, cond, List, [], ◌∷◌, length, refl, sym, ap, arith, le_trans, ⊎_elim, inl, inr, length-append, mul-le-mul_right}
 use Rattle.std.proofs.lemmas.Bool.{cases_lt, ltb-true}
 use Rattle.std.proofs.lemmas.Bool.Decides.{nat_tests}
 use Rattle.std.proofs.Math.Nat.{add-mul}
 use Rattle.net_receiver.specs.OneStream.{SegmentReadsNothing}
-use Rattle.net_copies.specs.LinkState.{round}
-use Rattle.net_copies.specs.CopyState.{Setup, CopyState, Status, Running, Done, GaveUp, ReadFailed, begin, read_of, room_for, feed, decide, waited, pass, while_running, turn, after, outcome, concat, most_turns}
+use Rattle.net_copies.specs.LinkState.{LinkState, round}
+use Rattle.net_copies.specs.CopyState.{Setup, CopyState, Running, begin, read_of, room_for, feed, decide, waited, pass, while_running, turn, after, outcome, concat, most_turns}
 use Rattle.net_copies.specs.Streams.{Known}
 use Rattle.net_copies.specs.Promises.{StartsFits, before_end, FewRoundsAnyway, Ends, HasEnded, Stays, FinalIs, CopiedIs, EndsInOneTurn}
 use Rattle.net_copies.proofs.Steps.{stays, enough}
 use Rattle.net_copies.proofs.Turns.{while, feeds, decides, ended}
+use Rattle.net_copies.proofs.GoesOn.{running_or_not}
 use Rattle.net_copies.proofs.Grown.{grown}
 use Rattle.net_copies.proofs.Prefix.{so_far, queue_of}
 
--- one round more: it makes progress, x' in place of x, or is one more of at most r that don't
-one_more : (r x x' t t' : ℕ) → t < r → ((x < x') × (t' ≡ 0)) ⊎ ((x ≤ x') × (t' ≡ t + 1)) → (x * r + t + 1 ≤ x' * r + t') × (t' ≤ r)
-one_more r x x' t t' few (inl (more, none)) =
-    let one : (x + 1) * r ≤ x' * r = mul-le-mul_right r (omega arith) in
-    let is : (x + 1) * r ≡ x * r + 1 * r = add-mul x 1 r in
+-- how far a link is: the position before which all is acknowledged, and how many bytes were read
+abbrev pub far : LinkState → ℕ
+far l = l.sender.first_unacknowledged + l.receiver.read
+
+-- from x a round led to x': it made progress, or is one more that didn't
+abbrev pub Moves : ℕ → ℕ → ℕ → ℕ → Type 0
+Moves x x' t t' = ((x < x') × (t' ≡ 0)) ⊎ ((x ≤ x') × (t' ≡ t + 1))
+
+pub progresses : SegmentReadsNothing → (chunk : ℕ) (c : CopyState) →
+    (c.link.sender.first_unacknowledged ≤ (pass chunk c).link.sender.first_unacknowledged) × Moves (far c.link) (far (pass chunk c).link) c.stalled (pass chunk c).stalled
+progresses reads_nothing chunk c =
+    let h = grown reads_nothing c.link.sender.first_unacknowledged c.link.receiver.read (waited c) (omega arith, refl) in
+    let m = round (waited c) in (
+      h.0,
+      by m.sender.first_unacknowledged m.receiver.read (min chunk (length m.receiver.queue)) (not (nat_eq m.sender.first_unacknowledged c.link.sender.first_unacknowledged))
+          (nat_lt 0 (min chunk (length m.receiver.queue))) refl refl h.0 h.1,
+    )
+  where
+    by : (head read k : ℕ) (moved some : Bool) → not (nat_eq head c.link.sender.first_unacknowledged) ≡ moved → nat_lt 0 k ≡ some → c.link.sender.first_unacknowledged ≤ head → read ≡ c.link.receiver.read →
+        Moves (far c.link) (head + (read + k)) c.stalled (cond (moved || some) 0 (c.stalled + 1))
+    by head read k true some m e b r = inl (grind (arith, nat_tests), refl)
+    by head read k false true m e b r = inl ((let l = ltb-true 0 k e in omega arith), refl)
+    by head read k false false m e b r = inr (omega arith, refl)
+
+-- at most r rounds in a row make no progress
+one_more : (r f x x' t t' : ℕ) → f ≤ x → t < r → Moves x x' t t' → ((x - f) * r + t + 1 ≤ (x' - f) * r + t') × (t' ≤ r)
+one_more r f x x' t t' from few (inl (more, none)) =
+    let one : (x - f + 1) * r ≤ (x' - f) * r = mul-le-mul_right r (omega arith) in
+    let is : (x - f + 1) * r ≡ (x - f) * r + 1 * r = add-mul (x - f) 1 r in
     (omega arith, omega arith)
-one_more r x x' t t' few (inr (same, more)) = (let one : x * r ≤ x' * r = mul-le-mul_right r same in (omega arith, omega arith))
+one_more r f x x' t t' from few (inr (same, more)) = (let one : (x - f) * r ≤ (x' - f) * r = mul-le-mul_right r (omega arith) in (omega arith, omega arith))
 
 module _ (reads_nothing : SegmentReadsNothing) (s : Setup) where
-  -- how many bytes were acknowledged, and how many were written
-  abbrev pub far : CopyState → ℕ
-  far c = c.link.sender.first_unacknowledged + c.link.receiver.read - s.first
+  -- how many bytes were acknowledged, and how many were read
+  abbrev pub gone : CopyState → ℕ
+  gone c = far c.link - s.first
 
   -- no more turns were made, and no more rounds, than bytes were acknowledged or written, `rounds` times, and rounds
   -- in a row without progress
   pub record Counted (n : ℕ) (c : CopyState) : Type 0 where
     pub low : s.first ≤ c.link.sender.first_unacknowledged
-    pub turns : c.status ≡ Running → n ≤ far c * s.rounds + c.stalled
-    pub rounds : c.rounds ≤ far c * s.rounds + c.stalled
+    pub turns : c.status ≡ Running → n ≤ gone c * s.rounds + c.stalled
+    pub rounds : c.rounds ≤ gone c * s.rounds + c.stalled
     pub few : c.stalled ≤ s.rounds
 
   fed : (n : ℕ) (c : CopyState) → c.status ≡ Running → Counted n c → Counted n (feed s.chunk c)
@@ -50,33 +75,16 @@ module _ (reads_nothing : SegmentReadsNothing) (s : Setup) where
       decides (Decided n) s.rounds c (λ none all. (record { low = h.low; turns = λ r. absurd (cc); rounds = h.rounds; few = h.few }, λ r. absurd (cc)))
       (λ many. (record { low = h.low; turns = λ r. absurd (cc); rounds = h.rounds; few = h.few }, λ r. absurd (cc))) (λ few. (h, λ r. few))
 
-  -- a round makes progress, or is counted as one that doesn't
-  pub progresses : (c : CopyState) → s.first ≤ c.link.sender.first_unacknowledged →
-      (s.first ≤ (pass s.chunk c).link.sender.first_unacknowledged) × (((far c < far (pass s.chunk c)) × ((pass s.chunk c).stalled ≡ 0)) ⊎ ((far c ≤ far (pass s.chunk c)) × ((pass s.chunk c).stalled ≡ c.stalled + 1)))
-  progresses c low =
-      let h = grown reads_nothing c.link.sender.first_unacknowledged c.link.receiver.read (waited c) (record { first_unacknowledged = omega arith; read = refl }) in
-      let b = h.first_unacknowledged in
-      let m = round (waited c) in (
-        omega arith,
-        by m.sender.first_unacknowledged m.receiver.read (min s.chunk (length m.receiver.queue)) (not (nat_eq m.sender.first_unacknowledged c.link.sender.first_unacknowledged))
-            (nat_lt 0 (min s.chunk (length m.receiver.queue))) refl refl b h.read,
-      )
-    where
-      by : (head read k : ℕ) (moved some : Bool) → not (nat_eq head c.link.sender.first_unacknowledged) ≡ moved → nat_lt 0 k ≡ some → c.link.sender.first_unacknowledged ≤ head → read ≡ c.link.receiver.read →
-          ((far c < head + (read + k) - s.first) × (cond (moved || some) 0 (c.stalled + 1) ≡ 0)) ⊎ ((far c ≤ head + (read + k) - s.first) × (cond (moved || some) 0 (c.stalled + 1) ≡ c.stalled + 1))
-      by head read k true some m e b r = inl (grind (arith, nat_tests), refl)
-      by head read k false true m e b r = inl ((let l = ltb-true 0 k e in omega arith), refl)
-      by head read k false false m e b r = inr (omega arith, refl)
-
   passed : (n : ℕ) (c : CopyState) → c.status ≡ Running → Decided n c → Counted (suc n) (pass s.chunk c)
   passed n c on h =
       let one = h.0 in
-      let step = progresses c one.low in
-      let grows = one_more s.rounds (far c) (far (pass s.chunk c)) c.stalled (pass s.chunk c).stalled (h.1 on) step.1 in
+      let low = one.low in
+      let step = progresses reads_nothing s.chunk c in
+      let grows = one_more s.rounds s.first (far c.link) (far (pass s.chunk c).link) c.stalled (pass s.chunk c).stalled (omega arith) (h.1 on) step.1 in
       let more = grows.0 in
       let turns = one.turns on in
       let rounds = one.rounds in
-      record { low = step.0; turns = λ r. omega arith; rounds = omega arith; few = grows.1 }
+      record { low = le_trans low step.0; turns = λ r. omega arith; rounds = omega arith; few = grows.1 }
 
   pub counted : (reads : List (List ℕ)) (n : ℕ) → Counted n (after s reads n)
   unfolding turn
@@ -109,8 +117,8 @@ before_few ((x ∷ xs) ∷ reads) =
     omega arith
 
 module _ (known : Known) (s : Setup) (reads : List (List ℕ)) (fits : StartsFits s) (n : ℕ) where
-  few_far : far known.reads_nothing s (after s reads n) ≤ 2 * length (after s reads n).given
-  few_far =
+  few_gone : gone known.reads_nothing s (after s reads n) ≤ 2 * length (after s reads n).given
+  few_gone =
       let c = after s reads n in
       let h = (so_far known s reads fits n).writes.carries in
       let q = (queue_of known s.first c.given c.link h).within in
@@ -138,7 +146,7 @@ few_rounds_anyway known s reads n fits =
     let c = after s reads n in
     let h = counted known.reads_nothing s reads n in
     let rounds = h.rounds in
-    let few = few_of s.rounds (far known.reads_nothing s c) c.stalled (length c.given) (few_far known s reads fits n) h.few in
+    let few = few_of s.rounds (gone known.reads_nothing s c) c.stalled (length c.given) (few_gone known s reads fits n) h.few in
     omega arith
 
 pub ends : Known → Ends
@@ -146,10 +154,10 @@ ends known s reads fits on =
     let n = most_turns s reads in
     let c = after s reads n in
     let h = counted known.reads_nothing s reads n in
-    let far_few = few_far known s reads fits n in
+    let gone_few = few_gone known s reads fits n in
     let given = few_given known s reads fits n in
     let turns = h.turns on in
-    let few = few_of s.rounds (far known.reads_nothing s c) c.stalled (length (concat reads)) (omega arith) h.few in
+    let few = few_of s.rounds (gone known.reads_nothing s c) c.stalled (length (concat reads)) (omega arith) h.few in
     omega arith
 
 -- ---- an ended copy
@@ -174,16 +182,11 @@ OneTurn s reads n = (k : ℕ) × (k < n) × ((after s reads k).status ≡ Runnin
 
 pub ends_in_one_turn : EndsInOneTurn
 ends_in_one_turn s reads zero over = absurd (over refl)
-ends_in_one_turn s reads (suc n) over = by (λ before. ends_in_one_turn s reads n before) (after s reads n).status refl
-  where
-    earlier : (HasEnded (after s reads n) → OneTurn s reads n) → HasEnded (after s reads n) → OneTurn s reads (suc n)
-    earlier before stays =
-        let h = before stays in
-        let few = h.1 in
-        (h.0, (let l : h.0 < suc n = omega arith in l), h.2, h.3 ∙ sym (ended s.rounds s.chunk (after s reads n) stays))
-
-    by : (HasEnded (after s reads n) → OneTurn s reads n) → (st : Status) → (after s reads n).status ≡ st → OneTurn s reads (suc n)
-    by before Running e = (n, (let l : n < suc n = omega arith in l), e, refl)
-    by before Done e = earlier before (λ r. absurd (cc))
-    by before GaveUp e = earlier before (λ r. absurd (cc))
-    by before ReadFailed e = earlier before (λ r. absurd (cc))
+ends_in_one_turn s reads (suc n) over =
+    ⊎_elim {C = OneTurn s reads (suc n)}
+    (λ (on : (after s reads n).status ≡ Running). (n, omega arith, on, refl))
+    (λ (stays : HasEnded (after s reads n)).
+    let h = ends_in_one_turn s reads n stays in
+    let few = h.1 in
+    (h.0, omega arith, h.2, h.3 ∙ sym (ended s.rounds s.chunk (after s reads n) stays)))
+    (running_or_not (after s reads n).status)

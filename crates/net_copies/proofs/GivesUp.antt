@@ -3,7 +3,7 @@ use Rattle.std.proofs.Common.{◌≡◌, ℕ, zero, suc, ◌+◌, ◌-◌, ◌�
 use Rattle.std.proofs.lemmas.Bool.{cases_lt}
 use Rattle.net_copies.specs.CopyState.{Setup, CopyState, Running, feed, pass, after}
 use Rattle.net_copies.specs.Promises.{MakesNoProgress, GivesUpAfter, NeverLater}
-use Rattle.net_copies.proofs.GoesOn.{fed_leaves, GoesOn, goes_on, gave_up_at, Still, Brought, Some, Nothing, brought}
+use Rattle.net_copies.proofs.GoesOn.{fed_leaves, GoesOn, goes_on, stops, Still, Brought, Some, Nothing, brought}
 
 module _ (s : Setup) (reads : List (List ℕ)) where
   -- after n turns of a copy that goes on, `stalled` is how many of the last rounds made no progress
@@ -79,7 +79,7 @@ module _ (s : Setup) (reads : List (List ℕ)) where
 pub gives_up_after : GivesUpAfter
 gives_up_after s reads n on gave =
     let so_far = counted s reads n on in
-    let many = gave_up_at s.rounds s.chunk (after s reads n) on gave in
+    let many = (stops s.rounds s.chunk (after s reads n) on gave).many in
     let few = so_far.few in
     (omega arith, λ k far below. so_far.still k (omega arith) below)
 

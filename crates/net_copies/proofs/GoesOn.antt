@@ -2,26 +2,20 @@
 use Rattle.std.proofs.Common.{◌≡◌, ◌⊎◌, ◌&&◌, ◌||◌, ℕ, ◌+◌, ◌-◌, ◌^◌, ◌≤◌, ◌<◌, min, not, nat_eq, nat_lt, nat_le, Bool, true, false, cond, List, [], ◌∷◌, ◌++◌, length, take}
 use Rattle.std.proofs.Common.{refl, sym, ap, subst, ◌∙◌, arith, ⊎_elim, inl, inr, length-append, length-take}
 use Rattle.std.proofs.lemmas.Bool.{both_ways, cases_Bool, cond-true, cond-false, and_parts, and_from, lt-ltb, ltb-true, ltb-false, leb-true, leb-false, eqb-true, eqb-false}
-use Rattle.std.proofs.lemmas.List.{append-nil}
+use Rattle.std.proofs.lemmas.List.{append-nil, nil_from_length}
 use Rattle.net_receiver.specs.ReceiverState.{next_position}
 use Rattle.net_copies.specs.SenderState.{end_of}
 use Rattle.net_copies.specs.LinkState.{LinkState, round}
 use Rattle.net_copies.specs.CopyState.{CopyState, Status, Running, Done, GaveUp, ReadFailed, is_written, with_read, read_of, room_for, feed, decide}
 use Rattle.net_copies.specs.CopyState.{waited, pass, while_running, turn}
-use Rattle.net_copies.proofs.Turns.{ended}
+use Rattle.net_copies.proofs.Turns.{while, ended}
 
 -- ---- steps of a copy that goes on, and of one that has ended
 pub runs : (f : CopyState → CopyState) (c : CopyState) → c.status ≡ Running → while_running f c ≡ f c
 runs f c e = ap (λ (status : Status). elim status as (λ _. CopyState) [ Running ↦ f c | Done ↦ c | GaveUp ↦ c | ReadFailed ↦ c ]) e
 
 pub rests : (f : CopyState → CopyState) (c : CopyState) → (c.status ≡ Running → ⊥) → while_running f c ≡ c
-rests f c over = by c.status refl
-  where
-    by : (status : Status) → c.status ≡ status → elim status as (λ _. CopyState) [ Running ↦ f c | Done ↦ c | GaveUp ↦ c | ReadFailed ↦ c ] ≡ c
-    by Running e = absurd (over e)
-    by Done e = refl
-    by GaveUp e = refl
-    by ReadFailed e = refl
+rests f c over = while (λ d. d ≡ c) f c (λ on. absurd (over on)) (λ _. refl)
 
 pub running_or_not : (status : Status) → (status ≡ Running) ⊎ (status ≡ Running → ⊥)
 running_or_not Running = inl refl
@@ -184,21 +178,23 @@ goes_on rounds chunk c running =
     by on (Stopped fed more many e) = (let j : GaveUp ≡ Running = sym (ap (λ d. d.status) e) ∙ running in cc)
     by on (WentOn fed more few e) = record { before = on; fed = fed; on = more; few = few; is = e }
 
--- and one that gives up had enough of them
-pub gave_up_at : (rounds chunk : ℕ) (c : CopyState) → c.status ≡ Running → (turn rounds chunk c).status ≡ GaveUp → rounds ≤ c.stalled
-gave_up_at rounds chunk c on gave = by (turns rounds chunk c on)
+-- the turn with which a copy gives up
+pub record Stops (rounds chunk : ℕ) (c : CopyState) : Type 0 where
+  pub fed : (feed chunk c).status ≡ Running
+  pub on : ends (feed chunk c) ≡ false
+  pub many : rounds ≤ c.stalled
+  pub is : turn rounds chunk c ≡ record (feed chunk c) { status = GaveUp }
+
+pub stops : (rounds chunk : ℕ) (c : CopyState) → c.status ≡ Running → (turn rounds chunk c).status ≡ GaveUp → Stops rounds chunk c
+stops rounds chunk c on gave = by (turns rounds chunk c on)
   where
-    by : Turned rounds chunk c → rounds ≤ c.stalled
+    by : Turned rounds chunk c → Stops rounds chunk c
     by (Failed failed e) = (let j : ReadFailed ≡ GaveUp = sym failed ∙ sym (ap (λ d. d.status) e) ∙ gave in cc)
     by (Finished done e) = (let j : Done ≡ GaveUp = sym (ap (λ d. d.status) e) ∙ gave in cc)
-    by (Stopped fed more many e) = subst (λ n. rounds ≤ n) (fed_leaves chunk c).stalled many
+    by (Stopped fed more many e) = record { fed = fed; on = more; many = subst (λ n. rounds ≤ n) (fed_leaves chunk c).stalled many; is = e }
     by (WentOn fed more few e) = (let j : Running ≡ GaveUp = sym fed ∙ sym (ap (λ d. d.status) e) ∙ gave in cc)
 
 -- ---- the progress of a round
-no_bytes : {X : Type 0} (xs : List X) → length xs ≡ 0 → xs ≡ []
-no_bytes [] e = refl
-no_bytes (x ∷ xs) e = absurd (omega arith)
-
 -- neither an acknowledged byte nor a written one
 abbrev pub Still : CopyState → CopyState → Type 0
 Still c d = (d.link.sender.first_unacknowledged ≡ c.link.sender.first_unacknowledged) × (d.written ≡ c.written)
@@ -207,7 +203,7 @@ pub still_from : (chunk : ℕ) (c : CopyState) → (round (waited c)).sender.fir
     min chunk (length (round (waited c)).receiver.queue) ≡ 0 → Still c (pass chunk c)
 still_from chunk c same none =
     let q = (round (waited c)).receiver.queue in
-    (same, ap (λ l. c.written ++ l) (no_bytes (take chunk q) (omega (arith, length-take chunk q))) ∙ append-nil c.written)
+    (same, ap (λ l. c.written ++ l) (nil_from_length (take chunk q) (omega (arith, length-take chunk q))) ∙ append-nil c.written)
 
 pub data Brought (chunk : ℕ) (c : CopyState) : Type 0 where
   Some : (pass chunk c).stalled ≡ 0 → (Still c (pass chunk c) → ⊥) → Brought chunk c

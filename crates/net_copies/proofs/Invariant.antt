@@ -1,27 +1,16 @@
 -- What keeps the invariant of a link, step by step.
-use Rattle.std.proofs.Common.{◌≡◌, ℕ, ◌≤◌, ◌<◌, ◌^◌, ◌&&◌, nat_le, Bool, true, false, cond}
+use Rattle.std.proofs.Common.{◌≡◌, ℕ, ◌≤◌, ◌<◌, ◌^◌, false}
 use Rattle.std.proofs.Common.{List, [], ◌∷◌, ◌++◌, All, Option, Some, refl}
 use Rattle.std.proofs.Common.{sym, ap, subst, ◌∙◌, le_trans, arith}
 use Rattle.std.proofs.lemmas.Bool.{both_ways}
-use Rattle.std.proofs.lemmas.List.Elements.{All-nil, All-cons, All-head, All-tail}
+use Rattle.std.proofs.lemmas.List.Elements.{All-nil, All-push, All-weaker}
 use Rattle.net_receiver.specs.ReceiverState.{ReceiverState, next_position}
 use Rattle.net_receiver.specs.OneStream.{ReceivesFrom, MatchesStream, MatchesLonger, ReceivesFromLonger}
 use Rattle.net_receiver.specs.Retransmission.{HasByteAt}
-use Rattle.net_copies.specs.SenderState.{SenderState, sender_from, Sends, after_ack, end_of}
-use Rattle.net_copies.specs.Frames.{frame_of, segment_of, FramesDecode, FrameMatches}
-use Rattle.net_copies.specs.SackBlocks.{most_sack_blocks, blocks_of}
-use Rattle.net_copies.specs.Fates.{FatesState}
+use Rattle.net_copies.specs.SenderState.{SenderState, Sends}
+use Rattle.net_copies.specs.Frames.{frame_of, FramesDecode, FrameMatches}
 use Rattle.net_copies.specs.PathState.{PathState}
 use Rattle.net_copies.specs.LinkInvariant.{PartsInvariant, HasAllOf, AckMatches}
-
--- ---- lists
-pub All-push : {X : Type 0} (P : X → Type 0) (xs : List X) (y : X) → All P xs → P y → All P (xs ++ y ∷ [])
-All-push P [] y all one = All-cons P y [] one (All-nil P)
-All-push P (x ∷ xs) y all one = All-cons P x (xs ++ y ∷ []) (All-head P x xs all) (All-push P xs y (All-tail P x xs all) one)
-
-pub All-map : {X : Type 0} (P Q : X → Type 0) → ((a : X) → P a → Q a) → (xs : List X) → All P xs → All Q xs
-All-map P Q f [] all = All-nil Q
-All-map P Q f (x ∷ xs) all = All-cons Q x xs (f x (All-head P x xs all)) (All-map P Q f xs (All-tail P x xs all))
 
 -- ---- frames
 pub same_parts : (pos p : ℕ) (xs ys : List ℕ) → ◌≡◌ {A = Option (ℕ × List ℕ)} (Some (pos, xs)) (Some (p, ys)) → (pos ≡ p) × (xs ≡ ys)
@@ -46,8 +35,8 @@ module _ (f : ℕ) (w : List ℕ) where
         receives = receives c.receives;
         coming = c.coming;
         delayed = c.delayed;
-        in_flight_reverse = All-map (AckMatches r) (AckMatches u) wider reverse.in_flight c.in_flight_reverse;
-        delayed_reverse = All-map (AckMatches r) (AckMatches u) wider reverse.delayed c.delayed_reverse;
+        in_flight_reverse = All-weaker (AckMatches r) (AckMatches u) wider reverse.in_flight c.in_flight_reverse;
+        delayed_reverse = All-weaker (AckMatches r) (AckMatches u) wider reverse.delayed c.delayed_reverse;
         behind = le_trans c.behind more;
         sack_blocks = λ p h. keeps p (c.sack_blocks p h);
       }
@@ -113,8 +102,8 @@ written longer longer_from f w more s t r forward reverse head sack_blocks sends
     record {
       sends = sends c.sends;
       receives = longer_from f w more r c.receives;
-      coming = All-map (FrameMatches f w) (FrameMatches f (w ++ more)) longer_frame forward.in_flight c.coming;
-      delayed = All-map (FrameMatches f w) (FrameMatches f (w ++ more)) longer_frame forward.delayed c.delayed;
+      coming = All-weaker (FrameMatches f w) (FrameMatches f (w ++ more)) longer_frame forward.in_flight c.coming;
+      delayed = All-weaker (FrameMatches f w) (FrameMatches f (w ++ more)) longer_frame forward.delayed c.delayed;
       in_flight_reverse = c.in_flight_reverse;
       delayed_reverse = c.delayed_reverse;
       behind = subst (λ n. n ≤ next_position r) (sym head) c.behind;
@@ -129,54 +118,3 @@ sent_says f w s r forward forward' reverse pos xs trip word is says c =
     (λ _ all. subst (All (FrameMatches f w)) (sym (ap (λ p. p.in_flight) is))
     (All-push (FrameMatches f w) forward.in_flight (frame_of pos xs) all (encoded trip f w pos xs word says)))
     (subst (All (FrameMatches f w)) (sym (ap (λ p. p.delayed) is))) c
-
--- ---- the sender took an acknowledgement
-no_further : (v : SenderState) (n : ℕ) (ranges : List (ℕ × ℕ)) (limit : ℕ) → v.first_unacknowledged ≤ limit → n ≤ limit → (after_ack v n ranges).first_unacknowledged ≤ limit
-no_further v n ranges limit h k = both (nat_le v.first_unacknowledged n && nat_le n (end_of v))
-  where
-    both : (t : Bool) → (cond t (sender_from v n ranges) v).first_unacknowledged ≤ limit
-    both true = k
-    both false = h
-
--- the receiver has what was in SACK blocks before or is in them now
-still_had : (r : ReceiverState) (v : SenderState) (n : ℕ) (ranges : List (ℕ × ℕ)) → HasAllOf r v.sack_blocks → HasAllOf r ranges →
-    HasAllOf r (after_ack v n ranges).sack_blocks
-still_had r v n ranges h k = both (nat_le v.first_unacknowledged n && nat_le n (end_of v))
-  where
-    both : (t : Bool) → HasAllOf r (cond t (sender_from v n ranges) v).sack_blocks
-    both true = k
-    both false = h
-
-pub acked : (f : ℕ) (w : List ℕ) (s t : SenderState) (r : ReceiverState) (forward reverse : PathState) (frame : List ℕ) (n : ℕ) (xs : List ℕ) →
-    segment_of frame ≡ Some (n, xs) → t ≡ after_ack s n (blocks_of most_sack_blocks xs) → (Sends f w s → Sends f w t) → AckMatches r frame →
-    PartsInvariant f w s r forward reverse → PartsInvariant f w t r forward reverse
-acked f w s t r forward reverse frame n xs at is sends tells c =
-    let told = tells n xs at in
-    record {
-      sends = sends c.sends;
-      receives = c.receives;
-      coming = c.coming;
-      delayed = c.delayed;
-      in_flight_reverse = c.in_flight_reverse;
-      delayed_reverse = c.delayed_reverse;
-      behind = subst (λ v. v.first_unacknowledged ≤ next_position r) (sym is) (no_further s n (blocks_of most_sack_blocks xs) (next_position r) c.behind told.0);
-      sack_blocks = subst (λ v. HasAllOf r v.sack_blocks) (sym is) (still_had r s n (blocks_of most_sack_blocks xs) c.sack_blocks told.1);
-    }
-
--- ---- a frame was taken off a list of frames that all have P
-pub rest_of : {X : Type 0} (P : X → Type 0) (x : X) (old left new : List X) → old ≡ x ∷ left → new ≡ left → All P old → P x × All P new
-rest_of P x old left new is same all =
-    let both = subst (All P) is all in
-    (All-head P x left both, subst (All P) (sym same) (All-tail P x left both))
-
-pub first_delayed : (t0 t1 : PathState) (x frame : List ℕ) → t0 ≡ record t1 { delayed = x ∷ t1.delayed } → frame ≡ x → t0 ≡ record t1 { delayed = frame ∷ t1.delayed }
-first_delayed t0 t1 x frame first is = first ∙ ap (λ y. record t1 { delayed = y ∷ t1.delayed }) (sym is)
-
--- before it meets its fate: what it has, and what is in flight without it
-pub before : (f : ℕ) (w : List ℕ) (s : SenderState) (r : ReceiverState) (t0 t1 t2 reverse : PathState) (frame : List ℕ) (left : FatesState) →
-    t0 ≡ record t1 { in_flight = frame ∷ t1.in_flight } → t2 ≡ record t1 { fates = left } →
-    PartsInvariant f w s r t0 reverse → FrameMatches f w frame × PartsInvariant f w s r t2 reverse
-before f w s r t0 t1 t2 reverse frame left first drawn c =
-    let rest = rest_of (FrameMatches f w) frame t0.in_flight t1.in_flight t2.in_flight (ap (λ p. p.in_flight) first) (ap (λ p. p.in_flight) drawn) c.coming in
-    let delayed : t0.delayed ≡ t2.delayed = ap (λ p. p.delayed) first ∙ sym (ap (λ p. p.delayed) drawn) in
-    (rest.0, coming_are f w s r t0 t2 reverse (λ _ _. rest.1) (subst (All (FrameMatches f w)) delayed) c)

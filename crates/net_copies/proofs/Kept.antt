@@ -1,15 +1,12 @@
 -- Each step of a round keeps the invariant of a link.
-use Rattle.std.proofs.Common.{◌≡◌, ◌&&◌, ◌||◌, nat_eq, ℕ, ◌+◌, ◌-◌, ◌≤◌, ◌<◌, ◌^◌, Bool, true, false, cond, nat_lt, nat_le, List, [], ◌∷◌, ◌++◌, length, take, drop}
-use Rattle.std.proofs.Common.{All, Option, Some, None, refl, sym, ap, subst, ◌∙◌, arith, ⊎_elim, inl, inr, length-take, length-drop}
+use Rattle.std.proofs.Common.{◌≡◌, ℕ, ◌+◌, ◌-◌, ◌≤◌, ◌<◌, ◌^◌, true, false, nat_lt, List, [], ◌∷◌, ◌++◌, length, take, drop}
+use Rattle.std.proofs.Common.{All, Option, Some, None, refl, sym, ap, subst, ◌∙◌, arith, length-take, length-drop}
 use Rattle.std.specs.FinMap as fin
 use Rattle.std.specs.Option.{is_some}
-use Rattle.std.specs.List.{list_any}
-use Rattle.std.specs.Cmp.{unsigned_tied}
-use Rattle.std.specs.Ordering.{nat_cmp, eq_by_cmp}
-use Rattle.std.proofs.lemmas.Bool.{both_ways, and_parts, leb-true, ltb-true}
+use Rattle.std.proofs.lemmas.Bool.{both_ways}
 use Rattle.std.proofs.lemmas.Option.{slice_get_within}
 use Rattle.std.proofs.lemmas.List.{take_all, take-take, drop-drop}
-use Rattle.std.proofs.lemmas.List.Elements.{All-head, All-tail, All-take}
+use Rattle.std.proofs.lemmas.List.Elements.{All-head, All-tail, All-push, All-weaker, All-take}
 use Rattle.net_assembler.specs.Positions.{contains, IsMaximalRun, maximal_runs}
 use Rattle.net_receiver.specs.Rules.{Segment}
 use Rattle.net_receiver.specs.ReceiverState.{ReceiverState, domain}
@@ -21,42 +18,33 @@ use Rattle.net_copies.specs.SackBlocks.{most_sack_blocks, blocks_of}
 use Rattle.net_copies.specs.Fates.{next_fate, comes, comes_delayed}
 use Rattle.net_copies.specs.PathState.{PathState, ack_of, receiver_after, with_ack}
 use Rattle.net_copies.specs.LinkInvariant.{PartsInvariant, AckMatches}
-use Rattle.net_copies.specs.SenderState.{stop_of, spared_from}
-use Rattle.net_copies.specs.SenderState.{after_ack_frame}
 use Rattle.net_copies.specs.PathState.{with_delayed}
-use Rattle.net_copies.proofs.Invariant.{All-push, All-map, took, coming_are, going_are, acked_reverse, sent_says, acked}
+use Rattle.net_copies.proofs.Invariant.{took, coming_are, going_are, acked_reverse, sent_says}
 use Rattle.net_copies.proofs.Queue.{queue_from}
 use Rattle.net_copies.proofs.Parts.{lent_says}
-use Rattle.net_copies.proofs.Ranges.{IsWords, ack_tells}
+use Rattle.net_copies.proofs.Ranges.{IsWords, contains_held, ack_tells}
 use Rattle.net_copies.proofs.Reached.{by_keeps_end, first_is}
 use Rattle.net_copies.proofs.Sent.{stop_within}
-use Rattle.net_copies.specs.LinkState.{LinkState, times, Cursor, start, frame_len, send, part, part_at, transmit, take_in, come, delayed_frame_of, delayed_frame, delayed_frames}
-use Rattle.net_copies.specs.LinkState.{came, meet, take_frame, pass_frame_of, pass_frame, pass_frames, acknowledge_all, acknowledge, delayed_ack_of, delayed_ack, delayed_acks}
-use Rattle.net_copies.specs.LinkState.{came_ack, meet_ack, take_ack, pass_ack_of, pass_ack, round}
-use Rattle.net_copies.specs.LinkState.{StopsDelayed, StopsFrame, StopsAck, StopsRound}
+use Rattle.net_copies.specs.LinkState.{LinkState, times, Cursor, start, frame_len, send, part, take_in, come}
+use Rattle.net_copies.specs.LinkState.{came, meet, take_frame, acknowledge_all, acknowledge}
+use Rattle.net_copies.specs.LinkState.{came_ack, meet_ack, take_ack, round}
+use Rattle.net_copies.specs.LinkState.{StopsRound}
 use Rattle.net_copies.specs.Streams.{Known, LinkInvariantFits}
-use Rattle.net_copies.proofs.Steps.{keeps}
-
-pub split : {A : Type 0} (P : A → Type 0) (b : Bool) (x y : A) → (b ≡ true → P x) → (b ≡ false → P y) → P (cond b x y)
-split P true x y f g = f refl
-split P false x y f g = g refl
+use Rattle.net_copies.proofs.Meeting.{arrives, heard}
+use Rattle.net_copies.proofs.Steps.{keeps, split, by_part, StepsKeep, round_kept, stop_kept}
 
 module _ (known : Known) (f : ℕ) (w : List ℕ) where
   -- ---- what a receiver holds has positions of 64 bits
-  same_tests : (ks : List ℕ) (q : ℕ) → list_any (eq_by_cmp nat_cmp q) ks ≡ list_any (nat_eq q) ks
-  same_tests [] q = refl
-  same_tests (k ∷ ks) q = λ i. unsigned_tied q k i || same_tests ks q i
-
   pub held_within : (r : ReceiverState) (p : ℕ) → ReceivesFrom f w r → contains (domain r.held) p ≡ true → p < f + length w
   held_within r p h is = here (fin.get r.held p) refl
     where
       here : (o : Option ℕ) → fin.get r.held p ≡ o → p < f + length w
-      here None e = absurd (both_ways false refl (sym (ap is_some e) ∙ fin.contains_key-keys r.held p ∙ same_tests (fin.keys r.held) p ∙ sym (known.members (fin.keys r.held) p) ∙ is))
+      here None e = absurd (both_ways false refl (sym (ap is_some e) ∙ sym (contains_held known.members r.held p) ∙ is))
       here (Some b) e = (let l = slice_get_within w (p - f) b (known.held f w r p b h e) in omega arith)
 
   words : (r : ReceiverState) (n : ℕ) → ReceivesFrom f w r → f + length w < 2 ^ 64 → All IsWords (take n (maximal_runs (domain r.held)))
   words r n h fits = All-take IsWords n (maximal_runs (domain r.held))
-      (All-map (IsMaximalRun (domain r.held)) IsWords
+      (All-weaker (IsMaximalRun (domain r.held)) IsWords
       (λ run m. (let some = m.some in
       let last = held_within r (run.1 - 1) h (m.inside (run.1 - 1) (omega arith) (omega arith)) in
       (omega arith, omega arith)))
@@ -90,17 +78,10 @@ module _ (known : Known) (f : ℕ) (w : List ℕ) where
 
   at_part : (c : Cursor) → At c → At (part c)
   at_part c h =
-      let s = c.link.sender in
       let from = h.from in
-      split At (nat_lt c.pos (stop_of s) && nat_lt 0 c.left) (part_at c) c
-      (λ on.
-      let below = ltb-true c.pos (stop_of s) (and_parts (nat_lt c.pos (stop_of s)) (nat_lt 0 c.left) on).0 in
-      let stop = stop_within s in
-      split At (nat_lt 0 (spared_from s c.pos)) (record c { pos = c.pos + spared_from s c.pos })
-      (record { pos = c.pos + frame_len c.link c.pos; left = c.left - 1; link = send c.link c.pos (frame_len c.link c.pos) })
-      (λ _. record { from = omega arith; carries = h.carries })
-      (λ _. record { from = omega arith; carries = sent c (frame_len c.link c.pos) (omega arith) h }))
-      (λ _. h)
+      let stop = stop_within c.link.sender in
+      by_part At c h (λ _ _. record { from = omega arith; carries = h.carries })
+      (λ below _. record { from = omega arith; carries = sent c (frame_len c.link c.pos) (omega arith) h })
 
   pub at_parts : (n : ℕ) (s : LinkState) → LinkInvariantFits f w s → At (times n part (start s))
   at_parts n s h = keeps At part at_part n (start s) (record { from = omega arith; carries = h })
@@ -110,12 +91,9 @@ module _ (known : Known) (f : ℕ) (w : List ℕ) where
   received : (s : SenderState) (r : ReceiverState) (forward reverse : PathState) (o : Option (ℕ × List ℕ)) →
       ((pos : ℕ) (xs : List ℕ) → o ≡ Some (pos, xs) → MatchesStream f w pos xs) →
       PartsInvariant f w s r forward reverse → PartsInvariant f w s (receiver_after most_sack_blocks r o) forward reverse
-  received s r forward reverse None says c = c
-  received s r forward reverse (Some (pos, xs)) says c =
-      split (λ u. PartsInvariant f w s u forward reverse) (nat_lt (pos + length xs) (2 ^ 64)) _ r
-      (λ _. took f w s r _ forward reverse (λ h. known.segment most_sack_blocks f w r pos xs h (says pos xs refl))
-      (known.next most_sack_blocks r (Segment pos xs)) (λ p h. known.has most_sack_blocks r (Segment pos xs) p h) c)
-      (λ _. c)
+  received s r forward reverse o says c = arrives (λ u. PartsInvariant f w s u forward reverse) most_sack_blocks r o
+      (λ pos xs at. took f w s r _ forward reverse (λ h. known.segment most_sack_blocks f w r pos xs h (says pos xs at))
+      (known.next most_sack_blocks r (Segment pos xs)) (λ p h. known.has most_sack_blocks r (Segment pos xs) p h) c) c
 
   told : (s : SenderState) (r : ReceiverState) (forward reverse : PathState) (o : Option (ℕ × List ℕ)) → end_of s < 2 ^ 64 →
       PartsInvariant f w s r forward reverse → PartsInvariant f w s r forward (with_ack r o reverse)
@@ -167,14 +145,6 @@ module _ (known : Known) (f : ℕ) (w : List ℕ) where
         record { way = coming_are f w s.sender s.receiver s.forward _ s.reverse (λ _ _. All-tail (FrameMatches f w) frame rest all) (λ a. a) h.way; fits = h.fits },
       )
 
-  after_delayed : (s : LinkState) (frames : List (List ℕ)) → s.forward.delayed ≡ frames → LinkInvariantFits f w s → LinkInvariantFits f w (delayed_frame_of s frames)
-  after_delayed s [] is h = h
-  after_delayed s (frame ∷ rest) is h = (let one = delayed_taken s frame rest is h in comes_in _ frame one.0 one.1)
-
-  after_frame : (s : LinkState) (frames : List (List ℕ)) → s.forward.in_flight ≡ frames → LinkInvariantFits f w s → LinkInvariantFits f w (pass_frame_of s frames)
-  after_frame s [] is h = h
-  after_frame s (frame ∷ rest) is h = (let one = frame_taken s frame rest is h in met (next_fate s.forward.fates) _ frame one.0 one.1)
-
   all_told : (s : LinkState) → LinkInvariantFits f w s → LinkInvariantFits f w (acknowledge_all s)
   all_told s h = record {
     way = acked_reverse f w s.sender s.receiver s.forward s.reverse _ (ack_of s.receiver) refl (tells s.sender s.receiver s.forward s.reverse h.fits h.way) h.way;
@@ -182,14 +152,8 @@ module _ (known : Known) (f : ℕ) (w : List ℕ) where
   }
 
   -- ---- step 5
-  still_sends : (v : SenderState) (o : Option (ℕ × List ℕ)) → Sends f w v → Sends f w (after_ack_frame v o)
-  still_sends v None h = h
-  still_sends v (Some (n, xs)) h =
-      split (Sends f w) (nat_le v.first_unacknowledged n && nat_le n (end_of v)) (sender_from v n (blocks_of most_sack_blocks xs)) v
-      (λ e.
-      let both = and_parts (nat_le v.first_unacknowledged n) (nat_le n (end_of v)) e in
-      let low = leb-true v.first_unacknowledged n both.0 in
-      let high = leb-true n (end_of v) both.1 in
+  still_sends : (v : SenderState) (n : ℕ) (ranges : List (ℕ × ℕ)) → v.first_unacknowledged ≤ n → n ≤ end_of v → Sends f w v → Sends f w (sender_from v n ranges)
+  still_sends v n ranges low high h =
       let from = h.from in
       let end = h.end in
       let size = length-drop (n - v.first_unacknowledged) v.queue in
@@ -198,19 +162,24 @@ module _ (known : Known) (f : ℕ) (w : List ℕ) where
         from = omega arith;
         end = omega arith;
         queue = ap (drop (n - v.first_unacknowledged)) h.queue ∙ drop-drop (n - v.first_unacknowledged) (v.first_unacknowledged - f) w ∙ ap (λ k. drop k w) place;
-      })
-      (λ _. h)
+      }
 
   acknowledged : (s : LinkState) (frame : List ℕ) → AckMatches s.receiver frame → LinkInvariantFits f w s → LinkInvariantFits f w (acknowledge s frame)
   acknowledged s frame says h = record {
-    way = by (segment_of frame) refl;
+    way = heard (λ v. PartsInvariant f w v s.receiver s.forward s.reverse) s.sender (segment_of frame)
+        (λ n xs at low high. record {
+          sends = still_sends s.sender n (blocks_of most_sack_blocks xs) low high h.way.sends;
+          receives = h.way.receives;
+          coming = h.way.coming;
+          delayed = h.way.delayed;
+          in_flight_reverse = h.way.in_flight_reverse;
+          delayed_reverse = h.way.delayed_reverse;
+          behind = (says n xs at).0;
+          sack_blocks = (says n xs at).1;
+        })
+        h.way;
     fits = subst (λ n. n < 2 ^ 64) (sym (by_keeps_end s.sender (segment_of frame))) h.fits;
   }
-    where
-      by : (o : Option (ℕ × List ℕ)) → segment_of frame ≡ o → PartsInvariant f w (after_ack_frame s.sender o) s.receiver s.forward s.reverse
-      by None e = h.way
-      by (Some (n, xs)) e =
-          acked f w s.sender (after_ack_frame s.sender (Some (n, xs))) s.receiver s.forward s.reverse frame n xs e refl (still_sends s.sender (Some (n, xs))) says h.way
 
   came_reverse : (fate : Fate) (s : LinkState) (frame : List ℕ) → AckMatches s.receiver frame → LinkInvariantFits f w s → LinkInvariantFits f w (came_ack fate s frame)
   came_reverse fate s frame says h = split (LinkInvariantFits f w) (comes fate) (acknowledge s frame) s (λ _. acknowledged s frame says h) (λ _. h)
@@ -234,80 +203,34 @@ module _ (known : Known) (f : ℕ) (w : List ℕ) where
         record { way = going_are f w s.sender s.receiver s.forward s.reverse _ (λ _. All-tail (AckMatches s.receiver) frame rest all) (λ a. a) h.way; fits = h.fits },
       )
 
-  after_delayed_ack : (s : LinkState) (frames : List (List ℕ)) → s.reverse.delayed ≡ frames → LinkInvariantFits f w s → LinkInvariantFits f w (delayed_ack_of s frames)
-  after_delayed_ack s [] is h = h
-  after_delayed_ack s (frame ∷ rest) is h =
-      let all = subst (All (AckMatches s.receiver)) is h.way.delayed_reverse in
-      acknowledged (record s { reverse = record s.reverse { delayed = rest } }) frame (All-head (AckMatches s.receiver) frame rest all)
-      (record { way = going_are f w s.sender s.receiver s.forward s.reverse _ (λ a. a) (λ _. All-tail (AckMatches s.receiver) frame rest all) h.way; fits = h.fits })
-
-  after_ack_of : (s : LinkState) (frames : List (List ℕ)) → s.reverse.in_flight ≡ frames → LinkInvariantFits f w s → LinkInvariantFits f w (pass_ack_of s frames)
-  after_ack_of s [] is h = h
-  after_ack_of s (frame ∷ rest) is h = (let one = ack_taken s frame rest is h in met_ack (next_fate s.reverse.fates) _ frame one.0 one.1)
+  delayed_ack_taken : (s : LinkState) (frame : List ℕ) (rest : List (List ℕ)) → s.reverse.delayed ≡ frame ∷ rest → LinkInvariantFits f w s →
+      AckMatches s.receiver frame × LinkInvariantFits f w (record s { reverse = record s.reverse { delayed = rest } })
+  delayed_ack_taken s frame rest is h =
+      let all = subst (All (AckMatches s.receiver)) is h.way.delayed_reverse in (
+        All-head (AckMatches s.receiver) frame rest all,
+        record { way = going_are f w s.sender s.receiver s.forward s.reverse _ (λ a. a) (λ _. All-tail (AckMatches s.receiver) frame rest all) h.way; fits = h.fits },
+      )
 
   -- ---- a round
-  delayed_all : (n : ℕ) (s : LinkState) → LinkInvariantFits f w s → LinkInvariantFits f w (times n delayed_frame s)
-  delayed_all = keeps (LinkInvariantFits f w) delayed_frame (λ s. after_delayed s s.forward.delayed refl)
-
-  frames_all : (n : ℕ) (s : LinkState) → LinkInvariantFits f w s → LinkInvariantFits f w (times n pass_frame s)
-  frames_all = keeps (LinkInvariantFits f w) pass_frame (λ s. after_frame s s.forward.in_flight refl)
-
-  delayed_acks_all : (n : ℕ) (s : LinkState) → LinkInvariantFits f w s → LinkInvariantFits f w (times n delayed_ack s)
-  delayed_acks_all = keeps (LinkInvariantFits f w) delayed_ack (λ s. after_delayed_ack s s.reverse.delayed refl)
-
-  acks_all : (n : ℕ) (s : LinkState) → LinkInvariantFits f w s → LinkInvariantFits f w (times n pass_ack s)
-  acks_all = keeps (LinkInvariantFits f w) pass_ack (λ s. after_ack_of s s.reverse.in_flight refl)
-
-  after_sent : (s : LinkState) → LinkInvariantFits f w s → LinkInvariantFits f w (transmit s)
-  after_sent s h = (at_parts (length s.sender.queue) s h).carries
-
-  after_delayed_frames : (s : LinkState) → LinkInvariantFits f w s → LinkInvariantFits f w (delayed_frames (transmit s))
-  after_delayed_frames s h = delayed_all (length (transmit s).forward.delayed) (transmit s) (after_sent s h)
-
-  after_frames : (s : LinkState) → LinkInvariantFits f w s → LinkInvariantFits f w (pass_frames (delayed_frames (transmit s)))
-  after_frames s h = (let u = delayed_frames (transmit s) in frames_all (length u.forward.in_flight) u (after_delayed_frames s h))
-
-  after_acks : (s : LinkState) → LinkInvariantFits f w s → LinkInvariantFits f w (delayed_acks (acknowledge_all (pass_frames (delayed_frames (transmit s)))))
-  after_acks s h =
-      let u = acknowledge_all (pass_frames (delayed_frames (transmit s))) in
-      delayed_acks_all (length u.reverse.delayed) u (all_told (pass_frames (delayed_frames (transmit s))) (after_frames s h))
+  steps_keep : StepsKeep (LinkInvariantFits f w)
+  steps_keep = record {
+    sent = λ n s h. (at_parts n s h).carries;
+    delayed = λ s frame rest is h. (let one = delayed_taken s frame rest is h in (taken _ frame one.0 one.1, comes_in _ frame one.0 one.1));
+    passed = λ s frame rest is h.
+        let one = frame_taken s frame rest is h in
+        let fate = next_fate s.forward.fates in
+        (taken _ frame one.0 one.1, came_in fate _ frame one.0 one.1, met fate _ frame one.0 one.1);
+    told = all_told;
+    ack_delayed = λ s frame rest is h. (let one = delayed_ack_taken s frame rest is h in acknowledged _ frame one.0 one.1);
+    ack_passed = λ s frame rest is h.
+        let one = ack_taken s frame rest is h in
+        let fate = next_fate s.reverse.fates in
+        (came_reverse fate _ frame one.0 one.1, met_ack fate _ frame one.0 one.1);
+    burst = λ s h. record { way = h.way; fits = h.fits };
+  }
 
   pub round_keeps_invariant : (s : LinkState) → LinkInvariantFits f w s → LinkInvariantFits f w (round s)
-  unfolding round
-  round_keeps_invariant s h =
-      let u = delayed_acks (acknowledge_all (pass_frames (delayed_frames (transmit s)))) in
-      let c = acks_all (length u.reverse.in_flight) u (after_acks s h) in
-      record { way = c.way; fits = c.fits }
-
-  -- ---- where memory was refused
-  stop_delayed : (u v : LinkState) (frames : List (List ℕ)) → u.forward.delayed ≡ frames → StopsDelayed u frames v → LinkInvariantFits f w u → LinkInvariantFits f w v
-  stop_delayed u v [] is e h = absurd e
-  stop_delayed u v (frame ∷ rest) is e h = (let one = delayed_taken u frame rest is h in subst (LinkInvariantFits f w) (sym e) (taken _ frame one.0 one.1))
-
-  stop_frame : (u v : LinkState) (frames : List (List ℕ)) → u.forward.in_flight ≡ frames → StopsFrame u frames v → LinkInvariantFits f w u → LinkInvariantFits f w v
-  stop_frame u v [] is e h = absurd e
-  stop_frame u v (frame ∷ rest) is e h =
-      let one = frame_taken u frame rest is h in
-      ⊎_elim {C = LinkInvariantFits f w v}
-      (λ (e : v ≡ take_in (take_frame u rest) frame). subst (LinkInvariantFits f w) (sym e) (taken _ frame one.0 one.1))
-      (λ (e : v ≡ came (next_fate u.forward.fates) (take_frame u rest) frame). subst (LinkInvariantFits f w) (sym e) (came_in (next_fate u.forward.fates) _ frame one.0 one.1))
-      e
-
-  stop_ack : (u v : LinkState) (frames : List (List ℕ)) → u.reverse.in_flight ≡ frames → StopsAck u frames v → LinkInvariantFits f w u → LinkInvariantFits f w v
-  stop_ack u v [] is e h = absurd e
-  stop_ack u v (frame ∷ rest) is e h =
-      let one = ack_taken u frame rest is h in
-      subst (LinkInvariantFits f w) (sym e) (came_reverse (next_fate u.reverse.fates) _ frame one.0 one.1)
+  round_keeps_invariant = round_kept (LinkInvariantFits f w) steps_keep
 
   pub stop_keeps_invariant : (s v : LinkState) → StopsRound s v → LinkInvariantFits f w s → LinkInvariantFits f w v
-  stop_keeps_invariant s v (inl (n, e)) h = subst (LinkInvariantFits f w) (sym e) (at_parts n s h).carries
-  stop_keeps_invariant s v (inr (inl (n, e))) h = (let u = times n delayed_frame (transmit s) in stop_delayed u v u.forward.delayed refl e (delayed_all n (transmit s) (after_sent s h)))
-  stop_keeps_invariant s v (inr (inr (inl (n, e)))) h =
-      let t = delayed_frames (transmit s) in
-      let u = times n pass_frame t in
-      stop_frame u v u.forward.in_flight refl e (frames_all n t (after_delayed_frames s h))
-  stop_keeps_invariant s v (inr (inr (inr (inl e)))) h = subst (LinkInvariantFits f w) (sym e) (after_frames s h)
-  stop_keeps_invariant s v (inr (inr (inr (inr (n, e))))) h =
-      let t = delayed_acks (acknowledge_all (pass_frames (delayed_frames (transmit s)))) in
-      let u = times n pass_ack t in
-      stop_ack u v u.reverse.in_flight refl e (acks_all n t (after_acks s h))
+  stop_keeps_invariant = stop_kept (LinkInvariantFits f w) steps_keep

@@ -15,7 +15,7 @@ use Rattle.net_copies.proofs.Counted.{same_equal, same_met}
 use Rattle.net_copies.proofs.Meeting.{brought_append, acks_append}
 use Rattle.net_copies.proofs.Reached.{acked_append}
 use Rattle.net_copies.proofs.Closed.{delayed_came, came_delayed, passed_all, left, delayed_acked, acked_delayed, acks_passed, all_acked}
-use Rattle.net_copies.proofs.SentAll.{sends_round}
+use Rattle.net_copies.proofs.SentAll.{only_sent, sends_round}
 
 -- the link after each step, where these frames are in flight after the first one, and these are the counts
 -- after the first three
@@ -32,16 +32,16 @@ module _ (s : LinkState) (in_flight : List (List ℕ)) (c0 c1 c2 : FrameCounts) 
   abbrev coming : List (List ℕ)
   coming = coming_of s.forward.fates in_flight
 
-  abbrev after_frames : LinkState
+  abbrev pub after_frames : LinkState
   after_frames = left after_delayed coming (delayed_of s.forward.fates in_flight) (fates_after (length in_flight) s.forward.fates) c2
 
-  abbrev after_delayed_acks : LinkState
+  abbrev pub after_delayed_acks : LinkState
   after_delayed_acks = acked_delayed (acknowledge_all after_frames) s.reverse.delayed
 
-  abbrev acks : List (List ℕ)
+  abbrev pub acks : List (List ℕ)
   acks = after_delayed_acks.reverse.in_flight
 
-  abbrev after_acks : LinkState
+  abbrev pub after_acks : LinkState
   after_acks = all_acked after_delayed_acks acks
 
   passes_by : (n : ℕ) → SendsRound s.sender (at_least_one s.payload) (at_least_one s.burst) n s.forward sent →
@@ -80,16 +80,21 @@ pub record RoundSends (s z : LinkState) : Type 0 where
   pub in_flight : passes.sent.in_flight ≡ (transmit s).forward.in_flight
   pub acks : length passes.acks ≡ acks_sent s
 
-pub round_sends : (s : LinkState) → s.counts.payload < 2 ^ 64 → RoundSends s (round s)
-unfolding round passes_by
-round_sends s fits =
-    let n = (sends_round s fits).0 in
-    let sent = (sends_round s fits).1 in
+-- a round as a function of the frames that it sends, and of the counts after its first three steps
+pub record RoundIs (s : LinkState) (c1 c2 : FrameCounts) : Type 0 where
+  pub frames : pass_frames (delayed_frames (transmit s)) ≡ after_frames s (transmit s).forward.in_flight (transmit s).counts c1 c2
+  pub same : round s ≡ with_burst (after_acks s (transmit s).forward.in_flight (transmit s).counts c1 c2)
+  pub delayed : SameButRefused c1 (transmit s).counts
+  pub passed : SameButRefused c2 (with_fates (length (transmit s).forward.in_flight) s.forward.fates c1)
+
+pub round_is : (s : LinkState) → (c1 : FrameCounts) × (c2 : FrameCounts) × RoundIs s c1 c2
+unfolding round
+round_is s =
     let t = transmit s in
     let in_flight = t.forward.in_flight in
-    let path : t.forward ≡ record s.forward { in_flight = in_flight } = sent.sent.prefix.sent ∙ (λ i. record s.forward { in_flight = sym (ap (λ p. p.in_flight) sent.sent.prefix.sent) i }) in
+    let only = (only_sent s).same in
     let t' = after_sent s in_flight t.counts t.counts t.counts in
-    let is_t : t ≡ t' = sent.same ∙ (λ i. record s { forward = path i; counts = t.counts }) in
+    let is_t : t ≡ t' = only ∙ (λ i. record t' { counts = sym (ap (λ (l : LinkState). l.counts) only) i }) in
     let one = delayed_came s.forward.delayed t' refl in
     let c1 = (delayed_frames t').counts in
     let u' = after_delayed s in_flight t.counts c1 c1 in
@@ -98,16 +103,31 @@ round_sends s fits =
     let c2 = (pass_frames u').counts in
     let v' = after_frames s in_flight t.counts c1 c2 in
     let is_v : pass_frames (delayed_frames t) ≡ v' = ap pass_frames is_u ∙ two.same in
-    let x' = acknowledge_all v' in
     let y' = after_delayed_acks s in_flight t.counts c1 c2 in
     let is_y : delayed_acks (acknowledge_all (pass_frames (delayed_frames t))) ≡ y' =
-    ap (λ v. delayed_acks (acknowledge_all v)) is_v ∙ delayed_acked s.reverse.delayed x' refl in
-    let is_z = ap pass_acks is_y ∙ acks_passed y'.reverse.in_flight y' refl in
-    subst (λ z. RoundSends s (with_burst z)) (sym is_z) (record {
-      passes = passes_by s in_flight t.counts c1 c2 n (subst (SendsRound s.sender (at_least_one s.payload) (at_least_one s.burst) n s.forward) path sent.sent)
-          sent.counted one.counted two.counted;
+    ap (λ v. delayed_acks (acknowledge_all v)) is_v ∙ delayed_acked s.reverse.delayed (acknowledge_all v') refl in (
+      c1,
+      c2,
+      record {
+        frames = is_v;
+        same = ap with_burst (ap pass_acks is_y ∙ acks_passed y'.reverse.in_flight y' refl);
+        delayed = one.counted;
+        passed = two.counted;
+      },
+    )
+
+pub round_sends : (s : LinkState) → s.counts.payload < 2 ^ 64 → RoundSends s (round s)
+unfolding passes_by
+round_sends s fits =
+    let t = transmit s in
+    let sent = sends_round s fits in
+    let is = (round_is s).2 in
+    subst (RoundSends s) (sym is.same) (record {
+      passes = passes_by s t.forward.in_flight t.counts (round_is s).0 (round_is s).1 sent.0
+          (subst (SendsRound s.sender (at_least_one s.payload) (at_least_one s.burst) sent.0 s.forward) (ap (λ (l : LinkState). l.forward) (only_sent s).same) sent.1.sent)
+          sent.1.counted is.delayed is.passed;
       in_flight = refl;
-      acks = sym (ap (λ v. length (acknowledge_all v).reverse.in_flight) is_v);
+      acks = sym (ap (λ (v : LinkState). length (acknowledge_all v).reverse.in_flight) is.frames);
     })
 
 pub round_passes : RoundPasses

@@ -14,7 +14,8 @@ use Rattle.net_copies.specs.Promises.{StartsFits, before_end, WritesPrefix, Writ
 use Rattle.net_copies.proofs.Invariant.{begun, took, written}
 use Rattle.net_copies.proofs.Queue.{queue_from}
 use Rattle.net_copies.proofs.Reached.{first_is}
-use Rattle.net_copies.proofs.Kept.{split, round_keeps_invariant}
+use Rattle.net_copies.proofs.Kept.{round_keeps_invariant}
+use Rattle.net_copies.proofs.Steps.{split}
 use Rattle.net_copies.proofs.Grown.{grown}
 use Rattle.net_copies.proofs.Turns.{feeds, decides, all_turned}
 
@@ -89,7 +90,7 @@ module _ (known : Known) where
   pass_writes f g chunk c h =
       let s = round (waited c) in
       let k = round_keeps_invariant known f g (waited c) (record { way = h.carries.way; fits = h.carries.fits }) in
-      let same = (grown known.reads_nothing c.link.sender.first_unacknowledged c.link.receiver.read (waited c) (record { first_unacknowledged = omega arith; read = refl })).read in
+      let same = (grown known.reads_nothing c.link.sender.first_unacknowledged c.link.receiver.read (waited c) (omega arith, refl)).1 in
       let q = queue_of f g s k in
       record {
         carries = record {

@@ -1,10 +1,10 @@
 -- How far frames and acknowledgements bring a receiver and a sender.
 use Rattle.std.proofs.Common.{◌≡◌, ℕ, zero, suc, ◌+◌, ◌-◌, ◌<◌, ◌≤◌, ◌^◌, ◌%◌, ◌/◌, max}
-use Rattle.std.proofs.Common.{nat_lt, nat_le, ◌&&◌, Bool, true, false, cond}
-use Rattle.std.proofs.Common.{List, [], ◌∷◌, ◌++◌, length, drop, get_or, All, Option}
+use Rattle.std.proofs.Common.{nat_lt, nat_le, Bool, true, false, cond}
+use Rattle.std.proofs.Common.{List, [], ◌∷◌, ◌++◌, length, get_or, All, Option}
 use Rattle.std.proofs.Common.{Some, None, slice_get, refl, sym, ap, subst, ◌∙◌, arith, ⊎_elim, inl}
-use Rattle.std.proofs.Common.{inr, le_trans, length-append, length-drop}
-use Rattle.std.proofs.lemmas.Bool.{both_ways, cases_lt, cases_Bool, cond-true, cond-false, le-leb, lt-leb, le-ltb, leb-true, and_parts}
+use Rattle.std.proofs.Common.{inr, le_trans, le_of_suc-le-suc, lt_of_not-le, length-append, length-drop}
+use Rattle.std.proofs.lemmas.Bool.{both_ways, cases_lt, cond-true, le-leb, le-ltb, leb-true}
 use Rattle.std.proofs.lemmas.Option.{slice_get_within, slice_get-get_or}
 use Rattle.std.specs.FinMap as fin
 use Rattle.std.proofs.lemmas.List.Elements.{All-head, All-tail}
@@ -13,9 +13,9 @@ use Rattle.net_receiver.specs.KeptList.{piece, piece_byte_at}
 use Rattle.net_receiver.specs.ReceiverState.{ReceiverState, next_position, IsSound}
 use Rattle.net_receiver.specs.OneStream.{ReceivesFrom, MatchesStream}
 use Rattle.net_receiver.specs.Retransmission.{HasByteAt}
-use Rattle.net_copies.specs.SenderState.{SenderState, sender_from, after_ack, end_of}
+use Rattle.net_copies.specs.SenderState.{SenderState, end_of}
 use Rattle.net_copies.specs.Frames.{Part, frame_of, frames_from, part_bytes, segment_of, FramesDecode}
-use Rattle.net_copies.specs.SackBlocks.{is_sacked, most_sack_blocks, blocks_of}
+use Rattle.net_copies.specs.SackBlocks.{is_sacked}
 use Rattle.net_copies.specs.Fates.{FatesState, next_of, after_of, next_fate, after_fate, comes, AllCome, NextCome}
 use Rattle.net_copies.specs.declared.fate.Fate.{Fate}
 use Rattle.net_copies.specs.declared.fate.Fate.TheVariants.{Delivered, Lost, Duplicated, Delayed}
@@ -24,6 +24,8 @@ use Rattle.net_copies.specs.LinkInvariant.{HasAllOf}
 use Rattle.net_copies.specs.Transmission.{IsSackedIf, AreSparedIfSacked}
 use Rattle.net_copies.specs.Reach.{reach_one, Reaches, after_ack_frames}
 use Rattle.net_copies.specs.SenderState.{after_ack_frame}
+use Rattle.net_copies.proofs.Meeting.{heard}
+use Rattle.net_copies.proofs.Steps.{split}
 
 -- ---- where a truthful segment ends
 pub says_ends : (f : ℕ) (w : List ℕ) (pos : ℕ) (xs : List ℕ) → MatchesStream f w pos xs → pos + length xs ≤ max pos (f + length w)
@@ -43,11 +45,7 @@ says_ends f w pos (x ∷ xs) says =
 
 -- ---- one frame
 pub reach_cases : (P : ℕ → Type 0) (p pos n : ℕ) → (pos ≤ p → P (max p n)) → P p → P (cond (nat_le pos p) (max p n) p)
-reach_cases P p pos n near far =
-    ⊎_elim
-    (λ (l : p < pos). subst P (sym (cond-false _ _ _ (lt-leb pos p l))) far)
-    (λ (l : pos ≤ p). subst P (sym (cond-true _ _ _ (le-leb pos p l))) (near l))
-    (cases_lt p pos)
+reach_cases P p pos n near far = split P (nat_le pos p) (max p n) p (λ e. near (leb-true pos p e)) (λ _. far)
 
 one_from : (p : ℕ) (o : Option (ℕ × List ℕ)) → p ≤ reach_one p o
 one_from p None = omega arith
@@ -91,10 +89,7 @@ missing most r sound h =
 pub no_gap : (most : ℕ) (r : ReceiverState) (ranges : List (ℕ × ℕ)) (pos : ℕ) → IsSound most r → HasAllOf r ranges →
     IsSackedIf ranges (next_position r) (pos - next_position r) true → pos ≤ next_position r
 no_gap most r ranges pos sound had marked =
-    ⊎_elim {C = pos ≤ next_position r}
-    (λ (l : next_position r < pos). absurd (missing most r sound (had (next_position r) (marked (next_position r) (omega arith) (omega arith)))))
-    (λ (l : pos ≤ next_position r). l)
-    (cases_lt (next_position r) pos)
+    le_of_suc-le-suc (lt_of_not-le (λ (l : next_position r < pos). missing most r sound (had (next_position r) (marked (next_position r) (omega arith) (omega arith)))))
 
 -- once the first frame has come, the others bring the receiver as far
 pub brought : (most : ℕ) (ranges : List (ℕ × ℕ)) (end : ℕ) (r : ReceiverState) (m : ℕ) (frame : List ℕ) (frames : List (List ℕ)) → IsSound most r →
@@ -169,25 +164,8 @@ next_come zero v all = tt
 next_come (suc n) v all = (let both = come_next v all in (both.0, next_come n (after_fate v) both.1))
 
 -- ---- acknowledgements
-acked_keeps_end : (s : SenderState) (n : ℕ) (ranges : List (ℕ × ℕ)) → end_of (after_ack s n ranges) ≡ end_of s
-acked_keeps_end s n ranges =
-    ⊎_elim
-    (λ (e : (nat_le s.first_unacknowledged n && nat_le n (end_of s)) ≡ true).
-    ap end_of (cond-true _ (sender_from s n ranges) s e) ∙ kept_end e)
-    (λ (e : (nat_le s.first_unacknowledged n && nat_le n (end_of s)) ≡ false). ap end_of (cond-false _ (sender_from s n ranges) s e))
-    (cases_Bool (nat_le s.first_unacknowledged n && nat_le n (end_of s)))
-  where
-    kept_end : (nat_le s.first_unacknowledged n && nat_le n (end_of s)) ≡ true → n + length (drop (n - s.first_unacknowledged) s.queue) ≡ end_of s
-    kept_end e =
-        let both = and_parts (nat_le s.first_unacknowledged n) (nat_le n (end_of s)) e in
-        let low = leb-true s.first_unacknowledged n both.0 in
-        let high = leb-true n (end_of s) both.1 in
-        let long : length (drop (n - s.first_unacknowledged) s.queue) ≡ length s.queue - (n - s.first_unacknowledged) = length-drop (n - s.first_unacknowledged) s.queue in
-        omega arith
-
 pub by_keeps_end : (s : SenderState) (o : Option (ℕ × List ℕ)) → end_of (after_ack_frame s o) ≡ end_of s
-by_keeps_end s None = refl
-by_keeps_end s (Some (n, xs)) = acked_keeps_end s n (blocks_of most_sack_blocks xs)
+by_keeps_end s o = heard (λ u. end_of u ≡ end_of s) s o (λ n xs _ low high. omega (arith, length-drop (n - s.first_unacknowledged) s.queue)) refl
 
 pub all_keep_end : (s : SenderState) (frames : List (List ℕ)) → end_of (after_ack_frames s frames) ≡ end_of s
 all_keep_end s [] = refl

@@ -1,6 +1,6 @@
 -- How many rounds a copy takes.
 use Rattle.std.proofs.Common.{◌≡◌, ℕ, zero, suc, ◌+◌, ◌-◌, ◌*◌, ◌<◌, ◌≤◌, ◌^◌, min, List, [], ◌∷◌}
-use Rattle.std.proofs.Common.{◌++◌, length, take, refl, sym, ap, subst, ◌∙◌, arith, ⊎_elim}
+use Rattle.std.proofs.Common.{◌++◌, length, take, refl, sym, ap, subst, ◌∙◌, arith, ⊎_elim, lt_of_not-le}
 use Rattle.std.proofs.Common.{append_assoc, length-drop}
 use Rattle.std.proofs.lemmas.Bool.{both_ways, cases_lt, cond-true}
 use Rattle.net_assembler.specs.Positions.{maximal_runs}
@@ -18,7 +18,7 @@ use Rattle.net_copies.specs.LinkInvariant.{LinkInvariant}
 use Rattle.net_copies.specs.Stuck.{RoundLeaves, ProgressesOrIsStuck, HasFailed, AllFail, FatesFail}
 use Rattle.net_copies.proofs.Reached.{come_next, next_come, first_is}
 use Rattle.net_copies.proofs.Queue.{queue_from}
-use Rattle.net_copies.proofs.Stuck.{acked_last, some_come}
+use Rattle.net_copies.proofs.Stuck.{acked_last, first_of_all}
 
 -- ---- at most
 -- in a round bytes are acknowledged or written
@@ -41,7 +41,7 @@ coming_all v (x ∷ xs) come =
 pub head_meets : FramesDecode → (old new : LinkState) (p : Passes old new) → NextCome (length p.acks) old.reverse.fates → new.sender.first_unacknowledged ≤ next_position new.receiver →
     next_position new.receiver ≤ end_of old.sender → end_of old.sender < 2 ^ 64 → new.sender.first_unacknowledged ≡ next_position new.receiver
 head_meets trip old new p come behind within word =
-    ap (λ v. v.first_unacknowledged) is ∙ acked_last trip old.sender n xs earlier within (omega (arith, within, word)) (subst (λ v. v.first_unacknowledged ≤ n) is behind)
+    ap (λ v. v.first_unacknowledged) (is ∙ acked_last trip old.sender n xs earlier within (omega (arith, within, word)) (subst (λ v. v.first_unacknowledged ≤ n) is behind))
   where
     n : ℕ
     n = next_position new.receiver
@@ -66,18 +66,17 @@ pub never_fails : (frames acks : ℕ) (v v' : FatesState) → AllCome v → AllC
 never_fails frames acks v v' come come' stuck =
     ⊎_elim {C = ⊥}
     (λ (a : (0 < frames) × HasFailed 0 (next_fate v)). both_ways (comes (next_fate v)) a.1.0 (come_next v come).0)
-    (λ (b : (0 < acks) × AllFail 0 acks v'). some_come 0 acks v' b.0 b.1 (come_next v' come').0)
+    (λ (b : (0 < acks) × AllFail 0 acks v'). both_ways (comes (next_fate v')) (first_of_all 0 acks v' b.0 b.1).0 (come_next v' come').0)
     stuck
 
 -- a round of a copy writes some
-pub round_at_once : FramesDecode → QueueIsOfStream → (f : ℕ) (w : List ℕ) (old new last : LinkState) (room : ℕ) (p : Passes old new) →
-    RoundLeaves old new → ProgressesOrIsStuck (length p.sent.in_flight) (length p.acks) old new → end_of old.sender < 2 ^ 64 → last ≡ record new { receiver = receiver_after_read new.receiver room } →
+pub round_at_once : FramesDecode → QueueIsOfStream → (f : ℕ) (w : List ℕ) (old new : LinkState) (room : ℕ) (p : Passes old new) →
+    RoundLeaves old new → ProgressesOrIsStuck (length p.sent.in_flight) (length p.acks) old new → end_of old.sender < 2 ^ 64 →
     LinkInvariant f w old → LinkInvariant f w new →
     old.forward.in_flight ≡ [] → old.reverse.in_flight ≡ [] → AllCome old.forward.fates → AllCome old.reverse.fates → old.sender.first_unacknowledged ≡ next_position old.receiver →
     0 < old.receiver.capacity → 0 < room → (length old.receiver.queue ≡ 0 → 0 < length old.sender.queue) →
-    (last.sender.first_unacknowledged ≡ next_position last.receiver) × (old.receiver.read < last.receiver.read)
-round_at_once trip queue f w old new last room p keeps moves word handed carries carries1 none none_reverse come come_reverse meet cap some kept =
-    subst (λ l. (l.sender.first_unacknowledged ≡ next_position l.receiver) × (old.receiver.read < l.receiver.read)) (sym handed)
+    (new.sender.first_unacknowledged ≡ next_position (receiver_after_read new.receiver room)) × (old.receiver.read < (receiver_after_read new.receiver room).read)
+round_at_once trip queue f w old new room p keeps moves word carries carries1 none none_reverse come come_reverse meet cap some kept =
     (met ∙ sym next_read, omega (arith, more, read, some))
   where
     read : new.receiver.read ≡ old.receiver.read
@@ -105,13 +104,10 @@ round_at_once trip queue f w old new last room p keeps moves word handed carries
 
     on : length old.receiver.queue ≡ 0 → next_position old.receiver < next_position new.receiver
     on empty =
-        ⊎_elim {C = next_position old.receiver < next_position new.receiver}
-        (λ (l : next_position old.receiver < next_position new.receiver). l)
-        (λ (l : next_position new.receiver ≤ next_position old.receiver).
+        lt_of_not-le (λ (l : next_position new.receiver ≤ next_position old.receiver).
         let still : next_position new.receiver ≡ next_position old.receiver = omega (arith, l, grows) in
         let one = moves f w carries none none_reverse (kept empty) (omega (arith, empty, cap)) still (met ∙ still ∙ sym meet) in
-        absurd (never_fails (length p.sent.in_flight) (length p.acks) old.forward.fates old.reverse.fates come come_reverse one.why))
-        (cases_lt (next_position old.receiver) (next_position new.receiver))
+        never_fails (length p.sent.in_flight) (length p.acks) old.forward.fates old.reverse.fates come come_reverse one.why)
 
     more : 0 < length new.receiver.queue
     more =

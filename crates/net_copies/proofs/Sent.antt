@@ -2,10 +2,10 @@
 use Rattle.std.proofs.Common.{◌≡◌, ◌⊎◌, ℕ, ◌+◌, ◌-◌, ◌<◌, ◌≤◌, min, cond, nat_lt, Bool, true, false, List, [], ◌∷◌, ◌++◌, length, take}
 use Rattle.std.proofs.Common.{drop, All, refl, sym, ap, subst, ◌∙◌, arith, ⊎_elim, inl, inr, length-append, length-take, length-drop}
 use Rattle.std.proofs.Common.{append_assoc, take-add}
-use Rattle.std.proofs.lemmas.Bool.{both_ways, cases_lt, cond-true, cond-false, lt-ltb, le-ltb}
+use Rattle.std.proofs.lemmas.Bool.{both_ways, cond-true, cond-false, ltb-true}
 use Rattle.std.proofs.lemmas.List.{append-nil, take-take}
 use Rattle.std.proofs.Math.Seq.{take-append_seam}
-use Rattle.std.proofs.lemmas.List.Elements.{All-nil, All-head}
+use Rattle.std.proofs.lemmas.List.Elements.{All-nil, All-head, All-push}
 use Rattle.net_copies.specs.SenderState.{SenderState, end_of, contiguous_end}
 use Rattle.net_copies.specs.Frames.{Part, frame_of, frames_from, part_bytes}
 use Rattle.net_copies.specs.SackBlocks.{is_sacked, greatest_end, is_full}
@@ -14,23 +14,18 @@ use Rattle.net_copies.specs.Transmission.{IsSackedIf, AreSparedIfSacked, HasSize
 use Rattle.net_copies.specs.SenderState.{spared_from, next_block}
 use Rattle.net_copies.specs.Transmission.{part_end, HaveEnds, SendsPart, SendsPrefix, SendsRound}
 use Rattle.net_copies.specs.SenderState.{stop_of}
-use Rattle.net_copies.proofs.Invariant.{All-push}
 use Rattle.net_copies.proofs.Spared.{end_from}
+use Rattle.net_copies.proofs.Steps.{split}
 
 -- ---- where parts end
 pub row_above : (s : SenderState) (p : ℕ) → p < end_of s → p < contiguous_end s p
 row_above s p kept =
-    ⊎_elim {C = p < contiguous_end s p}
-    (λ (l : p < s.wraps_at). (let e = cond-true (nat_lt p s.wraps_at) (min s.wraps_at (end_of s)) (end_of s) (lt-ltb p s.wraps_at l) in omega arith))
-    (λ (l : s.wraps_at ≤ p). (let e = cond-false (nat_lt p s.wraps_at) (min s.wraps_at (end_of s)) (end_of s) (le-ltb p s.wraps_at l) in omega arith))
-    (cases_lt p s.wraps_at)
+    split (λ n. p < n) (nat_lt p s.wraps_at) (min s.wraps_at (end_of s)) (end_of s) (λ e. (let low = ltb-true p s.wraps_at e in omega arith)) (λ _. kept)
 
 pub stop_within : (s : SenderState) → stop_of s ≤ end_of s
-stop_within s = both (is_full s.sack_blocks)
-  where
-    both : (t : Bool) → cond t (min (end_of s) (greatest_end s.sack_blocks s.first_unacknowledged + 1)) (end_of s) ≤ end_of s
-    both true = omega arith
-    both false = omega arith
+stop_within s =
+    split (λ n. n ≤ end_of s) (is_full s.sack_blocks) (min (end_of s) (greatest_end s.sack_blocks s.first_unacknowledged + 1)) (end_of s)
+    (λ _. omega arith) (λ _. omega arith)
 
 -- ---- one part more
 joined_push : (parts : List Part) (spared : Bool) (xs : List ℕ) → part_bytes (parts ++ (spared, xs) ∷ []) ≡ part_bytes parts ++ xs
@@ -204,11 +199,9 @@ all_sent s most burst n old new round few room =
     round.stop
 
 stop_above : (s : SenderState) → 0 < length s.queue → s.first_unacknowledged < stop_of s
-stop_above s some = (let from = end_from s.sack_blocks s.first_unacknowledged in both (is_full s.sack_blocks))
-  where
-    both : (t : Bool) → s.first_unacknowledged < cond t (min (end_of s) (greatest_end s.sack_blocks s.first_unacknowledged + 1)) (end_of s)
-    both true = (let from = end_from s.sack_blocks s.first_unacknowledged in omega arith)
-    both false = omega arith
+stop_above s some =
+    split (λ n. s.first_unacknowledged < n) (is_full s.sack_blocks) (min (end_of s) (greatest_end s.sack_blocks s.first_unacknowledged + 1)) (end_of s)
+    (λ _. (let from = end_from s.sack_blocks s.first_unacknowledged in omega arith)) (λ _. omega arith)
 
 -- the first frame is of the first byte that is kept, if that is in no SACK block
 abbrev pub FirstSent : SenderState → ℕ → List Part → Type 0

@@ -1,5 +1,5 @@
 -- What `transmit` sends, as parts of the sender's queue.
-use Rattle.std.proofs.Common.{◌≡◌, ◌⊎◌, ℕ, zero, suc, ◌+◌, ◌-◌, ◌^◌, ◌≤◌, ◌<◌, min, nat_lt, true, false, length, take, drop, refl, sym, ap, subst, ◌∙◌, arith, ⊎_elim, inl, inr, length-take, length-drop}
+use Rattle.std.proofs.Common.{◌≡◌, ◌⊎◌, ℕ, List, length-append, zero, suc, ◌+◌, ◌-◌, ◌^◌, ◌≤◌, ◌<◌, min, nat_lt, true, false, length, take, drop, refl, sym, ap, subst, ◌∙◌, arith, ⊎_elim, inl, inr, length-take, length-drop}
 use Rattle.std.proofs.lemmas.Bool.{both_ways, cases_lt, lt-ltb, ltb-true}
 use Rattle.net_copies.specs.SenderState.{SenderState, end_of, contiguous_end}
 use Rattle.net_copies.specs.SackBlocks.{count_outside}
@@ -10,10 +10,31 @@ use Rattle.net_copies.specs.Counts.{with_payload}
 use Rattle.net_copies.proofs.Ranges.{count_marked, counted_more, counted_none}
 use Rattle.net_copies.proofs.Sent.{SentSoFar, none_sent, spared_part, sent_part, sent_more, round_sent, stop_within, row_above}
 use Rattle.net_copies.specs.LinkState.{LinkState, times, Cursor, start, frame_len, send, part, part_at, transmit}
-use Rattle.net_copies.proofs.Steps.{goes_on, stops, split}
+use Rattle.net_copies.proofs.Steps.{keeps, goes_on, stops, split, by_part}
 
 row_within : (s : SenderState) (p : ℕ) → contiguous_end s p ≤ end_of s
 row_within s p = split (λ n. n ≤ end_of s) (nat_lt p s.wraps_at) (min s.wraps_at (end_of s)) (end_of s) (λ _. omega arith) (λ _. omega arith)
+
+-- the link with these frames in flight, and so many bytes counted
+abbrev pub with_sent : LinkState → List (List ℕ) → ℕ → LinkState
+with_sent s in_flight bytes = record s { forward = record s.forward { in_flight = in_flight }; counts = record s.counts { payload = bytes } }
+
+-- what was sent so far changed nothing else, and one frame was sent for each that may not be sent any more
+pub record OnlySent (s : LinkState) (c : Cursor) : Type 0 where
+  pub same : c.link ≡ with_sent s c.link.forward.in_flight c.link.counts.payload
+  pub few : length c.link.forward.in_flight + c.left ≡ length s.forward.in_flight + at_least_one s.burst
+
+part_only : (s : LinkState) (c : Cursor) → OnlySent s c → OnlySent s (part c)
+part_only s c h =
+    by_part (OnlySent s) c h (λ _ _. record { same = h.same; few = h.few })
+    (λ _ some.
+    let u = send c.link c.pos (frame_len c.link c.pos) in
+    let one : length u.forward.in_flight ≡ length c.link.forward.in_flight + 1 = length-append c.link.forward.in_flight _ in
+    let few = h.few in
+    record { same = λ i. with_sent (h.same i) u.forward.in_flight u.counts.payload; few = omega arith })
+
+pub only_sent : (s : LinkState) → OnlySent s (times (length s.sender.queue) part (start s))
+only_sent s = keeps (OnlySent s) part (part_only s) (length s.sender.queue) (start s) (record { same = refl; few = refl })
 
 module _ (s : LinkState) (fits : s.counts.payload < 2 ^ 64) where
   -- a cursor that has come so far
@@ -129,7 +150,6 @@ module _ (s : LinkState) (fits : s.counts.payload < 2 ^ 64) where
       )
 
   pub record SentAll (n : ℕ) (t : LinkState) : Type 0 where
-    pub same : t ≡ record s { forward = t.forward; counts = t.counts }
     pub sent : SendsRound s.sender (at_least_one s.payload) (at_least_one s.burst) n s.forward t.forward
     pub counted : t.counts ≡ with_payload (count_outside s.sender.sack_blocks s.sender.first_unacknowledged n) s.counts
 
@@ -140,7 +160,6 @@ module _ (s : LinkState) (fits : s.counts.payload < 2 ^ 64) where
       let stop = stop_within s.sender in (
         c.pos - s.sender.first_unacknowledged,
         record {
-          same = all.0.same;
           sent = round_sent s.sender (at_least_one s.payload) (at_least_one s.burst) c.left c.pos s.forward c.link.forward all.0.so_far all.0.from
               (⊎_elim {C = (stop_of s.sender ≤ c.pos) ⊎ (c.left ≡ 0)} (λ (e : (stop_of s.sender ≤ c.pos) ⊎ (c.left ≡ 0)). e)
               (λ (far : s.sender.first_unacknowledged + length s.sender.queue ≤ c.pos). inl (omega arith)) all.1);

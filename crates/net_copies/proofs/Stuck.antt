@@ -1,10 +1,10 @@
 -- What a round lacked that made no progress, and what rounds never take back.
 use Rattle.std.proofs.Common.{◌≡◌, ◌⊎◌, ℕ, zero, suc, ◌+◌, ◌-◌, ◌<◌, ◌≤◌, ◌^◌, ◌&&◌, min, nat_lt}
-use Rattle.std.proofs.Common.{nat_le, Bool, true, false, cond, List, [], ◌∷◌, ◌++◌, length, take}
+use Rattle.std.proofs.Common.{nat_le, true, false, List, [], ◌∷◌, ◌++◌, length, take}
 use Rattle.std.proofs.Common.{All, Option, Some, None, refl, sym, ap, subst, ◌∙◌, arith, ⊎_elim}
-use Rattle.std.proofs.Common.{inl, inr, le_trans, length-append, length-take, length-drop}
-use Rattle.std.proofs.lemmas.Bool.{both_ways, cases_lt, cases_Bool, cond-true, cond-false, lt-ltb, le-leb, leb-true, and_parts, and_from}
-use Rattle.std.proofs.lemmas.List.Elements.{All-nil, All-cons, All-head, All-tail}
+use Rattle.std.proofs.Common.{inl, inr, le_trans, le_refl, lt_trans, lt_of_lt_of_le, length-append, length-take, length-drop}
+use Rattle.std.proofs.lemmas.Bool.{both_ways, cases_lt, cases_Bool, cond-true, false_from_ne_true, lt-ltb, le-leb, and_from}
+use Rattle.std.proofs.lemmas.List.Elements.{All-nil, All-cons, All-head, All-append}
 use Rattle.net_assembler.specs.Positions.{maximal_runs}
 use Rattle.net_receiver.specs.Rules.{Segment}
 use Rattle.net_receiver.specs.ReceiverState.{ReceiverState, IsSound, next_position, receiver_after_command, receiver_after_read, domain}
@@ -28,23 +28,12 @@ use Rattle.net_copies.specs.Round.{Passes}
 use Rattle.net_copies.specs.LinkInvariant.{LinkInvariant}
 use Rattle.net_copies.specs.Stuck.{failures, losses, RoundLeaves, ProgressesOrIsStuck, HasFailed, AllFail}
 use Rattle.net_copies.specs.Stuck.{FatesFail, FirstMatches, IsDue, IsStuck}
+use Rattle.net_copies.proofs.Grown.{head_grows}
 use Rattle.net_copies.proofs.Sent.{first_sent}
 use Rattle.net_copies.proofs.Reached.{come_next, missing, first_is, all_keep_end, acked_append}
 use Rattle.net_copies.proofs.Queue.{queue_from}
-use Rattle.net_copies.proofs.Meeting.{brought_append}
-
--- ---- lists
-pub All-both : {X : Type 0} (P : X → Type 0) (xs ys : List X) → All P xs → All P ys → All P (xs ++ ys)
-All-both P [] ys a b = b
-All-both P (x ∷ xs) ys a b = All-cons P x (xs ++ ys) (All-head P x xs a) (All-both P xs ys (All-tail P x xs a) b)
-
-come_of : (P : List ℕ → Type 0) (v : FatesState) (frames : List (List ℕ)) → All P frames → All P (coming_of v frames)
-come_of P v [] all = all
-come_of P v (x ∷ xs) all = both (come_of P (after_fate v) xs (All-tail P x xs all)) (comes (next_fate v))
-  where
-    both : All P (coming_of (after_fate v) xs) → (b : Bool) → All P (cond b (x ∷ coming_of (after_fate v) xs) (coming_of (after_fate v) xs))
-    both rest true = All-cons P x (coming_of (after_fate v) xs) (All-head P x xs all) rest
-    both rest false = rest
+use Rattle.net_copies.proofs.Meeting.{arrives, all_arrive, all_heard, brought_append, passing_all, none_passes}
+use Rattle.net_copies.proofs.Steps.{split}
 
 -- ---- an acknowledgement of a position from n up to m
 abbrev Acks : ℕ → ℕ → List ℕ → Type 0
@@ -61,21 +50,14 @@ one_acks trip r n m low high word = (
 
 to_acks : FramesDecode → (r : ReceiverState) (o : Option (ℕ × List ℕ)) (n m : ℕ) → n ≤ next_position r → next_position r ≤ m → m < 2 ^ 64 → All (Acks n m) (ack_to r o)
 to_acks trip r None n m low high word = All-nil (Acks n m)
-to_acks trip r (Some (pos, xs)) n m low high word = both (nat_lt (pos + length xs) (2 ^ 64))
-  where
-    both : (b : Bool) → All (Acks n m) (cond b (ack_of r ∷ []) [])
-    both true = All-cons (Acks n m) (ack_of r) [] (one_acks trip r n m low high word) (All-nil (Acks n m))
-    both false = All-nil (Acks n m)
+to_acks trip r (Some (pos, xs)) n m low high word =
+    split (All (Acks n m)) (nat_lt (pos + length xs) (2 ^ 64)) (ack_of r ∷ []) []
+    (λ _. All-cons (Acks n m) (ack_of r) [] (one_acks trip r n m low high word) (All-nil (Acks n m))) (λ _. All-nil (Acks n m))
 
 -- ---- a receiver never goes back
-arrived_keeps : (F : ReceiverState → ℕ) (N : ℕ) (r : ReceiverState) (o : Option (ℕ × List ℕ)) → ((pos : ℕ) (xs : List ℕ) → F (receiver_after_command N r (Segment pos xs)) ≡ F r) →
-    F (receiver_after N r o) ≡ F r
-arrived_keeps F N r None same = refl
-arrived_keeps F N r (Some (pos, xs)) same = both (nat_lt (pos + length xs) (2 ^ 64))
-  where
-    both : (b : Bool) → F (cond b (receiver_after_command N r (Segment pos xs)) r) ≡ F r
-    both true = same pos xs
-    both false = refl
+brought_keeps : (F : ReceiverState → ℕ) (N : ℕ) (r : ReceiverState) (frames : List (List ℕ)) →
+    ((u : ReceiverState) (pos : ℕ) (xs : List ℕ) → F (receiver_after_command N u (Segment pos xs)) ≡ F u) → F (receiver_after_all N r frames) ≡ F r
+brought_keeps F N r frames same = all_arrive (λ u. F u ≡ F r) N (λ u pos xs e. same u pos xs ∙ e) r frames refl
 
 -- what one segment changes of a receiver's numbers
 pub record Numbers : Type 0 where
@@ -86,43 +68,19 @@ pub record Numbers : Type 0 where
 
 module _ (numbers : Numbers) where
   pub arrived_grows : (N : ℕ) (r : ReceiverState) (o : Option (ℕ × List ℕ)) → next_position r ≤ next_position (receiver_after N r o)
-  arrived_grows N r None = omega arith
-  arrived_grows N r (Some (pos, xs)) = both (nat_lt (pos + length xs) (2 ^ 64))
-    where
-      both : (b : Bool) → next_position r ≤ next_position (cond b (receiver_after_command N r (Segment pos xs)) r)
-      both true = numbers.next N r (Segment pos xs)
-      both false = omega arith
+  arrived_grows N r o = arrives (λ u. next_position r ≤ next_position u) N r o (λ pos xs _. numbers.next N r (Segment pos xs)) (omega arith)
+
+  same_limit : (N : ℕ) (r : ReceiverState) (pos : ℕ) (xs : List ℕ) → limit_of (receiver_after_command N r (Segment pos xs)) ≡ limit_of r
+  same_limit N r pos xs = λ i. numbers.first N r (Segment pos xs) i + numbers.read N r pos xs i + numbers.capacity N r (Segment pos xs) i
 
   pub arrived_limit : (N : ℕ) (r : ReceiverState) (o : Option (ℕ × List ℕ)) → limit_of (receiver_after N r o) ≡ limit_of r
-  arrived_limit N r None = refl
-  arrived_limit N r (Some (pos, xs)) = both (nat_lt (pos + length xs) (2 ^ 64))
-    where
-      both : (b : Bool) → limit_of (cond b (receiver_after_command N r (Segment pos xs)) r) ≡ limit_of r
-      both true = λ i. numbers.first N r (Segment pos xs) i + numbers.read N r pos xs i + numbers.capacity N r (Segment pos xs) i
-      both false = refl
+  arrived_limit N r o = arrives (λ u. limit_of u ≡ limit_of r) N r o (λ pos xs _. same_limit N r pos xs) refl
 
   pub brought_grows : (N : ℕ) (r : ReceiverState) (frames : List (List ℕ)) → next_position r ≤ next_position (receiver_after_all N r frames)
-  brought_grows N r [] = omega arith
-  brought_grows N r (x ∷ xs) = le_trans (arrived_grows N r (segment_of x)) (brought_grows N (receiver_after N r (segment_of x)) xs)
+  brought_grows N r frames = all_arrive (λ u. next_position r ≤ next_position u) N (λ u pos xs h. le_trans h (numbers.next N u (Segment pos xs))) r frames (omega arith)
 
   pub brought_limit : (N : ℕ) (r : ReceiverState) (frames : List (List ℕ)) → limit_of (receiver_after_all N r frames) ≡ limit_of r
-  brought_limit N r [] = refl
-  brought_limit N r (x ∷ xs) = brought_limit N (receiver_after N r (segment_of x)) xs ∙ arrived_limit N r (segment_of x)
-
-  brought_first : (N : ℕ) (r : ReceiverState) (frames : List (List ℕ)) → (receiver_after_all N r frames).first ≡ r.first
-  brought_first N r [] = refl
-  brought_first N r (x ∷ xs) = brought_first N (receiver_after N r (segment_of x)) xs
-      ∙ arrived_keeps (λ v. v.first) N r (segment_of x) (λ pos ys. numbers.first N r (Segment pos ys))
-
-  brought_read : (N : ℕ) (r : ReceiverState) (frames : List (List ℕ)) → (receiver_after_all N r frames).read ≡ r.read
-  brought_read N r [] = refl
-  brought_read N r (x ∷ xs) = brought_read N (receiver_after N r (segment_of x)) xs
-      ∙ arrived_keeps (λ v. v.read) N r (segment_of x) (λ pos ys. numbers.read N r pos ys)
-
-  brought_capacity : (N : ℕ) (r : ReceiverState) (frames : List (List ℕ)) → (receiver_after_all N r frames).capacity ≡ r.capacity
-  brought_capacity N r [] = refl
-  brought_capacity N r (x ∷ xs) = brought_capacity N (receiver_after N r (segment_of x)) xs
-      ∙ arrived_keeps (λ v. v.capacity) N r (segment_of x) (λ pos ys. numbers.capacity N r (Segment pos ys))
+  brought_limit N r frames = brought_keeps limit_of N r frames (same_limit N)
 
   all_acks : FramesDecode → (N : ℕ) (r : ReceiverState) (frames : List (List ℕ)) (n m : ℕ) → n ≤ next_position r → next_position (receiver_after_all N r frames) ≤ m →
       m < 2 ^ 64 → All (Acks n m) (acks_of N r frames)
@@ -131,7 +89,7 @@ module _ (numbers : Numbers) where
       let r1 = receiver_after N r (segment_of x) in
       let a = arrived_grows N r (segment_of x) in
       let b = brought_grows N r1 xs in
-      All-both (Acks n m) (ack_to r1 (segment_of x)) (acks_of N r1 xs)
+      All-append (Acks n m) (ack_to r1 (segment_of x)) (acks_of N r1 xs)
       (to_acks trip r1 (segment_of x) n m (le_trans low a) (le_trans b high) word)
       (all_acks trip N r1 xs n m (le_trans low a) high word)
 
@@ -146,73 +104,40 @@ module _ (numbers : Numbers) where
       let same : limit_of r1 ≡ limit_of r = brought_limit N r delayed in
       let is : r2 ≡ receiver_after_command N r1 (Segment pos xs) = ap (receiver_after N r1) at
       ∙ cond-true _ (receiver_after_command N r1 (Segment pos xs)) r1 (lt-ltb (pos + length xs) (2 ^ 64) word) in
-      let on : next_position r1 ≤ next_position r2 = arrived_grows N r1 (segment_of frame) in
       let all : next_position r2 ≤ next_position (receiver_after_all N r2 rest) = brought_grows N r2 rest in
       let reach : min (pos + length xs) (limit_of r1) ≤ next_position r2 =
       subst (λ v. min (pos + length xs) (limit_of r1) ≤ next_position v) (sym is) (order N r1 pos xs (le_trans near more)) in
-      let here : next_position r < next_position (receiver_after_all N r2 rest) =
-      further (next_position r) (pos + length xs) (limit_of r) (limit_of r1) (next_position r2)
-      (next_position (receiver_after_all N r2 rest)) far room same reach all in
-      subst (λ v. next_position r < next_position v) (sym (brought_append N r delayed (frame ∷ rest))) here
-    where
-      further : (n e l l1 m k : ℕ) → n < e → n < l → l1 ≡ l → min e l1 ≤ m → m ≤ k → n < k
-      further n e l l1 m k a b c d h = omega arith
+      subst (λ v. next_position r < next_position v) (sym (brought_append N r delayed (frame ∷ rest))) (omega (arith, far, room, same, reach, all))
 
 -- ---- a sender never goes back
-pub head_grows : (s : SenderState) (o : Option (ℕ × List ℕ)) → s.first_unacknowledged ≤ (after_ack_frame s o).first_unacknowledged
-head_grows s None = omega arith
-head_grows s (Some (n, xs)) =
-    ⊎_elim {C = s.first_unacknowledged ≤ (after_ack_frame s (Some (n, xs))).first_unacknowledged}
-    (λ (e : (nat_le s.first_unacknowledged n && nat_le n (end_of s)) ≡ true).
-    let both = and_parts (nat_le s.first_unacknowledged n) (nat_le n (end_of s)) e in
-    subst (λ v. s.first_unacknowledged ≤ v.first_unacknowledged) (sym (cond-true _ (sender_from s n (blocks_of most_sack_blocks xs)) s e)) (leb-true s.first_unacknowledged n both.0))
-    (λ (e : (nat_le s.first_unacknowledged n && nat_le n (end_of s)) ≡ false).
-    subst (λ v. s.first_unacknowledged ≤ v.first_unacknowledged) (sym (cond-false _ (sender_from s n (blocks_of most_sack_blocks xs)) s e)) (omega arith))
-    (cases_Bool (nat_le s.first_unacknowledged n && nat_le n (end_of s)))
-
 all_heads_grow : (s : SenderState) (frames : List (List ℕ)) → s.first_unacknowledged ≤ (after_ack_frames s frames).first_unacknowledged
-all_heads_grow s [] = omega arith
-all_heads_grow s (x ∷ xs) = le_trans (head_grows s (segment_of x)) (all_heads_grow (after_ack_frame s (segment_of x)) xs)
-
-room_kept : (s : SenderState) (o : Option (ℕ × List ℕ)) → (after_ack_frame s o).capacity ≡ s.capacity
-room_kept s None = refl
-room_kept s (Some (n, xs)) = both (nat_le s.first_unacknowledged n && nat_le n (end_of s))
-  where
-    both : (b : Bool) → (cond b (sender_from s n (blocks_of most_sack_blocks xs)) s).capacity ≡ s.capacity
-    both true = refl
-    both false = refl
-
-all_keep_room : (s : SenderState) (frames : List (List ℕ)) → (after_ack_frames s frames).capacity ≡ s.capacity
-all_keep_room s [] = refl
-all_keep_room s (x ∷ xs) = all_keep_room (after_ack_frame s (segment_of x)) xs ∙ room_kept s (segment_of x)
+all_heads_grow s frames = all_heard (λ (u : SenderState). s.first_unacknowledged ≤ u.first_unacknowledged) (λ u n xs low _ h. le_trans h low) s frames (omega arith)
 
 -- an acknowledgement past b takes the sender past b
 one_moves : (s : SenderState) (b k : ℕ) (xs : List ℕ) (o : Option (ℕ × List ℕ)) → o ≡ Some (k, xs) → b < k → k ≤ end_of s → b < (after_ack_frame s o).first_unacknowledged
 one_moves s b k xs o at above within =
     subst (λ p. b < (after_ack_frame s p).first_unacknowledged) (sym at)
     (⊎_elim {C = b < (after_ack_frame s (Some (k, xs))).first_unacknowledged}
-    (λ (l : k < s.first_unacknowledged). le_trans (past b k s.first_unacknowledged above l) (head_grows s (Some (k, xs))))
+    (λ (l : k < s.first_unacknowledged). lt_of_lt_of_le (lt_trans above l) (head_grows s (Some (k, xs))))
     (λ (l : s.first_unacknowledged ≤ k).
     let e : (nat_le s.first_unacknowledged k && nat_le k (end_of s)) ≡ true = and_from _ _ (le-leb s.first_unacknowledged k l) (le-leb k (end_of s) within) in
     subst (λ v. b < v.first_unacknowledged) (sym (cond-true _ (sender_from s k (blocks_of most_sack_blocks xs)) s e)) above)
     (cases_lt k s.first_unacknowledged))
-  where
-    past : (x y z : ℕ) → x < y → y < z → x < z
-    past x y z h l = omega arith
 
 -- the last acknowledgement is of a position that the sender keeps, and that it isn't beyond
 pub acked_last : FramesDecode → (s : SenderState) (n : ℕ) (xs : List ℕ) (prefix : List (List ℕ)) → n ≤ end_of s → n < 2 ^ 64 →
-    (after_ack_frames s (prefix ++ frame_of n xs ∷ [])).first_unacknowledged ≤ n → (after_ack_frames s (prefix ++ frame_of n xs ∷ [])).first_unacknowledged ≡ n
+    (after_ack_frames s (prefix ++ frame_of n xs ∷ [])).first_unacknowledged ≤ n →
+    after_ack_frames s (prefix ++ frame_of n xs ∷ []) ≡ sender_from (after_ack_frames s prefix) n (blocks_of most_sack_blocks xs)
 acked_last trip s n xs prefix within word below =
     let t = after_ack_frames s prefix in
     let end : end_of t ≡ end_of s = all_keep_end s prefix in
-    let split : after_ack_frames s (prefix ++ frame_of n xs ∷ []) ≡ after_ack_frame t (Some (n, xs)) =
+    let joined : after_ack_frames s (prefix ++ frame_of n xs ∷ []) ≡ after_ack_frame t (Some (n, xs)) =
     acked_append s prefix (frame_of n xs ∷ []) ∙ ap (after_ack_frame t) (trip n xs word) in
-    let same : (after_ack_frames s (prefix ++ frame_of n xs ∷ [])).first_unacknowledged ≡ (after_ack_frame t (Some (n, xs))).first_unacknowledged = ap (λ v. v.first_unacknowledged) split in
+    let same = ap (λ v. v.first_unacknowledged) joined in
     let grows : t.first_unacknowledged ≤ (after_ack_frame t (Some (n, xs))).first_unacknowledged = head_grows t (Some (n, xs)) in
     let low : t.first_unacknowledged ≤ n = omega (arith, same, grows, below) in
     let high : n ≤ end_of t = omega (arith, end, within) in
-    same ∙ ap (λ v. v.first_unacknowledged) (cond-true _ (sender_from t n (blocks_of most_sack_blocks xs)) t (and_from _ _ (le-leb t.first_unacknowledged n low) (le-leb n (end_of t) high)))
+    joined ∙ cond-true _ (sender_from t n (blocks_of most_sack_blocks xs)) t (and_from _ _ (le-leb t.first_unacknowledged n low) (le-leb n (end_of t) high))
 
 -- if the first unacknowledged position stays, none of these came
 none_come : (s s' : SenderState) (delayed c : List (List ℕ)) (n m : ℕ) → s' ≡ after_ack_frames s (delayed ++ c) → s'.first_unacknowledged ≡ s.first_unacknowledged → s.first_unacknowledged < n → m ≤ end_of s →
@@ -224,21 +149,12 @@ none_come s s' delayed (a ∷ rest) n m is same above within all =
     let e : end_of t ≡ end_of s = all_keep_end s delayed in
     let low = ack.3 in
     let high = ack.4 in
-    let one : s.first_unacknowledged < (after_ack_frame t (segment_of a)).first_unacknowledged = one_moves t s.first_unacknowledged ack.0 ack.1 (segment_of a) ack.2 (first s.first_unacknowledged n ack.0 above low)
-    (second ack.0 m (end_of s) (end_of t) high within e) in
+    let one : s.first_unacknowledged < (after_ack_frame t (segment_of a)).first_unacknowledged = one_moves t s.first_unacknowledged ack.0 ack.1 (segment_of a) ack.2 (lt_of_lt_of_le above low)
+    (omega (arith, high, within, e)) in
     let more : (after_ack_frame t (segment_of a)).first_unacknowledged ≤ (after_ack_frames (after_ack_frame t (segment_of a)) rest).first_unacknowledged =
     all_heads_grow (after_ack_frame t (segment_of a)) rest in
     let reached : s'.first_unacknowledged ≡ (after_ack_frames t (a ∷ rest)).first_unacknowledged = ap (λ v. v.first_unacknowledged) is ∙ ap (λ v. v.first_unacknowledged) (acked_append s delayed (a ∷ rest)) in
-    absurd (never s.first_unacknowledged s'.first_unacknowledged (after_ack_frame t (segment_of a)).first_unacknowledged (after_ack_frames (after_ack_frame t (segment_of a)) rest).first_unacknowledged one more reached same)
-  where
-    first : (x y z : ℕ) → x < y → y ≤ z → x < z
-    first x y z h l = omega arith
-
-    second : (k j e e' : ℕ) → k ≤ j → j ≤ e → e' ≡ e → k ≤ e'
-    second k j e e' a b c = omega arith
-
-    never : (b b' x y : ℕ) → b < x → x ≤ y → b' ≡ y → b' ≡ b → ⊥
-    never b b' x y h l i j = omega arith
+    absurd (omega (arith, one, more, reached, same))
 
 -- ---- the first frame
 abbrev FirstFrame : ℕ → ℕ → List Part → Type 0
@@ -258,6 +174,14 @@ Lacked old new p =
     ⊎ ((old.sender.first_unacknowledged < next_position old.receiver) × (coming_of old.reverse.fates p.acks ≡ [])
     × All (Acks (next_position old.receiver) (next_position old.receiver)) p.acks)
 
+-- a receiver has nothing past the sender's end
+all_within : QueueIsOfStream → (f : ℕ) (w : List ℕ) (l : LinkState) → LinkInvariant f w l → next_position l.receiver ≤ end_of l.sender
+all_within queue f w l carries =
+    let q = (queue_from queue f w l.receiver carries.receives).within in
+    let first = first_is f w l.receiver carries.receives in
+    let end = carries.sends.end in
+    omega arith
+
 rounds_move : FramesDecode → Numbers → InOrderReaches → QueueIsOfStream → (f : ℕ) (w : List ℕ) (old new : LinkState) (p : Passes old new) →
     IsSound most_sack_blocks old.receiver → LinkInvariant f w old → end_of old.sender < 2 ^ 64 → old.forward.in_flight ≡ [] → old.reverse.in_flight ≡ [] →
     0 < length old.sender.queue →
@@ -270,11 +194,7 @@ rounds_move trip numbers order queue f w old new p sound carries word none none_
     (cases_lt old.sender.first_unacknowledged (next_position old.receiver))
   where
     within : next_position old.receiver ≤ end_of old.sender
-    within =
-        let q = (queue_from queue f w old.receiver carries.receives).within in
-        let first = first_is f w old.receiver carries.receives in
-        let end = carries.sends.end in
-        omega arith
+    within = all_within queue f w old carries
 
     same : next_position (receiver_after_all most_sack_blocks old.receiver p.came) ≡ next_position old.receiver
     same = sym (ap next_position p.received) ∙ still
@@ -291,7 +211,7 @@ rounds_move trip numbers order queue f w old new p sound carries word none none_
         let last : Acks n n (ack_of new.receiver) = one_acks trip new.receiver n n (subst (λ k. n ≤ k) (sym still) (omega arith))
         (subst (λ k. k ≤ n) (sym still) (omega arith)) small in
         let both : All (Acks n n) (acks_of most_sack_blocks old.receiver p.came ++ ack_of new.receiver ∷ []) =
-        All-both (Acks n n) (acks_of most_sack_blocks old.receiver p.came) (ack_of new.receiver ∷ []) ours
+        All-append (Acks n n) (acks_of most_sack_blocks old.receiver p.came) (ack_of new.receiver ∷ []) ours
         (All-cons (Acks n n) (ack_of new.receiver) [] last (All-nil (Acks n n))) in
         subst (All (Acks n n)) (sym (p.acks_are ∙ ap (λ b. b ++ acks_of most_sack_blocks old.receiver p.came ++ ack_of new.receiver ∷ []) none_reverse)) both
 
@@ -300,7 +220,7 @@ rounds_move trip numbers order queue f w old new p sound carries word none none_
     quiet l =
         let n = next_position old.receiver in
         none_come old.sender new.sender old.reverse.delayed (coming_of old.reverse.fates p.acks) n n p.acked still_reverse l within
-        (come_of (Acks n n) old.reverse.fates p.acks acks)
+        (passing_all (Acks n n) comes old.reverse.fates p.acks acks)
 
     -- the first byte that is kept is missing
     lacking : next_position old.receiver ≤ old.sender.first_unacknowledged → old.sender.first_unacknowledged ≡ next_position old.receiver
@@ -309,11 +229,8 @@ rounds_move trip numbers order queue f w old new p sound carries word none none_
     prefix : next_position old.receiver ≤ old.sender.first_unacknowledged → FirstFrame old.sender.first_unacknowledged (old.sender.first_unacknowledged + length old.sender.queue) p.all.prefix.parts
     prefix l =
         let told : is_sacked old.sender.sack_blocks old.sender.first_unacknowledged ≡ false =
-        ⊎_elim {C = is_sacked old.sender.sack_blocks old.sender.first_unacknowledged ≡ false}
-        (λ (e : is_sacked old.sender.sack_blocks old.sender.first_unacknowledged ≡ true). absurd
-        (missing most_sack_blocks old.receiver sound (subst (HasByteAt old.receiver) (lacking l) (carries.sack_blocks old.sender.first_unacknowledged e))))
-        (λ (e : is_sacked old.sender.sack_blocks old.sender.first_unacknowledged ≡ false). e)
-        (cases_Bool (is_sacked old.sender.sack_blocks old.sender.first_unacknowledged)) in
+        false_from_ne_true (is_sacked old.sender.sack_blocks old.sender.first_unacknowledged)
+        (λ e. missing most_sack_blocks old.receiver sound (subst (HasByteAt old.receiver) (lacking l) (carries.sack_blocks old.sender.first_unacknowledged e))) in
         let one = first_sent old.sender (at_least_one old.payload) (at_least_one old.burst) p.n old.forward p.sent p.all (omega arith) some told in
         let xs = one.0 in
         let size : length xs ≡ min (length xs) (length old.sender.queue) = ap length one.5 ∙ length-take (length xs) old.sender.queue in (
@@ -341,8 +258,8 @@ rounds_move trip numbers order queue f w old new p sound carries word none none_
 
     fails : next_position old.receiver ≤ old.sender.first_unacknowledged → comes (next_fate old.forward.fates) ≡ false
     fails l =
-        ⊎_elim {C = comes (next_fate old.forward.fates) ≡ false}
-        (λ (e : comes (next_fate old.forward.fates) ≡ true).
+        false_from_ne_true (comes (next_fate old.forward.fates))
+        (λ e.
         let xs = (prefix l).0 in
         let rest = (prefix l).1 in
         let long = (prefix l).3 in
@@ -353,21 +270,36 @@ rounds_move trip numbers order queue f w old new p sound carries word none none_
         let coming : coming_of old.forward.fates p.sent.in_flight ≡ frame ∷ c = ap (coming_of old.forward.fates) (in_flight l) ∙ cond-true _ (frame ∷ c) c e in
         let came : p.came ≡ old.forward.delayed ++ frame ∷ c = p.coming ∙ ap (λ x. old.forward.delayed ++ x) coming in
         let more : next_position old.receiver < next_position (receiver_after_all most_sack_blocks old.receiver (old.forward.delayed ++ frame ∷ c)) =
-        first_brings numbers order most_sack_blocks old.receiver old.forward.delayed c frame old.sender.first_unacknowledged xs (trip old.sender.first_unacknowledged xs (omega arith)) l'
+        first_brings numbers order most_sack_blocks old.receiver old.forward.delayed c frame old.sender.first_unacknowledged xs (trip old.sender.first_unacknowledged xs (omega arith)) carries.behind
         (omega arith) (omega arith) room in
         let on : next_position old.receiver < next_position (receiver_after_all most_sack_blocks old.receiver p.came) =
         subst (λ x. next_position old.receiver < next_position (receiver_after_all most_sack_blocks old.receiver x)) (sym came) more in
-        absurd (less (next_position old.receiver) (next_position (receiver_after_all most_sack_blocks old.receiver p.came)) on same))
-        (λ (e : comes (next_fate old.forward.fates) ≡ false). e)
-        (cases_Bool (comes (next_fate old.forward.fates)))
-      where
-        l' : old.sender.first_unacknowledged ≤ next_position old.receiver
-        l' = carries.behind
-
-        less : (a b : ℕ) → a < b → b ≡ a → ⊥
-        less a b h k = omega arith
+        omega (arith, on, same))
 
 -- ---- what is counted
+-- a count that never falls, and rises with each fate that has Q
+module _ (F : FrameCounts → ℕ) (Q : Fate → Type 0) (grows : (lot : Fate) (c : FrameCounts) → F c ≤ F (with_fate lot c))
+    (rises : (lot : Fate) (c : FrameCounts) → Q lot → min (F c + 1) (2 ^ 64 - 1) ≤ F (with_fate lot c)) where
+  all_grow : (n : ℕ) (v : FatesState) (c : FrameCounts) → F c ≤ F (with_fates n v c)
+  all_grow zero v c = omega arith
+  all_grow (suc n) v c = le_trans (grows (next_fate v) c) (all_grow n (after_fate v) (with_fate (next_fate v) c))
+
+  first_rises : (n : ℕ) (v : FatesState) (c : FrameCounts) → 0 < n → Q (next_fate v) → min (F c + 1) (2 ^ 64 - 1) ≤ F (with_fates n v c)
+  first_rises zero v c some e = absurd (omega arith)
+  first_rises (suc n) v c some e = le_trans (rises (next_fate v) c e) (all_grow n (after_fate v) (with_fate (next_fate v) c))
+
+  -- of frames, and then of acknowledgements
+  both_grow : (m n : ℕ) (v u : FatesState) (c : FrameCounts) → F c ≤ F (with_fates n u (with_fates m v c))
+  both_grow m n v u c = le_trans (all_grow m v c) (all_grow n u (with_fates m v c))
+
+  either_rises : (m n : ℕ) (v u : FatesState) (c : FrameCounts) → ((0 < m) × Q (next_fate v)) ⊎ ((0 < n) × Q (next_fate u)) →
+      min (F c + 1) (2 ^ 64 - 1) ≤ F (with_fates n u (with_fates m v c))
+  either_rises m n v u c (inl a) = le_trans (first_rises m v c a.0 a.1) (all_grow n u (with_fates m v c))
+  either_rises m n v u c (inr b) =
+      let more = all_grow m v c in
+      let one : min (F c + 1) (2 ^ 64 - 1) ≤ min (F (with_fates m v c) + 1) (2 ^ 64 - 1) = omega arith in
+      le_trans one (first_rises n u (with_fates m v c) b.0 b.1)
+
 failed_met : (lot : Fate) (c : FrameCounts) → failures c ≤ failures (with_fate lot c)
 failed_met Delivered c = omega arith
 failed_met Lost c = omega arith
@@ -379,14 +311,6 @@ failed_fails Delivered c e = absurd (both_ways true e refl)
 failed_fails Lost c e = omega arith
 failed_fails Duplicated c e = absurd (both_ways true e refl)
 failed_fails Delayed c e = omega arith
-
-failed_all : (n : ℕ) (v : FatesState) (c : FrameCounts) → failures c ≤ failures (with_fates n v c)
-failed_all zero v c = omega arith
-failed_all (suc n) v c = le_trans (failed_met (next_fate v) c) (failed_all n (after_fate v) (with_fate (next_fate v) c))
-
-failed_first : (n : ℕ) (v : FatesState) (c : FrameCounts) → 0 < n → comes (next_fate v) ≡ false → min (failures c + 1) (2 ^ 64 - 1) ≤ failures (with_fates n v c)
-failed_first zero v c some e = absurd (omega arith)
-failed_first (suc n) v c some e = le_trans (failed_fails (next_fate v) c e) (failed_all n (after_fate v) (with_fate (next_fate v) c))
 
 -- ---- what is lost
 lost_met : (lot : Fate) (c : FrameCounts) → losses c ≤ losses (with_fate lot c)
@@ -401,62 +325,24 @@ lost_fails Lost c e = omega arith
 lost_fails Duplicated c e = absurd (both_ways true e.0 refl)
 lost_fails Delayed c e = absurd (both_ways true (e.1 (omega arith)) refl)
 
-lost_all : (n : ℕ) (v : FatesState) (c : FrameCounts) → losses c ≤ losses (with_fates n v c)
-lost_all zero v c = omega arith
-lost_all (suc n) v c = le_trans (lost_met (next_fate v) c) (lost_all n (after_fate v) (with_fate (next_fate v) c))
-
-lost_first : (n : ℕ) (v : FatesState) (c : FrameCounts) → 0 < n → HasFailed 1 (next_fate v) → min (losses c + 1) (2 ^ 64 - 1) ≤ losses (with_fates n v c)
-lost_first zero v c some e = absurd (omega arith)
-lost_first (suc n) v c some e = le_trans (lost_fails (next_fate v) c e) (lost_all n (after_fate v) (with_fate (next_fate v) c))
-
-more_failed : (a b : ℕ) → a ≤ b → min (a + 1) (2 ^ 64 - 1) ≤ min (b + 1) (2 ^ 64 - 1)
-more_failed a b h = omega arith
-
 first_fails : (v : FatesState) (frames : List (List ℕ)) → 0 < length frames → coming_of v frames ≡ [] → comes (next_fate v) ≡ false
 first_fails v [] some none = absurd (omega arith)
-first_fails v (x ∷ xs) some none =
-    ⊎_elim {C = comes (next_fate v) ≡ false}
-    (λ (e : comes (next_fate v) ≡ true).
-    let here : coming_of v (x ∷ xs) ≡ x ∷ coming_of (after_fate v) xs = cond-true _ (x ∷ coming_of (after_fate v) xs) (coming_of (after_fate v) xs) e in
-    let size : length (x ∷ coming_of (after_fate v) xs) ≡ 0 = ap length (sym here ∙ none) in
-    absurd (omega arith))
-    (λ (e : comes (next_fate v) ≡ false). e)
-    (cases_Bool (comes (next_fate v)))
+first_fails v (x ∷ xs) some none = (none_passes comes v x xs none).0
 
-le_refl : (n : ℕ) → n ≤ n
-le_refl n = omega arith
+pub first_of_all : (follow n : ℕ) (v : FatesState) → 0 < n → AllFail follow n v → HasFailed follow (next_fate v)
+first_of_all follow zero v some all = absurd (omega arith)
+first_of_all follow (suc n) v some all = all.0
 
 -- a frame that doesn't arrive in its round is lost or delayed
 all_fail : (follow : ℕ) (v : FatesState) (frames : List (List ℕ)) → coming_of v frames ≡ [] → (0 < follow → delayed_of v frames ≡ []) →
     AllFail follow (length frames) v
 all_fail follow v [] none never = tt
 all_fail follow v (x ∷ xs) none never =
-    let e = first_fails v (x ∷ xs) (omega arith) none in
-    let c = coming_of (after_fate v) xs in
-    let l = delayed_of (after_fate v) xs in (
-      (e, λ some. first_never (never some)),
-      all_fail follow (after_fate v) xs (sym (cond-false _ (x ∷ c) c e) ∙ none) (λ some. sym (cond-false _ (x ∷ l) l (first_never (never some))) ∙ never some),
-    )
-  where
-    first_never : delayed_of v (x ∷ xs) ≡ [] → comes_delayed (next_fate v) ≡ false
-    first_never none =
-        ⊎_elim {C = comes_delayed (next_fate v) ≡ false}
-        (λ (e : comes_delayed (next_fate v) ≡ true).
-        let here : delayed_of v (x ∷ xs) ≡ x ∷ delayed_of (after_fate v) xs = cond-true _ (x ∷ delayed_of (after_fate v) xs) (delayed_of (after_fate v) xs) e in
-        let size : length (x ∷ delayed_of (after_fate v) xs) ≡ 0 = ap length (sym here ∙ none) in
-        absurd (omega arith))
-        (λ (e : comes_delayed (next_fate v) ≡ false). e)
-        (cases_Bool (comes_delayed (next_fate v)))
+    let here = none_passes comes v x xs none in
+    let later = λ (some : 0 < follow). none_passes comes_delayed v x xs (never some) in
+    ((here.0, λ some. (later some).0), all_fail follow (after_fate v) xs here.1 (λ some. (later some).1))
 
 -- ---- what is delayed
-delayed_all : (P : List ℕ → Type 0) (v : FatesState) (frames : List (List ℕ)) → All P frames → All P (delayed_of v frames)
-delayed_all P v [] all = all
-delayed_all P v (x ∷ xs) all = both (delayed_all P (after_fate v) xs (All-tail P x xs all)) (comes_delayed (next_fate v))
-  where
-    both : All P (delayed_of (after_fate v) xs) → (b : Bool) → All P (cond b (x ∷ delayed_of (after_fate v) xs) (delayed_of (after_fate v) xs))
-    both rest true = All-cons P x (delayed_of (after_fate v) xs) (All-head P x xs all) rest
-    both rest false = rest
-
 first_delayed : (P : ℕ → ℕ → Type 0) (v : FatesState) (frames : List (List ℕ)) → FirstMatches frames P → comes_delayed (next_fate v) ≡ true →
     FirstMatches (delayed_of v frames) P
 first_delayed P v frames says e =
@@ -492,17 +378,27 @@ module _ (old new : LinkState) (p : Passes old new) where
   acks_some = subst (λ l. 0 < length l) (sym p.acks_are)
       (let e = length-append (old.reverse.in_flight ++ acks_of most_sack_blocks old.receiver p.came) (ack_of new.receiver ∷ []) in omega arith)
 
-  same_failed : failures new.counts ≡ failures
-      (with_fates (length p.acks) old.reverse.fates
-      (with_fates (length p.sent.in_flight) old.forward.fates (with_payload (count_outside old.sender.sack_blocks old.sender.first_unacknowledged p.n) old.counts)))
-  same_failed = ap failures p.counted
+  -- the counts when the frames met their fates
+  abbrev before : FrameCounts
+  before = with_payload (count_outside old.sender.sack_blocks old.sender.first_unacknowledged p.n) old.counts
 
   pub round_failed : failures old.counts ≤ failures new.counts
-  round_failed =
-      let c = with_payload (count_outside old.sender.sack_blocks old.sender.first_unacknowledged p.n) old.counts in
-      let m = with_fates (length p.sent.in_flight) old.forward.fates c in
-      subst (λ n. failures old.counts ≤ n) (sym same_failed)
-      (le_trans (failed_all (length p.sent.in_flight) old.forward.fates c) (failed_all (length p.acks) old.reverse.fates m))
+  round_failed = subst (λ n. failures old.counts ≤ n) (sym (ap failures p.counted))
+      (both_grow failures (λ lot. comes lot ≡ false) failed_met failed_fails (length p.sent.in_flight) (length p.acks) old.forward.fates old.reverse.fates before)
+
+  one_failed : ((0 < length p.sent.in_flight) × (comes (next_fate old.forward.fates) ≡ false)) ⊎ ((0 < length p.acks) × (comes (next_fate old.reverse.fates) ≡ false)) →
+      min (failures old.counts + 1) (2 ^ 64 - 1) ≤ failures new.counts
+  one_failed h = subst (λ n. min (failures old.counts + 1) (2 ^ 64 - 1) ≤ n) (sym (ap failures p.counted))
+      (either_rises failures (λ lot. comes lot ≡ false) failed_met failed_fails (length p.sent.in_flight) (length p.acks) old.forward.fates old.reverse.fates before h)
+
+  round_lost : losses old.counts ≤ losses new.counts
+  round_lost = subst (λ n. losses old.counts ≤ n) (sym (ap losses p.counted))
+      (both_grow losses (HasFailed 1) lost_met lost_fails (length p.sent.in_flight) (length p.acks) old.forward.fates old.reverse.fates before)
+
+  one_lost : ((0 < length p.sent.in_flight) × HasFailed 1 (next_fate old.forward.fates)) ⊎ ((0 < length p.acks) × HasFailed 1 (next_fate old.reverse.fates)) →
+      min (losses old.counts + 1) (2 ^ 64 - 1) ≤ losses new.counts
+  one_lost h = subst (λ n. min (losses old.counts + 1) (2 ^ 64 - 1) ≤ n) (sym (ap losses p.counted))
+      (either_rises losses (HasFailed 1) lost_met lost_fails (length p.sent.in_flight) (length p.acks) old.forward.fates old.reverse.fates before h)
 
   pub round_keeps : Numbers → RoundLeaves old new
   round_keeps numbers = record {
@@ -510,30 +406,12 @@ module _ (old new : LinkState) (p : Passes old new) where
     in_flight_reverse = ap (λ t. t.in_flight) p.left_reverse;
     end = ap end_of p.acked ∙ all_keep_end old.sender (old.reverse.delayed ++ coming_of old.reverse.fates p.acks);
     first_unacknowledged = subst (λ v. old.sender.first_unacknowledged ≤ v.first_unacknowledged) (sym p.acked) (all_heads_grow old.sender (old.reverse.delayed ++ coming_of old.reverse.fates p.acks));
-    sender_capacity = ap (λ v. v.capacity) p.acked ∙ all_keep_room old.sender (old.reverse.delayed ++ coming_of old.reverse.fates p.acks);
-    first = ap (λ v. v.first) p.received ∙ brought_first numbers most_sack_blocks old.receiver p.came;
-    read = ap (λ v. v.read) p.received ∙ brought_read numbers most_sack_blocks old.receiver p.came;
-    receiver_capacity = ap (λ v. v.capacity) p.received ∙ brought_capacity numbers most_sack_blocks old.receiver p.came;
+    sender_capacity = ap (λ v. v.capacity) p.acked ∙ all_heard (λ (u : SenderState). u.capacity ≡ old.sender.capacity) (λ u n xs _ _ h. h) old.sender (old.reverse.delayed ++ coming_of old.reverse.fates p.acks) refl;
+    first = ap (λ v. v.first) p.received ∙ brought_keeps (λ v. v.first) most_sack_blocks old.receiver p.came (λ u pos xs. numbers.first most_sack_blocks u (Segment pos xs));
+    read = ap (λ v. v.read) p.received ∙ brought_keeps (λ v. v.read) most_sack_blocks old.receiver p.came (numbers.read most_sack_blocks);
+    receiver_capacity = ap (λ v. v.capacity) p.received ∙ brought_keeps (λ v. v.capacity) most_sack_blocks old.receiver p.came (λ u pos xs. numbers.capacity most_sack_blocks u (Segment pos xs));
     grows = subst (λ v. next_position old.receiver ≤ next_position v) (sym p.received) (brought_grows numbers most_sack_blocks old.receiver p.came);
   }
-
-  counted : (n : ℕ) → min (failures old.counts + 1) (2 ^ 64 - 1) ≤ n →
-      n ≤ failures (with_fates (length p.acks) old.reverse.fates
-      (with_fates (length p.sent.in_flight) old.forward.fates (with_payload (count_outside old.sender.sack_blocks old.sender.first_unacknowledged p.n) old.counts))) →
-      min (failures old.counts + 1) (2 ^ 64 - 1) ≤ failures new.counts
-  counted n h k = subst (λ m. min (failures old.counts + 1) (2 ^ 64 - 1) ≤ m) (sym same_failed) (le_trans h k)
-
-  same_lost : losses new.counts ≡ losses
-      (with_fates (length p.acks) old.reverse.fates
-      (with_fates (length p.sent.in_flight) old.forward.fates (with_payload (count_outside old.sender.sack_blocks old.sender.first_unacknowledged p.n) old.counts)))
-  same_lost = ap losses p.counted
-
-  round_lost : losses old.counts ≤ losses new.counts
-  round_lost =
-      let c = with_payload (count_outside old.sender.sack_blocks old.sender.first_unacknowledged p.n) old.counts in
-      let m = with_fates (length p.sent.in_flight) old.forward.fates c in
-      subst (λ n. losses old.counts ≤ n) (sym same_lost)
-      (le_trans (lost_all (length p.sent.in_flight) old.forward.fates c) (lost_all (length p.acks) old.reverse.fates m))
 
   pub fates_left : new.forward.fates ≡ fates_after (length p.sent.in_flight) old.forward.fates
   fates_left = ap (λ t. t.fates) p.left ∙ ap (λ t. fates_after (length p.sent.in_flight) t.fates) p.all.prefix.sent
@@ -559,20 +437,14 @@ module _ (old new : LinkState) (p : Passes old new) where
       first_brings numbers order most_sack_blocks r [] (h.1 ++ c) h.0 h.2 h.3 h.5 h.6.0 h.6.1 h.6.2 room in
       let is : next_position new.receiver ≡ next_position (receiver_after_all most_sack_blocks r (h.0 ∷ (h.1 ++ c))) =
       ap next_position p.received ∙ ap (λ x. next_position (receiver_after_all most_sack_blocks r x)) came in
-      less (next_position r) (next_position new.receiver) (next_position (receiver_after_all most_sack_blocks r (h.0 ∷ (h.1 ++ c)))) on is still)
+      omega (arith, on, is, still))
       (λ (h : FirstMatches old.reverse.delayed (λ k e. (s.first_unacknowledged < k) × (k ≤ end_of s))).
       let t = after_ack_frame s (segment_of h.0) in
       let one : s.first_unacknowledged < t.first_unacknowledged = one_moves s s.first_unacknowledged h.2 h.3 (segment_of h.0) h.5 h.6.0 h.6.1 in
       let more : t.first_unacknowledged ≤ (after_ack_frames t (h.1 ++ d)).first_unacknowledged = all_heads_grow t (h.1 ++ d) in
       let is : new.sender.first_unacknowledged ≡ (after_ack_frames t (h.1 ++ d)).first_unacknowledged = ap (λ v. v.first_unacknowledged) (p.acked ∙ ap (λ x. after_ack_frames s (x ++ d)) h.4) in
-      less s.first_unacknowledged new.sender.first_unacknowledged (after_ack_frames t (h.1 ++ d)).first_unacknowledged (first s.first_unacknowledged t.first_unacknowledged (after_ack_frames t (h.1 ++ d)).first_unacknowledged one more) is still_reverse)
+      omega (arith, one, more, is, still_reverse))
       due
-    where
-      less : (a b c : ℕ) → a < c → b ≡ c → b ≡ a → ⊥
-      less a b c h k j = omega arith
-
-      first : (x y z : ℕ) → x < y → y ≤ z → x < z
-      first x y z h l = omega arith
 
   -- a frame or each acknowledgement was lost, or what was delayed makes for progress in the next round
   abbrev HasLost : Type 0
@@ -586,8 +458,6 @@ module _ (old new : LinkState) (p : Passes old new) where
   frame_lost has some fails still =
       let n = next_position old.receiver in
       let v = old.forward.fates in
-      let c = with_payload (count_outside old.sender.sack_blocks old.sender.first_unacknowledged p.n) old.counts in
-      let m = with_fates (length p.sent.in_flight) v c in
       ⊎_elim {C = HasLost}
       (λ (e : comes_delayed (next_fate v) ≡ true).
       inr (
@@ -597,11 +467,7 @@ module _ (old new : LinkState) (p : Passes old new) where
       ))
       (λ (e : comes_delayed (next_fate v) ≡ false).
       let lot : HasFailed 1 (next_fate v) = (fails, λ follow. e) in
-      inl (
-        inl (some, lot),
-        subst (λ k. min (losses old.counts + 1) (2 ^ 64 - 1) ≤ k) (sym same_lost)
-            (le_trans (lost_first (length p.sent.in_flight) v c some lot) (lost_all (length p.acks) old.reverse.fates m)),
-      ))
+      inl (inl (some, lot), one_lost (inl (some, lot))))
       (cases_Bool (comes_delayed (next_fate v)))
 
   -- so were the acknowledgements, each or one
@@ -611,49 +477,28 @@ module _ (old new : LinkState) (p : Passes old new) where
   acks_lost above none acks within still_reverse =
       let n = next_position old.receiver in
       let v = old.reverse.fates in
-      let c = with_payload (count_outside old.sender.sack_blocks old.sender.first_unacknowledged p.n) old.counts in
-      let m = with_fates (length p.sent.in_flight) old.forward.fates c in
       ⊎_elim {C = HasLost}
       (λ (never : delayed_of v p.acks ≡ []).
       let fail : AllFail 1 (length p.acks) v = all_fail 1 v p.acks none (λ follow. never) in
-      inl (
-        inr (acks_some, fail),
-        subst (λ k. min (losses old.counts + 1) (2 ^ 64 - 1) ≤ k) (sym same_lost)
-            (le_trans (more_failed (losses c) (losses m) (lost_all (length p.sent.in_flight) old.forward.fates c))
-            (lost_first (length p.acks) v m acks_some (first_lost (length p.acks) v acks_some fail))),
-      ))
+      inl (inr (acks_some, fail), one_lost (inr (acks_some, first_of_all 1 (length p.acks) v acks_some fail))))
       (λ (says : FirstMatches (delayed_of v p.acks) (λ k e. (n ≤ k) × (k ≤ n))).
       let delayed : new.reverse.delayed ≡ delayed_of v p.acks = ap (λ t. t.delayed) p.left_reverse in
       let both : FirstMatches (delayed_of v p.acks) (λ k e. (new.sender.first_unacknowledged < k) × (k ≤ end_of new.sender)) =
       says_weaker (λ k e. (n ≤ k) × (k ≤ n)) (λ k e. (new.sender.first_unacknowledged < k) × (k ≤ end_of new.sender)) (delayed_of v p.acks)
       (λ k e h. (let low = h.0 in let high = h.1 in (omega (arith, low, above, still_reverse), omega (arith, high, within, end_left)))) says in
       inr (inr (subst (λ x. FirstMatches x (λ k e. (new.sender.first_unacknowledged < k) × (k ≤ end_of new.sender))) (sym delayed) both), round_lost))
-      (first_acks n n (delayed_of v p.acks) (delayed_all (Acks n n) v p.acks acks))
-    where
-      first_lost : (k : ℕ) (u : FatesState) → 0 < k → AllFail 1 k u → HasFailed 1 (next_fate u)
-      first_lost zero u some all = absurd (omega arith)
-      first_lost (suc k) u some all = all.0
+      (first_acks n n (delayed_of v p.acks) (passing_all (Acks n n) comes_delayed v p.acks acks))
 
   pub round_moves : FramesDecode → Numbers → InOrderReaches → QueueIsOfStream → IsSound most_sack_blocks old.receiver → end_of old.sender < 2 ^ 64 →
       ProgressesOrIsStuck (length p.sent.in_flight) (length p.acks) old new
   round_moves trip numbers order queue sound word f w carries none none_reverse some room still still_reverse =
-      let c = with_payload (count_outside old.sender.sack_blocks old.sender.first_unacknowledged p.n) old.counts in
-      let m = with_fates (length p.sent.in_flight) old.forward.fates c in
-      let e = with_fates (length p.acks) old.reverse.fates m in
-      let one = failed_all (length p.sent.in_flight) old.forward.fates c in
-      let two = failed_all (length p.acks) old.reverse.fates m in
       let n = next_position old.receiver in
-      let within : n ≤ end_of old.sender =
-      (let q = (queue_from queue f w old.receiver carries.receives).within in
-      let first = first_is f w old.receiver carries.receives in
-      let end = carries.sends.end in
-      omega arith) in
       ⊎_elim {C = IsStuck (length p.sent.in_flight) (length p.acks) old new}
       (λ (a : HasMissing n p.sent.in_flight × (0 < length p.sent.in_flight) × (comes (next_fate old.forward.fates) ≡ false)). record {
         why = inl (a.1, (a.2, λ follow. absurd (omega arith)));
         left = fates_left;
         left_reverse = ap (λ t. t.fates) p.left_reverse;
-        counted = counted (failures m) (failed_first (length p.sent.in_flight) old.forward.fates c a.1 a.2) two;
+        counted = one_failed (inl (a.1, a.2));
         not_due = not_due numbers order room still still_reverse;
         lost = frame_lost a.0 a.1 a.2 still;
       })
@@ -661,11 +506,9 @@ module _ (old new : LinkState) (p : Passes old new) where
         why = inr (acks_some, all_fail 0 old.reverse.fates p.acks b.1 (λ follow. absurd (omega arith)));
         left = fates_left;
         left_reverse = ap (λ t. t.fates) p.left_reverse;
-        counted = counted (failures e)
-            (le_trans (more_failed (failures c) (failures m) one)
-            (failed_first (length p.acks) old.reverse.fates m acks_some (first_fails old.reverse.fates p.acks acks_some b.1))) (le_refl (failures e));
+        counted = one_failed (inr (acks_some, first_fails old.reverse.fates p.acks acks_some b.1));
         not_due = not_due numbers order room still still_reverse;
-        lost = acks_lost b.0 b.1 b.2 within still_reverse;
+        lost = acks_lost b.0 b.1 b.2 (all_within queue f w old carries) still_reverse;
       })
       (rounds_move trip numbers order queue f w old new p sound carries word none none_reverse some room still still_reverse)
 
@@ -683,28 +526,21 @@ due_kept l l1 delayed delayed_reverse next head end due =
     (λ k e j. (let low = j.0 in let high = j.1 in (omega (arith, low, head), le_trans high end))) h)))
     due
 
-pub step_moves : (frames acks f : ℕ) (w : List ℕ) (old new last : LinkState) (room : ℕ) → RoundLeaves old new → ProgressesOrIsStuck frames acks old new →
-    last ≡ record new { receiver = receiver_after_read new.receiver room } →
+pub step_moves : (frames acks f : ℕ) (w : List ℕ) (old new : LinkState) (room : ℕ) → RoundLeaves old new → ProgressesOrIsStuck frames acks old new →
     LinkInvariant f w old → old.forward.in_flight ≡ [] → old.reverse.in_flight ≡ [] → 0 < length old.sender.queue → 0 < old.receiver.capacity → 0 < room →
-    last.sender.first_unacknowledged ≡ old.sender.first_unacknowledged → last.receiver.read ≡ old.receiver.read → IsStuck frames acks old last
-step_moves frames acks f w old new last room keeps moves handed carries none none_reverse kept cap some still_head still_read =
-    subst (IsStuck frames acks old) (sym handed) (record {
-      why = one.why;
-      left = one.left;
-      left_reverse = one.left_reverse;
-      counted = one.counted;
-      not_due = one.not_due;
-      lost = lost;
-    })
+    new.sender.first_unacknowledged ≡ old.sender.first_unacknowledged → (receiver_after_read new.receiver room).read ≡ old.receiver.read →
+    IsStuck frames acks old (record new { receiver = receiver_after_read new.receiver room })
+step_moves frames acks f w old new room keeps moves carries none none_reverse kept cap some still_head still_read = record {
+  why = one.why;
+  left = one.left;
+  left_reverse = one.left_reverse;
+  counted = one.counted;
+  not_due = one.not_due;
+  lost = lost;
+}
   where
     r : ReceiverState
     r = receiver_after_read new.receiver room
-
-    still_head' : new.sender.first_unacknowledged ≡ old.sender.first_unacknowledged
-    still_head' = sym (ap (λ l. l.sender.first_unacknowledged) handed) ∙ still_head
-
-    still_read' : r.read ≡ old.receiver.read
-    still_read' = sym (ap (λ l. l.receiver.read) handed) ∙ still_read
 
     read : new.receiver.read ≡ old.receiver.read
     read = keeps.read
@@ -713,7 +549,7 @@ step_moves frames acks f w old new last room keeps moves handed carries none non
     after = refl
 
     empty : length new.receiver.queue ≡ 0
-    empty = omega (arith, after, read, some, still_read')
+    empty = omega (arith, after, read, some, still_read)
 
     first : new.receiver.first ≡ old.receiver.first
     first = keeps.first
@@ -728,7 +564,7 @@ step_moves frames acks f w old new last room keeps moves handed carries none non
     room_left = omega (arith, grow, empty, first, read, cap)
 
     one : IsStuck frames acks old new
-    one = moves f w carries none none_reverse kept room_left next_same still_head'
+    one = moves f w carries none none_reverse kept room_left next_same still_head
 
     next_read : next_position r ≡ next_position new.receiver
     next_read = (let left : length r.queue ≡ length new.receiver.queue - room = length-drop room new.receiver.queue in omega (arith, left, empty))
@@ -750,7 +586,3 @@ step_moves frames acks f w old new last room keeps moves handed carries none non
 pub all_after : (n : ℕ) (v : FatesState) → AllCome v → AllCome (fates_after n v)
 all_after zero v all = all
 all_after (suc n) v all = all_after n (after_fate v) (come_next v all).1
-
-pub some_come : (j k : ℕ) (u : FatesState) → 0 < k → AllFail j k u → comes (next_fate u) ≡ true → ⊥
-some_come j zero u some h e = absurd (omega arith)
-some_come j (suc k) u some h e = both_ways (comes (next_fate u)) h.0.0 e

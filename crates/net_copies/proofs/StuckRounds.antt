@@ -1,23 +1,22 @@
 -- What is true of a copy after each turn, and why a round of it makes no progress.
-use Rattle.std.proofs.Common.{◌≡◌, ℕ, zero, suc, ◌+◌, ◌-◌, ◌≤◌, ◌<◌, ◌^◌, min, nat_eq, nat_lt, List, [], ◌∷◌, length, Option, Some, None}
-use Rattle.std.proofs.Common.{refl, sym, ap, subst, ◌∙◌, arith, ⊎_elim}
+use Rattle.std.proofs.Common.{◌≡◌, ℕ, zero, suc, ◌+◌, ◌-◌, ◌≤◌, ◌<◌, ◌^◌, min, nat_eq, List, [], length, Option}
+use Rattle.std.proofs.Common.{refl, sym, ap, subst, ◌∙◌, arith, ⊎_elim, pos_of_ne-zero}
 use Rattle.std.proofs.lemmas.Bool.{cases_lt, and_from, eq-eqb}
 use Rattle.net_receiver.specs.Rules.{Segment, Read}
-use Rattle.net_receiver.specs.ReceiverState.{ReceiverState, IsSound, next_position, receiver_after_command}
+use Rattle.net_receiver.specs.ReceiverState.{ReceiverState, IsSound, next_position}
 use Rattle.net_receiver.specs.OneStream.{QueueIsOf}
 use Rattle.net_receiver.specs.Soundness.{SoundStays}
 use Rattle.net_copies.specs.declared.counts.FrameCounts.{FrameCounts}
 use Rattle.net_copies.specs.declared.fate.Fate.{Fate}
 use Rattle.net_copies.specs.declared.fate.Fate.TheVariants.{Delivered, Lost, Duplicated, Delayed}
 use Rattle.net_copies.specs.SenderState.{end_of}
-use Rattle.net_copies.specs.Frames.{segment_of}
 use Rattle.net_copies.specs.SackBlocks.{most_sack_blocks, count_outside}
 use Rattle.net_copies.specs.Fates.{FatesState, next_fate, after_fate, fates_after}
 use Rattle.net_copies.specs.Counts.{with_fate, with_fates, with_payload}
 use Rattle.net_copies.specs.PathState.{receiver_after}
 use Rattle.net_copies.specs.Arrivals.{receiver_after_all}
 use Rattle.net_copies.specs.LinkState.{LinkState, round}
-use Rattle.net_copies.specs.CopyState.{Setup, CopyState, Running, begin, feed, waited, pass}
+use Rattle.net_copies.specs.CopyState.{Setup, CopyState, Status, Running, Done, GaveUp, begin, feed, waited, pass}
 use Rattle.net_copies.specs.CopyState.{turn, after}
 use Rattle.net_copies.specs.Streams.{Writes}
 use Rattle.net_copies.specs.Stuck.{RoundLeaves, IsStuck, KnownOfRounds}
@@ -27,10 +26,10 @@ use Rattle.net_copies.proofs.Queue.{queue_from}
 use Rattle.net_copies.proofs.Reached.{first_is}
 use Rattle.net_copies.proofs.Stuck.{Numbers, round_keeps, round_moves, step_moves, fates_left}
 use Rattle.net_copies.proofs.Passed.{RoundSends, round_sends}
-use Rattle.net_copies.proofs.Kept.{split}
-use Rattle.net_copies.proofs.Turns.{decides, turned, all_turned}
+use Rattle.net_copies.proofs.Meeting.{arrives, all_arrive}
+use Rattle.net_copies.proofs.Turns.{decides, turned, all_turned, ended}
 use Rattle.net_copies.proofs.Prefix.{SoFar, so_far, fed_so_far}
-use Rattle.net_copies.proofs.GoesOn.{fed_leaves, asked, GoesOn, goes_on, Still, Brought, Some as Moved, Nothing, brought, runs}
+use Rattle.net_copies.proofs.GoesOn.{fed_leaves, asked, GoesOn, goes_on, Turned, Failed, Finished, Stopped, WentOn, turns, running_or_not, Still, Brought, Some as Moved, Nothing, brought, runs}
 
 -- fates that are met change no count of bytes
 one_counts : (lot : Fate) (c : FrameCounts) → (with_fate lot c).payload ≡ c.payload
@@ -46,14 +45,10 @@ fates_count (suc n) v c = fates_count n (after_fate v) (with_fate (next_fate v) 
 -- frames that come leave a receiver sound
 module _ (stays : SoundStays) where
   pub one_sound : (r : ReceiverState) (o : Option (ℕ × List ℕ)) → IsSound most_sack_blocks r → IsSound most_sack_blocks (receiver_after most_sack_blocks r o)
-  one_sound r None h = h
-  one_sound r (Some (pos, xs)) h =
-      split (IsSound most_sack_blocks) (nat_lt (pos + length xs) (2 ^ 64)) (receiver_after_command most_sack_blocks r (Segment pos xs)) r
-      (λ _. stays most_sack_blocks r (Segment pos xs) h) (λ _. h)
+  one_sound r o h = arrives (IsSound most_sack_blocks) most_sack_blocks r o (λ pos xs _. stays most_sack_blocks r (Segment pos xs) h) h
 
   pub all_sound : (r : ReceiverState) (frames : List (List ℕ)) → IsSound most_sack_blocks r → IsSound most_sack_blocks (receiver_after_all most_sack_blocks r frames)
-  all_sound r [] h = h
-  all_sound r (frame ∷ frames) h = all_sound (receiver_after most_sack_blocks r (segment_of frame)) frames (one_sound r (segment_of frame) h)
+  all_sound = all_arrive (IsSound most_sack_blocks) most_sack_blocks (λ r pos xs. stays most_sack_blocks r (Segment pos xs))
 
 module _ (known : KnownOfRounds) where
   pub numbers : Numbers
@@ -209,22 +204,44 @@ module _ (known : KnownOfRounds) where
             let end = writes.carries.way.sends.end in
             let most = left in
             let moves = round_moves old new p known.known.decode numbers known.order known.known.queue fed.sound (omega arith) in
-            let stuck = step_moves (length p.sent.in_flight) (length p.acks) s.first e.given old new (pass s.chunk e).link s.chunk leaves moves refl writes.carries.way
+            let stuck = step_moves (length p.sent.in_flight) (length p.acks) s.first e.given old new s.chunk leaves moves writes.carries.way
             fed.in_flight fed.in_flight_reverse some_kept some_room can.chunk still.0 (omega arith) in
             subst (λ n. IsStuck n (acks_sent old) old (pass s.chunk e).link) (ap length sends.in_flight)
             (subst (λ n. IsStuck (length p.sent.in_flight) n old (pass s.chunk e).link) sends.acks stuck)
           where
             some_kept : 0 < length e.link.sender.queue
-            some_kept = ⊎_elim {C = 0 < length e.link.sender.queue} (λ (l : 0 < length e.link.sender.queue). l)
-                (λ (l : length e.link.sender.queue ≤ 0).
-                absurd (kept (omega arith) (let some = can.chunk in
+            some_kept =
+                let some = can.chunk in
                 let grows = leaves.grows in
                 let first = leaves.first in
                 let read = leaves.read in
-                omega arith))) (cases_lt 0 (length e.link.sender.queue))
+                pos_of_ne-zero (λ empty. kept empty (omega arith))
 
             some_room : 0 < e.link.receiver.capacity
             some_room = (let cap = fed.incoming in let room = can.incoming in omega arith)
+
+      -- what stays over a read, over a round and at the end, is true after each turn
+      module _ (P : CopyState → Type 0) (reading : (c : CopyState) → P c → P (feed s.chunk c)) (ending : (c : CopyState) (status : Status) → P c → P (record c { status = status }))
+          (rounding : (c : CopyState) → SoFar known.known s reads c → Stays c.link → CanPass s (turn s.rounds s.chunk c) → GoesOn s.rounds s.chunk c →
+          P (feed s.chunk c) → P (pass s.chunk (feed s.chunk c))) where
+        one_turn : (c : CopyState) → SoFar known.known s reads c → Stays c.link → CanPass s (turn s.rounds s.chunk c) → P c → Turned s.rounds s.chunk c →
+            P (turn s.rounds s.chunk c)
+        one_turn c was stays can h (Failed failed is) = subst P (sym is) (reading c h)
+        one_turn c was stays can h (Finished done is) = subst P (sym is) (ending (feed s.chunk c) Done (reading c h))
+        one_turn c was stays can h (Stopped on more many is) = subst P (sym is) (ending (feed s.chunk c) GaveUp (reading c h))
+        one_turn c was stays can h (WentOn on more few is) =
+            subst P (sym is) (rounding c was stays can (goes_on s.rounds s.chunk c (ap (λ d. d.status) is ∙ on)) (reading c h))
+
+        pub by_turns : P (begin s reads) → (n : ℕ) → CanPass s (after s reads n) → P (after s reads n)
+        by_turns first zero can = first
+        by_turns first (suc n) can =
+            let c = after s reads n in
+            let starts : s.first < 2 ^ 64 = (let left = can.positions in omega arith) in
+            let before = by_turns first n (passes_before n (suc n) (omega arith) can) in
+            ⊎_elim {C = P (after s reads (suc n))}
+            (λ (on : c.status ≡ Running). one_turn c (so_far known.known s reads starts n) (all_stays n) can before (turns s.rounds s.chunk c on))
+            (λ (over : c.status ≡ Running → ⊥). subst P (sym (ended s.rounds s.chunk c over)) before)
+            (running_or_not c.status)
 
       -- the fates that a round of it begins with
       pub drawn_before : (n : ℕ) → (after s reads n).status ≡ Running → (a : ℕ) × (b : ℕ)

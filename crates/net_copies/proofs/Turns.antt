@@ -4,8 +4,7 @@ use Rattle.std.proofs.lemmas.Bool.{and_parts, ltb-true, leb-true, leb-false}
 use Rattle.net_copies.specs.LinkState.{times}
 use Rattle.net_copies.specs.CopyState.{CopyState, Status, Running, Done, GaveUp, ReadFailed, is_written, room_for, read_of, feed, decide, pass}
 use Rattle.net_copies.specs.CopyState.{while_running, turn}
-use Rattle.net_copies.proofs.Kept.{split}
-use Rattle.net_copies.proofs.Steps.{keeps}
+use Rattle.net_copies.proofs.Steps.{keeps, split}
 
 -- a step that is made as long as a copy goes on
 pub while : (P : CopyState → Type 0) (f : CopyState → CopyState) (c : CopyState) → (c.status ≡ Running → P (f c)) → ((c.status ≡ Running → ⊥) → P c) → P (while_running f c)

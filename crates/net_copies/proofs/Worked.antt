@@ -49,31 +49,16 @@ pub record Laws : Type 0 where
   pub runs : RunsComputed
 
 module _ (laws : Laws) where
-  refines0 : Refines r0 fresh_kept
-  refines0 = laws.fresh 0 4
-
-  next0 : next 0 [] ≡ 0
-  next0 = laws.next 0 []
-
-  next1 : next 0 (b ∷ []) ≡ 0
-  next1 = laws.next 0 (b ∷ [])
-
-  next2 : next 0 (b ∷ a ∷ []) ≡ 2
-  next2 = laws.next 0 (b ∷ a ∷ [])
-
-  few : runs (with_range (held_positions 0 []) 1 1) ≡ 1
-  few = laws.runs 0 [] 1 1
-
   b_is_kept : verdict receiver_ops 32 r0 b ≡ Keeps b
-  b_is_kept = ap (λ s. cond (nat_lt 32 (runs (with_range s 1 1))) Refuses (Keeps b)) (laws.tells r0 fresh_kept refines0)
-      ∙ ap (λ n. cond (nat_lt 32 n) Refuses (Keeps b)) few
+  b_is_kept = ap (λ s. cond (nat_lt 32 (runs (with_range s 1 1))) Refuses (Keeps b)) (laws.tells r0 fresh_kept (laws.fresh 0 4))
+      ∙ ap (λ n. cond (nat_lt 32 n) Refuses (Keeps b)) (laws.runs 0 [] 1 1)
 
   b_in_list : verdict (kept_ops w) 32 fresh_kept b ≡ Keeps b
-  b_in_list = (λ i. verdict_of_piece (next0 i) 32 (held_positions 0 []) (piece_within (next0 i) 4 b))
-      ∙ ap (λ n. cond (nat_lt 32 n) Refuses (Keeps b)) few
+  b_in_list = (λ i. verdict_of_piece (laws.next 0 [] i) 32 (held_positions 0 []) (piece_within (laws.next 0 [] i) 4 b))
+      ∙ ap (λ n. cond (nat_lt 32 n) Refuses (Keeps b)) (laws.runs 0 [] 1 1)
 
   a_in_list : verdict (kept_ops w) 32 (kept (b ∷ [])) a ≡ Keeps a
-  a_in_list = λ i. verdict_of_piece (next1 i) 32 (held_positions 0 (b ∷ [])) (piece_within (next1 i) 4 a)
+  a_in_list = λ i. verdict_of_piece (laws.next 0 (b ∷ []) i) 32 (held_positions 0 (b ∷ [])) (piece_within (laws.next 0 (b ∷ []) i) 4 a)
 
   -- what is held once `b` came
   abbrev h1 : HeldBytes
@@ -83,11 +68,11 @@ module _ (laws : Laws) where
   refines_b =
       subst (λ r. Refines r (kept (b ∷ []))) (ap (state_after receiver_ops r0) b_is_kept)
       (subst (Refines (receiver_after_command 32 r0 (Segment 1 (98 ∷ [])))) (ap (state_after (kept_ops w) fresh_kept) b_in_list)
-      (laws.every 32 r0 fresh_kept refines0 (Segment 1 (98 ∷ []) ∷ [])).0)
+      (laws.every 32 r0 fresh_kept (laws.fresh 0 4) (Segment 1 (98 ∷ []) ∷ [])).0)
 
   b_came : receiver_after_command 32 r0 (Segment 1 (98 ∷ [])) ≡ receiver_of h1 []
   b_came = ap (state_after receiver_ops r0) b_is_kept
-      ∙ (λ i. receiver_of h1 ((refines_b.queue ∙ (λ j. bytes (b ∷ []) 0 (next1 j - 0))) i))
+      ∙ (λ i. receiver_of h1 ((refines_b.queue ∙ (λ j. bytes (b ∷ []) 0 (laws.next 0 (b ∷ []) j - 0))) i))
 
   refines1 : Refines (receiver_of h1 []) (kept (b ∷ []))
   refines1 = subst (λ r. Refines r (kept (b ∷ []))) (sym (ap (state_after receiver_ops r0) b_is_kept) ∙ b_came) refines_b
@@ -109,7 +94,7 @@ module _ (laws : Laws) where
   two_bytes = refl
 
   a_came : receiver_after_command 32 (receiver_of h1 []) (Segment 0 (97 ∷ [])) ≡ receiver_of h2 (97 ∷ 98 ∷ [])
-  a_came = λ i. receiver_of h2 ((refines_a.queue ∙ (λ j. bytes (b ∷ a ∷ []) 0 (next2 j - 0)) ∙ two_bytes) i)
+  a_came = λ i. receiver_of h2 ((refines_a.queue ∙ (λ j. bytes (b ∷ a ∷ []) 0 (laws.next 0 (b ∷ a ∷ []) j - 0)) ∙ two_bytes) i)
 
   runs2 : maximal_runs (domain h2) ≡ []
   runs2 = ap maximal_runs (laws.tells _ (kept (b ∷ a ∷ [])) refines_a) ∙ laws.held 0 (b ∷ a ∷ [])
@@ -152,15 +137,12 @@ module _ (laws : Laws) where
       let ack = frame_of 0 (block_bytes (take 32 ranges)) in
       link (sender1 []) (receiver_of h1 []) (path [] (Delivered ∷ [])) (path (ack ∷ ack ∷ []) four) (counts 2 2 1) 10000
 
-  acks1 : acknowledge_all (passed1 (receiver_of h1 []) (counts 2 2 1)) ≡ told1 ((1, 2) ∷ [])
-  acks1 = ap told1 runs1
-
   abbrev ended1 : LinkState
   ended1 = link (sender1 ((1, 2) ∷ [])) (receiver_of h1 []) (path [] (Delivered ∷ [])) (path [] two) (counts 4 2 1) 10000
 
   round1 : round begun1 ≡ ended1
   unfolding round blocks_of
-  round1 = ap (λ s. with_burst (pass_acks (delayed_acks (acknowledge_all s)))) frames1 ∙ ap (λ s. with_burst (pass_acks (delayed_acks s))) acks1
+  round1 = ap (λ s. with_burst (pass_acks (delayed_acks (acknowledge_all s)))) frames1 ∙ ap (λ ranges. with_burst (pass_acks (delayed_acks (told1 ranges)))) runs1
 
   -- the second: `a` comes
   abbrev begun2 : LinkState
@@ -169,23 +151,17 @@ module _ (laws : Laws) where
   abbrev passed2 : ReceiverState → LinkState
   passed2 r = link (sender1 ((1, 2) ∷ [])) r (path [] []) (path (ack_of r ∷ []) two) (counts 5 3 1) 30000
 
-  frames2 : pass_frames (delayed_frames (transmit begun2)) ≡ passed2 (receiver_of h2 (97 ∷ 98 ∷ []))
-  frames2 = ap passed2 a_came
-
   abbrev told2 : List (ℕ × ℕ) → LinkState
   told2 ranges =
       let ack = frame_of 2 (block_bytes (take 32 ranges)) in
       link (sender1 ((1, 2) ∷ [])) (receiver_of h2 (97 ∷ 98 ∷ [])) (path [] []) (path (ack ∷ ack ∷ []) two) (counts 5 3 1) 30000
-
-  acks2 : acknowledge_all (passed2 (receiver_of h2 (97 ∷ 98 ∷ []))) ≡ told2 []
-  acks2 = ap told2 runs2
 
   abbrev ended2 : LinkState
   ended2 = link (sender_state 4 2 [] [] 4) (receiver_of h2 (97 ∷ 98 ∷ [])) (path [] []) (path [] []) (counts 7 3 1) 30000
 
   round2 : round begun2 ≡ ended2
   unfolding round blocks_of
-  round2 = ap (λ s. with_burst (pass_acks (delayed_acks (acknowledge_all s)))) frames2 ∙ ap (λ s. with_burst (pass_acks (delayed_acks s))) acks2
+  round2 = ap (λ r. with_burst (pass_acks (delayed_acks (acknowledge_all (passed2 r))))) a_came ∙ ap (λ ranges. with_burst (pass_acks (delayed_acks (told2 ranges)))) runs2
 
   -- ---- the copy
   abbrev step : CopyState → CopyState

@@ -15,7 +15,7 @@ use Rattle.net_copies.specs.CopyResult.{before_pass, EndsRound, Copied, CopiedPa
 use Rattle.net_copies.specs.declared.counts.FrameCounts.{FrameCounts}
 use Rattle.net_copies.specs.Promises.{StartsFits, EnoughFailed}
 use Rattle.net_copies.specs.Streams.{Known, Writes}
-use Rattle.net_copies.proofs.Kept.{split}
+use Rattle.net_copies.proofs.Steps.{split}
 use Rattle.net_copies.proofs.Turns.{while, feeds, decides, all_turned}
 use Rattle.net_copies.proofs.Prefix.{SoFar, so_far, fed_so_far, decided_so_far, pass_writes, all_written, starts_with}
 

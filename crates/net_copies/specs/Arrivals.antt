@@ -1,29 +1,32 @@
 -- Frames and acknowledgements that meet their fates: which of them arrive, and what they leave.
+--     passing test v frames      of frames that meet the next fates of v, those whose fates pass a test
 --     coming_of v frames, delayed_of v frames      of frames that meet the next fates of v, those that
 --         arrive in their round, and those that are delayed
 --     receiver_after_all N r frames      what a receiver stores once frames have arrived, one after another
 --     acks_of N r frames      its acknowledgements of them
 --     path_after path      what is left of a path whose frames have all met their fates
-use Rattle.std.specs.Prelude.{ℕ, ◌+◌, ◌^◌, nat_lt, if◌then◌else◌}
+use Rattle.std.specs.Prelude.{ℕ, ◌+◌, ◌^◌, nat_lt, Bool, if◌then◌else◌}
 use Rattle.std.specs.Prelude.{List, [], ◌∷◌, ◌++◌, length, Option, Some, None}
 use Rattle.net_receiver.specs.ReceiverState.{ReceiverState}
 use Rattle.net_copies.specs.Frames.{segment_of}
 use Rattle.net_copies.specs.Fates.{FatesState, next_fate, after_fate, fates_after, comes, comes_delayed}
 use Rattle.net_copies.specs.PathState.{PathState, ack_of, receiver_after}
+use Rattle.net_copies.specs.declared.fate.Fate.{Fate}
 
--- of frames that meet the next fates of v, those that arrive in their round
+-- of frames that meet the next fates of v, those whose fates pass a test
+abbrev pub passing : (Fate → Bool) → FatesState → List (List ℕ) → List (List ℕ)
+passing test v [] = []
+passing test v (frame ∷ frames) =
+    if test (next_fate v) then frame ∷ passing test (after_fate v) frames
+    else passing test (after_fate v) frames
+
+-- those that arrive in their round
 abbrev pub coming_of : FatesState → List (List ℕ) → List (List ℕ)
-coming_of v [] = []
-coming_of v (frame ∷ frames) =
-    if comes (next_fate v) then frame ∷ coming_of (after_fate v) frames
-    else coming_of (after_fate v) frames
+coming_of v frames = passing comes v frames
 
 -- those that arrive in the next round, for the first time or once more
 abbrev pub delayed_of : FatesState → List (List ℕ) → List (List ℕ)
-delayed_of v [] = []
-delayed_of v (frame ∷ frames) =
-    if comes_delayed (next_fate v) then frame ∷ delayed_of (after_fate v) frames
-    else delayed_of (after_fate v) frames
+delayed_of v frames = passing comes_delayed v frames
 
 -- what a receiver stores once frames have arrived, one after another
 abbrev pub receiver_after_all : ℕ → ReceiverState → List (List ℕ) → ReceiverState

@@ -1,28 +1,25 @@
 -- The steps of a copier are those of a copy.
-use Rattle.std.proofs.Common.{◌≡◌, ◌⊎◌, ◌&&◌, ◌||◌, ℕ, suc, ◌+◌, ◌-◌, ◌*◌, ◌≤◌, ◌<◌, ◌^◌, min, not, nat_lt, nat_le, nat_eq, cond, Bool, true, false, Option, Result, Ok, Err, OnOk, OnErr, List, [], ◌∷◌, ◌++◌, length, take, drop, refl, sym, ap, subst, ◌∙◌, arith, inl, inr, ⊎_elim, append_assoc, length-take, length-append}
+use Rattle.std.proofs.Common.{◌≡◌, ◌⊎◌, ◌&&◌, ℕ, suc, ◌+◌, ◌-◌, ◌*◌, ◌≤◌, ◌<◌, ◌^◌, min, not, nat_lt, nat_le, Bool, true, false, Option, Result, Ok, Err, OnOk, OnErr, List, [], ◌∷◌, ◌++◌, length, take, drop, refl, sym, ap, subst, ◌∙◌, arith, inl, inr, ⊎_elim, append_assoc, length-take, length-append}
 use Rattle.std.specs.Result.{is_err}
 use Rattle.std.specs.Prelude.{IsOk}
 use Rattle.std.specs.Io.KnownBytes.{Consumes, Appends, Keeps}
 use Rattle.std.proofs.lemmas.Bool.{both_ways, cond-true, cond-false, and_parts, ltb-true, le-ltb, lt-leb, le-leb}
-use Rattle.std.proofs.lemmas.Bool.Decides.{nat_tests}
 use Rattle.std.proofs.lemmas.List.{append-nil, take_all}
 use Rattle.std.proofs.Math.Seq.{take-append_seam}
 use Rattle.net_io.proofs.KnownBytes.{Appends-none, Appends-two, Appends-kept, Consumes-none, Consumes-two, Keeps-same}
-use Rattle.net_receiver.specs.OneStream.{SegmentReadsNothing}
 use Rattle.net_stream.specs.declared.copier.Copier.{Copier}
 use Rattle.net_copies.specs.declared.counts.Counts.{Counts}
 use Rattle.net_io.specs.Writer.{FlushesAfter}
 use Rattle.net_copies.specs.declared.error.CopyError.{CopyError}
 use Rattle.net_copies.specs.declared.error.CopyError.TheVariants as errors
-use Rattle.net_copies.specs.LinkState.{LinkState, times, round}
+use Rattle.net_copies.specs.LinkState.{times}
 use Rattle.net_copies.specs.CopyState.{Setup, CopyState, Status, Running, Done, GaveUp, ReadFailed, after, final, outcome, concat}
-use Rattle.net_copies.specs.CopyState.{is_written, room_for, rest_of, read_of, with_read, feed, decide, waited, pass, while_running, turn}
+use Rattle.net_copies.specs.CopyState.{is_written, room_for, rest_of, read_of, with_read, feed, decide, pass, while_running, turn}
 use Rattle.net_copies.specs.Counts.{more, no_counts}
 use Rattle.net_copies.specs.Promises.{FinalIs}
 use Rattle.net_copies.specs.CopyResult.{EndsRound, Copied, CopiedPart, HasCopied, HasNotBegun}
 use Rattle.net_stream.specs.Turns.{copy_state_of, counts_of, Begins, Feeds, Passes, Breaks, CopiedSoFar}
-use Rattle.net_copies.proofs.Grown.{grown}
-use Rattle.net_copies.proofs.Turns.{feeds}
+use Rattle.net_copies.proofs.Fuel.{Moves}
 
 -- a call that had no error
 pub was_ok : {T E : Type 0} (P : Type 0) (r : Result T E) → is_err r ≡ false → OnOk r P → P
@@ -71,39 +68,11 @@ pub is_done : (more written : Bool) → (not more && written) ≡ true → more 
 is_done true written e = absurd (both_ways false refl e)
 is_done false written e = refl
 
--- ---- how far a copy is
-abbrev pub far : LinkState → ℕ
-far l = l.sender.first_unacknowledged + l.receiver.read
-
--- a round makes progress, or is counted as one that doesn't
-pub progresses : SegmentReadsNothing → (chunk : ℕ) (c : CopyState) →
-    (far c.link < far (pass chunk c).link) ⊎ ((far c.link ≤ far (pass chunk c).link) × ((pass chunk c).stalled ≡ c.stalled + 1))
-progresses reads_nothing chunk c =
-    let s = round (waited c) in
-    let h = grown reads_nothing c.link.sender.first_unacknowledged c.link.receiver.read (waited c) (record { first_unacknowledged = omega arith; read = refl }) in
-    by s.sender.first_unacknowledged (min chunk (length s.receiver.queue)) (not (nat_eq s.sender.first_unacknowledged c.link.sender.first_unacknowledged)) (nat_lt 0 (min chunk (length s.receiver.queue)))
-    refl refl h.first_unacknowledged h.read
-  where
-    by : (head n : ℕ) (moved some : Bool) → not (nat_eq head c.link.sender.first_unacknowledged) ≡ moved → nat_lt 0 n ≡ some → c.link.sender.first_unacknowledged ≤ head → (round (waited c)).receiver.read ≡ c.link.receiver.read →
-        (far c.link < head + ((round (waited c)).receiver.read + n)) ⊎ ((far c.link ≤ head + ((round (waited c)).receiver.read + n)) × (cond (moved || some) 0 (c.stalled + 1) ≡ c.stalled + 1))
-    by head n true some m k b r = inl (grind (arith, nat_tests))
-    by head n false true m k b r = inl (let l = ltb-true 0 n k in omega arith)
-    by head n false false m k b r = inr (omega arith, refl)
-
--- a read leaves it where it is
-pub fed_leaves : (chunk : ℕ) (c : CopyState) → (far (feed chunk c).link ≡ far c.link) × ((feed chunk c).stalled ≡ c.stalled)
-fed_leaves chunk c = feeds (λ d. (far d.link ≡ far c.link) × (d.stalled ≡ c.stalled)) chunk c (λ more room all. by c.reads) (refl, refl)
-  where
-    by : (reads : List (List ℕ)) → (far (read_of (room_for chunk c.link) c reads).link ≡ far c.link) × ((read_of (room_for chunk c.link) c reads).stalled ≡ c.stalled)
-    by [] = (refl, refl)
-    by ([] ∷ reads) = (refl, refl)
-    by ((x ∷ xs) ∷ reads) = (refl, refl)
-
 -- the measure of turns
 pub smaller : (rounds far far' stalled stalled' : ℕ) → rounds < 2 ^ 64 → far < 2 ^ 65 → stalled < rounds →
-    (far < far') ⊎ ((far ≤ far') × (stalled' ≡ stalled + 1)) →
+    Moves far far' stalled stalled' →
     (2 ^ 66 - far') * 2 ^ 64 + (rounds - stalled') < (2 ^ 66 - far) * 2 ^ 64 + (rounds - stalled)
-smaller rounds far far' stalled stalled' word below few (inl l) = omega arith
+smaller rounds far far' stalled stalled' word below few (inl l) = (let k = l.0 in omega arith)
 smaller rounds far far' stalled stalled' word below few (inr h) = (let l = h.0 in let e = h.1 in omega arith)
 
 -- ---- a turn
@@ -123,6 +92,10 @@ is_over rounds c done = cond-true (not c.more && is_written c.link) (record c { 
 pub gives_up : (rounds : ℕ) (c : CopyState) → (not c.more && is_written c.link) ≡ false → rounds ≤ c.stalled → decide rounds c ≡ record c { status = GaveUp }
 gives_up rounds c on many =
     cond-false (not c.more && is_written c.link) (record c { status = Done }) _ on ∙ cond-true (nat_le rounds c.stalled) (record c { status = GaveUp }) c (le-leb rounds c.stalled many)
+
+-- a read into a chunk of this length
+pub fed_into : {A : Type 0} (k chunk : ℕ) (a b : Copier A) (has next : Option (List ℕ)) (ended : Status) → k ≡ chunk → Feeds k a b has next ended → Feeds chunk a b has next ended
+fed_into k chunk a b has next ended same f = subst (λ n. Feeds n a b has next ended) same f
 
 concat_both : (xs ys : List (List ℕ)) → concat (xs ++ ys) ≡ concat xs ++ concat ys
 concat_both [] ys = refl

@@ -12,7 +12,7 @@ stop_keeps : Known → (l m : LinkState) → end_of l.sender < 2 ^ 64 → StopsR
     ((f : ℕ) (w : List ℕ) → LinkInvariant f w l → LinkInvariant f w m) × (m.receiver.read ≡ l.receiver.read)
 stop_keeps known l m fits stop = (
   λ f w h. (stop_keeps_invariant known f w l m stop (record { way = h; fits = fits })).way,
-  (stopped known.reads_nothing l.sender.first_unacknowledged l.receiver.read l m stop (record { first_unacknowledged = omega arith; read = refl })).read,
+  (stopped known.reads_nothing l.sender.first_unacknowledged l.receiver.read l m stop (omega arith, refl)).1,
 )
 
 pub returns-clause-state : goal.returns-clause-state
@@ -36,7 +36,7 @@ pub returns-clause-read : goal.returns-clause-read
 returns-clause-read g c =
     let l = c.args.self.now in
     ap (λ (m : LinkState). m.receiver.read) (returns-clause-state g c)
-    ∙ (grown c.known.ensures.reads_nothing l.sender.first_unacknowledged l.receiver.read l (record { first_unacknowledged = omega arith; read = refl })).read
+    ∙ (grown c.known.ensures.reads_nothing l.sender.first_unacknowledged l.receiver.read l (omega arith, refl)).1
 
 pub returns-in_err-transmit-clause-carries : goal.returns-in_err-transmit-clause-carries
 returns-in_err-transmit-clause-carries g c = (stop_keeps c.known.ensures c.args.self.now c.transmit.new.self c.transmit.ensures.fits (search rules)).0
