@@ -4,7 +4,7 @@ ghost use Rattle.net_stream.specs.LinkInvariant.{LinkInvariant};
 ghost use Rattle.net_examples.specs.Conversation.{AgreeBelow};
 
 use net_base::time::Duration;
-use net_stream::Link;
+use net_stream::StreamLink;
 use std::alloc::{AllocError, Allocator};
 
 /// Sends a client's request over one link and, once all of it arrived, the server's reply over the
@@ -13,8 +13,8 @@ use std::alloc::{AllocError, Allocator};
 ///
 /// Each side then has the bytes that the other one wrote.
 pub fn ask<A: Allocator + Copy>(
-    to_server: &mut Link<'_, '_, A>,
-    to_client: &mut Link<'_, '_, A>,
+    to_server: &mut StreamLink<'_, '_, A>,
+    to_client: &mut StreamLink<'_, '_, A>,
     request: &[u8],
     reply: &[u8],
     at_server: &mut [u8],
@@ -39,7 +39,7 @@ pub fn ask<A: Allocator + Copy>(
 /// Sends a text over a link in so many rounds, and reads what arrives. Returns how many bytes
 /// arrived.
 fn deliver<A: Allocator + Copy>(
-    link: &mut Link<'_, '_, A>,
+    link: &mut StreamLink<'_, '_, A>,
     text: &[u8],
     into: &mut [u8],
     rounds: u32,
@@ -59,7 +59,11 @@ fn deliver<A: Allocator + Copy>(
 }
 
 /// Writes more of a text, of which `from` bytes were written. Returns how many are written then.
-fn write_more<A: Allocator + Copy>(link: &mut Link<'_, '_, A>, text: &[u8], from: usize) -> usize
+fn write_more<A: Allocator + Copy>(
+    link: &mut StreamLink<'_, '_, A>,
+    text: &[u8],
+    from: usize,
+) -> usize
     requires { from ≤ length text.now }
     ensures carries { LinkInvariant 0 (take from text.now) link.old →
         LinkInvariant 0 (take result text.now) link.new }
@@ -70,17 +74,21 @@ fn write_more<A: Allocator + Copy>(link: &mut Link<'_, '_, A>, text: &[u8], from
 }
 
 /// Passes a round, and advances the clock by the time that it takes.
-fn pass<A: Allocator + Copy>(link: &mut Link<'_, '_, A>) -> Result<(), AllocError>
+fn pass<A: Allocator + Copy>(link: &mut StreamLink<'_, '_, A>) -> Result<(), AllocError>
     ensures carries { (w : List ℕ) → LinkInvariant 0 w link.old → LinkInvariant 0 w link.new }
     ensures read { link.new.receiver.read ≡ link.old.receiver.read }
 {
     link.pass_round()?;
-    link.advance(Duration::from_millis(10));
+    link.advance_clock(Duration::from_millis(10));
     Ok(())
 }
 
 /// Reads more into a buffer, into which `from` bytes were read. Returns how many are read then.
-fn read_more<A: Allocator + Copy>(link: &mut Link<'_, '_, A>, into: &mut [u8], from: usize) -> usize
+fn read_more<A: Allocator + Copy>(
+    link: &mut StreamLink<'_, '_, A>,
+    into: &mut [u8],
+    from: usize,
+) -> usize
     requires { (from ≤ length into.old) × (link.old.receiver.read ≡ from) }
     ensures carries { (w : List ℕ) → LinkInvariant 0 w link.old → LinkInvariant 0 w link.new }
     ensures prefix { (n : ℕ) (text : List ℕ) → LinkInvariant 0 (take n text) link.old →

@@ -10,7 +10,7 @@ use net_examples::{
 use net_receiver::{Receiver, SequenceNumber};
 use net_ring::{ManagedSlice, RingBuffer};
 use net_sockets::{Endpoint, forward_lists};
-use net_stream::{Counts, Fates, Link, LinkFates, Rates};
+use net_stream::{Counts, Fates, LinkFates, Rates, StreamLink};
 use std::alloc::{AllocError, Global};
 
 #[test]
@@ -137,7 +137,7 @@ fn reply_to(
     };
     let mut kept = [0u8; 4];
     let mut came = [0u8; 4];
-    let mut to_server = Link::new(
+    let mut to_server = StreamLink::new(
         alloc,
         0,
         2,
@@ -151,7 +151,7 @@ fn reply_to(
     );
     let mut kept = [0u8; 4];
     let mut came = [0u8; 4];
-    let mut to_client = Link::new(
+    let mut to_client = StreamLink::new(
         alloc,
         0,
         2,

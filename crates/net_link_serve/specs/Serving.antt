@@ -15,12 +15,12 @@ use Rattle.net_cli.specs.declared.status.Ended.{Ended}
 use Rattle.net_stream.specs.CopyState.{Setup, setup_of}
 use Rattle.net_stream.specs.CopyResult.{HasCopied, HasNotBegun}
 use Rattle.net_stream.specs.Fates.{FatesState}
-use Rattle.net_copies.specs.declared.config.Config.{Config}
-use Rattle.net_copies.specs.declared.counts.Counts.{Counts}
-use Rattle.net_copies.specs.declared.error.CopyError.{CopyError}
-use Rattle.net_copies.specs.declared.error.CopyError.TheVariants.{GaveUp, OutOfMemory}
-use Rattle.net_copies.specs.declared.error.CopyError.TheVariants.{ReadFailed, WriteFailed}
-use Rattle.net_copies.specs.declared.fate.Rates.{Rates}
+use Rattle.net_stream_model.specs.declared.config.Config.{Config}
+use Rattle.net_stream_model.specs.declared.counts.Counts.{Counts}
+use Rattle.net_stream_model.specs.declared.error.CopyError.{CopyError}
+use Rattle.net_stream_model.specs.declared.error.CopyError.TheVariants.{GaveUp, OutOfMemory}
+use Rattle.net_stream_model.specs.declared.error.CopyError.TheVariants.{ReadFailed, WriteFailed}
+use Rattle.net_stream_model.specs.declared.fate.Rates.{Rates}
 use Rattle.net_link_serve.specs.declared.words.Plan.{Plan}
 use Rattle.net_link_serve.specs.declared.words.Asked.{Asked}
 use Rattle.net_link_serve.specs.declared.words.Asked.TheVariants.{Help, Copy}

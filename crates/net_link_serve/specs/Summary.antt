@@ -4,11 +4,11 @@
 --     error_line ended cause      the line of its error, if there is one
 --     summary ended cause counts      both
 use Rattle.std.specs.Prelude.{ℕ, ◌*◌, ◌-◌, ◌/◌, ◌^◌, min, max, List, [], ◌++◌, Result, Ok, Err, codes, decimal}
-use Rattle.net_copies.specs.declared.counts.Counts.{Counts}
-use Rattle.net_copies.specs.declared.counts.FrameCounts.{FrameCounts}
-use Rattle.net_copies.specs.declared.error.CopyError.{CopyError}
-use Rattle.net_copies.specs.declared.error.CopyError.TheVariants.{GaveUp, OutOfMemory}
-use Rattle.net_copies.specs.declared.error.CopyError.TheVariants.{ReadFailed, WriteFailed}
+use Rattle.net_stream_model.specs.declared.counts.Counts.{Counts}
+use Rattle.net_stream_model.specs.declared.counts.FrameCounts.{FrameCounts}
+use Rattle.net_stream_model.specs.declared.error.CopyError.{CopyError}
+use Rattle.net_stream_model.specs.declared.error.CopyError.TheVariants.{GaveUp, OutOfMemory}
+use Rattle.net_stream_model.specs.declared.error.CopyError.TheVariants.{ReadFailed, WriteFailed}
 
 -- bytes written for each second of simulated time, rounded down; the bytes times a million, as far as
 -- 64 bits go, over the microseconds, of which none count as one

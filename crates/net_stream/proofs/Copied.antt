@@ -8,18 +8,18 @@ use Rattle.std.proofs.lemmas.List.{append-nil, take_all}
 use Rattle.std.proofs.Math.Seq.{take-append_seam}
 use Rattle.net_io.proofs.KnownBytes.{Appends-none, Appends-two, Appends-kept, Consumes-none, Consumes-two, Keeps-same}
 use Rattle.net_stream.specs.declared.copier.Copier.{Copier}
-use Rattle.net_copies.specs.declared.counts.Counts.{Counts}
+use Rattle.net_stream_model.specs.declared.counts.Counts.{Counts}
 use Rattle.net_io.specs.Writer.{FlushesAfter}
-use Rattle.net_copies.specs.declared.error.CopyError.{CopyError}
-use Rattle.net_copies.specs.declared.error.CopyError.TheVariants as errors
-use Rattle.net_copies.specs.LinkState.{times}
-use Rattle.net_copies.specs.CopyState.{Setup, CopyState, Status, Running, Done, GaveUp, ReadFailed, after, final, outcome, concat}
-use Rattle.net_copies.specs.CopyState.{is_written, room_for, rest_of, read_of, with_read, feed, decide, pass, while_running, turn}
-use Rattle.net_copies.specs.Counts.{more, no_counts}
-use Rattle.net_copies.specs.Promises.{FinalIs}
-use Rattle.net_copies.specs.CopyResult.{EndsRound, Copied, CopiedPart, HasCopied, HasNotBegun}
+use Rattle.net_stream_model.specs.declared.error.CopyError.{CopyError}
+use Rattle.net_stream_model.specs.declared.error.CopyError.TheVariants as errors
+use Rattle.net_stream_model.specs.LinkState.{times}
+use Rattle.net_stream_model.specs.CopyState.{Setup, CopyState, Status, Running, Done, GaveUp, ReadFailed, after, final, outcome, concat}
+use Rattle.net_stream_model.specs.CopyState.{is_written, room_for, rest_of, read_of, with_read, feed, decide, pass, while_running, turn}
+use Rattle.net_stream_model.specs.Counts.{more, no_counts}
+use Rattle.net_stream_model.specs.Promises.{FinalIs}
+use Rattle.net_stream_model.specs.CopyResult.{EndsRound, Copied, CopiedPart, HasCopied, HasNotBegun}
 use Rattle.net_stream.specs.Turns.{copy_state_of, counts_of, Begins, Feeds, Passes, Breaks, CopiedSoFar}
-use Rattle.net_copies.proofs.Fuel.{Moves}
+use Rattle.net_stream_model.proofs.Fuel.{Moves}
 
 -- a call that had no error
 pub was_ok : {T E : Type 0} (P : Type 0) (r : Result T E) → is_err r ≡ false → OnOk r P → P

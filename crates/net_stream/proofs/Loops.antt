@@ -1,6 +1,6 @@
 -- Loops that take a step as long as something is left, and what holds at an error.
 use Rattle.std.proofs.Common.{◌≡◌, ℕ, suc, ◌+◌, Result, Ok, Err, OnErr, refl, ap, ◌∙◌, arith}
-use Rattle.net_copies.specs.LinkState.{times}
+use Rattle.net_stream_model.specs.LinkState.{times}
 
 -- from s to t so many steps were taken, each of which left one less
 pub record SoFar {S : Type 0} (step : S → S) (left : S → ℕ) (s t : S) : Type 0 where

@@ -9,15 +9,15 @@
 --     CopiedSoFar rounds chunk old new had has held holds      turns of a copy that goes on
 use Rattle.std.specs.Prelude.{◌≡◌, ℕ, ◌+◌, ◌-◌, ◌^◌, min, true, false, List, [], ◌++◌, length, Option}
 use Rattle.std.specs.Io.KnownBytes.{Appends, Consumes, IsAtEnd}
-use Rattle.net_copies.specs.Counts.{more}
-use Rattle.net_copies.specs.declared.counts.Counts.{Counts}
-use Rattle.net_copies.specs.declared.error.CopyError.{CopyError}
+use Rattle.net_stream_model.specs.Counts.{more}
+use Rattle.net_stream_model.specs.declared.counts.Counts.{Counts}
+use Rattle.net_stream_model.specs.declared.error.CopyError.{CopyError}
 use Rattle.net_stream.specs.declared.copier.Copier.{Copier}
-use Rattle.net_copies.specs.LinkState.{LinkState, times}
-use Rattle.net_copies.specs.CopyState.{Setup, CopyState, Status, Running, ReadFailed, begin, concat}
-use Rattle.net_copies.specs.CopyState.{feed, pass, turn}
-use Rattle.net_copies.specs.CopyResult.{EndsRound}
-use Rattle.net_copies.specs.Promises.{StartsFits}
+use Rattle.net_stream_model.specs.LinkState.{LinkState, times}
+use Rattle.net_stream_model.specs.CopyState.{Setup, CopyState, Status, Running, ReadFailed, begin, concat}
+use Rattle.net_stream_model.specs.CopyState.{feed, pass, turn}
+use Rattle.net_stream_model.specs.CopyResult.{EndsRound}
+use Rattle.net_stream_model.specs.Promises.{StartsFits}
 
 abbrev pub copy_state_of : {A : Type 0} → Copier A → List (List ℕ) → List ℕ → List ℕ → Status → CopyState
 copy_state_of c reads given written status = record {

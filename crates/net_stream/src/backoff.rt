@@ -1,6 +1,6 @@
 //! How long a sender waits for an acknowledgement.
 ghost use Rattle.std.specs.Prelude.{◌≡◌, ◌*◌, min, if◌then◌else◌};
-ghost use Rattle.net_copies.specs.Counts.{round_trip_time, longest_wait};
+ghost use Rattle.net_stream_model.specs.Counts.{round_trip_time, longest_wait};
 
 use net_base::time::Duration;
 

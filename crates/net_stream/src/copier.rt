@@ -4,20 +4,20 @@ ghost use Rattle.std.specs.Prelude.{◌≡◌, ℕ, ◌+◌, ◌&&◌, ◌||◌,
 ghost use Rattle.std.specs.Prelude.{length, OnOk, OnErr, IfErr, if◌then◌else◌};
 ghost use Rattle.net_ring.specs.Managed.{elements};
 ghost use Rattle.net_receiver.specs.ReceiverState.{next_position};
-ghost use Rattle.net_copies.specs.SenderState.{end_of};
-ghost use Rattle.net_copies.specs.declared.error.CopyError.TheVariants as errors;
-ghost use Rattle.net_copies.specs.CopyState.{Setup, setup_over, Running, ReadFailed, is_written};
-ghost use Rattle.net_copies.specs.CopyResult.{HasCopied};
+ghost use Rattle.net_stream_model.specs.SenderState.{end_of};
+ghost use Rattle.net_stream_model.specs.declared.error.CopyError.TheVariants as errors;
+ghost use Rattle.net_stream_model.specs.CopyState.{Setup, setup_over, Running, ReadFailed, is_written};
+ghost use Rattle.net_stream_model.specs.CopyResult.{HasCopied};
 ghost use Rattle.net_stream.specs.Turns.{Feeds, Passes, Breaks, Begins, IsFresh, counts_of};
 
 use crate::backoff::{first_wait, next_wait};
 use crate::fates::LinkFates;
-use crate::link::Link;
+use crate::link::StreamLink;
 use crate::watch::Watch;
 use net_base::time::Duration;
-use net_copies::{Config, CopyError, Counts, laws};
 use net_io::write_text;
 use net_ring::ManagedSlice;
+use net_stream_model::{Config, CopyError, Counts, laws};
 use std::alloc::Allocator;
 use std::io::{Read, Write};
 
@@ -25,7 +25,7 @@ use std::io::{Read, Write};
 #[derive(Drop)]
 pub(crate) struct Copier<'a, 'f, A: Allocator + Copy> {
     /// The link.
-    pub link: Link<'a, 'f, A>,
+    pub link: StreamLink<'a, 'f, A>,
     /// Whether the reader may have more.
     pub more: bool,
     /// How many bytes were read.
@@ -66,7 +66,7 @@ impl<'a, 'f, A: Allocator + Copy> Copier<'a, 'f, A> {
         ensures fresh { IsFresh result }
     {
         Copier {
-            link: Link::new(
+            link: StreamLink::new(
                 alloc,
                 config.first,
                 config.payload,
@@ -127,7 +127,7 @@ impl<'a, 'f, A: Allocator + Copy> Copier<'a, 'f, A> {
         ensures kind { IfErr result (λ e. e ≡ errors.ReadFailed) }
         ensures chunk { length chunk.new ≡ length chunk.old }
     {
-        let room = self.link.sender.window().min(chunk.len());
+        let room = self.link.sender.room().min(chunk.len());
         if !self.may_read(room) {
             return Ok(());
         }
@@ -157,7 +157,7 @@ impl<'a, 'f, A: Allocator + Copy> Copier<'a, 'f, A> {
     {
         let before = self.first_unacknowledged();
         self.rounds = self.rounds.saturating_add(1);
-        self.link.advance(self.wait);
+        self.link.advance_clock(self.wait);
         if self.link.pass_round().is_err() {
             return Err(CopyError::OutOfMemory);
         }

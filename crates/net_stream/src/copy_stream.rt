@@ -1,15 +1,15 @@
 //! `copy`, from a reader over a link to a writer, and its buffers.
 ghost use Rattle.std.specs.Prelude.{◌≡◌, ◌⊎◌, ◌+◌, ◌<◌, ◌≤◌, length, true, IfOk, IfErr};
 ghost use Rattle.std.specs.Result.{is_ok};
-ghost use Rattle.net_copies.specs.CopyState.{setup_over, setup_of};
-ghost use Rattle.net_copies.specs.CopyResult.{HasPositions, gave_up, HasCopied, HasNotBegun, Copies};
+ghost use Rattle.net_stream_model.specs.CopyState.{setup_over, setup_of};
+ghost use Rattle.net_stream_model.specs.CopyResult.{HasPositions, gave_up, HasCopied, HasNotBegun, Copies};
 
 use crate::copier::Copier;
 use crate::fates::LinkFates;
 use crate::watch::{Nobody, Watch};
-use net_copies::{Config, CopyError, Counts, laws};
 use net_io::flush_after;
 use net_ring::ManagedSlice;
+use net_stream_model::{Config, CopyError, Counts, laws};
 use std::alloc::{AllocError, Allocator};
 use std::io::{Read, Write};
 

@@ -1,9 +1,9 @@
 //! The fates of a link's frames.
 ghost use Rattle.std.specs.Prelude.{◌≡◌};
-ghost use Rattle.net_copies.specs.Fates.{next_fate, after_fate};
+ghost use Rattle.net_stream_model.specs.Fates.{next_fate, after_fate};
 
 use net_base::rand::Rand;
-use net_copies::{Fate, Rates};
+use net_stream_model::{Fate, Rates};
 use std::marker::Model;
 
 /// The fates of the frames to come: those of a list first, and after it those that a generator
@@ -18,7 +18,7 @@ pub struct Fates<'f> {
 }
 
 impl<'f> Model for Fates<'f> {
-    ghost use Rattle.net_copies.specs.Fates.{FatesState};
+    ghost use Rattle.net_stream_model.specs.Fates.{FatesState};
 
     ghost Value = { FatesState };
 

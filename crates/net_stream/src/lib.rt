@@ -1,6 +1,6 @@
 //! A stream of bytes over a link that loses, duplicates and delays frames.
 //!
-//! `net_copies` has links and copies as functions, with their laws; this crate re-exports it, and
+//! `net_stream_model` has links and copies as functions, with their laws; this crate re-exports it, and
 //! has the code. Each call is proved to compute a part of these functions.
 #![tactic(auto)]
 
@@ -17,11 +17,11 @@ mod watch;
 
 pub use copy_stream::{CopyBuffers, copy, copy_watched, copy_with_buffers};
 pub use fates::{Fates, LinkFates};
-pub use frame::{decode, requeue_frame, send_frame};
-pub use link::Link;
-pub use net_copies::laws::{distinct_frames, frames_decode, queue_from_greatest};
-pub use net_copies::{Config, CopyError, Counts, Fate, FrameCounts, Rates, laws};
-pub use path::Path;
+pub use frame::{decode_frame, requeue_frame, send_frame};
+pub use link::StreamLink;
+pub use net_stream_model::laws::{distinct_frames, frames_decode, queue_from_greatest};
+pub use net_stream_model::{Config, CopyError, Counts, Fate, FrameCounts, Rates, laws};
+pub use path::FaultyPath;
 pub use sack_blocks::SackBlocks;
 pub use sender::Sender;
 pub use watch::Watch;

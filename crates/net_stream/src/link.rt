@@ -4,10 +4,10 @@ ghost use Rattle.std.specs.Prelude.{take, drop, slice_index, slice_range};
 ghost use Rattle.net_ring.specs.Managed.{elements};
 ghost use Rattle.net_receiver.specs.ReceiverState.{fresh_receiver, next_position};
 ghost use Rattle.net_receiver.specs.ReceiverState.{receiver_after_read};
-ghost use Rattle.net_copies.specs.SenderState.{sender_state, end_of, room_of, with_written};
-ghost use Rattle.net_copies.specs.Counts.{no_frames};
-ghost use Rattle.net_copies.specs.LinkInvariant.{LinkInvariant};
-ghost use Rattle.net_copies.specs.CopyState.{is_written};
+ghost use Rattle.net_stream_model.specs.SenderState.{sender_state, end_of, room_of, with_written};
+ghost use Rattle.net_stream_model.specs.Counts.{no_frames};
+ghost use Rattle.net_stream_model.specs.LinkInvariant.{LinkInvariant};
+ghost use Rattle.net_stream_model.specs.CopyState.{is_written};
 
 mod deliver;
 mod round;
@@ -15,13 +15,13 @@ mod take_acks;
 mod transmit;
 
 use crate::fates::LinkFates;
-use crate::path::Path;
+use crate::path::FaultyPath;
 use crate::sack_blocks::MOST_SACK_BLOCKS;
 use crate::sender::Sender;
 use net_base::time::{Duration, Instant};
-use net_copies::FrameCounts;
 use net_receiver::{Receiver, laws};
 use net_ring::ManagedSlice;
+use net_stream_model::FrameCounts;
 use std::alloc::Allocator;
 use std::marker::Model;
 
@@ -30,18 +30,18 @@ use std::marker::Model;
 ///
 /// The fields are public so that the sender and the receiver can be asked how many bytes are
 /// queued. A conversation takes two links, one for each direction, since a path carries either
-/// frames or acknowledgements. Time is simulated: a link has its own clock, which `advance` moves
+/// frames or acknowledgements. Time is simulated: a link has its own clock, which `advance_clock` moves
 /// on.
 #[derive(Drop)]
-pub struct Link<'a, 'f, A: Allocator + Copy> {
+pub struct StreamLink<'a, 'f, A: Allocator + Copy> {
     /// The sender.
     pub sender: Sender<'a>,
     /// The receiver. It holds at most as many runs as an acknowledgement has SACK blocks.
     pub receiver: Receiver<'a, MOST_SACK_BLOCKS>,
     /// The path of the frames, from the sender to the receiver.
-    pub forward: Path<'f, A>,
+    pub forward: FaultyPath<'f, A>,
     /// The path of the acknowledgements, from the receiver to the sender.
-    pub reverse: Path<'f, A>,
+    pub reverse: FaultyPath<'f, A>,
     /// The most bytes of a frame's payload; 0 counts as 1.
     pub payload: u32,
     /// The most frames that a round may ever send.
@@ -55,8 +55,8 @@ pub struct Link<'a, 'f, A: Allocator + Copy> {
     pub counts: FrameCounts,
 }
 
-impl<'a, 'f, A: Allocator + Copy> Model for Link<'a, 'f, A> {
-    ghost use Rattle.net_copies.specs.LinkState.{LinkState};
+impl<'a, 'f, A: Allocator + Copy> Model for StreamLink<'a, 'f, A> {
+    ghost use Rattle.net_stream_model.specs.LinkState.{LinkState};
     ghost use Rattle.std.specs.Coded.{codes};
     ghost use Rattle.net_receiver.specs.Parts.{receiver_code};
 
@@ -77,7 +77,7 @@ impl<'a, 'f, A: Allocator + Copy> Model for Link<'a, 'f, A> {
     } };
 }
 
-impl<'a, 'f, A: Allocator + Copy> Link<'a, 'f, A> {
+impl<'a, 'f, A: Allocator + Copy> StreamLink<'a, 'f, A> {
     /// Returns a link on which nothing is in flight. The stream's first byte has position `first`.
     ///
     /// The sender's capacity is the length of `to_send`, and the receiver's that of `to_receive`. The
@@ -104,11 +104,11 @@ impl<'a, 'f, A: Allocator + Copy> Link<'a, 'f, A> {
         } }
         ensures carries { LinkInvariant first [] result }
     {
-        Link {
+        StreamLink {
             sender: Sender::new_at(to_send, first),
             receiver: Receiver::new_at(to_receive, first),
-            forward: Path::new(alloc, fates.frames),
-            reverse: Path::new(alloc, fates.acks),
+            forward: FaultyPath::new(alloc, fates.frames),
+            reverse: FaultyPath::new(alloc, fates.acks),
             payload,
             max_burst: max_burst.max(1),
             burst: max_burst.max(1),
@@ -132,7 +132,7 @@ impl<'a, 'f, A: Allocator + Copy> Link<'a, 'f, A> {
     }
 
     /// Advances the clock by so much, up to 2^64 - 1 microseconds in all.
-    pub fn advance(&mut self, time: Duration)
+    pub fn advance_clock(&mut self, time: Duration)
         ensures state { self.new
             ≡ record self.old { elapsed = min (self.old.elapsed + time) (2 ^ 64 - 1) } }
         ensures carries { (f : ℕ) (w : List ℕ) → LinkInvariant f w self.old → LinkInvariant f w self.new }

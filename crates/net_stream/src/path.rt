@@ -1,15 +1,15 @@
 //! A path of a link.
 ghost use Rattle.std.specs.Prelude.{◌≡◌, ◌+◌, ◌<◌, ◌^◌, ◌++◌, ◌∷◌, [], length};
 ghost use Rattle.std.specs.Prelude.{MatchOption, OnOk, OnErr};
-ghost use Rattle.net_copies.specs.Frames.{frame_of};
-ghost use Rattle.net_copies.specs.Fates.{next_fate, after_fate};
+ghost use Rattle.net_stream_model.specs.Frames.{frame_of};
+ghost use Rattle.net_stream_model.specs.Fates.{next_fate, after_fate};
 
 use crate::fates::Fates;
 use crate::frame::{requeue_frame, send_frame};
 use net_base::phy::loopback::RxToken;
 use net_base::phy::{Device, Loopback, Medium};
 use net_base::time::Instant;
-use net_copies::Fate;
+use net_stream_model::Fate;
 use std::alloc::{AllocError, Allocator};
 use std::marker::Model;
 
@@ -19,26 +19,26 @@ use std::marker::Model;
 /// Contracts see the two lists of frames, each with the next one first, and the fates. Each list is
 /// a loopback device, which takes its memory from the allocator.
 #[derive(Drop)]
-pub struct Path<'f, A: Allocator + Copy> {
+pub struct FaultyPath<'f, A: Allocator + Copy> {
     in_flight: Loopback<A>,
     delayed: Loopback<A>,
     fates: Fates<'f>,
 }
 
-impl<'f, A: Allocator + Copy> Model for Path<'f, A> {
-    ghost use Rattle.net_copies.specs.PathState.{PathState};
+impl<'f, A: Allocator + Copy> Model for FaultyPath<'f, A> {
+    ghost use Rattle.net_stream_model.specs.PathState.{PathState};
 
     ghost Value = { PathState };
 
     ghost view = { λ p. record { in_flight = p.in_flight.frames; delayed = p.delayed.frames; fates = p.fates } };
 }
 
-impl<'f, A: Allocator + Copy> Path<'f, A> {
+impl<'f, A: Allocator + Copy> FaultyPath<'f, A> {
     /// Returns a path with no frames, whose frames will meet these fates.
-    pub fn new(alloc: A, fates: Fates<'f>) -> Path<'f, A>
+    pub fn new(alloc: A, fates: Fates<'f>) -> FaultyPath<'f, A>
         ensures { result ≡ record { in_flight = []; delayed = []; fates = fates.entry } }
     {
-        Path {
+        FaultyPath {
             in_flight: Loopback::new(alloc, Medium::Ip),
             delayed: Loopback::new(alloc, Medium::Ip),
             fates,

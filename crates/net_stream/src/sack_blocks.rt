@@ -4,10 +4,10 @@ ghost use Rattle.std.specs.Prelude.{All, MatchOption, None, Some, min, nat_lt, i
 ghost use Rattle.std.specs.Int.{w64, to_be_bytes};
 ghost use Rattle.net_assembler.specs.Positions.{maximal_runs};
 ghost use Rattle.net_receiver.specs.ReceiverState.{domain};
-ghost use Rattle.net_copies.specs.SackBlocks.{count_from, next_start, greatest_end, is_full};
-ghost use Rattle.net_copies.specs.SackBlocks.{most_sack_blocks, block_bytes, first_block, blocks_of};
+ghost use Rattle.net_stream_model.specs.SackBlocks.{count_from, next_start, greatest_end, is_full};
+ghost use Rattle.net_stream_model.specs.SackBlocks.{most_sack_blocks, block_bytes, first_block, blocks_of};
 
-use crate::frame::decode;
+use crate::frame::decode_frame;
 use net_receiver::Receiver;
 use std::marker::Model;
 
@@ -138,8 +138,8 @@ fn decode_block(bytes: &[u8]) -> Option<(u64, u64, &[u8])>
     ensures { MatchOption result (first_block bytes.now ≡ None)
         (λ parts. first_block bytes.now ≡ Some (parts.0, parts.1, parts.2.now)) }
 {
-    let (start, rest) = decode(bytes)?;
-    let (end, rest) = decode(rest)?;
+    let (start, rest) = decode_frame(bytes)?;
+    let (end, rest) = decode_frame(rest)?;
     Some((start, end, rest))
 }
 

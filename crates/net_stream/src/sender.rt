@@ -3,9 +3,9 @@ ghost use Rattle.std.specs.Prelude.{◌≡◌, ◌+◌, ◌-◌, ◌<◌, ◌≤
 ghost use Rattle.std.specs.Prelude.{length, take, drop, min, slice_index_or};
 ghost use Rattle.net_ring.specs.Managed.{elements};
 ghost use Rattle.net_receiver.specs.OneStream.{MatchesStream};
-ghost use Rattle.net_copies.specs.SenderState.{sender_state, end_of, room_of, contiguous_end, with_written};
-ghost use Rattle.net_copies.specs.SenderState.{after_ack, spared_from, next_block, stop_of, Sends};
-ghost use Rattle.net_copies.specs.SackBlocks.{is_full};
+ghost use Rattle.net_stream_model.specs.SenderState.{sender_state, end_of, room_of, contiguous_end, with_written};
+ghost use Rattle.net_stream_model.specs.SenderState.{after_ack, spared_from, next_block, stop_of, Sends};
+ghost use Rattle.net_stream_model.specs.SackBlocks.{is_full};
 
 use crate::sack_blocks::SackBlocks;
 use net_receiver::laws;
@@ -31,7 +31,7 @@ pub struct Sender<'a> {
 impl<'a> Model for Sender<'a> {
     ghost use Rattle.std.specs.Prelude.{◌+◌, ◌-◌, ◌<◌, ◌^◌, length};
     ghost use Rattle.net_ring.specs.Ring.{queue, capacity};
-    ghost use Rattle.net_copies.specs.SenderState.{SenderState, sender_state};
+    ghost use Rattle.net_stream_model.specs.SenderState.{SenderState, sender_state};
 
     ghost Value = { SenderState };
 
@@ -98,21 +98,21 @@ impl<'a> Sender<'a> {
 
     /// Returns how many bytes `write` would take: as many as have room in the storage and below the
     /// last position.
-    pub fn window(&self) -> usize
+    pub fn room(&self) -> usize
         ensures { result ≡ room_of self.now }
     {
         let positions = u64::MAX - self.end();
         (self.ring.window() as u64).min(positions) as usize
     }
 
-    /// Enqueues the first of these bytes, as many as `window` says, and returns how many.
+    /// Enqueues the first of these bytes, as many as `room` says, and returns how many.
     pub fn write(&mut self, bytes: &[u8]) -> usize
         ensures count { result ≡ min (length bytes.now) (room_of self.old) }
         ensures state { self.new ≡ with_written self.old (take result bytes.now) }
         ensures sends { (f : ℕ) (w : List ℕ) → Sends f w self.old
             → Sends f (w ++ take result bytes.now) self.new }
     {
-        let count = bytes.len().min(self.window());
+        let count = bytes.len().min(self.room());
         self.ring.enqueue_slice(&bytes[..count])
     }
 

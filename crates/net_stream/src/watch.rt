@@ -1,5 +1,5 @@
 //! `Watch`, for watching a copy.
-use net_copies::Counts;
+use net_stream_model::Counts;
 
 /// An observer of a copy's progress.
 pub trait Watch {

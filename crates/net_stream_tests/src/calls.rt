@@ -5,7 +5,7 @@ use net_base::phy::RxToken;
 use net_base::time::Instant;
 use net_ring::ManagedSlice;
 use net_stream::{
-    Config, CopyBuffers, CopyError, Counts, Fate, Fates, Link, LinkFates, Rates, Watch, copy,
+    Config, CopyBuffers, CopyError, Counts, Fate, Fates, LinkFates, Rates, StreamLink, Watch, copy,
     copy_watched, copy_with_buffers,
 };
 use std::alloc::{AllocError, Allocator};
@@ -144,8 +144,8 @@ pub fn link_by<'a, A: Allocator + Copy>(
     setup: &Setup,
     to_send: ManagedSlice<'a, u8>,
     to_receive: ManagedSlice<'a, u8>,
-) -> Link<'a, 'static, A> {
-    Link::new(
+) -> StreamLink<'a, 'static, A> {
+    StreamLink::new(
         alloc,
         setup.config.first,
         setup.config.payload,
@@ -158,20 +158,23 @@ pub fn link_by<'a, A: Allocator + Copy>(
 
 /// Takes the next frame in flight to the receiver, and returns it.
 pub fn next_frame<A: Allocator + Copy>(
-    link: &mut Link<'_, '_, A>,
+    link: &mut StreamLink<'_, '_, A>,
 ) -> Option<net_base::phy::loopback::RxToken<A>> {
     link.forward.take(start())
 }
 
 /// Takes the next delayed frame to the receiver, and returns it.
 pub fn next_delayed_frame<A: Allocator + Copy>(
-    link: &mut Link<'_, '_, A>,
+    link: &mut StreamLink<'_, '_, A>,
 ) -> Option<net_base::phy::loopback::RxToken<A>> {
     link.forward.take_delayed(start())
 }
 
 /// Takes the next delayed acknowledgement, and returns whether it has these bytes.
-pub fn is_next_delayed_ack<A: Allocator + Copy>(link: &mut Link<'_, '_, A>, bytes: &[u8]) -> bool {
+pub fn is_next_delayed_ack<A: Allocator + Copy>(
+    link: &mut StreamLink<'_, '_, A>,
+    bytes: &[u8],
+) -> bool {
     match link.reverse.take_delayed(start()) {
         Some(token) => token.frame() == bytes,
         None => false,
@@ -179,13 +182,13 @@ pub fn is_next_delayed_ack<A: Allocator + Copy>(link: &mut Link<'_, '_, A>, byte
 }
 
 /// Returns whether no acknowledgement is delayed.
-pub fn has_no_delayed_ack<A: Allocator + Copy>(link: &mut Link<'_, '_, A>) -> bool {
+pub fn has_no_delayed_ack<A: Allocator + Copy>(link: &mut StreamLink<'_, '_, A>) -> bool {
     matches!(link.reverse.take_delayed(start()), None)
 }
 
 /// Puts a delayed frame to the receiver.
 pub fn put_delayed_frame<A: Allocator + Copy>(
-    link: &mut Link<'_, '_, A>,
+    link: &mut StreamLink<'_, '_, A>,
     frame: &[u8],
 ) -> Result<(), AllocError> {
     link.forward.put_delayed(start(), frame)
@@ -193,7 +196,7 @@ pub fn put_delayed_frame<A: Allocator + Copy>(
 
 /// Puts a delayed acknowledgement.
 pub fn put_delayed_ack<A: Allocator + Copy>(
-    link: &mut Link<'_, '_, A>,
+    link: &mut StreamLink<'_, '_, A>,
     frame: &[u8],
 ) -> Result<(), AllocError> {
     link.reverse.put_delayed(start(), frame)

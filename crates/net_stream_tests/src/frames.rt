@@ -5,7 +5,7 @@ use crate::calls::{PERFECT, start};
 use crate::counted::pattern;
 use net_base::phy::{Device, Loopback, Medium, RxToken};
 use net_stream::{
-    Counts, Fate, Fates, FrameCounts, Path, Rates, decode, requeue_frame, send_frame,
+    Counts, Fate, Fates, FaultyPath, FrameCounts, Rates, decode_frame, requeue_frame, send_frame,
 };
 use net_testing::{NEVER, Refusing, refuse_each};
 use std::alloc::{AllocError, Allocator, Global};
@@ -93,7 +93,7 @@ fn refused_memory_sends_no_frame(rt: HostRuntime) {
 /// whether it takes one request, of as many bytes as it has.
 fn takes_its_bytes(alloc: Global, bytes: &[u8], is_delayed: bool) -> bool {
     let memory = Refusing::new(alloc, NEVER);
-    let mut path = Path::new(&memory, Fates::new(&[], 1, PERFECT));
+    let mut path = FaultyPath::new(&memory, Fates::new(&[], 1, PERFECT));
     let is_first = path.send(start(), 1, b"ab").is_ok() && path.put_delayed(start(), b"c").is_ok();
     let (requests, asked) = (memory.requests(), memory.bytes());
     let (is_put, len) = if is_delayed {
@@ -133,7 +133,7 @@ const DECODED: [(&[u8], Option<(u64, usize)>); 4] = [
 
 /// Returns whether bytes decode so, and the payload is what follows the position.
 fn decodes_so((bytes, wanted): &(&[u8], Option<(u64, usize)>)) -> bool {
-    match (decode(bytes), wanted) {
+    match (decode_frame(bytes), wanted) {
         (Some((pos, payload)), Some((wanted, len))) => {
             pos == *wanted && payload.len() == *len && bytes.ends_with(payload)
         }
@@ -221,7 +221,7 @@ fn fates_are_listed_and_then_drawn(rt: HostRuntime) {
 }
 
 /// Takes the next frame in flight, and returns whether it has these bytes.
-fn takes(path: &mut Path<'_, Global>, bytes: &[u8]) -> bool {
+fn takes(path: &mut FaultyPath<'_, Global>, bytes: &[u8]) -> bool {
     match path.take(start()) {
         Some(token) => token.frame() == bytes,
         None => false,
@@ -229,7 +229,7 @@ fn takes(path: &mut Path<'_, Global>, bytes: &[u8]) -> bool {
 }
 
 /// Takes the next delayed frame, and returns whether it has these bytes.
-fn takes_delayed(path: &mut Path<'_, Global>, bytes: &[u8]) -> bool {
+fn takes_delayed(path: &mut FaultyPath<'_, Global>, bytes: &[u8]) -> bool {
     match path.take_delayed(start()) {
         Some(token) => token.frame() == bytes,
         None => false,
@@ -237,7 +237,7 @@ fn takes_delayed(path: &mut Path<'_, Global>, bytes: &[u8]) -> bool {
 }
 
 /// Returns whether two frames are sent and two are put among the delayed ones.
-fn puts_four(path: &mut Path<'_, Global>, delayed: &[u8]) -> bool {
+fn puts_four(path: &mut FaultyPath<'_, Global>, delayed: &[u8]) -> bool {
     path.send(start(), 1, b"ab").is_ok()
         && path.put_delayed(start(), delayed).is_ok()
         && path.put_delayed(start(), b"z").is_ok()
@@ -245,7 +245,7 @@ fn puts_four(path: &mut Path<'_, Global>, delayed: &[u8]) -> bool {
 }
 
 /// Returns whether four frames are put, and taken in turns of the two lists.
-fn keeps_apart(path: &mut Path<'_, Global>, delayed: &[u8]) -> bool {
+fn keeps_apart(path: &mut FaultyPath<'_, Global>, delayed: &[u8]) -> bool {
     puts_four(path, delayed)
         && takes_delayed(path, delayed)
         && takes(path, &[0, 0, 0, 0, 0, 0, 0, 1, 97, 98])
@@ -258,7 +258,7 @@ fn keeps_apart(path: &mut Path<'_, Global>, delayed: &[u8]) -> bool {
 #[test]
 fn a_path_keeps_its_two_lists_apart(rt: HostRuntime) -> Result<(), AllocError> {
     let delayed = pattern(rt.alloc(), 65_536)?;
-    let mut path = Path::new(rt.alloc(), Fates::new(&[Fate::Lost], 1, PERFECT));
+    let mut path = FaultyPath::new(rt.alloc(), Fates::new(&[Fate::Lost], 1, PERFECT));
     assert_holds(&rt, keeps_apart(&mut path, &delayed), 0);
     assert_holds(
         &rt,

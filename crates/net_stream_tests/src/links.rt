@@ -9,7 +9,7 @@ use crate::counted::pattern;
 use net_base::phy::RxToken;
 use net_base::time::Duration;
 use net_ring::ManagedSlice;
-use net_stream::{Config, Fate, FrameCounts, Link, Rates, SackBlocks, decode};
+use net_stream::{Config, Fate, FrameCounts, Rates, SackBlocks, StreamLink, decode_frame};
 use net_testing::{Refusing, refuse_each};
 use std::alloc::{AllocError, Allocator, Global};
 
@@ -61,7 +61,7 @@ enum Step {
 }
 
 /// Returns whether a round leaves these positions.
-fn passes(link: &mut Link<'_, '_, Global>, next: u64, head: u64, end: u64) -> bool {
+fn passes(link: &mut StreamLink<'_, '_, Global>, next: u64, head: u64, end: u64) -> bool {
     link.pass_round().is_ok()
         && link.receiver.next() == next
         && link.sender.first_unacknowledged() == head
@@ -69,13 +69,13 @@ fn passes(link: &mut Link<'_, '_, Global>, next: u64, head: u64, end: u64) -> bo
 }
 
 /// Returns whether these bytes are read, and no more.
-fn reads(link: &mut Link<'_, '_, Global>, bytes: &[u8]) -> bool {
+fn reads(link: &mut StreamLink<'_, '_, Global>, bytes: &[u8]) -> bool {
     let mut into = [0u8; 16];
     link.read(&mut into) == bytes.len() && into.starts_with(bytes)
 }
 
 /// Returns whether a call gives what it should.
-fn does(link: &mut Link<'_, '_, Global>, step: &Step) -> bool {
+fn does(link: &mut StreamLink<'_, '_, Global>, step: &Step) -> bool {
     match step {
         Step::Write(bytes, count) => link.write(bytes) == *count,
         Step::Frame(bytes) => put_delayed_frame(link, bytes).is_ok(),
@@ -194,20 +194,20 @@ fn a_clock_stops_at_its_last_moment(rt: HostRuntime) {
     let setup = setup((&[], PERFECT), (&[], PERFECT), (0, 3, 100));
     let none = ManagedSlice::Borrowed(&mut []);
     let mut link = link_by(rt.alloc(), &setup, none, ManagedSlice::Borrowed(&mut []));
-    link.advance(Duration::from_micros(7));
-    link.advance(Duration::from_micros(u64::MAX - 9));
+    link.advance_clock(Duration::from_micros(7));
+    link.advance_clock(Duration::from_micros(u64::MAX - 9));
     assert_holds(&rt, link.elapsed == Duration::from_micros(u64::MAX - 2), 0);
-    link.advance(Duration::from_micros(3));
+    link.advance_clock(Duration::from_micros(3));
     assert_holds(&rt, link.elapsed == Duration::from_micros(u64::MAX), 1);
 }
 
 /// Takes the next frame of a link over which everything is delayed, and returns whether it has this
 /// position and so many bytes of payload, which are those of the sender.
-fn is_next(link: &mut Link<'_, '_, Global>, pos: u64, len: usize) -> bool {
+fn is_next(link: &mut StreamLink<'_, '_, Global>, pos: u64, len: usize) -> bool {
     let Some(token) = next_delayed_frame(link) else {
         return false;
     };
-    match decode(token.frame()) {
+    match decode_frame(token.frame()) {
         Some((at, payload)) => at == pos
             && payload.len() == len
             && payload == link.sender.peek_at(at, len),
@@ -217,7 +217,7 @@ fn is_next(link: &mut Link<'_, '_, Global>, pos: u64, len: usize) -> bool {
 
 /// Returns whether a round of a link over which everything is delayed sends these frames and no
 /// more.
-fn sends(link: &mut Link<'_, '_, Global>, frames: &[(u64, usize)]) -> bool {
+fn sends(link: &mut StreamLink<'_, '_, Global>, frames: &[(u64, usize)]) -> bool {
     if link.pass_round().is_err() {
         return false;
     }
@@ -368,7 +368,7 @@ fn each_second(alloc: Global, count: u64) -> Result<Vec<u8>, AllocError> {
 }
 
 /// Returns whether the next frames are so many single bytes, at positions 0, 2, ...
-fn are_single(link: &mut Link<'_, '_, Global>, count: u64) -> bool {
+fn are_single(link: &mut StreamLink<'_, '_, Global>, count: u64) -> bool {
     for i in 0..count.min(100) {
         if !is_next(link, 2 * i, 1) {
             return false;
@@ -378,7 +378,7 @@ fn are_single(link: &mut Link<'_, '_, Global>, count: u64) -> bool {
 }
 
 /// Returns whether these frames are next, and no more.
-fn are_next(link: &mut Link<'_, '_, Global>, frames: &[(u64, usize)]) -> bool {
+fn are_next(link: &mut StreamLink<'_, '_, Global>, frames: &[(u64, usize)]) -> bool {
     for (pos, len) in frames {
         if !is_next(link, *pos, *len) {
             return false;
@@ -400,13 +400,13 @@ fn all_sack_blocks_stop_a_round(rt: HostRuntime) {
 }
 
 /// Returns how many bytes the frames in flight carry, if each begins where the one before it ends.
-fn carried<A: Allocator + Copy>(link: &mut Link<'_, '_, A>) -> Option<u64> {
+fn carried<A: Allocator + Copy>(link: &mut StreamLink<'_, '_, A>) -> Option<u64> {
     let mut end = 0u64;
     for _turn in 0..6u32 {
         let Some(token) = next_frame(link) else {
             return Some(end);
         };
-        let (pos, payload) = decode(token.frame())?;
+        let (pos, payload) = decode_frame(token.frame())?;
         if pos != end {
             return None;
         }

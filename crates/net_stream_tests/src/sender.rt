@@ -36,7 +36,7 @@ fn does(sender: &mut Sender<'_>, step: &Step) -> bool {
         Step::Write(bytes, count) => sender.write(bytes) == *count,
         Step::Peek(pos, most, bytes) => sender.peek_at(*pos, *most) == *bytes,
         Step::Acknowledge(next, head, end) => is_acknowledged(sender, *next, *head, *end),
-        Step::Window(window) => sender.window() == *window,
+        Step::Window(window) => sender.room() == *window,
     }
 }
 
@@ -116,7 +116,7 @@ fn part(elements: &[u8], from: usize, to: usize) -> &[u8] {
 /// Returns whether a sender of as many bytes as these lends all of them, and after an
 /// acknowledgement the rest of them and the bytes that are written then.
 fn lends_all(sender: &mut Sender<'_>, bytes: &[u8]) -> bool {
-    let is_full = sender.write(bytes) == bytes.len() && sender.window() == 0;
+    let is_full = sender.write(bytes) == bytes.len() && sender.room() == 0;
     let is_lent = sender.peek_at(0, usize::MAX) == bytes
         && sender.peek_at(1_000, 65_528) == part(bytes, 1_000, 66_528);
     sender.acknowledge(200_000, SackBlocks::new());

@@ -1,18 +1,18 @@
 //! Steps 2 and 3 of a round: frames arrive at the receiver, which acknowledges what it has.
 ghost use Rattle.std.specs.Prelude.{◌≡◌, ◌+◌, ℕ, length, true, false, OnOk, OnErr, IfOk, ◌⊎◌};
-ghost use Rattle.net_copies.specs.LinkState.{times, take_in, come, came, meet, acknowledge_all};
-ghost use Rattle.net_copies.specs.LinkState.{delayed_frame, delayed_frames, pass_frame, pass_frames};
-ghost use Rattle.net_copies.specs.LinkState.{StopsDelayed, StopsFrame};
+ghost use Rattle.net_stream_model.specs.LinkState.{times, take_in, come, came, meet, acknowledge_all};
+ghost use Rattle.net_stream_model.specs.LinkState.{delayed_frame, delayed_frames, pass_frame, pass_frames};
+ghost use Rattle.net_stream_model.specs.LinkState.{StopsDelayed, StopsFrame};
 
-use super::Link;
-use crate::frame::decode;
+use super::StreamLink;
+use crate::frame::decode_frame;
 use crate::sack_blocks::{MOST_SACK_BLOCKS, SACK_BLOCKS_LEN, list_held};
 use net_base::phy::RxToken;
-use net_copies::Fate;
 use net_receiver::Receiver;
+use net_stream_model::Fate;
 use std::alloc::{AllocError, Allocator};
 
-impl<'a, 'f, A: Allocator + Copy> Link<'a, 'f, A> {
+impl<'a, 'f, A: Allocator + Copy> StreamLink<'a, 'f, A> {
     /// Sends an acknowledgement of all that the receiver has: the first missing position, and the
     /// first 32 held runs as SACK blocks.
     pub(super) fn acknowledge_all(&mut self) -> Result<(), AllocError>
@@ -31,7 +31,7 @@ impl<'a, 'f, A: Allocator + Copy> Link<'a, 'f, A> {
         ensures ok { OnOk result (self.new ≡ come self.old frame.now) }
         ensures err { OnErr result (self.new ≡ take_in self.old frame.now) }
     {
-        let Some((pos, payload)) = decode(frame) else {
+        let Some((pos, payload)) = decode_frame(frame) else {
             return Ok(());
         };
         if !Receiver::<MOST_SACK_BLOCKS>::fits(pos, payload.len()) {

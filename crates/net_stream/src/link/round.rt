@@ -1,11 +1,11 @@
 //! A round of a link, and how many frames the next one may send.
 ghost use Rattle.std.specs.Prelude.{◌≡◌, ℕ, List, OnOk, OnErr};
-ghost use Rattle.net_copies.specs.LinkState.{next_burst, round, StopsRound};
-ghost use Rattle.net_copies.specs.LinkInvariant.{LinkInvariant};
+ghost use Rattle.net_stream_model.specs.LinkState.{next_burst, round, StopsRound};
+ghost use Rattle.net_stream_model.specs.LinkInvariant.{LinkInvariant};
 
-use super::Link;
+use super::StreamLink;
 use crate::sack_blocks::MOST_SACK_BLOCKS;
-use net_copies::laws;
+use net_stream_model::laws;
 use std::alloc::{AllocError, Allocator};
 
 /// Returns the burst of the next round. If there are as many SACK blocks as an acknowledgement has
@@ -20,7 +20,7 @@ fn burst_after(burst: u32, max_burst: u32, full: bool) -> u32
     max_burst.min(burst.saturating_add(MOST_SACK_BLOCKS as u32))
 }
 
-impl<'a, 'f, A: Allocator + Copy> Link<'a, 'f, A> {
+impl<'a, 'f, A: Allocator + Copy> StreamLink<'a, 'f, A> {
     /// Passes a round: the sender sends its queued bytes that are in no SACK block, delayed frames
     /// of the round before arrive, the frames in flight meet their fates, the receiver acknowledges
     /// once more what it has, delayed acknowledgements of the round before arrive, and those in
@@ -32,7 +32,7 @@ impl<'a, 'f, A: Allocator + Copy> Link<'a, 'f, A> {
     ///
     /// ```rust
     /// link.pass_round()?;
-    /// link.advance(Duration::from_millis(10));
+    /// link.advance_clock(Duration::from_millis(10));
     /// ```
     pub fn pass_round(&mut self) -> Result<(), AllocError>
         ensures state { OnOk result (self.new ≡ round self.old) }

@@ -1,23 +1,23 @@
 //! Step 5 of a round: acknowledgements arrive at the sender.
 ghost use Rattle.std.specs.Prelude.{◌≡◌, ◌+◌, ℕ, length, true, false, OnOk, OnErr, IfOk};
-ghost use Rattle.net_copies.specs.LinkState.{times, acknowledge, came_ack, meet_ack};
-ghost use Rattle.net_copies.specs.LinkState.{delayed_ack, delayed_acks, pass_ack, pass_acks, StopsAck};
+ghost use Rattle.net_stream_model.specs.LinkState.{times, acknowledge, came_ack, meet_ack};
+ghost use Rattle.net_stream_model.specs.LinkState.{delayed_ack, delayed_acks, pass_ack, pass_acks, StopsAck};
 
-use super::Link;
-use crate::frame::decode;
+use super::StreamLink;
+use crate::frame::decode_frame;
 use crate::sack_blocks::SackBlocks;
 use net_base::phy::RxToken;
-use net_copies::Fate;
+use net_stream_model::Fate;
 use std::alloc::{AllocError, Allocator};
 
-impl<'a, 'f, A: Allocator + Copy> Link<'a, 'f, A> {
+impl<'a, 'f, A: Allocator + Copy> StreamLink<'a, 'f, A> {
     /// Hands an acknowledgement to the sender. An acknowledgement that is too short for a position,
     /// or whose position is below the sender's `first_unacknowledged` or above its `end`, changes
     /// nothing.
     fn acknowledge(&mut self, frame: &[u8])
         ensures state { self.new ≡ acknowledge self.old frame.now }
     {
-        let Some((next, blocks)) = decode(frame) else {
+        let Some((next, blocks)) = decode_frame(frame) else {
             return;
         };
         self.sender.acknowledge(next, SackBlocks::of_bytes(blocks));

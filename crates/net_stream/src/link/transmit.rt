@@ -1,12 +1,12 @@
 //! Step 1 of a round: the sender's frames are sent.
 ghost use Rattle.std.specs.Prelude.{◌≡◌, ◌≤◌, ◌<◌, ◌^◌, ℕ, OnOk, OnErr, IfOk};
-ghost use Rattle.net_copies.specs.SenderState.{end_of};
-ghost use Rattle.net_copies.specs.LinkState.{times, start, part, part_at, transmit};
+ghost use Rattle.net_stream_model.specs.SenderState.{end_of};
+ghost use Rattle.net_stream_model.specs.LinkState.{times, start, part, part_at, transmit};
 
-use super::Link;
+use super::StreamLink;
 use std::alloc::{AllocError, Allocator};
 
-impl<'a, 'f, A: Allocator + Copy> Link<'a, 'f, A> {
+impl<'a, 'f, A: Allocator + Copy> StreamLink<'a, 'f, A> {
     /// Spares the byte at `pos` and those after it in its SACK block; if no block has it, sends a frame.
     /// Returns the position after them, and how many frames are left.
     fn transmit_part(&mut self, pos: u64, left: u32) -> Result<(u64, u32), AllocError>

@@ -1,8 +1,8 @@
 use Rattle.std.proofs.Common.{length, ap, subst, ◌∙◌, arith, inl, inr}
-use Rattle.net_copies.specs.CopyState.{Setup, setup_over}
-use Rattle.net_copies.specs.CopyResult.{HasCopied}
+use Rattle.net_stream_model.specs.CopyState.{Setup, setup_over}
+use Rattle.net_stream_model.specs.CopyResult.{HasCopied}
 use Rattle.net_stream.proofs.Copied.{not_begun}
-use Rattle.net_copies.proofs.Written.{enough, unbegun}
+use Rattle.net_stream_model.proofs.Written.{enough, unbegun}
 use Rattle.net_stream.proofs.copy_stream.copy_watched.Goals as goal
 
 pub returns-in_default-clause-exact : goal.returns-in_default-clause-exact

@@ -1,9 +1,9 @@
 use Rattle.std.proofs.Common.{length, sym, subst, arith}
-use Rattle.net_copies.specs.declared.counts.Counts.{Counts}
-use Rattle.net_copies.specs.CopyState.{setup_over}
-use Rattle.net_copies.specs.CopyResult.{HasCopied}
+use Rattle.net_stream_model.specs.declared.counts.Counts.{Counts}
+use Rattle.net_stream_model.specs.CopyState.{setup_over}
+use Rattle.net_stream_model.specs.CopyResult.{HasCopied}
 use Rattle.net_stream.proofs.Copied.{flushed}
-use Rattle.net_copies.proofs.Written.{short}
+use Rattle.net_stream_model.proofs.Written.{short}
 use Rattle.net_stream.proofs.copy_stream.turns_over.Goals as goal
 
 pub returns-clause-exact : goal.returns-clause-exact

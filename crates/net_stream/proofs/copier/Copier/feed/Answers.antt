@@ -3,9 +3,9 @@ use Rattle.std.specs.Io.KnownBytes.{Consumes}
 use Rattle.std.proofs.lemmas.Bool.{both_ways}
 use Rattle.std.proofs.lemmas.List.{take_all, append-nil}
 use Rattle.net_io.proofs.KnownBytes.{Consumes-none, Keeps-same}
-use Rattle.net_copies.specs.SenderState.{room_of, with_written}
+use Rattle.net_stream_model.specs.SenderState.{room_of, with_written}
 use Rattle.net_stream.specs.declared.copier.Copier.{Copier}
-use Rattle.net_copies.specs.CopyState.{Running, ReadFailed, room_for, feed}
+use Rattle.net_stream_model.specs.CopyState.{Running, ReadFailed, room_for, feed}
 use Rattle.net_stream.specs.Turns.{copy_state_of}
 use Rattle.net_stream.proofs.Copied.{fed, unfed, may_some, read_some}
 use Rattle.net_stream.proofs.copier.Copier.feed.Goals as goal
@@ -15,7 +15,7 @@ returns-then-not-may_read-clause-ok g c =
     let copy = c.args.self.now in
     let now = g.R.Read.remaining c.args.reader.now in
     let room : c.min-room.result ≡ room_for (length c.args.chunk.now) copy.link = c.min-room.ensures
-    ∙ ap (λ n. min n (length c.args.chunk.now)) (c.window.ensures ∙ ap (λ (v : Copier g.row.A.Denot). room_of v.link.sender) c.self.view_is) in
+    ∙ ap (λ n. min n (length c.args.chunk.now)) (c.room.ensures ∙ ap (λ (v : Copier g.row.A.Denot). room_of v.link.sender) c.self.view_is) in
     record {
       reads = [];
       consumed = Consumes-none now now (Keeps-same now);
@@ -33,7 +33,7 @@ returns-in-Ok-eq0-clause-ok g c =
     let now = g.R.Read.remaining c.args.reader.now in
     let next = g.R.Read.remaining c.read.new.self in
     let room : c.min-room.result ≡ room_for (length c.args.chunk.now) copy.link = c.min-room.ensures
-    ∙ ap (λ n. min n (length c.args.chunk.now)) (c.window.ensures ∙ ap (λ (v : Copier g.row.A.Denot). room_of v.link.sender) c.self.view_is) in
+    ∙ ap (λ n. min n (length c.args.chunk.now)) (c.room.ensures ∙ ap (λ (v : Copier g.row.A.Denot). room_of v.link.sender) c.self.view_is) in
     let some = (may_some copy.more _ c.min-room.result c.may_read.result c.may_read.ensures c.if-not-may_read.false).1 in
     let lent = c.split_at_mut-part.ensures.front_len in
     let none = c.in-Ok-eq0.field-0-test in
@@ -56,7 +56,7 @@ returns-in-Ok-clause-ok g c =
     let next = g.R.Read.remaining c.read.new.self in
     let view = ap (λ (v : Copier g.row.A.Denot). room_of v.link.sender) c.self.view_is in
     let room : c.min-room.result ≡ room_for (length c.args.chunk.now) copy.link = c.min-room.ensures
-    ∙ ap (λ n. min n (length c.args.chunk.now)) (c.window.ensures ∙ view) in
+    ∙ ap (λ n. min n (length c.args.chunk.now)) (c.room.ensures ∙ view) in
     let may = may_some copy.more _ c.min-room.result c.may_read.result c.may_read.ensures c.if-not-may_read.false in
     let lent = c.split_at_mut-part.ensures.front_len in
     let xs = take c.in-Ok.count c.read.new.buf in
@@ -90,7 +90,7 @@ returns-in-Err-clause-err g c =
     let now = g.R.Read.remaining c.args.reader.now in
     let next = g.R.Read.remaining c.read.new.self in
     let room : c.min-room.result ≡ room_for (length c.args.chunk.now) copy.link = c.min-room.ensures
-    ∙ ap (λ n. min n (length c.args.chunk.now)) (c.window.ensures ∙ ap (λ (v : Copier g.row.A.Denot). room_of v.link.sender) c.self.view_is) in
+    ∙ ap (λ n. min n (length c.args.chunk.now)) (c.room.ensures ∙ ap (λ (v : Copier g.row.A.Denot). room_of v.link.sender) c.self.view_is) in
     let may = may_some copy.more _ c.min-room.result c.may_read.result c.may_read.ensures c.if-not-may_read.false in
     record {
       reads = [];

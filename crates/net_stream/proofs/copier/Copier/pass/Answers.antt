@@ -1,9 +1,9 @@
 use Rattle.std.proofs.Common.{◌≡◌, ◌+◌, ◌-◌, ◌*◌, ◌^◌, ◌<◌, ◌++◌, ◌||◌, [], min, cond, not, nat_eq, nat_lt, ℕ, List, length, take, refl, sym, ap, subst, ◌∙◌, arith, length-take}
 use Rattle.std.specs.Io.KnownBytes.{Appends}
 use Rattle.net_io.proofs.KnownBytes.{Appends-none, Keeps-same}
-use Rattle.net_copies.specs.Counts.{round_trip_time, longest_wait}
-use Rattle.net_copies.specs.LinkState.{LinkState, round, StopsRound}
-use Rattle.net_copies.specs.CopyState.{Running, hand_out}
+use Rattle.net_stream_model.specs.Counts.{round_trip_time, longest_wait}
+use Rattle.net_stream_model.specs.LinkState.{LinkState, round, StopsRound}
+use Rattle.net_stream_model.specs.CopyState.{Running, hand_out}
 use Rattle.net_stream.specs.Turns.{copy_state_of}
 use Rattle.net_stream.proofs.Copied.{handed, was_ok, was_err}
 use Rattle.net_stream.proofs.copier.Copier.pass.Goals as goal
@@ -19,7 +19,7 @@ returns-clause-ok g c =
     let count = c.read-count.ensures.count in
     let size : length bytes ≡ c.read-count.result = ap length is ∙ length-take chunk u.receiver.queue ∙ sym count in
     let link : u ≡ round (record copy.link { elapsed = min (copy.link.elapsed + copy.wait) (2 ^ 64 - 1) }) =
-    was_ok _ c.pass_round.result (sym c.is_err.ensures.value ∙ c.if-is_err.false) c.pass_round.ensures.state ∙ ap round c.advance.ensures.state in
+    was_ok _ c.pass_round.result (sym c.is_err.ensures.value ∙ c.if-is_err.false) c.pass_round.ensures.state ∙ ap round c.advance_clock.ensures.state in
     let progress : (not (nat_eq u.sender.first_unacknowledged copy.link.sender.first_unacknowledged) || nat_lt 0 (min chunk (length u.receiver.queue))) ≡ c.has_made_progress-progress.result =
     sym (c.has_made_progress-progress.ensures
     ∙ (λ i. not (nat_eq (ap (λ (l : LinkState). l.sender.first_unacknowledged) c.read-count.ensures.state i) (c.first_unacknowledged-before.ensures i)) || nat_lt 0 (count i))) in
@@ -48,7 +48,7 @@ returns-then-is_err-clause-err g c =
       link = c.pass_round.new.self;
       written = [];
       part = λ given before. (
-        subst (λ (l : LinkState). StopsRound l c.pass_round.new.self) c.advance.ensures.state
+        subst (λ (l : LinkState). StopsRound l c.pass_round.new.self) c.advance_clock.ensures.state
             (was_err _ c.pass_round.result (sym c.is_err.ensures.value ∙ c.if-is_err.true) c.pass_round.ensures.err),
         refl,
       );
@@ -67,7 +67,7 @@ returns-in-Err-clause-err g c =
     let chunk = length c.args.chunk.now in
     let is = handed chunk c.read-count.result u.receiver.queue c.args.chunk.now c.read-count.new.into c.read-count.ensures.count c.read-count.ensures.into in
     let link : u ≡ round (record copy.link { elapsed = min (copy.link.elapsed + copy.wait) (2 ^ 64 - 1) }) =
-    was_ok _ c.pass_round.result (sym c.is_err.ensures.value ∙ c.if-is_err.false) c.pass_round.ensures.state ∙ ap round c.advance.ensures.state in
+    was_ok _ c.pass_round.result (sym c.is_err.ensures.value ∙ c.if-is_err.false) c.pass_round.ensures.state ∙ ap round c.advance_clock.ensures.state in
     let less = subst (λ (xs : List ℕ). c.in-Err.written < length xs) is c.in-Err.ensures.err.0 in
     let counted = c.saturating_add-self-in-Err.ensures in
     let size : length (take c.in-Err.written (take chunk u.receiver.queue)) ≡ c.in-Err.written =

@@ -1,10 +1,10 @@
 use Rattle.std.proofs.Common.{◌≡◌, ◌<◌, ◌+◌, ◌++◌, [], length, Err, refl, sym, ap, subst, ◌∙◌, arith}
 use Rattle.std.proofs.lemmas.Result.{err_from_is_err_and}
-use Rattle.net_copies.specs.CopyState.{CopyState, Running, Done, GaveUp, ReadFailed}
+use Rattle.net_stream_model.specs.CopyState.{CopyState, Running, Done, GaveUp, ReadFailed}
 use Rattle.net_stream.specs.Turns.{copy_state_of, Passes, Breaks}
 use Rattle.net_stream.proofs.Copied.{none_yet, fed_into, one_more, last, part_of, read_failed, broke_off, is_over, gives_up, is_done, smaller}
-use Rattle.net_copies.proofs.Fuel.{far, Moves, progresses}
-use Rattle.net_copies.proofs.GoesOn.{fed_leaves}
+use Rattle.net_stream_model.proofs.Fuel.{far, Moves, progresses}
+use Rattle.net_stream_model.proofs.GoesOn.{fed_leaves}
 use Rattle.net_stream.proofs.copier.Copier.run.Goals as goal
 
 pub turns-init : goal.turns-init

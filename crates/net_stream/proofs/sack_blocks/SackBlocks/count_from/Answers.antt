@@ -1,8 +1,8 @@
 use Rattle.std.proofs.Common.{◌≡◌, ◌+◌, ◌-◌, ◌∙◌, sym, ap, arith, take, drop, get_or, false, nat_le, nat_lt, ℕ}
 use Rattle.std.proofs.lemmas.Bool.{cond-false, and_left, and_right, le-ltb, lt-leb}
 use Rattle.net_assembler.specs.Positions.{lies_in}
-use Rattle.net_copies.specs.SackBlocks.{count_from}
-use Rattle.net_copies.proofs.Spared.{rest_of_first}
+use Rattle.net_stream_model.specs.SackBlocks.{count_from}
+use Rattle.net_stream_model.proofs.Spared.{rest_of_first}
 use Rattle.net_stream.proofs.sack_blocks.SackBlocks.count_from.Goals as goal
 use Rattle.net_stream.proofs.sack_blocks.SackBlocks.count_from.Goals.{else-start-pos-via-then-start-pos+else-pos-end, else-start-pos-via-else-start-pos}
 

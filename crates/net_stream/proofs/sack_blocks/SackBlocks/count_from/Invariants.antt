@@ -1,5 +1,5 @@
 use Rattle.std.proofs.Common.{◌≡◌, take, drop}
-use Rattle.net_copies.specs.SackBlocks.{count_from}
+use Rattle.net_stream_model.specs.SackBlocks.{count_from}
 use Rattle.net_stream.proofs.sack_blocks.SackBlocks.count_from.Given as goal
 
 -- none of the ranges so far has the position

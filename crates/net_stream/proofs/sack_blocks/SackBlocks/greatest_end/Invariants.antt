@@ -1,5 +1,5 @@
 use Rattle.std.proofs.Common.{◌≡◌, take, drop}
-use Rattle.net_copies.specs.SackBlocks.{greatest_end}
+use Rattle.net_stream_model.specs.SackBlocks.{greatest_end}
 use Rattle.net_stream.proofs.sack_blocks.SackBlocks.greatest_end.Given as goal
 
 -- what the other ranges make of the greatest end so far is what all make of the position

@@ -1,5 +1,5 @@
 use Rattle.std.proofs.Common.{◌≡◌, take, drop}
-use Rattle.net_copies.specs.SackBlocks.{next_start}
+use Rattle.net_stream_model.specs.SackBlocks.{next_start}
 use Rattle.net_stream.proofs.sack_blocks.SackBlocks.next_start.Given as goal
 
 -- what the other ranges make of the nearest start so far is what all make of the limit

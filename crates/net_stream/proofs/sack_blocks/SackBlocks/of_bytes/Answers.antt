@@ -1,7 +1,7 @@
 use Rattle.std.proofs.Common.{◌≡◌, ℕ, List, ◌+◌, ◌-◌, ◌++◌, ◌∷◌, [], ◌∙◌, length, sym, ap, arith, append_assoc, length-append}
 use Rattle.std.proofs.lemmas.List.{append-nil}
-use Rattle.net_copies.specs.SackBlocks.{most_sack_blocks, blocks_of}
-use Rattle.net_copies.proofs.Ranges.{ranges_stop, ranges_none, ranges_more}
+use Rattle.net_stream_model.specs.SackBlocks.{most_sack_blocks, blocks_of}
+use Rattle.net_stream_model.proofs.Ranges.{ranges_stop, ranges_none, ranges_more}
 use Rattle.net_stream.proofs.sack_blocks.SackBlocks.of_bytes.Goals as goal
 
 pub returns-in_default : goal.returns-in_default

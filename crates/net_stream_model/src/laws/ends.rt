@@ -1,0 +1,99 @@
+//! Laws: when a copy gives up, and what it counts.
+ghost use Rattle.net_stream_model.specs.Promises.{GivesUpAfter, NeverLater, GivesUpIfFailed};
+ghost use Rattle.net_stream_model.specs.Promises.{NeverByDelays, EndsIfAllCome, DoneIfAllCome, FewRounds};
+ghost use Rattle.net_stream_model.specs.Promises.{CountsRounds, CountsEachFate, GivesUpCounted, EnoughFailed};
+ghost use Rattle.net_stream_model.specs.Promises.{Unfinished, EnoughRounds, RoundsAtOnce, ExactRounds};
+ghost use Rattle.net_stream_model.specs.Round.{RoundDelivers};
+ghost use Rattle.net_stream_model.specs.Stuck.{KnownOfRounds};
+
+use super::streams;
+use net_receiver::laws;
+
+/// States the facts from which the laws of rounds follow.
+fn known_of_rounds()
+    ensures { KnownOfRounds }
+{
+    streams::known();
+    laws::numbers();
+    laws::completion();
+    laws::soundness();
+}
+
+/// States that a copy gives up after `rounds` rounds in a row without progress, and never later.
+pub fn gives_up()
+    ensures after { GivesUpAfter }
+    ensures later { NeverLater }
+{}
+
+/// States that a copy gives up only if in each of its last `rounds` rounds the first frame or all
+/// acknowledgements failed to arrive.
+pub fn gives_up_if_failed()
+    ensures { GivesUpIfFailed }
+{
+    known_of_rounds();
+}
+
+/// States that a copy never gives up if nothing is lost, whatever is delayed or duplicated, and its
+/// `rounds` is above 1.
+pub fn delays()
+    ensures { NeverByDelays }
+{
+    known_of_rounds();
+}
+
+/// States that over a link that loses and delays nothing a copy never gives up, and that it is done if the
+/// reads come to the input's end.
+pub fn all_come()
+    ensures never { EndsIfAllCome }
+    ensures done { DoneIfAllCome }
+{
+    known_of_rounds();
+}
+
+/// States that a copy makes at most two rounds for each byte that was read, and one for each frame
+/// or acknowledgement that was lost or delayed.
+pub fn rounds()
+    ensures { FewRounds }
+{
+    known_of_rounds();
+}
+
+/// States what a copy counts: a round for each turn after which it goes on, and the fate of each
+/// frame.
+pub fn counts()
+    ensures rounds { CountsRounds }
+    ensures fates { CountsEachFate }
+{
+    known_of_rounds();
+}
+
+/// States what a copy that gives up has counted: at least `rounds` rounds, at least `rounds` frames
+/// and acknowledgements that were lost or delayed, and at least `rounds - 1` that were lost. If it
+/// read less than the sender has room for, it hasn't written all that it read.
+pub fn gives_up_counted()
+    ensures rounds { GivesUpCounted }
+    ensures failed { EnoughFailed }
+    ensures unfinished { Unfinished }
+{
+    known_of_rounds();
+}
+
+/// States that a copy that is done read no more than a chunk a round, and that over a link that
+/// loses and delays nothing each round wrote some bytes. If a round has room for the bytes of a
+/// read, and each read fills its room, a copy makes as many rounds as reads (`exact`).
+pub fn enough_rounds()
+    ensures least { EnoughRounds }
+    ensures at_once { RoundsAtOnce }
+    ensures exact { ExactRounds }
+{
+    known_of_rounds();
+}
+
+/// States what a round delivers if all its frames and acknowledgements arrive, and the receiver's free window
+/// has room for everything that the sender has queued: the receiver has all that was sent, and the sender's
+/// queue is the rest.
+pub fn round_delivers()
+    ensures { RoundDelivers }
+{
+    known_of_rounds();
+}
