@@ -1,9 +1,9 @@
 -- The steps of a copier are those of a copy.
-use Rattle.std.proofs.Common.{◌≡◌, ◌⊎◌, ◌&&◌, ℕ, suc, ◌+◌, ◌-◌, ◌*◌, ◌≤◌, ◌<◌, ◌^◌, min, not, nat_lt, nat_le, Bool, true, false, Option, Result, Ok, Err, OnOk, OnErr, List, [], ◌∷◌, ◌++◌, length, take, drop, refl, sym, ap, subst, ◌∙◌, arith, inl, inr, ⊎_elim, append_assoc, length-take, length-append}
+use Rattle.std.proofs.Common.{◌≡◌, ◌⊎◌, ◌&&◌, ℕ, suc, ◌+◌, ◌-◌, ◌*◌, ◌≤◌, ◌<◌, ◌^◌, min, not, nat_lt, Bool, true, false, Option, Result, Ok, Err, OnOk, OnErr, List, [], ◌∷◌, ◌++◌, length, take, drop, refl, sym, ap, subst, ◌∙◌, arith, inl, inr, ⊎_elim, append_assoc, length-take, length-append}
 use Rattle.std.specs.Result.{is_err}
 use Rattle.std.specs.Prelude.{IsOk}
 use Rattle.std.specs.Io.KnownBytes.{Consumes, Appends, Keeps}
-use Rattle.std.proofs.lemmas.Bool.{both_ways, cond-true, cond-false, and_parts, ltb-true, le-ltb, lt-leb, le-leb}
+use Rattle.std.proofs.lemmas.Bool.{both_ways, cond-false, le-ltb}
 use Rattle.std.proofs.lemmas.List.{append-nil, take_all}
 use Rattle.std.proofs.Math.Seq.{take-append_seam}
 use Rattle.net_io.proofs.KnownBytes.{Appends-none, Appends-two, Appends-kept, Consumes-none, Consumes-two, Keeps-same}
@@ -19,7 +19,7 @@ use Rattle.net_stream_model.specs.Counts.{more, no_counts}
 use Rattle.net_stream_model.specs.Promises.{FinalIs}
 use Rattle.net_stream_model.specs.CopyResult.{EndsRound, Copied, CopiedPart, HasCopied, HasNotBegun}
 use Rattle.net_stream.specs.Turns.{copy_state_of, counts_of, Begins, Feeds, Passes, Breaks, CopiedSoFar}
-use Rattle.net_stream_model.proofs.Fuel.{Moves}
+use Rattle.net_stream_model.proofs.Prefix.{Moves}
 
 -- a call that had no error
 pub was_ok : {T E : Type 0} (P : Type 0) (r : Result T E) → is_err r ≡ false → OnOk r P → P
@@ -33,21 +33,15 @@ was_err P (Err x) e p = p
 -- a read is made
 pub fed : (chunk room : ℕ) (c : CopyState) (may : Bool) → room ≡ room_for chunk c.link →
     may ≡ (c.more && nat_lt 0 room && is_written c.link) → may ≡ true → feed chunk c ≡ read_of room c c.reads
-fed chunk room c may at is on =
-    cond-true _ (read_of (room_for chunk c.link) c c.reads) c
-    (sym (ap (λ n. c.more && nat_lt 0 n && is_written c.link) at) ∙ sym is ∙ on)
-    ∙ ap (λ n. read_of n c c.reads) (sym at)
+fed chunk room c may at is on = grind arith
 
 pub unfed : (chunk room : ℕ) (c : CopyState) (may : Bool) → room ≡ room_for chunk c.link →
     may ≡ (c.more && nat_lt 0 room && is_written c.link) → may ≡ false → feed chunk c ≡ c
-unfed chunk room c may at is on =
-    cond-false _ (read_of (room_for chunk c.link) c c.reads) c
-    (sym (ap (λ n. c.more && nat_lt 0 n && is_written c.link) at) ∙ sym is ∙ on)
+unfed chunk room c may at is on = grind arith
 
-pub may_some : (more written : Bool) (room : ℕ) (may : Bool) → may ≡ (more && nat_lt 0 room && written) → may ≡ true → (more ≡ true) × (0 < room)
-may_some more written room may is on =
-    let both = and_parts more (nat_lt 0 room) (and_parts (more && nat_lt 0 room) written (sym is ∙ on)).0 in
-    (both.0, ltb-true 0 room both.1)
+pub may_some : (more written : Bool) (room : ℕ) (may : Bool) → may ≡ (more && nat_lt 0 room && written) → may ≡ true →
+    (more ≡ true) × (0 < room)
+may_some more written room may is on = grind arith
 
 -- a read gave no more than it had room for
 pub read_some : (room : ℕ) (c : CopyState) (xs : List ℕ) (reads : List (List ℕ)) → 0 < length xs → length xs ≤ room →
@@ -65,36 +59,35 @@ handed n count queue into into' is e =
 
 -- a copy that is done has no more to read
 pub is_done : (more written : Bool) → (not more && written) ≡ true → more ≡ false
-is_done true written e = absurd (both_ways false refl e)
-is_done false written e = refl
+is_done more written e = grind arith
 
 -- the measure of turns
 pub smaller : (rounds far far' stalled stalled' : ℕ) → rounds < 2 ^ 64 → far < 2 ^ 65 → stalled < rounds →
     Moves far far' stalled stalled' →
     (2 ^ 66 - far') * 2 ^ 64 + (rounds - stalled') < (2 ^ 66 - far) * 2 ^ 64 + (rounds - stalled)
-smaller rounds far far' stalled stalled' word below few (inl l) = (let k = l.0 in omega arith)
-smaller rounds far far' stalled stalled' word below few (inr h) = (let l = h.0 in let e = h.1 in omega arith)
+smaller rounds far far' stalled stalled' word below few moves = omega arith
 
 -- ---- a turn
-pub turn_by : (rounds chunk : ℕ) (s t u v : CopyState) → while_running (feed chunk) s ≡ t → while_running (decide rounds) t ≡ u → while_running (pass chunk) u ≡ v →
+pub turn_by : (rounds chunk : ℕ) (s t u v : CopyState) → while_running (feed chunk) s ≡ t →
+    while_running (decide rounds) t ≡ u → while_running (pass chunk) u ≡ v →
     turn rounds chunk s ≡ v
 unfolding turn
 turn_by rounds chunk s t u v p q r =
     ap (λ x. while_running (pass chunk) (while_running (decide rounds) x)) p ∙ ap (while_running (pass chunk)) q ∙ r
 
 pub goes_on : (rounds : ℕ) (c : CopyState) → (not c.more && is_written c.link) ≡ false → c.stalled < rounds → decide rounds c ≡ c
-goes_on rounds c on few =
-    cond-false (not c.more && is_written c.link) (record c { status = Done }) _ on ∙ cond-false (nat_le rounds c.stalled) (record c { status = GaveUp }) c (lt-leb rounds c.stalled few)
+goes_on rounds c on few = grind arith
 
 pub is_over : (rounds : ℕ) (c : CopyState) → (not c.more && is_written c.link) ≡ true → decide rounds c ≡ record c { status = Done }
-is_over rounds c done = cond-true (not c.more && is_written c.link) (record c { status = Done }) _ done
+is_over rounds c done = grind arith
 
-pub gives_up : (rounds : ℕ) (c : CopyState) → (not c.more && is_written c.link) ≡ false → rounds ≤ c.stalled → decide rounds c ≡ record c { status = GaveUp }
-gives_up rounds c on many =
-    cond-false (not c.more && is_written c.link) (record c { status = Done }) _ on ∙ cond-true (nat_le rounds c.stalled) (record c { status = GaveUp }) c (le-leb rounds c.stalled many)
+pub gives_up : (rounds : ℕ) (c : CopyState) → (not c.more && is_written c.link) ≡ false → rounds ≤ c.stalled →
+    decide rounds c ≡ record c { status = GaveUp }
+gives_up rounds c on many = grind arith
 
 -- a read into a chunk of this length
-pub fed_into : {A : Type 0} (k chunk : ℕ) (a b : Copier A) (has next : Option (List ℕ)) (ended : Status) → k ≡ chunk → Feeds k a b has next ended → Feeds chunk a b has next ended
+pub fed_into : {A : Type 0} (k chunk : ℕ) (a b : Copier A) (has next : Option (List ℕ)) (ended : Status) → k ≡ chunk →
+    Feeds k a b has next ended → Feeds chunk a b has next ended
 fed_into k chunk a b has next ended same f = subst (λ n. Feeds n a b has next ended) same f
 
 concat_both : (xs ys : List (List ℕ)) → concat (xs ++ ys) ≡ concat xs ++ concat ys
@@ -273,11 +266,8 @@ kept s (Ok t) had has held holds keeps counts k p = copied_kept s Done had has h
 kept s (Err errors.GaveUp) had has held holds keeps counts k p = copied_kept s GaveUp had has held holds keeps counts k p
 kept s (Err errors.ReadFailed) had has held holds keeps counts k p = copied_kept s ReadFailed had has held holds keeps counts k p
 kept s (Err errors.OutOfMemory) had has held holds keeps counts k p = part_kept s errors.OutOfMemory had has held holds keeps counts k p
-kept s (Err errors.WriteFailed) had has held holds keeps counts k p =
-    ⊎_elim {C = CopiedPart s errors.WriteFailed had has held keeps counts ⊎ Copied s Done had has held keeps counts}
-    (λ (q : CopiedPart s errors.WriteFailed had has held holds counts). inl (part_kept s errors.WriteFailed had has held holds keeps counts k q))
-    (λ (q : Copied s Done had has held holds counts). inr (copied_kept s Done had has held holds keeps counts k q))
-    p
+kept s (Err errors.WriteFailed) had has held holds keeps counts k (inl p) = inl (part_kept s errors.WriteFailed had has held holds keeps counts k p)
+kept s (Err errors.WriteFailed) had has held holds keeps counts k (inr p) = inr (copied_kept s Done had has held holds keeps counts k p)
 
 was_done : {T : Type 0} (s : Setup) (r : Result T CopyError) (had has held holds : Option (List ℕ)) (counts : Counts) → IsOk r →
     HasCopied s r had has held holds counts → Copied s Done had has held holds counts
@@ -286,13 +276,10 @@ was_done s (Err e) had has held holds counts ok p = absurd (both_ways false refl
 
 pub flushed : {T : Type 0} (s : Setup) (ended result : Result T CopyError) (had has held holds keeps : Option (List ℕ)) (counts : Counts) →
     Keeps holds keeps → FlushesAfter errors.WriteFailed ended result → HasCopied s ended had has held holds counts → HasCopied s result had has held keeps counts
-flushed s ended result had has held holds keeps counts k flush p =
-    let q = kept s ended had has held holds keeps counts k p in
-    ⊎_elim {C = HasCopied s result had has held keeps counts}
-    (λ (e : result ≡ ended). subst (λ r. HasCopied s r had has held keeps counts) (sym e) q)
-    (λ (e : IsOk ended × (result ≡ Err errors.WriteFailed)). subst (λ r. HasCopied s r had has held keeps counts) (sym e.1)
-    (inr (was_done s ended had has held keeps counts e.0 q)))
-    flush
+flushed s ended result had has held holds keeps counts k (inl e) p =
+    subst (λ r. HasCopied s r had has held keeps counts) (sym e) (kept s ended had has held holds keeps counts k p)
+flushed s ended result had has held holds keeps counts k (inr e) p = subst (λ r. HasCopied s r had has held keeps counts) (sym e.1)
+    (inr (was_done s ended had has held keeps counts e.0 (kept s ended had has held holds keeps counts k p)))
 
 -- a copy without memory
 pub not_begun : {T : Type 0} (result : Result T CopyError) (had held holds : Option (List ℕ)) (counts : Counts) →

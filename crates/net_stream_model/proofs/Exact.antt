@@ -1,39 +1,124 @@
--- How many rounds a copy makes where nothing is lost or delayed, and a round has room for what a read gives.
-use Rattle.std.proofs.Common.{◌≡◌, ℕ, suc, ◌+◌, ◌-◌, ◌*◌, ◌≤◌, ◌<◌, min, cond, nat_lt, true, false, List, [], ◌∷◌, ◌++◌, length, take, All, refl, sym, ap, subst, ◌∙◌, arith, ⊎_elim, length-append, length-take, ◌^◌, ◌&&◌, append_assoc, length-drop, drop, zero, le_trans, nat_eq}
-use Rattle.std.proofs.lemmas.Bool.{both_ways, cond-true, and_from, cases_lt, cond-false, eq-eqb, lt-ltb, le-ltb}
-use Rattle.std.proofs.lemmas.List.Elements.{All-head, All-tail}
-use Rattle.std.proofs.lemmas.List.{append-nil}
-use Rattle.net_assembler.specs.Positions.{IsMaximalRun, maximal_runs}
-use Rattle.net_receiver.specs.ReceiverState.{ReceiverState, IsSound, next_position, domain}
-use Rattle.net_receiver.specs.OneStream.{ReceivesFrom}
-use Rattle.net_stream_model.specs.SenderState.{SenderState, end_of, contiguous_end}
-use Rattle.net_stream_model.specs.Frames.{Part, frames_from, part_bytes}
-use Rattle.net_stream_model.specs.SackBlocks.{is_sacked, count_from, next_start, greatest_end, is_full, most_sack_blocks, block_bytes, blocks_of}
-use Rattle.net_stream_model.specs.PathState.{PathState, ack_of}
+-- What a round delivers, and how many rounds a copy makes, where nothing is lost or delayed.
+use Rattle.std.proofs.Common.{◌≡◌, ℕ, ◌+◌, ◌≤◌, ◌<◌, ◌^◌, nat_lt, true, false, List, [], ◌∷◌, ◌++◌, length, All, Some}
+use Rattle.std.proofs.Common.{sym, ap, subst, ◌∙◌, arith, le_trans, length-take, length-append, append_assoc, suc, ◌-◌}
+use Rattle.std.proofs.Common.{◌*◌, min, cond, take, refl, ⊎_elim, length-drop, drop, zero, nat_eq}
+use Rattle.std.proofs.Math.Seq.{drop-append_seam}
+use Rattle.std.proofs.lemmas.Bool.{ltb-false, both_ways, cond-true, eq-eqb, ltb-true}
+use Rattle.std.proofs.lemmas.List.Elements.{All-head, All-tail, All-drop}
+use Rattle.net_receiver.specs.Rules.{Segment}
+use Rattle.net_receiver.specs.ReceiverState.{ReceiverState, IsSound, next_position, receiver_after_command, domain}
+use Rattle.net_receiver.specs.OneStream.{MatchesStream, ReceivesFrom}
+use Rattle.net_receiver.specs.Retransmission.{HasByteAt}
+use Rattle.net_stream_model.specs.SenderState.{end_of, at_least_one, SenderState, contiguous_end, stop_of}
+use Rattle.net_stream_model.specs.Frames.{Part, frame_of, frames_from, part_bytes, segment_of, FrameMatches}
+use Rattle.net_stream_model.specs.SackBlocks.{most_sack_blocks, is_sacked, count_from, next_start, greatest_end}
+use Rattle.net_stream_model.specs.SackBlocks.{is_full, block_bytes, blocks_of}
+use Rattle.net_stream_model.specs.Fates.{NextCome, AllCome}
+use Rattle.net_stream_model.specs.PathState.{receiver_after, PathState}
+use Rattle.net_stream_model.specs.LinkInvariant.{HasAllOf, LinkInvariant}
 use Rattle.net_stream_model.specs.Transmission.{AreSparedIfSacked, HasSize, part_end, HaveEnds, SendsRound}
-use Rattle.net_stream_model.specs.SenderState.{stop_of, at_least_one}
-use Rattle.net_stream_model.specs.Fates.{AllCome}
-use Rattle.net_stream_model.specs.Arrivals.{acks_of}
-use Rattle.net_stream_model.specs.Reach.{after_ack_frames}
+use Rattle.net_stream_model.specs.Reach.{limit_of}
+use Rattle.net_stream_model.specs.Arrivals.{receiver_after_all}
+use Rattle.net_stream_model.specs.Round.{HasRoomFor, Passes, RoundDelivers}
 use Rattle.net_stream_model.specs.LinkState.{LinkState, round, next_burst}
-use Rattle.net_stream_model.specs.Round.{HasRoomFor}
-use Rattle.net_stream_model.specs.Streams.{LinkInvariantFits, Writes}
 use Rattle.net_stream_model.specs.Stuck.{KnownOfRounds}
-use Rattle.net_stream_model.specs.CopyState.{Setup, CopyState, Running, Done, is_written, room_for, with_read, read_of, feed, waited, pass, turn, after}
-use Rattle.net_stream_model.specs.Promises.{before_end, most_read, HasRoomAtOnce, ExactRounds}
-use Rattle.net_stream_model.proofs.Delivers.{round_delivers}
+use Rattle.net_stream_model.proofs.Kept.{at_parts, round_keeps_invariant, held_within, in_stream, contains_held}
+use Rattle.net_stream_model.proofs.Kept.{ranges_stop}
+use Rattle.net_stream_model.proofs.Steps.{split, all_arrive, brought_append, says_ends, no_gap, next_come}
 use Rattle.net_stream_model.proofs.Passed.{round_sends}
-use Rattle.net_stream_model.proofs.CountedTurns.{at_end, done_none}
-use Rattle.net_stream_model.proofs.GoesOn.{asks, ends, GoesOn, goes_on}
+use Rattle.net_stream_model.proofs.Stuck.{coming_all, head_meets, arrived_grows, arrived_limit, brought_grows}
+use Rattle.net_stream_model.proofs.Stuck.{brought_limit, round_keeps, all_after}
+use Rattle.net_stream_model.proofs.Sent.{all_sent}
+use Rattle.net_stream_model.proofs.StuckRounds.{enough_rounds, rounds_at_once, all_sound, Stays, all_stays, fed_stays, at_end, done_none}
+use Rattle.net_assembler.specs.Positions.{IsMaximalRun, maximal_runs}
+use Rattle.net_stream_model.specs.Streams.{LinkInvariantFits, Writes}
+use Rattle.net_stream_model.specs.CopyState.{Setup, CopyState, Running, Done, is_written, room_for, with_read, waited}
+use Rattle.net_stream_model.specs.CopyState.{pass, turn, after}
+use Rattle.net_stream_model.specs.Promises.{most_read, HasRoomAtOnce, ExactRounds}
+use Rattle.net_stream_model.proofs.Turns.{written_from, asks, asks_from, fed_by, ends, GoesOn, goes_on}
+use Rattle.net_stream_model.proofs.Written.{one_end}
 use Rattle.net_stream_model.proofs.Prefix.{SoFar, so_far, fed_so_far}
-use Rattle.net_stream_model.proofs.Reached.{next_come}
-use Rattle.net_stream_model.proofs.Stuck.{round_keeps, all_after, acked_last}
-use Rattle.net_stream_model.proofs.StuckRounds.{numbers, all_sound, Stays, all_stays, fed_stays}
-use Rattle.net_stream_model.proofs.Kept.{held_within, round_keeps_invariant}
-use Rattle.net_stream_model.proofs.Steps.{split}
-use Rattle.net_stream_model.proofs.Ranges.{contains_held, ranges_stop}
-use Rattle.net_stream_model.proofs.RoundCount.{coming_all}
 
+module _ (known : KnownOfRounds) (f : ℕ) (w : List ℕ) where
+  -- a frame that begins where nothing before it is missing brings the receiver to its end
+  one_reaches : (r : ReceiverState) (pos : ℕ) (xs : List ℕ) → MatchesStream f w pos xs → f + length w ≤ limit_of r → f + length w < 2 ^ 64 →
+      pos ≤ next_position r → pos + length xs ≤ next_position (receiver_after most_sack_blocks r (Some (pos, xs)))
+  one_reaches r pos xs says room fits near =
+      let end = says_ends f w pos xs says in
+      let far = known.order most_sack_blocks r pos xs near in
+      split (λ (u : ReceiverState). next_position r ≤ next_position u → pos + length xs ≤ next_position u) (nat_lt (pos + length xs) (2 ^ 64))
+      (receiver_after_command most_sack_blocks r (Segment pos xs)) r (λ word more. omega arith)
+      (λ past more. omega (arith, ltb-false (pos + length xs) (2 ^ 64) past)) (arrived_grows known most_sack_blocks r (Some (pos, xs)))
+
+  all_have : (r : ReceiverState) (frames : List (List ℕ)) (p : ℕ) → HasByteAt r p → HasByteAt (receiver_after_all most_sack_blocks r frames) p
+  all_have r frames p = all_arrive (λ v. HasByteAt v p) most_sack_blocks (λ v pos xs. known.known.has most_sack_blocks v (Segment pos xs) p) r frames
+
+  -- the frames of parts that follow one another do so, if the receiver has the positions that are spared
+  parts_reach : (ranges : List (ℕ × ℕ)) (b : ℕ) (parts : List Part) (r : ReceiverState) → IsSound most_sack_blocks r → HasAllOf r ranges →
+      AreSparedIfSacked ranges b parts → All (FrameMatches f w) (frames_from b parts) → f + length w ≤ limit_of r → f + length w < 2 ^ 64 →
+      b + length (part_bytes parts) < 2 ^ 64 → b ≤ next_position r →
+      b + length (part_bytes parts) ≤ next_position (receiver_after_all most_sack_blocks r (frames_from b parts))
+  parts_reach ranges b [] r sound had marked says room fits word low = omega arith
+  parts_reach ranges b ((true, xs) ∷ parts) r sound had marked says room fits word low =
+      let both = length-append xs (part_bytes parts) in
+      let near = no_gap most_sack_blocks r ranges (b + length xs) sound had (λ q from to. marked.0 q (omega arith) (omega arith)) in
+      let far = parts_reach ranges (b + length xs) parts r sound had marked.1 says room fits (omega arith) near in
+      omega arith
+  parts_reach ranges b ((false, xs) ∷ parts) r sound had marked says room fits word low =
+      let both = length-append xs (part_bytes parts) in
+      let frame = frame_of b xs in
+      let others = frames_from (b + length xs) parts in
+      let u = receiver_after most_sack_blocks r (segment_of frame) in
+      let at = known.known.decode b xs (omega arith) in
+      let near = subst (λ o. b + length xs ≤ next_position (receiver_after most_sack_blocks r o)) (sym at)
+      (one_reaches r b xs (All-head (FrameMatches f w) frame others says b xs at) room fits low) in
+      let far = parts_reach ranges (b + length xs) parts u (all_sound known.sound r (frame ∷ []) sound) (λ p h. all_have r (frame ∷ []) p (had p h)) marked.1
+      (All-tail (FrameMatches f w) frame others says) (omega (arith, arrived_limit known most_sack_blocks r (segment_of frame))) fits (omega arith) near in
+      omega arith
+
+module _ (known : KnownOfRounds) (s : LinkState) (p : Passes s (round s)) (sound : IsSound most_sack_blocks s.receiver) (fits : end_of s.sender < 2 ^ 64) where
+  delivers : (f : ℕ) (w : List ℕ) → LinkInvariant f w s → HasRoomFor s →
+      NextCome (length p.sent.in_flight) s.forward.fates → NextCome (length p.acks) s.reverse.fates →
+      All (FrameMatches f w) p.sent.in_flight →
+      (s.sender.first_unacknowledged + p.n ≤ next_position (round s).receiver) × ((round s).sender.first_unacknowledged ≡ next_position (round s).receiver)
+      × (p.n ≡ length s.sender.queue → (next_position (round s).receiver ≡ end_of s.sender) × (length (round s).sender.queue ≡ 0))
+  delivers f w carries room come come_reverse says =
+      let m = round s in
+      let r = s.receiver in
+      let before = s.forward.delayed ++ s.forward.in_flight in
+      let r1 = receiver_after_all most_sack_blocks r before in
+      let frames = frames_from s.sender.first_unacknowledged p.all.prefix.parts in
+      let sent : p.sent.in_flight ≡ s.forward.in_flight ++ frames = ap (λ t. t.in_flight) p.all.prefix.sent in
+      let came : p.came ≡ before ++ frames = p.coming ∙ ap (λ l. s.forward.delayed ++ l) (coming_all s.forward.fates p.sent.in_flight come ∙ sent)
+      ∙ sym (append_assoc s.forward.delayed s.forward.in_flight frames) in
+      let received : m.receiver ≡ receiver_after_all most_sack_blocks r1 frames =
+      p.received ∙ ap (receiver_after_all most_sack_blocks r) came ∙ brought_append most_sack_blocks r before frames in
+      let grows = brought_grows known most_sack_blocks r before in
+      let limit = brought_limit known most_sack_blocks r before in
+      let size : length (part_bytes p.all.prefix.parts) ≡ p.n = omega (arith, ap length p.all.prefix.all, length-take p.n s.sender.queue) in
+      let these = subst (All (FrameMatches f w)) (drop-append_seam s.forward.in_flight frames)
+      (All-drop (FrameMatches f w) (length s.forward.in_flight) (s.forward.in_flight ++ frames) (subst (All (FrameMatches f w)) sent says)) in
+      let far = parts_reach known f w s.sender.sack_blocks s.sender.first_unacknowledged p.all.prefix.parts r1 (all_sound known.sound r before sound)
+      (λ q h. all_have known f w r before q (carries.sack_blocks q h)) p.all.prefix.marked these (omega arith) (omega arith) (omega arith) (le_trans carries.behind grows) in
+      let next = ap next_position received in
+      let after = round_keeps_invariant known.known f w s (record { way = carries; fits = fits }) in
+      let stream = in_stream known.known.queue f w m.receiver after.way.receives in
+      let met : m.sender.first_unacknowledged ≡ next_position m.receiver =
+      ap (λ v. v.first_unacknowledged) (head_meets known s m p come_reverse after.way.behind (omega arith) fits).1 in
+      (omega arith, met, λ all. omega (arith, (round_keeps s m p known).end))
+
+pub round_delivers : KnownOfRounds → RoundDelivers
+round_delivers known s counted sound fits =
+    let round = round_sends s counted in
+    let p = round.passes in
+    record {
+      passed = p;
+      delivers = λ f w carries room come come_reverse. delivers known s p sound fits f w carries room come come_reverse
+          (subst (All (FrameMatches f w)) (sym round.in_flight) (at_parts known.known f w (length s.sender.queue) s (record { way = carries; fits = fits })).carries.way.coming);
+      all = all_sent s.sender (at_least_one s.payload) (at_least_one s.burst) p.n s.forward p.sent p.all;
+    }
+
+-- ======== How many rounds a copy makes where nothing is lost or delayed, and a round has room for what a read gives
 module _ (v : SenderState) (most : ℕ) (none : v.sack_blocks ≡ []) (far : end_of v ≤ v.wraps_at) where
   part_is : (p : ℕ) → part_end v most p ≡ min (p + most) (end_of v)
   part_is p =
@@ -54,13 +139,13 @@ module _ (v : SenderState) (most : ℕ) (none : v.sack_blocks ≡ []) (far : end
       let long = length-append xs (part_bytes parts) in
       further (end_of v) p (length xs) (length (frames_from (p + length xs) parts)) (length (part_bytes parts)) (length (xs ++ part_bytes parts)) end rest long
     where
-      further : (e p x n b l : ℕ) → p + x ≡ min (p + most) e → min e (p + x + n * most) ≤ p + x + b → l ≡ x + b → min e (p + suc n * most) ≤ p + l
+      further : (e p x n b l : ℕ) → p + x ≡ min (p + most) e → min e (p + x + n * most) ≤ p + x + b → l ≡ x + b →
+          min e (p + suc n * most) ≤ p + l
       further e p x n b l end rest long = omega arith
 
   -- so that enough frames send all
   pub all_parts : (burst n : ℕ) (old new : PathState) → SendsRound v most burst n old new → length v.queue ≤ burst * most → n ≡ length v.queue
   all_parts burst n old new sent few =
-      let within = sent.prefix.within in
       ⊎_elim {C = n ≡ length v.queue}
       (λ (l : stop_of v ≤ v.first_unacknowledged + n).
       let stop : stop_of v ≡ end_of v = (λ i. cond (is_full (none i)) (min (end_of v) (greatest_end (none i) v.first_unacknowledged + 1)) (end_of v)) in
@@ -74,7 +159,8 @@ module _ (v : SenderState) (most : ℕ) (none : v.sack_blocks ≡ []) (far : end
       sent.stop
 
 -- a receiver that has all of the stream holds nothing
-no_runs : (known : KnownOfRounds) (f : ℕ) (w : List ℕ) (r : ReceiverState) → IsSound most_sack_blocks r → ReceivesFrom f w r → next_position r ≡ f + length w →
+no_runs : (known : KnownOfRounds) (f : ℕ) (w : List ℕ) (r : ReceiverState) → IsSound most_sack_blocks r →
+    ReceivesFrom f w r → next_position r ≡ f + length w →
     maximal_runs (domain r.held) ≡ []
 no_runs known f w r sound from all = by (maximal_runs (domain r.held)) (known.known.maximal (domain r.held)).maximal
   where
@@ -82,7 +168,6 @@ no_runs known f w r sound from all = by (maximal_runs (domain r.held)) (known.kn
     by [] every = refl
     by (run ∷ runs) every =
         let one = All-head (IsMaximalRun (domain r.held)) run runs every in
-        let some = one.some in
         let held = one.inside run.0 (omega arith) (omega arith) in
         let low = sound.above run.0 (sym (contains_held known.known.members r.held run.0) ∙ held) in
         let high = held_within known.known f w r run.0 from held in
@@ -104,27 +189,17 @@ delivers_all known f w l counted sound sound_after h none far few room come come
     let one = round_delivers known l counted sound h.fits in
     let p = one.passed in
     let come_acks = next_come (length p.acks) l.reverse.fates come_reverse in
-    let all = all_parts l.sender (at_least_one l.payload) none far (at_least_one l.burst) p.n l.forward p.sent p.all few in
     let brought = one.delivers f w h.way room (next_come (length p.sent.in_flight) l.forward.fates come) come_acks in
-    let both = brought.2 all in
-    let reached = both.0 in
-    let head = brought.1 in
-    let fits = h.fits in
-    let end = h.way.sends.end in
+    let all = brought.2 (all_parts l.sender (at_least_one l.payload) none far (at_least_one l.burst) p.n l.forward p.sent p.all few) in
     let after = round_keeps_invariant known.known f w l h in
-    let earlier = l.reverse.delayed ++ (l.reverse.in_flight ++ acks_of most_sack_blocks l.receiver p.came) in
     let runs = no_runs known f w m.receiver sound_after after.way.receives (omega arith) in
-    let is : m.sender ≡ after_ack_frames l.sender (earlier ++ ack_of m.receiver ∷ []) =
-    p.acked ∙ ap (λ a. after_ack_frames l.sender (l.reverse.delayed ++ a)) (coming_all l.reverse.fates p.acks come_acks ∙ p.acks_are)
-    ∙ ap (after_ack_frames l.sender) (sym (append_assoc l.reverse.delayed (l.reverse.in_flight ++ acks_of most_sack_blocks l.receiver p.came) (ack_of m.receiver ∷ []))) in
-    let xs = block_bytes (take most_sack_blocks (maximal_runs (domain m.receiver.held))) in
+    let met = head_meets known l m p come_acks after.way.behind (omega arith) h.fits in
     record {
-      next = reached;
-      queue = both.1;
-      first_unacknowledged = head;
-      sack_blocks = ap (λ v. v.sack_blocks) (is ∙ acked_last known.known.decode l.sender (next_position m.receiver) xs earlier (omega arith) (omega arith)
-          (subst (λ v. v.first_unacknowledged ≤ next_position m.receiver) is (omega arith)))
-          ∙ ap (λ k. blocks_of most_sack_blocks (block_bytes (take most_sack_blocks k))) runs ∙ ranges_stop most_sack_blocks [] refl;
+      next = all.0;
+      queue = all.1;
+      first_unacknowledged = brought.1;
+      sack_blocks = ap (λ v. v.sack_blocks) met.1 ∙ ap (λ k. blocks_of most_sack_blocks (block_bytes (take most_sack_blocks k))) runs
+          ∙ ranges_stop most_sack_blocks [] refl;
     }
 
 -- ---- turns
@@ -134,12 +209,9 @@ module _ (known : KnownOfRounds) (s : Setup) (bytes : List ℕ) (has : HasRoomAt
   reads = bytes ∷ [] ∷ []
 
   -- what the reads to come give
-  record Ahead (c : CopyState) : Type 0 where
-    rest : List ℕ
-    last : List (List ℕ)
-    coming : c.reads ≡ rest ∷ last
-    all : length c.given + length rest ≡ length bytes
-    exact : 0 < length rest → (last ≡ [] ∷ []) × (c.rounds * most_read s ≤ length c.given)
+  abbrev Ahead : CopyState → List (List ℕ) → Type 0
+  Ahead c [] = ⊥
+  Ahead c (rest ∷ last) = (length c.given + length rest ≡ length bytes) × (0 < length rest → (last ≡ [] ∷ []) × (c.rounds * most_read s ≤ length c.given))
 
   -- all that was read is written, in as many rounds as it takes
   record Ready (c : CopyState) : Type 0 where
@@ -153,28 +225,11 @@ module _ (known : KnownOfRounds) (s : Setup) (bytes : List ℕ) (has : HasRoomAt
     more : c.more ≡ true
     low : length c.given ≤ c.rounds * most_read s
     high : c.rounds * most_read s < length c.given + most_read s
-    ahead : Ahead c
+    few : length c.given ≤ length bytes
+    ahead : Ahead c c.reads
 
   is_all_written : (c : CopyState) → SoFar known.known s reads c → Ready c → is_written c.link ≡ true
-  is_all_written c was h =
-      let queue = h.queue in
-      let head = h.head in
-      and_from (nat_eq (next_position c.link.receiver) (end_of c.link.sender)) (nat_eq (length c.link.receiver.queue) 0)
-      (eq-eqb (next_position c.link.receiver) (end_of c.link.sender) (omega arith)) (eq-eqb (length c.link.receiver.queue) 0 h.empty)
-
-  -- a read is made
-  ready_reads : (c : CopyState) → SoFar known.known s reads c → Stays known s c.link → (h : Ready c) →
-      feed s.chunk c ≡ read_of (room_for s.chunk c.link) c (h.ahead.rest ∷ h.ahead.last)
-  ready_reads c was stays h =
-      let cap = stays.outgoing in
-      let some = has.some in
-      let queue = h.queue in
-      let all = h.ahead.all in
-      let end = was.writes.carries.way.sends.end in
-      cond-true (asks s.chunk c) (read_of (room_for s.chunk c.link) c c.reads) c
-      (and_from (c.more && nat_lt 0 (room_for s.chunk c.link)) (is_written c.link)
-      (and_from c.more (nat_lt 0 (room_for s.chunk c.link)) h.more (lt-ltb 0 (room_for s.chunk c.link) (omega arith))) (is_all_written c was h))
-      ∙ ap (read_of (room_for s.chunk c.link) c) h.ahead.coming
+  is_all_written c was h = written_from c.link (omega arith) h.empty
 
   le_times : (r k : ℕ) → 0 < k → r ≤ r * k
   le_times r zero some = absurd (omega arith)
@@ -193,16 +248,8 @@ module _ (known : KnownOfRounds) (s : Setup) (bytes : List ℕ) (has : HasRoomAt
       let e = with_read room c rest last in
       let l = waited e in
       let m = round l in
-      let cap = before.outgoing in
-      let in_cap = stays.incoming in
       let no_queue = h.queue in
-      let from = h.head in
-      let none_held = h.empty in
-      let end = w.carries.way.sends.end in
       let has_some = has.some in
-      let within = has.incoming in
-      let low = h.low in
-      let high = h.high in
       let given_is : length e.given ≡ length c.given + length taken = length-append c.given taken in
       let taken_is : length taken ≡ min room (length rest) = length-take room rest in
       let queue_is : length l.sender.queue ≡ length taken = omega (arith, length-append c.link.sender.queue taken) in
@@ -217,17 +264,13 @@ module _ (known : KnownOfRounds) (s : Setup) (bytes : List ℕ) (has : HasRoomAt
       let few : length l.sender.queue ≤ at_least_one l.burst * at_least_one l.payload =
       subst (λ f. length l.sender.queue ≤ f) (sym frames_are) (le_trans (omega (arith, queue_is, few_taken)) frames) in
       let p = (round_sends l stays.payload).passes in
-      let keeps = round_keeps l m p (numbers known) in
+      let keeps = round_keeps l m p known in
       let one = delivers_all known s.first e.given l stays.payload stays.sound
       (subst (IsSound most_sack_blocks) (sym p.received) (all_sound known.sound l.receiver p.came stays.sound))
-      (record { way = w.carries.way; fits = w.carries.fits }) h.sack_blocks (omega (arith, wrap_is, queue_is, few_taken, cap)) few
-      (omega (arith, queue_is, few_taken, from, none_held, within, in_cap))
-      (subst AllCome (sym stays.drawn.1) (all_after stays.drawn.0 s.fates come)) (subst AllCome (sym stays.drawn_reverse.1) (all_after stays.drawn_reverse.0 s.ack_fates come_reverse)) in
-      let next = one.next in
-      let met = one.first_unacknowledged in
-      let first = keeps.first in
-      let read = keeps.read in
-      let size : length m.receiver.queue ≡ length taken = omega (arith, next, first, read, queue_is, from, none_held) in
+      (record { way = w.carries.way; fits = w.carries.fits }) h.sack_blocks (omega (arith, wrap_is, queue_is, few_taken)) few
+      (omega (arith, queue_is, few_taken))
+      (subst AllCome (sym stays.met.left) (all_after stays.met.frames s.fates come)) (subst AllCome (sym stays.met.left_reverse) (all_after stays.met.acks s.ack_fates come_reverse)) in
+      let size : length m.receiver.queue ≡ length taken = omega (arith, queue_is) in
       let left = length-drop s.chunk m.receiver.queue in
       let word : c.rounds < 2 ^ 64 - 1 = (let r = le_times c.rounds k has_some in omega (arith, r, exact, all, some, fits)) in
       let rounds_is : (pass s.chunk e).rounds ≡ c.rounds + 1 = omega arith in
@@ -237,43 +280,36 @@ module _ (known : KnownOfRounds) (s : Setup) (bytes : List ℕ) (has : HasRoomAt
         queue = one.queue;
         sack_blocks = one.sack_blocks;
         empty = omega (arith, left, size, few_taken);
-        head = omega (arith, met, left);
+        head = omega (arith, left);
         burst = p.burst ∙ burst_is;
         max_burst = p.max_burst ∙ h.max_burst;
         payload = p.payload ∙ h.payload;
         more = h.more;
-        low = subst (λ r. length e.given ≤ r * k) (sym rounds_is) (omega (arith, given_is, few_taken, low));
+        low = subst (λ r. length e.given ≤ r * k) (sym rounds_is) (omega (arith, given_is, few_taken));
         high = subst (λ r. r * k < length e.given + k) (sym rounds_is) (omega (arith, given_is, some_taken, exact));
-        ahead = ⊎_elim {C = Ahead (pass s.chunk e)}
-            (λ (long : room < length rest). record {
-              rest = drop room rest;
-              last = last;
-              coming = cond-true (nat_lt room (length rest)) (drop room rest ∷ last) last (lt-ltb room (length rest) long);
-              all = omega (arith, given_is, taken_is, length-drop room rest, all);
-              exact = λ _. (ends_so, subst (λ r. r * k ≤ length e.given) (sym rounds_is) (omega (arith, given_is, taken_is, exact, all, end, no_queue, cap)));
-            })
-            (λ (short : length rest ≤ room). record {
-              rest = [];
-              last = [];
-              coming = cond-false (nat_lt room (length rest)) (drop room rest ∷ last) last (le-ltb room (length rest) short) ∙ ends_so;
-              all = omega (arith, given_is, taken_is, all);
-              exact = λ none. absurd (omega arith);
-            })
-            (cases_lt room (length rest));
+        few = omega (arith, given_is, taken_is, all);
+        ahead = split (Ahead (pass s.chunk e)) (nat_lt room (length rest)) (drop room rest ∷ last) last
+            (λ t. (let long = ltb-true room (length rest) t in (
+              omega (arith, given_is, taken_is, length-drop room rest, all),
+              λ _. (ends_so, subst (λ r. r * k ≤ length e.given) (sym rounds_is) (omega (arith, given_is, taken_is, exact, all, no_queue))),
+            )))
+            (λ t. (let short = ltb-false room (length rest) t in
+            subst (Ahead (pass s.chunk e)) (sym ends_so) (omega (arith, given_is, taken_is, all), λ none. absurd (omega arith))));
       }
 
-  one_ready : (c : CopyState) → SoFar known.known s reads c → Stays known s c.link → Ready c → GoesOn s.rounds s.chunk c → Ready (turn s.rounds s.chunk c)
-  one_ready c was stays h one = by h.ahead.rest h.ahead.last (ready_reads c was stays h) h.ahead.all h.ahead.exact
-    where
-      by : (rest : List ℕ) (last : List (List ℕ)) → feed s.chunk c ≡ read_of (room_for s.chunk c.link) c (rest ∷ last) → length c.given + length rest ≡ length bytes →
-          (0 < length rest → (last ≡ [] ∷ []) × (c.rounds * most_read s ≤ length c.given)) → Ready (turn s.rounds s.chunk c)
-      by [] last is all exact = absurd (both_ways (ends (feed s.chunk c)) one.on (ap ends is ∙ is_all_written c was h))
-      by (x ∷ xs) last is all exact =
-          let ready_so = exact (omega arith) in
-          subst Ready (sym (one.is ∙ ap (pass s.chunk) is))
-          (passed_ready c (x ∷ xs) last (omega arith) stays h
-          (subst (λ d. Writes s.first d.given d) is (fed_so_far known.known s reads c one.before was).writes)
-          (subst (λ d. Stays known s d.link) is (fed_stays known s c stays)) all ready_so.0 ready_so.1)
+  one_ready : (c : CopyState) → SoFar known.known s reads c → Stays known s c.link → Ready c →
+      GoesOn s.rounds s.chunk c → Ready (turn s.rounds s.chunk c)
+  one_ready c was stays h one =
+      let all = is_all_written c was h in
+      let P : CopyState → Type 0 = λ d. Writes s.first d.given d → Stays known s d.link → ends d ≡ false → Ready (pass s.chunk d) in
+      subst Ready (sym one.is) (fed_by P s.chunk c (λ _ is. absurd (subst (Ahead c) is h.ahead))
+      (λ rest _ _ _ _ on. absurd (both_ways (is_written c.link) on all))
+      (λ x xs rest _ is w fed _.
+      let ahead : Ahead c ((x ∷ xs) ∷ rest) = subst (Ahead c) is h.ahead in
+      let last = ahead.1 (omega arith) in
+      passed_ready c (x ∷ xs) rest (omega arith) stays h w fed ahead.0 last.0 last.1)
+      (λ off _ _ _. absurd (both_ways (asks s.chunk c) off (asks_from s.chunk c (h.more, omega arith, all))))
+      (fed_so_far known.known s reads c was).writes (fed_stays known s c stays) one.on)
 
   ready : (n : ℕ) → (after s reads n).status ≡ Running → Ready (after s reads n)
   ready zero on = record {
@@ -287,7 +323,8 @@ module _ (known : KnownOfRounds) (s : Setup) (bytes : List ℕ) (has : HasRoomAt
     more = refl;
     low = omega arith;
     high = (let some = has.some in omega arith);
-    ahead = record { rest = bytes; last = [] ∷ []; coming = refl; all = omega arith; exact = λ some. (refl, omega arith) };
+    few = omega arith;
+    ahead = (omega arith, λ some. (refl, omega arith));
   }
   ready (suc n) on =
       let c = after s reads n in
@@ -302,12 +339,10 @@ exact_rounds known s bytes n has fits come come_reverse done =
     let h = ready known s bytes has fits come come_reverse m on in
     let same = done_none s.rounds s.chunk (after s reads m) on is in
     let was = so_far known.known s reads (omega arith) (suc m) in
-    let given : length (after s reads (suc m)).given ≡ length bytes = ap length (was.over (was.done is).0) ∙ before_is bytes in
+    let given : length (after s reads (suc m)).given ≡ length bytes = ap length (was.over (was.done is).0) ∙ ap length (one_end bytes).1 in
     let all : length (after s reads m).given ≡ length bytes = sym same.0 ∙ given in
     subst (λ r. (length bytes ≤ r * most_read s) × (r * most_read s < length bytes + most_read s)) (sym same.1)
     (subst (λ b. (b ≤ (after s reads m).rounds * most_read s) × ((after s reads m).rounds * most_read s < b + most_read s)) all (h.low, h.high)))
     n done
-  where
-    before_is : (xs : List ℕ) → length (before_end (xs ∷ [] ∷ [])) ≡ length xs
-    before_is [] = refl
-    before_is (x ∷ xs) = ap length (append-nil (x ∷ xs))
+
+pub ruleset laws_of_rounds = (enough_rounds, rounds_at_once, exact_rounds)

@@ -1,38 +1,232 @@
--- Each step of a round keeps the invariant of a link.
-use Rattle.std.proofs.Common.{◌≡◌, ℕ, ◌+◌, ◌-◌, ◌≤◌, ◌<◌, ◌^◌, true, false, nat_lt, List, [], ◌∷◌, ◌++◌, length, take, drop}
-use Rattle.std.proofs.Common.{All, Option, Some, None, refl, sym, ap, subst, ◌∙◌, arith, length-take, length-drop}
-use Rattle.std.specs.FinMap as fin
+-- The invariant of a link, and that each step of a round keeps it.
+use Rattle.std.proofs.Common.{◌≡◌, ℕ, List, ◌≤◌, false, [], ◌++◌, All, Option, Some, refl, sym, ap, subst, le_trans}
+use Rattle.std.proofs.Common.{arith, Bool, not, cond, min, ◌||◌, zero, suc, ◌+◌, ◌-◌, ◌<◌, ◌^◌, nat_eq, true, ◌∷◌}
+use Rattle.std.proofs.Common.{length, take, drop, None, inr, ◌∙◌, append_assoc, take-add, length-drop, nat_lt}
+use Rattle.std.proofs.Common.{length-take}
+use Rattle.net_receiver.specs.ReceiverState.{ReceiverState, next_position, HeldBytes, domain}
+use Rattle.net_receiver.specs.OneStream.{ReceivesFrom, QueueIsOf, QueueIsOfStream, MatchesLonger, ReceivesFromLonger}
+use Rattle.std.proofs.lemmas.Bool.{both_ways, false≢true}
+use Rattle.std.proofs.lemmas.List.Elements.{All-nil, All-weaker, All-head, All-tail, All-push, All-take}
+use Rattle.net_receiver.specs.Retransmission.{HasByteAt}
+use Rattle.net_stream_model.specs.SenderState.{SenderState, Sends, end_of, sender_from}
+use Rattle.net_stream_model.specs.Frames.{FrameMatches, frame_of, FramesDecode, segment_of}
+use Rattle.net_stream_model.specs.PathState.{PathState, ack_of, with_ack, with_delayed}
+use Rattle.net_stream_model.specs.LinkInvariant.{PartsInvariant, HasAllOf, AckMatches}
+use Rattle.std.specs.Cmp.{unsigned_tied}
+use Rattle.std.specs.Int.{w64, to_be_bytes}
+use Rattle.std.specs.List.{list_any, range_with_len}
+use Rattle.std.specs.Ordering.{nat_cmp, eq_by_cmp}
+use Rattle.std.proofs.lemmas.Bool.Decides.{nat_tests}
+use Rattle.std.proofs.lemmas.List.{append-nil, take_all, drop-drop, take-take}
+use Rattle.std.proofs.lemmas.List.Sums.{sum_by-append}
+use Rattle.net_assembler.specs.Positions.{Positions, contains, lies_in, IsMaximalRun, maximal_runs}
+use Rattle.net_assembler.specs.AssemblerLaws.{MembersOfList, MaximalRunsOfEverySet}
+use Rattle.net_stream_model.specs.SackBlocks.{is_sacked, count_outside, most_sack_blocks, block_bytes, block_to}
+use Rattle.net_stream_model.specs.SackBlocks.{block_from, first_block, with_more, blocks_of}
+use Rattle.net_stream_model.specs.Transmission.{IsSackedIf}
+use Rattle.net_stream_model.specs.Counts.{with_payload}
+use Rattle.net_stream_model.specs.declared.counts.FrameCounts.{FrameCounts}
 use Rattle.std.specs.Option.{is_some}
-use Rattle.std.proofs.lemmas.Bool.{both_ways}
 use Rattle.std.proofs.lemmas.Option.{slice_get_within}
-use Rattle.std.proofs.lemmas.List.{take_all, take-take, drop-drop}
-use Rattle.std.proofs.lemmas.List.Elements.{All-head, All-tail, All-push, All-weaker, All-take}
-use Rattle.net_assembler.specs.Positions.{contains, IsMaximalRun, maximal_runs}
 use Rattle.net_receiver.specs.Rules.{Segment}
-use Rattle.net_receiver.specs.ReceiverState.{ReceiverState, domain}
-use Rattle.net_receiver.specs.OneStream.{ReceivesFrom, MatchesStream}
 use Rattle.net_stream_model.specs.declared.fate.Fate.{Fate}
-use Rattle.net_stream_model.specs.SenderState.{SenderState, end_of, sender_from, Sends}
-use Rattle.net_stream_model.specs.Frames.{segment_of, FrameMatches}
-use Rattle.net_stream_model.specs.SackBlocks.{most_sack_blocks, blocks_of}
 use Rattle.net_stream_model.specs.Fates.{next_fate, comes, comes_delayed}
-use Rattle.net_stream_model.specs.PathState.{PathState, ack_of, receiver_after, with_ack}
-use Rattle.net_stream_model.specs.LinkInvariant.{PartsInvariant, AckMatches}
-use Rattle.net_stream_model.specs.PathState.{with_delayed}
-use Rattle.net_stream_model.proofs.Invariant.{took, coming_are, going_are, acked_reverse, sent_says}
-use Rattle.net_stream_model.proofs.Queue.{queue_from}
-use Rattle.net_stream_model.proofs.Parts.{lent_says}
-use Rattle.net_stream_model.proofs.Ranges.{IsWords, contains_held, ack_tells}
-use Rattle.net_stream_model.proofs.Reached.{by_keeps_end, first_is}
-use Rattle.net_stream_model.proofs.Sent.{stop_within}
 use Rattle.net_stream_model.specs.LinkState.{LinkState, times, Cursor, start, frame_len, send, part, take_in, come}
-use Rattle.net_stream_model.specs.LinkState.{came, meet, take_frame, acknowledge_all, acknowledge}
-use Rattle.net_stream_model.specs.LinkState.{came_ack, meet_ack, take_ack, round}
+use Rattle.net_stream_model.specs.LinkState.{came, meet, take_frame, acknowledge, came_ack, meet_ack, take_ack, round}
 use Rattle.net_stream_model.specs.LinkState.{StopsRound}
 use Rattle.net_stream_model.specs.Streams.{Known, LinkInvariantFits}
-use Rattle.net_stream_model.proofs.Meeting.{arrives, heard}
-use Rattle.net_stream_model.proofs.Steps.{keeps, split, by_part, StepsKeep, round_kept, stop_kept}
+use Rattle.net_stream_model.proofs.Sent.{lent_says, stop_within}
+use Rattle.net_stream_model.proofs.Steps.{by_keeps_end, arrives, heard, keeps, split, by_part, StepsKeep, round_kept}
+use Rattle.net_stream_model.proofs.Steps.{stop_kept}
+use Rattle.std.specs.FinMap as fin
 
+pub queue_from : QueueIsOfStream → (f : ℕ) (w : List ℕ) (r : ReceiverState) → ReceivesFrom f w r → QueueIsOf w r
+unfolding ReceivesFrom
+queue_from queue f w r h = queue w r h.1
+
+-- and it begins where the stream does
+pub in_stream : QueueIsOfStream → (f : ℕ) (w : List ℕ) (r : ReceiverState) → ReceivesFrom f w r → (r.first ≡ f) × QueueIsOf w r
+unfolding ReceivesFrom
+in_stream queue f w r h = (h.0, queue w r h.1)
+
+-- ======== What keeps the invariant of a link, step by step
+-- ---- frames
+pub same_parts : (pos p : ℕ) (xs ys : List ℕ) → ◌≡◌ {A = Option (ℕ × List ℕ)} (Some (pos, xs)) (Some (p, ys)) → (pos ≡ p) × (xs ≡ ys)
+same_parts pos p xs ys e = (let both : ◌≡◌ {A = ℕ × List ℕ} (pos, xs) (p, ys) = cc in (ap (λ q. q.0) both, ap (λ q. q.1) both))
+
+-- ---- steps
+module _ (f : ℕ) (w : List ℕ) where
+  -- the receiver took something, and keeps what it had
+  pub took : (s : SenderState) (r u : ReceiverState) (forward reverse : PathState) →
+      (ReceivesFrom f w r → ReceivesFrom f w u) → next_position r ≤ next_position u →
+      ((p : ℕ) → HasByteAt r p → HasByteAt u p) → PartsInvariant f w s r forward reverse → PartsInvariant f w s u forward reverse
+  took s r u forward reverse receives more keeps c =
+      let wider : (frames : List (List ℕ)) → All (AckMatches r) frames → All (AckMatches u) frames = All-weaker (AckMatches r) (AckMatches u)
+      (λ frame tells n xs at. (let t = tells n xs at in (le_trans t.0 more, λ p h. keeps p (t.1 p h)))) in
+      let sack_blocks : HasAllOf u s.sack_blocks = λ p h. keeps p (c.sack_blocks p h) in
+      assumption (receives c.receives, wider reverse.in_flight c.in_flight_reverse, wider reverse.delayed c.delayed_reverse, le_trans c.behind more)
+
+-- nothing was written yet
+pub begun : (f : ℕ) (s : SenderState) (r : ReceiverState) (forward reverse : PathState) → Sends f [] s →
+    s.first_unacknowledged ≡ f → s.sack_blocks ≡ [] → ReceivesFrom f [] r → r.first ≡ f →
+    forward.in_flight ≡ [] → forward.delayed ≡ [] → reverse.in_flight ≡ [] → reverse.delayed ≡ [] → PartsInvariant f [] s r forward reverse
+begun f s r forward reverse sends head none_sacked receives from none none_delayed none_reverse none_delayed_reverse = record {
+  sends = sends;
+  receives = receives;
+  coming = subst (All (FrameMatches f [])) (sym none) (All-nil (FrameMatches f []));
+  delayed = subst (All (FrameMatches f [])) (sym none_delayed) (All-nil (FrameMatches f []));
+  in_flight_reverse = subst (All (AckMatches r)) (sym none_reverse) (All-nil (AckMatches r));
+  delayed_reverse = subst (All (AckMatches r)) (sym none_delayed_reverse) (All-nil (AckMatches r));
+  behind = omega arith;
+  sack_blocks = subst (HasAllOf r) (sym none_sacked) (λ p h. absurd (both_ways false refl h));
+}
+
+-- more was written
+pub written : MatchesLonger → ReceivesFromLonger →
+    (f : ℕ) (w more : List ℕ) (s t : SenderState) (r : ReceiverState) (forward reverse : PathState) →
+    t.first_unacknowledged ≡ s.first_unacknowledged →
+    t.sack_blocks ≡ s.sack_blocks → (Sends f w s → Sends f (w ++ more) t) →
+    PartsInvariant f w s r forward reverse → PartsInvariant f (w ++ more) t r forward reverse
+written longer longer_from f w more s t r forward reverse head sack_blocks sends c =
+    let wider : (frames : List (List ℕ)) → All (FrameMatches f w) frames → All (FrameMatches f (w ++ more)) frames =
+    All-weaker (FrameMatches f w) (FrameMatches f (w ++ more)) (λ frame h pos xs is. longer f pos w more xs (h pos xs is)) in
+    assumption (
+      sends c.sends,
+      longer_from f w more r c.receives,
+      wider forward.in_flight c.coming,
+      wider forward.delayed c.delayed,
+      subst (λ n. n ≤ next_position r) (sym head) c.behind,
+      subst (HasAllOf r) (sym sack_blocks) c.sack_blocks,
+    )
+
+-- ======== SACK blocks: how bytes list them, and what a receiver tells of what it holds
+-- ---- what bytes list
+-- bytes with no whole range list none
+pub ranges_stop : (n : ℕ) (xs : List ℕ) → first_block xs ≡ None → blocks_of n xs ≡ []
+unfolding blocks_of
+ranges_stop zero xs e = refl
+ranges_stop (suc n) xs e = ap (with_more (blocks_of n)) e
+
+-- of no range none is read
+pub ranges_none : (n : ℕ) (xs : List ℕ) → n ≡ 0 → blocks_of n xs ≡ []
+unfolding blocks_of
+ranges_none zero xs e = refl
+ranges_none (suc n) xs e = absurd (omega arith)
+
+-- the first range, and then those of the bytes after it
+pub ranges_more : (n m : ℕ) (xs : List ℕ) (start end : ℕ) (rest : List ℕ) → n ≡ m + 1 → first_block xs ≡ Some (start, end, rest) →
+    blocks_of n xs ≡ (start, end) ∷ blocks_of m rest
+unfolding blocks_of
+ranges_more n m xs start end rest e is = (let k : n ≡ suc m = omega arith in ap (λ j. blocks_of j xs) k ∙ ap (with_more (blocks_of m)) is)
+
+-- both numbers of a range fit 8 bytes
+abbrev pub IsWords : ℕ × ℕ → Type 0
+IsWords range = (range.0 < 2 ^ 64) × (range.1 < 2 ^ 64)
+
+-- reading finds the ranges that were listed
+ranges_listed : FramesDecode → (n : ℕ) (rs : List (ℕ × ℕ)) → All IsWords rs → length rs ≤ n → blocks_of n (block_bytes rs) ≡ rs
+ranges_listed trip n [] words h = ranges_stop n [] refl
+ranges_listed trip zero (x ∷ rs) words h = absurd (omega arith)
+ranges_listed trip (suc n) (x ∷ rs) words h =
+    let w = All-head IsWords x rs words in
+    let first : first_block (block_bytes (x ∷ rs)) ≡ Some (x.0, x.1, block_bytes rs) =
+    ap block_from (trip x.0 (frame_of x.1 (block_bytes rs)) w.0) ∙ ap (block_to x.0) (trip x.1 (block_bytes rs) w.1) in
+    ranges_more (suc n) n (block_bytes (x ∷ rs)) x.0 x.1 (block_bytes rs) (omega arith) first
+    ∙ ap (λ l. (x.0, x.1) ∷ l) (ranges_listed trip n rs (All-tail IsWords x rs words) (omega arith))
+
+-- one range more is its two words more
+pub listed_push : (rs : List (ℕ × ℕ)) (start end : ℕ) →
+    (block_bytes rs ++ to_be_bytes w64 start) ++ to_be_bytes w64 end ≡ block_bytes (rs ++ (start, end) ∷ [])
+listed_push [] start end = ap (λ l. to_be_bytes w64 start ++ l) (sym (append-nil (to_be_bytes w64 end)))
+listed_push (r ∷ rs) start end =
+    simp append_assoc (ap (λ l. to_be_bytes w64 r.0 ++ (to_be_bytes w64 r.1 ++ l)) (simp append_assoc at (listed_push rs start end)))
+
+-- ---- a list that is left
+pub take_same : {X : Type 0} (n m : ℕ) (xs : List X) → drop n xs ≡ [] → n ≤ m → take n xs ≡ take m xs
+take_same n m xs e h =
+    let short : length xs - n ≡ 0 = sym (length-drop n xs) ∙ ap length e in
+    take_all n xs (omega arith) ∙ sym (take_all m xs (omega arith))
+
+pub rest_is : {X : Type 0} (n : ℕ) (xs rest : List X) (x : X) → drop n xs ≡ x ∷ rest → rest ≡ drop (n + 1) xs
+rest_is n xs rest x e = sym (ap (drop 1) e) ∙ drop-drop 1 n xs
+
+pub take_next : {X : Type 0} (n : ℕ) (xs rest : List X) (x : X) → drop n xs ≡ x ∷ rest → take (n + 1) xs ≡ take n xs ++ x ∷ []
+take_next n xs rest x e = take-add n 1 xs ∙ ap (λ l. take n xs ++ take 1 l) e
+
+-- ---- what a receiver tells
+-- a position of one of the first runs is in the set
+in_run : (s : Positions) (p n : ℕ) (rs : List (ℕ × ℕ)) → All (IsMaximalRun s) rs →
+    list_any (lies_in p) (take n rs) ≡ true → contains s p ≡ true
+in_run s p zero rs all h = absurd (false≢true h)
+in_run s p (suc n) [] all h = absurd (false≢true h)
+in_run s p (suc n) (x ∷ rs) all h =
+    let here = (All-head (IsMaximalRun s) x rs all).inside p in
+    let others = in_run s p n rs (All-tail (IsMaximalRun s) x rs all) in
+    grind (arith, nat_tests)
+
+same_tests : (ks : List ℕ) (q : ℕ) → list_any (eq_by_cmp nat_cmp q) ks ≡ list_any (nat_eq q) ks
+same_tests [] q = refl
+same_tests (k ∷ ks) q = λ i. unsigned_tied q k i || same_tests ks q i
+
+pub contains_held : MembersOfList → (m : HeldBytes) (q : ℕ) → contains (domain m) q ≡ fin.contains_key m q
+contains_held members m q = members (fin.keys m) q ∙ sym (fin.contains_key-keys m q ∙ same_tests (fin.keys m) q)
+
+-- the acknowledgement of a receiver tells only of what it holds
+pub ack_tells : FramesDecode → MembersOfList → MaximalRunsOfEverySet → (r : ReceiverState) → next_position r < 2 ^ 64 →
+    length (take most_sack_blocks (maximal_runs (domain r.held))) ≤ most_sack_blocks →
+    All IsWords (take most_sack_blocks (maximal_runs (domain r.held))) → AckMatches r (ack_of r)
+ack_tells trip members maximal r word few words = λ n xs at.
+    let runs = maximal_runs (domain r.held) in
+    let rs = take most_sack_blocks runs in
+    let e = same_parts (next_position r) n (block_bytes rs) xs (sym (trip (next_position r) (block_bytes rs) word) ∙ at) in
+    let has : HasAllOf r rs = λ p h. inr (sym (contains_held members r.held p)
+    ∙ in_run (domain r.held) p most_sack_blocks runs (maximal (domain r.held)).maximal h) in
+    (omega arith, subst (HasAllOf r) (sym (ranges_listed trip most_sack_blocks rs words few) ∙ ap (blocks_of most_sack_blocks) e.1) has)
+
+-- ---- how many positions are in no SACK block
+count_more : (ranges : List (ℕ × ℕ)) (a n : ℕ) →
+    count_outside ranges a (suc n) ≡ cond (is_sacked ranges a) 0 1 + count_outside ranges (a + 1) n
+count_more ranges a n =
+    let one = sum_by-append (λ q. cond (not (is_sacked ranges q)) 1 0) (a ∷ []) (range_with_len (a + 1) n) in grind arith
+
+count_both : (ranges : List (ℕ × ℕ)) (a k n : ℕ) → count_outside ranges a (k + n) ≡ count_outside ranges a k + count_outside ranges (a + k) n
+count_both ranges a zero n = grind arith
+count_both ranges a (suc k) n =
+    let all = count_more ranges a (k + n) in
+    let some = count_more ranges a k in
+    let others = count_both ranges (a + 1) k n in
+    let first = ap (count_outside ranges a) (let e : suc k + n ≡ suc (k + n) = omega arith in e) in
+    let place = ap (λ b. count_outside ranges b n) (let e : a + 1 + k ≡ a + suc k = omega arith in e) in
+    omega arith
+
+-- of positions that are marked all or none are in the ranges
+pub count_marked : (ranges : List (ℕ × ℕ)) (a n : ℕ) (spared : Bool) → IsSackedIf ranges a n spared →
+    count_outside ranges a n ≡ cond spared 0 n
+count_marked ranges a zero true marked = refl
+count_marked ranges a zero false marked = refl
+count_marked ranges a (suc n) spared marked =
+    let all = count_more ranges a n in
+    let one = marked a (omega arith) (omega arith) in
+    let others = count_marked ranges (a + 1) n spared (λ q from to. marked q (omega arith) (omega arith)) in
+    grind arith
+
+-- what was counted of a part is counted of the parts so far
+pub counted_more : (ranges : List (ℕ × ℕ)) (b pos n : ℕ) (c0 c1 c2 : FrameCounts) → b ≤ pos →
+    c1 ≡ with_payload (count_outside ranges b (pos - b)) c0 →
+    c2 ≡ with_payload (count_outside ranges pos n) c1 → c2 ≡ with_payload (count_outside ranges b (pos + n - b)) c0
+counted_more ranges b pos n c0 c1 c2 from so_far more =
+    let both = count_both ranges b (pos - b) n in
+    let bytes = count_outside ranges b (pos + n - b) in
+    let all : bytes ≡ count_outside ranges b (pos - b) + count_outside ranges pos n = grind arith in
+    let capped : min (min (c0.payload + count_outside ranges b (pos - b)) (2 ^ 64 - 1) + count_outside ranges pos n) (2 ^ 64 - 1)
+    ≡ min (c0.payload + bytes) (2 ^ 64 - 1) = omega arith in
+    more ∙ ap (with_payload (count_outside ranges pos n)) so_far ∙ (λ i. record c0 { payload = capped i })
+
+-- nothing was counted
+pub counted_none : (n : ℕ) (c : FrameCounts) → c.payload < 2 ^ 64 → n ≡ 0 → c ≡ with_payload n c
+counted_none n c fits none = λ i. record c { payload = (let e : c.payload ≡ min (c.payload + n) (2 ^ 64 - 1) = omega arith in e) i }
+
+-- ======== Each step of a round keeps the invariant of a link
 module _ (known : Known) (f : ℕ) (w : List ℕ) where
   -- ---- what a receiver holds has positions of 64 bits
   pub held_within : (r : ReceiverState) (p : ℕ) → ReceivesFrom f w r → contains (domain r.held) p ≡ true → p < f + length w
@@ -42,21 +236,15 @@ module _ (known : Known) (f : ℕ) (w : List ℕ) where
       here None e = absurd (both_ways false refl (sym (ap is_some e) ∙ sym (contains_held known.members r.held p) ∙ is))
       here (Some b) e = (let l = slice_get_within w (p - f) b (known.held f w r p b h e) in omega arith)
 
-  words : (r : ReceiverState) (n : ℕ) → ReceivesFrom f w r → f + length w < 2 ^ 64 → All IsWords (take n (maximal_runs (domain r.held)))
-  words r n h fits = All-take IsWords n (maximal_runs (domain r.held))
-      (All-weaker (IsMaximalRun (domain r.held)) IsWords
-      (λ run m. (let some = m.some in
-      let last = held_within r (run.1 - 1) h (m.inside (run.1 - 1) (omega arith) (omega arith)) in
-      (omega arith, omega arith)))
-      (maximal_runs (domain r.held)) (known.maximal (domain r.held)).maximal)
-
-  tells : (s : SenderState) (r : ReceiverState) (forward reverse : PathState) → end_of s < 2 ^ 64 → PartsInvariant f w s r forward reverse → AckMatches r (ack_of r)
+  tells : (s : SenderState) (r : ReceiverState) (forward reverse : PathState) → end_of s < 2 ^ 64 →
+      PartsInvariant f w s r forward reverse → AckMatches r (ack_of r)
   tells s r forward reverse fits c =
-      let end = c.sends.end in
-      let first = first_is f w r c.receives in
-      let within = (queue_from known.queue f w r c.receives).within in
-      let few = length-take most_sack_blocks (maximal_runs (domain r.held)) in
-      ack_tells known.decode known.members known.maximal r (omega arith) (omega arith) (words r most_sack_blocks c.receives (omega arith))
+      let stream = in_stream known.queue f w r c.receives in
+      let runs = maximal_runs (domain r.held) in
+      let words = All-weaker (IsMaximalRun (domain r.held)) IsWords
+      (λ run m. (let last = held_within r (run.1 - 1) c.receives (m.inside (run.1 - 1) (omega arith) (omega arith)) in omega arith))
+      runs (known.maximal (domain r.held)).maximal in
+      ack_tells known.decode known.members known.maximal r (omega arith) (omega (arith, length-take most_sack_blocks runs)) (All-take IsWords most_sack_blocks runs words)
 
   -- ---- step 1
   pub record At (c : Cursor) : Type 0 where
@@ -67,18 +255,14 @@ module _ (known : Known) (f : ℕ) (w : List ℕ) where
   sent c n below h =
       let s = c.link.sender in
       let q = drop (c.pos - s.first_unacknowledged) s.queue in
-      let fits = h.carries.fits in
       let few : length (take n q) ≤ n = omega (arith, length-take n q) in
       let is : take n q ≡ take (length (take n q)) q = sym (take_all (length (take n q)) (take n q) (omega arith)) ∙ take-take (length (take n q)) n q few in
-      record {
-        way = sent_says f w s c.link.receiver c.link.forward (send c.link c.pos n).forward c.link.reverse c.pos (take n q) known.decode (omega arith) refl
-            (lent_says known.says f w s c.pos (take n q) h.carries.way.sends h.from is) h.carries.way;
-        fits = fits;
-      }
+      let says = lent_says known.says f w s c.pos (take n q) h.carries.way.sends h.from is in
+      assumption (All-push (FrameMatches f w) c.link.forward.in_flight (frame_of c.pos (take n q)) h.carries.way.coming
+      (λ p ys at. (let e = same_parts c.pos p (take n q) ys (sym (known.decode c.pos (take n q) (omega arith)) ∙ at) in rw (← e.0, ← e.1) says)))
 
   at_part : (c : Cursor) → At c → At (part c)
   at_part c h =
-      let from = h.from in
       let stop = stop_within c.link.sender in
       by_part At c h (λ _ _. record { from = omega arith; carries = h.carries })
       (λ below _. record { from = omega arith; carries = sent c (frame_len c.link c.pos) (omega arith) h })
@@ -88,22 +272,20 @@ module _ (known : Known) (f : ℕ) (w : List ℕ) where
 
   -- ---- steps 2 to 4
   -- the receiver took a frame that matches w
-  received : (s : SenderState) (r : ReceiverState) (forward reverse : PathState) (o : Option (ℕ × List ℕ)) →
-      ((pos : ℕ) (xs : List ℕ) → o ≡ Some (pos, xs) → MatchesStream f w pos xs) →
-      PartsInvariant f w s r forward reverse → PartsInvariant f w s (receiver_after most_sack_blocks r o) forward reverse
-  received s r forward reverse o says c = arrives (λ u. PartsInvariant f w s u forward reverse) most_sack_blocks r o
-      (λ pos xs at. took f w s r _ forward reverse (λ h. known.segment most_sack_blocks f w r pos xs h (says pos xs at))
-      (known.next most_sack_blocks r (Segment pos xs)) (λ p h. known.has most_sack_blocks r (Segment pos xs) p h) c) c
+  taken : (s : LinkState) (frame : List ℕ) → FrameMatches f w frame → LinkInvariantFits f w s → LinkInvariantFits f w (take_in s frame)
+  taken s frame says h =
+      let r = s.receiver in
+      let way = arrives (λ u. PartsInvariant f w s.sender u s.forward s.reverse) most_sack_blocks r (segment_of frame)
+      (λ pos xs at. took f w s.sender r _ s.forward s.reverse (λ g. known.segment most_sack_blocks f w r pos xs g (says pos xs at))
+      (known.next most_sack_blocks r (Segment pos xs)) (known.has most_sack_blocks r (Segment pos xs)) h.way) h.way in
+      record { way = way; fits = h.fits }
 
   told : (s : SenderState) (r : ReceiverState) (forward reverse : PathState) (o : Option (ℕ × List ℕ)) → end_of s < 2 ^ 64 →
       PartsInvariant f w s r forward reverse → PartsInvariant f w s r forward (with_ack r o reverse)
   told s r forward reverse None fits c = c
   told s r forward reverse (Some (pos, xs)) fits c =
       split (PartsInvariant f w s r forward) (nat_lt (pos + length xs) (2 ^ 64)) (record reverse { in_flight = reverse.in_flight ++ ack_of r ∷ [] }) reverse
-      (λ _. acked_reverse f w s r forward reverse _ (ack_of r) refl (tells s r forward reverse fits c) c) (λ _. c)
-
-  taken : (s : LinkState) (frame : List ℕ) → FrameMatches f w frame → LinkInvariantFits f w s → LinkInvariantFits f w (take_in s frame)
-  taken s frame says h = record { way = received s.sender s.receiver s.forward s.reverse (segment_of frame) says h.way; fits = h.fits }
+      (λ _. assumption (All-push (AckMatches r) reverse.in_flight (ack_of r) c.in_flight_reverse (tells s r forward reverse fits c))) (λ _. c)
 
   comes_in : (s : LinkState) (frame : List ℕ) → FrameMatches f w frame → LinkInvariantFits f w s → LinkInvariantFits f w (come s frame)
   comes_in s frame says h = record {
@@ -111,122 +293,78 @@ module _ (known : Known) (f : ℕ) (w : List ℕ) where
     fits = h.fits;
   }
 
-  came_in : (fate : Fate) (s : LinkState) (frame : List ℕ) → FrameMatches f w frame → LinkInvariantFits f w s → LinkInvariantFits f w (came fate s frame)
-  came_in fate s frame says h = split (LinkInvariantFits f w) (comes fate) (come s frame) s (λ _. comes_in s frame says h) (λ _. h)
-
-  -- the delayed frames are others, or one more
-  delayed_put : (P : List ℕ → Type 0) (fate : Fate) (frame : List ℕ) (path : PathState) → P frame → All P path.in_flight × All P path.delayed →
-      All P (with_delayed fate frame path).in_flight × All P (with_delayed fate frame path).delayed
-  delayed_put P fate frame path one all =
-      split (λ (p : PathState). All P p.in_flight × All P p.delayed) (comes_delayed fate) (record path { delayed = path.delayed ++ frame ∷ [] }) path
-      (λ _. (all.0, All-push P path.delayed frame all.1 one)) (λ _. all)
-
-  met : (fate : Fate) (s : LinkState) (frame : List ℕ) → FrameMatches f w frame → LinkInvariantFits f w s → LinkInvariantFits f w (meet fate s frame)
+  -- it met its fate
+  met : (fate : Fate) (s : LinkState) (frame : List ℕ) → FrameMatches f w frame → LinkInvariantFits f w s →
+      LinkInvariantFits f w (came fate s frame) × LinkInvariantFits f w (meet fate s frame)
   met fate s frame says h =
       let u = came fate s frame in
-      let c = came_in fate s frame says h in
-      let all = delayed_put (FrameMatches f w) fate frame u.forward says (c.way.coming, c.way.delayed) in
-      record { way = coming_are f w u.sender u.receiver u.forward _ u.reverse (λ _ _. all.0) (λ _. all.1) c.way; fits = c.fits }
-
-  -- the first of the delayed frames, or of those in flight, and the link without it
-  delayed_taken : (s : LinkState) (frame : List ℕ) (rest : List (List ℕ)) → s.forward.delayed ≡ frame ∷ rest → LinkInvariantFits f w s →
-      FrameMatches f w frame × LinkInvariantFits f w (record s { forward = record s.forward { delayed = rest } })
-  delayed_taken s frame rest is h =
-      let all = subst (All (FrameMatches f w)) is h.way.delayed in (
-        All-head (FrameMatches f w) frame rest all,
-        record { way = coming_are f w s.sender s.receiver s.forward _ s.reverse (λ _ a. a) (λ _. All-tail (FrameMatches f w) frame rest all) h.way; fits = h.fits },
+      let c : LinkInvariantFits f w u = split (LinkInvariantFits f w) (comes fate) (come s frame) s (λ _. comes_in s frame says h) (λ _. h) in (
+        c,
+        split (λ p. LinkInvariantFits f w (record u { forward = p })) (comes_delayed fate) (record u.forward { delayed = u.forward.delayed ++ frame ∷ [] }) u.forward
+            (λ _. assumption (All-push (FrameMatches f w) u.forward.delayed frame c.way.delayed says)) (λ _. c),
       )
-
-  frame_taken : (s : LinkState) (frame : List ℕ) (rest : List (List ℕ)) → s.forward.in_flight ≡ frame ∷ rest → LinkInvariantFits f w s →
-      FrameMatches f w frame × LinkInvariantFits f w (take_frame s rest)
-  frame_taken s frame rest is h =
-      let all = subst (All (FrameMatches f w)) is h.way.coming in (
-        All-head (FrameMatches f w) frame rest all,
-        record { way = coming_are f w s.sender s.receiver s.forward _ s.reverse (λ _ _. All-tail (FrameMatches f w) frame rest all) (λ a. a) h.way; fits = h.fits },
-      )
-
-  all_told : (s : LinkState) → LinkInvariantFits f w s → LinkInvariantFits f w (acknowledge_all s)
-  all_told s h = record {
-    way = acked_reverse f w s.sender s.receiver s.forward s.reverse _ (ack_of s.receiver) refl (tells s.sender s.receiver s.forward s.reverse h.fits h.way) h.way;
-    fits = h.fits;
-  }
 
   -- ---- step 5
-  still_sends : (v : SenderState) (n : ℕ) (ranges : List (ℕ × ℕ)) → v.first_unacknowledged ≤ n → n ≤ end_of v → Sends f w v → Sends f w (sender_from v n ranges)
+  still_sends : (v : SenderState) (n : ℕ) (ranges : List (ℕ × ℕ)) → v.first_unacknowledged ≤ n → n ≤ end_of v →
+      Sends f w v → Sends f w (sender_from v n ranges)
   still_sends v n ranges low high h =
-      let from = h.from in
-      let end = h.end in
-      let size = length-drop (n - v.first_unacknowledged) v.queue in
       let place : (v.first_unacknowledged - f) + (n - v.first_unacknowledged) ≡ n - f = omega arith in
       record {
         from = omega arith;
-        end = omega arith;
+        end = omega (arith, length-drop (n - v.first_unacknowledged) v.queue);
         queue = ap (drop (n - v.first_unacknowledged)) h.queue ∙ drop-drop (n - v.first_unacknowledged) (v.first_unacknowledged - f) w ∙ ap (λ k. drop k w) place;
       }
 
-  acknowledged : (s : LinkState) (frame : List ℕ) → AckMatches s.receiver frame → LinkInvariantFits f w s → LinkInvariantFits f w (acknowledge s frame)
+  acknowledged : (s : LinkState) (frame : List ℕ) → AckMatches s.receiver frame → LinkInvariantFits f w s →
+      LinkInvariantFits f w (acknowledge s frame)
   acknowledged s frame says h = record {
     way = heard (λ v. PartsInvariant f w v s.receiver s.forward s.reverse) s.sender (segment_of frame)
-        (λ n xs at low high. record {
-          sends = still_sends s.sender n (blocks_of most_sack_blocks xs) low high h.way.sends;
-          receives = h.way.receives;
-          coming = h.way.coming;
-          delayed = h.way.delayed;
-          in_flight_reverse = h.way.in_flight_reverse;
-          delayed_reverse = h.way.delayed_reverse;
-          behind = (says n xs at).0;
-          sack_blocks = (says n xs at).1;
-        })
-        h.way;
-    fits = subst (λ n. n < 2 ^ 64) (sym (by_keeps_end s.sender (segment_of frame))) h.fits;
+        (λ n xs at low high. assumption (says n xs at, still_sends s.sender n (blocks_of most_sack_blocks xs) low high h.way.sends)) h.way;
+    fits = omega (arith, by_keeps_end s.sender (segment_of frame));
   }
 
-  came_reverse : (fate : Fate) (s : LinkState) (frame : List ℕ) → AckMatches s.receiver frame → LinkInvariantFits f w s → LinkInvariantFits f w (came_ack fate s frame)
-  came_reverse fate s frame says h = split (LinkInvariantFits f w) (comes fate) (acknowledge s frame) s (λ _. acknowledged s frame says h) (λ _. h)
+  -- what an acknowledgement that met its fate leaves
+  put_ack : (fate : Fate) (u : LinkState) (frame : List ℕ) → AckMatches u.receiver frame → LinkInvariantFits f w u →
+      LinkInvariantFits f w (record u { reverse = with_delayed fate frame u.reverse })
+  put_ack fate u frame says h =
+      split (λ p. LinkInvariantFits f w (record u { reverse = p })) (comes_delayed fate) (record u.reverse { delayed = u.reverse.delayed ++ frame ∷ [] }) u.reverse
+      (λ _. assumption (All-push (AckMatches u.receiver) u.reverse.delayed frame h.way.delayed_reverse says)) (λ _. h)
 
-  -- a sender's acknowledgement leaves the receiver
-  same_receiver : (fate : Fate) (s : LinkState) (frame : List ℕ) → (came_ack fate s frame).receiver ≡ s.receiver
-  same_receiver fate s frame = split (λ u. u.receiver ≡ s.receiver) (comes fate) (acknowledge s frame) s (λ _. refl) (λ _. refl)
-
-  met_ack : (fate : Fate) (s : LinkState) (frame : List ℕ) → AckMatches s.receiver frame → LinkInvariantFits f w s → LinkInvariantFits f w (meet_ack fate s frame)
+  met_ack : (fate : Fate) (s : LinkState) (frame : List ℕ) → AckMatches s.receiver frame → LinkInvariantFits f w s →
+      LinkInvariantFits f w (came_ack fate s frame) × LinkInvariantFits f w (meet_ack fate s frame)
   met_ack fate s frame says h =
-      let u = came_ack fate s frame in
-      let c = came_reverse fate s frame says h in
-      let all = delayed_put (AckMatches u.receiver) fate frame u.reverse (subst (λ r. AckMatches r frame) (sym (same_receiver fate s frame)) says) (c.way.in_flight_reverse, c.way.delayed_reverse) in
-      record { way = going_are f w u.sender u.receiver u.forward u.reverse _ (λ _. all.0) (λ _. all.1) c.way; fits = c.fits }
-
-  ack_taken : (s : LinkState) (frame : List ℕ) (rest : List (List ℕ)) → s.reverse.in_flight ≡ frame ∷ rest → LinkInvariantFits f w s →
-      AckMatches s.receiver frame × LinkInvariantFits f w (take_ack s rest)
-  ack_taken s frame rest is h =
-      let all = subst (All (AckMatches s.receiver)) is h.way.in_flight_reverse in (
-        All-head (AckMatches s.receiver) frame rest all,
-        record { way = going_are f w s.sender s.receiver s.forward s.reverse _ (λ _. All-tail (AckMatches s.receiver) frame rest all) (λ a. a) h.way; fits = h.fits },
-      )
-
-  delayed_ack_taken : (s : LinkState) (frame : List ℕ) (rest : List (List ℕ)) → s.reverse.delayed ≡ frame ∷ rest → LinkInvariantFits f w s →
-      AckMatches s.receiver frame × LinkInvariantFits f w (record s { reverse = record s.reverse { delayed = rest } })
-  delayed_ack_taken s frame rest is h =
-      let all = subst (All (AckMatches s.receiver)) is h.way.delayed_reverse in (
-        All-head (AckMatches s.receiver) frame rest all,
-        record { way = going_are f w s.sender s.receiver s.forward s.reverse _ (λ a. a) (λ _. All-tail (AckMatches s.receiver) frame rest all) h.way; fits = h.fits },
-      )
+      let acked = acknowledged s frame says h in
+      split (λ u. LinkInvariantFits f w u × LinkInvariantFits f w (record u { reverse = with_delayed fate frame u.reverse })) (comes fate) (acknowledge s frame) s
+      (λ _. (acked, put_ack fate (acknowledge s frame) frame says acked)) (λ _. (h, put_ack fate s frame says h))
 
   -- ---- a round
   steps_keep : StepsKeep (LinkInvariantFits f w)
   steps_keep = record {
     sent = λ n s h. (at_parts n s h).carries;
-    delayed = λ s frame rest is h. (let one = delayed_taken s frame rest is h in (taken _ frame one.0 one.1, comes_in _ frame one.0 one.1));
+    delayed = λ s frame rest is h.
+        let all = subst (All (FrameMatches f w)) is h.way.delayed in
+        let says = All-head (FrameMatches f w) frame rest all in
+        let u : LinkState = record s { forward = record s.forward { delayed = rest } } in
+        let taken_off : LinkInvariantFits f w u = assumption (All-tail (FrameMatches f w) frame rest all) in
+        (taken u frame says taken_off, comes_in u frame says taken_off);
     passed = λ s frame rest is h.
-        let one = frame_taken s frame rest is h in
-        let fate = next_fate s.forward.fates in
-        (taken _ frame one.0 one.1, came_in fate _ frame one.0 one.1, met fate _ frame one.0 one.1);
-    told = all_told;
-    ack_delayed = λ s frame rest is h. (let one = delayed_ack_taken s frame rest is h in acknowledged _ frame one.0 one.1);
+        let all = subst (All (FrameMatches f w)) is h.way.coming in
+        let says = All-head (FrameMatches f w) frame rest all in
+        let u = take_frame s rest in
+        let taken_off : LinkInvariantFits f w u = assumption (All-tail (FrameMatches f w) frame rest all) in
+        let both = met (next_fate s.forward.fates) u frame says taken_off in
+        (taken u frame says taken_off, both.0, both.1);
+    told = λ s h. assumption (All-push (AckMatches s.receiver) s.reverse.in_flight (ack_of s.receiver) h.way.in_flight_reverse
+        (tells s.sender s.receiver s.forward s.reverse h.fits h.way));
+    ack_delayed = λ s frame rest is h.
+        let all = subst (All (AckMatches s.receiver)) is h.way.delayed_reverse in
+        let u : LinkState = record s { reverse = record s.reverse { delayed = rest } } in
+        acknowledged u frame (All-head (AckMatches s.receiver) frame rest all) (assumption (All-tail (AckMatches s.receiver) frame rest all));
     ack_passed = λ s frame rest is h.
-        let one = ack_taken s frame rest is h in
-        let fate = next_fate s.reverse.fates in
-        (came_reverse fate _ frame one.0 one.1, met_ack fate _ frame one.0 one.1);
-    burst = λ s h. record { way = h.way; fits = h.fits };
+        let all = subst (All (AckMatches s.receiver)) is h.way.in_flight_reverse in
+        met_ack (next_fate s.reverse.fates) (take_ack s rest) frame (All-head (AckMatches s.receiver) frame rest all)
+        (assumption (All-tail (AckMatches s.receiver) frame rest all));
+    burst = λ s h. assumption;
   }
 
   pub round_keeps_invariant : (s : LinkState) → LinkInvariantFits f w s → LinkInvariantFits f w (round s)

@@ -1,36 +1,87 @@
--- The bytes written are a prefix of the bytes read, turn by turn, by the functions alone.
-use Rattle.std.proofs.Common.{◌≡◌, ℕ, ◌+◌, ◌-◌, ◌≤◌, ◌<◌, min, nat_eq, nat_lt, Bool, true, false, List, [], ◌∷◌, ◌++◌, length, take, drop, refl, sym, ap, subst, ◌∙◌, arith, ⊎_elim, length-append, length-take, length-drop, take-add, append_assoc}
+-- What rounds and turns keep of what a copy read and wrote, and how many turns it makes.
+use Rattle.std.proofs.Common.{◌≡◌, ℕ, ◌≤◌, List, Option, ◌∙◌, le_trans, arith, ◌+◌, ◌-◌, ◌<◌, min, nat_eq, nat_lt, Bool}
+use Rattle.std.proofs.Common.{true, false, [], ◌∷◌, ◌++◌, length, take, drop, refl, sym, ap, subst, ⊎_elim}
+use Rattle.std.proofs.Common.{length-append, length-take, length-drop, take-add, append_assoc, ◌⊎◌, ◌||◌, zero, suc}
+use Rattle.std.proofs.Common.{◌*◌, not, cond, inl, inr, mul-le-mul_right}
+use Rattle.net_receiver.specs.ReceiverState.{ReceiverState, fresh_receiver, receiver_after_read}
+use Rattle.net_receiver.specs.OneStream.{SegmentReadsNothing, QueueIsOf}
+use Rattle.net_stream_model.specs.SenderState.{SenderState, after_ack_frame, with_written, Sends}
+use Rattle.net_stream_model.specs.Frames.{segment_of}
+use Rattle.net_stream_model.specs.SackBlocks.{most_sack_blocks}
+use Rattle.net_stream_model.specs.Fates.{next_fate, comes}
+use Rattle.net_stream_model.specs.LinkState.{LinkState, Cursor, start, part, take_in, come, came, take_frame}
+use Rattle.net_stream_model.specs.LinkState.{acknowledge, came_ack, take_ack, round, StopsRound}
+use Rattle.net_stream_model.proofs.Steps.{arrives, heard, keeps, split, by_part, StepsKeep, round_kept, stop_kept}
+use Rattle.net_stream_model.proofs.Steps.{stays, enough, first_is}
 use Rattle.std.specs.Io.{StartsWith}
-use Rattle.std.proofs.lemmas.Bool.{and_parts, both_ways, cases_lt, eqb-true, ltb-true, ltb-false}
-use Rattle.std.proofs.lemmas.List.{take_all, take-take, take-append-le, take-append-drop, append-nil, drop-append-le}
+use Rattle.std.proofs.lemmas.Bool.{both_ways, cases_Bool, ltb-true, ltb-false, cases_lt}
+use Rattle.std.proofs.lemmas.List.{take_all, take_min, take-take, take-append-le, take-append-drop, append-nil}
+use Rattle.std.proofs.lemmas.List.{drop-append-le}
 use Rattle.std.proofs.Math.Seq.{take-append_seam}
-use Rattle.net_receiver.specs.ReceiverState.{ReceiverState, fresh_receiver, next_position, receiver_after_read}
-use Rattle.net_receiver.specs.OneStream.{QueueIsOf}
-use Rattle.net_stream_model.specs.SenderState.{SenderState, end_of, with_written, Sends}
-use Rattle.net_stream_model.specs.LinkState.{LinkState, round}
-use Rattle.net_stream_model.specs.CopyState.{Setup, CopyState, Running, Done, begin, is_written, rest_of, read_of, room_for, feed, decide, waited, pass, after}
+use Rattle.net_stream_model.specs.CopyState.{Setup, CopyState, Running, Done, begin, is_written, rest_of, room_for}
+use Rattle.net_stream_model.specs.CopyState.{feed, decide, waited, pass, after, turn, outcome, concat, most_turns}
 use Rattle.net_stream_model.specs.Streams.{Known, LinkInvariantFits, Writes, ReadWrites, PassWrites, AllWritten}
-use Rattle.net_stream_model.specs.Promises.{StartsFits, before_end, WritesPrefix, WritesAll}
-use Rattle.net_stream_model.proofs.Invariant.{begun, took, written}
-use Rattle.net_stream_model.proofs.Queue.{queue_from}
-use Rattle.net_stream_model.proofs.Reached.{first_is}
-use Rattle.net_stream_model.proofs.Kept.{round_keeps_invariant}
-use Rattle.net_stream_model.proofs.Steps.{split}
-use Rattle.net_stream_model.proofs.Grown.{grown}
-use Rattle.net_stream_model.proofs.Turns.{feeds, decides, all_turned}
+use Rattle.net_stream_model.specs.Promises.{StartsFits, before_end, WritesPrefix, WritesAll, FewRoundsAnyway, Ends}
+use Rattle.net_stream_model.specs.Promises.{HasEnded, Stays, FinalIs, CopiedIs, EndsInOneTurn}
+use Rattle.net_stream_model.proofs.Kept.{begun, took, written, queue_from, round_keeps_invariant}
+use Rattle.net_stream_model.proofs.Turns.{written_parts, fed_by, decides, all_turned, ended, running_or_not, fed_leaves}
+use Rattle.net_stream_model.proofs.Turns.{turns}
+use Rattle.std.proofs.lemmas.Bool.Decides.{nat_tests}
+use Rattle.std.proofs.Math.Nat.{add-mul}
 
-take_min : (n : ℕ) (xs : List ℕ) → take n xs ≡ take (min n (length xs)) xs
-take_min n xs =
-    ⊎_elim {C = take n xs ≡ take (min n (length xs)) xs}
-    (λ (l : n < length xs). ap (λ k. take k xs) (let e : n ≡ min n (length xs) = omega arith in e))
-    (λ (l : length xs ≤ n). take_all n xs l ∙ sym (take_all (min n (length xs)) xs (omega arith)))
-    (cases_lt n (length xs))
+-- a sender never goes back
+pub head_grows : (v : SenderState) (o : Option (ℕ × List ℕ)) → v.first_unacknowledged ≤ (after_ack_frame v o).first_unacknowledged
+head_grows v o = heard (λ (u : SenderState). v.first_unacknowledged ≤ u.first_unacknowledged) v o (λ n xs _ low _. low) (omega arith)
 
+module _ (reads_nothing : SegmentReadsNothing) (from been : ℕ) where
+  -- the sender keeps no position before `from`, and so many bytes were read
+  abbrev pub Grown : LinkState → Type 0
+  Grown s = (from ≤ s.sender.first_unacknowledged) × (s.receiver.read ≡ been)
+
+  takes : (s : LinkState) (frame : List ℕ) → Grown s → Grown (take_in s frame)
+  takes s frame h = (
+    h.0,
+    arrives (λ (u : ReceiverState). u.read ≡ been) most_sack_blocks s.receiver (segment_of frame)
+        (λ pos xs _. reads_nothing most_sack_blocks s.receiver pos xs ∙ h.1) h.1,
+  )
+
+  acknowledged : (s : LinkState) (frame : List ℕ) → Grown s → Grown (acknowledge s frame)
+  acknowledged s frame h = (le_trans h.0 (head_grows s.sender (segment_of frame)), h.1)
+
+  steps_keep : StepsKeep Grown
+  steps_keep = record {
+    sent = λ n s h. keeps (λ (c : Cursor). Grown c.link) part (λ c g. by_part (λ (d : Cursor). Grown d.link) c g (λ _ _. g) (λ _ _. g)) n (start s) h;
+    delayed = λ s frame rest _ h. (let one = takes (record s { forward = record s.forward { delayed = rest } }) frame h in (one, one));
+    passed = λ s frame rest _ h.
+        let u = take_frame s rest in
+        let one = takes u frame h in
+        let fate = next_fate s.forward.fates in
+        let met : Grown (came fate u frame) = split Grown (comes fate) (come u frame) u (λ _. one) (λ _. h) in
+        (one, met, met);
+    told = λ s h. h;
+    ack_delayed = λ s frame rest _ h. acknowledged (record s { reverse = record s.reverse { delayed = rest } }) frame h;
+    ack_passed = λ s frame rest _ h.
+        let u = take_ack s rest in
+        let fate = next_fate s.reverse.fates in
+        let met : Grown (came_ack fate u frame) = split Grown (comes fate) (acknowledge u frame) u (λ _. acknowledged u frame h) (λ _. h) in
+        (met, met);
+    burst = λ s h. h;
+  }
+
+  pub grown : (s : LinkState) → Grown s → Grown (round s)
+  grown = round_kept Grown steps_keep
+
+  -- so does a round that lacks memory
+  pub stopped : (s v : LinkState) → StopsRound s v → Grown s → Grown v
+  stopped = stop_kept Grown steps_keep
+
+-- ======== The bytes written are a prefix of the bytes read, turn by turn, by the functions alone
 -- what a receiver gives out comes next
-gives_next : (n : ℕ) (g : List ℕ) (r : ReceiverState) → QueueIsOf g r → take r.read g ++ take n r.queue ≡ take (r.read + min n (length r.queue)) g
+gives_next : (n : ℕ) (g : List ℕ) (r : ReceiverState) → QueueIsOf g r →
+    take r.read g ++ take n r.queue ≡ take (r.read + min n (length r.queue)) g
 gives_next n g r q =
     let m = min n (length r.queue) in
-    ap (λ l. take r.read g ++ l) (take_min n r.queue ∙ ap (take m) q.queue ∙ take-take m (length r.queue) (drop r.read g) (omega arith))
+    ap (λ l. take r.read g ++ l) (sym (take_min n r.queue) ∙ ap (take m) q.queue ∙ take-take m (length r.queue) (drop r.read g) (omega arith))
     ∙ sym (take-add r.read m g)
 
 -- a list that has bytes, before others
@@ -39,7 +90,8 @@ before_more [] reads some = absurd (omega arith)
 before_more (x ∷ xs) reads some = refl
 
 -- a read takes nothing from the bytes to come but what it gives
-pub before_rest : (room : ℕ) (xs : List ℕ) (reads : List (List ℕ)) → 0 < length xs → take room xs ++ before_end (rest_of room xs reads) ≡ before_end (xs ∷ reads)
+pub before_rest : (room : ℕ) (xs : List ℕ) (reads : List (List ℕ)) → 0 < length xs →
+    take room xs ++ before_end (rest_of room xs reads) ≡ before_end (xs ∷ reads)
 before_rest room xs reads some =
     split (λ l. take room xs ++ before_end l ≡ before_end (xs ∷ reads)) (nat_lt room (length xs)) (drop room xs ∷ reads) reads
     (λ e.
@@ -51,16 +103,11 @@ before_rest room xs reads some =
 
 -- what was written is the rest of the stream
 more_sent : (f : ℕ) (w : List ℕ) (v : SenderState) (xs : List ℕ) → Sends f w v → Sends f (w ++ xs) (with_written v xs)
-more_sent f w v xs s =
-    let from = s.from in
-    let end = s.end in
-    let both = length-append v.queue xs in
-    let all = length-append w xs in
-    record {
-      from = from;
-      end = omega arith;
-      queue = ap (λ q. q ++ xs) s.queue ∙ sym (drop-append-le (v.first_unacknowledged - f) w xs (omega arith));
-    }
+more_sent f w v xs s = record {
+  from = s.from;
+  end = omega (arith, length-append {A = ℕ});
+  queue = ap (λ q. q ++ xs) s.queue ∙ sym (drop-append-le (v.first_unacknowledged - f) w xs (omega arith));
+}
 
 module _ (known : Known) where
   pub queue_of : (f : ℕ) (g : List ℕ) (l : LinkState) → LinkInvariantFits f g l → QueueIsOf g l.receiver
@@ -73,14 +120,11 @@ module _ (known : Known) where
       let g = c.given in
       let room = room_for chunk c.link in
       let ys = take room xs in
-      let q = (queue_of f g c.link h.carries).within in
-      let fits = h.carries.fits in
-      let few = length-take room xs in
-      let long = length-append s.queue ys in
+      let q = queue_of f g c.link h.carries in
       record {
         carries = record {
           way = written known.says_longer known.longer f g ys s (with_written s ys) c.link.receiver c.link.forward c.link.reverse refl refl (more_sent f g s ys) h.carries.way;
-          fits = omega arith;
+          fits = omega (arith, length-append s.queue ys, length-take room xs);
         };
         written = h.written ∙ sym (take-append-le c.link.receiver.read g ys (omega arith));
       }
@@ -104,13 +148,9 @@ module _ (known : Known) where
 -- where all that was read is written, the whole is
 pub all_written : AllWritten
 all_written f g c is h =
-    let s = c.link in
-    let both = and_parts (nat_eq (next_position s.receiver) (end_of s.sender)) (nat_eq (length s.receiver.queue) 0) is in
-    let reached = eqb-true (next_position s.receiver) (end_of s.sender) both.0 in
-    let none = eqb-true (length s.receiver.queue) 0 both.1 in
-    let end = h.carries.way.sends.end in
-    let first = first_is f g s.receiver h.carries.way.receives in
-    h.written ∙ take_all s.receiver.read g (omega arith)
+    let parts = written_parts c.link is in
+    let first = first_is f g c.link.receiver h.carries.way.receives in
+    h.written ∙ take_all c.link.receiver.read g (omega arith)
 
 -- ---- turns
 module _ (known : Known) (s : Setup) (reads : List (List ℕ)) where
@@ -121,37 +161,30 @@ module _ (known : Known) (s : Setup) (reads : List (List ℕ)) where
     pub over : c.more ≡ false → c.given ≡ before_end reads
     pub done : c.status ≡ Done → (c.more ≡ false) × (is_written c.link ≡ true)
 
-  read_so_far : (c : CopyState) → c.status ≡ Running → c.more ≡ true → SoFar c → SoFar (read_of (room_for s.chunk c.link) c c.reads)
-  read_so_far c on more h = by c.reads (h.coming more)
-    where
-      by : (rs : List (List ℕ)) → c.given ++ before_end rs ≡ before_end reads → SoFar (read_of (room_for s.chunk c.link) c rs)
-      by [] e = record { writes = record { carries = h.writes.carries; written = h.writes.written }; coming = h.coming; over = h.over; done = λ d. absurd (cc) }
-      by ([] ∷ rs) e = record {
-        writes = record { carries = h.writes.carries; written = h.writes.written };
+  pub fed_so_far : (c : CopyState) → SoFar c → SoFar (feed s.chunk c)
+  fed_so_far c h = fed_by SoFar s.chunk c
+      (λ _ _. record { writes = search; coming = h.coming; over = h.over; done = λ d. absurd (cc) })
+      (λ rest may is. record {
+        writes = search;
         coming = λ m. absurd (both_ways false refl m);
-        over = λ m. sym (append-nil c.given) ∙ e;
-        done = λ d. absurd (cc);
-      }
-      by ((x ∷ xs) ∷ rs) e =
-          let room = room_for s.chunk c.link in
-          record {
-            writes = read_writes known s.first s.chunk c (x ∷ xs) rs h.writes;
-            coming = λ m. append_assoc c.given (take room (x ∷ xs)) (before_end (rest_of room (x ∷ xs) rs))
-                ∙ ap (λ l. c.given ++ l) (before_rest room (x ∷ xs) rs (omega arith)) ∙ e;
-            over = λ m. absurd (cc);
-            done = λ d. absurd (cc);
-          }
+        over = λ m. sym (append-nil c.given) ∙ ap (λ l. c.given ++ before_end l) (sym is) ∙ h.coming may.0;
+        done = λ d. absurd (both_ways c.more (h.done d).0 may.0);
+      })
+      (λ x xs rest may is.
+      let room = room_for s.chunk c.link in
+      record {
+        writes = read_writes known s.first s.chunk c (x ∷ xs) rest h.writes;
+        coming = λ m. append_assoc c.given (take room (x ∷ xs)) (before_end (rest_of room (x ∷ xs) rest))
+            ∙ ap (λ l. c.given ++ l) (before_rest room (x ∷ xs) rest (omega arith) ∙ ap before_end (sym is)) ∙ h.coming may.0;
+        over = λ m. absurd (both_ways c.more m may.0);
+        done = λ d. absurd (both_ways c.more (h.done d).0 may.0);
+      })
+      (λ _. h)
 
-  pub fed_so_far : (c : CopyState) → c.status ≡ Running → SoFar c → SoFar (feed s.chunk c)
-  fed_so_far c on h = feeds SoFar s.chunk c (λ more room all. read_so_far c on more h) h
-
-  pub decided_so_far : (c : CopyState) → c.status ≡ Running → SoFar c → SoFar (decide s.rounds c)
-  decided_so_far c on h =
-      let w : Writes s.first c.given c = h.writes in
-      decides SoFar s.rounds c
-      (λ none all. record { writes = record { carries = w.carries; written = w.written }; coming = h.coming; over = h.over; done = λ d. (none, all) })
-      (λ many. record { writes = record { carries = w.carries; written = w.written }; coming = h.coming; over = h.over; done = λ d. absurd (cc) })
-      (λ few. h)
+  pub decided_so_far : (c : CopyState) → SoFar c → SoFar (decide s.rounds c)
+  decided_so_far c h = decides SoFar s.rounds c
+      (λ none all. record { writes = search; coming = h.coming; over = h.over; done = λ d. (none, all) })
+      (λ many. record { writes = search; coming = h.coming; over = h.over; done = λ d. absurd (cc) }) (λ few. h)
 
   pub passed_so_far : (c : CopyState) → c.status ≡ Running → SoFar c → SoFar (pass s.chunk c)
   passed_so_far c on h = record {
@@ -177,7 +210,7 @@ module _ (known : Known) (s : Setup) (reads : List (List ℕ)) where
   }
 
   pub so_far : StartsFits s → (n : ℕ) → SoFar (after s reads n)
-  so_far fits n = all_turned SoFar s.rounds s.chunk fed_so_far decided_so_far passed_so_far n (begin s reads) (begun_so_far fits)
+  so_far fits n = all_turned SoFar s.rounds s.chunk (λ c _. fed_so_far c) (λ c _. decided_so_far c) passed_so_far n (begin s reads) (begun_so_far fits)
 
 -- so many first bytes
 pub starts_with : (xs ys zs : List ℕ) → ys ++ zs ≡ xs → StartsWith xs ys
@@ -189,12 +222,13 @@ starts_take n xs = starts_with xs (take n xs) (drop n xs) (take-append-drop n xs
 pub writes_prefix : Known → WritesPrefix
 writes_prefix known s reads n fits =
     let c = after s reads n in
-    let h = so_far known s reads fits n in
-    (given c.more refl h, subst (StartsWith c.given) (sym h.writes.written) (starts_take c.link.receiver.read c.given))
-  where
-    given : (b : Bool) → (after s reads n).more ≡ b → SoFar known s reads (after s reads n) → StartsWith (before_end reads) (after s reads n).given
-    given true e h = starts_with (before_end reads) (after s reads n).given (before_end (after s reads n).reads) (h.coming e)
-    given false e h = starts_with (before_end reads) (after s reads n).given [] (append-nil (after s reads n).given ∙ h.over e)
+    let h = so_far known s reads fits n in (
+      ⊎_elim {C = StartsWith (before_end reads) c.given}
+          (λ (e : c.more ≡ true). starts_with (before_end reads) c.given (before_end c.reads) (h.coming e))
+          (λ (e : c.more ≡ false). starts_with (before_end reads) c.given [] (append-nil c.given ∙ h.over e))
+          (cases_Bool c.more),
+      subst (StartsWith c.given) (sym h.writes.written) (starts_take c.link.receiver.read c.given),
+    )
 
 pub writes_all : Known → WritesAll
 writes_all known s reads n fits is =
@@ -202,3 +236,147 @@ writes_all known s reads n fits is =
     let h = so_far known s reads fits n in
     let done = h.done is in
     all_written s.first c.given c done.1 h.writes ∙ h.over done.0
+
+-- ======== How many turns and rounds a copy makes at most, and what comes of it
+-- how far a link is: the position before which all is acknowledged, and how many bytes were read
+abbrev pub far : LinkState → ℕ
+far l = l.sender.first_unacknowledged + l.receiver.read
+
+-- from x a round led to x': it made progress, or is one more that didn't
+abbrev pub Moves : ℕ → ℕ → ℕ → ℕ → Type 0
+Moves x x' t t' = ((x < x') × (t' ≡ 0)) ⊎ ((x ≤ x') × (t' ≡ t + 1))
+
+pub progresses : SegmentReadsNothing → (chunk : ℕ) (c : CopyState) →
+    (c.link.sender.first_unacknowledged ≤ (pass chunk c).link.sender.first_unacknowledged) × Moves (far c.link) (far (pass chunk c).link) c.stalled (pass chunk c).stalled
+progresses reads_nothing chunk c =
+    let h = grown reads_nothing c.link.sender.first_unacknowledged c.link.receiver.read (waited c) (omega arith, refl) in
+    let m = round (waited c) in (
+      h.0,
+      by m.sender.first_unacknowledged m.receiver.read (min chunk (length m.receiver.queue)) (not (nat_eq m.sender.first_unacknowledged c.link.sender.first_unacknowledged))
+          (nat_lt 0 (min chunk (length m.receiver.queue))) refl refl h.0 h.1,
+    )
+  where
+    by : (head read k : ℕ) (moved some : Bool) → not (nat_eq head c.link.sender.first_unacknowledged) ≡ moved →
+        nat_lt 0 k ≡ some → c.link.sender.first_unacknowledged ≤ head → read ≡ c.link.receiver.read →
+        Moves (far c.link) (head + (read + k)) c.stalled (cond (moved || some) 0 (c.stalled + 1))
+    by head read k true some m e b r = inl (grind (arith, nat_tests), refl)
+    by head read k false true m e b r = inl ((let l = ltb-true 0 k e in omega arith), refl)
+    by head read k false false m e b r = inr (omega arith, refl)
+
+-- at most r rounds in a row make no progress
+one_more : (r f x x' t t' : ℕ) → f ≤ x → t < r → Moves x x' t t' → ((x - f) * r + t + 1 ≤ (x' - f) * r + t') × (t' ≤ r)
+one_more r f x x' t t' from few (inl (more, none)) =
+    let one : (x - f + 1) * r ≤ (x' - f) * r = mul-le-mul_right r (omega arith) in
+    let is : (x - f + 1) * r ≡ (x - f) * r + 1 * r = add-mul (x - f) 1 r in
+    (omega arith, omega arith)
+one_more r f x x' t t' from few (inr (same, more)) = (let one : (x - f) * r ≤ (x' - f) * r = mul-le-mul_right r (omega arith) in (omega arith, omega arith))
+
+module _ (reads_nothing : SegmentReadsNothing) (s : Setup) where
+  -- how many bytes were acknowledged, and how many were read
+  abbrev pub gone : CopyState → ℕ
+  gone c = far c.link - s.first
+
+  -- no more rounds were made, and no more turns, than bytes were acknowledged or written, `rounds` times, and rounds
+  -- in a row without progress
+  abbrev pub Counted : ℕ → CopyState → Type 0
+  Counted n c = (s.first ≤ c.link.sender.first_unacknowledged) × (c.rounds ≤ gone c * s.rounds + c.stalled) × (c.stalled ≤ s.rounds)
+      × (c.status ≡ Running → n ≤ gone c * s.rounds + c.stalled)
+
+  pub counted : (reads : List (List ℕ)) (n : ℕ) → Counted n (after s reads n)
+  counted reads zero = (omega arith, omega arith, omega arith, λ r. omega arith)
+  counted reads (suc n) =
+      let c = after s reads n in
+      let h = counted reads n in
+      let e = feed s.chunk c in
+      let f = fed_leaves s.chunk c in
+      let all : gone e * s.rounds ≡ gone c * s.rounds = λ i. (f.first_unacknowledged i + (f.receiver i).read - s.first) * s.rounds in
+      let low : s.first ≤ e.link.sender.first_unacknowledged = omega arith in
+      let rounds : e.rounds ≤ gone e * s.rounds + e.stalled = omega arith in
+      let few : e.stalled ≤ s.rounds = omega arith in
+      ⊎_elim {C = Counted (suc n) (turn s.rounds s.chunk c)}
+      (λ (on : c.status ≡ Running).
+      let turns_few = h.3 on in
+      turns (Counted (suc n)) s.rounds s.chunk c on (λ failed. (low, rounds, few, λ r. absurd (cc))) (λ done. (low, rounds, few, λ r. absurd (cc)))
+      (λ _ _ many. (low, rounds, few, λ r. absurd (cc)))
+      (λ _ _ less.
+      let step = progresses reads_nothing s.chunk e in
+      let grows = one_more s.rounds s.first (far e.link) (far (pass s.chunk e).link) e.stalled (pass s.chunk e).stalled (omega arith) less step.1 in
+      (omega arith, omega arith, omega arith, λ r. omega arith)))
+      (λ (over : HasEnded c). subst (Counted (suc n)) (sym (ended s.rounds s.chunk c over)) (h.0, h.1, h.2, λ r. absurd (over r)))
+      (running_or_not c.status)
+
+-- so many at most, of r each
+few_of : (r x t m : ℕ) → x ≤ 2 * m → t ≤ r → x * r + t ≤ (2 * m + 1) * r
+few_of r x t m few less =
+    let one : x * r ≤ 2 * m * r = mul-le-mul_right r few in
+    let is : (2 * m + 1) * r ≡ 2 * m * r + 1 * r = add-mul (2 * m) 1 r in
+    omega arith
+
+-- the bytes before the end are no more than all
+before_few : (reads : List (List ℕ)) → length (before_end reads) ≤ length (concat reads)
+before_few [] = omega arith
+before_few ([] ∷ reads) = omega arith
+before_few ((x ∷ xs) ∷ reads) = omega (arith, before_few reads, length-append (x ∷ xs) (before_end reads), length-append (x ∷ xs) (concat reads))
+
+module _ (known : Known) (s : Setup) (reads : List (List ℕ)) (fits : StartsFits s) (n : ℕ) where
+  few_gone : gone known.reads_nothing s (after s reads n) ≤ 2 * length (after s reads n).given
+  few_gone =
+      let c = after s reads n in
+      let h = (so_far known s reads fits n).writes.carries in
+      let q = (queue_of known s.first c.given c.link h).within in
+      omega arith
+
+  few_given : length (after s reads n).given ≤ length (concat reads)
+  few_given =
+      let c = after s reads n in
+      let so = so_far known s reads fits n in
+      let few = before_few reads in
+      ⊎_elim {C = length c.given ≤ length (concat reads)}
+      (λ (e : c.more ≡ true). omega (arith, ap length (so.coming e), length-append c.given (before_end c.reads)))
+      (λ (e : c.more ≡ false). omega (arith, ap length (so.over e)))
+      (cases_Bool c.more)
+
+pub few_rounds_anyway : Known → FewRoundsAnyway
+few_rounds_anyway known s reads n fits =
+    let c = after s reads n in
+    let h = counted known.reads_nothing s reads n in
+    let few = few_of s.rounds (gone known.reads_nothing s c) c.stalled (length c.given) (few_gone known s reads fits n) h.2 in
+    omega arith
+
+pub ends : Known → Ends
+ends known s reads fits on =
+    let n = most_turns s reads in
+    let c = after s reads n in
+    let h = counted known.reads_nothing s reads n in
+    let gone_few = few_gone known s reads fits n in
+    let given = few_given known s reads fits n in
+    let turns_few = h.3 on in
+    let few = few_of s.rounds (gone known.reads_nothing s c) c.stalled (length (concat reads)) (omega arith) h.2 in
+    omega arith
+
+-- ---- an ended copy
+pub stays_so : Stays
+stays_so s reads n k over = stays (turn s.rounds s.chunk) (begin s reads) n k (ended s.rounds s.chunk (after s reads n) over)
+
+pub final_is : Known → FinalIs
+final_is known s reads n fits over =
+    let f = turn s.rounds s.chunk in
+    let m = most_turns s reads in
+    ⊎_elim {C = after s reads m ≡ after s reads n}
+    (λ (l : m < n). sym (enough f (begin s reads) m n (omega arith) (ended s.rounds s.chunk (after s reads m) (ends known s reads fits))))
+    (λ (l : n ≤ m). enough f (begin s reads) n m l (ended s.rounds s.chunk (after s reads n) over))
+    (cases_lt m n)
+
+pub copied_is : Known → CopiedIs
+copied_is known s reads n fits over = ap outcome (final_is known s reads n fits over)
+
+pub ends_in_one_turn : EndsInOneTurn
+ends_in_one_turn s reads zero over = absurd (over refl)
+ends_in_one_turn s reads (suc n) over = elim (running_or_not (after s reads n).status) [
+  | inl on ↦ (n, omega arith, on, refl)
+  | inr stays ↦ (
+      let h = ends_in_one_turn s reads n stays in
+      (h.0, omega arith, h.2, h.3 ∙ sym (ended s.rounds s.chunk (after s reads n) stays)))
+]
+
+pub ruleset laws_of_ends = (stays_so, final_is, copied_is, ends_in_one_turn)

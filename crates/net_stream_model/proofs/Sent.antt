@@ -1,103 +1,125 @@
--- What was sent of what a sender keeps.
-use Rattle.std.proofs.Common.{◌≡◌, ◌⊎◌, ℕ, ◌+◌, ◌-◌, ◌<◌, ◌≤◌, min, cond, nat_lt, Bool, true, false, List, [], ◌∷◌, ◌++◌, length, take}
-use Rattle.std.proofs.Common.{drop, All, refl, sym, ap, subst, ◌∙◌, arith, ⊎_elim, inl, inr, length-append, length-take, length-drop}
-use Rattle.std.proofs.Common.{append_assoc, take-add}
-use Rattle.std.proofs.lemmas.Bool.{both_ways, cond-true, cond-false, ltb-true}
-use Rattle.std.proofs.lemmas.List.{append-nil, take-take}
+-- Which positions are spared, and what a sender lends and sends of what it keeps.
+use Rattle.std.proofs.Common.{cond, min, max, ◌≡◌, ℕ, suc, ◌+◌, ◌-◌, ◌<◌, ◌≤◌, nat_lt, true, false, List, [], ◌∷◌}
+use Rattle.std.proofs.Common.{length, take, drop, get_or, drop-cons, length-take, refl, ◌∙◌, arith, sym, ap, ◌⊎◌, Bool}
+use Rattle.std.proofs.Common.{◌++◌, All, subst, length-append, length-drop, append_assoc, take-add}
+use Rattle.std.proofs.lemmas.Bool.Decides.{nat_tests}
+use Rattle.std.proofs.lemmas.List.{get_or-take, drop-drop, get_or-drop, append-nil, take-take}
+use Rattle.net_stream_model.specs.SackBlocks.{is_sacked, count_from, next_start, greatest_end, is_full}
+use Rattle.net_receiver.specs.OneStream.{MatchesStream, MatchesWhatIsThere}
+use Rattle.net_stream_model.specs.SenderState.{SenderState, Sends, end_of, contiguous_end, stop_of}
+use Rattle.std.proofs.lemmas.Bool.{both_ways}
 use Rattle.std.proofs.Math.Seq.{take-append_seam}
 use Rattle.std.proofs.lemmas.List.Elements.{All-nil, All-head, All-push}
-use Rattle.net_stream_model.specs.SenderState.{SenderState, end_of, contiguous_end}
-use Rattle.net_stream_model.specs.Frames.{Part, frame_of, frames_from, part_bytes}
-use Rattle.net_stream_model.specs.SackBlocks.{is_sacked, greatest_end, is_full}
+use Rattle.net_stream_model.specs.Frames.{Part, frames_from, part_bytes}
 use Rattle.net_stream_model.specs.PathState.{PathState}
-use Rattle.net_stream_model.specs.Transmission.{IsSackedIf, AreSparedIfSacked, HasSize}
-use Rattle.net_stream_model.specs.SenderState.{spared_from, next_block}
-use Rattle.net_stream_model.specs.Transmission.{part_end, HaveEnds, SendsPart, SendsPrefix, SendsRound}
-use Rattle.net_stream_model.specs.SenderState.{stop_of}
-use Rattle.net_stream_model.proofs.Spared.{end_from}
-use Rattle.net_stream_model.proofs.Steps.{split}
+use Rattle.net_stream_model.specs.Transmission.{IsSackedIf, AreSparedIfSacked, HasSize, part_end, HaveEnds, SendsPart}
+use Rattle.net_stream_model.specs.Transmission.{SendsPrefix, SendsRound}
 
+-- of the first n elements, those from one on are it and those after it
+pub rest_of_first : {X : Type 0} (n i : ℕ) (xs : List X) (d : X) → i < n → n ≤ length xs →
+    drop i (take n xs) ≡ get_or xs i d ∷ drop (i + 1) (take n xs)
+rest_of_first n i xs d below within =
+    let next : suc i ≡ i + 1 = omega arith in
+    drop-cons (take n xs) i d (omega (arith, length-take n xs)) ∙ (λ j. get_or-take n xs i d below j ∷ drop (next j) (take n xs))
+
+-- each position that is spared is in a range
+pub count_inside : (ranges : List (ℕ × ℕ)) (p q : ℕ) → p ≤ q → q < p + count_from ranges p → is_sacked ranges q ≡ true
+count_inside [] p q from to = absurd (omega arith)
+count_inside (range ∷ ranges) p q from to = let others = count_inside ranges p q in grind (arith, nat_tests)
+
+-- if none is, the first position is in no range
+pub count_none : (ranges : List (ℕ × ℕ)) (p : ℕ) → count_from ranges p ≡ 0 → is_sacked ranges p ≡ false
+count_none [] p none = refl
+count_none (range ∷ ranges) p none = let others = count_none ranges p in grind (arith, nat_tests)
+
+-- the next range begins no higher than the limit
+next_within : (ranges : List (ℕ × ℕ)) (p limit : ℕ) → next_start ranges p limit ≤ limit
+next_within [] p limit = omega arith
+next_within (range ∷ ranges) p limit =
+    let others = next_within ranges p (cond (nat_lt p range.0) (min range.0 limit) limit) in grind (arith, nat_tests)
+
+-- and above p, if the limit is
+pub next_above : (ranges : List (ℕ × ℕ)) (p limit : ℕ) → p < limit → p < next_start ranges p limit
+next_above [] p limit h = h
+next_above (range ∷ ranges) p limit h = next_above ranges p (cond (nat_lt p range.0) (min range.0 limit) limit) (grind (arith, nat_tests))
+
+-- between p and it no position is in a range, if p isn't
+pub next_between : (ranges : List (ℕ × ℕ)) (p limit q : ℕ) → is_sacked ranges p ≡ false → p ≤ q →
+    q < next_start ranges p limit → is_sacked ranges q ≡ false
+next_between [] p limit q none from to = refl
+next_between (range ∷ ranges) p limit q none from to =
+    let next = cond (nat_lt p range.0) (min range.0 limit) limit in
+    let below = next_within ranges p next in
+    let others = next_between ranges p next q in
+    grind (arith, nat_tests)
+
+-- no position in a range is above the last end
+pub end_from : (ranges : List (ℕ × ℕ)) (p : ℕ) → p ≤ greatest_end ranges p
+end_from [] p = omega arith
+end_from (range ∷ ranges) p = let others = end_from ranges (max p range.1) in omega arith
+
+-- ======== What a sender lends
+-- what a sender lends matches the stream
+pub lent_says : MatchesWhatIsThere → (f : ℕ) (w : List ℕ) (v : SenderState) (pos : ℕ) (xs : List ℕ) → Sends f w v →
+    v.first_unacknowledged ≤ pos →
+    xs ≡ take (length xs) (drop (pos - v.first_unacknowledged) v.queue) → MatchesStream f w pos xs
+lent_says says f w v pos xs s h is =
+    let place : (v.first_unacknowledged - f) + (pos - v.first_unacknowledged) ≡ pos - f = omega arith in
+    says f pos w xs (omega arith)
+    (is ∙ ap (λ q. take (length xs) (drop (pos - v.first_unacknowledged) q)) s.queue
+    ∙ ap (take (length xs)) (drop-drop (pos - v.first_unacknowledged) (v.first_unacknowledged - f) w ∙ ap (λ n. drop n w) place))
+
+-- and each of its bytes is kept there
+pub lent_at : (head pos : ℕ) (queue xs : List ℕ) → head ≤ pos → xs ≡ take (length xs) (drop (pos - head) queue) → (q d : ℕ) →
+    pos ≤ q → q < pos + length xs → get_or queue (q - head) d ≡ get_or xs (q - pos) d
+lent_at head pos queue xs h is = λ q d from to.
+    let place : (pos - head) + (q - pos) ≡ q - head = omega arith in
+    sym (ap (λ ys. get_or ys (q - pos) d) is
+    ∙ get_or-take (length xs) (drop (pos - head) queue) (q - pos) d (omega arith)
+    ∙ get_or-drop (pos - head) queue (q - pos) d
+    ∙ ap (λ k. get_or queue k d) place)
+
+-- ======== What was sent of what a sender keeps
 -- ---- where parts end
 pub row_above : (s : SenderState) (p : ℕ) → p < end_of s → p < contiguous_end s p
-row_above s p kept =
-    split (λ n. p < n) (nat_lt p s.wraps_at) (min s.wraps_at (end_of s)) (end_of s) (λ e. (let low = ltb-true p s.wraps_at e in omega arith)) (λ _. kept)
+row_above s p kept = grind (arith, nat_tests)
+
+pub row_within : (s : SenderState) (p : ℕ) → contiguous_end s p ≤ end_of s
+row_within s p = grind (arith, nat_tests)
 
 pub stop_within : (s : SenderState) → stop_of s ≤ end_of s
-stop_within s =
-    split (λ n. n ≤ end_of s) (is_full s.sack_blocks) (min (end_of s) (greatest_end s.sack_blocks s.first_unacknowledged + 1)) (end_of s)
-    (λ _. omega arith) (λ _. omega arith)
+stop_within s = grind (arith, nat_tests)
+
+stop_above : (s : SenderState) → 0 < length s.queue → s.first_unacknowledged < stop_of s
+stop_above s some = let from = end_from s.sack_blocks s.first_unacknowledged in grind (arith, nat_tests)
 
 -- ---- one part more
-joined_push : (parts : List Part) (spared : Bool) (xs : List ℕ) → part_bytes (parts ++ (spared, xs) ∷ []) ≡ part_bytes parts ++ xs
-joined_push [] spared xs = append-nil xs
-joined_push ((t, y) ∷ parts) spared xs = ap (λ l. y ++ l) (joined_push parts spared xs) ∙ sym (append_assoc y (part_bytes parts) xs)
+-- a part is one frame, or none if it is spared
+frame_count : (p k : ℕ) (spared : Bool) (xs : List ℕ) → k ≡ cond spared 0 1 → (length (frames_from p ((spared, xs) ∷ [])) ≡ k) × (k ≤ 1)
+frame_count p k true xs e = omega arith
+frame_count p k false xs e = omega arith
 
-frames_push : (b p : ℕ) (parts : List Part) (spared : Bool) (xs : List ℕ) → p ≡ b + length (part_bytes parts) →
-    frames_from b (parts ++ (spared, xs) ∷ []) ≡ frames_from b parts ++ frames_from p ((spared, xs) ∷ [])
-frames_push b p [] spared xs e = ap (λ n. frames_from n ((spared, xs) ∷ [])) (let h : b ≡ p = omega arith in h)
-frames_push b p ((true, y) ∷ parts) spared xs e =
-    let long : length (y ++ part_bytes parts) ≡ length y + length (part_bytes parts) = length-append y (part_bytes parts) in
-    frames_push (b + length y) p parts spared xs (omega arith)
-frames_push b p ((false, y) ∷ parts) spared xs e =
-    let long : length (y ++ part_bytes parts) ≡ length y + length (part_bytes parts) = length-append y (part_bytes parts) in
-    ap (λ l. frame_of b y ∷ l) (frames_push (b + length y) p parts spared xs (omega arith))
-
-marked_push : (ranges : List (ℕ × ℕ)) (b p : ℕ) (parts : List Part) (spared : Bool) (xs : List ℕ) → p ≡ b + length (part_bytes parts) →
-    AreSparedIfSacked ranges b parts → IsSackedIf ranges p (length xs) spared → AreSparedIfSacked ranges b (parts ++ (spared, xs) ∷ [])
-marked_push ranges b p [] spared xs e all one = (subst (λ n. IsSackedIf ranges n (length xs) spared) (let h : p ≡ b = omega arith in h) one, tt)
-marked_push ranges b p ((t, y) ∷ parts) spared xs e all one =
-    let long : length (y ++ part_bytes parts) ≡ length y + length (part_bytes parts) = length-append y (part_bytes parts) in
-    (all.0, marked_push ranges (b + length y) p parts spared xs (omega arith) all.1 one)
-
-ends_push : (s : SenderState) (most b p : ℕ) (parts : List Part) (spared : Bool) (xs : List ℕ) → p ≡ b + length (part_bytes parts) →
-    HaveEnds s most b parts → p < stop_of s → p + length xs ≡ part_end s most p → HaveEnds s most b (parts ++ (spared, xs) ∷ [])
-ends_push s most b p [] spared xs e all below end =
-    let h : p ≡ b = omega arith in
-    (subst (λ n. n < stop_of s) h below, subst (λ n. n + length xs ≡ part_end s most n) h end, tt)
-ends_push s most b p ((t, y) ∷ parts) spared xs e all below end =
-    let long : length (y ++ part_bytes parts) ≡ length y + length (part_bytes parts) = length-append y (part_bytes parts) in
-    (all.0, all.1, ends_push s most (b + length y) p parts spared xs (omega arith) all.2 below end)
-
-count_one : (p : ℕ) (spared : Bool) (xs : List ℕ) → length (frames_from p ((spared, xs) ∷ [])) ≡ cond spared 0 1
-count_one p true xs = refl
-count_one p false xs = refl
-
--- ---- one call
--- bytes of a SACK block need no frame
-pub spared_part : (s : SenderState) (most pos n : ℕ) (t : PathState) → 0 < n → pos + n ≤ end_of s → n ≡ spared_from s pos →
-    IsSackedIf s.sack_blocks pos n true → SendsPart s most pos n 0 t t
-spared_part s most pos n t some within is marked =
-    let here : is_sacked s.sack_blocks pos ≡ true = marked pos (omega arith) (omega arith) in
-    record {
-      some = some;
-      within = within;
-      spared = true;
-      short = λ e. absurd (both_ways true e refl);
-      marked = marked;
-      ends = ap (λ k. pos + k) is ∙ sym (cond-true (is_sacked s.sack_blocks pos) (pos + spared_from s pos)
-          (min (pos + most) (min (next_block s pos) (contiguous_end s pos))) here);
-      frames = refl;
-      sent = λ i. record { in_flight = sym (append-nil t.in_flight) i; delayed = t.delayed; fates = t.fates };
-    }
-
--- a frame of others was sent
-pub sent_part : (s : SenderState) (most pos : ℕ) (t0 t1 : PathState) (xs : List ℕ) → pos < end_of s → 0 < most →
-    pos < next_block s pos → is_sacked s.sack_blocks pos ≡ false →
-    length xs ≡ min (min most (next_block s pos - pos)) (contiguous_end s pos - pos) → pos + length xs ≤ end_of s → IsSackedIf s.sack_blocks pos (length xs) false →
-    xs ≡ take (length xs) (drop (pos - s.first_unacknowledged) s.queue) → t1 ≡ record t0 { in_flight = t0.in_flight ++ frame_of pos xs ∷ [] } → SendsPart s most pos (length xs) 1 t0 t1
-sent_part s most pos t0 t1 xs kept more next here size within marked is sent =
-    let row = row_above s pos kept in
-    let end : pos + length xs ≡ min (pos + most) (min (next_block s pos) (contiguous_end s pos)) = omega arith in
-    record {
-      some = omega arith;
-      within = within;
-      spared = false;
-      short = λ _. omega arith;
-      marked = marked;
-      ends = end ∙ sym (cond-false (is_sacked s.sack_blocks pos) (pos + spared_from s pos) (min (pos + most) (min (next_block s pos) (contiguous_end s pos))) here);
-      frames = refl;
-      sent = sent ∙ ap (λ ys. record t0 { in_flight = t0.in_flight ++ frame_of pos ys ∷ [] }) is;
-    }
+-- parts that are marked and end as they have to, and one more
+pushed : (s : SenderState) (most b p : ℕ) (parts : List Part) (spared : Bool) (xs : List ℕ) → p ≡ b + length (part_bytes parts) →
+    AreSparedIfSacked s.sack_blocks b parts → HaveEnds s most b parts →
+    IsSackedIf s.sack_blocks p (length xs) spared → p < stop_of s → p + length xs ≡ part_end s most p →
+    let all = parts ++ (spared, xs) ∷ [] in
+    (part_bytes all ≡ part_bytes parts ++ xs) × (frames_from b all ≡ frames_from b parts ++ frames_from p ((spared, xs) ∷ []))
+    × AreSparedIfSacked s.sack_blocks b all × HaveEnds s most b all
+pushed s most b p [] spared xs e marked ends one below end =
+    let here : p ≡ b = omega arith in (
+      append-nil xs,
+      ap (λ n. frames_from n ((spared, xs) ∷ [])) (sym here),
+      (subst (λ n. IsSackedIf s.sack_blocks n (length xs) spared) here one, tt),
+      subst (λ n. (n < stop_of s) × (n + length xs ≡ part_end s most n) × Unit {0}) here (below, end, tt),
+    )
+pushed s most b p ((t, y) ∷ parts) spared xs e marked ends one below end =
+    let others = pushed s most (b + length y) p parts spared xs (omega (arith, length-append y (part_bytes parts))) marked.1 ends.2 one below end in (
+      ap (λ l. y ++ l) others.0 ∙ sym (append_assoc y (part_bytes parts) xs),
+      grind arith,
+      (marked.0, others.2),
+      (ends.0, ends.1, others.3),
+    )
 
 -- ---- several calls
 -- parts so far, of which so many frames are left
@@ -106,22 +128,21 @@ pub record SentSoFar (s : SenderState) (most burst left n : ℕ) (old new : Path
   pub left_are : length (frames_from s.first_unacknowledged prefix.parts) + left ≡ burst
 
 -- nothing was sent yet
-pub none_sent : (s : SenderState) (most burst pos : ℕ) (t : PathState) → pos ≡ s.first_unacknowledged → SentSoFar s most burst burst (pos - s.first_unacknowledged) t t
-none_sent s most burst pos t e =
-    let none : pos - s.first_unacknowledged ≡ 0 = omega arith in
-    record {
-      prefix = record {
-        parts = [];
-        within = omega arith;
-        all = ap (λ n. take n s.queue) (sym none);
-        sizes = All-nil (HasSize most);
-        marked = tt;
-        ends = tt;
-        few = omega arith;
-        sent = λ i. record { in_flight = sym (append-nil t.in_flight) i; delayed = t.delayed; fates = t.fates };
-      };
-      left_are = omega arith;
-    }
+pub none_sent : (s : SenderState) (most burst pos : ℕ) (t : PathState) → pos ≡ s.first_unacknowledged →
+    SentSoFar s most burst burst (pos - s.first_unacknowledged) t t
+none_sent s most burst pos t e = record {
+  prefix = record {
+    parts = [];
+    within = omega arith;
+    all = ap (λ n. take n s.queue) (let none : 0 ≡ pos - s.first_unacknowledged = omega arith in none);
+    sizes = All-nil (HasSize most);
+    marked = tt;
+    ends = tt;
+    few = omega arith;
+    sent = λ i. record t { in_flight = sym (append-nil t.in_flight) i };
+  };
+  left_are = omega arith;
+}
 
 -- what was sent of a part is sent of the first bytes too
 pub sent_more : (s : SenderState) (most burst left pos n k left' : ℕ) (t0 t1 t2 : PathState) →
@@ -130,78 +151,45 @@ pub sent_more : (s : SenderState) (most burst left pos n k left' : ℕ) (t0 t1 t
 sent_more s most burst left pos n k left' t0 t1 t2 so_far part from below some_left left_is =
     let prefix = so_far.prefix in
     let b = s.first_unacknowledged in
-    let q = s.queue in
-    let xs = take n (drop (pos - b) q) in
-    let few = part.within in
-    let some = part.some in
-    let size : length xs ≡ n = omega (arith, length-take n (drop (pos - b) q), length-drop (pos - b) q) in
-    let kept : pos ≤ end_of s = omega (arith, stop_within s) in
-    let long : length (part_bytes prefix.parts) ≡ pos - b = ap length prefix.all
-    ∙ (let h : length (take (pos - b) q) ≡ pos - b = omega (arith, length-take (pos - b) q) in h) in
+    let xs = take n (drop (pos - b) s.queue) in
+    let stop = stop_within s in
+    let size : length xs ≡ n = omega (arith, length-take n (drop (pos - b) s.queue), length-drop (pos - b) s.queue) in
+    let at : pos ≡ b + length (part_bytes prefix.parts) = omega (arith, ap length prefix.all, length-take (pos - b) s.queue) in
     let place : (pos - b) + n ≡ pos + n - b = omega arith in
-    let at : pos ≡ b + length (part_bytes prefix.parts) = omega arith in
     let last = frames_from pos ((part.spared, xs) ∷ []) in
-    let in_flight : t1.in_flight ++ last ≡ t0.in_flight ++ frames_from b (prefix.parts ++ (part.spared, xs) ∷ []) =
-    ap (λ p. p.in_flight ++ last) prefix.sent ∙ append_assoc t0.in_flight (frames_from b prefix.parts) last
-    ∙ ap (λ l. t0.in_flight ++ l) (sym (frames_push b pos prefix.parts part.spared xs at)) in
-    let one : k ≤ 1 = at_most_one part.spared k part.frames in
-    let more = length-append (frames_from b prefix.parts) last in
-    let here = count_one pos part.spared xs in
-    let these = part.frames in
-    let all = ap length (frames_push b pos prefix.parts part.spared xs at) in
+    let all = pushed s most b pos prefix.parts part.spared xs at prefix.marked prefix.ends
+    (subst (λ j. IsSackedIf s.sack_blocks pos j part.spared) (sym size) part.marked) below (ap (λ j. pos + j) size ∙ part.ends) in
+    let one = frame_count pos k part.spared xs part.frames in
     let count : length (frames_from b (prefix.parts ++ (part.spared, xs) ∷ [])) ≡ length (frames_from b prefix.parts) + k =
-    omega (arith, all, more, here, these) in
-    let total = so_far.left_are in
+    omega (arith, ap length all.1, length-append (frames_from b prefix.parts) last, one) in
     record {
       prefix = record {
         parts = prefix.parts ++ (part.spared, xs) ∷ [];
-        within = omega arith;
-        all = joined_push prefix.parts part.spared xs ∙ ap (λ l. l ++ xs) prefix.all ∙ sym (take-add (pos - b) n q) ∙ ap (λ j. take j q) place;
+        within = let few = part.within in omega arith;
+        all = all.0 ∙ ap (λ l. l ++ xs) prefix.all ∙ sym (take-add (pos - b) n s.queue) ∙ ap (λ j. take j s.queue) place;
         sizes = All-push (HasSize most) prefix.parts (part.spared, xs) prefix.sizes
-            (subst (λ j. 0 < j) (sym size) some, λ e. subst (λ j. j ≤ most) (sym size) (part.short e));
-        marked = marked_push s.sack_blocks b pos prefix.parts part.spared xs at prefix.marked
-            (subst (λ j. IsSackedIf s.sack_blocks pos j part.spared) (sym size) part.marked);
-        ends = ends_push s most b pos prefix.parts part.spared xs at prefix.ends below (ap (λ j. pos + j) size ∙ part.ends);
+            (subst (λ j. (0 < j) × (part.spared ≡ false → j ≤ most)) (sym size) (part.some, part.short));
+        marked = all.2;
+        ends = all.3;
         few = omega arith;
-        sent = part.sent ∙ (λ i. record { in_flight = in_flight i; delayed = (ap (λ p. p.delayed) prefix.sent) i; fates = (ap (λ p. p.fates) prefix.sent) i });
+        sent = part.sent ∙ ap (λ (p : PathState). record p { in_flight = p.in_flight ++ last }) prefix.sent
+            ∙ ap (λ l. record t0 { in_flight = l }) (append_assoc t0.in_flight (frames_from b prefix.parts) last ∙ ap (λ l. t0.in_flight ++ l) (sym all.1));
       };
       left_are = omega arith;
     }
-  where
-    at_most_one : (t : Bool) (j : ℕ) → j ≡ cond t 0 1 → j ≤ 1
-    at_most_one true j e = omega arith
-    at_most_one false j e = omega arith
 
 -- nothing more could be sent
 pub round_sent : (s : SenderState) (most burst left pos : ℕ) (t0 t1 : PathState) →
     SentSoFar s most burst left (pos - s.first_unacknowledged) t0 t1 → s.first_unacknowledged ≤ pos → (stop_of s ≤ pos) ⊎ (left ≡ 0) → SendsRound s most burst (pos - s.first_unacknowledged) t0 t1
 round_sent s most burst left pos t0 t1 so_far from stopped =
-    let total = so_far.left_are in
-    let parts = so_far.prefix.parts in
-    record {
-      prefix = so_far.prefix;
-      stop = ⊎_elim {C = (stop_of s ≤ s.first_unacknowledged + (pos - s.first_unacknowledged)) ⊎ (length (frames_from s.first_unacknowledged parts) ≡ burst)}
-          (λ (l : stop_of s ≤ pos). inl (omega arith))
-          (λ (l : left ≡ 0). inr (omega arith))
-          stopped;
-    }
+    record { prefix = so_far.prefix; stop = grind arith }
 
 -- ---- what a round sent
 -- all that is kept, if more frames could be sent and there are fewer SACK blocks than there can be
 pub all_sent : (s : SenderState) (most burst n : ℕ) (old new : PathState) → (round : SendsRound s most burst n old new) →
     length (frames_from s.first_unacknowledged round.prefix.parts) < burst → is_full s.sack_blocks ≡ false → n ≡ length s.queue
 all_sent s most burst n old new round few room =
-    let within = round.prefix.within in
-    let end : stop_of s ≡ end_of s = cond-false (is_full s.sack_blocks) (min (end_of s) (greatest_end s.sack_blocks s.first_unacknowledged + 1)) (end_of s) room in
-    ⊎_elim {C = n ≡ length s.queue}
-    (λ (l : stop_of s ≤ s.first_unacknowledged + n). omega arith)
-    (λ (l : length (frames_from s.first_unacknowledged round.prefix.parts) ≡ burst). absurd (omega arith))
-    round.stop
-
-stop_above : (s : SenderState) → 0 < length s.queue → s.first_unacknowledged < stop_of s
-stop_above s some =
-    split (λ n. s.first_unacknowledged < n) (is_full s.sack_blocks) (min (end_of s) (greatest_end s.sack_blocks s.first_unacknowledged + 1)) (end_of s)
-    (λ _. (let from = end_from s.sack_blocks s.first_unacknowledged in omega arith)) (λ _. omega arith)
+    grind arith
 
 -- the first frame is of the first byte that is kept, if that is in no SACK block
 abbrev pub FirstSent : SenderState → ℕ → List Part → Type 0
@@ -211,30 +199,18 @@ FirstSent s most parts = (xs : List ℕ) × (rest : List Part) × (parts ≡ (fa
 pub first_sent : (s : SenderState) (most burst n : ℕ) (old new : PathState) → (round : SendsRound s most burst n old new) →
     0 < burst → 0 < length s.queue → is_sacked s.sack_blocks s.first_unacknowledged ≡ false → FirstSent s most round.prefix.parts
 first_sent s most burst n old new round left some none =
-    let prefix = round.prefix in
-    first_of prefix.parts prefix.all prefix.sizes prefix.marked
-    (⊎_elim {C = prefix.parts ≡ [] → ⊥}
-    (λ (l : stop_of s ≤ s.first_unacknowledged + n) (e : prefix.parts ≡ []).
-    let within = prefix.within in
-    let begins = stop_above s some in
-    let size : length (take n s.queue) ≡ 0 = sym (ap length prefix.all) ∙ ap (λ l. length (part_bytes l)) e in
-    omega (arith, length-take n s.queue))
-    (λ (l : length (frames_from s.first_unacknowledged prefix.parts) ≡ burst) (e : prefix.parts ≡ []).
-    let zero_frames : length (frames_from s.first_unacknowledged prefix.parts) ≡ 0 = ap (λ l. length (frames_from s.first_unacknowledged l)) e in
-    omega arith)
-    round.stop)
+    first_of round.prefix.parts round.prefix.all round.prefix.sizes round.prefix.marked round.stop
   where
     first_of : (parts : List Part) → part_bytes parts ≡ take n s.queue → All (HasSize most) parts →
-        AreSparedIfSacked s.sack_blocks s.first_unacknowledged parts → (parts ≡ [] → ⊥) → FirstSent s most parts
-    first_of [] all sizes marked some_part = absurd (some_part refl)
-    first_of ((true, xs) ∷ parts) all sizes marked some_part =
-        let size = All-head (HasSize most) (true, xs) parts sizes in
-        let more = size.0 in
+        AreSparedIfSacked s.sack_blocks s.first_unacknowledged parts →
+        (stop_of s ≤ s.first_unacknowledged + n) ⊎ (length (frames_from s.first_unacknowledged parts) ≡ burst) → FirstSent s most parts
+    first_of [] all sizes marked stop =
+        absurd (omega (arith, stop_above s some, ap length all, length-take n s.queue))
+    first_of ((true, xs) ∷ parts) all sizes marked stop =
+        let more = (All-head (HasSize most) (true, xs) parts sizes).0 in
         absurd (both_ways (is_sacked s.sack_blocks s.first_unacknowledged) none (marked.0 s.first_unacknowledged (omega arith) (omega arith)))
-    first_of ((false, xs) ∷ parts) all sizes marked some_part =
+    first_of ((false, xs) ∷ parts) all sizes marked stop =
         let size = All-head (HasSize most) (false, xs) parts sizes in
-        let long : length (xs ++ part_bytes parts) ≡ length (take n s.queue) = ap length all in
-        let few : length xs ≤ n = omega (arith, length-append xs (part_bytes parts), length-take n s.queue) in
-        let head : xs ≡ take (length xs) s.queue = sym (take-append_seam xs (part_bytes parts)) ∙ ap (take (length xs)) all
-        ∙ take-take (length xs) n s.queue few in
+        let few : length xs ≤ n = omega (arith, ap length all, length-append xs (part_bytes parts), length-take n s.queue) in
+        let head = sym (take-append_seam xs (part_bytes parts)) ∙ ap (take (length xs)) all ∙ take-take (length xs) n s.queue few in
         (xs, parts, refl, size.0, size.1 refl, head)

@@ -1,46 +1,38 @@
 -- How many frames and acknowledgements a round sends, and how many of them are delayed after it.
-use Rattle.std.proofs.Common.{◌≡◌, ℕ, zero, suc, ◌+◌, ◌-◌, ◌*◌, ◌^◌, ◌≤◌, ◌<◌, nat_lt, List, [], ◌∷◌, ◌++◌, length, take, Option, Some, None, refl, sym, ap, subst, ◌∙◌, arith, ⊎_elim, le_trans, length-append}
-use Rattle.std.proofs.lemmas.Bool.{cases_lt}
-use Rattle.std.proofs.Math.Nat.{add-mul}
+use Rattle.std.proofs.Common.{◌≡◌, ℕ, zero, suc, ◌+◌, ◌-◌, ◌*◌, ◌^◌, ◌≤◌, List, [], ◌∷◌, length, take, Option, refl, sym, ap, subst, arith, le_trans, length-append}
 use Rattle.net_receiver.specs.ReceiverState.{ReceiverState}
 use Rattle.net_stream_model.specs.declared.counts.FrameCounts.{FrameCounts}
 use Rattle.net_stream_model.specs.declared.fate.Fate.{Fate}
-use Rattle.net_stream_model.specs.declared.fate.Fate.TheVariants.{Delivered, Lost, Duplicated, Delayed}
 use Rattle.net_stream_model.specs.Frames.{segment_of}
 use Rattle.net_stream_model.specs.SackBlocks.{most_sack_blocks}
-use Rattle.net_stream_model.specs.Fates.{FatesState, next_fate, after_fate, comes, comes_delayed}
+use Rattle.net_stream_model.specs.Fates.{FatesState, next_fate, after_fate, comes_delayed}
 use Rattle.net_stream_model.specs.Counts.{more, with_fate, with_fates}
-use Rattle.net_stream_model.specs.PathState.{ack_of, receiver_after}
-use Rattle.net_stream_model.specs.Arrivals.{coming_of, receiver_after_all, ack_to, acks_of}
+use Rattle.net_stream_model.specs.PathState.{receiver_after}
+use Rattle.net_stream_model.specs.Arrivals.{ack_to, acks_of}
 use Rattle.net_stream_model.specs.LinkState.{LinkState, transmit, round}
 use Rattle.net_stream_model.specs.SenderState.{SenderState, at_least_one, with_written}
-use Rattle.net_stream_model.specs.CopyState.{Setup, CopyState, begin, read_of, room_for, waited, pass, after}
+use Rattle.net_stream_model.specs.CopyState.{Setup, CopyState, room_for, waited, pass, after}
 use Rattle.net_stream_model.specs.Promises.{FewDelayed, RoundDelaysFew, CopyDelaysFew, FewFrames}
-use Rattle.net_stream_model.proofs.Meeting.{passing_few}
-use Rattle.net_stream_model.proofs.Passed.{acks, round_is}
-use Rattle.net_stream_model.proofs.SentAll.{only_sent}
-use Rattle.net_stream_model.proofs.Steps.{split}
-use Rattle.net_stream_model.proofs.Turns.{feeds, decides, all_turned}
+use Rattle.net_stream_model.proofs.Steps.{passing_few}
+use Rattle.net_stream_model.proofs.Passed.{acks, round_is, only_sent}
+use Rattle.net_stream_model.proofs.Stuck.{more_taken}
+use Rattle.net_stream_model.proofs.Turns.{fed_by, after_turns}
 
 -- frames are counted as sent, as far as 64 bits go
-sent_one : (fate : Fate) (c : FrameCounts) → (with_fate fate c).sent ≡ more c.sent
-sent_one Delivered c = refl
-sent_one Lost c = refl
-sent_one Duplicated c = refl
-sent_one Delayed c = refl
+sent_one : (lot : Fate) (c : FrameCounts) → (with_fate lot c).sent ≡ more c.sent
+sent_one lot c = grind arith
 
-sent_few : (n : ℕ) (v : FatesState) (c : FrameCounts) → ((with_fates n v c).sent ≤ c.sent + n) × (c.sent ≤ 2 ^ 64 - 1 → (with_fates n v c).sent ≤ 2 ^ 64 - 1)
+sent_few : (n : ℕ) (v : FatesState) (c : FrameCounts) →
+    ((with_fates n v c).sent ≤ c.sent + n) × (c.sent ≤ 2 ^ 64 - 1 → (with_fates n v c).sent ≤ 2 ^ 64 - 1)
 sent_few zero v c = (omega arith, λ word. word)
 sent_few (suc n) v c =
     let one = sent_one (next_fate v) c in
     let rest = sent_few n (after_fate v) (with_fate (next_fate v) c) in
-    let few = rest.0 in
     (omega arith, λ word. rest.1 (omega arith))
 
 -- a frame that came is acknowledged at most once
 acked_once : (r : ReceiverState) (o : Option (ℕ × List ℕ)) → length (ack_to r o) ≤ 1
-acked_once r None = omega arith
-acked_once r (Some (pos, xs)) = split (λ (l : List (List ℕ)). length l ≤ 1) (nat_lt (pos + length xs) (2 ^ 64)) (ack_of r ∷ []) [] (λ _. omega arith) (λ _. omega arith)
+acked_once r o = grind arith
 
 acks_few : (r : ReceiverState) (frames : List (List ℕ)) → length (acks_of most_sack_blocks r frames) ≤ length frames
 acks_few r [] = omega arith
@@ -64,36 +56,19 @@ record Sized (l m : LinkState) : Type 0 where
 
 sized_round : (l : LinkState) → l.forward.in_flight ≡ [] → l.reverse.in_flight ≡ [] → Sized l (round l)
 sized_round l none none_reverse =
-    let c1 = (round_is l).0 in
-    let c2 = (round_is l).1 in
-    let is = (round_is l).2 in
+    let (c1, c2, is) = round_is l in
     let t = transmit l in
     let frames = t.forward.in_flight in
     let told = acks l frames t.counts c1 c2 in
-    let r = receiver_after_all most_sack_blocks l.receiver l.forward.delayed in
-    let coming = coming_of l.forward.fates frames in
-    let a = acks_of most_sack_blocks l.receiver l.forward.delayed in
-    let b = acks_of most_sack_blocks r coming in
     let sent = (only_sent l).few in
     let few : length frames ≤ at_least_one l.burst = omega (arith, ap length none) in
     let few_told : length told ≤ length l.forward.delayed + length frames + 1 =
-    (let x = acks_few l.receiver l.forward.delayed in
-    let y = acks_few r coming in
-    let z = passing_few comes l.forward.fates frames in
-    omega (
-      arith,
-      ap length none_reverse,
-      length-append l.reverse.in_flight a,
-      length-append (l.reverse.in_flight ++ a) b,
-      length-append ((l.reverse.in_flight ++ a) ++ b) (ack_of (receiver_after_all most_sack_blocks r coming) ∷ []),
-    )) in
+    omega (arith, acks_few, passing_few, length-append {A = List ℕ}, ap length none_reverse) in
     let c0 : t.counts.sent ≡ l.counts.sent = ap (λ (k : LinkState). k.counts.sent) (only_sent l).same in
     let one : c1.sent ≡ t.counts.sent = ap (λ (c : FrameCounts). c.sent) is.delayed in
     let two : c2.sent ≡ (with_fates (length frames) l.forward.fates c1).sent = ap (λ (c : FrameCounts). c.sent) is.passed in
     let forward = sent_few (length frames) l.forward.fates c1 in
     let reverse = sent_few (length told) l.reverse.fates c2 in
-    let forward_few = forward.0 in
-    let reverse_few = reverse.0 in
     subst (Sized l) (sym is.same) (record {
       in_flight = refl;
       in_flight_reverse = refl;
@@ -106,37 +81,9 @@ sized_round l none none_reverse =
     })
 
 pub round_keeps : RoundDelaysFew
-round_keeps l h =
-    let s = sized_round l h.in_flight h.in_flight_reverse in
-    let max_burst = s.max_burst in
-    let delayed = s.delayed in
-    let delayed_reverse = s.delayed_reverse in
-    let some = h.some in
-    let few = h.burst in
-    let before = h.delayed in
-    record {
-      in_flight = s.in_flight;
-      in_flight_reverse = s.in_flight_reverse;
-      delayed = omega arith;
-      delayed_reverse = omega arith;
-      burst = s.burst;
-      some = omega arith;
-    }
+round_keeps l h = (let s = sized_round l h.in_flight h.in_flight_reverse in search arith)
 
 -- ---- turns
--- no more was sent than the rounds may send
-more_sent : (n n' x x' k : ℕ) → n' ≡ more n → 1 ≤ k → x ≤ n * k → x' ≤ x + k → x' ≤ 2 ^ 64 - 1 → x' ≤ n' * k
-more_sent n n' x x' k e some few one within =
-    ⊎_elim {C = x' ≤ n' * k}
-    (λ (l : n < 2 ^ 64 - 1).
-    let is : n' ≡ n + 1 = omega arith in
-    let grown : (n + 1) * k ≡ n * k + k = add-mul n 1 k ∙ (let e : n * k + 1 * k ≡ n * k + k = omega arith in e) in
-    subst (λ m. x' ≤ m * k) (sym is) (omega arith))
-    (λ (l : 2 ^ 64 - 1 ≤ n).
-    let is : n' ≡ 2 ^ 64 - 1 = omega arith in
-    subst (λ m. x' ≤ m * k) (sym is) (omega arith))
-    (cases_lt n (2 ^ 64 - 1))
-
 module _ (s : Setup) where
   -- what is true after each turn: of the delayed frames, and of those that were sent
   abbrev SizedSoFar : CopyState → Type 0
@@ -145,45 +92,25 @@ module _ (s : Setup) where
   -- the sender, the receiver and the time don't matter
   few_still : (l : LinkState) (sender : SenderState) (receiver : ReceiverState) (elapsed : ℕ) → FewDelayed l →
       FewDelayed (record l { sender = sender; receiver = receiver; elapsed = elapsed })
-  few_still l sender receiver elapsed h = record {
-    in_flight = h.in_flight;
-    in_flight_reverse = h.in_flight_reverse;
-    delayed = h.delayed;
-    delayed_reverse = h.delayed_reverse;
-    burst = h.burst;
-    some = h.some;
-  }
-
-  sized_read : (c : CopyState) (reads : List (List ℕ)) → SizedSoFar c → SizedSoFar (read_of (room_for s.chunk c.link) c reads)
-  sized_read c [] h = h
-  sized_read c ([] ∷ reads) h = h
-  sized_read c ((x ∷ xs) ∷ reads) h =
-      (few_still c.link (with_written c.link.sender (take (room_for s.chunk c.link) (x ∷ xs))) c.link.receiver c.link.elapsed h.0, h.1, h.2)
+  few_still l sender receiver elapsed h = search
 
   sized_pass : (c : CopyState) → SizedSoFar c → SizedSoFar (pass s.chunk c)
   sized_pass c h =
       let l = waited c in
       let m = round l in
       let g = few_still c.link l.sender l.receiver l.elapsed h.0 in
-      let one = sized_round l g.in_flight g.in_flight_reverse in
-      let sent = one.sent in
-      let some = g.some in
-      let few = g.burst in
-      let before = g.delayed in (
+      let one = sized_round l g.in_flight g.in_flight_reverse in (
         few_still m m.sender (pass s.chunk c).link.receiver m.elapsed (round_keeps l g),
         subst (λ k. m.counts.sent ≤ more c.rounds * (3 * k + 1)) (sym one.max_burst)
-            (more_sent c.rounds (more c.rounds) c.link.counts.sent m.counts.sent (3 * c.link.max_burst + 1) refl (omega arith) h.1 (omega arith) (one.within h.2)),
+            (more_taken c.link.counts.sent m.counts.sent c.rounds (more c.rounds) (3 * c.link.max_burst + 1) h.1 (omega arith) (omega (arith, one.within h.2)) refl),
         one.within h.2,
       )
 
   pub sized : (reads : List (List ℕ)) (n : ℕ) → SizedSoFar (after s reads n)
-  sized reads n =
-      all_turned SizedSoFar s.rounds s.chunk (λ c on h. feeds SizedSoFar s.chunk c (λ more room all. sized_read c c.reads h) h)
-      (λ c on h. decides SizedSoFar s.rounds c (λ none all. h) (λ many. h) (λ few. h)) (λ c on h. sized_pass c h) n (begin s reads) (
-        record { in_flight = refl; in_flight_reverse = refl; delayed = omega arith; delayed_reverse = omega arith; burst = omega arith; some = omega arith },
-        omega arith,
-        omega arith,
-      )
+  sized reads = after_turns SizedSoFar (λ c status h. h) s reads
+      (λ c h. fed_by SizedSoFar s.chunk c (λ _ _. h) (λ _ _ _. h)
+      (λ x xs rest _ _. (few_still c.link (with_written c.link.sender (take (room_for s.chunk c.link) (x ∷ xs))) c.link.receiver c.link.elapsed h.0, h.1, h.2)) (λ _. h))
+      sized_pass (search arith, omega arith, omega arith)
 
 pub copy_keeps : CopyDelaysFew
 copy_keeps s reads n = (sized s reads n).0

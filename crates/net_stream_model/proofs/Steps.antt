@@ -1,11 +1,36 @@
--- Functions that are applied several times over.
-use Rattle.std.proofs.Common.{◌≡◌, ◌⊎◌, ◌&&◌, ℕ, zero, suc, ◌+◌, ◌-◌, ◌≤◌, ◌<◌, nat_lt, Bool, true, false, cond, List, [], ◌∷◌, length, refl, sym, ap, subst, ◌∙◌, arith, ⊎_elim, inl, inr}
-use Rattle.std.proofs.lemmas.Bool.{cond-true, cond-false, and_from, and_parts, ltb-true, and_left, and_right, lt-ltb, le-ltb}
-use Rattle.net_stream_model.specs.SenderState.{stop_of, spared_from}
-use Rattle.net_stream_model.specs.Fates.{next_fate}
-use Rattle.net_stream_model.specs.LinkState.{LinkState, times, Cursor, start, frame_len, send, part, part_at, transmit, take_in, come, delayed_frame_of, delayed_frame, delayed_frames}
-use Rattle.net_stream_model.specs.LinkState.{came, meet, take_frame, pass_frame_of, pass_frame, pass_frames, acknowledge_all, acknowledge, delayed_ack_of, delayed_ack, delayed_acks}
-use Rattle.net_stream_model.specs.LinkState.{came_ack, meet_ack, take_ack, pass_ack_of, pass_ack, pass_acks, with_burst, round, StopsDelayed, StopsFrame, StopsAck, StopsRound}
+-- Functions that are applied several times over, and what frames and acknowledgements leave that arrive.
+use Rattle.std.proofs.Common.{◌≡◌, ◌⊎◌, ◌&&◌, ℕ, zero, suc, ◌+◌, ◌-◌, ◌≤◌, ◌<◌, nat_lt, Bool, true, false, cond, List}
+use Rattle.std.proofs.Common.{[], ◌∷◌, length, refl, sym, ap, subst, ◌∙◌, arith, inl, inr, ◌^◌, nat_le, Option, Some}
+use Rattle.std.proofs.Common.{None, All, ◌++◌, append_assoc, max, get_or, slice_get, le_of_suc-le-suc, lt_of_not-le}
+use Rattle.std.proofs.Common.{length-drop}
+use Rattle.std.proofs.lemmas.Bool.{cond-true, cond-false, and_parts, ltb-true, leb-true, cases_lt, le-leb}
+use Rattle.std.proofs.lemmas.Bool.Decides.{nat_tests}
+use Rattle.net_stream_model.specs.SenderState.{stop_of, spared_from, SenderState, end_of, sender_from, after_ack_frame}
+use Rattle.net_stream_model.specs.Fates.{next_fate, FatesState, after_fate, next_of, after_of, comes, AllCome, NextCome}
+use Rattle.net_stream_model.specs.LinkState.{LinkState, times, Cursor, start, frame_len, send, part, part_at, transmit}
+use Rattle.net_stream_model.specs.LinkState.{take_in, come, delayed_frame_of, delayed_frame, delayed_frames, came, meet}
+use Rattle.net_stream_model.specs.LinkState.{take_frame, pass_frame_of, pass_frame, pass_frames, acknowledge_all}
+use Rattle.net_stream_model.specs.LinkState.{acknowledge, delayed_ack_of, delayed_ack, delayed_acks, came_ack, meet_ack}
+use Rattle.net_stream_model.specs.LinkState.{take_ack, pass_ack_of, pass_ack, pass_acks, with_burst, round}
+use Rattle.net_stream_model.specs.LinkState.{StopsDelayed, StopsFrame, StopsAck, StopsRound}
+use Rattle.std.proofs.lemmas.List.Elements.{All-cons, All-head, All-tail}
+use Rattle.net_receiver.specs.Rules.{Segment}
+use Rattle.net_receiver.specs.ReceiverState.{ReceiverState, receiver_after_command, next_position, IsSound}
+use Rattle.net_stream_model.specs.SackBlocks.{most_sack_blocks, blocks_of}
+use Rattle.net_stream_model.specs.Reach.{after_ack_frames}
+use Rattle.net_stream_model.specs.Frames.{segment_of}
+use Rattle.net_stream_model.specs.PathState.{receiver_after}
+use Rattle.net_stream_model.specs.Arrivals.{passing, receiver_after_all, ack_to, acks_of}
+use Rattle.net_stream_model.specs.declared.fate.Fate.{Fate}
+use Rattle.std.proofs.lemmas.Option.{slice_get_within, slice_get-get_or}
+use Rattle.net_assembler.proofs.Positions.{either}
+use Rattle.net_receiver.specs.KeptList.{piece, piece_byte_at}
+use Rattle.net_receiver.specs.OneStream.{ReceivesFrom, MatchesStream}
+use Rattle.net_receiver.specs.Retransmission.{HasByteAt}
+use Rattle.net_stream_model.specs.declared.fate.Fate.TheVariants.{Delivered, Lost, Duplicated, Delayed}
+use Rattle.net_stream_model.specs.declared.fate.Rates.{Rates}
+use Rattle.net_stream_model.specs.LinkInvariant.{HasAllOf}
+use Rattle.net_stream_model.specs.Transmission.{IsSackedIf}
 
 -- once a step changes nothing, no more of them do
 pub stays : {S : Type 0} (f : S → S) (s : S) (n k : ℕ) → f (times n f s) ≡ times n f s → times (n + k) f s ≡ times n f s
@@ -23,17 +48,14 @@ keeps P f step (suc n) s h = step (times n f s) (keeps P f step n s h)
 
 -- ---- parts of the sender's queue
 pub goes_on : (c : Cursor) → c.pos < stop_of c.link.sender → 0 < c.left → part c ≡ part_at c
-goes_on c below some = cond-true _ (part_at c) c
-    (and_from (nat_lt c.pos (stop_of c.link.sender)) (nat_lt 0 c.left) (lt-ltb c.pos (stop_of c.link.sender) below) (lt-ltb 0 c.left some))
+goes_on c below some = cond-true _ (part_at c) c (grind (arith, nat_tests))
 
 pub stops : (c : Cursor) → (stop_of c.link.sender ≤ c.pos) ⊎ (c.left ≡ 0) → part c ≡ c
-stops c end = cond-false _ (part_at c) c (⊎_elim {C = (nat_lt c.pos (stop_of c.link.sender) && nat_lt 0 c.left) ≡ false}
-    (λ (l : stop_of c.link.sender ≤ c.pos). and_left (nat_lt c.pos (stop_of c.link.sender)) (nat_lt 0 c.left) (le-ltb c.pos (stop_of c.link.sender) l))
-    (λ (l : c.left ≡ 0). and_right (nat_lt c.pos (stop_of c.link.sender)) (nat_lt 0 c.left) (le-ltb 0 c.left (omega arith)))
-    end)
+stops c end = cond-false _ (part_at c) c (grind (arith, nat_tests))
 
 -- where nothing more is sent, all is sent
-pub all_sent : (s : LinkState) (c : Cursor) (n : ℕ) → c ≡ times n part (start s) → n ≤ length s.sender.queue → part c ≡ c → c.link ≡ transmit s
+pub all_sent : (s : LinkState) (c : Cursor) (n : ℕ) → c ≡ times n part (start s) → n ≤ length s.sender.queue →
+    part c ≡ c → c.link ≡ transmit s
 all_sent s c n e few same =
     let reached : part (times n part (start s)) ≡ times n part (start s) = sym (ap part e) ∙ same ∙ e in
     ap (λ d. d.link) (e ∙ sym (enough part (start s) n (length s.sender.queue) few reached))
@@ -48,6 +70,12 @@ pub split : {A : Type 0} (P : A → Type 0) (b : Bool) (x y : A) → (b ≡ true
 split P true x y f g = f refl
 split P false x y f g = g refl
 
+-- what holds of no frames, and of a first one and the others
+by_first : (P : List (List ℕ) → Type 0) (frames : List (List ℕ)) → P [] →
+    ((frame : List ℕ) (rest : List (List ℕ)) → frames ≡ frame ∷ rest → P (frame ∷ rest)) → P frames
+by_first P [] none some = none
+by_first P (frame ∷ rest) none some = some frame rest refl
+
 -- ---- a part of the queue
 -- what is true where no frame may begin, where bytes are spared and where a frame is sent
 pub by_part : (P : Cursor → Type 0) (c : Cursor) → P c →
@@ -60,9 +88,7 @@ by_part P c same spared sent =
     let both = and_parts (nat_lt c.pos (stop_of c.link.sender)) (nat_lt 0 c.left) on in
     let below = ltb-true c.pos (stop_of c.link.sender) both.0 in
     let some = ltb-true 0 c.left both.1 in
-    split P (nat_lt 0 (spared_from c.link.sender c.pos)) (record c { pos = c.pos + spared_from c.link.sender c.pos })
-    (record { pos = c.pos + frame_len c.link c.pos; left = c.left - 1; link = send c.link c.pos (frame_len c.link c.pos) })
-    (λ _. spared below some) (λ _. sent below some))
+    split P (nat_lt 0 (spared_from c.link.sender c.pos)) _ _ (λ _. spared below some) (λ _. sent below some))
     (λ _. same)
 
 -- ---- a round
@@ -82,38 +108,30 @@ module _ (P : LinkState → Type 0) where
     pub burst : (s : LinkState) → P s → P (with_burst s)
 
   module _ (k : StepsKeep) where
-    one_delayed : (s : LinkState) (frames : List (List ℕ)) → s.forward.delayed ≡ frames → P s → P (delayed_frame_of s frames)
-    one_delayed s [] is h = h
-    one_delayed s (frame ∷ rest) is h = (k.delayed s frame rest is h).1
-
-    one_passed : (s : LinkState) (frames : List (List ℕ)) → s.forward.in_flight ≡ frames → P s → P (pass_frame_of s frames)
-    one_passed s [] is h = h
-    one_passed s (frame ∷ rest) is h = (k.passed s frame rest is h).2
-
-    one_delayed_ack : (s : LinkState) (frames : List (List ℕ)) → s.reverse.delayed ≡ frames → P s → P (delayed_ack_of s frames)
-    one_delayed_ack s [] is h = h
-    one_delayed_ack s (frame ∷ rest) is h = k.ack_delayed s frame rest is h
-
-    one_acked : (s : LinkState) (frames : List (List ℕ)) → s.reverse.in_flight ≡ frames → P s → P (pass_ack_of s frames)
-    one_acked s [] is h = h
-    one_acked s (frame ∷ rest) is h = (k.ack_passed s frame rest is h).1
-
     -- so many delayed frames, or frames, of a round, and so many acknowledgements
     delayed_kept : (n : ℕ) (s : LinkState) → P s → P (times n delayed_frame (transmit s))
-    delayed_kept n s h = keeps P delayed_frame (λ u. one_delayed u u.forward.delayed refl) n (transmit s) (k.sent (length s.sender.queue) s h)
+    delayed_kept n s h = keeps P delayed_frame
+        (λ u g. by_first (λ l. P (delayed_frame_of u l)) u.forward.delayed g (λ frame rest is. (k.delayed u frame rest is g).1))
+        n (transmit s) (k.sent (length s.sender.queue) s h)
 
     passed_kept : (n : ℕ) (s : LinkState) → P s → P (times n pass_frame (delayed_frames (transmit s)))
-    passed_kept n s h =
-        keeps P pass_frame (λ u. one_passed u u.forward.in_flight refl) n (delayed_frames (transmit s)) (delayed_kept (length (transmit s).forward.delayed) s h)
+    passed_kept n s h = keeps P pass_frame
+        (λ u g. by_first (λ l. P (pass_frame_of u l)) u.forward.in_flight g (λ frame rest is. (k.passed u frame rest is g).2))
+        n (delayed_frames (transmit s)) (delayed_kept (length (transmit s).forward.delayed) s h)
 
     frames_kept : (s : LinkState) → P s → P (pass_frames (delayed_frames (transmit s)))
     frames_kept s h = passed_kept (length (delayed_frames (transmit s)).forward.in_flight) s h
 
-    acked_kept : (n : ℕ) (s : LinkState) → P s → P (times n pass_ack (delayed_acks (acknowledge_all (pass_frames (delayed_frames (transmit s))))))
+    acked_kept : (n : ℕ) (s : LinkState) → P s →
+        P (times n pass_ack (delayed_acks (acknowledge_all (pass_frames (delayed_frames (transmit s))))))
     acked_kept n s h =
         let u = acknowledge_all (pass_frames (delayed_frames (transmit s))) in
-        keeps P pass_ack (λ u. one_acked u u.reverse.in_flight refl) n (delayed_acks u)
-        (keeps P delayed_ack (λ u. one_delayed_ack u u.reverse.delayed refl) (length u.reverse.delayed) u (k.told (pass_frames (delayed_frames (transmit s))) (frames_kept s h)))
+        let told = k.told (pass_frames (delayed_frames (transmit s))) (frames_kept s h) in
+        let delayed = keeps P delayed_ack
+        (λ v g. by_first (λ l. P (delayed_ack_of v l)) v.reverse.delayed g (λ frame rest is. k.ack_delayed v frame rest is g))
+        (length u.reverse.delayed) u told in
+        keeps P pass_ack (λ v g. by_first (λ l. P (pass_ack_of v l)) v.reverse.in_flight g (λ frame rest is. (k.ack_passed v frame rest is g).1))
+        n (delayed_acks u) delayed
 
     pub round_kept : (s : LinkState) → P s → P (round s)
     unfolding round
@@ -121,24 +139,148 @@ module _ (P : LinkState → Type 0) where
         let u = delayed_acks (acknowledge_all (pass_frames (delayed_frames (transmit s)))) in
         k.burst (pass_acks u) (acked_kept (length u.reverse.in_flight) s h)
 
-    stop_delayed : (u v : LinkState) (frames : List (List ℕ)) → u.forward.delayed ≡ frames → StopsDelayed u frames v → P u → P v
-    stop_delayed u v [] is e h = absurd e
-    stop_delayed u v (frame ∷ rest) is e h = subst P (sym e) (k.delayed u frame rest is h).0
-
     stop_frame : (u v : LinkState) (frames : List (List ℕ)) → u.forward.in_flight ≡ frames → StopsFrame u frames v → P u → P v
     stop_frame u v [] is e h = absurd e
     stop_frame u v (frame ∷ rest) is (inl e) h = subst P (sym e) (k.passed u frame rest is h).0
     stop_frame u v (frame ∷ rest) is (inr e) h = subst P (sym e) (k.passed u frame rest is h).1
 
-    stop_ack : (u v : LinkState) (frames : List (List ℕ)) → u.reverse.in_flight ≡ frames → StopsAck u frames v → P u → P v
-    stop_ack u v [] is e h = absurd e
-    stop_ack u v (frame ∷ rest) is e h = subst P (sym e) (k.ack_passed u frame rest is h).0
-
     pub stop_kept : (s v : LinkState) → StopsRound s v → P s → P v
     stop_kept s v (inl (n, e)) h = subst P (sym e) (k.sent n s h)
-    stop_kept s v (inr (inl (n, e))) h = (let u = times n delayed_frame (transmit s) in stop_delayed u v u.forward.delayed refl e (delayed_kept n s h))
-    stop_kept s v (inr (inr (inl (n, e)))) h = (let u = times n pass_frame (delayed_frames (transmit s)) in stop_frame u v u.forward.in_flight refl e (passed_kept n s h))
+    stop_kept s v (inr (inl (n, e))) h =
+        let u = times n delayed_frame (transmit s) in
+        by_first (λ l. StopsDelayed u l v → P v) u.forward.delayed absurd
+        (λ frame rest is d. subst P (sym d) (k.delayed u frame rest is (delayed_kept n s h)).0) e
+    stop_kept s v (inr (inr (inl (n, e)))) h = let u = times n pass_frame (delayed_frames (transmit s)) in stop_frame u v u.forward.in_flight refl e (passed_kept n s h)
     stop_kept s v (inr (inr (inr (inl e)))) h = subst P (sym e) (frames_kept s h)
     stop_kept s v (inr (inr (inr (inr (n, e))))) h =
         let u = times n pass_ack (delayed_acks (acknowledge_all (pass_frames (delayed_frames (transmit s))))) in
-        stop_ack u v u.reverse.in_flight refl e (acked_kept n s h)
+        by_first (λ l. StopsAck u l v → P v) u.reverse.in_flight absurd
+        (λ frame rest is d. subst P (sym d) (k.ack_passed u frame rest is (acked_kept n s h)).0) e
+
+-- ======== What frames that come leave, one after another
+-- ---- a receiver
+-- what is true where a frame is a segment, and where it changes nothing
+pub arrives : (P : ReceiverState → Type 0) (N : ℕ) (r : ReceiverState) (o : Option (ℕ × List ℕ)) →
+    ((pos : ℕ) (xs : List ℕ) → o ≡ Some (pos, xs) → P (receiver_after_command N r (Segment pos xs))) → P r → P (receiver_after N r o)
+arrives P N r None took same = same
+arrives P N r (Some (pos, xs)) took same =
+    split P (nat_lt (pos + length xs) (2 ^ 64)) (receiver_after_command N r (Segment pos xs)) r (λ _. took pos xs refl) (λ _. same)
+
+pub all_arrive : (P : ReceiverState → Type 0) (N : ℕ) →
+    ((r : ReceiverState) (pos : ℕ) (xs : List ℕ) → P r → P (receiver_after_command N r (Segment pos xs))) →
+    (r : ReceiverState) (frames : List (List ℕ)) → P r → P (receiver_after_all N r frames)
+all_arrive P N took r [] h = h
+all_arrive P N took r (x ∷ xs) h = all_arrive P N took (receiver_after N r (segment_of x)) xs (arrives P N r (segment_of x) (λ pos ys _. took r pos ys h) h)
+
+-- ---- a sender
+-- what is true where it keeps the rest of its queue, and where an acknowledgement changes nothing
+pub heard : (P : SenderState → Type 0) (s : SenderState) (o : Option (ℕ × List ℕ)) →
+    ((n : ℕ) (xs : List ℕ) → o ≡ Some (n, xs) → s.first_unacknowledged ≤ n → n ≤ end_of s → P (sender_from s n (blocks_of most_sack_blocks xs))) →
+    P s → P (after_ack_frame s o)
+heard P s None took same = same
+heard P s (Some (n, xs)) took same =
+    split P (nat_le s.first_unacknowledged n && nat_le n (end_of s)) (sender_from s n (blocks_of most_sack_blocks xs)) s
+    (λ e.
+    let both = and_parts (nat_le s.first_unacknowledged n) (nat_le n (end_of s)) e in
+    took n xs refl (leb-true s.first_unacknowledged n both.0) (leb-true n (end_of s) both.1))
+    (λ _. same)
+
+pub all_heard : (P : SenderState → Type 0) →
+    ((s : SenderState) (n : ℕ) (xs : List ℕ) → s.first_unacknowledged ≤ n → n ≤ end_of s → P s → P (sender_from s n (blocks_of most_sack_blocks xs))) →
+    (s : SenderState) (frames : List (List ℕ)) → P s → P (after_ack_frames s frames)
+all_heard P took s [] h = h
+all_heard P took s (x ∷ xs) h = all_heard P took (after_ack_frame s (segment_of x)) xs (heard P s (segment_of x) (λ n ys _ low high. took s n ys low high h) h)
+
+-- ---- some frames, and then others
+pub brought_append : (N : ℕ) (r : ReceiverState) (xs ys : List (List ℕ)) →
+    receiver_after_all N r (xs ++ ys) ≡ receiver_after_all N (receiver_after_all N r xs) ys
+brought_append N r [] ys = refl
+brought_append N r (x ∷ xs) ys = brought_append N (receiver_after N r (segment_of x)) xs ys
+
+pub acks_append : (N : ℕ) (r : ReceiverState) (xs ys : List (List ℕ)) →
+    acks_of N r (xs ++ ys) ≡ acks_of N r xs ++ acks_of N (receiver_after_all N r xs) ys
+acks_append N r [] ys = refl
+acks_append N r (x ∷ xs) ys =
+    let r1 = receiver_after N r (segment_of x) in
+    ap (λ l. ack_to r1 (segment_of x) ++ l) (acks_append N r1 xs ys)
+    ∙ sym (append_assoc (ack_to r1 (segment_of x)) (acks_of N r1 xs) (acks_of N (receiver_after_all N r1 xs) ys))
+
+-- ---- those whose fates pass a test
+pub passing_all : (P : List ℕ → Type 0) (test : Fate → Bool) (v : FatesState) (frames : List (List ℕ)) → All P frames →
+    All P (passing test v frames)
+passing_all P test v [] all = all
+passing_all P test v (x ∷ xs) all =
+    let rest = passing_all P test (after_fate v) xs (All-tail P x xs all) in
+    split (All P) (test (next_fate v)) (x ∷ passing test (after_fate v) xs) (passing test (after_fate v) xs)
+    (λ _. All-cons P x (passing test (after_fate v) xs) (All-head P x xs all) rest) (λ _. rest)
+
+pub passing_few : (test : Fate → Bool) (v : FatesState) (frames : List (List ℕ)) → length (passing test v frames) ≤ length frames
+passing_few test v [] = omega arith
+passing_few test v (x ∷ xs) =
+    let few = passing_few test (after_fate v) xs in grind arith
+
+pub none_passes : (test : Fate → Bool) (v : FatesState) (x : List ℕ) (xs : List (List ℕ)) → passing test v (x ∷ xs) ≡ [] →
+    (test (next_fate v) ≡ false) × (passing test (after_fate v) xs ≡ [])
+none_passes test v x xs e = grind arith
+
+-- ======== How far frames and acknowledgements bring a receiver and a sender
+-- ---- where a truthful segment ends
+pub says_ends : (f : ℕ) (w : List ℕ) (pos : ℕ) (xs : List ℕ) → MatchesStream f w pos xs → pos + length xs ≤ max pos (f + length w)
+unfolding MatchesStream
+says_ends f w pos [] says = omega arith
+says_ends f w pos (x ∷ xs) says =
+    either (cases_lt (pos + length xs) f) (λ l. omega arith)
+    (λ l.
+    let last = get_or (x ∷ xs) (length xs) 0 in
+    let place : pos + length xs - pos ≡ length xs = omega arith in
+    let at : piece_byte_at (piece pos (x ∷ xs)) (pos + length xs) ≡ Some last =
+    cond-true _ _ _ (le-leb pos (pos + length xs) (omega arith)) ∙ ap (slice_get (x ∷ xs)) place ∙ slice_get-get_or (x ∷ xs) (length xs) 0 (omega arith) in
+    let within = slice_get_within w (pos + length xs - f) last (says (pos + length xs) last l at) in
+    omega arith)
+
+-- ---- what a receiver lacks
+-- a receiver's first missing position is not one that it has
+pub missing : (most : ℕ) (r : ReceiverState) → IsSound most r → HasByteAt r (next_position r) → ⊥
+missing most r sound (inl l) = omega arith
+missing most r sound (inr h) = omega (arith, sound.above (next_position r) h)
+
+-- a receiver that has all up to a position is not below it
+pub no_gap : (most : ℕ) (r : ReceiverState) (ranges : List (ℕ × ℕ)) (pos : ℕ) → IsSound most r → HasAllOf r ranges →
+    IsSackedIf ranges (next_position r) (pos - next_position r) true → pos ≤ next_position r
+no_gap most r ranges pos sound had marked =
+    le_of_suc-le-suc (lt_of_not-le (λ (l : next_position r < pos). missing most r sound (had (next_position r) (marked (next_position r) (omega arith) (omega arith)))))
+
+-- ---- fates
+drawn_comes : (rates : Rates) (a b c : ℕ) → rates.lost ≡ 0 → rates.delayed ≡ 0 →
+    comes (cond (nat_lt a rates.lost) Lost (cond (nat_lt b rates.duplicated) Duplicated (cond (nat_lt c rates.delayed) Delayed Delivered))) ≡ true
+drawn_comes rates a b c lost delayed = grind (arith, nat_tests)
+
+come_one : (rates : Rates) (state : ℕ) (listed : List Fate) → rates.lost ≡ 0 → rates.delayed ≡ 0 → All (λ y. comes y ≡ true) listed →
+    (comes (next_of rates state listed) ≡ true) × AllCome (after_of rates state listed)
+come_one rates state [] lost delayed all = (drawn_comes rates _ _ _ lost delayed, record { listed = all; lost = lost; delayed = delayed })
+come_one rates state (x ∷ xs) lost delayed all =
+    (All-head (λ y. comes y ≡ true) x xs all, record { listed = All-tail (λ y. comes y ≡ true) x xs all; lost = lost; delayed = delayed })
+
+pub come_next : (v : FatesState) → AllCome v → (comes (next_fate v) ≡ true) × AllCome (after_fate v)
+come_next v h = come_one v.rates v.state v.listed h.lost h.delayed h.listed
+
+-- if all come, so do the next ones
+pub next_come : (n : ℕ) (v : FatesState) → AllCome v → NextCome n v
+next_come zero v all = tt
+next_come (suc n) v all = (let both = come_next v all in (both.0, next_come n (after_fate v) both.1))
+
+-- ---- acknowledgements
+pub by_keeps_end : (s : SenderState) (o : Option (ℕ × List ℕ)) → end_of (after_ack_frame s o) ≡ end_of s
+by_keeps_end s o = heard (λ u. end_of u ≡ end_of s) s o (λ n xs _ low high. omega (arith, length-drop (n - s.first_unacknowledged) s.queue)) refl
+
+pub all_keep_end : (s : SenderState) (frames : List (List ℕ)) → end_of (after_ack_frames s frames) ≡ end_of s
+all_keep_end s [] = refl
+all_keep_end s (frame ∷ frames) = all_keep_end (after_ack_frame s (segment_of frame)) frames ∙ by_keeps_end s (segment_of frame)
+
+pub acked_append : (s : SenderState) (xs ys : List (List ℕ)) → after_ack_frames s (xs ++ ys) ≡ after_ack_frames (after_ack_frames s xs) ys
+acked_append s [] ys = refl
+acked_append s (x ∷ xs) ys = acked_append (after_ack_frame s (segment_of x)) xs ys
+
+pub first_is : (f : ℕ) (w : List ℕ) (r : ReceiverState) → ReceivesFrom f w r → r.first ≡ f
+unfolding ReceivesFrom
+first_is f w r h = h.0

@@ -1,91 +1,93 @@
--- What is true of a copy after each turn, and why a round of it makes no progress.
-use Rattle.std.proofs.Common.{◌≡◌, ℕ, zero, suc, ◌+◌, ◌-◌, ◌≤◌, ◌<◌, ◌^◌, min, nat_eq, List, [], length, Option}
-use Rattle.std.proofs.Common.{refl, sym, ap, subst, ◌∙◌, arith, ⊎_elim, pos_of_ne-zero}
-use Rattle.std.proofs.lemmas.Bool.{cases_lt, and_from, eq-eqb}
+-- What is true of a copy after each turn, what failed in its last rounds, and what it counted.
+use Rattle.std.proofs.Common.{◌≡◌, ℕ, zero, suc, ◌+◌, ◌-◌, ◌≤◌, ◌<◌, ◌^◌, min, List, [], length, Option, refl, sym, ap}
+use Rattle.std.proofs.Common.{subst, ◌∙◌, arith, ⊎_elim, pos_of_ne-zero, lt_of_not-le, ◌⊎◌, ◌*◌, not, false, ◌∷◌, take}
+use Rattle.std.proofs.Common.{inl, inr, length-append, length-take}
+use Rattle.std.proofs.lemmas.Bool.{cases_lt, both_ways, and_parts, not-true}
 use Rattle.net_receiver.specs.Rules.{Segment, Read}
 use Rattle.net_receiver.specs.ReceiverState.{ReceiverState, IsSound, next_position}
-use Rattle.net_receiver.specs.OneStream.{QueueIsOf}
 use Rattle.net_receiver.specs.Soundness.{SoundStays}
 use Rattle.net_stream_model.specs.declared.counts.FrameCounts.{FrameCounts}
 use Rattle.net_stream_model.specs.declared.fate.Fate.{Fate}
-use Rattle.net_stream_model.specs.declared.fate.Fate.TheVariants.{Delivered, Lost, Duplicated, Delayed}
-use Rattle.net_stream_model.specs.SenderState.{end_of}
 use Rattle.net_stream_model.specs.SackBlocks.{most_sack_blocks, count_outside}
-use Rattle.net_stream_model.specs.Fates.{FatesState, next_fate, after_fate, fates_after}
+use Rattle.net_stream_model.specs.Fates.{FatesState, next_fate, after_fate, fates_after, AllCome}
 use Rattle.net_stream_model.specs.Counts.{with_fate, with_fates, with_payload}
-use Rattle.net_stream_model.specs.PathState.{receiver_after}
+use Rattle.net_stream_model.specs.PathState.{PathState, receiver_after}
 use Rattle.net_stream_model.specs.Arrivals.{receiver_after_all}
 use Rattle.net_stream_model.specs.LinkState.{LinkState, round}
 use Rattle.net_stream_model.specs.CopyState.{Setup, CopyState, Status, Running, Done, GaveUp, begin, feed, waited, pass}
-use Rattle.net_stream_model.specs.CopyState.{turn, after}
+use Rattle.net_stream_model.specs.CopyState.{turn, after, is_written, room_for}
 use Rattle.net_stream_model.specs.Streams.{Writes}
-use Rattle.net_stream_model.specs.Stuck.{RoundLeaves, IsStuck, KnownOfRounds}
-use Rattle.net_stream_model.specs.Promises.{CanPass, MakesNoProgress, before_round, frames_sent, acks_sent}
-use Rattle.net_stream_model.proofs.Drawn.{after_more}
-use Rattle.net_stream_model.proofs.Queue.{queue_from}
-use Rattle.net_stream_model.proofs.Reached.{first_is}
-use Rattle.net_stream_model.proofs.Stuck.{Numbers, round_keeps, round_moves, step_moves, fates_left}
-use Rattle.net_stream_model.proofs.Passed.{RoundSends, round_sends}
-use Rattle.net_stream_model.proofs.Meeting.{arrives, all_arrive}
-use Rattle.net_stream_model.proofs.Turns.{decides, turned, all_turned, ended}
-use Rattle.net_stream_model.proofs.Prefix.{SoFar, so_far, fed_so_far}
-use Rattle.net_stream_model.proofs.GoesOn.{fed_leaves, asked, GoesOn, goes_on, Turned, Failed, Finished, Stopped, WentOn, turns, running_or_not, Still, Brought, Some as Moved, Nothing, brought, runs}
+use Rattle.net_stream_model.specs.Stuck.{RoundLeaves, IsStuck, KnownOfRounds, failures, IsDue, HasFailed, AllFail}
+use Rattle.net_stream_model.specs.Stuck.{FatesFail, losses}
+use Rattle.net_stream_model.specs.Promises.{CanPass, MakesNoProgress, before_round, frames_sent, acks_sent, Fails}
+use Rattle.net_stream_model.specs.Promises.{GivesUpIfFailed, NeverByDelays, EndsIfAllCome, FewRounds, StartsFits}
+use Rattle.net_stream_model.specs.Promises.{CountsRounds, CountsEachFate, GivesUpCounted, EnoughFailed, Unfinished}
+use Rattle.net_stream_model.specs.Promises.{EnoughRounds, RoundsAtOnce}
+use Rattle.net_stream_model.specs.FateCounts.{FatesSoFar}
+use Rattle.net_stream_model.proofs.Passed.{round_met, RoundSends, round_sends}
+use Rattle.net_stream_model.proofs.Kept.{in_stream, round_keeps_invariant}
+use Rattle.net_stream_model.proofs.Stuck.{round_keeps, round_moves, step_moves, first_of_all, is_lost, due_kept}
+use Rattle.net_stream_model.proofs.Stuck.{stuck_weaker, all_after, round_failed, never_fails, round_at_once, more_taken}
+use Rattle.net_stream_model.proofs.Steps.{arrives, all_arrive}
+use Rattle.net_stream_model.proofs.Turns.{turned, decided_too, after_turns, ended, fed_by, fed_leaves, asked, GoesOn}
+use Rattle.net_stream_model.proofs.Turns.{goes_on, turns, running_or_not, Still, Some as Moved, Nothing, brought, runs}
+use Rattle.net_stream_model.proofs.Turns.{still_round, Some, still_from, stops, gives_up_after}
+use Rattle.net_stream_model.proofs.Prefix.{SoFar, so_far, fed_so_far, ends_in_one_turn}
 
 -- fates that are met change no count of bytes
 one_counts : (lot : Fate) (c : FrameCounts) → (with_fate lot c).payload ≡ c.payload
-one_counts Delivered c = refl
-one_counts Lost c = refl
-one_counts Duplicated c = refl
-one_counts Delayed c = refl
+one_counts lot c = grind arith
 
 fates_count : (n : ℕ) (v : FatesState) (c : FrameCounts) → (with_fates n v c).payload ≡ c.payload
 fates_count zero v c = refl
 fates_count (suc n) v c = fates_count n (after_fate v) (with_fate (next_fate v) c) ∙ one_counts (next_fate v) c
 
+-- what is true after a turn only if it was before, was true after the earlier ones
+back : (P : ℕ → Type 0) → ((n : ℕ) → P (suc n) → P n) → (j n : ℕ) → j ≤ n → P n → P j
+back P one j zero few h = subst P (let e : zero ≡ j = omega arith in e) h
+back P one j (suc n) few h =
+    ⊎_elim {C = P j}
+    (λ (l : j < suc n). back P one j n (omega arith) (one n h))
+    (λ (l : suc n ≤ j). subst P (let e : suc n ≡ j = omega arith in e) h)
+    (cases_lt j (suc n))
+
 -- frames that come leave a receiver sound
 module _ (stays : SoundStays) where
-  pub one_sound : (r : ReceiverState) (o : Option (ℕ × List ℕ)) → IsSound most_sack_blocks r → IsSound most_sack_blocks (receiver_after most_sack_blocks r o)
+  pub one_sound : (r : ReceiverState) (o : Option (ℕ × List ℕ)) → IsSound most_sack_blocks r →
+      IsSound most_sack_blocks (receiver_after most_sack_blocks r o)
   one_sound r o h = arrives (IsSound most_sack_blocks) most_sack_blocks r o (λ pos xs _. stays most_sack_blocks r (Segment pos xs) h) h
 
-  pub all_sound : (r : ReceiverState) (frames : List (List ℕ)) → IsSound most_sack_blocks r → IsSound most_sack_blocks (receiver_after_all most_sack_blocks r frames)
+  pub all_sound : (r : ReceiverState) (frames : List (List ℕ)) → IsSound most_sack_blocks r →
+      IsSound most_sack_blocks (receiver_after_all most_sack_blocks r frames)
   all_sound = all_arrive (IsSound most_sack_blocks) most_sack_blocks (λ r pos xs. stays most_sack_blocks r (Segment pos xs))
 
 module _ (known : KnownOfRounds) where
-  pub numbers : Numbers
-  numbers = record { first = known.first; next = known.known.next; read = known.known.reads_nothing; capacity = known.capacity }
-
   module _ (s : Setup) where
-    -- what is true of the link after each turn
-    pub record Stays (l : LinkState) : Type 0 where
-      pub in_flight : l.forward.in_flight ≡ []
-      pub in_flight_reverse : l.reverse.in_flight ≡ []
-      pub outgoing : l.sender.capacity ≡ s.outgoing
-      pub incoming : l.receiver.capacity ≡ s.incoming
-      pub sound : IsSound most_sack_blocks l.receiver
-      pub payload : l.counts.payload < 2 ^ 64
-      pub drawn : (n : ℕ) × (l.forward.fates ≡ fates_after n s.fates)
-      pub drawn_reverse : (n : ℕ) × (l.reverse.fates ≡ fates_after n s.ack_fates)
+    -- what is true of a link of these parts after each turn
+    pub record StaysOf (capacity : ℕ) (r : ReceiverState) (forward reverse : PathState) (counts : FrameCounts) : Type 0 where
+      pub in_flight : forward.in_flight ≡ []
+      pub in_flight_reverse : reverse.in_flight ≡ []
+      pub outgoing : capacity ≡ s.outgoing
+      pub incoming : r.capacity ≡ s.incoming
+      pub sound : IsSound most_sack_blocks r
+      pub payload : counts.payload < 2 ^ 64
+      pub met : FatesSoFar s.fates s.ack_fates forward.fates reverse.fates counts
+
+    abbrev pub Stays : LinkState → Type 0
+    Stays l = StaysOf l.sender.capacity l.receiver l.forward l.reverse l.counts
 
     pub fed_stays : (c : CopyState) → Stays c.link → Stays (feed s.chunk c).link
     fed_stays c h =
         let f = fed_leaves s.chunk c in
-        record {
-          in_flight = ap (λ p. p.in_flight) f.forward ∙ h.in_flight;
-          in_flight_reverse = ap (λ p. p.in_flight) f.reverse ∙ h.in_flight_reverse;
-          outgoing = f.capacity ∙ h.outgoing;
-          incoming = ap (λ r. r.capacity) f.receiver ∙ h.incoming;
-          sound = subst (IsSound most_sack_blocks) (sym f.receiver) h.sound;
-          payload = subst (λ c. c.payload < 2 ^ 64) (sym f.counts) h.payload;
-          drawn = (h.drawn.0, ap (λ p. p.fates) f.forward ∙ h.drawn.1);
-          drawn_reverse = (h.drawn_reverse.0, ap (λ p. p.fates) f.reverse ∙ h.drawn_reverse.1);
-        }
+        subst (λ (p : ℕ × ReceiverState × PathState × PathState × FrameCounts). StaysOf p.0 p.1 p.2 p.3 p.4)
+        (λ i. (sym f.capacity i, sym f.receiver i, sym f.forward i, sym f.reverse i, sym f.counts i)) h
 
     pub pass_stays : (c : CopyState) → Stays c.link → Stays (pass s.chunk c).link
     pass_stays c h =
         let old = waited c in
         let m = round old in
         let p = (round_sends old h.payload).passes in
-        let k = round_keeps old m p numbers in
+        let k = round_keeps old m p known in
         let counted : m.counts.payload ≡ min (old.counts.payload + count_outside old.sender.sack_blocks old.sender.first_unacknowledged p.n) (2 ^ 64 - 1) =
         ap (λ c. c.payload) p.counted
         ∙ fates_count (length p.acks) old.reverse.fates (with_fates (length p.sent.in_flight) old.forward.fates
@@ -99,20 +101,12 @@ module _ (known : KnownOfRounds) where
           incoming = k.receiver_capacity ∙ h.incoming;
           sound = known.sound most_sack_blocks m.receiver (Read s.chunk) received;
           payload = omega arith;
-          drawn = (
-            h.drawn.0 + length p.sent.in_flight,
-            fates_left old m p ∙ ap (fates_after (length p.sent.in_flight)) h.drawn.1 ∙ after_more h.drawn.0 (length p.sent.in_flight) s.fates,
-          );
-          drawn_reverse = (
-            h.drawn_reverse.0 + length p.acks,
-            ap (λ t. t.fates) p.left_reverse ∙ ap (fates_after (length p.acks)) h.drawn_reverse.1 ∙ after_more h.drawn_reverse.0 (length p.acks) s.ack_fates,
-          );
+          met = round_met s.fates s.ack_fates old m p h.met;
         }
 
     module _ (reads : List (List ℕ)) where
       pub all_stays : (n : ℕ) → Stays (after s reads n).link
-      all_stays n = all_turned (λ (c : CopyState). Stays c.link) s.rounds s.chunk (λ c _. fed_stays c)
-          (λ c _ h. decides (λ (d : CopyState). Stays d.link) s.rounds c (λ _ _. h) (λ _. h) (λ _. h)) (λ c _. pass_stays c) n (begin s reads)
+      all_stays = after_turns (λ (c : CopyState). Stays c.link) (λ c status h. h) s reads fed_stays pass_stays
           (record {
             in_flight = refl;
             in_flight_reverse = refl;
@@ -120,37 +114,19 @@ module _ (known : KnownOfRounds) where
             incoming = refl;
             sound = known.fresh most_sack_blocks s.first s.incoming;
             payload = omega arith;
-            drawn = (0, refl);
-            drawn_reverse = (0, refl);
+            met = record { frames = 0; acks = 0; left = refl; left_reverse = refl; counted = refl };
           })
 
       -- ---- turns before others
-      given_more : (j : ℕ) (c : CopyState) → j ≤ length c.given → j ≤ length (turn s.rounds s.chunk c).given
-      given_more j = turned (λ (c : CopyState). j ≤ length c.given) s.rounds s.chunk
-          (λ c _ h. (let f = (fed_leaves s.chunk c).given in omega arith))
-          (λ c _ h. decides (λ (d : CopyState). j ≤ length d.given) s.rounds c (λ _ _. h) (λ _. h) (λ _. h)) (λ c _ h. h)
-
-      given_grows : (j n : ℕ) → j ≤ n → length (after s reads j).given ≤ length (after s reads n).given
-      given_grows j zero few = (let e : length (after s reads j).given ≡ length (after s reads 0).given = ap (λ k. length (after s reads k).given) (let k : j ≡ 0 = omega arith in k) in omega arith)
-      given_grows j (suc n) few =
-          ⊎_elim {C = length (after s reads j).given ≤ length (after s reads (suc n)).given}
-          (λ (l : j < suc n). given_more (length (after s reads j).given) (after s reads n) (given_grows j n (omega arith)))
-          (λ (l : suc n ≤ j). let e : length (after s reads j).given ≡ length (after s reads (suc n)).given = ap (λ k. length (after s reads k).given) (let k : j ≡ suc n = omega arith in k) in omega arith)
-          (cases_lt j (suc n))
-
       pub passes_before : (j n : ℕ) → j ≤ n → CanPass s (after s reads n) → CanPass s (after s reads j)
-      passes_before j n few can =
-          let more = given_grows j n few in
-          let left = can.positions in
-          record { outgoing = can.outgoing; incoming = can.incoming; chunk = can.chunk; positions = omega arith }
+      passes_before = back (λ n. CanPass s (after s reads n)) (λ n can.
+          let c = after s reads n in
+          let P : CopyState → Type 0 = λ d. length c.given ≤ length d.given in
+          let more = turned P s.rounds s.chunk (λ d _ h. (let f = fed_leaves s.chunk d in omega arith)) (λ d _. decided_too P (λ _ _ h. h) s.rounds d) (λ _ _ h. h) c (omega arith) in
+          record { outgoing = can.outgoing; incoming = can.incoming; chunk = can.chunk; positions = omega arith })
 
       pub runs_before : (j n : ℕ) → j ≤ n → (after s reads n).status ≡ Running → (after s reads j).status ≡ Running
-      runs_before j zero few on = ap (λ k. (after s reads k).status) (let k : j ≡ 0 = omega arith in k) ∙ on
-      runs_before j (suc n) few on =
-          ⊎_elim {C = (after s reads j).status ≡ Running}
-          (λ (l : j < suc n). runs_before j n (omega arith) (goes_on s.rounds s.chunk (after s reads n) on).before)
-          (λ (l : suc n ≤ j). ap (λ k. (after s reads k).status) (let k : j ≡ suc n = omega arith in k) ∙ on)
-          (cases_lt j (suc n))
+      runs_before = back (λ n. (after s reads n).status ≡ Running) (λ n on. (goes_on s.rounds s.chunk (after s reads n) on).before)
 
       -- ---- a round that makes no progress
       module _ (c : CopyState) (was : SoFar known.known s reads c) (stays : Stays c.link) (can : CanPass s (turn s.rounds s.chunk c))
@@ -165,10 +141,7 @@ module _ (known : KnownOfRounds) where
         new = round old
 
         pub writes : Writes s.first e.given e
-        writes = (fed_so_far known.known s reads c one.before was).writes
-
-        pub within : QueueIsOf e.given e.link.receiver
-        within = queue_from known.known.queue s.first e.given e.link.receiver writes.carries.way.receives
+        writes = (fed_so_far known.known s reads c was).writes
 
         pub fed : Stays e.link
         fed = fed_stays c stays
@@ -177,69 +150,52 @@ module _ (known : KnownOfRounds) where
         sends = round_sends old fed.payload
 
         pub leaves : RoundLeaves old new
-        leaves = round_keeps old new sends.passes numbers
+        leaves = round_keeps old new sends.passes known
 
         pub left : s.first + length e.given < 2 ^ 64 - 1
-        left = (let most = can.positions in let same = ap (λ d. length d.given) one.is in omega arith)
+        left = omega (arith, can.positions, ap (λ d. length d.given) one.is)
 
         -- where nothing is to be sent, something is to be written
         pub kept : length e.link.sender.queue ≡ 0 → length e.link.receiver.queue ≡ 0 → ⊥
         kept empty none =
-            let behind = writes.carries.way.behind in
-            let end = writes.carries.way.sends.end in
-            let begins = first_is s.first e.given e.link.receiver writes.carries.way.receives in
-            let few = within.within in
+            let carries = writes.carries in
+            let stream = in_stream known.known.queue s.first e.given e.link.receiver carries.way.receives in
             let most = left in
-            let cap = fed.outgoing in
-            let room = can.outgoing in
-            asked s.chunk c one.fed one.on can.chunk (omega arith) (omega arith)
-            (and_from (nat_eq (next_position e.link.receiver) (end_of e.link.sender)) (nat_eq (length e.link.receiver.queue) 0)
-            (eq-eqb (next_position e.link.receiver) (end_of e.link.sender) (omega arith)) (eq-eqb (length e.link.receiver.queue) 0 none))
+            let stay = fed in
+            asked s.chunk c one.fed one.on can.chunk (omega arith) (omega arith) (omega arith) none
 
         pub stuck_turn : Still e (pass s.chunk e) → min s.chunk (length new.receiver.queue) ≡ 0 →
             IsStuck (frames_sent old) (acks_sent old) old (pass s.chunk e).link
         stuck_turn still none =
             let p = sends.passes in
-            let read = leaves.read in
-            let end = writes.carries.way.sends.end in
+            let carries = writes.carries in
             let most = left in
-            let moves = round_moves old new p known.known.decode numbers known.order known.known.queue fed.sound (omega arith) in
-            let stuck = step_moves (length p.sent.in_flight) (length p.acks) s.first e.given old new s.chunk leaves moves writes.carries.way
-            fed.in_flight fed.in_flight_reverse some_kept some_room can.chunk still.0 (omega arith) in
+            let stay = fed in
+            let keeps = leaves in
+            let moves = round_moves old new p known stay.sound (omega arith) in
+            let some : 0 < length e.link.sender.queue = pos_of_ne-zero (λ empty. kept empty (omega arith)) in
+            let stuck = step_moves (length p.sent.in_flight) (length p.acks) s.first e.given old new s.chunk keeps moves carries.way
+            stay.in_flight stay.in_flight_reverse some (omega arith) can.chunk still.0 (omega arith) in
             subst (λ n. IsStuck n (acks_sent old) old (pass s.chunk e).link) (ap length sends.in_flight)
             (subst (λ n. IsStuck (length p.sent.in_flight) n old (pass s.chunk e).link) sends.acks stuck)
-          where
-            some_kept : 0 < length e.link.sender.queue
-            some_kept =
-                let some = can.chunk in
-                let grows = leaves.grows in
-                let first = leaves.first in
-                let read = leaves.read in
-                pos_of_ne-zero (λ empty. kept empty (omega arith))
-
-            some_room : 0 < e.link.receiver.capacity
-            some_room = (let cap = fed.incoming in let room = can.incoming in omega arith)
 
       -- what stays over a read, over a round and at the end, is true after each turn
       module _ (P : CopyState → Type 0) (reading : (c : CopyState) → P c → P (feed s.chunk c)) (ending : (c : CopyState) (status : Status) → P c → P (record c { status = status }))
           (rounding : (c : CopyState) → SoFar known.known s reads c → Stays c.link → CanPass s (turn s.rounds s.chunk c) → GoesOn s.rounds s.chunk c →
           P (feed s.chunk c) → P (pass s.chunk (feed s.chunk c))) where
-        one_turn : (c : CopyState) → SoFar known.known s reads c → Stays c.link → CanPass s (turn s.rounds s.chunk c) → P c → Turned s.rounds s.chunk c →
-            P (turn s.rounds s.chunk c)
-        one_turn c was stays can h (Failed failed is) = subst P (sym is) (reading c h)
-        one_turn c was stays can h (Finished done is) = subst P (sym is) (ending (feed s.chunk c) Done (reading c h))
-        one_turn c was stays can h (Stopped on more many is) = subst P (sym is) (ending (feed s.chunk c) GaveUp (reading c h))
-        one_turn c was stays can h (WentOn on more few is) =
-            subst P (sym is) (rounding c was stays can (goes_on s.rounds s.chunk c (ap (λ d. d.status) is ∙ on)) (reading c h))
-
         pub by_turns : P (begin s reads) → (n : ℕ) → CanPass s (after s reads n) → P (after s reads n)
         by_turns first zero can = first
         by_turns first (suc n) can =
             let c = after s reads n in
-            let starts : s.first < 2 ^ 64 = (let left = can.positions in omega arith) in
+            let e = feed s.chunk c in
+            let starts : s.first < 2 ^ 64 = omega arith in
             let before = by_turns first n (passes_before n (suc n) (omega arith) can) in
+            let read = reading c before in
             ⊎_elim {C = P (after s reads (suc n))}
-            (λ (on : c.status ≡ Running). one_turn c (so_far known.known s reads starts n) (all_stays n) can before (turns s.rounds s.chunk c on))
+            (λ (on : c.status ≡ Running).
+            turns (λ d. after s reads (suc n) ≡ d → P d) s.rounds s.chunk c on (λ _ _. read) (λ _ _. ending e Done read) (λ _ _ _ _. ending e GaveUp read)
+            (λ fed _ _ is. rounding c (so_far known.known s reads starts n) (all_stays n) can (goes_on s.rounds s.chunk c (ap (λ d. d.status) is ∙ fed)) read)
+            refl)
             (λ (over : c.status ≡ Running → ⊥). subst P (sym (ended s.rounds s.chunk c over)) before)
             (running_or_not c.status)
 
@@ -250,26 +206,310 @@ module _ (known : KnownOfRounds) where
           let c = after s reads n in
           let h = fed_stays c (all_stays n) in
           subst (λ d. (a : ℕ) × (b : ℕ) × (d.link.forward.fates ≡ fates_after a s.fates) × (d.link.reverse.fates ≡ fates_after b s.ack_fates))
-          (sym (runs (feed s.chunk) c on)) (h.drawn.0, h.drawn_reverse.0, h.drawn.1, h.drawn_reverse.1)
+          (sym (runs (feed s.chunk) c on)) (h.met.frames, h.met.acks, h.met.left, h.met.left_reverse)
 
       pub stuck_round : (n : ℕ) → CanPass s (after s reads (suc n)) → (after s reads (suc n)).status ≡ Running → MakesNoProgress s reads n →
           IsStuck (frames_sent (before_round s reads n)) (acks_sent (before_round s reads n)) (before_round s reads n) (after s reads (suc n)).link
       stuck_round n can on nothing =
           let c = after s reads n in
           let one = goes_on s.rounds s.chunk c on in
-          let starts : s.first < 2 ^ 64 = (let left = can.positions in omega arith) in
+          let starts : s.first < 2 ^ 64 = omega arith in
           let d = feed s.chunk c in
-          let now = runs (feed s.chunk) c one.before in
-          let stuck = by c (so_far known.known s reads starts n) (all_stays n) can one nothing (brought s.chunk d) in
-          subst (λ x. IsStuck (frames_sent (waited x)) (acks_sent (waited x)) (waited x) (after s reads (suc n)).link) (sym now)
+          let stuck = elim (brought s.chunk d) as (λ _. IsStuck (frames_sent (waited d)) (acks_sent (waited d)) (waited d) (pass s.chunk d).link) [
+            | Moved none some ↦ absurd (some (still_round s.rounds s.chunk c one nothing))
+            | Nothing more still empty ↦ stuck_turn c (so_far known.known s reads starts n) (all_stays n) can one still empty
+          ] in
+          subst (λ x. IsStuck (frames_sent (waited x)) (acks_sent (waited x)) (waited x) (after s reads (suc n)).link) (sym (runs (feed s.chunk) c one.before))
           (subst (λ x. IsStuck (frames_sent (waited d)) (acks_sent (waited d)) (waited d) x.link) (sym one.is) stuck)
-        where
-          by : (c : CopyState) → SoFar known.known s reads c → Stays c.link → CanPass s (turn s.rounds s.chunk c) → (one : GoesOn s.rounds s.chunk c) →
-              ((turn s.rounds s.chunk c).link.sender.first_unacknowledged ≡ c.link.sender.first_unacknowledged) × ((turn s.rounds s.chunk c).written ≡ c.written) →
-              Brought s.chunk (feed s.chunk c) →
-              IsStuck (frames_sent (waited (feed s.chunk c))) (acks_sent (waited (feed s.chunk c))) (waited (feed s.chunk c)) (pass s.chunk (feed s.chunk c)).link
-          by c was stays can one nothing (Moved none some) = absurd (some (
-            sym (ap (λ d. d.link.sender.first_unacknowledged) one.is) ∙ nothing.0 ∙ sym (fed_leaves s.chunk c).first_unacknowledged,
-            sym (ap (λ d. d.written) one.is) ∙ nothing.1 ∙ sym (fed_leaves s.chunk c).written,
+
+-- ======== What failed in the last rounds of a copy that gives up, and how many rounds a copy makes
+-- the turn with which a copy gives up
+gave_up_once : (s : Setup) (reads : List (List ℕ)) (n : ℕ) → (after s reads n).status ≡ GaveUp →
+    (m : ℕ) × (m < n) × ((after s reads m).status ≡ Running) × ((after s reads (suc m)).status ≡ GaveUp)
+gave_up_once s reads n gave =
+    let h = ends_in_one_turn s reads n (λ r. (let j : GaveUp ≡ Running = sym gave ∙ r in cc)) in
+    (h.0, h.1, h.2, ap (λ c. c.status) h.3 ∙ gave)
+
+module _ (known : KnownOfRounds) where
+  -- ---- what failed
+  pub gives_up_if_failed : GivesUpIfFailed
+  gives_up_if_failed s reads n can on gave k far below =
+      ⊎_elim {C = Fails (n - suc k) l}
+      (λ (more : suc k < n).
+      ⊎_elim {C = Fails (n - suc k) l}
+      (λ (lost : FatesFail 1 (frames_sent l) (acks_sent l) l.forward.fates l.reverse.fates × _).
+      stuck_weaker 1 (n - suc k) (frames_sent l) (acks_sent l) l.forward.fates l.reverse.fates (λ _. omega arith) lost.0)
+      (λ (due : IsDue (after s reads (suc k)).link × _). absurd ((stuck (suc k) (omega arith) more).not_due (still_due (suc k) (omega arith) due.0)))
+      (stuck k far below).lost)
+      (λ (last : n ≤ suc k). subst (λ follow. Fails follow l) (let e : 0 ≡ n - suc k = omega arith in e) (stuck k far below).why)
+      (cases_lt (suc k) n)
+    where
+      l : LinkState
+      l = before_round s reads k
+
+      stuck : (j : ℕ) → n ≤ j + s.rounds → j < n →
+          IsStuck (frames_sent (before_round s reads j)) (acks_sent (before_round s reads j)) (before_round s reads j) (after s reads (suc j)).link
+      stuck j far few = stuck_round known s reads j (passes_before known s reads (suc j) (suc n) (omega arith) can)
+          (runs_before known s reads (suc j) n (omega arith) on) ((gives_up_after s reads n on gave).1 j far few)
+
+      still_due : (j : ℕ) → j ≤ n → IsDue (after s reads j).link → IsDue (before_round s reads j)
+      still_due j few due =
+          let c = after s reads j in
+          let f = fed_leaves s.chunk c in
+          subst (λ d. IsDue (waited d)) (sym (runs (feed s.chunk) c (runs_before known s reads j n few on)))
+          (due_kept c.link (waited (feed s.chunk c)) (ap (λ p. p.delayed) f.forward) (ap (λ p. p.delayed) f.reverse)
+          (ap (λ r. r.first + r.read + length r.queue) f.receiver) f.first_unacknowledged f.end due)
+
+  -- one of the last rounds of a copy that gave up, after which so many others failed
+  last_failed : (s : Setup) (reads : List (List ℕ)) (n follow : ℕ) → CanPass s (after s reads n) →
+      (after s reads n).status ≡ GaveUp → follow < s.rounds →
+      (k : ℕ) × Fails follow (before_round s reads k) × (a : ℕ) × (b : ℕ)
+      × ((before_round s reads k).forward.fates ≡ fates_after a s.fates) × ((before_round s reads k).reverse.fates ≡ fates_after b s.ack_fates)
+  last_failed s reads n follow can gave few =
+      let at = gave_up_once s reads n gave in
+      let m = at.0 in
+      let early = at.1 in
+      let enough = (gives_up_after s reads m at.2 at.3).0 in
+      let k = m - suc follow in
+      let drawn = drawn_before known s reads k (runs_before known s reads k m (omega arith) at.2) in
+      let failed = gives_up_if_failed s reads m (passes_before known s reads (suc m) n early can) at.2 at.3 k (omega arith) (omega arith) in
+      (k, subst (λ j. Fails j (before_round s reads k)) (let e : m - suc k ≡ follow = omega arith in e) failed, drawn.0, drawn.1, drawn.2, drawn.3)
+
+  pub never_by_delays : NeverByDelays
+  never_by_delays s reads n can none none_reverse many gave =
+      let last = last_failed s reads n 1 can gave many in
+      let l = before_round s reads last.0 in
+      ⊎_elim {C = ⊥}
+      (λ (a : (0 < frames_sent l) × HasFailed 1 (next_fate l.forward.fates)). none last.2 (ap next_fate (sym last.4) ∙ is_lost (next_fate l.forward.fates) a.1))
+      (λ (b : (0 < acks_sent l) × AllFail 1 (acks_sent l) l.reverse.fates).
+      none_reverse last.3 (ap next_fate (sym last.5) ∙ is_lost (next_fate l.reverse.fates) (first_of_all 1 (acks_sent l) l.reverse.fates b.0 b.1)))
+      last.1
+
+  pub ends_if_all_come : EndsIfAllCome
+  ends_if_all_come s reads n can come come_reverse some gave =
+      let last = last_failed s reads n 0 can gave some in
+      let l = before_round s reads last.0 in
+      never_fails (frames_sent l) (acks_sent l) l.forward.fates l.reverse.fates (subst AllCome (sym last.4) (all_after last.2 s.fates come))
+      (subst AllCome (sym last.5) (all_after last.3 s.ack_fates come_reverse)) last.1
+
+  -- ---- how many rounds
+  module _ (s : Setup) (reads : List (List ℕ)) where
+    -- in a round bytes are acknowledged or written, or it is counted as a failed one
+    abbrev Bounded : CopyState → Type 0
+    Bounded c = c.rounds ≤ (c.link.sender.first_unacknowledged - s.first) + c.link.receiver.read + failures c.link.counts
+
+    fed_bounded : (c : CopyState) → Bounded c → Bounded (feed s.chunk c)
+    fed_bounded c h = (let f = fed_leaves s.chunk c in omega (arith, ap (λ r. r.read) f.receiver, ap failures f.counts))
+
+    passed_bounded : (e : CopyState) (frames acks : ℕ) → Bounded e → RoundLeaves (waited e) (round (waited e)) →
+        s.first ≤ e.link.sender.first_unacknowledged →
+        failures e.link.counts ≤ failures (round (waited e)).counts →
+        (Still e (pass s.chunk e) → min s.chunk (length (round (waited e)).receiver.queue) ≡ 0 → IsStuck frames acks (waited e) (pass s.chunk e).link) →
+        Bounded (pass s.chunk e)
+    passed_bounded e frames acks h keeps from grows stuck = elim (brought s.chunk e) [
+      | Some none some ↦ (
+          let m = round (waited e) in
+          let far : e.link.sender.first_unacknowledged + e.link.receiver.read < m.sender.first_unacknowledged + (pass s.chunk e).link.receiver.read =
+          lt_of_not-le (λ l. some (still_from s.chunk e (omega arith) (omega arith))) in
+          omega arith)
+      | Nothing more still empty ↦ (let counted = (stuck still empty).counted in omega arith)
+    ]
+
+    bounded : (n : ℕ) → CanPass s (after s reads n) → Bounded (after s reads n)
+    bounded = by_turns known s reads Bounded fed_bounded (λ c status h. h)
+        (λ c was stays can one h.
+        let old = waited (feed s.chunk c) in
+        passed_bounded (feed s.chunk c) (frames_sent old) (acks_sent old) h (leaves known s reads c was stays can one)
+        (writes known s reads c was stays can one).carries.way.sends.from (round_failed old (round old) (sends known s reads c was stays can one).passes).0
+        (stuck_turn known s reads c was stays can one)) (omega arith)
+
+  pub few_rounds : FewRounds
+  few_rounds s reads n can =
+      let c = after s reads n in
+      let starts : s.first < 2 ^ 64 = omega arith in
+      let w = (so_far known.known s reads starts n).writes in
+      let stream = in_stream known.known.queue s.first c.given c.link.receiver w.carries.way.receives in
+      let few = bounded s reads n can in
+      omega arith
+
+-- ======== What is counted of a copy's rounds and frames, turn by turn
+-- what is true where a copy ends so, is true from then on
+pub at_end : (s : Setup) (reads : List (List ℕ)) (Q : CopyState → Type 0) (last : Status) → (last ≡ Running → ⊥) →
+    ((n : ℕ) → (after s reads n).status ≡ Running → (after s reads (suc n)).status ≡ last → Q (after s reads (suc n))) →
+    (n : ℕ) → (after s reads n).status ≡ last → Q (after s reads n)
+at_end s reads Q last over one n is =
+    let h = ends_in_one_turn s reads n (λ r. over (sym is ∙ r)) in
+    subst Q h.3 (one h.0 h.2 (ap (λ c. c.status) h.3 ∙ is))
+
+-- ---- rounds
+pub counts_rounds : CountsRounds
+counts_rounds s reads zero on = omega arith
+counts_rounds s reads (suc n) on =
+    let c = after s reads n in
+    let one = goes_on s.rounds s.chunk c on in
+    let fed = fed_leaves s.chunk c in
+    omega (arith, counts_rounds s reads n one.before, ap (λ d. d.rounds) one.is)
+
+pub gives_up_counted : GivesUpCounted
+gives_up_counted s reads n few = at_end s reads (λ c. s.rounds ≤ c.rounds) GaveUp (λ (e : GaveUp ≡ Running). cc)
+    (λ m on gave. (let c = after s reads m in
+    let fed = fed_leaves s.chunk c in
+    omega (arith, counts_rounds s reads m on, (gives_up_after s reads m on gave).0, ap (λ d. d.rounds) (stops s.rounds s.chunk c on gave).is))) n
+
+-- ---- a copy that gives up hasn't written all
+module _ (known : KnownOfRounds) where
+  pub unfinished : Unfinished
+  unfinished s reads n can gave = at_end s reads
+      (λ c. CanPass s c → length c.given < s.outgoing → length c.written < length c.given) GaveUp (λ (e : GaveUp ≡ Running). cc) one n gave can
+    where
+      one : (n : ℕ) → (after s reads n).status ≡ Running → (after s reads (suc n)).status ≡ GaveUp → CanPass s (after s reads (suc n)) →
+          length (after s reads (suc n)).given < s.outgoing → length (after s reads (suc n)).written < length (after s reads (suc n)).given
+      one n on gave can few =
+          let c = after s reads n in
+          let stop = stops s.rounds s.chunk c on gave in
+          let starts : s.first < 2 ^ 64 = omega arith in
+          let d = feed s.chunk c in
+          let given = ap (λ x. length x.given) stop.is in
+          let wrote = ap (λ x. length x.written) stop.is in
+          let w = (fed_so_far known.known s reads c (so_far known.known s reads starts n)).writes in
+          let stays = fed_stays known s c (all_stays known s reads n) in
+          let stream = in_stream known.known.queue s.first d.given d.link.receiver w.carries.way.receives in
+          lt_of_not-le (λ (l : length (after s reads (suc n)).given ≤ length (after s reads (suc n)).written).
+          let all : d.link.receiver.read ≡ length d.given = omega (arith, ap length w.written, length-take d.link.receiver.read d.given) in
+          asked s.chunk c stop.fed stop.on can.chunk (omega arith) (omega arith) (omega arith) (omega arith))
+
+  -- ---- the fates of frames
+  pub counts_each_fate : CountsEachFate
+  counts_each_fate s reads n = (let h = (all_stays known s reads n).met in record { frames = h.frames; acks = h.acks; counted = h.counted })
+
+  -- ---- failures
+  module _ (s : Setup) (reads : List (List ℕ)) where
+    -- the rounds in a row without progress are counted as failures: each by a loss, or all but the last, and then what
+    -- is delayed is due
+    abbrev Lacks : CopyState → Type 0
+    Lacks c = (min c.stalled (2 ^ 64 - 1) ≤ failures c.link.counts)
+        × ((min c.stalled (2 ^ 64 - 1) ≤ losses c.link.counts) ⊎ ((min c.stalled (2 ^ 64 - 1) ≤ losses c.link.counts + 1) × IsDue c.link))
+
+    one_lacks : (c : CopyState) → Lacks c → (frames acks : ℕ) → (let e = feed s.chunk c in
+        (Still e (pass s.chunk e) → min s.chunk (length (round (waited e)).receiver.queue) ≡ 0 → IsStuck frames acks (waited e) (pass s.chunk e).link) →
+        Lacks (pass s.chunk e))
+    one_lacks c h frames acks stuck = elim (brought s.chunk (feed s.chunk c)) [
+      | Some none some ↦ (omega arith, inl (omega arith))
+      | Nothing more still empty ↦ (
+          let f = fed_leaves s.chunk c in
+          let e = feed s.chunk c in
+          let one = stuck still empty in
+          let failed = ap failures f.counts in
+          let lost = ap losses f.counts in (
+            omega arith,
+            elim h.1 [
+              | inl low ↦ elim one.lost [ inl a ↦ inl (omega arith) | inr a ↦ inr (omega arith, a.0) ]
+              | inr low ↦ absurd (one.not_due (due_kept c.link (waited e) (ap (λ p. p.delayed) f.forward) (ap (λ p. p.delayed) f.reverse)
+                  (ap (λ r. r.first + r.read + length r.queue) f.receiver) f.first_unacknowledged f.end low.1))
+            ],
           ))
-          by c was stays can one nothing (Nothing more still empty) = stuck_turn c was stays can one still empty
+    ]
+
+    lacks : (n : ℕ) → CanPass s (after s reads n) → (after s reads n).status ≡ Running → Lacks (after s reads n)
+    lacks zero can on = (omega arith, inl (omega arith))
+    lacks (suc n) can on =
+        let c = after s reads n in
+        let one = goes_on s.rounds s.chunk c on in
+        let starts : s.first < 2 ^ 64 = omega arith in
+        let old = waited (feed s.chunk c) in
+        subst Lacks (sym one.is) (one_lacks c (lacks n (passes_before known s reads n (suc n) (omega arith) can) one.before) (frames_sent old) (acks_sent old)
+        (stuck_turn known s reads c (so_far known.known s reads starts n) (all_stays known s reads n) can one))
+
+  pub enough_failed : EnoughFailed
+  enough_failed s reads n can few gave = at_end s reads
+      (λ c. CanPass s c → (s.rounds ≤ c.link.counts.lost + c.link.counts.delayed) × (s.rounds ≤ c.link.counts.lost + 1)) GaveUp (λ (e : GaveUp ≡ Running). cc)
+      (λ m on gave can.
+      let c = after s reads m in
+      let stop = stops s.rounds s.chunk c on gave in
+      let h = lacks s reads m (passes_before known s reads m (suc m) (omega arith) can) on in
+      let counts = ap (λ x. x.link.counts) stop.is ∙ (fed_leaves s.chunk c).counts in
+      let lost = ap (λ x. x.lost) counts in
+      let delayed = ap (λ x. x.delayed) counts in
+      (omega arith, elim h.1 [ inl low ↦ omega arith | inr low ↦ omega arith ])) n gave can
+
+-- ---- enough rounds
+-- a read gives no more than so many bytes
+fed_few : (chunk : ℕ) (c : CopyState) → length (feed chunk c).given ≤ length c.given + chunk
+fed_few chunk c = fed_by (λ d. length d.given ≤ length c.given + chunk) chunk c (λ _ _. omega arith) (λ _ _ _. omega arith)
+    (λ x xs rest _ _. omega (arith, length-append c.given (take (room_for chunk c.link) (x ∷ xs)), length-take (room_for chunk c.link) (x ∷ xs)))
+    (λ _. omega arith)
+
+-- the last one gave none
+pub done_none : (rounds chunk : ℕ) (c : CopyState) → c.status ≡ Running → (turn rounds chunk c).status ≡ Done →
+    (length (turn rounds chunk c).given ≡ length c.given) × ((turn rounds chunk c).rounds ≡ c.rounds)
+done_none rounds chunk c on = turns (λ d. d.status ≡ Done → (length d.given ≡ length c.given) × (d.rounds ≡ c.rounds)) rounds chunk c on
+    (λ failed done. absurd (cc)) (λ over done. (none (not-true (feed chunk c).more (and_parts (not (feed chunk c).more) (is_written (feed chunk c).link) over).0), (fed_leaves chunk c).rounds))
+    (λ fed more many done. absurd (cc)) (λ fed more few done. absurd (cc))
+  where
+    none : (feed chunk c).more ≡ false → length (feed chunk c).given ≡ length c.given
+    none = fed_by (λ d. d.more ≡ false → length d.given ≡ length c.given) chunk c (λ _ _ _. refl) (λ _ _ _ _. refl)
+        (λ x xs rest may _ over. absurd (both_ways c.more over may.0)) (λ _ _. refl)
+
+module _ (known : KnownOfRounds) where
+  taken_few : (s : Setup) (reads : List (List ℕ)) → StartsFits s → (n : ℕ) → (after s reads n).status ≡ Running →
+      length (after s reads n).given ≤ (after s reads n).rounds * s.chunk
+  taken_few s reads fits zero on = omega arith
+  taken_few s reads fits (suc n) on =
+      let c = after s reads n in
+      let one = goes_on s.rounds s.chunk c on in
+      let w = (so_far known.known s reads fits (suc n)).writes.carries in
+      let given = ap (λ d. length d.given) one.is in
+      let more = fed_few s.chunk c in
+      more_taken (length c.given) (length (after s reads (suc n)).given) c.rounds (after s reads (suc n)).rounds s.chunk
+      (taken_few s reads fits n one.before) (omega arith) (omega arith) (ap (λ d. d.rounds) one.is ∙ ap (λ k. min (k + 1) (2 ^ 64 - 1)) (fed_leaves s.chunk c).rounds)
+
+  pub enough_rounds : EnoughRounds
+  enough_rounds s reads n fits = at_end s reads (λ c. length c.given ≤ c.rounds * s.chunk) Done (λ (e : Done ≡ Running). cc)
+      (λ m on done. (let last = done_none s.rounds s.chunk (after s reads m) on done in
+      subst (λ k. k ≤ (after s reads (suc m)).rounds * s.chunk) (sym last.0)
+      (subst (λ k. length (after s reads m).given ≤ k * s.chunk) (sym last.1) (taken_few s reads fits m on)))) n
+
+  -- ---- if all arrive in their rounds
+  module _ (s : Setup) (reads : List (List ℕ)) (come : AllCome s.fates) (come_reverse : AllCome s.ack_fates) where
+    -- the sender keeps what the receiver lacks, and each round wrote some
+    abbrev AtOnce : CopyState → Type 0
+    AtOnce c = (c.link.sender.first_unacknowledged ≡ next_position c.link.receiver) × (c.rounds ≤ c.link.receiver.read)
+
+    fed_at_once : (c : CopyState) → AtOnce c → AtOnce (feed s.chunk c)
+    fed_at_once c h =
+        let f = fed_leaves s.chunk c in
+        (f.first_unacknowledged ∙ h.0 ∙ sym (ap (λ r. r.first + r.read + length r.queue) f.receiver), omega (arith, ap (λ r. r.read) f.receiver))
+
+    one_at_once : (c : CopyState) → SoFar known.known s reads c → Stays known s c.link →
+        CanPass s (turn s.rounds s.chunk c) → GoesOn s.rounds s.chunk c →
+        AtOnce (feed s.chunk c) → AtOnce (pass s.chunk (feed s.chunk c))
+    one_at_once c was stays can one h =
+        let e = feed s.chunk c in
+        let old = waited e in
+        let new = round old in
+        let p = (sends known s reads c was stays can one).passes in
+        let u = fed known s reads c was stays can one in
+        let w = (writes known s reads c was stays can one).carries in
+        let most = left known s reads c was stays can one in
+        let moves = round_moves old new p known u.sound (omega arith) in
+        let one_more = round_at_once known s.first e.given old new s.chunk p
+        (leaves known s reads c was stays can one) moves (omega arith) w.way
+        (round_keeps_invariant known.known s.first e.given old (record { way = w.way; fits = w.fits })).way u.in_flight u.in_flight_reverse
+        (subst AllCome (sym u.met.left) (all_after u.met.frames s.fates come)) (subst AllCome (sym u.met.left_reverse) (all_after u.met.acks s.ack_fates come_reverse))
+        h.0 (omega arith) can.chunk
+        (λ none. pos_of_ne-zero (λ empty. kept known s reads c was stays can one empty none)) in
+        (one_more.0, omega arith)
+
+    at_once : (n : ℕ) → CanPass s (after s reads n) → AtOnce (after s reads n)
+    at_once = by_turns known s reads AtOnce fed_at_once (λ c status h. h) one_at_once (omega arith, omega arith)
+
+  pub rounds_at_once : RoundsAtOnce
+  rounds_at_once s reads n can come come_reverse =
+      let c = after s reads n in
+      let starts : s.first < 2 ^ 64 = omega arith in
+      let few = at_once s reads come come_reverse n can in
+      let w = (so_far known.known s reads starts n).writes.carries in
+      let stream = in_stream known.known.queue s.first c.given c.link.receiver w.way.receives in
+      omega arith
+
+pub ruleset laws_of_giving_up = (gives_up_counted, enough_failed, unfinished)

@@ -15,7 +15,7 @@ use Rattle.net_stream_model.specs.Frames.{frame_of}
 use Rattle.net_stream_model.specs.SackBlocks.{block_bytes, blocks_of}
 use Rattle.net_stream_model.specs.Counts.{is_refused, with_refusal}
 use Rattle.net_stream_model.specs.PathState.{PathState, ack_of}
-use Rattle.net_stream_model.specs.LinkState.{LinkState, times, transmit, delayed_frames, pass_frames, acknowledge_all, delayed_acks, pass_acks, with_burst, round}
+use Rattle.net_stream_model.specs.LinkState.{LinkState, times, acknowledge_all, delayed_acks, pass_acks, with_burst, round}
 use Rattle.net_stream_model.specs.CopyState.{CopyState, begin, hand_out, turn, outcome, Running, Done}
 use Rattle.net_stream_model.specs.WorkedCopy.{worked_setup, listed, WorkedCopy}
 use Rattle.net_stream_model.proofs.Steps.{enough}
@@ -89,12 +89,9 @@ module _ (laws : Laws) where
       subst (Refines (receiver_after_command 32 (receiver_of h1 []) (Segment 0 (97 ∷ [])))) (ap (state_after (kept_ops w) (kept (b ∷ []))) a_in_list)
       (laws.every 32 (receiver_of h1 []) (kept (b ∷ [])) refines1 (Segment 0 (97 ∷ []) ∷ [])).0
 
-  two_bytes : bytes (b ∷ a ∷ []) 0 2 ≡ 97 ∷ 98 ∷ []
-  unfolding byte_at
-  two_bytes = refl
-
   a_came : receiver_after_command 32 (receiver_of h1 []) (Segment 0 (97 ∷ [])) ≡ receiver_of h2 (97 ∷ 98 ∷ [])
-  a_came = λ i. receiver_of h2 ((refines_a.queue ∙ (λ j. bytes (b ∷ a ∷ []) 0 (laws.next 0 (b ∷ a ∷ []) j - 0)) ∙ two_bytes) i)
+  unfolding byte_at
+  a_came = λ i. receiver_of h2 ((refines_a.queue ∙ (λ j. bytes (b ∷ a ∷ []) 0 (laws.next 0 (b ∷ a ∷ []) j - 0))) i)
 
   runs2 : maximal_runs (domain h2) ≡ []
   runs2 = ap maximal_runs (laws.tells _ (kept (b ∷ a ∷ [])) refines_a) ∙ laws.held 0 (b ∷ a ∷ [])
@@ -123,45 +120,37 @@ module _ (laws : Laws) where
   abbrev begun1 : LinkState
   begun1 = link (sender1 []) r0 (path [] (Lost ∷ two)) (path [] four) (counts 0 0 0) 10000
 
-  abbrev passed1 : ReceiverState → FrameCounts → LinkState
-  passed1 r c = link (sender1 []) r (path [] (Delivered ∷ [])) (path (ack_of r ∷ []) four) c 10000
-
   none_refused : with_refusal 32 r0 (Some (1, 98 ∷ [])) (counts 2 2 1) ≡ counts 2 2 1
   none_refused = ap (λ x. cond (is_refused (SegmentReply (segment_result receiver_ops r0 x))) (record (counts 2 2 1) { refused = 1 }) (counts 2 2 1)) b_is_kept
-
-  frames1 : pass_frames (delayed_frames (transmit begun1)) ≡ passed1 (receiver_of h1 []) (counts 2 2 1)
-  frames1 = λ i. passed1 (b_came i) (none_refused i)
-
-  abbrev told1 : List (ℕ × ℕ) → LinkState
-  told1 ranges =
-      let ack = frame_of 0 (block_bytes (take 32 ranges)) in
-      link (sender1 []) (receiver_of h1 []) (path [] (Delivered ∷ [])) (path (ack ∷ ack ∷ []) four) (counts 2 2 1) 10000
 
   abbrev ended1 : LinkState
   ended1 = link (sender1 ((1, 2) ∷ [])) (receiver_of h1 []) (path [] (Delivered ∷ [])) (path [] two) (counts 4 2 1) 10000
 
   round1 : round begun1 ≡ ended1
   unfolding round blocks_of
-  round1 = ap (λ s. with_burst (pass_acks (delayed_acks (acknowledge_all s)))) frames1 ∙ ap (λ ranges. with_burst (pass_acks (delayed_acks (told1 ranges)))) runs1
+  round1 =
+      let passed : ReceiverState → FrameCounts → LinkState = λ r c. link (sender1 []) r (path [] (Delivered ∷ [])) (path (ack_of r ∷ []) four) c 10000 in
+      let ack : List (ℕ × ℕ) → List ℕ = λ ranges. frame_of 0 (block_bytes (take 32 ranges)) in
+      let told : List (ℕ × ℕ) → LinkState =
+      λ ranges. link (sender1 []) (receiver_of h1 []) (path [] (Delivered ∷ [])) (path (ack ranges ∷ ack ranges ∷ []) four) (counts 2 2 1) 10000 in
+      (λ i. with_burst (pass_acks (delayed_acks (acknowledge_all (passed (b_came i) (none_refused i))))))
+      ∙ ap (λ ranges. with_burst (pass_acks (delayed_acks (told ranges)))) runs1
 
   -- the second: `a` comes
   abbrev begun2 : LinkState
   begun2 = record ended1 { elapsed = 30000 }
-
-  abbrev passed2 : ReceiverState → LinkState
-  passed2 r = link (sender1 ((1, 2) ∷ [])) r (path [] []) (path (ack_of r ∷ []) two) (counts 5 3 1) 30000
-
-  abbrev told2 : List (ℕ × ℕ) → LinkState
-  told2 ranges =
-      let ack = frame_of 2 (block_bytes (take 32 ranges)) in
-      link (sender1 ((1, 2) ∷ [])) (receiver_of h2 (97 ∷ 98 ∷ [])) (path [] []) (path (ack ∷ ack ∷ []) two) (counts 5 3 1) 30000
 
   abbrev ended2 : LinkState
   ended2 = link (sender_state 4 2 [] [] 4) (receiver_of h2 (97 ∷ 98 ∷ [])) (path [] []) (path [] []) (counts 7 3 1) 30000
 
   round2 : round begun2 ≡ ended2
   unfolding round blocks_of
-  round2 = ap (λ r. with_burst (pass_acks (delayed_acks (acknowledge_all (passed2 r))))) a_came ∙ ap (λ ranges. with_burst (pass_acks (delayed_acks (told2 ranges)))) runs2
+  round2 =
+      let passed : ReceiverState → LinkState = λ r. link (sender1 ((1, 2) ∷ [])) r (path [] []) (path (ack_of r ∷ []) two) (counts 5 3 1) 30000 in
+      let ack : List (ℕ × ℕ) → List ℕ = λ ranges. frame_of 2 (block_bytes (take 32 ranges)) in
+      let told : List (ℕ × ℕ) → LinkState =
+      λ ranges. link (sender1 ((1, 2) ∷ [])) (receiver_of h2 (97 ∷ 98 ∷ [])) (path [] []) (path (ack ranges ∷ ack ranges ∷ []) two) (counts 5 3 1) 30000 in
+      ap (λ r. with_burst (pass_acks (delayed_acks (acknowledge_all (passed r))))) a_came ∙ ap (λ ranges. with_burst (pass_acks (delayed_acks (told ranges)))) runs2
 
   -- ---- the copy
   abbrev step : CopyState → CopyState
@@ -200,18 +189,14 @@ module _ (laws : Laws) where
   abbrev state3 : CopyState
   state3 = record state2 { reads = []; more = false; status = Done }
 
-  turn3 : step state2 ≡ state3
+  turn3 : (step state2 ≡ state3) × (step state3 ≡ state3)
   unfolding turn
-  turn3 = refl
-
-  turn4 : step state3 ≡ state3
-  unfolding turn
-  turn4 = refl
+  turn3 = (refl, refl)
 
   three : times 3 step state0 ≡ state3
-  three = ap step (ap step turn1 ∙ turn2) ∙ turn3
+  three = ap step (ap step turn1 ∙ turn2) ∙ turn3.0
 
   pub worked_copy : WorkedCopy
   worked_copy =
-      let ended = ap step three ∙ turn4 ∙ sym three in
+      let ended = ap step three ∙ turn3.1 ∙ sym three in
       ap outcome (enough step state0 3 16 (omega arith) ended ∙ three)

@@ -1,24 +1,216 @@
--- What a copy has written is a prefix of what it has read.
-use Rattle.std.proofs.Common.{◌≡◌, ℕ, ◌-◌, ◌^◌, min, Bool, true, false, nat_lt, Option, Result, Ok, Err, List, [], ◌∷◌, ◌++◌, length, take, drop, refl, sym, ap, subst, ◌∙◌, arith, ⊎_elim, append_assoc, length-append, ◌<◌, ◌≤◌, ◌+◌, IfErr, ◌⊎◌}
+-- Readers that fill each read, and what a copy wrote by its result.
+use Rattle.std.proofs.Common.{◌≡◌, ◌⊎◌, ◌&&◌, ℕ, zero, suc, ◌+◌, ◌≤◌, ◌<◌, nat_lt, nat_le, not, Bool, true, false, cond}
+use Rattle.std.proofs.Common.{List, [], ◌∷◌, ◌++◌, length, take, drop, refl, sym, ap, subst, ◌∙◌, arith, inl, inr}
+use Rattle.std.proofs.Common.{length-drop, ◌-◌, ◌^◌, min, Option, Result, Ok, Err, append_assoc, length-append, IfErr}
+use Rattle.std.proofs.lemmas.Bool.{both_ways, ltb-true, ltb-false}
+use Rattle.std.proofs.lemmas.List.{append-nil, take-append-le, take-append-drop, take_all}
+use Rattle.std.proofs.Math.Seq.{drop-append_seam}
+use Rattle.net_stream_model.specs.SenderState.{with_written}
+use Rattle.net_stream_model.specs.CopyState.{Setup, CopyState, Status, Running, Done, GaveUp, ReadFailed, begin}
+use Rattle.net_stream_model.specs.CopyState.{is_written, rest_of, room_for, read_of, with_read, feed, decide, pass}
+use Rattle.net_stream_model.specs.CopyState.{while_running, turn, after, outcome, most_turns, copied, setup_of, Outcome}
+use Rattle.net_stream_model.specs.CopyState.{final, concat}
+use Rattle.net_stream_model.specs.Streams.{Known, Writes}
+use Rattle.net_stream_model.specs.Promises.{before_end, EndsIfAllCome, has_end, DoneIfAllCome, FillsAt, Fills}
+use Rattle.net_stream_model.specs.Promises.{SameBytes, AllAtOnce, StartsFits, EnoughFailed}
+use Rattle.net_stream_model.proofs.Steps.{split}
+use Rattle.net_stream_model.proofs.Turns.{may_read, fed_by, decides, all_turned, after_turns, to_pass, decided_too}
+use Rattle.net_stream_model.proofs.Prefix.{before_more, before_rest, SoFar, so_far, fed_so_far, decided_so_far}
+use Rattle.net_stream_model.proofs.Prefix.{pass_writes, all_written, starts_with, ends, stays_so}
 use Rattle.std.specs.Io.KnownBytes.{Appends, Consumes, IsAtEnd}
 use Rattle.std.specs.Result.{is_ok}
-use Rattle.std.proofs.lemmas.Bool.{both_ways, ltb-false}
-use Rattle.std.proofs.lemmas.List.{append-nil, take-append-drop, take_all}
 use Rattle.net_stream_model.specs.declared.counts.Counts.{Counts}
 use Rattle.net_stream_model.specs.declared.error.CopyError.{CopyError}
-use Rattle.net_stream_model.specs.declared.error.CopyError.TheVariants as errors
 use Rattle.net_stream_model.specs.LinkState.{LinkState}
 use Rattle.net_stream_model.specs.declared.config.Config.{Config}
 use Rattle.net_stream_model.specs.Fates.{FatesState}
-use Rattle.net_stream_model.specs.CopyState.{setup_of, Setup, CopyState, Status, Done, GaveUp, ReadFailed, Outcome, begin, after, most_turns, final, concat, feed, decide, pass, rest_of, read_of, room_for, while_running}
-use Rattle.net_stream_model.specs.CopyResult.{before_pass, EndsRound, Copied, CopiedPart, HasCopied, HasNotBegun, Copies, HasPositions, gave_up}
+use Rattle.net_stream_model.specs.CopyResult.{before_pass, EndsRound, Copied, CopiedPart, HasCopied, HasNotBegun}
+use Rattle.net_stream_model.specs.CopyResult.{Copies, HasPositions, gave_up}
 use Rattle.net_stream_model.specs.declared.counts.FrameCounts.{FrameCounts}
-use Rattle.net_stream_model.specs.Promises.{StartsFits, EnoughFailed}
-use Rattle.net_stream_model.specs.Streams.{Known, Writes}
-use Rattle.net_stream_model.proofs.Steps.{split}
-use Rattle.net_stream_model.proofs.Turns.{while, feeds, decides, all_turned}
-use Rattle.net_stream_model.proofs.Prefix.{SoFar, so_far, fed_so_far, decided_so_far, pass_writes, all_written, starts_with}
+use Rattle.net_stream_model.specs.declared.error.CopyError.TheVariants as errors
 
+-- two lists of reads that have the same bytes before their end
+pub record Alike (xs ys : List (List ℕ)) : Type 0 where
+  pub end : has_end xs ≡ has_end ys
+  pub bytes : before_end xs ≡ before_end ys
+
+-- a read that fills its room gives the first bytes of all
+first_bytes : (room : ℕ) (xs : List ℕ) (rest : List (List ℕ)) → 0 < length xs →
+    (room ≤ length xs) ⊎ (before_end rest ≡ []) → take room xs ≡ take room (before_end (xs ∷ rest))
+first_bytes room xs rest some (inl l) = sym (take-append-le room xs (before_end rest) l) ∙ ap (take room) (sym (before_more xs rest some))
+first_bytes room xs rest some (inr e) = ap (take room) (sym (append-nil xs) ∙ ap (λ l. xs ++ l) (sym e) ∙ sym (before_more xs rest some))
+
+-- and leaves the end where it is
+end_stays : (room : ℕ) (xs : List ℕ) (rest : List (List ℕ)) → 0 < length xs → has_end (rest_of room xs rest) ≡ has_end (xs ∷ rest)
+end_stays room xs rest some =
+    split (λ l. has_end l ≡ has_end (xs ∷ rest)) (nat_lt room (length xs)) (drop room xs ∷ rest) rest
+    (λ e. (let less = ltb-true room (length xs) e in some_end (drop room xs) (omega (arith, length-drop room xs)) ∙ sym (some_end xs some))) (λ _. sym (some_end xs some))
+  where
+    some_end : (ys : List ℕ) → 0 < length ys → has_end (ys ∷ rest) ≡ has_end rest
+    some_end [] some = absurd (omega arith)
+    some_end (y ∷ ys) some = refl
+
+-- what is left is what follows those bytes
+left_alike : (room : ℕ) (xs ys : List ℕ) (rest left : List (List ℕ)) → 0 < length xs → 0 < length ys →
+    take room xs ≡ take room ys → Alike (xs ∷ rest) (ys ∷ left) →
+    Alike (rest_of room xs rest) (rest_of room ys left)
+left_alike room xs ys rest left some some_too same h =
+    let front = before_rest room xs rest some in
+    let front_too = before_rest room ys left some_too in
+    record {
+      end = end_stays room xs rest some ∙ h.end ∙ sym (end_stays room ys left some_too);
+      bytes = sym (drop-append_seam (take room xs) (before_end (rest_of room xs rest)))
+          ∙ ap (drop (length (take room xs))) (front ∙ h.bytes ∙ sym front_too)
+          ∙ ap (λ (l : List ℕ). drop (length l) (take room ys ++ before_end (rest_of room ys left))) same
+          ∙ drop-append_seam (take room ys) (before_end (rest_of room ys left));
+    }
+
+-- two copies that differ at most in what their reads to come give
+pub record AreAlike (c d : CopyState) : Type 0 where
+  pub reads : List (List ℕ)
+  pub same : d ≡ record c { reads = reads }
+  pub coming : c.more ≡ true → Alike c.reads reads
+
+-- of the reads alone
+abbrev FillsOf : ℕ → List (List ℕ) → Type 0
+FillsOf room reads = (xs : List ℕ) (rest : List (List ℕ)) → reads ≡ xs ∷ rest → (room ≤ length xs) ⊎ (before_end rest ≡ [])
+
+read_alike : (room : ℕ) (c : CopyState) (reads others : List (List ℕ)) → c.reads ≡ reads → FillsOf room reads →
+    FillsOf room others → Alike reads others →
+    AreAlike (read_of room c reads) (read_of room (record c { reads = others }) others)
+read_alike room c [] [] is fills fills_too h = record { reads = []; same = refl; coming = λ m. subst (λ l. Alike l []) (sym is) h }
+read_alike room c [] ([] ∷ others) is fills fills_too h = absurd (both_ways false refl h.end)
+read_alike room c ([] ∷ reads) ([] ∷ others) is fills fills_too h = record { reads = others; same = refl; coming = λ m. absurd (both_ways false refl m) }
+read_alike room c ((x ∷ xs) ∷ reads) ((y ∷ ys) ∷ others) is fills fills_too h =
+    let same : take room (x ∷ xs) ≡ take room (y ∷ ys) =
+    first_bytes room (x ∷ xs) reads (omega arith) (fills (x ∷ xs) reads refl) ∙ ap (take room) h.bytes
+    ∙ sym (first_bytes room (y ∷ ys) others (omega arith) (fills_too (y ∷ ys) others refl)) in
+    record {
+      reads = rest_of room (y ∷ ys) others;
+      same = λ i. record (with_read room c (x ∷ xs) reads) {
+        link = record c.link { sender = with_written c.link.sender (sym same i) };
+        given = c.given ++ sym same i;
+        reads = rest_of room (y ∷ ys) others;
+      };
+      coming = λ m. left_alike room (x ∷ xs) (y ∷ ys) reads others (omega arith) (omega arith) same h;
+    }
+read_alike room c reads others is fills fills_too h = absurd (let end = h.end in let bytes = h.bytes in cc)
+
+module _ (s : Setup) where
+  feed_alike : (c : CopyState) (others : List (List ℕ)) → c.status ≡ Running → (c.more ≡ true → Alike c.reads others) → FillsAt s.chunk c →
+      FillsAt s.chunk (record c { reads = others }) → AreAlike (feed s.chunk c) (feed s.chunk (record c { reads = others }))
+  feed_alike c others on coming fills fills_too = by (c.more && nat_lt 0 (room_for s.chunk c.link) && is_written c.link) refl
+    where
+      by : (b : Bool) → (c.more && nat_lt 0 (room_for s.chunk c.link) && is_written c.link) ≡ b →
+          AreAlike (cond b (read_of (room_for s.chunk c.link) c c.reads) c) (cond b (read_of (room_for s.chunk c.link) (record c { reads = others }) others) (record c { reads = others }))
+      by true e =
+          let may = may_read s.chunk c e in
+          read_alike (room_for s.chunk c.link) c c.reads others refl
+          (λ xs rest is. fills xs rest (record { running = on; more = may.0; room = may.1; written = may.2 }) is)
+          (λ xs rest is. fills_too xs rest (record { running = on; more = may.0; room = may.1; written = may.2 }) is) (coming may.0)
+      by false e = record { reads = others; same = refl; coming = coming }
+
+  decide_alike : (c : CopyState) (others : List (List ℕ)) → (c.more ≡ true → Alike c.reads others) →
+      AreAlike (decide s.rounds c) (decide s.rounds (record c { reads = others }))
+  decide_alike c others coming = by (not c.more && is_written c.link) (nat_le s.rounds c.stalled)
+    where
+      by : (a b : Bool) → AreAlike (cond a (record c { status = Done }) (cond b (record c { status = GaveUp }) c))
+          (cond a (record c { reads = others; status = Done }) (cond b (record c { reads = others; status = GaveUp }) (record c { reads = others })))
+      by true b = record { reads = others; same = refl; coming = coming }
+      by false true = record { reads = others; same = refl; coming = coming }
+      by false false = record { reads = others; same = refl; coming = coming }
+
+  -- a step that both make or neither
+  both_step : (f : CopyState → CopyState) (c d : CopyState) → AreAlike c d →
+      (c.status ≡ Running → (others : List (List ℕ)) → (c.more ≡ true → Alike c.reads others) → d ≡ record c { reads = others } → AreAlike (f c) (f (record c { reads = others }))) →
+      AreAlike (while_running f c) (while_running f d)
+  both_step f c d h step = subst (λ x. AreAlike (while_running f c) (while_running f x)) (sym h.same) (by c.status refl)
+    where
+      e : CopyState
+      e = record c { reads = h.reads }
+
+      by : (st : Status) → c.status ≡ st → AreAlike (elim st as (λ _. CopyState) [ Running ↦ f c | Done ↦ c | GaveUp ↦ c | ReadFailed ↦ c ])
+          (elim st as (λ _. CopyState) [ Running ↦ f e | Done ↦ e | GaveUp ↦ e | ReadFailed ↦ e ])
+      by Running on = step on h.reads h.coming h.same
+      by status on = record { reads = h.reads; same = refl; coming = h.coming }
+
+  pub alike : (reads others : List (List ℕ)) → Fills s reads → Fills s others → Alike reads others → (n : ℕ) →
+      AreAlike (after s reads n) (after s others n)
+  unfolding turn
+  alike reads others fills fills_too h zero = record { reads = others; same = refl; coming = λ m. h }
+  alike reads others fills fills_too h (suc n) =
+      let c = after s reads n in
+      let d = after s others n in
+      let one = both_step (feed s.chunk) c d (alike reads others fills fills_too h n)
+      (λ on rs coming same. feed_alike c rs on coming (fills n) (subst (FillsAt s.chunk) same (fills_too n))) in
+      let c1 = while_running (feed s.chunk) c in
+      let d1 = while_running (feed s.chunk) d in
+      let two = both_step (decide s.rounds) c1 d1 one (λ on rs coming same. decide_alike c1 rs coming) in
+      both_step (pass s.chunk) (while_running (decide s.rounds) c1) (while_running (decide s.rounds) d1) two (λ on rs coming same. record { reads = rs; same = refl; coming = coming })
+
+pub same_bytes : Known → SameBytes
+same_bytes known s reads others fits fills fills_too end bytes =
+    let m = most_turns s reads in
+    let k = most_turns s others in
+    let over = ends known s reads fits in
+    let over_too = ends known s others fits in
+    ap outcome (sym (stays_so s reads m k over)) ∙ sym (ap outcome (alike s reads others fills fills_too (record { end = end; bytes = bytes }) (m + k)).same)
+    ∙ ap (λ n. outcome (after s others n)) (let e : m + k ≡ k + m = omega arith in e) ∙ ap outcome (stays_so s others k m over_too)
+
+-- ---- all bytes at once
+-- each read is the last before the end
+abbrev AtOnce : List (List ℕ) → Type 0
+AtOnce [] = Unit {0}
+AtOnce (xs ∷ rest) = (before_end rest ≡ []) × AtOnce rest
+
+at_once : (s : Setup) (bytes : List ℕ) (n : ℕ) → AtOnce (after s (bytes ∷ [] ∷ []) n).reads
+at_once s bytes = after_turns (λ (c : CopyState). AtOnce c.reads) (λ c status h. h) s (bytes ∷ [] ∷ [])
+    (λ c h. fed_by (λ (d : CopyState). AtOnce d.reads) s.chunk c (λ _ _. h) (λ rest _ is. (subst AtOnce is h).1)
+    (λ x xs rest _ is.
+    let room = room_for s.chunk c.link in
+    let all : AtOnce ((x ∷ xs) ∷ rest) = subst AtOnce is h in
+    split AtOnce (nat_lt room (length (x ∷ xs))) (drop room (x ∷ xs) ∷ rest) rest (λ _. all) (λ _. all.1))
+    (λ _. h))
+    (λ c h. h) (refl, (refl, tt))
+
+one_fills : (s : Setup) (bytes : List ℕ) → Fills s (bytes ∷ [] ∷ [])
+one_fills s bytes n xs rest asks is = inr (subst AtOnce is (at_once s bytes n)).0
+
+pub one_end : (bytes : List ℕ) → (has_end (bytes ∷ [] ∷ []) ≡ true) × (before_end (bytes ∷ [] ∷ []) ≡ bytes)
+one_end [] = (refl, refl)
+one_end (x ∷ xs) = (refl, append-nil (x ∷ xs))
+
+pub all_at_once : Known → AllAtOnce
+all_at_once known s reads fits fills end =
+    let one = one_end (before_end reads) in
+    same_bytes known s reads (before_end reads ∷ [] ∷ []) fits fills (one_fills s (before_end reads)) (end ∙ sym one.0) (sym one.1)
+
+-- ---- the input's end
+-- where the reads to come have an end, none fails
+abbrev EndComes : CopyState → Type 0
+EndComes c = (c.more ≡ true → has_end c.reads ≡ true) × (c.status ≡ ReadFailed → ⊥)
+
+end_read : (chunk : ℕ) (c : CopyState) → EndComes c → EndComes (feed chunk c)
+end_read chunk c h = fed_by EndComes chunk c (λ may is. absurd (both_ways (has_end c.reads) (ap has_end is) (h.0 may.0)))
+    (λ rest _ _. (λ m. absurd (both_ways false refl m), h.1))
+    (λ x xs rest may is. (λ m. end_stays (room_for chunk c.link) (x ∷ xs) rest (omega arith) ∙ ap has_end (sym is) ∙ h.0 may.0, h.1)) (λ _. h)
+
+end_comes : (s : Setup) (reads : List (List ℕ)) (n : ℕ) → has_end reads ≡ true → EndComes (after s reads n)
+end_comes s reads n e =
+    all_turned EndComes s.rounds s.chunk (λ c on h. end_read s.chunk c h)
+    (λ c on h. decides EndComes s.rounds c (λ none all. (h.0, λ f. absurd (cc))) (λ many. (h.0, λ f. absurd (cc))) (λ few. h))
+    (λ c on h. h) n (begin s reads) (λ _. e, λ f. absurd (cc))
+
+pub done_if_all_come : Known → EndsIfAllCome → DoneIfAllCome
+done_if_all_come known never s reads can come come_reverse some e = by (copied s reads).status refl
+  where
+    by : (st : Status) → (copied s reads).status ≡ st → (copied s reads).status ≡ Done
+    by Running is = absurd (let p = can.positions in ends known s reads (omega arith) is)
+    by Done is = is
+    by GaveUp is = absurd (never s reads (most_turns s reads) can come come_reverse some is)
+    by ReadFailed is = absurd ((end_comes s reads (most_turns s reads) e).1 is)
+
+-- ======== What a copy has written is a prefix of what it has read
 module _ (reads : List (List ℕ)) where
   -- what was read, and what later reads give
   abbrev Given : CopyState → Type 0
@@ -29,76 +221,28 @@ module _ (reads : List (List ℕ)) where
       (λ _. sym (append_assoc (take room xs) (drop room xs) (concat rs)) ∙ ap (λ l. l ++ concat rs) (take-append-drop room xs))
       (λ e. ap (λ l. l ++ concat rs) (take_all room xs (ltb-false room (length xs) e)))
 
-  read_given : (room : ℕ) (c : CopyState) (rs : List (List ℕ)) → c.given ++ concat rs ≡ concat reads → c.reads ≡ rs → Given (read_of room c rs)
-  read_given room c [] e is = ap (λ l. c.given ++ concat l) is ∙ e
-  read_given room c ([] ∷ rs) e is = e
-  read_given room c ((x ∷ xs) ∷ rs) e is = append_assoc c.given (take room (x ∷ xs)) (concat (rest_of room (x ∷ xs) rs))
-      ∙ ap (λ l. c.given ++ l) (rest_same room (x ∷ xs) rs) ∙ e
-
   fed_given : (chunk : ℕ) (c : CopyState) → Given c → Given (feed chunk c)
-  fed_given chunk c h = feeds Given chunk c (λ more room all. read_given (room_for chunk c.link) c c.reads h refl) h
-
-  decided_given : (rounds : ℕ) (c : CopyState) → Given c → Given (decide rounds c)
-  decided_given rounds c h = decides Given rounds c (λ none all. h) (λ many. h) (λ few. h)
+  fed_given chunk c h = fed_by Given chunk c (λ _ _. h) (λ rest _ is. ap (λ l. c.given ++ concat l) (sym is) ∙ h)
+      (λ x xs rest _ is.
+      let room = room_for chunk c.link in
+      append_assoc c.given (take room (x ∷ xs)) (concat (rest_of room (x ∷ xs) rest))
+      ∙ ap (λ l. c.given ++ l) (rest_same room (x ∷ xs) rest ∙ ap concat (sym is)) ∙ h)
+      (λ _. h)
 
   all_given : (s : Setup) (n : ℕ) → Given (after s reads n)
-  all_given s n = all_turned Given s.rounds s.chunk (λ c on h. fed_given s.chunk c h) (λ c on h. decided_given s.rounds c h) (λ c on h. h) n (begin s reads) refl
+  all_given s = after_turns Given (λ c status h. h) s reads (fed_given s.chunk) (λ c h. h) refl
 
   given_before : (s : Setup) (n : ℕ) → Given (before_pass s reads n)
-  given_before s n =
-      let c = after s reads n in
-      let d = while_running (feed s.chunk) c in
-      let one : Given d = while Given (feed s.chunk) c (λ on. fed_given s.chunk c (all_given s n)) (λ _. all_given s n) in
-      while Given (decide s.rounds) d (λ on. decided_given s.rounds d one) (λ _. one)
-
-  all_read : (c : CopyState) → Given c → c.reads ≡ [] → c.given ≡ concat reads
-  all_read c h none = sym (append-nil c.given) ∙ ap (λ l. c.given ++ concat l) (sym none) ∙ h
+  given_before s n = to_pass Given s.rounds s.chunk (λ c _. fed_given s.chunk c) (λ c _. decided_too Given (λ _ _ h. h) s.rounds c) (after s reads n) (all_given s n)
 
 module _ (known : Known) (s : Setup) (fits : StartsFits s) where
-  -- what a writer has is a prefix of what a reader gave, and both are counted
-  in_short : (c : CopyState) (reads : List (List ℕ)) (more rest : List ℕ) (had has held holds : Option (List ℕ)) (bytes_read bytes_written : ℕ) (done : Bool) →
-      SoFar known s reads c → Given reads c → c.reads ≡ [] → Consumes had has (concat reads) → Appends held holds (c.written ++ more) →
-      (c.written ++ more) ++ rest ≡ c.given → bytes_read ≡ min (length c.given) (2 ^ 64 - 1) → bytes_written ≡ min (length (c.written ++ more)) (2 ^ 64 - 1) →
-      (done ≡ true → (c.written ++ more ≡ c.given) × IsAtEnd has) → Copies had has held holds bytes_read bytes_written done
-  in_short c reads more rest had has held holds bytes_read bytes_written done h g none consumed appended prefix read_are written_are whole =
-      let all = all_read reads c g none in
-      let word = h.writes.carries.fits in
-      let end = h.writes.carries.way.sends.end in
-      let long = ap length prefix in
-      let both = length-append (c.written ++ more) rest in
-      let given : length (concat reads) ≡ length c.given = ap length (sym all) in
-      record {
-        given = concat reads;
-        written = c.written ++ more;
-        consumed = consumed;
-        appended = appended;
-        prefix = starts_with (concat reads) (c.written ++ more) rest (prefix ∙ all);
-        bytes_read = omega (arith, word, end, given, read_are);
-        bytes_written = omega (arith, word, end, long, both, written_are);
-        whole = λ e. ((whole e).0 ∙ all, (whole e).1);
-      }
-
   -- what is written so far, and what is still to come
   written_rest : (c : CopyState) (f : ℕ) → Writes f c.given c → c.written ++ drop c.link.receiver.read c.given ≡ c.given
   written_rest c f w = ap (λ l. l ++ drop c.link.receiver.read c.given) w.written ∙ take-append-drop c.link.receiver.read c.given
 
-  copied_short : (status : Status) (had has held holds : Option (List ℕ)) (counts : Counts) (done : Bool) → (done ≡ true → status ≡ Done) →
-      Copied s status had has held holds counts → Copies had has held holds counts.bytes_read counts.bytes_written done
-  copied_short status had has held holds counts done is p =
-      let n = most_turns s p.reads in
-      let c = final s p.reads in
-      let h = so_far known s p.reads fits n in
-      let written : p.written ≡ c.written ++ [] = sym (ap (λ (o : Outcome). o.written) p.ends) ∙ sym (append-nil c.written) in
-      in_short c p.reads [] (drop c.link.receiver.read c.given) had has held holds counts.bytes_read counts.bytes_written done h (all_given p.reads s n) p.made p.consumed
-      (subst (Appends held holds) written p.appended)
-      (ap (λ l. l ++ drop c.link.receiver.read c.given) (append-nil c.written) ∙ written_rest c s.first h.writes)
-      (sym (ap (λ (o : Outcome). o.counts.bytes_read) p.ends))
-      (sym (ap (λ (o : Outcome). o.counts.bytes_written) p.ends) ∙ ap (λ l. min (length l) (2 ^ 64 - 1)) (sym (append-nil c.written)))
-      (λ e. (let d = is e in let over = h.done (ap (λ (o : Outcome). o.status) p.ends ∙ d) in
-      (append-nil c.written ∙ all_written s.first c.given c over.1 h.writes, p.at_end d)))
-
   -- of what a round brought, a part is written
-  part_rest : (error : CopyError) (c : CopyState) (link : LinkState) (w : List ℕ) → EndsRound error s.chunk c link w → Writes s.first c.given c →
+  part_rest : (error : CopyError) (c : CopyState) (link : LinkState) (w : List ℕ) → EndsRound error s.chunk c link w →
+      Writes s.first c.given c →
       (rest : List ℕ) × ((c.written ++ w) ++ rest ≡ c.given)
   part_rest errors.OutOfMemory c link w p h =
       let r = drop c.link.receiver.read c.given in
@@ -115,35 +259,62 @@ module _ (known : Known) (s : Setup) (fits : StartsFits s) where
             ∙ ap (λ l. c.written ++ l) (sym (append_assoc w (drop n q) r) ∙ ap (λ l. l ++ r) (ap (λ l. l ++ drop n q) p.1.2 ∙ take-append-drop n q))
             ∙ sym (append_assoc c.written q r) ∙ all,
       )
-  part_rest errors.GaveUp c link w p h = absurd p
-  part_rest errors.ReadFailed c link w p h = absurd p
+  part_rest error c link w p h = absurd p
 
-  part_short : (error : CopyError) (had has held holds : Option (List ℕ)) (counts : Counts) → CopiedPart s error had has held holds counts →
-      Copies had has held holds counts.bytes_read counts.bytes_written false
-  part_short error had has held holds counts p =
-      let c = after s p.reads p.turns in
-      let d = while_running (feed s.chunk) c in
-      let e = before_pass s p.reads p.turns in
-      let zero = so_far known s p.reads fits p.turns in
-      let one : SoFar known s p.reads d = while (SoFar known s p.reads) (feed s.chunk) c (λ on. fed_so_far known s p.reads c on zero) (λ _. zero) in
-      let two : SoFar known s p.reads e = while (SoFar known s p.reads) (decide s.rounds) d (λ on. decided_so_far known s p.reads d on one) (λ _. one) in
-      let rest = part_rest error e p.link p.written p.part two.writes in
-      in_short e p.reads p.written rest.0 had has held holds counts.bytes_read counts.bytes_written false two (given_before p.reads s p.turns) p.made p.consumed p.appended rest.1
-      (ap (λ (n : Counts). n.bytes_read) p.counted) (ap (λ (n : Counts). n.bytes_written) p.counted) (λ t. absurd (both_ways false refl t))
+  module _ (had has held holds : Option (List ℕ)) (counts : Counts) where
+    -- what a writer has is a prefix of what a reader gave, and both are counted
+    in_short : (c : CopyState) (reads : List (List ℕ)) (written rest : List ℕ) (done : Bool) →
+        SoFar known s reads c → Given reads c → c.reads ≡ [] → Consumes had has (concat reads) → Appends held holds written → written ++ rest ≡ c.given →
+        counts.bytes_read ≡ min (length c.given) (2 ^ 64 - 1) → counts.bytes_written ≡ min (length written) (2 ^ 64 - 1) →
+        (done ≡ true → (written ≡ c.given) × IsAtEnd has) → Copies had has held holds counts.bytes_read counts.bytes_written done
+    in_short c reads written rest done h g none consumed appended prefix read_are written_are whole =
+        let all : c.given ≡ concat reads = sym (append-nil c.given) ∙ ap (λ l. c.given ++ concat l) (sym none) ∙ g in
+        record {
+          given = concat reads;
+          written = written;
+          consumed = consumed;
+          appended = appended;
+          prefix = starts_with (concat reads) written rest (prefix ∙ all);
+          bytes_read = omega (arith, ap length all, read_are);
+          bytes_written = omega (arith, ap length prefix, length-append written rest, written_are);
+          whole = λ e. ((whole e).0 ∙ all, (whole e).1);
+        }
 
-  pub short : {T : Type 0} (r : Result T CopyError) (had has held holds : Option (List ℕ)) (counts : Counts) → HasCopied s r had has held holds counts →
+    copied_short : (status : Status) (done : Bool) → (done ≡ true → status ≡ Done) →
+        Copied s status had has held holds counts → Copies had has held holds counts.bytes_read counts.bytes_written done
+    copied_short status done is p =
+        let n = most_turns s p.reads in
+        let c = final s p.reads in
+        let h = so_far known s p.reads fits n in
+        in_short c p.reads c.written (drop c.link.receiver.read c.given) done h (all_given p.reads s n) p.made p.consumed
+        (subst (Appends held holds) (sym (ap (λ (o : Outcome). o.written) p.ends)) p.appended) (written_rest c s.first h.writes)
+        (sym (ap (λ (o : Outcome). o.counts.bytes_read) p.ends)) (sym (ap (λ (o : Outcome). o.counts.bytes_written) p.ends))
+        (λ e. (all_written s.first c.given c (h.done (ap (λ (o : Outcome). o.status) p.ends ∙ is e)).1 h.writes, p.at_end (is e)))
+
+    part_short : (error : CopyError) → CopiedPart s error had has held holds counts →
+        Copies had has held holds counts.bytes_read counts.bytes_written false
+    part_short error p =
+        let c = after s p.reads p.turns in
+        let e = before_pass s p.reads p.turns in
+        let h : SoFar known s p.reads e = to_pass (SoFar known s p.reads) s.rounds s.chunk (λ d _. fed_so_far known s p.reads d)
+        (λ d _. decided_so_far known s p.reads d) c (so_far known s p.reads fits p.turns) in
+        let rest = part_rest error e p.link p.written p.part h.writes in
+        in_short e p.reads (e.written ++ p.written) rest.0 false h (given_before p.reads s p.turns) p.made p.consumed p.appended rest.1
+        (ap (λ (n : Counts). n.bytes_read) p.counted) (ap (λ (n : Counts). n.bytes_written) p.counted) (λ t. absurd (both_ways false refl t))
+
+  pub short : {T : Type 0} (r : Result T CopyError) (had has held holds : Option (List ℕ)) (counts : Counts) →
+      HasCopied s r had has held holds counts →
       Copies had has held holds counts.bytes_read counts.bytes_written (is_ok r)
-  short (Ok t) had has held holds counts p = copied_short Done had has held holds counts true (λ _. refl) p
-  short (Err errors.GaveUp) had has held holds counts p = copied_short GaveUp had has held holds counts false (λ e. absurd (both_ways false refl e)) p
-  short (Err errors.ReadFailed) had has held holds counts p = copied_short ReadFailed had has held holds counts false (λ e. absurd (both_ways false refl e)) p
-  short (Err errors.OutOfMemory) had has held holds counts p = part_short errors.OutOfMemory had has held holds counts p
-  short (Err errors.WriteFailed) had has held holds counts p = ⊎_elim {C = Copies had has held holds counts.bytes_read counts.bytes_written false}
-      (λ (q : CopiedPart s errors.WriteFailed had has held holds counts). part_short errors.WriteFailed had has held holds counts q)
-      (λ (q : Copied s Done had has held holds counts). copied_short Done had has held holds counts false (λ e. absurd (both_ways false refl e)) q)
-      p
+  short (Ok t) had has held holds counts p = copied_short had has held holds counts Done true (λ _. refl) p
+  short (Err errors.GaveUp) had has held holds counts p = copied_short had has held holds counts GaveUp false (λ e. absurd (both_ways false refl e)) p
+  short (Err errors.ReadFailed) had has held holds counts p = copied_short had has held holds counts ReadFailed false (λ e. absurd (both_ways false refl e)) p
+  short (Err errors.OutOfMemory) had has held holds counts p = part_short had has held holds counts errors.OutOfMemory p
+  short (Err errors.WriteFailed) had has held holds counts (inl p) = part_short had has held holds counts errors.WriteFailed p
+  short (Err errors.WriteFailed) had has held holds counts (inr p) = copied_short had has held holds counts Done false (λ e. absurd (both_ways false refl e)) p
 
 -- a copy that had no memory
-pub unbegun : {T : Type 0} (r : Result T CopyError) (had has held holds : Option (List ℕ)) (counts : Counts) → HasNotBegun r had has held holds counts →
+pub unbegun : {T : Type 0} (r : Result T CopyError) (had has held holds : Option (List ℕ)) (counts : Counts) →
+    HasNotBegun r had has held holds counts →
     Copies had has held holds counts.bytes_read counts.bytes_written (is_ok r)
 unbegun r had has held holds counts p = record {
   given = [];
@@ -172,15 +343,11 @@ module _ (law : EnoughFailed) (config : Config) (fates ack_fates : FatesState) (
       subst (λ (f : FrameCounts). (config.rounds ≤ f.lost + f.delayed) × (config.rounds ≤ f.lost + 1)) (ap (λ (o : Outcome). o.counts.frames) p.ends)
       (law s p.reads (most_turns s p.reads) (record { outgoing = some; incoming = some; chunk = some; positions = omega (arith, bytes_read, left) }) word
       (ap (λ (o : Outcome). o.status) p.ends))
-  enough_of (Err errors.ReadFailed) had has held holds counts p = λ e. absurd (both_ways false refl e)
-  enough_of (Err errors.OutOfMemory) had has held holds counts p = λ e. absurd (both_ways false refl e)
-  enough_of (Err errors.WriteFailed) had has held holds counts p = λ e. absurd (both_ways false refl e)
+  enough_of (Err error) had has held holds counts p = λ e. absurd (both_ways false refl e)
 
   pub enough : {T : Type 0} (r : Result T CopyError) (had has held holds : Option (List ℕ)) (counts : Counts) →
       HasCopied (setup_of config fates ack_fates) r had has held holds counts ⊎ HasNotBegun r had has held holds counts →
       IfErr r (Enough config.first config.capacity config.rounds counts)
-  enough r had has held holds counts p = ⊎_elim {C = IfErr r (Enough config.first config.capacity config.rounds counts)}
-      (λ (q : HasCopied (setup_of config fates ack_fates) r had has held holds counts). enough_of r had has held holds counts q)
-      (λ (q : HasNotBegun r had has held holds counts). subst (λ k. IfErr k (Enough config.first config.capacity config.rounds counts)) (sym q.0)
-      (λ e. absurd (both_ways false refl e)))
-      p
+  enough r had has held holds counts (inl p) = enough_of r had has held holds counts p
+  enough r had has held holds counts (inr p) = subst (λ k. IfErr k (Enough config.first config.capacity config.rounds counts)) (sym p.0)
+      (λ e. absurd (both_ways false refl e))

@@ -23,11 +23,13 @@ pub use values::{
 };
 
 /// States that if every frame arrives in its round, so does each of the next n frames, for every n.
+#[tactic(auto, using(crate::proofs::Steps::next_come))]
 pub fn known_fates()
     ensures { EachNextComes }
 {}
 
 /// States what a round leaves.
+#[tactic(auto, using(crate::proofs::Passed::round_passes))]
 pub fn rounds_pass()
     ensures { RoundPasses }
 {}

@@ -20,6 +20,7 @@ fn known_of_rounds()
 }
 
 /// States that a copy gives up after `rounds` rounds in a row without progress, and never later.
+#[tactic(auto, using(crate::proofs::Turns::gives_up_after, crate::proofs::Turns::never_later))]
 pub fn gives_up()
     ensures after { GivesUpAfter }
     ensures later { NeverLater }
@@ -27,6 +28,7 @@ pub fn gives_up()
 
 /// States that a copy gives up only if in each of its last `rounds` rounds the first frame or all
 /// acknowledgements failed to arrive.
+#[tactic(auto, using(crate::proofs::StuckRounds::gives_up_if_failed))]
 pub fn gives_up_if_failed()
     ensures { GivesUpIfFailed }
 {
@@ -35,6 +37,7 @@ pub fn gives_up_if_failed()
 
 /// States that a copy never gives up if nothing is lost, whatever is delayed or duplicated, and its
 /// `rounds` is above 1.
+#[tactic(auto, using(crate::proofs::StuckRounds::never_by_delays))]
 pub fn delays()
     ensures { NeverByDelays }
 {
@@ -43,6 +46,7 @@ pub fn delays()
 
 /// States that over a link that loses and delays nothing a copy never gives up, and that it is done if the
 /// reads come to the input's end.
+#[tactic(auto, using(crate::proofs::StuckRounds::ends_if_all_come, crate::proofs::Written::done_if_all_come))]
 pub fn all_come()
     ensures never { EndsIfAllCome }
     ensures done { DoneIfAllCome }
@@ -52,6 +56,7 @@ pub fn all_come()
 
 /// States that a copy makes at most two rounds for each byte that was read, and one for each frame
 /// or acknowledgement that was lost or delayed.
+#[tactic(auto, using(crate::proofs::StuckRounds::few_rounds))]
 pub fn rounds()
     ensures { FewRounds }
 {
@@ -60,6 +65,7 @@ pub fn rounds()
 
 /// States what a copy counts: a round for each turn after which it goes on, and the fate of each
 /// frame.
+#[tactic(auto, using(crate::proofs::StuckRounds::counts_rounds, crate::proofs::StuckRounds::counts_each_fate))]
 pub fn counts()
     ensures rounds { CountsRounds }
     ensures fates { CountsEachFate }
@@ -70,6 +76,7 @@ pub fn counts()
 /// States what a copy that gives up has counted: at least `rounds` rounds, at least `rounds` frames
 /// and acknowledgements that were lost or delayed, and at least `rounds - 1` that were lost. If it
 /// read less than the sender has room for, it hasn't written all that it read.
+#[tactic(auto, using(crate::proofs::StuckRounds::laws_of_giving_up))]
 pub fn gives_up_counted()
     ensures rounds { GivesUpCounted }
     ensures failed { EnoughFailed }
@@ -81,6 +88,7 @@ pub fn gives_up_counted()
 /// States that a copy that is done read no more than a chunk a round, and that over a link that
 /// loses and delays nothing each round wrote some bytes. If a round has room for the bytes of a
 /// read, and each read fills its room, a copy makes as many rounds as reads (`exact`).
+#[tactic(auto, using(crate::proofs::Exact::laws_of_rounds))]
 pub fn enough_rounds()
     ensures least { EnoughRounds }
     ensures at_once { RoundsAtOnce }
@@ -92,6 +100,7 @@ pub fn enough_rounds()
 /// States what a round delivers if all its frames and acknowledgements arrive, and the receiver's free window
 /// has room for everything that the sender has queued: the receiver has all that was sent, and the sender's
 /// queue is the rest.
+#[tactic(auto, using(crate::proofs::Exact::round_delivers))]
 pub fn round_delivers()
     ensures { RoundDelivers }
 {

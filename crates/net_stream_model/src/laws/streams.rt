@@ -52,6 +52,7 @@ pub fn prefix()
 }
 
 /// States that a copy that is done has written all bytes before the input's end.
+#[tactic(auto, using(crate::proofs::Prefix::writes_all))]
 pub fn all()
     ensures { WritesAll }
 {
@@ -60,6 +61,7 @@ pub fn all()
 
 /// States that if each read fills the room that it is given, the outcome of a copy depends only on
 /// the reader's bytes: it is that of a copy whose reader gives all of them at once.
+#[tactic(auto, using(crate::proofs::Written::same_bytes, crate::proofs::Written::all_at_once))]
 pub fn filling_reads()
     ensures same { SameBytes }
     ensures at_once { AllAtOnce }

@@ -35,7 +35,6 @@ returns-in-Ok-eq0-clause-ok g c =
     let room : c.min-room.result ≡ room_for (length c.args.chunk.now) copy.link = c.min-room.ensures
     ∙ ap (λ n. min n (length c.args.chunk.now)) (c.room.ensures ∙ ap (λ (v : Copier g.row.A.Denot). room_of v.link.sender) c.self.view_is) in
     let some = (may_some copy.more _ c.min-room.result c.may_read.result c.may_read.ensures c.if-not-may_read.false).1 in
-    let lent = c.split_at_mut-part.ensures.front_len in
     let none = c.in-Ok-eq0.field-0-test in
     let bytes = c.in-Ok-eq0.ensures.bytes in
     record {
@@ -46,7 +45,7 @@ returns-in-Ok-eq0-clause-ok g c =
       step = λ later given written _. fed (length c.args.chunk.now) c.min-room.result (copy_state_of copy ([] ∷ later) given written Running) c.may_read.result room
           c.may_read.ensures c.if-not-may_read.false
           ∙ ap (λ gs. record (copy_state_of copy later gs written Running) { more = false }) (sym (append-nil given));
-      end = λ _ _. bytes.1 none (omega (arith, some, lent));
+      end = λ _ _. bytes.1 none (omega (arith, some));
     }
 
 pub returns-in-Ok-clause-ok : goal.returns-in-Ok-clause-ok
@@ -54,22 +53,18 @@ returns-in-Ok-clause-ok g c =
     let copy = c.args.self.now in
     let now = g.R.Read.remaining c.args.reader.now in
     let next = g.R.Read.remaining c.read.new.self in
-    let view = ap (λ (v : Copier g.row.A.Denot). room_of v.link.sender) c.self.view_is in
     let room : c.min-room.result ≡ room_for (length c.args.chunk.now) copy.link = c.min-room.ensures
-    ∙ ap (λ n. min n (length c.args.chunk.now)) (c.room.ensures ∙ view) in
+    ∙ ap (λ n. min n (length c.args.chunk.now)) (c.room.ensures ∙ ap (λ (v : Copier g.row.A.Denot). room_of v.link.sender) c.self.view_is) in
     let may = may_some copy.more _ c.min-room.result c.may_read.result c.may_read.ensures c.if-not-may_read.false in
-    let lent = c.split_at_mut-part.ensures.front_len in
     let xs = take c.in-Ok.count c.read.new.buf in
     let bound = c.in-Ok.ensures.bound in
     let size : length xs ≡ c.in-Ok.count = omega (arith, bound, length-take c.in-Ok.count c.read.new.buf) in
-    let few : length xs ≤ c.min-room.result = omega (arith, size, bound, lent) in
-    let count = c.write.ensures.count in
-    let all : take c.write.result xs ≡ xs = take_all c.write.result xs (omega (arith, few, room, count)) in
-    let taken = c.saturating_add-self.ensures in
+    let few : length xs ≤ c.min-room.result = omega (arith, size, bound) in
+    let all : take c.write.result xs ≡ xs = take_all c.write.result xs (omega (arith, few, room)) in
     record {
       reads = xs ∷ [];
       consumed = subst (Consumes now next) (sym (append-nil xs)) c.in-Ok.ensures.bytes.0;
-      bytes_read = λ n is. omega (arith, is, size, taken, ap length (append-nil xs));
+      bytes_read = λ n is. omega (arith, is, size, ap length (append-nil xs));
       bytes_written = refl;
       step = λ later given written _.
           let some = read_some c.min-room.result (copy_state_of copy (xs ∷ later) given written Running) xs later (omega (arith, size)) few in

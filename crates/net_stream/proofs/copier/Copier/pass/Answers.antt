@@ -23,11 +23,10 @@ returns-clause-ok g c =
     let progress : (not (nat_eq u.sender.first_unacknowledged copy.link.sender.first_unacknowledged) || nat_lt 0 (min chunk (length u.receiver.queue))) ≡ c.has_made_progress-progress.result =
     sym (c.has_made_progress-progress.ensures
     ∙ (λ i. not (nat_eq (ap (λ (l : LinkState). l.sender.first_unacknowledged) c.read-count.ensures.state i) (c.first_unacknowledged-before.ensures i)) || nat_lt 0 (count i))) in
-    let counted = c.saturating_add-self-in-Ok.ensures in
     record {
       written = bytes;
       appended = c.in-Ok.ensures.ok;
-      bytes_written = λ n e. omega (arith, e, counted, size);
+      bytes_written = λ n e. omega (arith, e, size);
       bytes_read = refl;
       more = refl;
       step = λ later given before.
@@ -69,7 +68,6 @@ returns-in-Err-clause-err g c =
     let link : u ≡ round (record copy.link { elapsed = min (copy.link.elapsed + copy.wait) (2 ^ 64 - 1) }) =
     was_ok _ c.pass_round.result (sym c.is_err.ensures.value ∙ c.if-is_err.false) c.pass_round.ensures.state ∙ ap round c.advance_clock.ensures.state in
     let less = subst (λ (xs : List ℕ). c.in-Err.written < length xs) is c.in-Err.ensures.err.0 in
-    let counted = c.saturating_add-self-in-Err.ensures in
     let size : length (take c.in-Err.written (take chunk u.receiver.queue)) ≡ c.in-Err.written =
     omega (arith, less, length-take c.in-Err.written (take chunk u.receiver.queue)) in
     record {
@@ -78,7 +76,7 @@ returns-in-Err-clause-err g c =
       part = λ given before. (link, (c.in-Err.written, less, refl));
       appended = subst (λ (xs : List ℕ). Appends (g.W.Write.contents c.args.writer.now) (g.W.Write.contents c.write_text.new.writer) (take c.in-Err.written xs))
           is c.in-Err.ensures.err.1;
-      bytes_written = λ n e. omega (arith, e, counted, size);
+      bytes_written = λ n e. omega (arith, e, size);
       bytes_read = refl;
       rounds = c.saturating_add-self.ensures;
       frames = ap (λ (l : LinkState). l.counts) c.read-count.ensures.state;

@@ -3,8 +3,8 @@ use Rattle.std.proofs.lemmas.Result.{err_from_is_err_and}
 use Rattle.net_stream_model.specs.CopyState.{CopyState, Running, Done, GaveUp, ReadFailed}
 use Rattle.net_stream.specs.Turns.{copy_state_of, Passes, Breaks}
 use Rattle.net_stream.proofs.Copied.{none_yet, fed_into, one_more, last, part_of, read_failed, broke_off, is_over, gives_up, is_done, smaller}
-use Rattle.net_stream_model.proofs.Fuel.{far, Moves, progresses}
-use Rattle.net_stream_model.proofs.GoesOn.{fed_leaves}
+use Rattle.net_stream_model.proofs.Prefix.{far, Moves, progresses}
+use Rattle.net_stream_model.proofs.Turns.{fed_leaves}
 use Rattle.net_stream.proofs.copier.Copier.run.Goals as goal
 
 pub turns-init : goal.turns-init
@@ -33,13 +33,12 @@ turns-smaller g c =
     let d = c.pass.new.self in
     let f = c.in_ok-feed.ensures.ok in
     let p = c.in_ok-pass.ensures.ok in
-    let fits = c.is_done.ensures.fits in
     let fed = f.step [] [] [] (λ e. cc) in
     let left = fed_leaves (length c.turns.chunk) (copy_state_of a (f.reads ++ []) [] [] Running) in
     let same_far : far b.link ≡ far a.link = sym (ap (λ (s : CopyState). far s.link) fed) ∙ (λ i. left.first_unacknowledged i + (left.receiver i).read) in
     let same : b.stalled ≡ a.stalled = sym (ap (λ (s : CopyState). s.stalled) fed) ∙ left.stalled in
     let few : a.stalled < c.args.rounds = omega arith in
-    smaller c.args.rounds (far a.link) (far d.link) a.stalled d.stalled (omega arith) (omega (arith, fits, same_far)) few
+    smaller c.args.rounds (far a.link) (far d.link) a.stalled d.stalled (omega arith) (omega (arith, same_far)) few
     (subst (λ n. Moves n (far d.link) a.stalled d.stalled) same_far (subst (λ n. Moves (far b.link) (far d.link) n d.stalled) same
     (subst (λ (s : CopyState). Moves (far b.link) (far s.link) b.stalled s.stalled) (p.step [] [] [])
     (progresses c.known.ensures.reads_nothing (length c.feed.new.chunk) (copy_state_of b [] [] [] Running)).1)))

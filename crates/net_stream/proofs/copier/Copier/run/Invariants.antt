@@ -1,6 +1,6 @@
 use Rattle.std.proofs.Common.{◌≡◌, ◌+◌, ◌-◌, ◌*◌, ◌^◌, length}
 use Rattle.net_stream.specs.Turns.{CopiedSoFar}
-use Rattle.net_stream_model.proofs.Fuel.{far}
+use Rattle.net_stream_model.proofs.Prefix.{far}
 use Rattle.net_stream.proofs.copier.Copier.run.Given as goal
 
 abbrev pub invariant-turns : goal.invariant-turns

@@ -1,5 +1,5 @@
 use Rattle.std.proofs.Common.{ap, []}
-use Rattle.net_stream_model.proofs.Invariant.{begun}
+use Rattle.net_stream_model.proofs.Kept.{begun}
 use Rattle.net_stream.proofs.link.StreamLink.new.Goals as goal
 
 pub returns-clause-carries : goal.returns-clause-carries

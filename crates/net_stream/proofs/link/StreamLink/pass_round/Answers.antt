@@ -4,7 +4,7 @@ use Rattle.net_stream_model.specs.Streams.{Known}
 use Rattle.net_stream_model.specs.LinkState.{LinkState, next_burst, delayed_frames, pass_frames, acknowledge_all, delayed_acks, pass_acks, with_burst, round, StopsRound}
 use Rattle.net_stream_model.specs.LinkInvariant.{LinkInvariant}
 use Rattle.net_stream_model.proofs.Kept.{round_keeps_invariant, stop_keeps_invariant}
-use Rattle.net_stream_model.proofs.Grown.{grown, stopped}
+use Rattle.net_stream_model.proofs.Prefix.{grown, stopped}
 use Rattle.net_stream.proofs.link.StreamLink.pass_round.Goals as goal
 
 -- what a round that lacked memory leaves

@@ -3,13 +3,12 @@ use Rattle.net_receiver.specs.ReceiverState.{next_position}
 use Rattle.net_receiver.specs.Retransmission.{HasByteAt}
 use Rattle.net_stream_model.specs.LinkState.{LinkState}
 use Rattle.net_stream_model.specs.LinkInvariant.{LinkInvariant}
-use Rattle.net_stream_model.proofs.Invariant.{took}
+use Rattle.net_stream_model.proofs.Kept.{took}
 use Rattle.net_stream.proofs.link.StreamLink.read.Goals as goal
 
 pub returns-clause-carries : goal.returns-clause-carries
 returns-clause-carries g c = λ f w h.
     let l = c.self.inside in
-    let same = c.read.ensures.next in
     let more : next_position l.receiver ≤ next_position c.read.new.self = omega arith in
     took f w l.sender l.receiver c.read.new.self l.forward l.reverse (c.read.ensures.receives f w) more
     (λ p has. subst (λ r. HasByteAt r p) (sym c.read.ensures.state) ((c.reads.ensures.has l.receiver (length c.args.into.now) p).1 has))

@@ -9,7 +9,6 @@ pub parts-preserved : goal.parts-preserved
 parts-preserved g c =
     let i = c.parts.invariant in
     let s = c.parts.self.sender in
-    let few = i.so_far.2 in
     let more = c.in_ok-pos.ensures.within in
     let same : c.transmit_part.new.self.sender ≡ s = c.transmit_part.ensures.sender in
     let head = ap (λ v. v.first_unacknowledged) same in
@@ -26,7 +25,6 @@ parts-preserved g c =
 pub returns-else-left-gt0-clause-ok : goal.returns-else-left-gt0-clause-ok
 returns-else-left-gt0-clause-ok g c =
     let i = c.parts.invariant in
-    let few = i.so_far.2 in
     let size = ap (λ v. length v.queue) i.sender in
     let here : Cursor = record { pos = c.parts.pos; left = c.parts.left; link = c.parts.self } in
     all_sent c.args.self.now here i.so_far.0 i.so_far.1 (omega arith) (stops here (inr (omega arith)))
@@ -34,7 +32,6 @@ returns-else-left-gt0-clause-ok g c =
 pub returns-after-parts-clause-ok : goal.returns-after-parts-clause-ok
 returns-after-parts-clause-ok g c =
     let i = c.parts.invariant in
-    let few = i.so_far.2 in
     let size = ap (λ v. length v.queue) i.sender in
     let stop : c.stop-stop.result ≡ stop_of c.parts.self.sender = c.stop-stop.ensures ∙ ap (λ (l : LinkState). stop_of l.sender) c.self.view_is ∙ ap stop_of (sym i.sender) in
     let here : Cursor = record { pos = c.parts.pos; left = c.parts.left; link = c.parts.self } in

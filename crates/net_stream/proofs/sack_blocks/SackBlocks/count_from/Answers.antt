@@ -2,7 +2,7 @@ use Rattle.std.proofs.Common.{◌≡◌, ◌+◌, ◌-◌, ◌∙◌, sym, ap, a
 use Rattle.std.proofs.lemmas.Bool.{cond-false, and_left, and_right, le-ltb, lt-leb}
 use Rattle.net_assembler.specs.Positions.{lies_in}
 use Rattle.net_stream_model.specs.SackBlocks.{count_from}
-use Rattle.net_stream_model.proofs.Spared.{rest_of_first}
+use Rattle.net_stream_model.proofs.Sent.{rest_of_first}
 use Rattle.net_stream.proofs.sack_blocks.SackBlocks.count_from.Goals as goal
 use Rattle.net_stream.proofs.sack_blocks.SackBlocks.count_from.Goals.{else-start-pos-via-then-start-pos+else-pos-end, else-start-pos-via-else-start-pos}
 

@@ -1,6 +1,6 @@
 use Rattle.std.proofs.Common.{◌+◌, ◌∙◌, sym, ap, arith, take, drop}
 use Rattle.net_stream_model.specs.SackBlocks.{greatest_end}
-use Rattle.net_stream_model.proofs.Spared.{rest_of_first}
+use Rattle.net_stream_model.proofs.Sent.{rest_of_first}
 use Rattle.net_stream.proofs.sack_blocks.SackBlocks.greatest_end.Goals as goal
 
 pub loop-i-preserved : goal.loop-i-preserved

@@ -1,6 +1,6 @@
 use Rattle.std.proofs.Common.{◌+◌, ◌∙◌, sym, ap, arith, take, drop}
 use Rattle.net_stream_model.specs.SackBlocks.{next_start}
-use Rattle.net_stream_model.proofs.Spared.{rest_of_first}
+use Rattle.net_stream_model.proofs.Sent.{rest_of_first}
 use Rattle.net_stream.proofs.sack_blocks.SackBlocks.next_start.Goals as goal
 
 pub loop-i-preserved : goal.loop-i-preserved

@@ -1,7 +1,7 @@
 use Rattle.std.proofs.Common.{◌≡◌, ℕ, List, ◌+◌, ◌-◌, ◌++◌, ◌∷◌, [], ◌∙◌, length, sym, ap, arith, append_assoc, length-append}
 use Rattle.std.proofs.lemmas.List.{append-nil}
 use Rattle.net_stream_model.specs.SackBlocks.{most_sack_blocks, blocks_of}
-use Rattle.net_stream_model.proofs.Ranges.{ranges_stop, ranges_none, ranges_more}
+use Rattle.net_stream_model.proofs.Kept.{ranges_stop, ranges_none, ranges_more}
 use Rattle.net_stream.proofs.sack_blocks.SackBlocks.of_bytes.Goals as goal
 
 pub returns-in_default : goal.returns-in_default
@@ -16,7 +16,6 @@ loop-turn-preserved c =
     let one : List (ℕ × ℕ) = (c.in-Some.start, c.in-Some.end) ∷ [] in
     let more = blocks_of (most_sack_blocks - (c.loop-turn._turn + 1)) c.in-Some.behind.now in
     let long : length c.push.new.self ≡ length so_far + length one = ap length c.push.ensures ∙ length-append so_far one in
-    let few = c.loop-turn.invariant.count in
     record {
       count = omega arith;
       all =

@@ -1,5 +1,5 @@
 use Rattle.std.proofs.Common.{◌-◌, ◌∙◌, ap, length, take, drop, arith}
-use Rattle.net_stream_model.proofs.Parts.{lent_says, lent_at}
+use Rattle.net_stream_model.proofs.Sent.{lent_says, lent_at}
 use Rattle.net_stream.proofs.sender.Sender.peek_at.Goals as goal
 
 pub returns-clause-says : goal.returns-clause-says

@@ -1,6 +1,6 @@
 use Rattle.std.proofs.Common.{◌∙◌, sym, ap}
 use Rattle.net_stream_model.specs.Frames.{segment_of}
-use Rattle.net_stream_model.proofs.Invariant.{same_parts}
+use Rattle.net_stream_model.proofs.Kept.{same_parts}
 use Rattle.net_stream_model.proofs.laws.frames.distinct_frames.Goals as goal
 
 pub returns : goal.returns
