@@ -45,4 +45,4 @@ pub use packets::{push_packet, wipe_first};
 pub use ranges::came;
 pub use samples::Samples;
 pub use send_frame::send_bytes;
-pub use timer::Timer;
+pub use timer::{Timer, poll_at};

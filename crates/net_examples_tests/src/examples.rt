@@ -4,8 +4,8 @@ use net_base::phy::{Device, Loopback, Medium, RxToken};
 use net_base::time::{Duration, Instant};
 use net_examples::{
     Counted, Descriptor, DescriptorRings, FRAME_SIZE, Outbox, Samples, Timer, Undamaged,
-    acknowledge, ask, bounce, line_end, over_a_bad_link, pass_through, receive, send_bytes,
-    send_now, take_line,
+    acknowledge, ask, bounce, line_end, over_a_bad_link, pass_through, poll_at, receive,
+    send_bytes, send_now, take_line,
 };
 use net_receiver::{Receiver, SequenceNumber};
 use net_ring::{ManagedSlice, RingBuffer};
@@ -193,6 +193,8 @@ fn a_timer_expires_and_waits_longer(rt: HostRuntime) {
     timer.back_off(now);
     assert!(rt; !timer.is_expired(Instant::from_micros(2_999_999)));
     assert!(rt; timer.is_expired(Instant::from_secs(3)));
+    let slow = Timer::new(Duration::from_secs(9), now);
+    assert!(rt; poll_at(&[slow, timer]) == Some(Instant::from_secs(3)) && poll_at(&[]).is_none());
 }
 
 #[test]
