@@ -3,7 +3,9 @@ ghost use Rattle.std.specs.Prelude.{◌≡◌, ◌∷◌, ◌++◌, [], List, �
 ghost use Rattle.net_base.specs.Loopback.{loopback_capabilities};
 ghost use Rattle.net_base.specs.declared.phy.medium.Medium.TheVariants.{Ip};
 
-use net_base::phy::{ChecksumCapabilities, Device, DeviceCapabilities, Medium, RxToken, TxToken};
+use net_base::phy::{
+    ChecksumCapabilities, Device, DeviceCapabilities, Medium, PacketMeta, RxToken, TxToken,
+};
 use net_base::time::Instant;
 use std::alloc::{AllocError, Allocator, Global};
 use std::collections::VecDeque;
@@ -12,13 +14,15 @@ use std::marker::Model;
 mod tests;
 
 /// A device of two lists: received frames, and frames that were sent. It stores the moment at which
-/// it was last asked for a frame, and counts how often it was asked for room.
+/// it was last asked for a frame and the identifier that the last frame was sent with, and counts how often it was
+/// asked for room.
 #[derive(Drop)]
 pub struct TwoLists<A: Allocator + Copy = Global> {
     pub to_come: VecDeque<Vec<u8, A>, A>,
     pub sent: VecDeque<Vec<u8, A>, A>,
     pub asked_at: Instant,
     pub rooms: usize,
+    pub sent_with: u32,
 }
 
 impl<A: Allocator + Copy> Model for TwoLists<A> {
@@ -34,9 +38,11 @@ impl<A: Allocator + Copy> Model for TwoLists<A> {
 #[derive(Drop)]
 pub struct TwoListsRxToken<A: Allocator + Copy>(Vec<u8, A>);
 
-/// The right to send a frame.
+/// The right to send a frame, and the identifier that the frame is sent with: 0 unless another one is set.
 #[derive(Drop)]
-pub struct TwoListsTxToken;
+pub struct TwoListsTxToken {
+    id: u32,
+}
 
 impl<A: Allocator + Copy> RxToken for TwoListsRxToken<A> {
     ghost bytes = { λ t. t.0.items };
@@ -50,7 +56,13 @@ impl<A: Allocator + Copy> RxToken for TwoListsRxToken<A> {
     }
 }
 
-impl TxToken for TwoListsTxToken {}
+impl TxToken for TwoListsTxToken {
+    ghost is_plain = { λ _. ⊥ };
+
+    fn set_meta(&mut self, meta: PacketMeta) {
+        self.id = meta.id;
+    }
+}
 
 impl<A: Allocator + Copy> Device for TwoLists<A> {
     type RxToken = TwoListsRxToken<A>;
@@ -68,12 +80,12 @@ impl<A: Allocator + Copy> Device for TwoLists<A> {
     fn receive(&mut self, timestamp: Instant) -> Option<(TwoListsRxToken<A>, TwoListsTxToken)> {
         self.asked_at = timestamp;
         let frame = self.to_come.pop_front()?;
-        Some((TwoListsRxToken(frame), TwoListsTxToken))
+        Some((TwoListsRxToken(frame), TwoListsTxToken { id: 0 }))
     }
 
     fn transmit(&mut self, _timestamp: Instant) -> Option<TwoListsTxToken> {
         self.rooms = self.rooms.saturating_add(1);
-        Some(TwoListsTxToken)
+        Some(TwoListsTxToken { id: 0 })
     }
 
     fn capabilities(&self) -> DeviceCapabilities {
@@ -87,10 +99,11 @@ impl<A: Allocator + Copy> Device for TwoLists<A> {
 
     fn send<R, F: FnOnce(&mut [u8]) -> R + Drop>(
         &mut self,
-        _token: TwoListsTxToken,
+        token: TwoListsTxToken,
         len: usize,
         f: F,
     ) -> Result<R, AllocError> {
+        self.sent_with = token.id;
         self.sent.reserve(1)?;
         let mut frame = vec![in *self.sent.allocator(); 0u8; len]?;
         let answer = f(frame.as_mut_slice());

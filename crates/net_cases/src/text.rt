@@ -8,7 +8,7 @@ use net_base::time::{Duration, Instant};
 use net_ring::{Empty, Full};
 use net_script::BenchError;
 use std::alloc::{AllocError, Global};
-use std::fmt::Display;
+use std::fmt::{Display, Style, Styled};
 
 /// The subject of calls that make texts. Everything that a text is made of is in the line.
 #[derive(Drop)]
@@ -106,10 +106,51 @@ fn show<T: Display>(alloc: Global, value: &T, width: usize) -> Result<Reply, All
     Ok(Reply::new().and(Part::Many(text.len(), digest)).truth(kept))
 }
 
-/// Returns whether a value has its plain text under each of five options.
+/// Returns a value under the options that the five lowest bits of a number choose.
+fn under_options<T: Display>(value: &T, options: u32, width: usize) -> Styled<&T> {
+    let styled = value.fill('*');
+    let styled = if options & 1 == 0 {
+        styled
+    } else {
+        styled.plus()
+    };
+    let styled = if options & 2 == 0 {
+        styled
+    } else {
+        styled.alternate()
+    };
+    let styled = if options & 4 == 0 {
+        styled
+    } else {
+        styled.zero()
+    };
+    let styled = if options & 8 == 0 {
+        styled
+    } else {
+        styled.width(width)
+    };
+    let styled = if options & 16 == 0 {
+        styled
+    } else {
+        styled.precision(width)
+    };
+    match options % 3 {
+        0 => styled.left(),
+        1 => styled.center(),
+        _ => styled.right(),
+    }
+}
+
+/// Returns whether a value has its plain text under each of five options, and under each set of options.
 pub fn keeps_text<T: Display>(alloc: Global, value: &T, width: usize) -> Result<bool, AllocError> {
     let plain = value.to_string(alloc)?;
     let text = plain.as_str();
+    for options in 0..32 {
+        let styled = under_options(value, options, width);
+        if !is_text(format!(in alloc; "{styled}"), text) {
+            return Ok(false);
+        }
+    }
     Ok(
         is_text(format!(in alloc; "{value:width$}"), text)
             && is_text(format!(in alloc; "{value:>+width$}"), text)

@@ -98,6 +98,42 @@ impl Env for CommandLine<'_> {
     }
 }
 
+/// Words that a program could be tempted to change: of other letters than those of English, with capitals, with
+/// spaces around them, of nothing else, and the same ones twice.
+static ODD_WORDS: [&'static [u8]; 9] = [
+    b"program",
+    b"Ring",
+    b" 8 ",
+    b"8",
+    b"8",
+    b"\xc3\xa9\xf0\x9f\xa6\x80",
+    b"\t",
+    b"--",
+    b"Ring",
+];
+
+/// Returns whether the words of a command line are those after its first, byte for byte.
+fn has_words(alloc: Global, line: &[&[u8]]) -> bool {
+    let words = command_words(&(CommandLine(&*line), alloc));
+    if words.len() != line.len().saturating_sub(1) {
+        return false;
+    }
+    for index in 0..words.len() {
+        if words[index].as_bytes() != line[index + 1] {
+            return false;
+        }
+    }
+    true
+}
+
+#[test]
+fn words_stay_as_they_are(rt: HostRuntime) -> Result<(), Fail> {
+    assert!(rt; has_words(rt.alloc(), &ODD_WORDS));
+    let long = vec![in rt.alloc(); b'7'; 5_000]?;
+    assert!(rt; has_words(rt.alloc(), &[b"program", &long, b"8", &long]));
+    Ok(())
+}
+
 #[test]
 fn the_words_of_a_command_line_are_those_after_its_first(rt: HostRuntime) -> Result<(), Fail> {
     let line = [

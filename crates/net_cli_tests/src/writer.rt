@@ -2,6 +2,7 @@
 use net_io::{flush_after, write_text};
 use net_testing::{NEVER, Sink};
 use std::alloc::Global;
+use std::cell::Cell;
 use std::io::ErrorKind;
 use std::process::Abort;
 use std::test::Fail;
@@ -42,6 +43,15 @@ fn texts_are_written_whole_or_up_to_an_error(rt: HostRuntime) -> Result<(), Fail
 }
 
 #[test]
+fn a_long_text_needs_one_write(rt: HostRuntime) -> Result<(), Fail> {
+    let text = vec![in rt.alloc(); 7u8; 200_000]?;
+    let mut sink = Sink::new(rt.alloc())?;
+    assert!(rt; write_text(&mut sink, &text).is_ok() && sink.calls == 1);
+    assert!(rt; sink.bytes.len() == 200_000);
+    Ok(())
+}
+
+#[test]
 fn a_text_of_no_bytes_needs_no_write(rt: HostRuntime) -> Result<(), Fail> {
     let mut sink = Sink::failing(rt.alloc(), 1, 0, None)?;
     assert!(rt; write_text(&mut sink, b"").is_ok() && sink.calls == 0);
@@ -78,4 +88,33 @@ fn a_failed_flush_takes_no_other_error_s_place(rt: HostRuntime) -> Result<(), Fa
     )?;
     flush(&rt, rt.alloc(), None, Err(3), Err(3))?;
     flush(&rt, rt.alloc(), other, Err(3), Err(3))
+}
+
+/// An error that counts its drops.
+struct Owned<'c> {
+    drops: &'c Cell<u8>,
+}
+
+impl Drop for Owned<'_> {
+    fn drop(self) {
+        let Owned { drops } = self;
+        drops.set(drops.get().saturating_add(1));
+    }
+}
+
+/// Flushes a writer, whose flushes fail or don't, after `Ok`. Returns whether the error for a failed flush is dropped
+/// once, whatever becomes of it.
+fn drops_error(alloc: Global, kind: Option<ErrorKind>) -> Result<bool, Fail> {
+    let drops = Cell::new(0);
+    let mut sink = Sink::new(alloc)?;
+    sink.flush_kind = kind;
+    let is_ok = flush_after(Ok(()), Owned { drops: &drops }, &mut sink).is_ok();
+    Ok(is_ok == kind.is_none() && drops.get() == 1)
+}
+
+#[test]
+fn an_error_that_is_not_used_is_dropped(rt: HostRuntime) -> Result<(), Fail> {
+    assert!(rt; drops_error(rt.alloc(), None)?);
+    assert!(rt; drops_error(rt.alloc(), Some(ErrorKind::Other))?);
+    Ok(())
 }

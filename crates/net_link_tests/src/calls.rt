@@ -23,7 +23,7 @@ struct Row {
     told: &'static str,
 }
 
-static ROWS: [Row; 6] = [
+static ROWS: [Row; 7] = [
     // A read that fills the room, and a write of all of it.
     Row {
         words: "0 1 0 0 65536",
@@ -64,6 +64,21 @@ static ROWS: [Row; 6] = [
         told: "net_link: gave up\n\
             0 bytes, 200 frames, 200 lost, 0 duplicated, 0 delayed, \
             0 refused, 891 bytes sent again, 100 rounds, 0 bytes a second\n",
+    },
+    // The counts are shown twice before it gives up, though nothing is written.
+    Row {
+        words: "--progress 99 38 0 0 1 600",
+        input: (1, usize::MAX),
+        told_calls: NEVER,
+        calls: (1, 0, 1),
+        status: Status::GaveUp,
+        told: "0 bytes, 512 frames, 511 lost, 0 duplicated, 0 delayed, \
+            0 refused, 255 bytes sent again, 256 rounds, 0 bytes a second\n\
+            0 bytes, 1024 frames, 1020 lost, 0 duplicated, 0 delayed, \
+            0 refused, 511 bytes sent again, 512 rounds, 0 bytes a second\n\
+            net_link: gave up\n\
+            0 bytes, 1200 frames, 1194 lost, 0 duplicated, 0 delayed, \
+            0 refused, 599 bytes sent again, 600 rounds, 0 bytes a second\n",
     },
     // The counts are shown nine times on the way.
     Row {

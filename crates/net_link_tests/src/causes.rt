@@ -239,7 +239,8 @@ static ENDED: [(&'static str, &'static str); 3] = [
 ];
 
 /// Returns whether the first read, the first write or the flush, by number, fails with an error of
-/// this kind, and its text is the cause, also where the flush after it fails with one of the other kind.
+/// this kind, and its text is the cause, also where the flush after it fails with one of the other kind; and
+/// whether all memory is given back.
 fn tells_kind(
     alloc: Global,
     call: usize,
@@ -253,12 +254,13 @@ fn tells_kind(
     let mut writer = Remembering::new(Sink::failing(alloc, NEVER, write, Some(kind))?);
     writer.stream.flush_kind = Some(if call == 2 { kind } else { other });
     let mut errors = Messages::new(Sink::new(alloc)?);
-    let ended = serve(alloc, &words, &mut reader, &mut writer, &mut errors);
+    let memory = Refusing::new(alloc, NEVER);
+    let ended = serve(&memory, &words, &mut reader, &mut writer, &mut errors);
     let (what, counts) = ENDED[call.min(2)];
     let error = io::Error::from(kind);
     let told = format!(in alloc; "net_link: {what}: {error}\n{counts}")?;
     let is_told = is_so(ended, Status::Failed, &errors, told.as_str());
-    Ok(is_told && writer.stream.flushes == 1)
+    Ok(is_told && writer.stream.flushes == 1 && memory.live() == 0)
 }
 
 #[test]
@@ -273,21 +275,61 @@ fn a_cause_of_any_kind_is_told(rt: HostRuntime) -> Result<(), AllocError> {
     Ok(())
 }
 
-/// A reader that always fails, with as long a text as an error keeps.
-#[derive(Drop)]
-struct Wordy;
-
-impl Read for Wordy {
-    fn read(&mut self, _buf: &mut [u8]) -> io::Result<usize> {
-        Err(io::Error::new(
-            ErrorKind::Other,
-            "the text of this cause has 79 bytes, and is shown as it is, up to its last word",
-        ))
+/// Returns whether the write of the usage, or its flush, fails with an error of this kind, and its text is the
+/// cause.
+fn help_tells_kind(alloc: Global, is_flush: bool, kind: ErrorKind) -> Result<bool, AllocError> {
+    let words = words_of(alloc, "--help")?;
+    let mut reader = Remembering::new(Source::new(b"some text"));
+    let write = if is_flush { NEVER } else { 0 };
+    let mut writer = Remembering::new(Sink::failing(alloc, NEVER, write, Some(kind))?);
+    if is_flush {
+        writer.stream.flush_kind = Some(kind);
     }
+    let mut errors = Messages::new(Sink::new(alloc)?);
+    let memory = Refusing::new(alloc, NEVER);
+    let ended = serve(&memory, &words, &mut reader, &mut writer, &mut errors);
+    let error = io::Error::from(kind);
+    let told = format!(in alloc; "net_link: write failed: {error}\n")?;
+    let is_told = is_so(ended, Status::Failed, &errors, told.as_str());
+    Ok(is_told && writer.stream.flushes == 1 && memory.live() == 0)
+}
+
+#[test]
+fn a_cause_of_any_kind_is_told_after_help(rt: HostRuntime) -> Result<(), AllocError> {
+    for is_flush in [false, true] {
+        for i in 0..KINDS.len() {
+            let is_right = help_tells_kind(rt.alloc(), is_flush, KINDS[i])?;
+            assert_holds(&rt, is_right, i);
+        }
+    }
+    Ok(())
+}
+
+/// A reader that always fails with this error.
+#[derive(Drop)]
+struct Failing(io::Error);
+
+impl Read for Failing {
+    fn read(&mut self, _buf: &mut [u8]) -> io::Result<usize> {
+        Err(self.0)
+    }
+}
+
+/// Returns an error with as long a text as an error keeps.
+fn wordy() -> io::Error {
+    io::Error::new(
+        ErrorKind::Other,
+        "the text of this cause has 79 bytes, and is shown as it is, up to its last word",
+    )
 }
 
 const WORDY: &str = "net_link: read failed: \
     the text of this cause has 79 bytes, and is shown as it is, up to its last word\n\
+    0 bytes, 0 frames, 0 lost, 0 duplicated, 0 delayed, \
+    0 refused, 0 bytes sent again, 0 rounds, 0 bytes a second\n";
+
+/// Error 21 of the system, as docs/LINK.md shows it.
+const OF_THE_SYSTEM: &str = "net_link: read failed: Is a directory (os error 21)\n\
     0 bytes, 0 frames, 0 lost, 0 duplicated, 0 delayed, \
     0 refused, 0 bytes sent again, 0 rounds, 0 bytes a second\n";
 
@@ -299,10 +341,11 @@ const NO_CAUSE: &str = "net_link: read failed\n\
 fn fails_at_once<A: Allocator + Copy>(
     alloc: Global,
     memory: A,
+    error: io::Error,
     told: &str,
 ) -> Result<bool, AllocError> {
     let words = words_of(alloc, "0 1")?;
-    let mut reader = Remembering::new(Wordy);
+    let mut reader = Remembering::new(Failing(error));
     let mut writer = Remembering::new(Sink::new(alloc)?);
     let mut errors = Messages::new(Sink::new(alloc)?);
     let ended = serve(memory, &words, &mut reader, &mut writer, &mut errors);
@@ -314,7 +357,7 @@ fn fails_at_once<A: Allocator + Copy>(
 /// of the cause, of less than 1,000 bytes in all. All memory is given back.
 fn tells(alloc: Global, refused: usize, told: &str) -> Result<bool, AllocError> {
     let memory = Refusing::new(alloc, refused);
-    let is_told = fails_at_once(alloc, &memory, told)?;
+    let is_told = fails_at_once(alloc, &memory, wordy(), told)?;
     Ok(is_told && memory.bytes() < 3 * 262_144 + 1_000 && memory.live() == 0)
 }
 
@@ -324,5 +367,13 @@ fn a_cause_is_told_if_there_is_memory_for_it(rt: HostRuntime) -> Result<(), Allo
     assert_holds(&rt, all, 0);
     let none = tells(rt.alloc(), 3, NO_CAUSE)?;
     assert_holds(&rt, none, 1);
+    Ok(())
+}
+
+#[test]
+fn a_cause_of_the_system_is_told(rt: HostRuntime) -> Result<(), AllocError> {
+    let error = io::Error::from_raw_os_error(21);
+    let is_told = fails_at_once(rt.alloc(), rt.alloc(), error, OF_THE_SYSTEM)?;
+    assert_holds(&rt, is_told, 0);
     Ok(())
 }

@@ -8,3 +8,5 @@ mod calls;
 mod causes;
 #[cfg(test)]
 mod serving;
+#[cfg(test)]
+mod streams;

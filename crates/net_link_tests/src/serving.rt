@@ -364,6 +364,11 @@ fn assert_ended(rt: &impl Abort, found: Ended, status: Status, words: &str) {
     assert!(rt; found == wanted, "{words}: {found:?}");
 }
 
+/// Returns a standard error that takes seven bytes a call.
+fn messages(alloc: Global) -> Result<Messages<Sink>, AllocError> {
+    Ok(Messages::new(Sink::failing(alloc, 7, NEVER, None)?))
+}
+
 /// Makes the copy of a case, and compares.
 fn check(rt: &impl Abort, alloc: Global, case: &Case) -> Result<(), Fail> {
     let words = words_of(alloc, case.words)?;
@@ -377,7 +382,7 @@ fn check(rt: &impl Abort, alloc: Global, case: &Case) -> Result<(), Fail> {
     if !case.is_flushed {
         writer.stream.flush_kind = Some(kind);
     }
-    let mut errors = Messages::new(Sink::new(alloc)?);
+    let mut errors = messages(alloc)?;
     let ended = serve(alloc, &words, &mut reader, &mut writer, &mut errors);
     let sink = &writer.stream;
     assert_ended(rt, ended, case.status, case.words);
@@ -415,7 +420,7 @@ Time is simulated: the program waits for nothing but its input.
 fn check_misuse(rt: &impl Abort, alloc: Global, words: &[String], line: &str) -> Result<(), Fail> {
     let mut reader = Remembering::new(Source::new(b"some text"));
     let mut writer = Remembering::new(Sink::new(alloc)?);
-    let mut errors = Messages::new(Sink::new(alloc)?);
+    let mut errors = messages(alloc)?;
     let ended = serve(alloc, words, &mut reader, &mut writer, &mut errors);
     let wanted = format!(in alloc; "net_link: {line}\n{USAGE}")?;
     assert_ended(rt, ended, Status::Misused, line);
@@ -481,7 +486,7 @@ fn check_help(
     let words = words_of(alloc, line)?;
     let mut reader = Remembering::new(Source::new(b"some text"));
     let mut writer = Remembering::new(Sink::failing(alloc, 100, failing_call, None)?);
-    let mut errors = Messages::new(Sink::new(alloc)?);
+    let mut errors = messages(alloc)?;
     let ended = serve(alloc, &words, &mut reader, &mut writer, &mut errors);
     let sink = &writer.stream;
     assert_ended(rt, ended, status, line);
@@ -508,7 +513,7 @@ fn check_refused_memory(rt: &impl Abort, alloc: Global, refused: usize) -> Resul
     let words = words_of(alloc, "0 1")?;
     let mut reader = Remembering::new(Source::new(b"some text"));
     let mut writer = Remembering::new(Sink::new(alloc)?);
-    let mut errors = Messages::new(Sink::new(alloc)?);
+    let mut errors = messages(alloc)?;
     let ended = serve(&heap, &words, &mut reader, &mut writer, &mut errors);
     assert_ended(rt, ended, Status::Failed, "refused");
     let told =
@@ -527,14 +532,23 @@ fn says_that_memory_was_refused(rt: HostRuntime) -> Result<(), Fail> {
     Ok(())
 }
 
-/// Calls `serve` with a standard error that takes nothing.
-fn check_untold(rt: &impl Abort, alloc: Global, line: &str, status: Status) -> Result<(), Fail> {
+/// Calls `serve` with a standard error of which the first call takes nothing, in memory that refuses this
+/// request, and with streams whose call of this number fails.
+fn check_untold(
+    rt: &impl Abort,
+    alloc: Global,
+    line: &str,
+    (refused, failing): (usize, usize),
+    status: Status,
+) -> Result<(), Fail> {
+    let heap = Refusing::new(alloc, refused);
     let words = words_of(alloc, line)?;
-    let mut reader = Remembering::new(Source::new(b"some text"));
-    let mut writer = Remembering::new(Sink::new(alloc)?);
-    let sink = Sink::failing(alloc, usize::MAX, 0, Some(ErrorKind::Other))?;
+    let kind = ErrorKind::Other;
+    let mut reader = Remembering::new(Source::failing(b"some text", NEVER, failing, kind));
+    let mut writer = Remembering::new(Sink::failing(alloc, NEVER, failing, Some(kind))?);
+    let sink = Sink::failing(alloc, usize::MAX, 0, Some(kind))?;
     let mut errors = Messages::new(sink);
-    let ended = serve(alloc, &words, &mut reader, &mut writer, &mut errors);
+    let ended = serve(&heap, &words, &mut reader, &mut writer, &mut errors);
     assert!(rt; ended.status == status && !ended.is_told, "{line}");
     assert_bytes(rt, &errors.stream.bytes, b"", line);
     Ok(())
@@ -542,7 +556,11 @@ fn check_untold(rt: &impl Abort, alloc: Global, line: &str, status: Status) -> R
 
 #[test]
 fn keeps_its_status_where_standard_error_fails(rt: HostRuntime) -> Result<(), Fail> {
-    check_untold(&rt, rt.alloc(), "0 1", Status::Done)?;
-    check_untold(&rt, rt.alloc(), "99 0", Status::GaveUp)?;
-    check_untold(&rt, rt.alloc(), "99", Status::Misused)
+    let alloc = rt.alloc();
+    check_untold(&rt, alloc, "0 1", (NEVER, NEVER), Status::Done)?;
+    check_untold(&rt, alloc, "99 0", (NEVER, NEVER), Status::GaveUp)?;
+    check_untold(&rt, alloc, "99", (NEVER, NEVER), Status::Misused)?;
+    check_untold(&rt, alloc, "0 1", (0, NEVER), Status::Failed)?;
+    check_untold(&rt, alloc, "0 1", (NEVER, 0), Status::Failed)?;
+    check_untold(&rt, alloc, "--help", (NEVER, 0), Status::Failed)
 }

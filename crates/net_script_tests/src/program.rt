@@ -1,9 +1,13 @@
 //! The statuses, what standard error says, and how often streams are called.
+ghost use Rattle.std.specs.Prelude.{None};
+
 use net_cli::{Ended, Status};
 use net_script::serve;
 use net_testing::{NEVER, Refusing, Sink, Source};
 use std::alloc::{AllocError, Allocator, Global};
-use std::io::ErrorKind;
+use std::cell::Cell;
+use std::io;
+use std::io::{ErrorKind, Write};
 use std::process::Abort;
 use std::test::Fail;
 
@@ -61,7 +65,7 @@ fn assert_ended(
 type Expected<'a> = (&'a [u8], u8, &'a [u8], usize, usize);
 
 /// Calls `serve` over these streams, with these results; there is one flush, and none with the
-/// usage line.
+/// usage line. Standard error is never flushed.
 fn check_status<A: Allocator + Copy>(
     rt: &impl Abort,
     (alloc, heap): (Global, A),
@@ -79,6 +83,7 @@ fn check_status<A: Allocator + Copy>(
     assert_count(rt, source.calls, reads, place);
     assert_count(rt, sink.calls, writes, place);
     assert_count(rt, sink.flushes, if status == 2 { 0 } else { 1 }, place);
+    assert_count(rt, errors.flushes, 0, place);
     Ok(())
 }
 
@@ -319,6 +324,9 @@ fn flushes_many_replies_once(rt: HostRuntime) -> Result<(), Fail> {
     Ok(())
 }
 
+/// The bytes that are asked for up to each of the first requests: for the storage of 8 bytes, a line and replies.
+static ASKED: [usize; 3] = [8, 8 + 4_096, 8 + 4_096 + 65_536];
+
 /// Refuses this request for memory.
 fn check_refused_memory(rt: &impl Abort, alloc: Global, refused: usize) -> Result<(), Fail> {
     let heap = Refusing::new(alloc, refused);
@@ -332,7 +340,11 @@ fn check_refused_memory(rt: &impl Abort, alloc: Global, refused: usize) -> Resul
         "ring 8",
         (&mut source, &mut sink),
         expected,
-    )
+    )?;
+    if let Some(bytes) = ASKED.get(refused) {
+        assert_count(rt, heap.bytes(), *bytes, ("bytes", refused));
+    }
+    Ok(())
 }
 
 /// Refuses a request that isn't made: so many are, for the storage of 8 bytes, a line, replies, and
@@ -361,6 +373,89 @@ fn says_that_memory_was_refused(rt: HostRuntime) -> Result<(), Fail> {
         check_refused_memory(&rt, rt.alloc(), refused)?;
     }
     check_enough_memory(&rt, rt.alloc(), 5)
+}
+
+/// Words of each mode.
+static MODES: [&'static str; 5] = [
+    "ring 8",
+    "asm 4",
+    "asm 32",
+    "stream 8 4",
+    "stream 8 32 1000",
+];
+
+/// Refuses the first request for memory in the mode of these words: nothing is read.
+fn check_first_refused(rt: &impl Abort, alloc: Global, words: &str) -> Result<(), Fail> {
+    let heap = Refusing::new(alloc, 0);
+    let mut source = Source::new(b"");
+    let mut sink = Sink::new(alloc)?;
+    let expected: Expected<'_> = (b"", 1, b"out of memory\n", 0, 0);
+    check_status(
+        rt,
+        (alloc, &heap),
+        words,
+        (&mut source, &mut sink),
+        expected,
+    )
+}
+
+#[test]
+fn asks_its_allocator_in_each_mode(rt: HostRuntime) -> Result<(), Fail> {
+    for words in MODES {
+        check_first_refused(&rt, rt.alloc(), words)?;
+    }
+    Ok(())
+}
+
+/// A writer that takes all, and notes its last flush. If it is of errors, its bytes come too early unless another
+/// writer was flushed before.
+#[derive(Drop)]
+struct Noting<'c> {
+    flushed: &'c Cell<bool>,
+    of_errors: bool,
+    is_early: bool,
+}
+
+impl Write for Noting<'_> {
+    ghost contents = { λ _. None };
+
+    fn write(&mut self, buf: &[u8]) -> io::Result<usize> {
+        if self.of_errors && !self.flushed.get() {
+            self.is_early = true;
+        }
+        Ok(buf.len())
+    }
+
+    fn flush(&mut self) -> io::Result<()> {
+        self.flushed.set(true);
+        Ok(())
+    }
+}
+
+/// Returns whether the output is flushed before an error is said, so that a terminal shows the replies first.
+fn flushes_first(alloc: Global) -> Result<bool, Fail> {
+    let words = words_of(alloc, "ring 8")?;
+    let flushed = Cell::new(false);
+    let mut output = Noting {
+        flushed: &flushed,
+        of_errors: false,
+        is_early: false,
+    };
+    let mut errors = Noting {
+        flushed: &flushed,
+        of_errors: true,
+        is_early: false,
+    };
+    let mut source = Source::new(b"w 61\nx\n");
+    let ended = serve(alloc, &words, &mut source, &mut output, &mut errors);
+    Ok(ended.is_told && !errors.is_early)
+}
+
+#[test]
+fn flushes_before_it_says_an_error(rt: HostRuntime) -> Result<(), Fail> {
+    let first = flushes_first(rt.alloc())?;
+    assert_count(&rt, first as usize, 1, ("ring 8", 0));
+    Ok(())
 }
 
 /// Calls `serve` with a writer of errors that takes nothing.

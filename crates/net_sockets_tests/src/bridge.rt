@@ -1,12 +1,18 @@
 //! Frames from one device to another.
 ghost use Rattle.std.specs.Prelude.{◌≡◌, ◌∷◌, ◌++◌, []};
-ghost use Rattle.net_base.specs.Loopback.{loopback_capabilities};
+ghost use Rattle.std.proofs.Common.{ap};
+ghost use Rattle.net_base.specs.Loopback.{LoopbackState, loopback_capabilities};
 
 use crate::assertions::assert_holds;
-use net_base::phy::{Device, DeviceCapabilities, Loopback, Medium, RxToken, loopback};
+use net_base::phy::{
+    Device, DeviceCapabilities, FrameLists, Loopback, Medium, PacketMeta, RxToken, TxToken,
+    loopback,
+};
 use net_base::time::Instant;
 use net_sockets::{forward, forward_lists, forward_one};
-use std::alloc::{AllocError, Global};
+use net_testing::Refusing;
+use std::alloc::{AllocError, Allocator, Global};
+use std::cell::Cell;
 use std::marker::Model;
 
 /// Sends a frame of so many bytes of one value on a device. Returns whether it had room.
@@ -138,17 +144,75 @@ fn many_frames_pass_at_once(rt: HostRuntime) -> Result<(), AllocError> {
     Ok(())
 }
 
-/// A loopback device that stores the moments at which it was last asked for a frame and for room, and
-/// counts how often it was asked for room.
+/// A share in a count of tokens: it is counted until it is dropped.
+struct Counted<'c> {
+    tokens: &'c Cell<usize>,
+}
+
+impl<'c> Counted<'c> {
+    /// Returns a share, which is counted from now on.
+    fn new(tokens: &'c Cell<usize>) -> Self {
+        tokens.set(tokens.get().saturating_add(1));
+        Counted { tokens }
+    }
+}
+
+impl Drop for Counted<'_> {
+    fn drop(self) {
+        let Counted { tokens } = self;
+        tokens.set(tokens.get().saturating_sub(1));
+    }
+}
+
+/// A received frame, which is counted until it is dropped.
 #[derive(Drop)]
-struct Noting {
+struct NotedFrame<'c> {
+    frame: loopback::RxToken,
+    counted: Counted<'c>,
+}
+
+impl RxToken for NotedFrame<'_> {
+    ghost bytes = { λ t. t.frame };
+
+    fn consume<R, F: FnOnce(&[u8]) -> R>(self, f: F) -> R {
+        f(self.frame.frame())
+    }
+
+    fn frame(&self) -> &[u8] {
+        self.frame.frame()
+    }
+}
+
+/// The right to send a frame, and the identifier that the frame is sent with: 0 unless another one is set. It
+/// is counted until it is dropped.
+#[derive(Drop)]
+struct NotedToken<'c> {
+    token: loopback::TxToken,
+    id: u32,
+    counted: Counted<'c>,
+}
+
+impl TxToken for NotedToken<'_> {
+    ghost is_plain = { λ _. ⊥ };
+
+    fn set_meta(&mut self, meta: PacketMeta) {
+        self.id = meta.id;
+    }
+}
+
+/// A loopback device that stores the moments at which it was last asked for a frame and for room, and the
+/// identifier that the last frame was sent with, and counts its tokens and how often it was asked for room.
+#[derive(Drop)]
+struct Noting<'c> {
     device: Loopback,
     asked_for_a_frame: Instant,
     asked_for_room: Instant,
     rooms: usize,
+    sent_with: u32,
+    tokens: &'c Cell<usize>,
 }
 
-impl Model for Noting {
+impl<'c> Model for Noting<'c> {
     ghost use Rattle.net_base.specs.Loopback.{LoopbackState};
 
     ghost Value = { LoopbackState };
@@ -156,10 +220,21 @@ impl Model for Noting {
     ghost view = { λ d. d.device };
 }
 
-impl Device for Noting {
-    type RxToken = loopback::RxToken;
+impl<'c> Noting<'c> {
+    /// Returns a token of this device, for a token of the loopback device.
+    fn noted(&self, token: loopback::TxToken) -> NotedToken<'c> {
+        NotedToken {
+            token,
+            id: 0,
+            counted: Counted::new(self.tokens),
+        }
+    }
+}
 
-    type TxToken = loopback::TxToken;
+impl<'c> Device for Noting<'c> {
+    type RxToken = NotedFrame<'c>;
+
+    type TxToken = NotedToken<'c>;
 
     ghost taken = { λ old frame new. old ≡ record new { frames = frame ∷ new.frames } };
 
@@ -167,15 +242,18 @@ impl Device for Noting {
 
     ghost abilities = { λ d. loopback_capabilities d.medium };
 
-    fn receive(&mut self, timestamp: Instant) -> Option<(loopback::RxToken, loopback::TxToken)> {
+    fn receive(&mut self, timestamp: Instant) -> Option<(NotedFrame<'c>, NotedToken<'c>)> {
         self.asked_for_a_frame = timestamp;
-        self.device.receive(timestamp)
+        let (frame, token) = self.device.receive(timestamp)?;
+        let counted = Counted::new(self.tokens);
+        Some((NotedFrame { frame, counted }, self.noted(token)))
     }
 
-    fn transmit(&mut self, timestamp: Instant) -> Option<loopback::TxToken> {
+    fn transmit(&mut self, timestamp: Instant) -> Option<NotedToken<'c>> {
         self.asked_for_room = timestamp;
         self.rooms = self.rooms.saturating_add(1);
-        self.device.transmit(timestamp)
+        let token = self.device.transmit(timestamp)?;
+        Some(self.noted(token))
     }
 
     fn capabilities(&self) -> DeviceCapabilities {
@@ -184,39 +262,60 @@ impl Device for Noting {
 
     fn send<R, F: FnOnce(&mut [u8]) -> R + Drop>(
         &mut self,
-        token: loopback::TxToken,
+        token: NotedToken<'c>,
         len: usize,
         f: F,
     ) -> Result<R, AllocError> {
+        self.sent_with = token.id;
+        let NotedToken {
+            token,
+            id: _,
+            counted: _counted,
+        } = token;
         self.device.send(token, len, f)
     }
 }
 
+impl FrameLists for Noting<'_> {
+    ghost incoming = { λ d. d.frames };
+
+    ghost outgoing = { λ d. d.frames };
+
+    ghost takes_first = { λ _ _ _ is. ap (λ (d : LoopbackState). d.frames) is };
+
+    ghost keeps_all = { λ _ _ is. ap (λ (d : LoopbackState). d.frames) is };
+
+    ghost sends_last = { λ _ _ _ is. ap (λ (d : LoopbackState). d.frames) is };
+}
+
 /// Returns such a device, with no frames.
-fn without_frames(alloc: Global) -> Noting {
+fn without_frames(alloc: Global, tokens: &Cell<usize>) -> Noting<'_> {
     Noting {
         device: Loopback::new(alloc, Medium::Ip),
         asked_for_a_frame: Instant::ZERO,
         asked_for_room: Instant::ZERO,
         rooms: 0,
+        sent_with: 0,
+        tokens,
     }
 }
 
 /// Returns whether both devices are asked at so many microseconds, by one bridge or the other.
-fn are_asked_at(from: &mut Noting, to: &mut Noting, micros: i64, many: bool) -> bool {
+fn are_asked_at(from: &mut Noting<'_>, to: &mut Noting<'_>, micros: i64, many: bool) -> bool {
     let now = Instant::from_micros(micros);
     let stopped = if many {
         forward(from, to, now, 3) == Ok(0)
     } else {
         forward_one(from, to, now) == Ok(false)
     };
-    stopped && from.asked_for_a_frame == now && to.asked_for_room == now
+    stopped && from.asked_for_a_frame == now && to.asked_for_room == now && from.tokens.get() == 0
 }
 
 #[test]
 fn both_devices_are_asked_at_the_moment_that_was_given(rt: HostRuntime) {
-    let mut from = without_frames(rt.alloc());
-    let mut to = without_frames(rt.alloc());
+    let tokens = Cell::new(0);
+    let mut from = without_frames(rt.alloc(), &tokens);
+    let mut to = without_frames(rt.alloc(), &tokens);
     for micros in [i64::MIN, -1_000, -1, 1, 60_000_000, i64::MAX] {
         let asked = are_asked_at(&mut from, &mut to, micros, false)
             && are_asked_at(&mut from, &mut to, micros - micros % 7, true);
@@ -226,7 +325,7 @@ fn both_devices_are_asked_at_the_moment_that_was_given(rt: HostRuntime) {
 
 /// Returns whether a frame passes, and the device that it goes to is asked for room once, and the
 /// other one never.
-fn asks_once(from: &mut Noting, to: &mut Noting) -> Result<bool, AllocError> {
+fn asks_once(from: &mut Noting<'_>, to: &mut Noting<'_>) -> Result<bool, AllocError> {
     let rooms = to.rooms;
     let passed = sends(&mut from.device, Instant::ZERO, 9, 7)?
         && forward_one(from, to, Instant::ZERO)?
@@ -238,11 +337,109 @@ fn asks_once(from: &mut Noting, to: &mut Noting) -> Result<bool, AllocError> {
 /// device for none.
 #[test]
 fn room_is_asked_for_once_a_frame(rt: HostRuntime) -> Result<(), AllocError> {
-    let mut from = without_frames(rt.alloc());
-    let mut to = without_frames(rt.alloc());
+    let tokens = Cell::new(0);
+    let mut from = without_frames(rt.alloc(), &tokens);
+    let mut to = without_frames(rt.alloc(), &tokens);
     assert_holds(&rt, asks_once(&mut from, &mut to)?, ("frame", 1));
     assert_holds(&rt, asks_once(&mut from, &mut to)?, ("frame", 2));
     let passed = forward_one(&mut from, &mut to, Instant::ZERO)?;
     assert_holds(&rt, !passed && to.rooms == 3, ("no frame", to.rooms));
     Ok(())
+}
+
+/// Sends four frames on the first device, of which three pass to the other, by one bridge or the other, at so many
+/// microseconds. Returns whether the devices are asked for each of these at that moment, and for no other one, and the
+/// frames are sent as their tokens were; and whether no token is left.
+fn three_of_four_pass(
+    from: &mut Noting<'_>,
+    to: &mut Noting<'_>,
+    micros: i64,
+    lists: bool,
+) -> Result<bool, AllocError> {
+    let now = Instant::from_micros(micros);
+    let rooms = to.rooms;
+    for _ in 0..4 {
+        sends(&mut from.device, Instant::ZERO, 9, 7)?;
+    }
+    let passed = if lists {
+        forward_lists(from, to, now, 3)?
+    } else {
+        forward(from, to, now, 3)?
+    };
+    let asked = to.rooms == rooms.saturating_add(3) && from.rooms == 0;
+    let at = from.asked_for_a_frame == now && to.asked_for_room == now;
+    let left = gives(&mut from.device, Instant::ZERO, 9, 7);
+    Ok(passed == 3 && asked && at && left && to.sent_with == 0 && to.tokens.get() == 0)
+}
+
+#[test]
+fn each_frame_is_asked_for_once_and_at_that_moment(rt: HostRuntime) -> Result<(), AllocError> {
+    let tokens = Cell::new(0);
+    let mut from = without_frames(rt.alloc(), &tokens);
+    let mut to = without_frames(rt.alloc(), &tokens);
+    for micros in [i64::MIN, -1, 60_000_000] {
+        let place = ("at", micros.unsigned_abs() as usize);
+        assert_holds(
+            &rt,
+            three_of_four_pass(&mut from, &mut to, micros, false)?,
+            place,
+        );
+        assert_holds(
+            &rt,
+            three_of_four_pass(&mut from, &mut to, micros, true)?,
+            place,
+        );
+    }
+    Ok(())
+}
+
+/// Sends three frames of 200 bytes each. Returns whether there was memory for all.
+fn sends_long<A: Allocator + Copy>(device: &mut Loopback<A>) -> bool {
+    for _ in 0..3 {
+        let token = device.transmit(Instant::ZERO).unwrap();
+        if device.send(token, 200, |buffer| buffer.fill(7)).is_err() {
+            return false;
+        }
+    }
+    true
+}
+
+/// Takes all frames off a device, and returns how many there are.
+fn count_left<A: Allocator + Copy>(device: &mut Loopback<A>) -> usize {
+    let mut count = 0usize;
+    for _ in 0..4 {
+        if device.receive(Instant::ZERO).is_some() {
+            count = count.saturating_add(1);
+        }
+    }
+    count
+}
+
+/// Forwards three frames from one memory to another. Returns how many passed, if all could, how many came, and how
+/// many stayed.
+fn passes_long(from: &Refusing, to: &Refusing) -> (Option<usize>, usize, usize) {
+    let mut one = Loopback::new(from, Medium::Ip);
+    let mut other = Loopback::new(to, Medium::Ip);
+    if !sends_long(&mut one) {
+        return (None, 0, 0);
+    }
+    let passed = forward(&mut one, &mut other, Instant::ZERO, 3).ok();
+    (passed, count_left(&mut other), count_left(&mut one))
+}
+
+/// Refuses the request for memory of that number to the second device. Returns whether so many frames come and so
+/// many stay, and one is lost exactly if a request is refused; all memory is given back.
+fn passes_so(alloc: Global, (refused, came, stayed): (usize, usize, usize)) -> bool {
+    let from = Refusing::new(alloc, usize::MAX);
+    let to = Refusing::new(alloc, refused);
+    let passed = if refused < 4 { None } else { Some(3) };
+    passes_long(&from, &to) == (passed, came, stayed) && from.live() == 0 && to.live() == 0
+}
+
+/// The first frame asks for room in the queue and for its bytes, each other one for its bytes.
+#[test]
+fn a_refusal_of_memory_loses_one_frame(rt: HostRuntime) {
+    for row in [(0, 0, 2), (1, 0, 2), (2, 1, 1), (3, 2, 0), (4, 3, 0)] {
+        assert_holds(&rt, passes_so(rt.alloc(), row), ("request", row.0));
+    }
 }

@@ -3,6 +3,7 @@ use crate::assertions::assert_holds;
 use net_packets::{PacketBuffer, PacketMetadata};
 use net_ring::{Empty, ManagedSlice};
 use net_sockets::{Endpoint, UdpSocket};
+use std::cell::Cell;
 
 /// Where datagrams come from.
 const SERVER: Endpoint = Endpoint {
@@ -84,6 +85,47 @@ fn a_question_goes_out_and_its_answer_comes_in(rt: HostRuntime) {
     );
     assert_holds(&rt, asks(&mut socket), ("asked", 0));
     assert_holds(&rt, is_replied_to(&mut socket), ("replied to", 0));
+}
+
+/// A value that a closure owns, to count how often it is dropped.
+struct Owned<'c> {
+    drops: &'c Cell<u8>,
+}
+
+impl Drop for Owned<'_> {
+    fn drop(self) {
+        let Owned { drops } = self;
+        drops.set(drops.get().saturating_add(1));
+    }
+}
+
+/// Hands the first datagram to be sent, if there is one, to a closure that owns a value. Returns whether the closure
+/// is called exactly if it should be, and the value is dropped once.
+fn drops_once(socket: &mut UdpSocket<'_>, is_called: bool) -> bool {
+    let drops = Cell::new(0);
+    let mut ran = false;
+    let owned = Owned { drops: &drops };
+    let sent = socket.dispatch(|_to: Endpoint, _bytes: &[u8]| {
+        drop(owned);
+        ran = true;
+        Result::<(), u8>::Ok(())
+    });
+    sent.is_ok() == is_called && ran == is_called && drops.get() == 1
+}
+
+#[test]
+fn a_closure_is_dropped_once(rt: HostRuntime) {
+    let mut slots_in = [PacketMetadata::<Endpoint>::EMPTY; 1];
+    let mut bytes_in = [0u8; 2];
+    let mut slots_out = [PacketMetadata::<Endpoint>::EMPTY; 1];
+    let mut bytes_out = [0u8; 2];
+    let mut socket = UdpSocket::new(
+        queue_over(&mut slots_in, &mut bytes_in),
+        queue_over(&mut slots_out, &mut bytes_out),
+    );
+    let is_sent = sends(&mut socket, SERVER, b"hi");
+    assert_holds(&rt, is_sent && drops_once(&mut socket, true), ("called", 1));
+    assert_holds(&rt, drops_once(&mut socket, false), ("not called", 0));
 }
 
 /// Returns the bytes of a datagram of so many, at most 32.

@@ -98,9 +98,9 @@ fn all_comes_whatever_becomes_of_the_frames(rt: HostRuntime) {
 
 /// Returns whether a copy of these bytes over storage of nine, two and four bytes takes 19 frames,
 /// 14 bytes of payload and five rounds, four reads, five writes and a flush, and little memory, all
-/// of which is given back.
-fn takes_five_rounds(alloc: Global, text: &[u8]) -> bool {
-    let setup = setup(ALL, ALL, 0, 0, 2);
+/// of which is given back, whatever the capacity of the config is.
+fn takes_five_rounds(alloc: Global, text: &[u8], capacity: usize) -> bool {
+    let setup = setup(ALL, ALL, 0, capacity, 2);
     let heap = Refusing::new(alloc, NEVER);
     let Ok(mut sink) = Sink::new(alloc) else {
         return false;
@@ -133,7 +133,10 @@ fn takes_five_rounds(alloc: Global, text: &[u8]) -> bool {
 /// receiver takes as much as the second. The capacity of the config isn't read.
 #[test]
 fn each_lent_storage_has_its_own_use(rt: HostRuntime) {
-    assert_holds(&rt, takes_five_rounds(rt.alloc(), b"abcdefghij"), 0);
+    for capacity in [0usize, 1_000_000] {
+        let is_right = takes_five_rounds(rt.alloc(), b"abcdefghij", capacity);
+        assert_holds(&rt, is_right, capacity);
+    }
 }
 
 /// The request that is refused, the read and the write that fail, whether the flush fails, the end and how many
@@ -210,11 +213,11 @@ fn are_kept(counts: &Counts, requests: usize) -> bool {
     is_counted && requests as u64 <= accounted && counts.micros / 10_000 >= counts.rounds
 }
 
-/// Copies eighty bytes, every second of which is lost, in this memory. Returns how the copy ends, and whether
-/// the bytes written are a prefix, and everything is counted.
-fn leaves_a_prefix(alloc: Global, memory: &Refusing) -> (&'static str, bool) {
+/// Copies eighty bytes, every second of which is lost, in this memory. Returns how the copy ends, whether
+/// the bytes written are a prefix, and everything is counted, and how much is counted of frames in all.
+fn leaves_a_prefix(alloc: Global, memory: &Refusing) -> (&'static str, bool, u64) {
     let Ok(mut sink) = Sink::new(alloc) else {
-        return ("no writer", false);
+        return ("no writer", false, 0);
     };
     let mut source = Source::new(EIGHTY);
     let mut counts = Counts::new();
@@ -222,17 +225,32 @@ fn leaves_a_prefix(alloc: Global, memory: &Refusing) -> (&'static str, bool) {
     let end = copy_by(memory, &setup, &mut source, &mut sink, &mut counts);
     let is_right = is_prefix(&sink, EIGHTY, counts.bytes_written)
         && are_kept(&counts, memory.requests());
-    (end, is_right)
+    let sum = counts
+        .frames
+        .payload
+        .saturating_add(counts.frames.sent)
+        .saturating_add(counts.frames.refused);
+    (end, is_right, sum)
 }
 
-/// If one request is refused, whichever it is, a prefix is written, and all memory is given back.
+/// If one request is refused, whichever it is, a prefix is written, and all memory is given back. The later
+/// the request, the more is counted, at least one more each twelve requests: most are for a frame, of a byte
+/// that is counted, or for an acknowledgement or a delayed frame, after a fate that is counted.
 #[test]
 fn each_refused_request_leaves_a_prefix(rt: HostRuntime) {
     let mut is_always_right = true;
+    let mut last = 0u64;
+    let mut in_a_row = 0u32;
     let alloc = rt.alloc();
     let requests = refuse_each(alloc, |memory| {
-        let (end, is_right) = leaves_a_prefix(alloc, memory);
-        is_always_right = is_always_right && is_right;
+        let (end, is_right, sum) = leaves_a_prefix(alloc, memory);
+        in_a_row = if sum > last {
+            0
+        } else {
+            in_a_row.saturating_add(1)
+        };
+        is_always_right = is_always_right && is_right && sum >= last && in_a_row < 12;
+        last = sum;
         end == "Ok"
     });
     assert_holds(&rt, is_always_right && requests > Some(100), 0);
@@ -261,6 +279,8 @@ fn asks_for(alloc: Global, len: usize, capacity: usize, asked: usize, most: usiz
 /// and for the queues of both. Each frame is there once, and is given back once it has arrived.
 #[test]
 fn little_memory_is_asked_for(rt: HostRuntime) {
+    // Three storages, and nothing else.
+    assert_holds(&rt, asks_for(rt.alloc(), 0, 100, 300, 300), 2);
     // One round, of a frame and two acknowledgements, of 8 bytes each.
     assert_holds(&rt, asks_for(rt.alloc(), 6, 100_000, 302_000, 302_000), 0);
     assert_holds(&rt, asks_for(rt.alloc(), 6, 100, 600, 600), 0);

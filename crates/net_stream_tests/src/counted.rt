@@ -18,16 +18,16 @@ const TO_THE_END: (usize, usize, usize, usize) = (NEVER, NEVER, NEVER, NEVER);
 
 /// A copy: the fates of its frames and of its acknowledgements; how many bytes the reader has, and the config
 /// (first position, capacity, payload, burst and rounds); the most bytes of a read and the number of the one
-/// that fails, and the same for writes; how the copy ends and how often it reads; and its counts: bytes read
-/// and written, rounds, microseconds, frames sent, bytes that they carried, frames lost, duplicated and
-/// delayed, and segments refused.
+/// that fails, and the same for writes; how the copy ends, and how often it reads and writes; and its counts:
+/// bytes read and written, rounds, microseconds, frames sent, bytes that they carried, frames lost, duplicated
+/// and delayed, and segments refused.
 #[derive(Clone, Copy, Drop)]
 struct Case(
     Way,
     Way,
     (usize, u64, usize, u32, u32, u64),
     (usize, usize, usize, usize),
-    (&'static str, usize),
+    (&'static str, usize, usize),
     [u64; 10],
 );
 
@@ -65,13 +65,10 @@ fn setup_of(case: &Case) -> Setup {
     }
 }
 
-/// Returns whether the writer has a prefix of the text, as many bytes as are counted, and was
-/// flushed once, after all writes; and, if a write takes everything, whether at most one was made
-/// in a round, and none of 0 bytes.
-fn is_written(sink: &Sink, text: &[u8], counts: &Counts) -> bool {
-    let most = counts.rounds.min(counts.bytes_written);
-    let is_once_a_round = sink.bytes_per_call < NEVER || sink.calls as u64 <= most;
-    is_once_a_round
+/// Returns whether the writer has a prefix of the text, as many bytes as are counted, after so many calls, and
+/// was flushed once, after all of them.
+fn is_written(sink: &Sink, text: &[u8], counts: &Counts, calls: usize) -> bool {
+    sink.calls == calls
         && text.starts_with(&sink.bytes)
         && sink.bytes.len() as u64 == counts.bytes_written
         && sink.flushes == 1
@@ -115,7 +112,7 @@ fn copies_so(
     end == case.4.0
         && source.calls == case.4.1
         && counts == counts_of(&case.5)
-        && is_written(sink, text, &counts)
+        && is_written(sink, text, &counts, case.4.2)
         && is_little(heap.bytes(), case.2.2, &counts)
         && heap.live() == 0
 }

@@ -25,6 +25,7 @@ fn without_frames<A: Allocator + Copy>(alloc: A) -> TwoLists<A> {
         sent: VecDeque::new(alloc),
         asked_at: Instant::ZERO,
         rooms: 0,
+        sent_with: 0,
     }
 }
 
@@ -40,12 +41,13 @@ fn put<A: Allocator + Copy>(
 
 /// Returns whether the first frame, if there is one, is sent back at so many microseconds, and the device is
 /// asked at that moment. Two frames are then sent, the last of which is this one. The echo is sent by the token
-/// that came with the frame: the device is never asked for room.
+/// that came with the frame, as that token was: the device is never asked for room.
 fn is_sent_back(device: &mut TwoLists, micros: i64, found: bool) -> bool {
     let moment = Instant::from_micros(micros);
     send_back(device, moment) == Ok(found)
         && device.asked_at == moment
         && device.rooms == 0
+        && device.sent_with == 0
         && device.to_come.is_empty()
         && device.sent.len() == 2
         && is_back(&device.sent, b"ab")
@@ -82,14 +84,19 @@ fn echoes<A: Allocator + Copy>(device: &mut TwoLists<A>) -> bool {
     echo_once(device, Instant::ZERO).is_ok()
 }
 
-/// Refuses the request for memory of that number, and returns whether an echo then succeeds exactly
-/// if it should, and so many requests were made.
-fn goes_so(alloc: Global, (refused, succeeds, requests): (usize, bool, usize)) -> bool {
-    let heap = Refusing::new(alloc, refused);
-    let mut device = without_frames(&heap);
-    let before = put_six(&mut device, &heap).is_ok() && heap.requests() == 8;
+/// Returns whether an echo in this memory succeeds exactly if it should, and so many requests were made.
+fn goes_in(heap: &Refusing, succeeds: bool, requests: usize) -> bool {
+    let mut device = without_frames(heap);
+    let before = put_six(&mut device, heap).is_ok() && heap.requests() == 8;
     let echoed = echoes(&mut device) == succeeds && heap.requests() == requests;
     before && echoed && is_left(&device, succeeds)
+}
+
+/// Refuses the request for memory of that number, and returns whether an echo then goes so. All memory is given
+/// back with the device, that of the frame too.
+fn goes_so(alloc: Global, (refused, succeeds, requests): (usize, bool, usize)) -> bool {
+    let heap = Refusing::new(alloc, refused);
+    goes_in(&heap, succeeds, requests) && heap.live() == 0
 }
 
 /// Eight requests for memory are made before the echo: for two queues, and for the bytes of six

@@ -16,7 +16,7 @@ pub static CASES: [Case; 58] = [
         ALL,
         (6, 0, 16, 2, 4_096, 100),
         TO_THE_END,
-        ("Ok", 2),
+        ("Ok", 2, 1),
         [6, 6, 1, 10_000, 7, 6, 0, 0, 0, 0],
     ),
     // The second frame is lost, and only it is sent again: the third is in a SACK block.
@@ -25,7 +25,7 @@ pub static CASES: [Case; 58] = [
         ALL,
         (6, 0, 16, 2, 4_096, 100),
         TO_THE_END,
-        ("Ok", 2),
+        ("Ok", 2, 2),
         [6, 6, 2, 20_000, 9, 8, 1, 0, 0, 0],
     ),
     // The first and the third are lost, and both are sent again.
@@ -34,7 +34,7 @@ pub static CASES: [Case; 58] = [
         ALL,
         (6, 0, 16, 2, 4_096, 100),
         TO_THE_END,
-        ("Ok", 2),
+        ("Ok", 2, 1),
         [6, 6, 2, 30_000, 10, 10, 2, 0, 0, 0],
     ),
     // One is delayed, and one is duplicated.
@@ -43,7 +43,7 @@ pub static CASES: [Case; 58] = [
         ALL,
         (6, 0, 16, 2, 4_096, 100),
         TO_THE_END,
-        ("Ok", 2),
+        ("Ok", 2, 1),
         [6, 6, 2, 30_000, 11, 8, 0, 1, 1, 0],
     ),
     // All are delayed, and all that are sent after them are lost: only the delayed ones arrive.
@@ -52,7 +52,7 @@ pub static CASES: [Case; 58] = [
         ALL,
         (6, 0, 16, 2, 4_096, 100),
         TO_THE_END,
-        ("Ok", 2),
+        ("Ok", 2, 1),
         [6, 6, 2, 30_000, 11, 12, 3, 0, 3, 0],
     ),
     // One is duplicated, and all after it are lost.
@@ -61,7 +61,7 @@ pub static CASES: [Case; 58] = [
         ALL,
         (6, 0, 16, 2, 4_096, 100),
         TO_THE_END,
-        ("gave up", 1),
+        ("gave up", 1, 1),
         [6, 2, 101, 94_280_000, 306, 406, 202, 1, 0, 0],
     ),
     // Nothing arrives.
@@ -70,7 +70,7 @@ pub static CASES: [Case; 58] = [
         ALL,
         (6, 0, 16, 2, 4_096, 100),
         TO_THE_END,
-        ("gave up", 1),
+        ("gave up", 1, 0),
         [6, 0, 100, 94_270_000, 400, 600, 300, 0, 0, 0],
     ),
     Case(
@@ -78,7 +78,7 @@ pub static CASES: [Case; 58] = [
         ALL,
         (6, 0, 16, 2, 4_096, 3),
         TO_THE_END,
-        ("gave up", 1),
+        ("gave up", 1, 0),
         [6, 0, 3, 70_000, 12, 18, 9, 0, 0, 0],
     ),
     // A SACK block makes no progress.
@@ -87,7 +87,7 @@ pub static CASES: [Case; 58] = [
         ALL,
         (6, 0, 16, 2, 4_096, 5),
         TO_THE_END,
-        ("gave up", 1),
+        ("gave up", 1, 0),
         [6, 0, 5, 310_000, 17, 22, 10, 0, 0, 0],
     ),
     // Every second one of eighty frames is lost, and eight segments are refused; then nothing arrives.
@@ -96,7 +96,7 @@ pub static CASES: [Case; 58] = [
         ALL,
         (80, 0, 4_096, 1, 4_096, 3),
         TO_THE_END,
-        ("gave up", 1),
+        ("gave up", 1, 0),
         [80, 0, 3, 70_000, 189, 146, 106, 0, 0, 8],
     ),
     // Waits double, and start over.
@@ -105,7 +105,7 @@ pub static CASES: [Case; 58] = [
         ALL,
         (6, 0, 16, 2, 4_096, 100),
         TO_THE_END,
-        ("Ok", 2),
+        ("Ok", 2, 1),
         [6, 6, 4, 150_000, 19, 24, 9, 0, 0, 0],
     ),
     // They are at most a second.
@@ -114,7 +114,7 @@ pub static CASES: [Case; 58] = [
         ALL,
         (6, 0, 16, 2, 4_096, 100),
         TO_THE_END,
-        ("Ok", 2),
+        ("Ok", 2, 1),
         [6, 6, 11, 5_270_000, 47, 66, 30, 0, 0, 0],
     ),
     // Every second one is lost: 32 runs are held, each a SACK block, and eight segments are refused.
@@ -123,7 +123,7 @@ pub static CASES: [Case; 58] = [
         ALL,
         (80, 0, 4_096, 1, 4_096, 100),
         TO_THE_END,
-        ("Ok", 2),
+        ("Ok", 2, 2),
         [80, 80, 3, 40_000, 219, 128, 40, 0, 0, 8],
     ),
     // It gives up after 101 rounds without progress.
@@ -132,7 +132,7 @@ pub static CASES: [Case; 58] = [
         ALL,
         (6, 0, 16, 2, 4_096, 101),
         TO_THE_END,
-        ("gave up", 1),
+        ("gave up", 1, 0),
         [6, 0, 101, 95_270_000, 404, 606, 303, 0, 0, 0],
     ),
     // All was written, and the reader has no more: no acknowledgement is waited for.
@@ -141,7 +141,7 @@ pub static CASES: [Case; 58] = [
         FOUR_LOST,
         (6, 0, 16, 2, 4_096, 100),
         TO_THE_END,
-        ("Ok", 2),
+        ("Ok", 2, 1),
         [6, 6, 1, 10_000, 7, 6, 4, 0, 0, 0],
     ),
     Case(
@@ -149,7 +149,7 @@ pub static CASES: [Case; 58] = [
         NONE,
         (6, 0, 16, 2, 4_096, 100),
         TO_THE_END,
-        ("Ok", 2),
+        ("Ok", 2, 1),
         [6, 6, 1, 10_000, 7, 6, 4, 0, 0, 0],
     ),
     // The sender's queue is full, and the reader isn't asked.
@@ -158,7 +158,7 @@ pub static CASES: [Case; 58] = [
         NONE,
         (6, 0, 6, 2, 4_096, 5),
         TO_THE_END,
-        ("gave up", 1),
+        ("gave up", 1, 1),
         [6, 6, 6, 320_000, 42, 36, 24, 0, 0, 0],
     ),
     // Delayed acknowledgements arrive in the next round, and a duplicated one in both.
@@ -167,7 +167,7 @@ pub static CASES: [Case; 58] = [
         FOUR_DELAYED_THEN_NONE,
         (6, 0, 6, 2, 4_096, 5),
         TO_THE_END,
-        ("Ok", 2),
+        ("Ok", 2, 1),
         [6, 6, 2, 20_000, 14, 12, 4, 0, 4, 0],
     ),
     Case(
@@ -175,7 +175,7 @@ pub static CASES: [Case; 58] = [
         DUPLICATED_THEN_NONE,
         (6, 0, 6, 2, 4_096, 5),
         TO_THE_END,
-        ("Ok", 2),
+        ("Ok", 2, 1),
         [6, 6, 1, 10_000, 7, 6, 3, 1, 0, 0],
     ),
     // Written bytes are progress, and so are acknowledged ones.
@@ -184,7 +184,7 @@ pub static CASES: [Case; 58] = [
         FOUR_LOST,
         (8, 0, 6, 2, 4_096, 1),
         TO_THE_END,
-        ("Ok", 3),
+        ("Ok", 3, 2),
         [8, 8, 3, 30_000, 17, 14, 4, 0, 0, 0],
     ),
     Case(
@@ -192,7 +192,7 @@ pub static CASES: [Case; 58] = [
         ALL,
         (60, 0, 1, 5, 4_096, 100),
         TO_THE_END,
-        ("Ok", 61),
+        ("Ok", 61, 60),
         [60, 60, 60, 600_000, 180, 60, 0, 0, 0, 0],
     ),
     Case(
@@ -200,7 +200,7 @@ pub static CASES: [Case; 58] = [
         ALL,
         (60, 0, 7, 5, 4_096, 100),
         TO_THE_END,
-        ("Ok", 10),
+        ("Ok", 10, 9),
         [60, 60, 9, 90_000, 43, 60, 0, 0, 0, 0],
     ),
     Case(
@@ -208,7 +208,7 @@ pub static CASES: [Case; 58] = [
         ALL,
         (60, 0, 4_096, 5, 4_096, 100),
         TO_THE_END,
-        ("Ok", 2),
+        ("Ok", 2, 1),
         [60, 60, 1, 10_000, 25, 60, 0, 0, 0, 0],
     ),
     Case(
@@ -216,7 +216,7 @@ pub static CASES: [Case; 58] = [
         ALL,
         (6, 0, 16, 0, 4_096, 100),
         TO_THE_END,
-        ("Ok", 2),
+        ("Ok", 2, 1),
         [6, 6, 1, 10_000, 13, 6, 0, 0, 0, 0],
     ),
     Case(
@@ -224,7 +224,7 @@ pub static CASES: [Case; 58] = [
         SOME,
         (60, 0, 4_096, 5, 4_096, 100),
         TO_THE_END,
-        ("Ok", 2),
+        ("Ok", 2, 1),
         [60, 60, 3, 70_000, 35, 80, 6, 7, 7, 0],
     ),
     // Two frames a round, and one.
@@ -233,7 +233,7 @@ pub static CASES: [Case; 58] = [
         ALL,
         (10, 0, 16, 2, 2, 100),
         TO_THE_END,
-        ("Ok", 2),
+        ("Ok", 2, 3),
         [10, 10, 3, 30_000, 13, 10, 0, 0, 0, 0],
     ),
     Case(
@@ -241,7 +241,7 @@ pub static CASES: [Case; 58] = [
         ALL,
         (6, 0, 16, 2, 0, 100),
         TO_THE_END,
-        ("Ok", 2),
+        ("Ok", 2, 3),
         [6, 6, 3, 30_000, 9, 6, 0, 0, 0, 0],
     ),
     // Three bytes a read.
@@ -250,7 +250,7 @@ pub static CASES: [Case; 58] = [
         ALL,
         (10, 0, 16, 2, 4_096, 100),
         (3, NEVER, NEVER, NEVER),
-        ("Ok", 5),
+        ("Ok", 5, 4),
         [10, 10, 4, 40_000, 18, 10, 0, 0, 0, 0],
     ),
     Case(
@@ -258,7 +258,7 @@ pub static CASES: [Case; 58] = [
         ALL,
         (10, 0, 16, 2, 4_096, 100),
         (3, NEVER, NEVER, NEVER),
-        ("Ok", 5),
+        ("Ok", 5, 4),
         [10, 10, 5, 60_000, 20, 12, 1, 0, 0, 0],
     ),
     // A read fills its room; the next one is made only once all of it is written.
@@ -267,7 +267,7 @@ pub static CASES: [Case; 58] = [
         ALL,
         (20, 0, 8, 2, 4_096, 100),
         TO_THE_END,
-        ("Ok", 4),
+        ("Ok", 4, 3),
         [20, 20, 4, 50_000, 25, 22, 1, 0, 0, 0],
     ),
     Case(
@@ -275,7 +275,7 @@ pub static CASES: [Case; 58] = [
         FOUR_LOST,
         (40, 0, 16, 4, 4_096, 100),
         TO_THE_END,
-        ("Ok", 4),
+        ("Ok", 4, 4),
         [40, 40, 4, 40_000, 31, 56, 5, 0, 0, 0],
     ),
     Case(
@@ -283,7 +283,7 @@ pub static CASES: [Case; 58] = [
         SOME,
         (3_000, 0, 256, 16, 4_096, 100),
         TO_THE_END,
-        ("Ok", 13),
+        ("Ok", 13, 29),
         [3_000, 3_000, 43, 630_000, 617, 4_536, 129, 137, 114, 0],
     ),
     // The same, with a burst that is used up.
@@ -292,7 +292,7 @@ pub static CASES: [Case; 58] = [
         ALL,
         (40, 0, 16, 1, 4, 100),
         TO_THE_END,
-        ("Ok", 4),
+        ("Ok", 4, 10),
         [40, 40, 10, 100_000, 90, 40, 0, 0, 0, 0],
     ),
     // Nothing to copy takes no round, even if no round is allowed.
@@ -301,7 +301,7 @@ pub static CASES: [Case; 58] = [
         ALL,
         (0, 0, 16, 2, 4_096, 100),
         TO_THE_END,
-        ("Ok", 1),
+        ("Ok", 1, 0),
         [0, 0, 0, 0, 0, 0, 0, 0, 0, 0],
     ),
     Case(
@@ -309,7 +309,7 @@ pub static CASES: [Case; 58] = [
         ALL,
         (0, 0, 16, 2, 4_096, 0),
         TO_THE_END,
-        ("Ok", 1),
+        ("Ok", 1, 0),
         [0, 0, 0, 0, 0, 0, 0, 0, 0, 0],
     ),
     Case(
@@ -317,7 +317,7 @@ pub static CASES: [Case; 58] = [
         ALL,
         (6, 0, 16, 2, 4_096, 0),
         TO_THE_END,
-        ("gave up", 1),
+        ("gave up", 1, 0),
         [6, 0, 0, 0, 0, 0, 0, 0, 0, 0],
     ),
     // No byte has room.
@@ -326,7 +326,7 @@ pub static CASES: [Case; 58] = [
         ALL,
         (6, 0, 0, 2, 4_096, 100),
         TO_THE_END,
-        ("gave up", 0),
+        ("gave up", 0, 0),
         [0, 0, 100, 94_270_000, 100, 0, 0, 0, 0, 0],
     ),
     // Ten positions are left; the end isn't looked for once they are used up.
@@ -335,7 +335,7 @@ pub static CASES: [Case; 58] = [
         ALL,
         (9, u64::MAX - 10, 16, 2, 4_096, 100),
         TO_THE_END,
-        ("Ok", 2),
+        ("Ok", 2, 1),
         [9, 9, 1, 10_000, 11, 9, 0, 0, 0, 0],
     ),
     Case(
@@ -343,7 +343,7 @@ pub static CASES: [Case; 58] = [
         ALL,
         (11, u64::MAX - 10, 16, 2, 4_096, 100),
         TO_THE_END,
-        ("gave up", 1),
+        ("gave up", 1, 1),
         [10, 10, 101, 94_280_000, 111, 10, 0, 0, 0, 0],
     ),
     Case(
@@ -351,7 +351,7 @@ pub static CASES: [Case; 58] = [
         ALL,
         (100_000, 0, 65_536, 1_400, 4_096, 100),
         TO_THE_END,
-        ("Ok", 3),
+        ("Ok", 3, 2),
         [100_000, 100_000, 2, 20_000, 146, 100_000, 0, 0, 0, 0],
     ),
     // One frame, delayed, and so is its acknowledgement.
@@ -360,7 +360,7 @@ pub static CASES: [Case; 58] = [
         FIRST_DELAYED,
         (100_000, 0, 262_144, 100_000, 4_096, 100),
         TO_THE_END,
-        ("Ok", 2),
+        ("Ok", 2, 1),
         [100_000, 100_000, 2, 30_000, 6, 200_000, 0, 0, 2, 0],
     ),
     // Frames of 65,536 bytes.
@@ -369,7 +369,7 @@ pub static CASES: [Case; 58] = [
         ALL,
         (300_000, 0, 262_144, 65_528, 4_096, 100),
         TO_THE_END,
-        ("Ok", 3),
+        ("Ok", 3, 2),
         [300_000, 300_000, 2, 20_000, 14, 300_000, 0, 0, 0, 0],
     ),
     // The receiver has room for as many bytes as the sender.
@@ -378,7 +378,7 @@ pub static CASES: [Case; 58] = [
         ALL,
         (300_000, 0, 300_000, 65_528, 4_096, 100),
         TO_THE_END,
-        ("Ok", 2),
+        ("Ok", 2, 1),
         [300_000, 300_000, 1, 10_000, 11, 300_000, 0, 0, 0, 0],
     ),
     // 4,096 bytes a read, and the first frame is lost.
@@ -387,7 +387,7 @@ pub static CASES: [Case; 58] = [
         ALL,
         (16_384, 0, 16_384, 1_000, 4_096, 100),
         (4_096, NEVER, NEVER, NEVER),
-        ("Ok", 5),
+        ("Ok", 5, 4),
         [16_384, 16_384, 5, 60_000, 46, 17_384, 1, 0, 0, 0],
     ),
     // Two thousand rounds.
@@ -396,7 +396,7 @@ pub static CASES: [Case; 58] = [
         ALL,
         (2_000, 0, 1, 2, 4_096, 100),
         TO_THE_END,
-        ("Ok", 2001),
+        ("Ok", 2001, 2000),
         [2_000, 2_000, 2_000, 20_000_000, 6_000, 2_000, 0, 0, 0, 0],
     ),
     Case(
@@ -404,7 +404,7 @@ pub static CASES: [Case; 58] = [
         ALL,
         (6, 0, 4_096, 1, 4_096, 100),
         (3, 0, 2, NEVER),
-        ("read failed", 1),
+        ("read failed", 1, 0),
         [0, 0, 0, 0, 0, 0, 0, 0, 0, 0],
     ),
     Case(
@@ -412,7 +412,7 @@ pub static CASES: [Case; 58] = [
         ALL,
         (6, 0, 4_096, 1, 4_096, 100),
         (3, 1, 2, NEVER),
-        ("read failed", 2),
+        ("read failed", 2, 2),
         [3, 3, 1, 10_000, 7, 3, 0, 0, 0, 0],
     ),
     Case(
@@ -420,7 +420,7 @@ pub static CASES: [Case; 58] = [
         ALL,
         (6, 0, 4_096, 1, 4_096, 100),
         (3, 2, 2, NEVER),
-        ("read failed", 3),
+        ("read failed", 3, 4),
         [6, 6, 2, 20_000, 14, 6, 0, 0, 0, 0],
     ),
     Case(
@@ -428,7 +428,7 @@ pub static CASES: [Case; 58] = [
         ALL,
         (6, 0, 4_096, 1, 4_096, 100),
         (3, NEVER, 2, 0),
-        ("write failed", 1),
+        ("write failed", 1, 1),
         [3, 0, 1, 10_000, 7, 3, 0, 0, 0, 0],
     ),
     Case(
@@ -436,7 +436,7 @@ pub static CASES: [Case; 58] = [
         ALL,
         (6, 0, 4_096, 1, 4_096, 100),
         (3, NEVER, 2, 1),
-        ("write failed", 1),
+        ("write failed", 1, 2),
         [3, 2, 1, 10_000, 7, 3, 0, 0, 0, 0],
     ),
     Case(
@@ -444,7 +444,7 @@ pub static CASES: [Case; 58] = [
         ALL,
         (6, 0, 4_096, 1, 4_096, 100),
         (3, NEVER, 2, 3),
-        ("write failed", 2),
+        ("write failed", 2, 4),
         [6, 5, 2, 20_000, 14, 6, 0, 0, 0, 0],
     ),
     Case(
@@ -452,7 +452,7 @@ pub static CASES: [Case; 58] = [
         ALL,
         (6, 0, 4_096, 1, 4_096, 100),
         (3, NEVER, 2, NEVER),
-        ("Ok", 3),
+        ("Ok", 3, 4),
         [6, 6, 2, 20_000, 14, 6, 0, 0, 0, 0],
     ),
     // A read fails while bytes are unacknowledged.
@@ -461,7 +461,7 @@ pub static CASES: [Case; 58] = [
         FOUR_LOST,
         (6, 0, 16, 2, 4_096, 100),
         (NEVER, 1, NEVER, NEVER),
-        ("read failed", 2),
+        ("read failed", 2, 1),
         [6, 6, 1, 10_000, 7, 6, 4, 0, 0, 0],
     ),
     // A read fails while bytes are in flight.
@@ -470,7 +470,7 @@ pub static CASES: [Case; 58] = [
         ALL,
         (6, 0, 7, 2, 4_096, 100),
         (NEVER, 1, NEVER, NEVER),
-        ("read failed", 2),
+        ("read failed", 2, 2),
         [6, 6, 2, 20_000, 9, 8, 1, 0, 0, 0],
     ),
     Case(
@@ -478,7 +478,7 @@ pub static CASES: [Case; 58] = [
         ALL,
         (80, 0, 4_096, 1, 4_096, 100),
         (NEVER, 1, 40, NEVER),
-        ("read failed", 2),
+        ("read failed", 2, 3),
         [80, 80, 3, 40_000, 219, 128, 40, 0, 0, 8],
     ),
     Case(
@@ -486,7 +486,7 @@ pub static CASES: [Case; 58] = [
         ALL,
         (80, 0, 4_096, 1, 4_096, 100),
         (NEVER, NEVER, 40, 1),
-        ("write failed", 1),
+        ("write failed", 1, 2),
         [80, 40, 2, 30_000, 188, 113, 40, 0, 0, 8],
     ),
     Case(
@@ -494,7 +494,7 @@ pub static CASES: [Case; 58] = [
         ALL,
         (80, 0, 4_096, 1, 4_096, 100),
         (NEVER, NEVER, 40, 2),
-        ("write failed", 1),
+        ("write failed", 1, 3),
         [80, 65, 3, 40_000, 219, 128, 40, 0, 0, 8],
     ),
     // Of a write of 5,000 bytes 4,500 are taken.
@@ -503,7 +503,7 @@ pub static CASES: [Case; 58] = [
         ALL,
         (5_000, 0, 8_192, 5_000, 4_096, 100),
         (NEVER, NEVER, 4_500, 1),
-        ("write failed", 1),
+        ("write failed", 1, 2),
         [5_000, 4_500, 1, 10_000, 3, 5_000, 0, 0, 0, 0],
     ),
 ];
