@@ -14,7 +14,7 @@ PERFECT, GONE, MIXED = (0, 0, 0), (100, 0, 0), (20, 30, 30)
 
 
 def predicted(row):
-    """How a copy ends, how often it reads, and what it counts."""
+    """How a copy ends, how often it reads and writes, and what it counts."""
     forward, reverse = Direction(*WAYS[row.forward]), Direction(*WAYS[row.reverse])
     sender, receiver = Sender(row.first, row.capacity), Receiver(row.first, row.capacity)
     bytes_read = written = carried = rounds = stuck = micros = reads = writes = 0
@@ -61,7 +61,7 @@ def predicted(row):
         wait = SHORTEST if moved else min(2 * wait, LONGEST)
     both = lambda name: getattr(forward, name) + getattr(reverse, name)
     counts = [bytes_read, written, rounds, micros, both("sent"), carried, both("lost"), both("duplicated"), both("came_delayed")]
-    return end, reads, counts + [receiver.refused]
+    return end, (reads, writes), counts + [receiver.refused]
 
 
 # The fates of one direction: a list, and the rates after it.
@@ -168,12 +168,12 @@ def number(value):
 
 def case(row):
     """A row, in Rust."""
-    end, reads, counts = predicted(row)
+    end, (reads, writes), counts = predicted(row)
     config = ", ".join(map(number, (row.length, row.first, row.capacity, row.payload, row.max_burst, row.rounds)))
     calls = row.read + row.write
     calls = "TO_THE_END" if calls == (None,) * 4 else f"({', '.join(map(number, calls))})"
     about = f"    // {row.about}\n" if row.about else ""
-    parts = [row.forward, row.reverse, f"({config})", calls, f'("{end}", {reads})', f"[{', '.join(map(number, counts))}]"]
+    parts = [row.forward, row.reverse, f"({config})", calls, f'("{end}", {reads}, {writes})', f"[{', '.join(map(number, counts))}]"]
     line = f"    Case({', '.join(parts)}),"
     return about + (line if len(line) <= 100 else "    Case(\n" + "".join(f"        {it},\n" for it in parts) + "    ),")
 
