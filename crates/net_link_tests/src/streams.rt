@@ -1,4 +1,6 @@
 //! Streams that remember their first error, call by call.
+ghost use Rattle.std.specs.Prelude.{IfOk, ◌≤◌};
+
 use crate::causes::assert_holds;
 use net_link_serve::Remembering;
 use std::io;
@@ -12,7 +14,9 @@ struct Told {
 
 impl Told {
     /// Returns the next result, of at most so many bytes.
-    fn result(&self, most: usize) -> io::Result<usize> {
+    fn result(&self, most: usize) -> io::Result<usize>
+        ensures { IfOk result (λ count. count ≤ most) }
+    {
         match self.next {
             Ok(count) => Ok(count.min(most)),
             Err(kind) => Err(io::Error::from(kind)),
