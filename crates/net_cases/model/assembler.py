@@ -25,8 +25,8 @@ RUN_NONE = Order("assembler: run_at, number and runs")
 START_SIZE = Size("assembler: digits of a start", 63, by=8)
 DATA_SIZE = Size("assembler: digits of a length", 63, by=4)
 HOLE = Test("assembler: the first run of a text has a hole before it")
-TEXT_RUNS = {most: Size(f"assembler of {most}: runs in a text under options", most.bit_length())
-             for most in SIZES}
+TEXT_RUNS = {most: Count(f"assembler of {most}: runs in a text under options", most)
+             for most in SIZES if most != 32}
 WIDTH = Size("assembler: width of a text", 8)
 CALLED = {name: Test(f"assembler: {name} is refused") for name in (
     "add", "add_counted", "add_then_remove_front")}
@@ -146,7 +146,8 @@ class Assembler:
         return truth(offset + size <= TOP)
 
     def text(self, width):
-        TEXT_RUNS[self.most](len(self.runs))
+        if self.most in TEXT_RUNS:
+            TEXT_RUNS[self.most](len(self.runs))
         WIDTH(width)
         if self.runs:
             HOLE(self.runs[0][0] > 0)

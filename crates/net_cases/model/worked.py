@@ -463,8 +463,8 @@ def add_shown(cases):
         play_all(cases, 32, [("add", [start, end - start]) for start, end in runs])
     play_all(cases, 100, [("add", [5 * number + 3, 2]) for number in range(40)])
     play_all(cases, 4, [("add", [5 * number + 3, 2]) for number in range(3)]
-             + [("text", [width]) for width in (*range(300), 65535)])
-    full = [("add", [5 * number + 3, 2]) for number in range(100)]
+             + [("text", [width]) for width in (*range(300), 65535, 2 ** 32, 2 ** 64 - 1)])
+    full = [call for number in range(100) for call in (("add", [5 * number + 3, 2]), ("text", [number]))]
     play_all(cases, 100, full + [("clone", []), ("eq", []), ("add", [500, 1]), ("eq", []), ("clone", []), ("eq", [])])
     numbers = [10 ** power for power in range(1, 20)] + [2 ** power for power in range(63)]
     play_all(cases, 1, [call for number in numbers

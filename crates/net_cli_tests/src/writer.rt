@@ -86,6 +86,15 @@ fn a_failed_flush_takes_no_other_error_s_place(rt: HostRuntime) -> Result<(), Fa
         Ok(()),
         Err(7),
     )?;
+    for kind in [
+        ErrorKind::WouldBlock,
+        ErrorKind::TimedOut,
+        ErrorKind::WriteZero,
+        ErrorKind::PermissionDenied,
+        ErrorKind::UnexpectedEof,
+    ] {
+        flush(&rt, rt.alloc(), Some(kind), Ok(()), Err(7))?;
+    }
     flush(&rt, rt.alloc(), None, Err(3), Err(3))?;
     flush(&rt, rt.alloc(), other, Err(3), Err(3))
 }

@@ -23,7 +23,7 @@ struct Row {
     told: &'static str,
 }
 
-static ROWS: [Row; 7] = [
+static ROWS: [Row; 10] = [
     // A read that fills the room, and a write of all of it.
     Row {
         words: "0 1 0 0 65536",
@@ -120,6 +120,44 @@ static ROWS: [Row; 7] = [
             9 bytes, 1527 frames, 1521 lost, 0 duplicated, 0 delayed, \
             0 refused, 2907 bytes sent again, 552 rounds, 0 bytes a second\n",
     },
+    // Frames are duplicated and delayed before counts are shown, and some are refused.
+    Row {
+        words: "--progress 98 27 60 50 16384 400",
+        input: (15, 1),
+        told_calls: NEVER,
+        calls: (16, 15, 1),
+        status: Status::Done,
+        told: "6 bytes, 521 frames, 511 lost, 6 duplicated, 4 delayed, \
+            0 refused, 527 bytes sent again, 256 rounds, 0 bytes a second\n\
+            13 bytes, 1043 frames, 1023 lost, 10 duplicated, 8 delayed, \
+            0 refused, 1250 bytes sent again, 512 rounds, 0 bytes a second\n\
+            15 bytes, 1179 frames, 1156 lost, 11 duplicated, 9 delayed, \
+            0 refused, 1442 bytes sent again, 579 rounds, 0 bytes a second\n",
+    },
+    Row {
+        words: "--progress 97 6 60 50 1 400",
+        input: (120, usize::MAX),
+        told_calls: NEVER,
+        calls: (2, 7, 1),
+        status: Status::Done,
+        told: "105 bytes, 5073 frames, 4918 lost, 88 duplicated, 33 delayed, \
+            3 refused, 4484 bytes sent again, 256 rounds, 0 bytes a second\n\
+            120 bytes, 5217 frames, 5058 lost, 90 duplicated, 34 delayed, \
+            3 refused, 4561 bytes sent again, 321 rounds, 0 bytes a second\n",
+    },
+    // It gives up after a round whose counts are shown.
+    Row {
+        words: "--progress 99 38 0 0 1 256",
+        input: (1, usize::MAX),
+        told_calls: NEVER,
+        calls: (1, 0, 1),
+        status: Status::GaveUp,
+        told: "0 bytes, 512 frames, 511 lost, 0 duplicated, 0 delayed, \
+            0 refused, 255 bytes sent again, 256 rounds, 0 bytes a second\n\
+            net_link: gave up\n\
+            0 bytes, 512 frames, 511 lost, 0 duplicated, 0 delayed, \
+            0 refused, 255 bytes sent again, 256 rounds, 0 bytes a second\n",
+    },
 ];
 
 /// As many bytes as an input has at most.
@@ -145,6 +183,20 @@ fn goes_so(alloc: Global, row: &Row) -> Result<bool, AllocError> {
     let calls = (reader.stream.calls, sink.calls, sink.flushes);
     let is_little = memory.bytes() < 4 * 262_144 + 300_000 && memory.live() == 0;
     Ok(calls == row.calls && is_little && is_so(ended, row.status, &errors, row.told))
+}
+
+#[test]
+fn a_short_copy_asks_for_little_more_than_its_buffers(rt: HostRuntime) -> Result<(), AllocError> {
+    let alloc = rt.alloc();
+    let words = words_of(alloc, "0 1")?;
+    let mut reader = Remembering::new(Source::new(b"some text"));
+    let mut writer = Remembering::new(Sink::new(alloc)?);
+    let mut errors = Messages::new(Sink::new(alloc)?);
+    let memory = Refusing::new(alloc, NEVER);
+    let ended = serve(&memory, &words, &mut reader, &mut writer, &mut errors);
+    let is_little = ended.status == Status::Done && memory.bytes() < 3 * 262_144 + 2_000;
+    assert_holds(&rt, is_little, memory.bytes());
+    Ok(())
 }
 
 #[test]

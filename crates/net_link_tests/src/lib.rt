@@ -7,6 +7,8 @@ mod calls;
 #[cfg(test)]
 mod causes;
 #[cfg(test)]
+mod errors;
+#[cfg(test)]
 mod serving;
 #[cfg(test)]
 mod streams;

@@ -421,7 +421,9 @@ fn check_misuse(rt: &impl Abort, alloc: Global, words: &[String], line: &str) ->
     let mut reader = Remembering::new(Source::new(b"some text"));
     let mut writer = Remembering::new(Sink::new(alloc)?);
     let mut errors = messages(alloc)?;
-    let ended = serve(alloc, words, &mut reader, &mut writer, &mut errors);
+    let memory = Refusing::new(alloc, NEVER);
+    let ended = serve(&memory, words, &mut reader, &mut writer, &mut errors);
+    assert!(rt; memory.requests() == 0);
     let wanted = format!(in alloc; "net_link: {line}\n{USAGE}")?;
     assert_ended(rt, ended, Status::Misused, line);
     assert_bytes(rt, &errors.stream.bytes, wanted.as_bytes(), line);
@@ -439,6 +441,7 @@ fn names_the_first_wrong_word(rt: HostRuntime) -> Result<(), Fail> {
         ("--progress", "2, 4, 5 or 6 numbers, not 0"),
         ("--progress 0 1 0", "2, 4, 5 or 6 numbers, not 3"),
         ("0 1 0 0 1 1 1", "2, 4, 5 or 6 numbers, not 7"),
+        ("0 1 0 0 1 1 1 1 1 1 1 1", "2, 4, 5 or 6 numbers, not 12"),
         ("0 1 --progress", "2, 4, 5 or 6 numbers, not 3"),
         ("100 1", "LOSS is 0 to 99, not 100"),
         ("--progress 100 1", "LOSS is 0 to 99, not 100"),
@@ -487,8 +490,12 @@ fn check_help(
     let mut reader = Remembering::new(Source::new(b"some text"));
     let mut writer = Remembering::new(Sink::failing(alloc, 100, failing_call, None)?);
     let mut errors = messages(alloc)?;
-    let ended = serve(alloc, &words, &mut reader, &mut writer, &mut errors);
+    let memory = Refusing::new(alloc, NEVER);
+    let ended = serve(&memory, &words, &mut reader, &mut writer, &mut errors);
     let sink = &writer.stream;
+    let calls = written.div_ceil(100) + usize::from(status == Status::Failed);
+    assert!(rt; sink.calls == calls && memory.live() == 0);
+    assert!(rt; status == Status::Failed || memory.requests() == 0);
     assert_ended(rt, ended, status, line);
     assert_prefix(rt, &sink.bytes, USAGE.as_bytes(), written, line);
     assert_bytes(rt, &errors.stream.bytes, told.as_bytes(), line);
@@ -504,7 +511,8 @@ fn says_how_it_is_used(rt: HostRuntime) -> Result<(), Fail> {
     check_help(&rt, alloc, "--help", NEVER, (Status::Done, all, ""))?;
     check_help(&rt, alloc, "--help 0 1 2", NEVER, (Status::Done, all, ""))?;
     let told = "net_link: write failed: no byte was taken\n";
-    check_help(&rt, alloc, "--help", 2, (Status::Failed, 200, told))
+    check_help(&rt, alloc, "--help", 2, (Status::Failed, 200, told))?;
+    check_help(&rt, alloc, "--help", 8, (Status::Failed, 800, told))
 }
 
 /// Refuses this request for memory, one of the three buffers of a copy.

@@ -46,6 +46,7 @@ impl Write for Told {
 enum Call {
     Read,
     Write,
+    WriteNothing,
     Flush,
 }
 
@@ -54,6 +55,7 @@ fn made(stream: &mut Remembering<Told>, call: Call) -> io::Result<usize> {
     match call {
         Call::Read => stream.read(&mut [0; 4]),
         Call::Write => stream.write(&[0; 4]),
+        Call::WriteNothing => stream.write(&[]),
         Call::Flush => {
             stream.flush()?;
             Ok(0)
@@ -116,6 +118,16 @@ static WRITES: [Step; 5] = [
     ),
 ];
 
+/// A write of nothing takes no byte either.
+static NOTHING: [Step; 2] = [
+    (Call::WriteNothing, Ok(0), Some(ErrorKind::WriteZero)),
+    (
+        Call::Write,
+        Err(ErrorKind::TimedOut),
+        Some(ErrorKind::WriteZero),
+    ),
+];
+
 static FLUSHES: [Step; 3] = [
     (
         Call::Flush,
@@ -148,4 +160,5 @@ fn the_first_error_of_a_stream_is_remembered(rt: HostRuntime) {
     assert_holds(&rt, all_of(&READS) == READS.len(), 0);
     assert_holds(&rt, all_of(&WRITES) == WRITES.len(), 1);
     assert_holds(&rt, all_of(&FLUSHES) == FLUSHES.len(), 2);
+    assert_holds(&rt, all_of(&NOTHING) == NOTHING.len(), 3);
 }

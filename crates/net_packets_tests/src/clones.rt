@@ -28,15 +28,19 @@ impl Clone for Header<'_> {
     }
 }
 
-/// Puts a header into a slot, and clones this slot and an empty one.
-fn clones_slots<'c>(clones: &'c Cell<u32>, drops: &'c Cell<u32>) -> Result<bool, AllocError> {
+/// Puts a header into the slot of a packet of so many bytes, and clones this slot and an empty one.
+fn clones_slots<'c>(
+    clones: &'c Cell<u32>,
+    drops: &'c Cell<u32>,
+    size: usize,
+) -> Result<bool, AllocError> {
     let mut slots = [PacketMetadata::EMPTY, PacketMetadata::EMPTY];
     let mut bytes = [0u8; 1];
     let mut queue = PacketBuffer::<Header<'_>>::new(
         ManagedSlice::Borrowed(&mut slots),
         ManagedSlice::Borrowed(&mut bytes),
     );
-    let placed = queue.place(0, Header { clones, drops }).is_ok();
+    let placed = queue.place(size, Header { clones, drops }).is_ok();
     drop(queue);
     let _first = slots[0].clone()?;
     let _second = slots[1].clone()?;
@@ -45,9 +49,11 @@ fn clones_slots<'c>(clones: &'c Cell<u32>, drops: &'c Cell<u32>) -> Result<bool,
 
 #[test]
 fn a_slot_clones_its_header_once(rt: HostRuntime) -> Result<(), Fail> {
-    let clones = Cell::new(0);
-    let drops = Cell::new(0);
-    assert!(rt; clones_slots(&clones, &drops)?);
-    assert_eq!(rt; (clones.get(), drops.get()), (1, 2));
+    for size in 0..2 {
+        let clones = Cell::new(0);
+        let drops = Cell::new(0);
+        assert!(rt; clones_slots(&clones, &drops, size)?);
+        assert_eq!(rt; (clones.get(), drops.get()), (1, 2));
+    }
     Ok(())
 }

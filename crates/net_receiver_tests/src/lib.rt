@@ -5,6 +5,8 @@
 #![tactic(auto)]
 
 #[cfg(test)]
+mod assembler_text;
+#[cfg(test)]
 mod assertions;
 #[cfg(test)]
 mod receiver;

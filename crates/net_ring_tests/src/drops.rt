@@ -1,7 +1,7 @@
 //! The storage of a ring, and the closures that it is given, are dropped once, whatever a call
 //! returns.
 use crate::counted::Counted;
-use net_ring::{Empty, Full, RingBuffer, RingOver};
+use net_ring::{Empty, Full, RingBuffer, RingOver, Storage};
 use std::alloc::Global;
 use std::cell::Cell;
 use std::test::Fail;
@@ -44,6 +44,7 @@ fn a_ring_drops_its_storage(rt: HostRuntime) -> Result<(), Fail> {
         let half = all / 2;
         let fresh = (0, 0, 0);
         let wraps = (all, 3, 1);
+        let wraps_far = (all, half, half);
         let is_full = (half, 1, all);
         for moves in [
             fresh,
@@ -52,6 +53,7 @@ fn a_ring_drops_its_storage(rt: HostRuntime) -> Result<(), Fail> {
             (half, half, 0),
             is_full,
             wraps,
+            wraps_far,
         ] {
             assert_eq!(rt; drops_of_ring(rt.alloc(), count, moves)?, (count, 0));
         }
@@ -78,30 +80,50 @@ fn a_ring_over_a_vector_drops_it(rt: HostRuntime) -> Result<(), Fail> {
 }
 
 /// Returns whether `push_one` enqueues a value.
-fn pushes<'c>(ring: &mut RingBuffer<'_, Counted<'c>>, drops: &'c Cell<u32>) -> bool {
+fn pushes<'c, S: Storage<Counted<'c>>>(
+    ring: &mut RingOver<Counted<'c>, S>,
+    drops: &'c Cell<u32>,
+) -> bool {
     ring.push_one(Counted { drops }).is_ok()
 }
 
-/// Fills a ring of so many values by `push_one`, which drops those that it writes over and the one that it
-/// refuses, and drops the ring. Returns how many values were dropped, or `None` if a call didn't do what was
-/// expected.
-fn drops_of_pushes(alloc: Global, count: u32) -> Result<Option<u32>, Fail> {
-    let drops = Cell::new(0);
-    let mut ring = RingBuffer::from(many(alloc, &drops, count)?);
+/// Moves the read index of an empty ring of so many values, fills the ring by `push_one`, which drops those that it
+/// writes over and the one that it refuses, and drops the ring. Returns whether each call did so, and whether as many
+/// values were dropped as there were.
+fn drops_what_it_pushes<'c, S: Storage<Counted<'c>> + Drop>(
+    ring: RingOver<Counted<'c>, S>,
+    drops: &'c Cell<u32>,
+    count: u32,
+    read_at: usize,
+) -> bool {
+    let mut ring = ring;
+    ring.enqueue_many(read_at);
+    ring.dequeue_many(read_at);
     let mut pushed = true;
     for _ in 0..count {
-        pushed = pushed && pushes(&mut ring, &drops);
+        pushed = pushed && pushes(&mut ring, drops);
     }
-    let refused = !pushes(&mut ring, &drops);
+    let refused = !pushes(&mut ring, drops);
     let before = drops.get();
     drop(ring);
-    Ok((pushed && refused && before == count.saturating_add(1)).then_some(drops.get()))
+    let all = u64::from(count) * 2 + 1;
+    pushed && refused && before == count.saturating_add(1) && u64::from(drops.get()) == all
+}
+
+/// Does so with a ring over storage that it owns, and with one over a vector itself.
+fn drops_of_pushes(alloc: Global, count: u32, read_at: usize) -> Result<bool, Fail> {
+    let drops = Cell::new(0);
+    let ring = RingBuffer::from(many(alloc, &drops, count)?);
+    let owned = drops_what_it_pushes(ring, &drops, count, read_at);
+    let drops = Cell::new(0);
+    let ring = RingOver::<Counted<'_>, Vec<Counted<'_>>>::new(many(alloc, &drops, count)?);
+    Ok(owned && drops_what_it_pushes(ring, &drops, count, read_at))
 }
 
 #[test]
 fn an_element_that_is_written_over_or_refused_is_dropped(rt: HostRuntime) -> Result<(), Fail> {
-    for (count, all) in [(0, 1), (1, 3), (2, 5), (300, 601)] {
-        assert_eq!(rt; drops_of_pushes(rt.alloc(), count)?, Some(all));
+    for (count, read_at) in [(0, 0), (1, 0), (2, 1), (20, 12), (300, 0), (300, 299)] {
+        assert!(rt; drops_of_pushes(rt.alloc(), count, read_at)?);
     }
     Ok(())
 }

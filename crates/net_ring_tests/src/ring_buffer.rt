@@ -200,3 +200,72 @@ fn rings_are_made_and_dropped(rt: HostRuntime) -> Result<(), Fail> {
     assert_eq!(rt; room_of_vector([0u8; 5].to_vec(rt.alloc())?), 5);
     Ok(())
 }
+
+/// Moves elements through a ring of four: how many are enqueued, taken off, and then enqueued; and the storage after it.
+struct Passage {
+    first: &'static [u8],
+    taken: usize,
+    more: &'static [u8],
+    storage: &'static [u8],
+}
+
+/// A ring that has no element, one that is empty again, one with room, a full one, and two that wrap.
+static PASSAGES: [Passage; 6] = [
+    Passage {
+        first: b"",
+        taken: 0,
+        more: b"",
+        storage: b"....",
+    },
+    Passage {
+        first: b"ab",
+        taken: 2,
+        more: b"",
+        storage: b"ab..",
+    },
+    Passage {
+        first: b"abc",
+        taken: 1,
+        more: b"",
+        storage: b"abc.",
+    },
+    Passage {
+        first: b"abcd",
+        taken: 0,
+        more: b"",
+        storage: b"abcd",
+    },
+    Passage {
+        first: b"abc",
+        taken: 2,
+        more: b"de",
+        storage: b"ebcd",
+    },
+    Passage {
+        first: b"abcd",
+        taken: 2,
+        more: b"ef",
+        storage: b"efcd",
+    },
+];
+
+/// Makes a ring over this storage, moves elements through it, and drops it. Returns whether each call did so.
+fn passes_through(storage: &mut [u8], passage: &Passage) -> bool {
+    let mut ring = RingBuffer::from(storage);
+    let enqueued = ring.enqueue_slice(passage.first) == passage.first.len();
+    let taken = enqueued && takes_off(&mut ring, passage.taken);
+    taken && ring.enqueue_slice(passage.more) == passage.more.len()
+}
+
+/// Returns whether lent storage has the elements that were enqueued, once its ring is gone.
+fn leaves_its_storage(passage: &Passage) -> bool {
+    let mut storage = *b"....";
+    passes_through(&mut storage, passage) && *storage.as_slice() == *passage.storage
+}
+
+#[test]
+fn lent_storage_stays_as_it_is_once_its_ring_is_gone(rt: HostRuntime) {
+    for passage in &PASSAGES {
+        assert!(rt; leaves_its_storage(passage));
+    }
+}

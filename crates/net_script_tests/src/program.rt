@@ -84,6 +84,7 @@ fn check_status<A: Allocator + Copy>(
     assert_count(rt, sink.calls, writes, place);
     assert_count(rt, sink.flushes, if status == 2 { 0 } else { 1 }, place);
     assert_count(rt, errors.flushes, 0, place);
+    assert_at_most(rt, errors.calls, if status == 2 { 1 } else { 4 }, place);
     Ok(())
 }
 
@@ -324,6 +325,20 @@ fn flushes_many_replies_once(rt: HostRuntime) -> Result<(), Fail> {
     Ok(())
 }
 
+/// Replies of 65,536 bytes, for which there is just room, are written by one write.
+#[test]
+fn a_full_buffer_is_written_once(rt: HostRuntime) -> Result<(), Fail> {
+    let mut input = Vec::from_slice(rt.alloc(), b"w 6162\nr 1\nr 1\n")?;
+    let mut output = Vec::from_slice(rt.alloc(), b"took 2\nread 61\nread 62\n")?;
+    for _ in 0..9_359 {
+        input.extend_from_slice(b"r 0\n")?;
+        output.extend_from_slice(b"read -\n")?;
+    }
+    assert_count(&rt, output.len(), 65_536, ("bytes", 0));
+    let expected: Expected<'_> = (&output, 0, b"", 2, 1);
+    check(&rt, rt.alloc(), "ring 8", (&input, NEVER, NEVER), expected)
+}
+
 /// The bytes that are asked for up to each of the first requests: for the storage of 8 bytes, a line and replies.
 static ASKED: [usize; 3] = [8, 8 + 4_096, 8 + 4_096 + 65_536];
 
@@ -432,8 +447,12 @@ impl Write for Noting<'_> {
     }
 }
 
-/// Returns whether the output is flushed before an error is said, so that a terminal shows the replies first.
-fn flushes_first(alloc: Global) -> Result<bool, Fail> {
+/// Returns whether the output is flushed before an error is said, so that a terminal shows the replies first: after
+/// this input, of which so many reads succeed, in memory that refuses a request.
+fn flushes_first(
+    alloc: Global,
+    (input, reads, refused): (&[u8], usize, usize),
+) -> Result<bool, Fail> {
     let words = words_of(alloc, "ring 8")?;
     let flushed = Cell::new(false);
     let mut output = Noting {
@@ -446,15 +465,24 @@ fn flushes_first(alloc: Global) -> Result<bool, Fail> {
         of_errors: true,
         is_early: false,
     };
-    let mut source = Source::new(b"w 61\nx\n");
-    let ended = serve(alloc, &words, &mut source, &mut output, &mut errors);
-    Ok(ended.is_told && !errors.is_early)
+    let mut source = Source::failing(input, usize::MAX, reads, ErrorKind::Other);
+    let heap = Refusing::new(alloc, refused);
+    let ended = serve(&heap, &words, &mut source, &mut output, &mut errors);
+    Ok(ended.status == Status::Failed && ended.is_told && !errors.is_early)
 }
 
 #[test]
 fn flushes_before_it_says_an_error(rt: HostRuntime) -> Result<(), Fail> {
-    let first = flushes_first(rt.alloc())?;
-    assert_count(&rt, first as usize, 1, ("ring 8", 0));
+    let rows: [(&[u8], usize, usize); 4] = [
+        (b"w 61\nx\n", NEVER, NEVER),
+        (b"w 61\n", 1, NEVER),
+        (b"w 61\n", NEVER, 4),
+        (b"", NEVER, 0),
+    ];
+    for (number, row) in rows.iter().enumerate() {
+        let first = flushes_first(rt.alloc(), *row)?;
+        assert_count(&rt, first as usize, 1, ("ring 8", number));
+    }
     Ok(())
 }
 

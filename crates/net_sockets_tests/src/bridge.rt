@@ -316,7 +316,16 @@ fn both_devices_are_asked_at_the_moment_that_was_given(rt: HostRuntime) {
     let tokens = Cell::new(0);
     let mut from = without_frames(rt.alloc(), &tokens);
     let mut to = without_frames(rt.alloc(), &tokens);
-    for micros in [i64::MIN, -1_000, -1, 1, 60_000_000, i64::MAX] {
+    for micros in [
+        i64::MIN,
+        -1_000,
+        -1,
+        1,
+        60_000_000,
+        250_000_001,
+        1_700_000_000_123_456,
+        i64::MAX,
+    ] {
         let asked = are_asked_at(&mut from, &mut to, micros, false)
             && are_asked_at(&mut from, &mut to, micros - micros % 7, true);
         assert_holds(&rt, asked, ("at", micros.unsigned_abs() as usize));
@@ -388,6 +397,43 @@ fn each_frame_is_asked_for_once_and_at_that_moment(rt: HostRuntime) -> Result<()
             &rt,
             three_of_four_pass(&mut from, &mut to, micros, true)?,
             place,
+        );
+    }
+    Ok(())
+}
+
+/// Sends frames of 1,514 bytes, as many as may pass, and forwards them. Returns whether room is asked for once a
+/// frame, the frames are sent as their tokens were, and no token is left.
+fn long_frames_pass(
+    from: &mut Noting<'_>,
+    to: &mut Noting<'_>,
+    max: usize,
+) -> Result<bool, AllocError> {
+    let rooms = to.rooms;
+    for _ in 0..max {
+        sends(&mut from.device, Instant::ZERO, 1_514, 7)?;
+    }
+    let passed = forward(from, to, Instant::ZERO, max)? == max;
+    Ok(
+        passed
+            && to.rooms == rooms.saturating_add(max)
+            && from.rooms == 0
+            && to.sent_with == 0
+            && to.tokens.get() == 0,
+    )
+}
+
+/// If no frame may pass, no room is asked for.
+#[test]
+fn room_is_asked_for_as_often_as_frames_may_pass(rt: HostRuntime) -> Result<(), AllocError> {
+    let tokens = Cell::new(0);
+    let mut from = without_frames(rt.alloc(), &tokens);
+    let mut to = without_frames(rt.alloc(), &tokens);
+    for max in [0, 1, 5, 40] {
+        assert_holds(
+            &rt,
+            long_frames_pass(&mut from, &mut to, max)?,
+            ("frames", max),
         );
     }
     Ok(())

@@ -13,6 +13,8 @@ mod copies;
 #[cfg(test)]
 mod counted;
 #[cfg(test)]
+mod edges;
+#[cfg(test)]
 mod frames;
 #[cfg(test)]
 mod links;

@@ -5,3 +5,5 @@
 
 #[cfg(test)]
 mod memory;
+#[cfg(test)]
+mod streams;

@@ -112,6 +112,24 @@ fn each_request_of_a_run_is_refused_in_turn(rt: HostRuntime) {
     assert_eq!(rt; gives_up, None);
 }
 
+/// A run of many requests is begun as often.
+#[test]
+fn many_requests_are_refused_in_turn(rt: HostRuntime) {
+    let made = refuse_each(rt.alloc(), |memory| makes_blocks(memory, 300));
+    assert_eq!(rt; made, Some(300));
+}
+
+/// Returns whether so many blocks are made, one after another.
+fn makes_blocks(memory: &Refusing, count: usize) -> bool {
+    for _ in 0..count {
+        let block: Result<Vec<u8, &Refusing>, AllocError> = Vec::with_capacity(memory, 8);
+        if block.is_err() {
+            return false;
+        }
+    }
+    true
+}
+
 /// A block that is never given back is noticed, though the run succeeds.
 #[test]
 fn memory_that_is_kept_is_seen(rt: HostRuntime) {

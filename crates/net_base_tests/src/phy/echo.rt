@@ -157,7 +157,17 @@ fn is_asked_at(device: &mut Asked, micros: i64) -> bool {
 #[test]
 fn asks_at_the_moment_that_it_was_given(rt: HostRuntime) {
     let mut device = Asked { at: Instant::ZERO };
-    for micros in [i64::MIN, -1_000, -1, 0, 1, i64::MAX] {
+    for micros in [
+        i64::MIN,
+        -1_000,
+        -1,
+        0,
+        1,
+        12_345_678,
+        250_000_001,
+        1_700_000_000_123_456,
+        i64::MAX,
+    ] {
         assert!(rt; is_asked_at(&mut device, micros), "at {micros}");
     }
 }

@@ -309,6 +309,21 @@ fn a_frame_asks_for_as_many_bytes_as_it_has(rt: HostRuntime) {
     }
 }
 
+/// Sends and takes a frame, asks for another one twice, and sends again. Returns how many requests that makes.
+fn requests_after_idling(alloc: Global) -> Option<usize> {
+    let memory = Refusing::new(alloc, usize::MAX);
+    let mut device = Loopback::new(&memory, Medium::Ip);
+    let idles = sends(&mut device, b"ab") && next_is(&mut device, b"ab") && is_over(&mut device);
+    let again = is_over(&mut device) && sends(&mut device, b"cd") && next_is(&mut device, b"cd");
+    (idles && again).then_some(memory.requests())
+}
+
+/// The room of the queue is asked for once: three requests, with those for two frames.
+#[test]
+fn a_device_without_frames_keeps_its_room(rt: HostRuntime) {
+    assert!(rt; requests_after_idling(rt.alloc()) == Some(3));
+}
+
 /// Takes one frame off and drops it, and consumes another. Returns whether both were there.
 fn takes_two<A: Allocator + Copy>(device: &mut Loopback<A>, length: usize) -> bool {
     let first = device.receive(Instant::ZERO).is_some();
