@@ -1,6 +1,7 @@
 //! The statuses, what standard error says, and how often streams are called.
 ghost use Rattle.std.specs.Prelude.{None};
 
+use crate::long_inputs::long_reply;
 use net_cli::{Ended, Status};
 use net_script::serve;
 use net_testing::{NEVER, Refusing, Sink, Source};
@@ -502,4 +503,19 @@ fn check_untold(rt: &impl Abort, alloc: Global, line: &str, status: u8) -> Resul
 fn keeps_its_status_where_standard_error_fails(rt: HostRuntime) -> Result<(), Fail> {
     check_untold(&rt, rt.alloc(), "ring 8", 1)?;
     check_untold(&rt, rt.alloc(), "ring", 2)
+}
+
+/// Each read asks for 65,536 bytes: three take all lines, and one finds the end. A reply longer than the buffer is
+/// written by one write, after one for each part of the replies before it.
+#[test]
+fn a_long_reply_is_written_once(rt: HostRuntime) -> Result<(), Fail> {
+    let (input, output) = long_reply(rt.alloc())?;
+    let expected: Expected<'_> = (&output, 0, b"", 4, 4);
+    check(
+        &rt,
+        rt.alloc(),
+        "ring 65536",
+        (&input, NEVER, NEVER),
+        expected,
+    )
 }

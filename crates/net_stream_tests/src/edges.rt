@@ -440,3 +440,30 @@ fn a_read_fills_the_room_beside_unacknowledged_bytes(rt: HostRuntime) {
         source.calls,
     );
 }
+
+/// A copy of six bytes over longer lent buffers writes to the first six of each.
+#[test]
+fn lent_buffers_are_written_only_where_bytes_pass(rt: HostRuntime) {
+    let alloc = rt.alloc();
+    let (mut outgoing, mut incoming, mut chunk) = ([b'.'; 16], [b'.'; 16], [b'.'; 16]);
+    let end = match Sink::new(alloc) {
+        Ok(mut sink) => copy_over_by(
+            alloc,
+            &setup(ALL, ALL, 0, 2, 100),
+            CopyBuffers {
+                outgoing: &mut outgoing,
+                incoming: &mut incoming,
+                chunk: &mut chunk,
+            },
+            &mut Source::new(b"abcdef"),
+            &mut sink,
+            &mut Counts::new(),
+        ),
+        Err(_) => "no memory",
+    };
+    assert_holds(&rt, end == "Ok", 0);
+    let wanted = b"abcdef..........".as_slice();
+    assert_holds(&rt, outgoing.as_slice() == wanted, 1);
+    assert_holds(&rt, incoming.as_slice() == wanted, 2);
+    assert_holds(&rt, chunk.as_slice() == wanted, 3);
+}

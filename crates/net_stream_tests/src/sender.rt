@@ -135,3 +135,21 @@ fn a_large_sender_lends_all_at_once(rt: HostRuntime) -> Result<(), AllocError> {
     assert_holds(&rt, lends_all(&mut sender, &bytes), 0);
     Ok(())
 }
+
+/// Bytes are written only where they are queued: not into free room beside them, nor where no position is left.
+#[test]
+fn storage_is_written_only_where_bytes_are_queued(rt: HostRuntime) {
+    let mut storage = [b'.'; 2_000];
+    let steps = [
+        Step::Write(b"abcd", 4),
+        Step::Acknowledge(2, 2, 4),
+        Step::Write(b"ef", 2),
+    ];
+    let done = all_of(&steps, &mut storage, 0);
+    let is_kept = storage.starts_with(b"abcdef") && storage[6..].iter().all(|byte| *byte == b'.');
+    assert_holds(&rt, done == steps.len() && is_kept, done);
+    let mut storage = *b".........";
+    let done = all_of(&AT_THE_END, &mut storage, u64::MAX - 4);
+    let is_kept = storage.as_slice() == b"abcd.....".as_slice();
+    assert_holds(&rt, done == AT_THE_END.len() && is_kept, done);
+}
