@@ -1,7 +1,6 @@
 //! The tests of `net_packets`, each through its public calls.
 //!
-//! They are in a crate of their own, so that the library is proved once and its edits don't wait
-//! for them.
+//! They are in a crate of their own, so that the library is proved once.
 #![tactic(auto)]
 
 #[cfg(test)]

@@ -1,7 +1,6 @@
 //! The tests of `net_ring`, each through its public calls.
 //!
-//! They are in a crate of their own, so that the library is proved once and its edits don't wait
-//! for them.
+//! They are in a crate of their own, so that the library is proved once.
 #![tactic(auto)]
 
 #[cfg(test)]
@@ -12,5 +11,7 @@ mod drops;
 mod ends;
 #[cfg(test)]
 mod managed;
+#[cfg(test)]
+mod resets;
 #[cfg(test)]
 mod ring_buffer;
