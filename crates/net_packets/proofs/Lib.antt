@@ -1,4 +1,5 @@
 pub mod PacketFacts
+mod HeadFacts
 pub mod PacketSteps
 pub mod PacketOrder
 pub mod PacketRuns

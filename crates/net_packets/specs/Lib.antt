@@ -1,4 +1,5 @@
 pub mod Packets
+pub mod PacketsHead
 pub mod PacketSlots
 pub mod PacketLends
 pub mod PacketHistory

@@ -1,12 +1,13 @@
 //! A queue of packets, each with a header, over storage that is lent or owned.
 ghost use Rattle.std.specs.Prelude.{◌≡◌, ◌≤◌, ◌<◌, ◌^◌, ◌-◌, ◌==◌, ◌↔◌, [], IsTrue, length};
 ghost use Rattle.std.specs.Prelude.{filter, is_some};
-ghost use Rattle.net_ring.specs.Ring.{capacity, window, contiguous_window, from_start_if_empty};
+ghost use Rattle.net_ring.specs.Ring.{capacity};
 ghost use Rattle.net_packets.specs.Packets.{IsWellPlaced, bytes_used, slots_used, no_packets};
-ghost use Rattle.net_packets.specs.Packets.{byte_ring, placement, only_last, without_gap, first_gap};
-ghost use Rattle.net_packets.specs.Packets.{first_size, gap_for, slots_for, if_slots};
+ghost use Rattle.net_packets.specs.Packets.{placement, only_last, without_gap, first_gap};
+ghost use Rattle.net_packets.specs.Packets.{first_size};
 ghost use Rattle.net_packets.specs.PacketHistory.{contents};
 
+use crate::head::PacketsHead;
 use crate::packet_metadata::PacketMetadata;
 use net_ring::{Empty, Full, ManagedSlice, RingOver, Storage};
 use std::marker::Model;
@@ -155,29 +156,17 @@ impl<H, M: Storage<PacketMetadata<H>>, B: Storage<u8>> PacketsOver<H, M, B> {
 
 /// Steps that the calls share.
 impl<H, M: Storage<PacketMetadata<H>>, B: Storage<u8>> PacketsOver<H, M, B> {
-    /// Returns how many free bytes are contiguous, and how many there are in all. In an empty ring
-    /// all are contiguous, since it is then read from the storage's beginning.
-    #[inline]
-    fn contiguous_free(&self) -> (usize, usize)
-        ensures contiguous { result.0 ≡ contiguous_window (from_start_if_empty (byte_ring self.now)) }
-        ensures window { result.1 ≡ window (from_start_if_empty (byte_ring self.now)) }
-    {
-        let window = self.bytes.window();
-        if self.bytes.is_empty() {
-            return (window, window);
-        }
-        (self.bytes.contiguous_window(), window)
-    }
-
     /// Returns the gap before a packet of `size` bytes, if it can be placed.
     #[inline]
     fn placement(&self, size: usize) -> Option<usize>
         ensures gap { result ≡ placement self.now size }
         ensures well_placed { IsWellPlaced self.now }
     {
-        let (contiguous, window) = self.contiguous_free();
-        let free = self.slots.window();
-        if_slots(free, gap_for(size, contiguous, window))
+        let head = PacketsHead {
+            slots: self.slots.place(),
+            bytes: self.bytes.place(),
+        };
+        head.placement(self.slots.capacity(), self.bytes.capacity(), size)
     }
 
     /// Returns the size of the last packet, or 0 if there is none.
@@ -219,51 +208,10 @@ impl<H, M: Storage<PacketMetadata<H>>, B: Storage<u8>> PacketsOver<H, M, B> {
     }
 }
 
-/// Returns the gap before a packet of `size` bytes, if `window` bytes are free, of which the first
-/// `contiguous` are contiguous; `None` if it does not fit.
-#[inline]
-fn gap_for(size: usize, contiguous: usize, window: usize) -> Option<usize>
-    requires { contiguous ≤ window }
-    ensures { result ≡ gap_for size contiguous window }
-{
-    if size <= contiguous {
-        Some(0)
-    } else if size <= window - contiguous {
-        Some(contiguous)
-    } else {
-        None
-    }
-}
-
 /// Returns how many of the slots are those of packets, not of gaps.
 fn count_packets<H>(slots: &[PacketMetadata<H>]) -> usize
     ensures count { result ≡ length (filter (λ m. is_some m.header) slots.now) }
     ensures within { result ≤ length slots.now }
 {
     slots.iter().filter(|slot| slot.header.is_some()).count()
-}
-
-/// Returns how many slots a packet after a gap of `gap` bytes uses.
-#[inline]
-fn slots_for(gap: usize) -> usize
-    ensures { result ≡ slots_for gap }
-{
-    if gap == 0 { 1 } else { 2 }
-}
-
-/// Returns the gap, if `free` slots are enough for it and its packet.
-#[inline]
-fn if_slots(free: usize, gap: Option<usize>) -> Option<usize>
-    ensures { result ≡ if_slots free gap }
-{
-    match gap {
-        Some(gap) => {
-            if slots_for(gap) <= free {
-                Some(gap)
-            } else {
-                None
-            }
-        }
-        None => None,
-    }
 }

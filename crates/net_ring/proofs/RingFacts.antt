@@ -14,12 +14,14 @@ use Rattle.std.proofs.lemmas.Option.{slice_get_past}
 use Rattle.std.specs.declared.result.Result.TheVariants.{Ok, Err}
 use Rattle.net_ring.specs.Overwrite.{overwrite}
 use Rattle.net_ring.specs.Ring.{RingState, last_dequeued_index, rotation, ring, capacity, window, queue}
-use Rattle.net_ring.specs.Ring.{spare, storage_index, write_at, IsWellFormed, with_elements}
+use Rattle.net_ring.specs.Ring.{index_after, spare, storage_index, write_at, IsWellFormed, with_elements}
 use Rattle.net_ring.specs.Ring.{with_elements_wrapping, with_enqueued, with_dequeued}
 use Rattle.net_ring.specs.Ring.{from_start_if_empty, contiguous_window, contiguous_queued}
 use Rattle.net_ring.specs.Ring.{spare_index, contiguous_window_from, queue_index}
 use Rattle.net_ring.specs.Ring.{contiguous_queued_from, Enqueues, Dequeues, WritesSpare}
 use Rattle.net_ring.specs.Ring.{WritesQueue, EnqueuesFrom, DequeuesFrom}
+use Rattle.net_ring.specs.Place.{place, ring_at, rewound}
+use Rattle.net_ring.specs.declared.place.Place.{Place}
 use Rattle.net_ring.proofs.Rotations.{IsStorageIndex, cut, length-rotation, overwrite_at}
 use Rattle.net_ring.proofs.Rotations.{length-overwrite, storage_index_is, part-rotation}
 use Rattle.net_ring.proofs.Rotations.{read_at_le, whole, length-queue, length-spare}
@@ -382,6 +384,26 @@ module _ {T : Type 0} where
     pub well : IsWellFormed g
     well = subst IsWellFormed is wf'
 
+    -- ---- an index that is found by the numbers of v, in a storage of c elements
+    pub found : (c i p : ℕ) → c ≡ capacity g → p ≡ index_after c v.read_at i → p ≡ storage_index g i
+    found c i p ec ep = ep ∙ ap₂ (λ (n : ℕ) (o : RingState T). index_after n o.read_at i) ec is
+
+    pub found_next : (c p : ℕ) → c ≡ capacity g → p ≡ index_after c v.read_at v.count → p ≡ write_at g
+    found_next c p ec ep = ep ∙ ap₂ (λ (n : ℕ) (o : RingState T). index_after n o.read_at o.count) ec is
+
+    pub found_free : (c i p : ℕ) → c ≡ capacity g → p ≡ index_after c v.read_at (v.count + min i (c - v.count)) → p ≡ spare_index g i
+    found_free c i p ec ep = ep ∙ ap₂ (λ (n : ℕ) (o : RingState T). index_after n o.read_at (o.count + min i (n - o.count))) ec is
+
+    pub found_queued : (c i p : ℕ) → c ≡ capacity g → p ≡ index_after c v.read_at (min i v.count) → p ≡ queue_index g i
+    found_queued c i p ec ep = ep ∙ ap₂ (λ (n : ℕ) (o : RingState T). index_after n o.read_at (min i o.count)) ec is
+
+    -- and how many elements are contiguous
+    pub found_window : (c m : ℕ) → c ≡ capacity g → m ≡ min (c - v.count) (c - index_after c v.read_at v.count) → m ≡ contiguous_window g
+    found_window c m ec em = em ∙ ap₂ (λ (n : ℕ) (o : RingState T). min (n - o.count) (n - index_after n o.read_at o.count)) ec is
+
+    pub found_head : (c m : ℕ) → c ≡ capacity g → m ≡ min v.count (c - v.read_at) → m ≡ contiguous_queued g
+    found_head c m ec em = em ∙ ap₂ (λ (n : ℕ) (o : RingState T). min o.count (n - o.read_at)) ec is
+
     -- one write leaves the ring well-formed
     pub once_wf : (p : ℕ) (a st : List T) → st ≡ overwrite v.storage p a → IsWellFormed (ring st v.read_at v.count)
     once_wf p a st e = subst (λ l. IsWellFormed (ring l v.read_at v.count)) (sym e) (written_wf v wf' p a)
@@ -405,54 +427,14 @@ module _ {T : Type 0} where
         let long : length st ≡ length v.storage = ap length e ∙ length-overwrite v.storage p a in
         (w.0, omega (arith, wf'.1, long, ap (λ o. o.count) is, ap (λ o. length o.storage) is, le))
 
-    -- an index that is found after a write
-    pub storage_index_after : (n p q : ℕ) (a st : List T) → st ≡ overwrite v.storage q a
-        → p ≡ storage_index (ring st v.read_at v.count) n → p ≡ storage_index g n
-    storage_index_after n p q a st e ep =
-        let long : length st ≡ length g.storage = ap length e ∙ length-overwrite v.storage q a ∙ ap (λ o. length o.storage) is in
-        ep ∙ ap₂ (λ m r. if nat_lt n (m - r) then r + n else n - (m - r)) long (ap (λ o. o.read_at) is)
-
-    same_count : v.count ≡ g.count
-    same_count = ap (λ o. o.count) is
-
     same_storage : v.storage ≡ g.storage
     same_storage = ap (λ o. o.storage) is
-
-    -- `write_unallocated`: a is written from the index p on, and the rest of the data at the beginning
-    pub wrapping_clause : (i n p k : ℕ) (src a b st : List T) → n ≡ min (length src) (window g - i) → p ≡ spare_index g i → k ≡ min n (capacity g - p)
-        → a ≡ take k src → b ≡ take (n - k) (drop k src) → st ≡ overwrite (overwrite v.storage p a) 0 b
-        → ring st v.read_at v.count ≡ with_elements_wrapping g (spare_index g i) (take n src)
-    wrapping_clause i n p k src a b st en at ek ea eb es =
-        let ws : List T = take n src in
-        let long : length ws ≡ n = length-take-le n src (omega (arith, en)) in
-        let within : p ≤ capacity g = omega (arith, at, spare_index_le g well i) in
-        let one : a ≡ take k ws = ea ∙ sym (take-take k n src (omega (arith, ek))) in
-        let two : b ≡ drop k ws = eb ∙ sym (drop-take k (n - k) src) ∙ ap (λ (m : ℕ). drop k (take m src)) (omega (arith, ek)) in
-        let parts : st ≡ overwrite (overwrite g.storage p (take k ws)) 0 (drop k ws) = es
-        ∙ ap₂ (λ x y. overwrite (overwrite v.storage p x) 0 y) one two ∙ ap (λ l. overwrite (overwrite l p (take k ws)) 0 (drop k ws)) same_storage in
-        let all : st ≡ overwrite (overwrite g.storage p ws) 0 (drop (length g.storage - p) ws) = parts
-        ∙ wrapping_is g.storage ws p k within (omega (arith, ek, long)) in
-        ap (λ l. ring l v.read_at v.count) all
-        ∙ ap (λ o. ring (overwrite (overwrite g.storage p ws) 0 (drop (length g.storage - p) ws)) o.read_at o.count) is
-        ∙ ap (λ q. with_elements_wrapping g q ws) at
-
-    -- the same where all of the data comes before the storage's end
-    pub once_clause : (i n p k : ℕ) (src a st : List T) → n ≡ min (length src) (window g - i) → p ≡ spare_index g i → k ≡ min n (capacity g - p) → n ≤ k
-        → a ≡ take k src → st ≡ overwrite v.storage p a
-        → ring st v.read_at v.count ≡ with_elements_wrapping g (spare_index g i) (take n src)
-    once_clause i n p k src a st en at ek le ea es =
-        let none : n - k ≡ 0 = omega (arith, le) in
-        wrapping_clause i n p k src a [] st en at ek ea (sym (ap (λ (m : ℕ). take m (drop k src)) none)) (es ∙ sym (overwrite_none (overwrite v.storage p a) 0))
 
     -- and what it leaves of the two parts
     pub ahead_clause : (i n : ℕ) (src : List T) (h : RingState T) → n ≡ min (length src) (window g - i)
         → h ≡ with_elements_wrapping g (spare_index g i) (take n src) → WritesSpare g i (take n src) h
     ahead_clause i n src h en e =
         subst (WritesSpare g i (take n src)) (sym e) (wrapping_at g well i (take n src) (omega (arith, en, length-take-le n src (omega (arith, en)))))
-
-    -- two writes leave the ring well-formed
-    pub twice_wf : (p q : ℕ) (a b st : List T) → st ≡ overwrite (overwrite v.storage p a) q b → IsWellFormed (ring st v.read_at v.count)
-    twice_wf p q a b st e = subst (λ l. IsWellFormed (ring l v.read_at v.count)) (sym e) (written_wf (with_elements v p a) (written_wf v wf' p a) q b)
 
     pub read_on : (o n p k : ℕ) (b : List T) → n ≤ g.count - o → o ≤ g.count → p ≡ storage_index g o → k ≡ min n (capacity g - p)
         → b ≡ take (n - k) g.storage → b ≡ take (n - k) (drop k (drop o (queue g)))
@@ -489,34 +471,21 @@ module _ {T : Type 0} where
         let r = part_is g.storage p l k el (omega (arith, ek, within)) a (ea ∙ ap (λ s. take l (drop p s)) same_storage) in
         (r.0, r.1 ∙ queue_value g well o k p (omega (arith, ek, le, lo)) (omega (arith, ek, within)) at)
 
-    -- `read_allocated`: a is read from the index p on, and the rest of what is read at the beginning
-    pub read_clause : (i n p k l : ℕ) (to a b : List T) → l ≡ k → n ≤ g.count - i → p ≡ queue_index g i → k ≡ min n (capacity g - p)
+    -- what is read from the index p on, and the rest of it at the storage's beginning
+    pub read_parts : (i n p k l : ℕ) (a b : List T) → l ≡ k → n ≤ g.count - i → p ≡ queue_index g i → k ≡ min n (capacity g - p)
         → a ≡ take l (drop p v.storage) → b ≡ take (n - k) v.storage
-        → take k (a ++ drop k to) ++ (b ++ drop (n - k) (drop k (a ++ drop k to))) ≡ take n (drop i (queue g)) ++ drop n to
-    read_clause i n p k l to a b el le ep ek ea eb =
+        → (length a ≡ k) × (a ++ b ≡ take n (drop i (queue g)))
+    read_parts i n p k l a b el le ep ek ea eb =
         let o : ℕ = min i g.count in
         let lo : o ≤ g.count = omega arith in
         let few : n ≤ g.count - o = omega (arith, le) in
         let r = read_first o n p k l a el few lo ep ek ea in
         let two : b ≡ take (n - k) (drop k (drop o (queue g))) = read_on o n p k b few lo ep ek (eb ∙ ap (take (n - k)) same_storage) in
-        let m : k + (n - k) ≡ n = omega (arith, ek) in
-        let both : a ++ b ≡ take n (drop i (queue g)) = ap₂ ◌++◌ r.1 two ∙ sym (take_sum k (n - k) (drop o (queue g)))
-        ∙ ap (λ (j : ℕ). take j (drop o (queue g))) m ∙ clamped i o n refl few in
-        let rest : drop (n - k) (drop k (a ++ drop k to)) ≡ drop n to = ap (drop (n - k)) (drop_at a (drop k to) k r.0)
-        ∙ drop-drop (n - k) k to ∙ ap (λ (j : ℕ). drop j to) m in
-        ap₂ ◌++◌ (take_at a (drop k to) k r.0) (ap (λ (l : List T). b ++ l) rest) ∙ sym (append_assoc a b (drop n to))
-        ∙ ap (λ (l : List T). l ++ drop n to) both
-
-    -- the same where all of it comes before the storage's end
-    pub read_once_clause : (i n p k l : ℕ) (to a : List T) → l ≡ k → n ≤ g.count - i → p ≡ queue_index g i → k ≡ min n (capacity g - p) → n ≤ k
-        → a ≡ take l (drop p v.storage) → a ++ drop k to ≡ take n (drop i (queue g)) ++ drop n to
-    read_once_clause i n p k l to a el le ep ek all ea =
-        let o : ℕ = min i g.count in
-        let few : n ≤ g.count - o = omega (arith, le) in
-        let r = read_first o n p k l a el few (omega arith) ep ek ea in
-        let m : k ≡ n = omega (arith, ek, all) in
-        ap (λ (l : List T). l ++ drop k to) r.1 ∙ ap (λ (j : ℕ). take j (drop o (queue g)) ++ drop j to) m
-        ∙ ap (λ (l : List T). l ++ drop n to) (clamped i o n refl few)
+        let m : k + (n - k) ≡ n = omega (arith, ek) in (
+          r.0,
+          ap₂ ◌++◌ r.1 two ∙ sym (take_sum k (n - k) (drop o (queue g)))
+              ∙ ap (λ (j : ℕ). take j (drop o (queue g))) m ∙ clamped i o n refl few,
+        )
 
     -- ---- elements that are enqueued or dequeued, and none that is written
     pub with_enqueued_is : (k m : ℕ) → k ≡ m → ring v.storage v.read_at (v.count + k) ≡ with_enqueued m g
@@ -565,17 +534,6 @@ module _ {T : Type 0} where
     shown_last_dequeued k p m le fits ep em now e =
         let r = shown p m k em (omega (arith, ep, fits)) now e in
         (r.0, r.1 ∙ ap (λ q. take k (drop q g.storage)) ep)
-
-    pub last_dequeued_before : (k : ℕ) → k ≤ capacity g → k ≤ v.read_at → v.read_at - k ≡ last_dequeued_index g k
-    last_dequeued_before k le h =
-        let r = ap (λ o. o.read_at) is in
-        elim (storage_index_is g (capacity g - k)) [ inl i ↦ omega (arith, r, i.0, i.1) | inr i ↦ omega (arith, r, i.0, i.1, read_at_le g well) ]
-
-    pub last_dequeued_round : (k : ℕ) → k ≤ capacity g → v.read_at < k → capacity v - (k - v.read_at) ≡ last_dequeued_index g k
-    last_dequeued_round k le h =
-        let r = ap (λ o. o.read_at) is in
-        let n = ap (λ o. capacity o) is in
-        elim (storage_index_is g (capacity g - k)) [ inl i ↦ omega (arith, r, n, i.0, i.1) | inr i ↦ omega (arith, r, n, i.0, i.1) ]
 
     pub shown_in_queue : (i n p m : ℕ) → p ≡ queue_index g i → m ≡ contiguous_queued_from g i n → (now : List T) → now ≡ take m (drop p v.storage)
         → (length now ≡ contiguous_queued_from g i n) × (now ≡ take (length now) (drop i (queue g)))
@@ -696,6 +654,13 @@ rewind_cases b = elim (cases_eq b.count 0) [
 
 pub rewind_wf : {T : Type 0} (b : RingState T) → IsWellFormed b → IsWellFormed (from_start_if_empty b)
 rewind_wf b wf = elim (rewind_cases b) [ inl h ↦ subst IsWellFormed (sym h.1) (inl refl, omega arith) | inr h ↦ subst IsWellFormed (sym h.1) wf ]
+
+-- the same of the numbers of a ring
+pub rewound_ring : {T : Type 0} (xs : List T) (p : Place) → ring_at xs (rewound p) ≡ from_start_if_empty (ring_at xs p)
+rewound_ring xs p = elim (rewind_cases (ring_at xs p)) [
+  | inl h ↦ ap (λ (t : Bool). ring_at xs (if t then place 0 0 else p)) (eq-eqb p.length 0 h.0) ∙ sym h.1
+  | inr h ↦ ap (λ (t : Bool). ring_at xs (if t then place 0 0 else p)) (ne_eqb p.length 0 h.0) ∙ sym h.1
+]
 
 -- the index of an element that a ring can hold is below the storage's end
 storage_index_below : (c r j : ℕ) → j < c → (if nat_lt j (c - r) then r + j else j - (c - r)) < c

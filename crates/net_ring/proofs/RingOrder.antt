@@ -1,17 +1,17 @@
 -- Elements leave a ring in the order in which they came, over any calls.
 use Rattle.std.proofs.Common.{◌≡◌, ℕ, ◌+◌, ◌-◌, ◌≤◌, List, [], ◌∷◌, ◌++◌, length, take, drop}
-use Rattle.std.proofs.Common.{refl, sym, ap, ap₂, ◌∙◌, subst, inl, inr, arith, append_assoc, length-drop}
-use Rattle.std.proofs.lemmas.List.{take-append-drop, drop-append-le, append-nil, nil_from_length, take-take, take_all}
+use Rattle.std.proofs.Common.{refl, sym, ap, ap₂, ◌∙◌, subst, inl, inr, arith, append_assoc, length-append, length-drop}
+use Rattle.std.proofs.lemmas.List.{take_at, take-append-drop, drop-append-le, append-nil, nil_from_length, take-take, take_all}
 use Rattle.std.proofs.lemmas.Bool.{cases_lt}
 use Rattle.net_ring.specs.Overwrite.{overwrite}
 use Rattle.net_ring.specs.Log.{Log, empty_log, log_accepted, log_left, log_dropped}
 use Rattle.net_ring.specs.Ring.{RingState, IsWellFormed, ring, capacity, window, queue, write_at, storage_index}
 use Rattle.net_ring.specs.Ring.{contiguous_window, contiguous_queued, contiguous_queue}
-use Rattle.net_ring.specs.Ring.{spare_index, queue_index, with_elements, with_elements_wrapping, with_enqueued, from_start_if_empty}
-use Rattle.net_ring.specs.RingHistory.{RingCall, Clear, Reset, EnqueueSlice, EnqueueUnallocated, EnqueueMany, EnqueueManyWith}
+use Rattle.net_ring.specs.Ring.{last_dequeued_index, spare_index, queue_index, with_elements, with_elements_wrapping, with_enqueued, from_start_if_empty}
+use Rattle.net_ring.specs.RingHistory.{RingCall, Clear, Reset, RewindIfEmpty, WriteLastDequeued, PopBack, EnqueueSlice, EnqueueUnallocated, EnqueueMany, EnqueueManyWith}
 use Rattle.net_ring.specs.RingHistory.{EnqueueOne, EnqueueErr, GetUnallocated, WriteUnallocated, Dequeue, DequeueMany}
 use Rattle.net_ring.specs.RingHistory.{DequeueManyWith, DequeueOne, DequeueErr, GetAllocatedMut}
-use Rattle.net_ring.specs.RingHistory.{Makes, MakesAll, log_written, log_after, log_after_all, history}
+use Rattle.net_ring.specs.RingHistory.{Makes, MakesAll, log_written, log_without_last, log_after, log_after_all, history}
 use Rattle.net_ring.proofs.Rotations.{cut, length-overwrite, overwrite_at, overwrite-append_right, length-queue}
 use Rattle.net_ring.proofs.RingFacts as facts
 
@@ -150,9 +150,25 @@ module _ {T : Type 0} where
         let turn = over (log.left ++ take n xs) (drop n (queue g)) log.accepted (queue o) (drop n ws) 0 half room rest in
         subst (InTurn (log_written 0 (drop n ws) (log_left (take n xs) log))) (sym is) (record { ok = ok; turn = turn })
 
+  -- the last element was taken off
+  last_off : (log : Log T) (g h : RingState T) (x : T) → InTurn log g → queue g ≡ queue h ++ (x ∷ []) → IsWellFormed h →
+      InTurn (log_without_last log) h
+  last_off log g h x before is ok =
+      let rest : List T = log.left ++ queue h in
+      let all : log.accepted ≡ rest ++ (x ∷ []) =
+      sym before.turn ∙ ap (λ (l : List T). log.left ++ l) is ∙ sym (append_assoc log.left (queue h) (x ∷ [])) in
+      let long : length rest ≡ length log.accepted - 1 = omega (arith, ap length all, length-append rest (x ∷ [])) in
+      record { ok = ok; turn = sym (ap (take (length log.accepted - 1)) all ∙ take_at rest (x ∷ []) (length log.accepted - 1) long) }
+
   step : (call : RingCall T) (log : Log T) (g h : RingState T) → InTurn log g → Makes call g h → InTurn (log_after call log) h
   step Clear log g h before does = none_after log g _ h before does (inl refl, omega arith) refl
   step (Reset storage) log g h before does = none_after log g _ h before does.1 (inl refl, omega arith) refl
+  step RewindIfEmpty log g h before does = let m = moved g before.ok in same_as log g _ h before does m.0 m.1
+  step (WriteLastDequeued ws) log g h before does =
+      let p = last_dequeued_index g (length ws) in
+      same_as log g _ h before does.2 (facts.written_wf g before.ok p ws) (facts.freed_law g before.ok (length ws) does.1 ws refl does.0).0
+  step (PopBack x) log g h before does =
+      last_off log g h x before does.0 (subst IsWellFormed (sym does.1) (before.ok.0, omega (arith, before.ok.1)))
   step (EnqueueSlice xs) log g h before does =
       let m = moved g before.ok in
       let w = in_wrapping (from_start_if_empty g) xs m.0 (omega (arith, does.0, m.2)) in

@@ -8,4 +8,5 @@ pub mod RingView
 pub mod RingLends
 pub mod RingCalls
 pub mod Log
+pub mod Place
 pub mod RingHistory

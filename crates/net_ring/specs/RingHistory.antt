@@ -1,13 +1,13 @@
 -- The elements of a ring over many calls.
 --     RingCall T, Makes call g h, MakesAll calls g h      what one call did, and what calls make
 --     log_after call log, log_after_all calls log, history calls      the log after calls
-use Rattle.std.specs.Prelude.{◌≡◌, ◌≢◌, ◌≤◌, ℕ, ◌+◌, ◌-◌, List, [], ◌∷◌, length, take, drop}
+use Rattle.std.specs.Prelude.{◌≡◌, ◌≢◌, ◌≤◌, ℕ, ◌+◌, ◌-◌, List, [], ◌∷◌, ◌++◌, length, take, drop}
 use Rattle.net_ring.specs.Overwrite.{overwrite}
 use Rattle.net_ring.specs.Log.{Log, empty_log, log_accepted, log_left, log_dropped}
 use Rattle.net_ring.specs.Ring.{RingState, ring, capacity, window, queue, spare, write_at}
 use Rattle.net_ring.specs.Ring.{contiguous_window, contiguous_queued, contiguous_queue}
 use Rattle.net_ring.specs.Ring.{contiguous_window_from, contiguous_queued_from, spare_index}
-use Rattle.net_ring.specs.Ring.{queue_index, with_elements, with_elements_wrapping, with_enqueued}
+use Rattle.net_ring.specs.Ring.{queue_index, last_dequeued_index, with_elements, with_elements_wrapping, with_enqueued}
 use Rattle.net_ring.specs.Ring.{with_dequeued, from_start_if_empty}
 
 -- ---- calls
@@ -18,6 +18,8 @@ pub data RingCall (T : Type 0) : Type 0 where
   Clear : RingCall T
   -- `reset`: the elements that the storage then has
   Reset : List T → RingCall T
+  -- `rewind_if_empty`
+  RewindIfEmpty : RingCall T
   -- `enqueue_slice`: the elements that there was room for
   EnqueueSlice : List T → RingCall T
   -- `enqueue_unallocated`: the elements that were there
@@ -34,6 +36,10 @@ pub data RingCall (T : Type 0) : Type 0 where
   GetUnallocated : ℕ → List T → RingCall T
   -- `write_unallocated`: the offset, and the elements that there was room for
   WriteUnallocated : ℕ → List T → RingCall T
+  -- `last_dequeued_mut`, of elements that are free: those that were written
+  WriteLastDequeued : List T → RingCall T
+  -- `pop_back`: the element that it returned
+  PopBack : T → RingCall T
   -- `dequeue_slice` or `dequeue_allocated`: the elements that left
   Dequeue : List T → RingCall T
   -- `dequeue_many`: the elements that it lent, and those that were written there
@@ -54,6 +60,7 @@ module _ {T : Type 0} where
   abbrev pub Makes : RingCall T → RingState T → RingState T → Type 0
   Makes Clear g h = h ≡ ring g.storage 0 0
   Makes (Reset storage) g h = (length storage ≡ capacity g) × (h ≡ ring storage 0 0)
+  Makes RewindIfEmpty g h = h ≡ from_start_if_empty g
   Makes (EnqueueSlice xs) g h =
       (length xs ≤ window g)
       × (h
@@ -74,6 +81,11 @@ module _ {T : Type 0} where
       (length ws ≡ contiguous_window_from g i (length ws)) × (h ≡ with_elements g (spare_index g i) ws)
   Makes (WriteUnallocated i ws) g h =
       (length ws ≤ window g - i) × (h ≡ with_elements_wrapping g (spare_index g i) ws)
+  Makes (WriteLastDequeued ws) g h =
+      (length ws ≤ window g) × (last_dequeued_index g (length ws) + length ws ≤ capacity g)
+      × (h ≡ with_elements g (last_dequeued_index g (length ws)) ws)
+  Makes (PopBack x) g h =
+      (queue g ≡ queue h ++ (x ∷ [])) × (h ≡ ring g.storage g.read_at (g.count - 1))
   Makes (Dequeue xs) g h =
       (length xs ≤ g.count) × (xs ≡ take (length xs) (queue g)) × (h ≡ with_dequeued (length xs) g)
   Makes (DequeueMany xs ws) g h =
@@ -100,10 +112,16 @@ module _ {T : Type 0} where
   log_written i ws log =
       record { accepted = overwrite log.accepted (length log.left + i) ws; left = log.left }
 
+  -- the last that was accepted counts as never accepted
+  abbrev pub log_without_last : Log T → Log T
+  log_without_last log =
+      record { accepted = take (length log.accepted - 1) log.accepted; left = log.left }
+
   -- the log after a call
   abbrev pub log_after : RingCall T → Log T → Log T
   log_after Clear log = log_dropped log
   log_after (Reset storage) log = log_dropped log
+  log_after RewindIfEmpty log = log
   log_after (EnqueueSlice xs) log = log_accepted xs log
   log_after (EnqueueUnallocated xs) log = log_accepted xs log
   log_after (EnqueueMany xs) log = log_accepted xs log
@@ -112,6 +130,8 @@ module _ {T : Type 0} where
   log_after (EnqueueErr x) log = log
   log_after (GetUnallocated i ws) log = log
   log_after (WriteUnallocated i ws) log = log
+  log_after (WriteLastDequeued ws) log = log
+  log_after (PopBack x) log = log_without_last log
   log_after (Dequeue xs) log = log_left xs log
   log_after (DequeueMany xs ws) log = log_left xs log
   log_after (DequeueManyWith xs ws n) log = log_written 0 (drop n ws) (log_left (take n xs) log)

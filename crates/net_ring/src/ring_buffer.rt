@@ -1,12 +1,14 @@
 //! A ring of elements over storage that is lent or owned.
-ghost use Rattle.std.specs.Prelude.{◌≡◌, ◌≤◌, ◌<◌, ◌-◌, ◌+◌, ◌^◌, ◌==◌, ◌↔◌, length, [], min};
+ghost use Rattle.std.specs.Prelude.{◌≡◌, ◌≤◌, ◌<◌, ◌-◌, ◌+◌, ◌^◌, ◌==◌, ◌↔◌, length, []};
 ghost use Rattle.std.specs.Prelude.{IsTrue};
 ghost use Rattle.std.specs.List.{AllZip};
-ghost use Rattle.net_ring.specs.Ring.{ring, capacity, window, queue, spare, storage_index};
+ghost use Rattle.net_ring.specs.Ring.{ring, capacity, window, queue, spare};
 ghost use Rattle.net_ring.specs.Ring.{write_at, contiguous_window, from_start_if_empty};
 ghost use Rattle.net_ring.specs.Ring.{IsWellFormed};
+ghost use Rattle.net_ring.specs.Place.{place, IsSound, ring_at};
 
 use crate::managed::{ManagedSlice, Storage};
+use crate::place::Place;
 use crate::resettable::Resettable;
 pub use iter::Iter;
 use std::marker::{Model, PhantomData};
@@ -30,22 +32,8 @@ mod unallocated;
 #[derive(Debug)]
 pub struct RingOver<T, S: Storage<T>> {
     storage: S,
-    read_at: usize,
-    length: usize,
+    place: Place,
     elements: PhantomData<T>,
-}
-
-/// Elements of a ring from an offset on.
-///
-/// Those that are not contiguous with the first one are at the storage's beginning.
-#[derive(Clone, Copy)]
-struct Span {
-    /// The index of the first one in the storage.
-    from: usize,
-    /// How many there are.
-    count: usize,
-    /// How many of them are contiguous, from the first one on.
-    contiguous: usize,
 }
 
 /// A ring of elements over storage that is lent or owned.
@@ -72,8 +60,7 @@ impl<T, S: Storage<T> + Drop> Drop for RingOver<T, S> {
     fn drop(self) {
         let RingOver {
             storage,
-            read_at: _,
-            length: _,
+            place: _,
             elements: _,
         } = self;
         drop(storage);
@@ -133,10 +120,60 @@ impl<T, S: Storage<T>> RingOver<T, S> {
     {
         RingOver {
             storage,
-            read_at: 0,
-            length: 0,
+            place: Place {
+                read_at: 0,
+                length: 0,
+            },
             elements: PhantomData,
         }
+    }
+
+    /// Returns the ring of a storage and of the numbers of a ring, as [`into_parts`] returns them.
+    ///
+    /// smoltcp has no such call. [`Place::is_sound`] tells whether it may be made.
+    ///
+    /// # Requires
+    ///
+    /// The numbers are those of a ring of as many elements as the storage has.
+    ///
+    /// [`into_parts`]: RingOver::into_parts
+    pub fn from_parts(storage: S, place: Place) -> Self
+        requires sound { IsSound (length (S.elements storage)) place }
+        ensures ring { result ≡ ring_at (S.elements storage) place }
+    {
+        RingOver {
+            storage,
+            place,
+            elements: PhantomData,
+        }
+    }
+
+    /// Returns the ring's storage and its numbers, of which [`from_parts`] makes the same ring.
+    ///
+    /// smoltcp has no such call.
+    ///
+    /// [`from_parts`]: RingOver::from_parts
+    pub fn into_parts(self) -> (S, Place)
+        ensures ring { ring_at (S.elements result.0) result.1 ≡ self }
+        ensures sound { IsSound (length (S.elements result.0)) result.1 }
+    {
+        let RingOver {
+            storage,
+            place,
+            elements: _,
+        } = self;
+        (storage, place)
+    }
+
+    /// Returns the index where the ring is read, and how many elements are queued.
+    ///
+    /// smoltcp has no such call.
+    #[inline]
+    pub fn place(&self) -> Place
+        ensures place { result ≡ place self.now.read_at self.now.count }
+        ensures sound { IsSound (capacity self.now) result }
+    {
+        self.place
     }
 
     /// Empties the ring, and leaves the storage as it is.
@@ -144,8 +181,7 @@ impl<T, S: Storage<T>> RingOver<T, S> {
         ensures ring { self.new ≡ ring self.old.storage 0 0 }
         ensures parts { (queue self.new ≡ []) × (spare self.new ≡ self.old.storage) }
     {
-        self.read_at = 0;
-        self.length = 0;
+        self.place.clear();
     }
 
     /// Returns how many elements the ring has room for, queued ones included.
@@ -165,7 +201,7 @@ impl<T, S: Storage<T>> RingOver<T, S> {
         ensures queue { result ≡ length (queue self.now) }
         ensures within { result ≤ capacity self.now }
     {
-        self.length
+        self.place.length
     }
 
     /// Returns how many elements can still be enqueued.
@@ -187,14 +223,7 @@ impl<T, S: Storage<T>> RingOver<T, S> {
         ensures within { (result ≤ window self.now)
             × (write_at self.now + result ≤ capacity self.now) }
     {
-        // The spare part is after the queue, up to the storage's end, and before the queue. If the
-        // queue reaches that end, the spare part is contiguous.
-        let to_end = self.capacity() - self.read_at;
-        if self.length < to_end {
-            to_end - self.length
-        } else {
-            self.window()
-        }
+        self.place.contiguous_window(self.capacity())
     }
 
     /// Returns whether no element is queued.
@@ -219,57 +248,6 @@ impl<T, S: Storage<T>> RingOver<T, S> {
         self.len() >= self.capacity()
     }
 
-    /// Returns the index in the storage that is `offset` elements after the read index, wrapping at
-    /// the storage's end.
-    #[inline]
-    fn storage_index(&self, offset: usize) -> usize
-        requires { offset ≤ capacity self.now }
-        ensures index { result ≡ storage_index self.now offset }
-        ensures within { (result ≤ capacity self.now) × (capacity self.now < 2 ^ 64) }
-    {
-        let to_end = self.capacity() - self.read_at;
-        if offset < to_end {
-            self.read_at + offset
-        } else {
-            offset - to_end
-        }
-    }
-
-    /// Returns the index in the storage that is `count` elements after the read index, if these are
-    /// contiguous, wrapping at the storage's end. It is `storage_index`, with one comparison.
-    #[inline]
-    fn next_index(&self, count: usize) -> usize
-        requires { self.now.read_at + count ≤ capacity self.now }
-        ensures { result ≡ storage_index self.now count }
-    {
-        let capacity = self.capacity();
-        let next = self.read_at + count;
-        if next < capacity { next } else { 0 }
-    }
-
-    /// Returns, of the `available` elements that begin `start` elements after the read index, at
-    /// most `size` from the one at `offset` on; none if `offset` is past them.
-    #[inline]
-    fn span(&self, start: usize, available: usize, offset: usize, size: usize) -> Span
-        requires { start + available ≤ capacity self.now }
-        ensures from { result.from ≡ storage_index self.now (start + min offset available) }
-        ensures count { result.count ≡ min size (available - offset) }
-        ensures contiguous { result.contiguous
-            ≡ min result.count (capacity self.now - result.from) }
-        ensures within { (result.from ≤ capacity self.now) × (capacity self.now < 2 ^ 64) }
-    {
-        let capacity = self.capacity();
-        let offset = offset.min(available);
-        let from = self.storage_index(start + offset);
-        let count = size.min(available - offset);
-        let contiguous = count.min(capacity - from);
-        Span {
-            from,
-            count,
-            contiguous,
-        }
-    }
-
     /// Moves the read index of an empty ring to the storage's beginning: then all its free elements
     /// are contiguous. A ring with queued elements stays as it is.
     ///
@@ -282,9 +260,7 @@ impl<T, S: Storage<T>> RingOver<T, S> {
     {
         // Called only for its clause, by which `fits` is known.
         let _capacity = self.capacity();
-        if self.length == 0 {
-            self.read_at = 0;
-        }
+        self.place.rewind_if_empty();
     }
 }
 

@@ -6,7 +6,7 @@ ghost use Rattle.net_ring.specs.Ring.{ring, queue, queue_index, contiguous_queue
 ghost use Rattle.net_ring.specs.Ring.{contiguous_queued, contiguous_queue};
 ghost use Rattle.net_ring.specs.Ring.{window, with_dequeued, Dequeues, WritesQueue};
 
-use super::{RingOver, Span};
+use super::RingOver;
 use crate::managed::Storage;
 
 /// Elements of the queue, at an offset from the first one.
@@ -23,7 +23,7 @@ impl<T, S: Storage<T>> RingOver<T, S> {
         ensures within { (result ≤ size) × (result ≤ self.now.count - offset) }
         ensures not_empty { offset < self.now.count → 0 < size → 0 < result }
     {
-        self.span(0, self.length, offset, size).contiguous
+        self.place.queued(self.capacity(), offset, size).contiguous
     }
 
     /// Shows at most `size` elements of the queue from the one at `offset` on: as many as are
@@ -46,7 +46,7 @@ impl<T, S: Storage<T>> RingOver<T, S> {
         ensures stored { result.now
             ≡ take (length result.now) (drop (queue_index self.now offset) self.now.storage) }
     {
-        let span = self.span(0, self.length, offset, size);
+        let span = self.place.queued(self.capacity(), offset, size);
         self.storage.part(span.from, span.from + span.contiguous)
     }
 
@@ -75,11 +75,11 @@ impl<T, S: Storage<T>> RingOver<T, S> {
             (result.0.now ≡ take n (drop self.now.read_at self.now.storage))
             × (result.1.now ≡ take (self.now.count - n) self.now.storage) }
     {
-        let from = self.read_at;
-        let first = self.length.min(self.capacity() - from);
+        let from = self.place.read_at;
+        let first = self.place.contiguous_queue(self.capacity());
         (
             self.storage.part(from, from + first),
-            self.storage.part(0, self.length - first),
+            self.storage.part(0, self.place.length - first),
         )
     }
 
@@ -105,7 +105,7 @@ impl<T, S: Storage<T>> RingOver<T, S> {
             WritesQueue self.old offset ws
             (with_elements self.old (queue_index self.old offset) ws) }
     {
-        let span = self.span(0, self.length, offset, size);
+        let span = self.place.queued(self.capacity(), offset, size);
         self.storage
             .part_mut(span.from, span.from + span.contiguous)
     }
@@ -120,8 +120,8 @@ impl<T, S: Storage<T>> RingOver<T, S> {
     {
         // Called only for its clauses, by which the sum below does not wrap.
         let _capacity = self.capacity();
-        let from = self.read_at;
-        self.storage.part(from, from + self.length.min(1))
+        let from = self.place.read_at;
+        self.storage.part(from, from + self.place.length.min(1))
     }
 
     /// Dequeues `count` elements.
@@ -137,9 +137,7 @@ impl<T, S: Storage<T>> RingOver<T, S> {
         ensures dequeued { Dequeues self.old count (take count (queue self.old)) self.new }
         ensures room { window self.new ≡ window self.old + count }
     {
-        let next = self.storage_index(count);
-        self.read_at = next;
-        self.length -= count;
+        self.place.dequeue(self.storage.count(), count);
     }
 }
 
@@ -154,17 +152,8 @@ impl<T: Copy, S: Storage<T>> RingOver<T, S> {
             ≡ take result (drop offset (queue self.old)) ++ drop result «data».old }
         ensures unchanged { self.new ≡ self.old }
     {
-        let Span {
-            from,
-            count,
-            contiguous,
-        } = self.span(0, self.length, offset, data.len());
-        // The elements up to the storage's end.
-        data[..contiguous].copy_from_slice(self.storage.part(from, from + contiguous));
-        // The rest is at its beginning.
-        if contiguous < count {
-            data[contiguous..count].copy_from_slice(self.storage.part(0, count - contiguous));
-        }
-        count
+        let capacity = self.storage.count();
+        self.place
+            .read_allocated(self.storage.part(0, capacity), offset, data)
     }
 }

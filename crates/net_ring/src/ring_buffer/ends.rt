@@ -76,7 +76,7 @@ impl<T: Copy, S: Storage<T>> RingOver<T, S> {
         ensures ring { self.new ≡ ring self.old.storage self.old.read_at (self.old.count - 1) }
     {
         let last = *self.back()?;
-        self.length -= 1;
+        self.place.drop_last(1);
         Some(last)
     }
 }

@@ -34,8 +34,9 @@ pub fn rewinding_keeps_the_queue<T>()
 /// order, from an empty ring on, the elements that left, in order, followed by those that are still
 /// queued, are exactly the elements that were enqueued, in order. An element leaves with the value
 /// that is shown then, and this is the value last written to it while it was queued, by the call
-/// that enqueued it or through a loan. Elements that `clear` and `reset` drop count as never
-/// enqueued.
+/// that enqueued it or through a loan. Elements that `clear` and `reset` drop, and the one that
+/// `pop_back` takes off, count as never enqueued. Of `last_dequeued_mut` these are the calls that
+/// lend only free elements.
 pub fn elements_leave_in_turn<T>()
     ensures { (storage : List T) (calls : List (RingCall T)) (g : RingState T)
         → MakesAll calls (ring storage 0 0) g

@@ -32,10 +32,11 @@ impl<T, S: Storage<T>> RingOver<T, S> {
         ensures called { CalledOnSpare F.FnOnce f (from_start_if_empty self.old) result self.new }
     {
         self.rewind_if_empty();
-        let from = self.storage_index(self.length);
-        let to = from + self.contiguous_window();
+        let capacity = self.capacity();
+        let from = self.place.index(capacity, self.place.length);
+        let to = from + self.place.contiguous_window(capacity);
         let answer = f(self.storage.part_mut(from, to));
-        self.length += answer.0;
+        self.place.enqueue(capacity, answer.0);
         answer
     }
 
@@ -61,11 +62,8 @@ impl<T, S: Storage<T>> RingOver<T, S> {
             (ws : List T) → capacity (with_elements (with_enqueued k g) (write_at g) ws)
             ≡ capacity self.old }
     {
-        self.rewind_if_empty();
-        let count = size.min(self.contiguous_window());
-        let from = self.storage_index(self.length);
-        self.length += count;
-        self.storage.part_mut(from, from + count)
+        let span = self.place.put_contiguous(self.storage.count(), size);
+        self.storage.part_mut(span.from, span.from + span.count)
     }
 
     /// Calls `f` on the contiguous elements at the head of the queue, dequeues as many of them as
@@ -83,11 +81,11 @@ impl<T, S: Storage<T>> RingOver<T, S> {
             (contiguous_queued self.old) }
         ensures called { CalledOnQueue F.FnOnce f self.old result self.new }
     {
-        let from = self.read_at;
-        let to = from + self.length.min(self.capacity() - from);
+        let capacity = self.capacity();
+        let from = self.place.read_at;
+        let to = from + self.place.contiguous_queue(capacity);
         let answer = f(self.storage.part_mut(from, to));
-        self.read_at = self.next_index(answer.0);
-        self.length -= answer.0;
+        self.place.dequeue_contiguous(capacity, answer.0);
         answer
     }
 
@@ -111,10 +109,7 @@ impl<T, S: Storage<T>> RingOver<T, S> {
             (ws : List T) → capacity (with_elements (with_dequeued k self.old) self.old.read_at ws)
             ≡ capacity self.old }
     {
-        let from = self.read_at;
-        let count = size.min(self.length.min(self.capacity() - from));
-        self.read_at = self.next_index(count);
-        self.length -= count;
-        self.storage.part_mut(from, from + count)
+        let span = self.place.take_contiguous(self.storage.count(), size);
+        self.storage.part_mut(span.from, span.from + span.count)
     }
 }

@@ -38,10 +38,11 @@ impl<T, S: Storage<T>> RingOver<T, S> {
         if self.is_full() {
             return Err(Full);
         }
-        let at = self.storage_index(self.length);
+        let capacity = self.capacity();
+        let at = self.place.index(capacity, self.place.length);
         let answer = f(self.storage.element_mut(at));
         if answer.is_ok() {
-            self.length += 1;
+            self.place.enqueue(capacity, 1);
         }
         Ok(answer)
     }
@@ -82,8 +83,9 @@ impl<T, S: Storage<T>> RingOver<T, S> {
         ensures capacity { (w : T) → capacity (with_elements
             (with_enqueued 1 self.old) (write_at self.old) (w ∷ [])) ≡ capacity self.old }
     {
-        let at = self.storage_index(self.length);
-        self.length += 1;
+        let capacity = self.capacity();
+        let at = self.place.index(capacity, self.place.length);
+        self.place.enqueue(capacity, 1);
         self.storage.element_mut(at)
     }
 
@@ -111,12 +113,10 @@ impl<T, S: Storage<T>> RingOver<T, S> {
         if self.is_empty() {
             return Err(Empty);
         }
-        let at = self.read_at;
-        let next = self.next_index(1);
-        let answer = f(self.storage.element_mut(at));
+        let capacity = self.capacity();
+        let answer = f(self.storage.element_mut(self.place.read_at));
         if answer.is_ok() {
-            self.read_at = next;
-            self.length -= 1;
+            self.place.dequeue_contiguous(capacity, 1);
         }
         Ok(answer)
     }
@@ -164,9 +164,8 @@ impl<T, S: Storage<T>> RingOver<T, S> {
         ensures capacity { (w : T) → capacity (with_elements
             (with_dequeued 1 self.old) self.old.read_at (w ∷ [])) ≡ capacity self.old }
     {
-        let at = self.read_at;
-        self.read_at = self.next_index(1);
-        self.length -= 1;
+        let at = self.place.read_at;
+        self.place.dequeue_contiguous(self.storage.count(), 1);
         self.storage.element_mut(at)
     }
 }

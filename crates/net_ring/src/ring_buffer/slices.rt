@@ -29,10 +29,9 @@ impl<T: Copy, S: Storage<T>> RingOver<T, S> {
         ensures same { (self.new.count ≡ self.old.count + result)
             × (capacity self.new ≡ capacity self.old) }
     {
-        self.rewind_if_empty();
-        let count = self.write_unallocated(0, data);
-        self.enqueue_unallocated(count);
-        count
+        let capacity = self.storage.count();
+        self.place
+            .enqueue_slice(self.storage.part_mut(0, capacity), data)
     }
 
     /// Dequeues as many elements as `data` has room for and are queued, copies them to the beginning
@@ -52,8 +51,8 @@ impl<T: Copy, S: Storage<T>> RingOver<T, S> {
         ensures same { (self.new.count ≡ self.old.count - result)
             × (capacity self.new ≡ capacity self.old) }
     {
-        let count = self.read_allocated(0, data);
-        self.dequeue_allocated(count);
-        count
+        let capacity = self.storage.count();
+        self.place
+            .dequeue_slice(self.storage.part(0, capacity), data)
     }
 }

@@ -6,7 +6,7 @@ ghost use Rattle.net_ring.specs.Ring.{ring, capacity, window, spare, spare_index
 ghost use Rattle.net_ring.specs.Ring.{contiguous_window_from, with_elements, with_elements_wrapping};
 ghost use Rattle.net_ring.specs.Ring.{with_enqueued, last_dequeued_index, Enqueues, WritesSpare};
 
-use super::{RingOver, Span};
+use super::RingOver;
 use crate::managed::Storage;
 
 /// Free elements, at an offset from the first one.
@@ -23,8 +23,7 @@ impl<T, S: Storage<T>> RingOver<T, S> {
         ensures within { (result ≤ size) × (result ≤ window self.now - offset) }
         ensures not_empty { offset < window self.now → 0 < size → 0 < result }
     {
-        self.span(self.length, self.window(), offset, size)
-            .contiguous
+        self.place.free(self.capacity(), offset, size).contiguous
     }
 
     /// Lends at most `size` free elements from the one at `offset` on: as many as are contiguous.
@@ -54,7 +53,7 @@ impl<T, S: Storage<T>> RingOver<T, S> {
             WritesSpare self.old offset ws
             (with_elements self.old (spare_index self.old offset) ws) }
     {
-        let span = self.span(self.length, self.window(), offset, size);
+        let span = self.place.free(self.capacity(), offset, size);
         self.storage
             .part_mut(span.from, span.from + span.contiguous)
     }
@@ -79,11 +78,7 @@ impl<T, S: Storage<T>> RingOver<T, S> {
             WritesSpare self.old (window self.old - size) ws
             (with_elements self.old (last_dequeued_index self.old size) ws) }
     {
-        let from = if size <= self.read_at {
-            self.read_at - size
-        } else {
-            self.capacity() - (size - self.read_at)
-        };
+        let from = self.place.last_dequeued_index(self.capacity(), size);
         self.storage.part_mut(from, from + size)
     }
 
@@ -100,9 +95,7 @@ impl<T, S: Storage<T>> RingOver<T, S> {
         ensures enqueued { Enqueues self.old (take count (spare self.old)) self.new }
         ensures of_spare { spare self.new ≡ drop count (spare self.old) }
     {
-        // Called only for its clauses, by which the sum below does not wrap.
-        let _capacity = self.capacity();
-        self.length += count;
+        self.place.enqueue(self.storage.count(), count);
     }
 }
 
@@ -117,21 +110,8 @@ impl<T: Copy, S: Storage<T>> RingOver<T, S> {
         ensures written { WritesSpare self.old offset (take result «data».now) self.new }
         ensures same { (self.new.count ≡ self.old.count) × (capacity self.new ≡ capacity self.old) }
     {
-        let Span {
-            from,
-            count,
-            contiguous,
-        } = self.span(self.length, self.window(), offset, data.len());
-        // The elements up to the storage's end.
-        self.storage
-            .part_mut(from, from + contiguous)
-            .copy_from_slice(&data[..contiguous]);
-        // The rest wraps to its beginning.
-        if contiguous < count {
-            self.storage
-                .part_mut(0, count - contiguous)
-                .copy_from_slice(&data[contiguous..count]);
-        }
-        count
+        let capacity = self.storage.count();
+        self.place
+            .write_unallocated(self.storage.part_mut(0, capacity), offset, data)
     }
 }

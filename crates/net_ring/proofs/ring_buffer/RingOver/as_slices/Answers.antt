@@ -7,11 +7,11 @@ pub returns : goal.returns
 returns g c =
     let old = c.args.self.now in
     let is = c.self.view_is in
-    let n = c.min-first.result in
+    let n = c.contiguous_queue-first.result in
     let counts = ap (λ o. o.count) is in
     let at = ap (λ o. o.read_at) is in
-    let cut : n ≡ contiguous_queued old = omega (arith, counts, at) in
-    let parts = two_parts _ _ is c.self.invariant n c.self.inside.read_at _ _ cut at (omega arith) (omega (arith, counts))
+    let cut : n ≡ contiguous_queued old = omega (arith, counts, at, c.capacity.ensures.capacity) in
+    let parts = two_parts _ _ is c.self.invariant n c.self.inside.place.read_at _ _ cut at (omega arith) (omega (arith, counts))
     c.part.result.now c.part-2.result.now c.part.ensures c.part-2.ensures in
     record {
       queue = parts.queue;

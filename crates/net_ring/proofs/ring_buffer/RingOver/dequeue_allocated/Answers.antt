@@ -1,12 +1,15 @@
-use Rattle.std.proofs.Common.{ap, sym, subst, take, arith}
-use Rattle.net_ring.specs.Ring.{storage_index, queue, Dequeues}
-use Rattle.net_ring.proofs.RingFacts.{well, with_dequeued_is, with_dequeued_law}
+use Rattle.std.proofs.Common.{◌∙◌, refl, ap, sym, subst, take}
+use Rattle.net_ring.specs.Ring.{capacity, queue, Dequeues}
+use Rattle.net_ring.specs.Place.{ring_at}
+use Rattle.net_ring.proofs.RingFacts.{well, found, with_dequeued_is, with_dequeued_law}
 use Rattle.net_ring.proofs.ring_buffer.RingOver.dequeue_allocated.Goals as goal
 
 pub returns-clause-ring : goal.returns-clause-ring
 returns-clause-ring g c =
-    let at = ap (λ o. storage_index o c.args.count) c.self.view_is in
-    with_dequeued_is _ _ c.self.view_is c.self.invariant _ c.args.count _ (omega arith) (omega (arith, at))
+    let is = c.self.view_is in
+    let next = found _ _ is c.self.invariant c.count.result c.args.count _ (c.count.ensures ∙ ap capacity is) refl in
+    ap (ring_at (g.S.Storage.elements c.self.inside.storage)) c.dequeue.ensures.place
+    ∙ with_dequeued_is _ _ is c.self.invariant c.args.count c.args.count _ refl next
 
 pub returns-clause-dequeued : goal.returns-clause-dequeued
 returns-clause-dequeued g c =

@@ -1,6 +1,8 @@
-use Rattle.std.proofs.Common.{◌≡◌, ◌-◌, ◌∙◌, refl, ap, min, arith}
-use Rattle.net_ring.specs.Ring.{contiguous_queued, storage_index}
-use Rattle.net_ring.proofs.RingFacts.{well, left_off, shown_head, dequeued_law, contiguous_head_some}
+use Rattle.std.proofs.Common.{List, ◌≡◌, ◌∙◌, refl, ap, min, arith}
+use Rattle.net_ring.specs.Overwrite.{overwrite}
+use Rattle.net_ring.specs.Ring.{capacity, contiguous_queued}
+use Rattle.net_ring.specs.Place.{ring_at}
+use Rattle.net_ring.proofs.RingFacts.{well, found, left_off, shown_head, dequeued_law, contiguous_head_some}
 use Rattle.net_ring.proofs.Rotations.{length-overwrite}
 use Rattle.net_ring.proofs.ring_buffer.RingOver.dequeue_many.Goals as goal
 
@@ -8,13 +10,18 @@ pub returns : goal.returns
 returns g c =
     let old = c.args.self.now in
     let is = c.self.view_is in
-    let k = c.min-count.result in
-    let counts : min c.self.inside.length (c.capacity.result - c.self.inside.read_at) ≡ contiguous_queued old =
-    ap (λ n. min c.self.inside.length (n - c.self.inside.read_at)) c.capacity.ensures.capacity ∙ ap contiguous_queued is in
-    let count : k ≡ min c.args.size (contiguous_queued old) = omega (arith, counts) in
-    let next : c.next_index-self-inside.result ≡ storage_index old k = omega (arith, ap (λ o. storage_index o k) is) in
-    let lent = shown_head _ _ is c.self.invariant _ _ k (ap (λ o. o.read_at) is) (omega arith) (omega (arith, count)) _ c.part_mut.ensures.value in (
-      (refl, λ w. left_off _ _ is c.self.invariant k _ _ count next _ w (g.met.S.Storage.part_written c.self.inside.storage c.self.inside.read_at w)),
+    let span = c.take_contiguous-span.ensures in
+    let p = c.take_contiguous-span.result.from in
+    let k = c.take_contiguous-span.result.count in
+    let size = c.count.ensures ∙ ap capacity is in
+    let counts = ap (λ o. o.count) is in
+    let read = ap (λ o. o.read_at) is in
+    let count : k ≡ min c.args.size (contiguous_queued old) = omega (arith, span.count, size, counts, read) in
+    let next = found _ _ is c.self.invariant c.count.result k _ size refl in
+    let st : List _ → List _ = λ w. g.S.Storage.elements (g.S.Storage.with_part c.self.inside.storage p w) in
+    let left : (w : List _) → st w ≡ overwrite (g.S.Storage.elements c.self.inside.storage) c.self.inside.place.read_at w = λ w. g.met.S.Storage.part_written c.self.inside.storage p w ∙ ap (λ i. overwrite (g.S.Storage.elements c.self.inside.storage) i w) span.from in
+    let lent = shown_head _ _ is c.self.invariant _ _ k (span.from ∙ read) (omega arith) (omega (arith, count)) _ c.part_mut.ensures.value in (
+      (refl, λ w. ap (ring_at (st w)) span.place ∙ left_off _ _ is c.self.invariant k _ _ count next (st w) w (left w)),
       record {
         writes_back = tt;
         count = lent.0 ∙ count;

@@ -3,7 +3,7 @@ use denote.MutBor.{at_last}
 use Rattle.net_ring.specs.Ring.{RingState, with_dequeued, with_elements}
 use Rattle.net_ring.specs.Overwrite.{overwrite}
 use Rattle.net_ring.proofs.Rotations.{length-overwrite}
-use Rattle.net_ring.proofs.RingFacts.{well, queue_head, head_either, ring_is}
+use Rattle.net_ring.proofs.RingFacts.{well, found, queue_head, head_either, ring_is}
 use Rattle.net_ring.proofs.ring_buffer.RingOver.dequeue_one_with.Goals as goal
 use Rattle.net_ring.proofs.ring_buffer.RingOver.dequeue_one_with.Goals.{then-is_ok, else-is_ok}
 
@@ -22,8 +22,8 @@ some g c = search rules
 pub invariant_of-self : goal.invariant_of-self
 invariant_of-self g c =
     let s = c.self.inside.storage in
-    let long = ap length (g.met.S.Storage.element_written s c.self.inside.read_at c.f-answer.new.arg2)
-    ∙ length-overwrite (g.S.Storage.elements s) c.self.inside.read_at (c.f-answer.new.arg2 ∷ []) in
+    let long = ap length (g.met.S.Storage.element_written s c.self.inside.place.read_at c.f-answer.new.arg2)
+    ∙ length-overwrite (g.S.Storage.elements s) c.self.inside.place.read_at (c.f-answer.new.arg2 ∷ []) in
     let size = ap (λ o. length o.storage) c.self.view_is in
     let read = ap (λ o. o.read_at) c.self.view_is in
     let counts = ap (λ o. o.count) c.self.view_is in
@@ -32,8 +32,8 @@ invariant_of-self g c =
 pub invariant_of-self-else-is_ok : goal.invariant_of-self-else-is_ok
 invariant_of-self-else-is_ok g c =
     let s = c.self.inside.storage in
-    let long = ap length (g.met.S.Storage.element_written s c.self.inside.read_at c.f-answer.new.arg2)
-    ∙ length-overwrite (g.S.Storage.elements s) c.self.inside.read_at (c.f-answer.new.arg2 ∷ []) in
+    let long = ap length (g.met.S.Storage.element_written s c.self.inside.place.read_at c.f-answer.new.arg2)
+    ∙ length-overwrite (g.S.Storage.elements s) c.self.inside.place.read_at (c.f-answer.new.arg2 ∷ []) in
     grind (arith, long)
 
 pub returns-clause-called : goal.returns-clause-called
@@ -44,14 +44,15 @@ returns-clause-called g c =
     let x = c.element_mut.result.now in
     let y = c.f-answer.new.arg2 in
     let here = c.element_mut.ensures.value ∙ ap (λ o. slice_index_or o.storage o.read_at x) is in
-    let law = g.met.S.Storage.element_written c.self.inside.storage c.self.inside.read_at y in
+    let law = g.met.S.Storage.element_written c.self.inside.storage c.self.inside.place.read_at y in
     let read = ap (λ o. o.read_at) is in
     let counts = ap (λ o. o.count) is in
+    let next = found _ _ is c.self.invariant c.capacity-capacity.result 1 _ c.capacity-capacity.ensures.capacity refl in
     let stored = law ∙ ap (λ o. overwrite o.storage o.read_at (y ∷ [])) is in
     let after : Bool → RingState _ = λ t. with_elements (if t then with_dequeued 1 old else old) old.read_at (y ∷ []) in
     let left : c.if-is_ok.self ≡ with_elements (if is_ok c.f-answer.result then with_dequeued 1 old else old) old.read_at (y ∷ []) = elim c.if-is_ok.branch [
-      | then-is_ok w ↦ ring_is _ (after true) (ap (λ o. o.storage) w.self-is ∙ stored) (omega (arith, ap (λ o. o.read_at) w.self-is))
-          (omega (arith, ap (λ o. o.count) w.self-is, counts)) ∙ ap after (sym (sym c.is_ok.ensures.value ∙ w.if-is_ok.true))
+      | then-is_ok w ↦ ring_is _ (after true) (ap (λ o. o.storage) w.self-is ∙ stored) (ap (λ o. o.read_at) w.self-is ∙ ap (λ q. q.read_at) w.dequeue_contiguous.ensures.place ∙ next)
+          (omega (arith, ap (λ o. o.count) w.self-is ∙ ap (λ q. q.length) w.dequeue_contiguous.ensures.place, counts)) ∙ ap after (sym (sym c.is_ok.ensures.value ∙ w.if-is_ok.true))
       | else-is_ok w ↦ ring_is _ (after false) (ap (λ o. o.storage) w.self-is ∙ stored) (omega (arith, ap (λ o. o.read_at) w.self-is, read))
           (omega (arith, ap (λ o. o.count) w.self-is, counts)) ∙ ap after (sym (sym c.is_ok.ensures.value ∙ w.if-is_ok.false))
     ] in

@@ -1,20 +1,39 @@
-use Rattle.std.proofs.Common.{◌≡◌, ◌-◌, ◌++◌, length, take, min, ap, ◌∙◌, arith}
-use Rattle.std.proofs.lemmas.List.{length-take-le}
-use Rattle.net_ring.specs.Ring.{from_start_if_empty, window, with_enqueued}
-use Rattle.net_ring.proofs.RingFacts.{enqueue_clause, rewound_is}
+use Rattle.std.proofs.Common.{◌≡◌, ◌+◌, ◌++◌, length, take, min, sym, ap, subst, ◌∙◌}
+use Rattle.net_ring.specs.Ring.{IsWellFormed, Enqueues, capacity, window, queue, write_at}
+use Rattle.net_ring.specs.Ring.{from_start_if_empty, with_enqueued, with_elements_wrapping}
+use Rattle.net_ring.specs.Place.{ring_at}
+use Rattle.net_ring.proofs.PlaceFacts.{lent_whole}
 use Rattle.net_ring.proofs.ring_buffer.RingOver.enqueue_slice.Goals as goal
 
-pub returns-clause-enqueued : goal.returns-clause-enqueued
-returns-clause-enqueued g c =
-    let n = c.write_unallocated-count.result in
-    let bound : n ≡ min (length c.args.«data».now) (window (from_start_if_empty c.args.self.now) - 0) =
-    c.write_unallocated-count.ensures.count ∙ ap (λ o. min (length c.args.«data».now) (window o - 0)) c.rewind_if_empty.ensures.ring in
-    let counted : c.enqueue_unallocated.new.self ≡ with_enqueued n c.write_unallocated-count.new.self =
-    c.enqueue_unallocated.ensures.ring ∙ ap (λ k. with_enqueued k c.write_unallocated-count.new.self) (omega arith) in
-    enqueue_clause _ (from_start_if_empty c.args.self.now) _ _ (take n c.args.«data».now) n c.rewind_if_empty.ensures.ring
-    c.write_unallocated-count.ensures.written counted
-    (length-take-le n c.args.«data».now (omega (arith, bound))) (omega (arith, bound))
+pub invariant_of-self : goal.invariant_of-self
+invariant_of-self g c =
+    let s = c.self.inside.storage in
+    let ws = c.enqueue_slice.new.storage in
+    let all = lent_whole c.count-capacity.result (g.S.Storage.elements s) c.part_mut.result.now ws c.count-capacity.ensures c.part_mut.ensures.value
+    c.enqueue_slice.ensures.same.1 in
+    subst (λ l. IsWellFormed (ring_at l c.enqueue_slice.new.self)) (sym (g.met.S.Storage.part_written s 0 ws ∙ all.1)) c.enqueue_slice.ensures.sound
 
-pub returns-clause-queue : goal.returns-clause-queue
-returns-clause-queue g c = (returns-clause-enqueued g c).0
-    ∙ ap (λ l. l ++ take c.write_unallocated-count.result c.args.«data».now) (rewound_is c.args.self.now).0
+pub returns : goal.returns
+returns g c =
+    let s = c.self.inside.storage in
+    let p = c.self.inside.place in
+    let q = c.enqueue_slice.new.self in
+    let ws = c.enqueue_slice.new.storage in
+    let met = c.enqueue_slice.ensures in
+    let n = c.enqueue_slice.result in
+    let d = take n c.args.«data».now in
+    let all = lent_whole c.count-capacity.result (g.S.Storage.elements s) c.part_mut.result.now ws c.count-capacity.ensures c.part_mut.ensures.value met.same.1 in
+    let before : ring_at c.part_mut.result.now p ≡ c.args.self.now = ap (λ l. ring_at l p) all.0 ∙ c.self.view_is in
+    let new = ring_at (g.S.Storage.elements (g.S.Storage.with_part s 0 ws)) q in
+    let after : new ≡ ring_at ws q = ap (λ l. ring_at l q) (g.met.S.Storage.part_written s 0 ws ∙ all.1) in
+    record {
+      count = met.count ∙ ap (λ o. min (length c.args.«data».now) (window o)) before;
+      ring =
+          after ∙ met.ring
+          ∙ ap (λ o. with_enqueued n (with_elements_wrapping (from_start_if_empty o) (write_at (from_start_if_empty o)) d)) before;
+      enqueued =
+          subst (λ o. Enqueues (from_start_if_empty o) d new) before
+          (subst (Enqueues (from_start_if_empty (ring_at c.part_mut.result.now p)) d) (sym after) met.enqueued);
+      queue = ap queue after ∙ met.queue ∙ ap (λ o. queue o ++ d) before;
+      same = (met.same.0 ∙ ap (λ o. o.count + n) before, ap capacity after ∙ met.same.1 ∙ ap capacity before);
+    }

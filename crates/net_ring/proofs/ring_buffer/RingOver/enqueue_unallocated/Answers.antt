@@ -1,11 +1,14 @@
-use Rattle.std.proofs.Common.{ap, sym, subst, take, ◌∙◌, arith}
+use Rattle.std.proofs.Common.{ap, sym, subst, take, refl, ◌∙◌}
 use Rattle.net_ring.specs.Ring.{spare, Enqueues}
+use Rattle.net_ring.specs.Place.{ring_at}
 use Rattle.net_ring.proofs.Rotations.{with_enqueued_parts}
 use Rattle.net_ring.proofs.RingFacts.{well, with_enqueued_is, with_enqueued_law}
 use Rattle.net_ring.proofs.ring_buffer.RingOver.enqueue_unallocated.Goals as goal
 
 pub returns-clause-ring : goal.returns-clause-ring
-returns-clause-ring g c = with_enqueued_is _ _ c.self.view_is c.self.invariant _ c.args.count (omega arith)
+returns-clause-ring g c =
+    ap (ring_at (g.S.Storage.elements c.self.inside.storage)) c.enqueue.ensures.place
+    ∙ with_enqueued_is _ _ c.self.view_is c.self.invariant c.args.count c.args.count refl
 
 pub returns-clause-enqueued : goal.returns-clause-enqueued
 returns-clause-enqueued g c =

@@ -1,6 +1,6 @@
-use Rattle.std.proofs.Common.{◌≡◌, ◌∙◌, ◌+◌, min, refl, ap, arith}
-use Rattle.net_ring.specs.Ring.{capacity, queue, storage_index, queue_index, contiguous_queued_from}
-use Rattle.net_ring.proofs.RingFacts.{well, left_at, shown_in_queue, queue_part_law, first_in_queue}
+use Rattle.std.proofs.Common.{◌≡◌, ◌∙◌, refl, ap, arith}
+use Rattle.net_ring.specs.Ring.{capacity, queue, queue_index, contiguous_queued_from}
+use Rattle.net_ring.proofs.RingFacts.{well, found_queued, left_at, shown_in_queue, queue_part_law, first_in_queue}
 use Rattle.net_ring.proofs.RingParts.{each_of, end_of}
 use Rattle.net_ring.proofs.ring_buffer.RingOver.get_allocated_mut.Goals as goal
 
@@ -8,17 +8,15 @@ pub returns : goal.returns
 returns g c =
     let old = c.args.self.now in
     let is = c.self.view_is in
-    let span = c.span-span.ensures in
+    let span = c.queued-span.ensures in
     let counts = ap (λ o. o.count) is in
-    let size = ap (λ o. capacity o) is in
-    let at : c.span-span.result.from ≡ queue_index old c.args.offset = span.from
-    ∙ ap (λ o. storage_index o (0 + min c.args.offset c.self.inside.length)) is ∙ ap (storage_index old) (omega (arith, counts)) in
-    let count : c.span-span.result.contiguous ≡ contiguous_queued_from old c.args.offset c.args.size =
-    omega (arith, span.count, span.contiguous, at, counts, size) in
+    let at : c.queued-span.result.from ≡ queue_index old c.args.offset = found_queued _ _ is c.self.invariant c.capacity.result c.args.offset _ (c.capacity.ensures.capacity ∙ ap capacity is) span.from in
+    let count : c.queued-span.result.contiguous ≡ contiguous_queued_from old c.args.offset c.args.size =
+    omega (arith, span.count, span.contiguous, at, counts, c.capacity.ensures.capacity, ap capacity is) in
     let lent = shown_in_queue _ _ is c.self.invariant c.args.offset c.args.size _ _ at (omega (arith, count)) _ c.part_mut.ensures.value in
     let wf = well _ _ is c.self.invariant in
     let head_is = first_in_queue old wf c.args.offset c.args.size _ lent.0 lent.1 in (
-      (refl, λ w. left_at _ _ is c.self.invariant _ _ at _ w (g.met.S.Storage.part_written c.self.inside.storage c.span-span.result.from w)),
+      (refl, λ w. left_at _ _ is c.self.invariant _ _ at _ w (g.met.S.Storage.part_written c.self.inside.storage c.queued-span.result.from w)),
       record {
         writes_back = tt;
         count = lent.0;

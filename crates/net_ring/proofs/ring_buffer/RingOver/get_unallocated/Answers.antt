@@ -1,6 +1,6 @@
-use Rattle.std.proofs.Common.{◌≡◌, ◌∙◌, ◌+◌, min, refl, ap, arith}
-use Rattle.net_ring.specs.Ring.{capacity, spare, storage_index, spare_index, contiguous_window_from}
-use Rattle.net_ring.proofs.RingFacts.{well, left_at, shown_spare, spare_part_law, contiguous_free_some}
+use Rattle.std.proofs.Common.{◌≡◌, ◌∙◌, refl, ap, arith}
+use Rattle.net_ring.specs.Ring.{capacity, spare, spare_index, contiguous_window_from}
+use Rattle.net_ring.proofs.RingFacts.{well, found_free, left_at, shown_spare, spare_part_law, contiguous_free_some}
 use Rattle.net_ring.proofs.RingParts.{each_of, end_of}
 use Rattle.net_ring.proofs.ring_buffer.RingOver.get_unallocated.Goals as goal
 
@@ -8,16 +8,13 @@ pub returns : goal.returns
 returns g c =
     let old = c.args.self.now in
     let is = c.self.view_is in
-    let span = c.span-span.ensures in
+    let span = c.free-span.ensures in
     let counts = ap (λ o. o.count) is in
-    let size = ap (λ o. capacity o) is in
-    let at : c.span-span.result.from ≡ spare_index old c.args.offset = span.from
-    ∙ ap (λ o. storage_index o (c.self.inside.length + min c.args.offset c.window.result)) is
-    ∙ ap (storage_index old) (omega (arith, counts, size, c.window.ensures.window)) in
-    let count : c.span-span.result.contiguous ≡ contiguous_window_from old c.args.offset c.args.size =
-    omega (arith, span.count, span.contiguous, at, counts, size, c.window.ensures.window) in
+    let at : c.free-span.result.from ≡ spare_index old c.args.offset = found_free _ _ is c.self.invariant c.capacity.result c.args.offset _ (c.capacity.ensures.capacity ∙ ap capacity is) span.from in
+    let count : c.free-span.result.contiguous ≡ contiguous_window_from old c.args.offset c.args.size =
+    omega (arith, span.count, span.contiguous, at, counts, c.capacity.ensures.capacity, ap capacity is) in
     let lent = shown_spare _ _ is c.self.invariant c.args.offset c.args.size _ _ at (omega (arith, count)) _ c.part_mut.ensures.value in (
-      (refl, λ w. left_at _ _ is c.self.invariant _ _ at _ w (g.met.S.Storage.part_written c.self.inside.storage c.span-span.result.from w)),
+      (refl, λ w. left_at _ _ is c.self.invariant _ _ at _ w (g.met.S.Storage.part_written c.self.inside.storage c.free-span.result.from w)),
       record {
         writes_back = tt;
         count = lent.0;

@@ -1,8 +1,10 @@
-use Rattle.std.proofs.Common.{rules, ◌≡◌, ◌∙◌, ap, ◌-◌, take, drop, arith, ℕ, List, length}
-use Rattle.net_ring.specs.Ring.{RingState, capacity, storage_index, spare_index, with_elements_wrapping}
+use Rattle.std.proofs.Common.{◌≡◌, ◌∙◌, ap, ◌-◌, take, drop, ℕ, List, length, min}
+use Rattle.net_ring.specs.Ring.{RingState, capacity, window, spare_index, with_elements_wrapping}
+use Rattle.net_ring.specs.Place.{ring_at}
 use Rattle.net_ring.specs.Overwrite.{overwrite}
 use Rattle.net_ring.proofs.Rotations.{length-overwrite}
-use Rattle.net_ring.proofs.RingFacts.{wrapping_clause, once_clause, ahead_clause, once_wf, twice_wf}
+use Rattle.net_ring.proofs.RingFacts.{ahead_clause, once_wf}
+use Rattle.net_ring.proofs.PlaceFacts.{lent_whole}
 use Rattle.net_ring.proofs.ring_buffer.RingOver.write_unallocated.Goals as goal
 
 -- what is written changes neither the count nor the capacity
@@ -15,69 +17,29 @@ same_after g h p ws e = (
 
 pub invariant_of-self : goal.invariant_of-self
 invariant_of-self g c =
-    let law = g.met.S.Storage.part_written in
-    let a = c.copy_from_slice.new.self in
-    let b = c.copy_from_slice-then-contiguous-count.new.self in
-    let one = g.S.Storage.with_part c.self.inside.storage c.span-from.result.from a in
-    let two = law one 0 b ∙ ap (λ l. overwrite l 0 b) (law c.self.inside.storage c.span-from.result.from a) in
-    twice_wf _ _ c.self.view_is c.self.invariant c.span-from.result.from 0 a b _ two
+    once_wf _ _ c.self.view_is c.self.invariant 0 c.write_unallocated.new.storage _
+    (g.met.S.Storage.part_written c.self.inside.storage 0 c.write_unallocated.new.storage)
 
-pub returns-then-contiguous-count-clause-ring : goal.returns-then-contiguous-count-clause-ring
-returns-then-contiguous-count-clause-ring g c =
-    let law = g.met.S.Storage.part_written in
-    let a = c.copy_from_slice.new.self in
-    let b = c.copy_from_slice-then-contiguous-count.new.self in
-    let one = g.S.Storage.with_part c.self.inside.storage c.span-from.result.from a in
-    let two = law one 0 b ∙ ap (λ l. overwrite l 0 b) (law c.self.inside.storage c.span-from.result.from a) in
-    let span = c.span-from.ensures in
-    let room = c.window.ensures.window in
-    let counts = ap (λ o. o.count) c.self.view_is in
-    let at : c.span-from.result.from ≡ spare_index c.args.self.now c.args.offset =
-    span.from ∙ ap (storage_index c.args.self.now) (omega (arith, counts, room)) in
-    let rest : b ≡ take (c.span-from.result.count - c.span-from.result.contiguous) (drop c.span-from.result.contiguous c.args.«data».now) = search rules in
-    wrapping_clause _ _ c.self.view_is c.self.invariant c.args.offset c.span-from.result.count c.span-from.result.from
-    c.span-from.result.contiguous c.args.«data».now _ _ _
-    (omega (arith, span.count, room)) at span.contiguous c.copy_from_slice.ensures.after rest two
+pub returns-clause-ring : goal.returns-clause-ring
+returns-clause-ring g c =
+    let xs = g.S.Storage.elements c.self.inside.storage in
+    let ws = c.write_unallocated.new.storage in
+    let all = lent_whole c.count-capacity.result xs c.part_mut.result.now ws c.count-capacity.ensures c.part_mut.ensures.value c.write_unallocated.ensures.size in
+    let place = c.self.inside.place in
+    ap (λ l. ring_at l place) (g.met.S.Storage.part_written c.self.inside.storage 0 ws ∙ all.1)
+    ∙ c.write_unallocated.ensures.ring
+    ∙ ap (λ o. with_elements_wrapping o (spare_index o c.args.offset) (take c.write_unallocated.result c.args.«data».now))
+    (ap (λ l. ring_at l place) all.0 ∙ c.self.view_is)
 
-pub returns-then-contiguous-count-clause-written : goal.returns-then-contiguous-count-clause-written
-returns-then-contiguous-count-clause-written g c =
-    ahead_clause _ _ c.self.view_is c.self.invariant c.args.offset c.span-from.result.count c.args.«data».now _
-    (omega (arith, c.span-from.ensures.count, c.window.ensures.window)) (returns-then-contiguous-count-clause-ring g c)
+pub returns-clause-written : goal.returns-clause-written
+returns-clause-written g c =
+    let all = lent_whole c.count-capacity.result (g.S.Storage.elements c.self.inside.storage) c.part_mut.result.now c.write_unallocated.new.storage
+    c.count-capacity.ensures c.part_mut.ensures.value c.write_unallocated.ensures.size in
+    let count = c.write_unallocated.ensures.count ∙ ap (λ o. min (length c.args.«data».now) (window o - c.args.offset))
+    (ap (λ l. ring_at l c.self.inside.place) all.0 ∙ c.self.view_is) in
+    ahead_clause _ _ c.self.view_is c.self.invariant c.args.offset c.write_unallocated.result c.args.«data».now _ count (returns-clause-ring g c)
 
-pub returns-else-contiguous-count-clause-ring : goal.returns-else-contiguous-count-clause-ring
-returns-else-contiguous-count-clause-ring g c =
-    let span = c.span-from.ensures in
-    let room = c.window.ensures.window in
-    let counts = ap (λ o. o.count) c.self.view_is in
-    let at : c.span-from.result.from ≡ spare_index c.args.self.now c.args.offset =
-    span.from ∙ ap (storage_index c.args.self.now) (omega (arith, counts, room)) in
-    once_clause _ _ c.self.view_is c.self.invariant c.args.offset c.span-from.result.count c.span-from.result.from c.span-from.result.contiguous
-    c.args.«data».now _ _
-    (omega (arith, span.count, room)) at span.contiguous c.if-contiguous-count.false c.copy_from_slice.ensures.after
-    (g.met.S.Storage.part_written c.self.inside.storage c.span-from.result.from c.copy_from_slice.new.self)
-
-pub returns-else-contiguous-count-clause-written : goal.returns-else-contiguous-count-clause-written
-returns-else-contiguous-count-clause-written g c =
-    ahead_clause _ _ c.self.view_is c.self.invariant c.args.offset c.span-from.result.count c.args.«data».now _
-    (omega (arith, c.span-from.ensures.count, c.window.ensures.window)) (returns-else-contiguous-count-clause-ring g c)
-
-pub invariant_of-self-else-contiguous-count : goal.invariant_of-self-else-contiguous-count
-invariant_of-self-else-contiguous-count g c =
-    once_wf _ _ c.self.view_is c.self.invariant c.span-from.result.from c.copy_from_slice.new.self _
-    (g.met.S.Storage.part_written c.self.inside.storage c.span-from.result.from c.copy_from_slice.new.self)
-
-pub returns-then-contiguous-count-clause-count : goal.returns-then-contiguous-count-clause-count
-returns-then-contiguous-count-clause-count g c = omega (arith, c.span-from.ensures.count, c.window.ensures.window)
-
-pub returns-else-contiguous-count-clause-count : goal.returns-else-contiguous-count-clause-count
-returns-else-contiguous-count-clause-count g c = omega (arith, c.span-from.ensures.count, c.window.ensures.window)
-
-pub returns-then-contiguous-count-clause-same : goal.returns-then-contiguous-count-clause-same
-returns-then-contiguous-count-clause-same g c =
-    same_after c.args.self.now _ (spare_index c.args.self.now c.args.offset) (take c.span-from.result.count c.args.«data».now)
-    (returns-then-contiguous-count-clause-ring g c)
-
-pub returns-else-contiguous-count-clause-same : goal.returns-else-contiguous-count-clause-same
-returns-else-contiguous-count-clause-same g c =
-    same_after c.args.self.now _ (spare_index c.args.self.now c.args.offset) (take c.span-from.result.count c.args.«data».now)
-    (returns-else-contiguous-count-clause-ring g c)
+pub returns-clause-same : goal.returns-clause-same
+returns-clause-same g c =
+    same_after c.args.self.now _ (spare_index c.args.self.now c.args.offset) (take c.write_unallocated.result c.args.«data».now)
+    (returns-clause-ring g c)
