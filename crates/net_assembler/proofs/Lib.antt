@@ -2,7 +2,7 @@ pub mod Positions
 pub mod Runs
 pub mod RunLists
 pub mod ShiftedRuns
-pub mod SortedRuns
+pub mod Heads
 pub mod Moves
 pub mod AssemblerText
 pub mod MaximalRuns

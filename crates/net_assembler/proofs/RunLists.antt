@@ -4,7 +4,7 @@ use Rattle.std.proofs.Common.{◌||◌, ◌==◌, List, [], ◌∷◌, ◌++◌,
 use Rattle.std.proofs.Common.{sym, ap, subst, ◌∙◌, arith, ◌≢◌}
 use Rattle.std.proofs.Math.Nat.{pow-suc}
 use Rattle.std.proofs.Math.Seq.{take-set-lt}
-use Rattle.std.proofs.lemmas.List.{get_or-drop, drop_all, append_assoc, length-append, length-take-le}
+use Rattle.std.proofs.lemmas.List.{get_or-drop, get_or_read_under, drop_all, append_assoc, length-append, length-take-le}
 use Rattle.std.proofs.lemmas.List.{length-drop, take_more_set, drop-set-lt, take-append-drop, take-take, get_or-take}
 use Rattle.std.proofs.lemmas.Bool.{cases_lt, cases_eq, eq-eqb, ne_eqb, lt-ltb, le-ltb}
 use Rattle.std.proofs.lemmas.Bool.Decides.{nat_tests}
@@ -16,6 +16,10 @@ use Rattle.net_assembler.proofs.Runs.{in_runs, in_first, past_first, not_in_runs
 use Rattle.net_assembler.proofs.Runs.{step_behind, step_meets, rising-runs_with_range, front-set_of_runs}
 use Rattle.net_assembler.proofs.Runs.{set_of_runs_injective, or_false, set-without_front, rising-runs_shifted_down}
 use Rattle.net_assembler.proofs.Runs.{runs-set_of_runs, set-runs_with_range}
+
+-- what is read at an index, where no default is given
+pub read : (xs : List (ℕ × ℕ)) (k : ℕ) (r : ℕ × ℕ) → k < length xs → r ≡ get_or xs k r → r ≡ get_or xs k (0, 0)
+read xs k r l is = get_or_read_under xs k (length xs) r (0, 0) is l refl
 
 -- what rising runs say of the run k
 pub at_run : (low : ℕ) (rs : List (ℕ × ℕ)) (k : ℕ) → IsRising low rs → k < length rs → (low ≤ start_at rs k) × (start_at rs k < end_at rs k)

@@ -3,7 +3,8 @@
 --     run_positions rs, set_of_runs rs      their positions, as a list and as a set
 --     runs_with_range rs lo hi, JoinsRange rs old new start end result      runs with a range
 --     runs_shifted_down m rs, StartsAtZero rs, FitsFrom n rs      how runs are counted
---     pairs_of h, runs_of h, set_of h, HasSoundPairs h      what the fields of an assembler represent
+--     used_runs head rs, runs_of head rs, set_of head rs      what a head and runs represent
+--     HasSoundRuns head rs      that they are those of an assembler
 --     contig_text c      a hole and the data after it, as text
 use Rattle.std.specs.Prelude.{◌≡◌, ℕ, ◌+◌, ◌-◌, ◌<◌, ◌≤◌, ◌^◌, List, [], ◌∷◌, ◌++◌, length, take, map}
 use Rattle.std.specs.Prelude.{flat_map, get_or, cond, nat_lt, min, max, Result, MatchResult}
@@ -12,8 +13,8 @@ use Rattle.std.specs.List.{range_with_len}
 use Rattle.net_assembler.specs.Assembler.{hole_text}
 use Rattle.net_assembler.specs.Positions.{Positions, set_of_list, runs_shifted_up}
 use Rattle.net_assembler.specs.declared.assembler.display.Contig.{Contig}
+use Rattle.net_assembler.specs.declared.assembler.head.AssemblerHead.{AssemblerHead}
 use Rattle.net_assembler.specs.declared.assembler.error.TooManyHolesError.{TooManyHolesError}
-use Rattle.net_assembler.specs.declared.assembler.sorted_runs.SortedRuns.{SortedRuns}
 
 -- where the run k starts
 abbrev pub start_at : List (ℕ × ℕ) → ℕ → ℕ
@@ -69,25 +70,26 @@ abbrev pub FitsFrom : ℕ → List (ℕ × ℕ) → Type 0
 FitsFrom n [] = Unit {0}
 FitsFrom n (r ∷ rs) = (n + r.1 < 2 ^ 64) × FitsFrom n rs
 
--- the runs of an assembler, counted from where the first of them starts
-abbrev pub pairs_of : {n : ℕ} → SortedRuns n → List (ℕ × ℕ)
-pairs_of h = take h.used h.pairs
+-- the runs of an assembler, counted from where the first of them starts: the rest of the list isn't
+-- read
+abbrev pub used_runs : AssemblerHead → List (ℕ × ℕ) → List (ℕ × ℕ)
+used_runs head rs = take head.used rs
 
--- the runs of an assembler
-abbrev pub runs_of : {n : ℕ} → SortedRuns n → List (ℕ × ℕ)
-runs_of h = runs_shifted_up h.first_start (pairs_of h)
+-- its runs, counted from 0
+abbrev pub runs_of : AssemblerHead → List (ℕ × ℕ) → List (ℕ × ℕ)
+runs_of head rs = runs_shifted_up head.first_start (used_runs head rs)
 
--- and their set
-abbrev pub set_of : {n : ℕ} → SortedRuns n → Positions
-set_of h = set_of_runs (runs_of h)
+-- and their set, which is what the assembler represents
+abbrev pub set_of : AssemblerHead → List (ℕ × ℕ) → Positions
+set_of head rs = set_of_runs (runs_of head rs)
 
--- the used pairs are runs, at most n of them, counted from where the first of them starts
-pub record HasSoundPairs {n : ℕ} (h : SortedRuns n) : Type 0 where
-  pub room : h.used ≤ n
-  pub capacity : length h.pairs ≡ n
-  pub runs : AreRuns (pairs_of h)
-  pub first : StartsAtZero (pairs_of h)
-  pub fits : FitsFrom h.first_start (pairs_of h)
+-- a head and runs are those of an assembler: the used ones are runs, counted from where the first of
+-- them starts
+pub record HasSoundRuns (head : AssemblerHead) (rs : List (ℕ × ℕ)) : Type 0 where
+  pub room : head.used ≤ length rs
+  pub runs : AreRuns (used_runs head rs)
+  pub first : StartsAtZero (used_runs head rs)
+  pub fits : FitsFrom head.first_start (used_runs head rs)
 
 -- a hole in parentheses, if there is one, and the data after it
 abbrev pub contig_text : Contig → List ℕ

@@ -5,21 +5,27 @@ ghost use Rattle.std.specs.List.{slice_get};
 ghost use Rattle.net_assembler.specs.Assembler.{MakesTooManyRuns};
 ghost use Rattle.net_assembler.specs.Positions.{RangeFits, contains, nothing, front, runs};
 ghost use Rattle.net_assembler.specs.Positions.{with_range, shift_down, maximal_runs};
+ghost use Rattle.net_assembler.specs.Positions.{runs as run_count};
+ghost use Rattle.net_assembler.specs.RunLists.{set_of, HasSoundRuns};
 ghost use Rattle.net_assembler.specs.Turns.{TurnsWithin, binary_digits};
 
 mod display;
 mod error;
+mod head;
 mod iter;
 mod joins;
 pub mod laws;
 mod moves;
+mod run;
 mod search;
-mod sorted_runs;
+mod slice;
 mod turns;
 
 pub use error::TooManyHolesError;
-pub use iter::IterData;
-use sorted_runs::SortedRuns;
+pub use head::AssemblerHead;
+pub use iter::{IterData, RunIter};
+pub use run::Run;
+pub use slice::SliceAssembler;
 use std::alloc::AllocError;
 use std::marker::Model;
 pub use turns::Turns;
@@ -34,7 +40,10 @@ pub use turns::Turns;
 /// other present position touches. Two assemblers are equal exactly if their sets are.
 #[derive(Debug, Drop)]
 pub struct Assembler<const N: usize> {
-    runs: SortedRuns<N>,
+    // The head precedes the runs: so close to the value's beginning, its numbers are read by short
+    // instructions.
+    head: AssemblerHead,
+    runs: [Run; N],
 }
 
 impl<const N: usize> Model for Assembler<N> {
@@ -46,11 +55,12 @@ impl<const N: usize> Model for Assembler<N> {
 
     ghost coded = { set.code coded_ℕ };
 
-    ghost use Rattle.net_assembler.specs.RunLists.{set_of, HasSoundPairs};
+    ghost use Rattle.std.specs.Prelude.{◌≡◌, length};
+    ghost use Rattle.net_assembler.specs.RunLists.{set_of, HasSoundRuns};
 
-    ghost view = { λ a. set_of a.runs };
+    ghost view = { λ a. set_of a.head a.runs };
 
-    ghost invariant = { λ a. HasSoundPairs a.runs };
+    ghost invariant = { λ a. HasSoundRuns a.head a.runs × (length a.runs ≡ N) };
 }
 
 impl<const N: usize> Assembler<N> {
@@ -75,8 +85,41 @@ impl<const N: usize> Assembler<N> {
         ensures bound { runs result ≤ N }
     {
         Assembler {
-            runs: SortedRuns::new(),
+            head: AssemblerHead::new(),
+            runs: [Run { start: 0, end: 0 }; N],
         }
+    }
+
+    /// Returns the assembler that a head and runs represent. smoltcp has no such call.
+    ///
+    /// # Requires
+    ///
+    /// The head is sound with the runs, as `AssemblerHead::is_sound` tests.
+    pub fn from_parts(head: AssemblerHead, runs: [Run; N]) -> Self
+        requires { HasSoundRuns head runs }
+        ensures set { result ≡ set_of head runs.entry }
+        ensures bound { run_count result ≤ N }
+    {
+        Assembler { head, runs }
+    }
+
+    /// Returns the head and the runs, which represent the set. smoltcp has no such call.
+    pub fn into_parts(self) -> (AssemblerHead, [Run; N])
+        ensures sound { HasSoundRuns result.0 result.1 }
+        ensures set { set_of result.0 result.1 ≡ self.entry }
+        ensures length { length result.1 ≡ N }
+    {
+        let Assembler { head, runs } = self;
+        (head, runs)
+    }
+
+    /// Returns what `into_parts` does, with the runs as a slice. smoltcp has no such call.
+    pub fn parts(&self) -> (AssemblerHead, &[Run])
+        ensures sound { HasSoundRuns result.0 result.1.now }
+        ensures set { set_of result.0 result.1.now ≡ self.now }
+        ensures length { length result.1.now ≡ N }
+    {
+        (self.head, &self.runs)
     }
 
     /// Removes every position.
@@ -85,7 +128,7 @@ impl<const N: usize> Assembler<N> {
         ensures no_run { runs self.new ≡ 0 }
         ensures bound { runs self.new ≤ N }
     {
-        self.runs.clear();
+        self.head.clear();
     }
 
     /// Returns the length of the run at position 0, or 0 if position 0 is missing.
@@ -99,14 +142,14 @@ impl<const N: usize> Assembler<N> {
     pub fn peek_front(&self) -> usize
         ensures { result ≡ front self.now }
     {
-        self.runs.front()
+        self.head.peek_front(&self.runs)
     }
 
     /// Returns whether no position is present.
     pub fn is_empty(&self) -> bool
         ensures { IsTrue result ↔ (self.now ≡ nothing) }
     {
-        self.runs.is_empty()
+        self.head.is_empty()
     }
 
     /// Returns whether `offset + size` fits `usize`, which all calls that add a range require.
@@ -174,7 +217,7 @@ impl<const N: usize> Assembler<N> {
         ensures no_look_lost { turns.old.0 ≤ turns.new.0 }
         ensures no_move_lost { turns.old.1 ≤ turns.new.1 }
     {
-        self.runs.add(offset, size, turns)
+        self.head.add(&mut self.runs, offset, size, turns)
     }
 
     /// Removes the run at position 0, counts all later positions from its end, and returns its
@@ -209,7 +252,7 @@ impl<const N: usize> Assembler<N> {
         ensures turns { TurnsWithin 0 N turns.old turns.new }
         ensures waiting { runs self.new ≡ runs self.old → turns.new ≡ turns.old }
     {
-        self.runs.remove_front(turns)
+        self.head.remove_front(&mut self.runs, turns)
     }
 
     /// Adds a range as `add` does, and then removes the front as `remove_front` does.
@@ -270,18 +313,8 @@ impl<const N: usize> Assembler<N> {
         ensures turns { TurnsWithin (2 * binary_digits N) (2 * N) turns.old turns.new }
         ensures waiting { offset ≡ 0 → runs self.new ≡ runs self.old → turns.new ≡ turns.old }
     {
-        if offset == 0 {
-            return Ok(self.runs.complete_front(size, turns));
-        }
-        // Position 0 is missing and stays missing, so nothing is removed. This is the case of most
-        // data that arrives too early; one comparison tells it, and that the range doesn't begin
-        // before the runs.
-        if self.runs.waits_before(offset) {
-            self.add_counted(offset, size, turns)?;
-            return Ok(0);
-        }
-        self.add_counted(offset, size, turns)?;
-        Ok(self.remove_front_counted(turns))
+        let runs = &mut self.runs;
+        self.head.add_then_remove_front(runs, offset, size, turns)
     }
 
     /// Returns the maximal run with number `k`, counted from 0 in rising order, as (start, end),
@@ -293,14 +326,14 @@ impl<const N: usize> Assembler<N> {
         ensures run { result ≡ slice_get (maximal_runs self.now) k }
         ensures some { IfSome result (λ r. r.0 < r.1) }
     {
-        self.runs.run_at(k)
+        self.head.run_at(&self.runs, k)
     }
 
     /// Returns whether `position` is present. smoltcp has no such call.
     pub fn contains(&self, position: usize) -> bool
         ensures { result ≡ contains self.now position }
     {
-        self.runs.contains(position)
+        self.head.contains(&self.runs, position)
     }
 
     /// Returns the maximal runs as (start, end), the end not included, in rising order.
@@ -310,7 +343,7 @@ impl<const N: usize> Assembler<N> {
         ensures runs { result ≡ maximal_runs self.now }
         ensures bound { length result ≤ N }
     {
-        self.runs.iter()
+        self.head.iter_data(&self.runs)
     }
 }
 
@@ -327,7 +360,7 @@ impl<const N: usize> PartialEq for Assembler<N> {
         ensures test { result ≡ are_same self.now other.now }
         ensures same { IsTrue result ↔ (self.now ≡ other.now) }
     {
-        self.runs.is_same(&other.runs)
+        self.head.is_same(&self.runs, &other.head, &other.runs)
     }
 }
 
@@ -348,6 +381,9 @@ impl<const N: usize> Clone for Assembler<N> {
     ghost is_infallible = { λ _. ⊤ };
 
     fn clone(&self) -> Result<Self, AllocError> {
-        Ok(Assembler { runs: self.runs })
+        Ok(Assembler {
+            head: self.head,
+            runs: self.runs,
+        })
     }
 }

@@ -4,4 +4,6 @@
 pub mod assembler;
 pub mod laws;
 
-pub use assembler::{Assembler, IterData, TooManyHolesError, Turns};
+pub use assembler::{
+    Assembler, AssemblerHead, IterData, Run, RunIter, SliceAssembler, TooManyHolesError, Turns,
+};

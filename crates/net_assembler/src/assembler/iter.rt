@@ -3,19 +3,22 @@ ghost use Rattle.std.specs.Prelude.{◌≡◌};
 ghost use Rattle.net_assembler.specs.RunLists.{AreRuns, FitsFrom};
 ghost use Rattle.net_assembler.specs.Positions.{runs_shifted_up};
 
+use super::run::Run;
 use std::marker::Model;
 
-/// An iterator over the maximal runs of an assembler, made by `Assembler::iter_data`.
+/// An iterator over the maximal runs of an assembler, made by `iter_data`.
 ///
-/// It yields (start, end) of each run in rising order, the end not included, at most `N` of them,
-/// and then ends.
+/// It yields (start, end) of each run in rising order, the end not included, and then ends.
 #[derive(Drop)]
-pub struct IterData<'a, const N: usize> {
-    rest: &'a [(usize, usize)],
+pub struct RunIter<'a> {
+    rest: &'a [Run],
     first_start: usize,
 }
 
-impl<'a, const N: usize> Model for IterData<'a, N> {
+/// The iterator of an `Assembler<N>`, which yields at most `N` runs.
+pub type IterData<'a, const N: usize> = RunIter<'a>;
+
+impl<'a> Model for RunIter<'a> {
     ghost use Rattle.std.specs.Prelude.{List, ℕ};
 
     ghost Value = { List (ℕ × ℕ) };
@@ -28,21 +31,21 @@ impl<'a, const N: usize> Model for IterData<'a, N> {
     ghost invariant = { λ s. AreRuns s.rest.now × FitsFrom s.first_start s.rest.now };
 }
 
-impl<'a, const N: usize> IterData<'a, N> {
-    /// Returns these pairs as runs, counted from `first_start`.
-    pub(crate) fn over(pairs: &'a [(usize, usize)], first_start: usize) -> Self
-        requires runs { AreRuns pairs.now }
-        requires fits { FitsFrom first_start pairs.now }
-        ensures { result ≡ runs_shifted_up first_start pairs.now }
+impl<'a> RunIter<'a> {
+    /// Returns these runs, counted from `first_start`.
+    pub(crate) fn over(runs: &'a [Run], first_start: usize) -> Self
+        requires runs { AreRuns runs.now }
+        requires fits { FitsFrom first_start runs.now }
+        ensures { result ≡ runs_shifted_up first_start runs.now }
     {
-        IterData {
-            rest: pairs,
+        RunIter {
+            rest: runs,
             first_start,
         }
     }
 }
 
-impl<'a, const N: usize> Iterator for IterData<'a, N> {
+impl<'a> Iterator for RunIter<'a> {
     ghost use Rattle.std.specs.Iterator.{YieldsFirst, item_count};
 
     type Item = (usize, usize);
@@ -52,8 +55,8 @@ impl<'a, const N: usize> Iterator for IterData<'a, N> {
     ghost remaining = { item_count (λ s. s) };
 
     fn next(&mut self) -> Option<(usize, usize)> {
-        let (&(start, end), rest) = self.rest.split_first()?;
+        let (run, rest) = self.rest.split_first()?;
         self.rest = rest;
-        Some((self.first_start + start, self.first_start + end))
+        Some((self.first_start + run.start, self.first_start + run.end))
     }
 }

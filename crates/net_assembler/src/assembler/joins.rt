@@ -1,6 +1,6 @@
 //! How a range joins sorted runs.
 //!
-//! The first `used` pairs of an array are the runs, counted from where the first of them starts:
+//! The first `used` entries of an array are the runs, counted from where the first of them starts:
 //! they rise, with a hole between neighbours, and the rest of the array isn't read.
 ghost use Rattle.std.specs.Prelude.{◌≡◌, ℕ, ◌+◌, ◌-◌, ◌*◌, ◌<◌, ◌≤◌, ◌^◌, length, take};
 ghost use Rattle.net_assembler.specs.Positions.{runs_shifted_up};
@@ -9,7 +9,8 @@ ghost use Rattle.net_assembler.specs.RunLists.{runs_with_range, start_at};
 ghost use Rattle.net_assembler.specs.Turns.{TurnsWithin, binary_digits};
 
 use super::TooManyHolesError;
-use super::moves::{insert_pair, prepend_pair, remove_pairs, shift_pairs_up};
+use super::moves::{insert_run, prepend_run, remove_runs, shift_runs_up};
+use super::run::{Run, end_of, start_of};
 use super::search::{runs_ending_before, runs_starting_by};
 use super::turns::Turns;
 
@@ -19,65 +20,70 @@ use super::turns::Turns;
 /// only the last run meets.
 #[inline(always)]
 pub(crate) fn join_range(
-    pairs: &mut [(usize, usize)],
+    runs: &mut [Run],
     used: usize,
     start: usize,
     end: usize,
     turns: &mut Turns,
 ) -> Result<usize, TooManyHolesError>
-    requires used { used ≤ length pairs.old }
-    requires runs { AreRuns (take used pairs.old) }
-    requires first { StartsAtZero (take used pairs.old) }
+    requires used { used ≤ length runs.old }
+    requires runs { AreRuns (take used runs.old) }
+    requires first { StartsAtZero (take used runs.old) }
     requires waiting { 0 < used }
     requires some { start < end }
-    ensures joined { JoinsRange (take used pairs.old) pairs.old pairs.new start end result }
-    ensures turns { let n = length pairs.old in
+    ensures joined { JoinsRange (take used runs.old) runs.old runs.new start end result }
+    ensures turns { let n = length runs.old in
         TurnsWithin (2 * binary_digits n) n turns.old turns.new }
 {
     // The range is after a hole after all runs: it is a run of its own, and the last.
-    let last = pairs[used - 1];
-    if last.1 < start {
-        if used == pairs.len() {
+    let last = used - 1;
+    let last_end = end_of(runs, last);
+    if last_end < start {
+        if used == runs.len() {
             return Err(TooManyHolesError);
         }
-        pairs[used] = (start, end);
+        runs[used] = Run { start, end };
         return Ok(used + 1);
     }
     // The range starts in the last run, or right after it: only that run grows.
-    if last.0 <= start {
-        pairs[used - 1] = (last.0, last.1.max(end));
+    let last_start = start_of(runs, last);
+    if last_start <= start {
+        runs[last] = Run {
+            start: last_start,
+            end: last_end.max(end),
+        };
         return Ok(used);
     }
     // The range starts before the last run: it may meet any.
-    join_any(pairs, used, start, end, turns)
+    join_any(runs, used, start, end, turns)
 }
 
 /// Joins a range that isn't empty, and isn't after the last run, with the runs that it meets
 /// or touches.
 #[inline(always)]
 fn join_any(
-    pairs: &mut [(usize, usize)],
+    runs: &mut [Run],
     used: usize,
     start: usize,
     end: usize,
     turns: &mut Turns,
 ) -> Result<usize, TooManyHolesError>
-    requires used { used ≤ length pairs.old }
-    requires runs { AreRuns (take used pairs.old) }
-    requires first { StartsAtZero (take used pairs.old) }
+    requires used { used ≤ length runs.old }
+    requires runs { AreRuns (take used runs.old) }
+    requires first { StartsAtZero (take used runs.old) }
     requires waiting { 0 < used }
     requires some { start < end }
-    requires last { start ≤ end_at (take used pairs.old) (used - 1) }
-    ensures joined { JoinsRange (take used pairs.old) pairs.old pairs.new start end result }
-    ensures turns { let n = length pairs.old in
+    requires last { start ≤ end_at (take used runs.old) (used - 1) }
+    ensures joined { JoinsRange (take used runs.old) runs.old runs.new start end result }
+    ensures turns { let n = length runs.old in
         TurnsWithin (2 * binary_digits n) n turns.old turns.new }
 {
     // The range starts in the first run, or right after it, as data does that fills one hole after
     // another.
-    if start <= pairs[0].1 {
-        return Ok(grow_first(pairs, used, start, end, turns));
+    if start <= end_of(runs, 0) {
+        return Ok(grow_first(runs, used, start, end, turns));
     }
-    join_later(pairs, used, start, end, turns)
+    join_later(runs, used, start, end, turns)
 }
 
 /// Joins a range that isn't empty, starts after the end of the first run, and isn't after the last
@@ -87,57 +93,51 @@ fn join_any(
 // processor's cache of decoded code.
 #[inline(never)]
 fn join_later(
-    pairs: &mut [(usize, usize)],
+    runs: &mut [Run],
     used: usize,
     start: usize,
     end: usize,
     turns: &mut Turns,
 ) -> Result<usize, TooManyHolesError>
-    requires used { used ≤ length pairs.old }
-    requires runs { AreRuns (take used pairs.old) }
+    requires used { used ≤ length runs.old }
+    requires runs { AreRuns (take used runs.old) }
     requires waiting { 0 < used }
     requires some { start < end }
-    requires past { end_at (take used pairs.old) 0 < start }
-    requires last { start ≤ end_at (take used pairs.old) (used - 1) }
-    ensures joined { JoinsRange (take used pairs.old) pairs.old pairs.new start end result }
-    ensures turns { let n = length pairs.old in
+    requires past { end_at (take used runs.old) 0 < start }
+    requires last { start ≤ end_at (take used runs.old) (used - 1) }
+    ensures joined { JoinsRange (take used runs.old) runs.old runs.new start end result }
+    ensures turns { let n = length runs.old in
         TurnsWithin (2 * binary_digits n) n turns.old turns.new }
 {
-    let first = runs_ending_before(&pairs[..used], start, turns);
+    let first = runs_ending_before(&runs[..used], start, turns);
     // The range is in the hole before that run: it is a run of its own.
-    if end < pairs[first].0 {
-        if used == pairs.len() {
+    if end < start_of(runs, first) {
+        if used == runs.len() {
             return Err(TooManyHolesError);
         }
-        insert_pair(pairs, used, first, (start, end), turns);
+        insert_run(runs, used, first, Run { start, end }, turns);
         return Ok(used + 1);
     }
-    Ok(grow_run(pairs, used, first, start, end, turns))
+    Ok(grow_run(runs, used, first, start, end, turns))
 }
 
 /// Joins a range that isn't empty with the first run, which it meets or touches, and with those
 /// after it that it meets or touches. Returns how many runs are left.
 // Apart from the search for a run, this takes so few registers that none has to be saved.
 #[inline(never)]
-fn grow_first(
-    pairs: &mut [(usize, usize)],
-    used: usize,
-    start: usize,
-    end: usize,
-    turns: &mut Turns,
-) -> usize
-    requires used { used ≤ length pairs.old }
-    requires runs { AreRuns (take used pairs.old) }
-    requires first { StartsAtZero (take used pairs.old) }
+fn grow_first(runs: &mut [Run], used: usize, start: usize, end: usize, turns: &mut Turns) -> usize
+    requires used { used ≤ length runs.old }
+    requires runs { AreRuns (take used runs.old) }
+    requires first { StartsAtZero (take used runs.old) }
     requires waiting { 0 < used }
     requires some { start < end }
-    requires from { start ≤ end_at (take used pairs.old) 0 }
-    ensures joined { take result pairs.new ≡ runs_with_range (take used pairs.old) start end }
-    ensures within { result ≤ length pairs.old }
-    ensures turns { let n = length pairs.old in
+    requires from { start ≤ end_at (take used runs.old) 0 }
+    ensures joined { take result runs.new ≡ runs_with_range (take used runs.old) start end }
+    ensures within { result ≤ length runs.old }
+    ensures turns { let n = length runs.old in
         TurnsWithin (binary_digits n) n turns.old turns.new }
 {
-    grow_run(pairs, used, 0, start, end, turns)
+    grow_run(runs, used, 0, start, end, turns)
 }
 
 /// Joins a range that isn't empty with the run at `first`, which it meets or touches, and with those
@@ -146,40 +146,46 @@ fn grow_first(
 /// A range that meets no other run takes no search.
 #[inline(always)]
 fn grow_run(
-    pairs: &mut [(usize, usize)],
+    runs: &mut [Run],
     used: usize,
     first: usize,
     start: usize,
     end: usize,
     turns: &mut Turns,
 ) -> usize
-    requires used { used ≤ length pairs.old }
-    requires runs { AreRuns (take used pairs.old) }
+    requires used { used ≤ length runs.old }
+    requires runs { AreRuns (take used runs.old) }
     requires some { start < end }
     requires first { first < used }
-    requires before { (k : ℕ) → k < first → end_at (take used pairs.old) k < start }
-    requires from { start ≤ end_at (take used pairs.old) first }
-    requires meets { start_at (take used pairs.old) first ≤ end }
-    ensures joined { take result pairs.new ≡ runs_with_range (take used pairs.old) start end }
-    ensures within { result ≤ length pairs.old }
-    ensures turns { let n = length pairs.old in
+    requires before { (k : ℕ) → k < first → end_at (take used runs.old) k < start }
+    requires from { start ≤ end_at (take used runs.old) first }
+    requires meets { start_at (take used runs.old) first ≤ end }
+    ensures joined { take result runs.new ≡ runs_with_range (take used runs.old) start end }
+    ensures within { result ≤ length runs.old }
+    ensures turns { let n = length runs.old in
         TurnsWithin (binary_digits n) n turns.old turns.new }
 {
     // The run may begin before the range.
-    let run = pairs[first];
-    let low = run.0.min(start);
+    let low = start_of(runs, first).min(start);
     // It meets no other: that run grows.
     let second = first + 1;
-    if second == used || end < pairs[second].0 {
-        pairs[first] = (low, run.1.max(end));
+    if second == used || end < start_of(runs, second) {
+        let high = end_of(runs, first).max(end);
+        runs[first] = Run {
+            start: low,
+            end: high,
+        };
         return used;
     }
     // It meets more of them, up to `next`: all become one run, which ends where the last of them
     // does, or where the range does.
-    let next = runs_starting_by(&pairs[..used], second + 1, end, turns);
-    let high = pairs[next - 1].1.max(end);
-    pairs[first] = (low, high);
-    remove_pairs(pairs, used, second, next, turns);
+    let next = runs_starting_by(&runs[..used], second + 1, end, turns);
+    let high = end_of(runs, next - 1).max(end);
+    runs[first] = Run {
+        start: low,
+        end: high,
+    };
+    remove_runs(runs, used, second, next, turns);
     used - (next - second)
 }
 
@@ -187,37 +193,47 @@ fn grow_run(
 /// that it meets or touches. The runs are counted from its start then.
 #[inline(always)]
 pub(crate) fn join_before(
-    pairs: &mut [(usize, usize)],
+    runs: &mut [Run],
     used: usize,
     by: usize,
     size: usize,
     turns: &mut Turns,
 ) -> Result<usize, TooManyHolesError>
-    requires used { used ≤ length pairs.old }
+    requires used { used ≤ length runs.old }
     requires some { 0 < used }
-    requires runs { AreRuns (take used pairs.old) }
-    requires first { StartsAtZero (take used pairs.old) }
-    requires fits { FitsFrom by (take used pairs.old) }
+    requires runs { AreRuns (take used runs.old) }
+    requires first { StartsAtZero (take used runs.old) }
+    requires fits { FitsFrom by (take used runs.old) }
     requires before { 0 < by }
     requires size { 0 < size }
-    ensures joined { let counted = runs_shifted_up by (take used pairs.old) in
-        JoinsRange counted pairs.old pairs.new 0 size result }
-    ensures turns { let n = length pairs.old in
+    ensures joined { let counted = runs_shifted_up by (take used runs.old) in
+        JoinsRange counted runs.old runs.new 0 size result }
+    ensures turns { let n = length runs.old in
         TurnsWithin (binary_digits n) n turns.old turns.new }
 {
     // The range ends before the first run: it is a run of its own, and the first.
     if size < by {
-        if used == pairs.len() {
+        if used == runs.len() {
             return Err(TooManyHolesError);
         }
-        prepend_pair(pairs, used, (0, size), by, turns);
+        prepend_run(
+            runs,
+            used,
+            Run {
+                start: 0,
+                end: size,
+            },
+            by,
+            turns,
+        );
         return Ok(used + 1);
     }
     // It meets the first run, and may meet more, up to `next`: all become one run, which starts at 0
     // as the first did, and ends where the last of them does, or where the range does.
-    let next = runs_starting_by(&pairs[..used], 1, size - by, turns);
-    let high = (by + pairs[next - 1].1).max(size);
-    shift_pairs_up(pairs, used, next, by, turns);
-    pairs[0].1 = high;
+    let next = runs_starting_by(&runs[..used], 1, size - by, turns);
+    let high = (by + end_of(runs, next - 1)).max(size);
+    shift_runs_up(runs, used, next, by, turns);
+    let first = &mut runs[0];
+    first.end = high;
     Ok(used - (next - 1))
 }

@@ -1,14 +1,12 @@
-use Rattle.std.proofs.Common.{◌∙◌, ap, sym, refl}
-use Rattle.net_assembler.specs.Positions.{front, with_range}
-use Rattle.net_assembler.proofs.AssemblerLaws.{front-with_range}
-use Rattle.net_assembler.proofs.RunLists.{shift_down-zero}
+use Rattle.std.proofs.Common.{ap, length, arith}
+use Rattle.net_assembler.specs.Positions.{runs}
+use Rattle.net_assembler.specs.RunLists.{set_of}
+use Rattle.net_assembler.proofs.Heads.{both_accepted}
 use Rattle.net_assembler.proofs.assembler.Assembler.add_then_remove_front_counted.Goals as goal
 
-pub returns-then-waits_before-clause-value : goal.returns-then-waits_before-clause-value
-returns-then-waits_before-clause-value g c =
-    let s = c.args.self.now in
-    let o = c.args.offset in
-    let n = c.args.size in
-    let waits = c.waits_before.ensures c.if-waits_before.true in
-    let missing = front-with_range s o n waits.0 (sym (ap front c.self.view_is) ∙ waits.1) in
-    (sym missing, c.in_ok-add_counted.ensures.ok ∙ sym (shift_down-zero (with_range s o n) 0 refl))
+pub returns-clause-accepted : goal.returns-clause-accepted
+returns-clause-accepted g c = λ few.
+    let same = ap runs c.self.view_is in
+    let xs = c.self.inside.runs in
+    both_accepted (length xs) (set_of c.self.inside.head xs) c.args.offset c.args.size c.add_then_remove_front.result _
+    c.add_then_remove_front.ensures.both (omega (arith, c.self.invariant.1))

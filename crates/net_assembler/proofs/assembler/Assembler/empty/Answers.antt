@@ -4,7 +4,7 @@ use Rattle.net_assembler.proofs.RunLists.{runs-nothing}
 use Rattle.net_assembler.proofs.assembler.Assembler.empty.Goals as goal
 
 pub returns-clause-no_run : goal.returns-clause-no_run
-returns-clause-no_run g c = ap runs c.new.ensures.empty ∙ runs-nothing
+returns-clause-no_run g c = ap runs (c.new.ensures.empty _) ∙ runs-nothing
 
 pub returns-clause-bound : goal.returns-clause-bound
-returns-clause-bound g c = omega (arith, ap runs c.new.ensures.empty, runs-nothing)
+returns-clause-bound g c = let none = returns-clause-no_run g c in omega arith

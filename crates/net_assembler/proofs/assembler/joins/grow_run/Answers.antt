@@ -1,4 +1,4 @@
-use Rattle.std.proofs.Common.{ℕ, ◌+◌, ◌<◌, ◌≤◌, ◌∙◌, ap, take, length, arith}
+use Rattle.std.proofs.Common.{ℕ, ◌+◌, ◌<◌, ◌≤◌, ◌∙◌, ap, max, min, take, length, arith}
 use Rattle.std.proofs.lemmas.List.{length-take-le, get_or-take}
 use Rattle.std.proofs.lemmas.Bool.{cases_lt}
 use Rattle.net_assembler.specs.RunLists.{start_at}
@@ -7,26 +7,27 @@ use Rattle.net_assembler.proofs.AssemblerLaws.{below_binary_digits, no_turn}
 use Rattle.net_assembler.proofs.Positions.{either}
 use Rattle.net_assembler.proofs.RunLists.{replaced_run, grown_run, all_behind, starts_rise}
 use Rattle.net_assembler.proofs.assembler.joins.grow_run.Goals as goal
-use Rattle.net_assembler.proofs.assembler.joins.grow_run.Goals.{then-second-used-via-then-second-used, then-second-used-via-else-second-used+then-end-pairs}
+use Rattle.net_assembler.proofs.assembler.joins.grow_run.Goals.{then-second-used-via-then-second-used, then-second-used-via-else-second-used+then-end-start_of}
 
 pub returns-then-second-used-clause-joined : goal.returns-then-second-used-clause-joined
 returns-then-second-used-clause-joined c =
-    let xs = c.args.pairs.now in
+    let xs = c.args.runs.now in
     let same = ap (λ (r : ℕ × ℕ). r.0) (get_or-take c.args.used xs c.args.first (0, 0) c.requires.first) in
     let behind : (k : ℕ) → c.args.first + 1 ≤ k → k < c.args.used → c.args.end < start_at (take c.args.used xs) k =
     λ k a b. elim c.then-second-used.branch [
       | then-second-used-via-then-second-used w ↦ absurd (omega arith)
-      | then-second-used-via-else-second-used+then-end-pairs w ↦
+      | then-second-used-via-else-second-used+then-end-start_of w ↦
           all_behind xs c.args.used (c.args.first + 1) c.args.end c.requires.runs (omega arith) c.requires.used
           (omega arith) k a b
     ] in
-    grown_run xs c.args.used c.args.first c.args.start c.args.end c.min-low.result c.max.result c.requires.runs
-    c.requires.first c.requires.used c.requires.before c.requires.from c.requires.meets behind c.min-low.ensures
-    c.max.ensures
+    grown_run xs c.args.used c.args.first c.args.start c.args.end c.min-low.result c.max-high.result c.requires.runs
+    c.requires.first c.requires.used c.requires.before c.requires.from c.requires.meets behind
+    (c.min-low.ensures ∙ ap (λ e. min e c.args.start) c.start_of.ensures)
+    (c.max-high.ensures ∙ ap (λ e. max e c.args.end) c.end_of.ensures)
 
 pub returns-clause-joined : goal.returns-clause-joined
 returns-clause-joined c =
-    let xs = c.args.pairs.now in
+    let xs = c.args.runs.now in
     let cs = take c.args.used xs in
     let len = length-take-le c.args.used xs c.requires.used in
     let search = c.runs_starting_by-next.ensures in
@@ -35,18 +36,20 @@ returns-clause-joined c =
     λ k a b. either (cases_lt k (c.args.first + 2))
     (λ l. let p = starts_rise 0 cs k (c.args.first + 1) c.requires.runs (omega arith) (omega arith) in
     omega arith) (λ l. search.before k (omega arith) b) in
-    c.remove_pairs.ensures.pairs
+    c.remove_runs.ensures.runs
     ∙ replaced_run xs c.args.used c.args.first c.runs_starting_by-next.result c.args.start c.args.end
-    c.min-low.result c.max-high.result c.requires.runs (omega arith) (omega (arith, search.within)) c.requires.used
-    c.requires.before c.requires.from upto (λ k a b. search.behind k a (omega arith)) c.min-low.ensures c.max-high.ensures
+    c.min-low.result c.max-high-2.result c.requires.runs (omega arith) (omega (arith, search.within)) c.requires.used
+    c.requires.before c.requires.from upto (λ k a b. search.behind k a (omega arith))
+    (c.min-low.ensures ∙ ap (λ e. min e c.args.start) c.start_of.ensures)
+    (c.max-high-2.ensures ∙ ap (λ e. max e c.args.end) c.end_of-2.ensures)
 
 pub returns-then-second-used-clause-turns : goal.returns-then-second-used-clause-turns
 returns-then-second-used-clause-turns c = no_turn _ _ _
 
 pub returns-clause-turns : goal.returns-clause-turns
 returns-clause-turns c =
-    let n = length c.args.pairs.now in
-    let len = length-take-le c.args.used c.args.pairs.now c.requires.used in
+    let n = length c.args.runs.now in
+    let len = length-take-le c.args.used c.args.runs.now c.requires.used in
     let search = c.runs_starting_by-next.ensures in
     let few = search.looks (binary_digits n) (let d = below_binary_digits n in omega (arith, c.requires.used)) in
     record {

@@ -5,32 +5,32 @@ use Rattle.net_assembler.proofs.AssemblerLaws.{below_binary_digits}
 use Rattle.net_assembler.proofs.RunLists.{inserted_run, refused_run, all_behind}
 use Rattle.net_assembler.proofs.assembler.joins.join_later.Goals as goal
 
-pub returns-then-used-pairs-clause-joined : goal.returns-then-used-pairs-clause-joined
-returns-then-used-pairs-clause-joined c =
+pub returns-then-used-runs-clause-joined : goal.returns-then-used-runs-clause-joined
+returns-then-used-runs-clause-joined c =
     let search = c.runs_ending_before-first.ensures in
     let first = c.runs_ending_before-first.result in
-    let len = length-take-le c.args.used c.args.pairs.now c.requires.used in
-    let behind = all_behind c.args.pairs.now c.args.used first c.args.end c.requires.runs (omega (arith, search.within)) c.requires.used (omega arith) in
-    let n = refused_run c.args.pairs.now c.args.used first c.args.start c.args.end c.requires.runs
+    let len = length-take-le c.args.used c.args.runs.now c.requires.used in
+    let behind = all_behind c.args.runs.now c.args.used first c.args.end c.requires.runs (omega (arith, search.within)) c.requires.used (omega arith) in
+    let n = refused_run c.args.runs.now c.args.used first c.args.start c.args.end c.requires.runs
     (omega (arith, search.within)) c.requires.used c.requires.some search.before behind in
     (refl, omega arith)
 
-pub returns-then-end-pairs-clause-joined : goal.returns-then-end-pairs-clause-joined
-returns-then-end-pairs-clause-joined c =
+pub returns-then-end-start_of-clause-joined : goal.returns-then-end-start_of-clause-joined
+returns-then-end-start_of-clause-joined c =
     let search = c.runs_ending_before-first.ensures in
     let first = c.runs_ending_before-first.result in
-    let len = length-take-le c.args.used c.args.pairs.now c.requires.used in
-    let behind = all_behind c.args.pairs.now c.args.used first c.args.end c.requires.runs (omega (arith, search.within)) c.requires.used (omega arith) in (
-      c.insert_pair.ensures.pairs
-          ∙ inserted_run c.args.pairs.now c.args.used first c.args.start c.args.end c.requires.runs
+    let len = length-take-le c.args.used c.args.runs.now c.requires.used in
+    let behind = all_behind c.args.runs.now c.args.used first c.args.end c.requires.runs (omega (arith, search.within)) c.requires.used (omega arith) in (
+      c.insert_run.ensures.runs
+          ∙ inserted_run c.args.runs.now c.args.used first c.args.start c.args.end c.requires.runs
           (omega (arith, search.within)) c.requires.used c.requires.some search.before behind,
       omega arith,
     )
 
-pub returns-then-used-pairs-clause-turns : goal.returns-then-used-pairs-clause-turns
-returns-then-used-pairs-clause-turns c =
-    let n = length c.args.pairs.now in
-    let len = length-take-le c.args.used c.args.pairs.now c.requires.used in
+pub returns-then-used-runs-clause-turns : goal.returns-then-used-runs-clause-turns
+returns-then-used-runs-clause-turns c =
+    let n = length c.args.runs.now in
+    let len = length-take-le c.args.used c.args.runs.now c.requires.used in
     let few = c.runs_ending_before-first.ensures.looks (binary_digits n)
     (let d = below_binary_digits n in omega (arith, c.requires.used)) in
     record {
@@ -40,10 +40,10 @@ returns-then-used-pairs-clause-turns c =
       no_move_lost = omega arith;
     }
 
-pub returns-then-end-pairs-clause-turns : goal.returns-then-end-pairs-clause-turns
-returns-then-end-pairs-clause-turns c =
-    let n = length c.args.pairs.now in
-    let len = length-take-le c.args.used c.args.pairs.now c.requires.used in
+pub returns-then-end-start_of-clause-turns : goal.returns-then-end-start_of-clause-turns
+returns-then-end-start_of-clause-turns c =
+    let n = length c.args.runs.now in
+    let len = length-take-le c.args.used c.args.runs.now c.requires.used in
     let few = c.runs_ending_before-first.ensures.looks (binary_digits n)
     (let d = below_binary_digits n in omega (arith, c.requires.used)) in
     record {
@@ -55,8 +55,8 @@ returns-then-end-pairs-clause-turns c =
 
 pub returns-clause-turns : goal.returns-clause-turns
 returns-clause-turns c =
-    let n = length c.args.pairs.now in
-    let len = length-take-le c.args.used c.args.pairs.now c.requires.used in
+    let n = length c.args.runs.now in
+    let len = length-take-le c.args.used c.args.runs.now c.requires.used in
     let few = c.runs_ending_before-first.ensures.looks (binary_digits n)
     (let d = below_binary_digits n in omega (arith, c.requires.used)) in
     let grows = c.grow_run.ensures.turns in

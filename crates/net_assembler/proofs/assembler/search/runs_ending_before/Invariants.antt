@@ -5,10 +5,10 @@ use Rattle.net_assembler.proofs.assembler.search.runs_ending_before.Given as goa
 abbrev pub invariant-loop-low : goal.invariant-loop-low
 invariant-loop-low l = record {
   order : l.low ≤ l.high;
-  within : l.high ≤ length l.pairs;
-  before : (k : ℕ) → k < l.low → end_at l.pairs k < l.offset;
-  behind : (k : ℕ) → l.high ≤ k → k < length l.pairs → l.offset ≤ end_at l.pairs k;
-  width : (b : ℕ) → length l.pairs < 2 ^ b → (c : ℕ) × (l.turns.0 + c ≡ l.fn.turns.0 + b) × (l.high - l.low < 2 ^ c);
+  within : l.high ≤ length l.runs;
+  before : (k : ℕ) → k < l.low → end_at l.runs k < l.offset;
+  behind : (k : ℕ) → l.high ≤ k → k < length l.runs → l.offset ≤ end_at l.runs k;
+  width : (b : ℕ) → length l.runs < 2 ^ b → (c : ℕ) × (l.turns.0 + c ≡ l.fn.turns.0 + b) × (l.high - l.low < 2 ^ c);
   more : l.fn.turns.0 ≤ l.turns.0;
   moves : l.turns.1 ≡ l.fn.turns.1;
 }

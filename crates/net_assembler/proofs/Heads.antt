@@ -1,0 +1,324 @@
+-- A head and runs that are those of an assembler: its runs as a list, and their set.
+use Rattle.std.proofs.Common.{◌≡◌, ℕ, ◌+◌, ◌-◌, ◌<◌, ◌≤◌, ◌^◌, List, [], ◌∷◌, length, take, drop}
+use Rattle.std.proofs.Common.{set, get_or, max, refl, sym, ap, subst, ◌∙◌, arith}
+use Rattle.std.specs.Prelude.{Result, Ok, Err, IsOk, IsErr}
+use Rattle.std.proofs.lemmas.List.{length-set, take_more_set, length-map, length-take-le, length-drop, get_or-take}
+use Rattle.net_assembler.specs.declared.assembler.error.TooManyHolesError.{TooManyHolesError}
+use Rattle.net_assembler.specs.declared.assembler.head.AssemblerHead.{AssemblerHead}
+use Rattle.net_assembler.specs.AssemblerLaws.{Adds, AddsThenRemovesFront}
+use Rattle.net_assembler.specs.Positions.{Positions, front, runs, runs_shifted_up, with_range, maximal_runs, shift_down}
+use Rattle.net_assembler.specs.RunLists.{start_at, end_at, AreRuns, HasSoundRuns, StartsAtZero, FitsFrom, used_runs}
+use Rattle.net_assembler.specs.RunLists.{runs_of, set_of, set_of_runs, runs_with_range, runs_shifted_down}
+use Rattle.std.proofs.lemmas.Bool.{cases_lt}
+use Rattle.net_assembler.proofs.MaximalRuns.{one_run_more}
+use Rattle.net_assembler.proofs.Positions.{either}
+use Rattle.net_assembler.proofs.Runs.{rising-runs_with_range, front_of_runs, front-set_of_runs, runs-set_of_runs}
+use Rattle.net_assembler.proofs.Runs.{maximal_runs-set_of_runs, set_of_runs_injective, set-runs_with_range}
+use Rattle.net_assembler.proofs.Runs.{runs-runs_with_range}
+use Rattle.net_assembler.proofs.RunLists.{front_none, shift_down-zero, Completed, completed_at, at_run, apart, front_of_first, with_range-none}
+use Rattle.net_assembler.proofs.RunLists.{top_of}
+use Rattle.net_assembler.proofs.ShiftedRuns.{end_at-up, top_before}
+use Rattle.net_assembler.proofs.ShiftedRuns.{down-zero, start_at-up, alone-runs_with_range, first-runs_with_range}
+use Rattle.net_assembler.proofs.ShiftedRuns.{fits-runs_with_range, fits-up, up-runs_with_range, up-up}
+use Rattle.net_assembler.proofs.ShiftedRuns.{zero-runs_with_range, length-up, drop-up, runs-up, down-up, fits-at}
+use Rattle.net_assembler.proofs.ShiftedRuns.{start-up, end-up, first_at, get_or-up, up-injective}
+
+module _ (h : AssemblerHead) (xs : List (ℕ × ℕ)) (s : HasSoundRuns h xs) where
+  pub length-used_runs : length (used_runs h xs) ≡ h.used
+  length-used_runs = length-take-le h.used xs s.room
+
+  pub length-runs_of : length (runs_of h xs) ≡ h.used
+  length-runs_of = length-up h.first_start (used_runs h xs) ∙ length-used_runs
+
+  pub are_runs : AreRuns (runs_of h xs)
+  are_runs = runs-up h.first_start (used_runs h xs) s.runs
+
+  pub runs-set_of : runs (set_of h xs) ≡ h.used
+  runs-set_of = runs-set_of_runs (runs_of h xs) are_runs ∙ length-runs_of
+
+  pub few_held : runs (set_of h xs) ≤ length xs
+  few_held = omega (arith, runs-set_of, s.room)
+
+  pub maximal_runs-set_of : maximal_runs (set_of h xs) ≡ runs_of h xs
+  maximal_runs-set_of = maximal_runs-set_of_runs (runs_of h xs) are_runs
+
+  pub front-set_of : front (set_of h xs) ≡ front_of_runs (runs_of h xs)
+  front-set_of = front-set_of_runs (runs_of h xs) are_runs
+
+  -- the pair k
+  pub pair_at : (k : ℕ) → k < h.used → get_or (used_runs h xs) k (0, 0) ≡ get_or xs k (0, 0)
+  pair_at k l = get_or-take h.used xs k (0, 0) l
+
+  pub start_of : (k : ℕ) → k < h.used → start_at (used_runs h xs) k ≡ start_at xs k
+  start_of k l = ap (λ (r : ℕ × ℕ). r.0) (pair_at k l)
+
+  pub end_of : (k : ℕ) → k < h.used → end_at (used_runs h xs) k ≡ end_at xs k
+  end_of k l = ap (λ (r : ℕ × ℕ). r.1) (pair_at k l)
+
+  pub pair_rises : (k : ℕ) → k < h.used → start_at xs k < end_at xs k
+  pair_rises k l =
+      let p = at_run 0 (used_runs h xs) k s.runs (omega (arith, length-used_runs)) in
+      omega (arith, p.1, start_of k l, end_of k l)
+
+  pub pairs_apart : (i k : ℕ) → i < k → k < h.used → end_at xs i < start_at xs k
+  pairs_apart i k l m =
+      let p = apart 0 (used_runs h xs) i k s.runs l (omega (arith, length-used_runs)) in
+      omega (arith, p, start_of k m, end_of i (omega arith))
+
+  pub pair_fits : (k : ℕ) → k < h.used → h.first_start + end_at xs k < 2 ^ 64
+  pair_fits k l =
+      let p = fits-at h.first_start (used_runs h xs) k s.fits (omega (arith, length-used_runs)) in
+      omega (arith, p, end_of k l)
+
+  pub first_pair : 0 < h.used → start_at xs 0 ≡ 0
+  first_pair l = sym (start_of 0 l) ∙ first_at (used_runs h xs) s.first
+
+  pub run_at : (k : ℕ) → k < h.used →
+      get_or (runs_of h xs) k (0, 0) ≡ (h.first_start + start_at xs k, h.first_start + end_at xs k)
+  run_at k l =
+      get_or-up h.first_start (used_runs h xs) k (omega (arith, length-used_runs))
+      ∙ (λ i. (h.first_start + start_of k l i, h.first_start + end_of k l i))
+
+  pub run_start : 0 < h.used → start_at (runs_of h xs) 0 ≡ h.first_start
+  run_start l = start-up h.first_start (used_runs h xs) (omega (arith, length-used_runs)) s.first
+
+  -- a run at 0
+  pub front_held : 0 < front (set_of h xs) →
+      (0 < h.used) × (h.first_start ≡ 0) × (end_at xs 0 ≡ front (set_of h xs))
+  front_held l =
+      let f = front_of_first (runs_of h xs) (omega (arith, front-set_of)) in
+      let some : 0 < h.used = omega (arith, f.0, length-runs_of) in
+      let begins = run_start some in
+      let ends = end-up h.first_start (used_runs h xs) (omega (arith, length-used_runs)) in
+      let last = end_of 0 some in
+      (some, omega (arith, f.1), omega (arith, f.1, f.2, front-set_of))
+
+  -- what is left of the pairs, counted lower
+  pub dropped : (k m top : ℕ) → top ≡ h.first_start + m →
+      runs_shifted_down m (drop k (used_runs h xs)) ≡ runs_shifted_down top (drop k (runs_of h xs))
+  dropped k m top e =
+      sym (down-up h.first_start m (drop k (used_runs h xs)))
+      ∙ (λ i. runs_shifted_down (sym e i) (sym (drop-up h.first_start k (used_runs h xs)) i))
+
+-- equal sets are held alike
+module _ (h : AssemblerHead) (xs : List (ℕ × ℕ)) (g : AssemblerHead) (ys : List (ℕ × ℕ)) (s : HasSoundRuns h xs)
+    (t : HasSoundRuns g ys) where
+  pub same_runs : set_of h xs ≡ set_of g ys → runs_of h xs ≡ runs_of g ys
+  same_runs e = set_of_runs_injective (runs_of h xs) (runs_of g ys) (are_runs h xs s) (are_runs g ys t) e
+
+  pub same_number : set_of h xs ≡ set_of g ys → h.used ≡ g.used
+  same_number e = sym (length-runs_of h xs s) ∙ ap length (same_runs e) ∙ length-runs_of g ys t
+
+  pub same_first_start : 0 < h.used → set_of h xs ≡ set_of g ys → h.first_start ≡ g.first_start
+  same_first_start l e =
+      sym (run_start h xs s l) ∙ ap (λ rs. start_at rs 0) (same_runs e)
+      ∙ run_start g ys t (omega (arith, same_number e))
+
+  pub same_pairs : 0 < h.used → set_of h xs ≡ set_of g ys → used_runs h xs ≡ used_runs g ys
+  same_pairs l e = up-injective h.first_start g.first_start (used_runs h xs) (used_runs g ys) (same_first_start l e) (same_runs e)
+
+-- a range that was added, and one that wasn't
+module _ (h : AssemblerHead) (xs : List (ℕ × ℕ)) (g : AssemblerHead) (ys : List (ℕ × ℕ)) (s : HasSoundRuns h xs)
+    (same_length : length ys ≡ length xs) (o k : ℕ) (l : 0 < k) where
+  joined_set : runs_of g ys ≡ runs_with_range (runs_of h xs) o (o + k) → set_of g ys ≡ with_range (set_of h xs) o k
+  joined_set e = ap set_of_runs e ∙ set-runs_with_range (runs_of h xs) o k (are_runs h xs s) l
+
+  pub accepted : HasSoundRuns g ys → runs_of g ys ≡ runs_with_range (runs_of h xs) o (o + k) →
+      Adds (length xs) (set_of h xs) o k (Ok tt) (set_of g ys)
+  accepted t e =
+      let all = ap runs (joined_set e) in
+      let few = few_held g ys t in
+      record {
+        ok = joined_set e;
+        unchanged = tt;
+        refused = (λ f. absurd (cc), λ over. absurd (omega (arith, over.1)));
+        bound = omega arith;
+      }
+
+  pub refused : (r : Result (Unit {0}) TooManyHolesError) → IsErr r →
+      length xs < length (runs_with_range (runs_of h xs) o (o + k)) → set_of g ys ≡ set_of h xs →
+      Adds (length xs) (set_of h xs) o k r (set_of g ys)
+  refused (Ok u) f over same = absurd (cc)
+  refused (Err e) f over same =
+      let all = runs-runs_with_range (runs_of h xs) o k (are_runs h xs s) l in
+      let few = few_held h xs s in
+      let now = ap runs same in
+      record {
+        ok = tt;
+        unchanged = same;
+        refused = (λ _. (l, omega arith), λ _. refl);
+        bound = omega arith;
+      }
+
+-- how many runs are left
+pub dropped_number : (h : AssemblerHead) (xs : List (ℕ × ℕ)) → HasSoundRuns h xs → (k m : ℕ) (g : AssemblerHead)
+    (ys : List (ℕ × ℕ)) → HasSoundRuns g ys →
+    runs_of g ys ≡ runs_shifted_down m (drop k (used_runs h xs)) → runs (set_of g ys) ≡ h.used - k
+dropped_number h xs s k m g ys t e =
+    runs-set_of g ys t ∙ sym (length-runs_of g ys t) ∙ ap length e
+    ∙ length-map (drop k (used_runs h xs)) (λ (r : ℕ × ℕ). (r.0 - m, r.1 - m))
+    ∙ length-drop k (used_runs h xs) ∙ ap (λ l. l - k) (length-used_runs h xs s)
+
+-- the range (o, 0)
+pub none_added : (h : AssemblerHead) (xs : List (ℕ × ℕ)) → HasSoundRuns h xs → (o k : ℕ) → k ≡ 0 →
+    Adds (length xs) (set_of h xs) o k (Ok tt) (set_of h xs)
+none_added h xs s o k e = record {
+  ok = sym (with_range-none (set_of h xs) o k e);
+  unchanged = tt;
+  refused = (λ f. absurd (cc), λ over. absurd (omega (arith, over.0)));
+  bound = few_held h xs s;
+}
+
+-- a range that is the first run
+module _ (h : AssemblerHead) (xs : List (ℕ × ℕ)) (s : HasSoundRuns h xs) (o k : ℕ) (none : h.used ≡ 0) (l : 0 < k) where
+  alone : runs_with_range (runs_of h xs) o (o + k) ≡ (o, o + k) ∷ []
+  alone = alone-runs_with_range (runs_of h xs) o (o + k) (length-runs_of h xs s ∙ none)
+
+  pub no_room : length xs ≡ 0 → length xs < length (runs_with_range (runs_of h xs) o (o + k))
+  no_room e = let all = ap length alone in omega arith
+
+  one : 0 < length xs → take 1 (set xs 0 (0, k)) ≡ (0, k) ∷ []
+  one some = take_more_set xs 0 (0, k) some
+
+  pub first_sound : 0 < length xs → o + k < 2 ^ 64 →
+      HasSoundRuns (record { used = 1; first_start = o }) (set xs 0 (0, k))
+  first_sound some fits = record {
+    room = omega (arith, length-set xs 0 (0, k));
+    runs = subst AreRuns (sym (one some)) (omega arith, l, tt);
+    first = subst StartsAtZero (sym (one some)) refl;
+    fits = subst (FitsFrom o) (sym (one some)) (fits, tt);
+  }
+
+  pub first_runs : 0 < length xs → runs_shifted_up o (take 1 (set xs 0 (0, k))) ≡ runs_with_range (runs_of h xs) o (o + k)
+  first_runs some =
+      let start : o + 0 ≡ o = omega arith in
+      ap (runs_shifted_up o) (one some) ∙ (λ i. (start i, o + k) ∷ []) ∙ sym alone
+
+-- pairs that are runs with a range that starts at or after the first
+module _ (h : AssemblerHead) (xs : List (ℕ × ℕ)) (s : HasSoundRuns h xs) (ys : List (ℕ × ℕ)) (o k : ℕ) (some : 0 < h.used)
+    (from : h.first_start ≤ o) (l : 0 < k) where
+  pub joined_sound : (m : ℕ) → m ≤ length ys → o + k < 2 ^ 64 →
+      take m ys ≡ runs_with_range (used_runs h xs) (o - h.first_start) (o - h.first_start + k) →
+      HasSoundRuns (record { used = m; first_start = h.first_start }) ys
+  joined_sound m room fits e =
+      let lo = o - h.first_start in
+      record {
+        room = room;
+        runs = subst AreRuns (sym e) (rising-runs_with_range 0 (used_runs h xs) lo (lo + k) s.runs (omega arith) (omega arith));
+        first = subst StartsAtZero (sym e)
+            (first-runs_with_range (used_runs h xs) lo (lo + k) s.first (λ z. absurd (omega (arith, length-used_runs h xs s))));
+        fits = subst (FitsFrom h.first_start) (sym e) (fits-runs_with_range h.first_start (used_runs h xs) lo (lo + k) s.fits (omega arith));
+      }
+
+  shown : runs_shifted_up h.first_start (runs_with_range (used_runs h xs) (o - h.first_start) (o - h.first_start + k))
+      ≡ runs_with_range (runs_of h xs) o (o + k)
+  shown =
+      let start : h.first_start + (o - h.first_start) ≡ o = omega arith in
+      let end : h.first_start + (o - h.first_start + k) ≡ o + k = omega arith in
+      up-runs_with_range h.first_start (used_runs h xs) (o - h.first_start) (o - h.first_start + k)
+      ∙ (λ i. runs_with_range (runs_of h xs) (start i) (end i))
+
+  pub joined_runs : (m : ℕ) → take m ys ≡ runs_with_range (used_runs h xs) (o - h.first_start) (o - h.first_start + k) →
+      runs_shifted_up h.first_start (take m ys) ≡ runs_with_range (runs_of h xs) o (o + k)
+  joined_runs m e = ap (runs_shifted_up h.first_start) e ∙ shown
+
+  pub joined_length : length (runs_with_range (runs_of h xs) o (o + k))
+      ≡ length (runs_with_range (used_runs h xs) (o - h.first_start) (o - h.first_start + k))
+  joined_length = ap length (sym shown) ∙ length-up h.first_start (runs_with_range (used_runs h xs) (o - h.first_start) (o - h.first_start + k))
+
+-- pairs that are runs with a range that starts before the first
+module _ (h : AssemblerHead) (xs : List (ℕ × ℕ)) (s : HasSoundRuns h xs) (ys : List (ℕ × ℕ)) (o k : ℕ) (before : o ≤ h.first_start) (l : 0 < k) where
+  pub preceded_sound : (m : ℕ) → m ≤ length ys → o + k < 2 ^ 64 →
+      take m ys ≡ runs_with_range (runs_shifted_up (h.first_start - o) (used_runs h xs)) 0 k →
+      HasSoundRuns (record { used = m; first_start = o }) ys
+  preceded_sound m room fits e =
+      let ups = runs_shifted_up (h.first_start - o) (used_runs h xs) in
+      record {
+        room = room;
+        runs = subst AreRuns (sym e)
+            (rising-runs_with_range 0 ups 0 k (runs-up (h.first_start - o) (used_runs h xs) s.runs) (omega arith) l);
+        first = subst StartsAtZero (sym e) (zero-runs_with_range ups 0 k refl);
+        fits = subst (FitsFrom o) (sym e)
+            (fits-runs_with_range o ups 0 k (fits-up o (h.first_start - o) h.first_start (used_runs h xs) (omega arith) s.fits) fits);
+      }
+
+  seen : runs_shifted_up o (runs_with_range (runs_shifted_up (h.first_start - o) (used_runs h xs)) 0 k)
+      ≡ runs_with_range (runs_of h xs) o (o + k)
+  seen =
+      let start : o + 0 ≡ o = omega arith in
+      let ups = runs_shifted_up (h.first_start - o) (used_runs h xs) in
+      up-runs_with_range o ups 0 k
+      ∙ (λ i. runs_with_range (up-up o (h.first_start - o) h.first_start (used_runs h xs) (omega arith) i) (start i) (o + k))
+
+  pub preceded_runs : (m : ℕ) → take m ys ≡ runs_with_range (runs_shifted_up (h.first_start - o) (used_runs h xs)) 0 k →
+      runs_shifted_up o (take m ys) ≡ runs_with_range (runs_of h xs) o (o + k)
+  preceded_runs m e = ap (runs_shifted_up o) e ∙ seen
+
+  pub preceded_length : length (runs_with_range (runs_of h xs) o (o + k))
+      ≡ length (runs_with_range (runs_shifted_up (h.first_start - o) (used_runs h xs)) 0 k)
+  preceded_length =
+      ap length (sym seen) ∙ length-up o (runs_with_range (runs_shifted_up (h.first_start - o) (used_runs h xs)) 0 k)
+
+-- data that comes next, and reaches no run
+pub next_alone : (h : AssemblerHead) (xs : List (ℕ × ℕ)) → HasSoundRuns h xs → (k : ℕ) → (0 < h.used → k < h.first_start) →
+    Completed (runs_of h xs) 0 k k
+next_alone h xs s k gap =
+    let count = length-runs_of h xs s in
+    let pairs = length-used_runs h xs s in
+    either (cases_lt 0 k)
+    (λ l.
+    completed_at (runs_of h xs) 0 k k (are_runs h xs s) l (omega arith) (λ i a. absurd (omega arith))
+    (λ i a b. let g = gap (omega arith) in omega (arith, start_at-up h.first_start (used_runs h xs) i (omega arith))) refl)
+    (λ l.
+    let none : k ≡ 0 = omega arith in
+    let same = with_range-none (set_of h xs) 0 k none in
+    let missing = front_none (runs_of h xs)
+    (λ m e. let g = gap (omega arith) in absurd (omega (arith, e, run_start h xs s (omega arith)))) in (
+      none ∙ missing ∙ sym (front-set_of h xs s) ∙ ap front (sym same),
+      ap set_of_runs (down-zero k (runs_of h xs) none) ∙ sym (shift_down-zero (set_of h xs) k none)
+          ∙ ap (λ u. shift_down u k) (sym same),
+    ))
+
+-- data that comes next, and reaches the first n runs: end is where the front ends, counted as the runs are
+pub reached : (h : AssemblerHead) (xs : List (ℕ × ℕ)) → HasSoundRuns h xs → (n size end : ℕ) → 1 ≤ n → n ≤ h.used →
+    0 < size → h.first_start ≤ size →
+    ((k : ℕ) → 1 ≤ k → k < n → start_at (used_runs h xs) k ≤ size - h.first_start) →
+    ((k : ℕ) → n ≤ k → k < length (used_runs h xs) → size - h.first_start < start_at (used_runs h xs) k) →
+    end ≡ max (end_at xs (n - 1)) (size - h.first_start) → Completed (runs_of h xs) n size (h.first_start + end)
+reached h xs s n size end some few l from before behind ends =
+    let count = length-used_runs h xs s in
+    let count_runs = length-runs_of h xs s in
+    let last = end_at-up h.first_start (used_runs h xs) (n - 1) (omega arith) in
+    let read = end_of h xs s (n - 1) (omega arith) in
+    let top : h.first_start + end ≡ top_of (runs_of h xs) n size = omega (arith, top_before (runs_of h xs) n size some) in
+    completed_at (runs_of h xs) n size (h.first_start + end) (are_runs h xs s) l (omega arith)
+    (λ k a.
+    let start = start_at-up h.first_start (used_runs h xs) k (omega arith) in
+    either (cases_lt 0 k) (λ b. omega (arith, before k b a))
+    (λ b.
+    let zeroth : k ≡ 0 = omega arith in
+    omega (arith, ap (start_at (used_runs h xs)) zeroth, start_of h xs s 0 (omega arith), first_pair h xs s (omega arith))))
+    (λ k a b. omega (arith, start_at-up h.first_start (used_runs h xs) k (omega arith), behind k a (omega arith)))
+    top
+
+-- what follows from how a range is added
+pub added_accepted : (n : ℕ) (s : Positions) (o k : ℕ) (r : Result (Unit {0}) TooManyHolesError)
+    (t : Positions) → Adds n s o k r t → runs s < n → IsOk r
+added_accepted n s o k (Ok u) t a few = refl
+added_accepted n s o k (Err e) t a few =
+    let over = a.refused.0 refl in
+    let more = one_run_more s o k in
+    absurd (omega (arith, over.1))
+
+pub added_more : (n : ℕ) (s : Positions) (o k : ℕ) (r : Result (Unit {0}) TooManyHolesError)
+    (t : Positions) → Adds n s o k r t → runs t ≤ runs s + 1
+added_more n s o k (Ok u) t a = let all = ap runs a.ok in let more = one_run_more s o k in omega arith
+added_more n s o k (Err e) t a = let same = ap runs a.unchanged in omega arith
+
+pub both_accepted : (n : ℕ) (s : Positions) (o k : ℕ) (r : Result ℕ TooManyHolesError)
+    (t : Positions) → AddsThenRemovesFront n s o k r t → runs s < n → IsOk r
+both_accepted n s o k (Ok u) t a few = refl
+both_accepted n s o k (Err e) t a few =
+    let over = (a.refused.0 refl).1 in
+    let more = one_run_more s o k in
+    absurd (omega (arith, over.1))

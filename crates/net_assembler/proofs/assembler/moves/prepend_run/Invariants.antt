@@ -1,0 +1,12 @@
+use Rattle.std.proofs.Common.{◌≡◌, ◌+◌, ◌++◌, [], ◌∷◌, length, take, drop}
+use Rattle.net_assembler.specs.Positions.{runs_shifted_up}
+use Rattle.net_assembler.proofs.assembler.moves.prepend_run.Given as goal
+
+abbrev pub invariant-loop-k : goal.invariant-loop-k
+invariant-loop-k l = record {
+  len : length l.runs ≡ length l.fn.runs;
+  taken : take l.k l.runs ++ l.carried ∷ [] ≡ l.fn.entry ∷ runs_shifted_up l.by (take l.k l.fn.runs);
+  rest : drop l.k l.runs ≡ drop l.k l.fn.runs;
+  looks : l.turns.0 ≡ l.fn.turns.0;
+  moves : l.turns.1 ≡ l.fn.turns.1 + l.k;
+}

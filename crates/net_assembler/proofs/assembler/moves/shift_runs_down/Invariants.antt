@@ -1,0 +1,13 @@
+use Rattle.std.proofs.Common.{◌≡◌, ◌+◌, ◌-◌, length, take, drop}
+use Rattle.net_assembler.specs.RunLists.{runs_shifted_down, start_at}
+use Rattle.net_assembler.proofs.assembler.moves.shift_runs_down.Given as goal
+
+abbrev pub invariant-loop-k : goal.invariant-loop-k
+invariant-loop-k l = record {
+  len : length l.runs ≡ length l.fn.runs;
+  taken : take (l.k - l.from) l.runs
+      ≡ runs_shifted_down (start_at l.fn.runs l.from) (drop l.from (take l.k l.fn.runs));
+  rest : drop l.k l.runs ≡ drop l.k l.fn.runs;
+  looks : l.turns.0 ≡ l.fn.turns.0;
+  moves : l.turns.1 + l.from ≡ l.fn.turns.1 + l.k;
+}
