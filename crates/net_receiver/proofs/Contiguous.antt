@@ -1,7 +1,8 @@
 -- How many bytes of the queue are contiguous in the storage, by the count read.
 use Rattle.std.proofs.Common.{◌≡◌, ℕ, ◌+◌, ◌-◌, ◌<◌, ◌≤◌, ◌%◌, min, List, ◌++◌, length, take, drop}
 use Rattle.std.proofs.Common.{sym, ap, subst, ◌∙◌, arith, ⊎_elim, lt-ltb, le-ltb, length-take}
-use Rattle.std.proofs.Common.{length-drop, length-append, take_at, drop_at}
+use Rattle.std.proofs.Common.{length-drop, length-append, take_at, drop_at, get_or-drop, get_or-take}
+use Rattle.std.specs.Prelude.{slice_index_or}
 use Rattle.std.proofs.Math.Nat.{mod-eq_of_lt, mod-add-mod, add-mod_left}
 use Rattle.std.proofs.lemmas.Bool.{cond-true, cond-false, cases_lt}
 use Rattle.std.proofs.lemmas.Nat.{mod_below}
@@ -117,3 +118,14 @@ first_part_length v = length-take (contiguous_count v) v.queue ∙ (omega arith)
 
 pub contiguous_some : (v : ReceiverState) → length v.queue ≤ v.capacity → 0 < length v.queue → 0 < contiguous_count v
 contiguous_some v fits some = (let below = mod_below v.read v.capacity (omega arith) in omega arith)
+
+-- each byte of a part of the queue that is lent from byte o on, and where it ends
+pub each_lent : (q bytes : List ℕ) (o : ℕ) → bytes ≡ take (length bytes) (drop o q) → (k d : ℕ) → o ≤ k → k < o + length bytes →
+    slice_index_or q k d ≡ slice_index_or bytes (k - o) d
+each_lent q bytes o is k d from below =
+    let there : o + (k - o) ≡ k = omega arith in
+    sym (ap (λ l. slice_index_or l (k - o) d) is ∙ get_or-take (length bytes) (drop o q) (k - o) d (omega arith) ∙ get_or-drop o q (k - o) d
+    ∙ ap (λ j. slice_index_or q j d) there)
+
+pub end_lent : (q bytes : List ℕ) (o : ℕ) → bytes ≡ take (length bytes) (drop o q) → length bytes ≤ length q - o
+end_lent q bytes o is = omega (arith, ap length is, length-take (length bytes) (drop o q), length-drop o q)

@@ -21,4 +21,6 @@ pub mod Called
 pub mod Retransmission
 pub mod ReadLaws
 pub mod Contiguous
+pub mod Heads
+pub mod Resumed
 pub mod WorkedExample

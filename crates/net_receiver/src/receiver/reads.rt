@@ -11,10 +11,11 @@ ghost use Rattle.net_receiver.specs.Contiguous.{contiguous_count, contiguous_cou
 ghost use Rattle.net_receiver.specs.Contiguous.{second_part};
 ghost use Rattle.net_receiver.specs.OneStream.{ReceivesFrom};
 
-use super::Receiver;
+use super::ReceiverOver;
+use net_ring::Storage;
 
 /// Reading: bytes at the head of the queue, copied out or lent.
-impl<'a, const N: usize> Receiver<'a, N> {
+impl<S: Storage<u8>, const N: usize> ReceiverOver<S, N> {
     /// Moves bytes from the head of the queue to the beginning of `into`, and returns how many: as
     /// many as are queued and as `into` has room for. The rest of `into` stays as it is.
     ///
@@ -41,9 +42,8 @@ impl<'a, const N: usize> Receiver<'a, N> {
         ensures bytes { (f : ℕ) (x : List ℕ) → ReceivesFrom f x self.old → take result into.new
             ≡ slice_range x self.old.read (self.old.read + result) }
     {
-        let count = self.ring.dequeue_slice(into);
-        self.count_read += count as u64;
-        count
+        self.head
+            .read(self.storage.part(0, self.storage.count()), into)
     }
 
     /// Lends bytes of the queue that are contiguous, from its byte `offset` on: `size`, or as many as there are
@@ -66,7 +66,8 @@ impl<'a, const N: usize> Receiver<'a, N> {
         ensures bytes { (f : ℕ) (x : List ℕ) → ReceivesFrom f x self.now →
             result.now ≡ take (length result.now) (drop (self.now.read + offset) x) }
     {
-        self.ring.get_allocated(offset, size)
+        self.head
+            .peek(self.storage.part(0, self.storage.count()), offset, size)
     }
 
     /// Copies bytes from the head of the queue to the beginning of `into`, and returns how many:
@@ -84,7 +85,8 @@ impl<'a, const N: usize> Receiver<'a, N> {
         ensures bytes { (f : ℕ) (x : List ℕ) → ReceivesFrom f x self.old → take result into.new
             ≡ slice_range x self.old.read (self.old.read + result) }
     {
-        self.ring.read_allocated(0, into)
+        self.head
+            .peek_slice(self.storage.part(0, self.storage.count()), into)
     }
 
     /// Shows the queue, in order, in two parts: the bytes up to the storage's end, and those from its
@@ -105,7 +107,8 @@ impl<'a, const N: usize> Receiver<'a, N> {
             result.0.now ++ result.1.now
             ≡ slice_range x self.now.read (self.now.read + length self.now.queue) }
     {
-        self.ring.as_slices()
+        self.head
+            .as_slices(self.storage.part(0, self.storage.count()))
     }
 
     /// Calls `f` on the first part of the queue, as `as_slices` shows it, takes as many bytes off the
@@ -135,10 +138,10 @@ impl<'a, const N: usize> Receiver<'a, N> {
             take result.0 self.old.queue
             ≡ slice_range x self.old.read (self.old.read + result.0) }
     {
-        let bytes = self.ring.get_allocated(0, self.ring.len());
+        let storage = self.storage.part(0, self.storage.count());
+        let bytes = self.head.peek(storage, 0, self.head.queued());
         let answer = f(bytes);
-        self.ring.dequeue_allocated(answer.0);
-        self.count_read += answer.0 as u64;
+        self.head.remove(self.storage.count(), answer.0);
         answer
     }
 }

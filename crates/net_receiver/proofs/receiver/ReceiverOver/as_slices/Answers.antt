@@ -1,0 +1,53 @@
+use Rattle.std.proofs.Common.{◌∙◌, sym, ap, length, length-append, refl, take_all, le_refl, arith}
+use Rattle.std.proofs.lemmas.List.{get_or_append_left, get_or-append_right}
+use Rattle.std.specs.Prelude.{slice_index_or}
+use Rattle.net_ring.specs.Place.{ring_at}
+use Rattle.net_receiver.specs.Contiguous.{contiguous_count}
+use Rattle.net_receiver.specs.ReceiverState.{ReceiverState}
+use Rattle.net_receiver.proofs.Called.{head_bytes}
+use Rattle.net_receiver.proofs.Contiguous.{lent_prefix, parts_are}
+use Rattle.net_receiver.proofs.Heads.{lent_view, lent_sound}
+use Rattle.net_receiver.proofs.receiver.ReceiverOver.as_slices.Goals as goal
+
+pub as_slices-requires : goal.as_slices-requires
+as_slices-requires g c =
+    (lent_sound c.self.inside.head (g.S.Storage.elements c.self.inside.storage) c.part.result.now c.self.inside.runs
+    c.count.result c.count.ensures c.part.ensures c.self.invariant.0).place
+
+pub returns-clause-queue : goal.returns-clause-queue
+returns-clause-queue g c =
+    c.as_slices.ensures.queue
+    ∙ ap (λ (v : ReceiverState). v.queue)
+    (lent_view c.self.inside.head (g.S.Storage.elements c.self.inside.storage) c.part.result.now c.self.inside.runs
+    c.count.result c.count.ensures c.part.ensures c.args.self.now c.self.view_is)
+
+pub returns-clause-cut : goal.returns-clause-cut
+returns-clause-cut g c =
+    let h = c.self.inside.head in
+    let sound = lent_sound h (g.S.Storage.elements c.self.inside.storage) c.part.result.now c.self.inside.runs
+    c.count.result c.count.ensures c.part.ensures c.self.invariant.0 in
+    lent_prefix (ring_at c.part.result.now h.place) h.count_read sound.read_at (length c.as_slices.result.0.now) c.as_slices.ensures.cut
+    (omega (arith, ap length c.as_slices.ensures.queue, length-append c.as_slices.result.0.now c.as_slices.result.1.now))
+    ∙ ap contiguous_count
+    (lent_view h (g.S.Storage.elements c.self.inside.storage) c.part.result.now c.self.inside.runs
+    c.count.result c.count.ensures c.part.ensures c.args.self.now c.self.view_is)
+
+pub returns-clause-value : goal.returns-clause-value
+returns-clause-value g c =
+    parts_are c.args.self.now.queue c.as_slices.result.0.now c.as_slices.result.1.now (contiguous_count c.args.self.now)
+    (returns-clause-queue g c) (returns-clause-cut g c)
+
+pub returns-clause-first : goal.returns-clause-first
+returns-clause-first g c = λ k d within.
+    ap (λ l. slice_index_or l k d) (sym (returns-clause-queue g c))
+    ∙ get_or_append_left c.as_slices.result.0.now c.as_slices.result.1.now d k within
+
+pub returns-clause-second : goal.returns-clause-second
+returns-clause-second g c = λ k d past.
+    ap (λ l. slice_index_or l k d) (sym (returns-clause-queue g c))
+    ∙ get_or-append_right c.as_slices.result.0.now c.as_slices.result.1.now (length c.as_slices.result.0.now) k d refl past
+
+pub returns-clause-bytes : goal.returns-clause-bytes
+returns-clause-bytes g c = λ f x r.
+    let v = c.args.self.now in
+    returns-clause-queue g c ∙ sym (take_all (length v.queue) v.queue (le_refl _)) ∙ head_bytes f x v (length v.queue) (le_refl _) r

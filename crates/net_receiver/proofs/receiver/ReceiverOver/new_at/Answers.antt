@@ -1,0 +1,21 @@
+use Rattle.std.proofs.Common.{length, sym, subst}
+use Rattle.std.proofs.lemmas.List.{length-replicate}
+use Rattle.net_receiver.specs.Schedule.{fresh_kept}
+use Rattle.net_receiver.specs.ReceiverState.{Refines}
+use Rattle.net_receiver.specs.OneStream.{ReceivesFrom}
+use Rattle.net_receiver.proofs.Called.{fresh_receives_from}
+use Rattle.net_receiver.proofs.Whole.{fresh_refines}
+use Rattle.net_receiver.proofs.receiver.ReceiverOver.new_at.Goals as goal
+
+pub invariant_of-result : goal.invariant_of-result
+invariant_of-result g c = (c.new.ensures.sound (g.S.Storage.elements c.args.storage) _, length-replicate g.row.N (0, 0))
+
+pub returns-clause-refines : goal.returns-clause-refines
+returns-clause-refines g c =
+    subst (λ v. Refines v fresh_kept) (sym (c.new.ensures.state (g.S.Storage.elements c.args.storage) _))
+    (fresh_refines c.args.first (length (g.S.Storage.elements c.args.storage)))
+
+pub returns-clause-receives : goal.returns-clause-receives
+returns-clause-receives g c =
+    λ x. subst (ReceivesFrom c.args.first x) (sym (c.new.ensures.state (g.S.Storage.elements c.args.storage) _))
+    (fresh_receives_from x c.args.first (length (g.S.Storage.elements c.args.storage)))

@@ -1,0 +1,79 @@
+use Rattle.std.proofs.Common.{◌∙◌, ◌++◌, min, ap, sym, length, take, drop}
+use Rattle.net_receiver.specs.Rules.{Read, ReadReply}
+use Rattle.net_receiver.specs.ReceiverState.{ReceiverState, next_position, receiver_after_read}
+use Rattle.net_receiver.proofs.Called.{read_receives, stays, read_bytes}
+use Rattle.net_receiver.proofs.Heads.{lent_view, lent_sound, back_view, back_sound, queue_size, next_fits, sound_for}
+use Rattle.net_receiver.proofs.ReadLaws.{read_leaves_next}
+use Rattle.net_receiver.proofs.Run.{steps, read_prefix}
+use Rattle.net_receiver.proofs.receiver.ReceiverOver.read.Goals as goal
+
+pub read-requires-clause-place : goal.read-requires-clause-place
+read-requires-clause-place g c =
+    (lent_sound c.self.inside.head (g.S.Storage.elements c.self.inside.storage) c.part.result.now c.self.inside.runs
+    c.count.result c.count.ensures c.part.ensures c.self.invariant.0).place
+
+pub read-requires-clause-fits : goal.read-requires-clause-fits
+read-requires-clause-fits g c = next_fits c.self.inside.head (g.S.Storage.elements c.self.inside.storage) c.self.inside.runs c.self.invariant.0
+
+pub invariant_of-self : goal.invariant_of-self
+invariant_of-self g c =
+    let i = c.self.inside in
+    let xs = g.S.Storage.elements i.storage in (
+      back_sound c.read.new.self xs c.part.result.now i.runs c.count.result c.count.ensures c.part.ensures
+          (c.read.ensures.sound i.runs
+          (lent_sound i.head xs c.part.result.now i.runs c.count.result c.count.ensures c.part.ensures c.self.invariant.0)),
+      c.self.invariant.1,
+    )
+
+pub returns-clause-state : goal.returns-clause-state
+returns-clause-state g c =
+    let i = c.self.inside in
+    let xs = g.S.Storage.elements i.storage in
+    back_view c.read.new.self xs c.part.result.now i.runs c.count.result c.count.ensures c.part.ensures
+    (receiver_after_read c.args.self.now (length c.args.into.now))
+    (c.read.ensures.state i.runs
+    (lent_sound i.head xs c.part.result.now i.runs c.count.result c.count.ensures c.part.ensures c.self.invariant.0)
+    ∙ ap (λ v. receiver_after_read v (length c.args.into.now))
+    (lent_view i.head xs c.part.result.now i.runs c.count.result c.count.ensures c.part.ensures c.args.self.now c.self.view_is))
+
+pub returns-clause-count : goal.returns-clause-count
+returns-clause-count g c =
+    c.read.ensures.count
+    ∙ ap (min (length c.args.into.now))
+    (sym (queue_size c.self.inside.head (g.S.Storage.elements c.self.inside.storage) c.self.inside.runs c.self.invariant.0.place)
+    ∙ ap (λ (v : ReceiverState). length v.queue) c.self.view_is)
+
+pub returns-clause-into : goal.returns-clause-into
+returns-clause-into g c =
+    c.read.ensures.into
+    ∙ ap (λ (v : ReceiverState). take (length c.args.into.now) v.queue ++ drop (length v.queue) c.args.into.now)
+    (lent_view c.self.inside.head (g.S.Storage.elements c.self.inside.storage) c.part.result.now c.self.inside.runs
+    c.count.result c.count.ensures c.part.ensures c.args.self.now c.self.view_is)
+
+pub returns-clause-step : goal.returns-clause-step
+returns-clause-step g c = λ s d.
+    steps g.row.N c.args.self.now _ (Read (length c.args.into.now)) (ReadReply (take c.read.result c.read.new.into)) (returns-clause-state g c)
+    (ap (λ xs. ReadReply xs)
+    (read_prefix c.args.self.now.queue c.read.new.into c.args.into.now c.read.result (returns-clause-count g c) (returns-clause-into g c)))
+    s d
+
+pub returns-clause-setting : goal.returns-clause-setting
+returns-clause-setting g c =
+    let i = c.self.inside in
+    let xs = g.S.Storage.elements i.storage in
+    stays g.row.N c.args.self.now _ (Read (length c.args.into.now)) (returns-clause-state g c)
+    (sound_for c.read.new.self xs i.runs
+    (back_sound c.read.new.self xs c.part.result.now i.runs c.count.result c.count.ensures c.part.ensures
+    (c.read.ensures.sound i.runs
+    (lent_sound i.head xs c.part.result.now i.runs c.count.result c.count.ensures c.part.ensures c.self.invariant.0)))
+    g.row.N c.self.invariant.1)
+
+pub returns-clause-next : goal.returns-clause-next
+returns-clause-next g c = ap next_position (returns-clause-state g c) ∙ read_leaves_next c.args.self.now (length c.args.into.now)
+
+pub returns-clause-receives : goal.returns-clause-receives
+returns-clause-receives g c = λ f x r. read_receives f x c.args.self.now _ (length c.args.into.now) (returns-clause-state g c) r
+
+pub returns-clause-bytes : goal.returns-clause-bytes
+returns-clause-bytes g c =
+    λ f x r. read_bytes f x c.args.self.now c.read.new.into c.args.into.now c.read.result (returns-clause-count g c) (returns-clause-into g c) r

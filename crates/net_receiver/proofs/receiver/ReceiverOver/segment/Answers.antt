@@ -1,0 +1,83 @@
+use Rattle.std.proofs.Common.{◌≡◌, ◌∙◌, ap, subst, sym, length}
+use Rattle.net_receiver.specs.KeptList.{piece}
+use Rattle.net_receiver.specs.Rules.{Segment, SegmentReply, verdict, segment_result}
+use Rattle.net_receiver.specs.ReceiverState.{receiver_ops, receiver_after_command}
+use Rattle.net_receiver.specs.Head.{receiver_of, HasSoundParts}
+use Rattle.net_receiver.proofs.Called.{segment_receives, in_order, any_order, stays}
+use Rattle.net_receiver.proofs.Heads.{lent_view, lent_sound, part_is, whole_written, sound_for}
+use Rattle.net_receiver.proofs.Run.{steps}
+use Rattle.net_receiver.proofs.receiver.ReceiverOver.segment.Given as given
+use Rattle.net_receiver.proofs.receiver.ReceiverOver.segment.Goals as goal
+
+pub segment-requires-clause-sound : goal.segment-requires-clause-sound
+segment-requires-clause-sound g c =
+    lent_sound c.self.inside.head (g.S.Storage.elements c.self.inside.storage) c.part_mut-storage.result.now c.self.inside.runs
+    c.count-count.result c.count-count.ensures c.part_mut-storage.ensures.value c.self.invariant.0
+
+-- what was stored, as the whole storage
+stored : (g : given.Over) (c : goal.After-self-2-1 g) →
+    g.S.Storage.elements (g.S.Storage.with_part c.self.inside.storage 0 c.segment.new.storage) ≡ c.segment.new.storage
+stored g c =
+    let xs = g.S.Storage.elements c.self.inside.storage in
+    whole_written xs _ c.segment.new.storage
+    (c.segment.auto.storage ∙ ap length (part_is c.self.inside.head xs c.part_mut-storage.result.now c.self.inside.runs
+    c.count-count.result c.count-count.ensures c.part_mut-storage.ensures.value))
+    (g.met.S.Storage.part_written c.self.inside.storage 0 c.segment.new.storage)
+
+sound_is : (g : given.Over) (c : goal.After-self-2-1 g) →
+    HasSoundParts c.segment.new.self (g.S.Storage.elements (g.S.Storage.with_part c.self.inside.storage 0 c.segment.new.storage)) c.segment.new.runs
+sound_is g c = subst (λ xs. HasSoundParts c.segment.new.self xs c.segment.new.runs) (sym (stored g c)) c.segment.ensures.sound
+
+runs_are : (g : given.Over) (c : goal.After-self-2-1 g) → length c.segment.new.runs ≡ g.row.N
+runs_are g c = c.segment.auto.runs ∙ c.self.invariant.1
+
+-- what is left, and what is returned
+state_is : (g : given.Over) (c : goal.After-self-2-1 g) →
+    receiver_of c.segment.new.self (g.S.Storage.elements (g.S.Storage.with_part c.self.inside.storage 0 c.segment.new.storage)) c.segment.new.runs
+    ≡ receiver_after_command g.row.N c.args.self.now (Segment c.args.pos c.args.bytes.now)
+state_is g c =
+    let i = c.self.inside in
+    let before = lent_view i.head (g.S.Storage.elements i.storage) c.part_mut-storage.result.now i.runs
+    c.count-count.result c.count-count.ensures c.part_mut-storage.ensures.value c.args.self.now c.self.view_is in
+    ap (λ xs. receiver_of c.segment.new.self xs c.segment.new.runs) (stored g c)
+    ∙ c.segment.ensures.state
+    ∙ (λ k. receiver_after_command (c.self.invariant.1 k) (before k) (Segment c.args.pos c.args.bytes.now))
+
+result_is : (g : given.Over) (c : goal.After-self-2-1 g) →
+    c.segment.result ≡ segment_result receiver_ops c.args.self.now (verdict receiver_ops g.row.N c.args.self.now (piece c.args.pos c.args.bytes.now))
+result_is g c =
+    let i = c.self.inside in
+    let before = lent_view i.head (g.S.Storage.elements i.storage) c.part_mut-storage.result.now i.runs
+    c.count-count.result c.count-count.ensures c.part_mut-storage.ensures.value c.args.self.now c.self.view_is in
+    c.segment.ensures.value
+    ∙ (λ k. segment_result receiver_ops (before k) (verdict receiver_ops (c.self.invariant.1 k) (before k) (piece c.args.pos c.args.bytes.now)))
+
+pub invariant_of-self : goal.invariant_of-self
+invariant_of-self g c = (sound_is g c, runs_are g c)
+
+pub returns-clause-state : goal.returns-clause-state
+returns-clause-state g c = state_is g c
+
+pub returns-clause-reply : goal.returns-clause-reply
+returns-clause-reply g c = ap (λ r. SegmentReply r) (result_is g c)
+
+pub returns-clause-step : goal.returns-clause-step
+returns-clause-step g c =
+    steps g.row.N _ _ (Segment c.args.pos c.args.bytes.now) (SegmentReply c.segment.result) (state_is g c) (ap (λ r. SegmentReply r) (result_is g c))
+
+pub returns-clause-setting : goal.returns-clause-setting
+returns-clause-setting g c =
+    stays g.row.N c.args.self.now _ (Segment c.args.pos c.args.bytes.now) (state_is g c)
+    (sound_for c.segment.new.self _ c.segment.new.runs (sound_is g c) g.row.N (runs_are g c))
+
+pub returns-clause-keeps : goal.returns-clause-keeps
+returns-clause-keeps g c =
+    any_order g.row.N c.args.self.now _ c.args.pos c.args.bytes.now c.segment.result (state_is g c) (result_is g c)
+
+pub returns-clause-in_order : goal.returns-clause-in_order
+returns-clause-in_order g c =
+    in_order g.row.N c.args.self.now _ c.args.pos c.args.bytes.now c.segment.result (state_is g c) (result_is g c)
+
+pub returns-clause-receives : goal.returns-clause-receives
+returns-clause-receives g c = λ f x r h.
+    segment_receives g.row.N f x c.args.self.now _ c.args.pos c.args.bytes.now (state_is g c) r h

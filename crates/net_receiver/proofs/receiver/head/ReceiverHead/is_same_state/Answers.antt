@@ -1,0 +1,54 @@
+use Rattle.std.proofs.Common.{◌≡◌, IsTrue, sym, refl, ◌∙◌, eqb-true, eq-eqb}
+use Rattle.std.proofs.lemmas.Bool.{both_ways}
+use Rattle.net_ring.specs.Place.{ring_at}
+use Rattle.net_ring.specs.Ring.{queue, spare}
+use Rattle.net_assembler.specs.RunLists.{set_of}
+use Rattle.net_receiver.specs.ReceiverState.{IsSameState}
+use Rattle.net_receiver.specs.Head.{receiver_of}
+use Rattle.net_receiver.proofs.Placed.{alike_views}
+use Rattle.net_receiver.proofs.receiver.head.ReceiverHead.is_same_state.Goals as goal
+use Rattle.net_receiver.proofs.receiver.head.ReceiverHead.is_same_state.Goals.{then-self-other, else-self-other}
+use Rattle.net_receiver.proofs.receiver.head.ReceiverHead.is_same_state.Goals.{then-self-other-2, else-self-other-2}
+
+-- what is compared before the held runs is equal
+before_held : (c : goal.After-is_same) →
+    (c.args.self.now.first ≡ c.args.other.now.first) × (c.args.self.now.count_read ≡ c.args.other.now.count_read)
+    × (queue (ring_at c.args.storage.now c.args.self.now.place) ≡ queue (ring_at c.args.other_storage.now c.args.other.now.place))
+before_held c =
+    elim c.if-self-other-2.branch [
+      | then-self-other-2 w ↦ elim c.if-self-other.branch [
+        | then-self-other v ↦ (
+          v.if-self-other.true,
+          eqb-true _ _ (sym v.value-is ∙ w.if-self-other-2.true),
+          w.is_same_queue.ensures.0 (sym w.value-is ∙ c.if-is_same_queue.true),
+        )
+        | else-self-other v ↦ absurd (v.if-self-other.false (eqb-true _ _ (sym v.value-is ∙ w.if-self-other-2.true)))
+      ]
+      | else-self-other-2 w ↦ absurd (both_ways _ w.if-self-other-2.false (sym w.value-is ∙ c.if-is_same_queue.true))
+    ]
+
+-- all four are compared
+pub returns-then-is_same_queue : goal.returns-then-is_same_queue
+returns-then-is_same_queue c =
+    let before = before_held c in
+    let h = c.args.self.now in
+    let h' = c.args.other.now in
+    let g = ring_at c.args.storage.now h.place in
+    let g' = ring_at c.args.other_storage.now h'.place in
+    alike_views c.equal_maximal_runs.ensures h.first h.count_read h'.first h'.count_read (queue g) (spare g) (queue g') (spare g')
+    (set_of h.held c.args.runs.now) (set_of h'.held c.args.other_runs.now) (receiver_of h c.args.storage.now c.args.runs.now)
+    (receiver_of h' c.args.other_storage.now c.args.other_runs.now) refl refl before.0 before.1 before.2 (IsTrue c.is_same.result) c.is_same.ensures.same
+
+-- one that is compared before the held runs differs
+pub returns-else-is_same_queue : goal.returns-else-is_same_queue
+returns-else-is_same_queue c =
+    let differs : IsSameState (receiver_of c.args.self.now c.args.storage.now c.args.runs.now)
+    (receiver_of c.args.other.now c.args.other_storage.now c.args.other_runs.now) → ⊥ = λ same.
+    elim c.if-self-other-2.branch [
+      | then-self-other-2 w ↦ both_ways _ (sym w.value-is ∙ c.if-is_same_queue.false) (w.is_same_queue.ensures.1 same.2)
+      | else-self-other-2 w ↦ elim c.if-self-other.branch [
+        | then-self-other v ↦ both_ways _ (sym v.value-is ∙ w.if-self-other-2.false) (eq-eqb _ _ same.1)
+        | else-self-other v ↦ v.if-self-other.false same.0
+      ]
+    ] in
+    ((λ yes. absurd (both_ways _ c.if-is_same_queue.false yes)), (λ same. absurd (differs same)))

@@ -1,0 +1,102 @@
+-- Each goal is a lemma of `Heads.antt` at what the calls ensured.
+use Rattle.std.proofs.Common.{◌≡◌, ◌-◌, length, take, drop, Ok, refl, ap, ◌∙◌, arith, length-take, length-drop}
+use Rattle.std.proofs.lemmas.List.{take_rest}
+use Rattle.net_receiver.specs.declared.receiver.head.ReceiverHead.{ReceiverHead}
+use Rattle.net_receiver.specs.KeptList.{piece}
+use Rattle.net_receiver.specs.Rules.{verdict, state_after, numbers}
+use Rattle.net_receiver.specs.ReceiverState.{receiver_ops}
+use Rattle.net_receiver.specs.Head.{receiver_of, HasSoundParts}
+use Rattle.net_receiver.proofs.Heads.{refused, refused_stores, joined_fits, kept_is, kept_stores}
+use Rattle.net_receiver.proofs.Placed.{front_removed}
+use Rattle.net_receiver.proofs.Segment.{only_err, accepted_cases}
+use Rattle.net_receiver.proofs.receiver.head.ReceiverHead.keep.Goals as goal
+
+pub returns-in_err-queued-clause-state : goal.returns-in_err-queued-clause-state
+returns-in_err-queued-clause-state c =
+    (refused c.args.self.now c.args.storage.now c.args.runs.now c.requires.sound c.saturating_sub-late.result c.saturating_sub-ahead.result
+    c.min-kept.result c.args.pos c.args.bytes.now
+    c.next-next.result c.window-window.result c.next-next.ensures c.window-window.ensures
+    c.saturating_sub-late.ensures c.saturating_sub-ahead.ensures c.if-late-bytes.false c.if-ahead-window.false c.min-kept.ensures c.requires.fits
+    c.add_then_remove_front.new.self c.add_then_remove_front.new.runs (c.in_err-queued.ensures.both.refused.0 refl).0
+    (c.in_err-queued.ensures.both.refused.0 refl).1.1 c.in_err-queued.ensures.unchanged.0 c.in_err-queued.ensures.unchanged.1).0
+
+pub returns-in_err-queued-clause-numbers : goal.returns-in_err-queued-clause-numbers
+returns-in_err-queued-clause-numbers c =
+    only_err c.from_residual.result c.from_residual.ensures.0
+    ∙ (refused c.args.self.now c.args.storage.now c.args.runs.now c.requires.sound c.saturating_sub-late.result c.saturating_sub-ahead.result
+    c.min-kept.result c.args.pos c.args.bytes.now
+    c.next-next.result c.window-window.result c.next-next.ensures c.window-window.ensures
+    c.saturating_sub-late.ensures c.saturating_sub-ahead.ensures c.if-late-bytes.false c.if-ahead-window.false c.min-kept.ensures c.requires.fits
+    c.add_then_remove_front.new.self c.add_then_remove_front.new.runs (c.in_err-queued.ensures.both.refused.0 refl).0
+    (c.in_err-queued.ensures.both.refused.0 refl).1.1 c.in_err-queued.ensures.unchanged.0 c.in_err-queued.ensures.unchanged.1).1
+
+pub returns-in_err-queued-clause-stored : goal.returns-in_err-queued-clause-stored
+returns-in_err-queued-clause-stored c =
+    refused_stores c.args.self.now c.args.storage.now c.args.runs.now c.requires.sound c.saturating_sub-late.result c.saturating_sub-ahead.result
+    c.min-kept.result c.args.pos c.args.bytes.now
+    c.next-next.result c.window-window.result c.next-next.ensures c.window-window.ensures
+    c.saturating_sub-late.ensures c.saturating_sub-ahead.ensures c.if-late-bytes.false c.if-ahead-window.false c.min-kept.ensures c.requires.fits
+    (c.in_err-queued.ensures.both.refused.0 refl).0 (c.in_err-queued.ensures.both.refused.0 refl).1.1
+
+pub enqueue-requires-clause-free : goal.enqueue-requires-clause-free
+enqueue-requires-clause-free c =
+    let few = joined_fits c.args.self.now c.args.storage.now c.args.runs.now c.requires.sound c.saturating_sub-late.result c.saturating_sub-ahead.result
+    c.min-kept.result c.args.pos c.args.bytes.now
+    c.next-next.result c.window-window.result c.next-next.ensures c.window-window.ensures
+    c.saturating_sub-late.ensures c.saturating_sub-ahead.ensures c.if-late-bytes.false c.if-ahead-window.false c.min-kept.ensures c.requires.fits
+    c.in_ok-queued.queued c.add_then_remove_front.new.self c.add_then_remove_front.new.runs
+    (front_removed _ _ _ c.in_ok-queued.ensures.both.value.0 c.in_ok-queued.ensures.both.value.1) in
+    omega (arith, few, c.write_unallocated.ensures.size)
+
+-- what is left, what is returned, and that the parts are sound
+all : (c : goal.After-drop-turns-3) →
+    let h : ReceiverHead = record {
+      first = c.args.self.now.first;
+      count_read = c.args.self.now.count_read;
+      place = c.enqueue.new.self;
+      held = c.add_then_remove_front.new.self;
+    } in
+    let v = receiver_of c.args.self.now c.args.storage.now c.args.runs.now in
+    let x = verdict receiver_ops (length c.args.runs.now) v (piece c.args.pos c.args.bytes.now) in
+    (receiver_of h c.write_unallocated.new.storage c.add_then_remove_front.new.runs ≡ state_after receiver_ops v x)
+    × (Ok (c.min-kept.result, c.in_ok-queued.queued) ≡ numbers receiver_ops v x)
+    × HasSoundParts h c.write_unallocated.new.storage c.add_then_remove_front.new.runs
+all c =
+    kept_is c.args.self.now c.args.storage.now c.args.runs.now c.requires.sound c.saturating_sub-late.result c.saturating_sub-ahead.result
+    c.min-kept.result c.args.pos c.args.bytes.now
+    c.next-next.result c.window-window.result c.next-next.ensures c.window-window.ensures
+    c.saturating_sub-late.ensures c.saturating_sub-ahead.ensures c.if-late-bytes.false c.if-ahead-window.false c.min-kept.ensures c.requires.fits
+    c.in_ok-queued.queued c.add_then_remove_front.new.self c.add_then_remove_front.new.runs
+    (front_removed _ _ _ c.in_ok-queued.ensures.both.value.0 c.in_ok-queued.ensures.both.value.1)
+    c.in_ok-queued.ensures.sound c.in_ok-queued.ensures.both.bound c.add_then_remove_front.auto.runs
+    (accepted_cases (length c.args.runs.now) c.saturating_sub-ahead.result c.min-kept.result _
+    (omega (arith, c.if-late-bytes.false, c.if-ahead-window.false, c.min-kept.ensures, length-take (length c.args.bytes.now - c.saturating_sub-late.result) (drop c.saturating_sub-late.result c.args.bytes.now), length-drop c.saturating_sub-late.result c.args.bytes.now))
+    c.in_ok-queued.ensures.both.refused.1)
+    c.write_unallocated.new.storage
+    (take c.min-kept.result (take (length c.args.bytes.now - c.saturating_sub-late.result) (drop c.saturating_sub-late.result c.args.bytes.now)))
+    c.write_unallocated.result c.write_unallocated.ensures.written c.write_unallocated.ensures.size
+    (ap (take c.min-kept.result) (take_rest c.args.bytes.now c.saturating_sub-late.result)) (c.write_unallocated.ensures.count)
+    c.enqueue.new.self c.enqueue.ensures.place c.enqueue.ensures.sound
+
+pub returns-clause-state : goal.returns-clause-state
+returns-clause-state c = (all c).0
+
+pub returns-clause-numbers : goal.returns-clause-numbers
+returns-clause-numbers c = (all c).1
+
+pub returns-clause-sound : goal.returns-clause-sound
+returns-clause-sound c = (all c).2
+
+pub returns-clause-stored : goal.returns-clause-stored
+returns-clause-stored c =
+    kept_stores c.args.self.now c.args.storage.now c.args.runs.now c.requires.sound c.saturating_sub-late.result c.saturating_sub-ahead.result
+    c.min-kept.result c.args.pos c.args.bytes.now
+    c.next-next.result c.window-window.result c.next-next.ensures c.window-window.ensures
+    c.saturating_sub-late.ensures c.saturating_sub-ahead.ensures c.if-late-bytes.false c.if-ahead-window.false c.min-kept.ensures c.requires.fits
+    (accepted_cases (length c.args.runs.now) c.saturating_sub-ahead.result c.min-kept.result _
+    (omega (arith, c.if-late-bytes.false, c.if-ahead-window.false, c.min-kept.ensures, length-take (length c.args.bytes.now - c.saturating_sub-late.result) (drop c.saturating_sub-late.result c.args.bytes.now), length-drop c.saturating_sub-late.result c.args.bytes.now))
+    c.in_ok-queued.ensures.both.refused.1)
+    c.write_unallocated.new.storage
+    (take c.min-kept.result (take (length c.args.bytes.now - c.saturating_sub-late.result) (drop c.saturating_sub-late.result c.args.bytes.now)))
+    c.write_unallocated.result c.write_unallocated.ensures.ring
+    (ap (take c.min-kept.result) (take_rest c.args.bytes.now c.saturating_sub-late.result)) c.write_unallocated.ensures.count

@@ -1,0 +1,28 @@
+use Rattle.std.proofs.Common.{◌∙◌, ◌+◌, sym, ap, subst, arith}
+use Rattle.net_ring.specs.Place.{IsSound as IsSoundPlace, dequeued_place}
+use Rattle.net_receiver.specs.Head.{receiver_of, HasSoundParts, head_after_read}
+use Rattle.net_receiver.proofs.Heads.{after_read}
+use Rattle.net_receiver.proofs.receiver.head.ReceiverHead.remove.Goals as goal
+
+pub returns-clause-head : goal.returns-clause-head
+returns-clause-head c = λ i. record {
+  first = c.args.self.now.first;
+  count_read = c.args.self.now.count_read + c.args.count;
+  place = c.dequeue.ensures.place i;
+  held = c.args.self.now.held;
+}
+
+pub returns-clause-sound : goal.returns-clause-sound
+returns-clause-sound c = λ xs rs size s.
+    let place = subst (λ n. IsSoundPlace n (dequeued_place n c.args.count c.args.self.now.place)) (sym size)
+    (subst (IsSoundPlace c.args.capacity) c.dequeue.ensures.place c.dequeue.ensures.sound) in
+    subst (λ h. HasSoundParts h xs rs)
+    (sym (returns-clause-head c ∙ ap (λ n. head_after_read n c.args.count c.args.self.now) (sym size)))
+    (after_read c.args.self.now xs rs s c.args.count c.args.count (omega (arith, c.requires.queued)) place).1
+
+pub returns-clause-state : goal.returns-clause-state
+returns-clause-state c = λ xs rs size s.
+    let place = subst (λ n. IsSoundPlace n (dequeued_place n c.args.count c.args.self.now.place)) (sym size)
+    (subst (IsSoundPlace c.args.capacity) c.dequeue.ensures.place c.dequeue.ensures.sound) in
+    ap (λ h. receiver_of h xs rs) (returns-clause-head c ∙ ap (λ n. head_after_read n c.args.count c.args.self.now) (sym size))
+    ∙ (after_read c.args.self.now xs rs s c.args.count c.args.count (omega (arith, c.requires.queued)) place).0

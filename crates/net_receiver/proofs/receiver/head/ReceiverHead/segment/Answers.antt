@@ -1,0 +1,25 @@
+use Rattle.std.proofs.Common.{◌∙◌, Ok, ap, sym, length}
+use Rattle.net_receiver.specs.KeptList.{piece}
+use Rattle.net_receiver.specs.Rules.{verdict, numbers, with_sack}
+use Rattle.net_receiver.specs.ReceiverState.{ReceiverState, domain, receiver_ops}
+use Rattle.net_receiver.specs.Head.{receiver_of}
+use Rattle.net_receiver.proofs.Segment.{only_err}
+use Rattle.net_receiver.proofs.receiver.head.ReceiverHead.segment.Goals as goal
+
+pub returns-in_err-kept-clause-value : goal.returns-in_err-kept-clause-value
+returns-in_err-kept-clause-value c =
+    let v = receiver_of c.args.self.now c.args.storage.now c.args.runs.now in
+    let x = verdict receiver_ops (length c.args.runs.now) v (piece c.args.pos c.args.bytes.now) in
+    let left = receiver_of c.keep.new.self c.keep.new.storage c.keep.new.runs in
+    only_err c.from_residual.result c.from_residual.ensures.0
+    ∙ ap (λ n. with_sack n (domain left.held)) (sym c.in_err-kept.was ∙ c.keep.ensures.numbers)
+    ∙ ap (λ (u : ReceiverState). with_sack (numbers receiver_ops v x) (domain u.held)) c.keep.ensures.state
+
+pub returns-clause-value : goal.returns-clause-value
+returns-clause-value c =
+    let v = receiver_of c.args.self.now c.args.storage.now c.args.runs.now in
+    let x = verdict receiver_ops (length c.args.runs.now) v (piece c.args.pos c.args.bytes.now) in
+    let left = receiver_of c.keep.new.self c.keep.new.storage c.keep.new.runs in
+    (λ i. Ok (record { kept = c.in_ok-kept.kept; queued = c.in_ok-kept.queued; sack = c.first_runs-sack.ensures i }))
+    ∙ ap (λ n. with_sack n (domain left.held)) (sym c.in_ok-kept.was ∙ c.keep.ensures.numbers)
+    ∙ ap (λ (u : ReceiverState). with_sack (numbers receiver_ops v x) (domain u.held)) c.keep.ensures.state
