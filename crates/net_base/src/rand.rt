@@ -43,6 +43,13 @@ impl Rand {
         Rand { state: seed }
     }
 
+    /// Returns the state: `Rand::new` of it goes on where this generator is. smoltcp has no such call.
+    pub fn state(&self) -> u64
+        ensures { result ≡ self.now }
+    {
+        self.state
+    }
+
     /// Steps to the next state, and returns its random word.
     pub fn rand_u32(&mut self) -> u32
         ensures state { self.new ≡ successor self.old }

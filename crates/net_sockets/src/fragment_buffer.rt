@@ -1,5 +1,5 @@
 //! A packet that arrives in fragments.
-ghost use Rattle.std.specs.Prelude.{◌≡◌, ◌↔◌, ◌+◌, ◌<◌, ◌≤◌, ◌⊎◌, ℕ, IsTrue, IsSome, IsErr, IfSome};
+ghost use Rattle.std.specs.Prelude.{◌≡◌, ◌↔◌, ◌+◌, ◌<◌, ◌≤◌, ◌^◌, ◌⊎◌, ℕ, IsTrue, IsSome, IsErr, IfSome};
 ghost use Rattle.std.specs.Prelude.{OnOk, OnErr, ◌<ℤ◌, Err, length, take};
 ghost use Rattle.std.specs.declared.option.Option.TheVariants.{Some, None};
 ghost use Rattle.net_assembler.specs.Positions.{nothing};
@@ -90,13 +90,37 @@ impl<B: Storage<u8>, const N: usize> FragmentsOver<B, N> {
         }
     }
 
+    /// Returns the number of bytes of the buffer: the size of the longest packet that fits.
+    pub fn capacity(&self) -> usize
+        ensures { result ≡ length self.now.bytes }
+    {
+        self.bytes.count()
+    }
+
+    /// Returns whether no byte has arrived since the buffer was made or reset: no packet is begun. A fragment of no
+    /// bytes begins none.
+    pub fn is_empty(&self) -> bool
+        ensures { IsTrue result ↔ (self.now.present ≡ nothing) }
+    {
+        self.present.is_empty()
+    }
+
+    /// Returns the moment up to which the packet is waited for. It is not expired at that moment, but at each later
+    /// one.
+    pub fn expires_at(&self) -> Instant
+        ensures { result ≡ self.now.expires_at }
+    {
+        self.expires_at
+    }
+
     /// Adds a fragment, whose first byte is that of the packet at `offset`.
     ///
     /// It is refused, and nothing changes, exactly if it reaches past the buffer's end, which is
-    /// `TooLong`, or would leave more than `N` maximal runs.
+    /// `TooLong`, or would leave more than `N` maximal runs. The end of an accepted fragment fits `usize`.
     pub fn add(&mut self, offset: usize, data: &[u8]) -> Result<(), FragmentError>
         ensures ok { OnOk result (self.new ≡ with_fragment self.old offset «data».now) }
         ensures unchanged { OnErr result (self.new ≡ self.old) }
+        ensures fits { OnOk result (offset + length «data».now < 2 ^ 64) }
         ensures too_long { (result ≡ Err FragmentError.TooLong)
             ↔ (length self.old.bytes < offset + length «data».now) }
         ensures refused { IsErr result ↔ ((length self.old.bytes < offset + length «data».now)

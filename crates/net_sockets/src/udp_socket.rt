@@ -149,6 +149,38 @@ impl<'a> UdpSocket<'a> {
         put(&mut self.inbound, from, data).is_ok()
     }
 
+    /// Copies as many bytes of the first datagram to be sent as `into` has room for, and returns how many, and
+    /// where it goes. The datagram stays. Only the gap before it, if there is one, is dropped, so that there may be
+    /// room for one more datagram.
+    ///
+    /// `Empty` leaves the socket and `into` as they were. smoltcp has `dispatch` alone. With `take_outbound` this is
+    /// `dispatch` in two steps, whose effects callers know exactly: of a closure's changes to what it captured no
+    /// proof learns anything.
+    pub fn peek_outbound(&mut self, into: &mut [u8]) -> Result<(usize, Endpoint), Empty>
+        ensures empty { IsErr result ↔ (outbound_datagrams self.old ≡ []) }
+        ensures datagrams { outbound_datagrams self.new ≡ outbound_datagrams self.old }
+        ensures outbound { self.new.outbound ≡ without_gap self.old.outbound }
+        ensures inbound { self.new.inbound ≡ self.old.inbound }
+        ensures unchanged { OnErr result ((self.new ≡ self.old) × (into.new ≡ into.old)) }
+        ensures shown { IfOk result
+            (λ r. CopiesFirst (outbound_datagrams self.old) r.1 r.0 into.old into.new) }
+        ensures capacity { HasSameCapacity self.old self.new }
+    {
+        copy_first(&mut self.outbound, into)
+    }
+
+    /// Takes the first datagram to be sent off. Returns whether there was one.
+    pub fn take_outbound(&mut self) -> bool
+        ensures none { IsFalse result ↔ (outbound_datagrams self.old ≡ []) }
+        ensures left { outbound_datagrams self.new ≡ drop 1 (outbound_datagrams self.old) }
+        ensures made { IsTrue result → self.new.outbound ≡ without_first_and_gap self.old.outbound }
+        ensures unchanged { IsFalse result → self.new ≡ self.old }
+        ensures inbound { self.new.inbound ≡ self.old.inbound }
+        ensures capacity { HasSameCapacity self.old self.new }
+    {
+        self.outbound.take().is_ok()
+    }
+
     /// Hands the first datagram to be sent to `emit`, with where it goes. If that returns `Ok`, the
     /// datagram is taken off; if it returns `Err`, it stays first, and only the gap before it, if
     /// there is one, is dropped.

@@ -7,8 +7,13 @@
 
 pub mod laws;
 
-pub use net_assembler::{Assembler, IterData, TooManyHolesError, Turns, assembler};
-pub use net_packets::{PacketBuffer, PacketMetadata, PacketsOver, packet_buffer};
+pub use net_assembler::{
+    Assembler, AssemblerHead, IterData, Run, RunIter, SliceAssembler, TooManyHolesError, Turns,
+    assembler,
+};
+pub use net_packets::{
+    PacketBuffer, PacketMetadata, PacketPlace, PacketsHead, PacketsOver, packet_buffer,
+};
 pub use net_ring::{
-    Empty, Full, ManagedSlice, Resettable, RingBuffer, RingOver, Storage, ring_buffer,
+    Empty, Full, ManagedSlice, Place, Resettable, RingBuffer, RingOver, Span, Storage, ring_buffer,
 };
