@@ -1,8 +1,8 @@
 //! Copies standard input to standard output over a link that loses, duplicates and delays frames.
 #![tactic(auto)]
 
-use net_cli::command_words;
-use net_link_serve::{Messages, Remembering, serve};
+use net_io::command_words;
+use net_link_lib::{Messages, Remembering, serve};
 use std::process::ExitCode;
 
 fn main(rt: HostRuntime) -> ExitCode {

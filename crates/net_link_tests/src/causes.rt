@@ -1,7 +1,7 @@
 //! What standard error says of streams that fail in two ways, of long causes, and of causes for which there is
 //! no memory; and how much memory `serve` asks for.
-use net_cli::{Ended, Status};
-use net_link_serve::{Messages, Remembering, serve};
+use net_io::{Ended, Status};
+use net_link_lib::{Messages, Remembering, serve};
 use net_testing::{NEVER, Refusing, Sink, Source};
 use std::alloc::{AllocError, Allocator, Global};
 use std::io;
@@ -159,6 +159,11 @@ static FAILURES: [Failure; 12] = [
     ),
 ];
 
+/// Returns whether standard error has this text, and wasn't flushed.
+pub fn has_text(errors: &Messages<Sink>, told: &str) -> bool {
+    errors.stream.bytes.as_slice() == told.as_bytes() && errors.stream.flushes == 0
+}
+
 /// Returns whether the program ends like this, and standard error took everything, has this text, and wasn't
 /// flushed.
 pub fn is_so(ended: Ended, status: Status, errors: &Messages<Sink>, told: &str) -> bool {
@@ -167,8 +172,7 @@ pub fn is_so(ended: Ended, status: Status, errors: &Messages<Sink>, told: &str) 
             status,
             is_told: true,
         }
-        && errors.stream.bytes.as_slice() == told.as_bytes()
-        && errors.stream.flushes == 0
+        && has_text(errors, told)
 }
 
 /// Returns whether a failure is reported by this text.
@@ -405,5 +409,23 @@ fn a_cause_of_the_system_is_told(rt: HostRuntime) -> Result<(), AllocError> {
     let error = io::Error::from_raw_os_error(21);
     let is_told = fails_at_once(rt.alloc(), rt.alloc(), error, OF_THE_SYSTEM)?;
     assert_holds(&rt, is_told, 0);
+    Ok(())
+}
+
+#[test]
+fn an_error_of_the_reader_is_not_the_cause_of_a_write(rt: HostRuntime) -> Result<(), AllocError> {
+    let alloc = rt.alloc();
+    let words = words_of(alloc, "0 1")?;
+    let mut reader = Remembering::new(Source::new(b"some text"));
+    reader.error = Some(io::Error::from_raw_os_error(21));
+    let sink = Sink::failing(alloc, NEVER, 0, Some(ErrorKind::TimedOut))?;
+    let mut writer = Remembering::new(sink);
+    let mut errors = Messages::new(Sink::new(alloc)?);
+    errors.is_told = false;
+    let ended = serve(alloc, &words, &mut reader, &mut writer, &mut errors);
+    let told = "net_link: write failed: timed out\n\
+        0 bytes, 3 frames, 0 lost, 0 duplicated, 0 delayed, \
+        0 refused, 0 bytes sent again, 1 rounds, 0 bytes a second\n";
+    assert_holds(&rt, is_so(ended, Status::Failed, &errors, told), 0);
     Ok(())
 }

@@ -1,7 +1,7 @@
 //! Errors of the system, at writes and flushes too; and what streams remember before and after a call.
 use crate::causes::{ENDED, Failing, assert_holds, is_so, words_of, wordy};
-use net_cli::Status;
-use net_link_serve::{Messages, Remembering, serve};
+use net_io::Status;
+use net_link_lib::{Messages, Remembering, serve};
 use net_testing::{NEVER, Sink, Source};
 use std::alloc::{AllocError, Global};
 use std::io;

@@ -1,4 +1,4 @@
-//! The tests of `net_link_serve`, over memory, with readers and writers that move few bytes a call, and that
+//! The tests of `net_link_lib`, over memory, with readers and writers that move few bytes a call, and that
 //! fail.
 #![tactic(auto)]
 

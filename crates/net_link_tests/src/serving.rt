@@ -1,6 +1,6 @@
 //! The results of copies. The counts are those of a second program, written from docs/LINK.md.
-use net_cli::{Ended, Status};
-use net_link_serve::{Messages, Remembering, serve};
+use net_io::{Ended, Status};
+use net_link_lib::{Messages, Remembering, serve};
 use net_testing::{NEVER, Refusing, Sink, Source};
 use std::alloc::{AllocError, Global};
 use std::io::ErrorKind;

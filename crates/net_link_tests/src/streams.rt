@@ -2,7 +2,7 @@
 ghost use Rattle.std.specs.Prelude.{IfOk, ◌≤◌};
 
 use crate::causes::assert_holds;
-use net_link_serve::Remembering;
+use net_link_lib::Remembering;
 use std::io;
 use std::io::{ErrorKind, Read, Write};
 

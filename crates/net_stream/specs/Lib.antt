@@ -18,4 +18,6 @@ pub use Rattle.net_stream_model.specs.CopyResult
 pub use Rattle.net_stream_model.specs.Streams
 pub use Rattle.net_stream_model.specs.Promises
 pub use Rattle.net_stream_model.specs.WorkedCopy
+pub mod Each
+pub mod SenderHeads
 pub mod Turns

@@ -3,10 +3,11 @@
 --         so far, and the bytes written
 --     counts_of c      its counts
 --     Begins s rounds chunk c, IsFresh c      a copy before its first turn
---     Feeds chunk old new had has ended      a read, or none, and what it gave
---     Passes chunk old new had has      a round, and what was written
---     Breaks chunk error old new had has      a round that the error ended
---     CopiedSoFar rounds chunk old new had has held holds      turns of a copy that goes on
+--     Feeds chunk old new reads reader reader' ended      a read, or none, and what it gave
+--     Passes chunk old new writer writer'      a round, and what was written
+--     Breaks chunk error old new writer writer'      a round that the error ended
+--     CopiedSoFar rounds chunk old new reads told reader reader' writer writer'      turns of a copy that
+--         goes on
 use Rattle.std.specs.Prelude.{◌≡◌, ℕ, ◌+◌, ◌-◌, ◌^◌, min, true, false, List, [], ◌++◌, length, Option}
 use Rattle.std.specs.Io.KnownBytes.{Appends, Consumes, IsAtEnd}
 use Rattle.net_stream_model.specs.Counts.{more}
@@ -16,7 +17,7 @@ use Rattle.net_stream.specs.declared.copier.Copier.{Copier}
 use Rattle.net_stream_model.specs.LinkState.{LinkState, times}
 use Rattle.net_stream_model.specs.CopyState.{Setup, CopyState, Status, Running, ReadFailed, begin, concat}
 use Rattle.net_stream_model.specs.CopyState.{feed, pass, turn}
-use Rattle.net_stream_model.specs.CopyResult.{EndsRound}
+use Rattle.net_stream_model.specs.CopyResult.{EndsRound, counts_after}
 use Rattle.net_stream_model.specs.Promises.{StartsFits}
 
 abbrev pub copy_state_of : {A : Type 0} → Copier A → List (List ℕ) → List ℕ → List ℕ → Status → CopyState
@@ -55,22 +56,21 @@ pub record IsFresh {A : Type 0} (c : Copier A) : Type 0 where
   pub more : c.more ≡ true
 
 -- a read, or none: whatever the later reads give, this is what `feed` says
-pub record Feeds {A : Type 0} (chunk : ℕ) (old new : Copier A) (had has : Option (List ℕ)) (ended : Status)
-    : Type 0 where
-  pub reads : List (List ℕ)
-  pub consumed : Consumes had has (concat reads)
+pub record Feeds {A : Type 0} (chunk : ℕ) (old new : Copier A) (reads : List (List ℕ))
+    (reader reader' : Option (List ℕ)) (ended : Status) : Type 0 where
+  pub consumed : Consumes reader reader' (concat reads)
   pub bytes_read : (n : ℕ) → old.bytes_read ≡ min n (2 ^ 64 - 1)
       → new.bytes_read ≡ min (n + length (concat reads)) (2 ^ 64 - 1)
   pub bytes_written : new.bytes_written ≡ old.bytes_written
   pub step : (later : List (List ℕ)) (given written : List ℕ) → (ended ≡ ReadFailed → later ≡ [])
       → feed chunk (copy_state_of old (reads ++ later) given written Running)
       ≡ copy_state_of new later (given ++ concat reads) written ended
-  pub end : (old.more ≡ false → IsAtEnd had) → new.more ≡ false → IsAtEnd has
+  pub end : (old.more ≡ false → IsAtEnd reader) → new.more ≡ false → IsAtEnd reader'
 
 -- a round, and what was written
-pub record Passes {A : Type 0} (chunk : ℕ) (old new : Copier A) (had has : Option (List ℕ)) : Type 0 where
+pub record Passes {A : Type 0} (chunk : ℕ) (old new : Copier A) (writer writer' : Option (List ℕ)) : Type 0 where
   pub written : List ℕ
-  pub appended : Appends had has written
+  pub appended : Appends writer writer' written
   pub bytes_written : (n : ℕ) → old.bytes_written ≡ min n (2 ^ 64 - 1)
       → new.bytes_written ≡ min (n + length written) (2 ^ 64 - 1)
   pub bytes_read : new.bytes_read ≡ old.bytes_read
@@ -80,13 +80,13 @@ pub record Passes {A : Type 0} (chunk : ℕ) (old new : Copier A) (had has : Opt
       ≡ copy_state_of new later given (before ++ written) Running
 
 -- a round that the error ended, and which bytes of it were written
-pub record Breaks {A : Type 0} (chunk : ℕ) (error : CopyError) (old new : Copier A) (had has : Option (List ℕ))
+pub record Breaks {A : Type 0} (chunk : ℕ) (error : CopyError) (old new : Copier A) (writer writer' : Option (List ℕ))
     : Type 0 where
   pub link : LinkState
   pub written : List ℕ
   pub part : (given before : List ℕ)
       → EndsRound error chunk (copy_state_of old [] given before Running) link written
-  pub appended : Appends had has written
+  pub appended : Appends writer writer' written
   pub bytes_written : (n : ℕ) → old.bytes_written ≡ min n (2 ^ 64 - 1)
       → new.bytes_written ≡ min (n + length written) (2 ^ 64 - 1)
   pub bytes_read : new.bytes_read ≡ old.bytes_read
@@ -94,17 +94,19 @@ pub record Breaks {A : Type 0} (chunk : ℕ) (error : CopyError) (old new : Copi
   pub frames : new.link.counts ≡ link.counts
   pub micros : new.link.elapsed ≡ link.elapsed
 
--- turns so far, whatever the later reads give
-pub record CopiedSoFar {A : Type 0} (rounds chunk : ℕ) (old new : Copier A) (had has held holds : Option (List ℕ))
-    : Type 0 where
+-- turns so far, in which the reads gave these bytes, and after which these counts were told, whatever the later
+-- reads give
+pub record CopiedSoFar {A : Type 0} (rounds chunk : ℕ) (old new : Copier A) (reads : List (List ℕ)) (told : List Counts)
+    (reader reader' writer writer' : Option (List ℕ)) : Type 0 where
   pub turns : ℕ
-  pub reads : List (List ℕ)
   pub written : List ℕ
-  pub consumed : Consumes had has (concat reads)
-  pub appended : Appends held holds written
+  pub consumed : Consumes reader reader' (concat reads)
+  pub appended : Appends writer writer' written
   pub bytes_read : new.bytes_read ≡ min (length (concat reads)) (2 ^ 64 - 1)
   pub bytes_written : new.bytes_written ≡ min (length written) (2 ^ 64 - 1)
   pub state : (later : List (List ℕ))
       → times turns (turn rounds chunk) (copy_state_of old (reads ++ later) [] [] Running)
       ≡ copy_state_of new later (concat reads) written Running
-  pub end : new.more ≡ false → IsAtEnd has
+  pub each : (later : List (List ℕ))
+      → told ≡ counts_after (turn rounds chunk) (copy_state_of old (reads ++ later) [] [] Running) turns
+  pub end : new.more ≡ false → IsAtEnd reader'

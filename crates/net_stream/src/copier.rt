@@ -1,25 +1,28 @@
 //! The copier, which makes the turns of a copy: a read if one is due, a decision, a round and a
 //! write.
 ghost use Rattle.std.specs.Prelude.{◌≡◌, ℕ, ◌+◌, ◌&&◌, ◌||◌, ◌⊎◌, ◌*◌, ◌^◌, ◌-◌, ◌<◌, min, not, nat_lt, nat_eq};
-ghost use Rattle.std.specs.Prelude.{length, OnOk, OnErr, IfErr, if◌then◌else◌};
+ghost use Rattle.std.specs.Prelude.{List, [], length, OnOk, OnErr, IfErr, if◌then◌else◌};
 ghost use Rattle.net_ring.specs.Managed.{elements};
 ghost use Rattle.net_receiver.specs.ReceiverState.{next_position};
 ghost use Rattle.net_stream_model.specs.SenderState.{end_of};
 ghost use Rattle.net_stream_model.specs.declared.error.CopyError.TheVariants as errors;
 ghost use Rattle.net_stream_model.specs.CopyState.{Setup, setup_over, Running, ReadFailed, is_written};
 ghost use Rattle.net_stream_model.specs.CopyResult.{HasCopied};
+ghost use Rattle.net_stream_model.specs.declared.counts.Counts.{Counts};
+ghost use Rattle.net_stream.specs.Each.{Each, GivesReads};
 ghost use Rattle.net_stream.specs.Turns.{Feeds, Passes, Breaks, Begins, IsFresh, counts_of};
 
 use crate::backoff::{first_wait, next_wait};
 use crate::fates::LinkFates;
 use crate::link::StreamLink;
+use crate::reading::Reading;
 use crate::watch::Watch;
 use net_base::time::Duration;
 use net_io::write_text;
 use net_ring::ManagedSlice;
 use net_stream_model::{Config, CopyError, Counts, laws};
 use std::alloc::Allocator;
-use std::io::{Read, Write};
+use std::io::Write;
 
 /// A copy over a link.
 #[derive(Drop)]
@@ -119,11 +122,13 @@ impl<'a, 'f, A: Allocator + Copy> Copier<'a, 'f, A> {
     }
 
     /// Reads once, if it is time for that: no more than the sender has room for.
-    fn feed<R: Read>(&mut self, chunk: &mut [u8], reader: &mut R) -> Result<(), CopyError>
-        ensures ok { OnOk result (Feeds (length chunk.old) self.old self.new
-            (R.remaining reader.old) (R.remaining reader.new) Running) }
-        ensures err { OnErr result (Feeds (length chunk.old) self.old self.new
-            (R.remaining reader.old) (R.remaining reader.new) ReadFailed) }
+    fn feed<R, M: Reading<R>>(&mut self, chunk: &mut [u8], reader: &mut R) -> Result<(), CopyError>
+        ensures ok { OnOk result ((reads : List (List ℕ)) × Each M.gives reader.old reads reader.new
+            × Feeds (length chunk.old) self.old self.new reads
+            (M.remaining reader.old) (M.remaining reader.new) Running) }
+        ensures err { OnErr result (M.fails reader.old reader.new
+            × Feeds (length chunk.old) self.old self.new []
+            (M.remaining reader.old) (M.remaining reader.new) ReadFailed) }
         ensures kind { IfErr result (λ e. e ≡ errors.ReadFailed) }
         ensures chunk { length chunk.new ≡ length chunk.old }
     {
@@ -132,7 +137,7 @@ impl<'a, 'f, A: Allocator + Copy> Copier<'a, 'f, A> {
             return Ok(());
         }
         let (part, _rest) = chunk.split_at_mut(room);
-        match reader.read(part) {
+        match M::read(reader, part) {
             Ok(0) => {
                 self.more = false;
                 Ok(())
@@ -186,7 +191,7 @@ impl<'a, 'f, A: Allocator + Copy> Copier<'a, 'f, A> {
     }
 
     /// Makes turns until everything is written, the copy gives up, or an error ends it.
-    pub(crate) fn run<T: Watch, R: Read, W: Write>(
+    pub(crate) fn run<T: Watch, R, M: Reading<R>, W: Write>(
         &mut self,
         rounds: u64,
         chunk: &mut [u8],
@@ -196,13 +201,15 @@ impl<'a, 'f, A: Allocator + Copy> Copier<'a, 'f, A> {
     ) -> Result<(), CopyError>
         requires { IsFresh self.old }
         ensures { (s : Setup) → Begins s rounds (length chunk.old) self.old →
-            HasCopied s result (R.remaining reader.old) (R.remaining reader.new)
+            (reads : List (List ℕ)) × (told : List Counts) × Each T.tells watch.old told watch.new
+            × GivesReads M.gives M.fails result reader.old reads reader.new
+            × HasCopied s result reads told (M.remaining reader.old) (M.remaining reader.new)
             (W.contents writer.old) (W.contents writer.new) (counts_of self.new) }
     {
         laws::known();
         laws::ended();
         'turns: loop {
-            self.feed(chunk, reader)?;
+            self.feed::<R, M>(chunk, reader)?;
             if self.is_done() {
                 return Ok(());
             }

@@ -1,11 +1,14 @@
 //! `copy`, from a reader over a link to a writer, and its buffers.
-ghost use Rattle.std.specs.Prelude.{◌≡◌, ◌⊎◌, ◌+◌, ◌<◌, ◌≤◌, length, true, IfOk, IfErr};
+ghost use Rattle.std.specs.Prelude.{◌≡◌, ℕ, List, ◌+◌, ◌<◌, ◌≤◌, length, true, IfOk, IfErr};
 ghost use Rattle.std.specs.Result.{is_ok};
 ghost use Rattle.net_stream_model.specs.CopyState.{setup_over, setup_of};
-ghost use Rattle.net_stream_model.specs.CopyResult.{HasPositions, gave_up, HasCopied, HasNotBegun, Copies};
+ghost use Rattle.net_stream_model.specs.CopyResult.{HasPositions, gave_up, HasCopied, HasCopiedIfBegun, Copies};
+ghost use Rattle.net_stream_model.specs.declared.counts.Counts.{Counts};
+ghost use Rattle.net_stream.specs.Each.{Each, GivesReads};
 
 use crate::copier::Copier;
 use crate::fates::LinkFates;
+use crate::reading::{Reading, Stated, StatedRead, Unstated};
 use crate::watch::{Nobody, Watch};
 use net_io::flush_after;
 use net_ring::ManagedSlice;
@@ -25,7 +28,7 @@ pub struct CopyBuffers<'a> {
 }
 
 /// Makes the turns of a copy over buffers that are lent, and returns how it ended and what was counted.
-fn turns_over<'a, 'f, A: Allocator + Copy, T: Watch, R: Read, W: Write>(
+fn turns_over<'a, 'f, A: Allocator + Copy, T: Watch, R, M: Reading<R>, W: Write>(
     alloc: A,
     config: Config,
     fates: LinkFates<'f>,
@@ -34,12 +37,14 @@ fn turns_over<'a, 'f, A: Allocator + Copy, T: Watch, R: Read, W: Write>(
     reader: &mut R,
     writer: &mut W,
 ) -> (Result<(), CopyError>, Counts)
-    ensures exact { HasCopied (setup_over config (length buffers.entry.outgoing.now)
+    ensures exact { (reads : List (List ℕ)) × (told : List Counts) × Each T.tells watch.old told watch.new
+        × GivesReads M.gives M.fails result.0 reader.old reads reader.new
+        × HasCopied (setup_over config (length buffers.entry.outgoing.now)
         (length buffers.entry.incoming.now) (length buffers.entry.chunk.now)
-        fates.entry.frames fates.entry.acks) result.0
-        (R.remaining reader.old) (R.remaining reader.new)
+        fates.entry.frames fates.entry.acks) result.0 reads told
+        (M.remaining reader.old) (M.remaining reader.new)
         (W.contents writer.old) (W.contents writer.new) result.1 }
-    ensures copied { Copies (R.remaining reader.old) (R.remaining reader.new)
+    ensures copied { Copies (M.remaining reader.old) (M.remaining reader.new)
         (W.contents writer.old) (W.contents writer.new)
         result.1.bytes_read result.1.bytes_written (is_ok result.0) }
 {
@@ -56,7 +61,7 @@ fn turns_over<'a, 'f, A: Allocator + Copy, T: Watch, R: Read, W: Write>(
         ManagedSlice::Borrowed(outgoing),
         ManagedSlice::Borrowed(incoming),
     );
-    let ended = copier.run(config.rounds, chunk, watch, reader, writer);
+    let ended = copier.run::<T, R, M, W>(config.rounds, chunk, watch, reader, writer);
     (
         flush_after(ended, CopyError::WriteFailed, writer),
         copier.counts(),
@@ -73,16 +78,25 @@ pub fn copy_with_buffers<'a, 'f, A: Allocator + Copy, R: Read, W: Write>(
     writer: &mut W,
     counts: &mut Counts,
 ) -> Result<(), CopyError>
-    ensures exact { HasCopied (setup_over config (length buffers.entry.outgoing.now)
+    ensures exact { (reads : List (List ℕ)) × (told : List Counts)
+        × HasCopied (setup_over config (length buffers.entry.outgoing.now)
         (length buffers.entry.incoming.now) (length buffers.entry.chunk.now)
-        fates.entry.frames fates.entry.acks) result
+        fates.entry.frames fates.entry.acks) result reads told
         (R.remaining reader.old) (R.remaining reader.new)
         (W.contents writer.old) (W.contents writer.new) counts.new }
     ensures copied { Copies (R.remaining reader.old) (R.remaining reader.new)
         (W.contents writer.old) (W.contents writer.new)
         counts.new.bytes_read counts.new.bytes_written (is_ok result) }
 {
-    let (ended, counted) = turns_over(alloc, config, fates, buffers, &mut Nobody, reader, writer);
+    let (ended, counted) = turns_over::<A, Nobody, R, Unstated, W>(
+        alloc,
+        config,
+        fates,
+        buffers,
+        &mut Nobody,
+        reader,
+        writer,
+    );
     *counts = counted;
     ended
 }
@@ -134,10 +148,9 @@ pub fn copy<'f, A: Allocator + Copy, R: Read, W: Write>(
     writer: &mut W,
     counts: &mut Counts,
 ) -> Result<(), CopyError>
-    ensures exact { HasCopied (setup_of config fates.entry.frames fates.entry.acks) result
+    ensures exact { (reads : List (List ℕ)) × (told : List Counts)
+        × HasCopiedIfBegun (setup_of config fates.entry.frames fates.entry.acks) result reads told
         (R.remaining reader.old) (R.remaining reader.new)
-        (W.contents writer.old) (W.contents writer.new) counts.new
-        ⊎ HasNotBegun result (R.remaining reader.old) (R.remaining reader.new)
         (W.contents writer.old) (W.contents writer.new) counts.new }
     ensures copied { Copies (R.remaining reader.old) (R.remaining reader.new)
         (W.contents writer.old) (W.contents writer.new)
@@ -150,8 +163,8 @@ pub fn copy<'f, A: Allocator + Copy, R: Read, W: Write>(
     copy_watched(alloc, config, fates, &mut Nobody, reader, writer, counts)
 }
 
-/// Copies as `copy` does, and tells `watch` the counts after each round.
-pub fn copy_watched<'f, A: Allocator + Copy, T: Watch, R: Read, W: Write>(
+/// Copies as `copy` does, tells `watch` the counts after each round, and reads by `M`.
+fn copy_by<'f, A: Allocator + Copy, T: Watch, R, M: Reading<R>, W: Write>(
     alloc: A,
     config: Config,
     fates: LinkFates<'f>,
@@ -160,12 +173,12 @@ pub fn copy_watched<'f, A: Allocator + Copy, T: Watch, R: Read, W: Write>(
     writer: &mut W,
     counts: &mut Counts,
 ) -> Result<(), CopyError>
-    ensures exact { HasCopied (setup_of config fates.entry.frames fates.entry.acks) result
-        (R.remaining reader.old) (R.remaining reader.new)
-        (W.contents writer.old) (W.contents writer.new) counts.new
-        ⊎ HasNotBegun result (R.remaining reader.old) (R.remaining reader.new)
+    ensures exact { (reads : List (List ℕ)) × (told : List Counts) × Each T.tells watch.old told watch.new
+        × GivesReads M.gives M.fails result reader.old reads reader.new
+        × HasCopiedIfBegun (setup_of config fates.entry.frames fates.entry.acks) result reads told
+        (M.remaining reader.old) (M.remaining reader.new)
         (W.contents writer.old) (W.contents writer.new) counts.new }
-    ensures copied { Copies (R.remaining reader.old) (R.remaining reader.new)
+    ensures copied { Copies (M.remaining reader.old) (M.remaining reader.new)
         (W.contents writer.old) (W.contents writer.new)
         counts.new.bytes_read counts.new.bytes_written (is_ok result) }
     ensures gave_up { IfErr result (λ e. gave_up e ≡ true
@@ -183,7 +196,62 @@ pub fn copy_watched<'f, A: Allocator + Copy, T: Watch, R: Read, W: Write>(
         incoming: &mut storage.incoming,
         chunk: &mut storage.chunk,
     };
-    let (ended, counted) = turns_over(alloc, config, fates, buffers, watch, reader, writer);
+    let (ended, counted) = turns_over::<A, T, R, M, W>(
+        alloc, config, fates, buffers, watch, reader, writer,
+    );
     *counts = counted;
     ended
+}
+
+/// Copies as `copy` does, and tells `watch` the counts after each round.
+pub fn copy_watched<'f, A: Allocator + Copy, T: Watch, R: Read, W: Write>(
+    alloc: A,
+    config: Config,
+    fates: LinkFates<'f>,
+    watch: &mut T,
+    reader: &mut R,
+    writer: &mut W,
+    counts: &mut Counts,
+) -> Result<(), CopyError>
+    ensures exact { (reads : List (List ℕ)) × (told : List Counts) × Each T.tells watch.old told watch.new
+        × HasCopiedIfBegun (setup_of config fates.entry.frames fates.entry.acks) result reads told
+        (R.remaining reader.old) (R.remaining reader.new)
+        (W.contents writer.old) (W.contents writer.new) counts.new }
+    ensures copied { Copies (R.remaining reader.old) (R.remaining reader.new)
+        (W.contents writer.old) (W.contents writer.new)
+        counts.new.bytes_read counts.new.bytes_written (is_ok result) }
+    ensures gave_up { IfErr result (λ e. gave_up e ≡ true
+        → HasPositions config.first counts.new.bytes_read → 0 < config.capacity
+        → (config.rounds ≤ counts.new.frames.lost + counts.new.frames.delayed)
+        × (config.rounds ≤ counts.new.frames.lost + 1)) }
+{
+    copy_by::<A, T, R, Unstated, W>(alloc, config, fates, watch, reader, writer, counts)
+}
+
+/// Copies as `copy_watched` does, from a reader that states what each of its calls gives: in clause
+/// `exact` each of `reads` is what one call gave, and after these calls there is none but the one
+/// that failed.
+pub fn copy_stated<'f, A: Allocator + Copy, T: Watch, R: StatedRead, W: Write>(
+    alloc: A,
+    config: Config,
+    fates: LinkFates<'f>,
+    watch: &mut T,
+    reader: &mut R,
+    writer: &mut W,
+    counts: &mut Counts,
+) -> Result<(), CopyError>
+    ensures exact { (reads : List (List ℕ)) × (told : List Counts) × Each T.tells watch.old told watch.new
+        × GivesReads R.gives R.fails result reader.old reads reader.new
+        × HasCopiedIfBegun (setup_of config fates.entry.frames fates.entry.acks) result reads told
+        (R.remaining reader.old) (R.remaining reader.new)
+        (W.contents writer.old) (W.contents writer.new) counts.new }
+    ensures copied { Copies (R.remaining reader.old) (R.remaining reader.new)
+        (W.contents writer.old) (W.contents writer.new)
+        counts.new.bytes_read counts.new.bytes_written (is_ok result) }
+    ensures gave_up { IfErr result (λ e. gave_up e ≡ true
+        → HasPositions config.first counts.new.bytes_read → 0 < config.capacity
+        → (config.rounds ≤ counts.new.frames.lost + counts.new.frames.delayed)
+        × (config.rounds ≤ counts.new.frames.lost + 1)) }
+{
+    copy_by::<A, T, R, Stated, W>(alloc, config, fates, watch, reader, writer, counts)
 }

@@ -2,10 +2,10 @@
 ghost use Rattle.std.specs.Prelude.{◌≡◌, ◌+◌, ◌≤◌, ◌<◌, ◌^◌, ◌-◌, ◌++◌, [], ℕ, List, length, min, max};
 ghost use Rattle.std.specs.Prelude.{take, drop, slice_index, slice_range};
 ghost use Rattle.net_ring.specs.Managed.{elements};
-ghost use Rattle.net_receiver.specs.ReceiverState.{fresh_receiver, next_position};
+ghost use Rattle.net_receiver.specs.ReceiverState.{next_position};
 ghost use Rattle.net_receiver.specs.ReceiverState.{receiver_after_read};
-ghost use Rattle.net_stream_model.specs.SenderState.{sender_state, end_of, room_of, with_written};
-ghost use Rattle.net_stream_model.specs.Counts.{no_frames};
+ghost use Rattle.net_stream_model.specs.SenderState.{end_of, room_of, with_written};
+ghost use Rattle.net_stream_model.specs.LinkState.{fresh_link};
 ghost use Rattle.net_stream_model.specs.LinkInvariant.{LinkInvariant};
 ghost use Rattle.net_stream_model.specs.CopyState.{is_written};
 
@@ -91,17 +91,8 @@ impl<'a, 'f, A: Allocator + Copy> StreamLink<'a, 'f, A> {
         to_receive: ManagedSlice<'a, u8>,
         fates: LinkFates<'f>,
     ) -> Self
-        ensures state { let n = length (elements to_send.entry) in result ≡ record {
-          sender = sender_state n first [] [] (first + n);
-          receiver = fresh_receiver first (length (elements to_receive.entry));
-          forward = record { in_flight = []; delayed = []; fates = fates.entry.frames };
-          reverse = record { in_flight = []; delayed = []; fates = fates.entry.acks };
-          counts = no_frames;
-          payload = payload;
-          max_burst = max max_burst 1;
-          burst = max max_burst 1;
-          elapsed = 0;
-        } }
+        ensures state { result ≡ fresh_link first payload max_burst (length (elements to_send.entry))
+            (length (elements to_receive.entry)) fates.entry.frames fates.entry.acks }
         ensures carries { LinkInvariant first [] result }
     {
         StreamLink {

@@ -7,7 +7,11 @@ ghost use Rattle.net_stream_model.specs.SenderState.{sender_state, end_of, room_
 ghost use Rattle.net_stream_model.specs.SenderState.{after_ack, spared_from, next_block, stop_of, Sends};
 ghost use Rattle.net_stream_model.specs.SackBlocks.{is_full};
 
+mod head;
+
 use crate::sack_blocks::SackBlocks;
+pub use head::SenderHead;
+use head::{end_after, is_acknowledgeable, room_after};
 use net_receiver::laws;
 use net_ring::{ManagedSlice, RingBuffer};
 use std::marker::Model;
@@ -79,7 +83,7 @@ impl<'a> Sender<'a> {
         ensures fits { end_of self.now < 2 ^ 64 }
         ensures room { length self.now.queue ≤ self.now.capacity }
     {
-        self.first_unacknowledged + self.ring.len() as u64
+        end_after(self.first_unacknowledged, self.ring.len())
     }
 
     /// Returns how many bytes are queued.
@@ -101,8 +105,7 @@ impl<'a> Sender<'a> {
     pub fn room(&self) -> usize
         ensures { result ≡ room_of self.now }
     {
-        let positions = u64::MAX - self.end();
-        (self.ring.window() as u64).min(positions) as usize
+        room_after(self.end(), self.ring.window())
     }
 
     /// Enqueues the first of these bytes, as many as `room` says, and returns how many.
@@ -190,7 +193,7 @@ impl<'a> Sender<'a> {
         ensures state { self.new ≡ after_ack self.old next sack_blocks }
         ensures sends { (f : ℕ) (w : List ℕ) → Sends f w self.old → Sends f w self.new }
     {
-        if next < self.first_unacknowledged || next > self.end() {
+        if !is_acknowledgeable(self.first_unacknowledged, self.end(), next) {
             return;
         }
         self.ring

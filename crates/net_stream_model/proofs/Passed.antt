@@ -24,7 +24,7 @@ use Rattle.net_stream_model.specs.LinkState.{meet_ack, take_ack, pass_ack_of, pa
 use Rattle.net_stream_model.specs.LinkState.{part, part_at, transmit, delayed_frames, pass_frames, acknowledge_all}
 use Rattle.net_stream_model.specs.LinkState.{delayed_acks, pass_acks, with_burst, round}
 use Rattle.net_stream_model.specs.Round.{Passes, RoundPasses}
-use Rattle.net_stream_model.specs.FateCounts.{fates_only, FatesSoFar}
+use Rattle.net_stream_model.specs.FateCounts.{fates_only, CountsFates}
 use Rattle.std.proofs.lemmas.Bool.{cases_lt, cond-true, cond-false, ltb-true, ltb-false}
 use Rattle.net_assembler.proofs.Positions.{either}
 use Rattle.net_stream_model.specs.SenderState.{end_of, contiguous_end, at_least_one, stop_of, spared_from, next_block}
@@ -263,7 +263,7 @@ same_fates (suc n) v c d same = same_fates n (after_fate v) (with_fate (next_fat
 
 -- ---- one round more
 more_met : (v v' u u' : FatesState) (c d : FrameCounts) (bytes frames acks : ℕ) →
-    SameButRefused d (with_fates acks u' (with_fates frames u (with_payload bytes c))) → (h : FatesSoFar v v' u u' c) →
+    SameButRefused d (with_fates acks u' (with_fates frames u (with_payload bytes c))) → (h : CountsFates v v' u u' c) →
     fates_only d ≡ fates_only (with_fates (h.acks + acks) v' (with_fates (h.frames + frames) v no_frames))
 more_met v v' u u' c d bytes frames acks same h =
     let before = with_fates h.frames v no_frames in
@@ -278,8 +278,8 @@ more_met v v' u u' c d bytes frames acks same h =
     ∙ ap (λ x. fates_only (with_fates acks u' x)) framed
     ∙ ap fates_only acked
 
-pub round_met : (v v' : FatesState) (old new : LinkState) → Passes old new → FatesSoFar v v' old.forward.fates old.reverse.fates old.counts →
-    FatesSoFar v v' new.forward.fates new.reverse.fates new.counts
+pub round_met : (v v' : FatesState) (old new : LinkState) → Passes old new → CountsFates v v' old.forward.fates old.reverse.fates old.counts →
+    CountsFates v v' new.forward.fates new.reverse.fates new.counts
 round_met v v' old new round h =
     let s = old.sender in
     let frames = length round.sent.in_flight in

@@ -141,11 +141,11 @@ module _ (P : LinkState → Type 0) where
 
     stop_frame : (u v : LinkState) (frames : List (List ℕ)) → u.forward.in_flight ≡ frames → StopsFrame u frames v → P u → P v
     stop_frame u v [] is e h = absurd e
-    stop_frame u v (frame ∷ rest) is (inl e) h = subst P (sym e) (k.passed u frame rest is h).0
-    stop_frame u v (frame ∷ rest) is (inr e) h = subst P (sym e) (k.passed u frame rest is h).1
+    stop_frame u v (frame ∷ rest) is (inl e) h = subst P (sym e.1) (k.passed u frame rest is h).0
+    stop_frame u v (frame ∷ rest) is (inr e) h = subst P (sym e.1) (k.passed u frame rest is h).1
 
     pub stop_kept : (s v : LinkState) → StopsRound s v → P s → P v
-    stop_kept s v (inl (n, e)) h = subst P (sym e) (k.sent n s h)
+    stop_kept s v (inl (n, stop)) h = subst P (sym stop.3) (k.sent n s h)
     stop_kept s v (inr (inl (n, e))) h =
         let u = times n delayed_frame (transmit s) in
         by_first (λ l. StopsDelayed u l v → P v) u.forward.delayed absurd
@@ -155,7 +155,7 @@ module _ (P : LinkState → Type 0) where
     stop_kept s v (inr (inr (inr (inr (n, e))))) h =
         let u = times n pass_ack (delayed_acks (acknowledge_all (pass_frames (delayed_frames (transmit s))))) in
         by_first (λ l. StopsAck u l v → P v) u.reverse.in_flight absurd
-        (λ frame rest is d. subst P (sym d) (k.ack_passed u frame rest is (acked_kept n s h)).0) e
+        (λ frame rest is d. subst P (sym d.1) (k.ack_passed u frame rest is (acked_kept n s h)).0) e
 
 -- ======== What frames that come leave, one after another
 -- ---- a receiver

@@ -23,7 +23,7 @@ use Rattle.net_stream_model.specs.Promises.{CanPass, MakesNoProgress, before_rou
 use Rattle.net_stream_model.specs.Promises.{GivesUpIfFailed, NeverByDelays, EndsIfAllCome, FewRounds, StartsFits}
 use Rattle.net_stream_model.specs.Promises.{CountsRounds, CountsEachFate, GivesUpCounted, EnoughFailed, Unfinished}
 use Rattle.net_stream_model.specs.Promises.{EnoughRounds, RoundsAtOnce}
-use Rattle.net_stream_model.specs.FateCounts.{FatesSoFar}
+use Rattle.net_stream_model.specs.FateCounts.{CountsFates}
 use Rattle.net_stream_model.proofs.Passed.{round_met, RoundSends, round_sends}
 use Rattle.net_stream_model.proofs.Kept.{in_stream, round_keeps_invariant}
 use Rattle.net_stream_model.proofs.Stuck.{round_keeps, round_moves, step_moves, first_of_all, is_lost, due_kept}
@@ -71,7 +71,7 @@ module _ (known : KnownOfRounds) where
       pub incoming : r.capacity ≡ s.incoming
       pub sound : IsSound most_sack_blocks r
       pub payload : counts.payload < 2 ^ 64
-      pub met : FatesSoFar s.fates s.ack_fates forward.fates reverse.fates counts
+      pub met : CountsFates s.fates s.ack_fates forward.fates reverse.fates counts
 
     abbrev pub Stays : LinkState → Type 0
     Stays l = StaysOf l.sender.capacity l.receiver l.forward l.reverse l.counts
@@ -380,7 +380,7 @@ module _ (known : KnownOfRounds) where
 
   -- ---- the fates of frames
   pub counts_each_fate : CountsEachFate
-  counts_each_fate s reads n = (let h = (all_stays known s reads n).met in record { frames = h.frames; acks = h.acks; counted = h.counted })
+  counts_each_fate s reads n = (all_stays known s reads n).met
 
   -- ---- failures
   module _ (s : Setup) (reads : List (List ℕ)) where

@@ -12,7 +12,7 @@ use Rattle.net_stream_model.specs.CopyState.{is_written, room_for, with_read, re
 use Rattle.net_stream_model.specs.CopyState.{while_running, turn, after, waited}
 use Rattle.net_stream_model.proofs.Steps.{keeps, split}
 use Rattle.std.proofs.lemmas.List.{append-nil, nil_from_length}
-use Rattle.net_stream_model.specs.Promises.{MakesNoProgress, GivesUpAfter, NeverLater}
+use Rattle.net_stream_model.specs.Promises.{MakesNoProgress, GivesUpAfter, NeverLater, NoMoreRounds}
 
 -- all that was read is written, in numbers
 pub written_parts : (l : LinkState) → is_written l ≡ true → (next_position l.receiver ≡ end_of l.sender) × (length l.receiver.queue ≡ 0)
@@ -305,4 +305,13 @@ pub never_later : NeverLater
 never_later s reads n on many nothing =
     let so_far = counted s reads n on in
     let all = so_far.all (suc s.rounds) nothing (omega arith) in
+    omega arith
+
+pub no_more_rounds : NoMoreRounds
+no_more_rounds s reads n many nothing on =
+    let one = goes_on s.rounds s.chunk (after s reads n) on in
+    let so_far = counted s reads n one.before in
+    let all = so_far.all s.rounds nothing many in
+    let same = (fed_leaves s.chunk (after s reads n)).stalled in
+    let few = one.few in
     omega arith

@@ -24,7 +24,8 @@ use Rattle.net_stream_model.specs.declared.error.CopyError.{CopyError}
 use Rattle.net_stream_model.specs.LinkState.{LinkState}
 use Rattle.net_stream_model.specs.declared.config.Config.{Config}
 use Rattle.net_stream_model.specs.Fates.{FatesState}
-use Rattle.net_stream_model.specs.CopyResult.{before_pass, EndsRound, Copied, CopiedPart, HasCopied, HasNotBegun}
+use Rattle.net_stream_model.specs.CopyResult.{before_pass, EndsRound, Copied, CopiedPart}
+use Rattle.net_stream_model.specs.CopyResult.{HasCopied, HasNotBegun, HasCopiedIfBegun}
 use Rattle.net_stream_model.specs.CopyResult.{Copies, HasPositions, gave_up}
 use Rattle.net_stream_model.specs.declared.counts.FrameCounts.{FrameCounts}
 use Rattle.net_stream_model.specs.declared.error.CopyError.TheVariants as errors
@@ -261,13 +262,13 @@ module _ (known : Known) (s : Setup) (fits : StartsFits s) where
       )
   part_rest error c link w p h = absurd p
 
-  module _ (had has held holds : Option (List ℕ)) (counts : Counts) where
+  module _ (reads : List (List ℕ)) (told : List Counts) (reader reader' writer writer' : Option (List ℕ)) (counts : Counts) where
     -- what a writer has is a prefix of what a reader gave, and both are counted
-    in_short : (c : CopyState) (reads : List (List ℕ)) (written rest : List ℕ) (done : Bool) →
-        SoFar known s reads c → Given reads c → c.reads ≡ [] → Consumes had has (concat reads) → Appends held holds written → written ++ rest ≡ c.given →
+    in_short : (c : CopyState) (written rest : List ℕ) (done : Bool) →
+        SoFar known s reads c → Given reads c → c.reads ≡ [] → Consumes reader reader' (concat reads) → Appends writer writer' written → written ++ rest ≡ c.given →
         counts.bytes_read ≡ min (length c.given) (2 ^ 64 - 1) → counts.bytes_written ≡ min (length written) (2 ^ 64 - 1) →
-        (done ≡ true → (written ≡ c.given) × IsAtEnd has) → Copies had has held holds counts.bytes_read counts.bytes_written done
-    in_short c reads written rest done h g none consumed appended prefix read_are written_are whole =
+        (done ≡ true → (written ≡ c.given) × IsAtEnd reader') → Copies reader reader' writer writer' counts.bytes_read counts.bytes_written done
+    in_short c written rest done h g none consumed appended prefix read_are written_are whole =
         let all : c.given ≡ concat reads = sym (append-nil c.given) ∙ ap (λ l. c.given ++ concat l) (sym none) ∙ g in
         record {
           given = concat reads;
@@ -281,49 +282,49 @@ module _ (known : Known) (s : Setup) (fits : StartsFits s) where
         }
 
     copied_short : (status : Status) (done : Bool) → (done ≡ true → status ≡ Done) →
-        Copied s status had has held holds counts → Copies had has held holds counts.bytes_read counts.bytes_written done
+        Copied s status reads told reader reader' writer writer' counts → Copies reader reader' writer writer' counts.bytes_read counts.bytes_written done
     copied_short status done is p =
-        let n = most_turns s p.reads in
-        let c = final s p.reads in
-        let h = so_far known s p.reads fits n in
-        in_short c p.reads c.written (drop c.link.receiver.read c.given) done h (all_given p.reads s n) p.made p.consumed
-        (subst (Appends held holds) (sym (ap (λ (o : Outcome). o.written) p.ends)) p.appended) (written_rest c s.first h.writes)
+        let n = most_turns s reads in
+        let c = final s reads in
+        let h = so_far known s reads fits n in
+        in_short c c.written (drop c.link.receiver.read c.given) done h (all_given reads s n) p.made p.consumed
+        (subst (Appends writer writer') (sym (ap (λ (o : Outcome). o.written) p.ends)) p.appended) (written_rest c s.first h.writes)
         (sym (ap (λ (o : Outcome). o.counts.bytes_read) p.ends)) (sym (ap (λ (o : Outcome). o.counts.bytes_written) p.ends))
         (λ e. (all_written s.first c.given c (h.done (ap (λ (o : Outcome). o.status) p.ends ∙ is e)).1 h.writes, p.at_end (is e)))
 
-    part_short : (error : CopyError) → CopiedPart s error had has held holds counts →
-        Copies had has held holds counts.bytes_read counts.bytes_written false
+    part_short : (error : CopyError) → CopiedPart s error reads told reader reader' writer writer' counts →
+        Copies reader reader' writer writer' counts.bytes_read counts.bytes_written false
     part_short error p =
-        let c = after s p.reads p.turns in
-        let e = before_pass s p.reads p.turns in
-        let h : SoFar known s p.reads e = to_pass (SoFar known s p.reads) s.rounds s.chunk (λ d _. fed_so_far known s p.reads d)
-        (λ d _. decided_so_far known s p.reads d) c (so_far known s p.reads fits p.turns) in
+        let c = after s reads p.turns in
+        let e = before_pass s reads p.turns in
+        let h : SoFar known s reads e = to_pass (SoFar known s reads) s.rounds s.chunk (λ d _. fed_so_far known s reads d)
+        (λ d _. decided_so_far known s reads d) c (so_far known s reads fits p.turns) in
         let rest = part_rest error e p.link p.written p.part h.writes in
-        in_short e p.reads (e.written ++ p.written) rest.0 false h (given_before p.reads s p.turns) p.made p.consumed p.appended rest.1
+        in_short e (e.written ++ p.written) rest.0 false h (given_before reads s p.turns) p.made p.consumed p.appended rest.1
         (ap (λ (n : Counts). n.bytes_read) p.counted) (ap (λ (n : Counts). n.bytes_written) p.counted) (λ t. absurd (both_ways false refl t))
 
-  pub short : {T : Type 0} (r : Result T CopyError) (had has held holds : Option (List ℕ)) (counts : Counts) →
-      HasCopied s r had has held holds counts →
-      Copies had has held holds counts.bytes_read counts.bytes_written (is_ok r)
-  short (Ok t) had has held holds counts p = copied_short had has held holds counts Done true (λ _. refl) p
-  short (Err errors.GaveUp) had has held holds counts p = copied_short had has held holds counts GaveUp false (λ e. absurd (both_ways false refl e)) p
-  short (Err errors.ReadFailed) had has held holds counts p = copied_short had has held holds counts ReadFailed false (λ e. absurd (both_ways false refl e)) p
-  short (Err errors.OutOfMemory) had has held holds counts p = part_short had has held holds counts errors.OutOfMemory p
-  short (Err errors.WriteFailed) had has held holds counts (inl p) = part_short had has held holds counts errors.WriteFailed p
-  short (Err errors.WriteFailed) had has held holds counts (inr p) = copied_short had has held holds counts Done false (λ e. absurd (both_ways false refl e)) p
+  pub short : {T : Type 0} (r : Result T CopyError) (reads : List (List ℕ)) (told : List Counts) (reader reader' writer writer' : Option (List ℕ)) (counts : Counts) →
+      HasCopied s r reads told reader reader' writer writer' counts →
+      Copies reader reader' writer writer' counts.bytes_read counts.bytes_written (is_ok r)
+  short (Ok t) reads told reader reader' writer writer' counts p = copied_short reads told reader reader' writer writer' counts Done true (λ _. refl) p
+  short (Err errors.GaveUp) reads told reader reader' writer writer' counts p = copied_short reads told reader reader' writer writer' counts GaveUp false (λ e. absurd (both_ways false refl e)) p
+  short (Err errors.ReadFailed) reads told reader reader' writer writer' counts p = copied_short reads told reader reader' writer writer' counts ReadFailed false (λ e. absurd (both_ways false refl e)) p
+  short (Err errors.OutOfMemory) reads told reader reader' writer writer' counts p = part_short reads told reader reader' writer writer' counts errors.OutOfMemory p
+  short (Err errors.WriteFailed) reads told reader reader' writer writer' counts (inl p) = part_short reads told reader reader' writer writer' counts errors.WriteFailed p
+  short (Err errors.WriteFailed) reads told reader reader' writer writer' counts (inr p) = copied_short reads told reader reader' writer writer' counts Done false (λ e. absurd (both_ways false refl e)) p
 
 -- a copy that had no memory
-pub unbegun : {T : Type 0} (r : Result T CopyError) (had has held holds : Option (List ℕ)) (counts : Counts) →
-    HasNotBegun r had has held holds counts →
-    Copies had has held holds counts.bytes_read counts.bytes_written (is_ok r)
-unbegun r had has held holds counts p = record {
+pub unbegun : {T : Type 0} (r : Result T CopyError) (reads : List (List ℕ)) (told : List Counts) (reader reader' writer writer' : Option (List ℕ)) (counts : Counts) →
+    HasNotBegun r reads told reader reader' writer writer' counts →
+    Copies reader reader' writer writer' counts.bytes_read counts.bytes_written (is_ok r)
+unbegun r reads told reader reader' writer writer' counts p = record {
   given = [];
   written = [];
-  consumed = p.1;
-  appended = p.2;
+  consumed = p.3;
+  appended = p.4;
   prefix = refl;
-  bytes_read = sym (ap (λ (n : Counts). n.bytes_read) p.3);
-  bytes_written = sym (ap (λ (n : Counts). n.bytes_written) p.3);
+  bytes_read = sym (ap (λ (n : Counts). n.bytes_read) p.5);
+  bytes_written = sym (ap (λ (n : Counts). n.bytes_written) p.5);
   whole = λ e. absurd (both_ways (is_ok r) (ap is_ok p.0) e);
 }
 
@@ -333,21 +334,21 @@ Enough first cap rounds counts e = gave_up e ≡ true → HasPositions first cou
     (rounds ≤ counts.frames.lost + counts.frames.delayed) × (rounds ≤ counts.frames.lost + 1)
 
 module _ (law : EnoughFailed) (config : Config) (fates ack_fates : FatesState) (word : config.rounds < 2 ^ 64) where
-  enough_of : {T : Type 0} (r : Result T CopyError) (had has held holds : Option (List ℕ)) (counts : Counts) →
-      HasCopied (setup_of config fates ack_fates) r had has held holds counts → IfErr r (Enough config.first config.capacity config.rounds counts)
-  enough_of (Ok t) had has held holds counts p = tt
-  enough_of (Err errors.GaveUp) had has held holds counts p = λ _ left some.
+  enough_of : {T : Type 0} (r : Result T CopyError) (reads : List (List ℕ)) (told : List Counts) (reader reader' writer writer' : Option (List ℕ)) (counts : Counts) →
+      HasCopied (setup_of config fates ack_fates) r reads told reader reader' writer writer' counts → IfErr r (Enough config.first config.capacity config.rounds counts)
+  enough_of (Ok t) reads told reader reader' writer writer' counts p = tt
+  enough_of (Err errors.GaveUp) reads told reader reader' writer writer' counts p = λ _ left some.
       let s = setup_of config fates ack_fates in
-      let c = final s p.reads in
+      let c = final s reads in
       let bytes_read : min (length c.given) (2 ^ 64 - 1) ≡ counts.bytes_read = ap (λ (o : Outcome). o.counts.bytes_read) p.ends in
       subst (λ (f : FrameCounts). (config.rounds ≤ f.lost + f.delayed) × (config.rounds ≤ f.lost + 1)) (ap (λ (o : Outcome). o.counts.frames) p.ends)
-      (law s p.reads (most_turns s p.reads) (record { outgoing = some; incoming = some; chunk = some; positions = omega (arith, bytes_read, left) }) word
+      (law s reads (most_turns s reads) (record { outgoing = some; incoming = some; chunk = some; positions = omega (arith, bytes_read, left) }) word
       (ap (λ (o : Outcome). o.status) p.ends))
-  enough_of (Err error) had has held holds counts p = λ e. absurd (both_ways false refl e)
+  enough_of (Err error) reads told reader reader' writer writer' counts p = λ e. absurd (both_ways false refl e)
 
-  pub enough : {T : Type 0} (r : Result T CopyError) (had has held holds : Option (List ℕ)) (counts : Counts) →
-      HasCopied (setup_of config fates ack_fates) r had has held holds counts ⊎ HasNotBegun r had has held holds counts →
+  pub enough : {T : Type 0} (r : Result T CopyError) (reads : List (List ℕ)) (told : List Counts) (reader reader' writer writer' : Option (List ℕ)) (counts : Counts) →
+      HasCopiedIfBegun (setup_of config fates ack_fates) r reads told reader reader' writer writer' counts →
       IfErr r (Enough config.first config.capacity config.rounds counts)
-  enough r had has held holds counts (inl p) = enough_of r had has held holds counts p
-  enough r had has held holds counts (inr p) = subst (λ k. IfErr k (Enough config.first config.capacity config.rounds counts)) (sym p.0)
+  enough r reads told reader reader' writer writer' counts (inl p) = enough_of r reads told reader reader' writer writer' counts p
+  enough r reads told reader reader' writer writer' counts (inr p) = subst (λ k. IfErr k (Enough config.first config.capacity config.rounds counts)) (sym p.0)
       (λ e. absurd (both_ways false refl e))

@@ -10,16 +10,16 @@
 --     after s reads n      the copy after n turns
 --     Outcome, outcome c      the outcome of a copy
 --     final s reads, copied s reads      the copy once it has ended, and its outcome
-use Rattle.std.specs.Prelude.{ℕ, suc, ◌+◌, ◌*◌, ◌-◌, ◌^◌, ◌&&◌, ◌||◌, not, min, max, nat_lt, nat_le, nat_eq}
+use Rattle.std.specs.Prelude.{ℕ, suc, ◌+◌, ◌*◌, ◌-◌, ◌^◌, ◌&&◌, ◌||◌, not, min, nat_lt, nat_le, nat_eq}
 use Rattle.std.specs.Prelude.{if◌then◌else◌, Bool, true, false}
 use Rattle.std.specs.Prelude.{List, [], ◌∷◌, ◌++◌, length, take, drop, flat_map}
-use Rattle.net_receiver.specs.ReceiverState.{next_position, fresh_receiver, receiver_after_read}
-use Rattle.net_stream_model.specs.SenderState.{sender_state, end_of, room_of, with_written}
+use Rattle.net_receiver.specs.ReceiverState.{next_position, receiver_after_read}
+use Rattle.net_stream_model.specs.SenderState.{end_of, room_of, with_written}
 use Rattle.net_stream_model.specs.Fates.{FatesState}
-use Rattle.net_stream_model.specs.Counts.{more, no_frames, round_trip_time, longest_wait}
+use Rattle.net_stream_model.specs.Counts.{more, round_trip_time, longest_wait}
 use Rattle.net_stream_model.specs.declared.counts.Counts.{Counts}
 use Rattle.net_stream_model.specs.declared.config.Config.{Config}
-use Rattle.net_stream_model.specs.LinkState.{LinkState, times, round}
+use Rattle.net_stream_model.specs.LinkState.{LinkState, fresh_link, times, round}
 
 -- the position of the stream's first byte; the most bytes of a frame's payload and the most frames
 -- of a round; after how many rounds in a row without progress the copy gives up; the capacities of the
@@ -78,17 +78,7 @@ pub record CopyState : Type 0 where
 -- a copy before its first turn
 abbrev pub begin : Setup → List (List ℕ) → CopyState
 begin s reads = record {
-  link = record {
-    sender = sender_state s.outgoing s.first [] [] (s.first + s.outgoing);
-    receiver = fresh_receiver s.first s.incoming;
-    forward = record { in_flight = []; delayed = []; fates = s.fates };
-    reverse = record { in_flight = []; delayed = []; fates = s.ack_fates };
-    counts = no_frames;
-    payload = s.payload;
-    max_burst = max s.max_burst 1;
-    burst = max s.max_burst 1;
-    elapsed = 0;
-  };
+  link = fresh_link s.first s.payload s.max_burst s.outgoing s.incoming s.fates s.ack_fates;
   reads = reads;
   given = [];
   more = true;

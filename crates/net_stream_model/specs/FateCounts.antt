@@ -1,6 +1,5 @@
 -- The fates that the counts of rounds have.
---     CountsFates v v' counts      what is counted of the frames of rounds
---     FatesSoFar v v' u u' counts      the same, with the fates u and u' left
+--     CountsFates v v' u u' counts      what is counted of the frames of rounds that leave the fates u and u'
 use Rattle.std.specs.Prelude.{◌≡◌, ℕ}
 use Rattle.net_stream_model.specs.Fates.{FatesState, fates_after}
 use Rattle.net_stream_model.specs.Counts.{with_fates, no_frames}
@@ -10,15 +9,9 @@ use Rattle.net_stream_model.specs.declared.counts.FrameCounts.{FrameCounts}
 abbrev pub fates_only : FrameCounts → FrameCounts
 fates_only c = record c { payload = 0; refused = 0 }
 
--- the counts of frames are those of the fates, the first of v and of v', of some frames and of some
--- acknowledgements
-pub record CountsFates (v v' : FatesState) (counts : FrameCounts) : Type 0 where
-  pub frames : ℕ
-  pub acks : ℕ
-  pub counted : fates_only counts ≡ fates_only (with_fates acks v' (with_fates frames v no_frames))
-
--- the same, and u and u' are the fates that are left
-pub record FatesSoFar (v v' u u' : FatesState) (counts : FrameCounts) : Type 0 where
+-- of the fates v and v' so many frames and acknowledgements drew the first, so that u and u' are left, and the
+-- counts of frames are those of the fates that were drawn
+pub record CountsFates (v v' u u' : FatesState) (counts : FrameCounts) : Type 0 where
   pub frames : ℕ
   pub acks : ℕ
   pub left : u ≡ fates_after frames v

@@ -1,5 +1,6 @@
 -- A link as one value, and what each step of a round does to it (docs/LINK.md, "A round is this").
 --     LinkState      the model of a link
+--     fresh_link first payload max_burst outgoing incoming fates ack_fates      a link before its first round
 --     times n f s      f, n times over
 --     Cursor, part, transmit      step 1: the sender's frames are sent, part by part
 --     come s frame      a frame arrives at the receiver, which acknowledges what it then has
@@ -10,14 +11,14 @@
 --     next_burst max_burst burst full      how many frames the next round may send
 --     round s      a round
 --     StopsRound s v      where a round stopped for want of memory for a frame
-use Rattle.std.specs.Prelude.{◌≡◌, ℕ, zero, suc, ◌+◌, ◌-◌, ◌/◌, ◌&&◌, ◌⊎◌, min, max, nat_lt}
-use Rattle.std.specs.Prelude.{Bool, if◌then◌else◌, List, [], ◌∷◌, ◌++◌, length, take, drop}
-use Rattle.net_receiver.specs.ReceiverState.{ReceiverState}
-use Rattle.net_stream_model.specs.SenderState.{SenderState, contiguous_end}
+use Rattle.std.specs.Prelude.{◌≡◌, ◌<◌, ℕ, zero, suc, ◌+◌, ◌-◌, ◌/◌, ◌&&◌, ◌⊎◌, min, max, nat_lt}
+use Rattle.std.specs.Prelude.{Bool, true, if◌then◌else◌, List, [], ◌∷◌, ◌++◌, length, take, drop}
+use Rattle.net_receiver.specs.ReceiverState.{ReceiverState, fresh_receiver}
+use Rattle.net_stream_model.specs.SenderState.{SenderState, sender_state, contiguous_end}
 use Rattle.net_stream_model.specs.Frames.{frame_of, segment_of}
 use Rattle.net_stream_model.specs.SackBlocks.{most_sack_blocks, is_full}
-use Rattle.net_stream_model.specs.Fates.{next_fate, after_fate, comes}
-use Rattle.net_stream_model.specs.Counts.{with_fate, with_payload, with_refusal}
+use Rattle.net_stream_model.specs.Fates.{FatesState, next_fate, after_fate, comes, comes_delayed}
+use Rattle.net_stream_model.specs.Counts.{no_frames, with_fate, with_payload, with_refusal}
 use Rattle.net_stream_model.specs.PathState.{PathState, ack_of, receiver_after, with_ack}
 use Rattle.net_stream_model.specs.SenderState.{at_least_one, spared_from, next_block, stop_of}
 use Rattle.net_stream_model.specs.SenderState.{after_ack_frame}
@@ -37,6 +38,21 @@ pub record LinkState : Type 0 where
   pub max_burst : ℕ
   pub burst : ℕ
   pub elapsed : ℕ
+
+-- a link on which nothing is in flight: the position of the stream's first byte, the most bytes of a payload and
+-- the most frames of a round, the capacities of sender and receiver, and the fates
+abbrev pub fresh_link : ℕ → ℕ → ℕ → ℕ → ℕ → FatesState → FatesState → LinkState
+fresh_link first payload max_burst outgoing incoming fates ack_fates = record {
+  sender = sender_state outgoing first [] [] (first + outgoing);
+  receiver = fresh_receiver first incoming;
+  forward = record { in_flight = []; delayed = []; fates = fates };
+  reverse = record { in_flight = []; delayed = []; fates = ack_fates };
+  counts = no_frames;
+  payload = payload;
+  max_burst = max max_burst 1;
+  burst = max max_burst 1;
+  elapsed = 0;
+}
 
 -- f, n times over
 abbrev pub times : {S : Type 0} → ℕ → (S → S) → S → S
@@ -204,21 +220,31 @@ StopsDelayed s [] v = ⊥
 StopsDelayed s (frame ∷ rest) v =
     v ≡ take_in (record s { forward = record s.forward { delayed = rest } }) frame
 
--- a frame met its fate, and was not acknowledged, or isn't among the delayed ones
+-- a frame that arrives in its round did so, and was not acknowledged; or a frame that arrives in the next round
+-- met its fate, and isn't among the delayed ones
 abbrev pub StopsFrame : LinkState → List (List ℕ) → LinkState → Type 0
 StopsFrame s [] v = ⊥
 StopsFrame s (frame ∷ rest) v =
-    (v ≡ take_in (take_frame s rest) frame) ⊎ (v ≡ came (next_fate s.forward.fates) (take_frame s rest) frame)
+    ((comes (next_fate s.forward.fates) ≡ true) × (v ≡ take_in (take_frame s rest) frame))
+    ⊎ ((comes_delayed (next_fate s.forward.fates) ≡ true)
+    × (v ≡ came (next_fate s.forward.fates) (take_frame s rest) frame))
 
--- an acknowledgement met its fate, and isn't among the delayed ones
+-- an acknowledgement that arrives in the next round met its fate, and isn't among the delayed ones
 abbrev pub StopsAck : LinkState → List (List ℕ) → LinkState → Type 0
 StopsAck s [] v = ⊥
-StopsAck s (frame ∷ rest) v = v ≡ came_ack (next_fate s.reverse.fates) (take_ack s rest) frame
+StopsAck s (frame ∷ rest) v =
+    (comes_delayed (next_fate s.reverse.fates) ≡ true)
+    × (v ≡ came_ack (next_fate s.reverse.fates) (take_ack s rest) frame)
+
+-- a frame begins here, which is not sent
+abbrev pub StopsSending : Cursor → LinkState → Type 0
+StopsSending c v =
+    (c.pos < stop_of c.link.sender) × (0 < c.left) × (spared_from c.link.sender c.pos ≡ 0) × (v ≡ c.link)
 
 -- a round stopped in step 1, 2, 3, 4 or 5
 abbrev pub StopsRound : LinkState → LinkState → Type 0
 StopsRound s v =
-    ((n : ℕ) × (v ≡ (times n part (start s)).link))
+    ((n : ℕ) × StopsSending (times n part (start s)) v)
     ⊎ ((n : ℕ) × (let u = times n delayed_frame (transmit s) in StopsDelayed u u.forward.delayed v))
     ⊎ ((n : ℕ) × (let u = times n pass_frame (delayed_frames (transmit s)) in StopsFrame u u.forward.in_flight v))
     ⊎ (v ≡ pass_frames (delayed_frames (transmit s)))

@@ -86,6 +86,12 @@ NeverLater = (s : Setup) (reads : List (List ℕ)) (n : ℕ) →
     (after s reads n).status ≡ Running → s.rounds < n →
     ((k : ℕ) → n ≤ k + suc s.rounds → k < n → MakesNoProgress s reads k) → ⊥
 
+-- once the last `rounds` rounds made no progress, the copy doesn't go on: the next turn makes no round
+abbrev pub NoMoreRounds : Type 0
+NoMoreRounds = (s : Setup) (reads : List (List ℕ)) (n : ℕ) → s.rounds ≤ n →
+    ((k : ℕ) → n ≤ k + s.rounds → k < n → MakesNoProgress s reads k) →
+    (after s reads (suc n)).status ≡ Running → ⊥
+
 -- how many frames and how many acknowledgements a round that begins with this link sends
 abbrev pub frames_sent : LinkState → ℕ
 frames_sent l = length (transmit l).forward.in_flight
@@ -135,10 +141,12 @@ abbrev pub CountsRounds : Type 0
 CountsRounds = (s : Setup) (reads : List (List ℕ)) (n : ℕ) →
     (after s reads n).status ≡ Running → (after s reads n).rounds ≡ min n (2 ^ 64 - 1)
 
--- the counts of frames are those of their fates
+-- the counts of frames are those of the fates that were drawn, one for each frame and each acknowledgement that a
+-- round sent (RoundPasses)
 abbrev pub CountsEachFate : Type 0
 CountsEachFate = (s : Setup) (reads : List (List ℕ)) (n : ℕ) →
-    CountsFates s.fates s.ack_fates (after s reads n).link.counts
+    let l = (after s reads n).link in
+    CountsFates s.fates s.ack_fates l.forward.fates l.reverse.fates l.counts
 
 -- a copy that gives up counts at least `rounds` rounds
 abbrev pub GivesUpCounted : Type 0

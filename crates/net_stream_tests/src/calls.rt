@@ -5,8 +5,8 @@ use net_base::phy::RxToken;
 use net_base::time::Instant;
 use net_ring::ManagedSlice;
 use net_stream::{
-    Config, CopyBuffers, CopyError, Counts, Fate, Fates, LinkFates, Rates, StreamLink, Watch, copy,
-    copy_watched, copy_with_buffers,
+    Config, CopyBuffers, CopyError, Counts, Fate, Fates, LinkFates, Rates, StatedRead, StreamLink,
+    Watch, copy, copy_stated, copy_watched, copy_with_buffers,
 };
 use std::alloc::{AllocError, Allocator};
 use std::io::{Read, Write};
@@ -106,6 +106,27 @@ pub fn copy_watched_by<A: Allocator + Copy, T: Watch, R: Read, W: Write>(
     counts: &mut Counts,
 ) -> &'static str {
     ending(copy_watched(
+        alloc,
+        setup.config,
+        link_fates(setup),
+        watch,
+        reader,
+        writer,
+        counts,
+    ))
+}
+
+/// Copies from a reader that states what its calls give, reports to a watch, and returns the name of how it
+/// ended.
+pub fn copy_stated_by<A: Allocator + Copy, T: Watch, R: StatedRead, W: Write>(
+    alloc: A,
+    setup: &Setup,
+    watch: &mut T,
+    reader: &mut R,
+    writer: &mut W,
+    counts: &mut Counts,
+) -> &'static str {
+    ending(copy_stated(
         alloc,
         setup.config,
         link_fates(setup),

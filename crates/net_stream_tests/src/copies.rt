@@ -299,9 +299,10 @@ fn little_memory_is_asked_for(rt: HostRuntime) {
     );
 }
 
-/// Returns whether an error's text is this one.
+/// Returns whether an error's text is this one, also under a width and a precision.
 fn says(alloc: Global, error: CopyError, text: &str) -> Result<bool, AllocError> {
-    Ok(format!(in alloc; "{error}")?.as_str() == text)
+    let wide = format!(in alloc; "{error:>20.3}")?;
+    Ok(format!(in alloc; "{error}")?.as_str() == text && wide.as_str() == text)
 }
 
 #[test]

@@ -1,6 +1,6 @@
 //! All counts of copies over links of known fates.
 //!
-//! The numbers are those of compare/copy_model.py, a model that is written only from docs/LINK.md.
+//! The numbers are those of models/copies.py, a model that is written only from docs/LINK.md.
 
 use crate::assertions::assert_holds;
 use crate::calls::{Setup, Way, copy_by};

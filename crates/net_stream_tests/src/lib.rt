@@ -6,6 +6,7 @@
 
 #[cfg(test)]
 mod assertions;
+pub mod bounds;
 #[cfg(test)]
 mod calls;
 #[cfg(test)]
@@ -22,5 +23,7 @@ mod links;
 mod order;
 #[cfg(test)]
 mod sender;
+#[cfg(test)]
+mod stated;
 #[cfg(test)]
 mod watched;

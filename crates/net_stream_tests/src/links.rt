@@ -201,6 +201,18 @@ fn a_clock_stops_at_its_last_moment(rt: HostRuntime) {
     assert_holds(&rt, link.elapsed == Duration::from_micros(u64::MAX), 1);
 }
 
+#[test]
+fn a_count_of_payload_stops_at_its_last_number(rt: HostRuntime) {
+    let setup = setup((&[], PERFECT), (&[], PERFECT), (0, 3, 100));
+    let mut bytes = [0u8; 9];
+    let to_send = ManagedSlice::Borrowed(&mut bytes);
+    let mut link = link_by(rt.alloc(), &setup, to_send, ManagedSlice::Borrowed(&mut []));
+    link.write(b"abcdefghi");
+    link.counts.payload = u64::MAX - 7;
+    assert_holds(&rt, link.pass_round().is_ok(), 0);
+    assert_holds(&rt, link.counts.payload == u64::MAX, 1);
+}
+
 /// Takes the next frame of a link over which everything is delayed, and returns whether it has this
 /// position and so many bytes of payload, which are those of the sender.
 fn is_next(link: &mut StreamLink<'_, '_, Global>, pos: u64, len: usize) -> bool {

@@ -3,7 +3,7 @@
 use crate::assertions::assert_holds;
 use crate::counted::pattern;
 use net_ring::ManagedSlice;
-use net_stream::{SackBlocks, Sender};
+use net_stream::{SackBlocks, Sender, SenderHead};
 use std::alloc::AllocError;
 
 /// A call of a sender, and what it gives.
@@ -152,4 +152,21 @@ fn storage_is_written_only_where_bytes_are_queued(rt: HostRuntime) {
     let done = all_of(&AT_THE_END, &mut storage, u64::MAX - 4);
     let is_kept = storage.as_slice() == b"abcd.....".as_slice();
     assert_holds(&rt, done == AT_THE_END.len() && is_kept, done);
+}
+
+/// Returns how many bytes a sender in parts takes, and how many are then queued.
+fn takes_four(storage: &mut [u8]) -> (usize, usize) {
+    let mut head = SenderHead::new(100);
+    if !head.is_sound(storage.len()) {
+        return (0, 0);
+    }
+    let count = head.write(storage, b"abcdef");
+    (count, head.place.length)
+}
+
+#[test]
+fn a_sender_in_parts(rt: HostRuntime) {
+    let mut storage = [0u8; 4];
+    assert_holds(&rt, takes_four(&mut storage) == (4, 4), 4);
+    assert_holds(&rt, storage == *b"abcd", 5);
 }

@@ -3,6 +3,7 @@ ghost use Rattle.std.specs.Prelude.{◌≡◌, ◌+◌, ℕ, length, true, false
 ghost use Rattle.net_stream_model.specs.LinkState.{times, take_in, come, came, meet, acknowledge_all};
 ghost use Rattle.net_stream_model.specs.LinkState.{delayed_frame, delayed_frames, pass_frame, pass_frames};
 ghost use Rattle.net_stream_model.specs.LinkState.{StopsDelayed, StopsFrame};
+ghost use Rattle.net_stream_model.specs.Fates.{comes, comes_delayed};
 
 use super::StreamLink;
 use crate::frame::decode_frame;
@@ -45,8 +46,8 @@ impl<'a, 'f, A: Allocator + Copy> StreamLink<'a, 'f, A> {
     /// Lets a frame that was taken off its path meet its fate.
     fn meet(&mut self, frame: &[u8], fate: Fate) -> Result<(), AllocError>
         ensures ok { OnOk result (self.new ≡ meet fate self.old frame.now) }
-        ensures err { OnErr result ((self.new ≡ take_in self.old frame.now)
-            ⊎ (self.new ≡ came fate self.old frame.now)) }
+        ensures err { OnErr result (((comes fate ≡ true) × (self.new ≡ take_in self.old frame.now))
+            ⊎ ((comes_delayed fate ≡ true) × (self.new ≡ came fate self.old frame.now))) }
     {
         let now = self.now();
         if fate.comes() {

@@ -1,6 +1,8 @@
 //! A round of a link, and how many frames the next one may send.
-ghost use Rattle.std.specs.Prelude.{◌≡◌, ℕ, List, OnOk, OnErr};
-ghost use Rattle.net_stream_model.specs.LinkState.{next_burst, round, StopsRound};
+ghost use Rattle.std.specs.Prelude.{◌≡◌, ◌<◌, ◌^◌, ℕ, List, OnOk, OnErr};
+ghost use Rattle.net_stream_model.specs.LinkState.{next_burst, round, StopsRound, transmit, delayed_frames};
+ghost use Rattle.net_stream_model.specs.LinkState.{pass_frames, acknowledge_all, delayed_acks, pass_acks};
+ghost use Rattle.net_stream_model.specs.SenderState.{end_of};
 ghost use Rattle.net_stream_model.specs.LinkInvariant.{LinkInvariant};
 
 use super::StreamLink;
@@ -41,17 +43,27 @@ impl<'a, 'f, A: Allocator + Copy> StreamLink<'a, 'f, A> {
         ensures read { self.new.receiver.read ≡ self.old.receiver.read }
     {
         laws::known();
-        self.transmit()?;
-        self.delayed_frames()?;
-        self.pass_frames()?;
-        self.acknowledge_all()?;
-        self.delayed_acks();
-        self.pass_acks()?;
+        self.steps()?;
         self.burst = burst_after(
             self.burst,
             self.max_burst,
             self.sender.are_sack_blocks_full(),
         );
         Ok(())
+    }
+
+    /// Makes the five steps of a round.
+    fn steps(&mut self) -> Result<(), AllocError>
+        ensures ok { OnOk result (self.new ≡ pass_acks (delayed_acks
+            (acknowledge_all (pass_frames (delayed_frames (transmit self.old)))))) }
+        ensures err { OnErr result (StopsRound self.old self.new) }
+        ensures fits { end_of self.old.sender < 2 ^ 64 }
+    {
+        self.transmit()?;
+        self.delayed_frames()?;
+        self.pass_frames()?;
+        self.acknowledge_all()?;
+        self.delayed_acks();
+        self.pass_acks()
     }
 }

@@ -2,6 +2,7 @@
 ghost use Rattle.std.specs.Prelude.{◌≡◌, ◌+◌, ℕ, length, true, false, OnOk, OnErr, IfOk};
 ghost use Rattle.net_stream_model.specs.LinkState.{times, acknowledge, came_ack, meet_ack};
 ghost use Rattle.net_stream_model.specs.LinkState.{delayed_ack, delayed_acks, pass_ack, pass_acks, StopsAck};
+ghost use Rattle.net_stream_model.specs.Fates.{comes_delayed};
 
 use super::StreamLink;
 use crate::frame::decode_frame;
@@ -26,7 +27,8 @@ impl<'a, 'f, A: Allocator + Copy> StreamLink<'a, 'f, A> {
     /// Lets an acknowledgement that was taken off its path meet its fate.
     fn meet_ack(&mut self, frame: &[u8], fate: Fate) -> Result<(), AllocError>
         ensures ok { OnOk result (self.new ≡ meet_ack fate self.old frame.now) }
-        ensures err { OnErr result (self.new ≡ came_ack fate self.old frame.now) }
+        ensures err { OnErr result ((comes_delayed fate ≡ true)
+            × (self.new ≡ came_ack fate self.old frame.now)) }
     {
         let now = self.now();
         if fate.comes() {

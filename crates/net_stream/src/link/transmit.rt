@@ -1,7 +1,7 @@
 //! Step 1 of a round: the sender's frames are sent.
 ghost use Rattle.std.specs.Prelude.{◌≡◌, ◌≤◌, ◌<◌, ◌^◌, ℕ, OnOk, OnErr, IfOk};
-ghost use Rattle.net_stream_model.specs.SenderState.{end_of};
-ghost use Rattle.net_stream_model.specs.LinkState.{times, start, part, part_at, transmit};
+ghost use Rattle.net_stream_model.specs.SenderState.{end_of, spared_from};
+ghost use Rattle.net_stream_model.specs.LinkState.{times, start, part, part_at, transmit, StopsSending};
 
 use super::StreamLink;
 use std::alloc::{AllocError, Allocator};
@@ -18,6 +18,7 @@ impl<'a, 'f, A: Allocator + Copy> StreamLink<'a, 'f, A> {
         ensures within { IfOk result (λ done. (pos < done.0) × (done.0 ≤ end_of self.old.sender)) }
         ensures sender { self.new.sender ≡ self.old.sender }
         ensures unchanged { OnErr result (self.new ≡ self.old) }
+        ensures frame { OnErr result (spared_from self.old.sender pos ≡ 0) }
     {
         let payload = self.counts.payload;
         let spared = self.sender.sacked_from(pos);
@@ -42,7 +43,7 @@ impl<'a, 'f, A: Allocator + Copy> StreamLink<'a, 'f, A> {
     /// in flight, and they are counted.
     pub(super) fn transmit(&mut self) -> Result<(), AllocError>
         ensures ok { OnOk result (self.new ≡ transmit self.old) }
-        ensures err { OnErr result ((n : ℕ) × (self.new ≡ (times n part (start self.old)).link)) }
+        ensures err { OnErr result ((n : ℕ) × StopsSending (times n part (start self.old)) self.new) }
         ensures fits { end_of self.old.sender < 2 ^ 64 }
     {
         let stop = self.sender.stop();

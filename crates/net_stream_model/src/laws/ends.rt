@@ -1,5 +1,5 @@
 //! Laws: when a copy gives up, and what it counts.
-ghost use Rattle.net_stream_model.specs.Promises.{GivesUpAfter, NeverLater, GivesUpIfFailed};
+ghost use Rattle.net_stream_model.specs.Promises.{GivesUpAfter, NeverLater, NoMoreRounds, GivesUpIfFailed};
 ghost use Rattle.net_stream_model.specs.Promises.{NeverByDelays, EndsIfAllCome, DoneIfAllCome, FewRounds};
 ghost use Rattle.net_stream_model.specs.Promises.{CountsRounds, CountsEachFate, GivesUpCounted, EnoughFailed};
 ghost use Rattle.net_stream_model.specs.Promises.{Unfinished, EnoughRounds, RoundsAtOnce, ExactRounds};
@@ -20,10 +20,11 @@ fn known_of_rounds()
 }
 
 /// States that a copy gives up after `rounds` rounds in a row without progress, and never later.
-#[tactic(auto, using(crate::proofs::Turns::gives_up_after, crate::proofs::Turns::never_later))]
+#[tactic(auto, using(crate::proofs::Turns::gives_up_after, crate::proofs::Turns::never_later, crate::proofs::Turns::no_more_rounds))]
 pub fn gives_up()
     ensures after { GivesUpAfter }
     ensures later { NeverLater }
+    ensures at_once { NoMoreRounds }
 {}
 
 /// States that a copy gives up only if in each of its last `rounds` rounds the first frame or all

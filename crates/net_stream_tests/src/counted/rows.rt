@@ -1,15 +1,16 @@
-//! The rows that compare/copy_model.py writes.
+//! The rows that models/copies.py gives.
 
 use crate::counted::ways::{
-    ALL, DELAYED_AND_DUPLICATED, DUPLICATED_THEN_NONE, EACH_SECOND, EACH_SECOND_THEN_NONE,
-    FIRST_AND_THIRD_LOST, FIRST_DELAYED, FIRST_LOST, FOUR_DELAYED_THEN_NONE, FOUR_LOST, NINE_LOST,
-    NONE, SECOND_LOST, SECOND_THEN_NONE, SOME, THIRTY_LOST, THREE_DELAYED_THEN_NONE,
+    ALL, DELAYED_AND_DUPLICATED, DUPLICATED_THEN_NONE, EACH_DELAYED, EACH_DUPLICATED, EACH_SECOND,
+    EACH_SECOND_THEN_NONE, FIRST_AND_THIRD_LOST, FIRST_DELAYED, FIRST_LOST, FOUR_DELAYED_THEN_NONE,
+    FOUR_LOST, HALF_OF_64_THEN_NONE, NINE_LOST, NONE, SECOND_LOST, SECOND_THEN_NONE, SOME,
+    THIRTY_LOST, THREE_DELAYED_THEN_NONE, TWO_LOST_THEN_DELAYED,
 };
 use crate::counted::{Case, TO_THE_END};
 use net_testing::NEVER;
 
 /// Copies, and the counts of each.
-pub static CASES: [Case; 58] = [
+pub static CASES: [Case; 64] = [
     // Three frames, an acknowledgement for each and one more.
     Case(
         ALL,
@@ -398,6 +399,60 @@ pub static CASES: [Case; 58] = [
         TO_THE_END,
         ("Ok", 2001, 2000),
         [2_000, 2_000, 2_000, 20_000_000, 6_000, 2_000, 0, 0, 0, 0],
+    ),
+    // 64 frames, of which 32 arrive, and then 32 a round, all of which are lost.
+    Case(
+        HALF_OF_64_THEN_NONE,
+        ALL,
+        (80, 0, 4_096, 1, 64, 3),
+        TO_THE_END,
+        ("gave up", 1, 0),
+        [80, 0, 3, 70_000, 163, 128, 96, 0, 0, 0],
+    ),
+    // 64 of 128, and then 32 more a round.
+    Case(
+        SOME,
+        ALL,
+        (600, 0, 4_096, 1, 128, 100),
+        TO_THE_END,
+        ("Ok", 2, 8),
+        [600, 600, 11, 160_000, 1_836, 909, 195, 203, 171, 4],
+    ),
+    // Each round but the first sends 3 frames and acknowledgements for each frame of the burst, and one more.
+    Case(
+        EACH_DUPLICATED,
+        NONE,
+        (10, 0, 16, 1, 4, 4),
+        TO_THE_END,
+        ("gave up", 1, 1),
+        [10, 4, 5, 160_000, 61, 20, 41, 20, 0, 0],
+    ),
+    // The last of three rounds without progress loses nothing.
+    Case(
+        TWO_LOST_THEN_DELAYED,
+        ALL,
+        (6, 0, 16, 6, 4_096, 3),
+        TO_THE_END,
+        ("gave up", 1, 0),
+        [6, 0, 3, 70_000, 6, 18, 2, 0, 1, 0],
+    ),
+    // After the second round 9 acknowledgements of a burst of 4 are delayed.
+    Case(
+        EACH_DUPLICATED,
+        EACH_DELAYED,
+        (10, 0, 16, 1, 4, 4),
+        TO_THE_END,
+        ("Ok", 2, 3),
+        [10, 10, 5, 50_000, 57, 18, 0, 18, 39, 0],
+    ),
+    // One round a byte, and one for each frame that is lost.
+    Case(
+        NINE_LOST,
+        ALL,
+        (10, 0, 1, 2, 4_096, 100),
+        TO_THE_END,
+        ("Ok", 11, 10),
+        [10, 10, 19, 4_360_000, 48, 19, 9, 0, 0, 0],
     ),
     Case(
         ALL,

@@ -1,6 +1,6 @@
 //! The fates of the frames of one direction.
 
-use crate::calls::{GONE, PERFECT, Way};
+use crate::calls::{DELAYED as LATE, GONE, PERFECT, Way};
 use net_stream::{Fate, Rates};
 
 const DELIVERED: Fate = Fate::Delivered;
@@ -29,6 +29,23 @@ const FORTY_LOST: [Fate; 80] = [
     LOST, DELIVERED, LOST, DELIVERED, LOST, DELIVERED, LOST, DELIVERED, LOST, DELIVERED, LOST,
     DELIVERED, LOST, DELIVERED,
 ];
+
+/// Thirty-two frames that are lost, each before one that is delivered.
+const THIRTY_TWO_LOST: [Fate; 64] = [
+    LOST, DELIVERED, LOST, DELIVERED, LOST, DELIVERED, LOST, DELIVERED, LOST, DELIVERED, LOST,
+    DELIVERED, LOST, DELIVERED, LOST, DELIVERED, LOST, DELIVERED, LOST, DELIVERED, LOST, DELIVERED,
+    LOST, DELIVERED, LOST, DELIVERED, LOST, DELIVERED, LOST, DELIVERED, LOST, DELIVERED, LOST,
+    DELIVERED, LOST, DELIVERED, LOST, DELIVERED, LOST, DELIVERED, LOST, DELIVERED, LOST, DELIVERED,
+    LOST, DELIVERED, LOST, DELIVERED, LOST, DELIVERED, LOST, DELIVERED, LOST, DELIVERED, LOST,
+    DELIVERED, LOST, DELIVERED, LOST, DELIVERED, LOST, DELIVERED, LOST, DELIVERED,
+];
+
+/// A link that duplicates everything.
+const TWICE: Rates = Rates {
+    lost: 0,
+    duplicated: 100,
+    delayed: 0,
+};
 
 /// All frames are delivered.
 pub const ALL: Way = Way {
@@ -145,6 +162,34 @@ pub const EACH_SECOND: Way = Way {
 /// Of the first eighty frames every second one is lost, and all after them are lost.
 pub const EACH_SECOND_THEN_NONE: Way = Way {
     listed: &FORTY_LOST,
+    seed: 1,
+    rates: GONE,
+};
+
+/// All frames are duplicated.
+pub const EACH_DUPLICATED: Way = Way {
+    listed: &[],
+    seed: 1,
+    rates: TWICE,
+};
+
+/// All frames are delayed.
+pub const EACH_DELAYED: Way = Way {
+    listed: &[],
+    seed: 1,
+    rates: LATE,
+};
+
+/// The first two frames are lost, and all after them are delayed.
+pub const TWO_LOST_THEN_DELAYED: Way = Way {
+    listed: &[LOST, LOST],
+    seed: 1,
+    rates: LATE,
+};
+
+/// Of the first 64 frames every second one is lost, from the first on, and all after them are lost.
+pub const HALF_OF_64_THEN_NONE: Way = Way {
+    listed: &THIRTY_TWO_LOST,
     seed: 1,
     rates: GONE,
 };

@@ -1,12 +1,18 @@
-use Rattle.std.proofs.Common.{◌≡◌, ◌+◌, ◌-◌, ◌*◌, ◌^◌, length}
+use Rattle.std.proofs.Common.{◌≡◌, ◌+◌, ◌-◌, ◌*◌, ◌^◌, ℕ, List, length}
+use Rattle.net_stream_model.specs.declared.counts.Counts.{Counts}
+use Rattle.net_stream.specs.Each.{Each}
 use Rattle.net_stream.specs.Turns.{CopiedSoFar}
 use Rattle.net_stream_model.proofs.Prefix.{far}
 use Rattle.net_stream.proofs.copier.Copier.run.Given as goal
 
 abbrev pub invariant-turns : goal.invariant-turns
 invariant-turns g l = record {
-  so_far : CopiedSoFar l.fn.rounds (length l.fn.chunk) l.fn.self l.self (g.R.Read.remaining l.fn.reader) (g.R.Read.remaining l.reader)
+  reads : List (List ℕ);
+  told : List Counts;
+  so_far : CopiedSoFar l.fn.rounds (length l.fn.chunk) l.fn.self l.self reads told (g.M.Reading.remaining l.fn.reader) (g.M.Reading.remaining l.reader)
       (g.W.Write.contents l.fn.writer) (g.W.Write.contents l.writer);
+  watched : Each g.T.Watch.tells l.fn.watch told l.watch;
+  gave : Each g.M.Reading.gives l.fn.reader reads l.reader;
   chunk : length l.chunk ≡ length l.fn.chunk;
 }
 

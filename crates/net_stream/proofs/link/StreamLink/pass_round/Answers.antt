@@ -1,7 +1,7 @@
 use Rattle.std.proofs.Common.{◌≡◌, ◌<◌, ◌^◌, ℕ, List, rules, refl, sym, ap, subst, ◌∙◌, arith}
 use Rattle.net_stream_model.specs.SenderState.{end_of}
 use Rattle.net_stream_model.specs.Streams.{Known}
-use Rattle.net_stream_model.specs.LinkState.{LinkState, next_burst, delayed_frames, pass_frames, acknowledge_all, delayed_acks, pass_acks, with_burst, round, StopsRound}
+use Rattle.net_stream_model.specs.LinkState.{LinkState, next_burst, with_burst, round, StopsRound}
 use Rattle.net_stream_model.specs.LinkInvariant.{LinkInvariant}
 use Rattle.net_stream_model.proofs.Kept.{round_keeps_invariant, stop_keeps_invariant}
 use Rattle.net_stream_model.proofs.Prefix.{grown, stopped}
@@ -18,19 +18,15 @@ stop_keeps known l m fits stop = (
 pub returns-clause-state : goal.returns-clause-state
 unfolding round
 returns-clause-state g c =
-    let delayed = c.in_ok-delayed_frames.ensures.ok ∙ ap delayed_frames c.in_ok-transmit.ensures.ok in
-    let passed = c.in_ok-pass_frames.ensures.ok ∙ ap pass_frames delayed in
-    let told = c.in_ok-acknowledge_all.ensures.ok ∙ ap acknowledge_all passed in
-    let acked = c.in_ok-pass_acks.ensures.ok ∙ ap pass_acks (c.delayed_acks.ensures.state ∙ ap delayed_acks told) in
     let u = c.self.inside in
     let burst = c.burst_after-self-inside.ensures ∙ ap (next_burst u.max_burst u.burst) c.are_sack_blocks_full.ensures in
     (λ i. record (c.self.view_is i) {
       burst = (burst ∙ ap (λ (l : LinkState). (with_burst l).burst) c.self.view_is) i;
-    }) ∙ ap with_burst acked
+    }) ∙ ap with_burst c.in_ok-steps.ensures.ok
 
 pub returns-clause-carries : goal.returns-clause-carries
 returns-clause-carries g c = λ f w h.
-    subst (LinkInvariant f w) (sym (returns-clause-state g c)) (round_keeps_invariant c.known.ensures f w c.args.self.now (record { way = h; fits = c.transmit.ensures.fits })).way
+    subst (LinkInvariant f w) (sym (returns-clause-state g c)) (round_keeps_invariant c.known.ensures f w c.args.self.now (record { way = h; fits = c.steps.ensures.fits })).way
 
 pub returns-clause-read : goal.returns-clause-read
 returns-clause-read g c =
@@ -38,32 +34,8 @@ returns-clause-read g c =
     ap (λ (m : LinkState). m.receiver.read) (returns-clause-state g c)
     ∙ (grown c.known.ensures.reads_nothing l.sender.first_unacknowledged l.receiver.read l (omega arith, refl)).1
 
-pub returns-in_err-transmit-clause-carries : goal.returns-in_err-transmit-clause-carries
-returns-in_err-transmit-clause-carries g c = (stop_keeps c.known.ensures c.args.self.now c.transmit.new.self c.transmit.ensures.fits (search rules)).0
+pub returns-in_err-steps-clause-carries : goal.returns-in_err-steps-clause-carries
+returns-in_err-steps-clause-carries g c = (stop_keeps c.known.ensures c.args.self.now c.steps.new.self c.steps.ensures.fits (search rules)).0
 
-pub returns-in_err-transmit-clause-read : goal.returns-in_err-transmit-clause-read
-returns-in_err-transmit-clause-read g c = (stop_keeps c.known.ensures c.args.self.now c.transmit.new.self c.transmit.ensures.fits (search rules)).1
-
-pub returns-in_err-delayed_frames-clause-carries : goal.returns-in_err-delayed_frames-clause-carries
-returns-in_err-delayed_frames-clause-carries g c = (stop_keeps c.known.ensures c.args.self.now c.delayed_frames.new.self c.transmit.ensures.fits (search rules)).0
-
-pub returns-in_err-delayed_frames-clause-read : goal.returns-in_err-delayed_frames-clause-read
-returns-in_err-delayed_frames-clause-read g c = (stop_keeps c.known.ensures c.args.self.now c.delayed_frames.new.self c.transmit.ensures.fits (search rules)).1
-
-pub returns-in_err-pass_frames-clause-carries : goal.returns-in_err-pass_frames-clause-carries
-returns-in_err-pass_frames-clause-carries g c = (stop_keeps c.known.ensures c.args.self.now c.pass_frames.new.self c.transmit.ensures.fits (search rules)).0
-
-pub returns-in_err-pass_frames-clause-read : goal.returns-in_err-pass_frames-clause-read
-returns-in_err-pass_frames-clause-read g c = (stop_keeps c.known.ensures c.args.self.now c.pass_frames.new.self c.transmit.ensures.fits (search rules)).1
-
-pub returns-in_err-acknowledge_all-clause-carries : goal.returns-in_err-acknowledge_all-clause-carries
-returns-in_err-acknowledge_all-clause-carries g c = (stop_keeps c.known.ensures c.args.self.now c.acknowledge_all.new.self c.transmit.ensures.fits (search rules)).0
-
-pub returns-in_err-acknowledge_all-clause-read : goal.returns-in_err-acknowledge_all-clause-read
-returns-in_err-acknowledge_all-clause-read g c = (stop_keeps c.known.ensures c.args.self.now c.acknowledge_all.new.self c.transmit.ensures.fits (search rules)).1
-
-pub returns-in_err-pass_acks-clause-carries : goal.returns-in_err-pass_acks-clause-carries
-returns-in_err-pass_acks-clause-carries g c = (stop_keeps c.known.ensures c.args.self.now c.pass_acks.new.self c.transmit.ensures.fits (search rules)).0
-
-pub returns-in_err-pass_acks-clause-read : goal.returns-in_err-pass_acks-clause-read
-returns-in_err-pass_acks-clause-read g c = (stop_keeps c.known.ensures c.args.self.now c.pass_acks.new.self c.transmit.ensures.fits (search rules)).1
+pub returns-in_err-steps-clause-read : goal.returns-in_err-steps-clause-read
+returns-in_err-steps-clause-read g c = (stop_keeps c.known.ensures c.args.self.now c.steps.new.self c.steps.ensures.fits (search rules)).1

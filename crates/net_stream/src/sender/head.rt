@@ -1,0 +1,193 @@
+//! A sender in parts: a head of numbers, and a storage that is kept elsewhere.
+ghost use Rattle.std.specs.Prelude.{◌≡◌, ◌↔◌, ◌+◌, ◌-◌, ◌<◌, ◌≤◌, ◌^◌, ◌&&◌, ℕ, List, [], length};
+ghost use Rattle.std.specs.Prelude.{take, min, nat_le, IsTrue, IsFalse};
+ghost use Rattle.net_ring.specs.Ring.{from_start_if_empty, with_enqueued, write_at};
+ghost use Rattle.net_ring.specs.Ring.{with_elements_wrapping};
+ghost use Rattle.net_ring.specs.Place.{ring_at, queued_index, dequeued_place};
+ghost use Rattle.net_stream_model.specs.SenderState.{sender_state, room_of, with_written};
+ghost use Rattle.net_stream.specs.SenderHeads.{sender_of, IsSoundHead};
+
+use net_ring::{Place, Span};
+
+/// What a sender has besides its storage and its SACK blocks: numbers.
+///
+/// It serves callers who keep the storage elsewhere, as in the memory of a program in C. Each call
+/// takes it as a slice, or takes how many bytes it has.
+///
+/// A head is *sound* for a storage if it is that of a sender over it, as `is_sound` tests:
+/// `IsSoundHead` in contracts, where `sender_of` is what is stored. A call that requires this can't
+/// be made with the storage of another head. smoltcp has no such type.
+#[repr(C)]
+#[derive(Debug, Clone, Copy)]
+pub struct SenderHead {
+    /// The position of the queue's first byte.
+    pub first_unacknowledged: u64,
+    /// Where the queue is in the storage.
+    pub place: Place,
+}
+
+impl SenderHead {
+    /// Returns the head of a sender of a stream that begins at position `first`, to which nothing
+    /// was written. It is sound for every storage.
+    pub fn new(first: u64) -> Self
+        ensures sound { (capacity : ℕ) → IsSoundHead capacity result }
+        ensures state { (storage : List ℕ) (blocks : List (ℕ × ℕ)) → sender_of result storage blocks
+            ≡ sender_state (length storage) first [] blocks (first + length storage) }
+    {
+        SenderHead {
+            first_unacknowledged: first,
+            place: Place {
+                read_at: 0,
+                length: 0,
+            },
+        }
+    }
+
+    /// Returns whether this head is sound for a storage of `capacity` bytes.
+    pub fn is_sound(&self, capacity: usize) -> bool
+        ensures { IsTrue result ↔ IsSoundHead capacity self.now }
+    {
+        self.place.is_sound(capacity) && self.end_fits()
+    }
+
+    /// Returns whether the position after the last byte that was written fits 64 bits.
+    #[inline]
+    pub fn end_fits(&self) -> bool
+        ensures { IsTrue result
+            ↔ (self.now.first_unacknowledged + self.now.place.length < 2 ^ 64) }
+    {
+        self.place.length as u64 <= u64::MAX - self.first_unacknowledged
+    }
+
+    /// Returns the position after the last byte that was written.
+    ///
+    /// # Requires
+    ///
+    /// It fits 64 bits, as `end_fits` tests, and as it does where the head is sound for a storage.
+    #[inline]
+    pub fn end(&self) -> u64
+        requires { self.now.first_unacknowledged + self.now.place.length < 2 ^ 64 }
+        ensures { result ≡ self.now.first_unacknowledged + self.now.place.length }
+    {
+        end_after(self.first_unacknowledged, self.place.length)
+    }
+
+    /// Returns how many bytes `write` would take: as many as have room in a storage of `capacity`
+    /// bytes and below the last position.
+    ///
+    /// # Requires
+    ///
+    /// The head is sound for such a storage.
+    #[inline]
+    pub fn room(&self, capacity: usize) -> usize
+        requires { IsSoundHead capacity self.now }
+        ensures value { result ≡ min (capacity - self.now.place.length)
+            (2 ^ 64 - 1 - (self.now.first_unacknowledged + self.now.place.length)) }
+    {
+        room_after(self.end(), capacity - self.place.length)
+    }
+
+    /// Enqueues the first of these bytes, as many as `room` says, and returns how many.
+    ///
+    /// # Requires
+    ///
+    /// The head is sound for the storage.
+    #[inline]
+    pub fn write(&mut self, storage: &mut [u8], bytes: &[u8]) -> usize
+        requires { IsSoundHead (length storage.old) self.old }
+        ensures sound { IsSoundHead (length storage.old) self.new }
+        ensures count { (blocks : List (ℕ × ℕ)) → result
+            ≡ min (length bytes.now) (room_of (sender_of self.old storage.old blocks)) }
+        ensures state { (blocks : List (ℕ × ℕ)) → sender_of self.new storage.new blocks
+            ≡ with_written (sender_of self.old storage.old blocks) (take result bytes.now) }
+        ensures ring { let g = from_start_if_empty (ring_at storage.old self.old.place) in
+            ring_at storage.new self.new.place
+            ≡ with_enqueued result (with_elements_wrapping g (write_at g) (take result bytes.now)) }
+    {
+        let count = bytes.len().min(self.room(storage.len()));
+        self.place.enqueue_slice(storage, &bytes[..count])
+    }
+
+    /// Returns where at most `max` queued bytes are, from the one at `pos` on; none if the byte at
+    /// `pos` isn't queued. The storage has `capacity` bytes.
+    ///
+    /// # Requires
+    ///
+    /// The head is sound for such a storage.
+    #[inline]
+    pub fn peek_at(&self, capacity: usize, pos: u64, max: usize) -> Span
+        requires { IsSoundHead capacity self.now }
+        ensures from { self.now.first_unacknowledged ≤ pos → result.from
+            ≡ queued_index capacity self.now.place (pos - self.now.first_unacknowledged) }
+        ensures count { self.now.first_unacknowledged ≤ pos → result.count
+            ≡ min max (self.now.place.length - (pos - self.now.first_unacknowledged)) }
+        ensures contiguous { self.now.first_unacknowledged ≤ pos →
+            result.contiguous ≡ min result.count (capacity - result.from) }
+        ensures before { pos < self.now.first_unacknowledged →
+            (result.from ≡ 0) × (result.count ≡ 0) × (result.contiguous ≡ 0) }
+    {
+        if pos < self.first_unacknowledged {
+            return Span {
+                from: 0,
+                count: 0,
+                contiguous: 0,
+            };
+        }
+        let offset = (pos - self.first_unacknowledged) as usize;
+        self.place.queued(capacity, offset, max)
+    }
+
+    /// Drops the bytes below `next`, and returns whether it did: false, and nothing changes, if
+    /// `next` is below `first_unacknowledged` or above `end`. The storage has `capacity` bytes.
+    ///
+    /// # Requires
+    ///
+    /// The head is sound for such a storage.
+    #[inline]
+    pub fn acknowledge(&mut self, capacity: usize, next: u64) -> bool
+        requires { IsSoundHead capacity self.old }
+        ensures sound { IsSoundHead capacity self.new }
+        ensures accepted { IsTrue result ↔ ((self.old.first_unacknowledged ≤ next)
+            × (next ≤ self.old.first_unacknowledged + self.old.place.length)) }
+        ensures first { IsTrue result → self.new.first_unacknowledged ≡ next }
+        ensures place { IsTrue result → self.new.place ≡ dequeued_place capacity
+            (next - self.old.first_unacknowledged) self.old.place }
+        ensures refused { IsFalse result → self.new ≡ self.old }
+    {
+        if !is_acknowledgeable(self.first_unacknowledged, self.end(), next) {
+            return false;
+        }
+        let count = (next - self.first_unacknowledged) as usize;
+        self.place.dequeue(capacity, count);
+        self.first_unacknowledged = next;
+        true
+    }
+}
+
+/// Returns the position after `length` bytes, of which the first has the position `first`.
+#[inline]
+pub(super) fn end_after(first: u64, length: usize) -> u64
+    requires { first + length < 2 ^ 64 }
+    ensures { result ≡ first + length }
+{
+    first + length as u64
+}
+
+/// Returns how many bytes can be written from the position `end` on: as many as the window has, and
+/// as there are positions.
+#[inline]
+pub(super) fn room_after(end: u64, window: usize) -> usize
+    ensures { result ≡ min window (2 ^ 64 - 1 - end) }
+{
+    (window as u64).min(u64::MAX - end) as usize
+}
+
+/// Returns whether an acknowledgement of the bytes below `next` is accepted, where those from
+/// `first` up to `end` are queued.
+#[inline]
+pub(super) fn is_acknowledgeable(first: u64, end: u64, next: u64) -> bool
+    ensures value { result ≡ (nat_le first next && nat_le next end) }
+    ensures within { IsTrue result ↔ ((first ≤ next) × (next ≤ end)) }
+{
+    first <= next && next <= end
+}

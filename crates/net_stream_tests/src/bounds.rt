@@ -1,0 +1,51 @@
+//! The numbers of the laws on copies, each at a number in place of a name: a law that says less, such as 20
+//! rounds a byte in place of 2, doesn't prove them. Rows of `CASES` are near: 13 frames and acknowledgements a
+//! round less 4 in the first, 2 losses of 3 rounds, 9 acknowledgements that are delayed, and one round a byte.
+//! Whether a copy ever needs two rounds a byte is not known.
+ghost use Rattle.std.specs.Prelude.{◌≡◌, ℕ, List, ◌+◌, ◌*◌, ◌≤◌, length};
+ghost use Rattle.net_stream.specs.CopyState.{Setup, GaveUp, after};
+ghost use Rattle.net_stream.specs.Promises.{CanPass, StartsFits};
+
+use net_stream::laws;
+
+/// A copy of ten bytes makes at most 20 rounds, and one for each frame or acknowledgement that was lost or delayed.
+pub fn rounds_of_ten_bytes()
+    ensures { (s : Setup) (reads : List (List ℕ)) (n : ℕ) → CanPass s (after s reads n)
+        → length (after s reads n).given ≡ 10
+        → (after s reads n).rounds
+        ≤ 20 + (after s reads n).link.counts.lost + (after s reads n).link.counts.delayed }
+{
+    laws::rounds();
+}
+
+/// A copy of ten bytes that gives up after 3 rounds without progress makes at most 63 rounds.
+pub fn rounds_of_ten_bytes_anyway()
+    ensures { (s : Setup) (reads : List (List ℕ)) (n : ℕ) → StartsFits s
+        → length (after s reads n).given ≡ 10 → s.rounds ≡ 3 → (after s reads n).rounds ≤ 63 }
+{
+    laws::rounds_anyway();
+}
+
+/// A burst of 4 frames sends at most 13 frames and acknowledgements a round.
+pub fn frames_of_a_burst_of_four()
+    ensures { (s : Setup) (reads : List (List ℕ)) (n : ℕ) → (after s reads n).link.max_burst ≡ 4
+        → (after s reads n).link.counts.sent ≤ (after s reads n).rounds * 13 }
+{
+    laws::sent_frames();
+}
+
+/// Of three rounds without progress, after which a copy gives up, two lost a frame or an acknowledgement.
+pub fn losses_of_three_rounds()
+    ensures { (s : Setup) (reads : List (List ℕ)) (n : ℕ) → CanPass s (after s reads n) → s.rounds ≡ 3
+        → (after s reads n).status ≡ GaveUp → 2 ≤ (after s reads n).link.counts.lost }
+{
+    laws::gives_up_counted();
+}
+
+/// After a round of a burst of 4 frames at most 9 acknowledgements are delayed.
+pub fn delayed_of_a_burst_of_four()
+    ensures { (s : Setup) (reads : List (List ℕ)) (n : ℕ) → (after s reads n).link.max_burst ≡ 4
+        → length (after s reads n).link.reverse.delayed ≤ 9 }
+{
+    laws::delayed_frames();
+}
