@@ -1,8 +1,8 @@
 //! A bench for the storage types: lines come in, and a reply line goes out for each.
 #![tactic(auto)]
 
-use net_cli::command_words;
-use net_script::serve;
+use net_bench_lib::serve;
+use net_io::command_words;
 use std::process::ExitCode;
 
 fn main(rt: HostRuntime) -> ExitCode {

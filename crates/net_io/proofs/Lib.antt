@@ -1,2 +1,3 @@
--- Lemmas on what readers give and writers take.
+-- Lemmas on numerals, and on what readers give and writers take.
 pub mod KnownBytes
+pub mod Numerals

@@ -1,0 +1,54 @@
+//! The words of a line.
+ghost use Rattle.std.specs.Prelude.{◌≡◌, ◌==◌, [], ◌∷◌, MatchOption, position};
+ghost use Rattle.net_bench_lib.specs.Text.{words_of};
+ghost use Rattle.net_bench_lib.specs.Words.{AreWords};
+
+/// The words of a line. Three is the most that any mode uses.
+pub enum Words<'a> {
+    /// One word.
+    One(&'a [u8]),
+    /// Two words.
+    Two(&'a [u8], &'a [u8]),
+    /// Three words.
+    Three(&'a [u8], &'a [u8], &'a [u8]),
+    /// More than three words.
+    More,
+}
+
+/// Returns the index of the first space, if there is one.
+fn space_at(line: &[u8]) -> Option<usize>
+    ensures { result ≡ position (λ b. b == 32) line.now }
+{
+    line.iter().position(|b| *b == b' ')
+}
+
+/// Returns the first word of a line, and the rest after the space that ends it.
+fn next_word(line: &[u8]) -> (&[u8], Option<&[u8]>)
+    ensures { MatchOption result.1
+        (words_of line.now ≡ result.0.now ∷ [])
+        (λ rest. words_of line.now ≡ result.0.now ∷ words_of rest.now) }
+{
+    match space_at(line) {
+        Some(at) => (&line[..at], Some(&line[at + 1..])),
+        None => (line, None),
+    }
+}
+
+/// Returns the words of a line, separated by exactly one space.
+pub fn split_words(line: &[u8]) -> Words<'_>
+    ensures { AreWords result (words_of line.now) }
+{
+    let (first, rest) = next_word(line);
+    let Some(rest) = rest else {
+        return Words::One(first);
+    };
+    let (second, rest) = next_word(rest);
+    let Some(rest) = rest else {
+        return Words::Two(first, second);
+    };
+    let (third, rest) = next_word(rest);
+    match rest {
+        None => Words::Three(first, second, third),
+        Some(_) => Words::More,
+    }
+}

@@ -1,2 +1,0 @@
--- Lemmas on numerals.
-pub mod Numerals
