@@ -9,7 +9,6 @@ mod non_zero_u16;
 mod non_zero_usize;
 mod packet_meta;
 mod rx_token;
-mod tx_token;
 
 use net_base::phy::{Device, Loopback, Medium, NonZeroU16, NonZeroUsize, PacketMeta, RxToken};
 use net_base::time::Instant;

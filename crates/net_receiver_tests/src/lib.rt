@@ -5,9 +5,9 @@
 #![tactic(auto)]
 
 #[cfg(test)]
-mod assembler_text;
-#[cfg(test)]
 mod assertions;
+#[cfg(test)]
+mod parts;
 #[cfg(test)]
 mod receiver;
 #[cfg(test)]

@@ -1,8 +1,10 @@
-//! A frame's token with metadata of its own.
+//! A frame's token with metadata of its own, and one without any.
 ghost use Rattle.std.specs.Prelude.{◌≡◌};
 ghost use Rattle.net_base.specs.PacketMeta.{no_metadata};
 
-use net_base::phy::{PacketMeta, RxToken};
+use super::sends;
+use net_base::phy::{Device, Loopback, Medium, PacketMeta, RxToken};
+use net_base::time::Instant;
 
 /// A token whose frame has metadata.
 #[derive(Drop)]
@@ -52,4 +54,18 @@ fn a_token_can_carry_metadata(rt: HostRuntime) {
     let (first, shown) = first_byte_and_meta(token);
     assert!(rt; first == Some(b'a'));
     assert!(rt; shown == meta);
+}
+
+/// Takes the next frame off, and returns whether it begins with this byte and has no metadata.
+fn comes_plain(device: &mut Loopback, byte: u8) -> bool {
+    match device.receive(Instant::ZERO) {
+        Some((frame, _token)) => first_byte_and_meta(frame) == (Some(byte), PacketMeta::default()),
+        None => false,
+    }
+}
+
+#[test]
+fn a_loopback_frame_has_no_metadata(rt: HostRuntime) {
+    let mut device = Loopback::new(rt.alloc(), Medium::Ip);
+    assert!(rt; sends(&mut device, b"bc") && comes_plain(&mut device, b'b'));
 }

@@ -1,0 +1,8 @@
+//! The tests of `net_sockets`.
+
+mod bridge;
+mod endpoint;
+mod fragment_buffer;
+mod inbox;
+mod locals;
+mod udp_socket;

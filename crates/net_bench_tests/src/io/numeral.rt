@@ -1,0 +1,34 @@
+//! The numbers that words write.
+use net_io::number;
+use std::test::Fail;
+
+#[test]
+fn numerals_write_numbers(rt: HostRuntime) -> Result<(), Fail> {
+    let words: [(&[u8], Option<u64>); 21] = [
+        (b"0", Some(0)),
+        (b"7", Some(7)),
+        (b"9", Some(9)),
+        (b"10", Some(10)),
+        (b"4096", Some(4096)),
+        (b"9876543210", Some(9_876_543_210)),
+        (b"18446744073709551615", Some(18_446_744_073_709_551_615)),
+        (b"18446744073709551616", None),
+        (b"18446744073709551620", None),
+        (b"99999999999999999999", None),
+        (b"100000000000000000000", None),
+        (b"36893488147419103232", None),
+        (b"", None),
+        (b"00", None),
+        (b"01", None),
+        (b"+1", None),
+        (b"-1", None),
+        (b"1 ", None),
+        (b"1:", None),
+        (b"/1", None),
+        (b"1a", None),
+    ];
+    for (word, number_written) in words {
+        assert_eq!(rt; number(word), number_written, "{word:?}");
+    }
+    Ok(())
+}
