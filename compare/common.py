@@ -13,11 +13,11 @@ FILES = [
     "storage/mod.rs", "storage/assembler.rs", "storage/packet_buffer.rs", "storage/ring_buffer.rs",
     "phy/mod.rs", "phy/loopback.rs", "rand.rs", "time.rs",
 ]
-# The crates of the port's workspace whose folders are here.
-STATIC_LIBRARIES = {"net_replay": ["port", "calls"], "net_perf": ["perf"]}
+# The crates of the port's workspace whose sources are here.
+STATIC_LIBRARIES = {"net_replay": ["replay/port", "replay/calls"], "net_perf": ["time/perf"]}
 
 
-def need():
+def need(programs=("cargo", "rt")):
     """The folder of smoltcp; ends with one line that says what is missing."""
     smoltcp = os.environ.get("SMOLTCP")
     if not smoltcp:
@@ -25,7 +25,7 @@ def need():
     for file in FILES:
         if not (Path(smoltcp) / "src" / file).is_file():
             sys.exit(f"SMOLTCP has no file {Path(smoltcp) / 'src' / file}")
-    for program in ["cargo", "rt"]:
+    for program in programs:
         if not shutil.which(program):
             sys.exit(f"the program {program} is not found")
     return Path(smoltcp).resolve()
@@ -81,18 +81,25 @@ def program(name, words):
     return crate / "out" / name
 
 
+def archive():
+    """The archive that the crate net-base links."""
+    named = os.environ.get("NET_BASE_ARCHIVE") or REPOSITORY / "rust/lib/x86_64/libnet_ffi.a"
+    return Path(named).resolve()
+
+
 def allocator():
     """The kit's archive that gives the port's static libraries C's allocator."""
     page = subprocess.run(["rt", "doc"], capture_output=True, text=True, check=True).stdout.strip()
     return Path(page).parent / "c" / "liblibc_c.a"
 
 
-def cargo(profile, packages, smoltcp, folder=COMPARE, **variables):
-    """Builds packages of a workspace, and returns the folder of what was built."""
+def cargo(profile, packages, smoltcp, folder=COMPARE, only=(), **variables):
+    """Builds packages of a workspace, or only some of their targets, and returns the folder of what was built."""
     target = Path(os.environ.get("CARGO_TARGET_DIR") or OUT / "target")
     words = ["cargo", "build", "--offline", "--profile", profile]
     for package in packages:
         words += ["--package", package]
+    words += only
     environment = os.environ | {"CARGO_TARGET_DIR": str(target), "SMOLTCP": str(smoltcp)} | variables
     run(words, f"cargo_{packages[0]}", cwd=folder, env=environment)
     return target / profile

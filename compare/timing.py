@@ -1,12 +1,14 @@
 #!/usr/bin/env python3
 """SMOLTCP=path timing.py [--once] [--samples N] [--milliseconds N] [--only WORD] [--lines N] [--runs N] [--svg FILE]
 SMOLTCP=path timing.py --peers [--samples N] [--milliseconds N] [--only WORD]
+SMOLTCP=path timing.py --rust [--once] [--samples N] [--milliseconds N] [--only WORD]
 
 Times the workloads of `perf` over the port and over smoltcp in turns, each side linked once for each placement of
 its code, counts instructions and branches if valgrind is there, and times whole runs of net_bench beside a plain
 program over smoltcp. Prints tables in Markdown; --svg writes the plot. Status 1 if results differ.
 With --once: one placement. With --peers: the workloads over the port and over types of std in turns, and the memory
-of both.
+of both. With --rust: the workloads over the crate net-base, whose exports are called, in place of the port; without
+whole runs and the loopback device, and `rt` isn't needed.
 """
 import argparse
 import datetime
@@ -218,6 +220,13 @@ def machine():
     return f"{name}, {os.cpu_count()} processors, load {os.getloadavg()[0]:.1f}"
 
 
+def rust_sides(smoltcp, libraries):
+    """Builds what times the crate net-base."""
+    variables = {"PORT_LIBS": str(libraries[0]), "NET_BASE_ARCHIVE": str(libraries[0]), "RUSTFLAGS": FLAGS}
+    common.cargo("release", ["side_original", "side_rust"], smoltcp, **variables)
+    return common.cargo("release", ["driver"], smoltcp, only=["--bin", "driver"], **variables)
+
+
 def main():
     parser = argparse.ArgumentParser(description=__doc__, formatter_class=argparse.RawDescriptionHelpFormatter)
     parser.add_argument("--once", action="store_true")
@@ -228,19 +237,26 @@ def main():
     parser.add_argument("--runs", type=int, default=9)
     parser.add_argument("--svg")
     parser.add_argument("--peers", action="store_true")
+    parser.add_argument("--rust", action="store_true")
     arguments = parser.parse_args()
-    if arguments.peers:
+    if arguments.peers or arguments.rust:
         arguments.lines = 0
-    smoltcp = common.need()
-    libraries = [common.static_library("net_perf"), common.allocator()]
-    packages = ["driver", "side_original", "side_port", "plain"]
-    built = common.cargo("release", packages, smoltcp, PORT_LIBS=":".join(map(str, libraries)), RUSTFLAGS=FLAGS)
+    smoltcp = common.need(["cargo"] if arguments.rust else ["cargo", "rt"])
+    if arguments.rust:
+        side, libraries = "side_rust", [common.archive()]
+        built = rust_sides(smoltcp, libraries)
+    else:
+        side, libraries = "side_port", [common.static_library("net_perf"), common.allocator()]
+        packages = ["driver", "side_original", "side_port", "plain"]
+        built = common.cargo("release", packages, smoltcp, PORT_LIBS=":".join(map(str, libraries)), RUSTFLAGS=FLAGS)
     placements = PLACEMENTS[:1] if arguments.once or arguments.peers else PLACEMENTS
-    sides = [placed(built, "side_port", libraries, placements), placed(built, "side_original", [], placements)]
+    sides = [placed(built, side, libraries, placements), placed(built, "side_original", [], placements)]
     bench = common.program("net_bench", ["ring", "1"]) if arguments.lines else None
     print(f"{datetime.date.today()}; {machine()}; {len(placements)} placements of each side, "
           f"{arguments.samples} samples of {arguments.milliseconds:g} ms a row and placement\n")
     rows, differ = workloads(built, sides, arguments)
+    if arguments.rust:
+        rows = [row for row in rows if row[0] != "loopback"]
     if arguments.peers:
         peer_tables(rows)
         memory_table(built)

@@ -17,7 +17,7 @@ CONTRIBUTING.md, docs/*.md and crates/*/CALLING.md. Of their blocks between ``` 
 
 In prose, between backquotes,
 
-- each name has to be one of the sources (code, specs, proofs, edits, scripts), a file's or a folder's, or one of
+- each name has to be one of the sources (code, specs, proofs, edits, scripts, the files for Rust and C), a file's or a folder's, or one of
   ELSEWHERE: names of the kit, of Rust or of smoltcp that no source has, and parameters. A name that ends or begins
   with an underscore is short for all that begin or end so;
 - a path has to be a file's, from the top, from `crates` or from a crate's folder on, and a file's name that of a file;
@@ -35,13 +35,13 @@ import sys
 
 ROOT = pathlib.Path(__file__).resolve().parent.parent
 # The crates whose lines doc comments quote as examples.
-EXAMPLES = ["net_examples", "net_examples_tests", "net_sockets"]
+EXAMPLES = ["net_examples", "net_base_tests", "net_sockets"]
 # Where names are looked for.
-SOURCES = ["crates/**/*", "compare/**/*", "tools/*", "crates.txt", "HANDLES", ".ci/run", "*", "docs/*"]
+SOURCES = ["crates/**/*", "models/*", "compare/**/*", "rust/**/*", "c/**/*", "tools/*", "crates.txt", "HANDLES", ".ci/run", "*", "docs/*"]
 ELSEWHERE = set("""
     Gone FitsInMemory ManuallyDrop new_unchecked NonZero WouldBlock must_use non_exhaustive
     pad_integral styled write_char plant tidy my_crate directory logic dac8208d650f15bf
-    CAUSE DATA END MODULE PATH dev null poll_at start_lib BUILD bazel
+    axioms my_program CAUSE DATA END MODULE PATH dev null poll_at start_lib BUILD bazel
     c.storage-1.given
 """.split())
 NAME = re.compile(r"[A-Za-z_][A-Za-z0-9_]*")

@@ -4,6 +4,7 @@
     python3 tools/edits.py [CRATE ..]             all edits, or those of some crates, by `rt must-fail`
     python3 tools/edits.py --log FILE             all edits, by what `rt ci` printed into a file
     python3 tools/edits.py --open CRATE EDIT      the goals that are open with this edit and not without
+    python3 tools/edits.py --twins [CRATE ..]     the twins of all edits, or of those of some crates
 
 An edit has a line `clause: FUNCTION CLAUSE` besides those that `rt` reads: the function as `rt check
 --only` takes it, and the name of one of its `ensures`. The name is `ensures` if the contract has a
@@ -17,7 +18,11 @@ An answer may fail because the clause is false with the edit, or because a value
 So `--open` takes the function's answers away, checks it with and without the edit, and prints the
 goals that are open only with the edit, and those that are open in both, which say nothing.
 
-Ends with status 1 if an edit has no such line or another goal refuses it.
+A right body of the same shape may be refused like the edit. So each `new:` is followed by a line `twin:`,
+the text of a right body in its place. `--twins` checks the function with these texts, and it has to be
+proved.
+
+Ends with status 1 if an edit has no such line, another goal refuses it, or a twin isn't proved.
 """
 import os
 import pathlib
@@ -38,8 +43,10 @@ def lines_of(edit, word):
     return [it[len(word) + 2 :] for it in edit.read_text().split("\n") if it.startswith(f"{word}: ")]
 
 
-def edited(folder, edit):
-    """The texts of the files that an edit changes, by their path in the crate."""
+def edited(folder, edit, by="new"):
+    """The texts of the files that an edit changes, by their path in the crate; by its twin's texts if
+    that is asked for.
+    """
     texts, path, old = {}, "", ""
     for line in edit.read_text().split("\n"):
         word, _, rest = line.partition(": ")
@@ -48,8 +55,10 @@ def edited(folder, edit):
             texts.setdefault(path, (folder / path).read_text())
         elif word == "old":
             old = rest
-        elif line.startswith("new:"):
-            texts[path] = texts[path].replace(old, line[4:].removeprefix(" "))
+        elif line.startswith(f"{by}:"):
+            if old not in texts[path]:
+                raise SystemExit(f"{edit}: not in {path}: {old}")
+            texts[path] = texts[path].replace(old, line[len(by) + 1 :].removeprefix(" "))
     return texts
 
 
@@ -112,8 +121,8 @@ def compare(folders, printed):
     return wrong
 
 
-def open_goals(crate, texts, function):
-    """The goals of a function that are open with these texts, when its answers are taken away."""
+def checked(crate, texts, function, keeps_answers):
+    """What the check of a function ended with and printed, with these texts, and with its answers or without."""
     with tempfile.TemporaryDirectory(prefix="edits-", dir=ROOT.parent) as room:
         room = pathlib.Path(room)
         (room / "crates").mkdir()
@@ -124,13 +133,40 @@ def open_goals(crate, texts, function):
         folder = room / "crates" / crate
         for path, text in texts.items():
             (folder / path).write_text(text)
-        for answers in folder.glob("proofs/**/Answers.antt"):
+        for answers in [] if keeps_answers else folder.glob("proofs/**/Answers.antt"):
             if "::".join(answers.parent.relative_to(folder / "proofs").parts) == function:
                 answers.unlink()
-        words = ["rt", "check", "--allow-holes", "--jobs", "1", "--only", function]
+        holes = [] if keeps_answers else ["--allow-holes"]
+        words = ["rt", "check", *holes, "--jobs", "1", "--only", function]
         ran = subprocess.run(words, cwd=folder, capture_output=True, text=True)
-        said = ran.stdout + ran.stderr
-        return {it[2] for it in OPEN_GOAL.findall(said) if it[3]} | {it[1] for it in FAILED_ANSWER.findall(said)}
+        return ran.returncode, ran.stdout + ran.stderr
+
+
+def open_goals(crate, texts, function):
+    """The goals of a function that are open with these texts, when its answers are taken away."""
+    said = checked(crate, texts, function, keeps_answers=False)[1]
+    return {it[2] for it in OPEN_GOAL.findall(said) if it[3]} | {it[1] for it in FAILED_ANSWER.findall(said)}
+
+
+def try_twins(folders):
+    """Checks the twin of each edit; returns how many edits have none, or one that isn't proved."""
+    wrong = 0
+    for edit in [it for folder in folders for it in sorted(folder.glob("must-fail/*.edit"))]:
+        folder, name = edit.parent.parent, f"{edit.parent.parent.name}/{edit.name}"
+        if len(lines_of(edit, "twin")) != len(lines_of(edit, "new")):
+            wrong += 1
+            print(f"{name}: HAS NO TWIN")
+            continue
+        function = lines_of(edit, "clause")[0].split()[0]
+        status, said = checked(folder.name, edited(folder, edit, "twin"), function, keeps_answers=True)
+        if status == 0 and f"fn {folder.name}::{function}: proved" in said:
+            print(f"{name}: its twin is proved")
+            continue
+        wrong += 1
+        print(f"{name}: ITS TWIN IS NOT PROVED")
+        print("    " + "\n    ".join([it for it in said.split("\n") if ": error" in it][:3]))
+    print(f"{wrong} edits have no twin that is proved")
+    return wrong
 
 
 def show_open(crate, name):
@@ -148,6 +184,8 @@ def main():
         return show_open(*sys.argv[2:4])
     if sys.argv[1:2] == ["--log"]:
         return 1 if compare(folders_of([]), pathlib.Path(sys.argv[2]).read_text()) else 0
+    if sys.argv[1:2] == ["--twins"]:
+        return 1 if try_twins(folders_of(sys.argv[2:])) else 0
     folders = folders_of(sys.argv[1:])
     return 1 if compare(folders, must_fail(folders)) else 0
 

@@ -9,14 +9,16 @@ Left out are modules `laws`, other functions whose body is empty or calls only s
 std, most of whose methods are called by an operator or written by a derive, and traits of ours that no
 library implements: their users write the methods, and the library calls them.
 
-Tests and examples are the crates *_tests, net_examples, net_cases, whose rows are run, and the files tests.rt.
+Tests and examples are the crates *_tests, net_examples, net_cases, whose rows are run, net_ffi, whose exports
+c/exports.c calls, and the files tests.rt.
 Named there is
 - a function where it is called in a file that brings it in by `use`, or by a path that ends in it;
 - an associated function where the text has `Type::name`, with the type or an alias of it;
 - a method where `.name` follows something of its type: a parameter, a field, a `let` of a
   call whose result is declared, or a chain of these. Where the type can't be told, `.name` counts
   if just one of the types that the file names has it, or if the file is that type's own
-  (`assembler.rt` for `Assembler`). A method of a trait counts by each of the trait's types.
+  (`assembler.rt` for `Assembler`). A method of a trait counts by each of the trait's types, and where a test
+  implements the trait, since a library then calls it.
 
 Ends with status 1 if there is something to list.
 """
@@ -39,7 +41,7 @@ def source(file):
 
 def is_test(file):
     crate = file.relative_to(CRATES).parts[0]
-    return crate.endswith("_tests") or crate in ("net_examples", "net_cases") or file.name == "tests.rt"
+    return crate.endswith("_tests") or crate in ("net_examples", "net_cases", "net_ffi") or file.name == "tests.rt"
 
 
 def closing(text, at, step=1):
@@ -190,7 +192,7 @@ class TestFile:
     """What one file of tests or examples names."""
 
     def __init__(self, file, library):
-        self.library, self.file, self.text = library, file, source(file)
+        self.library, self.file, self.text = library, file, without_aliases(source(file))
         self.named = set()
         self.helpers = {fn.name: fn for fn in functions(self.text)}
         self.own_fields = dict(re.findall(r"^    (?:pub )?(\w+): ([^\n]*),$", self.text, re.M))
@@ -200,8 +202,9 @@ class TestFile:
         self.read_paths()
         inside = list(blocks(self.text))
         for fn in functions(self.text):
-            home = next((it[2] for it in inside if it[0] < fn.at < it[1]), "")
-            self.read_methods(fn, home)
+            block = next((it for it in inside if it[0] < fn.at < it[1]), (0, 0, "", ""))
+            self.named |= {it for it in library.calls if it[1:] == (block[3], fn.name) and block[3]}
+            self.read_methods(fn, block[2])
 
     def read_paths(self):
         """Notes functions that are called by their name, and `Type::name`."""
@@ -271,6 +274,13 @@ class TestFile:
             return known.get(it[2], "")
         owner = self.of_expression(text[: it.start()], known)
         return self.library.type_in(self.library.fields[owner].get(it[2], self.own_fields.get(it[2], "")), {})
+
+
+def without_aliases(text):
+    """The text with the types that its own aliases stand for."""
+    for name, target in re.findall(r"^(?:pub )?type (\w+)(?:<[^=]*>)? = (\w+)", text, re.M):
+        text = re.sub(rf"\b{name}\b", target, text)
+    return text
 
 
 def snake(name):

@@ -1,4 +1,4 @@
-//! Lays out the calls of `../calls` as modules of this program, and links the port.
+//! Lays out the calls of `calls` as modules of this program, and links the port.
 //!
 //! They are Rattle, and also Rust once lines that are only proofs are left out.
 #[path = "../link.rs"]
@@ -11,8 +11,8 @@ fn main() {
     link::main();
     let out = env::var("OUT_DIR").expect("cargo sets OUT_DIR");
     let mut root = String::new();
-    println!("cargo::rerun-if-changed=../calls");
-    for entry in fs::read_dir("../calls").expect("the folder of calls") {
+    println!("cargo::rerun-if-changed=calls");
+    for entry in fs::read_dir("calls").expect("the folder of calls") {
         let path = entry.expect("a file").path();
         let name = path.file_name().and_then(|name| name.to_str()).expect("a name");
         let module = name.strip_suffix(".rt.txt").expect("a file of calls");

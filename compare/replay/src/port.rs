@@ -1,4 +1,4 @@
-//! The port's side: the function of `../port`.
+//! The port's side: the function of `port`.
 use crate::script::{Call, Seen};
 use crate::subject::{Script, Subject};
 

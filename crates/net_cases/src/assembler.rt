@@ -50,7 +50,7 @@ static CALLS: [Entry<Kind>; 5] = [
     ("run_at", 1, Kind::RunAt),
 ];
 
-/// A call that asks for memory, or whose result does, and one of both assemblers.
+/// A call with an argument or a result that takes memory, or one of both assemblers.
 #[derive(Clone, Copy)]
 enum Whole {
     Clone,

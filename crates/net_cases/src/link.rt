@@ -2,8 +2,8 @@
 use crate::bytes::pattern;
 use crate::call::{first_word, words_of};
 use crate::reply::{Part, Reply, many};
-use net_cli::{Ended, Status, number};
-use net_link_serve::{Messages, Remembering, serve};
+use net_io::{Ended, Status, number};
+use net_link_lib::{Messages, Remembering, serve};
 use std::alloc::{AllocError, Global};
 
 /// Answers a number of bytes and the words of a command line: appends the exit status, the digests of what

@@ -2,7 +2,7 @@
 //!
 //! Blocks are separated by an empty line. The first line of a block, such as `ring 4 7`, makes the subject of
 //! the calls of its other lines; a line has a call's name and its numbers, and its reply is one line. The
-//! folder `model` draws the blocks and says what the replies are.
+//! folder `models` at the top draws the blocks and says what the replies are.
 #![tactic(auto)]
 
 mod assembler;

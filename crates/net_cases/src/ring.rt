@@ -36,6 +36,23 @@ static CHANGES: [Entry<Change>; 8] = [
     ("dequeue_many_with", 2, Change::DequeueManyWith),
 ];
 
+/// A call that smoltcp doesn't have.
+#[derive(Clone, Copy)]
+enum Addition {
+    PushOne,
+    PopBack,
+    RewindIfEmpty,
+    LastDequeuedMut,
+}
+
+/// The calls that smoltcp doesn't have.
+static ADDITIONS: [Entry<Addition>; 4] = [
+    ("push_one", 1, Addition::PushOne),
+    ("pop_back", 0, Addition::PopBack),
+    ("rewind_if_empty", 0, Addition::RewindIfEmpty),
+    ("last_dequeued_mut", 2, Addition::LastDequeuedMut),
+];
+
 /// A call at an offset, or on the whole ring.
 #[derive(Clone, Copy)]
 enum Look {
@@ -95,6 +112,9 @@ impl Subject for RingBuffer<'static, u8> {
         let [one, two, three, _] = call.four();
         if let Some(change) = find(&CHANGES, call) {
             return Ok(Some(make_change(self, change, one, two)));
+        }
+        if let Some(addition) = find(&ADDITIONS, call) {
+            return Ok(Some(make_addition(self, addition, one, two)));
         }
         if let Some(look) = find(&LOOKS, call) {
             return Ok(Some(make_look(self, look, one as usize, two as usize, three)));
@@ -211,6 +231,42 @@ fn enqueue_many_with(ring: &mut Bytes, size: usize, seed: u64) -> Reply {
 fn dequeue_many_with(ring: &mut Bytes, size: usize, seed: u64) -> Reply {
     let (counted, lent) = ring.dequeue_many_with(|part| take_part(part, size, seed));
     Reply::new().count(counted).and(lent)
+}
+
+/// Makes a call that smoltcp doesn't have.
+fn make_addition(ring: &mut Bytes, addition: Addition, one: u64, two: u64) -> Reply {
+    match addition {
+        Addition::PushOne => push_one(ring, low_byte(one)),
+        Addition::PopBack => pop_back(ring),
+        Addition::RewindIfEmpty => {
+            ring.rewind_if_empty();
+            allowed(true)
+        }
+        Addition::LastDequeuedMut => last_dequeued_mut(ring, one as usize, two),
+    }
+}
+
+fn push_one(ring: &mut Bytes, byte: u8) -> Reply {
+    match ring.push_one(byte) {
+        Ok(()) => Reply::word("ok"),
+        Err(Full) => Reply::word("full"),
+    }
+}
+
+fn pop_back(ring: &mut Bytes) -> Reply {
+    match ring.pop_back() {
+        Some(byte) => Reply::new().bytes(&[byte]),
+        None => Reply::word("empty"),
+    }
+}
+
+/// Dequeues so many elements, if they are contiguous, and shows and writes over those dequeued last.
+fn last_dequeued_mut(ring: &mut Bytes, size: usize, seed: u64) -> Reply {
+    if ring.contiguous_allocated(0, size) < size {
+        return allowed(false);
+    }
+    ring.dequeue_allocated(size);
+    show_and_fill(ring.last_dequeued_mut(size), seed)
 }
 
 /// Makes a call at an offset, or on the whole ring.

@@ -15,14 +15,16 @@ enum Kind {
     AsMutSlice,
     Part,
     PartMut,
+    Element,
     ElementMut,
 }
 
 /// The calls.
-static CALLS: [Entry<Kind>; 4] = [
+static CALLS: [Entry<Kind>; 5] = [
     ("as_mut_slice", 1, Kind::AsMutSlice),
     ("part", 2, Kind::Part),
     ("part_mut", 3, Kind::PartMut),
+    ("element", 1, Kind::Element),
     ("element_mut", 2, Kind::ElementMut),
 ];
 
@@ -54,6 +56,7 @@ fn make(storage: &mut OwnedStorage, kind: Kind, one: u64, two: u64, three: u64) 
         Kind::AsMutSlice => show_and_fill(storage.as_mut_slice(), one),
         Kind::Part => part(storage, one as usize, two as usize),
         Kind::PartMut => part_mut(storage, one as usize, two as usize, three),
+        Kind::Element => element(storage, one as usize),
         Kind::ElementMut => element_mut(storage, one as usize, low_byte(two)),
     }
 }
@@ -70,6 +73,13 @@ fn part_mut(storage: &mut OwnedStorage, from: usize, to: usize, seed: u64) -> Re
         return allowed(false);
     }
     show_and_fill(storage.part_mut(from, to), seed)
+}
+
+fn element(storage: &OwnedStorage, at: usize) -> Reply {
+    if at >= storage.count() {
+        return allowed(false);
+    }
+    Reply::new().bytes(&[*storage.element(at)])
 }
 
 fn element_mut(storage: &mut OwnedStorage, at: usize, byte: u8) -> Reply {

@@ -5,8 +5,8 @@ use crate::reply::{Part, Reply, answered};
 use crate::subject::Subject;
 use net_assembler::TooManyHolesError;
 use net_base::time::{Duration, Instant};
+use net_bench_lib::BenchError;
 use net_ring::{Empty, Full};
-use net_script::BenchError;
 use std::alloc::{AllocError, Global};
 use std::fmt::{Display, Style, Styled};
 

@@ -1,8 +1,8 @@
-//! Numbers, words that name modes of `net_script`, lines that are executed in one, and words of `net_link`.
+//! Numbers, words that name modes of `net_bench_lib`, lines that are executed in one, and words of `net_link`.
 use crate::call::{first_word, words_of};
 use crate::link;
-use net_cli::number;
-use net_script::{Mode, run};
+use net_bench_lib::{Mode, run};
+use net_io::number;
 use std::alloc::{AllocError, Global};
 
 /// Answers a line that begins with `number`, `mode`, `run` or `link`; returns whether it is one.

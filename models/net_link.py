@@ -1,7 +1,7 @@
 """A model of net_link, written only from docs/LINK.md, compared with the program: statuses, outputs, lines of counts.
 
-    python3 compare/link_model.py PROGRAM [--cases 1000] [--seed 1]
-    python3 compare/link_model.py --gives-up [--copies 40]
+    python3 models/net_link.py PROGRAM [--cases 1000] [--seed 1]
+    python3 models/net_link.py --gives-up [--copies 40]
 
 PROGRAM is net_link, proved (`rt run` leaves it in crates/net_link/out). Each case draws the words and an
 input, which the program reads from a file, so that a read gives all that it has room for. With `--gives-up` no
@@ -13,7 +13,7 @@ import subprocess
 import sys
 import tempfile
 
-from link_parts import LONGEST, MOST_RUNS, SHORTEST, Direction, Receiver, Sender, exchange
+from link import LONGEST, MOST_RUNS, SHORTEST, Direction, Receiver, Sender, exchange
 
 BUFFER, MAX_BURST, MOST_ROUNDS = 262_144, 4_096, 100
 SHOWN_EACH, GAVE_UP = 256, 3
@@ -55,7 +55,7 @@ class Copy:
         self.exchange()
         full = self.sender.is_full()
         self.burst = max(self.burst // 2, MOST_RUNS) if full else min(self.burst + MOST_RUNS, MAX_BURST)
-        self.receiver.written = self.receiver.next
+        self.receiver.take(self.receiver.next - written)
         self.rounds += 1
         self.micros += self.wait
         moved = self.receiver.written > written or self.sender.first_unacknowledged > head
@@ -79,7 +79,7 @@ class Copy:
         written = self.receiver.written
         return (
             f"{written} bytes, {both('sent')} frames, {both('lost')} lost, {both('duplicated')} duplicated, "
-            f"{both('came_delayed')} delayed, {self.receiver.refused} refused, {max(self.carried - self.bytes_read, 0)} bytes sent again, "
+            f"{both('delayed')} delayed, {self.receiver.refused} refused, {max(self.carried - self.bytes_read, 0)} bytes sent again, "
             f"{self.rounds} rounds, {written * 1_000_000 // max(self.micros, 1)} bytes a second\n"
         )
 

@@ -1,5 +1,10 @@
-"""Worked rows: calls with results that smoltcp's own tests and documentation expect, and lines of modes
-with their replies. A row that the model contradicts ends the script."""
+"""Worked rows: calls and lines whose replies, or what these begin with, are written by hand. A row that the model
+contradicts ends the script.
+
+A row that makes the calls of a test of smoltcp names it: `test_buffer_enqueue_many`, say. What it expects is what that
+test expects. A row without a name is worked out by hand from the pages: CALLING.md of the crate for calls, docs/BENCH.md
+for lines of modes.
+"""
 import assembler
 import modes
 import moments
@@ -8,121 +13,168 @@ import receiver
 import ring
 import small
 
-# Calls of a ring of so many bytes, each with how its reply begins: counts, and what is lent or refused.
+# The test of smoltcp, if there is one; and calls of a ring of so many bytes, each with how its reply begins: counts, and
+# what is lent or refused.
 RINGS = [
-    (12, "enqueue_slice 12 1: 12; dequeue_slice 8 2: 8; enqueue_slice 4 3: 4; dequeue_slice 8 4: 8"),
-    (12, "enqueue_many 12 1: 12#; dequeue_many 6 2: 6:; enqueue_many 3 3: 3:; read_allocated 3 6 4: 6; "
+    ("test_buffer_enqueue_slice",
+     12, "enqueue_slice 8 1: 8; dequeue_one 46: 1:; dequeue_one 46: 1:; dequeue_one 46: 1:; "
+     "dequeue_one 46: 1:; enqueue_slice 8 2: 8; enqueue_slice 1 3: 0"),
+    ("test_buffer_dequeue_many", 12, "enqueue_slice 12 1: 12; dequeue_many 8 2: 8:; dequeue_many 8 3: 4:; "
+     "dequeue_many 8 4: 0:"),
+    ("test_buffer_dequeue_many_with", 12, "enqueue_slice 12 1: 12; dequeue_many_with 4 2: 4 12#; "
+     "dequeue_many_with 4 3: 4 8#; enqueue_slice 4 4: 4; dequeue_many_with 4 5: 4 4#; dequeue_many_with 4 6: 4 4#; "
+     "dequeue_many_with 4 7: 0 0#"),
+    ("test_buffer_enqueue_dequeue_one",
+     5, "dequeue_one 9: empty; enqueue_one 0: 1:; enqueue_one 1: 1:; enqueue_one 2: 1:; "
+     "enqueue_one 3: 1:; enqueue_one 4: 1:; enqueue_one 5: full; dequeue_one 9: 1:0; dequeue_one 9: 1:1; "
+     "dequeue_one 9: 1:2; dequeue_one 9: 1:3; dequeue_one 9: 1:4; dequeue_one 9: empty"),
+    ("test_buffer_enqueue_dequeue_one_with", 5, "dequeue_one_with 9 1: empty; enqueue_one_with 0 1: ok; "
+     "enqueue_one_with 1 1: ok; enqueue_one_with 2 1: ok; enqueue_one_with 3 1: ok; enqueue_one_with 4 1: ok; "
+     "enqueue_one_with 5 1: full; dequeue_one_with 9 1: ok 0; dequeue_one_with 9 1: ok 1; dequeue_one_with 9 1: ok 2; "
+     "dequeue_one_with 9 1: ok 3; dequeue_one_with 9 1: ok 4; dequeue_one_with 9 1: empty"),
+    ("", 4096, "enqueue_slice 3000 1: 3000; dequeue_many 3000 2: 3000#; enqueue_slice 6000 3: 4096; dequeue_many 5000 4: 4096#"),
+    ("", 3, "pop_back: empty; push_one 97: ok; push_one 98: ok; push_one 99: ok; push_one 100: full; pop_back: 1:63; "
+     "dequeue_one 0: 1:61; pop_back: 1:62; pop_back: empty; get_unallocated 0 3 1: 2:"),
+    ("", 4, "enqueue_slice 3 1: 3; dequeue_slice 3 2: 3; rewind_if_empty: done; get_unallocated 0 4 3: 4:; "
+     "enqueue_slice 2 4: 2; dequeue_allocated 1: done; rewind_if_empty: done; get_unallocated 0 4 5: 2:"),
+    ("", 4, "push_one 97: ok; push_one 98: ok; last_dequeued_mut 3 1: forbidden; last_dequeued_mut 2 2: 2:6162; "
+     "last_dequeued_mut 0 3: 0:; last_dequeued_mut 1 4: forbidden"),
+    ("test_buffer_dequeue_slice",
+     12, "enqueue_slice 12 1: 12; dequeue_slice 8 2: 8; enqueue_slice 4 3: 4; dequeue_slice 8 4: 8"),
+    ("test_buffer_read_allocated",
+     12, "enqueue_many 12 1: 12#; dequeue_many 6 2: 6:; enqueue_many 3 3: 3:; read_allocated 3 6 4: 6; "
          "read_allocated 6 6 5: 3"),
-    (12, "enqueue_many 6 1: 6:; dequeue_many 6 2: 6:; write_unallocated 0 3 3: 3; write_unallocated 3 6 4: 6; "
+    ("test_buffer_write_unallocated",
+     12, "enqueue_many 6 1: 6:; dequeue_many 6 2: 6:; write_unallocated 0 3 3: 3; write_unallocated 3 6 4: 6; "
          "get_unallocated 3 3 5: 3:; write_unallocated 9 6 6: 3; get_unallocated 9 3 7: 3:"),
-    (12, "enqueue_many 8 1: 8:; enqueue_many 8 2: 4:"),
-    (12, "enqueue_slice 4 1: 4; enqueue_slice 8 2: 8; dequeue_many 4 3: 4:; get_allocated 4 8: 4:; "
+    ("test_buffer_enqueue_many", 12, "enqueue_many 8 1: 8:; enqueue_many 8 2: 4:"),
+    ("test_buffer_get_allocated",
+     12, "enqueue_slice 4 1: 4; enqueue_slice 8 2: 8; dequeue_many 4 3: 4:; get_allocated 4 8: 4:; "
          "enqueue_slice 4 4: 4; get_allocated 4 8: 4:; get_allocated_mut 6 8 5: 2:; as_slices: 8:"),
-    (0, "get_unallocated 0 0 1: 0:; get_allocated 0 0: 0:; dequeue_allocated 0: done; enqueue_many 0 1: 0:; "
+    ("test_buffer_with_no_capacity",
+     0, "get_unallocated 0 0 1: 0:; get_allocated 0 0: 0:; dequeue_allocated 0: done; enqueue_many 0 1: 0:; "
         "enqueue_one 0: full"),
-    (8, "enqueue_many 2 1: 2:; enqueue_many 2 2: 2:; dequeue_many 4 3: 4:; enqueue_many 8 4: 8:; clear: done; "
+    ("test_buffer_write_wholly",
+     8, "enqueue_many 2 1: 2:; enqueue_many 2 2: 2:; dequeue_many 4 3: 4:; enqueue_many 8 4: 8:; clear: done; "
         "enqueue_many 4 5: 4:; dequeue_many 4 6: 4:; enqueue_many 8 7: 8:"),
-    (12, "enqueue_many_with 2 1: 2 12#; enqueue_many_with 2 2: 2 10#; enqueue_many_with 4 3: 4 8#; "
+    ("test_buffer_enqueue_many_with",
+     12, "enqueue_many_with 2 1: 2 12#; enqueue_many_with 2 2: 2 10#; enqueue_many_with 4 3: 4 8#; "
          "dequeue_many 4 4: 4:; enqueue_many_with 4 5: 4 4#; enqueue_many_with 4 6: 4 4#; get_allocated 0 12: 8:; "
          "get_allocated 8 4: 4:"),
-    (12, "get_unallocated 16 4 1: 0:; get_unallocated 0 4 2: 4:; enqueue_many 4 3: 4:; get_unallocated 4 8 4: 4:; "
+    ("test_buffer_get_unallocated",
+     12, "get_unallocated 16 4 1: 0:; get_unallocated 0 4 2: 4:; enqueue_many 4 3: 4:; get_unallocated 4 8 4: 4:; "
          "enqueue_many 8 5: 8:"),
-    (2, "enqueue_one_with 7 0: err; dequeue_one 0: empty; enqueue_one_with 7 1: ok 7"),
-    (2, "enqueue_one 97: 1:; enqueue_one 98: 1:; enqueue_one 99: full; dequeue_one 122: 1:61; get_unallocated 0 2 1: "
+    ("", 2, "enqueue_one_with 7 0: err; dequeue_one 0: empty; enqueue_one_with 7 1: ok 7"),
+    ("",
+     2, "enqueue_one 97: 1:; enqueue_one 98: 1:; enqueue_one 99: full; dequeue_one 122: 1:61; get_unallocated 0 2 1: "
         "1:7a; dequeue_one 98: 1:62; dequeue_one 99: empty"),
-    (2, "enqueue_one 97: 1:; enqueue_one 98: 1:; dequeue_one_with 122 0: err 97; dequeue_one 1: 1:7a; "
+    ("", 2, "enqueue_one 97: 1:; enqueue_one 98: 1:; dequeue_one_with 122 0: err 97; dequeue_one 1: 1:7a; "
         "dequeue_one_with 2 1: ok 98"),
-    (4, "get_unallocated 18446744073709551615 1 1: 0:; write_unallocated 18446744073709551615 1 1: 0; "
+    ("", 4, "get_unallocated 18446744073709551615 1 1: 0:; write_unallocated 18446744073709551615 1 1: 0; "
         "enqueue_slice 3 1: 3; dequeue_many 2 2: 2:; get_unallocated 18446744073709551615 1 1: 0:; "
         "get_allocated 18446744073709551615 18446744073709551615: 0:; "
         "read_allocated 18446744073709551615 2 1: 0; get_allocated 0 18446744073709551615: 1:"),
-    (8, "enqueue_many 4 1: 4:; dequeue_many 4 2: 4:; write_unallocated 0 2 3: 2; enqueue_unallocated 2: done; "
+    ("", 8, "enqueue_many 4 1: 4:; dequeue_many 4 2: 4:; write_unallocated 0 2 3: 2; enqueue_unallocated 2: done; "
         "get_allocated 0 2: 2:; enqueue_unallocated 7: forbidden"),
-    (8, "enqueue_many 4 1: 4:; dequeue_many 4 2: 4:; write_unallocated 0 2 3: 2; enqueue_many 2 4: 2:"),
-    (4, "enqueue_many_with 0 1: 0 4#; enqueue_slice 4 2: 4; dequeue_many_with 0 3: 0 4#; dequeue_slice 4 4: 4"),
-    (1, "dequeue_one_with 0 1: empty; enqueue_slice 2 1: 1; enqueue_one_with 0 1: full; dequeue_slice 1 2: 1"),
+    ("", 8, "enqueue_many 4 1: 4:; dequeue_many 4 2: 4:; write_unallocated 0 2 3: 2; enqueue_many 2 4: 2:"),
+    ("", 4, "enqueue_many_with 0 1: 0 4#; enqueue_slice 4 2: 4; dequeue_many_with 0 3: 0 4#; dequeue_slice 4 4: 4"),
+    ("", 1, "dequeue_one_with 0 1: empty; enqueue_slice 2 1: 1; enqueue_one_with 0 1: full; dequeue_slice 1 2: 1"),
 ]
 
 # The same of a packet queue of so many slots and bytes.
 PACKETS = [
-    (4, 16, "peek: empty; dequeue 1: empty; take 1: empty; pop_slice 0 1: empty; dequeue_with 1 1 1: empty; "
+    ("test_simple, test_peek",
+     4, 16, "peek: empty; dequeue 1: empty; take 1: empty; pop_slice 0 1: empty; dequeue_with 1 1 1: empty; "
             "push_slice 6 0 1: ok; enqueue 16 1 2: full; peek: 0 6:; dequeue 3: 0 6:; peek: empty"),
-    (4, 16, "enqueue 4 0 1: 4:; enqueue 8 0 2: 8:; dequeue 3: 0 4:; enqueue 8 0 4: full; reset: done; enqueue 15 0 5: 15#; "
+    ("test_contiguous_window_too_small, test_contiguous_window_wrap, test_capacity_too_small, test_metadata_full_empty, "
+     "clear, test_padding_with_large_payload, test_contig_window_prioritized",
+     4, 16, "enqueue 4 0 1: 4:; enqueue 8 0 2: 8:; dequeue 3: 0 4:; enqueue 8 0 4: full; reset: done; enqueue 15 0 5: 15#; "
             "dequeue 6: 0 15#; enqueue 16 0 7: 16#; reset: done; enqueue 32 0 8: full; enqueue 1 0 9: 1:; "
             "enqueue 1 0 10: 1:; enqueue 1 0 11: 1:; enqueue 1 0 12: 1:; enqueue 1 0 13: full; reset: done; "
             "enqueue 6 0 14: 6:; reset: done; enqueue 16 0 15: 16#; reset: done; enqueue 12 0 16: 12#; "
             "dequeue 17: 0 12#; enqueue 12 0 18: 12#; reset: done; enqueue 4 0 19: 4:; dequeue 20: 0 4:; "
             "enqueue 5 0 21: 5:"),
-    (4, 16, "enqueue 6 0 1: 6:; enqueue 8 0 2: 8:; dequeue 3: 0 6:; enqueue 4 0 4: 4:; dequeue 5: 0 8:; peek: 0 4:; "
+    ("test_padding",
+     4, 16, "enqueue 6 0 1: 6:; enqueue 8 0 2: 8:; dequeue 3: 0 6:; enqueue 4 0 4: 4:; dequeue 5: 0 8:; peek: 0 4:; "
             "dequeue 6: 0 4:"),
-    (4, 16, "enqueue 6 0 1: 6:; enqueue 8 0 2: 8:; dequeue 3: 0 6:; enqueue 4 0 4: 4:; dequeue 5: 0 8:; "
+    ("test_dequeue_with",
+     4, 16, "enqueue 6 0 1: 6:; enqueue 8 0 2: 8:; dequeue 3: 0 6:; enqueue 4 0 4: 4:; dequeue 5: 0 8:; "
             "dequeue_with 9 6 0: err 0 4#; peek: 9 4:; dequeue_with 1 7 1: ok 9 4#; peek: empty"),
-    (4, 16, "enqueue 12 0 1: 12#; enqueue 1 0 2: 1:; enqueue 1 0 3: 1:; enqueue 1 0 4: 1:; dequeue 5: 0 12#; "
+    ("test_enqueue_fallible_full_metadata_fn_not_called",
+     4, 16, "enqueue 12 0 1: 12#; enqueue 1 0 2: 1:; enqueue 1 0 3: 1:; enqueue 1 0 4: 1:; dequeue 5: 0 12#; "
             "enqueue_with_infallible 5 1 0 6: full; enqueue 1 0 7: 1:"),
-    (4, 16, "enqueue 15 0 1: 15#; dequeue 2: 0 15#; enqueue_with_infallible 16 2 0 3: 2 16#; enqueue 0 0 4: 0:; "
+    ("", 4, 16, "enqueue 15 0 1: 15#; dequeue 2: 0 15#; enqueue_with_infallible 16 2 0 3: 2 16#; enqueue 0 0 4: 0:; "
             "dequeue 5: 0 2:; dequeue 6: 0 0:"),
-    (4, 16, "enqueue 10 0 1: 10#; enqueue 4 0 2: 4:; dequeue 3: 0 10#; enqueue_with_infallible 5 0 0 4: 0 5#; "
+    ("", 4, 16, "enqueue 10 0 1: 10#; enqueue 4 0 2: 4:; dequeue 3: 0 10#; enqueue_with_infallible 5 0 0 4: 0 5#; "
             "dequeue 5: 0 4:; peek: 0 0:; dequeue 6: 0 0:; peek: empty"),
-    (2, 4, "place 2 5 1: 2:; take 2: 5 2:; peek: empty; dequeue 3: empty; take 4: empty; pop_slice 0 5: empty"),
-    (2, 0, "enqueue 0 0 1: 0:; enqueue 1 0 2: full; enqueue 0 0 3: 0:; enqueue 0 0 4: full"),
-    (2, 4, "enqueue 2 0 1: 2:; enqueue 1 0 2: 1:; dequeue 3: 0 2:; enqueue 2 0 4: full"),
-    (1, 3, "enqueue 2 0 1: 2:; dequeue 2: 0 2:; enqueue_with_infallible 2 2 0 3: 2 2#"),
-    (4, 16, "push_slice 15 7 1: ok; push_slice 2 8 2: full; pop_slice 2 3: 7 2; peek: empty; push_slice 2 9 4: ok; "
+    ("", 2, 4, "place 2 5 1: 2:; take 2: 5 2:; peek: empty; dequeue 3: empty; take 4: empty; pop_slice 0 5: empty"),
+    ("", 2, 0, "enqueue 0 0 1: 0:; enqueue 1 0 2: full; enqueue 0 0 3: 0:; enqueue 0 0 4: full"),
+    ("", 2, 4, "enqueue 2 0 1: 2:; enqueue 1 0 2: 1:; dequeue 3: 0 2:; enqueue 2 0 4: full"),
+    ("", 1, 3, "enqueue 2 0 1: 2:; dequeue 2: 0 2:; enqueue_with_infallible 2 2 0 3: 2 2#"),
+    ("", 4, 16, "push_slice 15 7 1: ok; push_slice 2 8 2: full; pop_slice 2 3: 7 2; peek: empty; push_slice 2 9 4: ok; "
             "pop_slice 3 5: 9 2"),
 ]
 
 # The same of long packets, by each call, with long gaps.
 LONG_PACKETS = [
-    (4, 4096, "push_slice 3000 7 1: ok; push_slice 600 8 2: ok; pop_slice 3000 3: 7 3000; push_slice 2500 9 4: ok; "
+    ("", 4, 4096, "push_slice 3000 7 1: ok; push_slice 600 8 2: ok; pop_slice 3000 3: 7 3000; push_slice 2500 9 4: ok; "
               "pop_slice 1000 5: 8 600; peek: 9 2500#; take 6: 9 2500#; enqueue 3000 1 7: 3000#; dequeue 8: 1 3000#; "
               "enqueue_with_infallible 4000 3500 2 9: 3500 4000#; dequeue_with 1 2 1: ok 2 3500#"),
-    (3, 4096, "place 3000 1 1: 3000#; place 600 2 2: 600#; take 3: 1 3000#; place 2000 3 4: 2000#; place 1 4 5: full; "
+    ("",
+     3, 4096, "place 3000 1 1: 3000#; place 600 2 2: 600#; take 3: 1 3000#; place 2000 3 4: 2000#; place 1 4 5: full; "
               "dequeue 6: 2 600#; pop_slice 2000 7: 3 2000"),
 ]
 
 # The same of an assembler of so many runs, and the runs then.
 ASSEMBLERS = [
-    (4, "add 4 8: ok; add 0 4: ok", [(0, 12)]),
-    (4, "add 4 8: ok; add 12 4: ok", [(4, 16)]),
-    (4, "add 4 8: ok; add 2 6: ok", [(2, 12)]),
-    (4, "add 4 8: ok; add 10 4: ok", [(4, 14)]),
-    (4, "add 4 8: ok; add 0 8: ok", [(0, 12)]),
-    (4, "add 4 8: ok; add 8 8: ok", [(4, 16)]),
-    (4, "add 4 8: ok; add 0 16: ok", [(0, 16)]),
-    (4, "add 4 8: ok; add 2 12: ok", [(2, 14)]),
-    (4, "add 10 10: ok; add 50 10: ok; add 15 40: ok", [(10, 60)]),
-    (4, "add 50 10: ok; add 10 10: ok; add 15 60: ok", [(10, 75)]),
-    (4, "add 0 1: ok; add 2 1: ok; add 1 1: ok", [(0, 3)]),
-    (4, "add 5 0: ok; add 18446744073709551615 0: ok", []),
-    (4, "add 9223372036854775808 8: ok; contains 9223372036854775807: 0; contains 9223372036854775808: 1; "
+    ("test_partial_add_front", 4, "add 4 8: ok; add 0 4: ok", [(0, 12)]),
+    ("test_partial_add_back", 4, "add 4 8: ok; add 12 4: ok", [(4, 16)]),
+    ("test_partial_add_front_overlap_split", 4, "add 4 8: ok; add 2 6: ok", [(2, 12)]),
+    ("test_partial_add_back_overlap_split", 4, "add 4 8: ok; add 10 4: ok", [(4, 14)]),
+    ("test_partial_add_front_overlap", 4, "add 4 8: ok; add 0 8: ok", [(0, 12)]),
+    ("test_partial_add_back_overlap", 4, "add 4 8: ok; add 8 8: ok", [(4, 16)]),
+    ("test_partial_add_both_overlap", 4, "add 4 8: ok; add 0 16: ok", [(0, 16)]),
+    ("test_partial_add_both_overlap_split", 4, "add 4 8: ok; add 2 12: ok", [(2, 14)]),
+    ("test_join_two", 4, "add 10 10: ok; add 50 10: ok; add 15 40: ok", [(10, 60)]),
+    ("test_join_two_overlong", 4, "add 50 10: ok; add 10 10: ok; add 15 60: ok", [(10, 75)]),
+    ("test_issue_694", 4, "add 0 1: ok; add 2 1: ok; add 1 1: ok", [(0, 3)]),
+    ("", 4, "add 5 0: ok; add 18446744073709551615 0: ok", []),
+    ("", 4, "add 9223372036854775808 8: ok; contains 9223372036854775807: 0; contains 9223372036854775808: 1; "
         "contains 9223372036854775815: 1; contains 9223372036854775816: 0; add 18446744073709551610 5: ok; "
         "contains 18446744073709551614: 1; contains 18446744073709551615: 0",
      [(2 ** 63, 2 ** 63 + 8), (2 ** 64 - 6, 2 ** 64 - 1)]),
-    (4, "FILL; add 1 3: refused; add_counted 1 3: refused; add_then_remove_front 1 3: refused; add 13 7: ok; "
+    ("test_rejected_add_keeps_state",
+     4, "FILL; add 1 3: refused; add_counted 1 3: refused; add_then_remove_front 1 3: refused; add 13 7: ok; "
         "add 1 3: ok", [(1, 4), (10, 23), (30, 33), (40, 43)]),
-    (4, "FILL; add_counted 13 7: ok", [(10, 23), (30, 33), (40, 43)]),
-    (4, "add 0 2: ok; add 10 1: ok; add 20 1: ok; add 30 1: ok; add_then_remove_front 40 1: refused; "
+    ("", 4, "FILL; add_counted 13 7: ok", [(10, 23), (30, 33), (40, 43)]),
+    ("", 4, "add 0 2: ok; add 10 1: ok; add 20 1: ok; add 30 1: ok; add_then_remove_front 40 1: refused; "
         "add_then_remove_front 40 0: front 2", [(8, 9), (18, 19), (28, 29)]),
-    (4, "FILL; add_then_remove_front 0 3: front 3", [(7, 10), (17, 20), (27, 30), (37, 40)]),
-    (4, "add 50 10: ok; add_then_remove_front 10 10: front 0", [(10, 20), (50, 60)]),
-    (4, "add 50 10: ok; add_then_remove_front 0 10: front 10", [(40, 50)]),
-    (4, "add 50 10: ok; add_then_remove_front 0 50: front 60", []),
-    (4, "add 0 4: ok; add_then_remove_front 0 0: front 4", []),
-    (4, "add 0 4: ok; add 8 4: ok; remove_front: front 4; remove_front: front 0", [(4, 8)]),
-    (4, "add 0 2: ok; add 3 1: ok; add 5 1: ok; add 7 1: ok; remove_front: front 2", [(1, 2), (3, 4), (5, 6)]),
-    (4, "remove_front: front 0", []),
-    (4, "add 2 6: ok; add 10 1: ok; add 13 2: ok; run_at 0: 2-8; run_at 1: 10-11; run_at 2: 13-15; run_at 3: none; "
+    ("test_add_then_remove_front_at_front_full_offset_0",
+     4, "FILL; add_then_remove_front 0 3: front 3", [(7, 10), (17, 20), (27, 30), (37, 40)]),
+    ("test_add_then_remove_front", 4, "add 50 10: ok; add_then_remove_front 10 10: front 0", [(10, 20), (50, 60)]),
+    ("test_add_then_remove_front_at_front", 4, "add 50 10: ok; add_then_remove_front 0 10: front 10", [(40, 50)]),
+    ("test_add_then_remove_front_at_front_touch", 4, "add 50 10: ok; add_then_remove_front 0 50: front 60", []),
+    ("", 4, "add 0 4: ok; add_then_remove_front 0 0: front 4", []),
+    ("test_trailing_data_remove_front",
+     4, "add 0 4: ok; add 8 4: ok; remove_front: front 4; remove_front: front 0", [(4, 8)]),
+    ("test_boundary_case_remove_front",
+     4, "add 0 2: ok; add 3 1: ok; add 5 1: ok; add 7 1: ok; remove_front: front 2", [(1, 2), (3, 4), (5, 6)]),
+    ("test_empty_remove_front", 4, "remove_front: front 0", []),
+    ("test_iter_three_split",
+     4, "add 2 6: ok; add 10 1: ok; add 13 2: ok; run_at 0: 2-8; run_at 1: 10-11; run_at 2: 13-15; run_at 3: none; "
         "contains 1: 0; contains 2: 1; contains 7: 1; contains 8: 0; contains 14: 1; contains 15: 0",
      [(2, 8), (10, 11), (13, 15)]),
-    (32, "FILL; add 1 3: refused; add_then_remove_front 1 3: refused; run_at 31: 320-323; "
+    ("test_add_then_remove_front_at_front_full",
+     32, "FILL; add 1 3: refused; add_then_remove_front 1 3: refused; run_at 31: 320-323; "
          "add_then_remove_front 0 3: front 3; run_at 0: 7-10; run_at 31: 317-320; remove_front: front 0; add 0 320: ok; "
          "remove_front: front 320", []),
-    (4, "add 100 10: ok; add 50 10: ok; add 40 30: ok", [(40, 70), (100, 110)]),
-    (1, "add 18446744073709551613 2: ok; add 0 1: refused; add_then_remove_front 0 1: front 1; "
+    ("test_shrink_next_hole", 4, "add 100 10: ok; add 50 10: ok; add 40 30: ok", [(40, 70), (100, 110)]),
+    ("", 1, "add 18446744073709551613 2: ok; add 0 1: refused; add_then_remove_front 0 1: front 1; "
         "fits 18446744073709551614 1: 1; fits 18446744073709551614 2: 0", [(18446744073709551612, 18446744073709551614)]),
-    (4, "add 4 8: ok; add 0 2: ok; clone: done; clear: done; eq: 0 1; add 0 1: ok; add 4 4: ok; add 8 4: ok; add 1 1: ok; "
+    ("",
+     4, "add 4 8: ok; add 0 2: ok; clone: done; clear: done; eq: 0 1; add 0 1: ok; add 4 4: ok; add 8 4: ok; add 1 1: ok; "
         "eq: 1 0", [(0, 2), (4, 12)]),
-    (4, "FILL; add_counted 13 7: ok; add_then_remove_front 0 4: front 4; remove_front: front 0; "
+    ("", 4, "FILL; add_counted 13 7: ok; add_then_remove_front 0 4: front 4; remove_front: front 0; "
         "add_then_remove_front 0 6: front 19; text 65535: 1", [(7, 10), (17, 20)]),
 ]
 
@@ -171,7 +223,8 @@ RECEIVERS = [
 
 # Two receivers of 16 bytes that take segments, and whether they are then equal.
 PAIRS = [
-    ("", "", "1 1"), ("segment 0 1 1; segment 0 2 1", "segment 0 2 1", "1 1"), ("segment 0 2 1", "segment 0 2 2", "0 0"),
+    ("",
+     "", "1 1"), ("segment 0 1 1; segment 0 2 1", "segment 0 2 1", "1 1"), ("segment 0 2 1", "segment 0 2 2", "0 0"),
     ("segment 2 1 1", "segment 2 1 2", "1 1"), ("segment 0 1 1; segment 3 1 2", "segment 0 1 1", "0 0"),
     ("segment 0 1 1; segment 3 1 1; segment 4 1 2", "segment 3 2 3; segment 0 1 1", "1 1"),
     ("segment 0 2 1; read 1 2", "segment 0 1 1", "0 0"),
@@ -185,7 +238,9 @@ NUMBERS = [("at", [2 ** 32 - 2, 3], "1"), ("add", [2 ** 32 - 2, 3], "1"), ("eq",
            ("eq", [2 ** 32 - 3, 2 ** 32 - 3], "1 0 1"), ("ahead_of", [1, 2 ** 32 - 2], "3"),
            ("is_before", [2 ** 32 - 2, 1], "1"), ("is_before", [1, 2 ** 32 - 2], "0")]
 
-# Calls on moments and on lengths: the table of the model, the call, its numbers, and how its reply begins.
+# Calls on moments and on lengths: the table of the model, the call, its numbers, and how its reply begins. `div` and `mul`
+# are of test_duration_ops, the first `from_millis` of test_duration_getters, the first `can_sub` of
+# test_sub_from_zero_overflow.
 LEAST, MOST, LONGEST = -2 ** 63, 2 ** 63 - 1, 2 ** 64 - 1
 TIMES = [
     ("Duration", moments.LENGTHS, [
@@ -241,7 +296,7 @@ TIMES = [
         ("saturating_sub", [0, LONGEST], f"{LEAST} "), ("saturating_add", [0, LONGEST], f"{MOST} ")]),
 ]
 
-# Texts of moments and lengths.
+# Texts of moments and lengths; the first three are of test_instant_display.
 MOMENTS = [(74_000, "0.074s"), (5_674_000, "5.674s"), (5_000_000, "5.000s"), (-5_000, "0.0-5s"),
            (-1_500_000, "-1.-500s"), (-2 ** 63, "-9223372036854.-775s"), (2 ** 64 - 1, "18446744073709.551s"),
            (4_934_000, "4.934s")]
@@ -395,6 +450,12 @@ NO_LINES = [
 ]
 
 
+def tests_of_smoltcp():
+    """The tests that rows name."""
+    rows = [*RINGS, *PACKETS, *LONG_PACKETS, *ASSEMBLERS]
+    return {name for row in rows for name in row[0].split(", ") if name}
+
+
 def rows_of(text):
     """The calls of a row, each with how its reply begins."""
     for row in text.split("; "):
@@ -417,13 +478,13 @@ def play(cases, first, subject, text, make):
 
 
 def add(cases):
-    for capacity, text in RINGS:
+    for _, capacity, text in RINGS:
         subject = ring.Bytes(capacity, 0)
         play(cases, f"ring {capacity} 0", subject, text, subject.call)
-    for slots, count, text in PACKETS:
+    for _, slots, count, text in PACKETS:
         subject = packets.Packets(slots, count, 0)
         play(cases, f"packets {slots} {count} 0", subject, text, subject.call)
-    for most, text, runs in ASSEMBLERS:
+    for _, most, text, runs in ASSEMBLERS:
         subject = assembler.Assembler(most)
         fill = "; ".join(f"add {10 * number} 3: ok" for number in range(1, most + 1))
         text = text.replace("FILL", fill)
@@ -442,7 +503,7 @@ def add(cases):
         play(cases, f"rand {seed}", subject, text, lambda name, numbers: getattr(subject, name)())
     add_values(cases)
     add_lines(cases)
-    for slots, count, text in LONG_PACKETS:
+    for _, slots, count, text in LONG_PACKETS:
         subject = packets.Packets(slots, count, 0)
         play(cases, f"packets {slots} {count} 0", subject, text, subject.call)
 

@@ -1,6 +1,8 @@
 """One direction of a link, a receiver, a sender and a round, written only from docs/LINK.md: what the models of `copy`
 and of net_link share.
 """
+from positions import Positions
+from small import word_after
 
 MOST_RUNS, SHORTEST, LONGEST, LAST = 32, 10_000, 1_000_000, 2**64 - 1
 D, L, R, T = "DELIVERED", "LOST", "DUPLICATED", "DELAYED"
@@ -11,14 +13,13 @@ class Direction:
 
     def __init__(self, listed, rates, seed=1):
         self.listed, self.state, self.rates = list(listed), seed, rates
-        self.delayed = []
-        self.sent = self.lost = self.duplicated = self.came_delayed = 0
+        self.pending = []
+        self.sent = self.lost = self.duplicated = self.delayed = 0
 
     def fate(self):
         if self.listed:
             return self.listed.pop(0)
-        self.state = (self.state * 0xBB2EFCEC3C39611D + 0x7590EF39) % 2**64
-        word = self.state // 2 ** (29 - self.state // 2**61) % 2**32
+        self.state, word = word_after(self.state)
         lost, duplicated, delayed = self.rates
         if word % 100 < lost:
             return L
@@ -26,45 +27,40 @@ class Direction:
             return R
         return T if word // 10_000 % 100 < delayed else D
 
-    def comes(self, frame):
-        """Whether a frame comes at once; one that is delayed, or comes once more, is kept for the next round."""
+    def arrives(self, frame):
+        """Whether a frame arrives at once; one that is delayed, or arrives once more, is pending for the next round."""
         fate = self.fate()
         self.sent += 1
         self.lost += fate == L
         self.duplicated += fate == R
-        self.came_delayed += fate == T
+        self.delayed += fate == T
         if fate in (R, T):
-            self.delayed.append(frame)
+            self.pending.append(frame)
         return fate in (D, R)
 
-    def take_delayed(self):
-        delayed, self.delayed = self.delayed, []
-        return delayed
+    def take_pending(self):
+        pending, self.pending = self.pending, []
+        return pending
 
 
-class Receiver:
-    """What was written, the first missing position, and the runs that are held beyond it."""
+class Receiver(Positions):
+    """A receiver whose bytes are written once they are in order. It counts the segments that it refuses."""
 
     def __init__(self, first, capacity):
-        self.written = self.next = first
-        self.capacity, self.refused, self.runs = capacity, 0, []
+        super().__init__(MOST_RUNS, capacity, first)
+        self.refused = 0
 
-    def come(self, start, end):
-        start, end = max(start, self.next), min(end, self.written + self.capacity)
-        if start >= end:
-            return
-        met = [run for run in self.runs if run[0] <= end and start <= run[1]]
-        joined = (min([start] + [run[0] for run in met]), max([end] + [run[1] for run in met]))
-        runs = sorted([run for run in self.runs if run not in met] + [joined])
-        if start > self.next and len(runs) > MOST_RUNS:
+    @property
+    def written(self):
+        """The position up to which bytes were written."""
+        return self.first + self.read_count
+
+    def arrive(self, start, end):
+        if self.keep(start, end) is None:
             self.refused += 1
-            return
-        if runs[0][0] == self.next:
-            self.next = runs.pop(0)[1]
-        self.runs = runs
 
     def acknowledgement(self):
-        return self.next, self.runs[:MOST_RUNS]
+        return self.next, self.held_runs()[:MOST_RUNS]
 
 
 class Sender:
@@ -111,16 +107,16 @@ class Sender:
 def exchange(forward, reverse, sender, receiver, frames):
     """These frames go on the forward path, and acknowledgements on the reverse one."""
     acks = []
-    for frame in forward.take_delayed():
-        receiver.come(*frame)
+    for frame in forward.take_pending():
+        receiver.arrive(*frame)
         acks.append(receiver.acknowledgement())
     for frame in frames:
-        if forward.comes(frame):
-            receiver.come(*frame)
+        if forward.arrives(frame):
+            receiver.arrive(*frame)
             acks.append(receiver.acknowledgement())
     acks.append(receiver.acknowledgement())
-    for ack in reverse.take_delayed():
+    for ack in reverse.take_pending():
         sender.acknowledge(*ack)
     for ack in acks:
-        if reverse.comes(ack):
+        if reverse.arrives(ack):
             sender.acknowledge(*ack)

@@ -1,8 +1,8 @@
-"""Receivers of one stream, and sequence numbers. A receiver keeps the bytes of a window by their
+"""Receivers of one stream of bytes, and sequence numbers. A receiver keeps the bytes of a window by their
 positions; what is contiguous from the first missing position is queued."""
-from assembler import front_of, shifted_down, with_range
 from branches import Count, Order, Size, Test
 from drawing import TOP
+from positions import Positions
 from showing import (START, mix, pattern, show_bytes, show_digest, show_lent, show_many, show_runs, truth,
                      truths)
 
@@ -51,59 +51,49 @@ BEFORE_NUMBER = Test("sequence number: is before another")
 EQUAL_NUMBER = Test("sequence number: equals another")
 
 
-class Receiver:
+class Receiver(Positions):
+    """A receiver with the bytes of its positions."""
+
     def __init__(self, most, capacity, first):
-        self.most, self.capacity, self.first = most, capacity, first
-        self.read_count, self.queue, self.held, self.bytes = 0, bytearray(), [], {}
+        super().__init__(most, capacity, first)
+        self.queue, self.bytes = bytearray(), {}
 
-    @property
-    def next(self):
-        return self.first + self.read_count + len(self.queue)
-
-    @property
-    def window(self):
-        return self.capacity - len(self.queue)
-
-    def held_runs(self):
-        return [(start + self.next, end + self.next) for start, end in self.held]
+    def may_hold(self, runs, has_next):
+        many = len(runs) > self.most
+        if has_next:
+            OVER(many)
+        return not REFUSED[self.most](not super().may_hold(runs, has_next))
 
     def segment(self, pos, data):
         """What was kept, what joined the queue, and the held runs; None if it is refused."""
         NEAR_63(self.first < 1 << 63 <= pos + len(data))
         NEAR_64(pos + len(data) > TOP - 4096)
         EMPTY(len(data) == 0)
-        end, limit = pos + len(data), self.next + self.window
-        BEFORE.least(pos, self.next)
-        LATE.least(end, self.next)
+        end, limit, before = pos + len(data), self.next + self.window, self.next
+        BEFORE.least(pos, before)
+        LATE.least(end, before)
         AHEAD.least(pos, limit)
         CUT.least(end, limit)
-        start, end = max(pos, self.next), min(end, limit)
-        if NONE(start >= end):
-            return 0, 0, self.held_runs()
-        runs = with_range(self.held, start - self.next, end - self.next)
-        many = len(runs) > self.most
-        if start == self.next:
-            OVER(many)
-            many = False
-        if REFUSED[self.most](many):
+        kept = self.keep(pos, end)
+        if kept is None:
             return None
-        for at in range(start, end):
+        if NONE(not kept):
+            return 0, 0, self.held_runs()
+        for at in kept:
             byte = data[at - pos]
             if at in self.bytes:
                 WRITES_OVER(self.bytes[at] != byte)
             self.bytes[at] = byte
-        front = front_of(runs)
-        self.held = shifted_down(runs, front) if front else runs
-        joined = [self.bytes.pop(self.next + at) for at in range(front)]
-        self.queue += bytes(joined)
-        QUEUED.least(front, end - start)
+        front = self.next - before
+        self.queue += bytes(self.bytes.pop(at) for at in range(before, self.next))
+        QUEUED.least(front, len(kept))
         if front:
-            FOLLOWS(front > end - start)
+            FOLLOWS(front > len(kept))
         HELD[self.most](len(self.held))
-        return end - start, front, self.held_runs()
+        return len(kept), front, self.held_runs()
 
     def take(self, count):
-        self.read_count += count
+        super().take(count)
         del self.queue[:count]
 
     def read(self, room):

@@ -1,16 +1,14 @@
 """The program net_link, by docs/LINK.md: what its words ask for, and what it then says."""
 import pathlib
 import re
-import sys
 
+import net_link
 from branches import Count, Order, Question, Size, Test
 from drawing import TOP
 from modes import number, numeral
 from showing import pattern, show_lent
 
-REPOSITORY = pathlib.Path(__file__).resolve().parents[3]
-sys.path.append(str(REPOSITORY / "compare"))
-import link_model  # the copies, by that page too
+REPOSITORY = pathlib.Path(__file__).resolve().parents[1]
 
 NAMES = ["LOSS", "SEED", "DUPLICATED", "DELAYED", "BYTES", "ROUNDS"]
 LEAST = {name: int(name in ("BYTES", "ROUNDS")) for name in NAMES}
@@ -40,12 +38,12 @@ BURST = Test("link: a round sends as many frames as it may")
 WAIT = Test("link: a round takes a second")
 
 
-class Copy(link_model.Copy):
+class Copy(net_link.Copy):
     """A copy that asks questions in each round."""
 
     def make_round(self):
         BURST(len(self.sender.frames(self.payload, self.burst)) == self.burst)
-        WAIT(self.wait == link_model.LONGEST)
+        WAIT(self.wait == net_link.LONGEST)
         super().make_round()
         REPORTED(self.sender.is_full())
 
@@ -90,10 +88,10 @@ def misuse(numbers):
 
 def copied(length, numbers, is_shown):
     """The status, how many bytes are written and what standard error says of a copy."""
-    loss, seed, duplicated, delayed, payload, rounds = link_model.numbers(numbers)
-    AGAIN.least(LENGTH(length), link_model.BUFFER)
+    loss, seed, duplicated, delayed, payload, rounds = net_link.numbers(numbers)
+    AGAIN.least(LENGTH(length), net_link.BUFFER)
     copy, shown = Copy(loss, seed, duplicated, delayed, PAYLOAD(payload), PATIENCE(rounds)), []
-    status = copy.run(link_model.of_file(length), shown if is_shown else None)
+    status = copy.run(net_link.of_file(length), shown if is_shown else None)
     counts = copy.line()
     for name, question in MET.items():
         question(not re.search(rf" 0 (bytes )?{name}", counts))
@@ -135,7 +133,7 @@ def length_for(random, words):
     """How many bytes an input has: most are few, in at most 200 frames, and 20 if almost all are lost."""
     payload = int(words[4]) if len(words) > 4 and words[4].isdecimal() else 16_384
     if payload >= 4_096 and random.one_in(6):
-        return link_model.BUFFER - 1 + random.below(3) if random.one_in(2) else random.below(300_000)
+        return net_link.BUFFER - 1 + random.below(3) if random.one_in(2) else random.below(300_000)
     frames = 20 if words[:1] in (["96"], ["97"], ["98"], ["99"]) else 200
     return min(random.of_digits(14), frames * max(1, payload))
 

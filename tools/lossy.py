@@ -1,6 +1,6 @@
 """What net_link sends over links that lose more and more frames, as a table and a plot.
 
-    python3 compare/lossy.py PROGRAM [--bytes 64000000] [--seed 7] [--svg docs/link.svg] [--payloads]
+    python3 tools/lossy.py PROGRAM [--bytes 64000000] [--seed 7] [--svg docs/link.svg] [--payloads]
 
 PROGRAM is net_link, proved (`rt run` leaves it in crates/net_link/out). Each run copies the same random
 bytes from one file to another, and its output is compared with its input. With `--payloads` the table goes over

@@ -37,6 +37,13 @@ PART_SIZE = {name: Size(f"ring: {name} finds", 9, by=2) for name in OFFSET}
 ALLOWED = {name: Order(f"ring: {name}, count and elements")
            for name in ("enqueue_unallocated", "dequeue_allocated")}
 CLEARED = Test("ring: clear finds a queue")
+PUSHED = Test("ring: push_one has room")
+POPPED = Test("ring: pop_back has an element")
+POPPED_WRAPS = Test("ring: pop_back finds a queue that goes round the storage's end")
+REWOUND = Test("ring: rewind_if_empty finds an empty ring")
+LAST_DEQUEUED = Order("ring: last_dequeued_mut, size and contiguous queue")
+LAST_DEQUEUED_SIZE = Size("ring: last_dequeued_mut lends", 9, by=2)
+LAST_DEQUEUED_AT_END = Test("ring: last_dequeued_mut lends up to the storage's end")
 
 
 class Ring:
@@ -79,7 +86,7 @@ class Ring:
     def spare(self):
         return self.see(self.part(self.count, self.window))
 
-    def rewind_if_empty(self):
+    def rewind(self):
         if self.count == 0:
             self.at = 0
 
@@ -119,7 +126,7 @@ class Bytes(Ring):
     def begin(self):
         if self.count == 0:
             RESTARTS(self.at != 0)
-        self.rewind_if_empty()
+        self.rewind()
 
     def enqueue_one(self, byte):
         if not ONE_IN(self.window > 0):
@@ -266,6 +273,36 @@ class Bytes(Ring):
         queue = self.queue()
         return f"{show_bytes(queue[:first])} {show_bytes(queue[first:])}"
 
+    def push_one(self, byte):
+        if not PUSHED(self.window > 0):
+            return "full"
+        self.write(self.part(self.count, 1), [byte & 0xff])
+        self.count += 1
+        return "ok"
+
+    def pop_back(self):
+        if not POPPED(self.count > 0):
+            return "empty"
+        POPPED_WRAPS(self.at + self.count > self.capacity)
+        self.count -= 1
+        return show_bytes(self.see(self.part(self.count, 1)))
+
+    def rewind_if_empty(self):
+        REWOUND(self.count == 0)
+        self.begin()
+        return "done"
+
+    def last_dequeued_mut(self, size, seed):
+        """Of elements that are contiguous, and dequeued first."""
+        LAST_DEQUEUED.least(size, self.contiguous_queued())
+        if size > self.contiguous_queued():
+            return "forbidden"
+        part = self.part(0, LAST_DEQUEUED_SIZE(size))
+        if size:
+            LAST_DEQUEUED_AT_END(self.at + size == self.capacity)
+        self.take(size)
+        return self.lend(part, seed)
+
     def clear(self):
         CLEARED(self.count > 0)
         self.at = self.count = 0
@@ -279,6 +316,7 @@ CALLS = {
     "contiguous_allocated": "oz", "get_unallocated": "ozs", "get_allocated": "oz",
     "get_allocated_mut": "ozs", "write_unallocated": "ozs", "read_allocated": "ozs",
     "enqueue_unallocated": "c", "dequeue_allocated": "c", "as_slices": "", "clear": "",
+    "push_one": "b", "pop_back": "", "rewind_if_empty": "", "last_dequeued_mut": "cs",
 }
 OFTEN = ["enqueue_slice", "dequeue_slice", "enqueue_many", "dequeue_many", "enqueue_unallocated",
          "write_unallocated", "dequeue_allocated"]
@@ -298,7 +336,8 @@ def number(random, ring, name, kind):
     if kind == "o":
         return random.offset(limits, 13)
     if kind == "c":
-        return random.offset([ring.window if name == "enqueue_unallocated" else ring.count], 12)
+        most = {"enqueue_unallocated": ring.window, "last_dequeued_mut": ring.contiguous_queued()}
+        return random.offset([most.get(name, ring.count)], 12)
     if name not in COPIES and random.one_in(20):
         return random.wide()
     return min(random.about(limits, digits), 6000) if name in COPIES else random.about(limits, digits)

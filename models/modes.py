@@ -1,4 +1,4 @@
-"""Words and lines of `net_script`, by the rules of docs/BENCH.md."""
+"""Words and lines of `net_bench_lib`, by the rules of docs/BENCH.md."""
 from assembler import front_of, shifted_down, text_of, with_range
 from branches import Count, Order, Size, Test
 from drawing import TOP

@@ -1,16 +1,13 @@
-"""A model of `copy`, written only from docs/LINK.md: the rows of net_stream_tests.
-
-    python3 compare/copy_model.py > crates/net_stream_tests/src/counted/rows.rt
-    (cd crates/net_stream_tests && rt fmt)
-
-Each row is a copy over a link of known fates, and what the model counts of it.
+"""A model of `copy`, written only from docs/LINK.md: the rows of net_stream_tests. Each is a copy over a link of
+known fates, and what the model counts of it.
 """
 import collections
-import sys
+import textwrap
 
-from link_parts import LAST, LONGEST, MOST_RUNS, SHORTEST, Direction, Receiver, Sender, exchange, D, L, R, T
+from link import LAST, LONGEST, MOST_RUNS, SHORTEST, Direction, Receiver, Sender, exchange, D, L, R, T
 
 PERFECT, GONE, MIXED = (0, 0, 0), (100, 0, 0), (20, 30, 30)
+TWICE, LATE = (0, 100, 0), (0, 0, 100)
 
 
 def predicted(row):
@@ -51,7 +48,7 @@ def predicted(row):
             writes += 1
             if not fails:
                 count = min(receiver.next - receiver.written, row.write[0] or LAST)
-                receiver.written += count
+                receiver.take(count)
                 written += count
         if fails:
             end = "write failed"
@@ -60,7 +57,7 @@ def predicted(row):
         stuck = 0 if moved else stuck + 1
         wait = SHORTEST if moved else min(2 * wait, LONGEST)
     both = lambda name: getattr(forward, name) + getattr(reverse, name)
-    counts = [bytes_read, written, rounds, micros, both("sent"), carried, both("lost"), both("duplicated"), both("came_delayed")]
+    counts = [bytes_read, written, rounds, micros, both("sent"), carried, both("lost"), both("duplicated"), both("delayed")]
     return end, (reads, writes), counts + [receiver.refused]
 
 
@@ -81,7 +78,11 @@ WAYS = {
     "FOUR_DELAYED_THEN_NONE": ([T] * 4, GONE),
     "DUPLICATED_THEN_NONE": ([R, L, L, L], GONE),
     "SECOND_THEN_NONE": ([L, D], GONE),
+    "EACH_DUPLICATED": ([], TWICE),
+    "EACH_DELAYED": ([], LATE),
+    "TWO_LOST_THEN_DELAYED": ([L, L], LATE),
     "EACH_SECOND": ([L, D] * 40, PERFECT),
+    "HALF_OF_64_THEN_NONE": ([L, D] * 32, GONE),
     "EACH_SECOND_THEN_NONE": ([L, D] * 40, GONE),
 }
 Row = collections.namedtuple("Row", "about forward reverse length first capacity payload max_burst rounds read write")
@@ -148,6 +149,17 @@ def rows():
     yield row("4,096 bytes a read, and the first frame is lost.",
               forward="FIRST_LOST", length=16_384, capacity=16_384, payload=1_000, read=(4_096, None))
     yield row("Two thousand rounds.", length=2000, capacity=1)
+    # The burst: halved, and not below 32, after a round with 32 SACK blocks; 32 more after any other.
+    yield row("64 frames, of which 32 arrive, and then 32 a round, all of which are lost.",
+              forward="HALF_OF_64_THEN_NONE", max_burst=64, rounds=3, **eighty)
+    yield row("64 of 128, and then 32 more a round.", forward="SOME", length=600, capacity=4096, payload=1, max_burst=128)
+    # Near the bounds of the laws (src/bounds.rt).
+    yield row("Each round but the first sends 3 frames and acknowledgements for each frame of the burst, and one more.",
+              forward="EACH_DUPLICATED", reverse="NONE", length=10, payload=1, max_burst=4, rounds=4)
+    yield row("The last of three rounds without progress loses nothing.", forward="TWO_LOST_THEN_DELAYED", rounds=3, payload=6)
+    yield row("After the second round 9 acknowledgements of a burst of 4 are delayed.",
+              forward="EACH_DUPLICATED", reverse="EACH_DELAYED", length=10, payload=1, max_burst=4, rounds=4)
+    yield row("One round a byte, and one for each frame that is lost.", forward="NINE_LOST", length=10, capacity=1)
     # Reads and writes that fail: none is tried again.
     six = dict(capacity=4096, payload=1)
     for call in (0, 1, 2):
@@ -178,15 +190,15 @@ def case(row):
     return about + (line if len(line) <= 100 else "    Case(\n" + "".join(f"        {it},\n" for it in parts) + "    ),")
 
 
-def main():
+def text():
+    """The text of the file of rows."""
     cases = [case(row) for row in rows()]
-    print("//! The rows that compare/copy_model.py writes.\n")
-    ways = ",\n    ".join(sorted(WAYS))
-    print("use crate::counted::ways::{\n    " + ways + ",\n};")
-    print("use crate::counted::{Case, TO_THE_END};\nuse net_testing::NEVER;\n")
-    print(f"/// Copies, and the counts of each.\npub static CASES: [Case; {len(cases)}] = [")
-    print("\n".join(cases) + "\n];")
-
-
-if __name__ == "__main__":
-    sys.exit(main())
+    ways = textwrap.fill(", ".join(sorted(WAYS)) + ",", 100, initial_indent="    ", subsequent_indent="    ")
+    return (
+        "//! The rows that models/copies.py gives.\n\n"
+        f"use crate::counted::ways::{{\n{ways}\n}};\n"
+        "use crate::counted::{Case, TO_THE_END};\nuse net_testing::NEVER;\n\n"
+        f"/// Copies, and the counts of each.\npub static CASES: [Case; {len(cases)}] = [\n"
+        + "\n".join(cases)
+        + "\n];\n"
+    )

@@ -13,7 +13,7 @@ CELL_AT = Test("cells: reset finds the read index at the storage's beginning")
 STORAGE = Size("storage: length", 12)
 FROM_TO = Order("storage: part, from and to")
 TO_END = Order("storage: part, to and length")
-ITEM = Order("storage: element_mut, index and length", ("below", "equal", "above"))
+ITEM = {name: Order(f"storage: {name}, index and length") for name in ("element", "element_mut")}
 SEED = Size("generator: seed", 64, by=4)
 SHIFT = Size("generator: top three bits of a state", 3)
 DRAWN = Order("generator: draw and last reserved port")
@@ -99,9 +99,15 @@ class Storage:
     def part_mut(self, start, end, seed):
         return self.lend(start, end, seed) if self.allows(start, end) else "forbidden"
 
+    def has(self, name, at):
+        ITEM[name].least(at, len(self.data))
+        return at < len(self.data)
+
+    def element(self, at):
+        return show_bytes([self.data[at]]) if self.has("element", at) else "forbidden"
+
     def element_mut(self, at, byte):
-        ITEM.least(at, len(self.data))
-        if at >= len(self.data):
+        if not self.has("element_mut", at):
             return "forbidden"
         before, self.data[at] = self.data[at], byte & 0xff
         return show_bytes([before])
@@ -114,14 +120,20 @@ def draw_storage(random, cases, lines):
         storage = Storage(count, seed)
         cases.begin(f"storage {count} {seed}", storage.show())
         for _ in range(5 + random.below(12)):
-            name = random.of(["as_mut_slice", "part", "part", "part_mut", "part_mut", "element_mut"])
+            name = random.of(["as_mut_slice", "part", "part", "part_mut", "part_mut", "element", "element_mut"])
             start, end = (random.offset([count], 12) for _ in range(2))
             if not random.one_in(4):
                 start, end = sorted((start % (count + 1), end % (count + 1)))
             numbers = {"as_mut_slice": [random.below(1000)], "part": [start, end],
                        "part_mut": [start, end, random.below(1000)],
-                       "element_mut": [start, random.below(256)]}[name]
+                       "element": [start], "element_mut": [start, random.below(256)]}[name]
             cases.add(name, numbers, getattr(storage, name)(*numbers), storage.show())
+
+
+def word_after(state):
+    """The state after this one, and the random word that it gives."""
+    state = (state * 0xbb2efcec3c39611d + 0x7590ef39) & TOP
+    return state, (state >> (29 - (state >> 61))) & 0xffffffff
 
 
 class Generator:
@@ -129,8 +141,9 @@ class Generator:
         self.state = SEED(seed)
 
     def rand_u32(self):
-        self.state = (self.state * 0xbb2efcec3c39611d + 0x7590ef39) & TOP
-        return (self.state >> (29 - SHIFT(self.state >> 61))) & 0xffffffff
+        self.state, word = word_after(self.state)
+        SHIFT(self.state >> 61)
+        return word
 
     def rand_u16(self):
         word = self.rand_u32()
@@ -146,8 +159,7 @@ class Generator:
 
 def port_after(state):
     """The draw of the state after this one, asked of no question."""
-    state = (state * 0xbb2efcec3c39611d + 0x7590ef39) & TOP
-    word = (state >> (29 - (state >> 61))) & 0xffffffff
+    _, word = word_after(state)
     return (word ^ (word >> 16)) & 0xffff
 
 
