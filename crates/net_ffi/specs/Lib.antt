@@ -1,0 +1,3 @@
+pub mod PacketPlaces
+pub mod ReceiverParts
+pub mod Refusals

@@ -1,0 +1,43 @@
+//! Random words, drawn from a state that the caller keeps. Any state is allowed; the words are not
+//! fit for cryptography.
+ghost use Rattle.std.specs.Prelude.{◌≡◌};
+ghost use Rattle.net_base.specs.Generator.{successor, random_word, draw, IsPort};
+
+use net_base::rand::Rand;
+
+/// Steps `state` to the next one, and returns its random word, of 32 bits.
+#[unsafe(no_mangle)]
+pub extern "C" fn net_rand_u32(state: &mut u64) -> u32
+    ensures state { state.new ≡ successor state.old }
+    ensures value { result ≡ random_word state.new }
+{
+    let mut rand = Rand::new(*state);
+    let word = rand.rand_u32();
+    *state = rand.state();
+    word
+}
+
+/// Steps `state` to the next one, and returns its draw of 16 bits: the two halves of its random
+/// word, combined by exclusive or.
+#[unsafe(no_mangle)]
+pub extern "C" fn net_rand_u16(state: &mut u64) -> u16
+    ensures state { state.new ≡ successor state.old }
+    ensures value { result ≡ draw state.new }
+{
+    let mut rand = Rand::new(*state);
+    let drawn = rand.rand_u16();
+    *state = rand.state();
+    drawn
+}
+
+/// Draws 16 bits until a draw is above 1024, and returns it. It returns from every state, after at
+/// most 2^64 draws.
+#[unsafe(no_mangle)]
+pub extern "C" fn net_rand_source_port(state: &mut u64) -> u16
+    ensures { IsPort state.old result state.new }
+{
+    let mut rand = Rand::new(*state);
+    let port = rand.rand_source_port();
+    *state = rand.state();
+    port
+}

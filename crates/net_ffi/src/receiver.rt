@@ -1,0 +1,302 @@
+//! Receivers of one stream of bytes, over a storage and runs that the caller keeps.
+//!
+//! A head of zeros, but for `first`, is that of a receiver of a stream that begins there, of which
+//! nothing is read, queued or held. The queue is the ring of `place`; the held runs are those of
+//! the assembler `held`, counted from `next`, the first missing position.
+ghost use Rattle.std.specs.Prelude.{◌≡◌, ◌↔◌, ◌+◌, ◌-◌, ◌<◌, ◌≤◌, ◌^◌, ◌++◌, ℕ, List, min, length};
+ghost use Rattle.std.specs.Prelude.{take, drop, slice_get, unwrap_or, IsTrue, IsFalse, MatchResult};
+ghost use Rattle.net_ring.specs.Ring.{queue};
+ghost use Rattle.net_ring.specs.Place.{ring_at, IsSound as IsSoundPlace};
+ghost use Rattle.net_assembler.specs.Positions.{maximal_runs};
+ghost use Rattle.net_receiver.specs.KeptList.{piece};
+ghost use Rattle.net_receiver.specs.Rules.{verdict, state_after, segment_result};
+ghost use Rattle.net_receiver.specs.ReceiverState.{receiver_ops, receiver_after_read, domain};
+ghost use Rattle.net_receiver.specs.Head.{receiver_of, HasSoundParts, head_after_read};
+ghost use Rattle.net_receiver.specs.Head.{storage_after};
+ghost use Rattle.net_ffi.specs.ReceiverParts.{IsReadable, IsPlausible};
+
+use crate::assembler::{NET_DONE, NET_REFUSED, NET_TOO_MANY_RUNS};
+use crate::ring::NO_COUNT;
+use net_assembler::Run;
+use net_receiver::ReceiverHead;
+
+/// How many bytes of a segment were kept, and how many joined the queue.
+#[repr(C)]
+#[derive(Debug, Clone, Copy)]
+pub struct KeptCounts {
+    /// How many bytes were kept: those of the segment whose positions are in the free window.
+    pub kept: usize,
+    /// How many bytes joined the queue: by how many positions the first missing position moved up.
+    pub queued: usize,
+}
+
+/// A held run, by absolute positions: from `start` on, up to `end`, which is not included.
+#[repr(C)]
+#[derive(Debug, Clone, Copy)]
+pub struct HeldRun {
+    pub start: u64,
+    pub end: u64,
+}
+
+/// Returns whether the first missing position fits 64 bits.
+#[inline(always)]
+fn has_next(receiver: &ReceiverHead) -> bool
+    ensures { IsTrue result ↔ (receiver.now.first + receiver.now.count_read
+        + receiver.now.place.length < 2 ^ 64) }
+{
+    match receiver.first.checked_add(receiver.count_read) {
+        Some(read) => receiver.place.length as u64 <= u64::MAX - read,
+        None => false,
+    }
+}
+
+/// Returns whether the queue is in a storage of `capacity` bytes, and the first missing position
+/// fits 64 bits.
+#[inline(always)]
+fn is_readable(receiver: &ReceiverHead, capacity: usize) -> bool
+    ensures { IsTrue result ↔ IsReadable capacity receiver.now }
+{
+    receiver.place.is_sound(capacity) && has_next(receiver)
+}
+
+/// Returns whether that is so, and as many runs are in a slice of `run_count` as are used.
+#[inline(always)]
+fn is_plausible(receiver: &ReceiverHead, capacity: usize, run_count: usize) -> bool
+    ensures { IsTrue result ↔ IsPlausible capacity run_count receiver.now }
+{
+    is_readable(receiver, capacity) && receiver.held.used <= run_count
+}
+
+/// Returns whether these are the head, the storage and the runs of a receiver. It looks at each
+/// run, and at no byte.
+#[unsafe(no_mangle)]
+pub extern "C" fn net_receiver_is_sound(
+    receiver: &ReceiverHead,
+    storage: &[u8],
+    runs: &[Run],
+) -> bool
+    ensures { IsTrue result ↔ HasSoundParts receiver.now storage.now runs.now }
+{
+    receiver.is_sound(storage, runs)
+}
+
+/// Keeps the bytes of a segment that are in the free window, and writes to `counts` how many. The
+/// segment's first byte is at `position`.
+///
+/// Returns `NET_DONE`, or `NET_TOO_MANY_RUNS` if the segment has bytes in the free window, the
+/// first missing position is not one of theirs, and with them there would be more runs than the
+/// slice has elements: then the receiver, its storage and `counts` are as they were.
+///
+/// Returns `NET_REFUSED`, and nothing changes, if the segment doesn't end within 64 bits, if
+/// `place` isn't that of a ring of `storage.len()` bytes, if `next` doesn't fit 64 bits, or if
+/// `held.used` is above `runs.len()`.
+///
+/// # Requires
+///
+/// Head, storage and runs are sound, as `net_receiver_is_sound` tests.
+#[unsafe(no_mangle)]
+pub extern "C" fn net_receiver_segment(
+    receiver: &mut ReceiverHead,
+    storage: &mut [u8],
+    runs: &mut [Run],
+    position: u64,
+    bytes: &[u8],
+    counts: &mut KeptCounts,
+) -> u32
+    requires sound { IsPlausible (length storage.old) (length runs.old) receiver.old →
+        HasSoundParts receiver.old storage.old runs.old }
+    ensures result { let v = receiver_of receiver.old storage.old runs.old in
+        IsPlausible (length storage.old) (length runs.old) receiver.old →
+        position + length bytes.now < 2 ^ 64 →
+        MatchResult
+        (segment_result receiver_ops v
+        (verdict receiver_ops (length runs.old) v (piece position bytes.now)))
+        (λ k. (result ≡ NET_DONE) × (counts.new.kept ≡ k.kept) × (counts.new.queued ≡ k.queued))
+        (λ _. (result ≡ NET_TOO_MANY_RUNS) × (counts.new ≡ counts.old)) }
+    ensures state { let v = receiver_of receiver.old storage.old runs.old in
+        IsPlausible (length storage.old) (length runs.old) receiver.old →
+        position + length bytes.now < 2 ^ 64 →
+        receiver_of receiver.new storage.new runs.new ≡ state_after receiver_ops v
+        (verdict receiver_ops (length runs.old) v (piece position bytes.now)) }
+    ensures stored { let v = receiver_of receiver.old storage.old runs.old in
+        IsPlausible (length storage.old) (length runs.old) receiver.old →
+        position + length bytes.now < 2 ^ 64 →
+        storage.new ≡ storage_after receiver.old storage.old
+        (verdict receiver_ops (length runs.old) v (piece position bytes.now)) }
+    ensures sound { IsPlausible (length storage.old) (length runs.old) receiver.old →
+        HasSoundParts receiver.new storage.new runs.new }
+    ensures refused { (IsPlausible (length storage.old) (length runs.old) receiver.old
+        × (position + length bytes.now < 2 ^ 64) → ⊥) → (result ≡ NET_REFUSED)
+        × (receiver.new ≡ receiver.old) × (storage.new ≡ storage.old) × (runs.new ≡ runs.old)
+        × (counts.new ≡ counts.old) }
+{
+    if !is_plausible(receiver, storage.len(), runs.len()) {
+        return NET_REFUSED;
+    }
+    if bytes.len() as u64 > u64::MAX - position {
+        return NET_REFUSED;
+    }
+    match receiver.segment(storage, runs, position, bytes) {
+        Ok(accepted) => {
+            *counts = KeptCounts {
+                kept: accepted.kept,
+                queued: accepted.queued,
+            };
+            NET_DONE
+        }
+        Err(_) => NET_TOO_MANY_RUNS,
+    }
+}
+
+/// Moves bytes from the head of the queue to the beginning of `into`, and returns how many: as many
+/// as are queued and as `into` has room for. The rest of `into` stays as it is, and so do the runs.
+///
+/// If `place` isn't that of a ring of `storage.len()` bytes, or `next` doesn't fit 64 bits, it is
+/// refused: `usize::MAX`, and nothing changes.
+#[unsafe(no_mangle)]
+pub extern "C" fn net_receiver_read(
+    receiver: &mut ReceiverHead,
+    storage: &[u8],
+    into: &mut [u8],
+) -> usize
+    ensures count { IsReadable (length storage.now) receiver.old →
+        result ≡ min (length into.old) receiver.old.place.length }
+    ensures into { let queued = queue (ring_at storage.now receiver.old.place) in
+        IsReadable (length storage.now) receiver.old →
+        into.new ≡ take (length into.old) queued ++ drop (length queued) into.old }
+    ensures head { IsReadable (length storage.now) receiver.old →
+        receiver.new ≡ head_after_read (length storage.now) result receiver.old }
+    ensures state { (runs : List (ℕ × ℕ)) → HasSoundParts receiver.old storage.now runs →
+        HasSoundParts receiver.new storage.now runs × (receiver_of receiver.new storage.now runs
+        ≡ receiver_after_read (receiver_of receiver.old storage.now runs) (length into.old)) }
+    ensures refused { (IsReadable (length storage.now) receiver.old → ⊥) →
+        (result ≡ 2 ^ 64 - 1) × (receiver.new ≡ receiver.old) × (into.new ≡ into.old) }
+{
+    if !is_readable(receiver, storage.len()) {
+        return NO_COUNT;
+    }
+    receiver.read(storage, into)
+}
+
+/// Copies bytes from the head of the queue as `net_receiver_read` does, and leaves the queue as it
+/// is.
+///
+/// If `place` isn't that of a ring of `storage.len()` bytes, it is refused: `usize::MAX`, and
+/// nothing changes.
+#[unsafe(no_mangle)]
+pub extern "C" fn net_receiver_peek_slice(
+    receiver: &ReceiverHead,
+    storage: &[u8],
+    into: &mut [u8],
+) -> usize
+    ensures count { IsSoundPlace (length storage.now) receiver.now.place →
+        result ≡ min (length into.old) receiver.now.place.length }
+    ensures into { let queued = queue (ring_at storage.now receiver.now.place) in
+        IsSoundPlace (length storage.now) receiver.now.place →
+        into.new ≡ take (length into.old) queued ++ drop (length queued) into.old }
+    ensures refused { (IsSoundPlace (length storage.now) receiver.now.place → ⊥) →
+        (result ≡ 2 ^ 64 - 1) × (into.new ≡ into.old) }
+{
+    if !receiver.place.is_sound(storage.len()) {
+        return NO_COUNT;
+    }
+    receiver.peek_slice(storage, into)
+}
+
+/// Returns whether `count` bytes are queued, and if so removes them from the head of the queue, as
+/// `net_receiver_read` does, but copies none; `net_ring_queued` of `place` tells where they are.
+///
+/// If `place` isn't that of a ring of `capacity` bytes, or `next` doesn't fit 64 bits, it is
+/// refused: false, and nothing changes.
+#[unsafe(no_mangle)]
+pub extern "C" fn net_receiver_remove(
+    receiver: &mut ReceiverHead,
+    capacity: usize,
+    count: usize,
+) -> bool
+    ensures done { IsTrue result ↔
+        (IsReadable capacity receiver.old × (count ≤ receiver.old.place.length)) }
+    ensures head { IsTrue result → receiver.new ≡ head_after_read capacity count receiver.old }
+    ensures state { (storage : List ℕ) (runs : List (ℕ × ℕ)) → length storage ≡ capacity →
+        HasSoundParts receiver.old storage runs → IsTrue result →
+        HasSoundParts receiver.new storage runs × (receiver_of receiver.new storage runs
+        ≡ receiver_after_read (receiver_of receiver.old storage runs) count) }
+    ensures unchanged { IsFalse result → receiver.new ≡ receiver.old }
+{
+    if !is_readable(receiver, capacity) || count > receiver.place.length {
+        return false;
+    }
+    receiver.remove(capacity, count);
+    true
+}
+
+/// Returns whether the first missing position fits 64 bits, and if so writes it to `next`: the
+/// first position, plus the bytes read, plus those queued.
+#[unsafe(no_mangle)]
+pub extern "C" fn net_receiver_next(receiver: &ReceiverHead, next: &mut u64) -> bool
+    ensures fits { IsTrue result ↔ (receiver.now.first + receiver.now.count_read
+        + receiver.now.place.length < 2 ^ 64) }
+    ensures next { IsTrue result → next.new
+        ≡ receiver.now.first + receiver.now.count_read + receiver.now.place.length }
+    ensures unchanged { IsFalse result → next.new ≡ next.old }
+{
+    if !has_next(receiver) {
+        return false;
+    }
+    *next = receiver.next();
+    true
+}
+
+/// Returns the window, where the storage has `capacity` bytes: how many bytes have room after the
+/// queue, held ones among them.
+///
+/// If more is queued than that, it is refused, and so is a capacity of `usize::MAX`, which no
+/// storage has: `usize::MAX`.
+#[unsafe(no_mangle)]
+pub extern "C" fn net_receiver_window(receiver: &ReceiverHead, capacity: usize) -> usize
+    ensures window { capacity < 2 ^ 64 - 1 → receiver.now.place.length ≤ capacity →
+        result ≡ capacity - receiver.now.place.length }
+    ensures refused { ((capacity < 2 ^ 64 - 1) × (receiver.now.place.length ≤ capacity) → ⊥) →
+        result ≡ 2 ^ 64 - 1 }
+{
+    if capacity == usize::MAX || receiver.place.length > capacity {
+        return NO_COUNT;
+    }
+    receiver.window(capacity)
+}
+
+/// Returns the held run with number `index`, counted from 0 in rising order. If there are no more
+/// than `index`, start and end are 0.
+///
+/// If `place` isn't that of a ring of `storage.len()` bytes, `next` doesn't fit 64 bits, or
+/// `held.used` is above `runs.len()`, it is refused: start and end are `u64::MAX`.
+///
+/// # Requires
+///
+/// Head, storage and runs are sound, as `net_receiver_is_sound` tests.
+#[unsafe(no_mangle)]
+pub extern "C" fn net_receiver_run_at(
+    receiver: &ReceiverHead,
+    storage: &[u8],
+    runs: &[Run],
+    index: usize,
+) -> HeldRun
+    requires sound { IsPlausible (length storage.now) (length runs.now) receiver.now →
+        HasSoundParts receiver.now storage.now runs.now }
+    ensures run { IsPlausible (length storage.now) (length runs.now) receiver.now →
+        (result.start, result.end) ≡ unwrap_or (slice_get
+        (maximal_runs (domain (receiver_of receiver.now storage.now runs.now).held)) index) (0, 0) }
+    ensures refused { (IsPlausible (length storage.now) (length runs.now) receiver.now → ⊥) →
+        (result.start ≡ 2 ^ 64 - 1) × (result.end ≡ 2 ^ 64 - 1) }
+{
+    if !is_plausible(receiver, storage.len(), runs.len()) {
+        return HeldRun {
+            start: u64::MAX,
+            end: u64::MAX,
+        };
+    }
+    match receiver.held(storage, runs).nth(index) {
+        Some((start, end)) => HeldRun { start, end },
+        None => HeldRun { start: 0, end: 0 },
+    }
+}
