@@ -1,0 +1,178 @@
+/* A program with no C library and no heap: its own _start, and the four functions that the archive
+ * may want. It runs on a stack of 4 KB, exits with the number of the first step that fails, or 0,
+ * and prints how much stack it took.
+ */
+#include "net_base.h"
+
+enum { STACK_SIZE = 4096, PAINT = 0xa5, WRITE = 1, EXIT = 60 };
+
+/* Keeps a compiler from making a loop a call of the function that it is in. */
+#define STAYS_A_LOOP() __asm__ volatile("")
+
+void *memcpy(void *restrict to, const void *restrict from, size_t size) {
+    unsigned char *target = to;
+    const unsigned char *source = from;
+    for (size_t i = 0; i < size; i++) {
+        target[i] = source[i];
+        STAYS_A_LOOP();
+    }
+    return to;
+}
+
+void *memmove(void *to, const void *from, size_t size) {
+    unsigned char *target = to;
+    const unsigned char *source = from;
+    if (target <= source) return memcpy(to, from, size);
+    while (size-- > 0) {
+        target[size] = source[size];
+        STAYS_A_LOOP();
+    }
+    return to;
+}
+
+void *memset(void *to, int byte, size_t size) {
+    unsigned char *target = to;
+    for (size_t i = 0; i < size; i++) {
+        target[i] = (unsigned char)byte;
+        STAYS_A_LOOP();
+    }
+    return to;
+}
+
+int memcmp(const void *one, const void *other, size_t size) {
+    const unsigned char *left = one, *right = other;
+    for (size_t i = 0; i < size; i++) {
+        if (left[i] != right[i]) return left[i] < right[i] ? -1 : 1;
+        STAYS_A_LOOP();
+    }
+    return 0;
+}
+
+static bool are_equal(const uint8_t *bytes, const char *text, size_t size) {
+    return memcmp(bytes, text, size) == 0;
+}
+
+/* Bytes go through a ring of eight, which wraps. */
+static int run_ring(void) {
+    static uint8_t storage[8];
+    uint8_t into[8];
+    struct net_place ring = {0, 0};
+    if (net_ring_enqueue_slice(&ring, storage, 8, (const uint8_t *)"abcdef", 6) != 6) return 1;
+    if (net_ring_dequeue_slice(&ring, storage, 8, into, 4) != 4) return 2;
+    if (net_ring_enqueue_slice(&ring, storage, 8, (const uint8_t *)"ghijkl", 6) != 6) return 3;
+    if (net_ring_dequeue_slice(&ring, storage, 8, into, 8) != 8) return 4;
+    if (!are_equal(into, "efghijkl", 8)) return 5;
+    struct net_place nonsense = {3, 9};
+    if (net_ring_enqueue_slice(&nonsense, storage, 8, into, 1) != SIZE_MAX) return 6;
+    return 0;
+}
+
+/* A range that arrives early, and then those before it. */
+static int run_assembler(void) {
+    static struct net_run runs[4];
+    struct net_assembler assembler = {0, 0};
+    size_t front = 0;
+    if (net_assembler_add(&assembler, runs, 4, 3, 2) != NET_DONE) return 1;
+    if (net_assembler_add_then_remove_front(&assembler, runs, 4, 0, 3, &front) != NET_DONE)
+        return 2;
+    if (front != 5 || assembler.used != 0) return 3;
+    for (size_t i = 1; i <= 4; i++) {
+        if (net_assembler_add(&assembler, runs, 4, 10 * i, 3) != NET_DONE) return 4;
+    }
+    if (net_assembler_add(&assembler, runs, 4, 50, 3) != NET_TOO_MANY_RUNS) return 5;
+    return 0;
+}
+
+/* Segments of a stream arrive in any order, and its bytes are read in order. */
+static int run_receiver(void) {
+    static uint8_t storage[8];
+    static struct net_run runs[4];
+    struct net_receiver receiver = {.first = 100};
+    struct net_kept_counts counts;
+    uint8_t into[8];
+    const uint8_t *bytes = (const uint8_t *)"abcdefgh";
+    if (net_receiver_segment(&receiver, storage, 8, runs, 4, 103, bytes + 3, 5, &counts)
+        != NET_DONE)
+        return 1;
+    if (net_receiver_segment(&receiver, storage, 8, runs, 4, 100, bytes, 4, &counts) != NET_DONE)
+        return 2;
+    if (counts.kept != 4 || counts.queued != 8) return 3;
+    if (net_receiver_read(&receiver, storage, 8, into, 8) != 8) return 4;
+    if (!are_equal(into, "abcdefgh", 8)) return 5;
+    return 0;
+}
+
+/* Moments, and source ports. */
+static int run_numbers(void) {
+    int64_t later = 0;
+    if (!net_instant_add(1000000, 250000, &later) || later != 1250000) return 1;
+    if (net_instant_add(INT64_MAX, 1, &later) || later != 1250000) return 2;
+    uint64_t state = 0;
+    if (net_rand_source_port(&state) != 1358) return 3;
+    return 0;
+}
+
+/* The steps, each of which returns the number of what failed, or 0. */
+static int run(void) {
+    int (*const steps[])(void) = {run_ring, run_assembler, run_receiver, run_numbers};
+    for (int i = 0; i < (int)(sizeof steps / sizeof steps[0]); i++) {
+        int failed = steps[i]();
+        if (failed != 0) return 32 * i + failed;
+    }
+    return 0;
+}
+
+static long call_system(long number, long one, const void *two, size_t three) {
+    long result;
+    __asm__ volatile("syscall"
+                     : "=a"(result)
+                     : "a"(number), "D"(one), "S"(two), "d"(three)
+                     : "rcx", "r11", "memory");
+    return result;
+}
+
+__attribute__((used, aligned(16))) static unsigned char stack[STACK_SIZE];
+
+/* Paints the stack below what is in use. */
+static void paint_stack(void) {
+    unsigned char *in_use = (unsigned char *)__builtin_frame_address(0) - 256;
+    for (unsigned char *at = stack; at < in_use; at++) *at = PAINT;
+}
+
+static size_t stack_used(void) {
+    size_t unused = 0;
+    while (stack[unused] == PAINT) unused++;
+    return STACK_SIZE - unused;
+}
+
+static void print(const char *text, size_t size) {
+    call_system(WRITE, 1, text, size);
+}
+
+static void print_number(size_t number) {
+    char digits[20];
+    size_t at = sizeof digits;
+    do digits[--at] = (char)('0' + number % 10);
+    while (number /= 10);
+    print(digits + at, sizeof digits - at);
+}
+
+__attribute__((noreturn, used)) static void start(void) {
+    paint_stack();
+    int failed = run();
+    size_t used = stack_used();
+    print("bare: ", 6);
+    print_number((size_t)failed);
+    print(" failed, ", 9);
+    print_number(used);
+    print(" bytes of stack\n", 16);
+    call_system(EXIT, failed, NULL, 0);
+    __builtin_unreachable();
+}
+
+__asm__(".globl _start\n"
+        "_start:\n"
+        "    xor %ebp, %ebp\n"
+        "    lea stack+4096(%rip), %rsp\n"
+        "    call start\n"
+        "    hlt\n");

@@ -1,0 +1,390 @@
+#!/usr/bin/env python3
+"""Writes the declarations of the library for C and Rust from the exports of crates/net_ffi.
+
+    python3 tools/ffi.py            writes c/net_base.h and rust/src/sys/declarations.rs
+    python3 tools/ffi.py --check    compares the files with what it would write; status 1 if one is stale
+    python3 tools/ffi.py --names    prints the names of the exports
+
+It reads, in the order of the modules in lib.rt,
+- each `#[unsafe(no_mangle)] pub extern "C" fn`, with its doc comment;
+- each `pub const NET_..` of an integer type;
+- each `#[repr(C)]` struct that one of these takes or returns, of this crate or of one that it uses.
+
+A slice is a pointer and then a length, with `_length` after the slice's name; `&T` and `&mut T` are pointers. In
+C a struct's name is in snake case, without `Net` before and `Head` after it, and has the prefix `net_`. The doc
+comment of a module heads its section; of a struct of another crate only its first paragraph is taken. Of
+c/net_base.h only the part between two lines is written.
+"""
+import argparse
+import dataclasses
+import pathlib
+import re
+import sys
+import textwrap
+
+ROOT = pathlib.Path(__file__).resolve().parent.parent
+HEADER = ROOT / "c/net_base.h"
+DECLARATIONS = ROOT / "rust/src/sys/declarations.rs"
+BEGIN = "/* Written by tools/ffi.py, up to the line END. */"
+END = "/* END */"
+WIDTH = 100
+C_TYPES = {"usize": "size_t", "isize": "ptrdiff_t", "bool": "bool"}
+C_TYPES |= {f"{sign}{bits}": f"{'u' * (sign == 'u')}int{bits}_t" for sign in "iu" for bits in (8, 16, 32, 64)}
+C_LIMITS = {"usize": "SIZE", "isize": "PTRDIFF"}
+C_LIMITS |= {f"{sign}{bits}": f"{'U' * (sign == 'u')}INT{bits}" for sign in "iu" for bits in (8, 16, 32, 64)}
+
+
+@dataclasses.dataclass
+class Item:
+    """A struct (fields as members), a constant (its value as text) or an export (parameters as members)."""
+
+    kind: str
+    name: str
+    doc: list
+    members: list = dataclasses.field(default_factory=list)
+    type: str = ""
+    text: str = ""
+
+
+@dataclasses.dataclass
+class Member:
+    name: str
+    type: str
+    doc: list
+
+
+def split_top(text):
+    """The parts of a text between commas that are in no bracket."""
+    parts, depth, begin = [], 0, 0
+    for at, char in enumerate(text):
+        depth += (char in "([{<") - (char in ")]}>" and text[at - 1] != "-")
+        if char == "," and depth == 0:
+            parts.append(text[begin:at])
+            begin = at + 1
+    return [part for part in parts + [text[begin:]] if part.strip()]
+
+
+def doc_of(text):
+    """The lines of the doc comment in a text."""
+    return [line[1:] if line.startswith(" ") else line for line in re.findall(r"^\s*///(.*)$", text, flags=re.M)]
+
+
+def members_of(text):
+    """Fields or parameters: a name, a type, a doc comment each."""
+    docs, found = [], []
+
+    def kept(match):
+        docs.append(match[0])
+        return f"\0{len(docs) - 1}\0"
+
+    code = re.sub(r"^\s*//(?!/).*$|#\[[^\]]*\]", "", text, flags=re.M)
+    for part in split_top(re.sub(r"(?:^\s*///.*\n)+", kept, code, flags=re.M)):
+        doc, member = re.fullmatch(r"\s*(?:\0(\d+)\0)?(.*)", part, flags=re.S).groups()
+        name, kind = re.fullmatch(r"(?:pub )?(?:mut )?(\w+)\s*:\s*(.+)", member.strip(), flags=re.S).groups()
+        found.append(Member(name, plain_type(kind), doc_of(docs[int(doc)]) if doc else []))
+    return found
+
+
+def plain_type(text):
+    """A type without lifetimes and paths, on one line."""
+    text = re.sub(r"<\s*'\w+\s*>|'\w+\s*", "", " ".join(text.split()))
+    return re.sub(r"\b(?:\w+::)+", "", text)
+
+
+def closing(text, at):
+    """The index of the bracket that belongs to the one at an index."""
+    depth = 0
+    for index in range(at, len(text)):
+        depth += (text[index] in "([{") - (text[index] in ")]}")
+        if depth == 0:
+            return index
+    raise ValueError(f"no end: {text[at:at + 40]}")
+
+
+ITEM = re.compile(
+    r"(?P<head>(?:^[ \t]*(?:///.*|#\[.*\])\n)*)"
+    r'^pub (?:(?P<struct>struct)|(?P<const>const)|(?:unsafe )?extern "C" (?P<fn>fn)) (?P<name>\w+)',
+    flags=re.M,
+)
+
+
+def items_of(path):
+    """The exports, constants and `#[repr(C)]` structs of a file, in their order."""
+    text = path.read_text()
+    for match in ITEM.finditer(text):
+        head, name, at = match["head"], match["name"], match.end()
+        if match["const"]:
+            kind, value = re.match(r"\s*:\s*(\w+)\s*=\s*(.*?);", text[at:], flags=re.S).groups()
+            if name.startswith("NET_"):
+                yield Item("const", name, doc_of(head), type=kind, text=value)
+        elif match["struct"] and "#[repr(C)]" in head:
+            opening = text.index("{", at)
+            yield Item("struct", name, doc_of(head), members_of(text[opening + 1 : closing(text, opening)]))
+        elif match["fn"] and "no_mangle" in head:
+            opening = text.index("(", at)
+            end = closing(text, opening)
+            result = re.match(r"\s*->\s*(.+?)\s*(?=\n|\{|requires|ensures)", text[end + 1 :])
+            members = members_of(text[opening + 1 : end])
+            yield Item("fn", name, doc_of(head), members, type=plain_type(result[1]) if result else "")
+
+
+def first_paragraph(lines):
+    return lines[: lines.index("")] if "" in lines else lines
+
+
+def module_doc(path):
+    """The lines of a file's own doc comment."""
+    lines = re.match(r"(?:^//!.*\n)*", path.read_text(), flags=re.M)[0].splitlines()
+    return [line[3:].strip() for line in lines]
+
+
+def modules_of(crate):
+    """The files of a crate, in the order of `mod` in its root."""
+    files = [crate / "src/lib.rt"]
+    for path in files:
+        folder = path.parent if path.name == "lib.rt" else path.with_suffix("")
+        for name in re.findall(r"^(?:pub )?mod (\w+);", path.read_text(), flags=re.M):
+            files.append(folder / f"{name}.rt")
+    return files
+
+
+def core_type(kind):
+    """The type that a reference, a slice or an array is of."""
+    return re.sub(r"^[&*](?:mut |const )?|^\[|(?:; \w+)?\]$", "", kind) if kind[:1] in "&*[" else kind
+
+
+def structs_of(name):
+    """What `core_type` leaves at the end, a struct's name or a number's."""
+    while core_type(name) != name:
+        name = core_type(name)
+    return name
+
+
+class Library:
+    """The sections of the declarations: each a text and its items."""
+
+    def __init__(self, crate):
+        self.structs = self.all_structs(crate)
+        self.sections, self.done = [], set()
+        for path in modules_of(crate):
+            section = []
+            for item in items_of(path):
+                if item.kind == "fn":
+                    self.need(section, [member.type for member in item.members] + [item.type])
+                if item.kind != "struct":
+                    section.append(item)
+            if section:
+                section.sort(key=lambda item: ["struct", "const", "fn"].index(item.kind))
+                self.sections.append((module_doc(path), section))
+
+    def all_structs(self, crate):
+        """Each `#[repr(C)]` struct of the crates, by name; the export crate's own take precedence."""
+        found = {}
+        for path in sorted(crate.parent.glob("*/src/**/*.rt")) + sorted(crate.glob("src/**/*.rt")):
+            if "#[repr(C)]" not in path.read_text():
+                continue
+            for item in items_of(path):
+                if item.kind == "struct":
+                    found[item.name] = item
+                    if not path.is_relative_to(crate):
+                        item.doc = first_paragraph(item.doc)
+        return found
+
+    def need(self, section, kinds):
+        """Adds the structs of these types that no section has yet, inner ones first."""
+        for name in map(structs_of, kinds):
+            if name and name not in C_TYPES and name not in self.done:
+                if name not in self.structs:
+                    sys.exit(f"ffi: no #[repr(C)] struct {name}")
+                self.done.add(name)
+                self.need(section, [field.type for field in self.structs[name].members])
+                section.append(self.structs[name])
+
+    def exports(self):
+        return [item for _, section in self.sections for item in section if item.kind == "fn"]
+
+
+def c_struct(name):
+    words = re.sub(r"(?<=[a-z0-9])(?=[A-Z])", "_", re.sub(r"^Net|Head$", "", name)).lower()
+    return f"struct net_{words}"
+
+
+def c_type(kind):
+    return C_TYPES.get(kind) or c_struct(kind)
+
+
+def c_members(member):
+    """How C declares a field or a parameter: two of them for a slice."""
+    kind, name = member.type, member.name
+    if slice_of := re.fullmatch(r"&(mut )?\[([^;]+)\]", kind):
+        const = "" if slice_of[1] else "const "
+        return [f"{const}{c_type(slice_of[2])} *{name}", f"size_t {name}_length"]
+    if pointer := re.fullmatch(r"[&*](mut |const )?(.+)", kind):
+        const = "" if pointer[1] == "mut " else "const "
+        return [f"{const}{c_type(pointer[2])} *{name}"]
+    if array := re.fullmatch(r"\[(.+); (\w+)\]", kind):
+        return [f"{c_type(array[1])} {name}[{array[2]}]"]
+    return [f"{c_type(kind)} {name}"]
+
+
+def plain_text(lines):
+    """A doc comment without links."""
+    return re.sub(r"\[(`[^`]*`)\](?:\([^)]*\))?", r"\1", "\n".join(lines))
+
+
+def c_text(lines, structs):
+    """A doc comment with the words of C."""
+    text = c_limits(plain_text(lines))
+    text = re.sub(r"^# (\w+)\n\n(.)", lambda it: f"{it[1]}: {it[2].lower()}", text, flags=re.M)
+    text = re.sub(r"\b(\w+)\.len\(\)", r"\1_length", text)
+    return re.sub(r"`(\w+)`", lambda it: f"`{c_struct(it[1])}`" if it[1] in structs else it[0], text)
+
+
+def wrapped_text(text, width):
+    """The lines of a text in paragraphs and lists, wrapped."""
+    rows = []
+    for paragraph in re.split(r"\n\n", text):
+        rows += [""] * bool(rows)
+        for part in re.split(r"\n(?=- )", paragraph):
+            later = "  " * part.startswith("- ")
+            rows += textwrap.wrap(
+                " ".join(part.split()), width, subsequent_indent=later, break_long_words=False, break_on_hyphens=False
+            )
+    return rows
+
+
+def c_comment(lines, structs, indent=""):
+    """A comment, wrapped; none if there is no text."""
+    if not lines:
+        return []
+    wrapped = wrapped_text(c_text(lines, structs), WIDTH - len(indent) - 3)
+    if len(wrapped) == 1 and len(indent) + len(wrapped[0]) + 6 <= WIDTH:
+        return [f"{indent}/* {wrapped[0]} */"]
+    body = [f"{indent} * {line}".rstrip() for line in wrapped]
+    return [f"{indent}/* {wrapped[0]}"] + body[1:] + [f"{indent} */"]
+
+
+def filled(head, parts, tail):
+    """A declaration on one line, or with its parts on lines of their own as far as they fit."""
+    line = head + ", ".join(parts) + tail
+    if len(line) <= WIDTH:
+        return [line]
+    kept = ", ".join(part.replace(" ", "\0") for part in parts) + tail
+    return [head] + [f"    {row}".replace("\0", " ") for row in textwrap.wrap(kept, WIDTH - 4)]
+
+
+def c_item(item, structs):
+    """The lines that declare an item in C."""
+    lines = c_comment(item.doc, structs)
+    if item.kind == "const":
+        return lines + [f"#define {item.name} (({c_type(item.type)})({c_value(item.text)}))"]
+    if item.kind == "struct":
+        lines.append(f"{c_struct(item.name)} {{")
+        for field in item.members:
+            lines += c_comment(field.doc, structs, "    ")
+            lines += [f"    {part};" for part in c_members(field)]
+        return lines + ["};"]
+    parameters = [part for member in item.members for part in c_members(member)]
+    result = c_type(item.type) if item.type else "void"
+    return lines + filled(f"{result} {item.name}(", parameters or ["void"], ");")
+
+
+def c_limits(text):
+    """A text with C's names of the greatest and least numbers of a type."""
+    return re.sub(r"\b([iu](?:\d+|size))::(MAX|MIN)\b", lambda it: f"{C_LIMITS[it[1]]}_{it[2]}", text)
+
+
+def c_value(text):
+    return c_limits(text) if "::" in text else text.replace("_", "")
+
+
+def c_part(library):
+    """The declarations for C."""
+    lines = [BEGIN]
+    for doc, section in library.sections:
+        lines += [""] + c_comment(doc, library.structs)
+        for item in section:
+            lines += [""] + c_item(item, library.structs)
+    return "\n".join(lines + ["", END]) + "\n"
+
+
+def rust_comment(lines, indent=""):
+    rows = wrapped_text(plain_text(lines), WIDTH - len(indent) - 4)
+    return [f"{indent}/// {line}".rstrip() for line in rows]
+
+
+def rust_members(member):
+    """How Rust declares a parameter: two of them for a slice."""
+    if slice_of := re.fullmatch(r"&(mut )?\[([^;]+)\]", member.type):
+        kind = "mut" if slice_of[1] else "const"
+        return [f"{member.name}: *{kind} {slice_of[2]}", f"{member.name}_length: usize"]
+    return [f"{member.name}: {member.type}"]
+
+
+def rust_filled(head, parts, tail, indent):
+    """A declaration as rustfmt lays it out."""
+    line = indent + head + ", ".join(parts) + tail
+    if len(line) <= WIDTH:
+        return [line]
+    return [indent + head] + [f"{indent}    {part}," for part in parts] + [indent + tail]
+
+
+def rust_item(item):
+    """The lines that declare a struct or a constant in Rust."""
+    lines = rust_comment(item.doc)
+    if item.kind == "const":
+        return lines + [f"pub const {item.name}: {item.type} = {item.text};"]
+    lines += ["#[repr(C)]", "#[derive(Debug, Clone, Copy, PartialEq, Eq)]", f"pub struct {item.name} {{"]
+    for field in item.members:
+        lines += rust_comment(field.doc, "    ") + [f"    pub {field.name}: {field.type},"]
+    return lines + ["}"]
+
+
+def rust_file(library):
+    """The file of declarations for Rust."""
+    lines = ["//! Structs, constants and exports of the archive.", "//!", "//! Written by `python3 tools/ffi.py`.", ""]
+    for _, section in library.sections:
+        for item in section:
+            if item.kind != "fn":
+                lines += rust_item(item) + [""]
+    lines += ['extern "C" {']
+    for item in library.exports():
+        lines += [""] * (lines[-1] != 'extern "C" {') + rust_comment(item.doc, "    ")
+        parameters = [part for member in item.members for part in rust_members(member)]
+        result = f" -> {item.type}" if item.type else ""
+        lines += rust_filled(f"pub fn {item.name}(", parameters, f"){result};", "    ")
+    return "\n".join(lines + ["}"]) + "\n"
+
+
+def header(library, path):
+    """The header with its declarations written anew."""
+    text = path.read_text()
+    before, rest = text.split(BEGIN + "\n", 1)
+    return before + c_part(library) + rest.split(END + "\n", 1)[1]
+
+
+def main():
+    parser = argparse.ArgumentParser(description=__doc__.split("\n")[0])
+    parser.add_argument("--check", action="store_true", help="compare, write nothing")
+    parser.add_argument("--names", action="store_true", help="print the names of the exports")
+    parser.add_argument("--exports", type=pathlib.Path, default=ROOT / "crates/net_ffi", help="the crate of exports")
+    parser.add_argument("--header", type=pathlib.Path, default=HEADER)
+    parser.add_argument("--rust", type=pathlib.Path, default=DECLARATIONS)
+    options = parser.parse_args()
+    library = Library(options.exports)
+    if options.names:
+        print("\n".join(item.name for item in library.exports()))
+        return
+    stale = False
+    for path, text in [(options.header, header(library, options.header)), (options.rust, rust_file(library))]:
+        if not options.check:
+            path.parent.mkdir(parents=True, exist_ok=True)
+            path.write_text(text)
+        elif not path.exists() or path.read_text() != text:
+            print(f"{path.relative_to(ROOT) if path.is_relative_to(ROOT) else path}: stale, run python3 tools/ffi.py")
+            stale = True
+    sys.exit(stale)
+
+
+if __name__ == "__main__":
+    main()
