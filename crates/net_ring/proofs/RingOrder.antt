@@ -161,6 +161,7 @@ module _ {T : Type 0} where
       record { ok = ok; turn = sym (ap (take (length log.accepted - 1)) all ∙ take_at rest (x ∷ []) (length log.accepted - 1) long) }
 
   step : (call : RingCall T) (log : Log T) (g h : RingState T) → InTurn log g → Makes call g h → InTurn (log_after call log) h
+  unfolding Makes
   step Clear log g h before does = none_after log g _ h before does (inl refl, omega arith) refl
   step (Reset storage) log g h before does = none_after log g _ h before does.1 (inl refl, omega arith) refl
   step RewindIfEmpty log g h before does = let m = moved g before.ok in same_as log g _ h before does m.0 m.1

@@ -56,8 +56,8 @@ pub data RingCall (T : Type 0) : Type 0 where
   GetAllocatedMut : ℕ → List T → RingCall T
 
 module _ {T : Type 0} where
-  -- the call makes h of g, as its contract says
-  abbrev pub Makes : RingCall T → RingState T → RingState T → Type 0
+  -- the call makes h of g: clause `call` of its contract. No `abbrev`, so that a caller's proof keeps the name
+  unfoldable pub Makes : RingCall T → RingState T → RingState T → Type 0
   Makes Clear g h = h ≡ ring g.storage 0 0
   Makes (Reset storage) g h = (length storage ≡ capacity g) × (h ≡ ring storage 0 0)
   Makes RewindIfEmpty g h = h ≡ from_start_if_empty g

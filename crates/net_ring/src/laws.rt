@@ -41,14 +41,10 @@ pub fn element_set<T>()
         k ≢ i → slice_get ys k ≡ slice_get xs k }
 {}
 
-/// States that two refusals of an enqueue are equal, and a clone of one is never refused.
-pub fn full(x: &Full, y: &Full)
-    ensures equal { IsTrue (⟦<Full as PartialEq>⟧.eq x.now y.now) }
-    ensures never_refused { ⟦<Full as Clone>⟧.is_infallible x.now }
-{}
-
-/// States that two refusals of a dequeue are equal, and a clone of one is never refused.
-pub fn empty(x: &Empty, y: &Empty)
-    ensures equal { IsTrue (⟦<Empty as PartialEq>⟧.eq x.now y.now) }
-    ensures never_refused { ⟦<Empty as Clone>⟧.is_infallible x.now }
+/// States that refusals of one kind are equal, and that a clone of one is never refused.
+pub fn refusals(full: &Full, other_full: &Full, empty: &Empty, other_empty: &Empty)
+    ensures equal { IsTrue (⟦<Full as PartialEq>⟧.eq full.now other_full.now)
+        × IsTrue (⟦<Empty as PartialEq>⟧.eq empty.now other_empty.now) }
+    ensures never_refused { ⟦<Full as Clone>⟧.is_infallible full.now
+        × ⟦<Empty as Clone>⟧.is_infallible empty.now }
 {}

@@ -268,9 +268,8 @@ impl<'a, T> ManagedSlice<'a, T> {
 
     /// Lends all elements.
     ///
-    /// A caller's proof does not learn what was written, here or by the calls of [`Storage`] on a
-    /// `ManagedSlice` itself. It does for a type parameter `S: Storage<T>`, even if `S` is a
-    /// `ManagedSlice`: a function that has to know what it wrote takes such a parameter.
+    /// A caller's proof learns what was written, here or by the calls of [`Storage`], only through a
+    /// type parameter `S: Storage<T>`: a function that has to know it takes such a parameter.
     pub fn as_mut_slice(&mut self) -> &mut [T]
         ensures* writes_back { sem 𝓛 (lends_elements T.row self.entry result) }
         ensures value { result.now ≡ elements self.old }

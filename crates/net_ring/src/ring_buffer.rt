@@ -5,6 +5,7 @@ ghost use Rattle.std.specs.List.{AllZip};
 ghost use Rattle.net_ring.specs.Ring.{ring, capacity, window, queue, spare};
 ghost use Rattle.net_ring.specs.Ring.{write_at, contiguous_window, from_start_if_empty};
 ghost use Rattle.net_ring.specs.Ring.{IsWellFormed};
+ghost use Rattle.net_ring.specs.RingHistory.{Makes, Clear, Reset, RewindIfEmpty};
 ghost use Rattle.net_ring.specs.Place.{place, IsSound, ring_at};
 
 use crate::managed::{ManagedSlice, Storage};
@@ -177,9 +178,11 @@ impl<T, S: Storage<T>> RingOver<T, S> {
     }
 
     /// Empties the ring, and leaves the storage as it is.
+    #[tactic(auto, unfolding(crate::specs::RingHistory::Makes))]
     pub fn clear(&mut self)
         ensures ring { self.new ≡ ring self.old.storage 0 0 }
         ensures parts { (queue self.new ≡ []) × (spare self.new ≡ self.old.storage) }
+        ensures call { Makes Clear self.old self.new }
     {
         self.place.clear();
     }
@@ -254,8 +257,10 @@ impl<T, S: Storage<T>> RingOver<T, S> {
     /// An addition to smoltcp's calls, for callers that write free elements before these are
     /// enqueued.
     #[inline]
+    #[tactic(auto, unfolding(crate::specs::RingHistory::Makes))]
     pub fn rewind_if_empty(&mut self)
         ensures ring { self.new ≡ from_start_if_empty self.old }
+        ensures call { Makes RewindIfEmpty self.old self.new }
         ensures fits { capacity self.new < 2 ^ 64 }
     {
         // Called only for its clause, by which `fits` is known.
@@ -267,10 +272,12 @@ impl<T, S: Storage<T>> RingOver<T, S> {
 /// Emptying a ring and resetting its elements.
 impl<T: Resettable, S: Storage<T>> RingOver<T, S> {
     /// Empties the ring, and resets each element of the storage, which is left as its type states.
+    #[tactic(auto, unfolding(crate::specs::RingHistory::Makes))]
     pub fn reset(&mut self)
         ensures ring { self.new ≡ ring self.new.storage 0 0 }
         ensures parts { (queue self.new ≡ []) × (spare self.new ≡ self.new.storage) }
         ensures reset { AllZip T.IsReset self.old.storage self.new.storage }
+        ensures call { Makes (Reset self.new.storage) self.old self.new }
     {
         let count = self.capacity();
         self.clear();

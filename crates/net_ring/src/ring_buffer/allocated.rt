@@ -5,6 +5,7 @@ ghost use Rattle.std.specs.Borrow.{sem};
 ghost use Rattle.net_ring.specs.Ring.{ring, queue, queue_index, contiguous_queued_from, with_elements};
 ghost use Rattle.net_ring.specs.Ring.{contiguous_queued, contiguous_queue};
 ghost use Rattle.net_ring.specs.Ring.{window, with_dequeued, Dequeues, WritesQueue};
+ghost use Rattle.net_ring.specs.RingHistory.{Makes, Dequeue, GetAllocatedMut};
 
 use super::RingOver;
 use crate::managed::Storage;
@@ -13,8 +14,7 @@ use crate::managed::Storage;
 impl<T, S: Storage<T>> RingOver<T, S> {
     ghost use Rattle.net_ring.specs.RingLends.{lends_many};
 
-    /// Returns how many elements of the queue `get_allocated` shows and `get_allocated_mut` lends:
-    /// of at most `size` from the one at `offset` on, as many as are contiguous.
+    /// Returns the length of what `get_allocated` shows and `get_allocated_mut` lends.
     ///
     /// smoltcp has no such call. A caller needs it, since a ring can't be asked anything while a
     /// part of it is lent.
@@ -104,6 +104,9 @@ impl<T, S: Storage<T>> RingOver<T, S> {
         ensures written { (ws : List T) → length ws ≡ contiguous_queued_from self.old offset size →
             WritesQueue self.old offset ws
             (with_elements self.old (queue_index self.old offset) ws) }
+        ensures call { (ws : List T) → length ws ≡ contiguous_queued_from self.old offset size →
+            Makes (GetAllocatedMut offset ws) self.old
+            (with_elements self.old (queue_index self.old offset) ws) }
     {
         let span = self.place.queued(self.capacity(), offset, size);
         self.storage
@@ -131,11 +134,13 @@ impl<T, S: Storage<T>> RingOver<T, S> {
     /// # Requires
     ///
     /// `count` is at most `len()`.
+    #[tactic(auto, unfolding(crate::specs::RingHistory::Makes))]
     pub fn dequeue_allocated(&mut self, count: usize)
         requires len { count ≤ self.old.count }
         ensures ring { self.new ≡ with_dequeued count self.old }
         ensures dequeued { Dequeues self.old count (take count (queue self.old)) self.new }
         ensures room { window self.new ≡ window self.old + count }
+        ensures call { Makes (Dequeue (take count (queue self.old))) self.old self.new }
     {
         self.place.dequeue(self.storage.count(), count);
     }

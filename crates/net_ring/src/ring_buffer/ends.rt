@@ -3,6 +3,7 @@ ghost use Rattle.std.specs.Prelude.{◌≡◌, ◌↔◌, ◌<◌, ◌≤◌, �
 ghost use Rattle.std.specs.Prelude.{IsErr, IsNone, IsSome, OnErr, OnOk, IfSome, option_copied};
 ghost use Rattle.net_ring.specs.Ring.{ring, capacity, window, queue, spare, write_at, with_elements};
 ghost use Rattle.net_ring.specs.Ring.{with_enqueued};
+ghost use Rattle.net_ring.specs.RingHistory.{Makes, EnqueueOne, PopBack};
 
 use super::RingOver;
 use crate::error::Full;
@@ -10,8 +11,7 @@ use crate::managed::Storage;
 
 /// Calls that show one element of the queue. smoltcp doesn't have them; std's `VecDeque` does.
 impl<T, S: Storage<T>> RingOver<T, S> {
-    /// Shows the element at an index of the queue, of which 0 is the first one; `None` if the queue
-    /// ends before it.
+    /// Shows the element of the queue at `index`; `None` if there is none.
     pub fn get(&self, index: usize) -> Option<&T>
         ensures value { option_copied result ≡ slice_get (queue self.now) index }
         ensures some { IsSome result ↔ (index < self.now.count) }
@@ -48,6 +48,7 @@ impl<T: Drop, S: Storage<T>> RingOver<T, S> {
     /// Enqueues an element, over the next free one.
     ///
     /// A full ring returns `Full`, stays as it is and drops the element. smoltcp has no such call.
+    #[tactic(auto, unfolding(crate::specs::RingHistory::Makes))]
     pub fn push_one(&mut self, element: T) -> Result<(), Full>
         ensures full { IsErr result ↔ (window self.old ≡ 0) }
         ensures unchanged { OnErr result (self.new ≡ self.old) }
@@ -56,6 +57,7 @@ impl<T: Drop, S: Storage<T>> RingOver<T, S> {
         ensures capacity { capacity self.new ≡ capacity self.old }
         ensures ring { OnOk result (self.new ≡ with_elements (with_enqueued 1 self.old)
             (write_at self.old) (element ∷ [])) }
+        ensures call { OnOk result (Makes (EnqueueOne element) self.old self.new) }
     {
         *self.enqueue_one()? = element;
         Ok(())
@@ -68,12 +70,14 @@ impl<T: Copy, S: Storage<T>> RingOver<T, S> {
     /// stays as it is, so the element is the next free one.
     ///
     /// smoltcp has no such call; std's `VecDeque` has it.
+    #[tactic(auto, unfolding(crate::specs::RingHistory::Makes))]
     pub fn pop_back(&mut self) -> Option<T>
         ensures empty { IsNone result ↔ (self.old.count ≡ 0) }
         ensures queue { IfSome result (λ x. queue self.old ≡ queue self.new ++ x ∷ []) }
         ensures spare { IfSome result (λ x. spare self.new ≡ x ∷ spare self.old) }
         ensures room { IfSome result (λ x. window self.new ≡ window self.old + 1) }
         ensures ring { self.new ≡ ring self.old.storage self.old.read_at (self.old.count - 1) }
+        ensures call { IfSome result (λ x. Makes (PopBack x) self.old self.new) }
     {
         let last = *self.back()?;
         self.place.drop_last(1);

@@ -35,8 +35,8 @@ pub fn rewinding_keeps_the_queue<T>()
 /// queued, are exactly the elements that were enqueued, in order. An element leaves with the value
 /// that is shown then, and this is the value last written to it while it was queued, by the call
 /// that enqueued it or through a loan. Elements that `clear` and `reset` drop, and the one that
-/// `pop_back` takes off, count as never enqueued. Of `last_dequeued_mut` these are the calls that
-/// lend only free elements.
+/// `pop_back` takes off, count as never enqueued. Clause `call` of each call says which `RingCall`
+/// it is; `last_dequeued_mut` is one if it lends only free elements.
 pub fn elements_leave_in_turn<T>()
     ensures { (storage : List T) (calls : List (RingCall T)) (g : RingState T)
         → MakesAll calls (ring storage 0 0) g

@@ -1,11 +1,12 @@
 //! Many elements at a time.
 ghost use Rattle.std.specs.Prelude.{◌≡◌, ◌≢◌, ◌<◌, ◌-◌, ◌+◌, length, take, drop, min, List};
 ghost use Rattle.std.specs.Borrow.{sem};
-ghost use Rattle.std.specs.Fn.{FnOnceTakesAtMut};
+ghost use Rattle.std.specs.Fn.{FnOnceTakesAtMut, FnOnceReturnsAtMut};
 ghost use Rattle.net_ring.specs.Ring.{capacity, window, queue, spare, write_at, contiguous_window};
 ghost use Rattle.net_ring.specs.Ring.{contiguous_queued, contiguous_spare, contiguous_queue};
 ghost use Rattle.net_ring.specs.Ring.{with_elements, with_enqueued, with_dequeued, from_start_if_empty};
 ghost use Rattle.net_ring.specs.Ring.{Enqueues, Dequeues};
+ghost use Rattle.net_ring.specs.RingHistory.{Makes, EnqueueMany, EnqueueManyWith, DequeueMany, DequeueManyWith};
 ghost use Rattle.net_ring.specs.RingCalls.{CountsWithin, CalledOnSpare, CalledOnQueue};
 
 use super::RingOver;
@@ -30,6 +31,9 @@ impl<T, S: Storage<T>> RingOver<T, S> {
         requires count { CountsWithin F.FnOnce f (contiguous_spare (from_start_if_empty self.old))
             (contiguous_window (from_start_if_empty self.old)) }
         ensures called { CalledOnSpare F.FnOnce f (from_start_if_empty self.old) result self.new }
+        ensures call { (ws : List T)
+            × FnOnceReturnsAtMut F.FnOnce f (contiguous_spare (from_start_if_empty self.old)) result ws
+            × Makes (EnqueueManyWith ws result.0) self.old self.new }
     {
         self.rewind_if_empty();
         let capacity = self.capacity();
@@ -54,6 +58,9 @@ impl<T, S: Storage<T>> RingOver<T, S> {
             result.now ≡ take (length result.now) (drop (write_at g) g.storage) }
         ensures enqueued { let g = from_start_if_empty self.old in let k = min size (contiguous_window g) in
             (ws : List T) → length ws ≡ k → Enqueues g ws
+            (with_elements (with_enqueued k g) (write_at g) ws) }
+        ensures call { let g = from_start_if_empty self.old in let k = min size (contiguous_window g) in
+            (ws : List T) → length ws ≡ k → Makes (EnqueueMany ws) self.old
             (with_elements (with_enqueued k g) (write_at g) ws) }
         ensures room { let g = from_start_if_empty self.old in let k = min size (contiguous_window g) in
             (ws : List T) → window (with_elements (with_enqueued k g) (write_at g) ws) + k
@@ -80,6 +87,9 @@ impl<T, S: Storage<T>> RingOver<T, S> {
         requires count { CountsWithin F.FnOnce f (contiguous_queue self.old)
             (contiguous_queued self.old) }
         ensures called { CalledOnQueue F.FnOnce f self.old result self.new }
+        ensures call { (ws : List T)
+            × FnOnceReturnsAtMut F.FnOnce f (contiguous_queue self.old) result ws
+            × Makes (DequeueManyWith (contiguous_queue self.old) ws result.0) self.old self.new }
     {
         let capacity = self.capacity();
         let from = self.place.read_at;
@@ -101,6 +111,9 @@ impl<T, S: Storage<T>> RingOver<T, S> {
             ≡ take (length result.now) (drop self.old.read_at self.old.storage) }
         ensures dequeued { let k = min size (contiguous_queued self.old) in
             (ws : List T) → length ws ≡ k → Dequeues self.old k ws
+            (with_elements (with_dequeued k self.old) self.old.read_at ws) }
+        ensures call { let k = min size (contiguous_queued self.old) in
+            (ws : List T) → length ws ≡ k → Makes (DequeueMany result.now ws) self.old
             (with_elements (with_dequeued k self.old) self.old.read_at ws) }
         ensures room { let k = min size (contiguous_queued self.old) in
             (ws : List T) → window (with_elements (with_dequeued k self.old) self.old.read_at ws)

@@ -2,8 +2,10 @@
 ghost use Rattle.std.specs.Prelude.{◌≡◌, ◌≢◌, ◌↔◌, ◌+◌, drop, [], ◌∷◌, IsErr, OnErr, IfOk};
 ghost use Rattle.std.specs.Prelude.{is_ok, if◌then◌else◌};
 ghost use Rattle.std.specs.Borrow.{sem};
+ghost use Rattle.std.specs.Fn.{FnOnceReturnsAtMut};
 ghost use Rattle.net_ring.specs.Ring.{window, queue, spare, write_at, with_elements, with_enqueued};
 ghost use Rattle.net_ring.specs.Ring.{with_dequeued, capacity, Enqueues, Dequeues};
+ghost use Rattle.net_ring.specs.RingHistory.{Makes, EnqueueOne, EnqueueErr, DequeueOne, DequeueErr};
 ghost use Rattle.net_ring.specs.RingCalls.{TakesFirstOf, CalledOnNext, CalledOnFirst};
 
 use super::RingOver;
@@ -23,6 +25,7 @@ impl<T, S: Storage<T>> RingOver<T, S> {
     /// # Requires
     ///
     /// `f` may be called on the next free element, if there is one.
+    #[tactic(auto, unfolding(crate::specs::RingHistory::Makes))]
     pub fn enqueue_one_with<R, E, F: FnOnce(&mut T) -> Result<R, E>>(
         &mut self,
         f: F,
@@ -31,6 +34,8 @@ impl<T, S: Storage<T>> RingOver<T, S> {
         ensures full { IsErr result ↔ (window self.old ≡ 0) }
         ensures unchanged { OnErr result (self.new ≡ self.old) }
         ensures called { IfOk result (λ answer. CalledOnNext F.FnOnce f self.old answer self.new) }
+        ensures call { IfOk result (λ answer. (x : T) × (y : T) × FnOnceReturnsAtMut F.FnOnce f x answer y
+            × Makes (if is_ok answer then EnqueueOne y else EnqueueErr y) self.old self.new) }
         ensures room { IfOk result (λ answer.
             window self.new + (if is_ok answer then 1 else 0) ≡ window self.old) }
         ensures capacity { capacity self.new ≡ capacity self.old }
@@ -57,6 +62,8 @@ impl<T, S: Storage<T>> RingOver<T, S> {
         ensures value { IfOk result (λ r. spare self.old ≡ r.now ∷ drop 1 (spare self.old)) }
         ensures enqueued { window self.old ≢ 0 → (w : T) → Enqueues self.old (w ∷ [])
             (with_elements (with_enqueued 1 self.old) (write_at self.old) (w ∷ [])) }
+        ensures call { window self.old ≢ 0 → (w : T) → Makes (EnqueueOne w) self.old
+            (with_elements (with_enqueued 1 self.old) (write_at self.old) (w ∷ [])) }
         ensures room { window self.old ≢ 0 → (w : T) → window (with_elements
             (with_enqueued 1 self.old) (write_at self.old) (w ∷ [])) + 1 ≡ window self.old }
         ensures capacity { window self.old ≢ 0 → (w : T) → capacity (with_elements
@@ -78,6 +85,8 @@ impl<T, S: Storage<T>> RingOver<T, S> {
         ensures value { spare self.old ≡ result.now ∷ drop 1 (spare self.old) }
         ensures enqueued { (w : T) → Enqueues self.old (w ∷ [])
             (with_elements (with_enqueued 1 self.old) (write_at self.old) (w ∷ [])) }
+        ensures call { (w : T) → Makes (EnqueueOne w) self.old
+            (with_elements (with_enqueued 1 self.old) (write_at self.old) (w ∷ [])) }
         ensures room { (w : T) → window (with_elements
             (with_enqueued 1 self.old) (write_at self.old) (w ∷ [])) + 1 ≡ window self.old }
         ensures capacity { (w : T) → capacity (with_elements
@@ -98,6 +107,7 @@ impl<T, S: Storage<T>> RingOver<T, S> {
     /// # Requires
     ///
     /// `f` may be called on the first element, if there is one.
+    #[tactic(auto, unfolding(crate::specs::RingHistory::Makes))]
     pub fn dequeue_one_with<R, E, F: FnOnce(&mut T) -> Result<R, E>>(
         &mut self,
         f: F,
@@ -106,6 +116,8 @@ impl<T, S: Storage<T>> RingOver<T, S> {
         ensures empty { IsErr result ↔ (self.old.count ≡ 0) }
         ensures unchanged { OnErr result (self.new ≡ self.old) }
         ensures called { IfOk result (λ answer. CalledOnFirst F.FnOnce f self.old answer self.new) }
+        ensures call { IfOk result (λ answer. (x : T) × (y : T) × FnOnceReturnsAtMut F.FnOnce f x answer y
+            × Makes (if is_ok answer then DequeueOne x y else DequeueErr y) self.old self.new) }
         ensures room { IfOk result (λ answer.
             window self.new ≡ window self.old + (if is_ok answer then 1 else 0)) }
         ensures capacity { capacity self.new ≡ capacity self.old }
@@ -138,6 +150,8 @@ impl<T, S: Storage<T>> RingOver<T, S> {
         ensures value { IfOk result (λ r. queue self.old ≡ r.now ∷ drop 1 (queue self.old)) }
         ensures dequeued { self.old.count ≢ 0 → (w : T) → Dequeues self.old 1 (w ∷ [])
             (with_elements (with_dequeued 1 self.old) self.old.read_at (w ∷ [])) }
+        ensures call { IfOk result (λ r. (w : T) → Makes (DequeueOne r.now w) self.old
+            (with_elements (with_dequeued 1 self.old) self.old.read_at (w ∷ []))) }
         ensures room { self.old.count ≢ 0 → (w : T) → window (with_elements
             (with_dequeued 1 self.old) self.old.read_at (w ∷ [])) ≡ window self.old + 1 }
         ensures capacity { self.old.count ≢ 0 → (w : T) → capacity (with_elements
@@ -158,6 +172,8 @@ impl<T, S: Storage<T>> RingOver<T, S> {
             (with_dequeued 1 self.old) self.old.read_at result) }
         ensures value { queue self.old ≡ result.now ∷ drop 1 (queue self.old) }
         ensures dequeued { (w : T) → Dequeues self.old 1 (w ∷ [])
+            (with_elements (with_dequeued 1 self.old) self.old.read_at (w ∷ [])) }
+        ensures call { (w : T) → Makes (DequeueOne result.now w) self.old
             (with_elements (with_dequeued 1 self.old) self.old.read_at (w ∷ [])) }
         ensures room { (w : T) → window (with_elements
             (with_dequeued 1 self.old) self.old.read_at (w ∷ [])) ≡ window self.old + 1 }

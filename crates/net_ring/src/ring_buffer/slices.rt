@@ -4,6 +4,7 @@ ghost use Rattle.net_ring.specs.Ring.{ring, capacity, window, queue, write_at, w
 ghost use Rattle.net_ring.specs.Ring.{with_enqueued, with_dequeued, from_start_if_empty};
 ghost use Rattle.net_ring.specs.Ring.{Enqueues};
 ghost use Rattle.net_ring.specs.Ring.{Dequeues};
+ghost use Rattle.net_ring.specs.RingHistory.{Makes, EnqueueSlice, Dequeue};
 
 use super::RingOver;
 use crate::managed::Storage;
@@ -26,6 +27,7 @@ impl<T: Copy, S: Storage<T>> RingOver<T, S> {
         ensures enqueued { Enqueues (from_start_if_empty self.old)
             (take result «data».now) self.new }
         ensures queue { queue self.new ≡ queue self.old ++ take result «data».now }
+        ensures call { Makes (EnqueueSlice (take result «data».now)) self.old self.new }
         ensures same { (self.new.count ≡ self.old.count + result)
             × (capacity self.new ≡ capacity self.old) }
     {
@@ -41,6 +43,7 @@ impl<T: Copy, S: Storage<T>> RingOver<T, S> {
     /// ring.dequeue_slice(&mut into[..length + 1]);
     /// Some(length)
     /// ```
+    #[tactic(auto, unfolding(crate::specs::RingHistory::Makes))]
     pub fn dequeue_slice(&mut self, data: &mut [T]) -> usize
         ensures count { result ≡ min (length «data».old) self.old.count }
         ensures of_queue { result ≡ min (length «data».old) (length (queue self.old)) }
@@ -48,6 +51,7 @@ impl<T: Copy, S: Storage<T>> RingOver<T, S> {
         ensures ring { self.new ≡ with_dequeued result self.old }
         ensures dequeued { Dequeues self.old result (take result (queue self.old)) self.new }
         ensures queue { queue self.new ≡ drop result (queue self.old) }
+        ensures call { Makes (Dequeue (take result (queue self.old))) self.old self.new }
         ensures same { (self.new.count ≡ self.old.count - result)
             × (capacity self.new ≡ capacity self.old) }
     {

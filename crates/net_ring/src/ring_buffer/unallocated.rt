@@ -5,6 +5,8 @@ ghost use Rattle.std.specs.Borrow.{sem};
 ghost use Rattle.net_ring.specs.Ring.{ring, capacity, window, spare, spare_index};
 ghost use Rattle.net_ring.specs.Ring.{contiguous_window_from, with_elements, with_elements_wrapping};
 ghost use Rattle.net_ring.specs.Ring.{with_enqueued, last_dequeued_index, Enqueues, WritesSpare};
+ghost use Rattle.net_ring.specs.RingHistory.{Makes, EnqueueUnallocated, GetUnallocated, WriteUnallocated};
+ghost use Rattle.net_ring.specs.RingHistory.{WriteLastDequeued};
 
 use super::RingOver;
 use crate::managed::Storage;
@@ -13,8 +15,7 @@ use crate::managed::Storage;
 impl<T, S: Storage<T>> RingOver<T, S> {
     ghost use Rattle.net_ring.specs.RingLends.{lends_many};
 
-    /// Returns how many free elements `get_unallocated` lends: of at most `size` from the one at
-    /// `offset` on, as many as are contiguous.
+    /// Returns the length of what `get_unallocated` lends.
     ///
     /// smoltcp has no such call. A caller needs it, since a ring can't be asked anything while a
     /// part of it is lent.
@@ -52,6 +53,9 @@ impl<T, S: Storage<T>> RingOver<T, S> {
         ensures written { (ws : List T) → length ws ≡ contiguous_window_from self.old offset size →
             WritesSpare self.old offset ws
             (with_elements self.old (spare_index self.old offset) ws) }
+        ensures call { (ws : List T) → length ws ≡ contiguous_window_from self.old offset size →
+            Makes (GetUnallocated offset ws) self.old
+            (with_elements self.old (spare_index self.old offset) ws) }
     {
         let span = self.place.free(self.capacity(), offset, size);
         self.storage
@@ -77,6 +81,9 @@ impl<T, S: Storage<T>> RingOver<T, S> {
         ensures written { (ws : List T) → length ws ≡ size → size ≤ window self.old →
             WritesSpare self.old (window self.old - size) ws
             (with_elements self.old (last_dequeued_index self.old size) ws) }
+        ensures call { (ws : List T) → length ws ≡ size → size ≤ window self.old →
+            Makes (WriteLastDequeued ws) self.old
+            (with_elements self.old (last_dequeued_index self.old size) ws) }
     {
         let from = self.place.last_dequeued_index(self.capacity(), size);
         self.storage.part_mut(from, from + size)
@@ -89,11 +96,13 @@ impl<T, S: Storage<T>> RingOver<T, S> {
     /// # Requires
     ///
     /// `count` is at most `window()`.
+    #[tactic(auto, unfolding(crate::specs::RingHistory::Makes))]
     pub fn enqueue_unallocated(&mut self, count: usize)
         requires window { count ≤ window self.old }
         ensures ring { self.new ≡ with_enqueued count self.old }
         ensures enqueued { Enqueues self.old (take count (spare self.old)) self.new }
         ensures of_spare { spare self.new ≡ drop count (spare self.old) }
+        ensures call { Makes (EnqueueUnallocated (take count (spare self.old))) self.old self.new }
     {
         self.place.enqueue(self.storage.count(), count);
     }
@@ -103,11 +112,13 @@ impl<T, S: Storage<T>> RingOver<T, S> {
 impl<T: Copy, S: Storage<T>> RingOver<T, S> {
     /// Writes as many elements of `data` as there is room for to the free elements from the one at
     /// `offset` on, and returns how many; 0 if `offset` is past the window. Nothing is enqueued.
+    #[tactic(auto, unfolding(crate::specs::RingHistory::Makes))]
     pub fn write_unallocated(&mut self, offset: usize, data: &[T]) -> usize
         ensures count { result ≡ min (length «data».now) (window self.old - offset) }
         ensures ring { self.new
             ≡ with_elements_wrapping self.old (spare_index self.old offset) (take result «data».now) }
         ensures written { WritesSpare self.old offset (take result «data».now) self.new }
+        ensures call { Makes (WriteUnallocated offset (take result «data».now)) self.old self.new }
         ensures same { (self.new.count ≡ self.old.count) × (capacity self.new ≡ capacity self.old) }
     {
         let capacity = self.storage.count();

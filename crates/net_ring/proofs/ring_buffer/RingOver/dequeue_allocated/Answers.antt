@@ -1,7 +1,9 @@
-use Rattle.std.proofs.Common.{◌∙◌, refl, ap, sym, subst, take}
-use Rattle.net_ring.specs.Ring.{capacity, queue, Dequeues}
+use Rattle.std.proofs.Common.{◌≡◌, ◌∙◌, refl, ap, sym, subst, take, length, length-take, arith}
+use Rattle.net_ring.specs.Ring.{capacity, queue, Dequeues, with_dequeued}
 use Rattle.net_ring.specs.Place.{ring_at}
+use Rattle.net_ring.proofs.Rotations.{length-queue}
 use Rattle.net_ring.proofs.RingFacts.{well, found, with_dequeued_is, with_dequeued_law}
+use Rattle.net_ring.specs.RingHistory.{Makes}
 use Rattle.net_ring.proofs.ring_buffer.RingOver.dequeue_allocated.Goals as goal
 
 pub returns-clause-ring : goal.returns-clause-ring
@@ -16,3 +18,15 @@ returns-clause-dequeued g c =
     let old = c.args.self.now in
     subst (Dequeues old c.args.count (take c.args.count (queue old))) (sym (returns-clause-ring g c))
     (with_dequeued_law old (well _ _ c.self.view_is c.self.invariant) c.args.count c.requires.len)
+
+pub returns-clause-call : goal.returns-clause-call
+unfolding Makes
+returns-clause-call g c =
+    let old = c.args.self.now in
+    let n = c.args.count in
+    let size = length-queue old (well _ _ c.self.view_is c.self.invariant) in
+    let long : length (take n (queue old)) ≡ n = omega (arith, length-take n (queue old), size, c.requires.len) in (
+      omega (arith, long, c.requires.len),
+      ap (λ k. take k (queue old)) (sym long),
+      returns-clause-ring g c ∙ ap (λ k. with_dequeued k old) (sym long),
+    )

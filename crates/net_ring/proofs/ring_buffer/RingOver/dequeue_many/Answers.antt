@@ -1,12 +1,14 @@
-use Rattle.std.proofs.Common.{List, ◌≡◌, ◌∙◌, refl, ap, min, arith}
+use Rattle.std.proofs.Common.{List, ◌≡◌, ◌∙◌, refl, sym, ap, min, arith}
 use Rattle.net_ring.specs.Overwrite.{overwrite}
-use Rattle.net_ring.specs.Ring.{capacity, contiguous_queued}
+use Rattle.net_ring.specs.Ring.{capacity, contiguous_queued, with_elements, with_dequeued}
 use Rattle.net_ring.specs.Place.{ring_at}
 use Rattle.net_ring.proofs.RingFacts.{well, found, left_off, shown_head, dequeued_law, contiguous_head_some}
 use Rattle.net_ring.proofs.Rotations.{length-overwrite}
+use Rattle.net_ring.specs.RingHistory.{Makes}
 use Rattle.net_ring.proofs.ring_buffer.RingOver.dequeue_many.Goals as goal
 
 pub returns : goal.returns
+unfolding Makes
 returns g c =
     let old = c.args.self.now in
     let is = c.self.view_is in
@@ -29,6 +31,7 @@ returns g c =
         value = lent.1;
         stored = lent.2;
         dequeued = dequeued_law _ (well _ _ is c.self.invariant) _ (omega arith);
+        call = λ w long. (omega (arith, lent.0, count), lent.1, omega (arith, long, lent.0, count), ap (λ j. with_elements (with_dequeued j old) old.read_at w) (sym (lent.0 ∙ count)));
         room = λ w. (let long = length-overwrite old.storage old.read_at w in omega (arith, long, (well _ _ is c.self.invariant).1));
         capacity = λ w. length-overwrite old.storage old.read_at w;
       },

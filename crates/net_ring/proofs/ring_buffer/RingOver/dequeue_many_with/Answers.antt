@@ -5,6 +5,7 @@ use Rattle.net_ring.specs.Ring.{IsWellFormed, DequeuesFrom, queue, contiguous_qu
 use Rattle.net_ring.specs.Place.{ring_at}
 use Rattle.net_ring.proofs.Rotations.{read_at_le}
 use Rattle.net_ring.proofs.RingFacts.{well, found, found_head, off_wf, lent_head, left_off_from}
+use Rattle.net_ring.specs.RingHistory.{Makes}
 use Rattle.net_ring.proofs.ring_buffer.RingOver.dequeue_many_with.Goals as goal
 
 pub f-answer-requires : goal.f-answer-requires
@@ -66,6 +67,7 @@ invariant_of-self g c =
     (omega arith) law)
 
 pub returns : goal.returns
+unfolding Makes
 returns g c =
     let is = c.self.view_is in
     let run = found_head _ _ is c.self.invariant c.capacity-capacity.result _ c.capacity-capacity.ensures.capacity c.contiguous_queue.ensures.count in
@@ -76,9 +78,13 @@ returns g c =
     let met : FnOnceReturnsAtMut g.F.FnOnce c.args.f (take (contiguous_queued old) (queue old)) c.f-answer.result after =
     record { shown = c.part_mut.result; shows = lent.0; left = at_last c.part_mut.result after; leaves = refl; met = c.f-answer.ensures } in
     let long = c.f-answer.auto.arg2 ∙ lent.1 in
+    let le = c.requires.count c.f-answer.result after met in
     let st = g.S.Storage.elements (g.S.Storage.with_part c.self.inside.storage c.self.inside.place.read_at after) in
     let law = g.met.S.Storage.part_written c.self.inside.storage c.self.inside.place.read_at after in
     let next = found _ _ is c.self.invariant c.capacity-capacity.result n _ c.capacity-capacity.ensures.capacity refl in
-    let left = left_off_from _ _ is c.self.invariant n n _ refl next st after law long (c.requires.count c.f-answer.result after met) in
+    let left = left_off_from _ _ is c.self.invariant n n _ refl next st after law long le in
     let same = ap (ring_at st) c.dequeue_contiguous.ensures.place in
-    record { called = (after, met, long, same ∙ left.0, subst (DequeuesFrom old n after) (sym same) left.1) }
+    record {
+      called = (after, met, long, same ∙ left.0, subst (DequeuesFrom old n after) (sym same) left.1);
+      call = (after, met, (refl, long, omega (arith, le, long), same ∙ left.0));
+    }

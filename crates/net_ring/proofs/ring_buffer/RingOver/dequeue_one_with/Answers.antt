@@ -1,9 +1,10 @@
-use Rattle.std.proofs.Common.{rules, Bool, length, true, false, ◌≡◌, ◌≢◌, ◌∷◌, [], refl, ap, sym, ◌∙◌, is_ok, if◌then◌else◌, slice_index_or, arith}
+use Rattle.std.proofs.Common.{rules, Bool, length, true, false, ◌≡◌, ◌≢◌, ◌∷◌, [], refl, ap, sym, ◌∙◌, is_ok, if◌then◌else◌, slice_index_or, drop, arith}
 use denote.MutBor.{at_last}
-use Rattle.net_ring.specs.Ring.{RingState, with_dequeued, with_elements}
+use Rattle.net_ring.specs.Ring.{RingState, queue, with_dequeued, with_elements}
 use Rattle.net_ring.specs.Overwrite.{overwrite}
 use Rattle.net_ring.proofs.Rotations.{length-overwrite}
 use Rattle.net_ring.proofs.RingFacts.{well, found, queue_head, head_either, ring_is}
+use Rattle.net_ring.specs.RingHistory.{Makes, DequeueOne, DequeueErr}
 use Rattle.net_ring.proofs.ring_buffer.RingOver.dequeue_one_with.Goals as goal
 use Rattle.net_ring.proofs.ring_buffer.RingOver.dequeue_one_with.Goals.{then-is_ok, else-is_ok}
 
@@ -65,3 +66,16 @@ returns-clause-called g c =
       by_answer.0,
       by_answer.1,
     )
+
+-- the call that was made, by what the closure returned
+made : {T : Type 0} (b : Bool) (old new : RingState T) (x y : T) → old.count ≢ 0 → queue old ≡ x ∷ drop 1 (queue old) →
+    new ≡ with_elements (if b then with_dequeued 1 old else old) old.read_at (y ∷ []) →
+    Makes (if b then DequeueOne x y else DequeueErr y) old new
+unfolding Makes
+made true old new x y some head_is is = (some, head_is, is)
+made false old new x y some head_is is = (some, is)
+
+pub returns-clause-call : goal.returns-clause-call
+returns-clause-call g c =
+    let did = returns-clause-called g c in
+    (did.0, did.1, did.2, made (is_ok c.f-answer.result) _ _ did.0 did.1 (some g c) did.3 did.4)

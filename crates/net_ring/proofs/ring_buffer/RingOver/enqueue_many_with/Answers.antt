@@ -4,6 +4,7 @@ use denote.MutBor.{at_last}
 use Rattle.net_ring.specs.Ring.{IsWellFormed, EnqueuesFrom, from_start_if_empty, capacity, spare, contiguous_window}
 use Rattle.net_ring.specs.Place.{ring_at}
 use Rattle.net_ring.proofs.RingFacts.{found_next, found_window, in_wf, lent_next, left_in_from}
+use Rattle.net_ring.specs.RingHistory.{Makes}
 use Rattle.net_ring.proofs.ring_buffer.RingOver.enqueue_many_with.Goals as goal
 
 pub f-answer-requires : goal.f-answer-requires
@@ -55,6 +56,7 @@ invariant_of-self g c =
     (g.met.S.Storage.part_written c.self.inside.storage c.index-from.result c.f-answer.new.arg2))
 
 pub returns : goal.returns
+unfolding Makes
 returns g c =
     let old = from_start_if_empty c.args.self.now in
     let is = c.self.view_is ∙ c.rewind_if_empty.ensures.ring in
@@ -67,8 +69,12 @@ returns g c =
     let met : FnOnceReturnsAtMut g.F.FnOnce c.args.f (take (contiguous_window old) (spare old)) c.f-answer.result after =
     record { shown = c.part_mut.result; shows = lent.0; left = at_last c.part_mut.result after; leaves = refl; met = c.f-answer.ensures } in
     let long = c.f-answer.auto.arg2 ∙ lent.1 in
+    let le = c.requires.count c.f-answer.result after met in
     let st = g.S.Storage.elements (g.S.Storage.with_part c.self.inside.storage c.index-from.result after) in
     let left = left_in_from _ _ is c.self.invariant n n _ refl at st after
-    (g.met.S.Storage.part_written c.self.inside.storage c.index-from.result after) long (c.requires.count c.f-answer.result after met) in
+    (g.met.S.Storage.part_written c.self.inside.storage c.index-from.result after) long le in
     let same = ap (ring_at st) c.enqueue.ensures.place in
-    record { called = (after, met, long, same ∙ left.0, subst (EnqueuesFrom old n after) (sym same) left.1) }
+    record {
+      called = (after, met, long, same ∙ left.0, subst (EnqueuesFrom old n after) (sym same) left.1);
+      call = (after, met, (long, omega (arith, le, long), same ∙ left.0));
+    }

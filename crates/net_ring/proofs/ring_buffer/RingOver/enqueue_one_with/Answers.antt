@@ -3,6 +3,7 @@ use denote.MutBor.{at_last}
 use Rattle.net_ring.specs.Ring.{RingState, write_at, window, with_enqueued, with_elements}
 use Rattle.net_ring.specs.Overwrite.{overwrite}
 use Rattle.net_ring.proofs.RingFacts.{well, found_next, spare_head, next_either, ring_is}
+use Rattle.net_ring.specs.RingHistory.{Makes, EnqueueOne, EnqueueErr}
 use Rattle.net_ring.proofs.ring_buffer.RingOver.enqueue_one_with.Goals as goal
 use Rattle.net_ring.proofs.ring_buffer.RingOver.enqueue_one_with.Goals.{then-is_ok, else-is_ok}
 
@@ -49,3 +50,16 @@ returns-clause-called g c =
       by_answer.0,
       by_answer.1,
     )
+
+-- the call that was made, by what the closure returned
+made : {T : Type 0} (b : Bool) (old new : RingState T) (y : T) → window old ≢ 0 →
+    new ≡ with_elements (if b then with_enqueued 1 old else old) (write_at old) (y ∷ []) →
+    Makes (if b then EnqueueOne y else EnqueueErr y) old new
+unfolding Makes
+made true old new y some is = (some, is)
+made false old new y some is = (some, is)
+
+pub returns-clause-call : goal.returns-clause-call
+returns-clause-call g c =
+    let did = returns-clause-called g c in
+    (did.0, did.1, did.2, made (is_ok c.f-answer.result) _ _ did.1 (some g c) did.4)

@@ -1,8 +1,9 @@
-use Rattle.std.proofs.Common.{◌≡◌, ◌+◌, ◌++◌, length, take, min, sym, ap, subst, ◌∙◌}
+use Rattle.std.proofs.Common.{◌≡◌, ◌+◌, ◌++◌, length, take, min, sym, ap, subst, ◌∙◌, arith, length-take}
 use Rattle.net_ring.specs.Ring.{IsWellFormed, Enqueues, capacity, window, queue, write_at}
 use Rattle.net_ring.specs.Ring.{from_start_if_empty, with_enqueued, with_elements_wrapping}
 use Rattle.net_ring.specs.Place.{ring_at}
 use Rattle.net_ring.proofs.PlaceFacts.{lent_whole}
+use Rattle.net_ring.specs.RingHistory.{Makes}
 use Rattle.net_ring.proofs.ring_buffer.RingOver.enqueue_slice.Goals as goal
 
 pub invariant_of-self : goal.invariant_of-self
@@ -14,6 +15,7 @@ invariant_of-self g c =
     subst (λ l. IsWellFormed (ring_at l c.enqueue_slice.new.self)) (sym (g.met.S.Storage.part_written s 0 ws ∙ all.1)) c.enqueue_slice.ensures.sound
 
 pub returns : goal.returns
+unfolding Makes
 returns g c =
     let s = c.self.inside.storage in
     let p = c.self.inside.place in
@@ -26,11 +28,15 @@ returns g c =
     let before : ring_at c.part_mut.result.now p ≡ c.args.self.now = ap (λ l. ring_at l p) all.0 ∙ c.self.view_is in
     let new = ring_at (g.S.Storage.elements (g.S.Storage.with_part s 0 ws)) q in
     let after : new ≡ ring_at ws q = ap (λ l. ring_at l q) (g.met.S.Storage.part_written s 0 ws ∙ all.1) in
+    let count = met.count ∙ ap (λ o. min (length c.args.«data».now) (window o)) before in
+    let ring = after ∙ met.ring
+    ∙ ap (λ o. with_enqueued n (with_elements_wrapping (from_start_if_empty o) (write_at (from_start_if_empty o)) d)) before in
+    let long : length d ≡ n = omega (arith, length-take n c.args.«data».now, count) in
     record {
-      count = met.count ∙ ap (λ o. min (length c.args.«data».now) (window o)) before;
-      ring =
-          after ∙ met.ring
-          ∙ ap (λ o. with_enqueued n (with_elements_wrapping (from_start_if_empty o) (write_at (from_start_if_empty o)) d)) before;
+      count = count;
+      ring = ring;
+      call =
+          (omega (arith, long, count), subst (λ k. new ≡ with_enqueued k (with_elements_wrapping (from_start_if_empty c.args.self.now) (write_at (from_start_if_empty c.args.self.now)) d)) (sym long) ring);
       enqueued =
           subst (λ o. Enqueues (from_start_if_empty o) d new) before
           (subst (Enqueues (from_start_if_empty (ring_at c.part_mut.result.now p)) d) (sym after) met.enqueued);

@@ -2,9 +2,11 @@ use Rattle.std.proofs.Common.{◌≡◌, ◌∙◌, refl, ap, arith}
 use Rattle.net_ring.specs.Ring.{capacity, spare, spare_index, contiguous_window_from}
 use Rattle.net_ring.proofs.RingFacts.{well, found_free, left_at, shown_spare, spare_part_law, contiguous_free_some}
 use Rattle.net_ring.proofs.RingParts.{each_of, end_of}
+use Rattle.net_ring.specs.RingHistory.{Makes}
 use Rattle.net_ring.proofs.ring_buffer.RingOver.get_unallocated.Goals as goal
 
 pub returns : goal.returns
+unfolding Makes
 returns g c =
     let old = c.args.self.now in
     let is = c.self.view_is in
@@ -23,6 +25,7 @@ returns g c =
         each = each_of (spare old) c.part_mut.result.now c.args.offset lent.1;
         end = end_of (spare old) c.part_mut.result.now c.args.offset lent.1;
         stored = lent.2;
+        call = λ w long. (omega (arith, long), refl);
         written = spare_part_law _ (well _ _ is c.self.invariant) c.args.offset c.args.size;
       },
     )

@@ -1,9 +1,11 @@
-use Rattle.std.proofs.Common.{◌≡◌, ◌∙◌, ◌-◌, refl, ap, ap₂, arith}
-use Rattle.net_ring.specs.Ring.{capacity, index_after, last_dequeued_index}
+use Rattle.std.proofs.Common.{◌≡◌, ◌≤◌, ◌∙◌, ◌+◌, ◌-◌, refl, sym, subst, ap, ap₂, arith}
+use Rattle.net_ring.specs.Ring.{capacity, index_after, last_dequeued_index, with_elements}
 use Rattle.net_ring.proofs.RingFacts.{well, left_at, shown_last_dequeued, freed_law}
+use Rattle.net_ring.specs.RingHistory.{Makes}
 use Rattle.net_ring.proofs.ring_buffer.RingOver.last_dequeued_mut.Goals as goal
 
 pub returns : goal.returns
+unfolding Makes
 returns g c =
     let old = c.args.self.now in
     let is = c.self.view_is in
@@ -17,6 +19,7 @@ returns g c =
         writes_back = tt;
         count = lent.0;
         stored = lent.1;
+        call = λ ws long room. (omega (arith, long, room), subst (λ j. last_dequeued_index old j + j ≤ capacity old) (sym long) c.requires.contiguous, ap (λ j. with_elements old (last_dequeued_index old j) ws) (sym long));
         written = λ ws long room. freed_law old (well _ _ is c.self.invariant) k c.requires.contiguous ws long room;
       },
     )

@@ -3,6 +3,7 @@ use Rattle.net_ring.specs.Ring.{queue, spare}
 use Rattle.net_ring.specs.Place.{ring_at}
 use Rattle.net_ring.proofs.RingFacts.{well}
 use Rattle.net_ring.proofs.LastElement.{off_back}
+use Rattle.net_ring.specs.RingHistory.{Makes}
 use Rattle.net_ring.proofs.ring_buffer.RingOver.pop_back.Goals as goal
 
 pub returns-clause-queue : goal.returns-clause-queue
@@ -20,3 +21,7 @@ returns-clause-spare g c =
     let last : slice_get old (length old - 1) ≡ Some c.in_ok-last.field-0.now = search rules in
     ap (λ p. spare (ring_at xs p)) c.drop_last.ensures.place
     ∙ (off_back _ _ c.self.view_is (well _ _ c.self.view_is c.self.invariant) _ last).1
+
+pub returns-clause-call : goal.returns-clause-call
+unfolding Makes
+returns-clause-call g c = (returns-clause-queue g c, search rules)

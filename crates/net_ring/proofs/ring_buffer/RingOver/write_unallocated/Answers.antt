@@ -1,10 +1,11 @@
-use Rattle.std.proofs.Common.{◌≡◌, ◌∙◌, ap, ◌-◌, take, drop, ℕ, List, length, min}
+use Rattle.std.proofs.Common.{◌≡◌, ◌∙◌, ap, ◌-◌, take, drop, ℕ, List, length, min, length-take, arith}
 use Rattle.net_ring.specs.Ring.{RingState, capacity, window, spare_index, with_elements_wrapping}
 use Rattle.net_ring.specs.Place.{ring_at}
 use Rattle.net_ring.specs.Overwrite.{overwrite}
 use Rattle.net_ring.proofs.Rotations.{length-overwrite}
 use Rattle.net_ring.proofs.RingFacts.{ahead_clause, once_wf}
 use Rattle.net_ring.proofs.PlaceFacts.{lent_whole}
+use Rattle.net_ring.specs.RingHistory.{Makes}
 use Rattle.net_ring.proofs.ring_buffer.RingOver.write_unallocated.Goals as goal
 
 -- what is written changes neither the count nor the capacity
@@ -43,3 +44,12 @@ pub returns-clause-same : goal.returns-clause-same
 returns-clause-same g c =
     same_after c.args.self.now _ (spare_index c.args.self.now c.args.offset) (take c.write_unallocated.result c.args.«data».now)
     (returns-clause-ring g c)
+
+pub returns-clause-call : goal.returns-clause-call
+unfolding Makes
+returns-clause-call g c =
+    let n = c.write_unallocated.result in
+    let all = lent_whole c.count-capacity.result (g.S.Storage.elements c.self.inside.storage) c.part_mut.result.now c.write_unallocated.new.storage
+    c.count-capacity.ensures c.part_mut.ensures.value c.write_unallocated.ensures.size in
+    let room = ap window (ap (λ l. ring_at l c.self.inside.place) all.0 ∙ c.self.view_is) in
+    (omega (arith, length-take n c.args.«data».now, c.write_unallocated.ensures.count, room), returns-clause-ring g c)

@@ -1,7 +1,7 @@
 use Rattle.std.proofs.Common.{◌≡◌, ◌-◌, take, drop, sym, ap, ap₂, ◌∙◌, rules, arith}
 use Rattle.std.proofs.lemmas.List.{take-take, drop-take}
 use Rattle.net_ring.specs.Overwrite.{overwrite}
-use Rattle.net_ring.proofs.place.write_span.Goals as goal
+use Rattle.net_ring.proofs.place.spans.write_span.Goals as goal
 
 pub returns-then-contiguous-count : goal.returns-then-contiguous-count
 returns-then-contiguous-count g c =
