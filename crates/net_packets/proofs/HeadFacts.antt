@@ -1,5 +1,5 @@
 -- What a queue of packets and its numbers say of a packet's place.
-use Rattle.std.proofs.Common.{◌≡◌, ℕ, ◌-◌, length, ap, ap₂, ◌∙◌, arith}
+use Rattle.std.proofs.Common.{◌≡◌, ℕ, ◌-◌, length, ap, ap₂, ◌∙◌}
 use Rattle.net_ring.specs.Ring.{contiguous_window, window}
 use Rattle.net_ring.specs.Place.{place, rewound, contiguous_free}
 use Rattle.net_ring.specs.declared.place.Place.{Place}

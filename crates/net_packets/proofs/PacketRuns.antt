@@ -23,7 +23,7 @@ use Rattle.net_packets.specs.Packets.{IsFirstSized, IsWellPlaced}
 use Rattle.net_ring.specs.Log.{Log, empty_log}
 use Rattle.net_packets.specs.PacketHistory.{contents_of, contents, QueueCall, Reset, Place}
 use Rattle.net_packets.specs.PacketHistory.{WriteLast, Enqueue, EnqueueWith, Peek, DequeueErr}
-use Rattle.net_packets.specs.PacketHistory.{DequeueOk, Take, WriteLastDequeued, Dequeue, Makes, MakesAll}
+use Rattle.net_packets.specs.PacketHistory.{DequeueOk, DequeueWith, Take, WriteLastDequeued, Dequeue, Makes, MakesAll}
 use Rattle.net_packets.specs.PacketHistory.{with_bytes_in_last_entry, log_after, log_after_all}
 use Rattle.net_packets.specs.PacketHistory.{history}
 use Rattle.net_ring.proofs.Overwrites.{overwrite-same}
@@ -199,7 +199,7 @@ module _ {H : Type 0} where
       let l = last_go q.slot_count q.storage q.read_at end.0 end.1 ws (subst IsWellPlaced is ok) (long ∙ ap (λ ps. first_size (only_last ps)) end.2) in
       (l.0, end.1.header, l.1, ap contents is ∙ l.2, ap (λ o. contents (with_last_bytes o ws)) is ∙ l.3)
 
-  pub last_dequeued_contents : (q : PacketsState H) → IsWellPlaced q → (ws : List ℕ) → AreLastDequeued q (length ws)
+  last_dequeued_contents : (q : PacketsState H) → IsWellPlaced q → (ws : List ℕ) → AreLastDequeued q (length ws)
       → contents (with_bytes q (last_dequeued_bytes_index q (length ws)) ws) ≡ contents q
   unfolding contents
   last_dequeued_contents q ok ws f =
@@ -236,7 +236,7 @@ module _ {H : Type 0} where
       ]) in
       (round, (omega (arith, rest, ok.0.1), omega (arith, round, f.1)))
 
-  pub off_contents : (q : PacketsState H) → IsWellPlaced q → (ws : List ℕ) → length ws ≡ first_size q.packets
+  off_contents : (q : PacketsState H) → IsWellPlaced q → (ws : List ℕ) → length ws ≡ first_size q.packets
       → contents (with_bytes (without_first_and_gap q) (without_gap q).read_at ws) ≡ contents (without_first_and_gap q)
   off_contents q ok ws long =
       let f = off_go q.slot_count q.storage (without_gap q).read_at (without_first_gap q.packets) (skipped_well q ok) (close_gap q.packets) in
@@ -264,9 +264,10 @@ module _ {H : Type 0} where
       let n = contents_count q in
       (λ e. sym n ∙ ap length e, λ z. nil_from_length (contents q) (n ∙ z))
 
-  pub placed_stands : (q : PacketsState H) → IsWellPlaced q → (s : ℕ) (hd : H) → placement q s ≢ None
-      → contents (with_packet_if_room q s hd) ≡ contents q ++ ((hd, last_bytes (with_packet_if_room q s hd)) ∷ [])
-  placed_stands q ok s hd some =
+  -- a placed packet has as many bytes as were asked for
+  placed_long : (q : PacketsState H) → IsWellPlaced q → (s : ℕ) (hd : H) → placement q s ≢ None
+      → length (last_bytes (with_packet_if_room q s hd)) ≡ s
+  placed_long q ok s hd some =
       let g = some_of (placement q s) some in
       let o = with_packet_if_room q s hd in
       let w = placed_well q ok s hd some in
@@ -277,13 +278,18 @@ module _ {H : Type 0} where
       let size : first_size (only_last o.packets) ≡ s =
       ap (λ (p : PacketsState H). first_size (only_last p.packets)) (placed_is q ok s hd g.0 g.1)
       ∙ ap first_size (last_append q.packets (packet hd s g.0)) in
-      let n : length (last_bytes o) ≡ s =
-      length-take-le (first_size (only_last o.packets)) (drop (last_index o) o.storage) (omega (arith, at, f.1, long)) ∙ size in
+      length-take-le (first_size (only_last o.packets)) (drop (last_index o) o.storage) (omega (arith, at, f.1, long)) ∙ size
+
+  placed_stands : (q : PacketsState H) → IsWellPlaced q → (s : ℕ) (hd : H) → placement q s ≢ None
+      → contents (with_packet_if_room q s hd) ≡ contents q ++ ((hd, last_bytes (with_packet_if_room q s hd)) ∷ [])
+  placed_stands q ok s hd some =
+      let o = with_packet_if_room q s hd in
+      let n = placed_long q ok s hd some in
       ap (λ (m : ℕ). contents (with_packet_if_room q m hd)) (sym n)
       ∙ placed_contents q ok hd (last_bytes o) (subst (λ (m : ℕ). placement q m ≢ None) (sym n) some)
       (ap (λ (m : ℕ). last_bytes (with_packet_if_room q m hd)) (sym n))
 
-  pub last_is_written : (q : PacketsState H) → IsWellPlaced q → (ws : List ℕ) → q.packets ≢ []
+  last_is_written : (q : PacketsState H) → IsWellPlaced q → (ws : List ℕ) → q.packets ≢ []
       → length ws ≡ first_size (only_last q.packets) → contents (with_last_bytes q ws) ≡ with_bytes_in_last_entry ws (contents q)
   last_is_written q ok ws some long =
       let l = last_contents q ok ws some long in
@@ -302,7 +308,7 @@ module _ {H : Type 0} where
         length-take-le s (drop (last_dequeued_bytes_index (without_first_and_gap q) s) q.storage) (omega (arith, long, fits.1)),
       )
 
-  pub taken_contents : (q : PacketsState H) → IsWellPlaced q → (hd : H) (s : ℕ) → IsFirstSized q.packets hd s
+  taken_contents : (q : PacketsState H) → IsWellPlaced q → (hd : H) (s : ℕ) → IsFirstSized q.packets hd s
       → contents q ≡ (hd, last_dequeued_bytes (without_first_and_gap q) s) ∷ contents (without_first_and_gap q)
   taken_contents q ok hd s first =
       let t = taken_bytes q ok s (sym (ap first_size first)) in
@@ -392,6 +398,41 @@ module _ {H : Type 0} where
       → contents (after_hand_out gone q new news) ≡ (if gone then drop 1 (contents q) else ((new, news) ∷ drop 1 (contents q)))
   handed_contents q ok hd ws new news true f long = order.left_with q ok new news (long ∙ sym (ap first_size f.0))
   handed_contents q ok hd ws new news false f long = order.refused q ok new news (some_first q.packets hd (length ws) f.0) (long ∙ sym (ap first_size f.0))
+
+  -- ---- what calls are, as steps of a run
+  pub place_call : (q : PacketsState H) → IsWellPlaced q → (s : ℕ) (hd : H) → placement q s ≢ None → (n : PacketsState H)
+      → n ≡ with_packet_if_room q s hd → Makes (Place hd (last_bytes n)) q n
+  place_call q ok s hd some n is =
+      let long : s ≡ length (last_bytes n) = sym (ap (λ o. length (last_bytes o)) is ∙ placed_long q ok s hd some) in
+      (subst (λ k. placement q k ≢ None) long some, is ∙ ap (λ k. with_packet_if_room q k hd) long, refl)
+
+  pub enqueue_call : (q : PacketsState H) (s : ℕ) (hd : H) (ws : List ℕ) → placement q s ≢ None → length ws ≡ s
+      → Makes (Enqueue hd ws) q (with_last_bytes (with_packet_if_room q s hd) ws)
+  enqueue_call q s hd ws some long =
+      (subst (λ k. placement q k ≢ None) (sym long) some, ap (λ k. with_last_bytes (with_packet_if_room q k hd) ws) (sym long))
+
+  pub enqueue_with_call : (q : PacketsState H) (s : ℕ) (hd : H) (k : ℕ) (ws : List ℕ) → placement q s ≢ None → length ws ≡ s → k ≤ s
+      → (n : PacketsState H) → n ≡ with_last_size k (with_last_bytes (with_packet_if_room q s hd) ws) → Makes (EnqueueWith hd ws k) q n
+  enqueue_with_call q s hd k ws some long le n is = let c = enqueue_call q s hd ws some long in
+      (c.0, omega (arith, le, long), is ∙ ap (with_last_size k) c.1)
+
+  pub take_call : (q : PacketsState H) → IsWellPlaced q → (hd : H) (s : ℕ) → IsFirstSized q.packets hd s → (n : PacketsState H)
+      → n ≡ without_first_and_gap q → Makes (Take hd (last_dequeued_bytes n s)) q n
+  take_call q ok hd s first n is =
+      let t = taken_bytes q ok s (sym (ap first_size first)) in
+      let same = ap (λ o. last_dequeued_bytes o s) is in
+      ((subst (IsFirstSized q.packets hd) (sym (ap length same ∙ t.1)) first, same ∙ t.0), is)
+
+  pub last_dequeued_call : (q : PacketsState H) (s : ℕ) → AreLastDequeued q s → (ws : List ℕ) → length ws ≡ s
+      → Makes (WriteLastDequeued ws) q (with_bytes q (last_dequeued_bytes_index q s) ws)
+  last_dequeued_call q s free ws long =
+      (subst (AreLastDequeued q) (sym long) free, ap (λ n. with_bytes q (last_dequeued_bytes_index q n) ws) (sym long))
+
+  pub dequeue_with_call : (q : PacketsState H) (hd : H) (ws : List ℕ) (new : H) (news : List ℕ) (gone : Bool) → IsFirst q hd ws
+      → length news ≡ length ws → (n : PacketsState H) → n ≡ after_hand_out gone q new news → Makes (DequeueWith gone hd ws new news) q n
+  dequeue_with_call q hd ws new news true f long n is = (f, long, is)
+  dequeue_with_call q hd ws new news false f long n is =
+      (some_first q.packets hd (length ws) f.0, long ∙ sym (ap first_size f.0), is)
 
   -- ---- the log of a run
   -- the packets that left, followed by those that are queued, are those that came

@@ -2,17 +2,17 @@
 use Rattle.std.proofs.Common.{◌≢◌, ◌≡◌, ℕ, suc, zero, ◌+◌, ◌-◌, ◌<◌, ◌≤◌, List, [], ◌∷◌, ◌++◌}
 use Rattle.std.proofs.Common.{length, take, drop, min, refl, sym, ap, ap₂, ◌∙◌, subst, inl, inr}
 use Rattle.std.proofs.Common.{arith, ◌⊎◌, length-append, append_assoc, get_or, set}
-use Rattle.std.proofs.Common.{length-drop, length-take}
-use Rattle.std.proofs.lemmas.List.{take_at, drop_at, nil_from_length, take_all, take-take, length-take-le}
+use Rattle.std.proofs.Common.{length-drop}
+use Rattle.std.proofs.lemmas.List.{take_at, drop_at, nil_from_length, take_all}
 use Rattle.std.proofs.lemmas.Option.{none-some, cond_some}
 use Rattle.std.specs.Prelude.{true, Option}
 use Rattle.std.specs.List.{slice_get}
 use Rattle.std.specs.declared.option.Option.TheVariants.{Some, None}
 use Rattle.net_ring.specs.Overwrite.{overwrite}
-use Rattle.net_ring.specs.Ring.{RingState, ring, index_after, last_dequeued_index, rotation, capacity}
-use Rattle.net_ring.specs.Ring.{window, queue, storage_index, IsWellFormed, from_start_if_empty}
+use Rattle.net_ring.specs.Ring.{RingState, ring, index_after, last_dequeued_index, capacity}
+use Rattle.net_ring.specs.Ring.{window, queue, IsWellFormed, from_start_if_empty}
 use Rattle.net_ring.specs.Ring.{with_enqueued, with_dequeued, with_elements, contiguous_window}
-use Rattle.net_ring.specs.Ring.{contiguous_queued, queue_index, contiguous_queued_from}
+use Rattle.net_ring.specs.Ring.{queue_index, contiguous_queued_from}
 use Rattle.net_ring.specs.Ring.{spare_index, contiguous_window_from}
 use Rattle.net_packets.specs.Packets.{Packet, PacketsState, packet, bytes_used, slots_used}
 use Rattle.net_packets.specs.Packets.{slots_for, byte_ring, IsPlaced, ArePlaced, gap_for, placement}
@@ -24,8 +24,8 @@ use Rattle.net_packets.specs.Packets.{first_bytes, IsFirst, with_first_header, w
 use Rattle.net_packets.specs.Packets.{without_first, last_dequeued_bytes_index, AreLastDequeued, IsWellPlaced, with_bytes}
 use Rattle.net_packets.specs.PacketSlots.{slot, gap_slot, packet_slots, packets_in, Represents, packets_state}
 use Rattle.net_packets.specs.declared.packet_metadata.PacketMetadata.{PacketMetadata}
-use Rattle.net_ring.proofs.Rotations.{length-overwrite, length-queue, with_dequeued_parts, part-rotation, cut, overwrite_at, read_at_le}
-use Rattle.net_ring.proofs.RingFacts.{read_index_is, rewind_cases, rewind_wf}
+use Rattle.net_ring.proofs.Rotations.{length-overwrite, length-queue, with_dequeued_parts}
+use Rattle.net_ring.proofs.RingFacts.{rewind_cases, rewind_wf}
 use Rattle.net_packets.proofs.PacketFacts.{round, slots_append, slots_of_append, bytes_append}
 use Rattle.net_packets.proofs.PacketFacts.{placed_append, placed_anew, placed_here, placed_skip}
 use Rattle.net_packets.proofs.PacketFacts.{placed_pop, slots_some, count_is, place_zero, place_le_in}
@@ -396,9 +396,6 @@ module _ {H : Type 0} where
     fits : (head_size ≤ bytes_used (packets_in 0 (queue m))) × (b.read_at + head_size ≤ capacity b)
     fits = head_fits (capacity b) b.read_at (packets_in 0 (queue m)) h.1.0 (omega (arith, h.3, h.1.1)) h.4 z
 
-    pub head_contiguous : head_size ≤ contiguous_queued b
-    head_contiguous = omega (arith, h.3, fits.0, fits.1)
-
     pub head_at : queue_index b 0 ≡ b.read_at
     head_at = let n : min 0 b.count ≡ 0 = omega arith in ap (index_after (capacity b) b.read_at) n ∙ place_zero (capacity b) b.read_at h.1.0
 
@@ -558,29 +555,6 @@ module _ {H : Type 0} where
       pub last_dequeued_value : (now : List ℕ) → now ≡ take s (drop (last_dequeued_index b s) b.storage) → now ≡ take s (drop (last_dequeued_bytes_index q s) q.storage)
       last_dequeued_value now stored = stored ∙ ap (λ (o : PacketsState H). take s (drop (last_dequeued_bytes_index o s) o.storage)) is
 
--- ---- a write to a part of which the rest stays as it was
-over_part : (st ws : List ℕ) (r n : ℕ) → r + n ≤ length st → length ws ≤ n → overwrite st r (ws ++ drop (length ws) (take n (drop r st))) ≡ overwrite st r ws
-over_part st ws r n fits le =
-    let c1 = cut r st (omega (arith, fits)) in let a = c1.0 in let v = c1.1 in
-    let c2 = cut n v (omega (arith, c1.4, fits)) in let part = c2.0 in let z = c2.1 in
-    let c3 = cut (length ws) part (omega (arith, c2.3, le)) in let one = c3.0 in let two = c3.1 in
-    let read : take n (drop r st) ≡ part = ap (take n) (ap (drop r) c1.2 ∙ drop_at a v r c1.3) ∙ ap (take n) c2.2 ∙ take_at part z n c2.3 in
-    let rest : drop (length ws) (take n (drop r st)) ≡ two = ap (drop (length ws)) (read ∙ c3.2) ∙ drop_at one two (length ws) c3.3 in
-    let whole : st ≡ a ++ (part ++ z) = c1.2 ∙ ap (λ (l : List ℕ). a ++ l) c2.2 in
-    let parts : st ≡ a ++ (one ++ (two ++ z)) = whole ∙ ap (λ (l : List ℕ). a ++ (l ++ z)) c3.2 ∙ ap (λ (l : List ℕ). a ++ l) (append_assoc one two z) in
-    let sum = length-append ws two in
-    let long : length part ≡ length (ws ++ two) = omega (arith, sum, c2.3, c3.4, le) in
-    ap (λ (l : List ℕ). overwrite st r (ws ++ l)) rest ∙ ap (λ (l : List ℕ). overwrite l r (ws ++ two)) whole ∙ overwrite_at a part z (ws ++ two) r c1.3 long
-    ∙ ap (λ (l : List ℕ). a ++ l) (append_assoc ws two z)
-    ∙ sym (ap (λ (l : List ℕ). overwrite l r ws) parts ∙ overwrite_at a one (two ++ z) ws r c1.3 c3.3)
-
--- what a ring lends from its read index on
-lent_is : (b : RingState ℕ) → IsWellFormed b → take (contiguous_queued b) (queue b) ≡ take (contiguous_queued b) (drop b.read_at b.storage)
-lent_is b wf =
-    let r = read_at_le b wf in
-    take-take (contiguous_queued b) b.count (rotation b.storage b.read_at) (omega arith)
-    ∙ sym (part-rotation b.storage b.read_at 0 b.read_at (contiguous_queued b) r (omega (arith, wf.1)) (omega (arith, r)) (read_index_is b wf))
-
 module _ {H : Type 0} where
   headed_go : (m2 : RingState (PacketMetadata H)) (b : RingState ℕ) (ps : List (Packet H)) (hd : H) → first_gap ps ≡ 0
       → 0 < length ps → queue m2 ≡ slot (first_size ps) (Some hd) ∷ packet_slots (drop 1 ps) → IsWellFormed m2
@@ -602,9 +576,6 @@ module _ {H : Type 0} where
     abbrev kept : List (Packet H)
     kept = packets_in 0 (queue m)
 
-    abbrev lent : List ℕ
-    lent = take (contiguous_queued b) (queue b)
-
     first_is : (p : Packet H) × (kept ≡ p ∷ drop 1 kept) × (slot s (Some hd) ≡ slot p.size (Some p.header))
         × (drop 1 (queue m) ≡ packet_slots (drop 1 kept)) × (p.gap ≡ 0)
     first_is = head_slot m b h z (slot s (Some hd)) e
@@ -612,49 +583,28 @@ module _ {H : Type 0} where
     size_is : s ≡ first_size kept
     size_is = head_long m b h z (slot s (Some hd)) e
 
-    row : s ≤ contiguous_queued b
-    row = let f = head_contiguous m b h z in omega (arith, f, size_is)
+    -- its bytes
+    module _ (now : List ℕ) (count : length now ≡ contiguous_queued_from b 0 s) (stored : now ≡ take (length now) (drop (queue_index b 0) b.storage)) where
+      lift_long : length now ≡ first_size kept
+      lift_long = count ∙ ap (contiguous_queued_from b 0) size_is ∙ head_run m b h z
 
-    pub lift_fits : s ≤ length lent
-    lift_fits =
-        let long = length-queue b h.1 in
-        let n = length-take (contiguous_queued b) (queue b) in
-        omega (arith, row, n, long)
+      pub lift_head : (old : PacketsState H) → packets_state m b ≡ without_gap old → IsFirst old hd now
+      lift_head old is = (
+        close_first old.packets hd (length now) (head_first m b h z (slot s (Some hd)) e hd refl (length now) lift_long (without_gap old) is),
+        stored ∙ ap₂ (λ (n p : ℕ). take n (drop p b.storage)) lift_long (head_at m b h z) ∙ ap first_bytes is,
+      )
 
-    pub lift_bytes : take s lent ≡ first_bytes (packets_state m b)
-    lift_bytes = ap (take s) (lent_is b h.1) ∙ take-take s (contiguous_queued b) (drop b.read_at b.storage) row
-        ∙ ap (λ (n : ℕ). take n (drop b.read_at b.storage)) size_is
+    module _ (ws : List ℕ) (b2 : RingState ℕ) where
+      abbrev over : RingState ℕ
+      over = with_elements b (queue_index b 0) ws
 
-    pub lift_head : (old : PacketsState H) → packets_state m b ≡ without_gap old → IsFirst old hd (take s lent)
-    lift_head old is =
-        let n : length (take s lent) ≡ s = length-take-le s lent lift_fits in (
-          close_first old.packets hd (length (take s lent)) (head_first m b h z (slot s (Some hd)) e hd refl (length (take s lent)) (n
-              ∙ size_is) (without_gap old) is),
-          lift_bytes
-              ∙ ap first_bytes is,
-        )
-
-    module _ (after ws : List ℕ) (left : after ≡ ws ++ drop s lent) (long : length ws ≡ s) (k : ℕ) (b2 : RingState ℕ) (is : b2
-        ≡ with_elements (with_dequeued k b) b.read_at after) where
-      over : overwrite b.storage b.read_at after ≡ overwrite b.storage b.read_at ws
-      over =
-          let fits : b.read_at + contiguous_queued b ≤ length b.storage = let r = read_at_le b h.1 in omega (arith, r) in
-          ap (overwrite b.storage b.read_at) (left ∙ ap (λ (n : ℕ). ws ++ drop n lent) (sym long)
-          ∙ ap (λ (l : List ℕ). ws ++ drop (length ws) l) (lent_is b h.1))
-          ∙ over_part b.storage ws b.read_at (contiguous_queued b) fits (omega (arith, long, row))
-
-      bytes_are : b2 ≡ with_elements (with_dequeued k b) b.read_at ws
-      bytes_are = is ∙ ap (λ (st : List ℕ). ring st (storage_index b k) (b.count - k)) over
+      over_is : over ≡ with_elements b b.read_at ws
+      over_is = ap (λ (p : ℕ). with_elements b p ws) (head_at m b h z)
 
       -- it is taken off
-      module _ (all : k ≡ s) (m2 : RingState (PacketMetadata H)) (em : queue m2 ≡ drop 1 (queue m)) (wfm : IsWellFormed m2) where
-        long_is : length b.storage ≡ length (overwrite b.storage b.read_at ws)
-        long_is = sym (length-overwrite b.storage b.read_at ws)
-
+      module _ (is : b2 ≡ with_dequeued s over) (m2 : RingState (PacketMetadata H)) (em : queue m2 ≡ drop 1 (queue m)) (wfm : IsWellFormed m2) where
         off_is : b2 ≡ with_dequeued (first_size kept) (with_elements b b.read_at ws)
-        off_is =
-            bytes_are ∙ ap (λ (n : ℕ). with_elements (with_dequeued n b) b.read_at ws) (all ∙ size_is)
-            ∙ ap (λ (c : ℕ). ring (overwrite b.storage b.read_at ws) (index_after c b.read_at (first_size kept)) (b.count - first_size kept)) long_is
+        off_is = is ∙ ap₂ (λ (n : ℕ) (o : RingState ℕ). with_dequeued n o) size_is over_is
 
         off_holds : Represents m2 (with_dequeued (first_size kept) (with_elements b b.read_at ws)) (drop 1 kept)
         off_holds = pop_holds m (with_elements b b.read_at ws) (written_holds m b kept h b.read_at ws) z m2 (em ∙ first_is.3) wfm
@@ -671,12 +621,9 @@ module _ {H : Type 0} where
             (index_after (length (overwrite b.storage b.read_at ws)) b.read_at n) l) (sym (headed_size new kept)) (sym (headed_rest new kept))
 
       -- it stays
-      module _ (none : k ≡ 0) (new : H) (m2 : RingState (PacketMetadata H)) (em : queue m2 ≡ slot s (Some new) ∷ drop 1 (queue m)) (wfm : IsWellFormed m2) where
+      module _ (is : b2 ≡ over) (new : H) (m2 : RingState (PacketMetadata H)) (em : queue m2 ≡ slot s (Some new) ∷ drop 1 (queue m)) (wfm : IsWellFormed m2) where
         on_is : b2 ≡ with_elements b b.read_at ws
-        on_is =
-            bytes_are ∙ ap (λ (n : ℕ). with_elements (with_dequeued n b) b.read_at ws) none
-            ∙ ap₂ (λ (r n : ℕ). ring (overwrite b.storage b.read_at ws) r n) (place_zero (capacity b) b.read_at h.1.0) (let n : b.count - 0 ≡ b.count =
-            omega arith in n)
+        on_is = is ∙ over_is
 
         on_holds : Represents m2 (with_elements b b.read_at ws) (with_first_header new kept)
         on_holds =

@@ -1,4 +1,4 @@
--- What a walk by hand needs where a contract states four or five facts, each in a clause of its own.
+-- What a walk by hand needs where a contract states five or six facts, each in a clause of its own.
 use mathlib.Core.List.{List}
 use seplogic.Ra.Ura.{Ura}
 use base.Logic.{SProp, ent, sep, emp, via, comm∗, mono_l, mono_r, emp∗}
@@ -22,16 +22,18 @@ module _ {M : Type 1} (𝓤 : Ura M) where
       beside φ (sep 𝓤 (fact 𝓤 ψ) (sep 𝓤 (fact 𝓤 χ) (fact 𝓤 ω))) x.0
       (beside ψ (sep 𝓤 (fact 𝓤 χ) (fact 𝓤 ω)) x.1 (beside χ (fact 𝓤 ω) x.2 (fact_i 𝓤 ω (emp 𝓤) x.3)))
 
--- a goal P ∗ ⌜φ⌝ ∗ ⌜ψ⌝ ∗ ⌜χ⌝ ∗ ⌜ω⌝: the facts are shown, and P is left
-pub says_four : {M : Type 1} {𝓤 : Ura M} {𝓛 : Logic 𝓤} {K : Type 0} {Γ : List (Item 𝓤)} → K → {φ ψ χ ω : Type 0} {P : SProp 𝓤} → φ × ψ × χ × ω
-    → Step K 𝓛 Γ (prop P) Γ (prop (sep 𝓤 P (Four 𝓤 φ ψ χ ω)))
-says_four {𝓤 = 𝓤} t {φ} {ψ} {χ} {ω} {P} x = step (λ s. record { prf = via 𝓤 P s.prf (added 𝓤 P (Four 𝓤 φ ψ χ ω) (four 𝓤 φ ψ χ ω x)) })
+  five : (α φ ψ χ ω : Type 0) → α × φ × ψ × χ × ω → ent 𝓤 (emp 𝓤) (sep 𝓤 (fact 𝓤 α) (Four φ ψ χ ω))
+  five α φ ψ χ ω x = beside α (Four φ ψ χ ω) x.0 (four φ ψ χ ω (x.1, x.2, x.3, x.4))
 
--- the same with one fact more
+-- a goal P ∗ ⌜α⌝ ∗ ⌜φ⌝ ∗ ⌜ψ⌝ ∗ ⌜χ⌝ ∗ ⌜ω⌝: the facts are shown, and P is left
 pub says_five : {M : Type 1} {𝓤 : Ura M} {𝓛 : Logic 𝓤} {K : Type 0} {Γ : List (Item 𝓤)} → K → {α φ ψ χ ω : Type 0} {P : SProp 𝓤} → α × φ × ψ × χ × ω
     → Step K 𝓛 Γ (prop P) Γ (prop (sep 𝓤 P (sep 𝓤 (fact 𝓤 α) (Four 𝓤 φ ψ χ ω))))
 says_five {𝓤 = 𝓤} t {α} {φ} {ψ} {χ} {ω} {P} x =
-    step (λ s. record {
-      prf = via 𝓤 P s.prf
-          (added 𝓤 P (sep 𝓤 (fact 𝓤 α) (Four 𝓤 φ ψ χ ω)) (beside 𝓤 α (Four 𝓤 φ ψ χ ω) x.0 (four 𝓤 φ ψ χ ω (x.1, x.2, x.3, x.4))));
-    })
+    step (λ s. record { prf = via 𝓤 P s.prf (added 𝓤 P (sep 𝓤 (fact 𝓤 α) (Four 𝓤 φ ψ χ ω)) (five 𝓤 α φ ψ χ ω x)) })
+
+-- the same with one fact more
+pub says_six : {M : Type 1} {𝓤 : Ura M} {𝓛 : Logic 𝓤} {K : Type 0} {Γ : List (Item 𝓤)} → K → {β α φ ψ χ ω : Type 0} {P : SProp 𝓤} → β × α × φ × ψ × χ × ω
+    → Step K 𝓛 Γ (prop P) Γ (prop (sep 𝓤 P (sep 𝓤 (fact 𝓤 β) (sep 𝓤 (fact 𝓤 α) (Four 𝓤 φ ψ χ ω)))))
+says_six {𝓤 = 𝓤} t {β} {α} {φ} {ψ} {χ} {ω} {P} x =
+    let all : SProp 𝓤 = sep 𝓤 (fact 𝓤 α) (Four 𝓤 φ ψ χ ω) in
+    step (λ s. record { prf = via 𝓤 P s.prf (added 𝓤 P (sep 𝓤 (fact 𝓤 β) all) (beside 𝓤 β all x.0 (five 𝓤 α φ ψ χ ω (x.1, x.2, x.3, x.4, x.5)))) })

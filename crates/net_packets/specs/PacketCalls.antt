@@ -11,7 +11,7 @@ use Rattle.std.specs.Borrow.{MutBor}
 use Rattle.std.specs.Fn.{Once, FnOnceTakesAtMut, FnOnceReturnsAtMut}
 use Rattle.net_packets.specs.Packets.{PacketsState, IsRoom, IsFirst, with_packet_if_room, with_last_bytes}
 use Rattle.net_packets.specs.Packets.{with_last_size, after_hand_out}
-use Rattle.net_packets.specs.PacketHistory.{contents}
+use Rattle.net_packets.specs.PacketHistory.{contents, Makes, EnqueueWith, DequeueWith}
 
 -- ---- the closure writes a new packet
 module _ {F H : Type 0}
@@ -37,6 +37,7 @@ module _ {F H : Type 0}
     pub at_most : k ≤ s
     pub accepted : contents r ≡ contents q ++ ((h, take k bytes) ∷ [])
     pub made : r ≡ with_last_size k (with_last_bytes (with_packet_if_room q s h) bytes)
+    pub call : Makes (EnqueueWith h bytes k) q r
 
 -- ---- the closure is handed the first packet
 module _ {F H R : Type 0}
@@ -80,6 +81,7 @@ module _ {F H R E : Type 0}
         ≡ (if is_ok answer then drop 1 (contents q)
         else ((new_header, new_bytes) ∷ drop 1 (contents q)))
     pub made : r ≡ after_hand_out (is_ok answer) q new_header new_bytes
+    pub call : Makes (DequeueWith (is_ok answer) header bytes new_header new_bytes) q r
 
 -- ---- a packet is copied out
 -- the first of the packets ps, with the header h, is gone from rest, and as many of its bytes as xs has room for, k of

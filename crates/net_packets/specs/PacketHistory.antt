@@ -4,7 +4,7 @@
 --     with_bytes_in_last_entry bytes ps      the last of these has other bytes
 --     QueueCall H, Makes call q r, MakesAll calls q r      what one call did, and what calls make
 --     log_after call log, log_after_all calls log, history calls      the log after calls
-use Rattle.std.specs.Prelude.{◌≡◌, ◌≢◌, ◌≤◌, ℕ, ◌+◌, List, [], ◌∷◌, length, take, drop, set}
+use Rattle.std.specs.Prelude.{Bool, if◌then◌else◌, ◌≡◌, ◌≢◌, ◌≤◌, ℕ, ◌+◌, List, [], ◌∷◌, length, take, drop, set}
 use Rattle.std.specs.declared.option.Option.TheVariants.{None}
 use Rattle.net_ring.specs.Ring.{queue}
 use Rattle.net_ring.specs.Log.{Log, empty_log, log_accepted, log_left, log_dropped}
@@ -87,6 +87,11 @@ module _ {H : Type 0} where
   Makes (Dequeue header bytes written) q r =
       IsFirst q header bytes × (length written ≡ length bytes)
       × (r ≡ with_bytes (without_first_and_gap q) (without_gap q).read_at written)
+
+  -- `dequeue_with`, whose closure returned `Ok` if gone is true, and otherwise `Err`
+  abbrev pub DequeueWith : Bool → H → List ℕ → H → List ℕ → QueueCall H
+  DequeueWith gone header bytes after written =
+      if gone then DequeueOk header bytes after written else DequeueErr after written
 
   -- the calls, one after another, make r of q
   abbrev pub MakesAll : List (QueueCall H) → PacketsState H → PacketsState H → Type 0

@@ -190,9 +190,11 @@ fn gap_for(size: usize, contiguous: usize, window: usize) -> Option<usize>
 
 /// Returns how many slots a packet after a gap of `gap` bytes uses.
 #[inline]
-fn slots_for(gap: usize) -> usize
+pub(crate) fn slots_for(gap: usize) -> usize
     ensures count { result ≡ slots_for gap }
     ensures some { 1 ≤ result }
+    ensures one { result ≤ 1 → gap ≡ 0 }
+    ensures two { 1 < result → 0 < gap }
 {
     if gap == 0 { 1 } else { 2 }
 }

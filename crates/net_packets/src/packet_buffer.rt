@@ -5,8 +5,9 @@ ghost use Rattle.net_ring.specs.Ring.{capacity};
 ghost use Rattle.net_packets.specs.Packets.{IsWellPlaced, bytes_used, slots_used, no_packets};
 ghost use Rattle.net_packets.specs.Packets.{placement, only_last, without_gap, first_gap};
 ghost use Rattle.net_packets.specs.Packets.{first_size};
-ghost use Rattle.net_packets.specs.PacketHistory.{contents};
+ghost use Rattle.net_packets.specs.PacketHistory.{contents, Makes, Reset};
 
+use self::slots::take_slot;
 use crate::head::PacketsHead;
 use crate::packet_metadata::PacketMetadata;
 use net_ring::{Empty, Full, ManagedSlice, RingOver, Storage};
@@ -141,13 +142,14 @@ impl<H, M: Storage<PacketMetadata<H>>, B: Storage<u8>> PacketsOver<H, M, B> {
         count_packets(first) + count_packets(second)
     }
 
-    /// Empties the queue. The bytes of the storage stay as they are, and it is not promised when
-    /// the headers are dropped.
+    /// Empties the queue. The bytes of the storage stay as they are. When headers are dropped is
+    /// unspecified.
     ///
     /// In smoltcp this call is private.
     pub fn reset(&mut self)
         ensures empty { contents self.new ≡ [] }
         ensures made { self.new ≡ no_packets self.old.slot_count self.old.storage }
+        ensures call { Makes Reset self.old self.new }
     {
         self.slots.clear();
         self.bytes.clear();
@@ -202,8 +204,7 @@ impl<H, M: Storage<PacketMetadata<H>>, B: Storage<u8>> PacketsOver<H, M, B> {
     {
         let gap = self.first_gap();
         if gap > 0 {
-            self.slots.dequeue_allocated(1);
-            self.bytes.dequeue_allocated(gap);
+            take_slot(&mut self.slots, &mut self.bytes, gap);
         }
     }
 }

@@ -10,9 +10,7 @@ ghost use Rattle.net_assembler.specs.Positions.{Positions, with_range, front, no
 ghost use Rattle.net_storage.specs.Reassembly.{Reassembles, is_in_writes, newest_element};
 
 use net_assembler::assembler::laws::{front as front_is_least, members};
-pub use net_assembler::laws::{
-    front_after_remove_front, member_after_with_range, ranges_in_any_order,
-};
+pub use net_assembler::laws::{front_after_remove_front, ranges_in_any_order};
 pub use net_ring::laws::{element_after_overwrite, element_set};
 
 /// States that `Reassembles` holds of a buffer and the empty set before any write, and after each

@@ -1,14 +1,13 @@
 //! Closures that write a new packet, or are handed the first one.
-ghost use Rattle.std.specs.Prelude.{◌≡◌, ◌≤◌, ◌↔◌, ◌++◌, [], ℕ, List, IsErr, IfOk, OnErr, length};
-ghost use Rattle.std.specs.Prelude.{take, drop, is_ok, if◌then◌else◌};
+ghost use Rattle.std.specs.Prelude.{◌≡◌, ◌↔◌, [], IsErr, IfOk, OnErr, length};
 ghost use Rattle.std.specs.declared.option.Option.TheVariants.{None};
 ghost use Rattle.net_packets.specs.Packets.{placement};
-ghost use Rattle.net_packets.specs.PacketCalls.{TakesRoom, CountsAtMost, WritesPacket, TakesPacket};
-ghost use Rattle.net_packets.specs.PacketCalls.{GivesAtPacket, TakesFirstPacket, HandsPacket};
+ghost use Rattle.net_packets.specs.PacketCalls.{TakesRoom, CountsAtMost, WritesPacket};
+ghost use Rattle.net_packets.specs.PacketCalls.{TakesFirstPacket, HandsPacket};
 ghost use Rattle.net_packets.specs.PacketHistory.{contents};
 
 use super::PacketsOver;
-use super::slots::{lift_header, push_slots, put_header};
+use super::slots::{append, lift_header, put_header, take_slot};
 use crate::packet_metadata::PacketMetadata;
 use net_ring::{Empty, Full, Storage};
 
@@ -44,15 +43,7 @@ impl<H: Drop, M: Storage<PacketMetadata<H>>, B: Storage<u8>> PacketsOver<H, M, B
         };
         self.bytes.rewind_if_empty();
         let count = f(self.bytes.get_unallocated(gap, max_size));
-        self.bytes.enqueue_unallocated(gap + count);
-        push_slots(
-            &mut self.slots,
-            gap,
-            PacketMetadata {
-                size: count,
-                header: Some(header),
-            },
-        );
+        append(&mut self.slots, &mut self.bytes, gap, count, header);
         Ok(count)
     }
 
@@ -78,35 +69,13 @@ impl<H: Drop, M: Storage<PacketMetadata<H>>, B: Storage<u8>> PacketsOver<H, M, B
             × (length self.new.storage ≡ length self.old.storage) }
     {
         self.skip();
-        let (size, header) = lift_header(&mut self.slots)?;
-        let (_, (answer, header)) = self
-            .bytes
-            .dequeue_many_with(move |queued| with_first(f, header, size, queued));
+        let (size, mut header) = lift_header(&mut self.slots)?;
+        let answer = f(&mut header, self.bytes.get_allocated_mut(0, size));
         if answer.is_ok() {
-            self.slots.dequeue_allocated(1);
+            take_slot(&mut self.slots, &mut self.bytes, size);
         } else {
             put_header(&mut self.slots, header);
         }
         Ok(answer)
     }
-}
-
-/// Calls `f` on a header and the first `size` bytes of the queue, and returns what `f` returned,
-/// the header and how many bytes are taken off.
-fn with_first<H, R, E, F: FnOnce(&mut H, &mut [u8]) -> Result<R, E>>(
-    f: F,
-    mut header: H,
-    size: usize,
-    queued: &mut [u8],
-) -> (usize, (Result<R, E>, H))
-    requires fits { size ≤ length queued.old }
-    requires callable { TakesPacket F.FnOnce f header (take size queued.old) }
-    ensures count { result.0 ≡ (if is_ok result.1.0 then size else 0) }
-    ensures called { (ws : List ℕ)
-        × GivesAtPacket F.FnOnce f header (take size queued.old) result.1.0 result.1.1 ws
-        × (length ws ≡ size) × (queued.new ≡ ws ++ drop size queued.old) }
-{
-    let answer = f(&mut header, &mut queued[..size]);
-    let count = if answer.is_ok() { size } else { 0 };
-    (count, (answer, header))
 }

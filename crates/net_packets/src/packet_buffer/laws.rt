@@ -3,13 +3,11 @@ ghost use Rattle.std.specs.Prelude.{◌≡◌, ◌≢◌, ◌≤◌, ◌<◌, �
 ghost use Rattle.std.specs.Prelude.{length, take, drop, if◌then◌else◌};
 ghost use Rattle.std.specs.declared.option.Option.TheVariants.{Some, None};
 ghost use Rattle.net_packets.specs.Packets.{PacketsState, IsWellPlaced, no_packets, IsFirst};
-ghost use Rattle.net_packets.specs.Packets.{IsFirstSized, placement, with_packet_if_room, only_last};
-ghost use Rattle.net_packets.specs.Packets.{last_bytes, with_last_bytes, with_last_size, without_gap};
-ghost use Rattle.net_packets.specs.Packets.{first_size, with_first_bytes, without_first, after_hand_out, without_first_and_gap};
-ghost use Rattle.net_packets.specs.Packets.{with_bytes, last_dequeued_bytes_index};
-ghost use Rattle.net_packets.specs.Packets.{last_dequeued_bytes, AreLastDequeued};
-ghost use Rattle.net_packets.specs.PacketHistory.{contents, with_bytes_in_last_entry, QueueCall, MakesAll};
-ghost use Rattle.net_packets.specs.PacketHistory.{history};
+ghost use Rattle.net_packets.specs.Packets.{placement, with_packet_if_room};
+ghost use Rattle.net_packets.specs.Packets.{with_last_bytes, with_last_size, without_gap};
+ghost use Rattle.net_packets.specs.Packets.{first_size, with_first_bytes, without_first, after_hand_out};
+ghost use Rattle.net_packets.specs.Packets.{without_first_and_gap};
+ghost use Rattle.net_packets.specs.PacketHistory.{contents, QueueCall, MakesAll, history};
 
 use crate::packet_buffer::PacketsOver;
 use crate::packet_metadata::PacketMetadata;
@@ -71,32 +69,6 @@ pub fn packets_leave_in_order<H>()
     ensures left_with { (q : PacketsState H) (header : H) (ws : List ℕ)
         → IsWellPlaced q → length ws ≡ first_size q.packets
         → contents (without_first (with_first_bytes (without_gap q) header ws)) ≡ drop 1 (contents q) }
-{}
-
-/// States what `place` and `last_mut`, and `take` and `last_dequeued_mut`, do to a queue's contents
-/// if they are used separately.
-///
-/// A placed packet has the bytes that are in the storage, until they are written. After `take`,
-/// `last_dequeued_mut` lends the bytes of the packet that was taken off, and a write to them leaves
-/// the contents unchanged. The same holds of the bytes that `dequeue` lends.
-pub fn the_two_steps_apart<H>()
-    ensures placed { (q : PacketsState H) (size : ℕ) (header : H)
-        → IsWellPlaced q → placement q size ≢ None
-        → contents (with_packet_if_room q size header)
-        ≡ contents q ++ (header, last_bytes (with_packet_if_room q size header)) ∷ [] }
-    ensures last_written { (q : PacketsState H) (ws : List ℕ)
-        → IsWellPlaced q → q.packets ≢ [] → length ws ≡ first_size (only_last q.packets)
-        → contents (with_last_bytes q ws) ≡ with_bytes_in_last_entry ws (contents q) }
-    ensures taken { (q : PacketsState H) (header : H) (size : ℕ)
-        → IsWellPlaced q → IsFirstSized q.packets header size
-        → contents q ≡ (header, last_dequeued_bytes (without_first_and_gap q) size)
-        ∷ contents (without_first_and_gap q) }
-    ensures last_dequeued_written { (q : PacketsState H) (ws : List ℕ)
-        → IsWellPlaced q → AreLastDequeued q (length ws)
-        → contents (with_bytes q (last_dequeued_bytes_index q (length ws)) ws) ≡ contents q }
-    ensures lent_written { (q : PacketsState H) (ws : List ℕ)
-        → IsWellPlaced q → length ws ≡ first_size q.packets
-        → contents (with_bytes (without_first_and_gap q) (without_gap q).read_at ws) ≡ drop 1 (contents q) }
 {}
 
 /// States that showing a packet changes nothing: after `peek` the same packet is taken off, and a

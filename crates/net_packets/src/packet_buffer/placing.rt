@@ -1,14 +1,15 @@
 //! Packets that are appended.
-ghost use Rattle.std.specs.Prelude.{◌≡◌, ◌↔◌, ◌∷◌, ◌++◌, [], ℕ, List, IsErr, IfOk, OnErr, OnOk};
+ghost use Rattle.std.specs.Prelude.{◌≡◌, ◌≢◌, ◌↔◌, ◌∷◌, ◌++◌, [], ℕ, List, IsErr, IfOk, OnErr, OnOk};
 ghost use Rattle.std.specs.Prelude.{length};
 ghost use Rattle.std.specs.Borrow.{sem};
 ghost use Rattle.std.specs.declared.option.Option.TheVariants.{Some, None};
 ghost use Rattle.net_packets.specs.Packets.{placement, with_packet, with_packet_if_room, only_last};
 ghost use Rattle.net_packets.specs.Packets.{last_bytes, with_last_bytes, first_size};
-ghost use Rattle.net_packets.specs.PacketHistory.{contents, with_bytes_in_last_entry};
+ghost use Rattle.net_packets.specs.PacketHistory.{contents, with_bytes_in_last_entry, Makes};
+ghost use Rattle.net_packets.specs.PacketHistory.{Place, WriteLast, Enqueue};
 
 use super::PacketsOver;
-use super::slots::push_slots;
+use super::slots::append;
 use crate::packet_metadata::PacketMetadata;
 use net_ring::{Full, Storage};
 
@@ -21,8 +22,8 @@ impl<H: Drop, M: Storage<PacketMetadata<H>>, B: Storage<u8>> PacketsOver<H, M, B
     ///
     /// Returns `Full`, drops the header and changes nothing, if there are no `size` contiguous free
     /// bytes, or no slot for the packet or its gap. An empty queue begins at the storage's
-    /// beginning. With `last_mut` this is [`PacketsOver::enqueue`] in two steps, whose effects
-    /// callers know exactly.
+    /// beginning. With `last_mut` this is [`PacketsOver::enqueue`] in two steps, each with an exact
+    /// contract.
     ///
     /// ```rust
     /// queue.place(bytes.len(), header)?;
@@ -39,6 +40,7 @@ impl<H: Drop, M: Storage<PacketMetadata<H>>, B: Storage<u8>> PacketsOver<H, M, B
         ensures size { OnOk result (first_size (only_last self.new.packets) ≡ size) }
         ensures capacity { (self.new.slot_count ≡ self.old.slot_count)
             × (length self.new.storage ≡ length self.old.storage) }
+        ensures call { OnOk result (Makes (Place header (last_bytes self.new)) self.old self.new) }
     {
         let Some(gap) = self.placement(size) else {
             return Err(Full);
@@ -57,6 +59,8 @@ impl<H: Drop, M: Storage<PacketMetadata<H>>, B: Storage<u8>> PacketsOver<H, M, B
         ensures size { length result.now ≡ first_size (only_last self.old.packets) }
         ensures capacity { (ws : List ℕ) → length (with_last_bytes self.old ws).storage
             ≡ length self.old.storage }
+        ensures call { (ws : List ℕ) → self.old.packets ≢ [] → length ws ≡ length result.now
+            → Makes (WriteLast ws) self.old (with_last_bytes self.old ws) }
     {
         let size = self.last_size();
         self.last_part_mut(size)
@@ -78,6 +82,8 @@ impl<H: Drop, M: Storage<PacketMetadata<H>>, B: Storage<u8>> PacketsOver<H, M, B
         ensures value { IfOk result
             (λ r. r.now ≡ last_bytes (with_packet_if_room self.old size header)) }
         ensures size { IfOk result (λ r. length r.now ≡ size) }
+        ensures call { IfOk result (λ r. (ws : List ℕ) → length ws ≡ size → Makes (Enqueue header ws)
+            self.old (with_last_bytes (with_packet_if_room self.old size header) ws)) }
     {
         let Ok(()) = self.place(size, header) else {
             return Err(Full);
@@ -90,17 +96,8 @@ impl<H: Drop, M: Storage<PacketMetadata<H>>, B: Storage<u8>> PacketsOver<H, M, B
         requires { placement self.old size ≡ Some gap }
         ensures { self.new ≡ with_packet self.old gap size header }
     {
-        push_slots(
-            &mut self.slots,
-            gap,
-            PacketMetadata {
-                size,
-                header: Some(header),
-            },
-        );
-        let bytes = &mut self.bytes;
-        bytes.rewind_if_empty();
-        bytes.enqueue_unallocated(gap + size);
+        self.bytes.rewind_if_empty();
+        append(&mut self.slots, &mut self.bytes, gap, size, header);
     }
 
     /// Lends the last `size` bytes, which are those of the last packet.

@@ -4,7 +4,7 @@ ghost use Rattle.std.specs.Prelude.{take, drop};
 ghost use Rattle.std.specs.declared.option.Option.TheVariants.{None};
 ghost use Rattle.net_packets.specs.Packets.{placement, with_packet, with_packet_of, without_first_and_gap};
 ghost use Rattle.net_packets.specs.PacketCalls.{CopiesOut};
-ghost use Rattle.net_packets.specs.PacketHistory.{contents, head_bytes};
+ghost use Rattle.net_packets.specs.PacketHistory.{contents, head_bytes, Makes, Enqueue, Take};
 
 use super::PacketsOver;
 use crate::packet_metadata::PacketMetadata;
@@ -22,6 +22,9 @@ impl<H: Drop, M: Storage<PacketMetadata<H>>, B: Storage<u8>> PacketsOver<H, M, B
         ensures full { IsErr result ↔ (placement self.old (length «data».now) ≡ None) }
         ensures unchanged { OnErr result (self.new ≡ self.old) }
         ensures made { OnOk result (self.new ≡ with_packet_of self.old header «data».now) }
+        ensures capacity { (self.new.slot_count ≡ self.old.slot_count)
+            × (length self.new.storage ≡ length self.old.storage) }
+        ensures call { OnOk result (Makes (Enqueue header «data».now) self.old self.new) }
     {
         self.place(data.len(), header)?;
         self.last_part_mut(data.len()).copy_from_slice(data);
@@ -51,6 +54,10 @@ impl<H: Drop, M: Storage<PacketMetadata<H>>, B: Storage<u8>> PacketsOver<H, M, B
         ensures no_packet { IsErr result ↔ (length self.old.packets ≡ 0) }
         ensures unchanged { OnErr result ((self.new ≡ self.old) × (into.new ≡ into.old)) }
         ensures made { OnOk result (self.new ≡ without_first_and_gap self.old) }
+        ensures capacity { (self.new.slot_count ≡ self.old.slot_count)
+            × (length self.new.storage ≡ length self.old.storage) }
+        ensures call { IfOk result
+            (λ r. Makes (Take r.0 (head_bytes (contents self.old))) self.old self.new) }
     {
         let (header, size) = self.take()?;
         let count = copy(into, self.last_dequeued_mut(size));

@@ -1,16 +1,64 @@
-//! The ring of a packet queue's slots.
-ghost use Rattle.std.specs.Prelude.{◌≡◌, ◌≢◌, ◌≤◌, ◌-◌, ◌↔◌, ◌∷◌, ◌++◌, [], ℕ, IsErr, IfOk, OnErr};
-ghost use Rattle.std.specs.Prelude.{drop};
+//! The rings of a packet queue, of its slots and of its bytes.
+ghost use Rattle.std.specs.Prelude.{◌≡◌, ◌≢◌, ◌≤◌, ◌<◌, ◌^◌, ◌+◌, ◌-◌, ◌↔◌, ◌∷◌, ◌++◌, [], ℕ};
+ghost use Rattle.std.specs.Prelude.{drop, IsErr, IfOk, OnErr};
 ghost use Rattle.std.specs.declared.option.Option.TheVariants.{Some, None};
-ghost use Rattle.net_ring.specs.Ring.{capacity, window, queue, IsWellFormed};
+ghost use Rattle.net_ring.specs.Ring.{capacity, window, queue, with_enqueued, with_dequeued, IsWellFormed};
 ghost use Rattle.net_packets.specs.Packets.{slots_for};
 ghost use Rattle.net_packets.specs.PacketSlots.{gap_slot, slot, IsFirstSlot, WithFirstSlot};
 
+use crate::head::slots_for;
 use crate::packet_metadata::PacketMetadata;
 use net_ring::{Empty, RingOver, Storage};
 
-/// Enqueues the slot of a packet, and before it one for its gap, unless the gap has 0 bytes.
-pub(crate) fn push_slots<H: Drop, M: Storage<PacketMetadata<H>>>(
+/// Appends a packet of `size` bytes after a gap of `gap` bytes: its slots, and the bytes of both.
+#[inline]
+pub(crate) fn append<H: Drop, M: Storage<PacketMetadata<H>>, B: Storage<u8>>(
+    slots: &mut RingOver<PacketMetadata<H>, M>,
+    bytes: &mut RingOver<u8, B>,
+    gap: usize,
+    size: usize,
+    header: H,
+)
+    requires well_formed { IsWellFormed slots.old }
+    requires free { slots_for gap ≤ window slots.old }
+    requires room { gap + size ≤ window bytes.old }
+    requires fits { window bytes.old < 2 ^ 64 }
+    ensures queue { queue slots.new ≡ queue slots.old ++ (gap_slot gap ++ slot size (Some header) ∷ []) }
+    ensures capacity { capacity slots.new ≡ capacity slots.old }
+    ensures well_formed { IsWellFormed slots.new }
+    ensures bytes { bytes.new ≡ with_enqueued (gap + size) bytes.old }
+{
+    push_slots(
+        slots,
+        gap,
+        PacketMetadata {
+            size,
+            header: Some(header),
+        },
+    );
+    bytes.enqueue_unallocated(gap + size);
+}
+
+/// Takes the first slot and its `size` bytes off: of a gap before the first packet, or of the first
+/// packet.
+#[inline]
+pub(crate) fn take_slot<H, M: Storage<PacketMetadata<H>>, B: Storage<u8>>(
+    slots: &mut RingOver<PacketMetadata<H>, M>,
+    bytes: &mut RingOver<u8, B>,
+    size: usize,
+)
+    requires slot { 1 ≤ slots.old.count }
+    requires size { size ≤ bytes.old.count }
+    ensures slots { slots.new ≡ with_dequeued 1 slots.old }
+    ensures queue { queue slots.new ≡ drop 1 (queue slots.old) }
+    ensures bytes { bytes.new ≡ with_dequeued size bytes.old }
+{
+    slots.dequeue_allocated(1);
+    bytes.dequeue_allocated(size);
+}
+
+/// Enqueues the slot of a packet, and before it one for its gap, if that has one.
+fn push_slots<H: Drop, M: Storage<PacketMetadata<H>>>(
     slots: &mut RingOver<PacketMetadata<H>, M>,
     gap: usize,
     slot: PacketMetadata<H>,
@@ -21,7 +69,7 @@ pub(crate) fn push_slots<H: Drop, M: Storage<PacketMetadata<H>>>(
     ensures capacity { capacity slots.new ≡ capacity slots.old }
     ensures well_formed { IsWellFormed slots.new }
 {
-    if gap > 0 {
+    if slots_for(gap) > 1 {
         push_slot(
             slots,
             PacketMetadata {

@@ -6,10 +6,10 @@ ghost use Rattle.net_packets.specs.Packets.{without_gap, first_gap, first_bytes,
 ghost use Rattle.net_packets.specs.Packets.{without_first_and_gap, with_bytes, AreLastDequeued};
 ghost use Rattle.net_packets.specs.Packets.{last_dequeued_bytes_index, last_dequeued_bytes};
 ghost use Rattle.net_packets.specs.Packets.{AreLastDequeuedAt};
-ghost use Rattle.net_packets.specs.PacketHistory.{contents};
+ghost use Rattle.net_packets.specs.PacketHistory.{contents, Makes, Peek, Take, WriteLastDequeued, Dequeue};
 
 use super::PacketsOver;
-use super::slots::lift_header;
+use super::slots::{lift_header, take_slot};
 use crate::packet_metadata::PacketMetadata;
 use net_ring::{Empty, Storage};
 
@@ -37,6 +37,7 @@ impl<H: Drop, M: Storage<PacketMetadata<H>>, B: Storage<u8>> PacketsOver<H, M, B
         ensures unchanged { OnErr result (without_gap self.old ≡ self.old) }
         ensures first { IfOk result (λ r. IsFirstSized self.old.packets r.0.now (length r.1.now)) }
         ensures bytes { IfOk result (λ r. r.1.now ≡ first_bytes (without_gap self.old)) }
+        ensures call { Makes Peek self.old (without_gap self.old) }
     {
         self.skip();
         self.first()
@@ -46,7 +47,7 @@ impl<H: Drop, M: Storage<PacketMetadata<H>>, B: Storage<u8>> PacketsOver<H, M, B
     /// [`PacketsOver::last_dequeued_mut`] lends these bytes.
     ///
     /// Returns `Empty`, and changes nothing, if the queue has no packets. With `last_dequeued_mut`
-    /// this is [`PacketsOver::dequeue`] in two steps, whose effects callers know exactly.
+    /// this is [`PacketsOver::dequeue`] in two steps, each with an exact contract.
     ///
     /// ```rust
     /// let (_header, size) = queue.take()?;
@@ -64,11 +65,14 @@ impl<H: Drop, M: Storage<PacketMetadata<H>>, B: Storage<u8>> PacketsOver<H, M, B
         ensures dequeued { OnOk result (self.new ≡ without_first_and_gap self.old) }
         ensures last_dequeued { IfOk result
             (λ r. AreLastDequeuedAt self.new r.1 (without_gap self.old).read_at) }
+        ensures capacity { (self.new.slot_count ≡ self.old.slot_count)
+            × (length self.new.storage ≡ length self.old.storage) }
+        ensures call { IfOk result
+            (λ r. Makes (Take r.0 (last_dequeued_bytes self.new r.1)) self.old self.new) }
     {
         self.skip();
         let (size, header) = lift_header(&mut self.slots)?;
-        self.slots.dequeue_allocated(1);
-        self.bytes.dequeue_allocated(size);
+        take_slot(&mut self.slots, &mut self.bytes, size);
         Ok((header, size))
     }
 
@@ -89,6 +93,8 @@ impl<H: Drop, M: Storage<PacketMetadata<H>>, B: Storage<u8>> PacketsOver<H, M, B
         ensures size { length result.now ≡ size }
         ensures capacity { (ws : List ℕ) → length (with_bytes self.old
             (last_dequeued_bytes_index self.old size) ws).storage ≡ length self.old.storage }
+        ensures call { (ws : List ℕ) → length ws ≡ size → Makes (WriteLastDequeued ws) self.old
+            (with_bytes self.old (last_dequeued_bytes_index self.old size) ws) }
     {
         self.bytes.last_dequeued_mut(size)
     }
@@ -107,6 +113,9 @@ impl<H: Drop, M: Storage<PacketMetadata<H>>, B: Storage<u8>> PacketsOver<H, M, B
             ≡ drop 1 (contents self.old)) }
         ensures no_packet { IsErr result ↔ (length self.old.packets ≡ 0) }
         ensures first { IfOk result (λ r. IsFirst self.old r.0 r.1.now) }
+        ensures call { IfOk result (λ r. (ws : List ℕ) → length ws ≡ length r.1.now
+            → Makes (Dequeue r.0 r.1.now ws) self.old
+            (with_bytes (without_first_and_gap self.old) (without_gap self.old).read_at ws)) }
     {
         let Ok((header, size)) = self.take() else {
             return Err(Empty);

@@ -58,8 +58,8 @@ use Rattle.net_packets.specs.Packets.{without_gap, without_first_and_gap, last_d
 use Rattle.net_packets.specs.Packets.{AreLastDequeued, IsFirstSized, IsFirst, first_size}
 use Rattle.net_packets.specs.Packets.{without_first_gap, with_bytes}
 use Rattle.net_ring.specs.contracts.error.Empty as EM
-use Rattle.net_packets.specs.PacketHistory.{contents}
-use Rattle.net_packets.proofs.SaidFacts.{says_five}
+use Rattle.net_packets.specs.PacketHistory.{contents, Makes, Take as Taken, WriteLastDequeued}
+use Rattle.net_packets.proofs.SaidFacts.{says_six}
 use Rattle.net_packets.proofs.LendInside.{lent, Back, lends_inside, comes_inside}
 use Rattle.net_packets.proofs.ResultParts.{no_fields, alone, ok_or_err, ok_had, err_had, pair_had, pair_of, pair_val, pair_typed}
 use Rattle.net_packets.proofs.PacketSteps.{last_dequeued_less}
@@ -180,7 +180,7 @@ module _ (G : Given) {M : Type 1} {𝓤 : Ura M} (𝓛 : Logic 𝓤) (𝓜 : Mod
         (err_of 𝓛 Both EM.the_row (record {}) no_fields) $
         suffices ! _ (ends_at 𝓛 (ended G) (stayed G) all_clauses bound (live 1 (of_list (no_fields ∷ []))) (Err (record {})) (tt, tt) (tt, tt)) $
         nothing ! $ nothing ! $ fjoin ! $ join ! $ move ! (2 ∷ 3 ∷ []) $ join ! $ join ! $ frame ! $
-        says_five ! (((λ _. no_contents), (λ _. refl)), tt, tt, ((λ _. none), (λ _. refl)), tt) $ done !
+        says_six ! (((λ _. no_contents), (λ _. refl)), tt, tt, ((λ _. none), (λ _. refl)), tt, tt) $ done !
 
     -- the first packet has the header h and the bytes ws
     abbrev Shows : G.H.Denot → List ℕ → Type 0
@@ -204,12 +204,13 @@ module _ (G : Given) {M : Type 1} {𝓤 : Ura M} (𝓛 : Logic 𝓤) (𝓜 : Mod
         (ok_of 𝓛 Both EM.the_row (h, r) (pair_val hv w)) $
         suffices ! _ (ends_at 𝓛 (ended G) (stayed G) all_clauses bound (live 0 (of_list (pair_val hv w ∷ []))) (Ok (h, r)) (tt, tt) (tt, tt)) $
         nothing ! $ nothing ! $ fjoin ! $ join ! $ move ! (2 ∷ 3 ∷ []) $ join ! $ join ! $ frame ! $
-        says_five ! (
+        says_six ! (
           ((λ f. absurd (subst T (sym f) tt)), (λ e. absurd (has_some e))),
           shown,
           leaves,
           ((λ f. absurd (subst T (sym f) tt)), (λ e. absurd (is_some e))),
           is_head,
+          λ ws long. (is_head, long, refl),
         ) $ done !
 
     walk : ent 𝓤 (on_entry 𝓛 (ended G).signature κs qs bound.0.3 bound.0.4) (WpFn 𝓤 H 𝓣.C 𝓣.Λ (function G) (vptr self.ref_ptr.0 self.ref_ptr.1 ∷ []) Post)
@@ -237,12 +238,14 @@ module _ (G : Given) {M : Type 1} {𝓤 : Ura M} (𝓛 : Logic 𝓤) (𝓜 : Mod
         raw (fact 𝓤 (OnOk r (contents ws.0 ≡ drop-list 1 (contents x))))
         ⊛ raw (fact 𝓤 (IsErr r ↔ (length x.packets ≡ 0))) ⊛ raw (fact 𝓤 (OnErr r (ws.0 ≡ x))) ⊛
         raw (fact 𝓤 (IfOk r (λ t. IsFirstSized x.packets t.0 t.1))) ⊛ raw (fact 𝓤 (OnOk r (ws.0 ≡ y)))
-        ⊛ raw (fact 𝓤 (IfOk r (λ t. AreLastDequeued ws.0 t.1 × (last_dequeued_bytes_index ws.0 t.1 ≡ from)))))))) (id⊢ 𝓤 (Take.post (to_take p) v)) $
+        ⊛ raw (fact 𝓤 (IfOk r (λ t. AreLastDequeued ws.0 t.1 × (last_dequeued_bytes_index ws.0 t.1 ≡ from))))
+        ⊛ raw (fact 𝓤 ((ws.0.slot_count ≡ x.slot_count) × (length ws.0.storage ≡ length x.storage)))
+        ⊛ raw (fact 𝓤 (IfOk r (λ t. Makes (Taken t.0 (last_dequeued_bytes ws.0 t.1)) x ws.0))))))) (id⊢ 𝓤 (Take.post (to_take p) v)) $
         await ! tt $ pick ! (λ r. split ! $ split ! $ move ! (2 ∷ []) $
         pick ! (λ ws. split3 ! $ move ! (1 ∷ []) $ heard ! _ (λ none. move ! (1 ∷ []) $ split3 ! $
         heard ! _ (λ taken. heard ! _ (λ left. split3 ! $
         heard ! _ (λ empty. heard ! _ (λ unchanged. split3 ! $ heard ! _
-        (λ is_first. heard ! _ (λ is_taken. heard ! _ (λ is_last_dequeued. fsplit ! $ fsplit ! $ move ! (3 ∷ []) $ split ! $
+        (λ is_first. heard ! _ (λ is_taken. split3 ! $ heard ! _ (λ is_last_dequeued. heard ! _ (λ _. heard ! _ (λ _. fsplit ! $ fsplit ! $ move ! (3 ∷ []) $ split ! $
         -- [the token; the other tokens; the loan's last value; its borrow; nothing; the answer; the way back]
         move ! (0 ∷ 2 ∷ 6 ∷ []) $ use3 𝓛 (later (‵ (mine ws.0) ⊛ ‵ (flft κs.0 qs.0))) (comes_inside 𝓛 κs.0 (Self G) qs.0 self p ws.0) $ await ! tt $ split ! $
         move ! (3 ∷ []) $ drop ! $ move ! (3 ∷ []) $ drop ! $
@@ -295,10 +298,11 @@ module _ (G : Given) {M : Type 1} {𝓤 : Ura M} (𝓛 : Logic 𝓤) (𝓜 : Mod
               ⊛ ‵ (follow (last_dequeued_bytes_index y k) m)
               ⊛ raw (fact 𝓤 ((l : List ℕ) → length l ≡ k → contents (with_bytes y (last_dequeued_bytes_index y k) l) ≡ contents y)) ⊛
               raw (fact 𝓤 (m.now ≡ take-list k (drop-list (last_dequeued_bytes_index y k) y.storage))) ⊛ raw (fact 𝓤 (length m.now ≡ k))
-              ⊛ raw (fact 𝓤 ((l : List ℕ) → length (with_bytes y (last_dequeued_bytes_index y k) l).storage ≡ length y.storage))))))
+              ⊛ raw (fact 𝓤 ((l : List ℕ) → length (with_bytes y (last_dequeued_bytes_index y k) l).storage ≡ length y.storage))
+              ⊛ raw (fact 𝓤 ((l : List ℕ) → length l ≡ k → Makes (WriteLastDequeued l) y (with_bytes y (last_dequeued_bytes_index y k) l)))))))
               (id⊢ 𝓤 (LastDequeued.post (to_last_dequeued k) u)) $
               await ! tt $ pick ! (λ m. split ! $ split ! $ move ! (2 ∷ []) $
-              pick ! (λ _. split3 ! $ drop ! $ move ! (1 ∷ []) $ split3 ! $ heard ! _ (λ unseen. heard ! _ (λ value. split ! $ heard ! _ (λ size. heard ! _ (λ _.
+              pick ! (λ _. split3 ! $ drop ! $ move ! (1 ∷ []) $ split3 ! $ heard ! _ (λ unseen. heard ! _ (λ value. split3 ! $ heard ! _ (λ size. heard ! _ (λ _. heard ! _ (λ _.
               -- [what self follows; the tokens; the part; the header]
               -- the size that the clause `front` says
               let sized : length m.now ≡ s = omega (arith, size) in
@@ -316,7 +320,7 @@ module _ (G : Given) {M : Type 1} {𝓤 : Ura M} (𝓛 : Logic 𝓤) (𝓜 : Mod
               (λ (p : ℕ). contents (with_bytes y p l) ≡ contents y) lies.1 (unseen l (long ∙ size)) ∙ rest in
               by ! (lends h hv m w (λ e. subst T (sym (subst (λ t. IsErr t) c.1 (empty.1 e))) tt)
               (λ e. subst T (sym (subst (λ t. IsErr t) c.1 (none.1 e))) tt) shown leaves
-              (subst (IsFirstSized x.packets h) (sym sized) head_is, value ∙ (λ i. take-list (sym sizes i) (drop-list (lies.1 i) x.storage))))))))))))))))
+              (subst (IsFirstSized x.packets h) (sym sized) head_is, value ∙ (λ i. take-list (sym sizes i) (drop-list (lies.1 i) x.storage)))))))))))))))))
           | inr c ↦
               let is_x : ws.0 ≡ x = subst (λ t. OnErr t (ws.0 ≡ x)) c.1 unchanged in
               rewrite ! 0 (λ (m : Q G). ‵ (mine m)) is_x refl $ rewrite ! 3 (λ (t : Answer.Denot). ‵ (Answer.own_val t (v ∷ []))) c.1 refl $ move ! (3 ∷ []) $
@@ -331,7 +335,7 @@ module _ (G : Given) {M : Type 1} {𝓤 : Ura M} (𝓛 : Logic 𝓤) (𝓜 : Mod
               sets ! (agg ! (and_then ! (lit ! tt) (and_then ! (get ! refl) (no_more !)))) refl (tt, (record { fits = lit< tt }, (tt, tt))) $
               returns_within ! Post refl (look_at ! 0 refl) $ free_all ! refl $ keep ! (0 ∷ 2 ∷ 3 ∷ []) $
               by ! (refuses (empty.0 (subst (λ t. IsErr t) (sym c.1) refl)) (none.0 (subst (λ t. IsErr t) (sym c.1) refl)))))
-        ])))))))))))))
+        ])))))))))))))))
 
   module _ (z : (walk_of 𝓛 (ended G) (stayed G) all_clauses).Ghost) where
     abbrev Rs : List RattleType

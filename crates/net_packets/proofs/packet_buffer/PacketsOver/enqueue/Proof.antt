@@ -56,8 +56,9 @@ use Rattle.std.specs.declared.option.Option.TheVariants.{None}
 use Rattle.std.specs.contracts.result.Result as RS
 use Rattle.net_packets.specs.Packets.{placement, with_packet_if, with_packet_if_room, only_last as last-of, first_size, last_bytes, with_last_bytes}
 use Rattle.net_ring.specs.contracts.error.Full as FU
-use Rattle.net_packets.specs.PacketHistory.{contents}
-use Rattle.net_packets.proofs.SaidFacts.{says_four}
+use Rattle.net_packets.specs.PacketHistory.{contents, Makes, Place as Placed}
+use Rattle.net_packets.proofs.PacketRuns.{enqueue_call}
+use Rattle.net_packets.proofs.SaidFacts.{says_five}
 use Rattle.net_packets.proofs.LendInside.{lent, Back, lends_inside, comes_inside}
 use Rattle.net_packets.proofs.ResultParts.{no_fields, alone, ok_or_err, ok_had, err_had}
 use Rattle.net_packets.proofs.PassedNumber.{second_passed, number_of, number_fits, number}
@@ -192,7 +193,7 @@ module _ (G : Given) {M : Type 1} {𝓤 : Ura M} (𝓛 : Logic 𝓤) (𝓜 : Mod
         suffices ! _ (ends_at 𝓛 (ended G) (stayed G) all_clauses bound (live 1 (of_list (no_fields ∷ []))) (Err (record {})) (tt, (tt, (tt, tt)))
         (tt, (tt, (tt, tt)))) $
         nothing ! $ nothing ! $ fjoin ! $ nothing ! $ fjoin ! $ nothing ! $ fjoin ! $ join ! $ move ! (2 ∷ 3 ∷ []) $ join ! $ join ! $ frame ! $
-        says_four ! (tt, ((λ _. none), (λ _. refl)), tt, tt) $ done !
+        says_five ! (tt, ((λ _. none), (λ _. refl)), tt, tt, tt) $ done !
 
     -- what the contents are, once the packet of q that came last is written
     abbrev Accepts : ℕ → Q G → Type 0
@@ -209,7 +210,13 @@ module _ (G : Given) {M : Type 1} {𝓤 : Ura M} (𝓛 : Logic 𝓤) (𝓜 : Mod
         use1 𝓛 (‵ ((RS.the_row Part FU.the_row).own_val (Ok r) (live 0 (of_list (w ∷ [])) ∷ []))) (ok_of 𝓛 Part FU.the_row r w) $
         suffices ! _ (ends_at 𝓛 (ended G) (stayed G) all_clauses bound (live 0 (of_list (w ∷ []))) (Ok r) (tt, (tt, (tt, tt))) (tt, (tt, (tt, tt)))) $
         nothing ! $ nothing ! $ fjoin ! $ nothing ! $ fjoin ! $ nothing ! $ fjoin ! $ join ! $ move ! (2 ∷ 3 ∷ []) $ join ! $ join ! $ frame ! $
-        says_four ! (accepted, ((λ f. absurd (subst T (sym f) tt)), (λ e. absurd (is_placed e))), value, size) $ done !
+        says_five ! (
+          accepted,
+          ((λ f. absurd (subst T (sym f) tt)), (λ e. absurd (is_placed e))),
+          value,
+          size,
+          λ ws long. enqueue_call x n h ws is_placed long,
+        ) $ done !
 
     walk : n < 2 ^ 64 → T (has_ty (layout G.H) hv) × WT hv
         → ent 𝓤 (on_entry 𝓛 (ended G).signature κs qs bound.0.3 bound.0.4)
@@ -239,10 +246,11 @@ module _ (G : Given) {M : Type 1} {𝓤 : Ura M} (𝓛 : Logic 𝓤) (𝓜 : Mod
         ⊛ raw (fact 𝓤 (OnOk r (Accepts k ws.0))) ⊛ raw (fact 𝓤 (OnOk r (contents ws.0 ≡ contents x ++ ((h, last_bytes ws.0) ∷ [])))) ⊛
         raw (fact 𝓤 (OnErr r (ws.0 ≡ x)))
         ⊛ raw (fact 𝓤 (IsErr r ↔ (placement x k ≡ None))) ⊛ raw (fact 𝓤 (ws.0 ≡ y)) ⊛ raw (fact 𝓤 (OnOk r (first_size (last-of ws.0.packets) ≡ k)))
-        ⊛ raw (fact 𝓤 ((ws.0.slot_count ≡ x.slot_count) × (length ws.0.storage ≡ length x.storage)))))))
+        ⊛ raw (fact 𝓤 ((ws.0.slot_count ≡ x.slot_count) × (length ws.0.storage ≡ length x.storage)))
+        ⊛ raw (fact 𝓤 (OnOk r (Makes (Placed h (last_bytes ws.0)) x ws.0)))))))
         (id⊢ 𝓤 (Place.post (to_place p) v)) $
         await ! tt $ pick ! (λ r. split ! $ split ! $ move ! (2 ∷ []) $ pick ! (λ ws. split3 ! $ move ! (1 ∷ []) $ heard ! _ (λ accepts. move ! (1 ∷ []) $
-        split3 ! $ heard ! _ (λ stands. heard ! _ (λ unchanged. split3 ! $ heard ! _ (λ full. heard ! _ (λ is_y. split ! $ heard ! _ (λ is_sized. heard ! _ (λ _. fsplit ! $ fsplit ! $
+        split3 ! $ heard ! _ (λ stands. heard ! _ (λ unchanged. split3 ! $ heard ! _ (λ full. heard ! _ (λ is_y. split3 ! $ heard ! _ (λ is_sized. heard ! _ (λ _. heard ! _ (λ _. fsplit ! $ fsplit ! $
         rewrite ! 0 (λ (m : Q G). ‵ (fres p.2 ((Self G).coded.code m))) is_y refl $ move ! (3 ∷ []) $ split ! $
         -- [the token; the other tokens; the loan's last value; its borrow; nothing; the answer; the way back]
         move ! (0 ∷ 2 ∷ 6 ∷ []) $ use3 𝓛 (later (‵ (mine y) ⊛ ‵ (flft κs.0 qs.0))) (comes_inside 𝓛 κs.0 (Self G) qs.0 self p y) $ await ! tt $ split ! $
@@ -298,7 +306,7 @@ module _ (G : Given) {M : Type 1} {𝓤 : Ura M} (𝓛 : Logic 𝓤) (𝓜 : Mod
               sets ! (agg ! (no_more !)) refl (tt, tt) $
               sets ! (agg ! (and_then ! (lit ! tt) (and_then ! (get ! refl) (no_more !)))) refl (tt, (record { fits = lit< tt }, (tt, tt))) $
               returns_within ! Post refl (look_at ! 0 refl) $ free_all ! refl $ keep ! (0 ∷ 2 ∷ 3 ∷ []) $ by ! (refuses none)))
-        ]))))))))))))
+        ])))))))))))))
 
   module _ (z : (walk_of 𝓛 (ended G) (stayed G) all_clauses).Ghost) where
     abbrev Rs : List RattleType

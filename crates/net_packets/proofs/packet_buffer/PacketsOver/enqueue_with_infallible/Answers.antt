@@ -7,6 +7,7 @@ use Rattle.net_packets.specs.Packets.{placement, with_packet_if_room, with_last_
 use Rattle.net_packets.specs.PacketHistory.{contents}
 use Rattle.net_packets.specs.PacketSlots.{slot, gap_slot}
 use Rattle.net_packets.proofs.PacketOrder as order
+use Rattle.net_packets.proofs.PacketRuns.{enqueue_with_call}
 use Rattle.net_packets.proofs.PacketSteps.{free_room, byte_room, fill_room, fill_holds, fill_left}
 use Rattle.net_ring.proofs.Rotations.{length-overwrite}
 use Rattle.net_ring.proofs.RingFacts.{rewound_is}
@@ -23,25 +24,8 @@ f-count-requires g c =
     c.get_unallocated.ensures.stored c.get_unallocated.ensures.count) in
     c.requires.callable now room c.get_unallocated.result refl
 
-pub overflow_add-gap : goal.overflow_add-gap
-overflow_add-gap g c =
-    let m = c.self.inside.slots in
-    let b = c.self.inside.bytes in
-    let e = ap (λ q. placement q c.args.max_size) c.self.view_is ∙ sym c.in-Some.ensures.gap in
-    let now = c.get_unallocated.result.now in
-    let room = subst (λ q. IsRoom q c.args.max_size c.args.header now) c.self.view_is
-    (fill_room m b c.self.invariant c.in-Some.gap c.args.max_size e c.args.header c.rewind_if_empty.new.self c.rewind_if_empty.ensures.ring now
-    c.get_unallocated.ensures.stored c.get_unallocated.ensures.count) in
-    let after = c.f-count.new.arg2 in
-    let met : FnOnceReturnsAtMut g.F.FnOnce c.args.f now c.f-count.result after =
-    record { shown = c.get_unallocated.result; shows = refl; left = at_last c.get_unallocated.result after; leaves = refl; met = c.f-count.ensures } in
-    let le = c.requires.count now after c.f-count.result room met in
-    let space = byte_room m b c.self.invariant c.in-Some.gap c.args.max_size e in
-    let is = ap window c.rewind_if_empty.ensures.ring in
-    record { fits = omega (arith, le, space, is, c.rewind_if_empty.ensures.fits) }
-
-pub enqueue_unallocated-requires : goal.enqueue_unallocated-requires
-enqueue_unallocated-requires g c =
+pub append-requires-clause-room : goal.append-requires-clause-room
+append-requires-clause-room g c =
     let m = c.self.inside.slots in
     let b = c.self.inside.bytes in
     let e = ap (λ q. placement q c.args.max_size) c.self.view_is ∙ sym c.in-Some.ensures.gap in
@@ -58,8 +42,13 @@ enqueue_unallocated-requires g c =
     let long = length-overwrite c.rewind_if_empty.new.self.storage (spare_index c.rewind_if_empty.new.self c.in-Some.gap) after in
     omega (arith, le, space, is, long)
 
-pub push_slots-requires-clause-free : goal.push_slots-requires-clause-free
-push_slots-requires-clause-free g c =
+pub append-requires-clause-fits : goal.append-requires-clause-fits
+append-requires-clause-fits g c =
+    let long = length-overwrite c.rewind_if_empty.new.self.storage (spare_index c.rewind_if_empty.new.self c.in-Some.gap) c.f-count.new.arg2 in
+    omega (arith, long, c.rewind_if_empty.ensures.fits)
+
+pub append-requires-clause-free : goal.append-requires-clause-free
+append-requires-clause-free g c =
     let m = c.self.inside.slots in
     let b = c.self.inside.bytes in
     let e = ap (λ q. placement q c.args.max_size) c.self.view_is ∙ sym c.in-Some.ensures.gap in
@@ -79,8 +68,8 @@ invariant_of-self g c =
     record { shown = c.get_unallocated.result; shows = refl; left = at_last c.get_unallocated.result after; leaves = refl; met = c.f-count.ensures } in
     let le = c.requires.count now after c.f-count.result room met in
     fill_holds m b c.self.invariant c.in-Some.gap c.args.max_size e c.args.header c.rewind_if_empty.new.self c.rewind_if_empty.ensures.ring _
-    (omega (arith, le)) after c.push_slots.new.slots c.push_slots.ensures.queue c.push_slots.ensures.well_formed
-    c.enqueue_unallocated.new.self c.enqueue_unallocated.ensures.ring
+    (omega (arith, le)) after c.append.new.slots c.append.ensures.queue c.append.ensures.well_formed
+    c.append.new.bytes c.append.ensures.bytes
 
 pub returns-clause-wrote : goal.returns-clause-wrote
 returns-clause-wrote g c =
@@ -97,22 +86,33 @@ returns-clause-wrote g c =
     let le = c.requires.count now after c.f-count.result room met in
     let count = c.f-count.result in
     let b1 = c.rewind_if_empty.new.self in
-    let put : queue c.push_slots.new.slots ≡ queue m ++ (gap_slot c.in-Some.gap ++ (slot count (Some c.args.header) ∷ [])) = search rules in
-    let filled : c.enqueue_unallocated.new.self ≡ with_enqueued (c.in-Some.gap + count) (with_elements b1 (spare_index b1 c.in-Some.gap) after) =
+    let put : queue c.append.new.slots ≡ queue m ++ (gap_slot c.in-Some.gap ++ (slot count (Some c.args.header) ∷ [])) = search rules in
+    let filled : c.append.new.bytes ≡ with_enqueued (c.in-Some.gap + count) (with_elements b1 (spare_index b1 c.in-Some.gap) after) =
     search rules in
     let left = fill_left m b c.self.invariant c.in-Some.gap c.args.max_size e c.args.header b1 c.rewind_if_empty.ensures.ring count le after
-    c.push_slots.new.slots put c.push_slots.ensures.well_formed c.enqueue_unallocated.new.self filled c.push_slots.ensures.capacity
+    c.append.new.slots put c.append.ensures.well_formed c.append.new.bytes filled c.append.ensures.capacity
     ∙ ap (λ q. with_last_size count (with_last_bytes (with_packet_if_room q c.args.max_size c.args.header) after)) c.self.view_is in
     let long : length after ≡ c.args.max_size = c.f-count.auto.arg2 ∙ room.2 in
     let accepted = ap contents left
     ∙ order.accepted_with c.args.self.now c.placement.ensures.well_placed c.args.max_size c.args.header after room.0 long count le in
-    record { room = now; bytes = after; is_room = room; met = search met; size = long; at_most = search le; accepted = search accepted; made = search left }
+    let call = enqueue_with_call c.args.self.now c.args.max_size c.args.header count after room.0 long le _ left in
+    record {
+      room = now;
+      bytes = after;
+      is_room = room;
+      met = search met;
+      size = long;
+      at_most = search le;
+      accepted = search accepted;
+      made = search left;
+      call = search call;
+    }
 
 pub returns-clause-capacity : goal.returns-clause-capacity
 returns-clause-capacity g c =
     let b = c.self.inside.bytes in
     let b1 = c.rewind_if_empty.new.self in
-    let stored = ap (λ o. length o.storage) c.enqueue_unallocated.ensures.ring in
+    let stored = ap (λ o. length o.storage) c.append.ensures.bytes in
     let long = length-overwrite b1.storage (spare_index b1 c.in-Some.gap) c.f-count.new.arg2 in
     let restarted = ap (λ o. length o.storage) c.rewind_if_empty.ensures.ring ∙ ap length (rewound_is b).2 in
-    (c.push_slots.ensures.capacity ∙ ap (λ q. q.slot_count) c.self.view_is, stored ∙ long ∙ restarted ∙ ap (λ q. length q.storage) c.self.view_is)
+    (c.append.ensures.capacity ∙ ap (λ q. q.slot_count) c.self.view_is, stored ∙ long ∙ restarted ∙ ap (λ q. length q.storage) c.self.view_is)

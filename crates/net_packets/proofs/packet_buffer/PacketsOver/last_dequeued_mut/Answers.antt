@@ -3,7 +3,7 @@ use Rattle.net_ring.specs.Ring.{queue}
 use Rattle.net_packets.specs.Packets.{AreLastDequeued, IsWellPlaced, last_dequeued_bytes_index}
 use Rattle.net_packets.specs.PacketSlots.{packets_in}
 use Rattle.net_packets.proofs.PacketSteps.{last_dequeued_fits, last_dequeued_ends, last_dequeued_value, written_holds, well_placed}
-use Rattle.net_packets.proofs.PacketRuns.{last_dequeued_unseen}
+use Rattle.net_packets.proofs.PacketRuns.{last_dequeued_unseen, last_dequeued_call}
 use Rattle.net_ring.proofs.Rotations.{length-overwrite}
 use Rattle.net_packets.proofs.packet_buffer.PacketsOver.last_dequeued_mut.Goals as goal
 
@@ -27,5 +27,6 @@ returns g c =
         value = last_dequeued_value m b size c.args.self.now c.self.view_is _ c.last_dequeued_mut.ensures.stored;
         size = c.last_dequeued_mut.ensures.count;
         capacity = λ ws. length-overwrite c.args.self.now.storage (last_dequeued_bytes_index c.args.self.now size) ws;
+        call = last_dequeued_call c.args.self.now size c.requires;
       },
     )

@@ -14,5 +14,6 @@ returns g c =
         value = r.ensures.value;
         size = r.ensures.size;
         capacity = λ ws. length-overwrite c.args.self.now.storage (last_index c.args.self.now) ws;
+        call = λ ws some long. (some, long ∙ r.ensures.size, refl);
       },
     )

@@ -1,4 +1,4 @@
-use Rattle.std.proofs.Common.{◌≡◌, ◌+◌, length, sym, ap, ap₂, ◌∙◌}
+use Rattle.std.proofs.Common.{◌+◌, length, sym, ap, ap₂, ◌∙◌}
 use Rattle.net_packets.proofs.PacketCount.{packets_in_parts}
 use Rattle.net_packets.proofs.PacketRuns.{contents_count}
 use Rattle.net_packets.proofs.packet_buffer.PacketsOver.len.Goals as goal

@@ -18,5 +18,6 @@ returns g c =
         unchanged = search rules;
         first = search rules;
         bytes = search rules;
+        call = refl;
       },
     )

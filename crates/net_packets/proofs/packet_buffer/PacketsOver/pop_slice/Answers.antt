@@ -1,7 +1,8 @@
-use Rattle.std.proofs.Common.{◌≡◌, ◌∷◌, ◌++◌, ◌∙◌, ℕ, List, length, min, take, drop, sym, ap}
+use Rattle.std.proofs.Common.{◌≡◌, ◌∷◌, ◌++◌, ◌∙◌, ℕ, List, length, min, take, drop, sym, ap, subst}
 use Rattle.net_packets.specs.Packets.{without_first_and_gap, last_dequeued_bytes_index, last_dequeued_bytes, with_bytes}
 use Rattle.net_packets.specs.PacketHistory.{contents, head_bytes}
 use Rattle.net_packets.proofs.PacketRuns.{last_dequeued_stay, copied_whole}
+use Rattle.net_packets.specs.PacketHistory.{Makes, Take}
 use Rattle.net_packets.proofs.packet_buffer.PacketsOver.pop_slice.Given as given
 use Rattle.net_packets.proofs.packet_buffer.PacketsOver.pop_slice.Goals as goal
 
@@ -50,3 +51,12 @@ returns-clause-whole g c = λ long.
 
 pub returns-clause-left : goal.returns-clause-left
 returns-clause-left g c = ap contents (made g c) ∙ ap (drop 1) (sym (first g c))
+
+pub returns-clause-capacity : goal.returns-clause-capacity
+returns-clause-capacity g c = (ap (λ q. q.slot_count) (made g c), ap (λ q. length q.storage) (made g c))
+
+pub returns-clause-call : goal.returns-clause-call
+returns-clause-call g c =
+    let bytes = sym c.last_dequeued_mut.ensures.value ∙ before g c in
+    let first = subst (λ l. Makes (Take c.in_ok-header.header l) c.args.self.now c.take.new.self) bytes c.in_ok-header.ensures.call in
+    (first.0, made g c)

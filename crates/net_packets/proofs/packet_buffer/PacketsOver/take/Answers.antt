@@ -5,23 +5,23 @@ use Rattle.net_packets.specs.Packets.{first_gap, without_first_and_gap, IsFirstS
 use Rattle.net_packets.specs.PacketSlots.{packets_state, packets_in, slot, Represents}
 use Rattle.net_packets.proofs.PacketFacts.{off_wf}
 use Rattle.net_packets.proofs.PacketSteps.{close_gap, head_slot, head_long, pop_holds, closed}
-use Rattle.net_packets.proofs.PacketRuns.{none_of, taken_as, left_as}
+use Rattle.net_packets.proofs.PacketRuns.{none_of, taken_as, left_as, take_call}
 use Rattle.net_packets.proofs.packet_buffer.PacketsOver.take.Goals as goal
 
 pub invariant_of-self-2 : goal.invariant_of-self-2
 invariant_of-self-2 g c =
     let m = c.self.inside.slots in
     let b = c.self.inside.bytes in
-    let m2 = c.dequeue_allocated.new.self in
+    let m2 = c.take_slot.new.slots in
     let z = ap (λ q. first_gap q.packets) (c.self.view_is ∙ c.skip.ensures.skipped) ∙ close_gap c.args.self.now.packets in
     let at = c.in_ok-size.ensures.first in
     let f = head_slot m b c.self.invariant z (slot c.in_ok-size.size (Some c.in_ok-size.header)) at in
     let size = head_long m b c.self.invariant z (slot c.in_ok-size.size (Some c.in_ok-size.header)) at in
     let lifted = c.in_ok-size.ensures.left in
-    let em = c.dequeue_allocated.ensures.dequeued.0 ∙ ap (drop 1) lifted.0 in
-    let wfm = subst IsWellFormed (sym c.dequeue_allocated.ensures.ring)
+    let em = c.take_slot.ensures.queue ∙ ap (drop 1) lifted.0 in
+    let wfm = subst IsWellFormed (sym c.take_slot.ensures.slots)
     (off_wf c.lift_header.new.slots (slot c.in_ok-size.size None) (drop 1 (queue m)) lifted.1 lifted.0) in
-    let is = c.dequeue_allocated-2.ensures.ring ∙ ap (λ n. with_dequeued n b) size in
+    let is = c.take_slot.ensures.bytes ∙ ap (λ n. with_dequeued n b) size in
     subst (λ o. Represents m2 o (packets_in 0 (queue m2))) (sym is) (closed m2 _ _ (pop_holds m b c.self.invariant z m2 (em ∙ f.3) wfm))
 
 pub returns-in_err-size-clause-empty : goal.returns-in_err-size-clause-empty
@@ -33,7 +33,7 @@ returns-clause-empty g c = none_of c.args.self.now (search rules)
 pub returns-clause-taken : goal.returns-clause-taken
 returns-clause-taken g c =
     let q = c.args.self.now in
-    let n = packets_state c.dequeue_allocated.new.self c.dequeue_allocated-2.new.self in
+    let n = packets_state c.take_slot.new.slots c.take_slot.new.bytes in
     let is : n ≡ without_first_and_gap q = search rules in
     let first : IsFirstSized q.packets c.in_ok-size.header c.in_ok-size.size = search rules in
     taken_as q c.skip.ensures.well_placed c.in_ok-size.header c.in_ok-size.size first n (search is)
@@ -41,6 +41,14 @@ returns-clause-taken g c =
 pub returns-clause-left : goal.returns-clause-left
 returns-clause-left g c =
     let q = c.args.self.now in
-    let n = packets_state c.dequeue_allocated.new.self c.dequeue_allocated-2.new.self in
+    let n = packets_state c.take_slot.new.slots c.take_slot.new.bytes in
     let is : n ≡ without_first_and_gap q = search rules in
     left_as q c.skip.ensures.well_placed n (search is)
+
+pub returns-clause-call : goal.returns-clause-call
+returns-clause-call g c =
+    let q = c.args.self.now in
+    let n = packets_state c.take_slot.new.slots c.take_slot.new.bytes in
+    let is : n ≡ without_first_and_gap q = search rules in
+    let first : IsFirstSized q.packets c.in_ok-size.header c.in_ok-size.size = search rules in
+    take_call q c.skip.ensures.well_placed c.in_ok-size.header c.in_ok-size.size first n (search is)
