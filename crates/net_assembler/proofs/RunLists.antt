@@ -140,9 +140,6 @@ with_range-none s o n e = same_positions _ _ (λ q. contains-with_range s o n q 
 pub shift_down-zero : (s : Positions) (m : ℕ) → m ≡ 0 → shift_down s m ≡ s
 shift_down-zero s m e = same_positions _ _ (λ q. let z : q + m ≡ q = omega arith in contains-shift_down s m q ∙ ap (contains s) z)
 
-pub runs_bound : (rs : List (ℕ × ℕ)) (s : Positions) (n : ℕ) → AreRuns rs → set_of_runs rs ≡ s → length rs ≤ n → runs s ≤ n
-runs_bound rs s n h e l = let r = ap runs (sym e) ∙ runs-set_of_runs rs h in omega arith
-
 -- the removal of the front
 pub front_of_first : (rs : List (ℕ × ℕ)) → 0 < front_of_runs rs → (0 < length rs) × (start_at rs 0 ≡ 0) × (end_at rs 0 ≡ front_of_runs rs)
 front_of_first [] l = absurd (omega arith)
@@ -178,16 +175,6 @@ completed rs n size h l m upto behind =
     ∙ ap (λ k. set_of_runs (runs_with_range rs 0 k)) size_is ∙ set-runs_with_range rs 0 size h l in
     let first : top ≡ front (with_range (set_of_runs rs) 0 size) = sym (front-set_of_runs all rises) ∙ ap front set in
     (first, set-without_front all rises ∙ (λ i. shift_down (set i) (front (set i))) ∙ ap (shift_down (with_range (set_of_runs rs) 0 size)) (sym first))
-
-pub top_above : (rs : List (ℕ × ℕ)) (n size : ℕ) → AreRuns rs → n ≤ length rs →
-    ((k : ℕ) → n ≤ k → k < length rs → size < start_at rs k) → (k : ℕ) → n ≤ k → k < length rs →
-    top_of rs n size + 1 ≤ start_at rs k
-top_above rs zero size h l behind k m p = let q = behind k m p in omega arith
-top_above rs (suc n) size h l behind k m p = let q = behind k m p in let s = apart 0 rs n k h (omega arith) p in omega arith
-
-pub rising_completed : (rs : List (ℕ × ℕ)) (n size top : ℕ) → AreRuns rs → n ≤ length rs →
-    ((k : ℕ) → n ≤ k → k < length rs → size < start_at rs k) → top ≡ top_of rs n size → IsRising (top + 1) (drop n rs)
-rising_completed rs n size top h l behind e = rising-drop 0 rs n (top + 1) h (λ k m p. let q = top_above rs n size h l behind k m p in omega arith)
 
 -- what the first run says of the front
 pub front_none : (rs : List (ℕ × ℕ)) → (0 < length rs → start_at rs 0 ≢ 0) → 0 ≡ front_of_runs rs
@@ -249,10 +236,6 @@ refused_run xs used i start end h l n m before behind =
     ap length (apart_at 0 cs i start end h (omega arith) m before (λ k a b. behind k a (omega arith)))
     ∙ length_apart cs i (start, end) (omega arith) ∙ omega arith
 
--- entries that were taken down by the front
-pub shifted_down_runs : (xs ys : List (ℕ × ℕ)) (m : ℕ) → IsRising (m + 1) xs → ys ≡ runs_shifted_down m xs → AreRuns ys
-shifted_down_runs xs ys m h e = subst (IsRising 0) (sym e) (rising-runs_shifted_down m 0 (m + 1) xs (omega arith) h)
-
 -- what is left after a range at 0 that ends at top once it is joined with the first n runs, and removed
 abbrev pub Completed : List (ℕ × ℕ) → ℕ → ℕ → ℕ → Type 0
 Completed rs n size top = let all = with_range (set_of_runs rs) 0 size in
@@ -264,16 +247,6 @@ pub completed_at : (rs : List (ℕ × ℕ)) (n size top : ℕ) → AreRuns rs �
 completed_at rs n size top h l m upto behind e =
     let both = completed rs n size h l m upto behind in
     (e ∙ both.0, ap (λ t. set_of_runs (runs_shifted_down t (drop n rs))) e ∙ both.1 ∙ ap (shift_down (with_range (set_of_runs rs) 0 size)) (sym e))
-
-pub top_last : (xs : List (ℕ × ℕ)) (used n size : ℕ) → 0 < n → n ≤ used → top_of (take used xs) n size ≡ max (end_at xs (n - 1)) size
-top_last xs used zero size l m = absurd (omega arith)
-top_last xs used (suc n) size l m =
-    let at : suc n - 1 ≡ n = omega arith in
-    ap (λ (r : ℕ × ℕ). max r.1 size) (get_or-take used xs n (0, 0) (omega arith)) ∙ ap (λ k. max (end_at xs k) size) (sym at)
-
--- entries that are runs are no more than their number
-pub few_runs : (xs : List (ℕ × ℕ)) (used n : ℕ) → AreRuns (take used xs) → used ≤ length xs → used ≤ n → runs (set_of_runs (take used xs)) ≤ n
-few_runs xs used n h l m = runs_bound (take used xs) _ n h refl (let len = length-take-le used xs l in omega arith)
 
 none_behind : (xs : List (ℕ × ℕ)) (used : ℕ) → used ≤ length xs → drop used (take used xs) ≡ []
 none_behind xs used l = drop_all used (take used xs) (let n = length-take-le used xs l in omega arith)
@@ -356,20 +329,6 @@ all_behind xs used i end h l m first k a b =
     let p = starts_rise 0 (take used xs) i k h a (omega arith) in
     let same = ap (λ (r : ℕ × ℕ). r.0) (get_or-take used xs i (0, 0) l) in
     omega arith
-
-pub behind_first : (xs : List (ℕ × ℕ)) (used end : ℕ) → AreRuns (take used xs) → 0 < used → used ≤ length xs →
-    end < start_at xs 0 → (k : ℕ) → 0 ≤ k → k < length (take used xs) → end < start_at (take used xs) k
-behind_first xs used end h l m first k a b =
-    let len = length-take-le used xs m in
-    all_behind xs used 0 end h l m first k a (omega arith)
-
--- runs up to n that start at or before end, where the first does
-pub upto_from_first : (xs : List (ℕ × ℕ)) (used n end : ℕ) → 0 < used → used ≤ length xs → start_at xs 0 ≤ end →
-    ((k : ℕ) → 1 ≤ k → k < n → start_at (take used xs) k ≤ end) → (k : ℕ) → k < n → start_at (take used xs) k ≤ end
-upto_from_first xs used n end l m first upto zero a =
-    let same = ap (λ (r : ℕ × ℕ). r.0) (get_or-take used xs 0 (0, 0) l) in
-    omega arith
-upto_from_first xs used n end l m first upto (suc k) a = upto (suc k) (omega arith) a
 
 -- a position before the first run
 pub not_before : (low : ℕ) (rs : List (ℕ × ℕ)) (q : ℕ) → IsRising low rs → (0 < length rs → q < start_at rs 0) → in_runs rs q ≡ false

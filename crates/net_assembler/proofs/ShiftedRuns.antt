@@ -38,9 +38,6 @@ up-up a b c (r ∷ rs) e =
     let end : a + (b + r.1) ≡ c + r.1 = omega arith in
     λ i. (start i, end i) ∷ up-up a b c rs e i
 
-pub up-same : (a b : ℕ) (rs : List (ℕ × ℕ)) → a ≡ b → runs_shifted_up a rs ≡ runs_shifted_up b rs
-up-same a b rs e = ap (λ n. runs_shifted_up n rs) e
-
 -- up and down again
 pub up-down : (f e : ℕ) (rs : List (ℕ × ℕ)) → e ≤ f → IsRising f rs →
     runs_shifted_up (f - e) (runs_shifted_down f rs) ≡ runs_shifted_down e rs
@@ -137,10 +134,6 @@ fits-runs_with_range n (r ∷ rs) lo hi f l =
 pub first_at : (rs : List (ℕ × ℕ)) → StartsAtZero rs → start_at rs 0 ≡ 0
 first_at [] f = refl
 first_at (r ∷ rs) f = f
-
-pub starts_at_zero : (rs : List (ℕ × ℕ)) → (0 < length rs → start_at rs 0 ≡ 0) → StartsAtZero rs
-starts_at_zero [] f = tt
-starts_at_zero (r ∷ rs) f = f (omega arith)
 
 pub zero-runs_with_range : (rs : List (ℕ × ℕ)) (lo hi : ℕ) → lo ≡ 0 →
     StartsAtZero (runs_with_range rs lo hi)

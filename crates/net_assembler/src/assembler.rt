@@ -75,15 +75,6 @@ impl<const N: usize> Assembler<N> {
         ensures no_run { runs result ≡ 0 }
         ensures bound { runs result ≤ N }
     {
-        Self::empty()
-    }
-
-    /// Returns an assembler with no position, for any `N`.
-    fn empty() -> Self
-        ensures empty { result ≡ nothing }
-        ensures no_run { runs result ≡ 0 }
-        ensures bound { runs result ≤ N }
-    {
         Assembler {
             head: AssemblerHead::new(),
             runs: [Run { start: 0, end: 0 }; N],

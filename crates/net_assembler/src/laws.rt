@@ -1,23 +1,12 @@
-//! Laws whose premises are equations, as the contracts of calls state them, and what follows at one
-//! position.
+//! Laws of calls one after another, by equations as the contracts of calls state them.
 //!
-//! Each function does nothing. A law of `assembler::laws` is about `with_range s o n` itself; a law
-//! here is about any set that is equal to it, such as a field after a call.
-ghost use Rattle.std.specs.Prelude.{◌≡◌, ◌+◌, ◌||◌, ℕ, List};
+//! Each function does nothing.
+ghost use Rattle.std.specs.Prelude.{◌≡◌, ◌||◌, ℕ, List};
 ghost use Rattle.std.specs.List.Sorted.{IsPermutation};
-ghost use Rattle.net_assembler.specs.Positions.{Positions, contains, with_range, lies_in, front};
-ghost use Rattle.net_assembler.specs.Positions.{shift_down};
+ghost use Rattle.net_assembler.specs.Positions.{Positions, contains, front, shift_down};
 ghost use Rattle.net_assembler.specs.Ranges.{with_ranges, lies_in_some};
 
 use crate::assembler::laws::{front as front_is_least, members};
-
-/// States that a set to which a range was added has its positions and those of the range.
-pub fn member_after_with_range()
-    ensures { (s t : Positions) (offset size p : ℕ) → t ≡ with_range s offset size →
-        contains t p ≡ (contains s p || lies_in p (offset, offset + size)) }
-{
-    members();
-}
 
 /// States that a second `remove_front` in a row returns 0: no position is missing below the first
 /// missing one, and once as many positions are removed, position 0 is missing.

@@ -123,7 +123,7 @@ fn join_later(
 
 /// Joins a range that isn't empty with the first run, which it meets or touches, and with those
 /// after it that it meets or touches. Returns how many runs are left.
-// Apart from the search for a run, this takes so few registers that none has to be saved.
+// Few registers are live here, so none is saved.
 #[inline(never)]
 fn grow_first(runs: &mut [Run], used: usize, start: usize, end: usize, turns: &mut Turns) -> usize
     requires used { used ≤ length runs.old }

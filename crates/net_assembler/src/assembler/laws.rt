@@ -16,7 +16,7 @@ ghost use Rattle.net_assembler.specs.AssemblerLaws.{NothingHasNoRun, OneRunMore,
 ghost use Rattle.net_assembler.specs.AssemblerLaws.{AddingThenRemoving, RangeAtZeroIsNeverRefused};
 ghost use Rattle.net_assembler.specs.AssemblerLaws.{IteratesMaximalRuns, EnoughBinaryDigits};
 
-use super::{Assembler, TooManyHolesError};
+use super::TooManyHolesError;
 
 /// States that two sets are equal exactly if they have the same members, and what the members are
 /// of the empty set, of the set of a list, of a set with a range, and of a set that was shifted
@@ -107,13 +107,6 @@ pub fn counting_binary_digits()
     ensures enough { EnoughBinaryDigits }
     ensures of_4 { binary_digits 4 ≡ 3 }
     ensures of_32 { binary_digits 32 ≡ 6 }
-{}
-
-/// States that a clone of an assembler is the same set, and is never refused.
-pub fn assembler_clone<const N: usize>(assembler: &Assembler<N>, clone: &Assembler<N>)
-    ensures same { ⟦<Assembler<N> as Clone>⟧.is_clone assembler.now clone.now
-        → clone.now ≡ assembler.now }
-    ensures never_refused { ⟦<Assembler<N> as Clone>⟧.is_infallible assembler.now }
 {}
 
 /// States that two refusals are equal, and a clone of one is never refused.
