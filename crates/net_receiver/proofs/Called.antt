@@ -27,20 +27,19 @@ use Rattle.net_receiver.specs.ReceiverState.{fresh_receiver, IsSound, StaysInSet
 use Rattle.net_receiver.specs.Segments.{KeepsOrRefuses, JoinsQueue}
 use Rattle.net_receiver.proofs.Whole.{ran}
 use Rattle.net_receiver.specs.OneStream.{MatchesLonger, EmptyMatches, SegmentMatches, ReadMatches, ShowMatches}
-use Rattle.net_receiver.specs.OneStream.{BothMatch, EachMatches, FreshReceivesFrom, AgreeingReceives}
-use Rattle.net_receiver.specs.OneStream.{ReceivesByParts, ReceivesFromLonger, SegmentReceives}
-use Rattle.net_receiver.specs.OneStream.{HeldIsOfStream}
+use Rattle.net_receiver.specs.OneStream.{BothMatch, TruthfulIsKept, FreshReceivesFrom, AgreeingReceives}
+use Rattle.net_receiver.specs.OneStream.{ReceivesFromLonger, SegmentReceives, HeldIsOfStream, QueueIsOfStream}
 use Rattle.net_receiver.proofs.Step.{same_next}
 use Rattle.net_receiver.proofs.Run.{setting_kept}
 use Rattle.net_receiver.proofs.OneStream.{longer_at, longer_receives}
 use Rattle.net_receiver.specs.Execution.{Executes}
 use Rattle.net_receiver.specs.Retransmission.{InOrderReaches}
-use Rattle.net_receiver.specs.OneStream.{CapacityStays, Receives, ReceivesFrom, MatchesStream, AllMatch, IsTruthful, MatchesWhatIsThere, QueueIsOf, window_part}
+use Rattle.net_receiver.specs.OneStream.{CapacityStays, Receives, ReceivesFrom, MatchesStream, AllMatch, IsTruthful, MatchesWhatIsThere, window_part}
 use Rattle.net_receiver.proofs.Maps.{get-with_bytes_at, first_lacking_is, next_joined}
 use Rattle.net_receiver.proofs.Covering.{next_is, piece_before, piece_from, slice_get-drop, slice_get-take}
 use Rattle.net_receiver.proofs.Recover.{follows_verdict}
 use Rattle.net_receiver.proofs.Run.{read_prefix}
-use Rattle.net_receiver.proofs.OneStream.{none_is_not, cond_some, one_receives, queue_is_of, fresh_receives, first_stays, first_kept, run_receives}
+use Rattle.net_receiver.proofs.OneStream.{truthful_is_kept, none_is_not, cond_some, one_receives, queue_is_of, fresh_receives, first_stays, first_kept, run_receives}
 
 -- ---- streams
 first_of : (N : ℕ) (v u : ReceiverState) (c : CommandValue) → u ≡ receiver_after_command N v c → u.first ≡ v.first
@@ -62,7 +61,7 @@ pub fresh_receives_from : (x : List ℕ) (first capacity : ℕ) → ReceivesFrom
 unfolding ReceivesFrom
 fresh_receives_from x first capacity = (refl, fresh_receives x first capacity)
 
-pub queue_of : (f : ℕ) (x : List ℕ) (v : ReceiverState) → ReceivesFrom f x v → QueueIsOf x v
+pub queue_of : QueueIsOfStream
 unfolding ReceivesFrom
 queue_of f x v r = queue_is_of x v r.1
 
@@ -217,9 +216,9 @@ pub both_match : BothMatch
 unfolding AllMatch
 both_match f x cs ds all more = All-append (IsTruthful f x) cs ds all more
 
-pub each_matches : EachMatches
+pub matching_is_kept : TruthfulIsKept
 unfolding AllMatch
-each_matches f x cs all = all
+matching_is_kept w s x cs all h = truthful_is_kept w s x cs all h
 
 pub fresh_receives_as : FreshReceivesFrom
 fresh_receives_as f x v e = subst (ReceivesFrom f x) (sym e) (fresh_receives_from x f v.capacity)
@@ -227,10 +226,6 @@ fresh_receives_as f x v e = subst (ReceivesFrom f x) (sym e) (fresh_receives_fro
 pub agreeing_receives : AgreeingReceives
 unfolding ReceivesFrom
 agreeing_receives f x v s e d all = (e, record { state = s; refines = d; agrees = subst (λ b. Agrees b s.kept x) (sym e) all })
-
-pub receives_by_parts : ReceivesByParts
-unfolding ReceivesFrom
-receives_by_parts f x v = ((λ h. h), (λ h. h))
 
 pub receives_from_longer : ReceivesFromLonger
 unfolding ReceivesFrom

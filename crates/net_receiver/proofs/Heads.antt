@@ -24,23 +24,22 @@ pub whole_written : (old new written : List ℕ) → length written ≡ length o
 whole_written old new written size is = is ∙ overwrite_whole old written size
 
 -- a whole storage of n elements, lent as a part
-module _ (h : ReceiverHead) (xs part : List ℕ) (rs : List (ℕ × ℕ)) (n : ℕ) (size : n ≡ length xs) (is : part ≡ take (n - 0) (drop 0 xs)) where
-  pub part_is : part ≡ xs
-  part_is = is ∙ take_all (n - 0) xs (omega arith)
+pub part_is : (xs part : List ℕ) (n : ℕ) → n ≡ length xs → part ≡ take (n - 0) (drop 0 xs) → part ≡ xs
+part_is xs part n size is = is ∙ take_all (n - 0) xs (omega arith)
 
+-- lent, and given back as it was
+module _ (h : ReceiverHead) (xs part : List ℕ) (rs : List (ℕ × ℕ)) (is : part ≡ xs) where
   pub lent_view : (v : ReceiverState) → receiver_of h xs rs ≡ v → receiver_of h part rs ≡ v
-  lent_view v e = ap (λ l. receiver_of h l rs) part_is ∙ e
+  lent_view v e = ap (λ l. receiver_of h l rs) is ∙ e
 
   pub lent_sound : HasSoundParts h xs rs → HasSoundParts h part rs
-  lent_sound s = subst (λ l. HasSoundParts h l rs) (sym part_is) s
+  lent_sound s = subst (λ l. HasSoundParts h l rs) (sym is) s
 
--- and given back as it was, with another head
-module _ (h : ReceiverHead) (xs part : List ℕ) (rs : List (ℕ × ℕ)) (n : ℕ) (size : n ≡ length xs) (is : part ≡ take (n - 0) (drop 0 xs)) where
   pub back_view : (u : ReceiverState) → receiver_of h part rs ≡ u → receiver_of h xs rs ≡ u
-  back_view u e = ap (λ l. receiver_of h l rs) (sym (part_is h xs part rs n size is)) ∙ e
+  back_view u e = ap (λ l. receiver_of h l rs) (sym is) ∙ e
 
   pub back_sound : HasSoundParts h part rs → HasSoundParts h xs rs
-  back_sound s = subst (λ l. HasSoundParts h l rs) (part_is h xs part rs n size is) s
+  back_sound s = subst (λ l. HasSoundParts h l rs) is s
 
 module _ (h : ReceiverHead) (xs : List ℕ) (rs : List (ℕ × ℕ)) where
   -- the two parts are as long as the numbers say

@@ -1,19 +1,17 @@
 -- What truthful segments leave.
 use Rattle.std.proofs.Common.{◌≡◌, ℕ, zero, suc, ◌+◌, ◌-◌, ◌<◌, ◌≤◌, max, Bool, true, false, cond}
 use Rattle.std.proofs.Common.{List, [], ◌∷◌, ◌++◌, length, take, drop, nat_lt, All, Option, Some}
-use Rattle.std.proofs.Common.{None, is_some, slice_get, slice_range, refl, sym, ap, subst, ◌∙◌}
+use Rattle.std.proofs.Common.{None, IsTrue, is_some, slice_get, slice_range, refl, sym, ap, subst, ◌∙◌}
 use Rattle.std.proofs.Common.{arith, length-append, length-drop, ⊎_elim, take-add}
 use Rattle.std.proofs.lemmas.Bool.{both_ways, cases_lt}
 use Rattle.std.proofs.lemmas.Option.{slice_get_within}
 use Rattle.std.proofs.lemmas.List.Elements.{All-nil, All-cons, All-head, All-tail}
 use Rattle.net_receiver.specs.KeptList.{Piece, piece, piece_byte_at, piece_within, byte_at, next, bytes, held_positions}
-use Rattle.net_receiver.specs.Rules.{CommandValue, Segment, Read, Show, Keeps, state_after}
+use Rattle.net_receiver.specs.Rules.{CommandValue, ReplyValue, Segment, Read, Show, Keeps, state_after}
 use Rattle.net_receiver.specs.Schedule.{Setting, KeptState, fresh_kept, kept_after_command, kept_after_commands, bytes_read, PieceAgrees, Agrees, kept_ops}
 use Rattle.net_receiver.specs.ReceiverState.{ReceiverState, domain, receiver_ops, fresh_receiver, next_position, receiver_after_command, receiver_after_commands, setting}
-use Rattle.net_receiver.specs.OneStream.{IsTruthful, TruthfulIsKept, Receives, FreshReceives}
-use Rattle.net_receiver.specs.OneStream.{OneReceives, AllReceive, LongerReceives, QueueIsOfStream}
-use Rattle.net_receiver.specs.OneStream.{FreshStream, ReplayReceives, FirstStays, NextGrows}
-use Rattle.net_receiver.specs.OneStream.{SegmentReadsNothing}
+use Rattle.net_receiver.specs.Execution.{Executes}
+use Rattle.net_receiver.specs.OneStream.{IsTruthful, Receives, QueueIsOf, FirstStays, NextGrows, SegmentReadsNothing}
 use Rattle.net_receiver.proofs.Covering.{piece_before, piece_from, slice_get-drop, slice_get-take, next_is}
 use Rattle.net_receiver.proofs.Step.{verdict_cases, same_next, queue_length}
 use Rattle.net_receiver.proofs.Run.{schedule, setting_kept}
@@ -59,19 +57,21 @@ one_kept w s x (Segment pos xs) all h =
 one_kept w s x (Read count) all h = all
 one_kept w s x Show all h = all
 
-pub truthful_is_kept : TruthfulIsKept
+pub truthful_is_kept : (w : Setting) (s : KeptState) (x : List ℕ) (cs : List CommandValue) → Agrees w.first s.kept x → All (IsTruthful w.first x) cs →
+    Agrees w.first (kept_after_commands w s cs).kept x
 truthful_is_kept w s x [] all h = all
 truthful_is_kept w s x (c ∷ cs) all h =
     truthful_is_kept w (kept_after_command w s c) x cs (one_kept w s x c all (All-head (IsTruthful w.first x) c cs h)) (All-tail (IsTruthful w.first x) c cs h)
 
-pub fresh_receives : FreshReceives
+pub fresh_receives : (x : List ℕ) (first capacity : ℕ) → Receives x (fresh_receiver first capacity)
 fresh_receives x first capacity = record { state = fresh_kept; refines = fresh_refines first capacity; agrees = All-nil (PieceAgrees first x) }
 
 pub first_kept : (most : ℕ) (v : ReceiverState) (cs : List CommandValue) → (receiver_after_commands most v cs).first ≡ v.first
 first_kept most v [] = refl
 first_kept most v (c ∷ cs) = first_kept most (receiver_after_command most v c) cs ∙ ap (λ w. w.first) (setting_kept most v c)
 
-pub all_receive : AllReceive
+all_receive : (most : ℕ) (x : List ℕ) (v : ReceiverState) (cs : List CommandValue) → Receives x v → All (IsTruthful v.first x) cs →
+    Receives x (receiver_after_commands most v cs)
 all_receive most x v cs r h =
     let w = setting most v in
     record {
@@ -80,7 +80,8 @@ all_receive most x v cs r h =
       agrees = subst (λ f. Agrees f (kept_after_commands w r.state cs).kept x) (sym (first_kept most v cs)) (truthful_is_kept w r.state x cs r.agrees h);
     }
 
-pub one_receives : OneReceives
+pub one_receives : (most : ℕ) (x : List ℕ) (v : ReceiverState) (c : CommandValue) → Receives x v → IsTruthful v.first x c →
+    Receives x (receiver_after_command most v c)
 one_receives most x v c r h = all_receive most x v (c ∷ []) r (All-cons (IsTruthful v.first x) c [] h (All-nil (IsTruthful v.first x)))
 
 -- a longer list
@@ -93,7 +94,7 @@ All-map : {X : Type 0} (P Q : X → Type 0) → ((a : X) → P a → Q a) → (x
 All-map P Q f [] all = All-nil Q
 All-map P Q f (x ∷ xs) all = All-cons Q x xs (f x (All-head P x xs all)) (All-map P Q f xs (All-tail P x xs all))
 
-pub longer_receives : LongerReceives
+pub longer_receives : (x more : List ℕ) (v : ReceiverState) → Receives x v → Receives (x ++ more) v
 longer_receives x more v r = record {
   state = r.state;
   refines = r.refines;
@@ -118,7 +119,7 @@ covered_within f k x all =
     (λ (l : next f k ≤ f). omega arith)
     (cases_lt f (next f k))
 
-pub queue_is_of : QueueIsOfStream
+pub queue_is_of : (x : List ℕ) (v : ReceiverState) → Receives x v → QueueIsOf x v
 queue_is_of x v r =
     let w = setting 0 v in
     let s = r.state in
@@ -140,28 +141,14 @@ queue_is_of x v r =
       next = omega arith;
     }
 
-pub fresh_stream : FreshStream
-fresh_stream most first capacity x cs h =
-    let v = fresh_receiver first capacity in
-    let w = setting most v in
-    let d = fresh_refines first capacity in
-    let all = schedule most v fresh_kept d cs in
-    let u = receiver_after_commands most v cs in
-    let t = kept_after_commands w fresh_kept cs in
-    let agrees = truthful_is_kept w fresh_kept x cs (All-nil (PieceAgrees first x)) h in
-    let f : u.first ≡ first = first_kept most v cs in
-    let end : next_position u - first ≡ next first t.kept - first - 0 =
-    (let e = same_next u t all.0 in let e' : next u.first t.kept ≡ next first t.kept = ap (λ b. next b t.kept) f in omega arith) in
-    (λ i. bytes_read (all.1 i) ++ (all.0.queue ∙ (λ j. bytes t.kept (f j + t.read) (next (f j) t.kept - (f j + t.read)))) i)
-    ∙ stream w x fresh_kept d.within cs agrees
-    ∙ ap (λ m. take m x) (sym end)
-
 All-take : {X : Type 0} (P : X → Type 0) (n : ℕ) (xs : List X) → All P xs → All P (take n xs)
 All-take P zero xs all = All-nil P
 All-take P (suc n) [] all = All-nil P
 All-take P (suc n) (x ∷ xs) all = All-cons P x (take n xs) (All-head P x xs all) (All-take P n xs (All-tail P x xs all))
 
-pub run_receives : ReplayReceives
+pub run_receives : (most : ℕ) (x : List ℕ) (v u : ReceiverState) (cs : List CommandValue) (rs : List ReplyValue) (complete : Bool) →
+    Receives x v → All (IsTruthful v.first x) cs → Executes most v u cs rs (IsTrue complete) →
+    Receives x u × (bytes_read rs ++ u.queue ≡ slice_range x v.read (next_position u - u.first))
 run_receives most x v u cs rs complete r h run =
     let w = setting most v in
     let prefix = take run.prefix.count cs in

@@ -7,16 +7,14 @@
 -- The others are laws: when these hold, what follows from them, and what commands leave. `MatchesStream`,
 -- `AllMatch` and `ReceivesFrom` are not unfolded by a caller's proofs, which find them by the clauses of the
 -- calls and by the laws that make them.
-use Rattle.std.specs.Prelude.{◌≡◌, ◌↔◌, ℕ, ◌+◌, ◌-◌, ◌≤◌, List, [], ◌∷◌, ◌++◌, length, take, drop}
-use Rattle.std.specs.Prelude.{slice_range, slice_get, Some, All, Bool, IsTrue}
+use Rattle.std.specs.Prelude.{◌≡◌, ℕ, ◌+◌, ◌-◌, ◌≤◌, List, [], ◌∷◌, ◌++◌, length, take, drop}
+use Rattle.std.specs.Prelude.{slice_get, Some, All}
 use Rattle.std.specs.FinMap as fin
 use Rattle.net_receiver.specs.KeptList.{piece}
-use Rattle.net_receiver.specs.Rules.{CommandValue, Segment, Read, Show, ReplyValue}
-use Rattle.net_receiver.specs.Schedule.{Setting, KeptState, kept_after_commands, bytes_read, PieceAgrees, Agrees}
+use Rattle.net_receiver.specs.Rules.{CommandValue, Segment, Read, Show}
+use Rattle.net_receiver.specs.Schedule.{Setting, KeptState, kept_after_commands, PieceAgrees, Agrees}
 use Rattle.net_receiver.specs.ReceiverState.{ReceiverState, fresh_receiver, next_position, receiver_after_command}
-use Rattle.net_receiver.specs.ReceiverState.{Refines}
-use Rattle.net_receiver.specs.ReceiverState.{receiver_after_commands, receiver_replies}
-use Rattle.net_receiver.specs.Execution.{Executes}
+use Rattle.net_receiver.specs.ReceiverState.{limit_of, Refines}
 
 -- ---- the relations
 -- a segment has the bytes of x at its positions from f on; the other commands bring no bytes
@@ -53,7 +51,7 @@ pub record QueueIsOf (x : List ℕ) (v : ReceiverState) : Type 0 where
 
 -- the bytes of a segment from the first missing position on, as far as the free window goes
 abbrev pub window_part : ReceiverState → ℕ → List ℕ → List ℕ
-window_part v pos xs = drop (next_position v - pos) (take (v.first + v.read + v.capacity - pos) xs)
+window_part v pos xs = drop (next_position v - pos) (take (limit_of v - pos) xs)
 
 -- ---- when they hold, and what follows
 -- a segment that is the stream's bytes at its position matches the stream
@@ -88,11 +86,6 @@ abbrev pub BothMatch : Type 0
 BothMatch = (f : ℕ) (x : List ℕ) (cs ds : List CommandValue) →
     AllMatch f x cs → AllMatch f x ds → AllMatch f x (cs ++ ds)
 
--- commands of which each is truthful
-abbrev pub EachMatches : Type 0
-EachMatches = (f : ℕ) (x : List ℕ) (cs : List CommandValue) →
-    All (IsTruthful f x) cs → AllMatch f x cs
-
 -- what a fresh receiver stores
 abbrev pub FreshReceivesFrom : Type 0
 FreshReceivesFrom = (f : ℕ) (x : List ℕ) (v : ReceiverState) →
@@ -102,11 +95,6 @@ FreshReceivesFrom = (f : ℕ) (x : List ℕ) (v : ReceiverState) →
 abbrev pub AgreeingReceives : Type 0
 AgreeingReceives = (f : ℕ) (x : List ℕ) (v : ReceiverState) (s : KeptState) →
     v.first ≡ f → Refines v s → Agrees f s.kept x → ReceivesFrom f x v
-
--- the relation by its two parts
-abbrev pub ReceivesByParts : Type 0
-ReceivesByParts = (f : ℕ) (x : List ℕ) (v : ReceiverState) →
-    ReceivesFrom f x v ↔ ((v.first ≡ f) × Receives x v)
 
 -- what was received of x was received of each longer stream
 abbrev pub ReceivesFromLonger : Type 0
@@ -124,51 +112,14 @@ abbrev pub HeldIsOfStream : Type 0
 HeldIsOfStream = (f : ℕ) (x : List ℕ) (v : ReceiverState) (p b : ℕ) → ReceivesFrom f x v →
     fin.get v.held p ≡ Some b → slice_get x (p - f) ≡ Some b
 
+-- what the queue is
+abbrev pub QueueIsOfStream : Type 0
+QueueIsOfStream = (f : ℕ) (x : List ℕ) (v : ReceiverState) → ReceivesFrom f x v → QueueIsOf x v
+
 -- a kept list that agrees with x still does after truthful commands, whatever is kept of them
 abbrev pub TruthfulIsKept : Type 0
 TruthfulIsKept = (w : Setting) (s : KeptState) (x : List ℕ) (cs : List CommandValue) →
-    Agrees w.first s.kept x → All (IsTruthful w.first x) cs →
-    Agrees w.first (kept_after_commands w s cs).kept x
-
--- a fresh receiver took nothing
-abbrev pub FreshReceives : Type 0
-FreshReceives = (x : List ℕ) (first capacity : ℕ) → Receives x (fresh_receiver first capacity)
-
--- one truthful command
-abbrev pub OneReceives : Type 0
-OneReceives = (most_runs : ℕ) (x : List ℕ) (v : ReceiverState) (c : CommandValue) →
-    Receives x v → IsTruthful v.first x c → Receives x (receiver_after_command most_runs v c)
-
--- any number of truthful commands
-abbrev pub AllReceive : Type 0
-AllReceive = (most_runs : ℕ) (x : List ℕ) (v : ReceiverState) (cs : List CommandValue) →
-    Receives x v → All (IsTruthful v.first x) cs → Receives x (receiver_after_commands most_runs v cs)
-
--- what was received of x is received of each longer list
-abbrev pub LongerReceives : Type 0
-LongerReceives = (x more : List ℕ) (v : ReceiverState) → Receives x v → Receives (x ++ more) v
-
--- what the queue is
-abbrev pub QueueIsOfStream : Type 0
-QueueIsOfStream = (x : List ℕ) (v : ReceiverState) → Receives x v → QueueIsOf x v
-
--- from a fresh receiver on: the bytes that were read, and then the queue, are the first bytes of x
-abbrev pub FreshStream : Type 0
-FreshStream = (most_runs first capacity : ℕ) (x : List ℕ) (cs : List CommandValue) →
-    All (IsTruthful first x) cs →
-    let v = receiver_after_commands most_runs (fresh_receiver first capacity) cs in
-    bytes_read (receiver_replies most_runs (fresh_receiver first capacity) cs) ++ v.queue
-    ≡ take (next_position v - first) x
-
--- a call of `replay`, of which all or the first commands were executed: the bytes that were read, and
--- then the queue, are what x has from the first byte on that was not yet read, up to the first
--- missing position
-abbrev pub ReplayReceives : Type 0
-ReplayReceives = (most_runs : ℕ) (x : List ℕ) (v u : ReceiverState)
-    (cs : List CommandValue) (rs : List ReplyValue) (complete : Bool) →
-    Receives x v → All (IsTruthful v.first x) cs →
-    Executes most_runs v u cs rs (IsTrue complete) →
-    Receives x u × (bytes_read rs ++ u.queue ≡ slice_range x v.read (next_position u - u.first))
+    Agrees w.first s.kept x → AllMatch w.first x cs → Agrees w.first (kept_after_commands w s cs).kept x
 
 -- ---- what commands change
 -- the first position stays

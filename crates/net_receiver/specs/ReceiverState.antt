@@ -3,7 +3,8 @@
 --     domain held      the positions that held bytes have
 --     with_bytes_at held p xs      xs from position p on, over held bytes
 --     fresh_receiver first capacity      what a fresh receiver stores
---     next_position v, receiver_after_read v n      the first missing position, and what a read leaves
+--     next_position v, limit_of v      the first missing position, and the end of the free window
+--     receiver_after_read v n      what a read leaves
 --     receiver_ops      what it tells, and what a kept piece and a read make of it
 --     receiver_after_command N v c, receiver_reply N v c      one command by the rules
 --     setting N v      the setting of the schedules that v represents
@@ -52,6 +53,10 @@ fresh_receiver first capacity = record {
 -- the first missing position
 abbrev pub next_position : ReceiverState → ℕ
 next_position v = v.first + v.read + length v.queue
+
+-- the end of the free window
+abbrev pub limit_of : ReceiverState → ℕ
+limit_of v = v.first + v.read + v.capacity
 
 -- bytes from position p on, over what is held
 abbrev pub with_bytes_at : HeldBytes → ℕ → List ℕ → HeldBytes
@@ -154,7 +159,7 @@ StepRefines most_runs v u c r = (s : KeptState) → Refines v s →
 pub record IsSound (most_runs : ℕ) (v : ReceiverState) : Type 0 where
   pub few : runs (domain v.held) ≤ most_runs
   pub above : (p : ℕ) → fin.contains_key v.held p ≡ true → next_position v < p
-  pub below : (p : ℕ) → fin.contains_key v.held p ≡ true → p < v.first + v.read + v.capacity
+  pub below : (p : ℕ) → fin.contains_key v.held p ≡ true → p < limit_of v
   pub fits : length v.queue ≤ v.capacity
 
 -- what `same_state` compares: first position, count read, queue and held runs

@@ -10,13 +10,13 @@ use Rattle.net_receiver.specs.KeptList.{piece, piece_byte_at}
 use Rattle.net_receiver.specs.Rules.{CommandValue, Segment, Read, Show}
 use Rattle.net_receiver.specs.Schedule.{IsAccepted}
 use Rattle.net_receiver.specs.ReceiverState.{ReceiverState, IsSound, next_position, receiver_after_command}
-use Rattle.net_receiver.specs.ReceiverState.{receiver_reply}
+use Rattle.net_receiver.specs.ReceiverState.{limit_of, receiver_reply}
 use Rattle.net_receiver.specs.ReceiverState.{receiver_after_commands, receiver_replies}
 
 -- ---- retransmitted segments
 -- each byte of a segment within the free window is held already
 abbrev pub IsHeld : ReceiverState → ℕ → List ℕ → Type 0
-IsHeld v pos xs = (p b : ℕ) → next_position v ≤ p → p < v.first + v.read + v.capacity →
+IsHeld v pos xs = (p b : ℕ) → next_position v ≤ p → p < limit_of v →
     piece_byte_at (piece pos xs) p ≡ Some b → fin.get v.held p ≡ Some b
 
 -- such a segment changes nothing
@@ -44,7 +44,7 @@ HasByteStays = (most_runs : ℕ) (v : ReceiverState) (c : CommandValue) (p : ℕ
 abbrev pub AcceptedBrings : Type 0
 AcceptedBrings = (most_runs : ℕ) (v : ReceiverState) (pos : ℕ) (xs : List ℕ) (p : ℕ) →
     IsAccepted (receiver_reply most_runs v (Segment pos xs)) →
-    pos ≤ p → p < pos + length xs → p < v.first + v.read + v.capacity →
+    pos ≤ p → p < pos + length xs → p < limit_of v →
     HasByteAt (receiver_after_command most_runs v (Segment pos xs)) p
 
 -- if a receiver has each position up to an end, its first missing one is not below that end
@@ -63,7 +63,7 @@ Brings (Show ∷ cs) p = Brings cs p
 -- however they overlap, and none is refused, the first missing position is then not below that end
 abbrev pub Completes : Type 0
 Completes = (most_runs : ℕ) (v : ReceiverState) (cs : List CommandValue) (end : ℕ) →
-    IsSound most_runs v → end ≤ v.first + v.read + v.capacity →
+    IsSound most_runs v → end ≤ limit_of v →
     All IsAccepted (receiver_replies most_runs v cs) →
     ((p : ℕ) → next_position v ≤ p → p < end → Brings cs p) →
     end ≤ next_position (receiver_after_commands most_runs v cs)
@@ -72,5 +72,5 @@ Completes = (most_runs : ℕ) (v : ReceiverState) (cs : List CommandValue) (end 
 -- to the end of the free window
 abbrev pub InOrderReaches : Type 0
 InOrderReaches = (most_runs : ℕ) (v : ReceiverState) (pos : ℕ) (xs : List ℕ) → pos ≤ next_position v →
-    min (pos + length xs) (v.first + v.read + v.capacity)
+    min (pos + length xs) (limit_of v)
     ≤ next_position (receiver_after_command most_runs v (Segment pos xs))

@@ -1,6 +1,6 @@
 //! A receiver in parts: a head of numbers, a storage, and runs that are kept elsewhere.
 ghost use Rattle.std.specs.Prelude.{◌≡◌, ◌↔◌, ℕ, ◌+◌, ◌-◌, ◌<◌, ◌≤◌, ◌^◌, ◌%◌, min, List, ◌++◌, length};
-ghost use Rattle.std.specs.Prelude.{take, drop, All, IsTrue};
+ghost use Rattle.std.specs.Prelude.{take, drop, All, IsTrue, OnErr};
 ghost use Rattle.net_ring.specs.Ring.{queue, contiguous_queued_from, contiguous_queued};
 ghost use Rattle.net_ring.specs.Place.{IsSound as IsSoundPlace, ring_at};
 ghost use Rattle.net_assembler.specs.Positions.{contains, maximal_runs};
@@ -8,7 +8,8 @@ ghost use Rattle.net_assembler.specs.RunLists.{HasSoundRuns, set_of};
 ghost use Rattle.net_receiver.specs.KeptList.{piece};
 ghost use Rattle.net_receiver.specs.Rules.{first_three, verdict, state_after, numbers};
 ghost use Rattle.net_receiver.specs.Rules.{segment_result};
-ghost use Rattle.net_receiver.specs.ReceiverState.{fresh_receiver, domain, next_position};
+ghost use Rattle.net_receiver.specs.ReceiverState.{fresh_receiver, domain, limit_of};
+ghost use Rattle.net_receiver.specs.ReceiverState.{next_position};
 ghost use Rattle.net_receiver.specs.ReceiverState.{receiver_ops, receiver_after_read, IsSameState};
 ghost use Rattle.net_receiver.specs.Head.{receiver_of, HasSoundParts, storage_after, head_after_read};
 
@@ -160,7 +161,8 @@ impl ReceiverHead {
         capacity - self.place.length
     }
 
-    /// Keeps the bytes of a segment that are in the free window, as `ReceiverOver::segment` does.
+    /// Keeps the bytes of a segment that are in the free window, as `ReceiverOver::segment` does. If
+    /// it is refused, head, storage and runs stay as they were, with the runs that aren't in use.
     ///
     /// # Requires
     ///
@@ -186,6 +188,8 @@ impl ReceiverHead {
         ensures value { let v = receiver_of self.old storage.old runs.old in
             result ≡ segment_result receiver_ops v
             (verdict receiver_ops (length runs.old) v (piece pos bytes.now)) }
+        ensures unchanged { OnErr result ((self.new ≡ self.old) × (storage.new ≡ storage.old)
+            × (runs.new ≡ runs.old)) }
     {
         let (kept, queued) = self.keep(storage, runs, pos, bytes)?;
         let sack = self.first_runs(storage, runs);
@@ -217,7 +221,7 @@ impl ReceiverHead {
         ensures above { let v = receiver_of self.now storage.now runs.now in
             All (λ run. (next_position v < run.0) × (run.0 < run.1)) result }
         ensures within { let v = receiver_of self.now storage.now runs.now in
-            All (λ run. run.1 ≤ v.first + v.read + v.capacity) result }
+            All (λ run. run.1 ≤ limit_of v) result }
     {
         // Taken only for the precondition.
         let _storage = storage;
@@ -247,6 +251,8 @@ impl ReceiverHead {
         ensures numbers { let v = receiver_of self.old storage.old runs.old in
             result ≡ numbers receiver_ops v
             (verdict receiver_ops (length runs.old) v (piece pos bytes.now)) }
+        ensures unchanged { OnErr result ((self.new ≡ self.old) × (storage.new ≡ storage.old)
+            × (runs.new ≡ runs.old)) }
     {
         let next = self.next();
         let window = self.window(storage.len());

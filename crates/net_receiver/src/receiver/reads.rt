@@ -11,7 +11,7 @@ ghost use Rattle.net_receiver.specs.Contiguous.{contiguous_count, contiguous_cou
 ghost use Rattle.net_receiver.specs.Contiguous.{second_part};
 ghost use Rattle.net_receiver.specs.OneStream.{ReceivesFrom};
 
-use super::ReceiverOver;
+use super::{ReceiverOver, whole};
 use net_ring::Storage;
 
 /// Reading: bytes at the head of the queue, copied out or lent.
@@ -42,13 +42,11 @@ impl<S: Storage<u8>, const N: usize> ReceiverOver<S, N> {
         ensures bytes { (f : ℕ) (x : List ℕ) → ReceivesFrom f x self.old → take result into.new
             ≡ slice_range x self.old.read (self.old.read + result) }
     {
-        self.head
-            .read(self.storage.part(0, self.storage.count()), into)
+        self.head.read(whole(&self.storage), into)
     }
 
-    /// Lends bytes of the queue that are contiguous, from its byte `offset` on: `size`, or as many as there are
-    /// up to the end of the queue or of the storage. No byte is lent only if `size` is 0 or the queue has no
-    /// byte `offset`.
+    /// Lends a slice of at most `size` queued bytes from `offset`, cut at the end of queue or storage.
+    /// It is empty only if `size` is 0 or the queue has no byte `offset`.
     ///
     /// The stream's byte number i, counted from 0, has the index `i` modulo the capacity in the
     /// storage, so a caller knows where a part ends. smoltcp's `peek` lends from the head on.
@@ -66,8 +64,7 @@ impl<S: Storage<u8>, const N: usize> ReceiverOver<S, N> {
         ensures bytes { (f : ℕ) (x : List ℕ) → ReceivesFrom f x self.now →
             result.now ≡ take (length result.now) (drop (self.now.read + offset) x) }
     {
-        self.head
-            .peek(self.storage.part(0, self.storage.count()), offset, size)
+        self.head.peek(whole(&self.storage), offset, size)
     }
 
     /// Copies bytes from the head of the queue to the beginning of `into`, and returns how many:
@@ -85,8 +82,7 @@ impl<S: Storage<u8>, const N: usize> ReceiverOver<S, N> {
         ensures bytes { (f : ℕ) (x : List ℕ) → ReceivesFrom f x self.old → take result into.new
             ≡ slice_range x self.old.read (self.old.read + result) }
     {
-        self.head
-            .peek_slice(self.storage.part(0, self.storage.count()), into)
+        self.head.peek_slice(whole(&self.storage), into)
     }
 
     /// Shows the queue, in order, in two parts: the bytes up to the storage's end, and those from its
@@ -107,8 +103,7 @@ impl<S: Storage<u8>, const N: usize> ReceiverOver<S, N> {
             result.0.now ++ result.1.now
             ≡ slice_range x self.now.read (self.now.read + length self.now.queue) }
     {
-        self.head
-            .as_slices(self.storage.part(0, self.storage.count()))
+        self.head.as_slices(whole(&self.storage))
     }
 
     /// Calls `f` on the first part of the queue, as `as_slices` shows it, takes as many bytes off the
@@ -138,10 +133,15 @@ impl<S: Storage<u8>, const N: usize> ReceiverOver<S, N> {
             take result.0 self.old.queue
             ≡ slice_range x self.old.read (self.old.read + result.0) }
     {
-        let storage = self.storage.part(0, self.storage.count());
-        let bytes = self.head.peek(storage, 0, self.head.queued());
-        let answer = f(bytes);
+        let answer = f(self.first_slice());
         self.head.remove(self.storage.count(), answer.0);
         answer
+    }
+
+    /// Shows the first part of the queue.
+    fn first_slice(&self) -> &[u8]
+        ensures { result.now ≡ first_part self.now }
+    {
+        self.head.peek(whole(&self.storage), 0, self.head.queued())
     }
 }

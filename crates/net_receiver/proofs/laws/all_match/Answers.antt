@@ -1,4 +1,4 @@
-use Rattle.net_receiver.proofs.Called.{empty_matches, segment_matches, read_matches, show_matches, both_match, each_matches}
+use Rattle.net_receiver.proofs.Called.{empty_matches, segment_matches, read_matches, show_matches, both_match, matching_is_kept}
 use Rattle.net_receiver.proofs.laws.all_match.Goals as goal
 
 pub returns-clause-empty : goal.returns-clause-empty
@@ -16,5 +16,5 @@ returns-clause-show c = show_matches
 pub returns-clause-both : goal.returns-clause-both
 returns-clause-both c = both_match
 
-pub returns-clause-each : goal.returns-clause-each
-returns-clause-each c = each_matches
+pub returns-clause-kept : goal.returns-clause-kept
+returns-clause-kept c = matching_is_kept

@@ -7,28 +7,20 @@ use Rattle.net_receiver.proofs.Contiguous.{lent_from, each_lent, end_lent}
 use Rattle.net_receiver.proofs.Heads.{lent_view, lent_sound, queue_size}
 use Rattle.net_receiver.proofs.receiver.ReceiverOver.peek.Goals as goal
 
-pub peek-requires : goal.peek-requires
-peek-requires g c =
-    (lent_sound c.self.inside.head (g.S.Storage.elements c.self.inside.storage) c.part.result.now c.self.inside.runs
-    c.count.result c.count.ensures c.part.ensures c.self.invariant.0).place
-
 pub returns-clause-value : goal.returns-clause-value
 returns-clause-value g c =
     c.peek.ensures.value
     ∙ ap (λ (v : ReceiverState). take (length c.peek.result.now) (drop c.args.offset v.queue))
-    (lent_view c.self.inside.head (g.S.Storage.elements c.self.inside.storage) c.part.result.now c.self.inside.runs
-    c.count.result c.count.ensures c.part.ensures c.args.self.now c.self.view_is)
+    (lent_view _ _ _ _ c.whole.ensures c.args.self.now c.self.view_is)
 
 pub returns-clause-count : goal.returns-clause-count
 returns-clause-count g c =
     let h = c.self.inside.head in
-    let sound = lent_sound h (g.S.Storage.elements c.self.inside.storage) c.part.result.now c.self.inside.runs
-    c.count.result c.count.ensures c.part.ensures c.self.invariant.0 in
-    lent_from (ring_at c.part.result.now h.place) h.count_read sound.read_at c.args.offset c.args.size (length c.peek.result.now) c.peek.ensures.count
+    let sound = lent_sound _ _ _ _ c.whole.ensures c.self.invariant.0 in
+    lent_from (ring_at c.whole.result.now h.place) h.count_read sound.read_at c.args.offset c.args.size (length c.peek.result.now) c.peek.ensures.count
     (end_lent _ c.peek.result.now c.args.offset c.peek.ensures.value)
     ∙ ap (λ v. contiguous_count_from v c.args.offset c.args.size)
-    (lent_view h (g.S.Storage.elements c.self.inside.storage) c.part.result.now c.self.inside.runs
-    c.count.result c.count.ensures c.part.ensures c.args.self.now c.self.view_is)
+    (lent_view _ _ _ _ c.whole.ensures c.args.self.now c.self.view_is)
 
 pub returns-clause-few : goal.returns-clause-few
 returns-clause-few g c =

@@ -2,14 +2,9 @@ use Rattle.std.proofs.Common.{◌∙◌, ◌++◌, ap, sym, min, length, take, d
 use Rattle.net_receiver.specs.Rules.{ReadReply}
 use Rattle.net_receiver.specs.ReceiverState.{ReceiverState}
 use Rattle.net_receiver.proofs.Called.{read_bytes}
-use Rattle.net_receiver.proofs.Heads.{lent_view, lent_sound, queue_size}
+use Rattle.net_receiver.proofs.Heads.{lent_view, queue_size}
 use Rattle.net_receiver.proofs.Run.{read_prefix}
 use Rattle.net_receiver.proofs.receiver.ReceiverOver.peek_slice.Goals as goal
-
-pub peek_slice-requires : goal.peek_slice-requires
-peek_slice-requires g c =
-    (lent_sound c.self.inside.head (g.S.Storage.elements c.self.inside.storage) c.part.result.now c.self.inside.runs
-    c.count.result c.count.ensures c.part.ensures c.self.invariant.0).place
 
 pub returns-clause-count : goal.returns-clause-count
 returns-clause-count g c =
@@ -22,8 +17,7 @@ pub returns-clause-into : goal.returns-clause-into
 returns-clause-into g c =
     c.peek_slice.ensures.into
     ∙ ap (λ (v : ReceiverState). take (length c.args.into.now) v.queue ++ drop (length v.queue) c.args.into.now)
-    (lent_view c.self.inside.head (g.S.Storage.elements c.self.inside.storage) c.part.result.now c.self.inside.runs
-    c.count.result c.count.ensures c.part.ensures c.args.self.now c.self.view_is)
+    (lent_view _ _ _ _ c.whole.ensures c.args.self.now c.self.view_is)
 
 pub returns-clause-reply : goal.returns-clause-reply
 returns-clause-reply g c =

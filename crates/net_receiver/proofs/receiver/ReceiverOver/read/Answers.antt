@@ -7,34 +7,19 @@ use Rattle.net_receiver.proofs.ReadLaws.{read_leaves_next}
 use Rattle.net_receiver.proofs.Run.{steps, read_prefix}
 use Rattle.net_receiver.proofs.receiver.ReceiverOver.read.Goals as goal
 
-pub read-requires-clause-place : goal.read-requires-clause-place
-read-requires-clause-place g c =
-    (lent_sound c.self.inside.head (g.S.Storage.elements c.self.inside.storage) c.part.result.now c.self.inside.runs
-    c.count.result c.count.ensures c.part.ensures c.self.invariant.0).place
-
 pub read-requires-clause-fits : goal.read-requires-clause-fits
 read-requires-clause-fits g c = next_fits c.self.inside.head (g.S.Storage.elements c.self.inside.storage) c.self.inside.runs c.self.invariant.0
 
 pub invariant_of-self : goal.invariant_of-self
 invariant_of-self g c =
-    let i = c.self.inside in
-    let xs = g.S.Storage.elements i.storage in (
-      back_sound c.read.new.self xs c.part.result.now i.runs c.count.result c.count.ensures c.part.ensures
-          (c.read.ensures.sound i.runs
-          (lent_sound i.head xs c.part.result.now i.runs c.count.result c.count.ensures c.part.ensures c.self.invariant.0)),
-      c.self.invariant.1,
-    )
+    let before = lent_sound _ _ _ _ c.whole.ensures c.self.invariant.0 in
+    (back_sound _ _ _ _ c.whole.ensures (c.read.ensures.sound c.self.inside.runs before), c.self.invariant.1)
 
 pub returns-clause-state : goal.returns-clause-state
 returns-clause-state g c =
-    let i = c.self.inside in
-    let xs = g.S.Storage.elements i.storage in
-    back_view c.read.new.self xs c.part.result.now i.runs c.count.result c.count.ensures c.part.ensures
-    (receiver_after_read c.args.self.now (length c.args.into.now))
-    (c.read.ensures.state i.runs
-    (lent_sound i.head xs c.part.result.now i.runs c.count.result c.count.ensures c.part.ensures c.self.invariant.0)
-    ∙ ap (λ v. receiver_after_read v (length c.args.into.now))
-    (lent_view i.head xs c.part.result.now i.runs c.count.result c.count.ensures c.part.ensures c.args.self.now c.self.view_is))
+    back_view _ _ _ _ c.whole.ensures (receiver_after_read c.args.self.now (length c.args.into.now))
+    (c.read.ensures.state c.self.inside.runs (lent_sound _ _ _ _ c.whole.ensures c.self.invariant.0)
+    ∙ ap (λ v. receiver_after_read v (length c.args.into.now)) (lent_view _ _ _ _ c.whole.ensures c.args.self.now c.self.view_is))
 
 pub returns-clause-count : goal.returns-clause-count
 returns-clause-count g c =
@@ -47,8 +32,7 @@ pub returns-clause-into : goal.returns-clause-into
 returns-clause-into g c =
     c.read.ensures.into
     ∙ ap (λ (v : ReceiverState). take (length c.args.into.now) v.queue ++ drop (length v.queue) c.args.into.now)
-    (lent_view c.self.inside.head (g.S.Storage.elements c.self.inside.storage) c.part.result.now c.self.inside.runs
-    c.count.result c.count.ensures c.part.ensures c.args.self.now c.self.view_is)
+    (lent_view _ _ _ _ c.whole.ensures c.args.self.now c.self.view_is)
 
 pub returns-clause-step : goal.returns-clause-step
 returns-clause-step g c = λ s d.
@@ -59,14 +43,8 @@ returns-clause-step g c = λ s d.
 
 pub returns-clause-setting : goal.returns-clause-setting
 returns-clause-setting g c =
-    let i = c.self.inside in
-    let xs = g.S.Storage.elements i.storage in
     stays g.row.N c.args.self.now _ (Read (length c.args.into.now)) (returns-clause-state g c)
-    (sound_for c.read.new.self xs i.runs
-    (back_sound c.read.new.self xs c.part.result.now i.runs c.count.result c.count.ensures c.part.ensures
-    (c.read.ensures.sound i.runs
-    (lent_sound i.head xs c.part.result.now i.runs c.count.result c.count.ensures c.part.ensures c.self.invariant.0)))
-    g.row.N c.self.invariant.1)
+    (sound_for c.read.new.self (g.S.Storage.elements c.self.inside.storage) c.self.inside.runs (invariant_of-self g c).0 g.row.N c.self.invariant.1)
 
 pub returns-clause-next : goal.returns-clause-next
 returns-clause-next g c = ap next_position (returns-clause-state g c) ∙ read_leaves_next c.args.self.now (length c.args.into.now)

@@ -1,80 +1,49 @@
 -- `f` was run on the queue's first part; what it counts is taken off, as by a read of that many bytes.
-use Rattle.std.proofs.Common.{◌≡◌, ◌≤◌, refl, subst, sym, ap, ◌∙◌, length, take, arith}
-use Rattle.net_ring.specs.Place.{IsSound as IsSoundPlace, ring_at}
-use Rattle.net_assembler.specs.RunLists.{set_of}
-use Rattle.net_receiver.specs.Contiguous.{contiguous_count, first_part}
+use Rattle.std.proofs.Common.{◌≤◌, refl, subst, sym, ap, ◌∙◌, length, take, arith}
+use Rattle.net_ring.specs.Place.{IsSound as IsSoundPlace}
+use Rattle.net_receiver.specs.Contiguous.{contiguous_count}
 use Rattle.net_receiver.specs.Rules.{Read, ReadReply}
 use Rattle.net_receiver.specs.ReceiverState.{ReceiverState, next_position, receiver_after_read}
 use Rattle.net_receiver.proofs.Called.{read_receives, stays, head_bytes}
-use Rattle.net_receiver.proofs.Contiguous.{first_part_lent, first_part_length, contiguous_some}
-use Rattle.net_receiver.proofs.Heads.{lent_view, lent_sound, queue_size, next_fits, sound_for}
+use Rattle.net_receiver.proofs.Contiguous.{first_part_length, contiguous_some}
+use Rattle.net_receiver.proofs.Heads.{queue_size, next_fits, sound_for}
 use Rattle.net_receiver.proofs.ReadLaws.{read_leaves_next}
 use Rattle.net_receiver.proofs.Run.{steps}
 use Rattle.net_receiver.proofs.receiver.ReceiverOver.read_with.Given as given
 use Rattle.net_receiver.proofs.receiver.ReceiverOver.read_with.Goals as goal
 
-pub peek-bytes-requires : goal.peek-bytes-requires
-peek-bytes-requires g c =
-    (lent_sound c.self.inside.head (g.S.Storage.elements c.self.inside.storage) c.part-storage.result.now c.self.inside.runs
-    c.count.result c.count.ensures c.part-storage.ensures c.self.invariant.0).place
-
 pub f-answer-requires : goal.f-answer-requires
-f-answer-requires g c =
-    let i = c.self.inside in
-    let xs = g.S.Storage.elements i.storage in
-    let part = c.part-storage.result.now in
-    let sound = lent_sound i.head xs part i.runs c.count.result c.count.ensures c.part-storage.ensures c.self.invariant.0 in
-    let lent = first_part_lent i.head.first i.head.count_read c.queued.result (ring_at part i.head.place) (set_of i.head.held i.runs)
-    c.args.self.now c.peek-bytes.result.now sound.read_at
-    (lent_view i.head xs part i.runs c.count.result c.count.ensures c.part-storage.ensures c.args.self.now c.self.view_is)
-    (c.queued.ensures ∙ sym (queue_size i.head part i.runs sound.place)) c.peek-bytes.ensures.count c.peek-bytes.ensures.value in
-    c.requires.callable c.peek-bytes.result lent
+f-answer-requires g c = c.requires.callable c.first_slice.result c.first_slice.ensures
 
--- the lent bytes, and no more of them are counted
-lent_is : (g : given.Over) (c : goal.After-remove g) →
-    (c.peek-bytes.result.now ≡ first_part c.args.self.now) × (c.f-answer.result.0 ≤ contiguous_count c.args.self.now)
-lent_is g c =
-    let i = c.self.inside in
-    let xs = g.S.Storage.elements i.storage in
-    let part = c.part-storage.result.now in
-    let sound = lent_sound i.head xs part i.runs c.count.result c.count.ensures c.part-storage.ensures c.self.invariant.0 in
-    let lent = first_part_lent i.head.first i.head.count_read c.queued.result (ring_at part i.head.place) (set_of i.head.held i.runs)
-    c.args.self.now c.peek-bytes.result.now sound.read_at
-    (lent_view i.head xs part i.runs c.count.result c.count.ensures c.part-storage.ensures c.args.self.now c.self.view_is)
-    (c.queued.ensures ∙ sym (queue_size i.head part i.runs sound.place)) c.peek-bytes.ensures.count c.peek-bytes.ensures.value in
-    let few = c.requires.count c.f-answer.result (c.peek-bytes.result, c.f-answer.ensures, lent) in
-    (lent, omega (arith, few, first_part_length c.args.self.now))
+-- no more bytes are counted than were lent
+few : (g : given.Over) (c : goal.After-remove g) → c.f-answer.result.0 ≤ contiguous_count c.args.self.now
+few g c =
+    let counted = c.requires.count c.f-answer.result (c.first_slice.result, c.f-answer.ensures, c.first_slice.ensures) in
+    omega (arith, counted, first_part_length c.args.self.now)
 
 pub remove-requires-clause-place : goal.remove-requires-clause-place
-remove-requires-clause-place g c = subst (λ n. IsSoundPlace n c.self.inside.head.place) (sym c.count-2.ensures) c.self.invariant.0.place
+remove-requires-clause-place g c = subst (λ n. IsSoundPlace n c.self.inside.head.place) (sym c.count.ensures) c.self.invariant.0.place
 
 pub remove-requires-clause-queued : goal.remove-requires-clause-queued
 remove-requires-clause-queued g c =
     let i = c.self.inside in
-    let xs = g.S.Storage.elements i.storage in
-    let part = c.part-storage.result.now in
-    let sound = lent_sound i.head xs part i.runs c.count.result c.count.ensures c.part-storage.ensures c.self.invariant.0 in
-    let lent = first_part_lent i.head.first i.head.count_read c.queued.result (ring_at part i.head.place) (set_of i.head.held i.runs)
-    c.args.self.now c.peek-bytes.result.now sound.read_at
-    (lent_view i.head xs part i.runs c.count.result c.count.ensures c.part-storage.ensures c.args.self.now c.self.view_is)
-    (c.queued.ensures ∙ sym (queue_size i.head part i.runs sound.place)) c.peek-bytes.ensures.count c.peek-bytes.ensures.value in
-    let few = c.requires.count c.f-answer.result (c.peek-bytes.result, c.f-answer.ensures, lent) in
+    let counted = c.requires.count c.f-answer.result (c.first_slice.result, c.f-answer.ensures, c.first_slice.ensures) in
     let size = first_part_length c.args.self.now in
     let queued = ap (λ (v : ReceiverState). length v.queue) c.self.view_is in
-    omega (arith, few, size, queued, queue_size i.head xs i.runs c.self.invariant.0.place)
+    omega (arith, counted, size, queued, queue_size i.head (g.S.Storage.elements i.storage) i.runs c.self.invariant.0.place)
 
 pub remove-requires-clause-fits : goal.remove-requires-clause-fits
 remove-requires-clause-fits g c = next_fits c.self.inside.head (g.S.Storage.elements c.self.inside.storage) c.self.inside.runs c.self.invariant.0
 
 pub invariant_of-self : goal.invariant_of-self
 invariant_of-self g c =
-    (c.remove.ensures.sound (g.S.Storage.elements c.self.inside.storage) c.self.inside.runs (sym c.count-2.ensures) c.self.invariant.0, c.self.invariant.1)
+    (c.remove.ensures.sound (g.S.Storage.elements c.self.inside.storage) c.self.inside.runs (sym c.count.ensures) c.self.invariant.0, c.self.invariant.1)
 
 pub returns-clause-called : goal.returns-clause-called
-returns-clause-called g c = (c.peek-bytes.result, c.f-answer.ensures, (lent_is g c).0)
+returns-clause-called g c = (c.first_slice.result, c.f-answer.ensures, c.first_slice.ensures)
 
 pub returns-clause-count : goal.returns-clause-count
-returns-clause-count g c = (lent_is g c).1
+returns-clause-count g c = few g c
 
 pub returns-clause-not_empty : goal.returns-clause-not_empty
 returns-clause-not_empty g c = λ some.
@@ -82,7 +51,7 @@ returns-clause-not_empty g c = λ some.
 
 pub returns-clause-state : goal.returns-clause-state
 returns-clause-state g c =
-    c.remove.ensures.state (g.S.Storage.elements c.self.inside.storage) c.self.inside.runs (sym c.count-2.ensures) c.self.invariant.0
+    c.remove.ensures.state (g.S.Storage.elements c.self.inside.storage) c.self.inside.runs (sym c.count.ensures) c.self.invariant.0
     ∙ ap (λ v. receiver_after_read v c.f-answer.result.0) c.self.view_is
 
 pub returns-clause-step : goal.returns-clause-step
@@ -92,9 +61,7 @@ returns-clause-step g c = λ s d.
 pub returns-clause-setting : goal.returns-clause-setting
 returns-clause-setting g c =
     stays g.row.N c.args.self.now _ (Read c.f-answer.result.0) (returns-clause-state g c)
-    (sound_for c.remove.new.self (g.S.Storage.elements c.self.inside.storage) c.self.inside.runs
-    (c.remove.ensures.sound (g.S.Storage.elements c.self.inside.storage) c.self.inside.runs (sym c.count-2.ensures) c.self.invariant.0)
-    g.row.N c.self.invariant.1)
+    (sound_for c.remove.new.self (g.S.Storage.elements c.self.inside.storage) c.self.inside.runs (invariant_of-self g c).0 g.row.N c.self.invariant.1)
 
 pub returns-clause-next : goal.returns-clause-next
 returns-clause-next g c = ap next_position (returns-clause-state g c) ∙ read_leaves_next c.args.self.now c.f-answer.result.0
@@ -104,5 +71,5 @@ returns-clause-receives g c = λ f x r. read_receives f x c.args.self.now _ c.f-
 
 pub returns-clause-bytes : goal.returns-clause-bytes
 returns-clause-bytes g c = λ f x r.
-    let few = (lent_is g c).1 in
-    head_bytes f x c.args.self.now c.f-answer.result.0 (omega (arith, few)) r
+    let counted = few g c in
+    head_bytes f x c.args.self.now c.f-answer.result.0 (omega (arith, counted)) r

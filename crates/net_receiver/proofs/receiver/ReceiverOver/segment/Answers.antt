@@ -10,18 +10,14 @@ use Rattle.net_receiver.proofs.receiver.ReceiverOver.segment.Given as given
 use Rattle.net_receiver.proofs.receiver.ReceiverOver.segment.Goals as goal
 
 pub segment-requires-clause-sound : goal.segment-requires-clause-sound
-segment-requires-clause-sound g c =
-    lent_sound c.self.inside.head (g.S.Storage.elements c.self.inside.storage) c.part_mut-storage.result.now c.self.inside.runs
-    c.count-count.result c.count-count.ensures c.part_mut-storage.ensures.value c.self.invariant.0
+segment-requires-clause-sound g c = lent_sound _ _ _ _ (part_is _ _ _ c.count-count.ensures c.part_mut-storage.ensures.value) c.self.invariant.0
 
 -- what was stored, as the whole storage
 stored : (g : given.Over) (c : goal.After-self-2-1 g) →
     g.S.Storage.elements (g.S.Storage.with_part c.self.inside.storage 0 c.segment.new.storage) ≡ c.segment.new.storage
 stored g c =
-    let xs = g.S.Storage.elements c.self.inside.storage in
-    whole_written xs _ c.segment.new.storage
-    (c.segment.auto.storage ∙ ap length (part_is c.self.inside.head xs c.part_mut-storage.result.now c.self.inside.runs
-    c.count-count.result c.count-count.ensures c.part_mut-storage.ensures.value))
+    whole_written (g.S.Storage.elements c.self.inside.storage) _ c.segment.new.storage
+    (c.segment.auto.storage ∙ ap length (part_is _ _ _ c.count-count.ensures c.part_mut-storage.ensures.value))
     (g.met.S.Storage.part_written c.self.inside.storage 0 c.segment.new.storage)
 
 sound_is : (g : given.Over) (c : goal.After-self-2-1 g) →
@@ -36,9 +32,7 @@ state_is : (g : given.Over) (c : goal.After-self-2-1 g) →
     receiver_of c.segment.new.self (g.S.Storage.elements (g.S.Storage.with_part c.self.inside.storage 0 c.segment.new.storage)) c.segment.new.runs
     ≡ receiver_after_command g.row.N c.args.self.now (Segment c.args.pos c.args.bytes.now)
 state_is g c =
-    let i = c.self.inside in
-    let before = lent_view i.head (g.S.Storage.elements i.storage) c.part_mut-storage.result.now i.runs
-    c.count-count.result c.count-count.ensures c.part_mut-storage.ensures.value c.args.self.now c.self.view_is in
+    let before = lent_view _ _ _ _ (part_is _ _ _ c.count-count.ensures c.part_mut-storage.ensures.value) c.args.self.now c.self.view_is in
     ap (λ xs. receiver_of c.segment.new.self xs c.segment.new.runs) (stored g c)
     ∙ c.segment.ensures.state
     ∙ (λ k. receiver_after_command (c.self.invariant.1 k) (before k) (Segment c.args.pos c.args.bytes.now))
@@ -46,9 +40,7 @@ state_is g c =
 result_is : (g : given.Over) (c : goal.After-self-2-1 g) →
     c.segment.result ≡ segment_result receiver_ops c.args.self.now (verdict receiver_ops g.row.N c.args.self.now (piece c.args.pos c.args.bytes.now))
 result_is g c =
-    let i = c.self.inside in
-    let before = lent_view i.head (g.S.Storage.elements i.storage) c.part_mut-storage.result.now i.runs
-    c.count-count.result c.count-count.ensures c.part_mut-storage.ensures.value c.args.self.now c.self.view_is in
+    let before = lent_view _ _ _ _ (part_is _ _ _ c.count-count.ensures c.part_mut-storage.ensures.value) c.args.self.now c.self.view_is in
     c.segment.ensures.value
     ∙ (λ k. segment_result receiver_ops (before k) (verdict receiver_ops (c.self.invariant.1 k) (before k) (piece c.args.pos c.args.bytes.now)))
 

@@ -1,4 +1,4 @@
-use Rattle.std.proofs.Common.{ap, length, arith}
+use Rattle.std.proofs.Common.{◌≤◌, ap, length, subst, arith}
 use Rattle.net_receiver.specs.ReceiverState.{ReceiverState}
 use Rattle.net_receiver.proofs.Heads.{queue_size, spare_size}
 use Rattle.net_receiver.proofs.receiver.ReceiverOver.window.Goals as goal
@@ -18,10 +18,6 @@ returns-clause-window g c =
 
 pub returns-clause-room : goal.returns-clause-room
 returns-clause-room g c =
-    let i = c.self.inside in
-    let xs = g.S.Storage.elements i.storage in
-    let queued = queue_size i.head xs i.runs c.self.invariant.0.place in
-    let free = spare_size i.head xs i.runs c.self.invariant.0 in
-    let size = ap (λ (v : ReceiverState). length v.queue) c.self.view_is in
-    let whole = ap (λ (v : ReceiverState). v.capacity) c.self.view_is in
-    omega (arith, c.window.ensures, c.count.ensures, queued, free, size, whole, c.self.invariant.0.place.1)
+    let window = returns-clause-window g c in
+    let fits = subst (λ (v : ReceiverState). length v.queue ≤ v.capacity) c.self.view_is c.self.invariant.0.state.fits in
+    omega (arith, window, fits)

@@ -13,9 +13,7 @@ use Rattle.net_receiver.proofs.receiver.head.ReceiverHead.keep.Goals as goal
 
 pub returns-in_err-queued-clause-state : goal.returns-in_err-queued-clause-state
 returns-in_err-queued-clause-state c =
-    (refused c.args.self.now c.args.storage.now c.args.runs.now c.requires.sound c.saturating_sub-late.result c.saturating_sub-ahead.result
-    c.min-kept.result c.args.pos c.args.bytes.now
-    c.next-next.result c.window-window.result c.next-next.ensures c.window-window.ensures
+    (refused _ _ _ c.requires.sound _ _ _ _ _ _ _ c.next-next.ensures c.window-window.ensures
     c.saturating_sub-late.ensures c.saturating_sub-ahead.ensures c.if-late-bytes.false c.if-ahead-window.false c.min-kept.ensures c.requires.fits
     c.add_then_remove_front.new.self c.add_then_remove_front.new.runs (c.in_err-queued.ensures.both.refused.0 refl).0
     (c.in_err-queued.ensures.both.refused.0 refl).1.1 c.in_err-queued.ensures.unchanged.0 c.in_err-queued.ensures.unchanged.1).0
@@ -23,26 +21,20 @@ returns-in_err-queued-clause-state c =
 pub returns-in_err-queued-clause-numbers : goal.returns-in_err-queued-clause-numbers
 returns-in_err-queued-clause-numbers c =
     only_err c.from_residual.result c.from_residual.ensures.0
-    ∙ (refused c.args.self.now c.args.storage.now c.args.runs.now c.requires.sound c.saturating_sub-late.result c.saturating_sub-ahead.result
-    c.min-kept.result c.args.pos c.args.bytes.now
-    c.next-next.result c.window-window.result c.next-next.ensures c.window-window.ensures
+    ∙ (refused _ _ _ c.requires.sound _ _ _ _ _ _ _ c.next-next.ensures c.window-window.ensures
     c.saturating_sub-late.ensures c.saturating_sub-ahead.ensures c.if-late-bytes.false c.if-ahead-window.false c.min-kept.ensures c.requires.fits
     c.add_then_remove_front.new.self c.add_then_remove_front.new.runs (c.in_err-queued.ensures.both.refused.0 refl).0
     (c.in_err-queued.ensures.both.refused.0 refl).1.1 c.in_err-queued.ensures.unchanged.0 c.in_err-queued.ensures.unchanged.1).1
 
 pub returns-in_err-queued-clause-stored : goal.returns-in_err-queued-clause-stored
 returns-in_err-queued-clause-stored c =
-    refused_stores c.args.self.now c.args.storage.now c.args.runs.now c.requires.sound c.saturating_sub-late.result c.saturating_sub-ahead.result
-    c.min-kept.result c.args.pos c.args.bytes.now
-    c.next-next.result c.window-window.result c.next-next.ensures c.window-window.ensures
+    refused_stores _ _ _ c.requires.sound _ _ _ _ _ _ _ c.next-next.ensures c.window-window.ensures
     c.saturating_sub-late.ensures c.saturating_sub-ahead.ensures c.if-late-bytes.false c.if-ahead-window.false c.min-kept.ensures c.requires.fits
     (c.in_err-queued.ensures.both.refused.0 refl).0 (c.in_err-queued.ensures.both.refused.0 refl).1.1
 
 pub enqueue-requires-clause-free : goal.enqueue-requires-clause-free
 enqueue-requires-clause-free c =
-    let few = joined_fits c.args.self.now c.args.storage.now c.args.runs.now c.requires.sound c.saturating_sub-late.result c.saturating_sub-ahead.result
-    c.min-kept.result c.args.pos c.args.bytes.now
-    c.next-next.result c.window-window.result c.next-next.ensures c.window-window.ensures
+    let few = joined_fits _ _ _ c.requires.sound _ _ _ _ _ _ _ c.next-next.ensures c.window-window.ensures
     c.saturating_sub-late.ensures c.saturating_sub-ahead.ensures c.if-late-bytes.false c.if-ahead-window.false c.min-kept.ensures c.requires.fits
     c.in_ok-queued.queued c.add_then_remove_front.new.self c.add_then_remove_front.new.runs
     (front_removed _ _ _ c.in_ok-queued.ensures.both.value.0 c.in_ok-queued.ensures.both.value.1) in
@@ -62,9 +54,7 @@ all : (c : goal.After-drop-turns-3) →
     × (Ok (c.min-kept.result, c.in_ok-queued.queued) ≡ numbers receiver_ops v x)
     × HasSoundParts h c.write_unallocated.new.storage c.add_then_remove_front.new.runs
 all c =
-    kept_is c.args.self.now c.args.storage.now c.args.runs.now c.requires.sound c.saturating_sub-late.result c.saturating_sub-ahead.result
-    c.min-kept.result c.args.pos c.args.bytes.now
-    c.next-next.result c.window-window.result c.next-next.ensures c.window-window.ensures
+    kept_is _ _ _ c.requires.sound _ _ _ _ _ _ _ c.next-next.ensures c.window-window.ensures
     c.saturating_sub-late.ensures c.saturating_sub-ahead.ensures c.if-late-bytes.false c.if-ahead-window.false c.min-kept.ensures c.requires.fits
     c.in_ok-queued.queued c.add_then_remove_front.new.self c.add_then_remove_front.new.runs
     (front_removed _ _ _ c.in_ok-queued.ensures.both.value.0 c.in_ok-queued.ensures.both.value.1)
@@ -89,9 +79,7 @@ returns-clause-sound c = (all c).2
 
 pub returns-clause-stored : goal.returns-clause-stored
 returns-clause-stored c =
-    kept_stores c.args.self.now c.args.storage.now c.args.runs.now c.requires.sound c.saturating_sub-late.result c.saturating_sub-ahead.result
-    c.min-kept.result c.args.pos c.args.bytes.now
-    c.next-next.result c.window-window.result c.next-next.ensures c.window-window.ensures
+    kept_stores _ _ _ c.requires.sound _ _ _ _ _ _ _ c.next-next.ensures c.window-window.ensures
     c.saturating_sub-late.ensures c.saturating_sub-ahead.ensures c.if-late-bytes.false c.if-ahead-window.false c.min-kept.ensures c.requires.fits
     (accepted_cases (length c.args.runs.now) c.saturating_sub-ahead.result c.min-kept.result _
     (omega (arith, c.if-late-bytes.false, c.if-ahead-window.false, c.min-kept.ensures, length-take (length c.args.bytes.now - c.saturating_sub-late.result) (drop c.saturating_sub-late.result c.args.bytes.now), length-drop c.saturating_sub-late.result c.args.bytes.now))
