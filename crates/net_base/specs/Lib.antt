@@ -6,3 +6,4 @@ pub mod Generator
 pub mod Loopback
 pub mod PacketMeta
 pub mod Time
+pub mod Values

@@ -74,9 +74,9 @@ impl Rand {
         ((n ^ (n >> 16)) & 0xffff) as u16
     }
 
-    /// Steps to the next state, and returns a number below `bound`: the part of `bound` that its
-    /// random word is of 2^32, rounded down; 0 if `bound` is 0. Each number below `bound` is the
-    /// result for equally many words, or for one more. smoltcp has no such call.
+    /// Steps to the next state, and returns its random word times `bound`, divided by 2^32 and rounded down: a number
+    /// below `bound`, or 0 if `bound` is 0. Each number below `bound` is the result for equally many words, or for one
+    /// more. smoltcp has no such call.
     pub fn below(&mut self, bound: u32) -> u32
         ensures state { self.new ≡ successor self.old }
         ensures value { result ≡ random_word self.new * bound / 2 ^ 32 }

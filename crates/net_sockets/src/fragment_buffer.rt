@@ -70,8 +70,7 @@ impl<B: Storage<u8>, const N: usize> Model for FragmentsOver<B, N> {
 }
 
 impl<B: Storage<u8>, const N: usize> FragmentsOver<B, N> {
-    /// Returns a packet of which no fragment has arrived, and which is waited for up to
-    /// `expires_at`.
+    /// An empty buffer that expires after `expires_at`.
     ///
     /// # Requires
     ///

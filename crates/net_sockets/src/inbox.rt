@@ -11,8 +11,7 @@ use std::marker::Model;
 
 /// Received datagrams, over any storage.
 ///
-/// A struct that lends from a queue in its field is generic in the queue's storage, as this one is:
-/// over a `PacketBuffer` no contract could say what the loan leaves.
+/// Generic in the storage, since over a `PacketBuffer` in a field no contract could say what the loan leaves.
 ///
 /// Contracts see the list of the datagrams, each with its endpoint and its bytes.
 #[derive(Drop)]

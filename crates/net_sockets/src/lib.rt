@@ -9,10 +9,11 @@ mod bridge;
 mod endpoint;
 pub mod fragment_buffer;
 mod inbox;
+pub mod laws;
 mod udp_socket;
 
 pub use bridge::{forward, forward_lists, forward_one};
-pub use endpoint::{Endpoint, endpoint_clone, endpoint_equality};
+pub use endpoint::Endpoint;
 pub use fragment_buffer::{FragmentBuffer, FragmentError, FragmentsOver};
 pub use inbox::Inbox;
 pub use udp_socket::UdpSocket;

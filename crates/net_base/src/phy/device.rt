@@ -42,9 +42,8 @@ pub trait Device {
     /// Holds of the device before, a frame and the device after, if the frame was sent.
     ghost sent: { Self → List ℕ → Self → Type 0 };
 
-    /// Holds of a device and a number of bytes if `send` may be refused memory for a frame of so
-    /// many bytes. By default it always holds. A device whose frames are in memory of its own
-    /// states here that it is never refused any.
+    /// Whether `send` may lack memory for a frame of this length. By default it may, for each. A device whose frames
+    /// are in memory of its own states here that it never lacks any.
     ghost lacks_memory: { Self → ℕ → Type 0 } = { λ _ _. Unit {0} };
 
     /// The capabilities of the device.

@@ -45,7 +45,7 @@ impl Duration {
         Duration { micros }
     }
 
-    /// Returns whether so many milliseconds are a length, which `from_millis` needs.
+    /// Returns whether the value fits; precondition of `from_millis`.
     pub fn fits_millis(millis: u64) -> bool
         ensures { IsTrue result ↔ IsLength (millis * 1_000) }
     {
@@ -66,7 +66,7 @@ impl Duration {
         }
     }
 
-    /// Returns whether so many seconds are a length, which `from_secs` needs.
+    /// Returns whether the value fits; precondition of `from_secs`.
     pub fn fits_secs(secs: u64) -> bool
         ensures { IsTrue result ↔ IsLength (secs * 1_000_000) }
     {
@@ -122,8 +122,7 @@ impl Duration {
         self.micros
     }
 
-    /// Returns whether the whole microseconds of a duration of the standard library are a length,
-    /// which `from_core` needs.
+    /// Returns whether the value fits; precondition of `from_core`.
     pub fn fits_core(duration: std::time::Duration) -> bool
         ensures { IsTrue result ↔ IsLength (as_nanos duration / 1_000) }
     {
@@ -145,21 +144,21 @@ impl Duration {
         }
     }
 
-    /// Returns whether the sum is a length, which `+` and `+=` need.
+    /// Returns whether the sum fits; precondition of `+` and `+=`.
     pub fn can_add(&self, duration: Duration) -> bool
         ensures { IsTrue result ↔ IsLength (self.now + duration) }
     {
         self.micros.checked_add(duration.micros).is_some()
     }
 
-    /// Returns whether the difference is a length, which `-` and `-=` need.
+    /// Returns whether the difference isn't below 0; precondition of `-` and `-=`.
     pub fn can_sub(&self, duration: Duration) -> bool
         ensures { IsTrue result ↔ (duration ≤ self.now) }
     {
         duration.micros <= self.micros
     }
 
-    /// Returns whether the product is a length, which `*` and `*=` need.
+    /// Returns whether the product fits; precondition of `*` and `*=`.
     pub fn can_mul(&self, factor: u32) -> bool
         ensures { IsTrue result ↔ IsLength (self.now * factor) }
     {

@@ -51,8 +51,7 @@ impl Instant {
         Instant::from_micros(micros)
     }
 
-    /// Returns whether so many milliseconds after the origin there is a moment, which `from_millis`
-    /// needs.
+    /// Returns whether the value fits; precondition of `from_millis`.
     pub fn fits_millis(millis: i64) -> bool
         ensures { IsTrue result ↔ IsMoment (millis *ℤ pos 1_000) }
     {
@@ -85,7 +84,7 @@ impl Instant {
         Instant::from_millis(millis)
     }
 
-    /// Returns whether so many seconds after the origin there is a moment, which `from_secs` needs.
+    /// Returns whether the value fits; precondition of `from_secs`.
     pub fn fits_secs(secs: i64) -> bool
         ensures { IsTrue result ↔ IsMoment (secs *ℤ pos 1_000_000) }
     {
@@ -141,14 +140,14 @@ impl Instant {
         self.micros
     }
 
-    /// Returns whether there is a moment so much later, which `+` and `+=` need.
+    /// Returns whether the sum fits; precondition of `+` and `+=`.
     pub fn can_add(&self, duration: Duration) -> bool
         ensures { IsTrue result ↔ IsMoment (self.now +ℤ pos duration) }
     {
         i64::try_from(i128::from(self.micros) + i128::from(duration.total_micros())).is_ok()
     }
 
-    /// Returns whether there is a moment so much earlier, which `-` and `-=` need.
+    /// Returns whether the difference fits; precondition of `-` and `-=`.
     pub fn can_sub(&self, duration: Duration) -> bool
         ensures { IsTrue result ↔ IsMoment (self.now -ℤ pos duration) }
     {

@@ -2,34 +2,20 @@
 
 ghost use Rattle.std.specs.Prelude.{◌≡◌, ◌↔◌, ◌-◌, ◌^◌, ◌<◌, ◌<ℤ◌, pos, IsTrue, Some};
 ghost use Rattle.std.specs.Ordering.{MatchOrdering};
-ghost use Rattle.std.specs.Prelude.{◌+◌, ◌+ℤ◌, ◌-ℤ◌};
 ghost use Rattle.std.specs.Prelude.{ℕ, ℤ, List, Option};
 ghost use Rattle.net_base.specs.Earliest.{earliest_of, IsEarliest};
 ghost use Rattle.std.specs.Fmt.{format_spec};
-ghost use Rattle.net_base.specs.Time.{distance, IsMoment, IsLength, moment_text, length_text};
+ghost use Rattle.net_base.specs.Time.{distance, moment_text, length_text};
+ghost use Rattle.net_base.specs.Values.{ClonesAreSame};
 
 use crate::time::{Duration, Instant};
 use std::fmt::Display;
 
-/// States that the origin is 0 microseconds.
-pub fn instant_zero() -> Instant
-    ensures { result ≡ pos 0 }
+/// Returns the origin of moments, no time and the greatest length: 0, 0 and 2^64 - 1 microseconds.
+pub fn constants() -> (Instant, Duration, Duration)
+    ensures { result ≡ (pos 0, 0, 2 ^ 64 - 1) }
 {
-    Instant::ZERO
-}
-
-/// States that no time is 0 microseconds.
-pub fn duration_zero() -> Duration
-    ensures { result ≡ 0 }
-{
-    Duration::ZERO
-}
-
-/// States that the greatest length is 2^64 - 1 microseconds.
-pub fn duration_max() -> Duration
-    ensures { result ≡ 2 ^ 64 - 1 }
-{
-    Duration::MAX
+    (Instant::ZERO, Duration::ZERO, Duration::MAX)
 }
 
 /// States that the order of moments is that of their microseconds, and two moments are equal
@@ -57,82 +43,25 @@ pub fn distance_both_ways(x: &Instant, y: &Instant)
     ensures { distance x.now y.now ≡ distance y.now x.now }
 {}
 
-/// States that adding a length to a moment and subtracting it again gives the moment.
-///
-/// # Requires
-///
-/// The sum is a moment.
-pub fn instant_there_and_back(instant: Instant, duration: Duration) -> Instant
-    requires { IsMoment (instant +ℤ pos duration) }
-    ensures { result ≡ instant }
-{
-    (instant + duration) - duration
-}
-
-/// States that subtracting a length from a moment and adding it again gives the moment.
-///
-/// # Requires
-///
-/// The difference is a moment.
-pub fn instant_back_and_there(instant: Instant, duration: Duration) -> Instant
-    requires { IsMoment (instant -ℤ pos duration) }
-    ensures { result ≡ instant }
-{
-    (instant - duration) + duration
-}
-
-/// States that the distance between a moment and the one a length later is that length.
-///
-/// # Requires
-///
-/// The later one is a moment.
-pub fn instant_moved(instant: Instant, duration: Duration) -> Duration
-    requires { IsMoment (instant +ℤ pos duration) }
-    ensures { result ≡ duration }
-{
-    (instant + duration) - instant
-}
-
-/// States that adding a length to another and subtracting it again gives the other.
-///
-/// # Requires
-///
-/// The sum is a length.
-pub fn duration_there_and_back(duration: Duration, other: Duration) -> Duration
-    requires { IsLength (duration + other) }
-    ensures { result ≡ duration }
-{
-    (duration + other) - other
-}
-
-/// States that a clone of a moment is the same moment, and is never refused.
-pub fn instant_clone(instant: &Instant, clone: &Instant)
-    ensures same { ⟦<Instant as Clone>⟧.is_clone instant.now clone.now → clone.now ≡ instant.now }
-    ensures never_refused { ⟦<Instant as Clone>⟧.is_infallible instant.now }
-{}
-
-/// States that a clone of a length is the same length, and is never refused.
-pub fn duration_clone(duration: &Duration, clone: &Duration)
-    ensures same { ⟦<Duration as Clone>⟧.is_clone duration.now clone.now
-        → clone.now ≡ duration.now }
-    ensures never_refused { ⟦<Duration as Clone>⟧.is_infallible duration.now }
+/// States that a clone of a moment or of a length is the same, and is never refused.
+pub fn clones()
+    ensures instant { ClonesAreSame ⟦<Instant as Clone>⟧.is_clone
+        ⟦<Instant as Clone>⟧.is_infallible }
+    ensures duration { ClonesAreSame ⟦<Duration as Clone>⟧.is_clone
+        ⟦<Duration as Clone>⟧.is_infallible }
 {}
 
 /// States that the default length is zero.
-pub fn duration_default(duration: &Duration)
-    ensures { ⟦<Duration as Default>⟧.is_default duration.now → duration.now ≡ 0 }
+pub fn default()
+    ensures { (x : _) → ⟦<Duration as Default>⟧.is_default x → x ≡ 0 }
 {}
 
-/// States that no option changes the text of a moment.
-pub fn instant_text(instant: &Instant)
-    ensures { (fill align flags width precision : ℕ)
+/// States that no option changes the text of a moment or of a length.
+pub fn texts(instant: &Instant, duration: &Duration)
+    ensures instant { (fill align flags width precision : ℕ)
         → ⟦<Instant as Display>⟧.styled_output instant.now (format_spec fill align flags width precision)
         ≡ Some (moment_text instant.now) }
-{}
-
-/// States that no option changes the text of a length.
-pub fn duration_text(duration: &Duration)
-    ensures { (fill align flags width precision : ℕ)
+    ensures duration { (fill align flags width precision : ℕ)
         → ⟦<Duration as Display>⟧.styled_output duration.now (format_spec fill align flags width precision)
         ≡ Some (length_text duration.now) }
 {}

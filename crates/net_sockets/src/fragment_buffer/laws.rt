@@ -1,9 +1,6 @@
-//! Laws of packets that arrive in fragments, and of refusals of a fragment. No function here does
-//! anything.
-ghost use Rattle.std.specs.Prelude.{◌≡◌, ◌↔◌, IsTrue};
+//! A law of packets that arrive in fragments. The function here does nothing.
 ghost use Rattle.net_sockets.specs.FragmentHistory.{LastFragmentStands, OldBytesAreGone};
 
-use crate::fragment_buffer::FragmentError;
 use net_assembler::assembler;
 use net_ring::ring_buffer;
 
@@ -17,15 +14,3 @@ pub fn latest_arrival_wins()
     assembler::laws::members();
     ring_buffer::laws::overwritten::<u8>();
 }
-
-/// States that two refusals are equal exactly if they are the same.
-pub fn fragment_error_equality(x: &FragmentError, y: &FragmentError)
-    ensures { IsTrue (⟦<FragmentError as PartialEq>⟧.eq x.now y.now) ↔ (x.now ≡ y.now) }
-{}
-
-/// States that a clone of a refusal is the same, and is never refused.
-pub fn fragment_error_clone(error: &FragmentError, clone: &FragmentError)
-    ensures same { ⟦<FragmentError as Clone>⟧.is_clone error.now clone.now
-        → clone.now ≡ error.now }
-    ensures never_refused { ⟦<FragmentError as Clone>⟧.is_infallible error.now }
-{}

@@ -1,0 +1,16 @@
+//! A law of the values of this crate. The function here does nothing.
+ghost use Rattle.net_base.specs.Values.{ClonesAreSame, ComparesValues};
+
+use crate::endpoint::Endpoint;
+use crate::fragment_buffer::FragmentError;
+
+/// States that two endpoints, and two refusals of a fragment, are equal exactly if they are the same, and that a clone
+/// of one is the same, and is never refused.
+pub fn values()
+    ensures endpoints { ComparesValues ⟦<Endpoint as PartialEq>⟧.eq }
+    ensures endpoint_clones { ClonesAreSame ⟦<Endpoint as Clone>⟧.is_clone
+        ⟦<Endpoint as Clone>⟧.is_infallible }
+    ensures refusals { ComparesValues ⟦<FragmentError as PartialEq>⟧.eq }
+    ensures refusal_clones { ClonesAreSame ⟦<FragmentError as Clone>⟧.is_clone
+        ⟦<FragmentError as Clone>⟧.is_infallible }
+{}
