@@ -24,6 +24,7 @@ use Rattle.net_bench_lib.proofs.Pending.{AppendsPrefix-kept, StartsWith-none}
 use Rattle.net_bench_lib.proofs.LineParts.{feed-found, parts-cons, parts-feed, parts-prefix}
 use Rattle.net_bench_lib.proofs.LineParts.{lines-from_parts, lines-nonempty, lines-one, ended-from_parts}
 use Rattle.net_bench_lib.proofs.LineParts.{ended-none, unended-from_parts}
+use Rattle.net_bench_lib.specs.declared.limits.TheConstants.{MAX_LINE}
 
 -- the end of a line
 pub Advances-feed : {S : Type 0} (rules : Rules S) (bytes : List ℕ) (here next : BenchState S) (reply : List ℕ) →
@@ -89,20 +90,20 @@ PendingError-after rules closing bytes first here text rest old mid new e g w h 
 -- ---- a line
 
 -- a line of more than 4,096 bytes is a fault
-pub step-too_long : {S : Type 0} (rules : Rules S) (state : S) (line : List ℕ) → 4096 < length line →
+pub step-too_long : {S : Type 0} (rules : Rules S) (state : S) (line : List ℕ) → MAX_LINE < length line →
     line_step rules state line ≡ Err faults.LineTooLong
 step-too_long rules state line more =
-    let long : nat_lt 4096 (length line) ≡ true = (Decides-ltb 4096 (length line)).1 more in
+    let long : nat_lt MAX_LINE (length line) ≡ true = (Decides-ltb MAX_LINE (length line)).1 more in
     rw long refl
 
 -- a line whose reply can't be gathered
 pub reply-failed : {S : Type 0} (rules : Rules S) (closing : S → List ℕ) (n : ℕ) (state : S)
     (line : List ℕ) (state' : S) (reply : List ℕ) (more : List (List ℕ)) (old new : Outlet)
-    (e : BenchError) → length line ≤ 4096 → rules state (words_of line) ≡ Ok (state', reply) →
+    (e : BenchError) → length line ≤ MAX_LINE → rules state (words_of line) ≡ Ok (state', reply) →
     (e ≡ WriteFailed) × (new.pending ≡ []) × AppendsPrefix old.contents new.contents (old.pending ++ reply) →
     PendingError (transcript rules closing n state) (line ∷ more) old new e
 reply-failed rules closing n state line state' reply more old new e short step h =
-    let within : nat_lt 4096 (length line) ≡ false = grind (arith, nat_tests, short) in
+    let within : nat_lt MAX_LINE (length line) ≡ false = grind (arith, nat_tests, short) in
     rw h.0 (
       h.1,
       rw (within, step) (rw append_assoc at (AppendsPrefix-more (old.pending ++ reply)
@@ -111,7 +112,7 @@ reply-failed rules closing n state line state' reply more old new e short step h
 
 -- a first line that is too long, whatever comes after it
 pub PendingError-long_line : {S : Type 0} (rules : Rules S) (closing : S → List ℕ) (n : ℕ) (state : S)
-    (line : List ℕ) (more : List (List ℕ)) (old : Outlet) → 4096 < length line →
+    (line : List ℕ) (more : List (List ℕ)) (old : Outlet) → MAX_LINE < length line →
     PendingError (transcript rules closing n state) (line ∷ more) old old (LineTooLong n)
 PendingError-long_line rules closing n state line more old long =
     let e = step-too_long rules state line long in
@@ -119,13 +120,13 @@ PendingError-long_line rules closing n state line more old long =
 
 -- the beginning of a line that is too long, whatever comes after it
 pub PendingError-long_prefix : {S : Type 0} (rules : Rules S) (closing : S → List ℕ) (n : ℕ) (state : S)
-    (line rest : List ℕ) (old : Outlet) → HasNoFeed line → 4096 < length line →
+    (line rest : List ℕ) (old : Outlet) → HasNoFeed line → MAX_LINE < length line →
     PendingError (transcript rules closing n state) (lines_of (line ++ rest)) old old (LineTooLong n)
 PendingError-long_prefix rules closing n state line rest old none long =
     let p = parts-cons rest in
     whole (line ++ p.0) p.1 (parts-prefix line rest p.0 p.1 none p.2) (omega (arith, length-append line p.0))
   where
-    whole : (part : List ℕ) (parts : List (List ℕ)) → parts_of (line ++ rest) ≡ part ∷ parts → 4096 < length part →
+    whole : (part : List ℕ) (parts : List (List ℕ)) → parts_of (line ++ rest) ≡ part ∷ parts → MAX_LINE < length part →
         PendingError (transcript rules closing n state) (lines_of (line ++ rest)) old old (LineTooLong n)
     whole [] parts e more = absurd (omega arith)
     whole (b ∷ part) parts e more =
@@ -195,7 +196,7 @@ AfterLines-err rules closing bytes rest at first here more old mid new e t found
 pub AfterLines-long : {S : Type 0} (rules : Rules S) (closing : S → List ℕ) (bytes rest : List ℕ)
     (first here : BenchState S) (more : List ℕ) (old new : Outlet) (e : BenchError) →
     AfterLines rules bytes rest first here old new → HasNoFeed (here.line ++ rest) →
-    (e ≡ LineTooLong here.number) × (4096 < length (here.line ++ rest)) →
+    (e ≡ LineTooLong here.number) × (MAX_LINE < length (here.line ++ rest)) →
     PendingError (transcript rules closing first.number first.state) (lines_of (first.line ++ (bytes ++ more))) old new e
 AfterLines-long rules closing bytes rest first here more old new e t none h =
     rw (t.whole, append_assoc t.done rest more, h.0) (PendingError-after rules closing t.done first here
@@ -458,7 +459,7 @@ AfterReads-end_err rules closing (Some input) now after old mid new session here
 -- a read that fails
 pub AfterReads-failed : {S : Type 0} (rules : Rules S) (closing : S → List ℕ)
     (before now after old : Option (List ℕ)) (new : Outlet) (session : S) (here : BenchState S) →
-    HasNoFeed here.line → length here.line ≤ 4096 → AfterReads rules before now old new session here →
+    HasNoFeed here.line → length here.line ≤ MAX_LINE → AfterReads rules before now old new session here →
     Keeps now after → IfSome before (λ input. ErrorOfInput (transcript rules closing 1 session) input
     after old new.contents ReadFailed)
 AfterReads-failed rules closing None now after old new session here none short c k = tt

@@ -4,6 +4,7 @@ use Rattle.net_bench_lib.specs.Text.{words_of, next_number}
 use Rattle.net_bench_lib.specs.Transcript.{Rules, line_step, by_step, text_of, error_at, first_fault, transcript}
 use Rattle.net_bench_lib.specs.declared.fault.Fault.{Fault}
 use Rattle.net_bench_lib.specs.declared.fault.Fault.TheVariants as faults
+use Rattle.net_bench_lib.specs.declared.limits.TheConstants.{MAX_LINE}
 
 -- what two lines did is alike: states that are alike and one reply, or one fault
 abbrev pub AlikeAfter : {S T : Type 0} → (S → T → Type 0) → Result (S × List ℕ) Fault → Result (T × List ℕ) Fault → Type 0
@@ -19,7 +20,7 @@ TreatsAlike {S} {T} Alike rules others = (s : S) (t : T) (words : List (List ℕ
 module _ {S T : Type 0} (Alike : S → T → Type 0) (rules : Rules S) (others : Rules T) (steps : TreatsAlike Alike rules others) where
   line_alike : (s : S) (t : T) (line : List ℕ) → Alike s t → AlikeAfter Alike (line_step rules s line) (line_step others t line)
   line_alike s t line a =
-      elim (nat_lt 4096 (length line)) as (λ long. AlikeAfter Alike
+      elim (nat_lt MAX_LINE (length line)) as (λ long. AlikeAfter Alike
       (cond long (Err faults.LineTooLong) (rules s (words_of line)))
       (cond long (Err faults.LineTooLong) (others t (words_of line)))) [
         | true ↦ refl

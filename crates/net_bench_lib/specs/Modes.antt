@@ -13,6 +13,7 @@ use Rattle.net_receiver.specs.Schedule.{Setting}
 use Rattle.net_bench_lib.specs.AsmMode.{asm_rules}
 use Rattle.net_bench_lib.specs.StreamMode.{kept_schedule_ops, first_schedule, stream_rules, stream_closing}
 use Rattle.net_bench_lib.specs.declared.error.BenchError.{BenchError}
+use Rattle.net_bench_lib.specs.declared.limits.TheConstants.{MAX_CAPACITY}
 
 -- a mode with its numbers: a capacity; the most runs; or first position, capacity and most runs
 pub data Mode : Type 0 where
@@ -22,7 +23,7 @@ pub data Mode : Type 0 where
 
 -- a number up to 65,536
 abbrev pub at_most_64k : ℕ → Option ℕ
-at_most_64k number = if nat_le number 65536 then Some number else None
+at_most_64k number = if nat_le number MAX_CAPACITY then Some number else None
 
 -- the most runs: 4 or 32
 abbrev pub four_or_32 : ℕ → Option ℕ

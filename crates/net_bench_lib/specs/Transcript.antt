@@ -9,6 +9,7 @@ use Rattle.std.specs.Prelude.{Option, Some, None, Result, Ok, Err}
 use Rattle.std.specs.Io.KnownBytes.{Appends, Consumes}
 use Rattle.net_io.specs.Writer.{AppendsPrefix}
 use Rattle.net_bench_lib.specs.Text.{lines_of, ended_lines, unended_line, words_of, next_number}
+use Rattle.net_bench_lib.specs.declared.limits.TheConstants.{MAX_LINE}
 use Rattle.net_bench_lib.specs.declared.fault.Fault.{Fault}
 use Rattle.net_bench_lib.specs.declared.fault.Fault.TheVariants as faults
 use Rattle.net_bench_lib.specs.declared.error.BenchError.{BenchError}
@@ -25,7 +26,7 @@ Rules S = S → List (List ℕ) → Result (S × List ℕ) Fault
 -- what a line does: a line of more than 4,096 bytes is too long, whatever is in it
 abbrev pub line_step : {S : Type 0} → Rules S → S → List ℕ → Result (S × List ℕ) Fault
 line_step rules state line =
-    if nat_lt 4096 (length line) then Err faults.LineTooLong else rules state (words_of line)
+    if nat_lt MAX_LINE (length line) then Err faults.LineTooLong else rules state (words_of line)
 
 -- a value for what a line did: `go` of its state and reply, or `stop` of its fault
 abbrev pub by_step : {S X : Type 0} → (S → List ℕ → X) → (Fault → X) → Result (S × List ℕ) Fault → X
@@ -102,6 +103,6 @@ abbrev pub ErrorOfInput : Transcript → List ℕ → Option (List ℕ) → Opti
 -- the bytes of the next line that were read are not too many
 ErrorOfInput all input left old new ReadFailed =
     (given : List ℕ) × Consumes (Some input) left given × (all.fault (ended_lines given) ≡ None)
-    × Appends old new (all.replies (ended_lines given)) × (length (unended_line given) ≤ 4096)
+    × Appends old new (all.replies (ended_lines given)) × (length (unended_line given) ≤ MAX_LINE)
 -- any other error is one of the input's lines
 ErrorOfInput all input left old new e = ErrorOfLines all (lines_of input) old new e

@@ -6,20 +6,16 @@ ghost use Rattle.net_io.specs.Writer.{AppendsPrefix};
 ghost use Rattle.net_bench_lib.specs.Text.{lines_of, next_number};
 ghost use Rattle.net_bench_lib.specs.Transcript.{line_step, transcript, ErrorOfInput};
 ghost use Rattle.net_bench_lib.specs.Progress.{HasNoFeed, Advances, outlet, Gathers, PendingError};
+ghost use Rattle.net_bench_lib.specs.declared.limits.TheConstants.{MAX_LINE};
 
 use crate::buffers::Buffers;
 use crate::error::BenchError;
 use crate::fault::Fault;
+use crate::limits::{CHUNK, MAX_LINE};
 use crate::replies::Replies;
 use crate::session::Session;
 use std::alloc::{AllocError, Allocator};
 use std::io::{Read, Write};
-
-/// The most bytes of a line, without its line feed.
-const MAX_LINE: usize = 4096;
-
-/// How many bytes are asked for at once.
-const CHUNK: usize = 65536;
 
 /// Returns the index of the first line feed, if there is one.
 fn feed_at(bytes: &[u8]) -> Option<usize>
@@ -72,11 +68,11 @@ struct Bench<A: Allocator + Copy, S> {
     line: Vec<u8, A>,
     replies: Replies<A>,
     /// The line is no longer than a line may be.
-    ghost short: { length line.items ≤ 4096 },
+    ghost short: { length line.items ≤ MAX_LINE },
     /// Its line feed was not read yet.
     ghost unended: { HasNoFeed line.items },
     /// Any line has room.
-    ghost room: { 4096 ≤ vec_capacity line },
+    ghost room: { MAX_LINE ≤ vec_capacity line },
 }
 
 impl<A: Allocator + Copy, S: Session<A>> Bench<A, S> {
@@ -104,7 +100,7 @@ impl<A: Allocator + Copy, S: Session<A>> Bench<A, S> {
         ensures ok { OnOk result ((self.new.line.items ≡ self.old.line.items ++ bytes.now)
             × (self.new.number ≡ self.old.number) × (self.new.session ≡ self.old.session)) }
         ensures err { IfErr result (λ e. (e ≡ BenchError.LineTooLong self.old.number)
-            × (4096 < length (self.old.line.items ++ bytes.now))) }
+            × (MAX_LINE < length (self.old.line.items ++ bytes.now))) }
         ensures replies { self.new.replies ≡ self.old.replies }
     {
         if bytes.len() > MAX_LINE - self.line.len() {

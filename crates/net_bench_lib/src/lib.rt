@@ -8,6 +8,7 @@ mod dispatch;
 mod error;
 mod fault;
 pub mod laws;
+mod limits;
 mod mode;
 mod program;
 mod replies;

@@ -5,11 +5,9 @@ ghost use Rattle.net_bench_lib.specs.Kinds.{most_runs_value};
 ghost use Rattle.net_io.specs.Numeral.{number_of};
 ghost use Rattle.net_bench_lib.specs.Modes.{mode_of, stream_of, at_most_64k, four_or_32};
 
+use crate::limits::MAX_CAPACITY;
 use net_io::number;
 use std::marker::Model;
-
-/// The most bytes of storage.
-const MAX_CAPACITY: u64 = 65536;
 
 /// The most runs that an assembler may have.
 #[derive(Debug, Clone, Copy, PartialEq, Eq)]

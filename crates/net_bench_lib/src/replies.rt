@@ -3,16 +3,15 @@ ghost use Rattle.std.specs.Prelude.{◌≡◌, [], ◌++◌, length, ◌≤◌, 
 ghost use Rattle.std.specs.Io.KnownBytes.{Appends};
 ghost use Rattle.net_io.specs.Writer.{AppendsPrefix};
 ghost use Rattle.net_bench_lib.specs.Progress.{outlet, Gathers};
+ghost use Rattle.net_bench_lib.specs.declared.limits.TheConstants.{ROOM};
 ghost use Rattle.net_bench_lib.specs.declared.error.BenchError.{BenchError};
 
 use crate::error::BenchError;
+use crate::limits::ROOM;
 use net_io::write_text;
 use std::alloc::{AllocError, Allocator};
 use std::io::Write;
 use std::marker::Model;
-
-/// How many bytes of replies are gathered before they are written.
-const ROOM: usize = 65536;
 
 /// Writes all of the text, or a prefix of it before a failed write.
 fn write_whole<W: Write>(writer: &mut W, text: &[u8]) -> Result<(), BenchError>
@@ -31,9 +30,9 @@ fn write_whole<W: Write>(writer: &mut W, text: &[u8]) -> Result<(), BenchError>
 pub struct Replies<A: Allocator + Copy> {
     pending: Vec<u8, A>,
     /// At most as many bytes are pending as are gathered.
-    ghost within: { length pending.items ≤ 65536 },
+    ghost within: { length pending.items ≤ ROOM },
     /// The buffer has room for as many.
-    ghost room: { 65536 ≤ vec_capacity pending },
+    ghost room: { ROOM ≤ vec_capacity pending },
 }
 
 impl<A: Allocator + Copy> Model for Replies<A> {
