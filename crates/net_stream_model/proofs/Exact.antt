@@ -17,11 +17,11 @@ use Rattle.net_stream_model.specs.Fates.{NextCome, AllCome}
 use Rattle.net_stream_model.specs.PathState.{receiver_after, PathState}
 use Rattle.net_stream_model.specs.LinkInvariant.{HasAllOf, LinkInvariant}
 use Rattle.net_stream_model.specs.Transmission.{AreSparedIfSacked, HasSize, part_end, HaveEnds, SendsRound}
-use Rattle.net_stream_model.specs.Reach.{limit_of}
+use Rattle.net_receiver.specs.ReceiverState.{limit_of}
 use Rattle.net_stream_model.specs.Arrivals.{receiver_after_all}
 use Rattle.net_stream_model.specs.Round.{HasRoomFor, Passes, RoundDelivers}
 use Rattle.net_stream_model.specs.LinkState.{LinkState, round, next_burst}
-use Rattle.net_stream_model.specs.Stuck.{KnownOfRounds}
+use Rattle.net_stream_model.specs.Facts.{RoundFacts}
 use Rattle.net_stream_model.proofs.Kept.{at_parts, round_keeps_invariant, held_within, in_stream, contains_held}
 use Rattle.net_stream_model.proofs.Kept.{ranges_stop}
 use Rattle.net_stream_model.proofs.Steps.{split, all_arrive, brought_append, says_ends, no_gap, next_come}
@@ -39,7 +39,7 @@ use Rattle.net_stream_model.proofs.Turns.{written_from, asks, asks_from, fed_by,
 use Rattle.net_stream_model.proofs.Written.{one_end}
 use Rattle.net_stream_model.proofs.Prefix.{SoFar, so_far, fed_so_far}
 
-module _ (known : KnownOfRounds) (f : ℕ) (w : List ℕ) where
+module _ (known : RoundFacts) (f : ℕ) (w : List ℕ) where
   -- a frame that begins where nothing before it is missing brings the receiver to its end
   one_reaches : (r : ReceiverState) (pos : ℕ) (xs : List ℕ) → MatchesStream f w pos xs → f + length w ≤ limit_of r → f + length w < 2 ^ 64 →
       pos ≤ next_position r → pos + length xs ≤ next_position (receiver_after most_sack_blocks r (Some (pos, xs)))
@@ -51,7 +51,7 @@ module _ (known : KnownOfRounds) (f : ℕ) (w : List ℕ) where
       (λ past more. omega (arith, ltb-false (pos + length xs) (2 ^ 64) past)) (arrived_grows known most_sack_blocks r (Some (pos, xs)))
 
   all_have : (r : ReceiverState) (frames : List (List ℕ)) (p : ℕ) → HasByteAt r p → HasByteAt (receiver_after_all most_sack_blocks r frames) p
-  all_have r frames p = all_arrive (λ v. HasByteAt v p) most_sack_blocks (λ v pos xs. known.known.has most_sack_blocks v (Segment pos xs) p) r frames
+  all_have r frames p = all_arrive (λ v. HasByteAt v p) most_sack_blocks (λ v pos xs. known.stream.has most_sack_blocks v (Segment pos xs) p) r frames
 
   -- the frames of parts that follow one another do so, if the receiver has the positions that are spared
   parts_reach : (ranges : List (ℕ × ℕ)) (b : ℕ) (parts : List Part) (r : ReceiverState) → IsSound most_sack_blocks r → HasAllOf r ranges →
@@ -69,14 +69,14 @@ module _ (known : KnownOfRounds) (f : ℕ) (w : List ℕ) where
       let frame = frame_of b xs in
       let others = frames_from (b + length xs) parts in
       let u = receiver_after most_sack_blocks r (segment_of frame) in
-      let at = known.known.decode b xs (omega arith) in
+      let at = known.stream.decode b xs (omega arith) in
       let near = subst (λ o. b + length xs ≤ next_position (receiver_after most_sack_blocks r o)) (sym at)
       (one_reaches r b xs (All-head (FrameMatches f w) frame others says b xs at) room fits low) in
       let far = parts_reach ranges (b + length xs) parts u (all_sound known.sound r (frame ∷ []) sound) (λ p h. all_have r (frame ∷ []) p (had p h)) marked.1
       (All-tail (FrameMatches f w) frame others says) (omega (arith, arrived_limit known most_sack_blocks r (segment_of frame))) fits (omega arith) near in
       omega arith
 
-module _ (known : KnownOfRounds) (s : LinkState) (p : Passes s (round s)) (sound : IsSound most_sack_blocks s.receiver) (fits : end_of s.sender < 2 ^ 64) where
+module _ (known : RoundFacts) (s : LinkState) (p : Passes s (round s)) (sound : IsSound most_sack_blocks s.receiver) (fits : end_of s.sender < 2 ^ 64) where
   delivers : (f : ℕ) (w : List ℕ) → LinkInvariant f w s → HasRoomFor s →
       NextCome (length p.sent.in_flight) s.forward.fates → NextCome (length p.acks) s.reverse.fates →
       All (FrameMatches f w) p.sent.in_flight →
@@ -101,20 +101,20 @@ module _ (known : KnownOfRounds) (s : LinkState) (p : Passes s (round s)) (sound
       let far = parts_reach known f w s.sender.sack_blocks s.sender.first_unacknowledged p.all.prefix.parts r1 (all_sound known.sound r before sound)
       (λ q h. all_have known f w r before q (carries.sack_blocks q h)) p.all.prefix.marked these (omega arith) (omega arith) (omega arith) (le_trans carries.behind grows) in
       let next = ap next_position received in
-      let after = round_keeps_invariant known.known f w s (record { way = carries; fits = fits }) in
-      let stream = in_stream known.known.queue f w m.receiver after.way.receives in
+      let after = round_keeps_invariant known.stream f w s (record { way = carries; fits = fits }) in
+      let stream = in_stream known.stream.queue f w m.receiver after.way.receives in
       let met : m.sender.first_unacknowledged ≡ next_position m.receiver =
       ap (λ v. v.first_unacknowledged) (head_meets known s m p come_reverse after.way.behind (omega arith) fits).1 in
       (omega arith, met, λ all. omega (arith, (round_keeps s m p known).end))
 
-pub round_delivers : KnownOfRounds → RoundDelivers
+pub round_delivers : RoundFacts → RoundDelivers
 round_delivers known s counted sound fits =
     let round = round_sends s counted in
     let p = round.passes in
     record {
       passed = p;
       delivers = λ f w carries room come come_reverse. delivers known s p sound fits f w carries room come come_reverse
-          (subst (All (FrameMatches f w)) (sym round.in_flight) (at_parts known.known f w (length s.sender.queue) s (record { way = carries; fits = fits })).carries.way.coming);
+          (subst (All (FrameMatches f w)) (sym round.in_flight) (at_parts known.stream f w (length s.sender.queue) s (record { way = carries; fits = fits })).carries.way.coming);
       all = all_sent s.sender (at_least_one s.payload) (at_least_one s.burst) p.n s.forward p.sent p.all;
     }
 
@@ -159,18 +159,18 @@ module _ (v : SenderState) (most : ℕ) (none : v.sack_blocks ≡ []) (far : end
       sent.stop
 
 -- a receiver that has all of the stream holds nothing
-no_runs : (known : KnownOfRounds) (f : ℕ) (w : List ℕ) (r : ReceiverState) → IsSound most_sack_blocks r →
+no_runs : (known : RoundFacts) (f : ℕ) (w : List ℕ) (r : ReceiverState) → IsSound most_sack_blocks r →
     ReceivesFrom f w r → next_position r ≡ f + length w →
     maximal_runs (domain r.held) ≡ []
-no_runs known f w r sound from all = by (maximal_runs (domain r.held)) (known.known.maximal (domain r.held)).maximal
+no_runs known f w r sound from all = by (maximal_runs (domain r.held)) (known.stream.maximal (domain r.held)).maximal
   where
     by : (runs : List (ℕ × ℕ)) → All (IsMaximalRun (domain r.held)) runs → runs ≡ []
     by [] every = refl
     by (run ∷ runs) every =
         let one = All-head (IsMaximalRun (domain r.held)) run runs every in
         let held = one.inside run.0 (omega arith) (omega arith) in
-        let low = sound.above run.0 (sym (contains_held known.known.members r.held run.0) ∙ held) in
-        let high = held_within known.known f w r run.0 from held in
+        let low = sound.above run.0 (sym (contains_held known.stream.members r.held run.0) ∙ held) in
+        let high = held_within known.stream f w r run.0 from held in
         absurd (omega arith)
 
 -- a round that has room for all
@@ -180,7 +180,7 @@ pub record DeliversAll (l m : LinkState) : Type 0 where
   pub first_unacknowledged : m.sender.first_unacknowledged ≡ next_position m.receiver
   pub sack_blocks : m.sender.sack_blocks ≡ []
 
-pub delivers_all : KnownOfRounds → (f : ℕ) (w : List ℕ) (l : LinkState) → l.counts.payload < 2 ^ 64 → IsSound most_sack_blocks l.receiver →
+pub delivers_all : RoundFacts → (f : ℕ) (w : List ℕ) (l : LinkState) → l.counts.payload < 2 ^ 64 → IsSound most_sack_blocks l.receiver →
     IsSound most_sack_blocks (round l).receiver → LinkInvariantFits f w l →
     l.sender.sack_blocks ≡ [] → end_of l.sender ≤ l.sender.wraps_at → length l.sender.queue ≤ at_least_one l.burst * at_least_one l.payload → HasRoomFor l →
     AllCome l.forward.fates → AllCome l.reverse.fates → DeliversAll l (round l)
@@ -191,7 +191,7 @@ delivers_all known f w l counted sound sound_after h none far few room come come
     let come_acks = next_come (length p.acks) l.reverse.fates come_reverse in
     let brought = one.delivers f w h.way room (next_come (length p.sent.in_flight) l.forward.fates come) come_acks in
     let all = brought.2 (all_parts l.sender (at_least_one l.payload) none far (at_least_one l.burst) p.n l.forward p.sent p.all few) in
-    let after = round_keeps_invariant known.known f w l h in
+    let after = round_keeps_invariant known.stream f w l h in
     let runs = no_runs known f w m.receiver sound_after after.way.receives (omega arith) in
     let met = head_meets known l m p come_acks after.way.behind (omega arith) h.fits in
     record {
@@ -203,7 +203,7 @@ delivers_all known f w l counted sound sound_after h none far few room come come
     }
 
 -- ---- turns
-module _ (known : KnownOfRounds) (s : Setup) (bytes : List ℕ) (has : HasRoomAtOnce s) (fits : s.first + length bytes < 2 ^ 64 - 1) (come : AllCome s.fates)
+module _ (known : RoundFacts) (s : Setup) (bytes : List ℕ) (has : HasRoomAtOnce s) (fits : s.first + length bytes < 2 ^ 64 - 1) (come : AllCome s.fates)
     (come_reverse : AllCome s.ack_fates) where
   abbrev reads : List (List ℕ)
   reads = bytes ∷ [] ∷ []
@@ -228,7 +228,7 @@ module _ (known : KnownOfRounds) (s : Setup) (bytes : List ℕ) (has : HasRoomAt
     few : length c.given ≤ length bytes
     ahead : Ahead c c.reads
 
-  is_all_written : (c : CopyState) → SoFar known.known s reads c → Ready c → is_written c.link ≡ true
+  is_all_written : (c : CopyState) → SoFar known.stream s reads c → Ready c → is_written c.link ≡ true
   is_all_written c was h = written_from c.link (omega arith) h.empty
 
   le_times : (r k : ℕ) → 0 < k → r ≤ r * k
@@ -297,7 +297,7 @@ module _ (known : KnownOfRounds) (s : Setup) (bytes : List ℕ) (has : HasRoomAt
             subst (Ahead (pass s.chunk e)) (sym ends_so) (omega (arith, given_is, taken_is, all), λ none. absurd (omega arith))));
       }
 
-  one_ready : (c : CopyState) → SoFar known.known s reads c → Stays known s c.link → Ready c →
+  one_ready : (c : CopyState) → SoFar known.stream s reads c → Stays known s c.link → Ready c →
       GoesOn s.rounds s.chunk c → Ready (turn s.rounds s.chunk c)
   one_ready c was stays h one =
       let all = is_all_written c was h in
@@ -309,7 +309,7 @@ module _ (known : KnownOfRounds) (s : Setup) (bytes : List ℕ) (has : HasRoomAt
       let last = ahead.1 (omega arith) in
       passed_ready c (x ∷ xs) rest (omega arith) stays h w fed ahead.0 last.0 last.1)
       (λ off _ _ _. absurd (both_ways (asks s.chunk c) off (asks_from s.chunk c (h.more, omega arith, all))))
-      (fed_so_far known.known s reads c was).writes (fed_stays known s c stays) one.on)
+      (fed_so_far known.stream s reads c was).writes (fed_stays known s c stays) one.on)
 
   ready : (n : ℕ) → (after s reads n).status ≡ Running → Ready (after s reads n)
   ready zero on = record {
@@ -329,16 +329,16 @@ module _ (known : KnownOfRounds) (s : Setup) (bytes : List ℕ) (has : HasRoomAt
   ready (suc n) on =
       let c = after s reads n in
       let one = goes_on s.rounds s.chunk c on in
-      one_ready c (so_far known.known s reads (omega arith) n) (all_stays known s reads n) (ready n one.before) one
+      one_ready c (so_far known.stream s reads (omega arith) n) (all_stays known s reads n) (ready n one.before) one
 
-pub exact_rounds : KnownOfRounds → ExactRounds
+pub exact_rounds : RoundFacts → ExactRounds
 exact_rounds known s bytes n has fits come come_reverse done =
     at_end s (bytes ∷ [] ∷ []) (λ c. (length bytes ≤ c.rounds * most_read s) × (c.rounds * most_read s < length bytes + most_read s)) Done (λ (e : Done ≡ Running). cc)
     (λ m on is.
     let reads = bytes ∷ [] ∷ [] in
     let h = ready known s bytes has fits come come_reverse m on in
     let same = done_none s.rounds s.chunk (after s reads m) on is in
-    let was = so_far known.known s reads (omega arith) (suc m) in
+    let was = so_far known.stream s reads (omega arith) (suc m) in
     let given : length (after s reads (suc m)).given ≡ length bytes = ap length (was.over (was.done is).0) ∙ ap length (one_end bytes).1 in
     let all : length (after s reads m).given ≡ length bytes = sym same.0 ∙ given in
     subst (λ r. (length bytes ≤ r * most_read s) × (r * most_read s < length bytes + most_read s)) (sym same.1)

@@ -34,20 +34,17 @@ use Rattle.net_stream_model.specs.Fates.{next_fate, comes, comes_delayed}
 use Rattle.net_stream_model.specs.LinkState.{LinkState, times, Cursor, start, frame_len, send, part, take_in, come}
 use Rattle.net_stream_model.specs.LinkState.{came, meet, take_frame, acknowledge, came_ack, meet_ack, take_ack, round}
 use Rattle.net_stream_model.specs.LinkState.{StopsRound}
-use Rattle.net_stream_model.specs.Streams.{Known, LinkInvariantFits}
+use Rattle.net_stream_model.specs.Facts.{StreamFacts}
+use Rattle.net_stream_model.specs.Streams.{LinkInvariantFits}
 use Rattle.net_stream_model.proofs.Sent.{lent_says, stop_within}
 use Rattle.net_stream_model.proofs.Steps.{by_keeps_end, arrives, heard, keeps, split, by_part, StepsKeep, round_kept}
 use Rattle.net_stream_model.proofs.Steps.{stop_kept}
 use Rattle.std.specs.FinMap as fin
 
-pub queue_from : QueueIsOfStream → (f : ℕ) (w : List ℕ) (r : ReceiverState) → ReceivesFrom f w r → QueueIsOf w r
-unfolding ReceivesFrom
-queue_from queue f w r h = queue w r h.1
-
--- and it begins where the stream does
+-- it begins where the stream does
 pub in_stream : QueueIsOfStream → (f : ℕ) (w : List ℕ) (r : ReceiverState) → ReceivesFrom f w r → (r.first ≡ f) × QueueIsOf w r
 unfolding ReceivesFrom
-in_stream queue f w r h = (h.0, queue w r h.1)
+in_stream queue f w r h = (h.0, queue f w r h)
 
 -- ======== What keeps the invariant of a link, step by step
 -- ---- frames
@@ -227,7 +224,7 @@ pub counted_none : (n : ℕ) (c : FrameCounts) → c.payload < 2 ^ 64 → n ≡ 
 counted_none n c fits none = λ i. record c { payload = (let e : c.payload ≡ min (c.payload + n) (2 ^ 64 - 1) = omega arith in e) i }
 
 -- ======== Each step of a round keeps the invariant of a link
-module _ (known : Known) (f : ℕ) (w : List ℕ) where
+module _ (known : StreamFacts) (f : ℕ) (w : List ℕ) where
   -- ---- what a receiver holds has positions of 64 bits
   pub held_within : (r : ReceiverState) (p : ℕ) → ReceivesFrom f w r → contains (domain r.held) p ≡ true → p < f + length w
   held_within r p h is = here (fin.get r.held p) refl

@@ -7,6 +7,7 @@ pub mod Stuck
 pub mod Turns
 pub mod Prefix
 pub mod StuckRounds
+pub mod GivingUp
 pub mod Exact
 pub mod Sizes
 pub mod Written

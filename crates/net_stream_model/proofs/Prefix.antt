@@ -20,10 +20,11 @@ use Rattle.std.proofs.lemmas.List.{drop-append-le}
 use Rattle.std.proofs.Math.Seq.{take-append_seam}
 use Rattle.net_stream_model.specs.CopyState.{Setup, CopyState, Running, Done, begin, is_written, rest_of, room_for}
 use Rattle.net_stream_model.specs.CopyState.{feed, decide, waited, pass, after, turn, outcome, concat, most_turns}
-use Rattle.net_stream_model.specs.Streams.{Known, LinkInvariantFits, Writes, ReadWrites, PassWrites, AllWritten}
+use Rattle.net_stream_model.specs.Facts.{StreamFacts}
+use Rattle.net_stream_model.specs.Streams.{LinkInvariantFits, Writes, ReadWrites, PassWrites, AllWritten}
 use Rattle.net_stream_model.specs.Promises.{StartsFits, before_end, WritesPrefix, WritesAll, FewRoundsAnyway, Ends}
 use Rattle.net_stream_model.specs.Promises.{HasEnded, Stays, FinalIs, CopiedIs, EndsInOneTurn}
-use Rattle.net_stream_model.proofs.Kept.{begun, took, written, queue_from, round_keeps_invariant}
+use Rattle.net_stream_model.proofs.Kept.{begun, took, written, round_keeps_invariant}
 use Rattle.net_stream_model.proofs.Turns.{written_parts, fed_by, decides, all_turned, ended, running_or_not, fed_leaves}
 use Rattle.net_stream_model.proofs.Turns.{turns}
 use Rattle.std.proofs.lemmas.Bool.Decides.{nat_tests}
@@ -109,9 +110,9 @@ more_sent f w v xs s = record {
   queue = ap (λ q. q ++ xs) s.queue ∙ sym (drop-append-le (v.first_unacknowledged - f) w xs (omega arith));
 }
 
-module _ (known : Known) where
+module _ (known : StreamFacts) where
   pub queue_of : (f : ℕ) (g : List ℕ) (l : LinkState) → LinkInvariantFits f g l → QueueIsOf g l.receiver
-  queue_of f g l h = queue_from known.queue f g l.receiver h.way.receives
+  queue_of f g l h = known.queue f g l.receiver h.way.receives
 
   -- a read gave bytes, no more than there was room for
   pub read_writes : ReadWrites
@@ -153,7 +154,7 @@ all_written f g c is h =
     h.written ∙ take_all c.link.receiver.read g (omega arith)
 
 -- ---- turns
-module _ (known : Known) (s : Setup) (reads : List (List ℕ)) where
+module _ (known : StreamFacts) (s : Setup) (reads : List (List ℕ)) where
   -- what is true after each turn: of what was written, of the bytes to come, and of the end
   pub record SoFar (c : CopyState) : Type 0 where
     pub writes : Writes s.first c.given c
@@ -219,7 +220,7 @@ starts_with xs ys zs e = ap (take (length ys)) (sym e) ∙ take-append_seam ys z
 starts_take : (n : ℕ) (xs : List ℕ) → StartsWith xs (take n xs)
 starts_take n xs = starts_with xs (take n xs) (drop n xs) (take-append-drop n xs)
 
-pub writes_prefix : Known → WritesPrefix
+pub writes_prefix : StreamFacts → WritesPrefix
 writes_prefix known s reads n fits =
     let c = after s reads n in
     let h = so_far known s reads fits n in (
@@ -230,7 +231,7 @@ writes_prefix known s reads n fits =
       subst (StartsWith c.given) (sym h.writes.written) (starts_take c.link.receiver.read c.given),
     )
 
-pub writes_all : Known → WritesAll
+pub writes_all : StreamFacts → WritesAll
 writes_all known s reads n fits is =
     let c = after s reads n in
     let h = so_far known s reads fits n in
@@ -318,7 +319,7 @@ before_few [] = omega arith
 before_few ([] ∷ reads) = omega arith
 before_few ((x ∷ xs) ∷ reads) = omega (arith, before_few reads, length-append (x ∷ xs) (before_end reads), length-append (x ∷ xs) (concat reads))
 
-module _ (known : Known) (s : Setup) (reads : List (List ℕ)) (fits : StartsFits s) (n : ℕ) where
+module _ (known : StreamFacts) (s : Setup) (reads : List (List ℕ)) (fits : StartsFits s) (n : ℕ) where
   few_gone : gone known.reads_nothing s (after s reads n) ≤ 2 * length (after s reads n).given
   few_gone =
       let c = after s reads n in
@@ -336,14 +337,14 @@ module _ (known : Known) (s : Setup) (reads : List (List ℕ)) (fits : StartsFit
       (λ (e : c.more ≡ false). omega (arith, ap length (so.over e)))
       (cases_Bool c.more)
 
-pub few_rounds_anyway : Known → FewRoundsAnyway
+pub few_rounds_anyway : StreamFacts → FewRoundsAnyway
 few_rounds_anyway known s reads n fits =
     let c = after s reads n in
     let h = counted known.reads_nothing s reads n in
     let few = few_of s.rounds (gone known.reads_nothing s c) c.stalled (length c.given) (few_gone known s reads fits n) h.2 in
     omega arith
 
-pub ends : Known → Ends
+pub ends : StreamFacts → Ends
 ends known s reads fits on =
     let n = most_turns s reads in
     let c = after s reads n in
@@ -358,7 +359,7 @@ ends known s reads fits on =
 pub stays_so : Stays
 stays_so s reads n k over = stays (turn s.rounds s.chunk) (begin s reads) n k (ended s.rounds s.chunk (after s reads n) over)
 
-pub final_is : Known → FinalIs
+pub final_is : StreamFacts → FinalIs
 final_is known s reads n fits over =
     let f = turn s.rounds s.chunk in
     let m = most_turns s reads in
@@ -367,7 +368,7 @@ final_is known s reads n fits over =
     (λ (l : n ≤ m). enough f (begin s reads) n m l (ended s.rounds s.chunk (after s reads n) over))
     (cases_lt m n)
 
-pub copied_is : Known → CopiedIs
+pub copied_is : StreamFacts → CopiedIs
 copied_is known s reads n fits over = ap outcome (final_is known s reads n fits over)
 
 pub ends_in_one_turn : EndsInOneTurn

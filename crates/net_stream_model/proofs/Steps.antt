@@ -1,4 +1,4 @@
--- Functions that are applied several times over, and what frames and acknowledgements leave that arrive.
+-- Iterated functions, and states after arrivals.
 use Rattle.std.proofs.Common.{◌≡◌, ◌⊎◌, ◌&&◌, ℕ, zero, suc, ◌+◌, ◌-◌, ◌≤◌, ◌<◌, nat_lt, Bool, true, false, cond, List}
 use Rattle.std.proofs.Common.{[], ◌∷◌, length, refl, sym, ap, subst, ◌∙◌, arith, inl, inr, ◌^◌, nat_le, Option, Some}
 use Rattle.std.proofs.Common.{None, All, ◌++◌, append_assoc, max, get_or, slice_get, le_of_suc-le-suc, lt_of_not-le}

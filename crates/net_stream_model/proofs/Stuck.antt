@@ -1,4 +1,4 @@
--- What a round lacked that made no progress, and how many rounds a copy takes.
+-- What failed in a round without progress.
 use Rattle.std.proofs.Common.{◌≡◌, ◌⊎◌, ℕ, zero, suc, ◌+◌, ◌-◌, ◌<◌, ◌≤◌, ◌^◌, min, nat_lt, true, false, List, [], ◌∷◌}
 use Rattle.std.proofs.Common.{◌++◌, length, take, All, Option, Some, None, refl, sym, ap, subst, ◌∙◌, arith, ⊎_elim}
 use Rattle.std.proofs.Common.{inl, inr, le_trans, le_refl, length-append, length-take, length-drop, ◌*◌, lt_of_not-le}
@@ -23,11 +23,13 @@ use Rattle.net_stream_model.specs.Counts.{with_fate, with_fates, with_payload}
 use Rattle.net_stream_model.specs.Fates.{FatesState, next_fate, after_fate, fates_after, comes, comes_delayed, AllCome}
 use Rattle.net_stream_model.specs.Fates.{NextCome}
 use Rattle.net_stream_model.specs.PathState.{ack_of, receiver_after}
-use Rattle.net_stream_model.specs.Reach.{after_ack_frames, limit_of}
+use Rattle.net_receiver.specs.ReceiverState.{limit_of}
+use Rattle.net_stream_model.specs.Reach.{after_ack_frames}
 use Rattle.net_stream_model.specs.Arrivals.{coming_of, delayed_of, receiver_after_all, ack_to, acks_of}
 use Rattle.net_stream_model.specs.Round.{Passes}
 use Rattle.net_stream_model.specs.LinkInvariant.{LinkInvariant}
-use Rattle.net_stream_model.specs.Stuck.{KnownOfRounds, failures, losses, RoundLeaves, ProgressesOrIsStuck, HasFailed}
+use Rattle.net_stream_model.specs.Facts.{RoundFacts}
+use Rattle.net_stream_model.specs.Stuck.{failures, losses, RoundLeaves, ProgressesOrIsStuck, HasFailed}
 use Rattle.net_stream_model.specs.Stuck.{AllFail, FatesFail, FirstMatches, IsDue, IsStuck}
 use Rattle.net_stream_model.proofs.Prefix.{head_grows}
 use Rattle.net_stream_model.proofs.Sent.{first_sent}
@@ -56,18 +58,18 @@ brought_keeps : (F : ReceiverState → ℕ) (N : ℕ) (r : ReceiverState) (frame
     ((u : ReceiverState) (pos : ℕ) (xs : List ℕ) → F (receiver_after_command N u (Segment pos xs)) ≡ F u) → F (receiver_after_all N r frames) ≡ F r
 brought_keeps F N r frames same = all_arrive (λ u. F u ≡ F r) N (λ u pos xs e. same u pos xs ∙ e) r frames refl
 
-module _ (known : KnownOfRounds) where
+module _ (known : RoundFacts) where
   pub arrived_grows : (N : ℕ) (r : ReceiverState) (o : Option (ℕ × List ℕ)) → next_position r ≤ next_position (receiver_after N r o)
-  arrived_grows N r o = arrives (λ u. next_position r ≤ next_position u) N r o (λ pos xs _. known.known.next N r (Segment pos xs)) (omega arith)
+  arrived_grows N r o = arrives (λ u. next_position r ≤ next_position u) N r o (λ pos xs _. known.stream.next N r (Segment pos xs)) (omega arith)
 
   same_limit : (N : ℕ) (r : ReceiverState) (pos : ℕ) (xs : List ℕ) → limit_of (receiver_after_command N r (Segment pos xs)) ≡ limit_of r
-  same_limit N r pos xs = λ i. known.first N r (Segment pos xs) i + known.known.reads_nothing N r pos xs i + known.capacity N r (Segment pos xs) i
+  same_limit N r pos xs = λ i. known.first N r (Segment pos xs) i + known.stream.reads_nothing N r pos xs i + known.capacity N r (Segment pos xs) i
 
   pub arrived_limit : (N : ℕ) (r : ReceiverState) (o : Option (ℕ × List ℕ)) → limit_of (receiver_after N r o) ≡ limit_of r
   arrived_limit N r o = arrives (λ u. limit_of u ≡ limit_of r) N r o (λ pos xs _. same_limit N r pos xs) refl
 
   pub brought_grows : (N : ℕ) (r : ReceiverState) (frames : List (List ℕ)) → next_position r ≤ next_position (receiver_after_all N r frames)
-  brought_grows N r frames = all_arrive (λ u. next_position r ≤ next_position u) N (λ u pos xs h. le_trans h (known.known.next N u (Segment pos xs))) r frames (omega arith)
+  brought_grows N r frames = all_arrive (λ u. next_position r ≤ next_position u) N (λ u pos xs h. le_trans h (known.stream.next N u (Segment pos xs))) r frames (omega arith)
 
   pub brought_limit : (N : ℕ) (r : ReceiverState) (frames : List (List ℕ)) → limit_of (receiver_after_all N r frames) ≡ limit_of r
   brought_limit N r frames = brought_keeps limit_of N r frames (same_limit N)
@@ -81,7 +83,7 @@ module _ (known : KnownOfRounds) where
       let a = arrived_grows N r (segment_of x) in
       let b = brought_grows N r1 xs in
       All-append (Acks n m) (ack_to r1 (segment_of x)) (acks_of N r1 xs)
-      (to_acks known.known.decode r1 (segment_of x) n m (le_trans low a) (le_trans b high) word)
+      (to_acks known.stream.decode r1 (segment_of x) n m (le_trans low a) (le_trans b high) word)
       (all_acks N r1 xs n m (le_trans low a) high word)
 
   -- with a frame that comes and begins where nothing is missing before it the receiver makes progress
@@ -262,7 +264,7 @@ module _ (old new : LinkState) (p : Passes old new) where
   end_left : end_of new.sender ≡ end_of old.sender
   end_left = ap end_of p.acked ∙ all_keep_end old.sender (old.reverse.delayed ++ coming_of old.reverse.fates p.acks)
 
-  pub round_keeps : KnownOfRounds → RoundLeaves old new
+  pub round_keeps : RoundFacts → RoundLeaves old new
   round_keeps known = record {
     in_flight = ap (λ t. t.in_flight) p.left;
     in_flight_reverse = ap (λ t. t.in_flight) p.left_reverse;
@@ -270,7 +272,7 @@ module _ (old new : LinkState) (p : Passes old new) where
     first_unacknowledged = subst (λ v. old.sender.first_unacknowledged ≤ v.first_unacknowledged) (sym p.acked) (all_heads_grow old.sender (old.reverse.delayed ++ coming_of old.reverse.fates p.acks));
     sender_capacity = ap (λ v. v.capacity) p.acked ∙ all_heard (λ (u : SenderState). u.capacity ≡ old.sender.capacity) (λ u n xs _ _ h. h) old.sender (old.reverse.delayed ++ coming_of old.reverse.fates p.acks) refl;
     first = ap (λ v. v.first) p.received ∙ brought_keeps (λ v. v.first) most_sack_blocks old.receiver p.came (λ u pos xs. known.first most_sack_blocks u (Segment pos xs));
-    read = ap (λ v. v.read) p.received ∙ brought_keeps (λ v. v.read) most_sack_blocks old.receiver p.came (known.known.reads_nothing most_sack_blocks);
+    read = ap (λ v. v.read) p.received ∙ brought_keeps (λ v. v.read) most_sack_blocks old.receiver p.came (known.stream.reads_nothing most_sack_blocks);
     receiver_capacity = ap (λ v. v.capacity) p.received ∙ brought_keeps (λ v. v.capacity) most_sack_blocks old.receiver p.came (λ u pos xs. known.capacity most_sack_blocks u (Segment pos xs));
     grows = subst (λ v. next_position old.receiver ≤ next_position v) (sym p.received) (brought_grows known most_sack_blocks old.receiver p.came);
   }
@@ -282,7 +284,7 @@ module _ (old new : LinkState) (p : Passes old new) where
   delayed_left = ap (λ t. t.delayed) p.left ∙ ap (λ t. delayed_of t.fates p.sent.in_flight) p.all.prefix.sent
 
   -- with what is delayed it would have made progress
-  not_due : KnownOfRounds → next_position old.receiver < limit_of old.receiver → next_position new.receiver ≡ next_position old.receiver →
+  not_due : RoundFacts → next_position old.receiver < limit_of old.receiver → next_position new.receiver ≡ next_position old.receiver →
       new.sender.first_unacknowledged ≡ old.sender.first_unacknowledged → IsDue old → ⊥
   not_due known room still still_reverse due =
       let r = old.receiver in
@@ -347,7 +349,7 @@ module _ (old new : LinkState) (p : Passes old new) where
       ))
       (first_acks n n (delayed_of v p.acks) (passing_all (Acks n n) comes_delayed v p.acks acks))
 
-  pub round_moves : KnownOfRounds → IsSound most_sack_blocks old.receiver → end_of old.sender < 2 ^ 64 →
+  pub round_moves : RoundFacts → IsSound most_sack_blocks old.receiver → end_of old.sender < 2 ^ 64 →
       ProgressesOrIsStuck (length p.sent.in_flight) (length p.acks) old new
   round_moves known sound word f w carries none none_reverse some room still still_reverse =
       let N = most_sack_blocks in
@@ -356,12 +358,12 @@ module _ (old new : LinkState) (p : Passes old new) where
       let b = old.sender.first_unacknowledged in
       let v = old.forward.fates in
       let u = old.reverse.fates in
-      let within = all_within known.known.queue f w old carries in
+      let within = all_within known.stream.queue f w old carries in
       let same : next_position (receiver_after_all N r p.came) ≡ n = sym (ap next_position p.received) ∙ still in
       let result = ⊎_elim {C = FatesFail 0 (length p.sent.in_flight) (length p.acks) v u × HasLost}
       (λ (l : b < n).
       let ours : All (Acks n n) (acks_of N r p.came) = all_acks known N r p.came n n (omega arith) (omega arith) (omega arith) in
-      let last : Acks n n (ack_of new.receiver) = one_acks known.known.decode new.receiver n n (omega arith) (omega arith) (omega arith) in
+      let last : Acks n n (ack_of new.receiver) = one_acks known.stream.decode new.receiver n n (omega arith) (omega arith) (omega arith) in
       let acks : All (Acks n n) p.acks =
       subst (All (Acks n n)) (sym (p.acks_are ∙ ap (λ l. l ++ acks_of N r p.came ++ ack_of new.receiver ∷ []) none_reverse))
       (All-append (Acks n n) (acks_of N r p.came) (ack_of new.receiver ∷ []) ours (All-cons (Acks n n) (ack_of new.receiver) [] last (All-nil (Acks n n)))) in
@@ -379,7 +381,7 @@ module _ (old new : LinkState) (p : Passes old new) where
       let size : length xs ≡ min (length xs) (length old.sender.queue) = ap length one.5 ∙ length-take (length xs) old.sender.queue in
       let in_flight : p.sent.in_flight ≡ frame ∷ rest = ap (λ t. t.in_flight) p.all.prefix.sent
       ∙ ap (λ a. a ++ frames_from b p.all.prefix.parts) none ∙ ap (frames_from b) one.2 in
-      let at : segment_of frame ≡ Some (b, xs) = known.known.decode b xs (omega arith) in
+      let at : segment_of frame ≡ Some (b, xs) = known.stream.decode b xs (omega arith) in
       let c = coming_of (after_fate v) rest in
       let sent_some : 0 < length p.sent.in_flight = subst (λ a. 0 < length a) (sym in_flight) (omega arith) in
       let fails : comes (next_fate v) ≡ false = false_from_ne_true (comes (next_fate v)) (λ e.
@@ -446,7 +448,7 @@ coming_all v (x ∷ xs) come =
     cond-true _ (x ∷ c) c come.0 ∙ ap (λ l. x ∷ l) (coming_all (after_fate v) xs come.1)
 
 -- the last acknowledgement comes, and the sender keeps what the receiver lacks
-pub head_meets : KnownOfRounds → (old new : LinkState) (p : Passes old new) →
+pub head_meets : RoundFacts → (old new : LinkState) (p : Passes old new) →
     NextCome (length p.acks) old.reverse.fates → new.sender.first_unacknowledged ≤ next_position new.receiver →
     next_position new.receiver ≤ end_of old.sender → end_of old.sender < 2 ^ 64 → (before : SenderState)
     × (new.sender ≡ sender_from before (next_position new.receiver) (blocks_of most_sack_blocks (block_bytes (take most_sack_blocks (maximal_runs (domain new.receiver.held))))))
@@ -458,21 +460,21 @@ head_meets known old new p come behind within word =
     let is : new.sender ≡ after_ack_frames old.sender (earlier ++ frame_of n xs ∷ []) =
     p.acked ∙ ap (λ a. after_ack_frames old.sender (old.reverse.delayed ++ a)) (coming_all old.reverse.fates p.acks come ∙ p.acks_are)
     ∙ ap (after_ack_frames old.sender) (sym (append_assoc old.reverse.delayed others (frame_of n xs ∷ []))) in
-    (after_ack_frames old.sender earlier, is ∙ acked_last known.known.decode old.sender n xs earlier within (omega arith) (subst (λ v. v.first_unacknowledged ≤ n) is behind))
+    (after_ack_frames old.sender earlier, is ∙ acked_last known.stream.decode old.sender n xs earlier within (omega arith) (subst (λ v. v.first_unacknowledged ≤ n) is behind))
 
 pub never_fails : (frames acks : ℕ) (v v' : FatesState) → AllCome v → AllCome v' → FatesFail 0 frames acks v v' → ⊥
 never_fails frames acks v v' come come' (inl a) = both_ways (comes (next_fate v)) a.1.0 (come_next v come).0
 never_fails frames acks v v' come come' (inr b) = both_ways (comes (next_fate v')) (first_of_all 0 acks v' b.0 b.1).0 (come_next v' come').0
 
 -- a round of a copy writes some
-pub round_at_once : KnownOfRounds → (f : ℕ) (w : List ℕ) (old new : LinkState) (room : ℕ) (p : Passes old new) →
+pub round_at_once : RoundFacts → (f : ℕ) (w : List ℕ) (old new : LinkState) (room : ℕ) (p : Passes old new) →
     RoundLeaves old new → ProgressesOrIsStuck (length p.sent.in_flight) (length p.acks) old new → end_of old.sender < 2 ^ 64 →
     LinkInvariant f w old → LinkInvariant f w new →
     old.forward.in_flight ≡ [] → old.reverse.in_flight ≡ [] → AllCome old.forward.fates → AllCome old.reverse.fates → old.sender.first_unacknowledged ≡ next_position old.receiver →
     0 < old.receiver.capacity → 0 < room → (length old.receiver.queue ≡ 0 → 0 < length old.sender.queue) →
     (new.sender.first_unacknowledged ≡ next_position (receiver_after_read new.receiver room)) × (old.receiver.read < (receiver_after_read new.receiver room).read)
 round_at_once known f w old new room p keeps moves word carries carries1 none none_reverse come come_reverse meet cap some kept =
-    let stream = in_stream known.known.queue f w new.receiver carries1.receives in
+    let stream = in_stream known.stream.queue f w new.receiver carries1.receives in
     let left = length-drop room new.receiver.queue in
     let met : new.sender.first_unacknowledged ≡ next_position new.receiver =
     ap (λ v. v.first_unacknowledged) (head_meets known old new p (next_come (length p.acks) old.reverse.fates come_reverse) carries1.behind (omega arith) word).1 in

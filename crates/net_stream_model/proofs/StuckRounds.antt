@@ -1,5 +1,5 @@
 -- What is true of a copy after each turn, what failed in its last rounds, and what it counted.
-use Rattle.std.proofs.Common.{◌≡◌, ℕ, zero, suc, ◌+◌, ◌-◌, ◌≤◌, ◌<◌, ◌^◌, min, List, [], length, Option, refl, sym, ap}
+use Rattle.std.proofs.Common.{◌≡◌, ℕ, zero, suc, ◌+◌, ◌-◌, ◌≤◌, ◌<◌, ◌^◌, min, List, [], length, refl, sym, ap}
 use Rattle.std.proofs.Common.{subst, ◌∙◌, arith, ⊎_elim, pos_of_ne-zero, lt_of_not-le, ◌⊎◌, ◌*◌, not, false, ◌∷◌, take}
 use Rattle.std.proofs.Common.{inl, inr, length-append, length-take}
 use Rattle.std.proofs.lemmas.Bool.{cases_lt, both_ways, and_parts, not-true}
@@ -11,13 +11,14 @@ use Rattle.net_stream_model.specs.declared.fate.Fate.{Fate}
 use Rattle.net_stream_model.specs.SackBlocks.{most_sack_blocks, count_outside}
 use Rattle.net_stream_model.specs.Fates.{FatesState, next_fate, after_fate, fates_after, AllCome}
 use Rattle.net_stream_model.specs.Counts.{with_fate, with_fates, with_payload}
-use Rattle.net_stream_model.specs.PathState.{PathState, receiver_after}
+use Rattle.net_stream_model.specs.PathState.{PathState}
 use Rattle.net_stream_model.specs.Arrivals.{receiver_after_all}
 use Rattle.net_stream_model.specs.LinkState.{LinkState, round}
 use Rattle.net_stream_model.specs.CopyState.{Setup, CopyState, Status, Running, Done, GaveUp, begin, feed, waited, pass}
 use Rattle.net_stream_model.specs.CopyState.{turn, after, is_written, room_for}
+use Rattle.net_stream_model.specs.Facts.{RoundFacts}
 use Rattle.net_stream_model.specs.Streams.{Writes}
-use Rattle.net_stream_model.specs.Stuck.{RoundLeaves, IsStuck, KnownOfRounds, failures, IsDue, HasFailed, AllFail}
+use Rattle.net_stream_model.specs.Stuck.{RoundLeaves, IsStuck, failures, IsDue, HasFailed, AllFail}
 use Rattle.net_stream_model.specs.Stuck.{FatesFail, losses}
 use Rattle.net_stream_model.specs.Promises.{CanPass, MakesNoProgress, before_round, frames_sent, acks_sent, Fails}
 use Rattle.net_stream_model.specs.Promises.{GivesUpIfFailed, NeverByDelays, EndsIfAllCome, FewRounds, StartsFits}
@@ -28,7 +29,7 @@ use Rattle.net_stream_model.proofs.Passed.{round_met, RoundSends, round_sends}
 use Rattle.net_stream_model.proofs.Kept.{in_stream, round_keeps_invariant}
 use Rattle.net_stream_model.proofs.Stuck.{round_keeps, round_moves, step_moves, first_of_all, is_lost, due_kept}
 use Rattle.net_stream_model.proofs.Stuck.{stuck_weaker, all_after, round_failed, never_fails, round_at_once, more_taken}
-use Rattle.net_stream_model.proofs.Steps.{arrives, all_arrive}
+use Rattle.net_stream_model.proofs.Steps.{all_arrive}
 use Rattle.net_stream_model.proofs.Turns.{turned, decided_too, after_turns, ended, fed_by, fed_leaves, asked, GoesOn}
 use Rattle.net_stream_model.proofs.Turns.{goes_on, turns, running_or_not, Still, Some as Moved, Nothing, brought, runs}
 use Rattle.net_stream_model.proofs.Turns.{still_round, Some, still_from, stops, gives_up_after}
@@ -53,15 +54,11 @@ back P one j (suc n) few h =
 
 -- frames that come leave a receiver sound
 module _ (stays : SoundStays) where
-  pub one_sound : (r : ReceiverState) (o : Option (ℕ × List ℕ)) → IsSound most_sack_blocks r →
-      IsSound most_sack_blocks (receiver_after most_sack_blocks r o)
-  one_sound r o h = arrives (IsSound most_sack_blocks) most_sack_blocks r o (λ pos xs _. stays most_sack_blocks r (Segment pos xs) h) h
-
   pub all_sound : (r : ReceiverState) (frames : List (List ℕ)) → IsSound most_sack_blocks r →
       IsSound most_sack_blocks (receiver_after_all most_sack_blocks r frames)
   all_sound = all_arrive (IsSound most_sack_blocks) most_sack_blocks (λ r pos xs. stays most_sack_blocks r (Segment pos xs))
 
-module _ (known : KnownOfRounds) where
+module _ (known : RoundFacts) where
   module _ (s : Setup) where
     -- what is true of a link of these parts after each turn
     pub record StaysOf (capacity : ℕ) (r : ReceiverState) (forward reverse : PathState) (counts : FrameCounts) : Type 0 where
@@ -129,7 +126,7 @@ module _ (known : KnownOfRounds) where
       runs_before = back (λ n. (after s reads n).status ≡ Running) (λ n on. (goes_on s.rounds s.chunk (after s reads n) on).before)
 
       -- ---- a round that makes no progress
-      module _ (c : CopyState) (was : SoFar known.known s reads c) (stays : Stays c.link) (can : CanPass s (turn s.rounds s.chunk c))
+      module _ (c : CopyState) (was : SoFar known.stream s reads c) (stays : Stays c.link) (can : CanPass s (turn s.rounds s.chunk c))
           (one : GoesOn s.rounds s.chunk c) where
         abbrev e : CopyState
         e = feed s.chunk c
@@ -141,7 +138,7 @@ module _ (known : KnownOfRounds) where
         new = round old
 
         pub writes : Writes s.first e.given e
-        writes = (fed_so_far known.known s reads c was).writes
+        writes = (fed_so_far known.stream s reads c was).writes
 
         pub fed : Stays e.link
         fed = fed_stays c stays
@@ -159,7 +156,7 @@ module _ (known : KnownOfRounds) where
         pub kept : length e.link.sender.queue ≡ 0 → length e.link.receiver.queue ≡ 0 → ⊥
         kept empty none =
             let carries = writes.carries in
-            let stream = in_stream known.known.queue s.first e.given e.link.receiver carries.way.receives in
+            let stream = in_stream known.stream.queue s.first e.given e.link.receiver carries.way.receives in
             let most = left in
             let stay = fed in
             asked s.chunk c one.fed one.on can.chunk (omega arith) (omega arith) (omega arith) none
@@ -181,7 +178,7 @@ module _ (known : KnownOfRounds) where
 
       -- what stays over a read, over a round and at the end, is true after each turn
       module _ (P : CopyState → Type 0) (reading : (c : CopyState) → P c → P (feed s.chunk c)) (ending : (c : CopyState) (status : Status) → P c → P (record c { status = status }))
-          (rounding : (c : CopyState) → SoFar known.known s reads c → Stays c.link → CanPass s (turn s.rounds s.chunk c) → GoesOn s.rounds s.chunk c →
+          (rounding : (c : CopyState) → SoFar known.stream s reads c → Stays c.link → CanPass s (turn s.rounds s.chunk c) → GoesOn s.rounds s.chunk c →
           P (feed s.chunk c) → P (pass s.chunk (feed s.chunk c))) where
         pub by_turns : P (begin s reads) → (n : ℕ) → CanPass s (after s reads n) → P (after s reads n)
         by_turns first zero can = first
@@ -194,7 +191,7 @@ module _ (known : KnownOfRounds) where
             ⊎_elim {C = P (after s reads (suc n))}
             (λ (on : c.status ≡ Running).
             turns (λ d. after s reads (suc n) ≡ d → P d) s.rounds s.chunk c on (λ _ _. read) (λ _ _. ending e Done read) (λ _ _ _ _. ending e GaveUp read)
-            (λ fed _ _ is. rounding c (so_far known.known s reads starts n) (all_stays n) can (goes_on s.rounds s.chunk c (ap (λ d. d.status) is ∙ fed)) read)
+            (λ fed _ _ is. rounding c (so_far known.stream s reads starts n) (all_stays n) can (goes_on s.rounds s.chunk c (ap (λ d. d.status) is ∙ fed)) read)
             refl)
             (λ (over : c.status ≡ Running → ⊥). subst P (sym (ended s.rounds s.chunk c over)) before)
             (running_or_not c.status)
@@ -217,7 +214,7 @@ module _ (known : KnownOfRounds) where
           let d = feed s.chunk c in
           let stuck = elim (brought s.chunk d) as (λ _. IsStuck (frames_sent (waited d)) (acks_sent (waited d)) (waited d) (pass s.chunk d).link) [
             | Moved none some ↦ absurd (some (still_round s.rounds s.chunk c one nothing))
-            | Nothing more still empty ↦ stuck_turn c (so_far known.known s reads starts n) (all_stays n) can one still empty
+            | Nothing more still empty ↦ stuck_turn c (so_far known.stream s reads starts n) (all_stays n) can one still empty
           ] in
           subst (λ x. IsStuck (frames_sent (waited x)) (acks_sent (waited x)) (waited x) (after s reads (suc n)).link) (sym (runs (feed s.chunk) c one.before))
           (subst (λ x. IsStuck (frames_sent (waited d)) (acks_sent (waited d)) (waited d) x.link) (sym one.is) stuck)
@@ -230,7 +227,7 @@ gave_up_once s reads n gave =
     let h = ends_in_one_turn s reads n (λ r. (let j : GaveUp ≡ Running = sym gave ∙ r in cc)) in
     (h.0, h.1, h.2, ap (λ c. c.status) h.3 ∙ gave)
 
-module _ (known : KnownOfRounds) where
+module _ (known : RoundFacts) where
   -- ---- what failed
   pub gives_up_if_failed : GivesUpIfFailed
   gives_up_if_failed s reads n can on gave k far below =
@@ -327,8 +324,8 @@ module _ (known : KnownOfRounds) where
   few_rounds s reads n can =
       let c = after s reads n in
       let starts : s.first < 2 ^ 64 = omega arith in
-      let w = (so_far known.known s reads starts n).writes in
-      let stream = in_stream known.known.queue s.first c.given c.link.receiver w.carries.way.receives in
+      let w = (so_far known.stream s reads starts n).writes in
+      let stream = in_stream known.stream.queue s.first c.given c.link.receiver w.carries.way.receives in
       let few = bounded s reads n can in
       omega arith
 
@@ -357,7 +354,7 @@ gives_up_counted s reads n few = at_end s reads (λ c. s.rounds ≤ c.rounds) Ga
     omega (arith, counts_rounds s reads m on, (gives_up_after s reads m on gave).0, ap (λ d. d.rounds) (stops s.rounds s.chunk c on gave).is))) n
 
 -- ---- a copy that gives up hasn't written all
-module _ (known : KnownOfRounds) where
+module _ (known : RoundFacts) where
   pub unfinished : Unfinished
   unfinished s reads n can gave = at_end s reads
       (λ c. CanPass s c → length c.given < s.outgoing → length c.written < length c.given) GaveUp (λ (e : GaveUp ≡ Running). cc) one n gave can
@@ -371,9 +368,9 @@ module _ (known : KnownOfRounds) where
           let d = feed s.chunk c in
           let given = ap (λ x. length x.given) stop.is in
           let wrote = ap (λ x. length x.written) stop.is in
-          let w = (fed_so_far known.known s reads c (so_far known.known s reads starts n)).writes in
+          let w = (fed_so_far known.stream s reads c (so_far known.stream s reads starts n)).writes in
           let stays = fed_stays known s c (all_stays known s reads n) in
-          let stream = in_stream known.known.queue s.first d.given d.link.receiver w.carries.way.receives in
+          let stream = in_stream known.stream.queue s.first d.given d.link.receiver w.carries.way.receives in
           lt_of_not-le (λ (l : length (after s reads (suc n)).given ≤ length (after s reads (suc n)).written).
           let all : d.link.receiver.read ≡ length d.given = omega (arith, ap length w.written, length-take d.link.receiver.read d.given) in
           asked s.chunk c stop.fed stop.on can.chunk (omega arith) (omega arith) (omega arith) (omega arith))
@@ -418,7 +415,7 @@ module _ (known : KnownOfRounds) where
         let starts : s.first < 2 ^ 64 = omega arith in
         let old = waited (feed s.chunk c) in
         subst Lacks (sym one.is) (one_lacks c (lacks n (passes_before known s reads n (suc n) (omega arith) can) one.before) (frames_sent old) (acks_sent old)
-        (stuck_turn known s reads c (so_far known.known s reads starts n) (all_stays known s reads n) can one))
+        (stuck_turn known s reads c (so_far known.stream s reads starts n) (all_stays known s reads n) can one))
 
   pub enough_failed : EnoughFailed
   enough_failed s reads n can few gave = at_end s reads
@@ -450,14 +447,14 @@ done_none rounds chunk c on = turns (λ d. d.status ≡ Done → (length d.given
     none = fed_by (λ d. d.more ≡ false → length d.given ≡ length c.given) chunk c (λ _ _ _. refl) (λ _ _ _ _. refl)
         (λ x xs rest may _ over. absurd (both_ways c.more over may.0)) (λ _ _. refl)
 
-module _ (known : KnownOfRounds) where
+module _ (known : RoundFacts) where
   taken_few : (s : Setup) (reads : List (List ℕ)) → StartsFits s → (n : ℕ) → (after s reads n).status ≡ Running →
       length (after s reads n).given ≤ (after s reads n).rounds * s.chunk
   taken_few s reads fits zero on = omega arith
   taken_few s reads fits (suc n) on =
       let c = after s reads n in
       let one = goes_on s.rounds s.chunk c on in
-      let w = (so_far known.known s reads fits (suc n)).writes.carries in
+      let w = (so_far known.stream s reads fits (suc n)).writes.carries in
       let given = ap (λ d. length d.given) one.is in
       let more = fed_few s.chunk c in
       more_taken (length c.given) (length (after s reads (suc n)).given) c.rounds (after s reads (suc n)).rounds s.chunk
@@ -480,7 +477,7 @@ module _ (known : KnownOfRounds) where
         let f = fed_leaves s.chunk c in
         (f.first_unacknowledged ∙ h.0 ∙ sym (ap (λ r. r.first + r.read + length r.queue) f.receiver), omega (arith, ap (λ r. r.read) f.receiver))
 
-    one_at_once : (c : CopyState) → SoFar known.known s reads c → Stays known s c.link →
+    one_at_once : (c : CopyState) → SoFar known.stream s reads c → Stays known s c.link →
         CanPass s (turn s.rounds s.chunk c) → GoesOn s.rounds s.chunk c →
         AtOnce (feed s.chunk c) → AtOnce (pass s.chunk (feed s.chunk c))
     one_at_once c was stays can one h =
@@ -494,7 +491,7 @@ module _ (known : KnownOfRounds) where
         let moves = round_moves old new p known u.sound (omega arith) in
         let one_more = round_at_once known s.first e.given old new s.chunk p
         (leaves known s reads c was stays can one) moves (omega arith) w.way
-        (round_keeps_invariant known.known s.first e.given old (record { way = w.way; fits = w.fits })).way u.in_flight u.in_flight_reverse
+        (round_keeps_invariant known.stream s.first e.given old (record { way = w.way; fits = w.fits })).way u.in_flight u.in_flight_reverse
         (subst AllCome (sym u.met.left) (all_after u.met.frames s.fates come)) (subst AllCome (sym u.met.left_reverse) (all_after u.met.acks s.ack_fates come_reverse))
         h.0 (omega arith) can.chunk
         (λ none. pos_of_ne-zero (λ empty. kept known s reads c was stays can one empty none)) in
@@ -508,8 +505,8 @@ module _ (known : KnownOfRounds) where
       let c = after s reads n in
       let starts : s.first < 2 ^ 64 = omega arith in
       let few = at_once s reads come come_reverse n can in
-      let w = (so_far known.known s reads starts n).writes.carries in
-      let stream = in_stream known.known.queue s.first c.given c.link.receiver w.way.receives in
+      let w = (so_far known.stream s reads starts n).writes.carries in
+      let stream = in_stream known.stream.queue s.first c.given c.link.receiver w.way.receives in
       omega arith
 
 pub ruleset laws_of_giving_up = (gives_up_counted, enough_failed, unfinished)

@@ -1,7 +1,7 @@
 -- A copy computed in full.
 use Rattle.std.proofs.Common.{◌≡◌, ℕ, ◌-◌, nat_lt, cond, true, false, List, [], ◌∷◌, take, Some, refl, sym, ap, subst, ◌∙◌, arith}
 use Rattle.net_assembler.specs.Positions.{runs, with_range, maximal_runs}
-use Rattle.net_receiver.specs.KeptList.{Piece, piece, piece_within, byte_at, bytes, next, held_positions}
+use Rattle.net_receiver.specs.KeptList.{Piece, piece, piece_within, byte_at, bytes, held_positions}
 use Rattle.net_receiver.specs.Rules.{Segment, SegmentReply, Refuses, Keeps, verdict, verdict_of_piece, state_after, segment_result}
 use Rattle.net_receiver.specs.Schedule.{Setting, KeptState, fresh_kept, kept_ops}
 use Rattle.net_receiver.specs.ReceiverState.{HeldBytes, ReceiverState, Refines, domain, receiver_after_command, fresh_receiver, receiver_ops, receiver_with_piece}

@@ -10,7 +10,8 @@ use Rattle.net_stream_model.specs.CopyState.{Setup, CopyState, Status, Running, 
 use Rattle.net_stream_model.specs.CopyState.{is_written, rest_of, room_for, read_of, with_read, feed, decide, pass}
 use Rattle.net_stream_model.specs.CopyState.{while_running, turn, after, outcome, most_turns, copied, setup_of, Outcome}
 use Rattle.net_stream_model.specs.CopyState.{final, concat}
-use Rattle.net_stream_model.specs.Streams.{Known, Writes}
+use Rattle.net_stream_model.specs.Facts.{StreamFacts}
+use Rattle.net_stream_model.specs.Streams.{Writes}
 use Rattle.net_stream_model.specs.Promises.{before_end, EndsIfAllCome, has_end, DoneIfAllCome, FillsAt, Fills}
 use Rattle.net_stream_model.specs.Promises.{SameBytes, AllAtOnce, StartsFits, EnoughFailed}
 use Rattle.net_stream_model.proofs.Steps.{split}
@@ -26,7 +27,8 @@ use Rattle.net_stream_model.specs.declared.config.Config.{Config}
 use Rattle.net_stream_model.specs.Fates.{FatesState}
 use Rattle.net_stream_model.specs.CopyResult.{before_pass, EndsRound, Copied, CopiedPart}
 use Rattle.net_stream_model.specs.CopyResult.{HasCopied, HasNotBegun, HasCopiedIfBegun}
-use Rattle.net_stream_model.specs.CopyResult.{Copies, HasPositions, gave_up}
+use Rattle.net_stream_model.specs.CopyResult.{Copies, CountsFailures}
+use Rattle.net_stream_model.specs.InShort.{ResultsInShort}
 use Rattle.net_stream_model.specs.declared.counts.FrameCounts.{FrameCounts}
 use Rattle.net_stream_model.specs.declared.error.CopyError.TheVariants as errors
 
@@ -149,7 +151,7 @@ module _ (s : Setup) where
       let two = both_step (decide s.rounds) c1 d1 one (λ on rs coming same. decide_alike c1 rs coming) in
       both_step (pass s.chunk) (while_running (decide s.rounds) c1) (while_running (decide s.rounds) d1) two (λ on rs coming same. record { reads = rs; same = refl; coming = coming })
 
-pub same_bytes : Known → SameBytes
+pub same_bytes : StreamFacts → SameBytes
 same_bytes known s reads others fits fills fills_too end bytes =
     let m = most_turns s reads in
     let k = most_turns s others in
@@ -181,7 +183,7 @@ pub one_end : (bytes : List ℕ) → (has_end (bytes ∷ [] ∷ []) ≡ true) ×
 one_end [] = (refl, refl)
 one_end (x ∷ xs) = (refl, append-nil (x ∷ xs))
 
-pub all_at_once : Known → AllAtOnce
+pub all_at_once : StreamFacts → AllAtOnce
 all_at_once known s reads fits fills end =
     let one = one_end (before_end reads) in
     same_bytes known s reads (before_end reads ∷ [] ∷ []) fits fills (one_fills s (before_end reads)) (end ∙ sym one.0) (sym one.1)
@@ -202,7 +204,7 @@ end_comes s reads n e =
     (λ c on h. decides EndComes s.rounds c (λ none all. (h.0, λ f. absurd (cc))) (λ many. (h.0, λ f. absurd (cc))) (λ few. h))
     (λ c on h. h) n (begin s reads) (λ _. e, λ f. absurd (cc))
 
-pub done_if_all_come : Known → EndsIfAllCome → DoneIfAllCome
+pub done_if_all_come : StreamFacts → EndsIfAllCome → DoneIfAllCome
 done_if_all_come known never s reads can come come_reverse some e = by (copied s reads).status refl
   where
     by : (st : Status) → (copied s reads).status ≡ st → (copied s reads).status ≡ Done
@@ -236,7 +238,7 @@ module _ (reads : List (List ℕ)) where
   given_before : (s : Setup) (n : ℕ) → Given (before_pass s reads n)
   given_before s n = to_pass Given s.rounds s.chunk (λ c _. fed_given s.chunk c) (λ c _. decided_too Given (λ _ _ h. h) s.rounds c) (after s reads n) (all_given s n)
 
-module _ (known : Known) (s : Setup) (fits : StartsFits s) where
+module _ (known : StreamFacts) (s : Setup) (fits : StartsFits s) where
   -- what is written so far, and what is still to come
   written_rest : (c : CopyState) (f : ℕ) → Writes f c.given c → c.written ++ drop c.link.receiver.read c.given ≡ c.given
   written_rest c f w = ap (λ l. l ++ drop c.link.receiver.read c.given) w.written ∙ take-append-drop c.link.receiver.read c.given
@@ -303,7 +305,7 @@ module _ (known : Known) (s : Setup) (fits : StartsFits s) where
         in_short e (e.written ++ p.written) rest.0 false h (given_before reads s p.turns) p.made p.consumed p.appended rest.1
         (ap (λ (n : Counts). n.bytes_read) p.counted) (ap (λ (n : Counts). n.bytes_written) p.counted) (λ t. absurd (both_ways false refl t))
 
-  pub short : {T : Type 0} (r : Result T CopyError) (reads : List (List ℕ)) (told : List Counts) (reader reader' writer writer' : Option (List ℕ)) (counts : Counts) →
+  short : {T : Type 0} (r : Result T CopyError) (reads : List (List ℕ)) (told : List Counts) (reader reader' writer writer' : Option (List ℕ)) (counts : Counts) →
       HasCopied s r reads told reader reader' writer writer' counts →
       Copies reader reader' writer writer' counts.bytes_read counts.bytes_written (is_ok r)
   short (Ok t) reads told reader reader' writer writer' counts p = copied_short reads told reader reader' writer writer' counts Done true (λ _. refl) p
@@ -312,6 +314,10 @@ module _ (known : Known) (s : Setup) (fits : StartsFits s) where
   short (Err errors.OutOfMemory) reads told reader reader' writer writer' counts p = part_short reads told reader reader' writer writer' counts errors.OutOfMemory p
   short (Err errors.WriteFailed) reads told reader reader' writer writer' counts (inl p) = part_short reads told reader reader' writer writer' counts errors.WriteFailed p
   short (Err errors.WriteFailed) reads told reader reader' writer writer' counts (inr p) = copied_short reads told reader reader' writer writer' counts Done false (λ e. absurd (both_ways false refl e)) p
+
+pub results_in_short : StreamFacts → (T : Type 0) → ResultsInShort T
+results_in_short known T s result reads told reader reader' writer writer' counts fits =
+    short known s fits result reads told reader reader' writer writer' counts
 
 -- a copy that had no memory
 pub unbegun : {T : Type 0} (r : Result T CopyError) (reads : List (List ℕ)) (told : List Counts) (reader reader' writer writer' : Option (List ℕ)) (counts : Counts) →
@@ -328,27 +334,22 @@ unbegun r reads told reader reader' writer writer' counts p = record {
   whole = λ e. absurd (both_ways (is_ok r) (ap is_ok p.0) e);
 }
 
--- a copy that gave up counted a failure for each of its last rounds
-abbrev Enough : ℕ → ℕ → ℕ → Counts → CopyError → Type 0
-Enough first cap rounds counts e = gave_up e ≡ true → HasPositions first counts.bytes_read → 0 < cap →
-    (rounds ≤ counts.frames.lost + counts.frames.delayed) × (rounds ≤ counts.frames.lost + 1)
-
-module _ (law : EnoughFailed) (config : Config) (fates ack_fates : FatesState) (word : config.rounds < 2 ^ 64) where
+module _ (law : EnoughFailed) (config : Config) (fates ack_fates : FatesState) (word : config.max_stalled_rounds < 2 ^ 64) where
   enough_of : {T : Type 0} (r : Result T CopyError) (reads : List (List ℕ)) (told : List Counts) (reader reader' writer writer' : Option (List ℕ)) (counts : Counts) →
-      HasCopied (setup_of config fates ack_fates) r reads told reader reader' writer writer' counts → IfErr r (Enough config.first config.capacity config.rounds counts)
+      HasCopied (setup_of config fates ack_fates) r reads told reader reader' writer writer' counts → IfErr r (CountsFailures config counts)
   enough_of (Ok t) reads told reader reader' writer writer' counts p = tt
   enough_of (Err errors.GaveUp) reads told reader reader' writer writer' counts p = λ _ left some.
       let s = setup_of config fates ack_fates in
       let c = final s reads in
       let bytes_read : min (length c.given) (2 ^ 64 - 1) ≡ counts.bytes_read = ap (λ (o : Outcome). o.counts.bytes_read) p.ends in
-      subst (λ (f : FrameCounts). (config.rounds ≤ f.lost + f.delayed) × (config.rounds ≤ f.lost + 1)) (ap (λ (o : Outcome). o.counts.frames) p.ends)
+      subst (λ (f : FrameCounts). (config.max_stalled_rounds ≤ f.lost + f.delayed) × (config.max_stalled_rounds ≤ f.lost + 1)) (ap (λ (o : Outcome). o.counts.frames) p.ends)
       (law s reads (most_turns s reads) (record { outgoing = some; incoming = some; chunk = some; positions = omega (arith, bytes_read, left) }) word
       (ap (λ (o : Outcome). o.status) p.ends))
   enough_of (Err error) reads told reader reader' writer writer' counts p = λ e. absurd (both_ways false refl e)
 
   pub enough : {T : Type 0} (r : Result T CopyError) (reads : List (List ℕ)) (told : List Counts) (reader reader' writer writer' : Option (List ℕ)) (counts : Counts) →
       HasCopiedIfBegun (setup_of config fates ack_fates) r reads told reader reader' writer writer' counts →
-      IfErr r (Enough config.first config.capacity config.rounds counts)
+      IfErr r (CountsFailures config counts)
   enough r reads told reader reader' writer writer' counts (inl p) = enough_of r reads told reader reader' writer writer' counts p
-  enough r reads told reader reader' writer writer' counts (inr p) = subst (λ k. IfErr k (Enough config.first config.capacity config.rounds counts)) (sym p.0)
+  enough r reads told reader reader' writer writer' counts (inr p) = subst (λ k. IfErr k (CountsFailures config counts)) (sym p.0)
       (λ e. absurd (both_ways false refl e))

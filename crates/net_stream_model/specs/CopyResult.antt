@@ -10,12 +10,14 @@
 --     Copies reader reader' writer writer' read wrote complete      the bytes read, and the bytes written
 --     gave_up e      whether a copy ended because it made no more progress
 --     HasPositions first taken      positions are left
-use Rattle.std.specs.Prelude.{◌≡◌, ℕ, zero, suc, List, ◌++◌, ◌∷◌, ◌+◌, ◌-◌, ◌<◌, ◌^◌, ◌⊎◌, [], length, take}
+--     CountsFailures config counts e      how many frames failed, if it gave up
+use Rattle.std.specs.Prelude.{◌≡◌, ℕ, zero, suc, List, ◌++◌, ◌∷◌, ◌+◌, ◌-◌, ◌<◌, ◌≤◌, ◌^◌, ◌⊎◌, [], length, take}
 use Rattle.std.specs.Prelude.{Bool, true, false, Option, Result, Ok, Err}
 use Rattle.std.specs.Io.{StartsWith}
 use Rattle.std.specs.Io.KnownBytes.{Appends, Consumes, IsAtEnd}
 use Rattle.net_stream_model.specs.declared.counts.Counts.{Counts}
 use Rattle.net_stream_model.specs.Counts.{more, no_counts}
+use Rattle.net_stream_model.specs.declared.config.Config.{Config}
 use Rattle.net_stream_model.specs.LinkState.{LinkState, times, round, StopsRound}
 use Rattle.net_stream_model.specs.CopyState as status
 use Rattle.net_stream_model.specs.CopyState.{Setup, CopyState, Status, Running, Done, concat, begin, after, outcome}
@@ -135,3 +137,9 @@ gave_up WriteFailed = false
 -- a stream that begins at f, of which so many bytes were read, didn't use up all positions
 abbrev pub HasPositions : ℕ → ℕ → Type 0
 HasPositions f bytes_read = f + bytes_read < 2 ^ 64 - 1
+
+-- if a copy gave up, it counted a frame or an acknowledgement that failed for each of its last rounds
+abbrev pub CountsFailures : Config → Counts → CopyError → Type 0
+CountsFailures config counts e = gave_up e ≡ true → HasPositions config.first counts.bytes_read → 0 < config.capacity →
+    (config.max_stalled_rounds ≤ counts.frames.lost + counts.frames.delayed)
+    × (config.max_stalled_rounds ≤ counts.frames.lost + 1)

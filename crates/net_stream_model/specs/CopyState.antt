@@ -39,9 +39,9 @@ pub record Setup : Type 0 where
 abbrev pub setup_over : Config → ℕ → ℕ → ℕ → FatesState → FatesState → Setup
 setup_over config to_send to_receive chunk fates ack_fates = record {
   first = config.first;
-  payload = config.payload;
+  payload = config.max_payload;
   max_burst = config.max_burst;
-  rounds = config.rounds;
+  rounds = config.max_stalled_rounds;
   outgoing = to_send;
   incoming = to_receive;
   chunk = chunk;

@@ -15,6 +15,10 @@ pub mod Round
 pub mod Stuck
 pub mod CopyState
 pub mod CopyResult
+pub mod Facts
 pub mod Streams
 pub mod Promises
+pub mod GivingUp
+pub mod InShort
 pub mod WorkedCopy
+pub mod Values

@@ -15,7 +15,8 @@ use Rattle.net_stream_model.specs.PathState.{PathState, ack_of}
 use Rattle.net_stream_model.specs.Transmission.{SendsRound}
 use Rattle.net_stream_model.specs.SenderState.{at_least_one}
 use Rattle.net_stream_model.specs.Frames.{frames_from}
-use Rattle.net_stream_model.specs.Reach.{after_ack_frames, limit_of}
+use Rattle.net_receiver.specs.ReceiverState.{limit_of}
+use Rattle.net_stream_model.specs.Reach.{after_ack_frames}
 use Rattle.net_stream_model.specs.Arrivals.{coming_of, receiver_after_all, acks_of, path_after}
 use Rattle.net_stream_model.specs.LinkState.{LinkState, next_burst, round}
 use Rattle.net_stream_model.specs.LinkInvariant.{LinkInvariant}

@@ -1,41 +1,14 @@
 -- Laws of the stream on a link, over the functions only.
---     Known      facts about frames, held runs and receivers, from other laws
 --     LinkInvariantFits f w l      the invariant of a link, whose positions fit 64 bits
 --     RoundKeepsInvariant, StopKeepsInvariant      laws: a round keeps it, and so does one that lacks memory
 --     Writes f g c      of the bytes g that were read, those that the receiver gave out are written
 --     ReadWrites, PassWrites, AllWritten      laws: so it stays over a read and over a round, and where
 --         all is written, that is all that was read
 use Rattle.std.specs.Prelude.{◌≡◌, ℕ, ◌<◌, ◌^◌, true, List, take}
-use Rattle.net_assembler.specs.AssemblerLaws.{MembersOfList, MaximalRunsOfEverySet}
-use Rattle.net_receiver.specs.OneStream.{MatchesWhatIsThere, MatchesLonger, FreshReceivesFrom}
-use Rattle.net_receiver.specs.OneStream.{ReceivesFromLonger, SegmentReceives, HeldIsOfStream}
-use Rattle.net_receiver.specs.OneStream.{QueueIsOfStream, NextGrows, SegmentReadsNothing}
-use Rattle.net_receiver.specs.ReadLaws.{ReadReceives, ReadLeavesNext, ReadLeavesBytes}
-use Rattle.net_receiver.specs.Retransmission.{HasByteStays}
 use Rattle.net_stream_model.specs.SenderState.{end_of}
-use Rattle.net_stream_model.specs.Frames.{FramesDecode}
 use Rattle.net_stream_model.specs.LinkInvariant.{LinkInvariant}
 use Rattle.net_stream_model.specs.LinkState.{LinkState, round, StopsRound}
 use Rattle.net_stream_model.specs.CopyState.{CopyState, room_for, with_read, pass, is_written}
-
--- facts about frames, held runs and receivers, from other laws
-pub record Known : Type 0 where
-  pub decode : FramesDecode
-  pub members : MembersOfList
-  pub maximal : MaximalRunsOfEverySet
-  pub says : MatchesWhatIsThere
-  pub says_longer : MatchesLonger
-  pub fresh : FreshReceivesFrom
-  pub longer : ReceivesFromLonger
-  pub segment : SegmentReceives
-  pub held : HeldIsOfStream
-  pub queue : QueueIsOfStream
-  pub next : NextGrows
-  pub reads_nothing : SegmentReadsNothing
-  pub has : HasByteStays
-  pub read_receives : ReadReceives
-  pub read_next : ReadLeavesNext
-  pub read_has : ReadLeavesBytes
 
 -- ---- a round
 pub record LinkInvariantFits (f : ℕ) (w : List ℕ) (l : LinkState) : Type 0 where

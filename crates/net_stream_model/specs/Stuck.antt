@@ -3,11 +3,10 @@
 --                                         their round, and how many were lost
 --     RoundLeaves old new      what a round leaves as it was, or lets grow
 --     HasFailed follow fate, FatesFail follow frames acks v v'      which frames fail in a stuck round
---     IsDue link      what is delayed makes for progress in the next round
+--     IsDue link      a delayed frame or acknowledgement will make progress in the next round
 --     IsStuck frames acks old new      a round in which a frame or an acknowledgement failed that had
 --                                      to arrive
 --     ProgressesOrIsStuck frames acks old new      a round that makes no progress was stuck
---     KnownOfRounds      facts about frames and receivers, from other laws
 use Rattle.std.specs.Prelude.{◌≡◌, ◌⊎◌, ℕ, zero, suc, ◌+◌, ◌-◌, ◌<◌, ◌≤◌, ◌^◌, min}
 use Rattle.std.specs.Prelude.{false, List, [], ◌∷◌, length, Some}
 use Rattle.net_receiver.specs.ReceiverState.{next_position}
@@ -17,12 +16,8 @@ use Rattle.net_stream_model.specs.declared.fate.Fate.{Fate}
 use Rattle.net_stream_model.specs.SenderState.{end_of}
 use Rattle.net_stream_model.specs.Frames.{segment_of}
 use Rattle.net_stream_model.specs.Fates.{FatesState, next_fate, after_fate, fates_after, comes, comes_delayed}
-use Rattle.net_stream_model.specs.Reach.{limit_of}
-use Rattle.net_receiver.specs.OneStream.{FirstStays, CapacityStays}
-use Rattle.net_receiver.specs.Retransmission.{InOrderReaches}
-use Rattle.net_receiver.specs.Soundness.{FreshIsSound, SoundStays}
+use Rattle.net_receiver.specs.ReceiverState.{limit_of}
 use Rattle.net_stream_model.specs.LinkInvariant.{LinkInvariant}
-use Rattle.net_stream_model.specs.Streams.{Known}
 
 -- how many frames and acknowledgements didn't arrive in their round, as far as 64 bits go
 abbrev pub failures : FrameCounts → ℕ
@@ -65,7 +60,7 @@ abbrev pub FirstMatches : List (List ℕ) → (ℕ → ℕ → Type 0) → Type 
 FirstMatches frames P = (frame : List ℕ) × (rest : List (List ℕ)) × (pos : ℕ) × (xs : List ℕ)
     × (frames ≡ frame ∷ rest) × (segment_of frame ≡ Some (pos, xs)) × P pos (pos + length xs)
 
--- a delayed frame or acknowledgement makes progress in the next round: the first delayed frame has the
+-- a delayed frame or acknowledgement will make progress in the next round: the first delayed frame has the
 -- receiver's first missing byte, or the first delayed acknowledgement is beyond the sender's first
 -- unacknowledged position
 abbrev pub IsDue : LinkState → Type 0
@@ -94,12 +89,3 @@ ProgressesOrIsStuck frames acks old new = (f : ℕ) (w : List ℕ) → LinkInvar
     → next_position old.receiver < limit_of old.receiver
     → next_position new.receiver ≡ next_position old.receiver → new.sender.first_unacknowledged ≡ old.sender.first_unacknowledged
     → IsStuck frames acks old new
-
--- facts about frames and receivers, from other laws
-pub record KnownOfRounds : Type 0 where
-  pub known : Known
-  pub first : FirstStays
-  pub capacity : CapacityStays
-  pub order : InOrderReaches
-  pub fresh : FreshIsSound
-  pub sound : SoundStays

@@ -12,7 +12,7 @@ listed fates = record { listed = fates; state = 0; rates = record { lost = 0; du
 
 -- frames of one byte, the first of which is lost
 abbrev pub worked_setup : Setup
-worked_setup = setup_of (record { first = 0; capacity = 4; payload = 1; max_burst = 8; rounds = 3 })
+worked_setup = setup_of (record { first = 0; capacity = 4; max_payload = 1; max_burst = 8; max_stalled_rounds = 3 })
     (listed (Lost ∷ Delivered ∷ Delivered ∷ [])) (listed (Delivered ∷ Delivered ∷ Delivered ∷ Delivered ∷ []))
 
 -- of `ab` the frame of `a` is lost; in the second round `a` is sent again, and `b`, which is in a SACK

@@ -9,12 +9,12 @@ pub struct Config {
     /// gives up.
     pub capacity: usize,
     /// The most bytes of a frame's payload; 0 counts as 1.
-    pub payload: u32,
+    pub max_payload: u32,
     /// The most frames that a round sends, new or again; 0 counts as 1. A copy takes memory for at
     /// most so many frames in flight and as many delayed ones, and for at most twice as many
     /// acknowledgements and one more, in flight and delayed each.
     pub max_burst: u32,
     /// After how many rounds in a row in which no byte was written and none acknowledged a copy
-    /// gives up; with 0 it does so before the first round. (`Counts::rounds` counts all rounds.)
-    pub rounds: u64,
+    /// gives up; with 0 it does so before the first round.
+    pub max_stalled_rounds: u64,
 }

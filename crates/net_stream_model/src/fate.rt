@@ -30,7 +30,7 @@ pub struct Rates {
 impl Fate {
     /// Returns the fate that a random word represents: its last two decimal digits are compared to
     /// `lost`, the two before them to `duplicated`, and the two before those to `delayed`.
-    pub fn of_word(word: u32, rates: Rates) -> Fate
+    pub fn from_word(word: u32, rates: Rates) -> Fate
         ensures { result ≡ fate_of rates word }
     {
         if word % 100 < rates.lost {

@@ -3,15 +3,17 @@ ghost use Rattle.net_stream_model.specs.Promises.{GivesUpAfter, NeverLater, NoMo
 ghost use Rattle.net_stream_model.specs.Promises.{NeverByDelays, EndsIfAllCome, DoneIfAllCome, FewRounds};
 ghost use Rattle.net_stream_model.specs.Promises.{CountsRounds, CountsEachFate, GivesUpCounted, EnoughFailed};
 ghost use Rattle.net_stream_model.specs.Promises.{Unfinished, EnoughRounds, RoundsAtOnce, ExactRounds};
-ghost use Rattle.net_stream_model.specs.Round.{RoundDelivers};
-ghost use Rattle.net_stream_model.specs.Stuck.{KnownOfRounds};
+ghost use Rattle.net_stream_model.specs.GivingUp.{GaveUpByFailing, ResultsByFailing};
+ghost use Rattle.net_stream_model.specs.Fates.{EachNextComes};
+ghost use Rattle.net_stream_model.specs.Round.{RoundPasses, RoundDelivers};
+ghost use Rattle.net_stream_model.specs.Facts.{RoundFacts};
 
 use super::streams;
 use net_receiver::laws;
 
 /// States the facts from which the laws of rounds follow.
 fn known_of_rounds()
-    ensures { KnownOfRounds }
+    ensures { RoundFacts }
 {
     streams::known();
     laws::numbers();
@@ -32,6 +34,17 @@ pub fn gives_up()
 #[tactic(auto, using(crate::proofs::StuckRounds::gives_up_if_failed))]
 pub fn gives_up_if_failed()
     ensures { GivesUpIfFailed }
+{
+    known_of_rounds();
+}
+
+/// States, of a copy whose contract says `Copied` or `HasCopied`, that if it gave up, each of its last `rounds`
+/// rounds failed: in each the first frame or all acknowledgements failed to arrive, in each but the last by
+/// loss. As many rounds were made as counts were told.
+#[tactic(auto, using(crate::proofs::GivingUp::rounds_fail, crate::proofs::GivingUp::results_fail))]
+pub fn last_rounds<T>()
+    ensures copied { GaveUpByFailing }
+    ensures result { ResultsByFailing T }
 {
     known_of_rounds();
 }
@@ -98,12 +111,15 @@ pub fn enough_rounds()
     known_of_rounds();
 }
 
-/// States what a round delivers if all its frames and acknowledgements arrive, and the receiver's free window
-/// has room for everything that the sender has queued: the receiver has all that was sent, and the sender's
-/// queue is the rest.
-#[tactic(auto, using(crate::proofs::Exact::round_delivers))]
+/// States that a round passes frames and acknowledgements as their fates say, and what it delivers if all of
+/// them arrive and the receiver's free window has room for everything that the sender has queued: the receiver
+/// has all that was sent, and the sender's queue is the rest. They all arrive over a link that loses and
+/// delays nothing (`fates`).
+#[tactic(auto, using(crate::proofs::Passed::round_passes, crate::proofs::Steps::next_come))]
 pub fn round_delivers()
-    ensures { RoundDelivers }
+    ensures passes { RoundPasses }
+    ensures delivers { RoundDelivers }
+    ensures fates { EachNextComes }
 {
     known_of_rounds();
 }

@@ -1,8 +1,10 @@
 //! Laws of the stream on a link, and of what a copy writes.
 ghost use Rattle.net_stream_model.specs.Promises.{WritesPrefix, WritesAll};
 ghost use Rattle.net_stream_model.specs.Promises.{SameBytes, AllAtOnce};
-ghost use Rattle.net_stream_model.specs.Streams.{Known, RoundKeepsInvariant, StopKeepsInvariant};
+ghost use Rattle.net_stream_model.specs.Streams.{RoundKeepsInvariant, StopKeepsInvariant};
 ghost use Rattle.net_stream_model.specs.Streams.{ReadWrites, PassWrites, AllWritten};
+ghost use Rattle.net_stream_model.specs.Facts.{StreamFacts};
+ghost use Rattle.net_stream_model.specs.InShort.{ResultsInShort};
 ghost use Rattle.net_stream_model.specs.WorkedCopy.{WorkedCopy};
 
 use super::frames::frames_decode;
@@ -10,15 +12,14 @@ use net_assembler::assembler;
 use net_receiver::laws;
 
 /// States the facts from which the laws of streams follow.
-pub fn known()
-    ensures { Known }
+pub(super) fn known()
+    ensures { StreamFacts }
 {
     frames_decode();
     assembler::laws::members();
     assembler::laws::maximal_runs();
     laws::matches_stream();
     laws::receives();
-    laws::truthful();
     laws::numbers();
     laws::completion();
     laws::reads();
@@ -55,6 +56,14 @@ pub fn prefix()
 #[tactic(auto, using(crate::proofs::Prefix::writes_all))]
 pub fn all()
     ensures { WritesAll }
+{
+    known();
+}
+
+/// States, of a copy whose contract says `HasCopied`, what clause `copied` of `copy` says: it appended to its
+/// writer a prefix of the bytes that its reader gave, on `Ok` all of them, and counted both.
+pub fn in_short<T>()
+    ensures { ResultsInShort T }
 {
     known();
 }

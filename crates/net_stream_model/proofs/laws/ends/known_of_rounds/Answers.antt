@@ -2,7 +2,7 @@ use Rattle.net_stream_model.proofs.laws.ends.known_of_rounds.Goals as goal
 
 pub returns : goal.returns
 returns c = record {
-  known = c.known.ensures;
+  stream = c.known.ensures;
   first = c.numbers.ensures.first;
   capacity = c.numbers.ensures.capacity;
   order = c.completion.ensures.in_order;
