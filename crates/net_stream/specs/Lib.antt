@@ -17,7 +17,11 @@ pub use Rattle.net_stream_model.specs.CopyState
 pub use Rattle.net_stream_model.specs.CopyResult
 pub use Rattle.net_stream_model.specs.Streams
 pub use Rattle.net_stream_model.specs.Promises
+pub use Rattle.net_stream_model.specs.GivingUp
+pub use Rattle.net_stream_model.specs.InShort
 pub use Rattle.net_stream_model.specs.WorkedCopy
+pub use Rattle.net_stream_model.specs.Values
+pub mod Copying
 pub mod Each
 pub mod SenderHeads
 pub mod Turns

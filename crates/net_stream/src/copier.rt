@@ -19,6 +19,7 @@ use crate::reading::Reading;
 use crate::watch::Watch;
 use net_base::time::Duration;
 use net_io::write_text;
+use net_receiver::laws::numbers;
 use net_ring::ManagedSlice;
 use net_stream_model::{Config, CopyError, Counts, laws};
 use std::alloc::Allocator;
@@ -43,7 +44,7 @@ pub(crate) struct Copier<'a, 'f, A: Allocator + Copy> {
     pub wait: Duration,
 }
 
-/// Returns how many rounds in a row made no progress, after one more.
+/// Counts one more round without progress, or resets the count.
 fn stalled_after(stalled: u64, progress: bool) -> u64
     requires { stalled < 2 ^ 64 - 1 }
     ensures { result ≡ (if progress then 0 else stalled + 1) }
@@ -65,14 +66,14 @@ impl<'a, 'f, A: Allocator + Copy> Copier<'a, 'f, A> {
     ) -> Self
         ensures begins { (chunk : ℕ) → let s = setup_over config (length (elements to_send.entry))
             (length (elements to_receive.entry)) chunk fates.entry.frames fates.entry.acks in
-            Begins s config.rounds chunk result }
+            Begins s config.max_stalled_rounds chunk result }
         ensures fresh { IsFresh result }
     {
         Copier {
             link: StreamLink::new(
                 alloc,
                 config.first,
-                config.payload,
+                config.max_payload,
                 config.max_burst,
                 to_send,
                 to_receive,
@@ -114,14 +115,14 @@ impl<'a, 'f, A: Allocator + Copy> Copier<'a, 'f, A> {
         self.first_unacknowledged() != before || count > 0
     }
 
-    /// Returns whether it is time for a read into so much room: once all that was read is written.
+    /// Returns whether to read now, into so much room.
     fn may_read(&self, room: usize) -> bool
         ensures { result ≡ (self.now.more && nat_lt 0 room && is_written self.now.link) }
     {
-        self.more && room > 0 && self.link.is_written()
+        self.more && room > 0 && self.link.is_drained()
     }
 
-    /// Reads once, if it is time for that: no more than the sender has room for.
+    /// Reads once, if everything read so far is written: no more than the sender has room for.
     fn feed<R, M: Reading<R>>(&mut self, chunk: &mut [u8], reader: &mut R) -> Result<(), CopyError>
         ensures ok { OnOk result ((reads : List (List ℕ)) × Each M.gives reader.old reads reader.new
             × Feeds (length chunk.old) self.old self.new reads
@@ -186,7 +187,7 @@ impl<'a, 'f, A: Allocator + Copy> Copier<'a, 'f, A> {
         ensures fits { (end_of self.now.link.sender < 2 ^ 64)
             × (next_position self.now.link.receiver < 2 ^ 64) }
     {
-        let written = self.link.is_written();
+        let written = self.link.is_drained();
         !self.more && written
     }
 
@@ -206,7 +207,7 @@ impl<'a, 'f, A: Allocator + Copy> Copier<'a, 'f, A> {
             × HasCopied s result reads told (M.remaining reader.old) (M.remaining reader.new)
             (W.contents writer.old) (W.contents writer.new) (counts_of self.new) }
     {
-        laws::known();
+        numbers();
         laws::ended();
         'turns: loop {
             self.feed::<R, M>(chunk, reader)?;

@@ -51,7 +51,7 @@ impl<'f> Fates<'f> {
         ensures state { self.new ≡ after_fate self.old }
     {
         let Some((first, rest)) = self.listed.split_first() else {
-            return Fate::of_word(self.rand.rand_u32(), self.rates);
+            return Fate::from_word(self.rand.rand_u32(), self.rates);
         };
         self.listed = rest;
         *first

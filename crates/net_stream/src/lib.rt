@@ -25,5 +25,5 @@ pub use net_stream_model::{Config, CopyError, Counts, Fate, FrameCounts, Rates, 
 pub use path::FaultyPath;
 pub use reading::StatedRead;
 pub use sack_blocks::SackBlocks;
-pub use sender::{Sender, SenderHead};
+pub use sender::{Sender, SenderHead, SenderOver};
 pub use watch::Watch;

@@ -114,7 +114,7 @@ impl<'a, 'f, A: Allocator + Copy> StreamLink<'a, 'f, A> {
     }
 
     /// Returns whether all bytes that were written to the sender were read from the receiver.
-    pub(crate) fn is_written(&self) -> bool
+    pub(crate) fn is_drained(&self) -> bool
         ensures value { result ≡ is_written self.now }
         ensures fits { (end_of self.now.sender < 2 ^ 64)
             × (next_position self.now.receiver < 2 ^ 64) }

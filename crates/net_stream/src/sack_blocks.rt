@@ -51,7 +51,7 @@ impl SackBlocks {
 
     /// Returns the first 32 of the blocks that bytes list: each start and each end in 8 bytes, the
     /// most significant first. Fewer than 16 bytes list no block.
-    pub fn of_bytes(bytes: &[u8]) -> SackBlocks
+    pub fn from_bytes(bytes: &[u8]) -> SackBlocks
         ensures { result ≡ blocks_of most_sack_blocks bytes.now }
     {
         let mut sack_blocks = SackBlocks::new();
@@ -153,9 +153,12 @@ fn write_number(buffer: &mut [u8], at: usize, number: u64)
     buffer[at..at + 8].copy_from_slice(&number.to_be_bytes());
 }
 
-/// Lists the first 32 of a receiver's held runs in a buffer of 512 bytes. Returns how many bytes
+/// Encodes up to 32 held runs, the first ones, into a buffer of 512 bytes. Returns how many bytes
 /// they take.
-pub(crate) fn list_held<const N: usize>(receiver: &Receiver<'_, N>, buffer: &mut [u8]) -> usize
+pub(crate) fn encode_sack_blocks<const N: usize>(
+    receiver: &Receiver<'_, N>,
+    buffer: &mut [u8],
+) -> usize
     requires { length buffer.old ≡ 512 }
     ensures len { length buffer.new ≡ 512 }
     ensures bound { result ≤ 512 }

@@ -1,7 +1,6 @@
 //! The sender of a stream.
 ghost use Rattle.std.specs.Prelude.{◌≡◌, ◌+◌, ◌-◌, ◌<◌, ◌≤◌, ◌==◌, ◌^◌, ◌++◌, ℕ, List, []};
 ghost use Rattle.std.specs.Prelude.{length, take, drop, min, slice_index_or};
-ghost use Rattle.net_ring.specs.Managed.{elements};
 ghost use Rattle.net_receiver.specs.OneStream.{MatchesStream};
 ghost use Rattle.net_stream_model.specs.SenderState.{sender_state, end_of, room_of, contiguous_end, with_written};
 ghost use Rattle.net_stream_model.specs.SenderState.{after_ack, spared_from, next_block, stop_of, Sends};
@@ -11,9 +10,8 @@ mod head;
 
 use crate::sack_blocks::SackBlocks;
 pub use head::SenderHead;
-use head::{end_after, is_acknowledgeable, room_after};
 use net_receiver::laws;
-use net_ring::{ManagedSlice, RingBuffer};
+use net_ring::{ManagedSlice, Storage};
 use std::marker::Model;
 
 /// The sender of a stream: its queue has the bytes that were written and not yet acknowledged. It
@@ -25,30 +23,44 @@ use std::marker::Model;
 /// `Sends f w` says of a sender that all bytes that were ever written to it are `w`, the first at
 /// position `f`. No call takes memory. smoltcp's TCP socket has its transmit buffer inside, and
 /// ignores SACK blocks.
-#[derive(Drop)]
-pub struct Sender<'a> {
-    ring: RingBuffer<'a, u8>,
-    first_unacknowledged: u64,
+pub struct SenderOver<S: Storage<u8>> {
+    head: SenderHead,
+    storage: S,
     sack_blocks: SackBlocks,
 }
 
-impl<'a> Model for Sender<'a> {
-    ghost use Rattle.std.specs.Prelude.{◌+◌, ◌-◌, ◌<◌, ◌^◌, length};
-    ghost use Rattle.net_ring.specs.Ring.{queue, capacity};
-    ghost use Rattle.net_stream_model.specs.SenderState.{SenderState, sender_state};
+/// A sender over storage that is lent or owned.
+pub type Sender<'a> = SenderOver<ManagedSlice<'a, u8>>;
+
+impl<S: Storage<u8>> Model for SenderOver<S> {
+    ghost use Rattle.std.specs.Prelude.{length};
+    ghost use Rattle.net_stream_model.specs.SenderState.{SenderState};
+    ghost use Rattle.net_stream.specs.SenderHeads.{sender_of, IsSoundHead};
 
     ghost Value = { SenderState };
 
-    ghost view = { λ s. sender_state (capacity s.ring) s.first_unacknowledged (queue s.ring) s.sack_blocks
-        (s.first_unacknowledged + (capacity s.ring - s.ring.read_at)) };
+    ghost view = { λ s. sender_of s.head (S.elements s.storage) s.sack_blocks };
 
-    ghost invariant = { λ s. s.first_unacknowledged + length (queue s.ring) < 2 ^ 64 };
+    ghost invariant = { λ s. IsSoundHead (length (S.elements s.storage)) s.head };
 }
 
-impl<'a> Sender<'a> {
+/// Written by hand, so that storage that isn't `Drop` can be used too.
+impl<S: Storage<u8> + Drop> Drop for SenderOver<S> {
+    fn drop(self) {
+        let SenderOver {
+            head: _,
+            storage,
+            sack_blocks,
+        } = self;
+        drop(sack_blocks);
+        drop(storage);
+    }
+}
+
+impl<S: Storage<u8>> SenderOver<S> {
     /// Returns a sender of a stream that begins at position 0: `new_at` with 0.
-    pub fn new(storage: ManagedSlice<'a, u8>) -> Self
-        ensures state { let n = length (elements storage.entry) in result ≡ sender_state n 0 [] [] n }
+    pub fn new(storage: S) -> Self
+        ensures state { let n = length (S.elements storage) in result ≡ sender_state n 0 [] [] n }
         ensures sends { Sends 0 [] result }
     {
         Self::new_at(storage, 0)
@@ -57,14 +69,14 @@ impl<'a> Sender<'a> {
     /// Returns a sender of a stream that begins at position `first`, to which nothing was written.
     ///
     /// Its capacity is the length of `storage` in bytes, of which 0 is allowed.
-    pub fn new_at(storage: ManagedSlice<'a, u8>, first: u64) -> Self
-        ensures state { let n = length (elements storage.entry) in
+    pub fn new_at(storage: S, first: u64) -> Self
+        ensures state { let n = length (S.elements storage) in
             result ≡ sender_state n first [] [] (first + n) }
         ensures sends { Sends first [] result }
     {
-        Sender {
-            ring: RingBuffer::new(storage),
-            first_unacknowledged: first,
+        SenderOver {
+            head: SenderHead::new(first),
+            storage,
             sack_blocks: SackBlocks::new(),
         }
     }
@@ -74,7 +86,7 @@ impl<'a> Sender<'a> {
         ensures value { result ≡ self.now.first_unacknowledged }
         ensures fits { end_of self.now < 2 ^ 64 }
     {
-        self.first_unacknowledged
+        self.head.first_unacknowledged
     }
 
     /// Returns the position after the last byte that was written.
@@ -83,14 +95,14 @@ impl<'a> Sender<'a> {
         ensures fits { end_of self.now < 2 ^ 64 }
         ensures room { length self.now.queue ≤ self.now.capacity }
     {
-        end_after(self.first_unacknowledged, self.ring.len())
+        self.head.end()
     }
 
     /// Returns how many bytes are queued.
     pub fn len(&self) -> usize
         ensures { result ≡ length self.now.queue }
     {
-        self.ring.len()
+        self.head.place.length
     }
 
     /// Returns whether all bytes that were written are acknowledged.
@@ -105,7 +117,7 @@ impl<'a> Sender<'a> {
     pub fn room(&self) -> usize
         ensures { result ≡ room_of self.now }
     {
-        room_after(self.end(), self.ring.window())
+        self.head.room(self.storage.count())
     }
 
     /// Enqueues the first of these bytes, as many as `room` says, and returns how many.
@@ -115,8 +127,8 @@ impl<'a> Sender<'a> {
         ensures sends { (f : ℕ) (w : List ℕ) → Sends f w self.old
             → Sends f (w ++ take result bytes.now) self.new }
     {
-        let count = bytes.len().min(self.room());
-        self.ring.enqueue_slice(&bytes[..count])
+        let capacity = self.storage.count();
+        self.head.write(self.storage.part_mut(0, capacity), bytes)
     }
 
     /// Lends the queued bytes from the one at `pos` on, at most `max`, without a copy: as many as are
@@ -139,11 +151,8 @@ impl<'a> Sender<'a> {
         ensures fits { end_of self.now < 2 ^ 64 }
     {
         laws::matches_stream();
-        if pos < self.first_unacknowledged || pos >= self.end() {
-            return &[];
-        }
-        self.ring
-            .get_allocated((pos - self.first_unacknowledged) as usize, max)
+        let span = self.head.peek_at(self.storage.count(), pos, max);
+        self.storage.part(span.from, span.from + span.contiguous)
     }
 
     /// Returns how many of the queued bytes, from the one at `pos` on, are in the first SACK block
@@ -176,13 +185,13 @@ impl<'a> Sender<'a> {
 
     /// Returns the position at and above which no frame begins: the end, or, if there are as many
     /// SACK blocks as there can be, the one after the end of the last.
-    pub(crate) fn stop(&self) -> u64
+    pub(crate) fn send_limit(&self) -> u64
         ensures { result ≡ stop_of self.now }
     {
         if !self.are_sack_blocks_full() {
             return self.end();
         }
-        let last = self.sack_blocks.greatest_end(self.first_unacknowledged);
+        let last = self.sack_blocks.greatest_end(self.first_unacknowledged());
         last.saturating_add(1).min(self.end())
     }
 
@@ -193,12 +202,8 @@ impl<'a> Sender<'a> {
         ensures state { self.new ≡ after_ack self.old next sack_blocks }
         ensures sends { (f : ℕ) (w : List ℕ) → Sends f w self.old → Sends f w self.new }
     {
-        if !is_acknowledgeable(self.first_unacknowledged, self.end(), next) {
-            return;
+        if self.head.acknowledge(self.storage.count(), next) {
+            self.sack_blocks = sack_blocks;
         }
-        self.ring
-            .dequeue_allocated((next - self.first_unacknowledged) as usize);
-        self.first_unacknowledged = next;
-        self.sack_blocks = sack_blocks;
     }
 }

@@ -17,8 +17,8 @@ pub trait Watch {
 
 /// A watch that does nothing.
 #[derive(Drop)]
-pub(crate) struct Nobody;
+pub(crate) struct NoWatch;
 
-impl Watch for Nobody {
+impl Watch for NoWatch {
     fn round(&mut self, _counts: &Counts) {}
 }

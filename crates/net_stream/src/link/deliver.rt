@@ -7,7 +7,7 @@ ghost use Rattle.net_stream_model.specs.Fates.{comes, comes_delayed};
 
 use super::StreamLink;
 use crate::frame::decode_frame;
-use crate::sack_blocks::{MOST_SACK_BLOCKS, SACK_BLOCKS_LEN, list_held};
+use crate::sack_blocks::{MOST_SACK_BLOCKS, SACK_BLOCKS_LEN, encode_sack_blocks};
 use net_base::phy::RxToken;
 use net_receiver::Receiver;
 use net_stream_model::Fate;
@@ -22,12 +22,12 @@ impl<'a, 'f, A: Allocator + Copy> StreamLink<'a, 'f, A> {
     {
         let now = self.now();
         let mut blocks = [0u8; SACK_BLOCKS_LEN];
-        let len = list_held(&self.receiver, &mut blocks);
+        let len = encode_sack_blocks(&self.receiver, &mut blocks);
         self.reverse.send(now, self.receiver.next(), &blocks[..len])
     }
 
-    /// Hands a frame to the receiver, which acknowledges what it then has. A frame that is too short for a
-    /// position, or whose positions go past 64 bits, changes nothing.
+    /// Delivers a frame, and acknowledges. A frame that is too short for a position, or whose positions
+    /// go past 64 bits, changes nothing.
     fn come(&mut self, frame: &[u8]) -> Result<(), AllocError>
         ensures ok { OnOk result (self.new ≡ come self.old frame.now) }
         ensures err { OnErr result (self.new ≡ take_in self.old frame.now) }
@@ -43,7 +43,7 @@ impl<'a, 'f, A: Allocator + Copy> StreamLink<'a, 'f, A> {
         self.acknowledge_all()
     }
 
-    /// Lets a frame that was taken off its path meet its fate.
+    /// Applies a fate to a frame that was taken off its path.
     fn meet(&mut self, frame: &[u8], fate: Fate) -> Result<(), AllocError>
         ensures ok { OnOk result (self.new ≡ meet fate self.old frame.now) }
         ensures err { OnErr result (((comes fate ≡ true) × (self.new ≡ take_in self.old frame.now))

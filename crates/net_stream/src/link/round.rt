@@ -7,6 +7,7 @@ ghost use Rattle.net_stream_model.specs.LinkInvariant.{LinkInvariant};
 
 use super::StreamLink;
 use crate::sack_blocks::MOST_SACK_BLOCKS;
+use net_receiver::laws::numbers;
 use net_stream_model::laws;
 use std::alloc::{AllocError, Allocator};
 
@@ -42,7 +43,8 @@ impl<'a, 'f, A: Allocator + Copy> StreamLink<'a, 'f, A> {
         ensures carries { (f : ℕ) (w : List ℕ) → LinkInvariant f w self.old → LinkInvariant f w self.new }
         ensures read { self.new.receiver.read ≡ self.old.receiver.read }
     {
-        laws::known();
+        laws::keeps_invariant();
+        numbers();
         self.steps()?;
         self.burst = burst_after(
             self.burst,

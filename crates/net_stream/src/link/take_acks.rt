@@ -21,10 +21,11 @@ impl<'a, 'f, A: Allocator + Copy> StreamLink<'a, 'f, A> {
         let Some((next, blocks)) = decode_frame(frame) else {
             return;
         };
-        self.sender.acknowledge(next, SackBlocks::of_bytes(blocks));
+        self.sender
+            .acknowledge(next, SackBlocks::from_bytes(blocks));
     }
 
-    /// Lets an acknowledgement that was taken off its path meet its fate.
+    /// Applies a fate to an acknowledgement that was taken off its path.
     fn meet_ack(&mut self, frame: &[u8], fate: Fate) -> Result<(), AllocError>
         ensures ok { OnOk result (self.new ≡ meet_ack fate self.old frame.now) }
         ensures err { OnErr result ((comes_delayed fate ≡ true)

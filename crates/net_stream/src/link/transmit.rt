@@ -7,8 +7,8 @@ use super::StreamLink;
 use std::alloc::{AllocError, Allocator};
 
 impl<'a, 'f, A: Allocator + Copy> StreamLink<'a, 'f, A> {
-    /// Spares the byte at `pos` and those after it in its SACK block; if no block has it, sends a frame.
-    /// Returns the position after them, and how many frames are left.
+    /// Skips the SACK block that has `pos`, or sends one frame from `pos`. Returns the position after
+    /// it, and how many frames are left.
     fn transmit_part(&mut self, pos: u64, left: u32) -> Result<(u64, u32), AllocError>
         requires from { self.old.sender.first_unacknowledged ≤ pos }
         requires queued { pos < end_of self.old.sender }
@@ -46,10 +46,10 @@ impl<'a, 'f, A: Allocator + Copy> StreamLink<'a, 'f, A> {
         ensures err { OnErr result ((n : ℕ) × StopsSending (times n part (start self.old)) self.new) }
         ensures fits { end_of self.old.sender < 2 ^ 64 }
     {
-        let stop = self.sender.stop();
+        let limit = self.sender.send_limit();
         let mut left = self.burst.max(1);
         let mut pos = self.sender.first_unacknowledged();
-        'parts: while pos < stop && left > 0 {
+        'parts: while pos < limit && left > 0 {
             (pos, left) = self.transmit_part(pos, left)?;
         }
         Ok(())

@@ -1,10 +1,11 @@
 //! A sender in parts: a head of numbers, and a storage that is kept elsewhere.
 ghost use Rattle.std.specs.Prelude.{◌≡◌, ◌↔◌, ◌+◌, ◌-◌, ◌<◌, ◌≤◌, ◌^◌, ◌&&◌, ℕ, List, [], length};
-ghost use Rattle.std.specs.Prelude.{take, min, nat_le, IsTrue, IsFalse};
-ghost use Rattle.net_ring.specs.Ring.{from_start_if_empty, with_enqueued, write_at};
+ghost use Rattle.std.specs.Prelude.{take, drop, min, nat_le, IsTrue, IsFalse};
+ghost use Rattle.net_ring.specs.Ring.{queue, from_start_if_empty, with_enqueued, write_at};
 ghost use Rattle.net_ring.specs.Ring.{with_elements_wrapping};
 ghost use Rattle.net_ring.specs.Place.{ring_at, queued_index, dequeued_place};
-ghost use Rattle.net_stream_model.specs.SenderState.{sender_state, room_of, with_written};
+ghost use Rattle.net_stream_model.specs.SenderState.{sender_state, room_of, contiguous_end};
+ghost use Rattle.net_stream_model.specs.SenderState.{with_written, sender_from};
 ghost use Rattle.net_stream.specs.SenderHeads.{sender_of, IsSoundHead};
 
 use net_ring::{Place, Span};
@@ -125,6 +126,14 @@ impl SenderHead {
             result.contiguous ≡ min result.count (capacity - result.from) }
         ensures before { pos < self.now.first_unacknowledged →
             (result.from ≡ 0) × (result.count ≡ 0) × (result.contiguous ≡ 0) }
+        ensures within { result.from + result.contiguous ≤ capacity }
+        ensures end { (storage : List ℕ) (blocks : List (ℕ × ℕ)) → length storage ≡ capacity →
+            self.now.first_unacknowledged ≤ pos → result.contiguous
+            ≡ min max (contiguous_end (sender_of self.now storage blocks) pos - pos) }
+        ensures bytes { (storage : List ℕ) → length storage ≡ capacity →
+            take result.contiguous (drop result.from storage)
+            ≡ take result.contiguous (drop (pos - self.now.first_unacknowledged)
+            (queue (ring_at storage self.now.place))) }
     {
         if pos < self.first_unacknowledged {
             return Span {
@@ -152,6 +161,9 @@ impl SenderHead {
         ensures first { IsTrue result → self.new.first_unacknowledged ≡ next }
         ensures place { IsTrue result → self.new.place ≡ dequeued_place capacity
             (next - self.old.first_unacknowledged) self.old.place }
+        ensures state { IsTrue result → (storage : List ℕ) (old new : List (ℕ × ℕ)) →
+            length storage ≡ capacity → sender_of self.new storage new
+            ≡ sender_from (sender_of self.old storage old) next new }
         ensures refused { IsFalse result → self.new ≡ self.old }
     {
         if !is_acknowledgeable(self.first_unacknowledged, self.end(), next) {
@@ -166,7 +178,7 @@ impl SenderHead {
 
 /// Returns the position after `length` bytes, of which the first has the position `first`.
 #[inline]
-pub(super) fn end_after(first: u64, length: usize) -> u64
+fn end_after(first: u64, length: usize) -> u64
     requires { first + length < 2 ^ 64 }
     ensures { result ≡ first + length }
 {
@@ -176,7 +188,7 @@ pub(super) fn end_after(first: u64, length: usize) -> u64
 /// Returns how many bytes can be written from the position `end` on: as many as the window has, and
 /// as there are positions.
 #[inline]
-pub(super) fn room_after(end: u64, window: usize) -> usize
+fn room_after(end: u64, window: usize) -> usize
     ensures { result ≡ min window (2 ^ 64 - 1 - end) }
 {
     (window as u64).min(u64::MAX - end) as usize
@@ -185,7 +197,7 @@ pub(super) fn room_after(end: u64, window: usize) -> usize
 /// Returns whether an acknowledgement of the bytes below `next` is accepted, where those from
 /// `first` up to `end` are queued.
 #[inline]
-pub(super) fn is_acknowledgeable(first: u64, end: u64, next: u64) -> bool
+fn is_acknowledgeable(first: u64, end: u64, next: u64) -> bool
     ensures value { result ≡ (nat_le first next && nat_le next end) }
     ensures within { IsTrue result ↔ ((first ≤ next) × (next ≤ end)) }
 {

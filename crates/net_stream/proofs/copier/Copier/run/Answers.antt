@@ -50,7 +50,7 @@ turns-smaller g c =
     smaller c.args.rounds (far a.link) (far d.link) a.stalled d.stalled (omega arith) (omega (arith, same_far)) few
     (subst (λ n. Moves n (far d.link) a.stalled d.stalled) same_far (subst (λ n. Moves (far b.link) (far d.link) n d.stalled) same
     (subst (λ (s : CopyState). Moves (far b.link) (far s.link) b.stalled s.stalled) (p.step [] [] [])
-    (progresses c.known.ensures.reads_nothing (length c.feed.new.chunk) (copy_state_of b [] [] [] Running)).1)))
+    (progresses c.numbers.ensures.read (length c.feed.new.chunk) (copy_state_of b [] [] [] Running)).1)))
 
 pub returns-then-is_done : goal.returns-then-is_done
 returns-then-is_done g c = λ s begins.

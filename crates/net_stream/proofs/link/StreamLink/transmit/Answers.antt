@@ -13,7 +13,7 @@ parts-preserved g c =
     let same : c.transmit_part.new.self.sender ≡ s = c.transmit_part.ensures.sender in
     let head = ap (λ v. v.first_unacknowledged) same in
     let end = ap end_of same in
-    let stop : c.stop-stop.result ≡ stop_of s = c.stop-stop.ensures ∙ ap (λ (l : LinkState). stop_of l.sender) c.self.view_is ∙ ap stop_of (sym i.sender) in
+    let limit : c.send_limit-limit.result ≡ stop_of s = c.send_limit-limit.ensures ∙ ap (λ (l : LinkState). stop_of l.sender) c.self.view_is ∙ ap stop_of (sym i.sender) in
     let here : Cursor = record { pos = c.parts.pos; left = c.parts.left; link = c.parts.self } in
     record {
       from = omega arith;
@@ -33,6 +33,6 @@ pub returns-after-parts-clause-ok : goal.returns-after-parts-clause-ok
 returns-after-parts-clause-ok g c =
     let i = c.parts.invariant in
     let size = ap (λ v. length v.queue) i.sender in
-    let stop : c.stop-stop.result ≡ stop_of c.parts.self.sender = c.stop-stop.ensures ∙ ap (λ (l : LinkState). stop_of l.sender) c.self.view_is ∙ ap stop_of (sym i.sender) in
+    let limit : c.send_limit-limit.result ≡ stop_of c.parts.self.sender = c.send_limit-limit.ensures ∙ ap (λ (l : LinkState). stop_of l.sender) c.self.view_is ∙ ap stop_of (sym i.sender) in
     let here : Cursor = record { pos = c.parts.pos; left = c.parts.left; link = c.parts.self } in
     all_sent c.args.self.now here i.so_far.0 i.so_far.1 (omega arith) (stops here (inl (omega arith)))

@@ -1,6 +1,6 @@
 use Rattle.std.proofs.Common.{◌≡◌, ◌-◌, ◌++◌, length}
 use Rattle.net_stream_model.specs.SackBlocks.{most_sack_blocks, blocks_of}
-use Rattle.net_stream.proofs.sack_blocks.SackBlocks.of_bytes.Given as goal
+use Rattle.net_stream.proofs.sack_blocks.SackBlocks.from_bytes.Given as goal
 
 -- the ranges so far, and those that the rest lists
 abbrev pub invariant-loop-turn : goal.invariant-loop-turn

@@ -3,15 +3,15 @@ use Rattle.net_stream_model.specs.SenderState.{end_of}
 use Rattle.net_stream_model.specs.SenderState.{next_block}
 use Rattle.net_stream_model.specs.SackBlocks.{next_start}
 use Rattle.net_stream_model.proofs.Sent.{next_above}
-use Rattle.net_stream.proofs.sender.Sender.next_block.Goals as goal
+use Rattle.net_stream.proofs.sender.SenderOver.next_block.Goals as goal
 
 pub returns-clause-value : goal.returns-clause-value
-returns-clause-value c =
+returns-clause-value g c =
     let sack_blocks = ap (λ v. v.sack_blocks) c.self.view_is in
     c.next_start.ensures ∙ (λ i. next_start (sack_blocks i) c.args.pos (c.end.ensures.end i))
 
 pub returns-clause-above : goal.returns-clause-above
-returns-clause-above c = λ below.
-    let is : c.next_start.result ≡ next_block c.args.self.now c.args.pos = returns-clause-value c in
+returns-clause-above g c = λ below.
+    let is : c.next_start.result ≡ next_block c.args.self.now c.args.pos = returns-clause-value g c in
     let more = next_above c.args.self.now.sack_blocks c.args.pos (end_of c.args.self.now) below in
     omega arith

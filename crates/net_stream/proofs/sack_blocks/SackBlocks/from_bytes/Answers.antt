@@ -2,7 +2,7 @@ use Rattle.std.proofs.Common.{◌≡◌, ℕ, List, ◌+◌, ◌-◌, ◌++◌, 
 use Rattle.std.proofs.lemmas.List.{append-nil}
 use Rattle.net_stream_model.specs.SackBlocks.{most_sack_blocks, blocks_of}
 use Rattle.net_stream_model.proofs.Kept.{ranges_stop, ranges_none, ranges_more}
-use Rattle.net_stream.proofs.sack_blocks.SackBlocks.of_bytes.Goals as goal
+use Rattle.net_stream.proofs.sack_blocks.SackBlocks.from_bytes.Goals as goal
 
 pub returns-in_default : goal.returns-in_default
 returns-in_default c =

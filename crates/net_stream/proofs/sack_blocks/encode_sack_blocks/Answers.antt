@@ -5,7 +5,7 @@ use Rattle.net_assembler.specs.Positions.{maximal_runs}
 use Rattle.net_receiver.specs.ReceiverState.{domain}
 use Rattle.net_stream_model.specs.SackBlocks.{most_sack_blocks, block_bytes}
 use Rattle.net_stream_model.proofs.Kept.{IsWords, listed_push, take_same, rest_is, take_next}
-use Rattle.net_stream.proofs.sack_blocks.list_held.Goals as goal
+use Rattle.net_stream.proofs.sack_blocks.encode_sack_blocks.Goals as goal
 
 pub returns-in_default-clause-listed : goal.returns-in_default-clause-listed
 returns-in_default-clause-listed g c =
