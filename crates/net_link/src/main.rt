@@ -2,7 +2,7 @@
 #![tactic(auto)]
 
 use net_io::command_words;
-use net_link_lib::{Messages, Remembering, serve};
+use net_link_lib::{ProgressWriter, Recording, serve};
 use std::process::ExitCode;
 
 fn main(rt: HostRuntime) -> ExitCode {
@@ -10,9 +10,9 @@ fn main(rt: HostRuntime) -> ExitCode {
     let ended = serve(
         rt.alloc(),
         &words,
-        &mut Remembering::new(rt.stdin()),
-        &mut Remembering::new(rt.stdout()),
-        &mut Messages::new(rt.stderr()),
+        &mut Recording::new(rt.stdin()),
+        &mut Recording::new(rt.stdout()),
+        &mut ProgressWriter::new(rt.stderr()),
     );
     ended.exit_code()
 }

@@ -1,17 +1,17 @@
 -- The messages on the program's words.
 --     usage_text      how the program is used
 --     count_lines n      what is wrong with so many numbers, as a line, and how the program is used
---     wrong_lines word text      the same of the text of a word
---     misuse_lines numbers misuse      the same of these numbers
+--     wrong_lines arg text      the same of the text of a word
+--     usage_error_lines numbers error      the same of these numbers
 use Rattle.std.specs.Prelude.{ℕ, ◌&&◌, nat_lt, nat_le, if◌then◌else◌, Bool}
 use Rattle.std.specs.Prelude.{List, [], ◌++◌, length, slice_index_or, codes, decimal}
 use Rattle.std.specs.List.{list_all}
 use Rattle.std.specs.Char.{is_ascii_graphic}
-use Rattle.net_link_lib.specs.Words.{place}
-use Rattle.net_link_lib.specs.declared.words.Word.{Word}
-use Rattle.net_link_lib.specs.declared.words.Word.TheVariants.{Loss, Seed, Duplicated, Delayed, Bytes, Rounds}
-use Rattle.net_link_lib.specs.declared.words.Misuse.{Misuse}
-use Rattle.net_link_lib.specs.declared.words.Misuse.TheVariants.{Count, Wrong}
+use Rattle.net_link_lib.specs.Words.{index}
+use Rattle.net_link_lib.specs.declared.words.Arg.{Arg}
+use Rattle.net_link_lib.specs.declared.words.Arg.TheVariants.{Loss, Seed, Duplicated, Delayed, Bytes, Rounds}
+use Rattle.net_link_lib.specs.declared.words.UsageError.{UsageError}
+use Rattle.net_link_lib.specs.declared.words.UsageError.TheVariants.{Count, Wrong}
 
 -- how the program is used: the words, and for each what it means and its value if it is left out
 abbrev pub usage_text : List ℕ
@@ -29,8 +29,8 @@ usage_text =
     ++ codes "              1 to 18446744073709551615; else 100\n"
     ++ codes "  --progress  shows the counts so far on standard error after each 256 rounds\n"
 
--- which numbers a word may be
-abbrev pub range_text : Word → List ℕ
+-- which numbers an argument may be
+abbrev pub range_text : Arg → List ℕ
 range_text Loss = codes "LOSS is 0 to 99"
 range_text Seed = codes "SEED is 0 to 18446744073709551615"
 range_text Duplicated = codes "DUPLICATED is 0 to 99"
@@ -46,18 +46,18 @@ is_plain text = nat_lt 0 (length text) && nat_le (length text) 40 && list_all is
 abbrev pub shown : List ℕ → List ℕ
 shown text = if is_plain text then text else codes "a word of length " ++ decimal (length text)
 
--- the text at the place of a word
-abbrev pub text_at : List (List ℕ) → Word → List ℕ
-text_at numbers word = slice_index_or numbers (place word) []
+-- the word at an argument's index
+abbrev pub text_at : List (List ℕ) → Arg → List ℕ
+text_at numbers arg = slice_index_or numbers (index arg) []
 
 abbrev pub count_lines : ℕ → List ℕ
 count_lines n = codes "net_link: 2, 4, 5 or 6 numbers, not " ++ decimal n ++ codes "\n" ++ usage_text
 
-abbrev pub wrong_lines : Word → List ℕ → List ℕ
-wrong_lines word text =
-    codes "net_link: " ++ range_text word ++ codes ", not " ++ shown text ++ codes "\n" ++ usage_text
+abbrev pub wrong_lines : Arg → List ℕ → List ℕ
+wrong_lines arg text =
+    codes "net_link: " ++ range_text arg ++ codes ", not " ++ shown text ++ codes "\n" ++ usage_text
 
 -- what is wrong with these numbers, as a line, and how the program is used
-abbrev pub misuse_lines : List (List ℕ) → Misuse → List ℕ
-misuse_lines numbers (Count n) = count_lines n
-misuse_lines numbers (Wrong word) = wrong_lines word (text_at numbers word)
+abbrev pub usage_error_lines : List (List ℕ) → UsageError → List ℕ
+usage_error_lines numbers (Count n) = count_lines n
+usage_error_lines numbers (Wrong arg) = wrong_lines arg (text_at numbers arg)

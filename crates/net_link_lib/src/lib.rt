@@ -9,4 +9,4 @@ mod usage;
 mod words;
 
 pub use serving::serve;
-pub use streams::{Messages, Remembering};
+pub use streams::{ProgressWriter, Recording};

@@ -1,18 +1,17 @@
 //! `serve`: the program, from its words and streams to its exit status.
-ghost use Rattle.std.specs.Prelude.{◌≡◌, ◌↔◌, ℕ, List, IsErr, map, string_bytes, true};
+ghost use Rattle.std.specs.Prelude.{◌≡◌, ◌↔◌, IsErr, map, string_bytes, true};
 ghost use Rattle.std.specs.Io.KnownBytes.{Appends};
-ghost use Rattle.net_stream_model.specs.declared.counts.Counts.{Counts};
-ghost use Rattle.net_stream.specs.CopyResult.{HasCopiedIfBegun};
+ghost use Rattle.net_stream.specs.Copying.{CopiesIfBegun};
 ghost use Rattle.net_io.specs.declared.status.Status.TheVariants.{Misused};
-ghost use Rattle.net_link_lib.specs.Words.{numbers, asked_of};
-ghost use Rattle.net_link_lib.specs.Usage.{misuse_lines};
+ghost use Rattle.net_link_lib.specs.Words.{numbers, parse};
+ghost use Rattle.net_link_lib.specs.Usage.{usage_error_lines};
 ghost use Rattle.net_link_lib.specs.Serving.{config_of, rates_of, setup_for, status_of, progress_of, CopiesOver};
 ghost use Rattle.net_link_lib.specs.Serving.{Helps, FailsToWrite, ComesOf};
 
-use crate::streams::{Messages, Remembering};
+use crate::streams::{ProgressWriter, Recording};
 use crate::summary::{write_summary, write_unwritten};
-use crate::usage::{usage_text, write_misuse};
-use crate::words::{Asked, Misuse, Plan, asked_of, numbers};
+use crate::usage::{usage_text, write_usage_error};
+use crate::words::{Args, Command, UsageError, numbers, parse};
 use net_io::{Ended, Status, flush_after, write_text};
 use net_stream::{Config, CopyError, Counts, Fates, LinkFates, Rates, copy, copy_watched};
 use std::alloc::Allocator;
@@ -26,26 +25,26 @@ const CAPACITY: usize = 262_144;
 const MAX_BURST: u32 = 4_096;
 
 /// Returns the config of a copy.
-fn config(plan: Plan) -> Config
-    ensures { result ≡ config_of plan }
+fn config(args: Args) -> Config
+    ensures { result ≡ config_of args }
 {
     Config {
         first: 0,
         capacity: CAPACITY,
-        payload: plan.payload,
+        max_payload: args.payload,
         max_burst: MAX_BURST,
-        rounds: plan.rounds,
+        max_stalled_rounds: args.rounds,
     }
 }
 
 /// Returns the rates of a copy.
-fn rates(plan: Plan) -> Rates
-    ensures { result ≡ rates_of plan }
+fn rates(args: Args) -> Rates
+    ensures { result ≡ rates_of args }
 {
     Rates {
-        lost: plan.lost,
-        duplicated: plan.duplicated,
-        delayed: plan.delayed,
+        lost: args.lost,
+        duplicated: args.duplicated,
+        delayed: args.delayed,
     }
 }
 
@@ -87,12 +86,12 @@ fn cause_of<A: Allocator + Copy>(alloc: A, error: Option<io::Error>) -> String<A
 }
 
 /// Writes what is wrong with the words, and how the program is used.
-fn refuse<E: Write>(words: &[String], misuse: Misuse, errors: &mut E) -> Ended
+fn refuse<E: Write>(words: &[String], error: UsageError, errors: &mut E) -> Ended
     ensures status { result.status ≡ Misused }
     ensures told { result.is_told ≡ true → Appends (E.contents errors.old) (E.contents errors.new)
-        (misuse_lines (numbers (map string_bytes words.now)) misuse) }
+        (usage_error_lines (numbers (map string_bytes words.now)) error) }
 {
-    let told = write_misuse(errors, numbers(words), misuse);
+    let told = write_usage_error(errors, numbers(words), error);
     Ended {
         status: Status::Misused,
         is_told: told.is_ok(),
@@ -102,7 +101,7 @@ fn refuse<E: Write>(words: &[String], misuse: Misuse, errors: &mut E) -> Ended
 /// Writes how the program is used.
 fn help<A: Allocator + Copy, W: Write, E: Write>(
     alloc: A,
-    writer: &mut Remembering<W>,
+    writer: &mut Recording<W>,
     errors: &mut E,
 ) -> Ended
     ensures { Helps (W.contents writer.old.stream) (W.contents writer.new.stream)
@@ -134,46 +133,43 @@ fn say_unwritten<A: Allocator + Copy, E: Write>(
     }
 }
 
-/// Makes the copy of a plan, and shows its progress if the plan asks for that.
+/// Makes a copy of these arguments, and shows its progress if they ask for that.
 fn carry<A: Allocator + Copy, R: Read, W: Write, E: Write>(
     alloc: A,
-    plan: Plan,
-    reader: &mut Remembering<R>,
-    writer: &mut Remembering<W>,
-    errors: &mut Messages<E>,
-    counts: &mut Counts,
-) -> Result<(), CopyError>
-    ensures { (reads : List (List ℕ)) × (told : List Counts)
-        × HasCopiedIfBegun (setup_for plan) result reads told
+    args: Args,
+    reader: &mut Recording<R>,
+    writer: &mut Recording<W>,
+    errors: &mut ProgressWriter<E>,
+) -> (Result<(), CopyError>, Counts)
+    ensures { CopiesIfBegun (setup_for args)
+        (λ _ told. errors.new.is_told ≡ true → Appends (E.contents errors.old.stream)
+        (E.contents errors.new.stream) (progress_of args told))
         (R.remaining reader.old.stream) (R.remaining reader.new.stream)
-        (W.contents writer.old.stream) (W.contents writer.new.stream) counts.new
-        × (errors.new.is_told ≡ true → Appends (E.contents errors.old.stream)
-        (E.contents errors.new.stream) (progress_of plan told)) }
+        (W.contents writer.old.stream) (W.contents writer.new.stream) result }
 {
     let fates = LinkFates {
-        frames: Fates::new(&[], plan.seed, rates(plan)),
-        acks: Fates::new(&[], !plan.seed, rates(plan)),
+        frames: Fates::new(&[], args.seed, rates(args)),
+        acks: Fates::new(&[], !args.seed, rates(args)),
     };
-    if plan.shows_progress {
-        return copy_watched(alloc, config(plan), fates, errors, reader, writer, counts);
+    if args.shows_progress {
+        return copy_watched(alloc, config(args), fates, errors, reader, writer);
     }
-    copy(alloc, config(plan), fates, reader, writer, counts)
+    copy(alloc, config(args), fates, reader, writer)
 }
 
-/// Makes the copy of a plan, and writes how it ended.
+/// Makes a copy of these arguments, and writes how it ended.
 fn copy_over_link<A: Allocator + Copy, R: Read, W: Write, E: Write>(
     alloc: A,
-    plan: Plan,
-    reader: &mut Remembering<R>,
-    writer: &mut Remembering<W>,
-    errors: &mut Messages<E>,
+    args: Args,
+    reader: &mut Recording<R>,
+    writer: &mut Recording<W>,
+    errors: &mut ProgressWriter<E>,
 ) -> Ended
-    ensures { CopiesOver plan (R.remaining reader.old.stream) (R.remaining reader.new.stream)
+    ensures { CopiesOver args (R.remaining reader.old.stream) (R.remaining reader.new.stream)
         (W.contents writer.old.stream) (W.contents writer.new.stream)
         (E.contents errors.old.stream) (E.contents errors.new.stream) result }
 {
-    let mut counts = Counts::new();
-    let ended = carry(alloc, plan, reader, writer, errors, &mut counts);
+    let (ended, counts) = carry(alloc, args, reader, writer, errors);
     let cause = cause_of(alloc, error_of(&ended, reader.error, writer.error));
     let told = write_summary(&mut errors.stream, &ended, cause.as_str(), &counts);
     Ended {
@@ -194,25 +190,25 @@ fn copy_over_link<A: Allocator + Copy, R: Read, W: Write, E: Write>(
 /// and how the program is used. If `errors` takes no bytes, nothing else changes.
 ///
 /// `is_told` of the result says whether `errors` took all of this: each of these lines, those of
-/// the counts so far too. The cause of a failed read is the first error that the reader remembers,
+/// the counts so far too. The cause of a failed read is the first error that the reader recorded,
 /// and that of a failed write or flush the writer's.
 pub fn serve<A: Allocator + Copy, R: Read, W: Write, E: Write>(
     alloc: A,
     words: &[String],
-    reader: &mut Remembering<R>,
-    writer: &mut Remembering<W>,
-    errors: &mut Messages<E>,
+    reader: &mut Recording<R>,
+    writer: &mut Recording<W>,
+    errors: &mut ProgressWriter<E>,
 ) -> Ended
-    ensures usage { (result.status ≡ Misused) ↔ IsErr (asked_of (map string_bytes words.now)) }
-    ensures comes { ComesOf (map string_bytes words.now) (asked_of (map string_bytes words.now))
+    ensures usage { (result.status ≡ Misused) ↔ IsErr (parse (map string_bytes words.now)) }
+    ensures comes { ComesOf (map string_bytes words.now) (parse (map string_bytes words.now))
         (R.remaining reader.old.stream) (R.remaining reader.new.stream)
         (W.contents writer.old.stream) (W.contents writer.new.stream)
         (E.contents errors.old.stream) (E.contents errors.new.stream) result }
 {
     errors.is_told = true;
-    match asked_of(words) {
-        Ok(Asked::Help) => help(alloc, writer, &mut errors.stream),
-        Ok(Asked::Copy(plan)) => copy_over_link(alloc, plan, reader, writer, errors),
-        Err(misuse) => refuse(words, misuse, &mut errors.stream),
+    match parse(words) {
+        Ok(Command::Help) => help(alloc, writer, &mut errors.stream),
+        Ok(Command::Copy(args)) => copy_over_link(alloc, args, reader, writer, errors),
+        Err(error) => refuse(words, error, &mut errors.stream),
     }
 }

@@ -1,4 +1,4 @@
-//! Streams that remember why they failed, and standard error, to which progress is written.
+//! Streams that record why they failed, and standard error, to which progress is written.
 ghost use Rattle.std.specs.Prelude.{◌≡◌, true};
 ghost use Rattle.std.specs.Io.KnownBytes.{Appends};
 ghost use Rattle.net_link_lib.specs.Summary.{progress_line};
@@ -10,26 +10,26 @@ use std::io::{ErrorKind, Read, Write};
 
 /// A reader or a writer, and the error of its first call that failed. A write that took no byte counts as one.
 #[derive(Drop)]
-pub struct Remembering<S> {
+pub struct Recording<S> {
     /// The reader or the writer.
     pub stream: S,
     /// The error, if a call failed.
     pub error: Option<io::Error>,
 }
 
-impl<S> Remembering<S> {
-    /// Returns a stream of which no call has failed.
-    pub fn new(stream: S) -> Remembering<S>
+impl<S> Recording<S> {
+    /// Wraps a stream; no error yet.
+    pub fn new(stream: S) -> Recording<S>
         ensures { result.stream ≡ stream }
     {
-        Remembering {
+        Recording {
             stream,
             error: None,
         }
     }
 
-    /// Remembers this error, if it is the first.
-    fn remember(&mut self, error: io::Error)
+    /// Records this error, if it is the first.
+    fn record(&mut self, error: io::Error)
         ensures { self.new.stream ≡ self.old.stream }
     {
         if self.error.is_none() {
@@ -38,27 +38,27 @@ impl<S> Remembering<S> {
     }
 }
 
-impl<R: Read> Read for Remembering<R> {
+impl<R: Read> Read for Recording<R> {
     ghost remaining = { λ reader. R.remaining reader.stream };
 
     fn read(&mut self, buf: &mut [u8]) -> io::Result<usize> {
         let result = self.stream.read(buf);
         if let Err(error) = &result {
-            self.remember(*error);
+            self.record(*error);
         }
         result
     }
 }
 
-impl<W: Write> Write for Remembering<W> {
+impl<W: Write> Write for Recording<W> {
     ghost contents = { λ writer. W.contents writer.stream };
 
     fn write(&mut self, buf: &[u8]) -> io::Result<usize> {
         let result = self.stream.write(buf);
         match &result {
-            Ok(0) => self.remember(io::Error::new(ErrorKind::WriteZero, "no byte was taken")),
+            Ok(0) => self.record(io::Error::new(ErrorKind::WriteZero, "no byte was taken")),
             Ok(_) => {}
-            Err(error) => self.remember(*error),
+            Err(error) => self.record(*error),
         }
         result
     }
@@ -66,42 +66,42 @@ impl<W: Write> Write for Remembering<W> {
     fn flush(&mut self) -> io::Result<()> {
         let result = self.stream.flush();
         if let Err(error) = &result {
-            self.remember(*error);
+            self.record(*error);
         }
         result
     }
 }
 
-/// After so many rounds each, the counts so far are written.
-const ROUNDS_EACH: u64 = 256;
+/// Counts are written every 256 rounds.
+const PROGRESS_INTERVAL: u64 = 256;
 
 /// Standard error: it takes the program's messages, and the counts so far of a copy that it watches.
 #[derive(Drop)]
-pub struct Messages<E> {
+pub struct ProgressWriter<E> {
     /// The writer that the messages go to.
     pub stream: E,
     /// Whether it took all lines of counts so far that `serve` had for it.
     pub is_told: bool,
 }
 
-impl<E> Messages<E> {
+impl<E> ProgressWriter<E> {
     /// Returns messages that are written to this stream.
-    pub fn new(stream: E) -> Messages<E>
+    pub fn new(stream: E) -> ProgressWriter<E>
         ensures { result.stream ≡ stream }
     {
-        Messages {
+        ProgressWriter {
             stream,
             is_told: true,
         }
     }
 }
 
-impl<E: Write> Watch for Messages<E> {
+impl<E: Write> Watch for ProgressWriter<E> {
     ghost tells = { λ old counts new. new.is_told ≡ true → (old.is_told ≡ true)
         × Appends (E.contents old.stream) (E.contents new.stream) (progress_line counts) };
 
     fn round(&mut self, counts: &Counts) {
-        if counts.rounds % ROUNDS_EACH == 0 {
+        if counts.rounds % PROGRESS_INTERVAL == 0 {
             let told = write_counts(&mut self.stream, counts);
             self.is_told = self.is_told && told.is_ok();
         }

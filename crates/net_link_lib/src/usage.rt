@@ -3,9 +3,9 @@ ghost use Rattle.std.specs.Prelude.{◌≡◌, OnOk, map, string_bytes};
 ghost use Rattle.std.specs.List.{list_all};
 ghost use Rattle.std.specs.Char.{is_ascii_graphic};
 ghost use Rattle.std.specs.Io.KnownBytes.{Appends};
-ghost use Rattle.net_link_lib.specs.Usage.{usage_text, is_plain, text_at, count_lines, wrong_lines, misuse_lines};
+ghost use Rattle.net_link_lib.specs.Usage.{usage_text, is_plain, text_at, count_lines, wrong_lines, usage_error_lines};
 
-use crate::words::{Misuse, Word};
+use crate::words::{Arg, UsageError};
 use std::io;
 use std::io::Write;
 
@@ -45,17 +45,17 @@ fn is_plain(text: &str) -> bool
     !text.is_empty() && text.len() <= 40 && is_graphic(text.as_bytes())
 }
 
-/// Returns the text at the place of a word.
-fn text_at(numbers: &[String], word: Word) -> &str
-    ensures { result.now ≡ text_at (map string_bytes numbers.now) word }
+/// Returns the word at an argument's index.
+fn text_at(numbers: &[String], arg: Arg) -> &str
+    ensures { result.now ≡ text_at (map string_bytes numbers.now) arg }
 {
-    match numbers.get(word.place()) {
+    match numbers.get(arg.index()) {
         Some(text) => text.as_str(),
         None => "",
     }
 }
 
-/// Writes that so many numbers are not 2, 4, 5 or 6, and how the program is used.
+/// Writes the error for a wrong number of words, then the usage.
 fn write_count<E: Write>(errors: &mut E, count: usize) -> io::Result<()>
     ensures { OnOk result (Appends (E.contents errors.old) (E.contents errors.new)
         (count_lines count)) }
@@ -68,22 +68,26 @@ fn write_count<E: Write>(errors: &mut E, count: usize) -> io::Result<()>
 }
 
 /// Writes what is wrong with these numbers, as a line, and how the program is used.
-pub fn write_misuse<E: Write>(errors: &mut E, numbers: &[String], misuse: Misuse) -> io::Result<()>
+pub fn write_usage_error<E: Write>(
+    errors: &mut E,
+    numbers: &[String],
+    error: UsageError,
+) -> io::Result<()>
     ensures { OnOk result (Appends (E.contents errors.old) (E.contents errors.new)
-        (misuse_lines (map string_bytes numbers.now) misuse)) }
+        (usage_error_lines (map string_bytes numbers.now) error)) }
 {
-    match misuse {
-        Misuse::Count(count) => write_count(errors, count),
-        Misuse::Wrong(word) => write_wrong(errors, word, text_at(numbers, word)),
+    match error {
+        UsageError::Count(count) => write_count(errors, count),
+        UsageError::Wrong(arg) => write_wrong(errors, arg, text_at(numbers, arg)),
     }
 }
 
-/// Writes which numbers a word may be, which text it is, and how the program is used.
-fn write_wrong<E: Write>(errors: &mut E, word: Word, text: &str) -> io::Result<()>
+/// Writes the error for a word out of range, then the usage.
+fn write_wrong<E: Write>(errors: &mut E, arg: Arg, text: &str) -> io::Result<()>
     ensures { OnOk result (Appends (E.contents errors.old) (E.contents errors.new)
-        (wrong_lines word text.now)) }
+        (wrong_lines arg text.now)) }
 {
-    let range = word.range();
+    let range = arg.range();
     let usage = usage_text();
     if is_plain(text) {
         return write!(errors, "net_link: {range}, not {text}\n{usage}");

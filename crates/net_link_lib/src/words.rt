@@ -1,14 +1,14 @@
 //! The words of a command line, and their meaning.
 ghost use Rattle.std.specs.Prelude.{◌≡◌, ◌≤◌, Some, IfOk, map, string_bytes};
-ghost use Rattle.net_link_lib.specs.Words.{least, most, place, number_in, number_at, plan_of};
-ghost use Rattle.net_link_lib.specs.Words.{begins_with, numbers, asked_of};
+ghost use Rattle.net_link_lib.specs.Words.{least, most, index, parse_arg, number_at, args_of};
+ghost use Rattle.net_link_lib.specs.Words.{begins_with, numbers, parse};
 ghost use Rattle.net_link_lib.specs.Usage.{range_text};
 
 use net_io::number;
 
-/// A number that a word of the command line gives.
+/// An argument of the command line, a number.
 #[derive(Clone, Copy, Drop)]
-pub enum Word {
+pub enum Arg {
     /// Of a hundred frames, how many are lost.
     Loss,
     /// The seed that the fates are drawn from.
@@ -23,9 +23,9 @@ pub enum Word {
     Rounds,
 }
 
-/// A copy, as words ask for it.
+/// The arguments of a copy.
 #[derive(Clone, Copy, Drop)]
-pub struct Plan {
+pub struct Args {
     /// Of a hundred frames, how many are lost.
     pub lost: u32,
     /// The seed that the fates are drawn from.
@@ -44,30 +44,30 @@ pub struct Plan {
 
 /// What the words of a command line ask for.
 #[derive(Clone, Copy, Drop)]
-pub enum Asked {
+pub enum Command {
     /// How the program is used.
     Help,
     /// A copy.
-    Copy(Plan),
+    Copy(Args),
 }
 
 /// What is wrong with the words of a command line.
 #[derive(Clone, Copy, Drop)]
-pub enum Misuse {
-    /// There are so many numbers, and not 2, 4, 5 or 6.
+pub enum UsageError {
+    /// The number of words is none of 2, 4, 5, 6.
     Count(usize),
     /// The first word that isn't one of its numbers.
-    Wrong(Word),
+    Wrong(Arg),
 }
 
-impl Word {
+impl Arg {
     /// Returns the least number that it may be.
     fn least(self) -> u64
         ensures { result ≡ least self }
     {
         match self {
-            Word::Bytes | Word::Rounds => 1,
-            Word::Loss | Word::Seed | Word::Duplicated | Word::Delayed => 0,
+            Arg::Bytes | Arg::Rounds => 1,
+            Arg::Loss | Arg::Seed | Arg::Duplicated | Arg::Delayed => 0,
         }
     }
 
@@ -76,9 +76,9 @@ impl Word {
         ensures { result ≡ most self }
     {
         match self {
-            Word::Loss | Word::Duplicated | Word::Delayed => 99,
-            Word::Bytes => 65_536,
-            Word::Seed | Word::Rounds => u64::MAX,
+            Arg::Loss | Arg::Duplicated | Arg::Delayed => 99,
+            Arg::Bytes => 65_536,
+            Arg::Seed | Arg::Rounds => u64::MAX,
         }
     }
 
@@ -87,74 +87,74 @@ impl Word {
         ensures { result.now ≡ range_text self }
     {
         match self {
-            Word::Loss => "LOSS is 0 to 99",
-            Word::Seed => "SEED is 0 to 18446744073709551615",
-            Word::Duplicated => "DUPLICATED is 0 to 99",
-            Word::Delayed => "DELAYED is 0 to 99",
-            Word::Bytes => "BYTES is 1 to 65536",
-            Word::Rounds => "ROUNDS is 1 to 18446744073709551615",
+            Arg::Loss => "LOSS is 0 to 99",
+            Arg::Seed => "SEED is 0 to 18446744073709551615",
+            Arg::Duplicated => "DUPLICATED is 0 to 99",
+            Arg::Delayed => "DELAYED is 0 to 99",
+            Arg::Bytes => "BYTES is 1 to 65536",
+            Arg::Rounds => "ROUNDS is 1 to 18446744073709551615",
         }
     }
 
-    /// Returns how many numbers come before it.
-    pub fn place(self) -> usize
-        ensures { result ≡ place self }
+    /// Returns its index among the words.
+    pub fn index(self) -> usize
+        ensures { result ≡ index self }
     {
         match self {
-            Word::Loss => 0,
-            Word::Seed => 1,
-            Word::Duplicated => 2,
-            Word::Delayed => 3,
-            Word::Bytes => 4,
-            Word::Rounds => 5,
+            Arg::Loss => 0,
+            Arg::Seed => 1,
+            Arg::Duplicated => 2,
+            Arg::Delayed => 3,
+            Arg::Bytes => 4,
+            Arg::Rounds => 5,
         }
     }
 
-    /// Returns the number that a text writes, if it is one that this word may be.
-    fn number_in(self, text: &str) -> Result<u64, Misuse>
-        ensures number { result ≡ number_in self text.now }
+    /// Returns the number that a text writes, if it is one that this argument may be.
+    fn parse(self, text: &str) -> Result<u64, UsageError>
+        ensures number { result ≡ parse_arg self text.now }
         ensures range { IfOk result (λ n. n ≤ most self) }
     {
         let Some(number) = number(text.as_bytes()) else {
-            return Err(Misuse::Wrong(self));
+            return Err(UsageError::Wrong(self));
         };
         if number < self.least() || number > self.most() {
-            return Err(Misuse::Wrong(self));
+            return Err(UsageError::Wrong(self));
         }
         Ok(number)
     }
 
-    /// Returns the number at its place among the words, or `otherwise` if it is left out.
+    /// Parses the argument, or returns `otherwise` if it is absent.
     ///
     /// # Requires
     ///
-    /// The word may be the number `otherwise`.
-    fn number_at(self, words: &[String], otherwise: u64) -> Result<u64, Misuse>
+    /// The argument may be the number `otherwise`.
+    fn number_at(self, words: &[String], otherwise: u64) -> Result<u64, UsageError>
         requires { otherwise ≤ most self }
         ensures number { result ≡ number_at self otherwise (map string_bytes words.now) }
         ensures range { IfOk result (λ n. n ≤ most self) }
     {
-        match words.get(self.place()) {
-            Some(word) => self.number_in(word.as_str()),
+        match words.get(self.index()) {
+            Some(word) => self.parse(word.as_str()),
             None => Ok(otherwise),
         }
     }
 }
 
 /// Returns the copy that these numbers ask for, as words.
-fn plan_of(words: &[String], shows_progress: bool) -> Result<Plan, Misuse>
-    ensures { result ≡ plan_of shows_progress (map string_bytes words.now) }
+fn args_of(words: &[String], shows_progress: bool) -> Result<Args, UsageError>
+    ensures { result ≡ args_of shows_progress (map string_bytes words.now) }
 {
     if !matches!(words.len(), 2 | 4 | 5 | 6) {
-        return Err(Misuse::Count(words.len()));
+        return Err(UsageError::Count(words.len()));
     }
-    let lost = Word::Loss.number_at(words, 0)?;
-    let seed = Word::Seed.number_at(words, 0)?;
-    let duplicated = Word::Duplicated.number_at(words, lost / 2)?;
-    let delayed = Word::Delayed.number_at(words, lost / 2)?;
-    let payload = Word::Bytes.number_at(words, 16_384)?;
-    let rounds = Word::Rounds.number_at(words, 100)?;
-    Ok(Plan {
+    let lost = Arg::Loss.number_at(words, 0)?;
+    let seed = Arg::Seed.number_at(words, 0)?;
+    let duplicated = Arg::Duplicated.number_at(words, lost / 2)?;
+    let delayed = Arg::Delayed.number_at(words, lost / 2)?;
+    let payload = Arg::Bytes.number_at(words, 16_384)?;
+    let rounds = Arg::Rounds.number_at(words, 100)?;
+    Ok(Args {
         lost: lost as u32,
         seed,
         duplicated: duplicated as u32,
@@ -175,7 +175,7 @@ fn begins_with(words: &[String], word: &str) -> bool
     }
 }
 
-/// Returns the numbers among the words: those after `--progress`, if that is the first, or all.
+/// Returns the words without a leading `--progress`.
 pub fn numbers(words: &[String]) -> &[String]
     ensures { map string_bytes result.now ≡ numbers (map string_bytes words.now) }
 {
@@ -189,13 +189,13 @@ pub fn numbers(words: &[String]) -> &[String]
 /// `LOSS SEED DUPLICATED DELAYED`, `LOSS SEED DUPLICATED DELAYED BYTES` or
 /// `LOSS SEED DUPLICATED DELAYED BYTES ROUNDS`, each with or without `--progress` before it.
 /// Otherwise it returns what is wrong with them.
-pub fn asked_of(words: &[String]) -> Result<Asked, Misuse>
-    ensures { result ≡ asked_of (map string_bytes words.now) }
+pub fn parse(words: &[String]) -> Result<Command, UsageError>
+    ensures { result ≡ parse (map string_bytes words.now) }
 {
     if begins_with(words, "--help") {
-        return Ok(Asked::Help);
+        return Ok(Command::Help);
     }
     let shows_progress = begins_with(words, "--progress");
-    let plan = plan_of(numbers(words), shows_progress)?;
-    Ok(Asked::Copy(plan))
+    let args = args_of(numbers(words), shows_progress)?;
+    Ok(Command::Copy(args))
 }

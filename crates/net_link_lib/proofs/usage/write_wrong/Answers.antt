@@ -12,5 +12,5 @@ returns-then-is_plain g c =
     (λ (lines : List ℕ). OnOk c.write.result (Appends (g.E.Write.contents c.args.errors.now)
     (g.E.Write.contents c.write.new.self) lines))
     (six (codes "net_link: ") c.range-range.result.now (codes ", not ") c.args.text.now (codes "\n") _
-    ∙ wrong c.args.word c.args.text.now _ _ _ c.range-range.ensures (sym same) c.usage_text-usage.ensures)
+    ∙ wrong c.args.arg c.args.text.now _ _ _ c.range-range.ensures (sym same) c.usage_text-usage.ensures)
     c.write.ensures.bytes
